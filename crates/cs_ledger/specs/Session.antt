@@ -1,6 +1,6 @@
 -- A session: a transaction, and what ties it to the shards.
-use Rattle.std.specs.Prelude.{ℕ, Bool, true, false, not, ◌&&◌, ◌||◌, List, [], ◌∷◌, ◌++◌, Option, Some, None, bytes_eq, ◌==◌, nat_lt, if◌then◌else◌}
-use Rattle.cs_ledger.specs.Ledger.{Bytes, Item, Transaction, is_empty, is_well_formed}
+use Rattle.std.specs.Prelude.{◌≡◌, ℕ, Bool, true, false, not, ◌&&◌, ◌||◌, List, [], ◌∷◌, ◌++◌, Option, Some, None, bytes_eq, ◌==◌, nat_lt, if◌then◌else◌}
+use Rattle.cs_ledger.specs.Ledger.{Bytes, Item, Transaction, IsIn, is_well_formed}
 
 -- the name of a dummy: its shard, and its serial number there
 pub record DummyName : Type 0 where
@@ -12,6 +12,10 @@ pub record Session : Type 0 where
   pub digest : Bytes
   pub transaction : Transaction
   pub dummies : List DummyName
+
+-- sessions of one digest are one
+abbrev pub AreToldApart : List Session → Type 0
+AreToldApart known = (x y : Session) → IsIn x known → IsIn y known → x.digest ≡ y.digest → x ≡ y
 
 -- what is fixed from the start
 pub record Rules : Type 0 where

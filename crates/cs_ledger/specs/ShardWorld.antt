@@ -3,7 +3,7 @@ use Rattle.std.specs.Prelude.{◌≡◌, ℕ, Bool, true, false, not, ◌&&◌, 
 use Rattle.cs_ledger.specs.declared.vote.Vote.{Vote}
 use Rattle.cs_ledger.specs.declared.vote.Vote.TheVariants.{Commit, Abort}
 use Rattle.cs_ledger.specs.Ledger.{Bytes, Item, Transaction, names, all_differ, IsIn}
-use Rattle.cs_ledger.specs.Session.{Session, Rules, all_items, concerns, well_formed}
+use Rattle.cs_ledger.specs.Session.{Session, AreToldApart, Rules, all_items, concerns, well_formed}
 use Rattle.cs_ledger.specs.Table.{Entry, Prepare, Decide, Effect, Voted, Accepted, Aborted, table_of, exec, session_of}
 
 -- an entry is appended to the log of a shard
@@ -114,10 +114,6 @@ decided_in rules shard d effect (entry ∷ earlier) =
 
 abbrev pub decides : Rules → List Step → ℕ → Session → Effect → Bool
 decides rules past shard x effect = decided_in rules shard x.digest effect (log shard past)
-
--- sessions of one digest are one
-abbrev pub AreToldApart : List Session → Type 0
-AreToldApart known = (x y : Session) → IsIn x known → IsIn y known → x.digest ≡ y.digest → x ≡ y
 
 -- digests tell sessions and transactions apart, and names outputs and genesis objects
 pub record NoCollision (genesis : List Item) (known : List Session) : Type 0 where

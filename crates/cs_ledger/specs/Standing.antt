@@ -1,5 +1,5 @@
 -- What the record of its anchor says of a session.
-use Rattle.std.specs.Prelude.{Bool, true, false, not, ◌&&◌, ◌||◌, Option, Some, bytes_eq, is_some, if◌then◌else◌}
+use Rattle.std.specs.Prelude.{Bool, false, not, ◌&&◌, ◌||◌, Option, Some, bytes_eq, is_some, if◌then◌else◌}
 use Rattle.cs_ledger.specs.declared.vote.Vote.{Vote}
 use Rattle.cs_ledger.specs.declared.vote.Vote.TheVariants.{Commit}
 use Rattle.cs_ledger.specs.Ledger.{Bytes}

@@ -1,10 +1,10 @@
 //! The plain ledger, what shards make of sessions, and the theorem that all shards together give one serial history.
 #![tactic(auto)]
 
-mod alone;
+mod all_shards;
+mod one_shard;
 mod vote;
-mod world;
 
-pub use alone::{aborted_stays, one_vote};
+pub use all_shards::{composition, names_apart};
+pub use one_shard::{aborted_stays, one_vote};
 pub use vote::Vote;
-pub use world::{composition, names_apart};
