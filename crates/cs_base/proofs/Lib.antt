@@ -1,0 +1,13 @@
+pub mod Many
+pub mod Forms
+pub mod Written
+pub mod Configs
+pub mod Known
+pub mod Parts
+pub mod Outcomes
+pub mod Lines
+pub mod Parting
+pub mod Numbers
+pub mod HexTexts
+pub mod NodeTexts
+pub mod KeyOrder

@@ -1,0 +1,11 @@
+pub mod formers
+pub mod Fields
+pub mod Config
+pub mod NodeId
+pub mod Key
+pub mod Outside
+pub mod Failures
+pub mod InMemory
+pub mod Answers
+pub mod Lines
+pub mod Codes

@@ -1,0 +1,73 @@
+//! How a deployment is laid out.
+ghost use Rattle.std.specs.Prelude.{◌≡◌, ◌<◌, ◌≤◌};
+ghost use Rattle.cs_base.specs.declared.config.TheConstants.{MOST_SHARDS, MOST_LIARS, MOST_DUMMIES};
+
+use crate::node_id::NodeId;
+
+/// The most shards of a configuration.
+pub const MOST_SHARDS: u16 = 16;
+
+/// The most liars that a shard of a configuration stands, with 3f+1 nodes: 16 of them.
+pub const MOST_LIARS: u16 = 5;
+
+/// The most dummies with which a shard begins.
+pub const MOST_DUMMIES: u16 = 64;
+
+/// The shards, the liars that each stands, and the dummies with which each begins. A shard has 3f+1 nodes.
+#[derive(Clone, Copy, Debug, PartialEq, Eq)]
+pub struct Config {
+    pub shards: u16,
+    pub f: u16,
+    pub dummies: u16,
+    ghost some_shard: { 0 < shards },
+    ghost few_shards: { shards ≤ MOST_SHARDS },
+    ghost few_liars: { f ≤ MOST_LIARS },
+    ghost few_dummies: { dummies ≤ MOST_DUMMIES },
+}
+
+/// A number of a configuration.
+#[derive(Clone, Copy, Debug, PartialEq, Eq)]
+pub enum ConfigField {
+    Shards,
+    F,
+    Dummies,
+}
+
+/// The first number of a configuration that is out of its range.
+#[derive(Clone, Copy, Debug, PartialEq, Eq)]
+pub struct OutOfRange(pub ConfigField);
+
+impl Config {
+    ghost use Rattle.cs_base.specs.Config.{configured};
+    ghost use Rattle.cs_base.specs.NodeId.{is_node, is_named};
+
+    /// A configuration of 1 to 16 shards, with f from 0 to 5 and 0 to 64 dummies.
+    pub fn new(shards: u16, f: u16, dummies: u16) -> Result<Config, OutOfRange>
+        ensures { result ≡ configured shards f dummies }
+    {
+        if shards == 0 || shards > MOST_SHARDS {
+            return Err(OutOfRange(ConfigField::Shards));
+        }
+        if f > MOST_LIARS {
+            return Err(OutOfRange(ConfigField::F));
+        }
+        if dummies > MOST_DUMMIES {
+            return Err(OutOfRange(ConfigField::Dummies));
+        }
+        Ok(Config { shards, f, dummies })
+    }
+
+    /// Whether this is the name of a node of the configuration.
+    pub fn has_node(&self, id: NodeId) -> bool
+        ensures { result ≡ is_node self.now id }
+    {
+        id.shard < self.shards && id.index <= 3 * self.f
+    }
+
+    /// Whether this is the name of a node of the configuration, or of a client.
+    pub fn has(&self, id: NodeId) -> bool
+        ensures { result ≡ is_named self.now id }
+    {
+        self.has_node(id) || id.is_client()
+    }
+}

@@ -1,0 +1,39 @@
+//! What every crate stands on: lists, fields of bytes, names of nodes and keys, text, and the outside.
+#![tactic(auto)]
+
+mod compare;
+mod config;
+mod cursor;
+mod failures;
+mod hex_text;
+mod key;
+mod line;
+mod mem_sink;
+mod mem_source;
+mod memory;
+mod node_id;
+mod number;
+mod outside;
+mod printing;
+mod reading;
+mod sequence;
+#[cfg(test)]
+mod tests;
+mod writer;
+
+pub use config::{Config, ConfigField, MOST_DUMMIES, MOST_LIARS, MOST_SHARDS, OutOfRange};
+pub use cursor::{Cursor, Short};
+pub use failures::Failures;
+pub use hex_text::{print_bytes, printed_bytes_are_read, read_bytes};
+pub use key::{Key, keys_are_ordered_by_bytes, shard_of};
+pub use line::{fields, place_of, split_at_byte, strip_return};
+pub use mem_sink::{MemSink, NullSink};
+pub use mem_source::MemSource;
+pub use memory::Memory;
+pub use node_id::{CLIENT_SHARD, CLIENTS, NodeId, printed_node_is_read, read_node};
+pub use number::{printed_number_is_read, read_number};
+pub use outside::{Got, Put, Sink, Source};
+pub use printing::{WriteError, print};
+pub use reading::{ReadError, read_text};
+pub use sequence::Sequence;
+pub use writer::Writer;
