@@ -3,9 +3,7 @@ use Rattle.std.proofs.Common.{◌≡◌, ℕ, List, [], ◌∷◌, ◌++◌, tru
 use Rattle.std.proofs.lemmas.Bool.{both_ways, and_parts, or_cases}
 use Rattle.cs_ledger.specs.Ledger.{IsIn}
 use Rattle.cs_ledger.specs.Session.{AreToldApart, Session, Rules, Key, anchor}
-use Rattle.cs_ledger.specs.declared.vote.Vote.{Vote}
-use Rattle.cs_ledger.specs.declared.vote.Vote.TheVariants.{Commit, Abort}
-use Rattle.cs_ledger.specs.Table.{Entry, Prepare, Decide, Voted, session_of, exec, table_of}
+use Rattle.cs_ledger.specs.Table.{Vote, Commit, Abort, Entry, Prepare, Decide, Voted, session_of, exec, table_of}
 use Rattle.cs_ledger.specs.ShardWorld.{is_vote, is_prepare_of, votes_in, sessions_of}
 use Rattle.cs_ledger.proofs.Changes.{settled_at}
 use Rattle.cs_ledger.proofs.Kept.{Kept}

@@ -3,9 +3,7 @@ use Rattle.std.proofs.Common.{◌≡◌, ℕ, Bool, true, false, ◌&&◌, Optio
 use Rattle.std.proofs.lemmas.Bool.{cond_both}
 use Rattle.cs_ledger.specs.Ledger.{Bytes}
 use Rattle.cs_ledger.specs.Session.{Session, Rules, Key, used_up, read_only, anchor, concerns, well_formed}
-use Rattle.cs_ledger.specs.declared.vote.Vote.{Vote}
-use Rattle.cs_ledger.specs.declared.vote.Vote.TheVariants.{Commit, Abort}
-use Rattle.cs_ledger.specs.Table.{Table, Entry, Prepare, Decide, Effect, Voted, Accepted, Aborted, Skipped, Void, Outcome, is_held_by, is_locked_by, is_inactive, vote_in, has_room, is_ready, with_locks, with_vote, with_accepted, with_aborted, voted, prepare_open, prepare_unless, prepare, decide, act, session_of, exec}
+use Rattle.cs_ledger.specs.Table.{Vote, Commit, Abort, Table, Entry, Prepare, Decide, Effect, Voted, Accepted, Aborted, Skipped, Void, Outcome, is_held_by, is_locked_by, is_inactive, vote_in, has_room, is_ready, with_locks, with_vote, with_accepted, with_aborted, voted, prepare_open, prepare_unless, prepare, decide, act, session_of, exec}
 use Rattle.cs_ledger.proofs.Settled.{settle, settled}
 
 abbrev pub settled_at : Table → Key → Bytes → Option Vote

@@ -4,8 +4,7 @@ use Rattle.std.specs.Prelude.{bytes_eq, ◌==◌, if◌then◌else◌}
 use Rattle.std.proofs.lemmas.Bool.{cond_both, both_ways, eq-eqb}
 use Rattle.cs_ledger.specs.Ledger.{Bytes, Item, Transaction, IsIn, names, has, object_at}
 use Rattle.cs_ledger.specs.Session.{AreToldApart, Session, Rules, Key, Object, Piece, has_key, object_under, objects_in, used_up, read_only, anchor}
-use Rattle.cs_ledger.specs.declared.vote.Vote.TheVariants.{Abort}
-use Rattle.cs_ledger.specs.Table.{State, Unknown, Active, Locked, Table, Entry, is_locked_by, locked, released, made, accept_state, with_locks, with_vote, with_accepted, with_aborted, new_pieces, session_of, exec, start}
+use Rattle.cs_ledger.specs.Table.{Abort, State, Unknown, Active, Locked, Table, Entry, is_locked_by, locked, released, made, accept_state, with_locks, with_vote, with_accepted, with_aborted, new_pieces, session_of, exec, start}
 use Rattle.cs_ledger.proofs.Basics.{same_bytes, touches}
 use Rattle.cs_ledger.proofs.Names.{used_object, read_object, input_used, new_object, has_item, object_piece, under_piece}
 use Rattle.cs_ledger.proofs.Changes.{Nothing, Locks, Notes, Accepts, Aborts, change}

@@ -3,9 +3,7 @@ use Rattle.std.proofs.Common.{◌≡◌, ℕ, List, [], ◌∷◌, ◌++◌, Boo
 use Rattle.std.specs.Prelude.{if◌then◌else◌}
 use Rattle.cs_ledger.specs.Ledger.{IsIn}
 use Rattle.cs_ledger.specs.Session.{AreToldApart, Session, Rules, Key, used_up, read_only, anchor}
-use Rattle.cs_ledger.specs.declared.vote.Vote.{Vote}
-use Rattle.cs_ledger.specs.declared.vote.Vote.TheVariants.{Commit, Abort}
-use Rattle.cs_ledger.specs.Table.{Table, Entry, Prepare, Decide, Voted, Outcome, with_locks, with_vote, session_of, exec}
+use Rattle.cs_ledger.specs.Table.{Vote, Commit, Abort, Table, Entry, Prepare, Decide, Voted, Outcome, with_locks, with_vote, session_of, exec}
 use Rattle.cs_ledger.proofs.Basics.{key_refl, anchor_piece, touches}
 use Rattle.cs_ledger.proofs.Settled.{settled, open_parts, held_settles, settled_own}
 use Rattle.cs_ledger.proofs.Changes.{settled_at, Nothing, Locks, Notes, Accepts, Aborts, change}

@@ -1,10 +1,9 @@
 -- What one table does: a consumed coin, an early session, a full book, a reference. All by computation.
 use Rattle.std.proofs.Common.{◌≡◌, ℕ, zero, suc, List, [], ◌∷◌, length, true, refl}
 use Rattle.std.specs.Prelude.{if◌then◌else◌}
-use Rattle.cs_ledger.specs.declared.vote.Vote.TheVariants.{Commit, Abort}
 use Rattle.cs_ledger.specs.Ledger.{Bytes, Item, Transaction}
 use Rattle.cs_ledger.specs.Session.{Session, Rules, Object, key_eq}
-use Rattle.cs_ledger.specs.Table.{Book, Table, Active, Locked, Unknown, Entry, Prepare, Decide, Voted, Accepted, Skipped, Outcome, exec, table_of}
+use Rattle.cs_ledger.specs.Table.{Commit, Abort, Book, Table, Active, Locked, Unknown, Entry, Prepare, Decide, Voted, Accepted, Skipped, Outcome, exec, table_of}
 use Rattle.cs_ledger.specs.Standing.{stands_aborted}
 
 abbrev one_shard : Rules

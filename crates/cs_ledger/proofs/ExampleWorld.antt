@@ -3,8 +3,7 @@ use Rattle.std.proofs.Common.{◌≡◌, ℕ, List, [], ◌∷◌, true, inl, in
 use Rattle.std.specs.Prelude.{slice_index}
 use Rattle.cs_ledger.specs.Ledger.{Bytes, Item, Transaction, IsIn, names, all_differ}
 use Rattle.cs_ledger.specs.Session.{Session, Rules, Object, Dummy}
-use Rattle.cs_ledger.specs.declared.vote.Vote.TheVariants.{Commit}
-use Rattle.cs_ledger.specs.Table.{Active, Inactive, Prepare, Decide, Accepted, table_of}
+use Rattle.cs_ledger.specs.Table.{Commit, Active, Inactive, Prepare, Decide, Accepted, table_of}
 use Rattle.cs_ledger.specs.ShardWorld.{Step, log, decides, AllAllowed, history, sessions, NoCollision, IsWorld}
 
 abbrev rules_2 : Rules

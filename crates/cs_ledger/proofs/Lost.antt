@@ -3,9 +3,7 @@ use Rattle.std.proofs.Common.{◌≡◌, ℕ, List, [], ◌∷◌, ◌++◌, len
 use Rattle.std.specs.Prelude.{is_some, if◌then◌else◌, nat_lt}
 use Rattle.cs_ledger.specs.Ledger.{Bytes, IsIn}
 use Rattle.cs_ledger.specs.Session.{AreToldApart, Session, Rules, Key, key_eq, has_key, used_up, read_only, anchor, object_under}
-use Rattle.cs_ledger.specs.declared.vote.Vote.{Vote}
-use Rattle.cs_ledger.specs.declared.vote.Vote.TheVariants.{Commit, Abort}
-use Rattle.cs_ledger.specs.Table.{Book, State, Unknown, Active, Locked, Inactive, Table, Entry, session_of, exec, is_locked_by, is_inactive, accept_state, vote_in, has_room, locked, released, made, new_pieces}
+use Rattle.cs_ledger.specs.Table.{Vote, Commit, Abort, Book, State, Unknown, Active, Locked, Inactive, Table, Entry, session_of, exec, is_locked_by, is_inactive, accept_state, vote_in, has_room, locked, released, made, new_pieces}
 use Rattle.cs_ledger.specs.Standing.{is_inactive_by, stands_aborted}
 use Rattle.cs_ledger.proofs.Basics.{bytes_differ, touches}
 use Rattle.cs_ledger.proofs.Settled.{open_parts, vote_in-other, stays_full}

@@ -4,9 +4,7 @@ use Rattle.std.specs.Prelude.{if◌then◌else◌}
 use Rattle.std.proofs.lemmas.Bool.{cases_Bool, both_ways, or_cases, or_left, or_right}
 use Rattle.cs_ledger.specs.Ledger.{Bytes, Item, Transaction, Ledger, IsIn, is_well_formed, names, has, object_at, or_else, genesis_ledger, ledger_after, ledger_of, Takes, Serial}
 use Rattle.cs_ledger.specs.Session.{Session, Rules, Object}
-use Rattle.cs_ledger.specs.declared.vote.Vote.{Vote}
-use Rattle.cs_ledger.specs.declared.vote.Vote.TheVariants.{Commit}
-use Rattle.cs_ledger.specs.Table.{State, Unknown, Active, Locked, Inactive, Table, is_held_by}
+use Rattle.cs_ledger.specs.Table.{Vote, Commit, State, Unknown, Active, Locked, Inactive, Table, is_held_by}
 use Rattle.cs_ledger.specs.ShardWorld.{is_listed, NoCollision}
 use Rattle.cs_ledger.proofs.Basics.{same_bytes, bytes_from, in_left, in_right, in_either}
 use Rattle.cs_ledger.proofs.Names.{item_has, has_item, item_named, named_item, at_none, at_item}

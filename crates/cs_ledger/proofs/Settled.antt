@@ -3,9 +3,7 @@ use Rattle.std.proofs.Common.{◌≡◌, ◌≤◌, [], ◌∷◌, ◌++◌, len
 use Rattle.std.specs.Prelude.{bytes_eq, if◌then◌else◌}
 use Rattle.std.proofs.lemmas.Bool.{ltb-false, le-ltb}
 use Rattle.cs_ledger.specs.Ledger.{Bytes, or_else}
-use Rattle.cs_ledger.specs.declared.vote.Vote.{Vote}
-use Rattle.cs_ledger.specs.declared.vote.Vote.TheVariants.{Commit, Abort}
-use Rattle.cs_ledger.specs.Table.{Book, State, Unknown, Active, Locked, Inactive, is_held_by, is_inactive, vote_in, has_room, locked, made}
+use Rattle.cs_ledger.specs.Table.{Vote, Commit, Abort, Book, State, Unknown, Active, Locked, Inactive, is_held_by, is_inactive, vote_in, has_room, locked, made}
 use Rattle.cs_ledger.proofs.Basics.{bytes_refl, bytes_differ}
 
 abbrev pub settle : Bool → Option Vote → Bool → Bool → Option Vote

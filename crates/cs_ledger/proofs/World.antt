@@ -4,9 +4,7 @@ use Rattle.std.specs.Prelude.{bytes_eq}
 use Rattle.std.proofs.lemmas.Bool.{cases_Bool, cond_both, both_ways, and_parts, and_cases, not-true, not-false}
 use Rattle.cs_ledger.specs.Ledger.{is_empty, Bytes, Item, Transaction, Ledger, IsIn, names, genesis_ledger, ledger_of}
 use Rattle.cs_ledger.specs.Session.{Session, Rules, Object, all_items}
-use Rattle.cs_ledger.specs.declared.vote.Vote.{Vote}
-use Rattle.cs_ledger.specs.declared.vote.Vote.TheVariants.{Commit, Abort}
-use Rattle.cs_ledger.specs.Table.{Locked, Table, Entry, Prepare, Decide, session_of, table_of, is_held_by, is_inactive, vote_in, has_room}
+use Rattle.cs_ledger.specs.Table.{Vote, Commit, Abort, Locked, Table, Entry, Prepare, Decide, session_of, table_of, is_held_by, is_inactive, vote_in, has_room}
 use Rattle.cs_ledger.specs.ShardWorld.{Step, all_vote, log, votes, all_commit, IsAllowed, AllAllowed, sessions, is_listed, history, NoCollision}
 use Rattle.cs_ledger.proofs.Basics.{same_bytes, in_left, in_right}
 use Rattle.cs_ledger.proofs.Names.{piece_of, in_objects, at_some, item_named}

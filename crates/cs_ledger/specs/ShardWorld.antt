@@ -1,10 +1,8 @@
 -- The shards together: one log each, with no node, message or quorum.
 use Rattle.std.specs.Prelude.{◌≡◌, ℕ, Bool, true, false, not, ◌&&◌, ◌||◌, List, [], ◌∷◌, ◌++◌, bytes_eq, ◌==◌, if◌then◌else◌}
-use Rattle.cs_ledger.specs.declared.vote.Vote.{Vote}
-use Rattle.cs_ledger.specs.declared.vote.Vote.TheVariants.{Commit, Abort}
 use Rattle.cs_ledger.specs.Ledger.{Bytes, Item, Transaction, names, all_differ, IsIn}
 use Rattle.cs_ledger.specs.Session.{Session, AreToldApart, Rules, all_items, concerns, well_formed}
-use Rattle.cs_ledger.specs.Table.{Entry, Prepare, Decide, Effect, Voted, Accepted, Aborted, table_of, exec, session_of}
+use Rattle.cs_ledger.specs.Table.{Vote, Commit, Abort, Entry, Prepare, Decide, Effect, Voted, Accepted, Aborted, table_of, exec, session_of}
 
 -- an entry is appended to the log of a shard
 pub record Step : Type 0 where

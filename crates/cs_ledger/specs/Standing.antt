@@ -1,9 +1,7 @@
 -- What the record of its anchor says of a session.
 use Rattle.std.specs.Prelude.{Bool, false, not, ◌&&◌, ◌||◌, Option, Some, bytes_eq, is_some, if◌then◌else◌}
-use Rattle.cs_ledger.specs.declared.vote.Vote.{Vote}
-use Rattle.cs_ledger.specs.declared.vote.Vote.TheVariants.{Commit}
 use Rattle.cs_ledger.specs.Ledger.{Bytes}
-use Rattle.cs_ledger.specs.Table.{State, Inactive, Record, is_inactive, is_locked_by, vote_in, has_room}
+use Rattle.cs_ledger.specs.Table.{Vote, Commit, State, Inactive, Record, is_inactive, is_locked_by, vote_in, has_room}
 
 abbrev pub is_inactive_by : Bytes → State → Bool
 is_inactive_by d (Inactive by) = bytes_eq d by

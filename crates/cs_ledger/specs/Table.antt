@@ -1,9 +1,11 @@
 -- The table of a shard, and what executing an entry does to it.
 use Rattle.std.specs.Prelude.{ℕ, ◌+◌, ◌-◌, ◌^◌, Bool, true, false, not, ◌&&◌, ◌||◌, List, [], ◌∷◌, ◌++◌, length, Option, Some, None, bytes_eq, ◌==◌, nat_lt, if◌then◌else◌}
-use Rattle.cs_ledger.specs.declared.vote.Vote.{Vote}
-use Rattle.cs_ledger.specs.declared.vote.Vote.TheVariants.{Commit, Abort}
 use Rattle.cs_ledger.specs.Ledger.{Bytes, is_empty}
 use Rattle.cs_ledger.specs.Session.{Session, Rules, Key, Object, Dummy, Piece, key_eq, has_key, object_under, objects_in, dummies_in, used_up, read_only, anchor, concerns, well_formed}
+
+pub data Vote : Type 0 where
+  Commit : Vote
+  Abort : Vote
 
 pub data State : Type 0 where
   Unknown : State

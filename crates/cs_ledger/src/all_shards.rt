@@ -1,11 +1,9 @@
 // What holds of all shards together.
 
 ghost use Rattle.std.specs.Prelude.{◌≡◌, ℕ, List, true, length, Some};
-ghost use Rattle.cs_ledger.specs.declared.vote.Vote.{Vote};
-ghost use Rattle.cs_ledger.specs.declared.vote.Vote.TheVariants.{Abort};
 ghost use Rattle.cs_ledger.specs.Ledger.{Bytes, IsIn, IsSpentOnce, Serial, genesis_ledger, ledger_of};
 ghost use Rattle.cs_ledger.specs.Session.{Rules, concerns, Session, Object};
-ghost use Rattle.cs_ledger.specs.Table.{Accepted, Aborted, free_object, table_of};
+ghost use Rattle.cs_ledger.specs.Table.{Vote, Abort, Accepted, Aborted, free_object, table_of};
 ghost use Rattle.cs_ledger.specs.ShardWorld.{Step, all_commit, IsWorld, sessions, votes, decides, log, history, NoCollision};
 ghost use Rattle.cs_ledger.specs.Strings.{Origin, WrittenSession, IsFaithful, NoHashCollision, genesis_from, sessions_from};
 

@@ -3,8 +3,6 @@
 
 mod all_shards;
 mod one_shard;
-mod vote;
 
 pub use all_shards::{composition, names_apart};
 pub use one_shard::{aborted_stays, one_vote};
-pub use vote::Vote;

@@ -1,10 +1,9 @@
 // What holds of one shard by itself, whatever entries come.
 
 ghost use Rattle.std.specs.Prelude.{◌≡◌, ℕ, List, true, Some, ◌++◌};
-ghost use Rattle.cs_ledger.specs.declared.vote.Vote.{Vote};
 ghost use Rattle.cs_ledger.specs.Ledger.{IsIn};
 ghost use Rattle.cs_ledger.specs.Session.{AreToldApart, Rules, Session, Key, anchor};
-ghost use Rattle.cs_ledger.specs.Table.{Entry, table_of};
+ghost use Rattle.cs_ledger.specs.Table.{Vote, Entry, table_of};
 ghost use Rattle.cs_ledger.specs.Standing.{stands_aborted};
 ghost use Rattle.cs_ledger.specs.ShardWorld.{sessions_of, votes_in};
 

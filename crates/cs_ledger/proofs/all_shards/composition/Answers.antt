@@ -2,8 +2,7 @@
 use Rattle.std.proofs.Common.{◌≡◌, List, refl, subst}
 use Rattle.cs_ledger.specs.Ledger.{IsIn, genesis_ledger, names}
 use Rattle.cs_ledger.specs.Session.{Rules, all_items}
-use Rattle.cs_ledger.specs.declared.vote.Vote.TheVariants.{Commit, Abort}
-use Rattle.cs_ledger.specs.Table.{Accepted, Aborted}
+use Rattle.cs_ledger.specs.Table.{Commit, Abort, Accepted, Aborted}
 use Rattle.cs_ledger.specs.ShardWorld.{Step, IsWorld, sessions}
 use Rattle.cs_ledger.proofs.Names.{at_some, item_named}
 use Rattle.cs_ledger.proofs.States.{free_active}
