@@ -1,0 +1,62 @@
+-- The laws of an order.
+use Rattle.std.specs.Prelude.{◌≡◌, ℕ, Bool, true, List, [], ◌∷◌, ◌++◌, Some, ◌⊎◌, slice_get}
+use Rattle.cs_order.specs.declared.proposed.Proposed.{Proposed}
+use Rattle.cs_order.specs.declared.answers.Outgoing.{Outgoing}
+use Rattle.cs_order.specs.declared.answers.Step.TheVariants.{Chosen}
+use Rattle.cs_order.specs.declared.answers.May.TheVariants.{Only}
+use Rattle.cs_order.specs.Lists.{IsIn}
+use Rattle.cs_order.specs.Deeds.{Deed, Took_in, Advanced, Echoed, Proposing, Ticked, Resent, Replied, Member, Machine, did, sent_by, chosen_in}
+use Rattle.cs_order.specs.Runs.{Act, IsKept, IsFor, member_of, log_of, Run, FewLiars, held_in, handed_in, NoCollision}
+
+-- a member admitted the entry: it proposed it, or echoed it while it was pending
+abbrev pub Admits : {M : Type 0} → Machine M → Proposed → Member M → Deed M → Type 0
+Admits {M} m entry h (Took_in from message) = ⊥
+Admits {M} m entry h (Advanced step sent) = ⊥
+Admits {M} m entry h (Echoed sent) = m.pending h ≡ Some entry
+Admits {M} m entry h (Proposing proposed sent) = proposed ≡ entry
+Admits {M} m entry h (Ticked due sent) = ⊥
+Admits {M} m entry h (Resent sent) = ⊥
+Admits {M} m entry h (Replied slot to sent) = ⊥
+
+abbrev pub Admitted : {M : Type 0} → Machine M → ℕ → Proposed → List (Act M) → Type 0
+Admitted {M} m f entry [] = ⊥
+Admitted {M} m f entry (act ∷ past) = Admits m entry (member_of f act.member past) act.deed ⊎ Admitted m f entry past
+
+-- a member has chosen the entry in the slot; members that are liars have no deeds
+abbrev pub HasChosen : {M : Type 0} → ℕ → ℕ → Proposed → List (Act M) → Type 0
+HasChosen {M} i slot entry past = slice_get (log_of i past) slot ≡ Some entry
+
+pub record IsLawful {M : Type 0} (m : Machine M) (f : ℕ) (honest : ℕ → Bool) (past : List (Act M)) : Type 0 where
+  -- no two honest members have different entries chosen for one slot
+  pub agree : (i j slot : ℕ) (a b : Proposed) → HasChosen i slot a past → HasChosen j slot b past → a ≡ b
+  -- each chosen entry is one that an honest member admitted before
+  pub admitted : (i slot : ℕ) (a : Proposed) → HasChosen i slot a past → Admitted m f a past
+
+-- The law of an order: every run with few enough liars is lawful.
+abbrev pub Law : {M : Type 0} → Machine M → Type 0
+Law {M} m = (f : ℕ) (honest : ℕ → Bool) (past : List (Act M)) → m.serves f ≡ true → FewLiars f honest → Run m f honest past → NoCollision (handed_in m past) → IsLawful m f honest past
+
+-- What is sent again changes nothing of what the rules do.
+pub record Undisturbed {M : Type 0} (m : Machine M) : Type 0 where
+  pub by_resend : (h : Member M) (sent : List (Outgoing M)) → m.step (did (Resent sent) h) ≡ m.step h
+  pub by_reply : (h : Member M) (slot to : ℕ) (sent : List (Outgoing M)) → m.step (did (Replied slot to sent) h) ≡ m.step h
+
+-- Each entry that a member gives was handed in at it.
+pub record Holds {M : Type 0} (m : Machine M) : Type 0 where
+  pub chosen : (f me : ℕ) (deeds : List (Deed M)) → IsKept m f me deeds → (entry : Proposed) → m.step (record { f = f; me = me; deeds = deeds }) ≡ Chosen entry → IsIn entry (held_in m deeds)
+  pub pending : (f me : ℕ) (deeds : List (Deed M)) → IsKept m f me deeds → (entry : Proposed) → m.pending (record { f = f; me = me; deeds = deeds }) ≡ Some entry → IsIn entry (held_in m deeds)
+  pub offered : (f me : ℕ) (deeds : List (Deed M)) → IsKept m f me deeds → (entries : List Proposed) (entry : Proposed) → m.may_propose (record { f = f; me = me; deeds = deeds }) ≡ Only entries → IsIn entry entries → IsIn entry (held_in m deeds)
+  pub logged : (f me : ℕ) (deeds : List (Deed M)) → IsKept m f me deeds → (slot : ℕ) (entry : Proposed) → slice_get (chosen_in deeds) slot ≡ Some entry → IsIn entry (held_in m deeds)
+  pub sent : (f me : ℕ) (deed : Deed M) (deeds : List (Deed M)) → IsKept m f me (deed ∷ deeds) → (message : M) (to : ℕ) → IsFor message to (sent_by deed) → (entry : Proposed) → IsIn entry (m.carried message) → IsIn entry (held_in m (deed ∷ deeds))
+
+-- the list is the beginning of the other
+abbrev pub IsPrefix : {A : Type 0} → List A → List A → Type 0
+IsPrefix {A} short long = (rest : List A) × (long ≡ short ++ rest)
+
+-- In every run the logs of two members are prefixes of one another.
+abbrev pub LogsAgree : {M : Type 0} → Machine M → Type 0
+LogsAgree {M} m = (f : ℕ) (honest : ℕ → Bool) (past : List (Act M)) → m.serves f ≡ true → FewLiars f honest → Run m f honest past → NoCollision (handed_in m past) → (i j : ℕ) → IsPrefix (log_of i past) (log_of j past) ⊎ IsPrefix (log_of j past) (log_of i past)
+
+-- What was chosen stays.
+abbrev pub LogsStay : Type 0 → Type 0
+LogsStay M = (act : Act M) (past : List (Act M)) (i : ℕ) → IsPrefix (log_of i past) (log_of i (act ∷ past))

@@ -1,0 +1,9 @@
+pub mod Counts
+pub mod Lists
+pub mod Limits
+pub mod Deeds
+pub mod Calls
+pub mod Runs
+pub mod Law
+pub mod Solo
+pub mod SoloLaw
