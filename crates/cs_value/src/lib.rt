@@ -1,0 +1,34 @@
+//! Values and objects of contracts, and the one encoding that each has.
+#![tactic(auto)]
+
+mod copying;
+mod digest;
+mod encoded;
+mod equality;
+mod fitting;
+mod form;
+mod key;
+mod lists;
+mod name;
+mod numbers;
+mod object;
+mod pair;
+mod passing;
+mod reading;
+mod room;
+mod value;
+mod writing;
+
+pub use digest::Digest;
+pub use encoded::Encoded;
+pub use form::FormError;
+pub use lists::{
+    copy_each, few_fit, read_counted, read_some, room_counted, skip_counted, skip_some,
+    write_counted,
+};
+pub use name::Name;
+pub use object::Object;
+pub use value::Value;
+
+#[cfg(test)]
+mod tests;
