@@ -1,0 +1,7 @@
+use Rattle.std.proofs.Common.{◌≡◌, ◌++◌, drop}
+use Rattle.cs_tx.specs.Digest.{outputs_at}
+use Rattle.cs_tx.specs.Uses.{names}
+use Rattle.cs_tx.proofs.names.add_output_names.Given as goal
+
+abbrev pub invariant-loop-place : goal.invariant-loop-place
+invariant-loop-place l = l.found ++ names (outputs_at l.digest l.trace l.place (drop l.place l.outputs)) ≡ l.initial.found ++ names (outputs_at l.digest l.trace 0 l.outputs)
