@@ -1,0 +1,14 @@
+pub mod Setup
+pub mod Evidence
+pub mod Pool
+pub mod Admission
+pub mod Bench
+pub mod Signs
+pub mod Site
+pub mod Trail
+pub mod World
+pub mod Lines
+pub mod Play
+pub mod Ready
+pub mod Collisions
+pub mod Deployment

@@ -1,0 +1,66 @@
+-- The marks of a node that are no deeds of its order, and what they make of table and pool. Lists of marks are newest first.
+use Rattle.std.specs.Prelude.{ℕ, Bool, not, ◌&&◌, if◌then◌else◌, List, [], ◌∷◌, ◌++◌, Option, Some, None}
+use Rattle.cs_base.specs.declared.node_id.NodeId.{NodeId}
+use Rattle.cs_tx.specs.declared.session.Session.{Session}
+use Rattle.cs_tx.specs.declared.vote.Vote.{Vote}
+use Rattle.cs_tx.specs.declared.entry.Entry.{Entry}
+use Rattle.cs_ledger.specs.Table.{Effect}
+use Rattle.cs_trail.specs.declared.cause.Cause.{Cause}
+use Rattle.cs_trail.specs.declared.cause.Cause.TheVariants.{Malformed, Repeat, Denied, Full}
+use Rattle.cs_trail.specs.Setup.{Setup, digest_of, is_fit, is_approved, session_in}
+use Rattle.cs_trail.specs.Pool.{is_pooled, changed, with_ballot, entered, has_room}
+use Rattle.cs_trail.specs.Bench.{Bench, Ran, executed, stands_decided, told_of}
+
+pub data Sign : Type 0 where
+  Dropped : (cause : Cause) → Sign
+  Took : (sender : NodeId) → (vote : Vote) → (x : Session) → Sign
+  Entered : (x : Session) → Sign
+  Did : (slot : ℕ) → (entry : Entry) → (effect : Effect) → Sign
+
+-- what one sign makes of table and pool
+abbrev pub bench_step : Setup → ℕ → Sign → Bench → Bench
+bench_step setup shard (Dropped cause) b = b
+bench_step setup shard (Took sender vote x) b =
+    record { table = b.table; pool = changed (digest_of setup x) (with_ballot (record { sender = sender; vote = vote })) b.pool }
+bench_step setup shard (Entered x) b = record { table = b.table; pool = entered (digest_of setup x) x b.pool }
+bench_step setup shard (Did slot entry effect) b = (executed setup shard b entry).bench
+
+abbrev pub bench_after : Setup → ℕ → List Sign → Bench → Bench
+bench_after setup shard [] b = b
+bench_after setup shard (sign ∷ past) b = bench_step setup shard sign (bench_after setup shard past b)
+
+-- the first failing test drops
+abbrev pub guarded : Bool → Cause → List Sign → List Sign
+guarded holds cause signs = if holds then signs else Dropped cause ∷ []
+
+-- a session that is undecided enters where it is new, approved, and has room
+abbrev pub entering_signs : Setup → Bench → Session → List Sign
+entering_signs setup b x =
+    guarded (not (is_pooled (digest_of setup x) b.pool)) Repeat
+    (guarded (is_approved setup x) Denied
+    (guarded (has_room b.pool) Full (Entered x ∷ [])))
+
+-- a client submits a session; one that was decided makes no mark
+abbrev pub submit_signs : Setup → ℕ → Bench → Session → List Sign
+submit_signs setup shard b x =
+    guarded (is_fit setup shard x) Malformed
+    (if stands_decided setup shard b.table x then [] else entering_signs setup b x)
+
+-- the node's own vote
+abbrev pub own_signs : NodeId → Session → Option (Vote × Bool) → List Sign
+own_signs me x None = []
+own_signs me x (Some told) = if told.1 then Took me told.0 x ∷ [] else []
+
+-- the session that an execution brings into the pool
+abbrev pub entered_signs : Session → Bool → Option (Vote × Bool) → List Sign
+entered_signs x pooled None = []
+entered_signs x pooled (Some told) = if told.1 && not pooled then Entered x ∷ [] else []
+
+abbrev pub ran_signs : Setup → NodeId → Bench → ℕ → Entry → Session → Ran → List Sign
+ran_signs setup me b slot entry x ran =
+    own_signs me x (told_of setup me.shard x ran)
+    ++ (entered_signs x (is_pooled (digest_of setup x) b.pool) (told_of setup me.shard x ran) ++ Did slot entry ran.effect ∷ [])
+
+-- the entry of a slot is executed
+abbrev pub execution_signs : Setup → NodeId → Bench → ℕ → Entry → List Sign
+execution_signs setup me b slot entry = ran_signs setup me b slot entry (session_in entry) (executed setup me.shard b entry)
