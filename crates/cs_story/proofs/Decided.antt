@@ -1,0 +1,91 @@
+-- What a node decided is decided in its log.
+use Rattle.std.proofs.Common.{◌≡◌, ◌⊎◌, inl, inr, ℕ, true, ◌&&◌, List, [], ◌∷◌, ◌∙◌, ap, subst, refl}
+use Rattle.std.proofs.lemmas.Bool.{and_from, or_cases, or_left, or_right}
+use Rattle.cs_base.specs.declared.node_id.NodeId.{NodeId}
+use Rattle.cs_tx.specs.declared.entry.Entry.{Entry}
+use Rattle.cs_tx.specs.declared.entry.Entry.TheVariants.{Prepare, Decide}
+use Rattle.cs_ledger.specs.Ledger.{Bytes}
+use Rattle.cs_ledger.specs.Table.{Commit, Abort, Effect, Voted, Accepted, Aborted, Skipped, Void, exec, table_of}
+use Rattle.cs_ledger.specs.ShardWorld.{log, votes_in, decided_in, is_vote, is_effect, is_prepare_of, is_decide_of}
+use Rattle.cs_trail.specs.Setup.{Setup, entry_of}
+use Rattle.cs_trail.specs.Signs.{Dropped, Took, Entered, Did}
+use Rattle.cs_trail.specs.Site.{Mark, In, Ordered, Plain, Site, signs_of}
+use Rattle.cs_trail.specs.World.{steps_of, accepts_by, aborts_by, accepts_in, aborts_in}
+use Rattle.cs_story.specs.Made.{AllMade}
+use Rattle.cs_story.proofs.Views.{me-same}
+use Rattle.cs_story.proofs.Logs.{seen_log, effect-is}
+use Rattle.cs_story.proofs.Executions.{executions, log-is}
+
+accepted-by : (setup : Setup) (d : Bytes) (entry : Entry) (effect : Effect) → accepts_by setup d entry effect ≡ true → (is_decide_of d (entry_of setup entry) && is_effect Accepted effect) ≡ true
+accepted-by setup d (Decide vote x) Accepted h = and_from _ _ h refl
+accepted-by setup d (Decide vote x) (Voted other) h = cc
+accepted-by setup d (Decide vote x) Aborted h = cc
+accepted-by setup d (Decide vote x) Skipped h = cc
+accepted-by setup d (Decide vote x) Void h = cc
+accepted-by setup d (Prepare x) effect h = cc
+
+abbrev AbortedBy : Setup → Bytes → Entry → Effect → Type 0
+AbortedBy setup d entry effect = ((is_decide_of d (entry_of setup entry) && is_effect Aborted effect) ≡ true) ⊎ ((is_prepare_of d (entry_of setup entry) && is_vote Abort effect) ≡ true)
+
+aborted-by : (setup : Setup) (d : Bytes) (entry : Entry) (effect : Effect) → aborts_by setup d entry effect ≡ true → AbortedBy setup d entry effect
+aborted-by setup d (Decide vote x) Aborted h = inl (and_from _ _ h refl)
+aborted-by setup d (Decide vote x) Accepted h = cc
+aborted-by setup d (Decide vote x) (Voted other) h = cc
+aborted-by setup d (Decide vote x) Skipped h = cc
+aborted-by setup d (Decide vote x) Void h = cc
+aborted-by setup d (Prepare x) (Voted Abort) h = inr (and_from _ _ h refl)
+aborted-by setup d (Prepare x) (Voted Commit) h = cc
+aborted-by setup d (Prepare x) Accepted h = cc
+aborted-by setup d (Prepare x) Aborted h = cc
+aborted-by setup d (Prepare x) Skipped h = cc
+aborted-by setup d (Prepare x) Void h = cc
+
+module _ {M : Type 0} (site : Site M) (me : NodeId) (d : Bytes) where
+  came : (t : List (Mark M)) (slot : ℕ) (entry : Entry) (effect : Effect) → AllMade site me (Plain (Did slot entry effect) ∷ t) → effect ≡ (exec site.setup.rules me.shard (table_of site.setup.rules me.shard (seen_log site t)) (entry_of site.setup entry)).effect
+  came t slot entry effect made =
+      effect-is site me t slot entry effect made
+      ∙ ap (λ (n : NodeId). (exec site.setup.rules n.shard (table_of site.setup.rules n.shard (seen_log site t)) (entry_of site.setup entry)).effect) (me-same site me t)
+
+  accepts-log : (t : List (Mark M)) → AllMade site me t → accepts_in site.setup d (signs_of t) ≡ true → decided_in site.setup.rules me.shard d Accepted (seen_log site t) ≡ true
+  accepts-log [] made h = cc
+  accepts-log (In input ∷ t) made h = accepts-log t made.1 h
+  accepts-log (Ordered deed ∷ t) made h = accepts-log t made.1 h
+  accepts-log (Plain (Dropped cause) ∷ t) made h = accepts-log t made.1 h
+  accepts-log (Plain (Took sender vote x) ∷ t) made h = accepts-log t made.1 h
+  accepts-log (Plain (Entered x) ∷ t) made h = accepts-log t made.1 h
+  accepts-log (Plain (Did slot entry effect) ∷ t) made h =
+      elim (or_cases _ _ h) [
+        | inl now ↦ or_left _ _ (subst (λ (e : Effect). (is_decide_of d (entry_of site.setup entry) && is_effect Accepted e) ≡ true) (came t slot entry effect made) (accepted-by site.setup d entry effect now))
+        | inr before ↦ or_right _ _ (accepts-log t made.1 before)
+      ]
+
+  aborts-log : (t : List (Mark M)) → AllMade site me t → aborts_in site.setup d (signs_of t) ≡ true
+      → (decided_in site.setup.rules me.shard d Aborted (seen_log site t) ≡ true) ⊎ (votes_in site.setup.rules me.shard d Abort (seen_log site t) ≡ true)
+  aborts-log [] made h = cc
+  aborts-log (In input ∷ t) made h = aborts-log t made.1 h
+  aborts-log (Ordered deed ∷ t) made h = aborts-log t made.1 h
+  aborts-log (Plain (Dropped cause) ∷ t) made h = aborts-log t made.1 h
+  aborts-log (Plain (Took sender vote x) ∷ t) made h = aborts-log t made.1 h
+  aborts-log (Plain (Entered x) ∷ t) made h = aborts-log t made.1 h
+  aborts-log (Plain (Did slot entry effect) ∷ t) made h =
+      elim (or_cases _ _ h) [
+        | inl now ↦ elim (aborted-by site.setup d entry effect now) [
+          | inl a ↦ inl (or_left _ _ (subst (λ (e : Effect). (is_decide_of d (entry_of site.setup entry) && is_effect Aborted e) ≡ true) (came t slot entry effect made) a))
+          | inr v ↦ inr (or_left _ _ (subst (λ (e : Effect). (is_prepare_of d (entry_of site.setup entry) && is_vote Abort e) ≡ true) (came t slot entry effect made) v))
+        ]
+        | inr before ↦ elim (aborts-log t made.1 before) [ inl a ↦ inl (or_right _ _ a) | inr v ↦ inr (or_right _ _ v) ]
+      ]
+
+  -- the same, in the log of the shards together
+  pub accepts-decided : (t : List (Mark M)) → AllMade site me t → accepts_in site.setup d (signs_of t) ≡ true → decided_in site.setup.rules me.shard d Accepted (log me.shard (steps_of site.setup (executions me.shard (signs_of t)))) ≡ true
+  accepts-decided t made h = ap (λ l. decided_in site.setup.rules me.shard d Accepted l) (log-is site.setup me.shard (signs_of t)) ∙ accepts-log t made h
+
+  pub aborts-decided : (t : List (Mark M)) → AllMade site me t → aborts_in site.setup d (signs_of t) ≡ true
+      → (decided_in site.setup.rules me.shard d Aborted (log me.shard (steps_of site.setup (executions me.shard (signs_of t)))) ≡ true)
+      ⊎ (votes_in site.setup.rules me.shard d Abort (log me.shard (steps_of site.setup (executions me.shard (signs_of t)))) ≡ true)
+  aborts-decided t made h =
+      let at = log-is site.setup me.shard (signs_of t) in
+      elim (aborts-log t made h) [
+        | inl a ↦ inl (ap (λ l. decided_in site.setup.rules me.shard d Aborted l) at ∙ a)
+        | inr v ↦ inr (ap (λ l. votes_in site.setup.rules me.shard d Abort l) at ∙ v)
+      ]

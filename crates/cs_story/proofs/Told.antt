@@ -1,0 +1,94 @@
+-- The history by the recorded effects is that of the shards together.
+use Rattle.std.proofs.Common.{◌≡◌, ℕ, ◌<◌, ◌==◌, Bool, true, false, not, ◌&&◌, ◌||◌, if◌then◌else◌, List, [], ◌∷◌, ◌++◌, sym, ◌∙◌, ap, subst, refl}
+use Rattle.std.proofs.lemmas.Bool.{eqb-true}
+use Rattle.cs_base.specs.declared.node_id.NodeId.{NodeId}
+use Rattle.cs_tx.specs.declared.session.Session.{Session}
+use Rattle.cs_tx.specs.declared.entry.Entry.{Entry}
+use Rattle.cs_tx.specs.declared.entry.Entry.TheVariants.{Prepare, Decide}
+use Rattle.cs_ledger.specs.Ledger.{Bytes}
+use Rattle.cs_ledger.specs.Session.{all_items}
+use Rattle.cs_ledger.specs.Table.{Vote, Commit, exec, table_of}
+use Rattle.cs_ledger.specs.ShardWorld.{Step, log, votes, votes_in, is_vote, is_listed, all_commit}
+use Rattle.cs_ledger.specs.ShardWorld as World
+use Rattle.cs_ledger.proofs.Votes.{all_at}
+use Rattle.cs_trail.specs.Setup.{Setup, digest_of, concerned, entry_of}
+use Rattle.cs_trail.specs.Signs.{Dropped, Took, Entered, Did}
+use Rattle.cs_trail.specs.Site.{Mark, In, Ordered, Plain, Site, signs_of}
+use Rattle.cs_trail.specs.World.{Execution, steps_of, prepares, recorded, all_recorded, told, told_after}
+use Rattle.cs_story.specs.Made.{AllMade}
+use Rattle.cs_story.proofs.Views.{me-same}
+use Rattle.cs_story.proofs.Logs.{seen_log, effect-is, prepares-seen}
+use Rattle.cs_story.proofs.Counting.{all-in, all-from, in-concerned, concerned-in, among-item, item-among, votes-all}
+use Rattle.cs_story.proofs.Executions.{executions, log-is}
+
+pub bools-same : (a b : Bool) → (a ≡ true → b ≡ true) → (b ≡ true → a ≡ true) → a ≡ b
+bools-same true b f g = sym (f refl)
+bools-same false true f g = g refl
+bools-same false false f g = refl
+
+module _ (setup : Setup) (bound : (name : Bytes) → setup.rules.shard_of name < setup.shards) where
+  -- each effect is that of executing the entry on the log before
+  abbrev pub AllComputed : List Execution → Type 0
+  AllComputed [] = Unit {0}
+  AllComputed (e ∷ earlier) =
+      (e.effect ≡ (exec setup.rules e.shard (table_of setup.rules e.shard (log e.shard (steps_of setup earlier))) (entry_of setup e.entry)).effect) × AllComputed earlier
+
+  pub recorded-is : (firsts : List Execution) (d : Bytes) (vote : Vote) (shard : ℕ) → AllComputed firsts → recorded setup firsts d vote shard ≡ votes_in setup.rules shard d vote (log shard (steps_of setup firsts))
+  recorded-is [] d vote shard computed = refl
+  recorded-is (e ∷ earlier) d vote shard computed = here (e.shard == shard) refl (recorded-is earlier d vote shard computed.1)
+    where
+      here : (b : Bool) → (e.shard == shard) ≡ b → recorded setup earlier d vote shard ≡ votes_in setup.rules shard d vote (log shard (steps_of setup earlier))
+          → ((b && (prepares setup d e.entry && is_vote vote e.effect)) || recorded setup earlier d vote shard)
+          ≡ votes_in setup.rules shard d vote (if b then entry_of setup e.entry ∷ log shard (steps_of setup earlier) else log shard (steps_of setup earlier))
+      here false other before = before
+      here true same before =
+          let came : e.effect ≡ (exec setup.rules shard (table_of setup.rules shard (log shard (steps_of setup earlier))) (entry_of setup e.entry)).effect =
+          computed.0 ∙ ap (λ k. (exec setup.rules k (table_of setup.rules k (log k (steps_of setup earlier))) (entry_of setup e.entry)).effect) (eqb-true e.shard shard same) in
+          let now = prepares-seen setup d e.entry in
+          λ i. (now i && is_vote vote (came i)) || before i
+
+  pub all-recorded-is : (firsts : List Execution) (x : Session) → AllComputed firsts → all_recorded setup firsts x ≡ all_commit setup.rules (steps_of setup firsts) (setup.session_of x)
+  all-recorded-is firsts x computed =
+      let d = digest_of setup x in
+      let items = all_items (setup.session_of x).transaction in
+      bools-same _ _
+      (λ h. votes-all setup.rules (steps_of setup firsts) (setup.session_of x) Commit items
+      (λ item i.
+      let shard = setup.rules.shard_of item.name in
+      let c = in-concerned setup x setup.shards shard (bound item.name) (among-item setup.rules item items i) in
+      sym (recorded-is firsts d Commit shard computed) ∙ all-in (recorded setup firsts d Commit) (concerned setup x) h shard c))
+      (λ h. all-from (recorded setup firsts d Commit) (concerned setup x)
+      (λ shard i.
+      let c = concerned-in setup x setup.shards shard i in
+      let item = item-among setup.rules shard items c.1 in
+      let v = all_at setup.rules (steps_of setup firsts) (setup.session_of x) Commit items h item.0 item.1 in
+      recorded-is firsts d Commit shard computed ∙ subst (λ k. votes setup.rules (steps_of setup firsts) k (setup.session_of x) Commit ≡ true) item.2 v))
+
+  pub told-is : (firsts : List Execution) → AllComputed firsts → told setup firsts ≡ World.history setup.rules (steps_of setup firsts)
+  told-is [] computed = refl
+  told-is (e ∷ earlier) computed = after e.entry refl (told-is earlier computed.1)
+    where
+      all_are : (x : Session) → all_recorded setup (e ∷ earlier) x ≡ all_commit setup.rules (steps_of setup (e ∷ earlier)) (setup.session_of x)
+      all_are x = all-recorded-is (e ∷ earlier) x computed
+
+      after : (entry : Entry) → e.entry ≡ entry → told setup earlier ≡ World.history setup.rules (steps_of setup earlier)
+          → told_after setup (e ∷ earlier) entry (told setup earlier) ≡ World.history_after setup.rules (steps_of setup (e ∷ earlier)) (entry_of setup entry) (World.history setup.rules (steps_of setup earlier))
+      after (Decide vote x) is before = before
+      after (Prepare x) is before =
+          let all = all_are x in
+          λ i. if all i && not (is_listed (setup.session_of x).transaction (before i)) then before i ++ (setup.session_of x).transaction ∷ [] else before i
+
+-- the executions of a node are computed
+pub computed : {M : Type 0} (site : Site M) (bound : (name : Bytes) → site.setup.rules.shard_of name < site.setup.shards) (me : NodeId) (t : List (Mark M)) → AllMade site me t → AllComputed site.setup bound (executions me.shard (signs_of t))
+computed {M} site bound me [] made = tt
+computed {M} site bound me (In input ∷ t) made = computed site bound me t made.1
+computed {M} site bound me (Ordered deed ∷ t) made = computed site bound me t made.1
+computed {M} site bound me (Plain (Dropped cause) ∷ t) made = computed site bound me t made.1
+computed {M} site bound me (Plain (Took sender vote x) ∷ t) made = computed site bound me t made.1
+computed {M} site bound me (Plain (Entered x) ∷ t) made = computed site bound me t made.1
+computed {M} site bound me (Plain (Did slot entry effect) ∷ t) made = (
+  effect-is site me t slot entry effect made
+      ∙ ap (λ (n : NodeId). (exec site.setup.rules n.shard (table_of site.setup.rules n.shard (seen_log site t)) (entry_of site.setup entry)).effect) (me-same site me t)
+      ∙ ap (λ l. (exec site.setup.rules me.shard (table_of site.setup.rules me.shard l) (entry_of site.setup entry)).effect) (sym (log-is site.setup me.shard (signs_of t))),
+  computed site bound me t made.1,
+)

@@ -1,0 +1,140 @@
+-- Why a mark may stand after the marks of its node that came before it. Marks and signs are newest first.
+use Rattle.std.specs.Prelude.{◌≡◌, ◌⊎◌, ℕ, Bool, true, false, ◌&&◌, ◌||◌, List, [], ◌∷◌, ◌++◌, length, Option, Some, None, slice_get}
+use Rattle.cs_base.specs.declared.node_id.NodeId.{NodeId}
+use Rattle.cs_tx.specs.declared.session.Session.{Session}
+use Rattle.cs_tx.specs.declared.entry.Entry.{Entry}
+use Rattle.cs_tx.specs.declared.entry.Entry.TheVariants.{Prepare}
+use Rattle.cs_order.specs.declared.proposed.Proposed.{Proposed}
+use Rattle.cs_order.specs.declared.answers.May.TheVariants.{Only}
+use Rattle.cs_order.specs.Lists as Order
+use Rattle.cs_order.specs.Deeds.{Deed, Took_in, Advanced, Echoed, Proposing, Ticked, Resent, Replied, chosen_in}
+use Rattle.cs_order.specs.Runs.{Keeps}
+use Rattle.cs_ledger.specs.Ledger.{Bytes}
+use Rattle.cs_ledger.specs.Table.{Vote, Commit, Effect, Voted, exec}
+use Rattle.cs_ledger.specs.ShardWorld.{is_vote}
+use Rattle.cs_trail.specs.Setup.{Setup, digest_of, is_fit, is_approved, vote_of, entry_of}
+use Rattle.cs_trail.specs.Admission.{due}
+use Rattle.cs_trail.specs.Bench.{is_locked}
+use Rattle.cs_trail.specs.Signs.{Sign, Dropped, Took, Entered, Did}
+use Rattle.cs_trail.specs.Site.{Input, Datagram, Mark, In, Ordered, Plain, Site, View, start_view, view_after, signs_of}
+use Rattle.cs_trail.specs.Trail.{admits_proposed, event_marks}
+use Rattle.cs_trail.specs.World.{prepares}
+
+-- a node after its marks
+abbrev pub view_at : {M : Type 0} → Site M → NodeId → List (Mark M) → View M
+view_at {M} site me t = view_after site t (start_view site me)
+
+-- the entries that were executed
+abbrev pub log_in : List Sign → List Entry
+log_in [] = []
+log_in (Did slot entry effect ∷ past) = entry ∷ log_in past
+log_in (Dropped cause ∷ past) = log_in past
+log_in (Took sender vote x ∷ past) = log_in past
+log_in (Entered x ∷ past) = log_in past
+
+-- a Prepare of exactly this session was executed, and gave a vote
+abbrev pub HasVotedOn : Session → List Sign → Type 0
+HasVotedOn x [] = ⊥
+HasVotedOn x (Did slot entry effect ∷ past) = ((entry ≡ Prepare x) × ((vote : Vote) × (effect ≡ Voted vote))) ⊎ HasVotedOn x past
+HasVotedOn x (Dropped cause ∷ past) = HasVotedOn x past
+HasVotedOn x (Took sender vote y ∷ past) = HasVotedOn x past
+HasVotedOn x (Entered y ∷ past) = HasVotedOn x past
+
+-- a Prepare of a session of this digest was executed, with this vote
+abbrev pub has_given : Setup → Bytes → Vote → List Sign → Bool
+has_given setup d vote [] = false
+has_given setup d vote (Did slot entry effect ∷ past) = (prepares setup d entry && is_vote vote effect) || has_given setup d vote past
+has_given setup d vote (Dropped cause ∷ past) = has_given setup d vote past
+has_given setup d vote (Took sender other x ∷ past) = has_given setup d vote past
+has_given setup d vote (Entered x ∷ past) = has_given setup d vote past
+
+-- the input that the node is at work on
+abbrev pub current : {M : Type 0} → List (Mark M) → Option Input
+current {M} [] = None
+current {M} (In input ∷ past) = Some input
+current {M} (Ordered deed ∷ past) = current past
+current {M} (Plain sign ∷ past) = current past
+
+-- that input holds this session, which may be voted on
+pub record IsSubmitted {M : Type 0} (site : Site M) (v : View M) (t : List (Mark M)) (x : Session) : Type 0 where
+  pub bytes : Bytes
+  pub is_current : current t ≡ Some (Datagram bytes)
+  pub reads : site.session_at bytes ≡ Some x
+  pub fit : is_fit site.setup v.me.shard x ≡ true
+  pub approved : is_approved site.setup x ≡ true
+
+-- what is echoed is the pending proposal, which the node admits
+pub record IsEchoable {M : Type 0} (site : Site M) (v : View M) : Type 0 where
+  pub proposed : Proposed
+  pub pending : site.machine.pending v.member ≡ Some proposed
+  pub admitted : admits_proposed site v proposed ≡ true
+
+-- what is proposed is the due entry
+pub record IsDue {M : Type 0} (site : Site M) (v : View M) (proposed : Proposed) : Type 0 where
+  pub entry : Entry
+  pub is : proposed ≡ site.proposed_of entry
+  pub due : due site.setup v.bench.pool ≡ Some entry
+
+-- or one of the order's candidates, which the node admits
+pub record IsCandidate {M : Type 0} (site : Site M) (v : View M) (proposed : Proposed) : Type 0 where
+  pub candidates : List Proposed
+  pub may : site.machine.may_propose v.member ≡ Only candidates
+  pub within : Order.IsIn proposed candidates
+  pub admitted : admits_proposed site v proposed ≡ true
+
+-- Why the node lets its order do this deed. So far a node is given no message of another.
+abbrev pub DeedMade : {M : Type 0} → Site M → View M → Deed M → Type 0
+DeedMade {M} site v (Took_in from message) = ⊥
+DeedMade {M} site v (Advanced step sent) = Unit {0}
+DeedMade {M} site v (Echoed sent) = IsEchoable site v
+DeedMade {M} site v (Proposing proposed sent) = IsDue site v proposed ⊎ IsCandidate site v proposed
+DeedMade {M} site v (Ticked on sent) = Unit {0}
+DeedMade {M} site v (Resent sent) = Unit {0}
+DeedMade {M} site v (Replied slot to sent) = Unit {0}
+
+-- the entry that was chosen for the next slot is executed on the table
+pub record Executes {M : Type 0} (site : Site M) (v : View M) (signs : List Sign) (slot : ℕ) (entry : Entry) (effect : Effect) : Type 0 where
+  pub next : slot ≡ length (log_in signs)
+  pub computed : effect ≡ (exec site.setup.rules v.me.shard v.bench.table (entry_of site.setup entry)).effect
+  pub proposed : Proposed
+  pub reads : site.entry_in proposed ≡ entry
+  pub chosen : slice_get (chosen_in v.member.deeds) slot ≡ Some proposed
+
+-- A vote that was taken is the node's own, which it gave; a session that entered was submitted, or voted on.
+abbrev pub SignMade : {M : Type 0} → Site M → View M → List (Mark M) → Sign → Type 0
+SignMade {M} site v t (Dropped cause) = Unit {0}
+SignMade {M} site v t (Took sender vote x) =
+    (sender ≡ v.me) × (has_given site.setup (digest_of site.setup x) (vote_of vote) (signs_of t) ≡ true)
+SignMade {M} site v t (Entered x) = IsSubmitted site v t x ⊎ HasVotedOn x (signs_of t)
+SignMade {M} site v t (Did slot entry effect) = Executes site v (signs_of t) slot entry effect
+
+-- Why the mark may stand after the marks t of a node, which is at v.
+abbrev pub MadeAt : {M : Type 0} → Site M → View M → List (Mark M) → Mark M → Type 0
+MadeAt {M} site v t (In input) = Unit {0}
+MadeAt {M} site v t (Ordered deed) = Keeps site.machine v.member deed × DeedMade site v deed
+MadeAt {M} site v t (Plain sign) = SignMade site v t sign
+
+abbrev pub IsMade : {M : Type 0} → Site M → NodeId → List (Mark M) → Mark M → Type 0
+IsMade {M} site me t mark = MadeAt site (view_at site me t) t mark
+
+abbrev pub AllMade : {M : Type 0} → Site M → NodeId → List (Mark M) → Type 0
+AllMade {M} site me [] = Unit {0}
+AllMade {M} site me (mark ∷ past) = IsMade site me past mark × AllMade site me past
+
+-- the marks of a node between its events: each is made, and what was chosen was executed
+pub record IsLevel {M : Type 0} (site : Site M) (me : NodeId) (t : List (Mark M)) : Type 0 where
+  pub made : AllMade site me t
+  pub slots : length (chosen_in (view_at site me t).member.deeds) ≡ length (log_in (signs_of t))
+
+-- The rules of a node add only marks that are made.
+abbrev pub EventIsMade : {M : Type 0} → Site M → Type 0
+EventIsMade {M} site =
+    (me : NodeId) (t : List (Mark M)) (input : Input) → IsLevel site me t →
+    IsLevel site me (event_marks site (view_at site me t) input ++ t)
+
+-- A lock comes from a Prepare of that session that was voted commit.
+abbrev pub LocksAreGiven : {M : Type 0} → Site M → Type 0
+LocksAreGiven {M} site =
+    (me : NodeId) (t : List (Mark M)) (x : Session) → AllMade site me t →
+    is_locked site.setup (view_at site me t).me.shard (view_at site me t).bench.table x ≡ true →
+    has_given site.setup (digest_of site.setup x) Commit (signs_of t) ≡ true
