@@ -1,0 +1,83 @@
+-- How the calls that execute come to what the definitions give.
+use Rattle.std.proofs.Common.{◌≡◌, Bool, true, false, if◌then◌else◌, List, Option, Some, None, nat_lt, length, refl, sym, ap, ◌∙◌}
+use Rattle.cs_ledger.specs.Ledger.{Bytes}
+use Rattle.cs_ledger.specs.Session.{Key, Piece}
+use Rattle.cs_ledger.specs.Table as ledger
+use Rattle.cs_ledger.specs.Table.{Record, Table}
+use Rattle.cs_table.specs.declared.change.Change.TheVariants.{Lock, Release, UseUp}
+use Rattle.cs_table.specs.Seen.{Stored, seen}
+use Rattle.cs_table.specs.Changes.{Becomes, changed, changed_record, noted_record, changed_each, appeared_each}
+use Rattle.cs_table.specs.Effects.{settled_vote, or_lost, ComesTo, accepted}
+use Rattle.cs_table.proofs.Each.{locks, aborts_noted, aborts_full, accepts}
+
+pub becomes_self : (a : Stored) → Becomes a a (seen a)
+becomes_self a = record { shows = refl; shards = refl; shard = refl }
+
+-- one change after another
+pub after : (a b c : Stored) (first second : Table → Table) → Becomes a b (first (seen a)) → Becomes b c (second (seen b)) → Becomes a c (second (first (seen a)))
+after a b c first second one two = record { shows = two.shows ∙ ap second one.shows; shards = two.shards ∙ one.shards; shard = two.shard ∙ one.shard }
+
+pub becomes_same : (a b : Stored) (t u : Table) → t ≡ u → Becomes a b t → Becomes a b u
+becomes_same a b t u e h = record { shows = h.shows ∙ e; shards = h.shards; shard = h.shard }
+
+pub locked : (a b c : Stored) (d : Bytes) (used read : List Piece) → Becomes a b (changed_each (changed_record (Lock d)) used (seen a)) → Becomes b c (changed_each (changed_record (Lock d)) read (seen b)) → Becomes a c (ledger.with_locks (seen a) d used read)
+locked a b c d used read one two = becomes_same a c _ _ (locks d used read (seen a)) (after a b c (changed_each (changed_record (Lock d)) used) (changed_each (changed_record (Lock d)) read) one two)
+
+abbrev released_all : List Piece → Table → Table
+released_all ps t = changed_each (changed_record Release) ps t
+
+pub aborted_full : (a b c : Stored) (d : Bytes) (anchor : Key) (used read : List Piece) → nat_lt (length ((seen a).at anchor).book) 1025 ≡ false → Becomes a b (released_all used (seen a)) → Becomes b c (released_all read (seen b)) → Becomes a c (ledger.with_aborted (seen a) d anchor used read)
+aborted_full a b c d anchor used read full one two = becomes_same a c _ _ (aborts_full d anchor used read (seen a) full) (after a b c (released_all used) (released_all read) one two)
+
+pub aborted_noted : (a b c e : Stored) (d : Bytes) (anchor : Key) (used read : List Piece) → nat_lt (length ((seen a).at anchor).book) 1025 ≡ true → Becomes a b (released_all used (seen a)) → Becomes b c (released_all read (seen b)) → Becomes c e (changed (noted_record d ledger.Commit) anchor (seen c)) → Becomes a e (ledger.with_aborted (seen a) d anchor used read)
+aborted_noted a b c e d anchor used read room one two three =
+    becomes_same a e _ _ (aborts_noted d anchor used read (seen a) room)
+    (after a c e (λ t. released_all read (released_all used t)) (changed (noted_record d ledger.Commit) anchor) (after a b c (released_all used) (released_all read) one two) three)
+
+pub carried : (a b c e : Stored) (d : Bytes) (used read made : List Piece) → Becomes a b (released_all read (seen a)) → Becomes b c (changed_each (changed_record (UseUp d)) used (seen b)) → Becomes c e (appeared_each read made (seen c)) → Becomes a e (accepted d used read made (seen a).next (seen a))
+carried a b c e d used read made one two three =
+    becomes_same a e _ _ (accepts d used read made (seen a))
+    (after a c e (λ t. changed_each (changed_record (UseUp d)) used (released_all read t)) (appeared_each read made) (after a b c (released_all read) (changed_each (changed_record (UseUp d)) used) one two) three)
+
+-- ---- the vote on a session, by its cases
+
+abbrev choose : Option ledger.Vote → Table → ledger.Outcome → ledger.Outcome
+choose (Some vote) t open_case = ledger.voted t vote
+choose None t open_case = open_case
+
+module _ (t : Table) (d : Bytes) (anchor : Key) (used read : List Piece) where
+  abbrev opened : ledger.Outcome
+  opened = ledger.prepare_open t d anchor used read
+
+  lost_case : (lost : Bool) → (if lost then ledger.voted t ledger.Abort else opened) ≡ choose (or_lost lost None) t opened
+  lost_case true = refl
+  lost_case false = refl
+
+  unless_case : (found : Option ledger.Vote) → ledger.prepare_unless t d anchor used read found ≡ choose (or_lost (ledger.is_inactive (t.at anchor).state) found) t opened
+  unless_case (Some vote) = refl
+  unless_case None = lost_case (ledger.is_inactive (t.at anchor).state)
+
+  held_case : (held : Bool) (other : ledger.Outcome) (found : Option ledger.Vote) → other ≡ choose found t opened → (if held then ledger.voted t ledger.Commit else other) ≡ choose (if held then Some ledger.Commit else found) t opened
+  held_case true other found h = refl
+  held_case false other found h = h
+
+  by_vote : ledger.prepare t d anchor used read ≡ choose (settled_vote (t.at anchor) d) t opened
+  by_vote = held_case (ledger.is_held_by d (t.at anchor).state) _ _ (unless_case (ledger.vote_in (t.at anchor).book d))
+
+  pub prepare_settled : (vote : ledger.Vote) → settled_vote (t.at anchor) d ≡ Some vote → ledger.prepare t d anchor used read ≡ ledger.voted t vote
+  prepare_settled vote is = by_vote ∙ ap (λ o. choose o t opened) is
+
+  unsettled : settled_vote (t.at anchor) d ≡ None → ledger.prepare t d anchor used read ≡ opened
+  unsettled is = by_vote ∙ ap (λ o. choose o t opened) is
+
+  pub prepare_worn : settled_vote (t.at anchor) d ≡ None → ledger.has_room (t.at anchor).book ≡ false → ledger.prepare t d anchor used read ≡ ledger.voted t ledger.Abort
+  prepare_worn none worn = unsettled none ∙ rw worn refl
+
+  pub prepare_ready : settled_vote (t.at anchor) d ≡ None → ledger.has_room (t.at anchor).book ≡ true → ledger.is_ready t used read ≡ true → ledger.prepare t d anchor used read ≡ ledger.voted (ledger.with_locks t d used read) ledger.Commit
+  prepare_ready none room ready = unsettled none ∙ rw (room, ready) refl
+
+  pub prepare_not : settled_vote (t.at anchor) d ≡ None → ledger.has_room (t.at anchor).book ≡ true → ledger.is_ready t used read ≡ false → ledger.prepare t d anchor used read ≡ ledger.voted (ledger.with_vote t anchor d ledger.Abort) ledger.Abort
+  prepare_not none room ready = unsettled none ∙ rw (room, ready) refl
+
+pub voted_so : (a b : Stored) (outcome : ledger.Outcome) (t : Table) (vote : ledger.Vote) → outcome ≡ ledger.voted t vote → Becomes a b t → ComesTo outcome a b (ledger.Voted vote)
+voted_so a b outcome t vote is did = record { effect_is = ap (λ o. o.effect) (sym is); table_is = becomes_same a b t outcome.table (ap (λ o. o.table) (sym is)) did }

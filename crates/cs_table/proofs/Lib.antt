@@ -1,0 +1,11 @@
+pub mod Rows
+pub mod Objects
+pub mod Loops
+pub mod Each
+pub mod Executions
+pub mod Fitting
+pub mod Adding
+pub mod Shown
+pub mod Calls
+pub mod Beginning
+pub mod Filled

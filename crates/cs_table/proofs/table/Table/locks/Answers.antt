@@ -1,0 +1,10 @@
+use Rattle.std.proofs.Common.{◌∙◌, Some, None}
+use Rattle.cs_table.specs.Calls.{locked_at}
+use Rattle.cs_table.proofs.Calls.{at_anchor}
+use Rattle.cs_table.proofs.table.Table.locks.Goals as goal
+
+pub returns-in-Some : goal.returns-in-Some
+returns-in-Some c = λ approves. c.is_locked.ensures ∙ at_anchor c.args.self.now c.args.session.now c.as_slice.result.now (c.as_slice.ensures.value ∙ c.in_ok-uses.ensures.used) approves locked_at c.in_ok-uses.uses.digest (Some c.in-Some.anchor) c.in_ok-uses.ensures.digest c.in-Some.ensures
+
+pub returns : goal.returns
+returns c = λ approves. at_anchor c.args.self.now c.args.session.now c.as_slice.result.now (c.as_slice.ensures.value ∙ c.in_ok-uses.ensures.used) approves locked_at c.in_ok-uses.uses.digest None c.in_ok-uses.ensures.digest c.in-None.ensures

@@ -1,0 +1,10 @@
+use Rattle.std.proofs.Common.{◌∙◌, Some, None}
+use Rattle.cs_table.specs.Calls.{recorded_at}
+use Rattle.cs_table.proofs.Calls.{at_anchor}
+use Rattle.cs_table.proofs.table.Table.recorded.Goals as goal
+
+pub returns-in-Some : goal.returns-in-Some
+returns-in-Some c = λ approves. c.recorded_under.ensures ∙ at_anchor c.args.self.now c.args.session.now c.as_slice.result.now (c.as_slice.ensures.value ∙ c.in_ok-uses.ensures.used) approves recorded_at c.in_ok-uses.uses.digest (Some c.in-Some.anchor) c.in_ok-uses.ensures.digest c.in-Some.ensures
+
+pub returns : goal.returns
+returns c = λ approves. at_anchor c.args.self.now c.args.session.now c.as_slice.result.now (c.as_slice.ensures.value ∙ c.in_ok-uses.ensures.used) approves recorded_at c.in_ok-uses.uses.digest None c.in_ok-uses.ensures.digest c.in-None.ensures

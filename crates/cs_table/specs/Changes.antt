@@ -1,0 +1,52 @@
+-- What the calls do to one record, and to the records of several keys.
+use Rattle.std.specs.Prelude.{◌≡◌, ℕ, if◌then◌else◌, List, [], ◌∷◌, ◌++◌}
+use Rattle.cs_ledger.specs.Ledger.{Bytes}
+use Rattle.cs_ledger.specs.Session.{Key, Piece, key_eq, has_key}
+use Rattle.cs_ledger.specs.Table.{Vote, State, Inactive, Record, Table, locked, released, appeared}
+use Rattle.cs_table.specs.declared.change.Change.{Change}
+use Rattle.cs_table.specs.declared.change.Change.TheVariants.{Lock, Release, UseUp}
+use Rattle.cs_table.specs.Seen.{Stored, seen}
+
+abbrev pub changed_state : Change → State → State
+changed_state (Lock by) state = locked by state
+changed_state Release state = released state
+changed_state (UseUp by) state = Inactive by
+
+abbrev pub with_state : State → Record → Record
+with_state state r = record { state = state; book = r.book }
+
+abbrev pub changed_record : Change → Record → Record
+changed_record change r = with_state (changed_state change r.state) r
+
+abbrev pub appeared_record : Bytes → Record → Record
+appeared_record object r = with_state (appeared object r.state) r
+
+abbrev pub noted_record : Bytes → Vote → Record → Record
+noted_record session vote r = record { state = r.state; book = r.book ++ (session, vote) ∷ [] }
+
+-- the record of one key is changed
+abbrev pub changed : (Record → Record) → Key → Table → Table
+changed change key t = record { at = λ name. if key_eq name key then change (t.at name) else t.at name; next = t.next }
+
+-- the records of these keys, one after the other
+abbrev pub changed_each : (Record → Record) → List Piece → Table → Table
+changed_each change [] t = t
+changed_each change (piece ∷ pieces) t = changed_each change pieces (changed change piece.key t)
+
+-- these objects come into being, but under keys that are read
+abbrev pub appeared_each : List Piece → List Piece → Table → Table
+appeared_each read [] t = t
+appeared_each read (piece ∷ pieces) t =
+    if has_key piece.key read
+    then appeared_each read pieces t
+    else appeared_each read pieces (changed (appeared_record piece.object) piece.key t)
+
+-- another serial is the next
+abbrev pub with_next : ℕ → Table → Table
+with_next next t = record { at = t.at; next = next }
+
+-- A stored table became one that shows this, of the same shard.
+pub record Becomes (old new : Stored) (table : Table) : Type 0 where
+  pub shows : seen new ≡ table
+  pub shards : new.shards ≡ old.shards
+  pub shard : new.shard ≡ old.shard

@@ -1,0 +1,49 @@
+-- The keys that a session has in a shard, with the objects that it carries under them.
+use Rattle.std.specs.Prelude.{ℕ, ◌==◌, List, [], ◌∷◌, ◌++◌, codes, replicate, if◌then◌else◌}
+use Rattle.cs_base.specs.declared.key.Key.TheVariants as key
+use Rattle.cs_base.specs.Key.{shard_of_key}
+use Rattle.cs_value.specs.declared.object.Object.{Object}
+use Rattle.cs_value.specs.Object.{object_encoding}
+use Rattle.cs_tx.specs.declared.session.Session.{Session}
+use Rattle.cs_tx.specs.Transaction.{Keyed}
+use Rattle.cs_tx.specs.Uses.{inputs_of, references_of, outputs_of}
+use Rattle.cs_ledger.specs.Session.{Rules}
+use Rattle.cs_table.specs.declared.piece.Piece.{Piece}
+
+-- the object that each dummy carries
+abbrev pub dummy_object : Object
+dummy_object = record { contract = replicate 32 0; type_name = codes "dummy"; values = [] }
+
+-- the rules of so many shards, as far as an execution goes by them
+abbrev pub rules_in : ℕ → Rules
+rules_in shards = record {
+  shard_of = λ name. shard_of_key shards (key.Object name);
+  genesis = [];
+  dummies = 0;
+  dummy_object = object_encoding dummy_object;
+}
+
+-- those of the objects that are in the shard
+abbrev pub pieces_in : ℕ → ℕ → List Keyed → List Piece
+pieces_in shards shard [] = []
+pieces_in shards shard (item ∷ items) =
+    if shard_of_key shards (key.Object item.0) == shard
+    then record { key = key.Object item.0; object = item.1 } ∷ pieces_in shards shard items
+    else pieces_in shards shard items
+
+abbrev pub dummies_in : ℕ → List (ℕ × ℕ) → List Piece
+dummies_in shard [] = []
+dummies_in shard (dummy ∷ dummies) =
+    if dummy.0 == shard
+    then record { key = key.Dummy dummy.0 dummy.1; object = dummy_object } ∷ dummies_in shard dummies
+    else dummies_in shard dummies
+
+-- what a session uses up, what it only reads, and what it brings into being
+abbrev pub used_in : ℕ → ℕ → Session → List Piece
+used_in shards shard x = pieces_in shards shard (inputs_of x.tx) ++ dummies_in shard x.dummies
+
+abbrev pub read_in : ℕ → ℕ → Session → List Piece
+read_in shards shard x = pieces_in shards shard (references_of x.tx)
+
+abbrev pub made_in : ℕ → ℕ → Session → List Piece
+made_in shards shard x = pieces_in shards shard (outputs_of x.tx)

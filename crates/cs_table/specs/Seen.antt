@@ -1,0 +1,76 @@
+-- What a table shows of its shard: the records of the definitions, under every key.
+use Rattle.std.specs.Prelude.{ℕ, Bool, List, [], map, Option, Some, None}
+use Rattle.std.specs.Map.{lookup}
+use Rattle.cs_base.specs.declared.key.Key.{Key}
+use Rattle.cs_base.specs.declared.key.Key.TheVariants as key
+use Rattle.cs_value.specs.Object.{object_encoding, ObjectFits}
+use Rattle.cs_tx.specs.declared.vote.Vote.{Vote}
+use Rattle.cs_tx.specs.declared.vote.Vote.TheVariants as vote
+use Rattle.cs_tx.specs.declared.state.State.{State}
+use Rattle.cs_tx.specs.declared.state.State.TheVariants as state
+use Rattle.cs_ledger.specs.Session as ledger
+use Rattle.cs_ledger.specs.Table as table
+use Rattle.cs_table.specs.declared.record.Record.{Record}
+use Rattle.cs_table.specs.declared.piece.Piece.{Piece}
+
+abbrev pub vote_of : Vote → table.Vote
+vote_of vote.Commit = table.Commit
+vote_of vote.Abort = table.Abort
+
+abbrev pub seen_state : State → table.State
+seen_state state.Unknown = table.Unknown
+seen_state (state.Active object) = table.Active (object_encoding object)
+seen_state (state.Locked object by) = table.Locked (object_encoding object) by
+seen_state (state.Inactive by) = table.Inactive by
+
+abbrev pub seen_place : List ℕ × Vote → List ℕ × table.Vote
+seen_place place = (place.0, vote_of place.1)
+
+abbrev pub seen_record : Record → table.Record
+seen_record r = record { state = seen_state r.state; book = map seen_place r.book }
+
+abbrev pub name_of : Key → ledger.Key
+name_of (key.Object digest) = ledger.Object digest
+name_of (key.Dummy shard serial) = ledger.Dummy shard serial
+
+abbrev pub seen_piece : Piece → ledger.Piece
+seen_piece p = record { key = name_of p.key; object = object_encoding p.object }
+
+-- What a table keeps: its shard among so many, the next serial of a dummy, and the records by rising keys.
+pub record Stored : Type 0 where
+  pub shards : ℕ
+  pub shard : ℕ
+  pub next : ℕ
+  pub rows : List (Key × Record)
+
+abbrev pub is_under : ledger.Key → Key → Bool
+is_under name key = ledger.key_eq name (name_of key)
+
+-- the stored record of a key
+abbrev pub row_in : List (Key × Record) → ledger.Key → Option Record
+row_in rows name = lookup (is_under name) rows
+
+-- a key without one is Unknown, with an empty book
+abbrev pub unknown_record : table.Record
+unknown_record = record { state = table.Unknown; book = [] }
+
+abbrev pub seen_row : Option Record → table.Record
+seen_row None = unknown_record
+seen_row (Some r) = seen_record r
+
+abbrev pub seen : Stored → table.Table
+seen s = record { at = λ name. seen_row (row_in s.rows name); next = s.next }
+
+-- the object of a state is within all limits
+abbrev pub HoldsFit : State → Type 0
+HoldsFit state.Unknown = Unit {0}
+HoldsFit (state.Active object) = ObjectFits object
+HoldsFit (state.Locked object by) = ObjectFits object
+HoldsFit (state.Inactive by) = Unit {0}
+
+abbrev pub RowFits : Option Record → Type 0
+RowFits None = Unit {0}
+RowFits (Some r) = HoldsFit r.state
+
+abbrev pub RowsFit : List (Key × Record) → Type 0
+RowsFit rows = (name : ledger.Key) → RowFits (row_in rows name)

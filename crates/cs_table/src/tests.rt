@@ -1,0 +1,154 @@
+//! Worked cases of a table.
+use crate::effect::Effect;
+use crate::genesis::TableError;
+use crate::standing::Standing;
+use crate::table::Table;
+use cs_base::{Config, Key, Memory, Sequence};
+use cs_tx::{Encoded, Name, Object, Session, State, Trace, Tx, Value, Vote, genesis_key};
+use std::alloc::Global;
+use std::process::Abort;
+use std::test::Fail;
+
+fn coin(alloc: Global, worth: i64) -> Result<Object, Memory> {
+    let text = Vec::from_slice(alloc, b"coin")?;
+    let mut values = Sequence::new(alloc);
+    values.push(Value::Int(worth))?;
+    Ok(Object {
+        contract: [7; 32],
+        type_name: Name::from_vec(text),
+        values,
+    })
+}
+
+fn config(rt: &impl Abort) -> Config {
+    Config::new(1, 0, 2).expect(rt, "a configuration")
+}
+
+/// The key of genesis object 0, a coin of 10, and a table of that alone.
+fn one_coin(rt: &impl Abort, alloc: Global) -> Result<(Key, Table), Fail> {
+    let object = coin(alloc, 10)?;
+    assert!(rt; object.fits());
+    let key = genesis_key(alloc, 0, &object)?;
+    let objects = [(key, object)];
+    let table = Table::genesis(alloc, config(rt), 0, &objects)?;
+    Ok((key, table))
+}
+
+/// Splits the coin, which is said to be worth so much, in two.
+fn split(alloc: Global, name: [u8; 32], worth: i64, number: u64) -> Result<Session, Memory> {
+    let method = Vec::from_slice(alloc, b"transfer")?;
+    let mut inputs = Sequence::new(alloc);
+    inputs.push((name, coin(alloc, worth)?))?;
+    let mut outputs = Sequence::new(alloc);
+    outputs.push(coin(alloc, 4)?)?;
+    outputs.push(coin(alloc, 6)?)?;
+    let mut traces = Sequence::new(alloc);
+    traces.push(Trace {
+        contract: [7; 32],
+        method: Name::from_vec(method),
+        inputs,
+        references: Sequence::new(alloc),
+        parameters: Sequence::new(alloc),
+        outputs,
+        returns: Sequence::new(alloc),
+        deps: Sequence::new(alloc),
+    })?;
+    Ok(Session {
+        tx: Tx { traces },
+        number,
+        dummies: Sequence::new(alloc),
+    })
+}
+
+fn prepared(
+    rt: &impl Abort,
+    alloc: Global,
+    table: &mut Table,
+    session: &Session,
+) -> Result<Vote, Fail> {
+    assert!(rt; session.fits());
+    let anchored = table.has_anchor(alloc, session)?;
+    assert!(rt; anchored);
+    Ok(table.prepare(alloc, session)?)
+}
+
+fn decided(
+    rt: &impl Abort,
+    alloc: Global,
+    table: &mut Table,
+    session: &Session,
+    vote: Vote,
+) -> Result<Effect, Fail> {
+    assert!(rt; session.fits());
+    let anchored = table.has_anchor(alloc, session)?;
+    assert!(rt; anchored);
+    Ok(table.decide(alloc, session, vote)?)
+}
+
+fn standing(
+    rt: &impl Abort,
+    alloc: Global,
+    table: &Table,
+    session: &Session,
+) -> Result<Standing, Fail> {
+    assert!(rt; session.fits());
+    Ok(table.standing(alloc, session)?)
+}
+
+fn name_of(rt: &impl Abort, key: Key) -> [u8; 32] {
+    match key {
+        Key::Object(name) => name,
+        Key::Dummy(_, _) => panic!(rt; "a dummy"),
+    }
+}
+
+#[test]
+fn a_coin_is_split(rt: HostRuntime) -> Result<(), Fail> {
+    let alloc = rt.alloc();
+    let (key, mut table) = one_coin(&rt, alloc)?;
+    let session = split(alloc, name_of(&rt, key), 10, 0)?;
+    for _ in 0..2 {
+        let vote = prepared(&rt, alloc, &mut table, &session)?;
+        assert!(rt; vote == Vote::Commit);
+    }
+    assert!(rt; session.fits() && table.locks(alloc, &session)?);
+    assert!(rt; decided(&rt, alloc, &mut table, &session, Vote::Commit)? == Effect::Accepted);
+    assert!(rt; standing(&rt, alloc, &table, &session)? == Standing::Accepted);
+    assert!(rt; table.recorded(alloc, &session)? == Some(Vote::Commit));
+    let row = table.record(&key).expect(&rt, "a record");
+    assert!(rt; matches!(&row.state, State::Inactive(_)) && row.book.is_empty());
+    assert!(rt; table.record(&Key::Dummy(0, 1)).is_some());
+    Ok(())
+}
+
+#[test]
+fn a_full_book_takes_no_vote(rt: HostRuntime) -> Result<(), Fail> {
+    let alloc = rt.alloc();
+    let (key, mut table) = one_coin(&rt, alloc)?;
+    for number in 0..1025 {
+        let wrong = split(alloc, name_of(&rt, key), 11, number)?;
+        assert!(rt; prepared(&rt, alloc, &mut table, &wrong)? == Vote::Abort);
+    }
+    let session = split(alloc, name_of(&rt, key), 10, 0)?;
+    assert!(rt; standing(&rt, alloc, &table, &session)? == Standing::Aborted);
+    assert!(rt; prepared(&rt, alloc, &mut table, &session)? == Vote::Abort);
+    let row = table.record(&key).expect(&rt, "a record");
+    assert!(rt; row.book.len() == 1024 && matches!(&row.state, State::Active(_)));
+    Ok(())
+}
+
+#[test]
+fn a_key_stands_twice(rt: HostRuntime) -> Result<(), Fail> {
+    let alloc = rt.alloc();
+    let objects = [
+        (Key::Object([1; 32]), coin(alloc, 1)?),
+        (Key::Object([2; 32]), coin(alloc, 2)?),
+        (Key::Object([1; 32]), coin(alloc, 3)?),
+    ];
+    assert!(rt; objects[0].1.fits() && objects[1].1.fits() && objects[2].1.fits());
+    match Table::genesis(alloc, config(&rt), 0, &objects) {
+        Ok(_) => panic!(rt; "no key was found"),
+        Err(error) => assert!(rt; error == TableError::Duplicate(Key::Object([1; 32]))),
+    }
+    Ok(())
+}
