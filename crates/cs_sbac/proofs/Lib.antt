@@ -1,0 +1,5 @@
+pub mod Fitting
+pub mod Concerned
+pub mod Settings
+pub mod RulesAlike
+pub mod Running

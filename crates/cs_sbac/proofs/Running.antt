@@ -1,0 +1,193 @@
+-- What the table and the pool became is what the execution of the entry gives.
+use Rattle.std.proofs.Common.{◌≡◌, ℕ, Bool, true, false, ◌&&◌, List, Option, Some, None, IsSome, is_some, option_map, refl, ap, sym, subst, ◌∙◌}
+use Rattle.std.specs.Prelude.{if◌then◌else◌}
+use Rattle.cs_base.specs.declared.config.Config.{Config}
+use Rattle.cs_base.specs.declared.key.Key as ours
+use Rattle.cs_base.specs.declared.node_id.NodeId.{NodeId}
+use Rattle.cs_value.specs.declared.object.Object.{Object}
+use Rattle.cs_tx.specs.declared.transaction.Tx.{Tx}
+use Rattle.cs_tx.specs.declared.session.Session.{Session}
+use Rattle.cs_tx.specs.declared.vote.Vote.{Vote}
+use Rattle.cs_tx.specs.declared.vote.Vote.TheVariants.{Commit, Abort}
+use Rattle.cs_tx.specs.declared.entry.Entry.{Entry}
+use Rattle.cs_tx.specs.declared.entry.Entry.TheVariants.{Prepare, Decide}
+use Rattle.cs_tx.specs.Uses.{anchor_of}
+use Rattle.cs_tx.specs.Sessions.{session_of, key_seen}
+use Rattle.cs_tx.proofs.AnchorSeen.{anchor-session_of}
+use Rattle.cs_ledger.specs.Ledger.{Bytes}
+use Rattle.cs_ledger.specs.Session as Seen
+use Rattle.cs_ledger.specs.Table as Shard
+use Rattle.cs_table.specs.declared.effect.Effect.{Effect}
+use Rattle.cs_table.specs.declared.effect.Effect.TheVariants.{Voted, Accepted, Aborted, Skipped, Void}
+use Rattle.cs_table.specs.Seen.{Stored, seen, vote_of}
+use Rattle.cs_table.specs.Pieces.{rules_in}
+use Rattle.cs_table.specs.Changes.{Becomes}
+use Rattle.cs_table.specs.Effects.{ComesTo, effect_of}
+use Rattle.cs_table.specs.declared.standing.Standing.TheVariants.{Accepted as Accepted', Aborted as Aborted', Open as Open'}
+use Rattle.cs_ledger.specs.Standing.{stands_accepted, stands_aborted}
+use Rattle.cs_table.specs.Calls.{anchor_in, prepared, decided, standing_at, locked_at as holds_at}
+use Rattle.cs_trail.specs.Setup as Setup
+use Rattle.cs_trail.specs.Pool.{Pool}
+use Rattle.cs_trail.specs.Bench.{told_by, own_pool, pool_after, locked_at, decided_at, stands_decided}
+use Rattle.cs_trail.specs.Deployment.{genesis_from}
+use Rattle.cs_sbac.specs.declared.answers.Outcome.{Outcome}
+use Rattle.cs_sbac.specs.Held.{Held, IsOfNode, deployed}
+use Rattle.cs_sbac.specs.Calls.{placed, left, closed, Runs, RunsEntry, Executes}
+use Rattle.cs_sbac.proofs.RulesAlike.{acts, anchors}
+
+vote-back : (v : Vote) → Setup.vote_from (vote_of v) ≡ v
+vote-back Commit = refl
+vote-back Abort = refl
+
+same-vote : (v : Vote) → vote_of v ≡ Setup.vote_of v
+same-vote Commit = refl
+same-vote Abort = refl
+
+-- ---- after a vote
+
+pub voted-run : (me : NodeId) (x : Session) (y : Seen.Session) (told tnew : Stored) (pold pnew : Pool) (vote : Vote) (locked : Bool)
+    → ComesTo (prepared told y) told tnew (Shard.Voted (vote_of vote)) → locked ≡ holds_at (seen tnew) y.digest (anchor_in tnew y)
+    → pnew ≡ own_pool me y.digest (Some (vote, locked)) (placed locked y.digest x pold)
+    → Runs me x y.digest (prepared told y) (anchor_in told y) told tnew pold pnew (record { effect = Voted vote; voted = Some (vote, locked) })
+voted-run me x y told tnew pold pnew vote locked comes holds pool =
+    let o : Shard.Outcome = prepared told y in
+    let e : Shard.Voted (vote_of vote) ≡ o.effect = comes.effect_is in
+    let l : locked ≡ locked_at o.table y.digest (anchor_in told y) =
+    holds ∙ (λ i. holds_at (comes.table_is.shows i) y.digest (Seen.anchor (rules_in (comes.table_is.shards i)) y (comes.table_is.shard i))) in
+    let t : Some (vote, locked) ≡ told_by o.effect (locked_at o.table y.digest (anchor_in told y)) =
+    ap (λ v. Some (v, locked)) (sym (vote-back vote)) ∙ (λ i. told_by (e i) (l i)) in
+    record {
+      effect_is = e;
+      voted_is = t;
+      table_is = comes.table_is;
+      pool_is = pool ∙ (λ i. own_pool me y.digest (t i) (pool_after (e i) (l i) y.digest x pold));
+    }
+
+-- ---- after a decision
+
+no-vote : (b : Bool) (t u : Shard.Table) (effect : Shard.Effect) (v : Shard.Vote) → (Shard.Voted v ≡ effect → ⊥)
+    → Shard.Voted v ≡ (if b then (let o : Shard.Outcome = record { table = t; effect = effect } in o) else record { table = u; effect = Shard.Skipped }).effect → ⊥
+no-vote true t u effect v other e = other e
+no-vote false t u effect v other e = let q : Shard.Voted v ≡ Shard.Skipped = e in cc
+
+never-votes : (rules : Seen.Rules) (shard : ℕ) (t : Shard.Table) (y : Seen.Session) (vote : Shard.Vote) (key : Option Seen.Key) (v : Shard.Vote)
+    → Shard.Voted v ≡ (Shard.act rules shard t (Shard.Decide y vote) key).effect → ⊥
+never-votes rules shard t y vote None v e = let q : Shard.Voted v ≡ Shard.Void = e in cc
+never-votes rules shard t y Shard.Commit (Some key) v e =
+    no-vote (Shard.is_locked_by y.digest (t.at key).state) (Shard.with_accepted rules shard t y) t Shard.Accepted v (λ q. cc) e
+never-votes rules shard t y Shard.Abort (Some key) v e =
+    no-vote (Shard.is_locked_by y.digest (t.at key).state) (Shard.with_aborted t y.digest key (Seen.used_up rules y shard) (Seen.read_only rules y shard)) t Shard.Aborted v (λ q. cc) e
+
+module _ (me : NodeId) (x : Session) (y : Seen.Session) (told tnew : Stored) (pold pnew : Pool) (vote : Vote) where
+  abbrev o : Shard.Outcome
+  o = decided told y (vote_of vote)
+
+  abbrev l : Bool
+  l = locked_at o.table y.digest (anchor_in told y)
+
+  abbrev Ran : Effect → Type 0
+  Ran effect = Runs me x y.digest o (anchor_in told y) told tnew pold pnew (record { effect = effect; voted = None })
+
+  quiet : (effect : Effect) (is : Shard.Effect) → effect_of effect ≡ is → is ≡ o.effect → None ≡ told_by is l → pnew ≡ pool_after is l y.digest x pold → Becomes told tnew o.table → Ran effect
+  quiet effect is e f none pool table = record {
+    effect_is = e ∙ f;
+    voted_is = none ∙ (λ i. told_by (f i) l);
+    table_is = table;
+    pool_is = pool ∙ (λ i. own_pool me y.digest (none i) (pool_after is l y.digest x pold)) ∙ (λ i. own_pool me y.digest (told_by (f i) l) (pool_after (f i) l y.digest x pold));
+  }
+
+  by : (effect : Effect) → effect_of effect ≡ o.effect → pnew ≡ left effect y.digest pold → Becomes told tnew o.table → Ran effect
+  by Accepted e pool table = quiet Accepted Shard.Accepted refl e refl pool table
+  by Aborted e pool table = quiet Aborted Shard.Aborted refl e refl pool table
+  by Skipped e pool table = quiet Skipped Shard.Skipped refl e refl pool table
+  by Void e pool table = quiet Void Shard.Void refl e refl pool table
+  by (Voted v) e pool table = absurd (never-votes (rules_in told.shards) told.shard (seen told) y (vote_of vote) (anchor_in told y) (vote_of v) e)
+
+  pub decided-run : (effect : Effect) → ComesTo (decided told y (vote_of vote)) told tnew (effect_of effect) → pnew ≡ left effect y.digest pold
+      → Runs me x y.digest (decided told y (vote_of vote)) (anchor_in told y) told tnew pold pnew (record { effect = effect; voted = None })
+  decided-run effect comes pool = by effect comes.effect_is pool comes.table_is
+
+-- ---- the table stays that of the shard
+
+pub stays : (approves : Tx → Bool) (config : Config) (me : NodeId) (entry : Entry) (told tnew : Stored) (pold pnew : Pool) (answer : Outcome)
+    → IsOfNode config me told → RunsEntry approves me entry told tnew pold pnew answer → IsOfNode config me tnew
+stays approves config me (Prepare x) told tnew pold pnew answer of r =
+    record { node = of.node; shards = r.table_is.shards ∙ of.shards; shard = r.table_is.shard ∙ of.shard }
+stays approves config me (Decide vote x) told tnew pold pnew answer of r =
+    record { node = of.node; shards = r.table_is.shards ∙ of.shards; shard = r.table_is.shard ∙ of.shard }
+
+-- ---- the anchor is the same for all
+
+some-still : (o : Option ours.Key) → is_some (option_map key_seen o) ≡ is_some o
+some-still None = refl
+some-still (Some k) = refl
+
+module _ (config : Config) (me : NodeId) (told : Stored) (of : IsOfNode config me told) where
+  pub anchored : (approves : Tx → Bool) (x : Session) → is_some (anchor_of config x me.shard) ≡ true → IsSome (anchor_in told (session_of approves x))
+  anchored approves x has =
+      let y : Seen.Session = session_of approves x in
+      let e : anchor_in told y ≡ option_map key_seen (anchor_of config x me.shard) =
+      (λ i. Seen.anchor (rules_in (of.shards i)) y (of.shard i)) ∙ anchor-session_of (rules_in config.shards) config (λ name. refl) approves x me.shard in
+      ap (λ (o : Option Seen.Key). is_some o) e ∙ some-still (anchor_of config x me.shard) ∙ has
+
+  module _ (genesis : List Object) (approves : Tx → Bool) where
+    abbrev setup : Setup.Setup
+    setup = deployed config genesis approves
+
+    same-anchor : (y : Seen.Session) → anchor_in told y ≡ Seen.anchor setup.rules y me.shard
+    same-anchor y = (λ i. Seen.anchor (rules_in (of.shards i)) y (of.shard i)) ∙ anchors (rules_in config.shards) (genesis_from 0 genesis) config.dummies me.shard y
+
+    same-outcome : (e : Shard.Entry) → (Seen.well_formed setup.rules (Shard.session_of e) && Seen.concerns setup.rules (Shard.session_of e) me.shard) ≡ true
+        → Shard.act (rules_in told.shards) told.shard (seen told) e (anchor_in told (Shard.session_of e)) ≡ Shard.exec setup.rules me.shard (seen told) e
+    same-outcome e fit =
+        (λ i. Shard.act (rules_in (of.shards i)) (of.shard i) (seen told) e (Seen.anchor (rules_in (of.shards i)) (Shard.session_of e) (of.shard i)))
+        ∙ acts (rules_in config.shards) (genesis_from 0 genesis) config.dummies me.shard (seen told) e
+        ∙ ap (λ b. if b then Shard.act setup.rules me.shard (seen told) e (Seen.anchor setup.rules (Shard.session_of e) me.shard) else record { table = seen told; effect = Shard.Void }) (sym fit)
+
+    moved : (x : Session) (o p : Shard.Outcome) (tnew : Stored) (pold pnew : Pool) (answer : Outcome) → o ≡ p
+        → Runs me x (session_of approves x).digest o (anchor_in told (session_of approves x)) told tnew pold pnew answer
+        → Runs me x (session_of approves x).digest p (Seen.anchor setup.rules (session_of approves x) me.shard) told tnew pold pnew answer
+    moved x o p tnew pold pnew answer e r =
+        let P : Shard.Outcome × Option Seen.Key → Type 0 = λ q. Runs me x (session_of approves x).digest q.0 q.1 told tnew pold pnew answer in
+        subst P (λ i. (e i, same-anchor (session_of approves x) i)) r
+
+    pub executes : (entry : Entry) (tnew : Stored) (pold pnew : Pool) (answer : Outcome) → Setup.is_fit setup me.shard (Setup.session_in entry) ≡ true
+        → RunsEntry approves me entry told tnew pold pnew answer
+        → Executes setup entry (record { config = config; me = me; table = told; pool = pold }) (record { config = config; me = me; table = tnew; pool = pnew }) answer
+    executes (Prepare x) tnew pold pnew answer fit r =
+        let y : Seen.Session = session_of approves x in
+        let s : Runs me x y.digest (Shard.exec setup.rules me.shard (seen told) (Shard.Prepare y)) (Seen.anchor setup.rules y me.shard) told tnew pold pnew answer =
+        moved x (prepared told y) (Shard.exec setup.rules me.shard (seen told) (Shard.Prepare y)) tnew pold pnew answer (same-outcome (Shard.Prepare y) fit) r in
+        record {
+          effect_is = s.effect_is;
+          voted_is = s.voted_is;
+          bench_is = λ i. record { table = s.table_is.shows i; pool = s.pool_is i };
+          config_stays = refl;
+          me_stays = refl;
+        }
+    executes (Decide vote x) tnew pold pnew answer fit r =
+        let y : Seen.Session = session_of approves x in
+        let s : Runs me x y.digest (Shard.exec setup.rules me.shard (seen told) (Shard.Decide y (Setup.vote_of vote))) (Seen.anchor setup.rules y me.shard) told tnew pold pnew answer =
+        moved x (decided told y (vote_of vote)) (Shard.exec setup.rules me.shard (seen told) (Shard.Decide y (Setup.vote_of vote))) tnew pold pnew answer
+        (ap (decided told y) (same-vote vote) ∙ same-outcome (Shard.Decide y (Setup.vote_of vote)) fit) r in
+        record {
+          effect_is = s.effect_is;
+          voted_is = s.voted_is;
+          bench_is = λ i. record { table = s.table_is.shows i; pool = s.pool_is i };
+          config_stays = refl;
+          me_stays = refl;
+        }
+
+    pub stands : (x : Session) → closed (standing_at (seen told) (session_of approves x).digest (anchor_in told (session_of approves x))) ≡ stands_decided setup me.shard (seen told) x
+    stands x =
+        let y : Seen.Session = session_of approves x in
+        closed-at (seen told) y.digest (anchor_in told y) ∙ ap (decided_at (seen told) y.digest) (same-anchor y)
+      where
+        closed-by : (a b : Bool) → closed (if a then Accepted' else if b then Aborted' else Open') ≡ (if a then true else b)
+        closed-by true b = refl
+        closed-by false true = refl
+        closed-by false false = refl
+
+        closed-at : (t : Shard.Table) (d : Bytes) (o : Option Seen.Key) → closed (standing_at t d o) ≡ decided_at t d o
+        closed-at t d None = refl
+        closed-at t d (Some key) = closed-by (stands_accepted (t.at key) d) (stands_aborted (t.at key) d)

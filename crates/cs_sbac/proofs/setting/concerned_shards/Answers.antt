@@ -1,0 +1,7 @@
+use Rattle.std.proofs.Common.{◌∙◌, sym}
+use Rattle.cs_sbac.proofs.Concerned.{concerned-session}
+use Rattle.cs_sbac.proofs.setting.concerned_shards.Goals as goal
+
+pub returns : goal.returns
+returns c genesis approves =
+    c.in_ok-shards.ensures ∙ sym (concerned-session c.args.config.now genesis approves c.args.session.now)

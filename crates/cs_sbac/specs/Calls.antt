@@ -1,0 +1,83 @@
+-- What the calls of the pool answer, and what they leave.
+use Rattle.std.specs.Prelude.{◌≡◌, Bool, true, false, if◌then◌else◌, List, Option, Some, None}
+use Rattle.cs_base.specs.declared.node_id.NodeId.{NodeId}
+use Rattle.cs_ledger.specs.Ledger.{Bytes}
+use Rattle.cs_ledger.specs.Session.{Key}
+use Rattle.cs_ledger.specs.Table as Shard
+use Rattle.cs_tx.specs.declared.session.Session.{Session}
+use Rattle.cs_tx.specs.declared.entry.Entry.{Entry}
+use Rattle.cs_tx.specs.declared.entry.Entry.TheVariants.{Prepare, Decide}
+use Rattle.cs_tx.specs.declared.transaction.Tx.{Tx}
+use Rattle.cs_tx.specs.Sessions.{session_of}
+use Rattle.cs_table.specs.declared.effect.Effect.{Effect}
+use Rattle.cs_table.specs.declared.effect.Effect.TheVariants.{Voted, Accepted, Aborted, Skipped, Void}
+use Rattle.cs_table.specs.declared.standing.Standing.{Standing}
+use Rattle.cs_table.specs.declared.standing.Standing.TheVariants as Standings
+use Rattle.cs_table.specs.Seen.{Stored, vote_of}
+use Rattle.cs_table.specs.Changes.{Becomes}
+use Rattle.cs_table.specs.Effects.{effect_of}
+use Rattle.cs_table.specs.Calls.{anchor_in, prepared, decided}
+use Rattle.cs_trail.specs.declared.pooled.Pooled.{Pooled}
+use Rattle.cs_trail.specs.Setup.{Setup, session_in}
+use Rattle.cs_trail.specs.Evidence.{has_voted}
+use Rattle.cs_trail.specs.Pool.{Pool, has_room, pushed, entered_locked, without}
+use Rattle.cs_trail.specs.Bench.{Bench, executed, bench_executed, pool_after, told_by, told_of, own_pool, locked_at}
+use Rattle.cs_sbac.specs.Held.{Held, bench_of}
+use Rattle.cs_sbac.specs.declared.answers.Counted.{Counted}
+use Rattle.cs_sbac.specs.declared.answers.Counted.TheVariants.{Counted as Taken, Repeat, NotPooled}
+use Rattle.cs_sbac.specs.declared.answers.Entered.{Entered}
+use Rattle.cs_sbac.specs.declared.answers.Entered.TheVariants.{New, Full}
+use Rattle.cs_sbac.specs.declared.answers.Outcome.{Outcome}
+
+-- a node's first vote on a pooled session counts
+abbrev pub counted_in : NodeId → Option Pooled → Counted
+counted_in from None = NotPooled
+counted_in from (Some p) = if has_voted from p.ballots then Repeat else Taken
+
+-- a new session enters where one more may wait
+abbrev pub entered_in : Pool → Entered
+entered_in pool = if has_room pool then New else Full
+
+abbrev pub pool_entered : Bytes → Session → Pool → Pool
+pool_entered d x pool = if has_room pool then pushed d x false pool else pool
+
+-- a session stands accepted or aborted
+abbrev pub closed : Standing → Bool
+closed Standings.Accepted = true
+closed Standings.Aborted = true
+closed Standings.Open = false
+
+-- a session that was voted on is locked, or leaves
+abbrev pub placed : Bool → Bytes → Session → Pool → Pool
+placed locked d x pool = if locked then entered_locked d x pool else without d pool
+
+-- the execution of an entry answered this, and left this
+pub record Executes (setup : Setup) (entry : Entry) (old new : Held) (answer : Outcome) : Type 0 where
+  pub effect_is : effect_of answer.effect ≡ (executed setup old.me.shard (bench_of old) entry).effect
+  pub voted_is : answer.voted ≡ told_of setup old.me.shard (session_in entry) (executed setup old.me.shard (bench_of old) entry)
+  pub bench_is : bench_of new ≡ bench_executed setup old.me (bench_of old) entry
+  pub config_stays : new.config ≡ old.config
+  pub me_stays : new.me ≡ old.me
+
+-- one on which a decision took effect leaves
+abbrev pub left : Effect → Bytes → Pool → Pool
+left Accepted d pool = without d pool
+left Aborted d pool = without d pool
+left (Voted vote) d pool = pool
+left Skipped d pool = pool
+left Void d pool = pool
+
+-- The table came to this outcome on the session x of this digest, whose anchor is this.
+pub record Runs (me : NodeId) (x : Session) (d : Bytes) (outcome : Shard.Outcome) (anchor : Option Key)
+    (told tnew : Stored) (pold pnew : Pool) (answer : Outcome) : Type 0 where
+  pub effect_is : effect_of answer.effect ≡ outcome.effect
+  pub voted_is : answer.voted ≡ told_by outcome.effect (locked_at outcome.table d anchor)
+  pub table_is : Becomes told tnew outcome.table
+  pub pool_is : pnew ≡ own_pool me d (told_by outcome.effect (locked_at outcome.table d anchor))
+      (pool_after outcome.effect (locked_at outcome.table d anchor) d x pold)
+
+abbrev pub RunsEntry : (Tx → Bool) → NodeId → Entry → Stored → Stored → Pool → Pool → Outcome → Type 0
+RunsEntry approves me (Prepare x) told tnew pold pnew answer =
+    Runs me x (session_of approves x).digest (prepared told (session_of approves x)) (anchor_in told (session_of approves x)) told tnew pold pnew answer
+RunsEntry approves me (Decide vote x) told tnew pold pnew answer =
+    Runs me x (session_of approves x).digest (decided told (session_of approves x) (vote_of vote)) (anchor_in told (session_of approves x)) told tnew pold pnew answer

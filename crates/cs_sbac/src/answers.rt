@@ -1,0 +1,31 @@
+//! What the calls of the pool answer.
+use cs_table::Effect;
+use cs_tx::Vote;
+
+/// Whether a new session entered the pool.
+#[derive(Clone, Copy, Debug, PartialEq, Eq)]
+pub enum Entered {
+    /// It waits, as the last one.
+    New,
+    /// No more sessions may wait.
+    Full,
+}
+
+/// What became of a vote.
+#[derive(Clone, Copy, Debug, PartialEq, Eq)]
+pub enum Counted {
+    /// It counts.
+    Counted,
+    /// The node has voted on the session before.
+    Repeat,
+    /// The session is not in the pool.
+    NotPooled,
+}
+
+/// What the execution of an entry came to, and the node's vote, if it voted, with the mark that
+/// it asks for the votes of the others.
+#[derive(Clone, Copy, Debug, PartialEq, Eq)]
+pub struct Outcome {
+    pub effect: Effect,
+    pub voted: Option<(Vote, bool)>,
+}

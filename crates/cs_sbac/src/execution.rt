@@ -1,0 +1,142 @@
+//! The execution of an entry on the table and the pool of a node.
+ghost use Rattle.std.specs.Prelude.{◌≡◌, Bool, true, Some, IsSome, OnOk, IfOk};
+ghost use Rattle.cs_tx.specs.declared.transaction.Tx.{Tx};
+ghost use Rattle.cs_tx.specs.Session.{SessionFits, EntryFits};
+ghost use Rattle.cs_tx.specs.Sessions.{session_of};
+ghost use Rattle.cs_table.specs.Seen.{vote_of};
+ghost use Rattle.cs_table.specs.Calls.{anchor_in, prepared, decided};
+ghost use Rattle.cs_trail.specs.Setup.{session_in};
+ghost use Rattle.cs_trail.specs.Pool.{entering};
+ghost use Rattle.cs_trail.specs.Bench.{own_pool};
+ghost use Rattle.cs_sbac.specs.Calls.{placed, left, Runs, RunsEntry};
+
+use crate::answers::Outcome;
+use crate::pool::Pool;
+use cs_base::{Memory, NodeId, Sequence};
+use cs_table::{Effect, Table};
+use cs_trail::{Ballot, Pooled};
+use cs_tx::{Digest, Encoded, Entry, Session, Vote, session_digest};
+use std::alloc::Global;
+
+/// A session as it enters the pool.
+pub fn newcomer(alloc: Global, session: Session, locked: bool) -> Pooled
+    ensures { result ≡ entering session locked }
+{
+    Pooled {
+        session,
+        locked,
+        ballots: Sequence::new(alloc),
+    }
+}
+
+/// What becomes of a session in the pool after the vote on it.
+fn place(
+    alloc: Global,
+    pool: &mut Pool,
+    digest: &Digest,
+    session: &Session,
+    locked: bool,
+) -> Result<(), Memory>
+    requires { SessionFits session.now }
+    ensures { OnOk result (pool.new ≡ placed locked digest.now session.now pool.old) }
+{
+    if !locked {
+        pool.remove(digest);
+    } else if pool.contains(digest) {
+        pool.lock(digest);
+    } else {
+        let session = session.copy(alloc)?;
+        pool.push(*digest, newcomer(alloc, session, true))?;
+    }
+    Ok(())
+}
+
+/// The same, with the node's own vote on a session that is locked now.
+fn place_voted(
+    alloc: Global,
+    pool: &mut Pool,
+    digest: &Digest,
+    session: &Session,
+    own: Ballot,
+    locked: bool,
+) -> Result<(), Memory>
+    requires { SessionFits session.now }
+    ensures { OnOk result (pool.new ≡ own_pool own.sender digest.now (Some (own.vote, locked)) (placed locked digest.now session.now pool.old)) }
+{
+    place(alloc, pool, digest, session, locked)?;
+    if locked {
+        pool.count(digest, own)?;
+    }
+    Ok(())
+}
+
+fn prepare(
+    alloc: Global,
+    me: NodeId,
+    table: &mut Table,
+    pool: &mut Pool,
+    session: &Session,
+) -> Result<Outcome, Memory>
+    requires fits { SessionFits session.now }
+    requires anchored { IsSome (anchor_in table.old (session_of (λ tx. true) session.now)) }
+    ensures { (approves : Tx → Bool) → IfOk result (λ answer. let x = session_of approves session.now in Runs me session.now x.digest (prepared table.old x) (anchor_in table.old x) table.old table.new pool.old pool.new answer) }
+{
+    let digest = session_digest(alloc, session)?;
+    let vote = table.prepare(alloc, session)?;
+    let locked = table.locks(alloc, session)?;
+    let own = Ballot { sender: me, vote };
+    place_voted(alloc, pool, &digest, session, own, locked)?;
+    Ok(Outcome {
+        effect: Effect::Voted(vote),
+        voted: Some((vote, locked)),
+    })
+}
+
+/// A session on which a decision took effect leaves the pool.
+fn leave(pool: &mut Pool, digest: &Digest, effect: Effect)
+    ensures { pool.new ≡ left effect digest.now pool.old }
+{
+    match effect {
+        Effect::Accepted | Effect::Aborted => pool.remove(digest),
+        Effect::Voted(_) | Effect::Skipped | Effect::Void => {}
+    }
+}
+
+fn decide(
+    alloc: Global,
+    me: NodeId,
+    table: &mut Table,
+    pool: &mut Pool,
+    vote: Vote,
+    session: &Session,
+) -> Result<Outcome, Memory>
+    requires fits { SessionFits session.now }
+    requires anchored { IsSome (anchor_in table.old (session_of (λ tx. true) session.now)) }
+    ensures { (approves : Tx → Bool) → IfOk result (λ answer. let x = session_of approves session.now in Runs me session.now x.digest (decided table.old x (vote_of vote)) (anchor_in table.old x) table.old table.new pool.old pool.new answer) }
+{
+    let digest = session_digest(alloc, session)?;
+    let effect = table.decide(alloc, session, vote)?;
+    leave(pool, &digest, effect);
+    Ok(Outcome {
+        effect,
+        voted: None,
+    })
+}
+
+/// Executes an entry whose session has an anchor in the table.
+pub fn run(
+    alloc: Global,
+    me: NodeId,
+    table: &mut Table,
+    pool: &mut Pool,
+    entry: &Entry,
+) -> Result<Outcome, Memory>
+    requires fits { EntryFits entry.now }
+    requires anchored { IsSome (anchor_in table.old (session_of (λ tx. true) (session_in entry.now))) }
+    ensures { (approves : Tx → Bool) → IfOk result (λ answer. RunsEntry approves me entry.now table.old table.new pool.old pool.new answer) }
+{
+    match entry {
+        Entry::Prepare(session) => prepare(alloc, me, table, pool, session),
+        Entry::Decide(vote, session) => decide(alloc, me, table, pool, *vote, session),
+    }
+}

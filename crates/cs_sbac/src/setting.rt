@@ -1,0 +1,73 @@
+//! What the setup of a deployment says of a session.
+ghost use Rattle.std.specs.Prelude.{◌≡◌, Bool, true, List, IfOk, is_none, is_some};
+ghost use Rattle.cs_value.specs.declared.object.Object.{Object};
+ghost use Rattle.cs_tx.specs.declared.transaction.Tx.{Tx};
+ghost use Rattle.cs_tx.specs.Session.{SessionFits, EntryFits};
+ghost use Rattle.cs_tx.specs.Uses.{anchor_of};
+ghost use Rattle.cs_tx.specs.WellFormed.{fault_of};
+ghost use Rattle.cs_trail.specs.Setup.{concerned, is_fit, session_in};
+ghost use Rattle.cs_sbac.specs.Held.{deployed};
+
+use cs_base::{Config, Memory};
+use cs_tx::{Entry, Malformed, Session, anchor, concerned, well_formed};
+use std::alloc::Global;
+
+/// The shards that a session concerns, in rising order.
+pub fn concerned_shards(
+    alloc: Global,
+    config: &Config,
+    session: &Session,
+) -> Result<Vec<u16>, Memory>
+    requires { SessionFits session.now }
+    ensures { (genesis : List Object) (approves : Tx → Bool) → IfOk result (λ shards. shards.items ≡ concerned (deployed config.now genesis approves) session.now) }
+{
+    let shards = concerned(alloc, session, config)?;
+    Ok(shards)
+}
+
+fn is_well_formed(alloc: Global, config: &Config, session: &Session) -> Result<bool, Memory>
+    requires { SessionFits session.now }
+    ensures { IfOk result (λ yes. yes ≡ is_none (fault_of config.now session.now)) }
+{
+    match well_formed(alloc, session, config) {
+        Ok(()) => Ok(true),
+        Err(Malformed::Memory) => Err(Memory),
+        Err(
+            Malformed::NoInput
+            | Malformed::TwiceUsed(_)
+            | Malformed::Foreign(_)
+            | Malformed::Dep(_)
+            | Malformed::Dummies,
+        ) => Ok(false),
+    }
+}
+
+/// Whether a session is well formed and concerns the shard.
+pub fn is_fit(alloc: Global, config: &Config, shard: u16, session: &Session) -> Result<bool, Memory>
+    requires { SessionFits session.now }
+    ensures fit { (genesis : List Object) (approves : Tx → Bool) → IfOk result (λ fit. fit ≡ is_fit (deployed config.now genesis approves) shard session.now) }
+    // Then the shard has a key of the session, by which it is held.
+    ensures anchored { IfOk result (λ fit. fit ≡ true → is_some (anchor_of config.now session.now shard) ≡ true) }
+{
+    if !is_well_formed(alloc, config, session)? {
+        return Ok(false);
+    }
+    Ok(anchor(session, config, shard).is_some())
+}
+
+/// The same of the session of an entry.
+pub fn is_fit_entry(
+    alloc: Global,
+    config: &Config,
+    shard: u16,
+    entry: &Entry,
+) -> Result<bool, Memory>
+    requires { EntryFits entry.now }
+    ensures fit { (genesis : List Object) (approves : Tx → Bool) → IfOk result (λ fit. fit ≡ is_fit (deployed config.now genesis approves) shard (session_in entry.now)) }
+    ensures anchored { IfOk result (λ fit. fit ≡ true → is_some (anchor_of config.now (session_in entry.now) shard) ≡ true) }
+{
+    match entry {
+        Entry::Prepare(session) => is_fit(alloc, config, shard, session),
+        Entry::Decide(_, session) => is_fit(alloc, config, shard, session),
+    }
+}
