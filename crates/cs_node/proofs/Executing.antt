@@ -1,0 +1,94 @@
+-- An execution with the node's own vote is what its signs say.
+use Rattle.std.proofs.Common.{◌≡◌, ℕ, Bool, true, false, not, ◌&&◌, cond, List, [], ◌∷◌, ◌++◌, Option, Some, None, bytes_eq, is_some, refl, ap, sym, ◌∙◌, arith, append_assoc}
+use Rattle.cs_base.specs.declared.node_id.NodeId.{NodeId}
+use Rattle.cs_tx.specs.declared.session.Session.{Session}
+use Rattle.cs_tx.specs.declared.vote.Vote.{Vote}
+use Rattle.cs_tx.specs.declared.entry.Entry.{Entry}
+use Rattle.cs_ledger.specs.Ledger.{Bytes}
+use Rattle.cs_ledger.specs.Table.{Table, Effect, Voted, Accepted, Aborted, Skipped, Void}
+use Rattle.cs_trail.specs.declared.pooled.Pooled.{Pooled}
+use Rattle.cs_trail.specs.Setup.{Setup, digest_of, session_in, vote_from}
+use Rattle.cs_trail.specs.Pool.{Pool, found, is_pooled, changed, with_ballot, as_locked, entering, pushed, entered, entered_locked}
+use Rattle.cs_trail.specs.Bench.{Bench, Ran, is_locked, pool_after, executed, told_by, told_of, own_pool, bench_executed}
+use Rattle.cs_trail.specs.Signs.{Sign, Entered, Did, bench_step, bench_after, own_signs, entered_signs, execution_signs}
+use Rattle.cs_node.specs.declared.made.Note.TheVariants.{Executed}
+use Rattle.cs_node.specs.declared.made.Made.{Made}
+use Rattle.cs_node.specs.Notes.{effect_from, notes_of, Tells}
+use Rattle.cs_node.specs.Steps.{Makes}
+use Rattle.cs_node.proofs.Sums.{notes-append, bench-append}
+
+same-bytes : (d : Bytes) → bytes_eq d d ≡ true
+same-bytes [] = refl
+same-bytes (x ∷ d) = grind (arith, same-bytes d)
+
+-- a choice whose first branch is something, and which is nothing
+second : (b : Bool) (p : Pooled) (rest : Option Pooled) → cond b (Some p) rest ≡ None → b ≡ false
+second true p rest h = let q : Some p ≡ None = h in cc
+second false p rest h = refl
+
+found-pushed : (d : Bytes) (p : Pooled) (pool : Pool) → found d pool ≡ None → found d (pool ++ (d, p) ∷ []) ≡ Some p
+found-pushed d p [] none = ap (λ b. cond b (Some p) None) (same-bytes d)
+found-pushed d p (e ∷ pool) none =
+    let h : bytes_eq d e.0 ≡ false = second (bytes_eq d e.0) e.1 (found d pool) none in
+    ap (λ b. cond b (Some e.1) (found d (pool ++ (d, p) ∷ []))) h ∙ found-pushed d p pool (sym (ap (λ b. cond b (Some e.1) (found d pool)) h) ∙ none)
+
+none-of : (o : Option Pooled) → is_some o ≡ false → o ≡ None
+none-of None h = refl
+none-of (Some p) h = let q : true ≡ false = h in cc
+
+-- a session that an execution brought in is there already
+entered-again : (d : Bytes) (x : Session) (pool : Pool) → is_pooled d pool ≡ false → entered d x (entered_locked d x pool) ≡ entered_locked d x pool
+entered-again d x pool e =
+    let none : found d pool ≡ None = none-of (found d pool) e in
+    let is : entered_locked d x pool ≡ pushed d x true pool = ap (λ b. cond b (changed d as_locked pool) (pushed d x true pool)) e in
+    let there : found d (pushed d x true pool) ≡ Some (entering x true) = found-pushed d (entering x true) pool none in
+    ap (entered d x) is ∙ ap (λ o. cond (is_some o) (pushed d x true pool) (pushed d x false (pushed d x true pool))) there ∙ sym is
+
+module _ (setup : Setup) (me : NodeId) (x : Session) where
+  abbrev d : Bytes
+  d = digest_of setup x
+
+  abbrev after : Bool → Option (Vote × Bool) → List Sign
+  after pooled told = own_signs me x told ++ entered_signs x pooled told
+
+  -- the own vote on a session that is locked
+  locked-bench : (vote : Vote) (table : Table) (pool : Pool) (pooled : Bool) → is_pooled d pool ≡ pooled
+      → bench_after setup me.shard (after pooled (Some (vote, true))) (record { table = table; pool = entered_locked d x pool })
+      ≡ record { table = table; pool = own_pool me d (Some (vote, true)) (entered_locked d x pool) }
+  locked-bench vote table pool true e = refl
+  locked-bench vote table pool false e =
+      ap (λ (p : Pool). record { table = table; pool = changed d (with_ballot (record { sender = me; vote = vote })) p }) (entered-again d x pool e)
+
+  -- what the own vote leaves of what an execution left
+  told-bench : (effect : Effect) (locked : Bool) (table : Table) (pool : Pool) (pooled : Bool) → is_pooled d pool ≡ pooled
+      → bench_after setup me.shard (after pooled (told_by effect locked)) (record { table = table; pool = pool_after effect locked d x pool })
+      ≡ record { table = table; pool = own_pool me d (told_by effect locked) (pool_after effect locked d x pool) }
+  told-bench (Voted vote) true table pool pooled e = locked-bench (vote_from vote) table pool pooled e
+  told-bench (Voted vote) false table pool pooled e = refl
+  told-bench Accepted locked table pool pooled e = refl
+  told-bench Aborted locked table pool pooled e = refl
+  told-bench Skipped locked table pool pooled e = refl
+  told-bench Void locked table pool pooled e = refl
+
+  -- entering and the own vote tell nothing
+  told-nothing : (pooled : Bool) (told : Option (Vote × Bool)) → notes_of (after pooled told) ≡ []
+  told-nothing pooled None = refl
+  told-nothing pooled (Some (vote, false)) = refl
+  told-nothing true (Some (vote, true)) = refl
+  told-nothing false (Some (vote, true)) = refl
+
+pub execution-makes : (setup : Setup) (me : NodeId) (b b' : Bench) (slot : ℕ) (entry : Entry) (made made' : Made) → b' ≡ bench_executed setup me b entry
+    → made'.notes ≡ made.notes ++ Executed slot entry (effect_from (executed setup me.shard b entry).effect) ∷ [] → Makes setup me (execution_signs setup me b slot entry) b b' made made'
+execution-makes setup me b b' slot entry made made' is noted =
+    let x : Session = session_in entry in
+    let ran : Ran = executed setup me.shard b entry in
+    let told : Option (Vote × Bool) = told_of setup me.shard x ran in
+    let pooled : Bool = is_pooled (digest_of setup x) b.pool in
+    let did : List Sign = Did slot entry ran.effect ∷ [] in
+    let signs : List Sign = own_signs me x told ++ entered_signs x pooled told in
+    let whole : execution_signs setup me b slot entry ≡ signs ++ did = sym (append_assoc (own_signs me x told) (entered_signs x pooled told) did) in
+    let told-is : notes_of (execution_signs setup me b slot entry) ≡ notes_of did = ap notes_of whole ∙ notes-append signs did ∙ ap (λ xs. notes_of did ++ xs) (told-nothing setup me x pooled told) in
+    record {
+      tells = noted ∙ ap (λ xs. made.notes ++ xs) (sym told-is);
+      bench_is = is ∙ sym (ap (λ all. bench_after setup me.shard all b) whole ∙ bench-append setup me.shard signs did b ∙ told-bench setup me x ran.effect (is_locked setup me.shard ran.bench.table x) ran.bench.table b.pool pooled refl);
+    }

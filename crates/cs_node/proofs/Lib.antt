@@ -1,0 +1,11 @@
+pub mod Sums
+pub mod Settling
+pub mod Executing
+pub mod Noting
+pub mod Submitting
+pub mod Turns
+pub mod Candidates
+pub mod Standing
+pub mod Doing
+pub mod Starting
+pub mod Whole

@@ -1,0 +1,36 @@
+-- Notes of executions, and that their entries have encodings.
+use Rattle.std.proofs.Common.{◌≡◌, List, [], ◌∷◌, ◌++◌, refl, sym, subst}
+use Rattle.cs_ledger.specs.Table as Shard
+use Rattle.cs_table.specs.declared.effect.Effect.{Effect}
+use Rattle.cs_table.specs.declared.effect.Effect.TheVariants.{Voted, Accepted, Aborted, Skipped, Void}
+use Rattle.cs_table.specs.Effects.{effect_of}
+use Rattle.cs_tx.specs.declared.entry.Entry.{Entry}
+use Rattle.cs_tx.specs.declared.vote.Vote.TheVariants.{Commit, Abort}
+use Rattle.cs_tx.specs.Session.{EntryFits}
+use Rattle.cs_node.specs.declared.made.Note.{Note}
+use Rattle.cs_node.specs.Notes.{effect_from, NoteFits, NotesFit, ExecutedFits}
+
+pub effect-again : (effect : Effect) (seen : Shard.Effect) → effect_of effect ≡ seen → effect ≡ effect_from seen
+effect-again effect seen is = let P : Shard.Effect → Type 0 = λ e. effect ≡ effect_from e in subst P is (back effect)
+  where
+    back : (e : Effect) → e ≡ effect_from (effect_of e)
+    back (Voted Commit) = refl
+    back (Voted Abort) = refl
+    back Accepted = refl
+    back Aborted = refl
+    back Skipped = refl
+    back Void = refl
+
+pub executed-fits : (effect : Effect) (entry : Entry) → EntryFits entry → ExecutedFits effect entry
+executed-fits (Voted vote) entry fits = fits
+executed-fits Accepted entry fits = fits
+executed-fits Aborted entry fits = fits
+executed-fits Skipped entry fits = fits
+executed-fits Void entry fits = tt
+
+notes-push : (notes : List Note) (note : Note) → NotesFit notes → NoteFits note → NotesFit (notes ++ note ∷ [])
+notes-push [] note fits fit = (fit, tt)
+notes-push (n ∷ notes) note fits fit = (fits.0, notes-push notes note fits.1 fit)
+
+pub noted-fits : (old new : List Note) (note : Note) → new ≡ old ++ note ∷ [] → NoteFits note → NotesFit old → NotesFit new
+noted-fits old new note is fit fits = subst NotesFit (sym is) (notes-push old note fits fit)

@@ -1,0 +1,57 @@
+-- The view for which a node stands before its first input.
+use Rattle.std.proofs.Common.{◌≡◌, ℕ, zero, suc, ◌+◌, ◌<◌, Bool, List, [], ◌∷◌, length, map, refl, ap, sym, subst, ◌∙◌, arith}
+use Rattle.std.specs.Prelude.{All}
+use Rattle.cs_base.specs.declared.config.Config.{Config}
+use Rattle.cs_base.specs.declared.node_id.NodeId.{NodeId}
+use Rattle.cs_base.specs.declared.key.Key.{Key}
+use Rattle.cs_base.specs.declared.key.Key.TheVariants as key
+use Rattle.cs_value.specs.declared.object.Object.{Object}
+use Rattle.cs_value.specs.Object.{ObjectFits, object_encoding}
+use Rattle.cs_tx.specs.declared.transaction.Tx.{Tx}
+use Rattle.cs_tx.specs.Digest.{name_of_genesis}
+use Rattle.cs_order.specs.Deeds.{Member, Machine}
+use Rattle.cs_ledger.specs.Ledger.{Item}
+use Rattle.cs_ledger.specs.Session as Seen
+use Rattle.cs_ledger.specs.Table.{Table, start}
+use Rattle.cs_trail.specs.Site.{View, start_view}
+use Rattle.cs_trail.specs.Deployment.{genesis_from, rules_of, site_of}
+use Rattle.cs_table.specs.Seen.{Stored, seen}
+use Rattle.cs_table.specs.Sessions.{item_of}
+use Rattle.cs_table.specs.Genesis.{keyed_of, genesis_rules}
+use Rattle.cs_sbac.specs.Held.{Held, deployed}
+use Rattle.cs_node.specs.declared.nodes.Core.{Core}
+use Rattle.cs_node.specs.Setups.{keyed_from, AreObjects}
+use Rattle.cs_node.specs.Cores.{StandsFor}
+
+pub all-fit : (xs : List (Key × Object)) → AreObjects xs → All (λ item. ObjectFits item.1) xs
+all-fit [] h k d lt = absurd (omega arith)
+all-fit ((key.Object name, object) ∷ xs) h zero d lt = h.0
+all-fit ((key.Object name, object) ∷ xs) h (suc k) d lt = all-fit xs h.1 k d (omega arith)
+all-fit ((key.Dummy shard serial, object) ∷ xs) h k d lt = absurd h
+
+items-same : (number : ℕ) (objects : List Object) → map item_of (keyed_of (keyed_from number objects)) ≡ genesis_from number objects
+items-same number [] = refl
+items-same number (object ∷ objects) = ap (λ items. record { name = name_of_genesis number object; object = object_encoding object } ∷ items) (items-same (number + 1) objects)
+
+-- the table knows the genesis by the keys
+rules-same : (config : Config) (objects : List Object) → genesis_rules config (keyed_from 0 objects) ≡ rules_of config objects
+rules-same config objects =
+    let with_items : List Item → Seen.Rules = λ items. record { shard_of = (rules_of config objects).shard_of; genesis = items; dummies = config.dummies; dummy_object = (rules_of config objects).dummy_object } in
+    ap with_items (items-same 0 objects)
+
+pub started : {O J M : Type 0} (stands : O → Member M → Type 0) (approves : J → Tx → Bool) (rules : Machine M) (config : Config) (me : NodeId) (objects : List Object) (given : List (Key × Object)) (order : O) (judge : J) (table : Stored) (f index : ℕ)
+    → stands order (record { f = f; me = index; deeds = [] }) → f ≡ config.f → index ≡ me.index → given ≡ keyed_from 0 objects → seen table ≡ start (genesis_rules config given) me.shard
+    → StandsFor stands approves (deployed config objects (approves judge)) (record { order = order; judge = judge; sbac = record { config = config; me = me; table = table; pool = [] } })
+    (start_view (site_of (deployed config objects (approves judge)) rules) me)
+started {O} {J} {M} stands approves rules config me objects given order judge table f index is same-f same-me named shows =
+    let F : ℕ → Type 0 = λ n. stands order (record { f = n; me = index; deeds = [] }) in
+    let I : ℕ → Type 0 = λ n. stands order (record { f = config.f; me = n; deeds = [] }) in
+    let shown : seen table ≡ start (rules_of config objects) me.shard =
+    shows ∙ ap (λ items. start (genesis_rules config items) me.shard) named ∙ ap (λ (r : Seen.Rules). start r me.shard) (rules-same config objects) in
+    let at_table : Table → View M = λ t. record { me = me; bench = record { table = t; pool = [] }; member = record { f = config.f; me = me.index; deeds = [] } } in
+    record {
+      order_is = subst I same-me (subst F same-f is);
+      view_is = ap at_table shown;
+      genesis = objects;
+      setup_is = refl;
+    }

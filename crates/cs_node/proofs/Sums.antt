@@ -1,0 +1,75 @@
+-- How signs and marks add up.
+use Rattle.std.proofs.Common.{◌≡◌, ℕ, List, [], ◌∷◌, ◌++◌, Option, Some, None, Bool, true, refl, ap, sym, subst, ◌∙◌, append_assoc, append-nil}
+use Rattle.cs_ledger.specs.Table.{Effect}
+use Rattle.cs_order.specs.Deeds.{Member}
+use Rattle.cs_trail.specs.Setup.{Setup}
+use Rattle.cs_trail.specs.Bench.{Bench}
+use Rattle.cs_trail.specs.Signs.{Sign, Dropped, Took, Entered, Did, bench_step, bench_after}
+use Rattle.cs_trail.specs.Site.{Mark, In, Ordered, Plain, Site, View, mark_step, view_after, plain, signs_of}
+use Rattle.cs_node.specs.declared.made.Note.TheVariants as note
+use Rattle.cs_node.specs.declared.made.Made.{Made}
+use Rattle.cs_node.specs.Notes.{effect_from, notes_of, Tells}
+use Rattle.cs_node.specs.Steps.{Marks, TurnDone}
+
+pub notes-append : (new old : List Sign) → notes_of (new ++ old) ≡ notes_of old ++ notes_of new
+notes-append [] old = sym (append-nil (notes_of old))
+notes-append (Dropped cause ∷ new) old = ap (λ xs. xs ++ note.Dropped cause ∷ []) (notes-append new old) ∙ append_assoc (notes_of old) (notes_of new) (note.Dropped cause ∷ [])
+notes-append (Took sender vote x ∷ new) old = notes-append new old
+notes-append (Entered x ∷ new) old = notes-append new old
+notes-append (Did slot entry effect ∷ new) old = ap (λ xs. xs ++ note.Executed slot entry (effect_from effect) ∷ []) (notes-append new old) ∙ append_assoc (notes_of old) (notes_of new) (note.Executed slot entry (effect_from effect) ∷ [])
+
+-- first these signs, then those
+pub tells-more : (first later : List Sign) (old mid new : Made) → Tells first old mid → Tells later mid new → Tells (later ++ first) old new
+tells-more first later old mid new a b =
+    b ∙ ap (λ xs. xs ++ notes_of later) a ∙ append_assoc old.notes (notes_of first) (notes_of later) ∙ ap (λ xs. old.notes ++ xs) (sym (notes-append later first))
+
+pub bench-append : (setup : Setup) (shard : ℕ) (new old : List Sign) (b : Bench) → bench_after setup shard (new ++ old) b ≡ bench_after setup shard new (bench_after setup shard old b)
+bench-append setup shard [] old b = refl
+bench-append setup shard (sign ∷ new) old b = ap (bench_step setup shard sign) (bench-append setup shard new old b)
+
+pub signs-plain : {M : Type 0} (signs : List Sign) (past : List (Mark M)) → signs_of (plain signs ++ past) ≡ signs ++ signs_of past
+signs-plain {M} [] past = refl
+signs-plain {M} (sign ∷ signs) past = ap (λ xs. sign ∷ xs) (signs-plain signs past)
+
+abbrev pub with_bench : {M : Type 0} → Bench → View M → View M
+with_bench {M} b v = record { me = v.me; bench = b; member = v.member }
+
+pub view-plain : {M : Type 0} (site : Site M) (signs : List Sign) (past : List (Mark M)) (v : View M) → view_after site (plain signs ++ past) v ≡ with_bench (bench_after site.setup (view_after site past v).me.shard signs (view_after site past v).bench) (view_after site past v)
+view-plain {M} site [] past v = refl
+view-plain {M} site (sign ∷ signs) past v = ap (mark_step site (Plain sign)) (view-plain site signs past v)
+
+pub signs-append : {M : Type 0} (new old : List (Mark M)) → signs_of (new ++ old) ≡ signs_of new ++ signs_of old
+signs-append {M} [] old = refl
+signs-append {M} (In input ∷ new) old = signs-append new old
+signs-append {M} (Ordered deed ∷ new) old = signs-append new old
+signs-append {M} (Plain sign ∷ new) old = ap (λ xs. sign ∷ xs) (signs-append new old)
+
+pub view-append : {M : Type 0} (site : Site M) (new old : List (Mark M)) (v : View M) → view_after site (new ++ old) v ≡ view_after site new (view_after site old v)
+view-append {M} site [] old v = refl
+view-append {M} site (mark ∷ new) old v = ap (mark_step site mark) (view-append site new old v)
+
+pub turn-some : {M : Type 0} (site : Site M) (found : Option (List (Mark M))) (fresh : List (Mark M)) (v : View M) (went : Bool) (old new : Made) (After : View M → Type 0) → found ≡ Some fresh → went ≡ true → Marks site fresh v old new After → TurnDone site found v went old new After
+turn-some {M} site found fresh v went old new After e w m = let P : Option (List (Mark M)) → Type 0 = λ o. TurnDone site o v went old new After in subst P (sym e) (w, m)
+
+-- no marks
+pub marks-none : {M : Type 0} (site : Site M) (v : View M) (old : Made) (After : View M → Type 0) → After v → Marks site [] v old old After
+marks-none {M} site v old After after = record { tells = sym (append-nil old.notes); after = after }
+
+-- first these marks, then those
+pub marks-more : {M : Type 0} (site : Site M) (first later : List (Mark M)) (v : View M) (old mid new : Made) (After Later : View M → Type 0) → Marks site first v old mid After → Marks site later (view_after site first v) mid new Later → Marks site (later ++ first) v old new Later
+marks-more {M} site first later v old mid new After Later a b =
+    let Q : List Sign → Type 0 = λ signs. Tells signs old new in
+    record {
+      tells = subst Q (sym (signs-append later first)) (tells-more (signs_of first) (signs_of later) old mid new a.tells b.tells);
+      after = subst Later (sym (view-append site later first v)) b.after;
+    }
+
+-- first these marks, then what signs say of table and pool
+pub marks-plain : {M : Type 0} (site : Site M) (signs : List Sign) (first : List (Mark M)) (v : View M) (old mid new : Made) (After Later : View M → Type 0) → Marks site first v old mid After → Tells signs mid new
+    → Later (with_bench (bench_after site.setup (view_after site first v).me.shard signs (view_after site first v).bench) (view_after site first v)) → Marks site (plain signs ++ first) v old new Later
+marks-plain {M} site signs first v old mid new After Later a tells after =
+    let Q : List Sign → Type 0 = λ all. Tells all old new in
+    record {
+      tells = subst Q (sym (signs-plain signs first)) (tells-more (signs_of first) signs old mid new a.tells tells);
+      after = subst Later (sym (view-plain site signs first v)) after;
+    }

@@ -1,0 +1,5 @@
+pub mod Notes
+pub mod Setups
+pub mod Proposals
+pub mod Steps
+pub mod Cores
