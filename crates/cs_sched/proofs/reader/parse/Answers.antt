@@ -1,0 +1,5 @@
+use Rattle.cs_sched.proofs.Played.{given_playable}
+use Rattle.cs_sched.proofs.reader.parse.Goals as goal
+
+pub returns-clause-playable : goal.returns-clause-playable
+returns-clause-playable c = given_playable c.parse_within.result 16777216 c.args.text.now c.parse_within.ensures

@@ -1,0 +1,12 @@
+pub mod Drafts
+pub mod FirstBad
+pub mod Lines
+pub mod Names
+pub mod Naming
+pub mod Places
+pub mod Playable
+pub mod Reading
+pub mod Refusals
+pub mod Said
+pub mod Text
+pub mod Values

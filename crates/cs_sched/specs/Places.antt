@@ -1,0 +1,51 @@
+-- Which lines can stand at each place. The word of a line is tested first.
+use Rattle.std.specs.Prelude.{ℕ, ◌==◌, ◌||◌, Bool, List, [], ◌∷◌, slice_index, Result, Ok, Err, codes, if◌then◌else◌}
+use Rattle.std.specs.Str.{bytes_eq}
+use Rattle.cs_sched.specs.Lines.{shards_line, faulty_line, dummies_line, master_line, liar_line, contract_line, genesis_line, run_line, say_line, end_line}
+use Rattle.cs_sched.specs.declared.cause.Cause.{Cause}
+use Rattle.cs_sched.specs.declared.cause.Cause.TheVariants as cause
+use Rattle.cs_sched.specs.declared.draft.Draft.{Draft}
+use Rattle.cs_sched.specs.declared.draft.Stage.{Stage}
+use Rattle.cs_sched.specs.declared.draft.Stage.TheVariants as stage
+
+-- the words of events that aren't built
+abbrev pub is_later : List ℕ → Bool
+is_later word = bytes_eq word (codes "inject") || bytes_eq word (codes "deliver") || bytes_eq word (codes "tick") || bytes_eq word (codes "drain")
+
+-- objects, and then the events
+abbrev pub genesis_place : Draft → List ℕ → List (List ℕ) → Result Draft Cause
+genesis_place draft word fields =
+    if bytes_eq word (codes "genesis") then genesis_line draft fields
+    else if bytes_eq word (codes "run") then run_line draft fields
+    else Err cause.Word
+
+-- liars, then contracts, and then objects
+abbrev pub liars_place : Draft → List ℕ → List (List ℕ) → Result Draft Cause
+liars_place draft word fields =
+    if bytes_eq word (codes "liar") then liar_line draft fields
+    else if bytes_eq word (codes "contract") then contract_line fields
+    else genesis_place draft word fields
+
+-- events, and then the end
+abbrev pub events_place : ℕ → Draft → List ℕ → List (List ℕ) → Result Draft Cause
+events_place line draft word fields =
+    if bytes_eq word (codes "say") then say_line line draft fields
+    else if bytes_eq word (codes "end") then end_line draft fields
+    else if is_later word then Err cause.Later
+    else Err cause.Word
+
+-- a line of this word and these fields, where it has this place
+abbrev pub line_at : Stage → ℕ → Draft → List ℕ → List (List ℕ) → Result Draft Cause
+line_at stage.Shards line draft word fields = if bytes_eq word (codes "shards") then shards_line draft fields else Err cause.Word
+line_at stage.Faulty line draft word fields = if bytes_eq word (codes "faulty") then faulty_line draft fields else Err cause.Word
+line_at stage.Dummies line draft word fields = if bytes_eq word (codes "dummies") then dummies_line draft fields else Err cause.Word
+line_at stage.Master line draft word fields = if bytes_eq word (codes "master") then master_line draft fields else Err cause.Word
+line_at stage.Liars line draft word fields = liars_place draft word fields
+line_at stage.Genesis line draft word fields = genesis_place draft word fields
+line_at stage.Events line draft word fields = events_place line draft word fields
+line_at stage.Ended line draft word fields = Err cause.After
+
+-- the draft after a line of these fields; a line without fields, and one that begins with `#`, is passed over
+abbrev pub line_step : ℕ → Draft → List (List ℕ) → Result Draft Cause
+line_step line draft [] = Ok draft
+line_step line draft (word ∷ fields) = if slice_index word 0 == 35 then Ok draft else line_at draft.stage line draft word fields

@@ -1,0 +1,19 @@
+//! Schedules: what they hold, and the reader of their text.
+#![tactic(auto)]
+
+mod cause;
+mod draft;
+mod error;
+mod lines;
+mod name_set;
+mod naming;
+mod places;
+mod reader;
+#[cfg(test)]
+mod tests;
+mod values;
+
+pub use cause::{Cause, Refusal, refusal_line};
+pub use cs_trail::{Event, Schedule};
+pub use error::ScheduleError;
+pub use reader::{LIMIT, parse, refusals_name_the_first_bad_line};

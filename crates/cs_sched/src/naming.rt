@@ -1,0 +1,74 @@
+//! Names of nodes and clients in fields.
+ghost use Rattle.std.specs.Prelude.{◌≡◌};
+ghost use Rattle.cs_sched.specs.Naming.{named, is_liar, liars_of, liar_in, speaker_in, listener_in};
+
+use crate::cause::Cause;
+use cs_base::{Config, NodeId, read_node};
+
+pub(crate) fn read_name(config: &Config, field: &[u8]) -> Result<NodeId, Cause>
+    ensures { result ≡ named config.now field.now }
+{
+    let name = read_node(field).ok_or(Cause::Node)?;
+    if !config.has(name) {
+        return Err(Cause::Node);
+    }
+    Ok(name)
+}
+
+fn lies(liars: &[NodeId], name: NodeId) -> bool
+    ensures { result ≡ is_liar liars.now name }
+{
+    liars.iter().any(|liar| *liar == name)
+}
+
+fn count_liars(liars: &[NodeId], shard: u16) -> usize
+    ensures { result ≡ liars_of liars.now shard }
+{
+    liars.iter().filter(|liar| liar.shard == shard).count()
+}
+
+// A node that can be one more liar.
+pub(crate) fn read_liar(config: &Config, liars: &[NodeId], field: &[u8]) -> Result<NodeId, Cause>
+    ensures { result ≡ liar_in config.now liars.now field.now }
+{
+    let name = read_name(config, field)?;
+    if name.is_client() {
+        return Err(Cause::Role);
+    }
+    if lies(liars, name) {
+        return Err(Cause::Liars);
+    }
+    if count_liars(liars, name.shard) < usize::from(config.f) {
+        Ok(name)
+    } else {
+        Err(Cause::Liars)
+    }
+}
+
+// A liar or a client.
+pub(crate) fn read_speaker(config: &Config, liars: &[NodeId], field: &[u8]) -> Result<NodeId, Cause>
+    ensures { result ≡ speaker_in config.now liars.now field.now }
+{
+    let name = read_name(config, field)?;
+    if name.is_client() || lies(liars, name) {
+        Ok(name)
+    } else {
+        Err(Cause::Role)
+    }
+}
+
+// An honest node.
+pub(crate) fn read_listener(
+    config: &Config,
+    liars: &[NodeId],
+    field: &[u8],
+) -> Result<NodeId, Cause>
+    ensures { result ≡ listener_in config.now liars.now field.now }
+{
+    let name = read_name(config, field)?;
+    if name.is_client() || lies(liars, name) {
+        Err(Cause::Role)
+    } else {
+        Ok(name)
+    }
+}

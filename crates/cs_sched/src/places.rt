@@ -1,0 +1,118 @@
+//! Which lines can stand at each place.
+ghost use Rattle.std.specs.Prelude.{◌≡◌};
+ghost use Rattle.cs_base.specs.Lines.{views, fields_of};
+ghost use Rattle.cs_sched.specs.Reading.{Moves};
+ghost use Rattle.cs_sched.specs.Places.{is_later, genesis_place, liars_place, events_place, line_at, line_step};
+
+use crate::cause::Cause;
+use crate::draft::{Draft, Stage};
+use crate::error::LineError;
+use crate::lines::refuse_contract;
+use cs_base::fields;
+use std::alloc::Global;
+
+impl Draft {
+    // The draft after a line with this number.
+    pub(crate) fn take_line(
+        &mut self,
+        alloc: Global,
+        number: u64,
+        line: &[u8],
+    ) -> Result<(), LineError>
+        ensures { Moves result self.new (line_step number self.old (fields_of line.now)) }
+    {
+        let fields = fields(alloc, line)?;
+        match fields.as_slice() {
+            [] => Ok(()),
+            [[b'#', ..], ..] => Ok(()),
+            [word, rest @ ..] => self.take_words(alloc, number, word, rest),
+        }
+    }
+
+    fn take_words(
+        &mut self,
+        alloc: Global,
+        line: u64,
+        word: &[u8],
+        fields: &[&[u8]],
+    ) -> Result<(), LineError>
+        ensures { Moves result self.new (line_at self.old.stage line self.old word.now (views fields.now)) }
+    {
+        match self.stage {
+            Stage::Shards if word == b"shards".as_slice() => self.take_shards(fields),
+            Stage::Faulty if word == b"faulty".as_slice() => self.take_faulty(fields),
+            Stage::Dummies if word == b"dummies".as_slice() => self.take_dummies(fields),
+            Stage::Master if word == b"master".as_slice() => self.take_master(alloc, fields),
+            Stage::Shards | Stage::Faulty | Stage::Dummies | Stage::Master => {
+                Err(LineError::Bad(Cause::Word))
+            }
+            Stage::Liars => self.take_at_liars(alloc, word, fields),
+            Stage::Genesis => self.take_at_genesis(alloc, word, fields),
+            Stage::Events => self.take_at_events(alloc, line, word, fields),
+            Stage::Ended => Err(LineError::Bad(Cause::After)),
+        }
+    }
+
+    fn take_at_liars(
+        &mut self,
+        alloc: Global,
+        word: &[u8],
+        fields: &[&[u8]],
+    ) -> Result<(), LineError>
+        ensures { Moves result self.new (liars_place self.old word.now (views fields.now)) }
+    {
+        if word == b"liar".as_slice() {
+            self.take_liar(fields)
+        } else if word == b"contract".as_slice() {
+            Err(LineError::Bad(refuse_contract(fields)))
+        } else {
+            self.take_at_genesis(alloc, word, fields)
+        }
+    }
+
+    fn take_at_genesis(
+        &mut self,
+        alloc: Global,
+        word: &[u8],
+        fields: &[&[u8]],
+    ) -> Result<(), LineError>
+        ensures { Moves result self.new (genesis_place self.old word.now (views fields.now)) }
+    {
+        if word == b"genesis".as_slice() {
+            self.take_genesis(alloc, fields)
+        } else if word == b"run".as_slice() {
+            self.take_run(fields)
+        } else {
+            Err(LineError::Bad(Cause::Word))
+        }
+    }
+
+    fn take_at_events(
+        &mut self,
+        alloc: Global,
+        line: u64,
+        word: &[u8],
+        fields: &[&[u8]],
+    ) -> Result<(), LineError>
+        ensures { Moves result self.new (events_place line self.old word.now (views fields.now)) }
+    {
+        if word == b"say".as_slice() {
+            self.take_say(alloc, line, fields)
+        } else if word == b"end".as_slice() {
+            self.take_end(fields)
+        } else if comes_later(word) {
+            Err(LineError::Bad(Cause::Later))
+        } else {
+            Err(LineError::Bad(Cause::Word))
+        }
+    }
+}
+
+fn comes_later(word: &[u8]) -> bool
+    ensures { result ≡ is_later word.now }
+{
+    word == b"inject".as_slice()
+        || word == b"deliver".as_slice()
+        || word == b"tick".as_slice()
+        || word == b"drain".as_slice()
+}

@@ -1,0 +1,217 @@
+//! Texts, and what each comes to.
+use crate::cause::{Cause, Refusal, refusal_line};
+use crate::error::ScheduleError;
+use crate::name_set::NameSet;
+use crate::reader::{parse, parse_within};
+use cs_base::NodeId;
+use cs_trail::Event;
+use std::alloc::{AllocError, Global};
+use std::test::Fail;
+
+/// The first four lines of a schedule of one node.
+const HEAD: &str =
+    "shards 1\nfaulty 0\ndummies 2\nmaster 00000000000000000000000000000000000000000000000000000000000000fF\n";
+
+/// A coin of 5.
+const COIN: &str =
+    "3c469e9d6c5875d37a43f353d4f88e61fcf812c66eee3457465a40b0da4153e004636f696e01000000000000000005";
+
+/// A session that splits it.
+const SESSION: &str =
+    "013c469e9d6c5875d37a43f353d4f88e61fcf812c66eee3457465a40b0da4153e0087472616e736665720148d0f4bc08ed70656da9cbd219fc9f52ae0b490981bfea400afd6fc1f852e5a63c469e9d6c5875d37a43f353d4f88e61fcf812c66eee3457465a40b0da4153e004636f696e010000000000000000050000023c469e9d6c5875d37a43f353d4f88e61fcf812c66eee3457465a40b0da4153e004636f696e010000000000000000023c469e9d6c5875d37a43f353d4f88e61fcf812c66eee3457465a40b0da4153e004636f696e010000000000000000030000000000000000000100";
+
+fn refusal_of(alloc: Global, limit: usize, text: &str) -> Option<Refusal> {
+    match parse_within(alloc, limit, text.as_bytes()) {
+        Err(ScheduleError::Line(refusal)) => Some(refusal),
+        _ => None,
+    }
+}
+
+fn joined(alloc: Global, front: &str, back: &str) -> Result<String, AllocError> {
+    let mut text = String::from_str(alloc, front)?;
+    text.push_str(back)?;
+    Ok(text)
+}
+
+// The word, so many zero bytes in hex, and what follows.
+fn with_zeros(alloc: Global, word: &str, count: usize, back: &str) -> Result<String, AllocError> {
+    let mut text = joined(alloc, HEAD, word)?;
+    for _ in 0..count {
+        text.push_str("00")?;
+    }
+    text.push_str(back)?;
+    Ok(text)
+}
+
+// The least limit of a text that is refused nowhere before it.
+const LONG: usize = 1_000_000;
+
+#[test]
+fn whole_texts(rt: HostRuntime) -> Result<(), Fail> {
+    for (limit, text, line, cause) in [
+        (LONG, "", 1, Cause::End),
+        (LONG, "\n", 2, Cause::End),
+        (LONG, "# c\n\n  # c", 4, Cause::End),
+        (LONG, "# c\r\n   \nshard 1", 3, Cause::Word),
+        (LONG, "faulty 0", 1, Cause::Word),
+        (LONG, "drain 1", 1, Cause::Word),
+        (LONG, "shards", 1, Cause::Count),
+        (LONG, "shards  1  01 ", 1, Cause::Count),
+        (LONG, "shards 01", 1, Cause::Number),
+        (LONG, "shards 1\r", 1, Cause::Number),
+        (LONG, "shards 18446744073709551616", 1, Cause::Number),
+        (LONG, "shards 18446744073709551615", 1, Cause::Limit),
+        (LONG, "shards 17", 1, Cause::Limit),
+        (LONG, "shards 0", 1, Cause::Limit),
+        (LONG, "shards 16", 1, Cause::Later),
+        (LONG, "shards 1\nfaulty 6", 2, Cause::Limit),
+        (LONG, "shards 1\nfaulty 1", 2, Cause::Later),
+        (LONG, "shards 1\nfaulty 0\ndummies 65", 3, Cause::Limit),
+        (
+            LONG,
+            "shards 1\nfaulty 0\ndummies 64\nmaster 0g",
+            4,
+            Cause::Hex,
+        ),
+        (
+            LONG,
+            "shards 1\nfaulty 0\ndummies 64\nmaster -",
+            4,
+            Cause::Hex,
+        ),
+        (8, "shards 1\nfaulty 1\n", 1, Cause::Limit),
+        (9, "shards 1\nfaulty 1\n", 2, Cause::Limit),
+        (17, "shards 1\nfaulty 1\n", 2, Cause::Limit),
+        (18, "shards 1\nfaulty 1\nx", 2, Cause::Later),
+        (9, "shards 2\nfaulty 1\n", 1, Cause::Later),
+    ] {
+        let refusal = Some(Refusal { line, cause });
+        assert_eq!(rt; refusal_of(rt.alloc(), limit, text), refusal, "{text}");
+    }
+    Ok(())
+}
+
+#[test]
+fn lines_behind_the_head(rt: HostRuntime) -> Result<(), Fail> {
+    for (lines, line, cause) in [
+        ("master 00", 5, Cause::Word),
+        ("say c.0 0.0 1 -", 5, Cause::Word),
+        ("liar c.0", 5, Cause::Role),
+        ("liar c.16", 5, Cause::Node),
+        ("liar 65535.0", 5, Cause::Node),
+        ("liar 0.1", 5, Cause::Node),
+        ("liar 0.00", 5, Cause::Node),
+        ("liar 0.0", 5, Cause::Liars),
+        ("liar 0.0 0.0", 5, Cause::Count),
+        ("contract", 5, Cause::Count),
+        ("contract -", 5, Cause::Later),
+        ("genesis 0", 5, Cause::Hex),
+        ("genesis -", 5, Cause::Object),
+        ("genesis", 5, Cause::Count),
+        ("run now", 5, Cause::Count),
+        ("run\nliar 0.0", 6, Cause::Word),
+        ("run\nsya 0.0", 6, Cause::Word),
+        ("run\ntick", 6, Cause::Later),
+        ("run\ninject 0.0 zz", 6, Cause::Later),
+        ("run\ndeliver x", 6, Cause::Later),
+        ("run\ndrain", 6, Cause::Later),
+        ("run\nsay c.0 0.0 1", 6, Cause::Count),
+        ("run\nsay c.16 0.9 x z", 6, Cause::Node),
+        ("run\nsay 0.0 0.9 x z", 6, Cause::Role),
+        ("run\nsay c.15 0.9 x z", 6, Cause::Node),
+        ("run\nsay c.15 c.0 x z", 6, Cause::Role),
+        ("run\nsay c.15 0.0 x z", 6, Cause::Number),
+        ("run\nsay c.15 0.0 256 z", 6, Cause::Limit),
+        ("run\nsay c.15 0.0 255 z", 6, Cause::Later),
+        ("run\nsay c.15 0.0 1 0", 6, Cause::Hex),
+        ("run\nsay c.15 0.0 1 -\nend 1", 7, Cause::Count),
+        ("run\nsay c.15 0.0 1 -\n", 7, Cause::End),
+        ("run\nend\n# c\n\nrun", 9, Cause::After),
+    ] {
+        let text = joined(rt.alloc(), HEAD, lines)?;
+        let refusal = Some(Refusal { line, cause });
+        assert_eq!(rt;
+            refusal_of(rt.alloc(), LONG, text.as_str()),
+            refusal,
+            "{lines}"
+        );
+    }
+    Ok(())
+}
+
+#[test]
+fn long_fields(rt: HostRuntime) -> Result<(), Fail> {
+    for (word, count, back, line, cause) in [
+        ("genesis ", 4096, "", 5, Cause::Object),
+        ("genesis ", 4097, "", 5, Cause::Limit),
+        ("genesis ", 4097, "0", 5, Cause::Hex),
+        ("run\nsay c.0 0.0 1 ", 32719, "", 7, Cause::End),
+        ("run\nsay c.0 0.0 1 ", 32720, "", 6, Cause::Limit),
+    ] {
+        let text = with_zeros(rt.alloc(), word, count, back)?;
+        let refusal = Some(Refusal { line, cause });
+        assert_eq!(rt;
+            refusal_of(rt.alloc(), LONG, text.as_str()),
+            refusal,
+            "{word}{count}"
+        );
+    }
+    Ok(())
+}
+
+#[test]
+fn schedules(rt: HostRuntime) -> Result<(), Fail> {
+    let alloc = rt.alloc();
+    let text = joined(alloc, HEAD, "run\nend")?;
+    let schedule = parse(alloc, text.as_bytes()).ok().ok_or("empty")?;
+    assert!(rt;
+        schedule.config.shards == 1 && schedule.config.f == 0 && schedule.config.dummies == 2
+    );
+    assert_eq!(rt; schedule.master[31], 255);
+    assert!(rt; schedule.liars.is_empty() && schedule.contracts.is_empty());
+    assert!(rt; schedule.genesis.is_empty() && schedule.events.is_empty());
+
+    let text = format!(in alloc; "{HEAD}genesis {COIN}\n# c\nrun\nsay c.0 0.0 1 {SESSION}\nend\n")?;
+    let schedule = parse(alloc, text.as_bytes()).ok().ok_or("split")?;
+    assert_eq!(rt; schedule.genesis.len(), 1);
+    let [(line, event)] = schedule.events.as_slice() else {
+        return Err(Fail::from("events"));
+    };
+    let Event::Say {
+        from,
+        to,
+        kind,
+        body,
+    } = event;
+    assert_eq!(rt; *line, 8);
+    assert_eq!(rt;
+        *from,
+        NodeId {
+            shard: 65535,
+            index: 0
+        }
+    );
+    assert_eq!(rt; *to, NodeId { shard: 0, index: 0 });
+    assert_eq!(rt; *kind, 1);
+    assert_eq!(rt; body.len(), SESSION.len() / 2);
+    Ok(())
+}
+
+#[test]
+fn names_and_printed_lines(rt: HostRuntime) -> Result<(), Fail> {
+    let alloc = rt.alloc();
+    let mut names = NameSet::new(alloc);
+    assert!(rt; names.insert([1; 32]).ok() == Some(true));
+    assert!(rt; names.insert([2; 32]).ok() == Some(true));
+    assert!(rt; names.insert([1; 32]).ok() == Some(false));
+
+    for (cause, printed, status) in [
+        (Cause::Word, "refused 3 word\n", 3),
+        (Cause::Limit, "limit 3\n", 13),
+    ] {
+        let refusal = Refusal { line: 3, cause };
+        assert_eq!(rt; refusal_line(alloc, refusal)?.as_str(), printed);
+        assert_eq!(rt; refusal.status(), status);
+    }
+    Ok(())
+}
