@@ -1,0 +1,186 @@
+-- What is kept of the executions stands for them still after one more.
+use Rattle.std.proofs.Common.{◌≡◌, ℕ, suc, ◌+◌, ◌<◌, nat_eq, nat_lt, ◌==◌, Bool, true, false, not, ◌&&◌, ◌||◌, cond, List, [], ◌∷◌, ◌++◌, length, map, replicate, slice_index, slice_set, ◌⊎◌, inl, inr, refl, sym, ap, subst, ◌∙◌, arith, rules}
+use Rattle.std.specs.Prelude.{bytes_eq, if◌then◌else◌}
+use Rattle.std.specs.List.{list_all, list_any}
+use Rattle.std.proofs.lemmas.Bool.{cases_Bool}
+use Rattle.std.proofs.lemmas.List.{map-append, get_or-set_same, get_or-set_other, get_or-replicate}
+use Rattle.std.proofs.lemmas.List.Folds.{list_any-append}
+use Rattle.std.proofs.lemmas.Slice.Eq.{bytes_eq-Decides}
+use Rattle.cs_base.specs.declared.config.Config.{Config}
+use Rattle.cs_tx.specs.declared.session.Session.{Session}
+use Rattle.cs_tx.specs.declared.vote.Vote.{Vote}
+use Rattle.cs_tx.specs.declared.entry.Entry.{Entry}
+use Rattle.cs_tx.specs.declared.entry.Entry.TheVariants.{Prepare, Decide}
+use Rattle.cs_tx.specs.Digest.{digest_of_tx, digest_of_session}
+use Rattle.cs_tx.specs.Uses.{concerned_shards}
+use Rattle.cs_ledger.specs.Ledger.{Bytes, Transaction}
+use Rattle.cs_ledger.specs.Table as Shard
+use Rattle.cs_ledger.specs.ShardWorld.{is_vote, is_listed}
+use Rattle.cs_trail.specs.Setup.{Setup, digest_of, concerned}
+use Rattle.cs_trail.specs.Signs.{Did}
+use Rattle.cs_trail.specs.World.{Execution, slots_of, first_of, prepares, recorded, all_recorded, told_after, told}
+use Rattle.cs_replay.specs.Digests.{digests_of}
+use Rattle.cs_replay.specs.Kept.{Kept, Deploys, Keeps, is_commit, with_commit, with_told, all_commit, voted, told_next, entered_slot, executed, kept_after}
+
+-- ---- tests
+
+eq-sym : (a b : ℕ) → (a == b) ≡ (b == a)
+eq-sym a b = by (a == b) (b == a) refl refl
+  where
+    by : (p q : Bool) → (a == b) ≡ p → (b == a) ≡ q → (a == b) ≡ (b == a)
+    by true true x y = x ∙ sym y
+    by false false x y = x ∙ sym y
+    by true false x y = absurd (grind arith)
+    by false true x y = absurd (grind arith)
+
+and-false : (a : Bool) → (a && false) ≡ false
+and-false true = refl
+and-false false = refl
+
+and-true : (a : Bool) → (a && true) ≡ a
+and-true true = refl
+and-true false = refl
+
+or-false : (a : Bool) → (a || false) ≡ a
+or-false true = refl
+or-false false = refl
+
+or-comm : (a b : Bool) → (a || b) ≡ (b || a)
+or-comm true true = refl
+or-comm true false = refl
+or-comm false true = refl
+or-comm false false = refl
+
+list_all-same : {X : Type 0} (p q : X → Bool) → ((x : X) → p x ≡ q x) → (xs : List X) → list_all p xs ≡ list_all q xs
+list_all-same p q same [] = refl
+list_all-same p q same (x ∷ xs) = ap (λ b. b && list_all p xs) (same x) ∙ ap (λ b. q x && b) (list_all-same p q same xs)
+
+-- ---- slots
+
+slots-next : (slots : List ℕ) (shard s : ℕ) (n m : ℕ) → shard < length slots → slice_index slots shard ≡ n → slice_index slots s ≡ m
+    → slice_index (slice_set slots shard (slice_index slots shard + 1)) s ≡ cond (shard == s) (suc m) m
+slots-next slots shard s n m within is here = by (shard == s) refl
+  where
+    by : (b : Bool) → (shard == s) ≡ b → slice_index (slice_set slots shard (slice_index slots shard + 1)) s ≡ cond (shard == s) (suc m) m
+    by true e =
+        let same : shard ≡ s = grind arith in
+        let P : ℕ → Type 0 = λ k. slice_index (slice_set slots shard (slice_index slots shard + 1)) k ≡ suc m in
+        rw e (subst P same (get_or-set_same slots shard (slice_index slots shard + 1) 0 within ∙ omega (arith, ap (λ k. slice_index slots k) same, here)))
+    by false e =
+        let other : s ≡ shard → ⊥ = λ q. grind arith in
+        rw e (get_or-set_other slots shard s (slice_index slots shard + 1) 0 other ∙ here)
+
+-- ---- commit votes
+
+-- one more commit vote, or one that was known
+commit-next : (commits : List (ℕ × Bytes)) (shard : ℕ) (d0 d : Bytes) (s : ℕ)
+    → is_commit (with_commit shard d0 commits) d s ≡ (((shard == s) && bytes_eq d d0) || is_commit commits d s)
+commit-next commits shard d0 d s = by (is_commit commits d0 shard) refl
+  where
+    known : is_commit commits d0 shard ≡ true → (b c : Bool) → (shard == s) ≡ b → bytes_eq d d0 ≡ c → is_commit commits d s ≡ ((b && c) || is_commit commits d s)
+    known h true true x y =
+        let same_shard : shard ≡ s = grind arith in
+        let same : d ≡ d0 = (bytes_eq-Decides d d0).0 y in
+        subst (λ (e : Bytes). is_commit commits e s ≡ true) (sym same) (subst (λ (k : ℕ). is_commit commits d0 k ≡ true) same_shard h)
+    known h true false x y = refl
+    known h false c x y = refl
+
+    by : (b : Bool) → is_commit commits d0 shard ≡ b → is_commit (with_commit shard d0 commits) d s ≡ (((shard == s) && bytes_eq d d0) || is_commit commits d s)
+    by true h = rw h (known h (shard == s) (bytes_eq d d0) refl refl)
+    by false h =
+        rw h (list_any-append (λ commit. (s == commit.0) && bytes_eq d commit.1) commits ((shard, d0) ∷ [])
+        ∙ ap (λ b. is_commit commits d s || b) (or-false ((s == shard) && bytes_eq d d0))
+        ∙ ap (λ b. is_commit commits d s || (b && bytes_eq d d0)) (eq-sym s shard)
+        ∙ or-comm (is_commit commits d s) ((shard == s) && bytes_eq d d0))
+
+-- the votes after an execution
+votes-next : (kept : Kept) (shard : ℕ) (d0 d : Bytes) (effect : Shard.Effect) (s : ℕ)
+    → is_commit (voted kept shard d0 effect).commits d s ≡ (((shard == s) && (bytes_eq d d0 && is_vote Shard.Commit effect)) || is_commit kept.commits d s)
+votes-next kept shard d0 d effect s = by (is_vote Shard.Commit effect) refl
+  where
+    by : (b : Bool) → is_vote Shard.Commit effect ≡ b → is_commit (voted kept shard d0 effect).commits d s ≡ (((shard == s) && (bytes_eq d d0 && is_vote Shard.Commit effect)) || is_commit kept.commits d s)
+    by true e = rw (e, and-true (bytes_eq d d0)) (commit-next kept.commits shard d0 d s)
+    by false e = rw (e, and-false (bytes_eq d d0), and-false (shard == s)) refl
+
+-- ---- transactions told
+
+listed : (tx : Transaction) (txs : List Transaction) → is_listed tx txs ≡ list_any (bytes_eq tx.digest) (digests_of txs)
+listed tx [] = refl
+listed tx (other ∷ txs) = ap (λ b. bytes_eq tx.digest other.digest || b) (listed tx txs)
+
+told-after : (tx : Transaction) (d : Bytes) (txs : List Transaction) (digests : List Bytes) (all : Bool) → tx.digest ≡ d → digests ≡ digests_of txs
+    → cond all (with_told d digests) digests ≡ digests_of (cond (all && not (is_listed tx txs)) (txs ++ tx ∷ []) txs)
+told-after tx d txs digests false named is = is
+told-after tx d txs digests true named is = by (is_listed tx txs) refl
+  where
+    found : list_any (bytes_eq d) digests ≡ is_listed tx txs
+    found = rw (is, ← named) (sym (listed tx txs))
+
+    by : (b : Bool) → is_listed tx txs ≡ b → with_told d digests ≡ digests_of (cond (not (is_listed tx txs)) (txs ++ tx ∷ []) txs)
+    by true e = rw (found, e) is
+    by false e = rw (found, e) (ap (λ ds. ds ++ d ∷ []) is ∙ ap (λ x. digests_of txs ++ x ∷ []) (sym named) ∙ sym (map-append (λ t. t.digest) txs (tx ∷ [])))
+
+-- ---- one more execution
+
+length-set : (xs : List ℕ) (i x : ℕ) → length (slice_set xs i x) ≡ length xs
+length-set xs i x = search rules
+
+module _ (setup : Setup) (kept : Kept) (firsts : List Execution) (shard slot : ℕ) (effect : Shard.Effect) (k : Keeps setup firsts kept) (known : shard < kept.config.shards) where
+  abbrev first : Entry → Execution
+  first entry = record { shard = shard; slot = slot; entry = entry; effect = effect }
+
+  within : shard < length kept.slots
+  within = subst (λ n. shard < n) (sym k.each) known
+
+  each : length (entered_slot kept shard).slots ≡ kept.config.shards
+  each = length-set kept.slots shard (slice_index kept.slots shard + 1) ∙ k.each
+
+  slots : (entry : Entry) (s : ℕ) → s < kept.config.shards → slice_index (entered_slot kept shard).slots s ≡ slots_of s (first entry ∷ firsts)
+  slots entry s below = slots-next kept.slots shard s _ _ within (k.slots shard known) (k.slots s below)
+
+  decided : (vote : Vote) (x : Session) → Keeps setup (first (Decide vote x) ∷ firsts) (entered_slot kept shard)
+  decided vote x = record {
+    deploys = k.deploys;
+    each = each;
+    slots = slots (Decide vote x);
+    commits = λ d s. k.commits d s ∙ sym (ap (λ b. b || recorded setup firsts d Shard.Commit s) (and-false (shard == s)));
+    told = k.told;
+  }
+
+  votes : (x : Session) (d : Bytes) (s : ℕ) → is_commit (voted (entered_slot kept shard) shard (digest_of_session x) effect).commits d s ≡ recorded setup (first (Prepare x) ∷ firsts) d Shard.Commit s
+  votes x d s =
+      votes-next (entered_slot kept shard) shard (digest_of_session x) d effect s
+      ∙ ap (λ e. ((shard == s) && (bytes_eq d e && is_vote Shard.Commit effect)) || is_commit kept.commits d s) (sym (k.deploys.session x))
+      ∙ ap (λ b. ((shard == s) && (bytes_eq d (digest_of setup x) && is_vote Shard.Commit effect)) || b) (k.commits d s)
+
+  all_votes : (x : Session) → all_commit kept.config (voted (entered_slot kept shard) shard (digest_of_session x) effect).commits x ≡ all_recorded setup (first (Prepare x) ∷ firsts) x
+  all_votes x =
+      list_all-same _ (recorded setup (first (Prepare x) ∷ firsts) (digest_of setup x) Shard.Commit)
+      (λ s. votes x (digest_of_session x) s ∙ ap (λ d. recorded setup (first (Prepare x) ∷ firsts) d Shard.Commit s) (sym (k.deploys.session x)))
+      (concerned_shards kept.config x)
+      ∙ ap (λ shards. list_all (recorded setup (first (Prepare x) ∷ firsts) (digest_of setup x) Shard.Commit) shards) (sym (k.deploys.concerns x))
+
+  prepared : (x : Session) → Keeps setup (first (Prepare x) ∷ firsts) (executed (entered_slot kept shard) shard (Prepare x) effect)
+  prepared x = record {
+    deploys = k.deploys;
+    each = each;
+    slots = slots (Prepare x);
+    commits = votes x;
+    told =
+        ap (λ b. cond b (with_told (digest_of_tx x.tx) kept.told) kept.told) (all_votes x)
+        ∙ told-after (setup.session_of x).transaction (digest_of_tx x.tx) (told setup firsts) kept.told (all_recorded setup (first (Prepare x) ∷ firsts) x) (k.deploys.transaction x) k.told;
+  }
+
+  new-slot : (entry : Entry) → Keeps setup (first entry ∷ firsts) (executed (entered_slot kept shard) shard entry effect)
+  new-slot (Prepare x) = prepared x
+  new-slot (Decide vote x) = decided vote x
+
+  -- what is kept after an execution stands for the first executions after it
+  pub keeps-after : (entry : Entry) → Keeps setup (first_of shard (Did slot entry effect) firsts) (kept_after kept shard slot entry effect)
+  keeps-after entry =
+      subst (λ n. Keeps setup (first_of shard (Did slot entry effect) firsts) (cond (nat_lt slot n) kept (executed (entered_slot kept shard) shard entry effect))) (sym (k.slots shard known))
+      (by (nat_lt slot (slots_of shard firsts)))
+    where
+      by : (b : Bool) → Keeps setup (cond b firsts (first entry ∷ firsts)) (cond b kept (executed (entered_slot kept shard) shard entry effect))
+      by true = k
+      by false = new-slot entry

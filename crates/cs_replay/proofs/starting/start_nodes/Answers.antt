@@ -1,0 +1,11 @@
+use Rattle.std.proofs.Common.{List, sym, ap, subst, ◌∙◌}
+use Rattle.cs_base.specs.declared.key.Key.{Key}
+use Rattle.cs_value.specs.declared.object.Object.{Object}
+use Rattle.cs_node.specs.Setups.{keyed_from, AreObjects}
+use Rattle.cs_replay.proofs.Deployed.{keyed-fit}
+use Rattle.cs_replay.proofs.starting.start_nodes.Goals as goal
+
+pub start-requires-clause-objects : goal.start-requires-clause-objects
+start-requires-clause-objects c =
+    subst (λ (keyed : List (Key × Object)). AreObjects keyed) (sym (c.as_slice-2.ensures.value ∙ c.in_ok-genesis.ensures ∙ ap (keyed_from 0) c.as_slice.ensures))
+    (keyed-fit 0 c.args.schedule.now.genesis c.requires.objects)

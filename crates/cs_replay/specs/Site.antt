@@ -1,0 +1,15 @@
+-- The site of a schedule: the order of one member, and the judge that knows the contract `token` alone.
+use Rattle.cs_tx.specs.Sessions.{session_of}
+use Rattle.cs_tx.specs.Token.{is_token_approved}
+use Rattle.cs_order.specs.declared.solo.NoMessage.{NoMessage}
+use Rattle.cs_order.specs.Solo.{solo}
+use Rattle.cs_trail.specs.declared.schedule.Schedule.{Schedule}
+use Rattle.cs_trail.specs.Setup.{Setup}
+use Rattle.cs_trail.specs.Site.{Site}
+use Rattle.cs_trail.specs.Deployment.{setup_of, site_of}
+
+abbrev pub setup_of_schedule : Schedule → Setup
+setup_of_schedule schedule = setup_of schedule.config schedule.genesis (session_of is_token_approved)
+
+abbrev pub site_of_schedule : Schedule → Site NoMessage
+site_of_schedule schedule = site_of (setup_of_schedule schedule) solo

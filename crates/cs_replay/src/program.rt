@@ -1,0 +1,101 @@
+//! The whole of the program, over the words, the source and the sink that are handed in.
+ghost use Rattle.std.specs.Prelude.{◌≡◌, ◌≢◌, Some, None};
+ghost use Rattle.std.specs.Io.KnownBytes.{Keeps};
+ghost use Rattle.cs_base.specs.Outside.{HasCause, Rose};
+ghost use Rattle.cs_base.specs.Answers.{Answers};
+ghost use Rattle.cs_sched.specs.declared.reader.TheConstants.{LIMIT};
+ghost use Rattle.cs_sched.specs.Playable.{IsPlayable};
+ghost use Rattle.cs_replay.specs.Words.{command_of, texts_of};
+ghost use Rattle.cs_replay.specs.Answers.{Replays, Completes, closing_status, words_answer, replay_answer, refusal_answer, schedule_answer};
+ghost use Rattle.cs_replay.specs.declared.words.Command.TheVariants.{Replay};
+
+use crate::schedule::replay;
+use crate::words::{Command, read_words};
+use cs_base::{ReadError, Sink, Source, WriteError, print, read_text};
+use cs_sched::{LIMIT, Refusal, Schedule, ScheduleError, parse, refusal_line};
+use std::alloc::Global;
+
+/// Does what the words call for, and answers the status that the process ends with: 0 where it is
+/// done, 2 for words outside the grammar, 3 for a text with a bad line and 13 for one above a
+/// limit, 5 where the source fails and 6 where the sink does, 8 for want of memory.
+pub fn run<S: Source, K: Sink>(alloc: Global, words: &[String], input: &mut S, output: &mut K) -> u8
+    // Words outside the grammar are refused, and nothing is read.
+    ensures words { command_of (texts_of words.now) ≡ None → Answers words_answer (K.written output.old) (K.written output.new) result }
+    ensures unread { command_of (texts_of words.now) ≡ None → Keeps (S.left input.old) (S.left input.new) }
+    ensures only_words { result ≡ 2 → command_of (texts_of words.now) ≡ None }
+
+    // `replay` answers what the text of the source comes to.
+    ensures replay { command_of (texts_of words.now) ≡ Some Replay
+        → Replays LIMIT (S.left input.old) (S.left input.new) (K.written output.old) (K.written output.new) (Rose (S.faults input.old) (S.faults input.new)) result }
+    ensures complete { command_of (texts_of words.now) ≡ Some Replay
+        → (Rose (S.faults input.old) (S.faults input.new) → ⊥) → (Rose (K.faults output.old) (K.faults output.new) → ⊥)
+        → Completes LIMIT (S.left input.old) (K.written output.old) (K.written output.new) result }
+
+    // A fault is answered only where one of that object came about in this call.
+    ensures read_fault { HasCause (S.faults input.old) (S.faults input.new) (result ≡ 5) }
+    ensures write_fault { HasCause (K.faults output.old) (K.faults output.new) (result ≡ 6) }
+{
+    match read_words(words) {
+        Some(Command::Replay) => replay_source(alloc, input, output),
+        None => closing(print(output, b"words\n"), 2),
+    }
+}
+
+// Replays the text of the source.
+fn replay_source<S: Source, K: Sink>(alloc: Global, input: &mut S, output: &mut K) -> u8
+    ensures replay { Replays LIMIT (S.left input.old) (S.left input.new) (K.written output.old) (K.written output.new) (Rose (S.faults input.old) (S.faults input.new)) result }
+    ensures only { result ≢ 2 }
+    ensures read_fault { HasCause (S.faults input.old) (S.faults input.new) (result ≡ 5) }
+    ensures write_fault { HasCause (K.faults output.old) (K.faults output.new) (result ≡ 6) }
+{
+    match read_text(alloc, LIMIT, input) {
+        Ok(text) => answer(alloc, &text, output),
+        Err(ReadError::Failed) => closing(print(output, b"read fault\n"), 5),
+        Err(ReadError::Memory) => 8,
+    }
+}
+
+// Replays a text.
+fn answer<K: Sink>(alloc: Global, text: &[u8], output: &mut K) -> u8
+    ensures answers { Answers (replay_answer LIMIT text.now) (K.written output.old) (K.written output.new) result }
+    ensures only { (result ≢ 2) × (result ≢ 5) }
+    ensures write_fault { HasCause (K.faults output.old) (K.faults output.new) (result ≡ 6) }
+{
+    match parse(alloc, text) {
+        Ok(schedule) => play(alloc, &schedule, output),
+        Err(ScheduleError::Line(refusal)) => refuse(alloc, refusal, output),
+        Err(ScheduleError::Memory) => 8,
+    }
+}
+
+fn play<K: Sink>(alloc: Global, schedule: &Schedule, output: &mut K) -> u8
+    requires { IsPlayable schedule.now }
+    ensures answers { Answers (schedule_answer schedule.now) (K.written output.old) (K.written output.new) result }
+    ensures only { (result ≢ 2) × (result ≢ 5) }
+    ensures write_fault { HasCause (K.faults output.old) (K.faults output.new) (result ≡ 6) }
+{
+    closing(replay(alloc, schedule, output), 0)
+}
+
+fn refuse<K: Sink>(alloc: Global, refusal: Refusal, output: &mut K) -> u8
+    ensures answers { Answers (refusal_answer refusal) (K.written output.old) (K.written output.new) result }
+    ensures only { (result ≢ 2) × (result ≢ 5) }
+    ensures write_fault { HasCause (K.faults output.old) (K.faults output.new) (result ≡ 6) }
+{
+    let status = refusal.status();
+    match refusal_line(alloc, refusal) {
+        Ok(line) => closing(print(output, line.as_bytes()), status),
+        Err(_) => 8,
+    }
+}
+
+// The status, unless what is printed before it could not be written.
+fn closing(written: Result<(), WriteError>, status: u8) -> u8
+    ensures { result ≡ closing_status written status }
+{
+    match written {
+        Ok(()) => status,
+        Err(WriteError::Failed) => 6,
+        Err(WriteError::Memory) => 8,
+    }
+}
