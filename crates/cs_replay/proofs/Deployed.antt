@@ -1,10 +1,9 @@
 -- The one node of a schedule that can be played.
-use Rattle.std.proofs.Common.{◌≡◌, ℕ, zero, suc, ◌+◌, ◌<◌, List, [], ◌∷◌, ◌++◌, length, take, get_or, slice_get, Option, Some, None, refl, ap, sym, subst, ◌∙◌, arith, add_assoc}
+use Rattle.std.proofs.Common.{◌≡◌, ℕ, zero, suc, ◌+◌, ◌<◌, List, [], ◌∷◌, ◌++◌, length, take, get_or, slice_get, Some, None, refl, ap, sym, subst, ◌∙◌, arith}
 use Rattle.std.specs.Prelude.{Bool, if◌then◌else◌}
 use Rattle.std.specs.List.{All}
 use Rattle.std.proofs.lemmas.List.{take_more, length-take}
 use Rattle.cs_base.specs.declared.config.Config.{Config}
-use Rattle.cs_base.specs.declared.key.Key.{Key}
 use Rattle.cs_base.specs.declared.key.Key.TheVariants as key
 use Rattle.cs_base.specs.declared.node_id.NodeId.{NodeId}
 use Rattle.cs_value.specs.declared.object.Object.{Object}
@@ -24,9 +23,10 @@ use Rattle.cs_trail.specs.Deployment.{rules_of, setup_of}
 use Rattle.cs_node.specs.declared.nodes.Core.{Core}
 use Rattle.cs_node.specs.Cores.{StandsFor}
 use Rattle.cs_node.specs.Setups.{keyed_from, AreObjects}
+use Rattle.cs_story.specs.OneNode.{IsForNode}
 use Rattle.cs_sched.specs.Playable.{only_node, IsPlayableEvent}
 use Rattle.cs_replay.specs.Kept.{Deploys}
-use Rattle.cs_replay.specs.Standing.{AllStand, HasNode, HaveNodes, addressee, IsFor}
+use Rattle.cs_replay.specs.Standing.{AllStand, HaveNodes, addressee, IsFor}
 
 -- ---- objects under their keys
 
@@ -90,3 +90,9 @@ pub are-for : (config : Config) (events : List (ℕ × Event)) → config.shards
 are-for config events one all = λ k d within.
     subst (λ n. (addressee (get_or events k d).1).shard < n) (sym one)
     (subst (λ (name : NodeId). name.shard < 1) (sym (for-the-node (get_or events k d).1 (all k d within))) (omega arith))
+
+for-node : (event : Event) → IsPlayableEvent event → IsForNode event
+for-node (Say from to kind body) is = (is.node, is.in_bytes)
+
+pub are-for-node : (events : List (ℕ × Event)) → All (λ numbered. IsPlayableEvent numbered.1) events → All (λ numbered. IsForNode numbered.1) events
+are-for-node events all = λ k d within. for-node (get_or events k d).1 (all k d within)

@@ -1,12 +1,10 @@
 -- What is kept of the executions stands for them still after one more.
-use Rattle.std.proofs.Common.{◌≡◌, ℕ, suc, ◌+◌, ◌<◌, nat_eq, nat_lt, ◌==◌, Bool, true, false, not, ◌&&◌, ◌||◌, cond, List, [], ◌∷◌, ◌++◌, length, map, replicate, slice_index, slice_set, ◌⊎◌, inl, inr, refl, sym, ap, subst, ◌∙◌, arith, rules}
-use Rattle.std.specs.Prelude.{bytes_eq, if◌then◌else◌}
+use Rattle.std.proofs.Common.{◌≡◌, ℕ, suc, ◌+◌, ◌<◌, nat_lt, ◌==◌, Bool, true, false, not, ◌&&◌, ◌||◌, cond, List, [], ◌∷◌, ◌++◌, length, slice_index, slice_set, refl, sym, ap, subst, ◌∙◌, arith, rules}
+use Rattle.std.specs.Prelude.{bytes_eq}
 use Rattle.std.specs.List.{list_all, list_any}
-use Rattle.std.proofs.lemmas.Bool.{cases_Bool}
-use Rattle.std.proofs.lemmas.List.{map-append, get_or-set_same, get_or-set_other, get_or-replicate}
+use Rattle.std.proofs.lemmas.List.{map-append, get_or-set_same, get_or-set_other}
 use Rattle.std.proofs.lemmas.List.Folds.{list_any-append}
 use Rattle.std.proofs.lemmas.Slice.Eq.{bytes_eq-Decides}
-use Rattle.cs_base.specs.declared.config.Config.{Config}
 use Rattle.cs_tx.specs.declared.session.Session.{Session}
 use Rattle.cs_tx.specs.declared.vote.Vote.{Vote}
 use Rattle.cs_tx.specs.declared.entry.Entry.{Entry}
@@ -16,11 +14,11 @@ use Rattle.cs_tx.specs.Uses.{concerned_shards}
 use Rattle.cs_ledger.specs.Ledger.{Bytes, Transaction}
 use Rattle.cs_ledger.specs.Table as Shard
 use Rattle.cs_ledger.specs.ShardWorld.{is_vote, is_listed}
-use Rattle.cs_trail.specs.Setup.{Setup, digest_of, concerned}
+use Rattle.cs_trail.specs.Setup.{Setup, digest_of}
 use Rattle.cs_trail.specs.Signs.{Did}
-use Rattle.cs_trail.specs.World.{Execution, slots_of, first_of, prepares, recorded, all_recorded, told_after, told}
+use Rattle.cs_trail.specs.World.{Execution, slots_of, first_of, recorded, all_recorded, told}
 use Rattle.cs_replay.specs.Digests.{digests_of}
-use Rattle.cs_replay.specs.Kept.{Kept, Deploys, Keeps, is_commit, with_commit, with_told, all_commit, voted, told_next, entered_slot, executed, kept_after}
+use Rattle.cs_replay.specs.Kept.{Kept, Keeps, is_commit, with_commit, with_told, all_commit, voted, entered_slot, executed, kept_after}
 
 -- ---- tests
 

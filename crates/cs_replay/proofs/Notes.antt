@@ -1,16 +1,13 @@
 -- What notes tell is what the signs of an event say.
-use Rattle.std.proofs.Common.{◌≡◌, ℕ, ◌+◌, ◌<◌, List, [], ◌∷◌, ◌++◌, length, take, get_or, refl, sym, ap, subst, ◌∙◌, append-nil, append_assoc}
-use Rattle.std.specs.List.{flat_map}
-use Rattle.std.proofs.lemmas.List.{take_more}
+use Rattle.std.proofs.Common.{◌≡◌, ℕ, List, [], ◌∷◌, ◌++◌, refl, sym, ap, ◌∙◌, append-nil}
 use Rattle.std.proofs.lemmas.Grind.{flat_map-append}
 use Rattle.cs_base.specs.declared.config.Config.{Config}
 use Rattle.cs_base.specs.declared.node_id.NodeId.{NodeId}
 use Rattle.cs_ledger.specs.Table as Shard
-use Rattle.cs_trail.specs.Setup.{Setup, session_in, vote_of, vote_from}
+use Rattle.cs_trail.specs.Setup.{Setup, session_in}
 use Rattle.cs_trail.specs.Signs.{Sign, Dropped, Took, Entered, Did}
 use Rattle.cs_trail.specs.World.{Execution, first_of, firsts_after}
 use Rattle.cs_trail.specs.Lines.{slot_line, sign_lines}
-use Rattle.cs_tx.specs.declared.entry.Entry.{Entry}
 use Rattle.cs_tx.specs.Digest.{digest_of_session}
 use Rattle.cs_table.specs.Effects.{effect_of}
 use Rattle.cs_node.specs.declared.made.Note.{Note}

@@ -22,7 +22,7 @@ use Rattle.cs_node.specs.declared.made.Made.{Made}
 use Rattle.cs_node.specs.declared.made.Note.{Note}
 use Rattle.cs_replay.specs.Kept.{Kept, Keeps}
 use Rattle.cs_replay.specs.Told.{notes_text, noted_firsts}
-use Rattle.cs_replay.specs.Standing.{HasNode, HaveNodes, Delivered, Standing, addressee, body_of, input_text, event_text}
+use Rattle.cs_replay.specs.Standing.{Delivered, Standing, addressee, body_of, input_text, event_text}
 use Rattle.cs_replay.proofs.Notes.{text-noted, firsts-noted}
 
 -- ---- one input

@@ -1,12 +1,12 @@
 -- A core that took an input stands for the next view of its node, and the others stand as they did.
-use Rattle.std.proofs.Common.{◌≡◌, ℕ, zero, suc, ◌<◌, nat_eq, ◌==◌, Bool, true, false, ◌&&◌, cond, List, [], ◌∷◌, ◌++◌, length, get_or, slice_get, slice_set, Option, Some, None, Result, Ok, Err, IfOk, ◌⊎◌, inl, inr, refl, ap, sym, subst, ◌∙◌, arith, rules}
+use Rattle.std.proofs.Common.{◌≡◌, ℕ, zero, suc, ◌<◌, ◌==◌, Bool, true, false, ◌&&◌, cond, List, [], ◌∷◌, ◌++◌, length, get_or, slice_get, slice_set, Some, None, Result, Ok, Err, IfOk, ◌⊎◌, inl, inr, refl, ap, sym, subst, ◌∙◌, arith, rules}
 use Rattle.cs_base.specs.declared.memory.Memory.{Memory}
 use Rattle.cs_base.specs.declared.node_id.NodeId.{NodeId}
 use Rattle.cs_tx.specs.declared.transaction.Tx.{Tx}
 use Rattle.cs_order.specs.Deeds.{Member, Machine}
 use Rattle.cs_trail.specs.Setup.{Setup}
 use Rattle.cs_trail.specs.Evidence.{name_eq}
-use Rattle.cs_trail.specs.Site.{Input, Datagram, Mark, In, Ordered, Plain, Site, View, start_view, mark_step, view_after, signs_of}
+use Rattle.cs_trail.specs.Site.{Input, Datagram, Mark, In, Ordered, Plain, Site, View, start_view, mark_step, view_after}
 use Rattle.cs_trail.specs.Trail.{event_marks}
 use Rattle.cs_trail.specs.World.{Happening, trail_of, view_of, happens}
 use Rattle.cs_trail.specs.Deployment.{site_of}

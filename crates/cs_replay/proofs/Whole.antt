@@ -1,5 +1,5 @@
 -- The lines of the events, and then the history, are the whole.
-use Rattle.std.proofs.Common.{◌≡◌, ℕ, suc, ◌++◌, List, [], ◌∷◌, length, map, Option, Result, Ok, Err, OnOk, OnErr, refl, ap, sym, subst, ◌∙◌, append_assoc}
+use Rattle.std.proofs.Common.{◌≡◌, ℕ, suc, ◌++◌, List, [], ◌∷◌, length, Option, Result, Ok, Err, OnOk, OnErr, refl, ap, sym, subst, ◌∙◌, append_assoc}
 use Rattle.std.specs.Prelude.{codes}
 use Rattle.std.specs.List.{flat_map}
 use Rattle.std.specs.Fmt.{decimal}
@@ -9,7 +9,6 @@ use Rattle.cs_base.specs.Answers.{AppendsFront}
 use Rattle.cs_base.specs.Codes.{bytes_text}
 use Rattle.cs_ledger.specs.Ledger.{Transaction}
 use Rattle.cs_trail.specs.declared.schedule.Event.{Event}
-use Rattle.cs_trail.specs.Setup.{Setup}
 use Rattle.cs_trail.specs.Site.{Site}
 use Rattle.cs_trail.specs.World.{told, firsts_of, history}
 use Rattle.cs_trail.specs.Lines.{transaction_lines, history_text}

@@ -1,5 +1,5 @@
 -- The lines of a history, by the digests of its transactions.
-use Rattle.std.specs.Prelude.{ℕ, List, [], ◌∷◌, ◌++◌, length, codes, map}
+use Rattle.std.specs.Prelude.{List, ◌++◌, length, codes, map}
 use Rattle.std.specs.List.{flat_map}
 use Rattle.std.specs.Fmt.{decimal}
 use Rattle.cs_base.specs.Codes.{bytes_text}

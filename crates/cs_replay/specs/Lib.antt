@@ -5,3 +5,4 @@ pub mod Kept
 pub mod Told
 pub mod Standing
 pub mod Answers
+pub mod Sound

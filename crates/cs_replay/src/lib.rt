@@ -11,6 +11,7 @@ mod starting;
 mod telling;
 #[cfg(test)]
 mod tests;
+mod theorem;
 mod words;
 
 pub use history::History;
@@ -18,4 +19,5 @@ pub use lines::{history_text, slot_line};
 pub use play::play_events;
 pub use program::run;
 pub use schedule::replay;
+pub use theorem::schedules_are_sound;
 pub use words::{Command, read_words};

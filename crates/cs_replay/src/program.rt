@@ -1,15 +1,19 @@
 //! The whole of the program, over the words, the source and the sink that are handed in.
-ghost use Rattle.std.specs.Prelude.{◌≡◌, ◌≢◌, Some, None};
+ghost use Rattle.std.specs.Prelude.{◌≡◌, ◌≢◌, ℕ, List, Ok, Some, None};
 ghost use Rattle.std.specs.Io.KnownBytes.{Keeps};
 ghost use Rattle.cs_base.specs.Outside.{HasCause, Rose};
 ghost use Rattle.cs_base.specs.Answers.{Answers};
 ghost use Rattle.cs_sched.specs.declared.reader.TheConstants.{LIMIT};
 ghost use Rattle.cs_sched.specs.Playable.{IsPlayable};
+ghost use Rattle.cs_sched.specs.Text.{schedule_of};
+ghost use Rattle.cs_trail.specs.declared.schedule.Schedule.{Schedule};
+ghost use Rattle.cs_replay.specs.Sound.{IsSound};
 ghost use Rattle.cs_replay.specs.Words.{command_of, texts_of};
 ghost use Rattle.cs_replay.specs.Answers.{Replays, Completes, closing_status, words_answer, replay_answer, refusal_answer, schedule_answer};
 ghost use Rattle.cs_replay.specs.declared.words.Command.TheVariants.{Replay};
 
 use crate::schedule::replay;
+use crate::theorem::schedules_are_sound;
 use crate::words::{Command, read_words};
 use cs_base::{ReadError, Sink, Source, WriteError, print, read_text};
 use cs_sched::{LIMIT, Refusal, Schedule, ScheduleError, parse, refusal_line};
@@ -31,10 +35,14 @@ pub fn run<S: Source, K: Sink>(alloc: Global, words: &[String], input: &mut S, o
         → (Rose (S.faults input.old) (S.faults input.new) → ⊥) → (Rose (K.faults output.old) (K.faults output.new) → ⊥)
         → Completes LIMIT (S.left input.old) (K.written output.old) (K.written output.new) result }
 
+    // What is true of every schedule that is read: of its history, which is printed, and of its decisions.
+    ensures sound { (text : List ℕ) (schedule : Schedule) → schedule_of LIMIT text ≡ Ok schedule → IsSound schedule }
+
     // A fault is answered only where one of that object came about in this call.
     ensures read_fault { HasCause (S.faults input.old) (S.faults input.new) (result ≡ 5) }
     ensures write_fault { HasCause (K.faults output.old) (K.faults output.new) (result ≡ 6) }
 {
+    schedules_are_sound();
     match read_words(words) {
         Some(Command::Replay) => replay_source(alloc, input, output),
         None => closing(print(output, b"words\n"), 2),

@@ -168,6 +168,7 @@ event_of-ok schedule from to kind body said one none honest is =
       node = listener_only schedule.config schedule.liars to listener one none listened;
       kind = kind_one kind number kinded;
       short = (bytes_within-ok 32719 body bytes within).0;
+      in_bytes = (bytes_within-ok 32719 body bytes within).1;
     })
 
 pub event_said-ok : (schedule : Schedule) (fields : List (List ℕ)) (said : Event) → schedule.config.shards ≡ 1 → schedule.config.f ≡ 0 → schedule.liars ≡ []

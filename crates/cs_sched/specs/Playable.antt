@@ -1,6 +1,7 @@
 -- What every schedule meets that is read.
 use Rattle.std.specs.Prelude.{◌≡◌, ◌≢◌, ℕ, ◌≤◌, true, List, [], length}
 use Rattle.std.specs.List.{All, AllPairs}
+use Rattle.cs_base.specs.Fields.{IsBytes}
 use Rattle.cs_base.specs.NodeId.{is_client}
 use Rattle.cs_base.specs.declared.node_id.NodeId.{NodeId}
 use Rattle.cs_value.specs.Object.{ObjectFits}
@@ -19,6 +20,7 @@ pub record IsSubmit (from to : NodeId) (number : ℕ) (bytes : List ℕ) : Type 
   pub node : to ≡ only_node
   pub kind : number ≡ 1
   pub short : length bytes ≤ 32719
+  pub in_bytes : IsBytes bytes
 
 abbrev pub IsPlayableEvent : Event → Type 0
 IsPlayableEvent (Say from to kind body) = IsSubmit from to kind body

@@ -1,4 +1,4 @@
-use Rattle.std.proofs.Common.{◌≡◌, ◌<◌, ◌≤◌, length, sym, ◌∙◌, below_more, arith}
+use Rattle.std.proofs.Common.{sym, ◌∙◌, below_more, arith}
 use Rattle.cs_replay.proofs.Views.{get-read, name-same, name-equal}
 use Rattle.cs_replay.proofs.cores.place_of.Goals as goal
 

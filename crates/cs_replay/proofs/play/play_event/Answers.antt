@@ -1,4 +1,4 @@
-use Rattle.std.proofs.Common.{◌≡◌, ℕ, List, length, sym, subst, OnOk, OnErr}
+use Rattle.std.proofs.Common.{ℕ, List, length, sym, subst, OnOk, OnErr}
 use Rattle.std.specs.Io.KnownBytes.{Appends}
 use Rattle.cs_base.specs.Answers.{AppendsFront}
 use Rattle.cs_base.specs.declared.node_id.NodeId.{NodeId}

@@ -1,12 +1,9 @@
-use Rattle.std.proofs.Common.{◌≡◌, ℕ, List, ◌∙◌, subst, OnOk, OnErr, string_bytes}
+use Rattle.std.proofs.Common.{◌≡◌, ℕ, List, ◌∙◌, subst, OnOk, OnErr}
 use Rattle.std.specs.Io.KnownBytes.{Appends}
 use Rattle.cs_base.specs.Answers.{AppendsFront}
-use Rattle.cs_base.specs.declared.node_id.NodeId.{NodeId}
-use Rattle.cs_trail.specs.Setup.{Setup}
 use Rattle.cs_trail.specs.Deployment.{site_of}
 use Rattle.cs_trail.specs.World.{firsts_of}
-use Rattle.cs_trail.specs.Play.{Played}
-use Rattle.cs_replay.specs.Standing.{HasNode, Standing, input_text}
+use Rattle.cs_replay.specs.Standing.{input_text}
 use Rattle.cs_replay.proofs.Outcomes.{ok-anyway}
 use Rattle.cs_replay.proofs.Played.{standing-after, text-after}
 use Rattle.cs_replay.proofs.play.play_input.Goals as goal

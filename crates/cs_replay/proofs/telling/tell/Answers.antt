@@ -1,9 +1,9 @@
-use Rattle.std.proofs.Common.{◌≡◌, ◌+◌, List, [], ◌∷◌, ◌++◌, take, sym, ap, subst, ◌∙◌, string_bytes}
+use Rattle.std.proofs.Common.{◌≡◌, ◌+◌, List, [], ◌∷◌, ◌++◌, take, sym, ap, subst, ◌∙◌}
 use Rattle.std.proofs.lemmas.List.{take_more}
 use Rattle.cs_trail.specs.World.{Execution}
 use Rattle.cs_node.specs.declared.made.Note.{Note}
 use Rattle.cs_replay.specs.Kept.{Keeps}
-use Rattle.cs_replay.specs.Told.{note_text, notes_text, noted_firsts}
+use Rattle.cs_replay.specs.Told.{notes_text, noted_firsts}
 use Rattle.cs_replay.proofs.Notes.{text-push, firsts-push}
 use Rattle.cs_replay.proofs.telling.tell.Goals as goal
 

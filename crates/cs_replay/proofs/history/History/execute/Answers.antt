@@ -1,8 +1,7 @@
-use Rattle.std.proofs.Common.{sym, subst, OnOk}
 use Rattle.cs_table.specs.Effects.{effect_of}
 use Rattle.cs_trail.specs.Signs.{Did}
 use Rattle.cs_trail.specs.World.{first_of}
-use Rattle.cs_replay.specs.Kept.{Kept, Keeps}
+use Rattle.cs_replay.specs.Kept.{Keeps}
 use Rattle.cs_replay.proofs.Histories.{keeps-after}
 use Rattle.cs_replay.proofs.Outcomes.{on_ok}
 use Rattle.cs_replay.proofs.history.History.execute.Goals as goal

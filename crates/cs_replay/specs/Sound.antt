@@ -1,0 +1,33 @@
+-- What is true of every schedule that is read, as it is played.
+use Rattle.cs_order.specs.declared.solo.NoMessage.{NoMessage}
+use Rattle.cs_trail.specs.declared.schedule.Schedule.{Schedule}
+use Rattle.cs_trail.specs.Site.{Site}
+use Rattle.cs_trail.specs.World.{Happening}
+use Rattle.cs_trail.specs.Play.{unplayed, play_all}
+use Rattle.cs_trail.specs.Ready.{VotesFree, AcceptsLocked}
+use Rattle.cs_trail.specs.Collisions.{NoCollision}
+use Rattle.cs_story.specs.OneNode.{signs_at, IsSerial, SpendsOnce, DecidesOnce, ExecutesGiven, TellsAccepted, TellsCommitted, HoldsFree}
+use Rattle.cs_replay.specs.Site.{site_of_schedule}
+use Rattle.std.specs.Prelude.{List}
+
+-- the events of a schedule, with all that they make
+abbrev pub world_of : Schedule → List (Happening NoMessage)
+world_of schedule = (play_all (site_of_schedule schedule) schedule.events unplayed).world
+
+-- The history is serial, and no object is consumed twice. No session is decided both ways. The accepted transactions
+-- are in the history, and so are those that all concerned shards have voted for. A locked session is accepted.
+pub record IsOneHistory (site : Site NoMessage) (world : List (Happening NoMessage)) : Type 0 where
+  pub serial : IsSerial site world
+  pub spent_once : SpendsOnce site world
+  pub one_decision : DecidesOnce site world
+  pub accepted : TellsAccepted site world
+  pub committed : TellsCommitted site world
+  pub accepts_locked : AcceptsLocked site.setup 0 (signs_at world)
+  pub objects : HoldsFree site world
+
+-- Each executed session stood in an input, and a free one is voted commit. The rest is said where no two of the strings
+-- that are hashed have one hash.
+pub record IsSound (schedule : Schedule) : Type 0 where
+  pub executed : ExecutesGiven (site_of_schedule schedule) (world_of schedule)
+  pub votes_free : VotesFree (site_of_schedule schedule).setup 0 (signs_at (world_of schedule))
+  pub one_history : NoCollision (site_of_schedule schedule) schedule.genesis (world_of schedule) → IsOneHistory (site_of_schedule schedule) (world_of schedule)

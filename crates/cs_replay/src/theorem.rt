@@ -1,0 +1,18 @@
+//! What is true of every schedule.
+ghost use Rattle.std.specs.Prelude.{◌≡◌, ℕ, List, Ok};
+ghost use Rattle.cs_trail.specs.declared.schedule.Schedule.{Schedule};
+ghost use Rattle.cs_sched.specs.declared.reader.TheConstants.{LIMIT};
+ghost use Rattle.cs_sched.specs.Text.{schedule_of};
+ghost use Rattle.cs_replay.specs.Sound.{IsSound};
+
+use cs_order::Solo;
+use cs_story::one_node_world;
+
+/// What is true of every schedule that is read.
+///
+/// It does nothing: its contract is a theorem, which a caller has by calling it.
+pub fn schedules_are_sound()
+    ensures { (text : List ℕ) (schedule : Schedule) → schedule_of LIMIT text ≡ Ok schedule → IsSound schedule }
+{
+    one_node_world::<Solo>();
+}
