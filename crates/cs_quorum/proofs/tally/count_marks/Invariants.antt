@@ -1,0 +1,7 @@
+use Rattle.std.proofs.Common.{◌≡◌, ◌≤◌}
+use Rattle.cs_order.specs.Counts.{count_below}
+use Rattle.cs_quorum.specs.Marks.{is_marked}
+use Rattle.cs_quorum.proofs.tally.count_marks.Given as goal
+
+abbrev pub invariant-loop-member : goal.invariant-loop-member
+invariant-loop-member l = (l.count ≡ count_below l.member (is_marked l.marks)) × (l.count ≤ l.member)

@@ -1,0 +1,12 @@
+-- Which of the members of a shard are marked.
+use Rattle.std.specs.Prelude.{ℕ, Bool, false, List, length, slice_index_or}
+
+-- a mark for each member
+abbrev pub Marks : Type 0
+Marks = List Bool
+
+abbrev pub members_of : Marks → ℕ
+members_of marks = length marks
+
+abbrev pub is_marked : Marks → ℕ → Bool
+is_marked marks member = slice_index_or marks member false

@@ -1,0 +1,9 @@
+//! Counting the members of a shard that said something.
+#![tactic(auto)]
+
+mod tally;
+
+pub use tally::Tally;
+
+#[cfg(test)]
+mod tests;
