@@ -1,9 +1,9 @@
 -- The table and the pool of a node, and what the execution of an entry makes of them.
 use Rattle.std.specs.Prelude.{ℕ, Bool, true, false, if◌then◌else◌, [], Option, Some, None}
 use Rattle.cs_base.specs.declared.node_id.NodeId.{NodeId}
-use Rattle.cs_tx.specs.declared.session.Session.{Session}
-use Rattle.cs_tx.specs.declared.vote.Vote.{Vote}
-use Rattle.cs_tx.specs.declared.entry.Entry.{Entry}
+use Rattle.cs_form.specs.declared.session.Session.{Session}
+use Rattle.cs_form.specs.declared.vote.Vote.{Vote}
+use Rattle.cs_form.specs.declared.entry.Entry.{Entry}
 use Rattle.cs_ledger.specs.Ledger.{Bytes}
 use Rattle.cs_ledger.specs.Session.{Key, anchor}
 use Rattle.cs_ledger.specs.Table.{Table, Effect, Voted, Accepted, Aborted, Skipped, Void, Outcome, is_locked_by, exec, start}

@@ -6,11 +6,11 @@ use Rattle.cs_base.specs.declared.config.Config.{Config}
 use Rattle.cs_base.specs.declared.key.Key.TheVariants as key
 use Rattle.cs_value.specs.declared.object.Object.{Object}
 use Rattle.cs_value.specs.Object.{object_encoding}
-use Rattle.cs_tx.specs.declared.session.Session.{Session}
-use Rattle.cs_tx.specs.declared.entry.Entry.{Entry}
-use Rattle.cs_tx.specs.declared.entry.Entry.TheVariants.{Prepare}
-use Rattle.cs_tx.specs.Session.{entry_encoding}
-use Rattle.cs_tx.specs.Reading.{session_at, entry_at}
+use Rattle.cs_form.specs.declared.session.Session.{Session}
+use Rattle.cs_form.specs.declared.entry.Entry.{Entry}
+use Rattle.cs_form.specs.declared.entry.Entry.TheVariants.{Prepare}
+use Rattle.cs_form.specs.Session.{entry_encoding}
+use Rattle.cs_form.specs.Reading.{session_at, entry_at}
 use Rattle.cs_tx.specs.Digest.{digest_of_entry, name_of_genesis}
 use Rattle.cs_order.specs.declared.proposed.Proposed.{Proposed}
 use Rattle.cs_order.specs.Deeds.{Machine}

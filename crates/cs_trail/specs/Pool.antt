@@ -1,7 +1,7 @@
 -- The pool of a node, in the order of entering: each session under its digest, by which sessions are told apart.
 use Rattle.std.specs.Prelude.{ℕ, Bool, true, false, not, nat_lt, if◌then◌else◌, List, [], ◌∷◌, ◌++◌, Option, Some, None, is_some, count_by, bytes_eq}
 use Rattle.std.specs.Map.{lookup, remove_entry, set_value, values_of}
-use Rattle.cs_tx.specs.declared.session.Session.{Session}
+use Rattle.cs_form.specs.declared.session.Session.{Session}
 use Rattle.cs_ledger.specs.Ledger.{Bytes}
 use Rattle.cs_trail.specs.declared.ballot.Ballot.{Ballot}
 use Rattle.cs_trail.specs.declared.pooled.Pooled.{Pooled}

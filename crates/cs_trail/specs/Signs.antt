@@ -1,9 +1,9 @@
 -- The marks of a node that are no deeds of its order, and what they make of table and pool. Lists of marks are newest first.
 use Rattle.std.specs.Prelude.{ℕ, Bool, not, ◌&&◌, if◌then◌else◌, List, [], ◌∷◌, ◌++◌, Option, Some, None}
 use Rattle.cs_base.specs.declared.node_id.NodeId.{NodeId}
-use Rattle.cs_tx.specs.declared.session.Session.{Session}
-use Rattle.cs_tx.specs.declared.vote.Vote.{Vote}
-use Rattle.cs_tx.specs.declared.entry.Entry.{Entry}
+use Rattle.cs_form.specs.declared.session.Session.{Session}
+use Rattle.cs_form.specs.declared.vote.Vote.{Vote}
+use Rattle.cs_form.specs.declared.entry.Entry.{Entry}
 use Rattle.cs_ledger.specs.Table.{Effect}
 use Rattle.cs_trail.specs.declared.cause.Cause.{Cause}
 use Rattle.cs_trail.specs.declared.cause.Cause.TheVariants.{Malformed, Repeat, Denied, Full}

@@ -1,8 +1,8 @@
 -- Marks, nodes, and the site on which the rules of all nodes rest.
 use Rattle.std.specs.Prelude.{List, [], ◌∷◌, Option}
 use Rattle.cs_base.specs.declared.node_id.NodeId.{NodeId}
-use Rattle.cs_tx.specs.declared.session.Session.{Session}
-use Rattle.cs_tx.specs.declared.entry.Entry.{Entry}
+use Rattle.cs_form.specs.declared.session.Session.{Session}
+use Rattle.cs_form.specs.declared.entry.Entry.{Entry}
 use Rattle.cs_order.specs.declared.proposed.Proposed.{Proposed}
 use Rattle.cs_order.specs.Deeds.{Deed, Member, Machine, did}
 use Rattle.cs_ledger.specs.Ledger.{Bytes}

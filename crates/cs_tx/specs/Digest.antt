@@ -1,23 +1,19 @@
 -- Digests, and the names that they give to objects.
 use Rattle.std.specs.Prelude.{ℕ, ◌+◌, List, [], ◌∷◌, ◌++◌, map}
 use Rattle.std.specs.Int.{w16, w32, to_be_bytes}
-use Rattle.sha2.specs.Sha256.{sha256}
+use Rattle.cs_hash.specs.Hash.{tagged_digest}
 use Rattle.cs_base.specs.declared.key.Key.{Key}
 use Rattle.cs_base.specs.declared.key.Key.TheVariants as key
 use Rattle.cs_value.specs.declared.object.Object.{Object}
 use Rattle.cs_value.specs.Object.{object_encoding}
-use Rattle.cs_tx.specs.declared.trace.Trace.{Trace}
-use Rattle.cs_tx.specs.declared.transaction.Tx.{Tx}
-use Rattle.cs_tx.specs.declared.session.Session.{Session}
-use Rattle.cs_tx.specs.declared.entry.Entry.{Entry}
-use Rattle.cs_tx.specs.Transaction.{Keyed, tx_encoding}
-use Rattle.cs_tx.specs.Session.{session_encoding, entry_encoding}
+use Rattle.cs_form.specs.declared.trace.Trace.{Trace}
+use Rattle.cs_form.specs.declared.transaction.Tx.{Tx}
+use Rattle.cs_form.specs.declared.session.Session.{Session}
+use Rattle.cs_form.specs.declared.entry.Entry.{Entry}
+use Rattle.cs_form.specs.Transaction.{Keyed, tx_encoding}
+use Rattle.cs_form.specs.Session.{session_encoding, entry_encoding}
 
--- SHA-256 of a letter and bytes (FIPS 180-4)
-abbrev pub tagged_digest : ℕ → List ℕ → List ℕ
-tagged_digest letter bytes = sha256 (letter ∷ bytes)
-
--- under the letters T, S and E
+-- of encodings, under the letters T, S and E
 abbrev pub digest_of_tx : Tx → List ℕ
 digest_of_tx tx = tagged_digest 84 (tx_encoding tx)
 

@@ -1,8 +1,3 @@
-pub mod Transaction
-pub mod Session
-pub mod State
-pub mod Reading
-pub mod Laws
 pub mod Digest
 pub mod Uses
 pub mod WellFormed

@@ -6,11 +6,11 @@ use Rattle.cs_base.specs.declared.key.Key.{Key}
 use Rattle.cs_base.specs.declared.key.Key.TheVariants as key
 use Rattle.cs_value.specs.declared.object.Object.{Object}
 use Rattle.cs_value.specs.Object.{object_encoding}
-use Rattle.cs_tx.specs.declared.trace.Trace.{Trace}
-use Rattle.cs_tx.specs.declared.transaction.Tx.{Tx}
-use Rattle.cs_tx.specs.declared.session.Session.{Session}
-use Rattle.cs_tx.specs.Transaction.{Keyed, tx_encoding}
-use Rattle.cs_tx.specs.Session.{session_encoding}
+use Rattle.cs_form.specs.declared.trace.Trace.{Trace}
+use Rattle.cs_form.specs.declared.transaction.Tx.{Tx}
+use Rattle.cs_form.specs.declared.session.Session.{Session}
+use Rattle.cs_form.specs.Transaction.{Keyed, tx_encoding}
+use Rattle.cs_form.specs.Session.{session_encoding}
 use Rattle.cs_tx.specs.Uses.{inputs_of, references_of}
 use Rattle.cs_tx.specs.WellFormed.{first_failing, has_own_objects, has_earlier_deps}
 use Rattle.cs_ledger.specs.Ledger.{Item}

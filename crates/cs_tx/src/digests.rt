@@ -2,29 +2,17 @@
 ghost use Rattle.std.specs.Prelude.{◌≡◌, ◌≤◌, ◌++◌, ◌∷◌, [], length, map, IfOk};
 ghost use Rattle.cs_value.specs.Object.{ObjectFits};
 ghost use Rattle.std.specs.List.{AllByRecursion};
-ghost use Rattle.cs_tx.specs.Transaction.{TraceFits, TxFits};
-ghost use Rattle.cs_tx.specs.Session.{SessionFits, EntryFits};
-ghost use Rattle.cs_tx.specs.Digest.{tagged_digest, digest_of_tx, digest_of_session, digest_of_entry, name_of_output, name_of_genesis, outputs_at, outputs_from, keys, keys_of_outputs};
+ghost use Rattle.cs_form.specs.Transaction.{TraceFits, TxFits};
+ghost use Rattle.cs_form.specs.Session.{SessionFits, EntryFits};
+ghost use Rattle.cs_tx.specs.Digest.{digest_of_tx, digest_of_session, digest_of_entry, name_of_output, name_of_genesis, outputs_at, outputs_from, keys, keys_of_outputs};
 ghost use Rattle.cs_base.specs.declared.key.Key.TheVariants.{Object as object_key};
 
-use crate::entry::Entry;
-use crate::session::Session;
-use crate::trace::Trace;
-use crate::transaction::Tx;
 use cs_base::{Key, Memory, Sequence, Writer};
+use cs_form::{Entry, Session, Trace, Tx};
+use cs_hash::tagged;
 use cs_value::{Digest, Encoded, Object};
 use sha2::{Digest as Hasher, Sha256};
 use std::alloc::Global;
-
-/// SHA-256 of a letter and bytes.
-fn tagged(letter: u8, bytes: &[u8]) -> Digest
-    ensures { result ≡ tagged_digest letter bytes.now }
-{
-    let mut hasher = Sha256::new();
-    hasher.update([letter]);
-    hasher.update(bytes);
-    hasher.finalize()
-}
 
 /// SHA-256 of the letter T and the encoding.
 pub fn tx_digest(alloc: Global, tx: &Tx) -> Result<Digest, Memory>

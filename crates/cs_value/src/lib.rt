@@ -23,8 +23,8 @@ pub use digest::Digest;
 pub use encoded::Encoded;
 pub use form::FormError;
 pub use lists::{
-    copy_each, few_fit, read_counted, read_some, room_counted, skip_counted, skip_some,
-    write_counted,
+    copy_each, each_fits, few_fit, read_counted, read_many, read_some, room_counted, room_each,
+    skip_counted, skip_many, skip_some, write_counted, write_each,
 };
 pub use name::Name;
 pub use object::Object;

@@ -9,10 +9,11 @@ use crate::form::FormError;
 use cs_base::{Cursor, Memory, Sequence, Writer};
 use std::alloc::Global;
 
-fn read_many<T: Encoded>(
+/// So many items.
+pub fn read_many<T: Encoded>(
     alloc: Global,
     cursor: &mut Cursor<'_>,
-    count: u8,
+    count: u16,
 ) -> Result<Sequence<T>, FormError>
     ensures { Gives result cursor.new (many_at T.found_at count cursor.old) }
 {
@@ -37,10 +38,11 @@ pub fn read_counted<T: Encoded>(
     if count > most {
         return Err(FormError::BadForm);
     }
-    read_many(alloc, cursor, count)
+    read_many(alloc, cursor, u16::from(count))
 }
 
-fn skip_many<T: Encoded>(cursor: &mut Cursor<'_>, count: u8) -> Result<(), FormError>
+/// Passes over so many items.
+pub fn skip_many<T: Encoded>(cursor: &mut Cursor<'_>, count: u16) -> Result<(), FormError>
     ensures { Passes result cursor.new (many_at T.found_at count cursor.old) }
 {
     for _ in 0..count {
@@ -58,7 +60,7 @@ pub fn skip_counted<T: Encoded>(cursor: &mut Cursor<'_>, most: u8) -> Result<(),
     if count > most {
         return Err(FormError::BadForm);
     }
-    skip_many::<T>(cursor, count)
+    skip_many::<T>(cursor, u16::from(count))
 }
 
 /// A count of one to so many, and the items.
@@ -77,7 +79,7 @@ pub fn read_some<T: Encoded>(
     if count > most {
         return Err(FormError::BadForm);
     }
-    read_many(alloc, cursor, count)
+    read_many(alloc, cursor, u16::from(count))
 }
 
 /// Passes over a count of one to so many, and the items.
@@ -92,11 +94,11 @@ pub fn skip_some<T: Encoded>(cursor: &mut Cursor<'_>, most: u8) -> Result<(), Fo
     if count > most {
         return Err(FormError::BadForm);
     }
-    skip_many::<T>(cursor, count)
+    skip_many::<T>(cursor, u16::from(count))
 }
 
 /// Appends the items, one after the other.
-fn write_each<T: Encoded>(items: &[T], out: &mut Writer) -> Result<(), Memory>
+pub fn write_each<T: Encoded>(items: &[T], out: &mut Writer) -> Result<(), Memory>
     requires { AllByRecursion T.Fits items.now }
     ensures ok { OnOk result (out.new ≡ out.old ++ each T.encoding items.now) }
     ensures err { OnErr result (Begins out.new out.old) }
@@ -118,7 +120,8 @@ pub fn write_counted<T: Encoded>(items: &Sequence<T>, out: &mut Writer) -> Resul
     write_each(items.as_slice(), out)
 }
 
-fn each_fits<T: Encoded>(items: &[T]) -> bool
+/// Whether each item fits.
+pub fn each_fits<T: Encoded>(items: &[T]) -> bool
     ensures { IsTrue result ↔ AllByRecursion T.Fits items.now }
 {
     for item in items {
@@ -139,7 +142,8 @@ pub fn few_fit<T: Encoded>(items: &Sequence<T>, most: u8) -> bool
     each_fits(items.as_slice())
 }
 
-fn room_each<T: Encoded>(items: &[T], room: usize) -> Option<usize>
+/// What is left of so much room behind the items.
+pub fn room_each<T: Encoded>(items: &[T], room: usize) -> Option<usize>
     ensures { LeavesRoom (each T.encoding items.now) room result }
 {
     let mut left = room;

@@ -1,0 +1,37 @@
+//! What is written of the ledger's data: transactions, sessions and entries, the records of a shard, and what is
+//! proved of its log; and the one encoding that each has.
+#![tactic(auto)]
+
+mod book;
+mod checkpoint;
+mod effect;
+mod entry;
+mod leaf;
+mod proof;
+mod record;
+mod session;
+mod sized;
+mod slot;
+mod state;
+mod stored;
+mod trace;
+mod transaction;
+mod vote;
+
+pub use checkpoint::Checkpoint;
+pub use effect::Effect;
+pub use entry::Entry;
+pub use leaf::Leaf;
+pub use proof::Proof;
+pub use record::Record;
+pub use session::Session;
+pub use sized::{read_sized, room_sized, skip_sized, write_sized};
+pub use slot::{LAST_SLOT, read_slot, skip_slot};
+pub use state::State;
+pub use stored::Stored;
+pub use trace::Trace;
+pub use transaction::Tx;
+pub use vote::Vote;
+
+#[cfg(test)]
+mod tests;

@@ -1,0 +1,16 @@
+//! Equality of digests.
+ghost use Rattle.std.specs.Prelude.{◌≡◌, ◌↔◌, IsTrue};
+
+use crate::Digest;
+
+/// Whether two digests are equal. It looks at every byte, wherever they differ first, so that how
+/// long it takes tells nothing of a tag.
+pub fn same(a: &Digest, b: &Digest) -> bool
+    ensures { IsTrue result ↔ (a.now ≡ b.now) }
+{
+    let mut differing = 0;
+    for i in 0..32 {
+        differing |= a[i] ^ b[i];
+    }
+    differing == 0
+}
