@@ -5,11 +5,13 @@ pub mod States
 pub mod Kept
 pub mod Entries
 pub mod Votes
+pub mod Later
 pub mod Names
 pub mod Covered
 pub mod Serial
 pub mod World
 pub mod Decisions
+pub mod Committed
 pub mod Spent
 pub mod Strings
 pub mod ExampleWorld

@@ -1,19 +1,16 @@
 -- The theorem is what the invariants of the world say.
-use Rattle.std.proofs.Common.{◌≡◌, List, refl, subst}
+use Rattle.std.proofs.Common.{◌≡◌, refl, subst}
 use Rattle.cs_ledger.specs.Ledger.{IsIn, genesis_ledger, names}
-use Rattle.cs_ledger.specs.Session.{Rules, all_items}
+use Rattle.cs_ledger.specs.Session.{all_items}
 use Rattle.cs_ledger.specs.Table.{Commit, Abort, Accepted, Aborted}
-use Rattle.cs_ledger.specs.ShardWorld.{Step, IsWorld, sessions}
+use Rattle.cs_ledger.specs.ShardWorld.{sessions}
 use Rattle.cs_ledger.proofs.Names.{at_some, item_named}
 use Rattle.cs_ledger.proofs.States.{free_active}
 use Rattle.cs_ledger.proofs.Votes.{one_vote, no_both, among_some}
-use Rattle.cs_ledger.proofs.World.{World, world_of}
 use Rattle.cs_ledger.proofs.Decisions.{decided_behind, votes_concern, all_concerned}
 use Rattle.cs_ledger.proofs.Spent.{spent_once}
+use Rattle.cs_ledger.proofs.Committed.{world, is_listed, no_abort_vote, no_abort}
 use Rattle.cs_ledger.proofs.all_shards.composition.Goals as goal
-
-world : (rules : Rules) (past : List Step) → IsWorld rules past → World rules (sessions past) past
-world rules past w = world_of rules (sessions past) w.1 past w.0 (λ x i. i)
 
 pub returns-clause-one_vote : goal.returns-clause-one_vote
 returns-clause-one_vote c rules past w x k shard v u e f =
@@ -53,17 +50,8 @@ returns-clause-objects c rules past w shard name object e =
     ((world rules past w).story.covered shard).active_is name object (free_active _ object e)
 
 pub returns-clause-complete : goal.returns-clause-complete
-returns-clause-complete c rules past w x k shard among all =
-    (world rules past w).story.listed x k (all, among_some rules shard (all_items x.transaction) among)
+returns-clause-complete c rules past w x k shard among all = is_listed rules past w x k all shard among
 
 pub returns-clause-no_abort : goal.returns-clause-no_abort
-returns-clause-no_abort c rules past w x k all shard = (
-  λ f.
-      let among = votes_concern rules (sessions past) w.1.session x k shard Abort past w.0 (λ z i. i) f in
-      let commit = all_concerned rules past x Commit shard (all_items x.transaction) all among in
-      let same : Commit ≡ Abort = one_vote rules (sessions past) w.1.session past (world rules past w).facts x k shard Commit Abort commit f in
-      cc,
-  λ f.
-      let b = decided_behind rules (sessions past) w.1.session x k shard Aborted Abort refl past w.0 (λ z i. i) f in
-      no_both rules (sessions past) w.1.session past (world rules past w).facts x k all b.1,
-)
+returns-clause-no_abort c rules past w x k all shard =
+    (no_abort_vote rules past w x k all shard, no_abort rules past w x k all shard)
