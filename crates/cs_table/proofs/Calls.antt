@@ -4,8 +4,8 @@ use Rattle.std.specs.List.{list_any}
 use Rattle.cs_base.specs.declared.key.Key.{Key}
 use Rattle.cs_base.specs.declared.key.Key.TheVariants as key
 use Rattle.cs_value.specs.declared.object.Object.{Object}
-use Rattle.cs_tx.specs.declared.transaction.Tx.{Tx}
-use Rattle.cs_tx.specs.declared.session.Session.{Session}
+use Rattle.cs_form.specs.declared.transaction.Tx.{Tx}
+use Rattle.cs_form.specs.declared.session.Session.{Session}
 use Rattle.cs_tx.specs.Digest.{digest_of_session}
 use Rattle.cs_ledger.specs.Ledger.{is_empty}
 use Rattle.cs_ledger.specs.Session as ledger
@@ -16,7 +16,7 @@ use Rattle.cs_table.specs.Seen.{Stored, seen, seen_piece, name_of}
 use Rattle.cs_table.specs.Changes.{Becomes, with_next}
 use Rattle.cs_table.specs.Effects.{ComesTo, accepted}
 use Rattle.cs_table.specs.Pieces.{rules_in, dummy_object, used_in, read_in, made_in}
-use Rattle.cs_table.specs.Sessions.{session_of, dummy_name}
+use Rattle.cs_tx.specs.Sessions.{session_of, dummy_name}
 use Rattle.cs_table.specs.Calls.{anchor_in, prepared, decided, makes_dummy, new_in, accepted_with}
 use Rattle.cs_table.proofs.Shown.{used_seen, read_seen, made_seen}
 use Rattle.cs_table.proofs.Executions.{becomes_same, becomes_self}

@@ -13,7 +13,7 @@ use Rattle.cs_base.specs.contracts.key.KeyOrd.TheImpl.{ghosts}
 use Rattle.cs_ledger.specs.Session as ledger
 use Rattle.cs_ledger.specs.Table.{Record as Seen, Table}
 use Rattle.cs_ledger.proofs.Basics as basics
-use Rattle.cs_table.specs.declared.record.Record.{Record}
+use Rattle.cs_form.specs.declared.record.Record.{Record}
 use Rattle.cs_table.specs.Seen.{Stored, name_of, is_under, row_in, seen_row, unknown_record, seen, RowFits, RowsFit, HoldsFit}
 use Rattle.cs_table.specs.Changes.{changed, Becomes}
 
@@ -24,7 +24,7 @@ abbrev Rows : Type 0
 Rows = List (Key × Record)
 
 -- the order of keys finds the key of a name
-same_key : (a b : Key) → is_at (key_cmp a) b ≡ is_under (name_of a) b
+pub same_key : (a b : Key) → is_at (key_cmp a) b ≡ is_under (name_of a) b
 same_key (key.Object a) (key.Object b) = sym (texts_ties a b)
 same_key (key.Object a) (key.Dummy t m) = refl
 same_key (key.Dummy s n) (key.Object b) = refl

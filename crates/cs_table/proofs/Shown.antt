@@ -5,10 +5,10 @@ use Rattle.sha2.specs.Sha256.{sha256}
 use Rattle.cs_base.specs.declared.key.Key.TheVariants as key
 use Rattle.cs_base.specs.Key.{shard_of_key}
 use Rattle.cs_value.specs.declared.object.Object.{Object}
-use Rattle.cs_tx.specs.declared.trace.Trace.{Trace}
-use Rattle.cs_tx.specs.declared.transaction.Tx.{Tx}
-use Rattle.cs_tx.specs.declared.session.Session.{Session}
-use Rattle.cs_tx.specs.Transaction.{Keyed}
+use Rattle.cs_form.specs.declared.trace.Trace.{Trace}
+use Rattle.cs_form.specs.declared.transaction.Tx.{Tx}
+use Rattle.cs_form.specs.declared.session.Session.{Session}
+use Rattle.cs_form.specs.Transaction.{Keyed}
 use Rattle.cs_tx.specs.Digest.{digest_of_tx, name_of_output, outputs_at, outputs_from}
 use Rattle.cs_tx.specs.Uses.{inputs_of, references_of, outputs_of}
 use Rattle.cs_ledger.specs.Ledger.{Item}
@@ -17,7 +17,7 @@ use Rattle.cs_ledger.specs.Strings as Strings
 use Rattle.cs_table.specs.declared.piece.Piece.{Piece}
 use Rattle.cs_table.specs.Seen.{seen_piece}
 use Rattle.cs_table.specs.Pieces.{rules_in, pieces_in, dummies_in, used_in, read_in, made_in}
-use Rattle.cs_table.specs.Sessions.{item_of, dummy_name, outputs_written_at, outputs_written, written_tx, session_of}
+use Rattle.cs_tx.specs.Sessions.{item_of, dummy_name, outputs_written_at, outputs_written, written_tx, session_of}
 
 map-append : {A B : Type 0} (f : A → B) (xs ys : List A) → map f (xs ++ ys) ≡ map f xs ++ map f ys
 map-append f [] ys = refl

@@ -4,7 +4,7 @@ use Rattle.cs_base.specs.declared.config.Config.{Config}
 use Rattle.cs_base.specs.declared.key.Key.{Key}
 use Rattle.cs_base.specs.declared.key.Key.TheVariants as key
 use Rattle.cs_value.specs.declared.object.Object.{Object}
-use Rattle.cs_tx.specs.Transaction.{Keyed}
+use Rattle.cs_form.specs.Transaction.{Keyed}
 use Rattle.cs_ledger.specs.Session as ledger
 use Rattle.cs_ledger.specs.Table.{State, Unknown, Table}
 use Rattle.cs_table.specs.declared.piece.Piece.{Piece}
@@ -12,7 +12,7 @@ use Rattle.cs_table.specs.declared.genesis.TableError.{TableError}
 use Rattle.cs_table.specs.declared.genesis.TableError.TheVariants.{Duplicate, Memory}
 use Rattle.cs_table.specs.Seen.{name_of, seen_piece}
 use Rattle.cs_table.specs.Pieces.{rules_in, pieces_in}
-use Rattle.cs_table.specs.Sessions.{item_of}
+use Rattle.cs_tx.specs.Sessions.{item_of}
 use Rattle.cs_table.specs.Changes.{appeared_record}
 
 -- the objects under their names

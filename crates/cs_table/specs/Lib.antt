@@ -1,7 +1,7 @@
 pub mod Seen
 pub mod Changes
 pub mod Effects
-pub mod Sessions
 pub mod Pieces
 pub mod Calls
 pub mod Genesis
+pub mod Dummies

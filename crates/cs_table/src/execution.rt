@@ -10,127 +10,15 @@ ghost use Rattle.cs_ledger.specs.Standing.{recorded};
 
 use crate::change::Change;
 use crate::piece::Piece;
-use crate::record::Record;
-use crate::several::vote_in_book;
 use crate::standing::Standing;
 use crate::table::Table;
+use crate::verdict;
 use cs_base::{Key, Memory};
-use cs_tx::{Digest, State, Vote};
+use cs_tx::{Digest, Vote};
 use std::alloc::Global;
-
-/// How many entries a book has where the record is worn.
-const WORN: usize = 1024;
 
 /// How many entries a book has at most.
 const FULL: usize = 1025;
-
-impl Record {
-    ghost use Rattle.std.specs.Prelude.{◌≡◌, option_map, None, not, is_some, ◌||◌, ◌&&◌, if◌then◌else◌};
-    ghost use Rattle.cs_ledger.specs.Standing.{recorded, is_inactive_by};
-    ghost use Rattle.cs_ledger.specs.Table.{vote_in};
-    ghost use Rattle.cs_table.specs.Calls.{standing_of};
-    ghost use Rattle.cs_table.specs.declared.standing.Standing.TheVariants.{Aborted, Open};
-    ghost use Rattle.cs_ledger.specs.Table.{is_held_by, is_inactive, is_locked_by, has_room};
-    ghost use Rattle.cs_table.specs.Seen.{seen_record, vote_of};
-    ghost use Rattle.cs_table.specs.Effects.{settled_vote, or_lost};
-
-    /// Whether the session holds the lock.
-    pub fn is_locked_by(&self, session: &Digest) -> bool
-        ensures { result ≡ is_locked_by session.now (seen_record self.now).state }
-    {
-        match &self.state {
-            State::Locked(_, by) => *session == *by,
-            State::Unknown | State::Active(_) | State::Inactive(_) => false,
-        }
-    }
-
-    /// Whether the book has room for a vote.
-    pub fn has_room(&self) -> bool
-        ensures { result ≡ has_room (seen_record self.now).book }
-    {
-        self.book.len() < WORN
-    }
-
-    /// The vote on a session of which this is the anchor's record, if it is settled.
-    pub fn settled(&self, session: &Digest) -> Option<Vote>
-        ensures { option_map vote_of result ≡ settled_vote (seen_record self.now) session.now }
-    {
-        if self.is_held_by(session) {
-            return Some(Vote::Commit);
-        }
-        match vote_in_book(self.book.as_slice(), session) {
-            Some(vote) => Some(vote),
-            None => self.lost(),
-        }
-    }
-
-    /// The standing of the session of which this is the anchor's record.
-    pub fn standing(&self, session: &Digest) -> Standing
-        ensures { result ≡ standing_of (seen_record self.now) session.now }
-    {
-        match &self.state {
-            State::Inactive(by) => {
-                if *session == *by {
-                    Standing::Accepted
-                } else {
-                    Standing::Aborted
-                }
-            }
-            State::Unknown | State::Active(_) | State::Locked(_, _) => self.open_or_aborted(
-                session,
-            ),
-        }
-    }
-
-    fn open_or_aborted(&self, session: &Digest) -> Standing
-        ensures { result ≡ (if is_some (vote_in (seen_record self.now).book session.now) || (not (has_room (seen_record self.now).book) && not (is_locked_by session.now (seen_record self.now).state)) then Aborted else Open) }
-    {
-        if vote_in_book(self.book.as_slice(), session).is_some() {
-            return Standing::Aborted;
-        }
-        if !self.has_room() && !self.is_locked_by(session) {
-            return Standing::Aborted;
-        }
-        Standing::Open
-    }
-
-    /// The vote on record on the session of which this is the anchor's record.
-    pub fn recorded(&self, session: &Digest) -> Option<Vote>
-        ensures { option_map vote_of result ≡ recorded (seen_record self.now) session.now }
-    {
-        if self.is_used_by(session) {
-            return Some(Vote::Commit);
-        }
-        vote_in_book(self.book.as_slice(), session)
-    }
-
-    fn is_used_by(&self, session: &Digest) -> bool
-        ensures { result ≡ is_inactive_by session.now (seen_record self.now).state }
-    {
-        match &self.state {
-            State::Inactive(by) => *session == *by,
-            State::Unknown | State::Active(_) | State::Locked(_, _) => false,
-        }
-    }
-
-    fn is_held_by(&self, session: &Digest) -> bool
-        ensures { result ≡ is_held_by session.now (seen_record self.now).state }
-    {
-        match &self.state {
-            State::Locked(_, by) | State::Inactive(by) => *session == *by,
-            State::Unknown | State::Active(_) => false,
-        }
-    }
-
-    fn lost(&self) -> Option<Vote>
-        ensures { option_map vote_of result ≡ or_lost (is_inactive (seen_record self.now).state) None }
-    {
-        match &self.state {
-            State::Inactive(_) => Some(Vote::Abort),
-            State::Unknown | State::Active(_) | State::Locked(_, _) => None,
-        }
-    }
-}
 
 impl Table {
     /// The vote on a session with this anchor, if it is settled.
@@ -138,7 +26,7 @@ impl Table {
         ensures { option_map vote_of result ≡ settled_vote ((seen self.now).at (name_of anchor.now)) session.now }
     {
         match self.record(anchor) {
-            Some(row) => row.settled(session),
+            Some(row) => verdict::settled(row, session),
             None => None,
         }
     }
@@ -148,7 +36,7 @@ impl Table {
         ensures { result ≡ is_locked_by session.now ((seen self.now).at (name_of anchor.now)).state }
     {
         match self.record(anchor) {
-            Some(row) => row.is_locked_by(session),
+            Some(row) => verdict::is_locked_by(row, session),
             None => false,
         }
     }
@@ -157,7 +45,7 @@ impl Table {
         ensures { result ≡ standing_of ((seen self.now).at (name_of anchor.now)) session.now }
     {
         match self.record(anchor) {
-            Some(row) => row.standing(session),
+            Some(row) => verdict::standing(row, session),
             None => Standing::Open,
         }
     }
@@ -166,7 +54,7 @@ impl Table {
         ensures { option_map vote_of result ≡ recorded ((seen self.now).at (name_of anchor.now)) session.now }
     {
         match self.record(anchor) {
-            Some(row) => row.recorded(session),
+            Some(row) => verdict::recorded(row, session),
             None => None,
         }
     }
@@ -175,7 +63,7 @@ impl Table {
         ensures { result ≡ is_fresh ((seen self.now).at (name_of anchor.now)).book }
     {
         match self.record(anchor) {
-            Some(row) => row.has_room(),
+            Some(row) => verdict::has_room(row),
             None => true,
         }
     }

@@ -1,10 +1,14 @@
 //! The records of a shard: what stands under each key, and what executing an entry does to it.
 #![tactic(auto)]
 
+#[cfg(test)]
+mod case_tests;
 mod change;
-mod effect;
+#[cfg(test)]
+mod dummy_tests;
 mod execution;
 mod genesis;
+mod listing;
 mod piece;
 mod pieces;
 mod record;
@@ -14,10 +18,11 @@ mod standing;
 mod table;
 #[cfg(test)]
 mod tests;
+mod verdict;
 
-pub use effect::Effect;
+pub use cs_form::{Effect, Record};
 pub use genesis::TableError;
+pub use listing::Records;
 pub use piece::Piece;
-pub use record::Record;
 pub use standing::Standing;
 pub use table::Table;

@@ -1,27 +1,27 @@
 //! The calls on a session.
 ghost use Rattle.std.specs.Prelude.{◌≡◌, ◌==◌, ◌+◌, ◌++◌, Bool, true, not, length, IsSome, is_some, IfOk, OnOk, All, map, option_map};
 ghost use Rattle.cs_value.specs.Object.{ObjectFits};
-ghost use Rattle.cs_tx.specs.declared.transaction.Tx.{Tx};
-ghost use Rattle.cs_tx.specs.Session.{SessionFits};
+ghost use Rattle.cs_form.specs.declared.transaction.Tx.{Tx};
+ghost use Rattle.cs_form.specs.Session.{SessionFits};
 ghost use Rattle.cs_tx.specs.Digest.{digest_of_session};
 ghost use Rattle.cs_ledger.specs.Ledger.{is_empty};
 ghost use Rattle.cs_ledger.specs.Table.{Voted};
 ghost use Rattle.cs_ledger.specs.Session.{first_key as first_of};
 ghost use Rattle.cs_table.specs.Seen.{seen, name_of, vote_of, seen_piece};
 ghost use Rattle.cs_table.specs.Pieces.{dummies_in, used_in, read_in};
-ghost use Rattle.cs_table.specs.Sessions.{session_of, dummy_name};
+ghost use Rattle.cs_tx.specs.Sessions.{session_of, dummy_name};
 ghost use Rattle.cs_table.specs.Effects.{ComesTo, effect_of};
 ghost use Rattle.std.specs.List.{list_any};
 ghost use Rattle.cs_table.specs.Changes.{Becomes, with_next};
 ghost use Rattle.cs_table.specs.Calls.{accepted_with, makes_dummy as makes_new, new_in, anchor_in, prepared, decided, locked_at, standing_at, recorded_at};
 ghost use Rattle.cs_table.specs.declared.standing.Standing.{Standing};
 
-use crate::effect::Effect;
 use crate::piece::Piece;
 use crate::pieces::{dummy_object, made_pieces, read_pieces, used_pieces};
 use crate::standing::Standing;
 use crate::table::Table;
 use cs_base::{Key, Memory};
+use cs_form::Effect;
 use cs_tx::{Digest, Session, Vote, session_digest};
 use std::alloc::Global;
 

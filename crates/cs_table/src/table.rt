@@ -7,8 +7,9 @@ ghost use Rattle.cs_table.specs.Changes.{with_next, changed, changed_record, app
 
 use crate::change::Change;
 use crate::piece::Piece;
-use crate::record::Record;
+use crate::record;
 use cs_base::{Config, Key, Memory};
+use cs_form::Record;
 use cs_tx::{Digest, Object, State, Vote};
 use std::alloc::{AllocError, Global};
 use std::collections::BTreeMap;
@@ -68,6 +69,12 @@ impl Table {
         self.next
     }
 
+    pub(crate) fn rows(&self) -> &BTreeMap<Key, Record>
+        ensures { result.now.entries ≡ self.now.rows }
+    {
+        &self.rows
+    }
+
     /// Takes the next serial of a dummy.
     pub(crate) fn next_serial(&mut self) -> u64
         requires { self.old.next < 2 ^ 64 - 1 }
@@ -117,7 +124,7 @@ impl Table {
         requires fits { HoldsFit row.state }
         ensures { OnOk result (Becomes self.old self.new (changed (λ r. seen_record row) (name_of key) (seen self.old))) }
     {
-        if row.is_unknown() {
+        if record::is_unknown(&row) {
             return Ok(());
         }
         if let Err(refused) = self.rows.insert(key, row) {
@@ -131,7 +138,7 @@ impl Table {
         ensures { OnOk result (Becomes self.old self.new (changed (changed_record change) (name_of key.now) (seen self.old))) }
     {
         let mut row = self.take(alloc, key);
-        row.change(change);
+        record::change(&mut row, change);
         self.put(*key, row)?;
         Ok(())
     }
@@ -142,7 +149,7 @@ impl Table {
         ensures { OnOk result (Becomes self.old self.new (changed (appeared_record (object_encoding object)) (name_of key.now) (seen self.old))) }
     {
         let mut row = self.take(alloc, key);
-        row.appear(object);
+        record::appear(&mut row, object);
         self.put(*key, row)?;
         Ok(())
     }
@@ -158,7 +165,7 @@ impl Table {
         ensures { OnOk result (Becomes self.old self.new (changed (noted_record session (vote_of vote)) (name_of key.now) (seen self.old))) }
     {
         let mut row = self.take(alloc, key);
-        row.note(session, vote)?;
+        record::note(&mut row, session, vote)?;
         self.put(*key, row)?;
         Ok(())
     }
@@ -170,6 +177,6 @@ fn row_or_unknown(alloc: Global, row: Option<Record>) -> Record
 {
     match row {
         Some(row) => row,
-        None => Record::unknown(alloc),
+        None => record::unknown(alloc),
     }
 }

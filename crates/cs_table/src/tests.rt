@@ -1,10 +1,12 @@
 //! Worked cases of a table.
-use crate::effect::Effect;
 use crate::genesis::TableError;
 use crate::standing::Standing;
 use crate::table::Table;
 use cs_base::{Config, Key, Memory, Sequence};
-use cs_tx::{Encoded, Name, Object, Session, State, Trace, Tx, Value, Vote, genesis_key};
+use cs_form::Effect;
+use cs_tx::{
+    Encoded, Name, Object, Session, State, Trace, Tx, Value, Vote, genesis_key, output_keys,
+};
 use std::alloc::Global;
 use std::process::Abort;
 use std::test::Fail;
@@ -134,6 +136,76 @@ fn a_full_book_takes_no_vote(rt: HostRuntime) -> Result<(), Fail> {
     assert!(rt; prepared(&rt, alloc, &mut table, &session)? == Vote::Abort);
     let row = table.record(&key).expect(&rt, "a record");
     assert!(rt; row.book.len() == 1024 && matches!(&row.state, State::Active(_)));
+    Ok(())
+}
+
+/// The book of the coin has so many places, and holds no more.
+fn has_places(rt: &impl Abort, table: &Table, key: Key, count: usize) -> Result<(), Fail> {
+    let row = table.record(&key).expect(rt, "a record");
+    assert!(rt; row.book.len() == count && matches!(&row.state, State::Active(_)));
+    Ok(())
+}
+
+#[test]
+fn the_last_place_of_a_book_goes_to_an_abort(rt: HostRuntime) -> Result<(), Fail> {
+    let alloc = rt.alloc();
+    let (key, mut table) = one_coin(&rt, alloc)?;
+    for number in 0..1023 {
+        let wrong = split(alloc, name_of(&rt, key), 11, number)?;
+        assert!(rt; prepared(&rt, alloc, &mut table, &wrong)? == Vote::Abort);
+    }
+    let right = split(alloc, name_of(&rt, key), 10, 0)?;
+    assert!(rt; prepared(&rt, alloc, &mut table, &right)? == Vote::Commit);
+    assert!(rt; decided(&rt, alloc, &mut table, &right, Vote::Abort)? == Effect::Aborted);
+    has_places(&rt, &table, key, 1024)?;
+    let new = split(alloc, name_of(&rt, key), 10, 1)?;
+    assert!(rt; prepared(&rt, alloc, &mut table, &new)? == Vote::Abort);
+    has_places(&rt, &table, key, 1024)
+}
+
+#[test]
+fn a_second_number_finds_the_coin_used_up(rt: HostRuntime) -> Result<(), Fail> {
+    let alloc = rt.alloc();
+    let (key, mut table) = one_coin(&rt, alloc)?;
+    let first = split(alloc, name_of(&rt, key), 10, 1)?;
+    let second = split(alloc, name_of(&rt, key), 10, 2)?;
+    assert!(rt; prepared(&rt, alloc, &mut table, &first)? == Vote::Commit);
+    assert!(rt; decided(&rt, alloc, &mut table, &first, Vote::Commit)? == Effect::Accepted);
+    assert!(rt; prepared(&rt, alloc, &mut table, &second)? == Vote::Abort);
+    assert!(rt; standing(&rt, alloc, &table, &second)? == Standing::Aborted);
+    let row = table.record(&key).expect(&rt, "a record");
+    assert!(rt; row.book.is_empty());
+    Ok(())
+}
+
+/// The name of the first output of a session.
+fn first_output(rt: &impl Abort, alloc: Global, session: &Session) -> Result<[u8; 32], Fail> {
+    assert!(rt; session.tx.fits());
+    let keys = output_keys(alloc, &session.tx)?;
+    match keys.as_slice() {
+        [keys, ..] => match keys.as_slice() {
+            [key, ..] => Ok(name_of(rt, *key)),
+            [] => panic!(rt; "no output"),
+        },
+        [] => panic!(rt; "no trace"),
+    }
+}
+
+#[test]
+fn an_abort_is_kept_when_the_coin_comes(rt: HostRuntime) -> Result<(), Fail> {
+    let alloc = rt.alloc();
+    let (key, mut table) = one_coin(&rt, alloc)?;
+    let first = split(alloc, name_of(&rt, key), 10, 1)?;
+    let made = first_output(&rt, alloc, &first)?;
+    let early = split(alloc, made, 4, 1)?;
+    let late = split(alloc, made, 4, 2)?;
+    assert!(rt; prepared(&rt, alloc, &mut table, &early)? == Vote::Abort);
+    assert!(rt; prepared(&rt, alloc, &mut table, &first)? == Vote::Commit);
+    assert!(rt; decided(&rt, alloc, &mut table, &first, Vote::Commit)? == Effect::Accepted);
+    assert!(rt; prepared(&rt, alloc, &mut table, &early)? == Vote::Abort);
+    assert!(rt; prepared(&rt, alloc, &mut table, &late)? == Vote::Commit);
+    assert!(rt; decided(&rt, alloc, &mut table, &late, Vote::Commit)? == Effect::Accepted);
+    assert!(rt; prepared(&rt, alloc, &mut table, &early)? == Vote::Abort);
     Ok(())
 }
 

@@ -9,4 +9,4 @@ pub put-requires-clause-gone : goal.put-requires-clause-gone
 put-requires-clause-gone c = gone c.args.self.now c.take-row.new.self (name_of c.args.key.now) c.take-row.ensures.left
 
 pub returns : goal.returns
-returns c = becomes_again c.args.self.now c.take-row.new.self c.put.new.self (appeared_record (object_encoding c.args.object)) (name_of c.args.key.now) (seen_record c.appear.new.self) c.take-row.ensures.left c.in_ok-put.ensures (c.appear.ensures.now ∙ ap (appeared_record (object_encoding c.args.object)) c.take-row.ensures.row)
+returns c = becomes_again c.args.self.now c.take-row.new.self c.put.new.self (appeared_record (object_encoding c.args.object)) (name_of c.args.key.now) (seen_record c.appear.new.row) c.take-row.ensures.left c.in_ok-put.ensures (c.appear.ensures.now ∙ ap (appeared_record (object_encoding c.args.object)) c.take-row.ensures.row)

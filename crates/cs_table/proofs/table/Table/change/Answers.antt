@@ -8,4 +8,4 @@ pub put-requires-clause-gone : goal.put-requires-clause-gone
 put-requires-clause-gone c = gone c.args.self.now c.take-row.new.self (name_of c.args.key.now) c.take-row.ensures.left
 
 pub returns : goal.returns
-returns c = becomes_again c.args.self.now c.take-row.new.self c.put.new.self (changed_record c.args.change) (name_of c.args.key.now) (seen_record c.change.new.self) c.take-row.ensures.left c.in_ok-put.ensures (c.change.ensures.now ∙ ap (changed_record c.args.change) c.take-row.ensures.row)
+returns c = becomes_again c.args.self.now c.take-row.new.self c.put.new.self (changed_record c.args.change) (name_of c.args.key.now) (seen_record c.change.new.row) c.take-row.ensures.left c.in_ok-put.ensures (c.change.ensures.now ∙ ap (changed_record c.args.change) c.take-row.ensures.row)

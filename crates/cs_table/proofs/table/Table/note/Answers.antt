@@ -8,4 +8,4 @@ pub put-requires-clause-gone : goal.put-requires-clause-gone
 put-requires-clause-gone c = gone c.args.self.now c.take-row.new.self (name_of c.args.key.now) c.take-row.ensures.left
 
 pub returns : goal.returns
-returns c = becomes_again c.args.self.now c.take-row.new.self c.put.new.self (noted_record c.args.session (vote_of c.args.vote)) (name_of c.args.key.now) (seen_record c.note.new.self) c.take-row.ensures.left c.in_ok-put.ensures (c.in_ok-note.ensures.now ∙ ap (noted_record c.args.session (vote_of c.args.vote)) c.take-row.ensures.row)
+returns c = becomes_again c.args.self.now c.take-row.new.self c.put.new.self (noted_record c.args.session (vote_of c.args.vote)) (name_of c.args.key.now) (seen_record c.note.new.row) c.take-row.ensures.left c.in_ok-put.ensures (c.in_ok-note.ensures.now ∙ ap (noted_record c.args.session (vote_of c.args.vote)) c.take-row.ensures.row)

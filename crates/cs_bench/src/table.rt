@@ -1,0 +1,120 @@
+//! Coins of one shard, and sessions that spend them.
+ghost use Rattle.std.specs.Prelude.{All, IfOk, OnOk};
+ghost use Rattle.cs_value.specs.Object.{ObjectFits};
+
+use cs_base::{Config, Key, Memory, Sequence};
+use cs_table::{Table, TableError};
+use cs_tx::{Digest, Encoded, Name, Object, Session, Trace, Tx, Value, Vote, genesis_key};
+use std::alloc::Global;
+
+fn coin(alloc: Global, worth: u32) -> Result<Object, Memory> {
+    let mut values = Sequence::new(alloc);
+    values.push(Value::Int(i64::from(worth)))?;
+    Ok(Object {
+        contract: [7; 32],
+        type_name: Name::from_vec(Vec::from_slice(alloc, b"coin")?),
+        values,
+    })
+}
+
+fn add_coin(alloc: Global, objects: &mut Vec<(Key, Object)>, place: u32) -> Result<(), Memory>
+    requires { All (λ item. ObjectFits item.1) objects.old.items }
+    ensures { OnOk result (All (λ item. ObjectFits item.1) objects.new.items) }
+{
+    let object = coin(alloc, place)?;
+    if !object.fits() {
+        return Ok(());
+    }
+    let key = genesis_key(alloc, place, &object)?;
+    objects.push((key, object))?;
+    Ok(())
+}
+
+fn coins(alloc: Global, count: u32) -> Result<Vec<(Key, Object)>, Memory>
+    ensures { IfOk result (λ objects. All (λ item. ObjectFits item.1) objects.items) }
+{
+    let mut objects = Vec::new(alloc);
+    for place in 0..count {
+        add_coin(alloc, &mut objects, place)?;
+    }
+    Ok(objects)
+}
+
+fn again(alloc: Global, object: &Object) -> Result<Object, Memory> {
+    if object.fits() {
+        object.copy(alloc)
+    } else {
+        coin(alloc, 0)
+    }
+}
+
+/// A session that spends a coin and makes it anew.
+fn session(alloc: Global, name: Digest, object: &Object) -> Result<Session, Memory> {
+    let mut inputs = Sequence::new(alloc);
+    inputs.push((name, again(alloc, object)?))?;
+    let mut outputs = Sequence::new(alloc);
+    outputs.push(again(alloc, object)?)?;
+    let mut traces = Sequence::new(alloc);
+    traces.push(Trace {
+        contract: [7; 32],
+        method: Name::from_vec(Vec::from_slice(alloc, b"transfer")?),
+        inputs,
+        references: Sequence::new(alloc),
+        parameters: Sequence::new(alloc),
+        outputs,
+        returns: Sequence::new(alloc),
+        deps: Sequence::new(alloc),
+    })?;
+    Ok(Session {
+        tx: Tx { traces },
+        number: 1,
+        dummies: Sequence::new(alloc),
+    })
+}
+
+/// Prepares a session so many times, and then decides it.
+fn spend(alloc: Global, table: &mut Table, session: &Session, rounds: u32) -> Result<(), Memory> {
+    for _ in 0..rounds {
+        if session.fits() && table.has_anchor(alloc, session)? {
+            table.prepare(alloc, session)?;
+        }
+    }
+    if session.fits() && table.has_anchor(alloc, session)? {
+        table.decide(alloc, session, Vote::Commit)?;
+    }
+    Ok(())
+}
+
+fn spend_coin(
+    alloc: Global,
+    table: &mut Table,
+    item: &(Key, Object),
+    rounds: u32,
+) -> Result<(), Memory> {
+    if let Key::Object(name) = &item.0 {
+        let session = session(alloc, *name, &item.1)?;
+        spend(alloc, table, &session, rounds)?;
+    }
+    Ok(())
+}
+
+/// Makes the shard, and spends coins that lie at equal distances.
+pub fn run(alloc: Global, count: u32, sessions: u32, rounds: u32) -> Result<(), Memory> {
+    let objects = coins(alloc, count)?;
+    let config = match Config::new(1, 0, 0) {
+        Ok(config) => config,
+        Err(_) => return Ok(()),
+    };
+    let mut table = match Table::genesis(alloc, config, 0, &objects) {
+        Ok(table) => table,
+        Err(TableError::Duplicate(_)) => return Ok(()),
+        Err(TableError::Memory) => return Err(Memory),
+    };
+    let step = (objects.len() / (sessions as usize).max(1)).max(1);
+    for (place, item) in objects.iter().enumerate() {
+        if place % step == 0 {
+            spend_coin(alloc, &mut table, item, rounds)?;
+        }
+    }
+    Ok(())
+}

@@ -1,0 +1,197 @@
+//! Every case of a Prepare, against each state of its keys and each kind of book.
+use crate::change::Change;
+use crate::table::Table;
+use cs_base::{Config, Key, Memory, Sequence};
+use cs_tx::{Digest, Encoded, Name, Object, Session, Trace, Tx, Value, Vote, session_digest};
+use std::alloc::Global;
+use std::process::Abort;
+use std::test::Fail;
+
+/// What stands under a key.
+#[derive(Clone, Copy, PartialEq, Eq)]
+enum Holds {
+    Nothing,
+    TheCoin,
+    AnotherCoin,
+    LockedByIt,
+    LockedByAnother,
+    UsedByIt,
+    UsedByAnother,
+}
+
+const ANCHORS: [Holds; 7] = [
+    Holds::Nothing,
+    Holds::TheCoin,
+    Holds::AnotherCoin,
+    Holds::LockedByIt,
+    Holds::LockedByAnother,
+    Holds::UsedByIt,
+    Holds::UsedByAnother,
+];
+
+const OTHERS: [Holds; 4] = [
+    Holds::Nothing,
+    Holds::TheCoin,
+    Holds::AnotherCoin,
+    Holds::LockedByAnother,
+];
+
+/// What is in the book of the anchor.
+#[derive(Clone, Copy, PartialEq, Eq)]
+enum Book {
+    Empty,
+    ItsAbort,
+    ItsCommit,
+    Worn,
+}
+
+const BOOKS: [Book; 4] = [Book::Empty, Book::ItsAbort, Book::ItsCommit, Book::Worn];
+
+const ANCHOR: Digest = [1; 32];
+
+const INPUT: Digest = [2; 32];
+
+const REFERENCE: Digest = [3; 32];
+
+const ANOTHER: Digest = [4; 32];
+
+fn coin(alloc: Global, worth: i64) -> Result<Object, Memory> {
+    let text = Vec::from_slice(alloc, b"coin")?;
+    let mut values = Sequence::new(alloc);
+    values.push(Value::Int(worth))?;
+    Ok(Object {
+        contract: [7; 32],
+        type_name: Name::from_vec(text),
+        values,
+    })
+}
+
+/// A session that uses up two coins of 5 and reads a third.
+fn session(alloc: Global) -> Result<Session, Memory> {
+    let mut inputs = Sequence::new(alloc);
+    inputs.push((ANCHOR, coin(alloc, 5)?))?;
+    inputs.push((INPUT, coin(alloc, 5)?))?;
+    let mut references = Sequence::new(alloc);
+    references.push((REFERENCE, coin(alloc, 5)?))?;
+    let mut traces = Sequence::new(alloc);
+    traces.push(Trace {
+        contract: [7; 32],
+        method: Name::from_vec(Vec::from_slice(alloc, b"transfer")?),
+        inputs,
+        references,
+        parameters: Sequence::new(alloc),
+        outputs: Sequence::new(alloc),
+        returns: Sequence::new(alloc),
+        deps: Sequence::new(alloc),
+    })?;
+    Ok(Session {
+        tx: Tx { traces },
+        number: 1,
+        dummies: Sequence::new(alloc),
+    })
+}
+
+fn put(
+    rt: &impl Abort,
+    alloc: Global,
+    table: &mut Table,
+    name: Digest,
+    holds: Holds,
+    digest: Digest,
+) -> Result<(), Fail> {
+    if holds == Holds::Nothing {
+        return Ok(());
+    }
+    let worth = if holds == Holds::AnotherCoin { 6 } else { 5 };
+    let object = coin(alloc, worth)?;
+    assert!(rt; object.fits());
+    table.appear(alloc, &Key::Object(name), object)?;
+    let change = match holds {
+        Holds::LockedByIt => Change::Lock(digest),
+        Holds::LockedByAnother => Change::Lock(ANOTHER),
+        Holds::UsedByIt => Change::UseUp(digest),
+        Holds::UsedByAnother => Change::UseUp(ANOTHER),
+        Holds::Nothing | Holds::TheCoin | Holds::AnotherCoin => return Ok(()),
+    };
+    table.change(alloc, &Key::Object(name), change)?;
+    Ok(())
+}
+
+fn write_book(alloc: Global, table: &mut Table, book: Book, digest: Digest) -> Result<(), Memory> {
+    let anchor = Key::Object(ANCHOR);
+    match book {
+        Book::Empty => {}
+        Book::ItsAbort => table.note(alloc, &anchor, digest, Vote::Abort)?,
+        Book::ItsCommit => table.note(alloc, &anchor, digest, Vote::Commit)?,
+        Book::Worn => {
+            for _ in 0..1024 {
+                table.note(alloc, &anchor, ANOTHER, Vote::Abort)?;
+            }
+        }
+    }
+    Ok(())
+}
+
+/// The first case that applies: it holds its anchor; it is in the book; another has used up the
+/// anchor; all its keys are free; none of these.
+fn vote_by_cases(anchor: Holds, input: Holds, reference: Holds, book: Book) -> Vote {
+    let free = anchor == Holds::TheCoin && input == Holds::TheCoin && reference == Holds::TheCoin;
+    match (anchor, book) {
+        (Holds::LockedByIt | Holds::UsedByIt, _) | (_, Book::ItsCommit) => Vote::Commit,
+        (_, Book::ItsAbort) | (Holds::UsedByAnother, _) => Vote::Abort,
+        (_, Book::Empty) if free => Vote::Commit,
+        _ => Vote::Abort,
+    }
+}
+
+fn check_case(
+    rt: &impl Abort,
+    alloc: Global,
+    session: &Session,
+    keys: [Holds; 3],
+    book: Book,
+) -> Result<(), Fail> {
+    assert!(rt; session.fits());
+    let digest = session_digest(alloc, session)?;
+    let config = Config::new(1, 0, 0).expect(rt, "a configuration");
+    let mut table = Table::genesis(alloc, config, 0, &[])?;
+    put(rt, alloc, &mut table, ANCHOR, keys[0], digest)?;
+    put(rt, alloc, &mut table, INPUT, keys[1], digest)?;
+    put(rt, alloc, &mut table, REFERENCE, keys[2], digest)?;
+    write_book(alloc, &mut table, book, digest)?;
+    let anchored = table.has_anchor(alloc, session)?;
+    assert!(rt; anchored);
+    let vote = table.prepare(alloc, session)?;
+    assert!(rt; vote == vote_by_cases(keys[0], keys[1], keys[2], book));
+    // A second Prepare answers the same.
+    assert!(rt; table.has_anchor(alloc, session)?);
+    assert!(rt; table.prepare(alloc, session)? == vote);
+    Ok(())
+}
+
+fn check_others(
+    rt: &impl Abort,
+    alloc: Global,
+    session: &Session,
+    anchor: Holds,
+    book: Book,
+) -> Result<(), Fail> {
+    for input in &OTHERS {
+        for reference in &OTHERS {
+            check_case(rt, alloc, session, [anchor, *input, *reference], book)?;
+        }
+    }
+    Ok(())
+}
+
+#[test]
+fn each_case_of_a_prepare(rt: HostRuntime) -> Result<(), Fail> {
+    let alloc = rt.alloc();
+    let session = session(alloc)?;
+    for anchor in &ANCHORS {
+        for book in &BOOKS {
+            check_others(&rt, alloc, &session, *anchor, *book)?;
+        }
+    }
+    Ok(())
+}
