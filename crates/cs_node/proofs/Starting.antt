@@ -7,7 +7,7 @@ use Rattle.cs_base.specs.declared.key.Key.{Key}
 use Rattle.cs_base.specs.declared.key.Key.TheVariants as key
 use Rattle.cs_value.specs.declared.object.Object.{Object}
 use Rattle.cs_value.specs.Object.{ObjectFits, object_encoding}
-use Rattle.cs_tx.specs.declared.transaction.Tx.{Tx}
+use Rattle.cs_form.specs.declared.transaction.Tx.{Tx}
 use Rattle.cs_tx.specs.Digest.{name_of_genesis}
 use Rattle.cs_order.specs.Deeds.{Member, Machine}
 use Rattle.cs_ledger.specs.Ledger.{Item}
@@ -16,7 +16,7 @@ use Rattle.cs_ledger.specs.Table.{Table, start}
 use Rattle.cs_trail.specs.Site.{View, start_view}
 use Rattle.cs_trail.specs.Deployment.{genesis_from, rules_of, site_of}
 use Rattle.cs_table.specs.Seen.{Stored, seen}
-use Rattle.cs_table.specs.Sessions.{item_of}
+use Rattle.cs_tx.specs.Sessions.{item_of}
 use Rattle.cs_table.specs.Genesis.{keyed_of, genesis_rules}
 use Rattle.cs_sbac.specs.Held.{Held, deployed}
 use Rattle.cs_node.specs.declared.nodes.Core.{Core}

@@ -1,7 +1,7 @@
 -- What the tests on a submitted session come to.
 use Rattle.std.proofs.Common.{◌≡◌, ℕ, Bool, true, false, not, List, [], ◌∷◌, ◌++◌, Option, Some, None, is_some, refl, ap, sym, ◌∙◌, subst, append-nil, if◌then◌else◌}
 use Rattle.cs_base.specs.declared.node_id.NodeId.{NodeId}
-use Rattle.cs_tx.specs.declared.session.Session.{Session}
+use Rattle.cs_form.specs.declared.session.Session.{Session}
 use Rattle.cs_trail.specs.declared.cause.Cause.{Cause}
 use Rattle.cs_trail.specs.declared.cause.Cause.TheVariants.{Malformed, Repeat, Denied, Full}
 use Rattle.cs_trail.specs.Setup.{Setup, digest_of, is_fit, is_approved}

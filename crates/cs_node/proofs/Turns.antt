@@ -7,7 +7,7 @@ use Rattle.cs_order.specs.declared.answers.May.{May}
 use Rattle.cs_order.specs.declared.answers.May.TheVariants.{No, Free, Only}
 use Rattle.cs_order.specs.Lists.{IsIn}
 use Rattle.cs_order.specs.Deeds.{Deed, Advanced, Echoed, Proposing, Member, did, chosen_in}
-use Rattle.cs_tx.specs.declared.entry.Entry.{Entry}
+use Rattle.cs_form.specs.declared.entry.Entry.{Entry}
 use Rattle.cs_trail.specs.Bench.{Bench}
 use Rattle.cs_trail.specs.Signs.{Sign, bench_after, execution_signs}
 use Rattle.cs_trail.specs.Site.{Mark, Site, View, view_after, plain, signs_of}

@@ -1,7 +1,7 @@
 -- What a contract sees of a core: the view for which it stands.
 use Rattle.std.specs.Prelude.{◌≡◌, Bool, List}
 use Rattle.cs_value.specs.declared.object.Object.{Object}
-use Rattle.cs_tx.specs.declared.transaction.Tx.{Tx}
+use Rattle.cs_form.specs.declared.transaction.Tx.{Tx}
 use Rattle.cs_order.specs.Deeds.{Member, Machine}
 use Rattle.cs_trail.specs.Setup.{Setup}
 use Rattle.cs_trail.specs.Site.{Site, View}

@@ -1,12 +1,12 @@
 -- What the marks of an event tell.
 use Rattle.std.specs.Prelude.{◌≡◌, List, [], ◌∷◌, ◌++◌}
-use Rattle.cs_tx.specs.Session.{EntryFits}
-use Rattle.cs_tx.specs.declared.entry.Entry.{Entry}
+use Rattle.cs_form.specs.Session.{EntryFits}
+use Rattle.cs_form.specs.declared.entry.Entry.{Entry}
 use Rattle.cs_ledger.specs.Table as Shard
 use Rattle.cs_trail.specs.Setup.{vote_from}
 use Rattle.cs_trail.specs.Signs.{Sign, Dropped, Took, Entered, Did}
-use Rattle.cs_table.specs.declared.effect.Effect.{Effect}
-use Rattle.cs_table.specs.declared.effect.Effect.TheVariants.{Voted, Accepted, Aborted, Skipped, Void}
+use Rattle.cs_form.specs.declared.effect.Effect.{Effect}
+use Rattle.cs_form.specs.declared.effect.Effect.TheVariants.{Voted, Accepted, Aborted, Skipped, Void}
 use Rattle.cs_node.specs.declared.made.Note.{Note}
 use Rattle.cs_node.specs.declared.made.Note.TheVariants as note
 use Rattle.cs_node.specs.declared.made.Made.{Made}

@@ -1,7 +1,7 @@
 //! Execution of what was chosen.
 ghost use Rattle.std.specs.Prelude.{◌≡◌, OnOk, List, Bool};
 ghost use Rattle.cs_value.specs.declared.object.Object.{Object};
-ghost use Rattle.cs_tx.specs.declared.transaction.Tx.{Tx};
+ghost use Rattle.cs_form.specs.declared.transaction.Tx.{Tx};
 ghost use Rattle.cs_trail.specs.Signs.{execution_signs};
 ghost use Rattle.cs_sbac.specs.Held.{Held, bench_of, deployed};
 ghost use Rattle.cs_node.specs.Notes.{NotesFit};

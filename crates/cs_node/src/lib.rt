@@ -6,6 +6,8 @@ mod made;
 mod nodes;
 mod proposals;
 mod submits;
+#[cfg(test)]
+mod tests;
 
 pub use cs_sbac::Effect;
 pub use made::{Made, Note};

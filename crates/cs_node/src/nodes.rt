@@ -2,7 +2,7 @@
 ghost use Rattle.std.specs.Prelude.{◌≡◌, ◌<◌, IfOk, OnOk, List, true};
 ghost use Rattle.cs_base.specs.NodeId.{is_node};
 ghost use Rattle.cs_value.specs.declared.object.Object.{Object as AnyObject};
-ghost use Rattle.cs_tx.specs.Session.{EntryFits};
+ghost use Rattle.cs_form.specs.Session.{EntryFits};
 ghost use Rattle.cs_order.specs.declared.answers.May.TheVariants.{Free, Only};
 ghost use Rattle.cs_order.specs.Deeds.{Member};
 ghost use Rattle.cs_trail.specs.Setup.{Setup};

@@ -1,7 +1,7 @@
 //! Sessions that clients submit.
 ghost use Rattle.std.specs.Prelude.{◌≡◌, OnOk, List};
 ghost use Rattle.cs_value.specs.declared.object.Object.{Object};
-ghost use Rattle.cs_tx.specs.Session.{SessionFits};
+ghost use Rattle.cs_form.specs.Session.{SessionFits};
 ghost use Rattle.cs_trail.specs.Signs.{submit_signs};
 ghost use Rattle.cs_sbac.specs.Held.{Held, bench_of, deployed};
 ghost use Rattle.cs_node.specs.Notes.{NotesFit};

@@ -8,8 +8,8 @@ use Rattle.cs_base.specs.declared.key.Key.TheVariants as key
 use Rattle.cs_base.specs.declared.node_id.NodeId.{NodeId}
 use Rattle.cs_value.specs.declared.object.Object.{Object}
 use Rattle.cs_value.specs.Object.{ObjectFits}
-use Rattle.cs_tx.specs.declared.transaction.Tx.{Tx}
-use Rattle.cs_tx.specs.declared.session.Session.{Session}
+use Rattle.cs_form.specs.declared.transaction.Tx.{Tx}
+use Rattle.cs_form.specs.declared.session.Session.{Session}
 use Rattle.cs_tx.specs.Digest.{name_of_genesis}
 use Rattle.cs_tx.specs.Sessions.{session_of}
 use Rattle.cs_tx.specs.Uses as Uses

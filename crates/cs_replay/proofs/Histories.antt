@@ -5,10 +5,11 @@ use Rattle.std.specs.List.{list_all, list_any}
 use Rattle.std.proofs.lemmas.List.{map-append, get_or-set_same, get_or-set_other}
 use Rattle.std.proofs.lemmas.List.Folds.{list_any-append}
 use Rattle.std.proofs.lemmas.Slice.Eq.{bytes_eq-Decides}
-use Rattle.cs_tx.specs.declared.session.Session.{Session}
-use Rattle.cs_tx.specs.declared.vote.Vote.{Vote}
-use Rattle.cs_tx.specs.declared.entry.Entry.{Entry}
-use Rattle.cs_tx.specs.declared.entry.Entry.TheVariants.{Prepare, Decide}
+use Rattle.cs_base.specs.declared.config.Config.{Config}
+use Rattle.cs_form.specs.declared.session.Session.{Session}
+use Rattle.cs_form.specs.declared.vote.Vote.{Vote}
+use Rattle.cs_form.specs.declared.entry.Entry.{Entry}
+use Rattle.cs_form.specs.declared.entry.Entry.TheVariants.{Prepare, Decide}
 use Rattle.cs_tx.specs.Digest.{digest_of_tx, digest_of_session}
 use Rattle.cs_tx.specs.Uses.{concerned_shards}
 use Rattle.cs_ledger.specs.Ledger.{Bytes, Transaction}
@@ -18,7 +19,12 @@ use Rattle.cs_trail.specs.Setup.{Setup, digest_of}
 use Rattle.cs_trail.specs.Signs.{Did}
 use Rattle.cs_trail.specs.World.{Execution, slots_of, first_of, recorded, all_recorded, told}
 use Rattle.cs_replay.specs.Digests.{digests_of}
-use Rattle.cs_replay.specs.Kept.{Kept, Keeps, is_commit, with_commit, with_told, all_commit, voted, entered_slot, executed, kept_after}
+use Rattle.cs_replay.specs.Kept.{Kept, Keeps, Deploys, IsBeforeFirst, is_commit, with_commit, with_told, all_commit, voted, entered_slot, executed, kept_after}
+
+-- ---- before the first execution
+
+pub kept-first : (config : Config) (setup : Setup) (kept : Kept) → kept.config ≡ config → IsBeforeFirst kept → Deploys config setup → Keeps setup [] kept
+kept-first config setup kept is empty deploys = empty setup (subst (λ (c : Config). Deploys c setup) (sym is) deploys)
 
 -- ---- tests
 

@@ -1,5 +1,7 @@
 pub mod Answered
+pub mod Apart
 pub mod Deployed
+pub mod Encoded
 pub mod Histories
 pub mod Notes
 pub mod Outcomes

@@ -7,7 +7,7 @@ use Rattle.std.proofs.lemmas.List.{take_more}
 use Rattle.std.proofs.lemmas.List.Elements.{All-get_or}
 use Rattle.cs_base.specs.Answers.{AppendsFront}
 use Rattle.cs_base.specs.declared.node_id.NodeId.{NodeId}
-use Rattle.cs_tx.specs.declared.transaction.Tx.{Tx}
+use Rattle.cs_form.specs.declared.transaction.Tx.{Tx}
 use Rattle.cs_order.specs.Deeds.{Member, Machine}
 use Rattle.cs_trail.specs.declared.schedule.Event.{Event}
 use Rattle.cs_trail.specs.declared.schedule.Event.TheVariants.{Say}

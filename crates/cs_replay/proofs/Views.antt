@@ -2,7 +2,7 @@
 use Rattle.std.proofs.Common.{◌≡◌, ℕ, zero, suc, ◌<◌, ◌==◌, Bool, true, false, ◌&&◌, cond, List, [], ◌∷◌, ◌++◌, length, get_or, slice_get, slice_set, Some, None, Result, Ok, Err, IfOk, ◌⊎◌, inl, inr, refl, ap, sym, subst, ◌∙◌, arith, rules}
 use Rattle.cs_base.specs.declared.memory.Memory.{Memory}
 use Rattle.cs_base.specs.declared.node_id.NodeId.{NodeId}
-use Rattle.cs_tx.specs.declared.transaction.Tx.{Tx}
+use Rattle.cs_form.specs.declared.transaction.Tx.{Tx}
 use Rattle.cs_order.specs.Deeds.{Member, Machine}
 use Rattle.cs_trail.specs.Setup.{Setup}
 use Rattle.cs_trail.specs.Evidence.{name_eq}

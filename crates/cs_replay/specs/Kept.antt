@@ -2,9 +2,9 @@
 use Rattle.std.specs.Prelude.{◌≡◌, ℕ, ◌+◌, ◌<◌, nat_lt, ◌==◌, ◌&&◌, Bool, List, [], ◌∷◌, ◌++◌, length, slice_index, slice_set, bytes_eq, if◌then◌else◌}
 use Rattle.std.specs.List.{list_all, list_any}
 use Rattle.cs_base.specs.declared.config.Config.{Config}
-use Rattle.cs_tx.specs.declared.session.Session.{Session}
-use Rattle.cs_tx.specs.declared.entry.Entry.{Entry}
-use Rattle.cs_tx.specs.declared.entry.Entry.TheVariants.{Prepare, Decide}
+use Rattle.cs_form.specs.declared.session.Session.{Session}
+use Rattle.cs_form.specs.declared.entry.Entry.{Entry}
+use Rattle.cs_form.specs.declared.entry.Entry.TheVariants.{Prepare, Decide}
 use Rattle.cs_tx.specs.Digest.{digest_of_tx, digest_of_session}
 use Rattle.cs_ledger.specs.Ledger.{Bytes}
 use Rattle.cs_ledger.specs.Table as Shard
@@ -38,6 +38,10 @@ pub record Keeps (setup : Setup) (firsts : List Execution) (kept : Kept) : Type 
   pub slots : (shard : ℕ) → shard < kept.config.shards → slice_index kept.slots shard ≡ slots_of shard firsts
   pub commits : (d : Bytes) (shard : ℕ) → is_commit kept.commits d shard ≡ recorded setup firsts d Shard.Commit shard
   pub told : kept.told ≡ digests_of (told setup firsts)
+
+-- nothing was executed yet
+abbrev pub IsBeforeFirst : Kept → Type 0
+IsBeforeFirst kept = (setup : Setup) → Deploys kept.config setup → Keeps setup [] kept
 
 -- ---- one more execution
 

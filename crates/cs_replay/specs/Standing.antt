@@ -1,10 +1,12 @@
 -- What the variables of the replay's loop stand for.
-use Rattle.std.specs.Prelude.{◌≡◌, ℕ, ◌<◌, Bool, List, length, slice_get, Some}
+use Rattle.std.specs.Prelude.{◌≡◌, ℕ, ◌<◌, Bool, List, [], ◌∷◌, length, slice_get, Some}
 use Rattle.std.specs.List.{All}
 use Rattle.cs_base.specs.declared.config.Config.{Config}
 use Rattle.cs_base.specs.declared.node_id.NodeId.{NodeId}
-use Rattle.cs_tx.specs.declared.transaction.Tx.{Tx}
-use Rattle.cs_order.specs.Deeds.{Member}
+use Rattle.cs_form.specs.declared.transaction.Tx.{Tx}
+use Rattle.cs_form.specs.declared.entry.Entry.{Entry}
+use Rattle.cs_form.specs.Session.{EntryFits}
+use Rattle.cs_order.specs.Deeds.{Member, Machine}
 use Rattle.cs_ledger.specs.Ledger.{Bytes}
 use Rattle.cs_trail.specs.declared.schedule.Event.{Event}
 use Rattle.cs_trail.specs.declared.schedule.Event.TheVariants.{Say}
@@ -13,12 +15,14 @@ use Rattle.cs_trail.specs.Site.{Site, View, Datagram, signs_of}
 use Rattle.cs_trail.specs.Trail.{event_marks}
 use Rattle.cs_trail.specs.World.{Happening, view_of, happens, firsts_of}
 use Rattle.cs_trail.specs.Lines.{sign_lines}
-use Rattle.cs_trail.specs.Play.{Played}
+use Rattle.cs_trail.specs.Play.{Played, unplayed, play}
+use Rattle.cs_trail.specs.Ready.{Executed}
+use Rattle.cs_trail.specs.Deployment.{site_of}
 use Rattle.cs_node.specs.declared.nodes.Core.{Core}
 use Rattle.cs_node.specs.declared.made.Made.{Made}
 use Rattle.cs_node.specs.Notes.{notes_of}
 use Rattle.cs_node.specs.Cores.{StandsFor}
-use Rattle.cs_replay.specs.Kept.{Kept, Keeps}
+use Rattle.cs_replay.specs.Kept.{Kept, Keeps, Deploys}
 
 -- the cores stand for these views
 abbrev pub EachStands : {O J M : Type 0} → (O → Member M → Type 0) → (J → Tx → Bool) → Setup → List (Core O J M) → (ℕ → View M) → Type 0
@@ -64,3 +68,34 @@ pub record Standing {O J M : Type 0} (stands : O → Member M → Type 0) (appro
 -- each event is for one of so many nodes
 abbrev pub HaveNodes : (ℕ → NodeId) → ℕ → List (ℕ × Event) → Type 0
 HaveNodes names count events = All (λ numbered. HasNode names count (addressee numbered.1)) events
+
+-- ---- what a node executes has an encoding
+
+-- each entry that is executed on an input at a node
+abbrev pub InputFits : {M : Type 0} → Site M → NodeId → Bytes → List (Happening M) → Type 0
+InputFits {M} site to bytes world =
+    (entry : Entry) → Executed site.setup to.shard (signs_of (event_marks site (view_of site world to) (Datagram bytes))) entry → EntryFits entry
+
+-- each one that is executed on these events, one after the other
+abbrev pub EventsFit : {M : Type 0} → Site M → List (ℕ × Event) → Played M → Type 0
+EventsFit {M} site [] p = Unit {0}
+EventsFit {M} site (e ∷ events) p =
+    InputFits site (addressee e.1) (body_of e.1) p.world × EventsFit site events (play site e.1 p)
+
+-- under some setup an input can be taken and told: cores and history stand for what was played, and one of them is its node
+pub record CanTake {O J M : Type 0} (stands : O → Member M → Type 0) (approves : J → Tx → Bool) (rules : Machine M) (cores : List (Core O J M)) (history : Kept) (to : NodeId) (bytes : Bytes) : Type 0 where
+  pub setup : Setup
+  pub names : ℕ → NodeId
+  pub played : Played M
+  pub standing : Standing stands approves (site_of setup rules) names cores history played
+  pub node : HasNode names (length cores) to
+  pub fit : InputFits (site_of setup rules) to bytes played.world
+
+-- under some setup these events can be played and told: the cores stand for nodes before their first input
+pub record CanPlay {O J M : Type 0} (stands : O → Member M → Type 0) (approves : J → Tx → Bool) (rules : Machine M) (cores : List (Core O J M)) (config : Config) (events : List (ℕ × Event)) : Type 0 where
+  pub setup : Setup
+  pub names : ℕ → NodeId
+  pub deploys : Deploys config setup
+  pub all : AllStand stands approves (site_of setup rules) names cores []
+  pub nodes : HaveNodes names (length cores) events
+  pub fit : EventsFit (site_of setup rules) events unplayed

@@ -3,6 +3,7 @@ use Rattle.std.specs.Prelude.{ℕ, List, [], ◌∷◌}
 use Rattle.std.specs.List.{flat_map}
 use Rattle.cs_base.specs.declared.node_id.NodeId.{NodeId}
 use Rattle.cs_tx.specs.Digest.{digest_of_session}
+use Rattle.cs_form.specs.Session.{EntryFits}
 use Rattle.cs_ledger.specs.Ledger.{Bytes}
 use Rattle.cs_trail.specs.Setup.{session_in}
 use Rattle.cs_trail.specs.Signs.{Did}
@@ -11,6 +12,11 @@ use Rattle.cs_trail.specs.Lines.{slot_line}
 use Rattle.cs_table.specs.Effects.{effect_of}
 use Rattle.cs_node.specs.declared.made.Note.{Note}
 use Rattle.cs_node.specs.declared.made.Note.TheVariants as note
+
+-- what can be told: an entry that was executed has an encoding, and so a digest
+abbrev pub IsTellable : Note → Type 0
+IsTellable (note.Dropped cause) = Unit {0}
+IsTellable (note.Executed slot entry effect) = EntryFits entry
 
 -- the line of an execution; a dropped input has none
 abbrev pub note_text : NodeId → Note → Bytes

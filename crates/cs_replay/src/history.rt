@@ -1,13 +1,13 @@
 //! The history, kept from the executions as they come.
-ghost use Rattle.std.specs.Prelude.{◌≡◌, ◌<◌, ◌==◌, IfOk, OnOk, List, replicate, []};
-ghost use Rattle.cs_tx.specs.Session.{SessionFits, EntryFits};
+ghost use Rattle.std.specs.Prelude.{◌≡◌, ◌<◌, ◌==◌, IfOk, OnOk, List, replicate};
+ghost use Rattle.cs_form.specs.Session.{SessionFits, EntryFits};
 ghost use Rattle.cs_trail.specs.Setup.{Setup};
 ghost use Rattle.cs_trail.specs.World.{Execution, first_of};
 ghost use Rattle.cs_trail.specs.Signs.{Did};
 ghost use Rattle.cs_table.specs.Effects.{effect_of};
 ghost use Rattle.std.specs.List.{list_all};
 ghost use Rattle.cs_tx.specs.Digest.{digest_of_session};
-ghost use Rattle.cs_replay.specs.Kept.{Deploys, Keeps, is_commit, all_commit, voted, told_next, kept_after};
+ghost use Rattle.cs_replay.specs.Kept.{Keeps, IsBeforeFirst, is_commit, all_commit, voted, told_next, kept_after};
 
 use cs_base::{Config, Memory};
 use cs_node::Effect;
@@ -21,8 +21,8 @@ use std::marker::Model;
 #[derive(Drop)]
 pub struct History {
     config: Config,
-    // How many slots of each shard were executed.
-    slots: Vec<u64>,
+    // How many slots of each shard were executed. The number of a slot is below 2^64.
+    slots: Vec<u128>,
     // The shards that voted commit, each with the session's digest.
     commits: IndexSet<(u16, Digest)>,
     // The transactions on which every concerned shard has voted commit, in that order.
@@ -43,7 +43,7 @@ impl Model for History {
 impl History {
     /// Before the first execution.
     pub fn new(alloc: Global, config: Config) -> Result<History, Memory>
-        ensures empty { IfOk result (λ history. (setup : Setup) → Deploys config setup → Keeps setup [] history) }
+        ensures empty { IfOk result IsBeforeFirst }
         ensures config { IfOk result (λ history. history.config ≡ config) }
     {
         Ok(History {
@@ -91,14 +91,10 @@ impl History {
         ensures { OnOk result (self.new ≡ kept_after self.old shard slot entry.now (effect_of effect)) }
     {
         let known = self.slots[shard as usize];
-        if slot < known {
+        if u128::from(slot) < known {
             return Ok(());
         }
-        // No log is as long as its slots can be numbered.
-        let Some(next) = known.checked_add(1) else {
-            return Err(Memory);
-        };
-        self.slots[shard as usize] = next;
+        self.slots[shard as usize] = known + 1;
         match entry {
             Entry::Prepare(session) => self.prepare(alloc, shard, session, effect),
             Entry::Decide(_, _) => Ok(()),

@@ -9,7 +9,8 @@ ghost use Rattle.cs_trail.specs.Setup.{Setup};
 ghost use Rattle.cs_trail.specs.Site.{Datagram};
 ghost use Rattle.cs_trail.specs.Play.{Played, unplayed, plays, play, play_all};
 ghost use Rattle.cs_trail.specs.Deployment.{site_of};
-ghost use Rattle.cs_replay.specs.Standing.{HasNode, HaveNodes, Standing, addressee, body_of, IsFor, input_text, event_text};
+ghost use Rattle.cs_replay.specs.Kept.{IsBeforeFirst};
+ghost use Rattle.cs_replay.specs.Standing.{HasNode, HaveNodes, Standing, CanTake, CanPlay, addressee, body_of, IsFor, input_text, event_text};
 
 use crate::cores::deliver;
 use crate::history::History;
@@ -30,7 +31,9 @@ pub fn play_events<O: Order, J: Judge + Drop, K: Sink>(
     events: &[(u64, Event)],
     output: &mut K,
 ) -> Result<(), WriteError>
-    requires { All (λ numbered. IsFor history.old.config numbered.1) events.now }
+    requires shards { All (λ numbered. IsFor history.old.config numbered.1) events.now }
+    requires empty { IsBeforeFirst history.old }
+    requires start { CanPlay O.stands J.is_approved O.rules cores.old.items history.old.config events.now }
     ensures done { (setup : Setup) (names : ℕ → NodeId)
         → Standing O.stands J.is_approved (site_of setup O.rules) names cores.old.items history.old unplayed → HaveNodes names (length cores.old.items) events.now
         → OnOk result (Standing O.stands J.is_approved (site_of setup O.rules) names cores.new.items history.new (play_all (site_of setup O.rules) events.now unplayed)) }
@@ -56,7 +59,8 @@ fn play_event<O: Order, J: Judge + Drop, K: Sink>(
     event: &Event,
     output: &mut K,
 ) -> Result<(), WriteError>
-    requires { IsFor history.old.config event.now }
+    requires shard { IsFor history.old.config event.now }
+    requires takes { CanTake O.stands J.is_approved O.rules cores.old.items history.old (addressee event.now) (body_of event.now) }
     ensures done { (setup : Setup) (names : ℕ → NodeId) (p : Played O.Message)
         → Standing O.stands J.is_approved (site_of setup O.rules) names cores.old.items history.old p → HasNode names (length cores.old.items) (addressee event.now)
         → OnOk result (Standing O.stands J.is_approved (site_of setup O.rules) names cores.new.items history.new (play (site_of setup O.rules) event.now p)) }
@@ -99,7 +103,8 @@ fn play_input<O: Order, J: Judge + Drop, K: Sink>(
     bytes: &[u8],
     output: &mut K,
 ) -> Result<(), WriteError>
-    requires { to.shard < history.old.config.shards }
+    requires shard { to.shard < history.old.config.shards }
+    requires takes { CanTake O.stands J.is_approved O.rules cores.old.items history.old to bytes.now }
     ensures done { (setup : Setup) (names : ℕ → NodeId) (p : Played O.Message)
         → Standing O.stands J.is_approved (site_of setup O.rules) names cores.old.items history.old p → HasNode names (length cores.old.items) to
         → OnOk result (Standing O.stands J.is_approved (site_of setup O.rules) names cores.new.items history.new (plays (site_of setup O.rules) to (Datagram bytes.now) p)) }

@@ -12,12 +12,13 @@ ghost use Rattle.cs_sched.specs.Playable.{IsPlayable};
 ghost use Rattle.cs_replay.specs.Site.{site_of_schedule};
 ghost use Rattle.cs_replay.specs.Digests.{history_lines};
 ghost use Rattle.cs_replay.specs.Kept.{Deploys};
-ghost use Rattle.cs_replay.specs.Standing.{AllStand, IsFor, HaveNodes};
+ghost use Rattle.cs_replay.specs.Standing.{AllStand, CanPlay, IsFor, HaveNodes};
 
 use crate::history::History;
 use crate::lines::history_text;
 use crate::play::play_events;
 use crate::starting::start_nodes;
+use crate::theorem::executions_fit;
 use cs_base::{Sink, WriteError, print};
 use cs_node::Core;
 use cs_order::Order;
@@ -33,6 +34,7 @@ pub fn replay<K: Sink>(alloc: Global, schedule: &Schedule, output: &mut K) -> Re
     ensures part { OnErr result (AppendsFront (K.written output.old) (K.written output.new) (lines (site_of_schedule schedule.now) schedule.now.events)) }
     ensures cause { HasCause (K.faults output.old) (K.faults output.new) (IsErrOf result WriteError.Failed) }
 {
+    executions_fit();
     match start_nodes(alloc, schedule) {
         Ok(cores) => play_schedule(alloc, cores, schedule, output),
         Err(_) => Err(WriteError::Memory),
@@ -46,7 +48,8 @@ fn play_schedule<O: Order, J: Judge + Drop, K: Sink>(
     schedule: &Schedule,
     output: &mut K,
 ) -> Result<(), WriteError>
-    requires { All (λ numbered. IsFor schedule.now.config numbered.1) schedule.now.events }
+    requires shards { All (λ numbered. IsFor schedule.now.config numbered.1) schedule.now.events }
+    requires start { CanPlay O.stands J.is_approved O.rules cores.items schedule.now.config schedule.now.events }
     ensures done { (setup : Setup) (names : ℕ → NodeId)
         → Deploys schedule.now.config setup → AllStand O.stands J.is_approved (site_of setup O.rules) names cores.items [] → HaveNodes names (length cores.items) schedule.now.events
         → OnOk result (Appends (K.written output.old) (K.written output.new) (lines (site_of setup O.rules) schedule.now.events)) }

@@ -8,7 +8,7 @@ ghost use Rattle.cs_replay.specs.Site.{site_of_schedule};
 ghost use Rattle.cs_replay.specs.Standing.{AllStand};
 
 use cs_base::{Key, Memory, NodeId};
-use cs_node::Core;
+use cs_node::{Core, StartError};
 use cs_order::{Order, Solo};
 use cs_trail::Schedule;
 use cs_tx::{Encoded, Judge, Object, TokenJudge, genesis_key};
@@ -35,8 +35,9 @@ pub fn start_nodes(
         order,
     ) {
         Ok(core) => core,
-        // The keys of a schedule's objects differ, so this is a want of memory.
-        Err(_) => return Err(Memory),
+        // The keys of a schedule's objects differ.
+        Err(StartError::Duplicate(_)) => unreachable!(),
+        Err(StartError::Memory) => return Err(Memory),
     };
     let mut cores = Vec::new(alloc);
     cores.push(core)?;

@@ -6,8 +6,8 @@ use Rattle.cs_base.specs.declared.config.Config.{Config}
 use Rattle.cs_base.specs.declared.node_id.NodeId.{NodeId}
 use Rattle.cs_base.specs.NodeId.{is_node}
 use Rattle.cs_value.specs.declared.object.Object.{Object}
-use Rattle.cs_tx.specs.declared.transaction.Tx.{Tx}
-use Rattle.cs_tx.specs.declared.session.Session.{Session}
+use Rattle.cs_form.specs.declared.transaction.Tx.{Tx}
+use Rattle.cs_form.specs.declared.session.Session.{Session}
 use Rattle.cs_tx.specs.Uses as Uses
 use Rattle.cs_tx.proofs.ShardsSeen.{concerns-session_of}
 use Rattle.cs_trail.specs.Setup as Setup

@@ -1,7 +1,7 @@
 -- Each change of a pool keeps it within all limits.
 use Rattle.std.proofs.Common.{◌≡◌, ℕ, Bool, true, false, cond, List, [], ◌∷◌, ◌++◌, Option, Some, None, refl, sym, subst}
 use Rattle.std.specs.Map.{lookup, remove_entry, set_value}
-use Rattle.cs_tx.specs.Session.{SessionFits}
+use Rattle.cs_form.specs.Session.{SessionFits}
 use Rattle.cs_ledger.specs.Ledger.{Bytes}
 use Rattle.cs_trail.specs.declared.pooled.Pooled.{Pooled}
 use Rattle.cs_trail.specs.Pool.{Pool}

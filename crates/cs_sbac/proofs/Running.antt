@@ -5,20 +5,20 @@ use Rattle.cs_base.specs.declared.config.Config.{Config}
 use Rattle.cs_base.specs.declared.key.Key as ours
 use Rattle.cs_base.specs.declared.node_id.NodeId.{NodeId}
 use Rattle.cs_value.specs.declared.object.Object.{Object}
-use Rattle.cs_tx.specs.declared.transaction.Tx.{Tx}
-use Rattle.cs_tx.specs.declared.session.Session.{Session}
-use Rattle.cs_tx.specs.declared.vote.Vote.{Vote}
-use Rattle.cs_tx.specs.declared.vote.Vote.TheVariants.{Commit, Abort}
-use Rattle.cs_tx.specs.declared.entry.Entry.{Entry}
-use Rattle.cs_tx.specs.declared.entry.Entry.TheVariants.{Prepare, Decide}
+use Rattle.cs_form.specs.declared.transaction.Tx.{Tx}
+use Rattle.cs_form.specs.declared.session.Session.{Session}
+use Rattle.cs_form.specs.declared.vote.Vote.{Vote}
+use Rattle.cs_form.specs.declared.vote.Vote.TheVariants.{Commit, Abort}
+use Rattle.cs_form.specs.declared.entry.Entry.{Entry}
+use Rattle.cs_form.specs.declared.entry.Entry.TheVariants.{Prepare, Decide}
 use Rattle.cs_tx.specs.Uses.{anchor_of}
 use Rattle.cs_tx.specs.Sessions.{session_of, key_seen}
 use Rattle.cs_tx.proofs.AnchorSeen.{anchor-session_of}
 use Rattle.cs_ledger.specs.Ledger.{Bytes}
 use Rattle.cs_ledger.specs.Session as Seen
 use Rattle.cs_ledger.specs.Table as Shard
-use Rattle.cs_table.specs.declared.effect.Effect.{Effect}
-use Rattle.cs_table.specs.declared.effect.Effect.TheVariants.{Voted, Accepted, Aborted, Skipped, Void}
+use Rattle.cs_form.specs.declared.effect.Effect.{Effect}
+use Rattle.cs_form.specs.declared.effect.Effect.TheVariants.{Voted, Accepted, Aborted, Skipped, Void}
 use Rattle.cs_table.specs.Seen.{Stored, seen, vote_of}
 use Rattle.cs_table.specs.Pieces.{rules_in}
 use Rattle.cs_table.specs.Changes.{Becomes}

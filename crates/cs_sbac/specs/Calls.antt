@@ -4,13 +4,13 @@ use Rattle.cs_base.specs.declared.node_id.NodeId.{NodeId}
 use Rattle.cs_ledger.specs.Ledger.{Bytes}
 use Rattle.cs_ledger.specs.Session.{Key}
 use Rattle.cs_ledger.specs.Table as Shard
-use Rattle.cs_tx.specs.declared.session.Session.{Session}
-use Rattle.cs_tx.specs.declared.entry.Entry.{Entry}
-use Rattle.cs_tx.specs.declared.entry.Entry.TheVariants.{Prepare, Decide}
-use Rattle.cs_tx.specs.declared.transaction.Tx.{Tx}
+use Rattle.cs_form.specs.declared.session.Session.{Session}
+use Rattle.cs_form.specs.declared.entry.Entry.{Entry}
+use Rattle.cs_form.specs.declared.entry.Entry.TheVariants.{Prepare, Decide}
+use Rattle.cs_form.specs.declared.transaction.Tx.{Tx}
 use Rattle.cs_tx.specs.Sessions.{session_of}
-use Rattle.cs_table.specs.declared.effect.Effect.{Effect}
-use Rattle.cs_table.specs.declared.effect.Effect.TheVariants.{Voted, Accepted, Aborted, Skipped, Void}
+use Rattle.cs_form.specs.declared.effect.Effect.{Effect}
+use Rattle.cs_form.specs.declared.effect.Effect.TheVariants.{Voted, Accepted, Aborted, Skipped, Void}
 use Rattle.cs_table.specs.declared.standing.Standing.{Standing}
 use Rattle.cs_table.specs.declared.standing.Standing.TheVariants as Standings
 use Rattle.cs_table.specs.Seen.{Stored, vote_of}

@@ -1,7 +1,7 @@
 -- What is in a pool is within all limits, so it has an encoding.
 use Rattle.std.specs.Prelude.{List, [], ◌∷◌, Option, Some, None}
-use Rattle.cs_tx.specs.declared.entry.Entry.{Entry}
-use Rattle.cs_tx.specs.Session.{SessionFits, EntryFits}
+use Rattle.cs_form.specs.declared.entry.Entry.{Entry}
+use Rattle.cs_form.specs.Session.{SessionFits, EntryFits}
 use Rattle.cs_trail.specs.declared.pooled.Pooled.{Pooled}
 use Rattle.cs_trail.specs.Pool.{Pool}
 

@@ -1,7 +1,7 @@
 //! The execution of an entry on the table and the pool of a node.
 ghost use Rattle.std.specs.Prelude.{◌≡◌, Bool, true, Some, IsSome, OnOk, IfOk};
-ghost use Rattle.cs_tx.specs.declared.transaction.Tx.{Tx};
-ghost use Rattle.cs_tx.specs.Session.{SessionFits, EntryFits};
+ghost use Rattle.cs_form.specs.declared.transaction.Tx.{Tx};
+ghost use Rattle.cs_form.specs.Session.{SessionFits, EntryFits};
 ghost use Rattle.cs_tx.specs.Sessions.{session_of};
 ghost use Rattle.cs_table.specs.Seen.{vote_of};
 ghost use Rattle.cs_table.specs.Calls.{anchor_in, prepared, decided};

@@ -6,6 +6,8 @@ mod execution;
 mod pool;
 mod sbac;
 mod setting;
+#[cfg(test)]
+mod tests;
 mod votes;
 
 pub use answers::{Counted, Entered, Outcome};

@@ -1,9 +1,9 @@
 //! The pool: sessions under their digests, in the order of entering.
 ghost use Rattle.std.specs.Prelude.{Bool, List, ◌≡◌, ◌++◌, ◌∷◌, [], OnOk, OnErr, IfOk, None, option_copied};
-ghost use Rattle.cs_tx.specs.Session.{SessionFits};
+ghost use Rattle.cs_form.specs.Session.{SessionFits};
 ghost use Rattle.cs_trail.specs.Pool.{found, is_pooled, without, changed, as_locked, with_ballot, waiting_count};
 ghost use Rattle.cs_value.specs.declared.object.Object.{Object};
-ghost use Rattle.cs_tx.specs.declared.transaction.Tx.{Tx};
+ghost use Rattle.cs_form.specs.declared.transaction.Tx.{Tx};
 ghost use Rattle.cs_trail.specs.Setup.{concerned};
 ghost use Rattle.cs_trail.specs.Admission.{due_vote, first_decided, first_waiting, due};
 ghost use Rattle.cs_sbac.specs.Held.{deployed};

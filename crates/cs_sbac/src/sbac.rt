@@ -1,8 +1,8 @@
 //! The table of a node and its pool.
 ghost use Rattle.std.specs.Prelude.{◌≡◌, ◌&&◌, Bool, List, [], None, OnOk, IfOk};
 ghost use Rattle.cs_value.specs.declared.object.Object.{Object};
-ghost use Rattle.cs_tx.specs.declared.transaction.Tx.{Tx};
-ghost use Rattle.cs_tx.specs.Session.{SessionFits, EntryFits};
+ghost use Rattle.cs_form.specs.declared.transaction.Tx.{Tx};
+ghost use Rattle.cs_form.specs.Session.{SessionFits, EntryFits};
 ghost use Rattle.cs_tx.specs.Digest.{digest_of_session};
 ghost use Rattle.cs_trail.specs.Setup.{concerns, concerned, is_fit, is_approved};
 ghost use Rattle.cs_trail.specs.Pool.{found, is_pooled, changed, with_ballot};

@@ -1,7 +1,7 @@
 //! The votes on one session.
 ghost use Rattle.std.specs.Prelude.{◌≡◌, ◌≤◌, Some, None, if◌then◌else◌};
 ghost use Rattle.cs_trail.specs.Evidence.{has_voted, has_ballot, has_support, is_decided};
-ghost use Rattle.cs_tx.specs.declared.vote.Vote.TheVariants.{Commit, Abort};
+ghost use Rattle.cs_form.specs.declared.vote.Vote.TheVariants.{Commit, Abort};
 
 use cs_base::NodeId;
 use cs_trail::Ballot;

@@ -9,15 +9,15 @@ use Rattle.cs_base.specs.declared.config.Config.{Config}
 use Rattle.cs_base.proofs.Forms.{whole-takes, whole-again}
 use Rattle.cs_value.specs.declared.object.Object.{Object}
 use Rattle.cs_value.specs.Object.{object_encoding}
-use Rattle.cs_tx.specs.declared.trace.Trace.{Trace}
-use Rattle.cs_tx.specs.declared.transaction.Tx.{Tx}
-use Rattle.cs_tx.specs.declared.session.Session.{Session}
-use Rattle.cs_tx.specs.declared.entry.Entry.{Entry}
-use Rattle.cs_tx.specs.declared.entry.Entry.TheVariants.{Prepare, Decide}
-use Rattle.cs_tx.specs.Session.{session_encoding, SessionFits, entry_encoding, EntryFits}
+use Rattle.cs_form.specs.declared.trace.Trace.{Trace}
+use Rattle.cs_form.specs.declared.transaction.Tx.{Tx}
+use Rattle.cs_form.specs.declared.session.Session.{Session}
+use Rattle.cs_form.specs.declared.entry.Entry.{Entry}
+use Rattle.cs_form.specs.declared.entry.Entry.TheVariants.{Prepare, Decide}
+use Rattle.cs_form.specs.Session.{session_encoding, SessionFits, entry_encoding, EntryFits}
 use Rattle.cs_tx.specs.Digest.{digest_of_tx}
-use Rattle.cs_tx.specs.Reading.{session_at, entry_at}
-use Rattle.cs_tx.specs.Laws.{session_form, entry_form}
+use Rattle.cs_form.specs.Reading.{session_at, entry_at}
+use Rattle.cs_form.specs.Laws.{session_form, entry_form}
 use Rattle.cs_tx.specs.Sessions.{outputs_written_at, outputs_written, written_of, session_of}
 use Rattle.cs_tx.proofs.Faithful.{are-faithful}
 use Rattle.cs_order.specs.Deeds.{Machine}
@@ -49,7 +49,7 @@ module _ {M : Type 0} (config : Config) (genesis : List Object) (approves : Tx �
   abbrev At : Site M
   At = deployed config genesis approves machine
 
-  known-fits : (world : List (Happening M)) → IsLife At world → AreBytes world → (x : Session) → IsIn x (known_sessions At world) → SessionFits x
+  pub known-fits : (world : List (Happening M)) → IsLife At world → AreBytes world → (x : Session) → IsIn x (known_sessions At world) → SessionFits x
   known-fits [] life bytes x i = absurd i
   known-fits (h ∷ past) life bytes x i =
       elim (in_either x (sessions_given At h.marks) (known_sessions At past) i) [
@@ -60,7 +60,7 @@ module _ {M : Type 0} (config : Config) (genesis : List Object) (approves : Tx �
       read : (input : Input) → InputIsBytes input → IsIn x (given_in (deployed config genesis approves machine) input) → SessionFits x
       read (Datagram bytes) fits j = (whole-takes session_encoding SessionFits session_at session_form bytes x fits (in-listed (whole_at session_at bytes) x j)).0
 
-  entry-fits : (entry : Entry) → SessionFits (session_in entry) → EntryFits entry
+  pub entry-fits : (entry : Entry) → SessionFits (session_in entry) → EntryFits entry
   entry-fits (Prepare x) fits = fits
   entry-fits (Decide vote x) fits = fits
 

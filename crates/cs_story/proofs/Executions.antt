@@ -2,7 +2,7 @@
 use Rattle.std.proofs.Common.{◌≡◌, ℕ, suc, true, false, nat_lt, if◌then◌else◌, List, [], ◌∷◌, ◌++◌, length, inl, inr, refl, ap, sym, ◌∙◌, subst, arith}
 use Rattle.std.proofs.lemmas.Bool.{and_from, eq-eqb}
 use Rattle.cs_base.specs.declared.node_id.NodeId.{NodeId}
-use Rattle.cs_tx.specs.declared.session.Session.{Session}
+use Rattle.cs_form.specs.declared.session.Session.{Session}
 use Rattle.cs_ledger.specs.Ledger.{IsIn}
 use Rattle.cs_ledger.specs.ShardWorld.{log}
 use Rattle.cs_ledger.proofs.Basics.{in_left, in_right, in_either}

@@ -1,9 +1,9 @@
 -- Why a mark may stand after the marks of its node that came before it. Marks and signs are newest first.
 use Rattle.std.specs.Prelude.{◌≡◌, ◌⊎◌, ℕ, Bool, true, false, ◌&&◌, ◌||◌, List, [], ◌∷◌, ◌++◌, length, Option, Some, None, slice_get}
 use Rattle.cs_base.specs.declared.node_id.NodeId.{NodeId}
-use Rattle.cs_tx.specs.declared.session.Session.{Session}
-use Rattle.cs_tx.specs.declared.entry.Entry.{Entry}
-use Rattle.cs_tx.specs.declared.entry.Entry.TheVariants.{Prepare}
+use Rattle.cs_form.specs.declared.session.Session.{Session}
+use Rattle.cs_form.specs.declared.entry.Entry.{Entry}
+use Rattle.cs_form.specs.declared.entry.Entry.TheVariants.{Prepare}
 use Rattle.cs_order.specs.declared.proposed.Proposed.{Proposed}
 use Rattle.cs_order.specs.declared.answers.May.TheVariants.{Only}
 use Rattle.cs_order.specs.Lists as Order

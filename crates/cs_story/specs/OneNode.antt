@@ -5,9 +5,10 @@ use Rattle.cs_base.specs.Fields.{IsBytes}
 use Rattle.cs_base.specs.declared.config.Config.{Config}
 use Rattle.cs_base.specs.declared.node_id.NodeId.{NodeId}
 use Rattle.cs_value.specs.declared.object.Object.{Object}
-use Rattle.cs_tx.specs.declared.transaction.Tx.{Tx}
-use Rattle.cs_tx.specs.declared.session.Session.{Session}
-use Rattle.cs_tx.specs.declared.entry.Entry.{Entry}
+use Rattle.cs_form.specs.declared.transaction.Tx.{Tx}
+use Rattle.cs_form.specs.declared.session.Session.{Session}
+use Rattle.cs_form.specs.declared.entry.Entry.{Entry}
+use Rattle.cs_form.specs.Session.{EntryFits}
 use Rattle.cs_tx.specs.Sessions.{session_of}
 use Rattle.cs_order.specs.Deeds.{Machine}
 use Rattle.cs_ledger.specs.Ledger.{Bytes, Transaction, IsIn, Serial, IsSpentOnce, genesis_ledger, ledger_of, uses_once}
@@ -81,6 +82,10 @@ DecidesOnce {M} site world =
 abbrev pub ExecutesGiven : {M : Type 0} → Site M → List (Happening M) → Type 0
 ExecutesGiven {M} site world =
     (entry : Entry) → Executed site.setup 0 (signs_at world) entry → IsIn (session_in entry) (known_sessions site world)
+
+-- Each entry that was executed has an encoding.
+abbrev pub ExecutesFit : {M : Type 0} → Site M → List (Happening M) → Type 0
+ExecutesFit {M} site world = (entry : Entry) → Executed site.setup 0 (signs_at world) entry → EntryFits entry
 
 -- Each accepted transaction is in the history.
 abbrev pub TellsAccepted : {M : Type 0} → Site M → List (Happening M) → Type 0

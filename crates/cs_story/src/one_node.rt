@@ -4,7 +4,7 @@ ghost use Rattle.cs_trail.specs.Site.{Site};
 ghost use Rattle.cs_trail.specs.World.{Happening};
 ghost use Rattle.cs_trail.specs.Ready.{VotesFree, AcceptsLocked};
 ghost use Rattle.std.specs.Prelude.{List};
-ghost use Rattle.cs_story.specs.OneNode.{signs_at, IsSerial, SpendsOnce, DecidesOnce, ExecutesGiven, TellsAccepted, TellsCommitted, HoldsFree, PlaysOneNode, OfOneNode, OfOneNodeApart};
+ghost use Rattle.cs_story.specs.OneNode.{signs_at, IsSerial, SpendsOnce, DecidesOnce, ExecutesGiven, ExecutesFit, TellsAccepted, TellsCommitted, HoldsFree, PlaysOneNode, OfOneNode, OfOneNodeApart};
 
 use cs_ledger::composition;
 use cs_order::Order;
@@ -22,6 +22,8 @@ pub fn one_node_world<O: Order>()
     ensures one_decision { OfOneNodeApart O.rules (λ site world. DecidesOnce site world) }
     // Each executed session stood in an input, so its strings are among those that do not collide. This needs no such premise.
     ensures executed { OfOneNode O.rules (λ site world. ExecutesGiven site world) }
+    // Each executed entry has an encoding: no bytes are executed that are no entry.
+    ensures executed_fit { OfOneNode O.rules (λ site world. ExecutesFit site world) }
     // Each accepted transaction is in the history.
     ensures accepted { OfOneNodeApart O.rules (λ site world. TellsAccepted site world) }
     // After an event at which all concerned shards have voted commit the transaction is in the history,

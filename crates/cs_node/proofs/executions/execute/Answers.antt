@@ -1,7 +1,7 @@
 use Rattle.std.proofs.Common.{◌≡◌, false, ◌++◌, ◌∷◌, [], List, Option, Some, None, IfSome, refl, ap, sym, subst, ◌∙◌}
-use Rattle.cs_table.specs.declared.effect.Effect.TheVariants.{Void}
-use Rattle.cs_tx.specs.declared.entry.Entry.{Entry}
-use Rattle.cs_tx.specs.Session.{EntryFits}
+use Rattle.cs_form.specs.declared.effect.Effect.TheVariants.{Void}
+use Rattle.cs_form.specs.declared.entry.Entry.{Entry}
+use Rattle.cs_form.specs.Session.{EntryFits}
 use Rattle.cs_trail.specs.Deployment.{entry_or_void}
 use Rattle.cs_trail.specs.Signs.{execution_signs}
 use Rattle.cs_sbac.specs.Held.{bench_of, deployed}

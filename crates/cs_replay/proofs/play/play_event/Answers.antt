@@ -4,9 +4,14 @@ use Rattle.cs_base.specs.Answers.{AppendsFront}
 use Rattle.cs_base.specs.declared.node_id.NodeId.{NodeId}
 use Rattle.cs_trail.specs.Deployment.{site_of}
 use Rattle.cs_trail.specs.Play.{Played}
-use Rattle.cs_replay.specs.Standing.{HasNode, Standing}
+use Rattle.cs_replay.specs.Standing.{HasNode, Standing, CanTake, addressee}
 use Rattle.cs_replay.proofs.Played.{play-is, text-is}
 use Rattle.cs_replay.proofs.play.play_event.Goals as goal
+
+pub play_input-requires-clause-takes : goal.play_input-requires-clause-takes
+play_input-requires-clause-takes g c =
+    subst (λ (n : NodeId). CanTake g.O.Order.stands g.J.Judge.is_approved g.O.Order.rules c.args.cores.now.items c.args.history.now n c.body.result.now) (sym c.addressee-to.ensures)
+    (subst (λ (bytes : List ℕ). CanTake g.O.Order.stands g.J.Judge.is_approved g.O.Order.rules c.args.cores.now.items c.args.history.now (addressee c.args.event.now) bytes) (sym c.body.ensures) c.requires.takes)
 
 pub returns-clause-done : goal.returns-clause-done
 returns-clause-done g c = λ setup names p s has.

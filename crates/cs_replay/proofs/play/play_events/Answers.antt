@@ -5,9 +5,25 @@ use Rattle.cs_trail.specs.declared.schedule.Event.{Event}
 use Rattle.cs_trail.specs.Deployment.{site_of}
 use Rattle.cs_trail.specs.Play.{Played, unplayed, play, play_all}
 use Rattle.cs_replay.specs.Standing.{HasNode, Standing, addressee, event_text}
+use Rattle.cs_replay.proofs.Encoded.{takes-next}
 use Rattle.cs_replay.proofs.Outcomes.{err-anyway}
 use Rattle.cs_replay.proofs.Played.{play-more, play-text, take-whole, all-at, stopped}
 use Rattle.cs_replay.proofs.play.play_events.Goals as goal
+
+pub play_event-requires-clause-takes : goal.play_event-requires-clause-takes
+play_event-requires-clause-takes g c =
+    let inv = c.loop-event.invariant in
+    let can = c.requires.start in
+    let events = c.args.events.now in
+    let k = c.loop-event.event-index in
+    let numbered = c.loop-event-item.result in
+    let s : Standing g.O.Order.stands g.J.Judge.is_approved (site_of can.setup g.O.Order.rules) can.names c.args.cores.now.items c.args.history.now unplayed =
+    record { all = can.all; kept = c.requires.empty can.setup can.deploys } in
+    let node : HasNode can.names (length c.loop-event.cores.items) (addressee numbered.1) =
+    subst (λ (n : ℕ). HasNode can.names n (addressee numbered.1)) (sym inv.0)
+    (all-at (λ (x : ℕ × Event). HasNode can.names (length c.args.cores.now.items) (addressee x.1)) events k numbered can.nodes c.loop-event-test.true c.loop-event-item.is) in
+    takes-next g.O.Order.stands g.J.Judge.is_approved g.O.Order.rules c.args.cores.now.items c.loop-event.cores.items c.loop-event.history c.args.history.now.config events k numbered can
+    (inv.3 can.setup can.names s can.nodes).0 node c.loop-event-test.true c.loop-event-item.is
 
 pub loop-event-preserved : goal.loop-event-preserved
 loop-event-preserved g c =

@@ -1,12 +1,26 @@
-use Rattle.std.proofs.Common.{◌≡◌, ℕ, List, ◌∙◌, subst, OnOk, OnErr}
+use Rattle.std.proofs.Common.{◌≡◌, ℕ, List, ◌∙◌, sym, subst, OnOk, OnErr}
+use Rattle.std.specs.List.{All}
 use Rattle.std.specs.Io.KnownBytes.{Appends}
 use Rattle.cs_base.specs.Answers.{AppendsFront}
 use Rattle.cs_trail.specs.Deployment.{site_of}
-use Rattle.cs_trail.specs.World.{firsts_of}
+use Rattle.cs_trail.specs.Site.{Datagram, signs_of}
+use Rattle.cs_trail.specs.Trail.{event_marks}
+use Rattle.cs_trail.specs.World.{view_of, firsts_of}
+use Rattle.cs_node.specs.declared.made.Note.{Note}
 use Rattle.cs_replay.specs.Standing.{input_text}
+use Rattle.cs_replay.specs.Told.{IsTellable}
+use Rattle.cs_replay.proofs.Encoded.{notes-tellable}
 use Rattle.cs_replay.proofs.Outcomes.{ok-anyway}
 use Rattle.cs_replay.proofs.Played.{standing-after, text-after}
 use Rattle.cs_replay.proofs.play.play_input.Goals as goal
+
+pub tell-requires-clause-tellable : goal.tell-requires-clause-tellable
+tell-requires-clause-tellable g c =
+    let t = c.requires.takes in
+    let site = site_of t.setup g.O.Order.rules in
+    let made = c.in-Ok.ensures.delivered t.setup t.names t.played.world t.standing.all t.node in
+    subst (λ (notes : List Note). All IsTellable notes) (sym (c.as_slice.ensures ∙ made.notes))
+    (notes-tellable t.setup c.args.to.shard (signs_of (event_marks site (view_of site t.played.world c.args.to) (Datagram c.args.bytes.now))) t.fit)
 
 pub returns-clause-done : goal.returns-clause-done
 returns-clause-done g c = λ setup names p s has.

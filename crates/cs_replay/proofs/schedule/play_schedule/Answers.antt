@@ -6,6 +6,7 @@ use Rattle.cs_trail.specs.Deployment.{site_of}
 use Rattle.cs_trail.specs.Play.{unplayed, play_all, lines}
 use Rattle.cs_replay.specs.Digests.{history_lines}
 use Rattle.cs_replay.specs.Standing.{HaveNodes, Standing}
+use Rattle.cs_replay.proofs.Histories.{kept-first}
 use Rattle.cs_replay.proofs.Whole.{lines-end, front-of-lines, appended, appended-front}
 use Rattle.cs_replay.proofs.schedule.play_schedule.Goals as goal
 
@@ -13,7 +14,7 @@ pub returns-in-Ok-play_events-clause-done : goal.returns-in-Ok-play_events-claus
 returns-in-Ok-play_events-clause-done g c = λ setup names deploys all.
     let site = site_of setup g.O.Order.rules in
     let events = c.as_slice-events.result.now in
-    let s : Standing g.O.Order.stands g.J.Judge.is_approved site names c.args.cores.items c.in-Ok.history unplayed = record { all = all; kept = c.in-Ok.ensures.empty setup deploys } in
+    let s : Standing g.O.Order.stands g.J.Judge.is_approved site names c.args.cores.items c.in-Ok.history unplayed = record { all = all; kept = kept-first c.args.schedule.now.config setup c.in-Ok.history c.in-Ok.ensures.config c.in-Ok.ensures.empty deploys } in
     subst
     (λ (es : List (ℕ × Event)). HaveNodes names (length c.args.cores.items) es → OnOk c.print_history.result (Appends (g.K.Sink.written c.args.output.now) (g.K.Sink.written c.print_history.new.output) (lines site es)))
     c.as_slice-events.ensures
@@ -26,7 +27,7 @@ pub returns-in-Ok-play_events-clause-part : goal.returns-in-Ok-play_events-claus
 returns-in-Ok-play_events-clause-part g c = λ setup names deploys all.
     let site = site_of setup g.O.Order.rules in
     let events = c.as_slice-events.result.now in
-    let s : Standing g.O.Order.stands g.J.Judge.is_approved site names c.args.cores.items c.in-Ok.history unplayed = record { all = all; kept = c.in-Ok.ensures.empty setup deploys } in
+    let s : Standing g.O.Order.stands g.J.Judge.is_approved site names c.args.cores.items c.in-Ok.history unplayed = record { all = all; kept = kept-first c.args.schedule.now.config setup c.in-Ok.history c.in-Ok.ensures.config c.in-Ok.ensures.empty deploys } in
     subst
     (λ (es : List (ℕ × Event)). HaveNodes names (length c.args.cores.items) es → OnErr c.print_history.result (AppendsFront (g.K.Sink.written c.args.output.now) (g.K.Sink.written c.print_history.new.output) (lines site es)))
     c.as_slice-events.ensures
@@ -39,7 +40,7 @@ pub returns-clause-part : goal.returns-clause-part
 returns-clause-part g c = λ setup names deploys all.
     let site = site_of setup g.O.Order.rules in
     let events = c.as_slice-events.result.now in
-    let s : Standing g.O.Order.stands g.J.Judge.is_approved site names c.args.cores.items c.in-Ok.history unplayed = record { all = all; kept = c.in-Ok.ensures.empty setup deploys } in
+    let s : Standing g.O.Order.stands g.J.Judge.is_approved site names c.args.cores.items c.in-Ok.history unplayed = record { all = all; kept = kept-first c.args.schedule.now.config setup c.in-Ok.history c.in-Ok.ensures.config c.in-Ok.ensures.empty deploys } in
     subst
     (λ (es : List (ℕ × Event)). HaveNodes names (length c.args.cores.items) es → AppendsFront (g.K.Sink.written c.args.output.now) (g.K.Sink.written c.play_events.new.output) (lines site es))
     c.as_slice-events.ensures

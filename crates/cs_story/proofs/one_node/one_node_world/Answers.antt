@@ -2,7 +2,8 @@
 use Rattle.std.proofs.Common.{◌≡◌, inl, inr, Bool, true, List, ◌++◌, Some, sym, ap, ◌∙◌, subst}
 use Rattle.cs_base.specs.declared.config.Config.{Config}
 use Rattle.cs_value.specs.declared.object.Object.{Object}
-use Rattle.cs_tx.specs.declared.transaction.Tx.{Tx}
+use Rattle.cs_form.specs.declared.transaction.Tx.{Tx}
+use Rattle.cs_form.specs.declared.entry.Entry.{Entry}
 use Rattle.cs_order.specs.Deeds.{Machine}
 use Rattle.cs_order.specs.Law.{Holds}
 use Rattle.cs_ledger.specs.Ledger.{IsIn, Serial, IsSpentOnce, genesis_ledger, ledger_of}
@@ -10,16 +11,17 @@ use Rattle.cs_ledger.specs.Session.{Object as Named, all_items}
 use Rattle.cs_ledger.specs.Table.{Commit, Abort, Accepted, Aborted, Table, free_object}
 use Rattle.cs_ledger.specs.ShardWorld.{log, votes_in, decided_in, all_commit}
 use Rattle.cs_ledger.proofs.Decisions.{all_concerned}
-use Rattle.cs_trail.specs.Setup.{digest_of}
+use Rattle.cs_trail.specs.Setup.{digest_of, session_in}
 use Rattle.cs_trail.specs.Site.{Site}
 use Rattle.cs_trail.specs.World.{Happening, trail_of, IsLife}
 use Rattle.cs_trail.specs.Collisions.{known_sessions, NoCollision}
+use Rattle.cs_trail.specs.Ready.{Executed}
 use Rattle.cs_story.specs.Made.{AllMade}
-use Rattle.cs_story.specs.OneNode.{only_node, IsAlone, IsOneNode, deployed}
+use Rattle.cs_story.specs.OneNode.{only_node, IsAlone, IsOneNode, deployed, signs_at}
 use Rattle.cs_story.proofs.Executions.{world-level, given-known}
 use Rattle.cs_story.proofs.Decided.{accepts-decided, aborts-decided}
 use Rattle.cs_story.proofs.Readiness.{good, votes-free, accepts-locked}
-use Rattle.cs_story.proofs.Deployed.{is-plain, are-apart}
+use Rattle.cs_story.proofs.Deployed.{known-fits, entry-fits, is-plain, are-apart}
 use Rattle.cs_story.proofs.Middle.{IsMiddle, steps_at, middle, decided-session, voted-session, known-there, alone-earlier, life-earlier, known-earlier, commit-later, serial-once, table-steps}
 use Rattle.cs_story.proofs.Played.{plays-one}
 use Rattle.cs_story.proofs.one_node.one_node_world.Goals as goal
@@ -30,6 +32,10 @@ module _ {M : Type 0} (machine : Machine M) (holds : Holds machine) (config : Co
 
   all-made : AllMade At only_node (trail_of only_node world)
   all-made = (world-level At only_node world one.alone one.life).made
+
+  executed-known : (entry : Entry) → Executed At.setup 0 (signs_at world) entry → IsIn (session_in entry) (known_sessions At world)
+  executed-known entry e =
+      (good At only_node (known_sessions At world) (is-plain config genesis approves machine world holds one) (trail_of only_node world) all-made (given-known At only_node world one.alone) entry e).1
 
   module _ (apart : NoCollision At genesis world) where
     whole : IsMiddle At (known_sessions At world) world
@@ -73,10 +79,12 @@ returns-clause-one_decision g c config genesis approves world one apart = λ d a
     ]
 
 pub returns-clause-executed : goal.returns-clause-executed
-returns-clause-executed g c config genesis approves world one = λ entry e.
-    let site = deployed config genesis approves g.O.Order.rules in
-    (good site only_node (known_sessions site world) (is-plain config genesis approves g.O.Order.rules world g.met.O.Order.holds one) (trail_of only_node world)
-    (all-made g.O.Order.rules g.met.O.Order.holds config genesis approves world one) (given-known site only_node world one.alone) entry e).1
+returns-clause-executed g c config genesis approves world one = executed-known g.O.Order.rules g.met.O.Order.holds config genesis approves world one
+
+pub returns-clause-executed_fit : goal.returns-clause-executed_fit
+returns-clause-executed_fit g c config genesis approves world one = λ entry e.
+    entry-fits config genesis approves g.O.Order.rules entry
+    (known-fits config genesis approves g.O.Order.rules world one.life one.bytes (session_in entry) (executed-known g.O.Order.rules g.met.O.Order.holds config genesis approves world one entry e))
 
 pub returns-clause-accepted : goal.returns-clause-accepted
 returns-clause-accepted g c config genesis approves world one apart = λ x knows accepts.

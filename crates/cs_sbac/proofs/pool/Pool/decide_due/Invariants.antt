@@ -1,6 +1,6 @@
 use Rattle.std.proofs.Common.{◌≡◌, Bool, List}
 use Rattle.cs_value.specs.declared.object.Object.{Object}
-use Rattle.cs_tx.specs.declared.transaction.Tx.{Tx}
+use Rattle.cs_form.specs.declared.transaction.Tx.{Tx}
 use Rattle.cs_trail.specs.Admission.{first_decided}
 use Rattle.cs_sbac.specs.Fits.{PoolFits}
 use Rattle.cs_sbac.specs.Held.{deployed}

@@ -1,0 +1,144 @@
+//! A coin is split: the session enters, is voted on, and the decision is carried out.
+use super::*;
+use cs_base::{Config, Key, Memory, NodeId, Sequence};
+use cs_table::Table;
+use cs_tx::{
+    Encoded, Entry, Name, Object, Session, TokenJudge, Trace, Tx, Value, Vote, genesis_key,
+};
+use std::alloc::Global;
+use std::process::Abort;
+use std::test::Fail;
+
+/// SHA-256 of the five bytes `token`.
+const TOKEN: [u8; 32] = [
+    0x3c, 0x46, 0x9e, 0x9d, 0x6c, 0x58, 0x75, 0xd3, 0x7a, 0x43, 0xf3, 0x53, 0xd4, 0xf8, 0x8e, 0x61,
+    0xfc, 0xf8, 0x12, 0xc6, 0x6e, 0xee, 0x34, 0x57, 0x46, 0x5a, 0x40, 0xb0, 0xda, 0x41, 0x53, 0xe0,
+];
+
+fn coin(alloc: Global, worth: i64) -> Result<Object, Memory> {
+    let text = Vec::from_slice(alloc, b"coin")?;
+    let mut values = Sequence::new(alloc);
+    values.push(Value::Int(worth))?;
+    Ok(Object {
+        contract: TOKEN,
+        type_name: Name::from_vec(text),
+        values,
+    })
+}
+
+/// Splits a coin of 10 in two.
+fn split(alloc: Global, name: [u8; 32]) -> Result<Session, Memory> {
+    let method = Vec::from_slice(alloc, b"transfer")?;
+    let mut inputs = Sequence::new(alloc);
+    inputs.push((name, coin(alloc, 10)?))?;
+    let mut outputs = Sequence::new(alloc);
+    outputs.push(coin(alloc, 4)?)?;
+    outputs.push(coin(alloc, 6)?)?;
+    let mut traces = Sequence::new(alloc);
+    traces.push(Trace {
+        contract: TOKEN,
+        method: Name::from_vec(method),
+        inputs,
+        references: Sequence::new(alloc),
+        parameters: Sequence::new(alloc),
+        outputs,
+        returns: Sequence::new(alloc),
+        deps: Sequence::new(alloc),
+    })?;
+    Ok(Session {
+        tx: Tx { traces },
+        number: 0,
+        dummies: Sequence::new(alloc),
+    })
+}
+
+/// Node 0.0 of one shard of one node, with a coin of 10, and the session that splits it.
+fn start(rt: &impl Abort, alloc: Global) -> Result<(Sbac, Session), Fail> {
+    let config = Config::new(1, 0, 2).expect(rt, "a configuration");
+    let me = NodeId { shard: 0, index: 0 };
+    assert!(rt; config.has_node(me));
+    let object = coin(alloc, 10)?;
+    assert!(rt; object.fits());
+    let key = genesis_key(alloc, 0, &object)?;
+    let Key::Object(name) = key else {
+        panic!(rt; "a dummy");
+    };
+    let objects = [(key, object)];
+    let table = Table::genesis(alloc, config, 0, &objects)?;
+    let session = split(alloc, name)?;
+    Ok((Sbac::new(alloc, config, me, table), session))
+}
+
+/// Before the session is there.
+fn is_absent(
+    rt: &impl Abort,
+    alloc: Global,
+    sbac: &mut Sbac,
+    session: &Session,
+) -> Result<(), Fail> {
+    assert!(rt; session.fits());
+    assert!(rt; sbac.is_fit(alloc, session)?);
+    assert!(rt; !sbac.is_decided(alloc, session)?);
+    assert!(rt; sbac.vote(alloc, sbac.me(), session, Vote::Commit)? == Counted::NotPooled);
+    assert!(rt; sbac.due(alloc)?.is_none());
+    Ok(())
+}
+
+fn enters(rt: &impl Abort, alloc: Global, sbac: &mut Sbac, session: &Session) -> Result<(), Fail> {
+    assert!(rt; session.fits());
+    let copied = session.copy(alloc)?;
+    let pooled = sbac.pooled(alloc, session)?;
+    assert!(rt; !pooled);
+    assert!(rt; sbac.enter(alloc, copied)? == Entered::New);
+    Ok(())
+}
+
+/// What is due is admitted and executed.
+fn execute_due(rt: &impl Abort, alloc: Global, sbac: &mut Sbac) -> Result<(Entry, Outcome), Fail> {
+    let entry = sbac.due(alloc)?.expect(rt, "an entry");
+    assert!(rt; entry.fits());
+    assert!(rt; sbac.admits(alloc, &entry, &TokenJudge)?);
+    let outcome = sbac.execute(alloc, &entry)?;
+    Ok((entry, outcome))
+}
+
+/// The node votes, and takes its own vote.
+fn is_voted_on(
+    rt: &impl Abort,
+    alloc: Global,
+    sbac: &mut Sbac,
+    session: &Session,
+) -> Result<(), Fail> {
+    let (entry, outcome) = execute_due(rt, alloc, sbac)?;
+    assert!(rt; matches!(&entry, Entry::Prepare(_)));
+    assert!(rt; outcome.effect == Effect::Voted(Vote::Commit));
+    assert!(rt; outcome.voted == Some((Vote::Commit, true)));
+    assert!(rt; session.fits());
+    assert!(rt; sbac.vote(alloc, sbac.me(), session, Vote::Abort)? == Counted::Repeat);
+    Ok(())
+}
+
+fn is_accepted(
+    rt: &impl Abort,
+    alloc: Global,
+    sbac: &mut Sbac,
+    session: &Session,
+) -> Result<(), Fail> {
+    let (entry, outcome) = execute_due(rt, alloc, sbac)?;
+    assert!(rt; matches!(&entry, Entry::Decide(Vote::Commit, _)));
+    assert!(rt; outcome.effect == Effect::Accepted && outcome.voted.is_none());
+    assert!(rt; session.fits());
+    assert!(rt; sbac.is_decided(alloc, session)?);
+    assert!(rt; sbac.due(alloc)?.is_none());
+    Ok(())
+}
+
+#[test]
+fn a_coin_is_split(rt: HostRuntime) -> Result<(), Fail> {
+    let alloc = rt.alloc();
+    let (mut sbac, session) = start(&rt, alloc)?;
+    is_absent(&rt, alloc, &mut sbac, &session)?;
+    enters(&rt, alloc, &mut sbac, &session)?;
+    is_voted_on(&rt, alloc, &mut sbac, &session)?;
+    is_accepted(&rt, alloc, &mut sbac, &session)
+}
