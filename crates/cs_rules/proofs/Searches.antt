@@ -108,14 +108,14 @@ any_step n test = rw add-one refl
 pub any_more : (n : ℕ) (test : ℕ → Bool) → any_below n test ≡ false → test n ≡ false → any_below (n + 1) test ≡ false
 any_more n test before here = rw (any_step n test, here) before
 
-pub any_here : (n : ℕ) (test : ℕ → Bool) → test n ≡ true → any_below (n + 1) test ≡ true
+any_here : (n : ℕ) (test : ℕ → Bool) → test n ≡ true → any_below (n + 1) test ≡ true
 any_here n test here = rw (any_step n test, here) refl
 
 or_true : (a b : Bool) → b ≡ true → (a || b) ≡ true
 or_true true b h = refl
 or_true false b h = h
 
-pub any_stays : (all n : ℕ) (test : ℕ → Bool) → n ≤ all → any_below n test ≡ true → any_below all test ≡ true
+any_stays : (all n : ℕ) (test : ℕ → Bool) → n ≤ all → any_below n test ≡ true → any_below all test ≡ true
 unfolding any_below
 any_stays zero n test few h = let e : n ≡ 0 = omega arith in rw e at h
 any_stays (suc all) n test few h =
@@ -123,3 +123,6 @@ any_stays (suc all) n test few h =
       | inl same ↦ rw same.1 at h
       | inr other ↦ or_true (test all) (any_below all test) (any_stays all n test (let e = other.1 in omega arith) h)
     ]
+
+pub any_at : (all n : ℕ) (test : ℕ → Bool) → n < all → test n ≡ true → any_below all test ≡ true
+any_at all n test less here = any_stays all (n + 1) test (omega arith) (any_here n test here)

@@ -1,0 +1,13 @@
+//! The changes of a shard's members to later views, and which digests they make safe to propose there.
+#![tactic(auto)]
+
+mod changes;
+mod claims;
+mod slot_changes;
+
+pub use changes::Changes;
+pub use cs_rules::Change;
+pub use slot_changes::SlotChanges;
+
+#[cfg(test)]
+mod tests;

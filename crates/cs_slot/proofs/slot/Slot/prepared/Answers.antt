@@ -1,0 +1,27 @@
+use Rattle.std.proofs.Common.{◌≡◌, ℕ, List, Option, None, sym, ap, ◌∙◌, arith}
+use Rattle.cs_order.specs.Limits.{view_bound}
+use Rattle.cs_rules.specs.Slot.{in_view}
+use Rattle.cs_rules.proofs.Searches.{last_none, last_more, last_ends}
+use Rattle.cs_slot.specs.Kept.{Kept, seen_in}
+use Rattle.cs_slot.proofs.slot.Slot.prepared.Goals as goal
+
+abbrev found : Kept → ℕ → Option (ℕ × List ℕ)
+found k view = in_view view ((seen_in k).confirm view k.me)
+
+none_found : (k : Kept) (view : ℕ) → (seen_in k).confirm view k.me ≡ None → found k view ≡ None
+none_found k view none = ap (in_view view) none
+
+pub loop-view-init : goal.loop-view-init
+loop-view-init c = last_none (found c.args.self.now)
+
+pub loop-view-preserved : goal.loop-view-preserved
+loop-view-preserved c = last_more c.loop-view.view (found c.args.self.now) c.loop-view.last c.prepared_in.result c.or-last.result c.loop-view.invariant c.prepared_in.ensures c.or-last.ensures
+
+pub returns : goal.returns
+returns c =
+    let late = c.loop-view-test.false in
+    let last = c.loop-view.auto.view-end in
+    let at_end : c.loop-view.view ≡ c.self.inside.end = omega arith in
+    let confirms = ap (λ (k : Kept). k.confirms) c.self.view_is in
+    let all = last_ends view_bound c.self.inside.end (found c.args.self.now) c.self.invariant.2 (λ v a b. none_found c.args.self.now v (rw (← confirms) ((c.self.invariant.3 v a b).1 c.args.self.now.me))) in
+    rw at_end at c.loop-view.invariant ∙ sym all

@@ -1,0 +1,11 @@
+use Rattle.std.proofs.Common.{arith}
+use Rattle.cs_rules.specs.Slot.{is_digest}
+use Rattle.cs_rules.proofs.Searches.{count_none, count_add}
+use Rattle.cs_slot.specs.Kept.{vote_in}
+use Rattle.cs_slot.proofs.votes.Votes.count.Goals as goal
+
+pub loop-member-init : goal.loop-member-init
+loop-member-init c = (count_none (λ member. is_digest c.args.digest.now (vote_in c.args.self.now c.args.view member)), omega arith)
+
+pub loop-member-preserved : goal.loop-member-preserved
+loop-member-preserved c = count_add c.loop-member.member c.loop-member.count c.from-count.result (λ member. is_digest c.args.digest.now (vote_in c.args.self.now c.args.view member)) c.says.result c.says.ensures c.from-count.ensures c.loop-member.invariant.0 c.loop-member.invariant.1

@@ -1,0 +1,89 @@
+//! Entries by a view, or by a member.
+ghost use Rattle.std.specs.Prelude.{◌≡◌, not, is_some, IfOk, OnErr, [], option_copied};
+ghost use Rattle.cs_rules.specs.Slot.{with_digest, is_entry};
+ghost use Rattle.cs_slot.specs.Kept.{entry_in, with_entry};
+
+use cs_base::Memory;
+use cs_order::Proposed;
+use std::alloc::{AllocError, Global};
+use std::marker::Model;
+
+/// Entries, of which there is one under each number.
+#[derive(Drop)]
+pub struct Entries {
+    entries: Vec<(u16, Proposed)>,
+}
+
+impl Model for Entries {
+    ghost use Rattle.std.specs.Prelude.{ℕ, List};
+    ghost use Rattle.cs_order.specs.declared.proposed.Proposed.{Proposed};
+
+    ghost Value = { List (ℕ × Proposed) };
+
+    ghost view = { λ e. e.entries.items };
+}
+
+impl Entries {
+    /// No entries.
+    pub fn new(alloc: Global) -> Self
+        ensures { result ≡ [] }
+    {
+        Entries {
+            entries: Vec::new(alloc),
+        }
+    }
+
+    /// The entry under a number.
+    pub fn get(&self, key: u16) -> Option<&Proposed>
+        ensures { option_copied result ≡ entry_in self.now key }
+    {
+        find(self.entries.as_slice(), key)
+    }
+
+    /// Adds an entry, and says whether it is the first under the number.
+    pub fn add(&mut self, key: u16, entry: Proposed) -> Result<bool, Memory>
+        ensures fresh { IfOk result (λ fresh. fresh ≡ not (is_some (entry_in self.old key))) }
+        ensures now { IfOk result (λ fresh. entry_in self.new ≡ with_entry fresh (entry_in self.old) key entry) }
+        ensures err { OnErr result (self.new ≡ self.old) }
+    {
+        if self.get(key).is_some() {
+            return Ok(false);
+        }
+        if let Err(refused) = self.entries.push((key, entry)) {
+            return Err(AllocError::from(refused).into());
+        }
+        Ok(true)
+    }
+
+    /// The entry under a number, where it has the digest.
+    pub fn with_digest(&self, key: u16, digest: &[u8; 32]) -> Option<&Proposed>
+        ensures { option_copied result ≡ with_digest digest.now (entry_in self.now key) }
+    {
+        match self.get(key) {
+            Some(entry) if entry.digest == *digest => Some(entry),
+            _ => None,
+        }
+    }
+
+    /// The entry under a number is this one.
+    pub fn is_at(&self, key: u16, entry: &Proposed) -> bool
+        ensures { result ≡ is_entry entry.now (entry_in self.now key) }
+    {
+        match self.get(key) {
+            Some(other) => other.digest == entry.digest
+                && other.bytes.as_slice() == entry.bytes.as_slice(),
+            None => false,
+        }
+    }
+}
+
+fn find(entries: &[(u16, Proposed)], key: u16) -> Option<&Proposed>
+    ensures { option_copied result ≡ entry_in entries.now key }
+{
+    for entry in entries {
+        if entry.0 == key {
+            return Some(&entry.1);
+        }
+    }
+    None
+}

@@ -1,0 +1,11 @@
+//! One slot among 3f+1 members, as one member sees it: what was said in it, and what the rules make of that.
+#![tactic(auto)]
+
+mod entries;
+mod slot;
+mod votes;
+
+pub use slot::Slot;
+
+#[cfg(test)]
+mod tests;
