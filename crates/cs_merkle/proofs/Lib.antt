@@ -1,0 +1,9 @@
+pub mod Splits
+pub mod Trees
+pub mod Lengths
+pub mod Roots
+pub mod Apart
+pub mod Shown
+pub mod Equations
+pub mod Halves
+pub mod Examples

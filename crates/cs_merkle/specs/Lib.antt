@@ -1,0 +1,4 @@
+pub mod Tree
+pub mod Path
+pub mod Standard
+pub mod Collisions
