@@ -1,0 +1,11 @@
+//! Trials: whole parts of the ledger against plain programs of their definitions, over random inputs from fixed seeds.
+//!
+//! It has tests alone.
+#![tactic(auto)]
+
+#[cfg(test)]
+mod draws;
+#[cfg(test)]
+mod rows;
+#[cfg(test)]
+mod table;
