@@ -1,0 +1,4 @@
+pub mod Echoes
+pub mod Risen
+pub mod Wholes
+pub mod Short

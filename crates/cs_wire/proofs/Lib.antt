@@ -1,0 +1,4 @@
+pub mod Parts
+pub mod Sealed
+pub mod Rows
+pub mod Unsealed

@@ -1,0 +1,140 @@
+-- Sealed datagrams pass all tests, and are those of one message alone.
+use Rattle.std.proofs.Common.{◌≡◌, ℕ, zero, suc, ◌+◌, ◌<◌, Bool, true, false, cond, List, [], ◌++◌, length, Some, None, Result, Ok, Err, refl, sym, ap, subst, ◌∙◌, append_assoc, arith}
+use Rattle.std.specs.Prelude.{not, ◌&&◌, codes, nat_lt}
+use Rattle.std.proofs.lemmas.Bool.{eq-eqb, le-ltb, le-leb}
+use Rattle.std.proofs.lemmas.Slice.Eq.{bytes_eq-Decides}
+use Rattle.sha2.proofs.Facts256.{length-sha256}
+use Rattle.cs_base.specs.declared.node_id.NodeId.{NodeId}
+use Rattle.cs_base.specs.Fields.{IsBytes}
+use Rattle.cs_hash.specs.Hash.{hmac}
+use Rattle.cs_message.specs.declared.message.Message.{Message}
+use Rattle.cs_message.specs.declared.message.Message.TheVariants as message
+use Rattle.cs_message.specs.Message.{kind_of, body_of, MessageFits}
+use Rattle.cs_message.specs.Body.{Has}
+use Rattle.cs_message.proofs.Short.{body_short}
+use Rattle.cs_wire.specs.declared.head.Head.{Head}
+use Rattle.cs_wire.specs.declared.keys.Row.{Row}
+use Rattle.cs_wire.specs.declared.keys.Keys.{Keys}
+use Rattle.cs_wire.specs.declared.opening.OpenError.{OpenError}
+use Rattle.cs_wire.specs.declared.opening.OpenError.TheVariants as errors
+use Rattle.cs_wire.specs.Datagram.{text_of, sealed, is_kind, is_sized, has_tag, text_in, tag_in, body_in}
+use Rattle.cs_wire.specs.Heads.{head_at, first, head_seen}
+use Rattle.cs_wire.specs.Keys.{same_name, row_of, row_between, IsOfMaster}
+use Rattle.cs_base.specs.declared.config.Config.{Config}
+use Rattle.cs_base.specs.NodeId.{is_named}
+use Rattle.cs_base.proofs.Forms.{some_is, when_some}
+use Rattle.cs_wire.specs.declared.view.MessageView.{MessageView}
+use Rattle.cs_wire.specs.Opens.{IsName, Seals, IsSealed, keyed_fault, head_fault, fault_of, HasNoBody, Opens, OpensAs, Shows}
+use Rattle.cs_wire.proofs.Parts.{head_encoding, HeadFits, head_form, head_for, head_length, text_parts, split, is_same}
+
+pub record IsClear (keys : Keys) (bytes : List ℕ) (sender : NodeId) (m : Message) : Type 0 where
+  pub seen : head_seen bytes ≡ Some (head_for sender keys.me m)
+  pub none : fault_of keys bytes ≡ None
+  pub has : Has (kind_of m) (body_in bytes) m
+
+tag_length : (key text : List ℕ) → length (hmac key text) ≡ 32
+tag_length key text = length-sha256 _
+
+kind_fits : (m : Message) → is_kind (kind_of m) ≡ true
+kind_fits (message.Submit x) = refl
+kind_fits (message.Propose slot view entry) = refl
+kind_fits (message.Echo slot view digest) = refl
+kind_fits (message.Confirm slot view digest) = refl
+kind_fits (message.Change slot view change) = refl
+kind_fits (message.Voted vote asks x) = refl
+kind_fits (message.Decided digest accepted) = refl
+kind_fits (message.Want slot) = refl
+kind_fits (message.Done slot entry) = refl
+kind_fits (message.Ask key) = refl
+kind_fits (message.Told key state) = refl
+kind_fits (message.Head checkpoint) = refl
+kind_fits (message.AskProof slot) = refl
+kind_fits (message.Proof proof) = refl
+
+kind_small : (m : Message) → kind_of m < 256
+kind_small (message.Submit x) = omega arith
+kind_small (message.Propose slot view entry) = omega arith
+kind_small (message.Echo slot view digest) = omega arith
+kind_small (message.Confirm slot view digest) = omega arith
+kind_small (message.Change slot view change) = omega arith
+kind_small (message.Voted vote asks x) = omega arith
+kind_small (message.Decided digest accepted) = omega arith
+kind_small (message.Want slot) = omega arith
+kind_small (message.Done slot entry) = omega arith
+kind_small (message.Ask key) = omega arith
+kind_small (message.Told key state) = omega arith
+kind_small (message.Head checkpoint) = omega arith
+kind_small (message.AskProof slot) = omega arith
+kind_small (message.Proof proof) = omega arith
+
+magic_bytes : IsBytes (codes "CSP1")
+magic_bytes zero = omega arith
+magic_bytes (suc zero) = omega arith
+magic_bytes (suc (suc zero)) = omega arith
+magic_bytes (suc (suc (suc zero))) = omega arith
+magic_bytes (suc (suc (suc (suc i)))) = omega arith
+
+pub is_clear : (keys : Keys) (bytes : List ℕ) (sender : NodeId) (m : Message) → IsSealed keys bytes sender m → IsClear keys bytes sender m
+is_clear keys bytes sender m s =
+    let h = head_for sender keys.me m in
+    let key = s.row.from in
+    let body = body_of m in
+    let text = text_of sender keys.me m in
+    let tag = hmac key text in
+    let thirty_two : length tag ≡ 32 = tag_length key text in
+    let short = body_short m s.fits in
+    let fits : HeadFits h = ((refl, magic_bytes), (kind_small m, (s.named, (s.mine, omega (arith, short))))) in
+    let is : bytes ≡ (head_encoding h ++ body) ++ tag = s.is ∙ ap (λ (t : List ℕ). t ++ tag) (text_parts sender keys.me m) in
+    let parts = split (head_encoding h) body tag bytes (head_length h refl) thirty_two is in
+    let found : head_at bytes ≡ Some (h, body ++ tag) = ap head_at (is ∙ append_assoc (head_encoding h) body tag) ∙ head_form.again h (body ++ tag) fits in
+    let seen : head_seen bytes ≡ Some h = ap first found in
+    let not_short : nat_lt (length bytes) 49 ≡ false = le-ltb _ _ (omega (arith, parts.size)) in
+    let sized : is_sized (length body) bytes ≡ true = rw (eq-eqb (length bytes) (length body + 49) parts.size, le-leb (length bytes) 32768 (omega (arith, parts.size, short))) refl in
+    let tagged : has_tag key bytes ≡ true = (bytes_eq-Decides (tag_in bytes) (hmac key (text_in bytes))).1 (parts.tag ∙ sym (ap (hmac key) (parts.text ∙ sym (text_parts sender keys.me m)))) in
+    let keyed : keyed_fault h bytes (row_of sender keys) ≡ None = ap (keyed_fault h bytes) s.held ∙ rw (sized, tagged) refl in
+    let clear : head_fault keys bytes (Some h) ≡ None = rw (kind_fits m, is_same keys.me) keyed in
+    record {
+      seen = seen;
+      none = ap (λ (b : Bool). cond b (Some errors.Short) (head_fault keys bytes (head_seen bytes))) not_short ∙ ap (head_fault keys bytes) seen ∙ clear;
+      has = record { kind = refl; body = sym parts.body; fits = s.fits };
+    }
+
+same_shown : (keys : Keys) (bytes : List ℕ) (found : NodeId × MessageView) (m2 : Message) → IsSealed keys bytes found.0 m2 → Shows found.1 m2 → (sender : NodeId) (m : Message) → IsSealed keys bytes sender m → (found.0 ≡ sender) × Shows found.1 m
+same_shown keys bytes found m2 s2 shown sender m s =
+    let a = is_clear keys bytes sender m s in
+    let b = is_clear keys bytes found.0 m2 s2 in
+    let heads : head_for found.0 keys.me m2 ≡ head_for sender keys.me m = some_is _ _ (sym b.seen ∙ a.seen) in
+    let kinds : kind_of m2 ≡ kind_of m = ap (λ (h : Head). h.kind) heads in (
+      ap (λ (h : Head). h.from) heads,
+      record {
+        kind = sym kinds ∙ shown.kind;
+        body = a.has.body ∙ sym b.has.body ∙ shown.body;
+        fits = s.fits;
+      },
+    )
+
+pub opens_as : (keys : Keys) (bytes : List ℕ) (r : Result (NodeId × MessageView) OpenError) → Opens keys bytes r → (sender : NodeId) (m : Message) → IsSealed keys bytes sender m → OpensAs r sender m
+opens_as keys bytes (Ok found) o sender m s = same_shown keys bytes found o.0 o.1 o.2 sender m s
+opens_as keys bytes (Err errors.Body) o sender m s = let a = is_clear keys bytes sender m s in (subst (HasNoBody bytes) a.seen o.1) (m, a.has)
+opens_as keys bytes (Err errors.Short) o sender m s = let n = (is_clear keys bytes sender m s).none in absurd cc
+opens_as keys bytes (Err errors.Magic) o sender m s = let n = (is_clear keys bytes sender m s).none in absurd cc
+opens_as keys bytes (Err errors.Kind) o sender m s = let n = (is_clear keys bytes sender m s).none in absurd cc
+opens_as keys bytes (Err errors.NotMine) o sender m s = let n = (is_clear keys bytes sender m s).none in absurd cc
+opens_as keys bytes (Err errors.Stranger) o sender m s = let n = (is_clear keys bytes sender m s).none in absurd cc
+opens_as keys bytes (Err errors.Length) o sender m s = let n = (is_clear keys bytes sender m s).none in absurd cc
+opens_as keys bytes (Err errors.Tag) o sender m s = let n = (is_clear keys bytes sender m s).none in absurd cc
+
+pub sealed_for : (config : Config) (master : List ℕ) (i j : NodeId) (a b : Keys) (m : Message) (bytes : List ℕ) → IsOfMaster config master i a → IsOfMaster config master j b → IsName i → IsName j → is_named config i ≡ true → same_name i j ≡ false
+    → MessageFits m → Seals a j m [] bytes → IsSealed b bytes i m
+sealed_for config master i j a b m bytes of_i of_j name_i name_j named apart fits s =
+    let to_j = when_some (is_named config j && not (same_name j i)) (Some (row_between master i j)) s.row (sym (of_i.rows j) ∙ s.held) in
+    let row : row_between master i j ≡ s.row = some_is _ _ to_j.1 in
+    let held : row_of i b ≡ Some (row_between master j i) = of_j.rows i ∙ rw (named, apart) refl in
+    record {
+      named = name_i;
+      mine = subst IsName (sym of_j.me) name_j;
+      row = row_between master j i;
+      held = held;
+      fits = fits;
+      is = s.is ∙ ap (λ (r : Row). sealed r.to a.me j m) (sym row) ∙ ap (λ (n : NodeId). sealed (row_between master i j).to n j m) of_i.me ∙ ap (λ (n : NodeId). sealed (row_between master j i).from i n m) (sym of_j.me);
+    }

@@ -1,0 +1,42 @@
+-- Datagrams, byte by byte.
+use Rattle.std.specs.Prelude.{ℕ, ◌+◌, ◌-◌, Bool, ◌&&◌, ◌==◌, nat_le, bytes_eq, codes, List, ◌∷◌, ◌++◌, length, take, drop}
+use Rattle.std.specs.Int.{w16, w32, to_be_bytes}
+use Rattle.cs_base.specs.declared.node_id.NodeId.{NodeId}
+use Rattle.cs_hash.specs.Hash.{hmac}
+use Rattle.cs_message.specs.declared.message.Message.{Message}
+use Rattle.cs_message.specs.Message.{kind_of, body_of}
+
+-- a name: shard and index
+abbrev pub name_encoding : NodeId → List ℕ
+name_encoding name = to_be_bytes w16 name.shard ++ to_be_bytes w16 name.index
+
+-- what a tag is made of: `CSP1`, the kind, the sender, the receiver, the length of the body, the body
+unfoldable pub text_of : NodeId → NodeId → Message → List ℕ
+text_of from to m = codes "CSP1" ++ (kind_of m ∷ (name_encoding from ++ (name_encoding to ++ (to_be_bytes w32 (length (body_of m)) ++ body_of m))))
+
+-- the text, and its tag under the key from the sender to the receiver
+abbrev pub sealed : List ℕ → NodeId → NodeId → Message → List ℕ
+sealed key from to m = text_of from to m ++ hmac key (text_of from to m)
+
+-- ---- tests of datagrams
+
+abbrev pub is_kind : ℕ → Bool
+is_kind kind = nat_le 1 kind && nat_le kind 14
+
+-- a body of this size stands between a head of 17 bytes and a tag of 32, and the datagram isn't too long
+abbrev pub is_sized : ℕ → List ℕ → Bool
+is_sized size bytes = length bytes == size + 49 && nat_le (length bytes) 32768
+
+-- what stands before the tag, and the tag
+abbrev pub text_in : List ℕ → List ℕ
+text_in bytes = take (length bytes - 32) bytes
+
+abbrev pub tag_in : List ℕ → List ℕ
+tag_in bytes = drop (length bytes - 32) bytes
+
+abbrev pub has_tag : List ℕ → List ℕ → Bool
+has_tag key bytes = bytes_eq (tag_in bytes) (hmac key (text_in bytes))
+
+-- what stands between the head and the tag
+abbrev pub body_in : List ℕ → List ℕ
+body_in bytes = drop 17 (text_in bytes)

@@ -1,0 +1,4 @@
+pub mod Datagram
+pub mod Heads
+pub mod Keys
+pub mod Opens

@@ -1,0 +1,123 @@
+//! The keys of a node or a client: one to each peer, and one from each.
+ghost use Rattle.std.specs.Prelude.{◌≡◌, IfOk};
+ghost use Rattle.cs_wire.specs.Keys.{same_name as alike, row_of, row_in, stands, Lists, IsOfMaster};
+
+use crate::names::rows_of_master;
+use cs_base::{Config, Memory, NodeId, Sequence};
+use cs_value::Digest;
+use std::alloc::{AllocFailed, Global};
+
+/// The keys that are shared with a peer.
+#[derive(Clone, Copy, PartialEq, Eq)]
+pub struct Row {
+    pub peer: NodeId,
+    /// The key of what is sent to the peer.
+    pub to: Digest,
+    /// The key of what comes from the peer.
+    pub from: Digest,
+}
+
+/// The keys of a node or a client.
+#[derive(Drop)]
+pub struct Keys {
+    pub(crate) me: NodeId,
+    pub(crate) rows: Sequence<Row>,
+}
+
+/// Why a list is no list of keys.
+#[derive(Clone, Copy, Debug, PartialEq, Eq)]
+pub enum KeysError {
+    /// The peer at this place stands there a second time, or is the one whose keys they are.
+    Twice(usize),
+    /// There was not enough memory.
+    Memory,
+}
+
+impl<T: Drop> From<AllocFailed<T>> for KeysError {
+    ghost use Rattle.cs_wire.specs.declared.keys.KeysError.TheVariants.{Memory as NoMemory};
+
+    ghost from_gives = { λ _ e. e ≡ NoMemory };
+
+    fn from(_e: AllocFailed<T>) -> KeysError {
+        KeysError::Memory
+    }
+}
+
+/// Whether two names are the same.
+pub fn same_name(a: NodeId, b: NodeId) -> bool
+    ensures { result ≡ alike a b }
+{
+    a.shard == b.shard && a.index == b.index
+}
+
+fn row_among(rows: &[Row], peer: NodeId) -> Option<Row>
+    ensures { result ≡ row_in peer rows.now }
+{
+    for i in 0..rows.len() {
+        if same_name(rows[i].peer, peer) {
+            return Some(rows[i]);
+        }
+    }
+    None
+}
+
+// Whether the name stands among these.
+fn is_among(list: &[(NodeId, Digest, Digest)], name: NodeId) -> bool
+    ensures { result ≡ stands name list.now }
+{
+    for i in 0..list.len() {
+        if same_name(list[i].0, name) {
+            return true;
+        }
+    }
+    false
+}
+
+impl Keys {
+    /// The keys that a master key gives to a name, with all nodes of the configuration and all
+    /// clients but itself as peers.
+    pub fn from_master(
+        alloc: Global,
+        config: &Config,
+        master: &Digest,
+        me: NodeId,
+    ) -> Result<Keys, Memory>
+        ensures { IfOk result (λ keys. IsOfMaster config.now master.now me keys) }
+    {
+        let rows = rows_of_master(alloc, config, master, me)?;
+        Ok(Keys { me, rows })
+    }
+
+    /// The keys of a list, of a peer with the key to it and the key from it each.
+    pub fn from_list(
+        alloc: Global,
+        me: NodeId,
+        list: &[(NodeId, Digest, Digest)],
+    ) -> Result<Keys, KeysError>
+        ensures { Lists me list.now result }
+    {
+        let mut rows = Sequence::new(alloc);
+        for i in 0..list.len() {
+            let (peer, to, from) = list[i];
+            if same_name(peer, me) || is_among(&list[..i], peer) {
+                return Err(KeysError::Twice(i));
+            }
+            rows.push(Row { peer, to, from })?;
+        }
+        Ok(Keys { me, rows })
+    }
+
+    /// The name that the keys were made for.
+    pub fn me(&self) -> NodeId
+        ensures { result ≡ self.now.me }
+    {
+        self.me
+    }
+
+    /// The keys that are shared with a peer.
+    pub(crate) fn row(&self, peer: NodeId) -> Option<Row>
+        ensures { result ≡ row_of peer self.now }
+    {
+        row_among(self.rows.as_slice(), peer)
+    }
+}

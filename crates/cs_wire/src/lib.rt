@@ -1,0 +1,18 @@
+//! Sealed datagrams: what is sent from one node or client to another, and under which keys.
+#![tactic(auto)]
+
+mod head;
+mod input;
+mod keys;
+mod laws;
+mod names;
+mod opening;
+mod sealing;
+mod view;
+
+pub use input::{Input, Out};
+pub use keys::{Keys, KeysError};
+pub use laws::{names_of_one_master_understand_each_other, sealed_datagrams_are_opened};
+pub use opening::{OpenError, open};
+pub use sealing::{SealError, seal};
+pub use view::MessageView;

@@ -1,0 +1,125 @@
+//! Opening datagrams.
+ghost use Rattle.std.specs.Prelude.{◌≡◌, ◌≤◌, length, IfOk};
+ghost use Rattle.cs_wire.specs.Datagram.{has_tag as tagged_so, is_sized as sized_so, is_kind as kind_so, body_in};
+ghost use Rattle.cs_wire.specs.Opens.{fault_of, head_fault, Checks, Opens};
+ghost use Rattle.cs_wire.specs.Heads.{head_seen};
+
+use crate::head::{Head, head_of};
+use crate::keys::{Keys, same_name};
+use crate::view::MessageView;
+use cs_base::NodeId;
+use cs_hash::{same, tag};
+use cs_message::has_form;
+use cs_value::Digest;
+
+/// The bytes of a head.
+const HEAD: usize = 17;
+
+/// The bytes of a tag.
+const TAG: usize = 32;
+
+/// The bytes of a head and a tag.
+const LEAST: usize = 49;
+
+/// The most bytes of a datagram.
+const MOST: usize = 32768;
+
+/// The first test of a datagram that fails; the tests stand here in their order.
+#[derive(Clone, Copy, Debug, PartialEq, Eq)]
+pub enum OpenError {
+    /// There are fewer than 49 bytes.
+    Short,
+    /// The first four bytes aren't `CSP1`.
+    Magic,
+    /// The kind isn't 1 to 14.
+    Kind,
+    /// The datagram is for another.
+    NotMine,
+    /// There is no key for the sender.
+    Stranger,
+    /// The length of the body isn't that of the bytes, or there are more than 32,768 bytes.
+    Length,
+    /// The tag isn't that of the bytes before it under the sender's key.
+    Tag,
+    /// The body is none of its kind.
+    Body,
+}
+
+fn is_kind(kind: u8) -> bool
+    ensures { result ≡ kind_so kind }
+{
+    kind >= 1 && kind <= 14
+}
+
+fn is_sized(size: u32, bytes: &[u8]) -> bool
+    ensures { result ≡ sized_so size bytes.now }
+{
+    bytes.len() == size as usize + LEAST && bytes.len() <= MOST
+}
+
+// Whether the last 32 bytes are the tag of those before them.
+fn has_tag(key: &Digest, bytes: &[u8]) -> bool
+    requires { 32 ≤ length bytes.now }
+    ensures { result ≡ tagged_so key.now bytes.now }
+{
+    let (text, given) = bytes.split_at(bytes.len() - TAG);
+    let mut read = [0; 32];
+    read.copy_from_slice(given);
+    same(&read, &tag(key.as_slice(), text))
+}
+
+// The tests before that of the body.
+fn checked(keys: &Keys, bytes: &[u8]) -> Result<Head, OpenError>
+    ensures long { IfOk result (λ head. 49 ≤ length bytes.now) }
+    ensures checks { Checks result (fault_of keys.now bytes.now) (head_seen bytes.now) }
+{
+    if bytes.len() < LEAST {
+        return Err(OpenError::Short);
+    }
+    let Some(head) = head_of(bytes) else {
+        return Err(OpenError::Short);
+    };
+    if head.magic.as_slice() != b"CSP1".as_slice() {
+        return Err(OpenError::Magic);
+    }
+    if !is_kind(head.kind) {
+        return Err(OpenError::Kind);
+    }
+    if !same_name(head.to, keys.me) {
+        return Err(OpenError::NotMine);
+    }
+    let Some(row) = keys.row(head.from) else {
+        return Err(OpenError::Stranger);
+    };
+    if !is_sized(head.size, bytes) {
+        return Err(OpenError::Length);
+    }
+    let key = row.from;
+    if !has_tag(&key, bytes) {
+        return Err(OpenError::Tag);
+    }
+    Ok(head)
+}
+
+// What stands between the head and the tag.
+fn body_of(bytes: &[u8]) -> &[u8]
+    requires { 49 ≤ length bytes.now }
+    ensures { result.now ≡ body_in bytes.now }
+{
+    let (text, _) = bytes.split_at(bytes.len() - TAG);
+    let (_, body) = text.split_at(HEAD);
+    body
+}
+
+/// Opens a datagram: the sender and the message, or the first test that fails. It takes no memory.
+pub fn open<'a>(keys: &Keys, bytes: &'a [u8]) -> Result<(NodeId, MessageView<'a>), OpenError>
+    ensures { Opens keys.now bytes.now result }
+{
+    let head = checked(keys, bytes)?;
+    let body = body_of(bytes);
+    if !has_form(head.kind, body) {
+        return Err(OpenError::Body);
+    }
+    let kind = head.kind;
+    Ok((head.from, MessageView { kind, body }))
+}

@@ -1,0 +1,34 @@
+//! Messages that are still bytes of a datagram.
+ghost use Rattle.std.specs.Prelude.{◌≡◌, IfOk};
+ghost use Rattle.cs_message.specs.Body.{IsBody, Has};
+ghost use Rattle.cs_wire.specs.Opens.{Shows};
+
+use cs_base::Memory;
+use cs_message::{Message, message_in};
+use std::alloc::Global;
+
+/// A message that stands in a datagram, which it borrows.
+#[derive(Clone, Copy)]
+pub struct MessageView<'a> {
+    pub(crate) kind: u8,
+    pub(crate) body: &'a [u8],
+}
+
+impl<'a> MessageView<'a> {
+    /// The number of the kind, from 1 to 14.
+    pub fn kind(&self) -> u8
+        ensures { result ≡ self.now.kind }
+    {
+        self.kind
+    }
+
+    /// The message.
+    pub fn to_message(&self, alloc: Global) -> Result<Message, Memory>
+        ensures { IfOk result (λ message. Shows self.now message) }
+    {
+        match message_in(alloc, self.kind, self.body) {
+            Ok(message) => Ok(message),
+            Err(_) => Err(Memory),
+        }
+    }
+}
