@@ -1,0 +1,5 @@
+pub mod Laws
+pub mod Levels
+pub mod Onward
+pub mod Sentences
+pub mod TextRules

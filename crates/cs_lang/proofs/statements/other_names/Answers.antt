@@ -1,0 +1,21 @@
+use Rattle.std.proofs.Common.{List, ◌≡◌, ◌-◌, ◌<◌, rules, arith, sym, ap, ◌∙◌}
+use Rattle.std.proofs.lemmas.Result.{err_from_is_err_and}
+use Rattle.cs_lang.proofs.Onward.{names_done, names_full, names_step, names_fail}
+use Rattle.cs_lang.proofs.statements.other_names.Goals as goal
+
+pub returns-then-not-at : goal.returns-then-not-at
+returns-then-not-at c = names_done _ _ _ _ _ _ c.loop.invariant (sym c.at.ensures ∙ c.if-not-at.true)
+
+pub loop-preserved : goal.loop-preserved
+loop-preserved c = names_step _ _ _ _ _ _ _ _ _ c.loop.invariant (omega arith) (omega arith) (sym c.at.ensures ∙ c.if-not-at.false) c.in_ok-all.ensures
+
+pub returns-in_err-all : goal.returns-in_err-all
+returns-in_err-all c =
+    let p = err_from_is_err_and c.from_residual.result c.from_residual.ensures.1 in
+    rw (p.1, p.2) (names_fail _ _ _ _ _ _ _ c.in_err-all.field-0.0 c.loop.invariant (omega arith) (sym c.at.ensures ∙ c.if-not-at.false) c.in_err-all.ensures)
+
+pub returns-then-at : goal.returns-then-at
+returns-then-at c = names_full _ _ _ _ _ _ c.loop.invariant (omega arith) (sym c.at-2.ensures ∙ c.if-at.true)
+
+pub returns : goal.returns
+returns c = names_done _ _ _ _ _ _ c.loop.invariant (sym c.at-2.ensures ∙ c.if-at.false)

@@ -1,0 +1,4 @@
+pub mod Readers
+pub mod Rules
+pub mod Texts
+pub mod Trees

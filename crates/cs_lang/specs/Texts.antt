@@ -1,0 +1,45 @@
+-- Which texts are contracts, and why one is none.
+use Rattle.std.specs.Prelude.{◌≡◌, ℕ, ◌<◌, ◌≤◌, List, length, Result, Ok, Err}
+use Rattle.cs_token.specs.declared.token.Token.{Token}
+use Rattle.cs_token.specs.Tokens.{tokens_of}
+use Rattle.cs_token.specs.Texts.{IsText, IsRefused}
+use Rattle.cs_token.specs.Answers.{place_of}
+use Rattle.cs_lang.specs.declared.tree.Contract.{Contract}
+use Rattle.cs_lang.specs.declared.text.LangError.{LangError}
+use Rattle.cs_lang.specs.declared.text.LangError.TheVariants as error
+use Rattle.cs_lang.specs.Rules.{contract}
+
+-- The text has at most 65,536 bytes, and its tokens spell the contract within the limits of the grammar.
+pub record IsContract (text : List ℕ) (c : Contract) : Type 0 where
+  pub short : length text ≤ 65536
+  pub tokens : List Token
+  pub read : tokens_of text ≡ Ok tokens
+  pub spells : IsText contract c tokens
+
+-- The text has tokens, and place is that of the first with which no contract text can go on, or the text's length.
+pub record IsSyntax (text : List ℕ) (place : ℕ) : Type 0 where
+  pub short : length text ≤ 65536
+  pub tokens : List Token
+  pub read : tokens_of text ≡ Ok tokens
+  pub bad : List Token
+  pub refused : IsRefused contract tokens bad
+  pub at : place ≡ place_of (length text) bad
+
+-- what holds of a refusal
+abbrev pub IsRefusal : List ℕ → LangError → Type 0
+IsRefusal text error.Memory = Unit {0}
+IsRefusal text error.TooLong = 65536 < length text
+IsRefusal text (error.Lex place) = (length text ≤ 65536) × (tokens_of text ≡ Err place)
+IsRefusal text (error.Syntax place) = IsSyntax text place
+
+-- it is the answer, unless memory ran out
+abbrev pub Answers : Result Contract LangError → Contract → Type 0
+Answers (Ok x) c = x ≡ c
+Answers (Err why) c = why ≡ error.Memory
+
+-- no other refusal than one of the grammar, or want of memory, and what holds of its place
+abbrev pub IfSyntax : LangError → (ℕ → Type 0) → Type 0
+IfSyntax error.Memory P = Unit {0}
+IfSyntax error.TooLong P = ⊥
+IfSyntax (error.Lex place) P = ⊥
+IfSyntax (error.Syntax place) P = P place

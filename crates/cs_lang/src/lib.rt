@@ -1,0 +1,21 @@
+//! The contract language: its trees, its reader and its printer.
+#![tactic(auto)]
+
+mod expressions;
+mod kinds;
+mod methods;
+mod nodes;
+mod statements;
+#[cfg(test)]
+mod tests;
+mod text;
+#[cfg(test)]
+mod texts;
+mod tree;
+
+pub use cs_token::{Boxed, Number, Sequence, Text};
+pub use text::{LangError, MOST_BYTES, parse};
+pub use tree::{
+    Access, Action, Block, Comparison, Contract, Expr, Field, Link, Method, Operator, Rank, Shape,
+    Slot, Statement, Step, TypeDef, ValueKind,
+};

@@ -1,0 +1,66 @@
+//! Reading whole texts.
+ghost use Rattle.std.specs.Prelude.{◌≡◌, List, IfOk, IfErr};
+ghost use Rattle.cs_token.specs.Texts.{IsText, IsRefused};
+ghost use Rattle.cs_token.specs.Answers.{place_of};
+ghost use Rattle.cs_token.specs.declared.token.Token.{Token as Read};
+ghost use Rattle.cs_lang.specs.Rules.{contract as Spelled};
+ghost use Rattle.cs_lang.specs.Texts.{Answers, IsContract, IsRefusal, IfSyntax};
+
+use crate::methods::contract;
+use crate::tree::Contract;
+use cs_token::{Cursor, LexError, Stop, Token, tokens_of};
+use std::alloc::Global;
+
+/// The most bytes of a text, with its blanks and comments.
+pub const MOST_BYTES: usize = 65_536;
+
+/// Why a text is no contract.
+#[derive(Clone, Copy, Debug, PartialEq, Eq)]
+pub enum LangError {
+    /// Memory ran out.
+    Memory,
+    /// It has more bytes than a text may have.
+    TooLong,
+    /// No token begins at this offset.
+    Lex(usize),
+    /// No contract text goes on with the token at this offset; or the text stops here too early.
+    Syntax(usize),
+}
+
+/// The contract that the tokens of a text of this length spell.
+fn read(alloc: Global, tokens: &[Token], end: usize) -> Result<Contract, LangError>
+    ensures found { IfOk result (λ c. IsText Spelled c tokens.now) }
+    ensures only { (c : Contract) → IsText Spelled c tokens.now → Answers result c }
+    ensures refused { IfErr result (λ e. IfSyntax e (λ place. (bad : List Read) × IsRefused Spelled tokens.now bad × (place ≡ place_of end bad))) }
+{
+    let mut cursor = Cursor::new(tokens);
+    match contract(alloc, &mut cursor) {
+        Ok(read) => {
+            if cursor.len() > 0 {
+                return Err(LangError::Syntax(cursor.place(end)));
+            }
+            Ok(read)
+        }
+        Err(Stop::Memory) => Err(LangError::Memory),
+        Err(Stop::Syntax) => Err(LangError::Syntax(cursor.place(end))),
+    }
+}
+
+/// The contract that a text is. It takes memory for the tokens and for the tree.
+pub fn parse(alloc: Global, text: &[u8]) -> Result<Contract, LangError>
+    // What is read is spelled by the text, within the limits.
+    ensures found { IfOk result (λ c. IsContract text.now c) }
+    // What the text spells is read, unless memory runs out.
+    ensures only { (c : Contract) → IsContract text.now c → Answers result c }
+    // A refusal has its cause, and the place that goes with it.
+    ensures refused { IfErr result (IsRefusal text.now) }
+{
+    if text.len() > MOST_BYTES {
+        return Err(LangError::TooLong);
+    }
+    match tokens_of(alloc, text) {
+        Ok(tokens) => read(alloc, tokens.as_slice(), text.len()),
+        Err(LexError::Memory) => Err(LangError::Memory),
+        Err(LexError::Bad(place)) => Err(LangError::Lex(place)),
+    }
+}
