@@ -15,8 +15,8 @@ use Rattle.cs_tx.specs.Sessions.{session_of}
 use Rattle.cs_tx.specs.Uses as Uses
 use Rattle.cs_tx.proofs.ShardsSeen.{concerns-session_of}
 use Rattle.cs_order.specs.Deeds.{Member}
-use Rattle.cs_trail.specs.declared.schedule.Event.{Event}
-use Rattle.cs_trail.specs.declared.schedule.Event.TheVariants.{Say}
+use Rattle.cs_event.specs.declared.schedule.Event.{Event}
+use Rattle.cs_event.specs.declared.schedule.Event.TheVariants.{Say}
 use Rattle.cs_trail.specs.Setup as Setup
 use Rattle.cs_trail.specs.Site.{Site, start_view}
 use Rattle.cs_trail.specs.Deployment.{rules_of, setup_of}

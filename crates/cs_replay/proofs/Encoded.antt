@@ -9,8 +9,8 @@ use Rattle.cs_form.specs.declared.transaction.Tx.{Tx}
 use Rattle.cs_form.specs.declared.entry.Entry.{Entry}
 use Rattle.cs_form.specs.Session.{EntryFits}
 use Rattle.cs_order.specs.Deeds.{Member, Machine}
-use Rattle.cs_trail.specs.declared.schedule.Event.{Event}
-use Rattle.cs_trail.specs.declared.schedule.Event.TheVariants.{Say}
+use Rattle.cs_event.specs.declared.schedule.Event.{Event}
+use Rattle.cs_event.specs.declared.schedule.Event.TheVariants.{Say}
 use Rattle.cs_trail.specs.Setup.{Setup}
 use Rattle.cs_trail.specs.Evidence.{name_eq}
 use Rattle.cs_trail.specs.Signs.{Sign, Dropped, Took, Entered, Did}

@@ -9,8 +9,8 @@ use Rattle.cs_base.specs.Answers.{AppendsFront}
 use Rattle.cs_base.specs.declared.node_id.NodeId.{NodeId}
 use Rattle.cs_form.specs.declared.transaction.Tx.{Tx}
 use Rattle.cs_order.specs.Deeds.{Member, Machine}
-use Rattle.cs_trail.specs.declared.schedule.Event.{Event}
-use Rattle.cs_trail.specs.declared.schedule.Event.TheVariants.{Say}
+use Rattle.cs_event.specs.declared.schedule.Event.{Event}
+use Rattle.cs_event.specs.declared.schedule.Event.TheVariants.{Say}
 use Rattle.cs_trail.specs.Setup.{Setup}
 use Rattle.cs_trail.specs.Site.{Site, Datagram, signs_of}
 use Rattle.cs_trail.specs.Trail.{event_marks}

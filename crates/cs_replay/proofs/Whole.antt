@@ -8,7 +8,7 @@ use Rattle.std.proofs.KnownBytes.{Appends-trans}
 use Rattle.cs_base.specs.Answers.{AppendsFront}
 use Rattle.cs_base.specs.Codes.{bytes_text}
 use Rattle.cs_ledger.specs.Ledger.{Transaction}
-use Rattle.cs_trail.specs.declared.schedule.Event.{Event}
+use Rattle.cs_event.specs.declared.schedule.Event.{Event}
 use Rattle.cs_trail.specs.Site.{Site}
 use Rattle.cs_trail.specs.World.{told, firsts_of, history}
 use Rattle.cs_trail.specs.Lines.{transaction_lines, history_text}

@@ -7,7 +7,7 @@ use Rattle.cs_base.specs.declared.printing.WriteError.TheVariants as write
 use Rattle.cs_sched.specs.Text.{schedule_of}
 use Rattle.cs_sched.specs.Refusals.{refusal_status, refusal_text}
 use Rattle.cs_sched.specs.declared.cause.Refusal.{Refusal}
-use Rattle.cs_trail.specs.declared.schedule.Schedule.{Schedule}
+use Rattle.cs_event.specs.declared.schedule.Schedule.{Schedule}
 use Rattle.cs_trail.specs.Play.{lines}
 use Rattle.cs_replay.specs.Site.{site_of_schedule}
 

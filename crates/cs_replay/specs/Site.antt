@@ -3,7 +3,7 @@ use Rattle.cs_tx.specs.Sessions.{session_of}
 use Rattle.cs_tx.specs.Token.{is_token_approved}
 use Rattle.cs_order.specs.declared.solo.NoMessage.{NoMessage}
 use Rattle.cs_order.specs.Solo.{solo}
-use Rattle.cs_trail.specs.declared.schedule.Schedule.{Schedule}
+use Rattle.cs_event.specs.declared.schedule.Schedule.{Schedule}
 use Rattle.cs_trail.specs.Setup.{Setup}
 use Rattle.cs_trail.specs.Site.{Site}
 use Rattle.cs_trail.specs.Deployment.{setup_of, site_of}

@@ -1,6 +1,6 @@
 -- What is true of every schedule that is read, as it is played.
 use Rattle.cs_order.specs.declared.solo.NoMessage.{NoMessage}
-use Rattle.cs_trail.specs.declared.schedule.Schedule.{Schedule}
+use Rattle.cs_event.specs.declared.schedule.Schedule.{Schedule}
 use Rattle.cs_trail.specs.Site.{Site}
 use Rattle.cs_trail.specs.World.{Happening}
 use Rattle.cs_trail.specs.Play.{unplayed, play_all}

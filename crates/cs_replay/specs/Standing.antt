@@ -8,8 +8,8 @@ use Rattle.cs_form.specs.declared.entry.Entry.{Entry}
 use Rattle.cs_form.specs.Session.{EntryFits}
 use Rattle.cs_order.specs.Deeds.{Member, Machine}
 use Rattle.cs_ledger.specs.Ledger.{Bytes}
-use Rattle.cs_trail.specs.declared.schedule.Event.{Event}
-use Rattle.cs_trail.specs.declared.schedule.Event.TheVariants.{Say}
+use Rattle.cs_event.specs.declared.schedule.Event.{Event}
+use Rattle.cs_event.specs.declared.schedule.Event.TheVariants.{Say}
 use Rattle.cs_trail.specs.Setup.{Setup}
 use Rattle.cs_trail.specs.Site.{Site, View, Datagram, signs_of}
 use Rattle.cs_trail.specs.Trail.{event_marks}

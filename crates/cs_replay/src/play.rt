@@ -18,7 +18,7 @@ use crate::telling::tell;
 use cs_base::{NodeId, Sink, WriteError, print};
 use cs_node::Core;
 use cs_order::Order;
-use cs_trail::Event;
+use cs_event::Event;
 use cs_tx::Judge;
 use std::alloc::Global;
 

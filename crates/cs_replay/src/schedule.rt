@@ -22,7 +22,7 @@ use crate::theorem::executions_fit;
 use cs_base::{Sink, WriteError, print};
 use cs_node::Core;
 use cs_order::Order;
-use cs_trail::Schedule;
+use cs_event::Schedule;
 use cs_tx::Judge;
 use std::alloc::Global;
 

@@ -10,7 +10,7 @@ ghost use Rattle.cs_replay.specs.Standing.{AllStand};
 use cs_base::{Key, Memory, NodeId};
 use cs_node::{Core, StartError};
 use cs_order::{Order, Solo};
-use cs_trail::Schedule;
+use cs_event::Schedule;
 use cs_tx::{Encoded, Judge, Object, TokenJudge, genesis_key};
 use std::alloc::Global;
 

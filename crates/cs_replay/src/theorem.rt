@@ -1,6 +1,6 @@
 //! What is true of every schedule.
 ghost use Rattle.std.specs.Prelude.{◌≡◌, ℕ, List, Ok};
-ghost use Rattle.cs_trail.specs.declared.schedule.Schedule.{Schedule};
+ghost use Rattle.cs_event.specs.declared.schedule.Schedule.{Schedule};
 ghost use Rattle.cs_sched.specs.declared.reader.TheConstants.{LIMIT};
 ghost use Rattle.cs_sched.specs.Playable.{IsPlayable};
 ghost use Rattle.cs_sched.specs.Text.{schedule_of};

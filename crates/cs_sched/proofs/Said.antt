@@ -16,9 +16,9 @@ use Rattle.cs_base.specs.declared.config.Config.{Config}
 use Rattle.cs_base.specs.declared.node_id.NodeId.{NodeId}
 use Rattle.cs_value.specs.declared.object.Object.{Object}
 use Rattle.cs_value.specs.Object.{ObjectFits}
-use Rattle.cs_trail.specs.declared.schedule.Schedule.{Schedule}
-use Rattle.cs_trail.specs.declared.schedule.Event.{Event}
-use Rattle.cs_trail.specs.declared.schedule.Event.TheVariants as event
+use Rattle.cs_event.specs.declared.schedule.Schedule.{Schedule}
+use Rattle.cs_event.specs.declared.schedule.Event.{Event}
+use Rattle.cs_event.specs.declared.schedule.Event.TheVariants as event
 use Rattle.cs_sched.specs.declared.cause.Cause.TheVariants as cause
 use Rattle.cs_sched.specs.declared.draft.Draft.{Draft}
 use Rattle.cs_sched.specs.Values.{◌>>=◌, in_range, number_within, bytes_within, encoded_object, object_in}

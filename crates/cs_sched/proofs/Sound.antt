@@ -11,7 +11,7 @@ use Rattle.cs_base.specs.declared.config.TheConstants.{MOST_SHARDS, MOST_LIARS}
 use Rattle.cs_value.specs.declared.object.Object.{Object}
 use Rattle.cs_value.specs.Object.{ObjectFits}
 use Rattle.cs_tx.specs.Digest.{name_of_genesis}
-use Rattle.cs_trail.specs.declared.schedule.Event.{Event}
+use Rattle.cs_event.specs.declared.schedule.Event.{Event}
 use Rattle.cs_sched.specs.declared.draft.Draft.{Draft}
 use Rattle.cs_sched.specs.declared.draft.Stage.{Stage}
 use Rattle.cs_sched.specs.Values.{in_range}

@@ -5,9 +5,9 @@ use Rattle.cs_base.specs.Fields.{IsBytes}
 use Rattle.cs_base.specs.NodeId.{is_client}
 use Rattle.cs_base.specs.declared.node_id.NodeId.{NodeId}
 use Rattle.cs_value.specs.Object.{ObjectFits}
-use Rattle.cs_trail.specs.declared.schedule.Schedule.{Schedule}
-use Rattle.cs_trail.specs.declared.schedule.Event.{Event}
-use Rattle.cs_trail.specs.declared.schedule.Event.TheVariants.{Say}
+use Rattle.cs_event.specs.declared.schedule.Schedule.{Schedule}
+use Rattle.cs_event.specs.declared.schedule.Event.{Event}
+use Rattle.cs_event.specs.declared.schedule.Event.TheVariants.{Say}
 use Rattle.cs_sched.specs.Names.{genesis_names}
 
 -- the one node of the one shard

@@ -6,9 +6,9 @@ use Rattle.cs_base.specs.Config.{configured}
 use Rattle.cs_base.specs.declared.config.Config.{Config}
 use Rattle.cs_base.specs.declared.node_id.NodeId.{NodeId}
 use Rattle.cs_value.specs.declared.object.Object.{Object}
-use Rattle.cs_trail.specs.declared.schedule.Schedule.{Schedule}
-use Rattle.cs_trail.specs.declared.schedule.Event.{Event}
-use Rattle.cs_trail.specs.declared.schedule.Event.TheVariants as event
+use Rattle.cs_event.specs.declared.schedule.Schedule.{Schedule}
+use Rattle.cs_event.specs.declared.schedule.Event.{Event}
+use Rattle.cs_event.specs.declared.schedule.Event.TheVariants as event
 use Rattle.cs_sched.specs.Values.{◌>>=◌, in_range, number_within, bytes_within, master_in, object_in}
 use Rattle.cs_sched.specs.Naming.{liar_in, speaker_in, listener_in}
 use Rattle.cs_sched.specs.declared.cause.Cause.{Cause}

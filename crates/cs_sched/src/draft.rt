@@ -16,7 +16,7 @@ use crate::lines::{
 };
 use crate::name_set::NameSet;
 use cs_base::{Config, Key, Memory, Sequence};
-use cs_trail::Schedule;
+use cs_event::Schedule;
 use cs_tx::{Digest, Object, genesis_key};
 use std::alloc::Global;
 

@@ -14,6 +14,6 @@ mod tests;
 mod values;
 
 pub use cause::{Cause, Refusal, refusal_line};
-pub use cs_trail::{Event, Schedule};
+pub use cs_event::{Event, Schedule};
 pub use error::ScheduleError;
 pub use reader::{LIMIT, parse, refusals_name_the_first_bad_line};

@@ -13,7 +13,7 @@ use crate::values::{
     config, number, read_bytes_within, read_master, read_number_within, read_object,
 };
 use cs_base::{Config, NodeId};
-use cs_trail::{Event, Schedule};
+use cs_event::{Event, Schedule};
 use cs_tx::{Digest, Object};
 use std::alloc::Global;
 

@@ -2,8 +2,8 @@
 use Rattle.std.proofs.Common.{ℕ, List, [], ◌∷◌, All, refl, arith}
 use Rattle.std.proofs.lemmas.List.Elements.{All-tail}
 use Rattle.cs_order.specs.Deeds.{Machine}
-use Rattle.cs_trail.specs.declared.schedule.Event.{Event}
-use Rattle.cs_trail.specs.declared.schedule.Event.TheVariants.{Say}
+use Rattle.cs_event.specs.declared.schedule.Event.{Event}
+use Rattle.cs_event.specs.declared.schedule.Event.TheVariants.{Say}
 use Rattle.cs_trail.specs.Site.{Site}
 use Rattle.cs_trail.specs.Play.{Played, unplayed, play, play_all}
 use Rattle.cs_story.specs.OneNode.{IsForNode, IsOneNode, deployed, PlaysOneNode}

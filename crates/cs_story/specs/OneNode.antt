@@ -15,8 +15,8 @@ use Rattle.cs_ledger.specs.Ledger.{Bytes, Transaction, IsIn, Serial, IsSpentOnce
 use Rattle.cs_ledger.specs.Session as Seen
 use Rattle.cs_ledger.specs.Table.{free_object}
 use Rattle.cs_trail.specs.Setup.{digest_of, concerns, session_in}
-use Rattle.cs_trail.specs.declared.schedule.Event.{Event}
-use Rattle.cs_trail.specs.declared.schedule.Event.TheVariants.{Say}
+use Rattle.cs_event.specs.declared.schedule.Event.{Event}
+use Rattle.cs_event.specs.declared.schedule.Event.TheVariants.{Say}
 use Rattle.cs_trail.specs.Play.{unplayed, play_all}
 use Rattle.cs_trail.specs.Signs.{Sign}
 use Rattle.cs_trail.specs.Site.{Input, Datagram, Site, signs_of}

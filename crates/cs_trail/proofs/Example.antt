@@ -13,8 +13,8 @@ use Rattle.cs_order.specs.Counts.{count_below}
 use Rattle.cs_order.specs.Solo.{solo}
 use Rattle.cs_ledger.specs.Ledger.{Bytes, Item, Transaction}
 use Rattle.cs_ledger.specs.Table as Shard
-use Rattle.cs_trail.specs.declared.schedule.Event.{Event}
-use Rattle.cs_trail.specs.declared.schedule.Event.TheVariants.{Say}
+use Rattle.cs_event.specs.declared.schedule.Event.{Event}
+use Rattle.cs_event.specs.declared.schedule.Event.TheVariants.{Say}
 use Rattle.cs_trail.specs.Signs.{Sign, Did}
 use Rattle.cs_trail.specs.Site.{Datagram, Mark, Site, start_view, signs_of}
 use Rattle.cs_trail.specs.Trail.{event_marks, settled}

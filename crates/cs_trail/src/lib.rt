@@ -4,9 +4,7 @@
 mod ballot;
 mod cause;
 mod pooled;
-mod schedule;
 
 pub use ballot::Ballot;
 pub use cause::Cause;
 pub use pooled::Pooled;
-pub use schedule::{Event, Schedule};

@@ -1,7 +1,7 @@
 use Rattle.std.proofs.Common.{◌≡◌, ℕ, ◌≤◌, ◌+◌, List, length, take, sym, ap, subst, ◌∙◌, arith}
 use Rattle.std.specs.Io.KnownBytes.{Appends}
 use Rattle.std.proofs.KnownBytes.{Appends-trans}
-use Rattle.cs_trail.specs.declared.schedule.Event.{Event}
+use Rattle.cs_event.specs.declared.schedule.Event.{Event}
 use Rattle.cs_trail.specs.Deployment.{site_of}
 use Rattle.cs_trail.specs.Play.{Played, unplayed, play, play_all}
 use Rattle.cs_replay.specs.Standing.{HasNode, Standing, addressee, event_text}

@@ -1,7 +1,7 @@
 use Rattle.std.proofs.Common.{ℕ, List, length, subst, OnOk, OnErr}
 use Rattle.std.specs.Io.KnownBytes.{Appends}
 use Rattle.cs_base.specs.Answers.{AppendsFront}
-use Rattle.cs_trail.specs.declared.schedule.Event.{Event}
+use Rattle.cs_event.specs.declared.schedule.Event.{Event}
 use Rattle.cs_trail.specs.Deployment.{site_of}
 use Rattle.cs_trail.specs.Play.{unplayed, play_all, lines}
 use Rattle.cs_replay.specs.Digests.{history_lines}

@@ -24,4 +24,21 @@ pub enum Event {
         kind: u8,
         body: Sequence<u8>,
     },
+    /// An honest node is given these bytes.
+    Inject {
+        to: NodeId,
+        bytes: Sequence<u8>,
+    },
+    /// The datagram of this number, of those that honest nodes have sent, comes to its addressee.
+    Deliver {
+        number: u64,
+    },
+    /// Time passes at an honest node.
+    Tick {
+        node: NodeId,
+    },
+    /// So many times the oldest datagram that never came to its addressee does so.
+    Drain {
+        times: u64,
+    },
 }
