@@ -18,9 +18,10 @@ use Rattle.cs_rules.specs.Rules.{seen, choice, entering, confirming, step_by, ow
 use Rattle.cs_rules.specs.SlotMachine.{slot_machine, sight}
 use Rattle.cs_law.specs.SlotFacts.{pending_is, if_some}
 use Rattle.cs_law.specs.RuleFacts.{proposal_of_is, Chooses, IsKnown, choice_is, said_done}
-use Rattle.cs_law.specs.Sound.{Sound, sound_step}
+use Rattle.cs_law.specs.Sights.{sound, step_chooses}
 use Rattle.cs_law.specs.Steps.{Vouches, step_of}
 use Rattle.cs_law.specs.SlotLaw.{new_carried, push_cases}
+use Rattle.cs_law.specs.Proper.{handed_out_proper}
 
 abbrev Deeds : Type 0
 Deeds = List (Deed OrderMessage)
@@ -34,20 +35,6 @@ module _ (f me : ℕ) where
 
   abbrev IsHeld : Proposed → Deeds → Type 0
   IsHeld e deeds = IsIn e (held_in slot_machine deeds)
-
-  sound : (deeds : Deeds) → Kept deeds → Sound (sight (at deeds))
-  sound [] kept =
-      record {
-        small = omega arith;
-        within = λ m k. absurd k;
-        no_own_done = λ n e k. k;
-        one_echo = λ n w d e k l. absurd k;
-        echo_safe = λ n w d k l. absurd k;
-        confirm_echoed = λ n v d k. absurd k;
-        change_tells = λ n w v c d k l b. absurd k;
-        change_lists = λ n w u c d k l. absurd k;
-      }
-  sound (act ∷ past) kept = sound_step act (sight (at past)) (sight (did act (at past))) (step_of (at past) act kept.0).0 (sound past kept.1)
 
   -- what stands in a message taken was handed in
   facts_held : (deeds : Deeds) → Kept deeds → (k : ℕ) (m : OrderMessage) (e : Proposed) → IsIn (k, m) (sight (at deeds)).taken → IsIn e (carried m) → IsHeld e deeds
@@ -74,13 +61,6 @@ module _ (f me : ℕ) where
       let none = count_none (3 * f + 1) in
       let m = one_honest f (λ j. is_entry e ((seen s).done j)) (λ j. true) (omega arith) done in
       known_held deeds kept e (inr (m.0, said_done s m.0 e m.2))
-
-  -- a choice is what the step tells
-  step_chooses : (c : Option Proposed) (w : Option ℕ) (d : Option (List ℕ)) (e : Proposed) → step_by c w d ≡ step.Chosen e → c ≡ Some e
-  step_chooses (Some x) w d e h = cc
-  step_chooses None (Some w) d e h = cc
-  step_chooses None None (Some d) e h = cc
-  step_chooses None None None e h = cc
 
   chosen_held : (deeds : Deeds) → Kept deeds → (e : Proposed) → slot_machine.step (at deeds) ≡ step.Chosen e → IsHeld e deeds
   chosen_held deeds kept e h =
@@ -139,4 +119,5 @@ slot_holds =
       offered = λ f me deeds kept entries e h k. offered_held f me deeds kept entries e h k;
       logged = λ f me deeds kept n e h. log_held f me deeds kept n e h;
       sent = λ f me act deeds kept m to h e c. vouched_held f me (act ∷ deeds) kept m e ((step_of (record { f = f; me = me; deeds = deeds }) act kept.0).1 (sound f me deeds kept.1) m to h) c;
+      proper = λ f me act deeds kept m to h. handed_out_proper f me act deeds kept m to h;
     }

@@ -8,4 +8,7 @@ pub mod Steps
 pub mod SlotLaw
 pub mod Rest
 pub mod Exact
+pub mod Sights
+pub mod Lines
+pub mod Proper
 pub mod Held

@@ -126,7 +126,7 @@ to_confirm_is s d h =
     (quorum_is s.f ((seen s).echo s.view) d r.1, not_is _ r.0)
 
 -- What a change tells.
-in_view_is : (v : ℕ) (o : Option (List ℕ)) (pair : ℕ × List ℕ) → in_view v o ≡ Some pair → (pair.0 ≡ v) × (o ≡ Some pair.1)
+pub in_view_is : (v : ℕ) (o : Option (List ℕ)) (pair : ℕ × List ℕ) → in_view v o ≡ Some pair → (pair.0 ≡ v) × (o ≡ Some pair.1)
 in_view_is v None pair h = cc
 in_view_is v (Some d) pair h = (let same : (v, d) ≡ pair = cc in (ap (λ (y : ℕ × List ℕ). y.0) (sym same), ap (λ (y : ℕ × List ℕ). Some y.1) same))
 
@@ -162,7 +162,7 @@ line_by x line other lines inserted below false later true h = h
 line_by x line other lines inserted below false later false (inl e) = inr (inl e)
 line_by x line other lines inserted below false later false (inr h) = elim (below h) [ inl e ↦ inl e | inr k ↦ inr (inr k) ]
 
-inserted_is : (x line : List ℕ × ℕ) (lines : List (List ℕ × ℕ)) → IsIn x (insert_line line lines) → InLine x line lines
+pub inserted_is : (x line : List ℕ × ℕ) (lines : List (List ℕ × ℕ)) → IsIn x (insert_line line lines) → InLine x line lines
 inserted_is x line [] h = h
 inserted_is x line (other ∷ lines) h = line_by x line other lines (insert_line line lines) (inserted_is x line lines) (bytes_eq line.0 other.0) (nat_lt other.1 line.1) (is_lt (slice_cmp nat_cmp line.0 other.0)) h
 

@@ -121,7 +121,7 @@ pub record IsPending (s : Sight) (e : Proposed) : Type 0 where
   pub none_yet : is_some (own echo_said s) ≡ false
   pub not_echoed : (d : List ℕ) → IsIn (s.me, message.Echo (open_slot s) s.view d) s.taken → ⊥
 
-if_may_echo_is : (s : Sight) (o : Option Proposed) (e : Proposed) → if_may_echo s o ≡ Some e → (o ≡ Some e) × (may_echo s e ≡ true)
+pub if_may_echo_is : (s : Sight) (o : Option Proposed) (e : Proposed) → if_may_echo s o ≡ Some e → (o ≡ Some e) × (may_echo s e ≡ true)
 if_may_echo_is s None e h = cc
 if_may_echo_is s (Some x) e h = (let r = if_some (may_echo s x) (Some x) e h in (r.1, (let same : x ≡ e = cc in subst (λ y. may_echo s y ≡ true) same r.0)))
 

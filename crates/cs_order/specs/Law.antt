@@ -41,13 +41,14 @@ pub record Undisturbed {M : Type 0} (m : Machine M) : Type 0 where
   pub by_resend : (h : Member M) (sent : List (Outgoing M)) → m.step (did (Resent sent) h) ≡ m.step h
   pub by_reply : (h : Member M) (slot to : ℕ) (sent : List (Outgoing M)) → m.step (did (Replied slot to sent) h) ≡ m.step h
 
--- Each entry that a member gives was handed in at it.
+-- Each entry that a member gives was handed in at it, and each message that it hands out is proper.
 pub record Holds {M : Type 0} (m : Machine M) : Type 0 where
   pub chosen : (f me : ℕ) (deeds : List (Deed M)) → IsKept m f me deeds → (entry : Proposed) → m.step (record { f = f; me = me; deeds = deeds }) ≡ Chosen entry → IsIn entry (held_in m deeds)
   pub pending : (f me : ℕ) (deeds : List (Deed M)) → IsKept m f me deeds → (entry : Proposed) → m.pending (record { f = f; me = me; deeds = deeds }) ≡ Some entry → IsIn entry (held_in m deeds)
   pub offered : (f me : ℕ) (deeds : List (Deed M)) → IsKept m f me deeds → (entries : List Proposed) (entry : Proposed) → m.may_propose (record { f = f; me = me; deeds = deeds }) ≡ Only entries → IsIn entry entries → IsIn entry (held_in m deeds)
   pub logged : (f me : ℕ) (deeds : List (Deed M)) → IsKept m f me deeds → (slot : ℕ) (entry : Proposed) → slice_get (chosen_in deeds) slot ≡ Some entry → IsIn entry (held_in m deeds)
   pub sent : (f me : ℕ) (deed : Deed M) (deeds : List (Deed M)) → IsKept m f me (deed ∷ deeds) → (message : M) (to : ℕ) → IsFor message to (sent_by deed) → (entry : Proposed) → IsIn entry (m.carried message) → IsIn entry (held_in m (deed ∷ deeds))
+  pub proper : (f me : ℕ) (deed : Deed M) (deeds : List (Deed M)) → IsKept m f me (deed ∷ deeds) → (message : M) (to : ℕ) → IsFor message to (sent_by deed) → m.proper message ≡ true
 
 -- the list is the beginning of the other
 abbrev pub IsPrefix : {A : Type 0} → List A → List A → Type 0

@@ -7,9 +7,9 @@ use Rattle.cs_order.specs.declared.answers.Step.TheVariants as step
 use Rattle.cs_order.specs.declared.answers.May.TheVariants as may
 use Rattle.cs_order.specs.Lists.{IsIn, IsIn-right, slice_get-push}
 use Rattle.cs_order.specs.Limits.{last_slot}
-use Rattle.cs_order.specs.Deeds.{Deed, Member, Machine, chosen_in}
+use Rattle.cs_order.specs.Deeds.{Deed, Member, Machine, sent_by, chosen_in}
 use Rattle.cs_order.specs.Deeds as deed
-use Rattle.cs_order.specs.Runs.{Act, Keeps, IsKept, Run, deeds_of, member_of, entries_in, held_in}
+use Rattle.cs_order.specs.Runs.{Act, Keeps, IsKept, IsFor, Run, deeds_of, member_of, entries_in, held_in}
 use Rattle.cs_order.specs.Law.{Law, Admits, Admitted, HasChosen, Undisturbed, Holds}
 use Rattle.cs_order.specs.Solo.{solo, SoloStands, SoloStarts, solo_rest, waiting_of, step_at, may_at}
 
@@ -143,6 +143,16 @@ none_offered : (o : Option Proposed) (entries : List Proposed) → may_at o ≡ 
 none_offered None entries k = cc
 none_offered (Some x) entries k = cc
 
+-- a single member hands nothing out
+none_handed_out : {M : Type 0} (h : Member M) (act : Deed M) → Keeps {M = M} solo h act → (message : M) (to : ℕ) → IsFor message to (sent_by act) → ⊥
+none_handed_out h (deed.Took_in from m) keeps message to k = k
+none_handed_out h (deed.Advanced x sent) keeps message to k = subst (λ all. IsFor message to all) (sym keeps.2) k
+none_handed_out h (deed.Echoed sent) keeps message to k = subst (λ all. IsFor message to all) (sym keeps.1) k
+none_handed_out h (deed.Proposing p sent) keeps message to k = subst (λ all. IsFor message to all) (sym keeps.1) k
+none_handed_out h (deed.Ticked due sent) keeps message to k = subst (λ all. IsFor message to all) (sym keeps.1) k
+none_handed_out h (deed.Resent sent) keeps message to k = subst (λ all. IsFor message to all) (sym keeps) k
+none_handed_out h (deed.Replied slot member sent) keeps message to k = absurd (let none = keeps.1 in cc)
+
 pub solo_holds : {M : Type 0} → Holds {M = M} solo
 solo_holds {M} =
     record {
@@ -151,6 +161,7 @@ solo_holds {M} =
       offered = λ f me deeds kept entries e k l. absurd (none_offered (waiting_of deeds) entries k);
       logged = λ f me deeds kept slot e k. logged_held f me deeds kept slot e k;
       sent = λ f me act deeds kept m to k e l. absurd l;
+      proper = λ f me act deeds kept m to k. absurd (none_handed_out (record { f = f; me = me; deeds = deeds }) act kept.0 m to k);
     }
 
 pub solo_begins : {M : Type 0} (log : List Proposed) (waiting : Option Proposed) → SoloStarts log waiting → SoloStands {M = M} log waiting (record { f = 0; me = 0; deeds = [] })

@@ -132,7 +132,7 @@ pub trait Order: Drop {
     /// Messages sent again change no rule.
     ghost undisturbed: { Undisturbed rules };
 
-    /// What a member gives was handed in.
+    /// What a member gives was handed in, and the messages that it hands out are proper.
     ghost holds: { Holds rules };
 
     /// A member at its start stands for no deeds.
