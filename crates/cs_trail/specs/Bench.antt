@@ -6,6 +6,7 @@ use Rattle.cs_form.specs.declared.vote.Vote.{Vote}
 use Rattle.cs_form.specs.declared.entry.Entry.{Entry}
 use Rattle.cs_ledger.specs.Ledger.{Bytes}
 use Rattle.cs_ledger.specs.Session.{Key, anchor}
+use Rattle.cs_ledger.specs.Table as Shard
 use Rattle.cs_ledger.specs.Table.{Table, Effect, Voted, Accepted, Aborted, Skipped, Void, Outcome, is_locked_by, exec, start}
 use Rattle.cs_ledger.specs.Standing.{stands_accepted, stands_aborted}
 use Rattle.cs_trail.specs.Setup.{Setup, digest_of, entry_of, session_in, vote_from}
@@ -27,13 +28,17 @@ locked_at t d (Some key) = is_locked_by d (t.at key).state
 abbrev pub is_locked : Setup → ℕ → Table → Session → Bool
 is_locked setup shard t x = locked_at t (digest_of setup x) (anchor setup.rules (setup.session_of x) shard)
 
-abbrev pub decided_at : Table → Bytes → Option Key → Bool
-decided_at t d None = false
-decided_at t d (Some key) = if stands_accepted (t.at key) d then true else stands_aborted (t.at key) d
+-- accepted, or aborted, or neither
+abbrev pub decided_by : Shard.Record → Bytes → Option Bool
+decided_by r d = if stands_accepted r d then Some true else if stands_aborted r d then Some false else None
 
--- the standing of the session is Accepted or Aborted
-abbrev pub stands_decided : Setup → ℕ → Table → Session → Bool
-stands_decided setup shard t x = decided_at t (digest_of setup x) (anchor setup.rules (setup.session_of x) shard)
+abbrev pub decided_at : Table → Bytes → Option Key → Option Bool
+decided_at t d None = None
+decided_at t d (Some key) = decided_by (t.at key) d
+
+-- the standing of the session: whether it was accepted, once it is decided
+abbrev pub decided : Setup → ℕ → Table → Session → Option Bool
+decided setup shard t x = decided_at t (digest_of setup x) (anchor setup.rules (setup.session_of x) shard)
 
 -- A session that was voted on is locked, or leaves; one on which a decision took effect leaves.
 abbrev pub pool_after : Effect → Bool → Bytes → Session → Pool → Pool

@@ -1,5 +1,5 @@
 -- The strings that are hashed for a world, and that no two of them have one hash.
-use Rattle.std.specs.Prelude.{◌≡◌, ℕ, List, [], ◌∷◌, ◌++◌, Option, Some, None, slice_get}
+use Rattle.std.specs.Prelude.{◌≡◌, ℕ, List, [], ◌∷◌, ◌++◌, Some, Ok, Err, slice_get}
 use Rattle.std.specs.Int.{w16, w32, to_be_bytes}
 use Rattle.sha2.specs.Sha256.{sha256}
 use Rattle.cs_value.specs.declared.object.Object.{Object}
@@ -11,20 +11,40 @@ use Rattle.cs_form.specs.Transaction.{tx_encoding}
 use Rattle.cs_form.specs.Session.{session_encoding, entry_encoding}
 use Rattle.cs_tx.specs.Digest.{digest_of_tx}
 use Rattle.cs_order.specs.Deeds.{Deed, Took_in, Advanced, Echoed, Proposing, Ticked, Resent, Replied}
+use Rattle.cs_base.specs.declared.node_id.NodeId.{NodeId}
+use Rattle.cs_message.specs.declared.message.Message.{Message}
+use Rattle.cs_message.specs.declared.message.Message.TheVariants as message
+use Rattle.cs_wire.specs.Opened.{Opened}
 use Rattle.cs_ledger.specs.Ledger.{Bytes, IsIn}
-use Rattle.cs_trail.specs.Site.{Datagram, Mark, In, Ordered, Plain, Site}
+use Rattle.cs_trail.specs.Setup.{session_in}
+use Rattle.cs_trail.specs.Site.{Datagram, Tick, Mark, In, Ordered, Plain, Site}
 use Rattle.cs_trail.specs.World.{Happening}
 
-abbrev pub listed : {A : Type 0} → Option A → List A
-listed None = []
-listed (Some x) = x ∷ []
+-- the session in a message, if it has one
+abbrev pub sessions_in : Message → List Session
+sessions_in (message.Submit x) = x ∷ []
+sessions_in (message.Propose slot view entry) = session_in entry ∷ []
+sessions_in (message.Voted vote asks x) = x ∷ []
+sessions_in (message.Done slot entry) = session_in entry ∷ []
+sessions_in m = []
 
--- the sessions that stood in what nodes were given
-abbrev pub sessions_given : {M : Type 0} → Site M → List (Mark M) → List Session
-sessions_given {M} site [] = []
-sessions_given {M} site (In (Datagram bytes) ∷ past) = listed (site.session_at bytes) ++ sessions_given site past
-sessions_given {M} site (Ordered deed ∷ past) = sessions_given site past
-sessions_given {M} site (Plain sign ∷ past) = sessions_given site past
+-- the entry in a message, if it has one
+abbrev pub entries_in : Message → List Entry
+entries_in (message.Propose slot view entry) = entry ∷ []
+entries_in (message.Done slot entry) = entry ∷ []
+entries_in m = []
+
+abbrev pub in_opened : {A : Type 0} → (Message → List A) → Opened → List A
+in_opened {A} those (Ok said) = those said.1
+in_opened {A} those (Err error) = []
+
+-- what stood in the datagrams that a node was given
+abbrev pub given : {A M : Type 0} → Site M → (Message → List A) → NodeId → List (Mark M) → List A
+given {A} {M} site those me [] = []
+given {A} {M} site those me (In (Datagram bytes) ∷ past) = in_opened those (site.net.opened me bytes) ++ given site those me past
+given {A} {M} site those me (In Tick ∷ past) = given site those me past
+given {A} {M} site those me (Ordered deed ∷ past) = given site those me past
+given {A} {M} site those me (Plain sign ∷ past) = given site those me past
 
 abbrev pub entries_of : {M : Type 0} → Site M → Deed M → List Entry
 entries_of {M} site (Proposing proposed sent) = site.entry_in proposed ∷ []
@@ -44,11 +64,11 @@ entries_proposed {M} site (Plain sign ∷ past) = entries_proposed site past
 
 abbrev pub known_sessions : {M : Type 0} → Site M → List (Happening M) → List Session
 known_sessions {M} site [] = []
-known_sessions {M} site (h ∷ past) = sessions_given site h.marks ++ known_sessions site past
+known_sessions {M} site (h ∷ past) = given site sessions_in h.node h.marks ++ known_sessions site past
 
 abbrev pub known_entries : {M : Type 0} → Site M → List (Happening M) → List Entry
 known_entries {M} site [] = []
-known_entries {M} site (h ∷ past) = entries_proposed site h.marks ++ known_entries site past
+known_entries {M} site (h ∷ past) = given site entries_in h.node h.marks ++ (entries_proposed site h.marks ++ known_entries site past)
 
 -- a string that is hashed, its letter in front: of a genesis object (G), of a session (S), of its transaction (T),
 -- of an output by its trace and its place there (O), of an entry (E)

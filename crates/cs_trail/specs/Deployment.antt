@@ -1,5 +1,5 @@
 -- The site of a deployment: what its configuration, its genesis and a reading of sessions fix for all nodes.
-use Rattle.std.specs.Prelude.{ℕ, ◌+◌, List, [], ◌∷◌, Option, Some, None, codes, replicate}
+use Rattle.std.specs.Prelude.{ℕ, ◌+◌, List, [], ◌∷◌, Option, Some, None}
 use Rattle.cs_base.specs.Fields.{whole_at}
 use Rattle.cs_base.specs.Key.{shard_of_key}
 use Rattle.cs_base.specs.declared.config.Config.{Config}
@@ -10,18 +10,16 @@ use Rattle.cs_form.specs.declared.session.Session.{Session}
 use Rattle.cs_form.specs.declared.entry.Entry.{Entry}
 use Rattle.cs_form.specs.declared.entry.Entry.TheVariants.{Prepare}
 use Rattle.cs_form.specs.Session.{entry_encoding}
-use Rattle.cs_form.specs.Reading.{session_at, entry_at}
+use Rattle.cs_form.specs.Reading.{entry_at}
 use Rattle.cs_tx.specs.Digest.{digest_of_entry, name_of_genesis}
 use Rattle.cs_order.specs.declared.proposed.Proposed.{Proposed}
 use Rattle.cs_order.specs.Deeds.{Machine}
 use Rattle.cs_ledger.specs.Ledger.{Item}
 use Rattle.cs_ledger.specs.Session as Seen
 use Rattle.cs_trail.specs.Setup.{Setup}
+use Rattle.cs_trail.specs.Dummies.{dummy_object}
+use Rattle.cs_trail.specs.Net.{Net}
 use Rattle.cs_trail.specs.Site.{Site}
-
--- the object that each dummy carries
-abbrev pub dummy_object : Object
-dummy_object = record { contract = replicate 32 0; type_name = codes "dummy"; values = [] }
 
 -- genesis objects under their names, the first of which has this number
 abbrev pub genesis_from : ℕ → List Object → List Item
@@ -56,11 +54,11 @@ abbrev pub entry_or_void : Option Entry → Entry
 entry_or_void (Some entry) = entry
 entry_or_void None = Prepare no_session
 
-abbrev pub site_of : {M : Type 0} → Setup → Machine M → Site M
-site_of {M} setup machine = record {
+abbrev pub site_of : {M : Type 0} → Setup → Net → Machine M → Site M
+site_of {M} setup net machine = record {
   setup = setup;
+  net = net;
   machine = machine;
   proposed_of = proposed_of;
   entry_in = λ proposed. entry_or_void (whole_at entry_at proposed.bytes);
-  session_at = λ bytes. whole_at session_at bytes;
 }

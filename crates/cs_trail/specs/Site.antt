@@ -1,18 +1,19 @@
 -- Marks, nodes, and the site on which the rules of all nodes rest.
-use Rattle.std.specs.Prelude.{List, [], ◌∷◌, Option}
+use Rattle.std.specs.Prelude.{List, [], ◌∷◌}
 use Rattle.cs_base.specs.declared.node_id.NodeId.{NodeId}
-use Rattle.cs_form.specs.declared.session.Session.{Session}
 use Rattle.cs_form.specs.declared.entry.Entry.{Entry}
 use Rattle.cs_order.specs.declared.proposed.Proposed.{Proposed}
 use Rattle.cs_order.specs.Deeds.{Deed, Member, Machine, did}
 use Rattle.cs_ledger.specs.Ledger.{Bytes}
 use Rattle.cs_trail.specs.Setup.{Setup}
 use Rattle.cs_trail.specs.Bench.{Bench, start_bench}
+use Rattle.cs_trail.specs.Net.{Net}
 use Rattle.cs_trail.specs.Signs.{Sign, bench_step}
 
--- what a node is given: the body of a client's Submit
+-- what a node is given: bytes that came, or that time has passed
 pub data Input : Type 0 where
   Datagram : (bytes : Bytes) → Input
+  Tick : Input
 
 -- what a node does, one list for each node, the newest first
 pub data Mark (M : Type 0) : Type 0 where
@@ -23,10 +24,10 @@ pub data Mark (M : Type 0) : Type 0 where
 -- what is the same at all nodes
 pub record Site (M : Type 0) : Type 0 where
   pub setup : Setup
+  pub net : Net
   pub machine : Machine M
   pub proposed_of : Entry → Proposed
   pub entry_in : Proposed → Entry  -- of bytes that are no entry a fixed one, which is Void
-  pub session_at : Bytes → Option Session  -- the session of which these bytes are the encoding
 
 -- a node: what its marks come to
 pub record View (M : Type 0) : Type 0 where

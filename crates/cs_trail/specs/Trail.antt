@@ -1,6 +1,5 @@
 -- The rules of a node: the marks that each input makes.
-use Rattle.std.specs.Prelude.{ℕ, zero, suc, ◌^◌, Bool, if◌then◌else◌, List, [], ◌∷◌, ◌++◌, length, Option, Some, None}
-use Rattle.cs_form.specs.declared.session.Session.{Session}
+use Rattle.std.specs.Prelude.{ℕ, zero, suc, ◌^◌, Bool, if◌then◌else◌, List, [], ◌∷◌, ◌++◌, length, Option, Some, None, Ok, Err}
 use Rattle.cs_form.specs.declared.entry.Entry.{Entry}
 use Rattle.cs_order.specs.declared.proposed.Proposed.{Proposed}
 use Rattle.cs_order.specs.declared.answers.Step.{Step}
@@ -8,10 +7,11 @@ use Rattle.cs_order.specs.declared.answers.Step.TheVariants.{Chosen, Moved, Quie
 use Rattle.cs_order.specs.declared.answers.May.{May}
 use Rattle.cs_order.specs.declared.answers.May.TheVariants.{No, Free, Only}
 use Rattle.cs_order.specs.Deeds.{Deed, Advanced, Echoed, Proposing, chosen_in}
-use Rattle.cs_trail.specs.declared.cause.Cause.TheVariants.{Body}
+use Rattle.cs_wire.specs.Opened.{Opened}
 use Rattle.cs_trail.specs.Admission.{admits, due}
-use Rattle.cs_trail.specs.Signs.{Sign, Dropped, submit_signs, execution_signs}
-use Rattle.cs_trail.specs.Site.{Input, Datagram, Mark, In, Ordered, Site, View, view_after, plain}
+use Rattle.cs_trail.specs.Net.{cause_of}
+use Rattle.cs_trail.specs.Signs.{Sign, Dropped, message_signs, execution_signs}
+use Rattle.cs_trail.specs.Site.{Input, Datagram, Tick, Mark, In, Ordered, Site, View, view_after, plain}
 
 abbrev pub with_deed : {M : Type 0} → Deed M → List (Mark M)
 with_deed {M} deed = Ordered deed ∷ []
@@ -66,12 +66,15 @@ unfoldable pub settled : {M : Type 0} → Site M → ℕ → View M → List (Ma
 settled {M} site zero v = []
 settled {M} site (suc turns) v = continued site (settled site turns) v (turn_marks site v)
 
-abbrev pub session_signs : {M : Type 0} → Site M → View M → Option Session → List Sign
-session_signs {M} site v None = Dropped Body ∷ []
-session_signs {M} site v (Some x) = submit_signs site.setup v.me.shard v.bench x
+-- what a datagram says, or the first test that it fails
+abbrev pub opened_signs : {M : Type 0} → Site M → View M → Opened → List Sign
+opened_signs {M} site v (Ok said) = message_signs site.setup v.me.shard v.bench said.0 said.1
+opened_signs {M} site v (Err error) = Dropped (cause_of error) ∷ []
 
+-- a tick is nothing to a node that is alone
 abbrev pub input_marks : {M : Type 0} → Site M → View M → Input → List (Mark M)
-input_marks {M} site v (Datagram bytes) = plain (session_signs site v (site.session_at bytes))
+input_marks {M} site v (Datagram bytes) = plain (opened_signs site v (site.net.opened v.me bytes))
+input_marks {M} site v Tick = []
 
 -- all marks of one event
 unfoldable pub event_marks : {M : Type 0} → Site M → View M → Input → List (Mark M)

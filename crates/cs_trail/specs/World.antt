@@ -1,5 +1,5 @@
 -- A world: events at nodes, each with the marks that it made, the newest first. What was executed, the history, and what nodes decided.
-use Rattle.std.specs.Prelude.{◌≡◌, ℕ, suc, ◌==◌, nat_lt, Bool, false, not, ◌&&◌, ◌||◌, if◌then◌else◌, List, [], ◌∷◌, ◌++◌, bytes_eq}
+use Rattle.std.specs.Prelude.{◌≡◌, ℕ, suc, ◌==◌, nat_lt, Bool, true, false, not, ◌&&◌, ◌||◌, if◌then◌else◌, List, [], ◌∷◌, ◌++◌, bytes_eq}
 use Rattle.std.specs.List.{list_all}
 use Rattle.cs_base.specs.declared.node_id.NodeId.{NodeId}
 use Rattle.cs_form.specs.declared.session.Session.{Session}
@@ -10,7 +10,7 @@ use Rattle.cs_ledger.specs.Table.{Vote, Commit, Abort, Effect, Voted, Accepted, 
 use Rattle.cs_ledger.specs.ShardWorld.{Step, is_vote, is_listed}
 use Rattle.cs_trail.specs.Setup.{Setup, digest_of, concerned, entry_of}
 use Rattle.cs_trail.specs.Evidence.{name_eq}
-use Rattle.cs_trail.specs.Signs.{Sign, Dropped, Took, Entered, Did}
+use Rattle.cs_trail.specs.Signs.{Sign, Dropped, Took, Entered, Did, Sent}
 use Rattle.cs_trail.specs.Site.{Input, Mark, Site, View, start_view, view_after, signs_of}
 use Rattle.cs_trail.specs.Trail.{event_marks}
 
@@ -63,6 +63,7 @@ first_of shard (Did slot entry effect) firsts =
 first_of shard (Dropped cause) firsts = firsts
 first_of shard (Took sender vote x) firsts = firsts
 first_of shard (Entered x) firsts = firsts
+first_of shard (Sent to message) firsts = firsts
 
 abbrev pub firsts_after : ℕ → List Execution → List Sign → List Execution
 firsts_after shard firsts [] = firsts
@@ -86,17 +87,22 @@ recorded setup (e ∷ earlier) d vote shard =
 abbrev pub all_recorded : Setup → List Execution → Session → Bool
 all_recorded setup firsts x = list_all (recorded setup firsts (digest_of setup x) Commit) (concerned setup x)
 
-abbrev pub told_after : Setup → List Execution → Entry → List Transaction → List Transaction
-told_after setup firsts (Prepare x) earlier =
-    if all_recorded setup firsts x && not (is_listed (setup.session_of x).transaction earlier)
+-- a vote, and not what is void
+abbrev pub is_voted : Effect → Bool
+is_voted (Voted vote) = true
+is_voted effect = false
+
+abbrev pub told_after : Setup → List Execution → Entry → Effect → List Transaction → List Transaction
+told_after setup firsts (Prepare x) effect earlier =
+    if is_voted effect && (all_recorded setup firsts x && not (is_listed (setup.session_of x).transaction earlier))
     then earlier ++ (setup.session_of x).transaction ∷ []
     else earlier
-told_after setup firsts (Decide vote x) earlier = earlier
+told_after setup firsts (Decide vote x) effect earlier = earlier
 
 -- the transactions, in the order in which their last commit vote came, oldest first
 abbrev pub told : Setup → List Execution → List Transaction
 told setup [] = []
-told setup (e ∷ earlier) = told_after setup (e ∷ earlier) e.entry (told setup earlier)
+told setup (e ∷ earlier) = told_after setup (e ∷ earlier) e.entry e.effect (told setup earlier)
 
 -- the history, by the effects that nodes recorded
 abbrev pub history : {M : Type 0} → Site M → List (Happening M) → List Transaction

@@ -1,10 +1,27 @@
 //! Why an input was dropped.
 
-/// The first test that an input failed. A dropped input changes nothing.
+/// The first test that an input failed. A dropped input changes nothing. The first eight are those
+/// of opening, in their order.
 #[derive(Clone, Copy, Debug, PartialEq, Eq)]
 pub enum Cause {
-    /// It is no encoding of what it should be.
+    /// There are fewer than 49 bytes.
+    Short,
+    /// The first four bytes aren't `CSP1`.
+    Magic,
+    /// The kind isn't 1 to 14.
+    Kind,
+    /// It is for another, or asks for a key of another shard.
+    Mine,
+    /// There is no key for the sender.
+    Stranger,
+    /// The length of the body isn't that of the bytes, or there are more than 32,768 bytes.
+    Length,
+    /// The tag isn't that of the bytes before it.
+    Tag,
+    /// The body is none of its kind.
     Body,
+    /// The sender isn't one who may say this.
+    Role,
     /// The session isn't well formed or doesn't concern the shard.
     Malformed,
     /// The session is in the pool already.
@@ -13,4 +30,6 @@ pub enum Cause {
     Denied,
     /// No more sessions may wait.
     Full,
+    /// No checkpoint covers the slot.
+    NoProof,
 }

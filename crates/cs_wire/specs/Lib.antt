@@ -2,3 +2,4 @@ pub mod Datagram
 pub mod Heads
 pub mod Keys
 pub mod Opens
+pub mod Opened

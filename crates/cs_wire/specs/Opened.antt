@@ -1,0 +1,74 @@
+-- Opening as a function, and the keys of a master key as a value.
+use Rattle.std.specs.Prelude.{ℕ, zero, suc, ◌+◌, ◌*◌, List, [], ◌∷◌, ◌++◌, length, codes, Option, Some, None, Result, Ok, Err, if◌then◌else◌}
+use Rattle.std.specs.Int.{w32, to_be_bytes}
+use Rattle.cs_base.specs.declared.config.Config.{Config}
+use Rattle.cs_base.specs.declared.node_id.NodeId.{NodeId}
+use Rattle.cs_base.specs.declared.node_id.TheConstants.{CLIENT_SHARD, CLIENTS}
+use Rattle.cs_hash.specs.Hash.{hmac}
+use Rattle.cs_message.specs.declared.message.Message.{Message}
+use Rattle.cs_message.specs.Body.{message_whole}
+use Rattle.cs_wire.specs.declared.head.Head.{Head}
+use Rattle.cs_wire.specs.declared.keys.Row.{Row}
+use Rattle.cs_wire.specs.declared.keys.Keys.{Keys}
+use Rattle.cs_wire.specs.declared.opening.OpenError.{OpenError}
+use Rattle.cs_wire.specs.declared.opening.OpenError.TheVariants as errors
+use Rattle.cs_wire.specs.Datagram.{name_encoding, body_in}
+use Rattle.cs_wire.specs.Heads.{head_seen}
+use Rattle.cs_wire.specs.Keys.{same_name, row_between}
+use Rattle.cs_wire.specs.Opens.{fault_of}
+
+-- ---- opening
+
+-- who says what, or the first test that fails
+abbrev pub Opened : Type 0
+Opened = Result (NodeId × Message) OpenError
+
+abbrev pub said_by : NodeId → Option Message → Opened
+said_by from (Some m) = Ok (from, m)
+said_by from None = Err errors.Body
+
+-- past the tests of the head: the body is that of a message of its kind, or none
+abbrev pub opened_body : List ℕ → Option Head → Opened
+opened_body bytes None = Err errors.Short
+opened_body bytes (Some head) = said_by head.from (message_whole head.kind (body_in bytes))
+
+abbrev pub unless_fault : Option OpenError → Opened → Opened
+unless_fault (Some error) later = Err error
+unless_fault None later = later
+
+abbrev pub opened : Keys → List ℕ → Opened
+opened keys bytes = unless_fault (fault_of keys bytes) (opened_body bytes (head_seen bytes))
+
+-- ---- a datagram of any kind and body
+
+-- what its tag is made of
+unfoldable pub text_with : NodeId → NodeId → ℕ → List ℕ → List ℕ
+text_with from to kind body = codes "CSP1" ++ (kind ∷ (name_encoding from ++ (name_encoding to ++ (to_be_bytes w32 (length body) ++ body))))
+
+abbrev pub datagram_with : List ℕ → NodeId → NodeId → ℕ → List ℕ → List ℕ
+datagram_with key from to kind body = text_with from to kind body ++ hmac key (text_with from to kind body)
+
+-- ---- the keys of a master key
+
+-- so many members of a shard
+abbrev pub members_below : ℕ → ℕ → List NodeId
+members_below shard zero = []
+members_below shard (suc n) = members_below shard n ++ record { shard = shard; index = n } ∷ []
+
+-- the members, so many of each, of so many shards
+abbrev pub nodes_below : ℕ → ℕ → List NodeId
+nodes_below members zero = []
+nodes_below members (suc n) = nodes_below members n ++ members_below n members
+
+-- all nodes and clients of a configuration
+abbrev pub names_of : Config → List NodeId
+names_of config = nodes_below (3 * config.f + 1) config.shards ++ members_below CLIENT_SHARD CLIENTS
+
+-- what I share with these, but for myself
+abbrev pub rows_with : List ℕ → NodeId → List NodeId → List Row
+rows_with master me [] = []
+rows_with master me (peer ∷ peers) =
+    if same_name peer me then rows_with master me peers else row_between master me peer ∷ rows_with master me peers
+
+abbrev pub keys_of_master : Config → List ℕ → NodeId → Keys
+keys_of_master config master me = record { me = me; rows = rows_with master me (names_of config) }
