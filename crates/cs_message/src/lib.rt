@@ -2,6 +2,7 @@
 #![tactic(auto)]
 
 mod change;
+mod fitting;
 mod message;
 mod passing;
 mod reading;

@@ -13,9 +13,10 @@ use cs_value::{Digest, FormError};
 use std::alloc::Global;
 
 /// The most digests that a member echoes in a slot.
-const MOST_ECHOED: u8 = 16;
+pub const MOST_ECHOED: u8 = 16;
 
-fn comes_after(last: &Option<Digest>, digest: &Digest) -> bool
+/// Whether the digest comes after the last one, where there is one.
+pub fn comes_after(last: &Option<Digest>, digest: &Digest) -> bool
     ensures { result ≡ is_above last.now digest.now }
 {
     match last {
