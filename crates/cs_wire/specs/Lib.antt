@@ -3,3 +3,4 @@ pub mod Heads
 pub mod Keys
 pub mod Opens
 pub mod Opened
+pub mod Raw

@@ -1,5 +1,5 @@
 //! What comes in, and what goes out.
-use cs_base::NodeId;
+use cs_base::{NodeId, Sequence};
 
 /// What a node or a client is given.
 #[derive(Clone, Copy, Debug)]
@@ -14,5 +14,5 @@ pub enum Input<'a> {
 #[derive(Drop)]
 pub struct Out {
     pub to: NodeId,
-    pub bytes: Vec<u8>,
+    pub bytes: Sequence<u8>,
 }

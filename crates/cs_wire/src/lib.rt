@@ -7,6 +7,8 @@ mod keys;
 mod laws;
 mod names;
 mod opening;
+mod raw;
+mod reading;
 mod sealing;
 mod view;
 
@@ -14,5 +16,7 @@ pub use input::{Input, Out};
 pub use keys::{Keys, KeysError};
 pub use laws::{names_of_one_master_understand_each_other, sealed_datagrams_are_opened};
 pub use opening::{OpenError, open};
+pub use raw::{a_message_is_sealed_by_kind_and_body, seal_with};
+pub use reading::{keys_of_a_master_open_alike, read};
 pub use sealing::{SealError, seal};
 pub use view::MessageView;

@@ -1,0 +1,87 @@
+//! Sealing bytes of any kind, as liars do.
+ghost use Rattle.std.specs.Prelude.{◌≡◌, ◌≤◌, ◌↔◌, ℕ, List, None, length, IfOk, OnOk, OnErr, IsErrOf};
+ghost use Rattle.cs_base.specs.declared.node_id.NodeId.{NodeId as Name};
+ghost use Rattle.cs_message.specs.declared.message.Message.{Message};
+ghost use Rattle.cs_message.specs.Message.{kind_of, body_of};
+ghost use Rattle.cs_wire.specs.Datagram.{sealed};
+ghost use Rattle.cs_wire.specs.Keys.{row_of};
+ghost use Rattle.cs_wire.specs.Opened.{text_with, datagram_with};
+ghost use Rattle.cs_wire.specs.Raw.{SealsWith};
+ghost use Rattle.cs_wire.specs.declared.sealing.SealError.TheVariants.{NoKey};
+
+use crate::head::write_name;
+use crate::keys::Keys;
+use crate::sealing::SealError;
+use cs_base::{Memory, NodeId, Writer};
+use cs_hash::tag;
+use cs_value::Digest;
+use std::alloc::Global;
+
+// What stands before the tag.
+#[tactic(auto, unfolding(crate::specs::Opened::text_with))]
+fn raw_text(
+    alloc: Global,
+    from: NodeId,
+    to: NodeId,
+    kind: u8,
+    body: &[u8],
+) -> Result<Vec<u8>, Memory>
+    requires { length body.now ≤ 32719 }
+    ensures { IfOk result (λ text. text.items ≡ text_with from to kind body.now) }
+{
+    let mut out = Writer::new(alloc);
+    out.take(b"CSP1".as_slice())?;
+    out.u8(kind)?;
+    write_name(from, &mut out)?;
+    write_name(to, &mut out)?;
+    out.u32(body.len() as u32)?;
+    out.take(body)?;
+    Ok(out.into_bytes())
+}
+
+fn raw_datagram(
+    alloc: Global,
+    key: &Digest,
+    from: NodeId,
+    to: NodeId,
+    kind: u8,
+    body: &[u8],
+) -> Result<Vec<u8>, Memory>
+    requires { length body.now ≤ 32719 }
+    ensures { IfOk result (λ bytes. bytes.items ≡ datagram_with key.now from to kind body.now) }
+{
+    let mut bytes = raw_text(alloc, from, to, kind, body)?;
+    let tag = tag(key.as_slice(), &bytes);
+    bytes.extend_from_slice(&tag)?;
+    Ok(bytes)
+}
+
+/// Appends the datagram of any kind and body to a peer: its head and its tag are right, and what it
+/// says may be no message. Where it is refused, nothing is appended.
+pub fn seal_with(
+    alloc: Global,
+    keys: &Keys,
+    to: NodeId,
+    kind: u8,
+    body: &[u8],
+    out: &mut Vec<u8>,
+) -> Result<(), SealError>
+    requires { length body.now ≤ 32719 }
+    ensures ok { OnOk result (SealsWith keys.now to kind body.now out.old.items out.new.items) }
+    ensures no_key { IsErrOf result NoKey ↔ (row_of to keys.now ≡ None) }
+    ensures err { OnErr result (out.new.items ≡ out.old.items) }
+{
+    let Some(row) = keys.row(to) else {
+        return Err(SealError::NoKey);
+    };
+    let key = row.to;
+    let bytes = raw_datagram(alloc, &key, keys.me, to, kind, body)?;
+    out.extend_from_slice(&bytes)?;
+    Ok(())
+}
+
+/// The datagram of a message is that of its kind and its body.
+#[tactic(auto, using(crate::proofs::Masters::sealed_is))]
+pub fn a_message_is_sealed_by_kind_and_body()
+    ensures { (key : List ℕ) (from to : Name) (m : Message) → sealed key from to m ≡ datagram_with key from to (kind_of m) (body_of m) }
+{}
