@@ -1,8 +1,10 @@
 pub mod Distinct
 pub mod Objects
+pub mod OneNode
 pub mod Played
 pub mod Reading
 pub mod Refused
 pub mod Said
 pub mod Sound
 pub mod Steps
+pub mod Told

@@ -1,8 +1,8 @@
 -- Every schedule that is read can be played.
-use Rattle.std.specs.Prelude.{◌≡◌, ℕ, ◌+◌, ◌==◌, nat_le, List, [], ◌∷◌, length, take, slice_index, Result, Ok, Err, IfOk, codes, if◌then◌else◌}
+use Rattle.std.specs.Prelude.{◌≡◌, ℕ, ◌+◌, ◌==◌, nat_le, true, List, [], ◌∷◌, length, take, slice_index, Result, Ok, Err, IfOk, codes, if◌then◌else◌}
 use Rattle.std.specs.Str.{bytes_eq}
 use Rattle.std.specs.Str.Lines.{lines}
-use Rattle.std.proofs.Common.{refl, subst, inl, inr}
+use Rattle.std.proofs.Common.{ap, refl, subst, inl, inr}
 use Rattle.cs_base.specs.Lines.{fields_of, ended_lines}
 use Rattle.cs_tx.specs.Digest.{name_of_genesis}
 use Rattle.cs_event.specs.declared.schedule.Schedule.{Schedule}
@@ -15,108 +15,108 @@ use Rattle.cs_sched.specs.declared.draft.Stage.TheVariants as stage
 use Rattle.cs_sched.specs.declared.error.ScheduleError.{ScheduleError}
 use Rattle.cs_sched.specs.Names.{is_known}
 use Rattle.cs_sched.specs.Drafts.{empty_draft, has_ended}
-use Rattle.cs_sched.specs.Said.{no_field, shards_said, faulty_said, dummies_said, master_said, liar_said, object_said, event_said}
-use Rattle.cs_sched.specs.Lines.{with_config, with_master, with_liar, with_genesis, with_event, at_stage, shards_line, faulty_line, dummies_line, master_line, liar_line, named_object, genesis_line, run_line, say_line, end_line, contract_line}
-use Rattle.cs_sched.specs.Places.{is_later, genesis_place, liars_place, events_place, line_at, line_step}
+use Rattle.cs_sched.specs.Said.{no_field, shards_said, faulty_said, dummies_said, master_said, liar_said, object_said}
+use Rattle.cs_sched.specs.Events.{event_said}
+use Rattle.cs_sched.specs.Lines.{with_config, with_master, with_liar, with_genesis, with_event, at_stage, shards_line, faulty_line, dummies_line, master_line, liar_line, named_object, genesis_line, run_line, event_line, end_line, contract_line}
+use Rattle.cs_sched.specs.Places.{genesis_place, liars_place, events_place, line_at, line_step}
 use Rattle.cs_sched.specs.Text.{then_lines, read_lines, whole, cut_at, schedule_of}
 use Rattle.cs_sched.specs.Playable.{IsPlayable}
 use Rattle.cs_sched.specs.Reading.{GivesText}
 use Rattle.cs_sched.proofs.Steps.{step_ok, change_ok, ok_same, when_ok, unless_ok, either_ok}
-use Rattle.cs_sched.proofs.Sound.{IsSound, empty_sound, at_stage-sound, with_config-sound, with_master-sound, with_event-sound, with_genesis-sound}
-use Rattle.cs_sched.proofs.Said.{shards_numbers, faulty_numbers, dummies_numbers, liar_never, contract_never, object_said-ok, event_said-ok}
+use Rattle.cs_sched.proofs.Sound.{IsSound, has_run, empty_sound, at_stage-sound, with_config-sound, with_master-sound, with_event-sound, with_genesis-sound}
+use Rattle.cs_sched.proofs.Said.{shards_numbers, faulty_numbers, dummies_numbers, liar_never, contract_never, master_said-ok, object_said-ok}
+use Rattle.cs_sched.proofs.Told.{event_said-ok}
 
 module _ (draft next : Draft) (fields : List (List ℕ)) (sound : IsSound draft) where
-  shards_sound : shards_line draft fields ≡ Ok next → IsSound next
-  shards_sound is =
+  shards_sound : draft.schedule.events ≡ [] → shards_line draft fields ≡ Ok next → IsSound next
+  shards_sound none is =
       let (config, said, moved) = change_ok (shards_said draft.schedule.config fields) (λ config. with_config draft stage.Faulty config) next is in
-      subst IsSound moved (with_config-sound draft stage.Faulty config sound (shards_numbers draft.schedule.config config fields sound.playable.no_liar said))
+      subst IsSound moved (with_config-sound draft stage.Faulty config sound none (shards_numbers draft.schedule.config config fields sound.playable.no_liar said))
 
-  faulty_sound : faulty_line draft fields ≡ Ok next → IsSound next
-  faulty_sound is =
+  faulty_sound : draft.schedule.events ≡ [] → faulty_line draft fields ≡ Ok next → IsSound next
+  faulty_sound none is =
       let (config, said, moved) = change_ok (faulty_said draft.schedule.config fields) (λ config. with_config draft stage.Dummies config) next is in
-      subst IsSound moved (with_config-sound draft stage.Dummies config sound (faulty_numbers draft.schedule.config config fields sound.playable.one_shard said))
+      subst IsSound moved (with_config-sound draft stage.Dummies config sound none (faulty_numbers draft.schedule.config config fields sound.playable.one_shard said))
 
-  dummies_sound : dummies_line draft fields ≡ Ok next → IsSound next
-  dummies_sound is =
+  dummies_sound : draft.schedule.events ≡ [] → dummies_line draft fields ≡ Ok next → IsSound next
+  dummies_sound none is =
       let (config, said, moved) = change_ok (dummies_said draft.schedule.config fields) (λ config. with_config draft stage.Master config) next is in
-      subst IsSound moved (with_config-sound draft stage.Master config sound (dummies_numbers draft.schedule.config config fields sound.playable.one_shard sound.playable.no_liar said))
+      subst IsSound moved (with_config-sound draft stage.Master config sound none (dummies_numbers draft.schedule.config config fields sound.playable.one_shard sound.playable.no_liar said))
 
-  master_sound : master_line draft fields ≡ Ok next → IsSound next
-  master_sound is =
+  master_sound : draft.schedule.events ≡ [] → master_line draft fields ≡ Ok next → IsSound next
+  master_sound none is =
       let (master, said, moved) = change_ok (master_said fields) (λ master. with_master draft master) next is in
-      subst IsSound moved (with_master-sound draft master sound)
+      subst IsSound moved (with_master-sound draft master sound none (master_said-ok fields master said))
 
   liar_sound : liar_line draft fields ≡ Ok next → IsSound next
   liar_sound is =
       let (liar, said, moved) = change_ok (liar_said draft.schedule fields) (λ liar. with_liar draft liar) next is in
       absurd (liar_never draft.schedule fields liar sound.playable.no_liar said)
 
-  genesis_sound : genesis_line draft fields ≡ Ok next → IsSound next
-  genesis_sound is =
+  genesis_sound : draft.schedule.events ≡ [] → genesis_line draft fields ≡ Ok next → IsSound next
+  genesis_sound none is =
       let place = length draft.schedule.genesis in
       let (object, said, named) = step_ok (object_said place fields) (λ object. named_object draft object (name_of_genesis place object)) next is in
-      let (few, fits) = object_said-ok place fields object said in
+      let (few, (fits, encoded)) = object_said-ok place fields object said in
       let (new, done) = unless_ok (is_known (name_of_genesis place object) draft.names) (Ok (with_genesis draft object (name_of_genesis place object))) cause.Key next named in
-      subst IsSound (ok_same (with_genesis draft object (name_of_genesis place object)) next done) (with_genesis-sound draft object sound fits few new)
+      subst IsSound (ok_same (with_genesis draft object (name_of_genesis place object)) next done) (with_genesis-sound draft object sound none fits encoded few new)
 
   run_sound : run_line draft fields ≡ Ok next → IsSound next
   run_sound is =
       let (nothing, said, moved) = change_ok (no_field fields) (λ nothing. at_stage draft stage.Events) next is in
-      subst IsSound moved (at_stage-sound draft stage.Events sound)
+      subst IsSound moved (at_stage-sound draft stage.Events sound refl)
 
   end_sound : end_line draft fields ≡ Ok next → IsSound next
   end_sound is =
       let (nothing, said, moved) = change_ok (no_field fields) (λ nothing. at_stage draft stage.Ended) next is in
-      subst IsSound moved (at_stage-sound draft stage.Ended sound)
+      subst IsSound moved (at_stage-sound draft stage.Ended sound refl)
 
-  say_sound : (line : ℕ) → say_line line draft fields ≡ Ok next → IsSound next
-  say_sound line is =
-      let (event, said, moved) = change_ok (event_said draft.schedule fields) (λ event. with_event draft line event) next is in
-      subst IsSound moved (with_event-sound draft line event sound (event_said-ok draft.schedule fields event sound.playable.one_shard sound.playable.no_liar sound.playable.liars said))
+  event_sound : (line : ℕ) (word : List ℕ) → has_run draft.stage ≡ true → event_line line draft word fields ≡ Ok next → IsSound next
+  event_sound line word run is =
+      let (event, said, moved) = change_ok (event_said draft.schedule word fields) (λ event. with_event draft line event) next is in
+      subst IsSound moved (with_event-sound draft line event sound run (event_said-ok draft.schedule word fields event said))
 
-  genesis_place-sound : (word : List ℕ) → genesis_place draft word fields ≡ Ok next → IsSound next
-  genesis_place-sound word is =
+  genesis_place-sound : (word : List ℕ) → draft.schedule.events ≡ [] → genesis_place draft word fields ≡ Ok next → IsSound next
+  genesis_place-sound word none is =
       elim (either_ok (bytes_eq word (codes "genesis")) (genesis_line draft fields) (if bytes_eq word (codes "run") then run_line draft fields else Err cause.Word) next is) [
-        | inl genesis ↦ genesis_sound genesis
+        | inl genesis ↦ genesis_sound none genesis
         | inr other ↦ run_sound (when_ok (bytes_eq word (codes "run")) (run_line draft fields) cause.Word next other).1
       ]
 
-  liars_place-sound : (word : List ℕ) → liars_place draft word fields ≡ Ok next → IsSound next
-  liars_place-sound word is =
+  liars_place-sound : (word : List ℕ) → draft.schedule.events ≡ [] → liars_place draft word fields ≡ Ok next → IsSound next
+  liars_place-sound word none is =
       elim (either_ok (bytes_eq word (codes "liar")) (liar_line draft fields) (if bytes_eq word (codes "contract") then contract_line fields else genesis_place draft word fields) next is) [
         | inl liar ↦ liar_sound liar
         | inr other ↦ elim (either_ok (bytes_eq word (codes "contract")) (contract_line fields) (genesis_place draft word fields) next other) [
           | inl contract ↦ absurd (contract_never fields next contract)
-          | inr genesis ↦ genesis_place-sound word genesis
+          | inr genesis ↦ genesis_place-sound word none genesis
         ]
       ]
 
-  events_place-sound : (line : ℕ) (word : List ℕ) → events_place line draft word fields ≡ Ok next → IsSound next
-  events_place-sound line word is =
-      elim (either_ok (bytes_eq word (codes "say")) (say_line line draft fields) (if bytes_eq word (codes "end") then end_line draft fields else if is_later word then Err cause.Later else Err cause.Word) next is) [
-        | inl say ↦ say_sound line say
-        | inr other ↦ elim (either_ok (bytes_eq word (codes "end")) (end_line draft fields) (if is_later word then Err cause.Later else Err cause.Word) next other) [
-          | inl ended ↦ end_sound ended
-          | inr none ↦ let refused = (unless_ok (is_later word) (Err cause.Word) cause.Later next none).1 in absurd cc
-        ]
+  events_place-sound : (line : ℕ) (word : List ℕ) → has_run draft.stage ≡ true → events_place line draft word fields ≡ Ok next → IsSound next
+  events_place-sound line word run is =
+      elim (either_ok (bytes_eq word (codes "end")) (end_line draft fields) (event_line line draft word fields) next is) [
+        | inl ended ↦ end_sound ended
+        | inr said ↦ event_sound line word run said
       ]
 
-  line_sound : (place : Stage) (line : ℕ) (word : List ℕ) → line_at place line draft word fields ≡ Ok next → IsSound next
-  line_sound stage.Shards line word is = shards_sound (when_ok (bytes_eq word (codes "shards")) (shards_line draft fields) cause.Word next is).1
-  line_sound stage.Faulty line word is = faulty_sound (when_ok (bytes_eq word (codes "faulty")) (faulty_line draft fields) cause.Word next is).1
-  line_sound stage.Dummies line word is = dummies_sound (when_ok (bytes_eq word (codes "dummies")) (dummies_line draft fields) cause.Word next is).1
-  line_sound stage.Master line word is = master_sound (when_ok (bytes_eq word (codes "master")) (master_line draft fields) cause.Word next is).1
-  line_sound stage.Liars line word is = liars_place-sound word is
-  line_sound stage.Genesis line word is = genesis_place-sound word is
-  line_sound stage.Events line word is = events_place-sound line word is
-  line_sound stage.Ended line word is = absurd cc
+  -- at its place in the schedule, before or behind the line `run`
+  line_sound : (place : Stage) (line : ℕ) (word : List ℕ) → draft.stage ≡ place → line_at place line draft word fields ≡ Ok next → IsSound next
+  line_sound stage.Shards line word at is = shards_sound (sound.unplayed (ap has_run at)) (when_ok (bytes_eq word (codes "shards")) (shards_line draft fields) cause.Word next is).1
+  line_sound stage.Faulty line word at is = faulty_sound (sound.unplayed (ap has_run at)) (when_ok (bytes_eq word (codes "faulty")) (faulty_line draft fields) cause.Word next is).1
+  line_sound stage.Dummies line word at is = dummies_sound (sound.unplayed (ap has_run at)) (when_ok (bytes_eq word (codes "dummies")) (dummies_line draft fields) cause.Word next is).1
+  line_sound stage.Master line word at is = master_sound (sound.unplayed (ap has_run at)) (when_ok (bytes_eq word (codes "master")) (master_line draft fields) cause.Word next is).1
+  line_sound stage.Liars line word at is = liars_place-sound word (sound.unplayed (ap has_run at)) is
+  line_sound stage.Genesis line word at is = genesis_place-sound word (sound.unplayed (ap has_run at)) is
+  line_sound stage.Events line word at is = events_place-sound line word (ap has_run at) is
+  line_sound stage.Ended line word at is = absurd cc
 
 step_sound : (line : ℕ) (draft next : Draft) (fields : List (List ℕ)) → IsSound draft → line_step line draft fields ≡ Ok next → IsSound next
 step_sound line draft next [] sound is = subst IsSound (ok_same draft next is) sound
 step_sound line draft next (word ∷ fields) sound is =
     elim (either_ok (slice_index word 0 == 35) (Ok draft) (line_at draft.stage line draft word fields) next is) [
       | inl comment ↦ subst IsSound (ok_same draft next comment) sound
-      | inr here ↦ line_sound draft next fields sound draft.stage line word here
+      | inr here ↦ line_sound draft next fields sound draft.stage line word refl here
     ]
 
 then_lines-ok : (number : ℕ) (step : Result Draft Cause) (more : Draft → Result Draft Refusal) (last : Draft) → then_lines number step more ≡ Ok last
@@ -139,16 +139,22 @@ cut_at-never : (number : ℕ) (read : Result Draft Refusal) (schedule : Schedule
 cut_at-never number (Ok draft) schedule is = cc
 cut_at-never number (Err refusal) schedule is = cc
 
-schedule_playable : (limit : ℕ) (text : List ℕ) (schedule : Schedule) → schedule_of limit text ≡ Ok schedule → IsPlayable schedule
+-- the draft of which a schedule is what was read
+pub schedule_sound : (limit : ℕ) (text : List ℕ) (schedule : Schedule) → schedule_of limit text ≡ Ok schedule → (draft : Draft) × (draft.schedule ≡ schedule) × IsSound draft
 unfolding schedule_of
-schedule_playable limit text schedule is =
+schedule_sound limit text schedule is =
     let long = cut_at (length (ended_lines (take limit text)) + 1) (read_lines empty_draft 1 (ended_lines (take limit text))) in
     elim (either_ok (nat_le (length text) limit) (whole (length (lines text) + 1) (read_lines empty_draft 1 (lines text))) long schedule is) [
       | inl within ↦
           let (draft, read, same) = whole-ok (length (lines text) + 1) (read_lines empty_draft 1 (lines text)) schedule within in
-          subst IsPlayable same (lines_sound (lines text) 1 empty_draft draft empty_sound read).playable
+          (draft, same, lines_sound (lines text) 1 empty_draft draft empty_sound read)
       | inr beyond ↦ absurd (cut_at-never (length (ended_lines (take limit text)) + 1) (read_lines empty_draft 1 (ended_lines (take limit text))) schedule beyond)
     ]
+
+schedule_playable : (limit : ℕ) (text : List ℕ) (schedule : Schedule) → schedule_of limit text ≡ Ok schedule → IsPlayable schedule
+schedule_playable limit text schedule is =
+    let (draft, same, sound) = schedule_sound limit text schedule is in
+    subst IsPlayable same sound.playable
 
 -- what is read of a text can be played
 pub given_playable : (given : Result Schedule ScheduleError) (limit : ℕ) (text : List ℕ) → GivesText given (schedule_of limit text) → IfOk given IsPlayable

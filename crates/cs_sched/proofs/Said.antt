@@ -1,32 +1,29 @@
 -- What is known of the values of lines that are taken, where there is one shard of one node.
-use Rattle.std.specs.Prelude.{◌≡◌, ℕ, ◌*◌, ◌<◌, ◌≤◌, ◌==◌, nat_lt, nat_le, Bool, true, false, ◌&&◌, ◌||◌, List, [], ◌∷◌, length, Some, Result, Ok, Err, codes, if◌then◌else◌}
+use Rattle.std.specs.Prelude.{◌≡◌, ℕ, ◌<◌, ◌≤◌, ◌==◌, nat_lt, nat_le, List, [], ◌∷◌, length, Some, Result, Ok, Err, codes, if◌then◌else◌}
 use Rattle.std.specs.Option.{ok_or}
 use Rattle.std.specs.Result.{result_ok}
 use Rattle.std.specs.Str.{bytes_eq}
-use Rattle.std.proofs.Common.{◌∙◌, sym, ap, subst, refl, arith, inl, inr}
-use Rattle.std.proofs.lemmas.Bool.{cases_Bool, true≢false, eqb-true, ltb-true, leb-true}
+use Rattle.std.proofs.Common.{◌∙◌, subst, arith, inl, inr}
+use Rattle.std.proofs.lemmas.Bool.{cases_Bool, eqb-true, ltb-true, leb-true}
 use Rattle.hex.specs.Hex.{decode_of}
 use Rattle.hex.specs.declared.error.FromHexError.{FromHexError}
 use Rattle.hex.proofs.HexLemmas.{decode_of-ok}
 use Rattle.cs_base.specs.Fields.{IsBytes}
 use Rattle.cs_base.specs.Config.{configured}
 use Rattle.cs_base.specs.Codes.{number_of, bytes_of}
-use Rattle.cs_base.specs.NodeId.{node_of, is_node, is_named, is_client}
+use Rattle.cs_base.specs.NodeId.{is_client}
 use Rattle.cs_base.specs.declared.config.Config.{Config}
 use Rattle.cs_base.specs.declared.node_id.NodeId.{NodeId}
 use Rattle.cs_value.specs.declared.object.Object.{Object}
-use Rattle.cs_value.specs.Object.{ObjectFits}
+use Rattle.cs_value.specs.Object.{object_encoding, DigestFits, ObjectFits}
 use Rattle.cs_event.specs.declared.schedule.Schedule.{Schedule}
-use Rattle.cs_event.specs.declared.schedule.Event.{Event}
-use Rattle.cs_event.specs.declared.schedule.Event.TheVariants as event
 use Rattle.cs_sched.specs.declared.cause.Cause.TheVariants as cause
 use Rattle.cs_sched.specs.declared.draft.Draft.{Draft}
-use Rattle.cs_sched.specs.Values.{◌>>=◌, in_range, number_within, bytes_within, encoded_object, object_in}
-use Rattle.cs_sched.specs.Naming.{named, is_liar, liars_of, one_more_liar, liar_in, speaker_in, listener_in}
-use Rattle.cs_sched.specs.Said.{shards_said, faulty_said, dummies_said, liar_said, object_said, kind_in, event_of, event_said}
+use Rattle.cs_sched.specs.Values.{◌>>=◌, in_range, bytes_within, encoded_object, object_in}
+use Rattle.cs_sched.specs.Naming.{named, is_liar, liars_of, one_more_liar, liar_in}
+use Rattle.cs_sched.specs.Said.{shards_said, faulty_said, dummies_said, master_said, liar_said, object_said}
 use Rattle.cs_sched.specs.Lines.{contract_line}
-use Rattle.cs_sched.specs.Playable.{IsPlayableEvent, only_node}
-use Rattle.cs_sched.proofs.Steps.{step_ok, change_ok, ok_same, when_ok, unless_ok, some_ok}
+use Rattle.cs_sched.proofs.Steps.{step_ok, ok_same, when_ok, unless_ok, some_ok}
 use Rattle.cs_sched.proofs.Objects.{found_fits}
 use Rattle.cs_sched.proofs.Sound.{configured_sound}
 
@@ -91,7 +88,7 @@ bytes_fit field bytes is =
     some_same : {a b : List ℕ} → Some a ≡ Some b → a ≡ b
     some_same same = cc
 
-bytes_within-ok : (most : ℕ) (field bytes : List ℕ) → bytes_within most field ≡ Ok bytes → (length bytes ≤ most) × IsBytes bytes
+pub bytes_within-ok : (most : ℕ) (field bytes : List ℕ) → bytes_within most field ≡ Ok bytes → (length bytes ≤ most) × IsBytes bytes
 bytes_within-ok most field bytes is =
     let (read, hex, after) = step_ok (ok_or (bytes_of field) cause.Hex) (λ read. if nat_le (length read) most then Ok read else Err cause.Limit) bytes is in
     let (short, done) = when_ok (nat_le (length read) most) (Ok read) cause.Limit bytes after in
@@ -100,82 +97,21 @@ bytes_within-ok most field bytes is =
       subst IsBytes same (bytes_fit field read (some_ok (bytes_of field) cause.Hex read hex)),
     )
 
-pub object_said-ok : (place : ℕ) (fields : List (List ℕ)) (object : Object) → object_said place fields ≡ Ok object → (place < 65536) × ObjectFits object
+pub master_said-ok : (fields : List (List ℕ)) (master : List ℕ) → master_said fields ≡ Ok master → DigestFits master
+master_said-ok [] master is = absurd cc
+master_said-ok (field ∷ []) master is =
+    let (bytes, hex, after) = step_ok (ok_or (bytes_of field) cause.Hex) (λ bytes. if length bytes == 32 then Ok bytes else Err cause.Hex) master is in
+    let (long, done) = when_ok (length bytes == 32) (Ok bytes) cause.Hex master after in
+    let same : bytes ≡ master = ok_same bytes master done in
+    subst DigestFits same (eqb-true (length bytes) 32 long, bytes_fit field bytes (some_ok (bytes_of field) cause.Hex bytes hex))
+master_said-ok (field ∷ another ∷ more) master is = absurd cc
+
+pub object_said-ok : (place : ℕ) (fields : List (List ℕ)) (object : Object) → object_said place fields ≡ Ok object → (place < 65536) × (ObjectFits object × IsBytes (object_encoding object))
 object_said-ok place [] object is = absurd cc
 object_said-ok place (field ∷ []) object is =
     let (few, read) = when_ok (nat_lt place 65536) (object_in field) cause.Limit object is in
     let (bytes, within, encoded) = step_ok (bytes_within 4096 field) (λ bytes. ok_or (encoded_object bytes) cause.Object) object read in
     let fits = (bytes_within-ok 4096 field bytes within).1 in
-    (ltb-true place 65536 few, (found_fits bytes object fits (some_ok (encoded_object bytes) cause.Object object encoded)).0)
+    let found = found_fits bytes object fits (some_ok (encoded_object bytes) cause.Object object encoded) in
+    (ltb-true place 65536 few, (found.0, subst IsBytes found.1 fits))
 object_said-ok place (field ∷ another ∷ more) object is = absurd cc
-
--- who speaks to whom
-
-left_of : (one other : Bool) → (one || other) ≡ true → other ≡ false → one ≡ true
-left_of true other either not_other = refl
-left_of false other either not_other = absurd (true≢false (sym either ∙ not_other))
-
-neither : (one other : Bool) → (one || other) ≡ false → (one ≡ false) × (other ≡ false)
-neither true other none = absurd (true≢false none)
-neither false other none = (refl, none)
-
-both : (one other : Bool) → (one && other) ≡ true → (one ≡ true) × (other ≡ true)
-both true other all = (refl, all)
-both false other all = absurd (true≢false (sym all))
-
-speaker_client : (config : Config) (liars : List NodeId) (field : List ℕ) (name : NodeId) → liars ≡ [] → speaker_in config liars field ≡ Ok name → is_client name ≡ true
-speaker_client config liars field name none is =
-    let (found, read, after) = step_ok (named config field) (λ found. if is_client found || is_liar liars found then Ok found else Err cause.Role) name is in
-    let (speaks, done) = when_ok (is_client found || is_liar liars found) (Ok found) cause.Role name after in
-    let honest : is_liar liars found ≡ false = ap (λ liars. is_liar liars found) none in
-    ap is_client (sym (ok_same found name done)) ∙ left_of (is_client found) (is_liar liars found) speaks honest
-
-node_only : (config : Config) (name : NodeId) → config.shards ≡ 1 → config.f ≡ 0 → is_node config name ≡ true → name ≡ only_node
-node_only config name one none is =
-    let (in_shard, in_range) = both (nat_lt name.shard config.shards) (nat_le name.index (3 * config.f)) is in
-    let below : name.shard < config.shards = ltb-true name.shard config.shards in_shard in
-    let within : name.index ≤ 3 * config.f = leb-true name.index (3 * config.f) in_range in
-    let shard : name.shard ≡ 0 = omega arith in
-    let index : name.index ≡ 0 = omega arith in
-    λ i. record { shard = shard i; index = index i }
-
-listener_only : (config : Config) (liars : List NodeId) (field : List ℕ) (name : NodeId) → config.shards ≡ 1 → config.f ≡ 0 → listener_in config liars field ≡ Ok name → name ≡ only_node
-listener_only config liars field name one none is =
-    let (found, read, after) = step_ok (named config field) (λ found. if is_client found || is_liar liars found then Err cause.Role else Ok found) name is in
-    let (listens, done) = unless_ok (is_client found || is_liar liars found) (Ok found) cause.Role name after in
-    let (text, of_field, tested) = step_ok (ok_or (node_of field) cause.Node) (λ text. if is_named config text then Ok text else Err cause.Node) found read in
-    let (has, same) = when_ok (is_named config text) (Ok text) cause.Node found tested in
-    let node : is_named config found ≡ true = ap (is_named config) (sym (ok_same text found same)) ∙ has in
-    let no_client = (neither (is_client found) (is_liar liars found) listens).0 in
-    sym (ok_same found name done) ∙ node_only config found one none (left_of (is_node config found) (is_client found) node no_client)
-
-kind_one : (field : List ℕ) (number : ℕ) → kind_in field ≡ Ok number → number ≡ 1
-kind_one field number is =
-    let (kind, within, after) = step_ok (number_within 255 field) (λ kind. if kind == 1 then Ok kind else Err cause.Later) number is in
-    let (one, done) = when_ok (kind == 1) (Ok kind) cause.Later number after in
-    sym (ok_same kind number done) ∙ eqb-true kind 1 one
-
-event_of-ok : (schedule : Schedule) (from to kind body : List ℕ) (said : Event) → schedule.config.shards ≡ 1 → schedule.config.f ≡ 0 → schedule.liars ≡ []
-    → event_of schedule from to kind body ≡ Ok said → IsPlayableEvent said
-event_of-ok schedule from to kind body said one none honest is =
-    let heard = λ (speaker listener : NodeId) (number : ℕ). bytes_within 32719 body >>= (λ bytes. Ok (event.Say speaker listener number bytes)) in
-    let (speaker, spoken, first) = step_ok (speaker_in schedule.config schedule.liars from) (λ speaker. listener_in schedule.config schedule.liars to >>= (λ listener. kind_in kind >>= (λ number. heard speaker listener number))) said is in
-    let (listener, listened, second) = step_ok (listener_in schedule.config schedule.liars to) (λ listener. kind_in kind >>= (λ number. heard speaker listener number)) said first in
-    let (number, kinded, third) = step_ok (kind_in kind) (λ number. heard speaker listener number) said second in
-    let (bytes, within, same) = change_ok (bytes_within 32719 body) (λ bytes. event.Say speaker listener number bytes) said third in
-    subst IsPlayableEvent {x = event.Say speaker listener number bytes} same (record {
-      client = speaker_client schedule.config schedule.liars from speaker honest spoken;
-      node = listener_only schedule.config schedule.liars to listener one none listened;
-      kind = kind_one kind number kinded;
-      short = (bytes_within-ok 32719 body bytes within).0;
-      in_bytes = (bytes_within-ok 32719 body bytes within).1;
-    })
-
-pub event_said-ok : (schedule : Schedule) (fields : List (List ℕ)) (said : Event) → schedule.config.shards ≡ 1 → schedule.config.f ≡ 0 → schedule.liars ≡ []
-    → event_said schedule fields ≡ Ok said → IsPlayableEvent said
-event_said-ok schedule [] said one none honest is = absurd cc
-event_said-ok schedule (a ∷ []) said one none honest is = absurd cc
-event_said-ok schedule (a ∷ b ∷ []) said one none honest is = absurd cc
-event_said-ok schedule (a ∷ b ∷ c ∷ []) said one none honest is = absurd cc
-event_said-ok schedule (a ∷ b ∷ c ∷ d ∷ []) said one none honest is = event_of-ok schedule a b c d said one none honest is
-event_said-ok schedule (a ∷ b ∷ c ∷ d ∷ e ∷ more) said one none honest is = absurd cc

@@ -1,19 +1,23 @@
 -- What is read line by line can be played.
-use Rattle.std.specs.Prelude.{◌≡◌, ◌≢◌, ℕ, ◌+◌, ◌<◌, false, List, [], ◌∷◌, ◌++◌, length, min, max, Option, Some, None, Ok}
-use Rattle.std.specs.List.{AllPairs}
-use Rattle.std.proofs.Common.{◌∙◌, sym, ap, subst, refl, arith}
+use Rattle.std.specs.Prelude.{◌≡◌, ◌≢◌, ℕ, ◌+◌, ◌<◌, Bool, true, false, List, [], ◌∷◌, ◌++◌, length, min, max, replicate, Option, Some, None, Ok}
+use Rattle.std.specs.List.{All, AllPairs}
+use Rattle.std.proofs.Common.{◌∙◌, sym, ap, subst, refl, arith, zero, suc}
+use Rattle.std.proofs.lemmas.Bool.{true≢false}
 use Rattle.std.proofs.lemmas.List.{length-append}
 use Rattle.std.proofs.lemmas.List.Elements.{All-push, All-nil}
+use Rattle.cs_base.specs.Fields.{IsBytes}
 use Rattle.cs_base.specs.Config.{configured, config_of, unless_out, first_out}
 use Rattle.cs_base.specs.declared.config.Config.{Config}
 use Rattle.cs_base.specs.declared.config.ConfigField.{ConfigField}
+use Rattle.cs_base.specs.declared.node_id.NodeId.{NodeId}
 use Rattle.cs_base.specs.declared.config.TheConstants.{MOST_SHARDS, MOST_LIARS}
 use Rattle.cs_value.specs.declared.object.Object.{Object}
-use Rattle.cs_value.specs.Object.{ObjectFits}
+use Rattle.cs_value.specs.Object.{object_encoding, DigestFits, ObjectFits}
 use Rattle.cs_tx.specs.Digest.{name_of_genesis}
 use Rattle.cs_event.specs.declared.schedule.Event.{Event}
 use Rattle.cs_sched.specs.declared.draft.Draft.{Draft}
 use Rattle.cs_sched.specs.declared.draft.Stage.{Stage}
+use Rattle.cs_sched.specs.declared.draft.Stage.TheVariants as stage
 use Rattle.cs_sched.specs.Values.{in_range}
 use Rattle.cs_sched.specs.Names.{is_known, genesis_names}
 use Rattle.cs_sched.specs.Drafts.{empty_draft}
@@ -22,10 +26,37 @@ use Rattle.cs_sched.specs.Playable.{IsPlayable, IsPlayableEvent}
 use Rattle.cs_sched.proofs.Steps.{ok_same}
 use Rattle.cs_sched.proofs.Distinct.{names_differ, genesis_names-append}
 
--- a draft whose schedule can be played, with the names of its objects
+-- the line `run` was met
+abbrev pub has_run : Stage → Bool
+has_run stage.Shards = false
+has_run stage.Faulty = false
+has_run stage.Dummies = false
+has_run stage.Master = false
+has_run stage.Liars = false
+has_run stage.Genesis = false
+has_run stage.Events = true
+has_run stage.Ended = true
+
+-- a draft whose schedule can be played, with the names of its objects, and without events before the line `run`; master and objects are made of bytes
 pub record IsSound (draft : Draft) : Type 0 where
   pub playable : IsPlayable draft.schedule
   pub names : draft.names ≡ genesis_names 0 draft.schedule.genesis
+  pub unplayed : has_run draft.stage ≡ false → draft.schedule.events ≡ []
+  pub master : DigestFits draft.schedule.master
+  pub encodings : All (λ object. IsBytes (object_encoding object)) draft.schedule.genesis
+
+-- a schedule without events, whose members can be any
+unplayed_fits : (config : Config) (liars : List NodeId) (events : List (ℕ × Event)) → events ≡ [] → All (λ numbered. IsPlayableEvent config liars numbered.1) events
+unplayed_fits config liars events none = subst (All (λ numbered. IsPlayableEvent config liars numbered.1)) (sym none) (All-nil (λ numbered. IsPlayableEvent config liars numbered.1))
+
+-- what holds before the line `run`, where that was met
+run_before : (next : Stage) (events : List (ℕ × Event)) → has_run next ≡ true → has_run next ≡ false → events ≡ []
+run_before next events run before = absurd (true≢false (sym run ∙ before))
+
+zeros_fit : (n : ℕ) → IsBytes (replicate n 0)
+zeros_fit zero i = omega arith
+zeros_fit (suc n) zero = omega arith
+zeros_fit (suc n) (suc i) = zeros_fit n i
 
 pub empty_sound : IsSound empty_draft
 empty_sound = record {
@@ -37,14 +68,17 @@ empty_sound = record {
     objects = All-nil ObjectFits;
     few_objects = omega arith;
     keys_differ = λ i j d before within. absurd (omega arith);
-    events = All-nil (λ numbered. IsPlayableEvent numbered.1);
+    events = unplayed_fits (config_of 1 0 0) [] [] refl;
   };
   names = refl;
+  unplayed = λ before. refl;
+  master = (refl, zeros_fit 32);
+  encodings = All-nil (λ object. IsBytes (object_encoding object));
 }
 
--- a stage says nothing of the schedule
-pub at_stage-sound : (draft : Draft) (next : Stage) → IsSound draft → IsSound (at_stage draft next)
-at_stage-sound draft next sound = record { playable = sound.playable; names = sound.names }
+-- a stage behind `run` says nothing of the schedule
+pub at_stage-sound : (draft : Draft) (next : Stage) → IsSound draft → has_run next ≡ true → IsSound (at_stage draft next)
+at_stage-sound draft next sound run = record { playable = sound.playable; names = sound.names; unplayed = run_before next draft.schedule.events run; master = sound.master; encodings = sound.encodings }
 
 in_range_is : (config next : Config) (out : Option ConfigField) → in_range (unless_out config out) ≡ Ok next → config ≡ next
 in_range_is config next None is = ok_same config next is
@@ -58,8 +92,8 @@ configured_sound shards f dummies next one none is =
     let next_f : min f MOST_LIARS ≡ next.f = ap (λ (config : Config). config.f) same in
     (omega arith, omega arith)
 
-pub with_config-sound : (draft : Draft) (next : Stage) (config : Config) → IsSound draft → (config.shards ≡ 1) × (config.f ≡ 0) → IsSound (with_config draft next config)
-with_config-sound draft next config sound numbers = record {
+pub with_config-sound : (draft : Draft) (next : Stage) (config : Config) → IsSound draft → draft.schedule.events ≡ [] → (config.shards ≡ 1) × (config.f ≡ 0) → IsSound (with_config draft next config)
+with_config-sound draft next config sound none numbers = record {
   playable = record {
     one_shard = numbers.0;
     no_liar = numbers.1;
@@ -68,13 +102,16 @@ with_config-sound draft next config sound numbers = record {
     objects = sound.playable.objects;
     few_objects = sound.playable.few_objects;
     keys_differ = sound.playable.keys_differ;
-    events = sound.playable.events;
+    events = unplayed_fits config draft.schedule.liars draft.schedule.events none;
   };
   names = sound.names;
+  unplayed = λ before. none;
+  master = sound.master;
+  encodings = sound.encodings;
 }
 
-pub with_master-sound : (draft : Draft) (master : List ℕ) → IsSound draft → IsSound (with_master draft master)
-with_master-sound draft master sound = record {
+pub with_master-sound : (draft : Draft) (master : List ℕ) → IsSound draft → draft.schedule.events ≡ [] → DigestFits master → IsSound (with_master draft master)
+with_master-sound draft master sound none fits = record {
   playable = record {
     one_shard = sound.playable.one_shard;
     no_liar = sound.playable.no_liar;
@@ -86,10 +123,13 @@ with_master-sound draft master sound = record {
     events = sound.playable.events;
   };
   names = sound.names;
+  unplayed = λ before. none;
+  master = fits;
+  encodings = sound.encodings;
 }
 
-pub with_event-sound : (draft : Draft) (line : ℕ) (said : Event) → IsSound draft → IsPlayableEvent said → IsSound (with_event draft line said)
-with_event-sound draft line said sound played = record {
+pub with_event-sound : (draft : Draft) (line : ℕ) (said : Event) → IsSound draft → has_run draft.stage ≡ true → IsPlayableEvent draft.schedule.config draft.schedule.liars said → IsSound (with_event draft line said)
+with_event-sound draft line said sound run played = record {
   playable = record {
     one_shard = sound.playable.one_shard;
     no_liar = sound.playable.no_liar;
@@ -98,14 +138,17 @@ with_event-sound draft line said sound played = record {
     objects = sound.playable.objects;
     few_objects = sound.playable.few_objects;
     keys_differ = sound.playable.keys_differ;
-    events = All-push (λ numbered. IsPlayableEvent numbered.1) draft.schedule.events (line, said) sound.playable.events played;
+    events = All-push (λ numbered. IsPlayableEvent draft.schedule.config draft.schedule.liars numbered.1) draft.schedule.events (line, said) sound.playable.events played;
   };
   names = sound.names;
+  unplayed = run_before draft.stage (draft.schedule.events ++ (line, said) ∷ []) run;
+  master = sound.master;
+  encodings = sound.encodings;
 }
 
-pub with_genesis-sound : (draft : Draft) (object : Object) → IsSound draft → ObjectFits object → length draft.schedule.genesis < 65536
+pub with_genesis-sound : (draft : Draft) (object : Object) → IsSound draft → draft.schedule.events ≡ [] → ObjectFits object → IsBytes (object_encoding object) → length draft.schedule.genesis < 65536
     → is_known (name_of_genesis (length draft.schedule.genesis) object) draft.names ≡ false → IsSound (with_genesis draft object (name_of_genesis (length draft.schedule.genesis) object))
-with_genesis-sound draft object sound fits few new =
+with_genesis-sound draft object sound none fits encoded few new =
     let name = name_of_genesis (length draft.schedule.genesis) object in
     let zero_first : 0 + length draft.schedule.genesis ≡ length draft.schedule.genesis = omega arith in
     let appended : genesis_names 0 (draft.schedule.genesis ++ object ∷ []) ≡ genesis_names 0 draft.schedule.genesis ++ name ∷ [] = genesis_names-append 0 draft.schedule.genesis object ∙ rw zero_first refl in
@@ -122,4 +165,7 @@ with_genesis-sound draft object sound fits few new =
         events = sound.playable.events;
       };
       names = ap (λ names. names ++ name ∷ []) sound.names ∙ sym appended;
+      unplayed = λ before. none;
+      master = sound.master;
+      encodings = All-push (λ object. IsBytes (object_encoding object)) draft.schedule.genesis object sound.encodings encoded;
     }

@@ -1,4 +1,5 @@
 pub mod Drafts
+pub mod Events
 pub mod FirstBad
 pub mod Lines
 pub mod Names

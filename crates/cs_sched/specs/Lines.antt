@@ -7,7 +7,8 @@ use Rattle.cs_tx.specs.Digest.{name_of_genesis}
 use Rattle.cs_event.specs.declared.schedule.Event.{Event}
 use Rattle.cs_sched.specs.Values.{◌>>=◌}
 use Rattle.cs_sched.specs.Names.{is_known}
-use Rattle.cs_sched.specs.Said.{only_field, no_field, shards_said, faulty_said, dummies_said, master_said, liar_said, object_said, event_said}
+use Rattle.cs_sched.specs.Said.{only_field, no_field, shards_said, faulty_said, dummies_said, master_said, liar_said, object_said}
+use Rattle.cs_sched.specs.Events.{event_said}
 use Rattle.cs_sched.specs.declared.cause.Cause.{Cause}
 use Rattle.cs_sched.specs.declared.cause.Cause.TheVariants as cause
 use Rattle.cs_sched.specs.declared.draft.Draft.{Draft}
@@ -91,9 +92,9 @@ run_line draft fields = do
   nothing ← no_field fields
   Ok (at_stage draft stage.Events)
 
-abbrev pub say_line : ℕ → Draft → List (List ℕ) → Result Draft Cause
-say_line line draft fields = do
-  event ← event_said draft.schedule fields
+abbrev pub event_line : ℕ → Draft → List ℕ → List (List ℕ) → Result Draft Cause
+event_line line draft word fields = do
+  event ← event_said draft.schedule word fields
   Ok (with_event draft line event)
 
 abbrev pub end_line : Draft → List (List ℕ) → Result Draft Cause

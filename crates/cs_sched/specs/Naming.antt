@@ -46,8 +46,8 @@ speaker_in config liars field = do
   name ← named config field
   if is_client name || is_liar liars name then Ok name else Err cause.Role
 
--- who is spoken to: an honest node
-abbrev pub listener_in : Config → List NodeId → List ℕ → Result NodeId Cause
-listener_in config liars field = do
+-- who things happen to: an honest node
+abbrev pub honest_in : Config → List NodeId → List ℕ → Result NodeId Cause
+honest_in config liars field = do
   name ← named config field
   if is_client name || is_liar liars name then Err cause.Role else Ok name

@@ -1,16 +1,12 @@
 -- Which lines can stand at each place. The word of a line is tested first.
-use Rattle.std.specs.Prelude.{ℕ, ◌==◌, ◌||◌, Bool, List, [], ◌∷◌, slice_index, Result, Ok, Err, codes, if◌then◌else◌}
+use Rattle.std.specs.Prelude.{ℕ, ◌==◌, List, [], ◌∷◌, slice_index, Result, Ok, Err, codes, if◌then◌else◌}
 use Rattle.std.specs.Str.{bytes_eq}
-use Rattle.cs_sched.specs.Lines.{shards_line, faulty_line, dummies_line, master_line, liar_line, contract_line, genesis_line, run_line, say_line, end_line}
+use Rattle.cs_sched.specs.Lines.{shards_line, faulty_line, dummies_line, master_line, liar_line, contract_line, genesis_line, run_line, event_line, end_line}
 use Rattle.cs_sched.specs.declared.cause.Cause.{Cause}
 use Rattle.cs_sched.specs.declared.cause.Cause.TheVariants as cause
 use Rattle.cs_sched.specs.declared.draft.Draft.{Draft}
 use Rattle.cs_sched.specs.declared.draft.Stage.{Stage}
 use Rattle.cs_sched.specs.declared.draft.Stage.TheVariants as stage
-
--- the words of events that aren't built
-abbrev pub is_later : List ℕ → Bool
-is_later word = bytes_eq word (codes "inject") || bytes_eq word (codes "deliver") || bytes_eq word (codes "tick") || bytes_eq word (codes "drain")
 
 -- objects, and then the events
 abbrev pub genesis_place : Draft → List ℕ → List (List ℕ) → Result Draft Cause
@@ -29,10 +25,8 @@ liars_place draft word fields =
 -- events, and then the end
 abbrev pub events_place : ℕ → Draft → List ℕ → List (List ℕ) → Result Draft Cause
 events_place line draft word fields =
-    if bytes_eq word (codes "say") then say_line line draft fields
-    else if bytes_eq word (codes "end") then end_line draft fields
-    else if is_later word then Err cause.Later
-    else Err cause.Word
+    if bytes_eq word (codes "end") then end_line draft fields
+    else event_line line draft word fields
 
 -- a line of this word and these fields, where it has this place
 abbrev pub line_at : Stage → ℕ → Draft → List ℕ → List (List ℕ) → Result Draft Cause

@@ -1,29 +1,52 @@
 -- What every schedule meets that is read.
-use Rattle.std.specs.Prelude.{◌≡◌, ◌≢◌, ℕ, ◌≤◌, true, List, [], length}
+use Rattle.std.specs.Prelude.{◌≡◌, ◌≢◌, ℕ, ◌<◌, ◌≤◌, ◌^◌, true, false, ◌||◌, List, [], length}
 use Rattle.std.specs.List.{All, AllPairs}
 use Rattle.cs_base.specs.Fields.{IsBytes}
-use Rattle.cs_base.specs.NodeId.{is_client}
+use Rattle.cs_base.specs.NodeId.{is_node, is_named, is_client}
+use Rattle.cs_base.specs.declared.config.Config.{Config}
 use Rattle.cs_base.specs.declared.node_id.NodeId.{NodeId}
 use Rattle.cs_value.specs.Object.{ObjectFits}
 use Rattle.cs_event.specs.declared.schedule.Schedule.{Schedule}
 use Rattle.cs_event.specs.declared.schedule.Event.{Event}
-use Rattle.cs_event.specs.declared.schedule.Event.TheVariants.{Say}
+use Rattle.cs_event.specs.declared.schedule.Event.TheVariants.{Say, Inject, Deliver, Tick, Drain}
+use Rattle.cs_sched.specs.Naming.{is_liar}
 use Rattle.cs_sched.specs.Names.{genesis_names}
 
 -- the one node of the one shard
 abbrev pub only_node : NodeId
 only_node = record { shard = 0; index = 0 }
 
--- a client submits something to the one node
-pub record IsSubmit (from to : NodeId) (number : ℕ) (bytes : List ℕ) : Type 0 where
-  pub client : is_client from ≡ true
-  pub node : to ≡ only_node
-  pub kind : number ≡ 1
+-- an honest node: one of the configuration that is none of the liars
+pub record IsHonest (config : Config) (liars : List NodeId) (name : NodeId) : Type 0 where
+  pub node : is_node config name ≡ true
+  pub honest : is_liar liars name ≡ false
+
+-- one whose words the schedule says: a client or a liar
+pub record IsSpeaker (config : Config) (liars : List NodeId) (name : NodeId) : Type 0 where
+  pub named : is_named config name ≡ true
+  pub speaks : (is_client name || is_liar liars name) ≡ true
+
+-- a client or a liar says something to an honest node
+pub record IsSaid (config : Config) (liars : List NodeId) (from to : NodeId) (number : ℕ) (bytes : List ℕ) : Type 0 where
+  pub speaker : IsSpeaker config liars from
+  pub listener : IsHonest config liars to
+  pub kind : number ≤ 255
   pub short : length bytes ≤ 32719
   pub in_bytes : IsBytes bytes
 
-abbrev pub IsPlayableEvent : Event → Type 0
-IsPlayableEvent (Say from to kind body) = IsSubmit from to kind body
+-- an honest node is given bytes
+pub record IsInjected (config : Config) (liars : List NodeId) (to : NodeId) (bytes : List ℕ) : Type 0 where
+  pub node : IsHonest config liars to
+  pub short : length bytes ≤ 32768
+  pub in_bytes : IsBytes bytes
+
+-- an event that can stand in a schedule of these liars
+abbrev pub IsPlayableEvent : Config → List NodeId → Event → Type 0
+IsPlayableEvent config liars (Say from to kind body) = IsSaid config liars from to kind body
+IsPlayableEvent config liars (Inject to bytes) = IsInjected config liars to bytes
+IsPlayableEvent config liars (Deliver number) = number < 2 ^ 64
+IsPlayableEvent config liars (Tick node) = IsHonest config liars node
+IsPlayableEvent config liars (Drain times) = times < 2 ^ 64
 
 -- One honest node alone makes up the deployment; its objects have encodings, and no two of them one key.
 pub record IsPlayable (schedule : Schedule) : Type 0 where
@@ -34,4 +57,4 @@ pub record IsPlayable (schedule : Schedule) : Type 0 where
   pub objects : All ObjectFits schedule.genesis
   pub few_objects : length schedule.genesis ≤ 65536
   pub keys_differ : AllPairs (λ a b. a ≢ b) (genesis_names 0 schedule.genesis)
-  pub events : All (λ numbered. IsPlayableEvent numbered.1) schedule.events
+  pub events : All (λ numbered. IsPlayableEvent schedule.config schedule.liars numbered.1) schedule.events

@@ -6,13 +6,14 @@ ghost use Rattle.cs_value.specs.Object.{ObjectFits};
 ghost use Rattle.cs_tx.specs.Digest.{name_of_genesis};
 ghost use Rattle.cs_sched.specs.Reading.{Moves};
 ghost use Rattle.cs_sched.specs.Drafts.{empty_draft};
-ghost use Rattle.cs_sched.specs.Lines.{shards_line, faulty_line, dummies_line, master_line, liar_line, genesis_line, run_line, say_line, end_line};
+ghost use Rattle.cs_sched.specs.Lines.{shards_line, faulty_line, dummies_line, master_line, liar_line, genesis_line, run_line, event_line, end_line};
 
 use crate::cause::Cause;
 use crate::error::LineError;
+use crate::events::read_event;
 use crate::lines::{
-    no_field, read_dummies, read_event, read_faulty, read_liar_line, read_master_line,
-    read_object_line, read_shards,
+    no_field, read_dummies, read_faulty, read_liar_line, read_master_line, read_object_line,
+    read_shards,
 };
 use crate::name_set::NameSet;
 use cs_base::{Config, Key, Memory, Sequence};
@@ -144,15 +145,16 @@ impl Draft {
         Ok(())
     }
 
-    pub(crate) fn take_say(
+    pub(crate) fn take_event(
         &mut self,
         alloc: Global,
         line: u64,
+        word: &[u8],
         fields: &[&[u8]],
     ) -> Result<(), LineError>
-        ensures { Moves result self.new (say_line line self.old (views fields.now)) }
+        ensures { Moves result self.new (event_line line self.old word.now (views fields.now)) }
     {
-        let event = read_event(alloc, &self.schedule, fields)?;
+        let event = read_event(alloc, &self.schedule, word, fields)?;
         self.schedule.events.push((line, event))?;
         Ok(())
     }

@@ -4,6 +4,7 @@
 mod cause;
 mod draft;
 mod error;
+mod events;
 mod lines;
 mod name_set;
 mod naming;

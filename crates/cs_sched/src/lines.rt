@@ -3,28 +3,20 @@ ghost use Rattle.std.specs.Prelude.{◌≡◌, ◌<◌, Err, IfOk, length};
 ghost use Rattle.cs_base.specs.Lines.{views};
 ghost use Rattle.cs_value.specs.Object.{ObjectFits};
 ghost use Rattle.cs_sched.specs.Reading.{Gives, Lends};
-ghost use Rattle.cs_sched.specs.Said.{only_field, no_field, shards_said, faulty_said, dummies_said, master_said, liar_said, object_said, kind_in, event_of, event_said};
+ghost use Rattle.cs_sched.specs.Said.{only_field, no_field, number_said, shards_said, faulty_said, dummies_said, master_said, liar_said, object_said};
 ghost use Rattle.cs_sched.specs.Lines.{contract_line};
 
 use crate::cause::Cause;
 use crate::error::LineError;
-use crate::naming::{read_liar, read_listener, read_speaker};
-use crate::values::{
-    config, number, read_bytes_within, read_master, read_number_within, read_object,
-};
+use crate::naming::read_liar;
+use crate::values::{config, number, read_master, read_object};
 use cs_base::{Config, NodeId};
-use cs_event::{Event, Schedule};
+use cs_event::Schedule;
 use cs_tx::{Digest, Object};
 use std::alloc::Global;
 
 /// The most genesis objects.
 const MOST_OBJECTS: usize = 65_536;
-
-/// The greatest kind of a datagram.
-const MOST_KIND: u64 = 255;
-
-/// The greatest length of a body: a datagram of it has 49 bytes more, and at most 32,768.
-const BODY_LIMIT: usize = 32_719;
 
 pub(crate) fn only_field<'a>(fields: &[&'a [u8]]) -> Result<&'a [u8], Cause>
     ensures { Lends result (only_field (views fields.now)) }
@@ -44,11 +36,17 @@ pub(crate) fn no_field(fields: &[&[u8]]) -> Result<(), Cause>
     }
 }
 
+pub(crate) fn only_number(fields: &[&[u8]]) -> Result<u64, Cause>
+    ensures { result ≡ number_said (views fields.now) }
+{
+    let field = only_field(fields)?;
+    number(field)
+}
+
 pub(crate) fn read_shards(now: Config, fields: &[&[u8]]) -> Result<Config, Cause>
     ensures { result ≡ shards_said now (views fields.now) }
 {
-    let field = only_field(fields)?;
-    let shards = number(field)?;
+    let shards = only_number(fields)?;
     let next = config(shards, u64::from(now.f), u64::from(now.dummies))?;
     if shards != 1 {
         return Err(Cause::Later);
@@ -59,8 +57,7 @@ pub(crate) fn read_shards(now: Config, fields: &[&[u8]]) -> Result<Config, Cause
 pub(crate) fn read_faulty(now: Config, fields: &[&[u8]]) -> Result<Config, Cause>
     ensures { result ≡ faulty_said now (views fields.now) }
 {
-    let field = only_field(fields)?;
-    let faulty = number(field)?;
+    let faulty = only_number(fields)?;
     let next = config(u64::from(now.shards), faulty, u64::from(now.dummies))?;
     if faulty != 0 {
         return Err(Cause::Later);
@@ -71,8 +68,7 @@ pub(crate) fn read_faulty(now: Config, fields: &[&[u8]]) -> Result<Config, Cause
 pub(crate) fn read_dummies(now: Config, fields: &[&[u8]]) -> Result<Config, Cause>
     ensures { result ≡ dummies_said now (views fields.now) }
 {
-    let field = only_field(fields)?;
-    let dummies = number(field)?;
+    let dummies = only_number(fields)?;
     config(u64::from(now.shards), u64::from(now.f), dummies)
 }
 
@@ -115,50 +111,4 @@ pub(crate) fn read_object_line(
         return Err(LineError::Bad(Cause::Limit));
     }
     read_object(alloc, field)
-}
-
-fn read_kind(field: &[u8]) -> Result<u8, Cause>
-    ensures { result ≡ kind_in field.now }
-{
-    let kind = read_number_within(field, MOST_KIND)?;
-    if kind != 1 {
-        return Err(Cause::Later);
-    }
-    Ok(kind as u8)
-}
-
-pub(crate) fn read_event(
-    alloc: Global,
-    schedule: &Schedule,
-    fields: &[&[u8]],
-) -> Result<Event, LineError>
-    ensures { Gives result (event_said schedule.now (views fields.now)) }
-{
-    match fields {
-        [from, to, kind, body] => read_say(alloc, schedule, from, to, kind, body),
-        _ => Err(LineError::Bad(Cause::Count)),
-    }
-}
-
-fn read_say(
-    alloc: Global,
-    schedule: &Schedule,
-    from: &[u8],
-    to: &[u8],
-    kind: &[u8],
-    body: &[u8],
-) -> Result<Event, LineError>
-    ensures { Gives result (event_of schedule.now from.now to.now kind.now body.now) }
-{
-    let liars = schedule.liars.as_slice();
-    let from = read_speaker(&schedule.config, liars, from)?;
-    let to = read_listener(&schedule.config, liars, to)?;
-    let kind = read_kind(kind)?;
-    let body = read_bytes_within(alloc, body, BODY_LIMIT)?;
-    Ok(Event::Say {
-        from,
-        to,
-        kind,
-        body,
-    })
 }

@@ -1,6 +1,6 @@
 //! Names of nodes and clients in fields.
 ghost use Rattle.std.specs.Prelude.{◌≡◌};
-ghost use Rattle.cs_sched.specs.Naming.{named, is_liar, liars_of, liar_in, speaker_in, listener_in};
+ghost use Rattle.cs_sched.specs.Naming.{named, is_liar, liars_of, liar_in, speaker_in, honest_in};
 
 use crate::cause::Cause;
 use cs_base::{Config, NodeId, read_node};
@@ -58,12 +58,8 @@ pub(crate) fn read_speaker(config: &Config, liars: &[NodeId], field: &[u8]) -> R
 }
 
 // An honest node.
-pub(crate) fn read_listener(
-    config: &Config,
-    liars: &[NodeId],
-    field: &[u8],
-) -> Result<NodeId, Cause>
-    ensures { result ≡ listener_in config.now liars.now field.now }
+pub(crate) fn read_honest(config: &Config, liars: &[NodeId], field: &[u8]) -> Result<NodeId, Cause>
+    ensures { result ≡ honest_in config.now liars.now field.now }
 {
     let name = read_name(config, field)?;
     if name.is_client() || lies(liars, name) {

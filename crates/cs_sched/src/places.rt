@@ -2,7 +2,7 @@
 ghost use Rattle.std.specs.Prelude.{◌≡◌};
 ghost use Rattle.cs_base.specs.Lines.{views, fields_of};
 ghost use Rattle.cs_sched.specs.Reading.{Moves};
-ghost use Rattle.cs_sched.specs.Places.{is_later, genesis_place, liars_place, events_place, line_at, line_step};
+ghost use Rattle.cs_sched.specs.Places.{genesis_place, liars_place, events_place, line_at, line_step};
 
 use crate::cause::Cause;
 use crate::draft::{Draft, Stage};
@@ -96,23 +96,10 @@ impl Draft {
     ) -> Result<(), LineError>
         ensures { Moves result self.new (events_place line self.old word.now (views fields.now)) }
     {
-        if word == b"say".as_slice() {
-            self.take_say(alloc, line, fields)
-        } else if word == b"end".as_slice() {
+        if word == b"end".as_slice() {
             self.take_end(fields)
-        } else if comes_later(word) {
-            Err(LineError::Bad(Cause::Later))
         } else {
-            Err(LineError::Bad(Cause::Word))
+            self.take_event(alloc, line, word, fields)
         }
     }
-}
-
-fn comes_later(word: &[u8]) -> bool
-    ensures { result ≡ is_later word.now }
-{
-    word == b"inject".as_slice()
-        || word == b"deliver".as_slice()
-        || word == b"tick".as_slice()
-        || word == b"drain".as_slice()
 }

@@ -91,11 +91,22 @@ fn whole_texts(rt: HostRuntime) -> Result<(), Fail> {
     Ok(())
 }
 
+fn refused_behind_head(
+    alloc: Global,
+    lines: &str,
+    line: u64,
+    cause: Cause,
+) -> Result<bool, AllocError> {
+    let text = joined(alloc, HEAD, lines)?;
+    Ok(refusal_of(alloc, LONG, text.as_str()) == Some(Refusal { line, cause }))
+}
+
 #[test]
 fn lines_behind_the_head(rt: HostRuntime) -> Result<(), Fail> {
     for (lines, line, cause) in [
         ("master 00", 5, Cause::Word),
         ("say c.0 0.0 1 -", 5, Cause::Word),
+        ("tick 0.0", 5, Cause::Word),
         ("liar c.0", 5, Cause::Role),
         ("liar c.16", 5, Cause::Node),
         ("liar 65535.0", 5, Cause::Node),
@@ -111,28 +122,80 @@ fn lines_behind_the_head(rt: HostRuntime) -> Result<(), Fail> {
         ("run now", 5, Cause::Count),
         ("run\nliar 0.0", 6, Cause::Word),
         ("run\nsya 0.0", 6, Cause::Word),
-        ("run\ntick", 6, Cause::Later),
-        ("run\ninject 0.0 zz", 6, Cause::Later),
-        ("run\ndeliver x", 6, Cause::Later),
-        ("run\ndrain", 6, Cause::Later),
+        ("run\nend 1", 6, Cause::Count),
+        ("run\nend\n# c\n\nrun", 9, Cause::After),
+    ] {
+        assert!(rt;
+            refused_behind_head(rt.alloc(), lines, line, cause)?,
+            "{lines}"
+        );
+    }
+    Ok(())
+}
+
+#[test]
+fn says(rt: HostRuntime) -> Result<(), Fail> {
+    for (lines, line, cause) in [
         ("run\nsay c.0 0.0 1", 6, Cause::Count),
+        ("run\nsay c.0 0.0 1 - -", 6, Cause::Count),
         ("run\nsay c.16 0.9 x z", 6, Cause::Node),
         ("run\nsay 0.0 0.9 x z", 6, Cause::Role),
         ("run\nsay c.15 0.9 x z", 6, Cause::Node),
         ("run\nsay c.15 c.0 x z", 6, Cause::Role),
         ("run\nsay c.15 0.0 x z", 6, Cause::Number),
+        ("run\nsay c.15 0.0 00 z", 6, Cause::Number),
         ("run\nsay c.15 0.0 256 z", 6, Cause::Limit),
-        ("run\nsay c.15 0.0 255 z", 6, Cause::Later),
+        ("run\nsay c.15 0.0 255 z", 6, Cause::Hex),
         ("run\nsay c.15 0.0 1 0", 6, Cause::Hex),
-        ("run\nsay c.15 0.0 1 -\nend 1", 7, Cause::Count),
-        ("run\nsay c.15 0.0 1 -\n", 7, Cause::End),
-        ("run\nend\n# c\n\nrun", 9, Cause::After),
+        ("run\nsay c.15 0.0 0 -\nsay c.0 0.0 255 aB", 8, Cause::End),
     ] {
-        let text = joined(rt.alloc(), HEAD, lines)?;
-        let refusal = Some(Refusal { line, cause });
-        assert_eq!(rt;
-            refusal_of(rt.alloc(), LONG, text.as_str()),
-            refusal,
+        assert!(rt;
+            refused_behind_head(rt.alloc(), lines, line, cause)?,
+            "{lines}"
+        );
+    }
+    Ok(())
+}
+
+#[test]
+fn things_that_happen_to_nodes(rt: HostRuntime) -> Result<(), Fail> {
+    for (lines, line, cause) in [
+        ("run\ninject 0.0", 6, Cause::Count),
+        ("run\ninject 0.0 - -", 6, Cause::Count),
+        ("run\ninject 1.0 z", 6, Cause::Node),
+        ("run\ninject c.0 z", 6, Cause::Role),
+        ("run\ninject 0.0 0", 6, Cause::Hex),
+        ("run\ninject 0.0 -\ninject 0.0 00", 8, Cause::End),
+        ("run\ntick", 6, Cause::Count),
+        ("run\ntick 0.0 0.0", 6, Cause::Count),
+        ("run\ntick 00", 6, Cause::Node),
+        ("run\ntick c.3", 6, Cause::Role),
+        ("run\ntick 0.0", 7, Cause::End),
+    ] {
+        assert!(rt;
+            refused_behind_head(rt.alloc(), lines, line, cause)?,
+            "{lines}"
+        );
+    }
+    Ok(())
+}
+
+#[test]
+fn things_that_come(rt: HostRuntime) -> Result<(), Fail> {
+    for (lines, line, cause) in [
+        ("run\ndeliver", 6, Cause::Count),
+        ("run\ndeliver 1 2", 6, Cause::Count),
+        ("run\ndeliver -", 6, Cause::Number),
+        ("run\ndeliver 18446744073709551616", 6, Cause::Number),
+        ("run\ndeliver 18446744073709551615", 7, Cause::End),
+        ("run\ndrain", 6, Cause::Count),
+        ("run\ndrain 1 2", 6, Cause::Count),
+        ("run\ndrain +1", 6, Cause::Number),
+        ("run\ndrain 18446744073709551616", 6, Cause::Number),
+        ("run\ndrain 0", 7, Cause::End),
+    ] {
+        assert!(rt;
+            refused_behind_head(rt.alloc(), lines, line, cause)?,
             "{lines}"
         );
     }
@@ -147,6 +210,8 @@ fn long_fields(rt: HostRuntime) -> Result<(), Fail> {
         ("genesis ", 4097, "0", 5, Cause::Hex),
         ("run\nsay c.0 0.0 1 ", 32719, "", 7, Cause::End),
         ("run\nsay c.0 0.0 1 ", 32720, "", 6, Cause::Limit),
+        ("run\ninject 0.0 ", 32768, "", 7, Cause::End),
+        ("run\ninject 0.0 ", 32769, "", 6, Cause::Limit),
     ] {
         let text = with_zeros(rt.alloc(), word, count, back)?;
         let refusal = Some(Refusal { line, cause });
@@ -182,7 +247,10 @@ fn schedules(rt: HostRuntime) -> Result<(), Fail> {
         to,
         kind,
         body,
-    } = event;
+    } = event
+    else {
+        return Err(Fail::from("say"));
+    };
     assert_eq!(rt; *line, 8);
     assert_eq!(rt;
         *from,
@@ -194,6 +262,43 @@ fn schedules(rt: HostRuntime) -> Result<(), Fail> {
     assert_eq!(rt; *to, NodeId { shard: 0, index: 0 });
     assert_eq!(rt; *kind, 1);
     assert_eq!(rt; body.len(), SESSION.len() / 2);
+    Ok(())
+}
+
+// A short name of each event's numbers.
+fn told(event: &Event) -> (&str, u64, usize) {
+    match event {
+        Event::Say { kind, body, .. } => ("say", u64::from(*kind), body.len()),
+        Event::Inject { to, bytes } => ("inject", u64::from(to.index), bytes.len()),
+        Event::Deliver { number } => ("deliver", *number, 0),
+        Event::Tick { node } => ("tick", u64::from(node.shard), 0),
+        Event::Drain { times } => ("drain", *times, 0),
+    }
+}
+
+#[test]
+fn events(rt: HostRuntime) -> Result<(), Fail> {
+    let alloc = rt.alloc();
+    let lines = "run\nsay c.1 0.0 200 0102\ninject 0.0 030405\n\ndeliver 7\ntick 0.0\ndrain 9\nend";
+    let text = joined(alloc, HEAD, lines)?;
+    let schedule = parse(alloc, text.as_bytes()).ok().ok_or("events")?;
+    let wanted = [
+        (6, ("say", 200, 2)),
+        (7, ("inject", 0, 3)),
+        (9, ("deliver", 7, 0)),
+        (10, ("tick", 0, 0)),
+        (11, ("drain", 9, 0)),
+    ];
+    assert_eq!(rt; schedule.events.len(), wanted.len());
+    for ((line, event), (wanted_line, wanted_event)) in schedule
+        .events
+        .as_slice()
+        .iter()
+        .zip(wanted.iter())
+    {
+        assert_eq!(rt; *line, *wanted_line);
+        assert!(rt; told(event) == *wanted_event);
+    }
     Ok(())
 }
 

@@ -21,12 +21,11 @@ use Rattle.cs_ledger.proofs.Votes.{all_more, one_more}
 use Rattle.cs_trail.specs.declared.ballot.Ballot.{Ballot}
 use Rattle.cs_trail.specs.Setup.{digest_of, concerned, session_in, entry_of, vote_of, is_approved}
 use Rattle.cs_trail.specs.Evidence.{name_eq, vote_eq, has_ballot, has_support, is_decided}
-use Rattle.cs_trail.specs.Signs.{Dropped, Took, Entered, Did}
+use Rattle.cs_trail.specs.Signs.{Dropped, Took, Entered, Did, Sent}
 use Rattle.cs_trail.specs.Site.{Mark, In, Ordered, Plain, Site, signs_of}
 use Rattle.cs_trail.specs.World.{steps_of}
-use Rattle.cs_trail.specs.Collisions.{sessions_given}
 use Rattle.cs_story.specs.Made.{view_at, has_given, HasVotedOn, IsMade, AllMade}
-use Rattle.cs_story.proofs.Views.{me-same, member-is}
+use Rattle.cs_story.proofs.Views.{sessions_given, me-same, member-is}
 use Rattle.cs_story.proofs.Logs.{seen_log, given-is}
 use Rattle.cs_story.proofs.Pools.{Place, HasTaken, IsSourced, given-more, pool-sourced}
 use Rattle.cs_story.proofs.Due.{IsDueFrom, due-from}
@@ -61,6 +60,7 @@ taken-given {M} site me d who vote (In input ∷ t) made h = taken-given site me
 taken-given {M} site me d who vote (Ordered deed ∷ t) made h = taken-given site me d who vote t made.1 h
 taken-given {M} site me d who vote (Plain (Dropped cause) ∷ t) made h = taken-given site me d who vote t made.1 h
 taken-given {M} site me d who vote (Plain (Entered x) ∷ t) made h = taken-given site me d who vote t made.1 h
+taken-given {M} site me d who vote (Plain (Sent to message) ∷ t) made h = taken-given site me d who vote t made.1 h
 taken-given {M} site me d who vote (Plain (Did slot entry effect) ∷ t) made h =
     let r = taken-given site me d who vote t made.1 h in (r.0, or_right _ _ r.1)
 taken-given {M} site me d who vote (Plain (Took sender other x) ∷ t) made (inr h) = taken-given site me d who vote t made.1 h
@@ -98,7 +98,7 @@ module _ {M : Type 0} (site : Site M) (me : NodeId) (known : List Session) (plai
     pub within : (x : Seen.Session) → IsIn x (sessions (Steps t)) → IsIn x (map site.setup.session_of known)
 
   -- support for a vote on a pooled session is a vote of the node
-  support-voted : (t : List (Mark M)) (e : Place) (vote : Tx.Vote) (shard : ℕ) → AllMade site me t → IsSourced site me.shard t e → has_support site.setup.f e.1.ballots vote shard ≡ true
+  support-voted : (t : List (Mark M)) (e : Place) (vote : Tx.Vote) (shard : ℕ) → AllMade site me t → IsSourced site me t e → has_support site.setup.f e.1.ballots vote shard ≡ true
       → votes site.setup.rules (Steps t) shard (site.setup.session_of e.1.session) (vote_of vote) ≡ true
   support-voted t e vote shard made s h =
       let one = first-counts site.setup.f (λ index. has_ballot shard index vote e.1.ballots) plain.trusted h in
@@ -115,7 +115,7 @@ module _ {M : Type 0} (site : Site M) (me : NodeId) (known : List Session) (plai
       ∙ sym (given-is site me (digest_of site.setup e.1.session) (vote_of vote) t made) ∙ gave in
       subst (λ k. votes_in site.setup.rules k (digest_of site.setup e.1.session) (vote_of vote) (log k (Steps t)) ≡ true) here in_log
 
-  decision-allowed : (t : List (Mark M)) (e : Place) (vote : Tx.Vote) → AllMade site me t → IsSourced site me.shard t e → is_decided site.setup.f (concerned site.setup e.1.session) vote e.1.ballots ≡ true
+  decision-allowed : (t : List (Mark M)) (e : Place) (vote : Tx.Vote) → AllMade site me t → IsSourced site me t e → is_decided site.setup.f (concerned site.setup e.1.session) vote e.1.ballots ≡ true
       → IsAllowed site.setup.rules (Steps t) me.shard (entry_of site.setup (Decide vote e.1.session))
   decision-allowed t e tx.Commit made s h =
       let x = e.1.session in
@@ -140,10 +140,10 @@ module _ {M : Type 0} (site : Site M) (me : NodeId) (known : List Session) (plai
       )
 
   -- what is due may be executed
-  due-good : (t : List (Mark M)) (entry : Entry) → AllMade site me t → IsSane t → ((x : Session) → IsIn x (sessions_given site t) → IsIn x known) → IsDueFrom site.setup (view_at site me t).bench.pool entry → IsGood t entry
+  due-good : (t : List (Mark M)) (entry : Entry) → AllMade site me t → IsSane t → ((x : Session) → IsIn x (sessions_given site me t) → IsIn x known) → IsDueFrom site.setup (view_at site me t).bench.pool entry → IsGood t entry
   due-good t entry made sane given d =
       let e = d.0 in
-      let s : IsSourced site me.shard t e = subst (λ (n : NodeId). IsSourced site n.shard t e) (me-same site me t) (pool-sourced site me t made e d.1) in
+      let s : IsSourced site me t e = subst (λ (n : NodeId). IsSourced site n t e) (me-same site me t) (pool-sourced site me t made e d.1) in
       let good : (is_approved site.setup e.1.session ≡ true) × IsIn e.1.session known = elim s.source [
         | inl new ↦ (new.0, given e.1.session new.1)
         | inr voted ↦ (let g = sane.voted e.1.session voted in (g.0.2, g.1))
@@ -154,7 +154,7 @@ module _ {M : Type 0} (site : Site M) (me : NodeId) (known : List Session) (plai
         | inr decision ↦ subst (λ z. IsGood t z) (sym decision.1) (decision-allowed t e decision.0 made s decision.2, good.1)
       ]
 
-  deed-good : (t : List (Mark M)) (deed : Deed M) → AllMade site me t → IsSane t → ((x : Session) → IsIn x (sessions_given site t) → IsIn x known) → IsMade site me t (Ordered deed)
+  deed-good : (t : List (Mark M)) (deed : Deed M) → AllMade site me t → IsSane t → ((x : Session) → IsIn x (sessions_given site me t) → IsIn x known) → IsMade site me t (Ordered deed)
       → (p : Proposed) → Order.IsIn p (held_in site.machine (deed ∷ (view_at site me t).member.deeds)) → IsGood t (site.entry_in p)
   deed-good t (Took_in from message) made sane given is p i = absurd is.1
   deed-good t (Advanced step sent) made sane given is p i = sane.held p i
@@ -185,15 +185,17 @@ module _ {M : Type 0} (site : Site M) (me : NodeId) (known : List Session) (plai
       let held = plain.holds.logged site.setup.f me.index v.member.deeds (deeds-kept site me t made.1) slot made.0.proposed made.0.chosen in
       subst (λ z. IsGood t z) made.0.reads (s.held made.0.proposed held)
 
-  pub sane : (t : List (Mark M)) → AllMade site me t → ((x : Session) → IsIn x (sessions_given site t) → IsIn x known) → IsSane t
+  pub sane : (t : List (Mark M)) → AllMade site me t → ((x : Session) → IsIn x (sessions_given site me t) → IsIn x known) → IsSane t
   sane [] made given = record { held = λ p i. absurd i; voted = λ x h. absurd h; allowed = tt; within = λ x i. absurd i }
   sane (In input ∷ t) made given =
-      let s = sane t made.1 (λ x i. given x (given-more site x (In input) t i)) in record { held = s.held; voted = s.voted; allowed = s.allowed; within = s.within }
+      let s = sane t made.1 (λ x i. given x (given-more site me x (In input) t i)) in record { held = s.held; voted = s.voted; allowed = s.allowed; within = s.within }
   sane (Plain (Dropped cause) ∷ t) made given =
       let s = sane t made.1 given in record { held = s.held; voted = s.voted; allowed = s.allowed; within = s.within }
   sane (Plain (Took sender vote x) ∷ t) made given =
       let s = sane t made.1 given in record { held = s.held; voted = s.voted; allowed = s.allowed; within = s.within }
   sane (Plain (Entered x) ∷ t) made given =
+      let s = sane t made.1 given in record { held = s.held; voted = s.voted; allowed = s.allowed; within = s.within }
+  sane (Plain (Sent to message) ∷ t) made given =
       let s = sane t made.1 given in record { held = s.held; voted = s.voted; allowed = s.allowed; within = s.within }
   sane (Ordered deed ∷ t) made given =
       let s = sane t made.1 given in

@@ -8,7 +8,7 @@ use Rattle.cs_ledger.specs.Ledger.{Bytes}
 use Rattle.cs_ledger.specs.Table.{Commit, Abort, Effect, Voted, Accepted, Aborted, Skipped, Void, exec, table_of}
 use Rattle.cs_ledger.specs.ShardWorld.{log, votes_in, decided_in, is_vote, is_effect, is_prepare_of, is_decide_of}
 use Rattle.cs_trail.specs.Setup.{Setup, entry_of}
-use Rattle.cs_trail.specs.Signs.{Dropped, Took, Entered, Did}
+use Rattle.cs_trail.specs.Signs.{Dropped, Took, Entered, Did, Sent}
 use Rattle.cs_trail.specs.Site.{Mark, In, Ordered, Plain, Site, signs_of}
 use Rattle.cs_trail.specs.World.{steps_of, accepts_by, aborts_by, accepts_in, aborts_in}
 use Rattle.cs_story.specs.Made.{AllMade}
@@ -53,6 +53,7 @@ module _ {M : Type 0} (site : Site M) (me : NodeId) (d : Bytes) where
   accepts-log (Plain (Dropped cause) ∷ t) made h = accepts-log t made.1 h
   accepts-log (Plain (Took sender vote x) ∷ t) made h = accepts-log t made.1 h
   accepts-log (Plain (Entered x) ∷ t) made h = accepts-log t made.1 h
+  accepts-log (Plain (Sent to message) ∷ t) made h = accepts-log t made.1 h
   accepts-log (Plain (Did slot entry effect) ∷ t) made h =
       elim (or_cases _ _ h) [
         | inl now ↦ or_left _ _ (subst (λ (e : Effect). (is_decide_of d (entry_of site.setup entry) && is_effect Accepted e) ≡ true) (came t slot entry effect made) (accepted-by site.setup d entry effect now))
@@ -67,6 +68,7 @@ module _ {M : Type 0} (site : Site M) (me : NodeId) (d : Bytes) where
   aborts-log (Plain (Dropped cause) ∷ t) made h = aborts-log t made.1 h
   aborts-log (Plain (Took sender vote x) ∷ t) made h = aborts-log t made.1 h
   aborts-log (Plain (Entered x) ∷ t) made h = aborts-log t made.1 h
+  aborts-log (Plain (Sent to message) ∷ t) made h = aborts-log t made.1 h
   aborts-log (Plain (Did slot entry effect) ∷ t) made h =
       elim (or_cases _ _ h) [
         | inl now ↦ elim (aborted-by site.setup d entry effect now) [

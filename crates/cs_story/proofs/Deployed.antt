@@ -1,12 +1,13 @@
 -- The site of a deployment reads entries back, and its hashed strings are those that the ledger asks of.
 use Rattle.std.proofs.Common.{◌≡◌, inl, inr, ℕ, suc, ◌+◌, ◌<◌, ◌%◌, Bool, List, [], ◌∷◌, ◌++◌, map, Option, Some, None, refl, sym, ap, ◌∙◌, subst, arith}
-use Rattle.std.specs.Prelude.{slice_get}
+use Rattle.std.specs.Prelude.{Ok, Err, ◌-◌, length, take, slice_get}
 use Rattle.std.specs.Int.{w16, w32, to_be_bytes}
 use Rattle.sha2.specs.Sha256.{sha256}
 use Rattle.sha2.proofs.Facts256.{length-sha256}
-use Rattle.cs_base.specs.Fields.{whole_at}
+use Rattle.cs_base.specs.Fields.{IsBytes}
+use Rattle.cs_base.specs.declared.node_id.NodeId.{NodeId}
 use Rattle.cs_base.specs.declared.config.Config.{Config}
-use Rattle.cs_base.proofs.Forms.{whole-takes, whole-again}
+use Rattle.cs_base.proofs.Forms.{IsBytes-drop, IsBytes-take, whole-again}
 use Rattle.cs_value.specs.declared.object.Object.{Object}
 use Rattle.cs_value.specs.Object.{object_encoding}
 use Rattle.cs_form.specs.declared.trace.Trace.{Trace}
@@ -14,10 +15,21 @@ use Rattle.cs_form.specs.declared.transaction.Tx.{Tx}
 use Rattle.cs_form.specs.declared.session.Session.{Session}
 use Rattle.cs_form.specs.declared.entry.Entry.{Entry}
 use Rattle.cs_form.specs.declared.entry.Entry.TheVariants.{Prepare, Decide}
-use Rattle.cs_form.specs.Session.{session_encoding, SessionFits, entry_encoding, EntryFits}
+use Rattle.cs_form.specs.Session.{SessionFits, entry_encoding, EntryFits}
 use Rattle.cs_tx.specs.Digest.{digest_of_tx}
-use Rattle.cs_form.specs.Reading.{session_at, entry_at}
-use Rattle.cs_form.specs.Laws.{session_form, entry_form}
+use Rattle.cs_form.specs.Reading.{entry_at}
+use Rattle.cs_form.specs.Laws.{entry_form}
+use Rattle.cs_message.specs.declared.message.Message.{Message}
+use Rattle.cs_message.specs.declared.message.Message.TheVariants as message
+use Rattle.cs_message.specs.Message.{MessageFits}
+use Rattle.cs_message.specs.Body.{message_whole}
+use Rattle.cs_message.proofs.Wholes.{whole_has}
+use Rattle.cs_wire.specs.declared.head.Head.{Head}
+use Rattle.cs_wire.specs.declared.opening.OpenError.{OpenError}
+use Rattle.cs_wire.specs.Datagram.{body_in}
+use Rattle.cs_wire.specs.Heads.{head_seen}
+use Rattle.cs_wire.specs.Opens.{fault_of}
+use Rattle.cs_wire.specs.Opened.{Opened, said_by, opened_body, unless_fault, keys_of_master}
 use Rattle.cs_tx.specs.Sessions.{outputs_written_at, outputs_written, written_of, session_of}
 use Rattle.cs_tx.proofs.Faithful.{are-faithful}
 use Rattle.cs_order.specs.Deeds.{Machine}
@@ -30,35 +42,75 @@ use Rattle.cs_ledger.specs.Strings.{Origin, Output, WrittenSession, IsString, se
 use Rattle.cs_ledger.proofs.Basics.{in_either}
 use Rattle.cs_ledger.proofs.Strings.{no_collision}
 use Rattle.cs_trail.specs.Setup.{session_in}
-use Rattle.cs_trail.specs.Site.{Input, Datagram, Site}
+use Rattle.cs_trail.specs.Site.{Input, Datagram, Tick, Site}
 use Rattle.cs_trail.specs.World.{Happening, view_of, IsLife}
-use Rattle.cs_trail.specs.Collisions.{listed, sessions_given, known_sessions, known_entries, IsHashed, OfGenesis, OfSession, OfTransaction, OfOutput, NoCollision}
+use Rattle.cs_trail.specs.Collisions.{sessions_in, in_opened, known_sessions, known_entries, IsHashed, OfGenesis, OfSession, OfTransaction, OfOutput, NoCollision}
 use Rattle.cs_trail.specs.Deployment.{genesis_from, entry_or_void}
 use Rattle.cs_story.specs.OneNode.{InputIsBytes, AreBytes, IsOneNode, deployed}
+use Rattle.cs_story.proofs.Views.{sessions_given}
 use Rattle.cs_story.proofs.NoIns.{given_in, event-given}
 use Rattle.cs_story.proofs.Allowed.{IsPlain}
 
 -- ---- sessions that were read fit
 
-in-listed : {A : Type 0} (o : Option A) (x : A) → IsIn x (listed o) → o ≡ Some x
-in-listed None x i = absurd i
-in-listed (Some y) x (inl e) = ap (λ z. Some z) (sym e)
-in-listed (Some y) x (inr none) = absurd none
+inner-fits : (entry : Entry) → EntryFits entry → SessionFits (session_in entry)
+inner-fits (Prepare x) fits = fits
+inner-fits (Decide vote x) fits = fits
 
-module _ {M : Type 0} (config : Config) (genesis : List Object) (approves : Tx → Bool) (machine : Machine M) where
+session-fits : (m : Message) (x : Session) → MessageFits m → IsIn x (sessions_in m) → SessionFits x
+session-fits (message.Submit y) x fits (inl e) = subst SessionFits (sym e) fits
+session-fits (message.Submit y) x fits (inr none) = absurd none
+session-fits (message.Propose slot view entry) x fits (inl e) = subst SessionFits (sym e) (inner-fits entry fits.1.1)
+session-fits (message.Propose slot view entry) x fits (inr none) = absurd none
+session-fits (message.Voted vote asks y) x fits (inl e) = subst SessionFits (sym e) fits
+session-fits (message.Voted vote asks y) x fits (inr none) = absurd none
+session-fits (message.Done slot entry) x fits (inl e) = subst SessionFits (sym e) (inner-fits entry fits.1)
+session-fits (message.Done slot entry) x fits (inr none) = absurd none
+session-fits (message.Echo slot view digest) x fits i = absurd i
+session-fits (message.Confirm slot view digest) x fits i = absurd i
+session-fits (message.Change slot view change) x fits i = absurd i
+session-fits (message.Decided digest accepted) x fits i = absurd i
+session-fits (message.Want slot) x fits i = absurd i
+session-fits (message.Ask asked) x fits i = absurd i
+session-fits (message.Told key state) x fits i = absurd i
+session-fits (message.Head checkpoint) x fits i = absurd i
+session-fits (message.AskProof slot) x fits i = absurd i
+session-fits (message.Proof proof) x fits i = absurd i
+
+-- the message of a datagram that was opened fits
+message-fits : (bytes : Bytes) (fault : Option OpenError) (seen : Option Head) (said : NodeId × Message) → IsBytes bytes → unless_fault fault (opened_body bytes seen) ≡ Ok said → MessageFits said.1
+message-fits bytes (Some error) seen said fits e = absurd cc
+message-fits bytes None None said fits e = absurd cc
+message-fits bytes None (Some head) said fits e = whole (message_whole head.kind (body_in bytes)) refl e
+  where
+    whole : (o : Option Message) → message_whole head.kind (body_in bytes) ≡ o → said_by head.from o ≡ Ok said → MessageFits said.1
+    whole None is e = absurd cc
+    whole (Some m) is e =
+        let that : (head.from, m) ≡ said = cc in
+        subst (λ (s : NodeId × Message). MessageFits s.1) that (whole_has head.kind (body_in bytes) m (IsBytes-drop 17 (take (length bytes - 32) bytes) (IsBytes-take (length bytes - 32) bytes fits)) is).fits
+
+opened-fits : (bytes : Bytes) (fault : Option OpenError) (seen : Option Head) (x : Session) → IsBytes bytes → IsIn x (in_opened sessions_in (unless_fault fault (opened_body bytes seen))) → SessionFits x
+opened-fits bytes fault seen x fits i = found (unless_fault fault (opened_body bytes seen)) refl i
+  where
+    found : (o : Opened) → unless_fault fault (opened_body bytes seen) ≡ o → IsIn x (in_opened sessions_in o) → SessionFits x
+    found (Ok said) is j = session-fits said.1 x (message-fits bytes fault seen said fits is) j
+    found (Err error) is j = absurd j
+
+module _ {M : Type 0} (config : Config) (master : Bytes) (liars : List NodeId) (genesis : List Object) (approves : Tx → Bool) (machine : Machine M) where
   abbrev At : Site M
-  At = deployed config genesis approves machine
+  At = deployed config master liars genesis approves machine
 
   pub known-fits : (world : List (Happening M)) → IsLife At world → AreBytes world → (x : Session) → IsIn x (known_sessions At world) → SessionFits x
   known-fits [] life bytes x i = absurd i
   known-fits (h ∷ past) life bytes x i =
-      elim (in_either x (sessions_given At h.marks) (known_sessions At past) i) [
-        | inl here ↦ read h.input bytes.0 (event-given At (view_of At past h.node) h.input x (subst (λ m. IsIn x (sessions_given At m)) life.0 here))
+      elim (in_either x (sessions_given At h.node h.marks) (known_sessions At past) i) [
+        | inl here ↦ read h.input bytes.0 (event-given At h.node (view_of At past h.node) h.input x (subst (λ m. IsIn x (sessions_given At h.node m)) life.0 here))
         | inr before ↦ known-fits past life.1 bytes.1 x before
       ]
     where
-      read : (input : Input) → InputIsBytes input → IsIn x (given_in (deployed config genesis approves machine) input) → SessionFits x
-      read (Datagram bytes) fits j = (whole-takes session_encoding SessionFits session_at session_form bytes x fits (in-listed (whole_at session_at bytes) x j)).0
+      read : (input : Input) → InputIsBytes input → IsIn x (given_in (deployed config master liars genesis approves machine) h.node input) → SessionFits x
+      read (Datagram bytes) fits j = let keys = keys_of_master config master h.node in opened-fits bytes (fault_of keys bytes) (head_seen bytes) x fits j
+      read Tick fits j = absurd j
 
   pub entry-fits : (entry : Entry) → SessionFits (session_in entry) → EntryFits entry
   entry-fits (Prepare x) fits = fits

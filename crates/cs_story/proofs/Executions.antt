@@ -8,14 +8,14 @@ use Rattle.cs_ledger.specs.ShardWorld.{log}
 use Rattle.cs_ledger.proofs.Basics.{in_left, in_right, in_either}
 use Rattle.cs_trail.specs.Setup.{Setup, entry_of}
 use Rattle.cs_trail.specs.Evidence.{name_eq}
-use Rattle.cs_trail.specs.Signs.{Sign, Dropped, Took, Entered, Did}
-use Rattle.cs_trail.specs.Site.{Datagram, Mark, In, Ordered, Plain, Site, signs_of}
+use Rattle.cs_trail.specs.Signs.{Sign, Dropped, Took, Entered, Did, Sent}
+use Rattle.cs_trail.specs.Site.{Datagram, Tick, Mark, In, Ordered, Plain, Site, signs_of}
 use Rattle.cs_trail.specs.World.{Happening, trail_of, view_of, IsLife, Execution, steps_of, slots_of, first_of, firsts_after, firsts_of}
-use Rattle.cs_trail.specs.Collisions.{listed, sessions_given, known_sessions}
+use Rattle.cs_trail.specs.Collisions.{sessions_in, in_opened, known_sessions}
 use Rattle.cs_trail.specs.Trail.{event_marks}
 use Rattle.cs_story.specs.Made.{view_at, log_in, AllMade, IsLevel}
 use Rattle.cs_story.specs.OneNode.{IsAlone}
-use Rattle.cs_story.proofs.Views.{signs_of-append}
+use Rattle.cs_story.proofs.Views.{sessions_given, signs_of-append}
 use Rattle.cs_story.proofs.Logs.{seen}
 use Rattle.cs_story.proofs.Inputs.{event-level}
 
@@ -26,6 +26,7 @@ executions shard (Did slot entry effect ∷ past) = record { shard = shard; slot
 executions shard (Dropped cause ∷ past) = executions shard past
 executions shard (Took sender vote x ∷ past) = executions shard past
 executions shard (Entered x ∷ past) = executions shard past
+executions shard (Sent to message ∷ past) = executions shard past
 
 slots-are : (shard : ℕ) (signs : List Sign) → slots_of shard (executions shard signs) ≡ length (log_in signs)
 slots-are shard [] = refl
@@ -35,6 +36,7 @@ slots-are shard (Did slot entry effect ∷ past) =
 slots-are shard (Dropped cause ∷ past) = slots-are shard past
 slots-are shard (Took sender vote x ∷ past) = slots-are shard past
 slots-are shard (Entered x ∷ past) = slots-are shard past
+slots-are shard (Sent to message ∷ past) = slots-are shard past
 
 pub log-is : (setup : Setup) (shard : ℕ) (signs : List Sign) → log shard (steps_of setup (executions shard signs)) ≡ seen setup (log_in signs)
 log-is setup shard [] = refl
@@ -44,6 +46,7 @@ log-is setup shard (Did slot entry effect ∷ past) =
 log-is setup shard (Dropped cause ∷ past) = log-is setup shard past
 log-is setup shard (Took sender vote x ∷ past) = log-is setup shard past
 log-is setup shard (Entered x ∷ past) = log-is setup shard past
+log-is setup shard (Sent to message ∷ past) = log-is setup shard past
 
 firsts-append : (shard : ℕ) (firsts : List Execution) (a b : List Sign) → firsts_after shard firsts (a ++ b) ≡ firsts_after shard (firsts_after shard firsts b) a
 firsts-append shard firsts [] b = refl
@@ -60,6 +63,7 @@ firsts-are {M} site me shard (Ordered deed ∷ t) made = firsts-are site me shar
 firsts-are {M} site me shard (Plain (Dropped cause) ∷ t) made = firsts-are site me shard t made.1
 firsts-are {M} site me shard (Plain (Took sender vote x) ∷ t) made = firsts-are site me shard t made.1
 firsts-are {M} site me shard (Plain (Entered x) ∷ t) made = firsts-are site me shard t made.1
+firsts-are {M} site me shard (Plain (Sent to message) ∷ t) made = firsts-are site me shard t made.1
 firsts-are {M} site me shard (Plain (Did slot entry effect) ∷ t) made =
     let new : Execution = record { shard = shard; slot = slot; entry = entry; effect = effect } in
     ap (λ l. first_of shard (Did slot entry effect) l) (firsts-are site me shard t made.1)
@@ -94,22 +98,23 @@ firsts-world {M} site me world alone life = one world alone ∙ firsts-are site 
         ∙ firsts-append me.shard [] (signs_of h.marks) (signs_of (trail_of me past)))
 
 -- what the node was given is what is known in the world
-given-append : {M : Type 0} (site : Site M) (a b : List (Mark M)) (x : Session) → IsIn x (sessions_given site (a ++ b)) → IsIn x (sessions_given site a ++ sessions_given site b)
-given-append {M} site [] b x h = h
-given-append {M} site (In (Datagram bytes) ∷ a) b x h = through (listed (site.session_at bytes)) h (given-append site a b x)
+given-append : {M : Type 0} (site : Site M) (me : NodeId) (a b : List (Mark M)) (x : Session) → IsIn x (sessions_given site me (a ++ b)) → IsIn x (sessions_given site me a ++ sessions_given site me b)
+given-append {M} site me [] b x h = h
+given-append {M} site me (In (Datagram bytes) ∷ a) b x h = through (in_opened sessions_in (site.net.opened me bytes)) h (given-append site me a b x)
   where
-    through : (l : List Session) → IsIn x (l ++ sessions_given site (a ++ b)) → (IsIn x (sessions_given site (a ++ b)) → IsIn x (sessions_given site a ++ sessions_given site b)) → IsIn x ((l ++ sessions_given site a) ++ sessions_given site b)
+    through : (l : List Session) → IsIn x (l ++ sessions_given site me (a ++ b)) → (IsIn x (sessions_given site me (a ++ b)) → IsIn x (sessions_given site me a ++ sessions_given site me b)) → IsIn x ((l ++ sessions_given site me a) ++ sessions_given site me b)
     through [] h f = f h
     through (y ∷ l) (inl e) f = inl e
     through (y ∷ l) (inr i) f = inr (through l i f)
-given-append {M} site (Ordered deed ∷ a) b x h = given-append site a b x h
-given-append {M} site (Plain sign ∷ a) b x h = given-append site a b x h
+given-append {M} site me (In Tick ∷ a) b x h = given-append site me a b x h
+given-append {M} site me (Ordered deed ∷ a) b x h = given-append site me a b x h
+given-append {M} site me (Plain sign ∷ a) b x h = given-append site me a b x h
 
-pub given-known : {M : Type 0} (site : Site M) (me : NodeId) (world : List (Happening M)) → IsAlone me world → (x : Session) → IsIn x (sessions_given site (trail_of me world)) → IsIn x (known_sessions site world)
+pub given-known : {M : Type 0} (site : Site M) (me : NodeId) (world : List (Happening M)) → IsAlone me world → (x : Session) → IsIn x (sessions_given site me (trail_of me world)) → IsIn x (known_sessions site world)
 given-known {M} site me [] alone x h = h
 given-known {M} site me (h ∷ past) alone x i =
-    let j = given-append site h.marks (trail_of me past) x (subst (λ z. IsIn x (sessions_given site z)) (trail-alone me h past alone.0) i) in
-    elim (in_either x (sessions_given site h.marks) (sessions_given site (trail_of me past)) j) [
-      | inl here ↦ in_left x (sessions_given site h.marks) (known_sessions site past) here
-      | inr before ↦ in_right x (sessions_given site h.marks) (known_sessions site past) (given-known site me past alone.1 x before)
+    let j = given-append site me h.marks (trail_of me past) x (subst (λ z. IsIn x (sessions_given site me z)) (trail-alone me h past alone.0) i) in
+    elim (in_either x (sessions_given site me h.marks) (sessions_given site me (trail_of me past)) j) [
+      | inl here ↦ in_left x (sessions_given site h.node h.marks) (known_sessions site past) (subst (λ (n : NodeId). IsIn x (sessions_given site n h.marks)) (sym alone.0) here)
+      | inr before ↦ in_right x (sessions_given site h.node h.marks) (known_sessions site past) (given-known site me past alone.1 x before)
     ]

@@ -1,6 +1,7 @@
 mod Views
 mod Turns
 mod Inputs
+mod Dropping
 mod Logs
 mod Locks
 mod Pools
@@ -8,6 +9,7 @@ mod Due
 mod Executions
 mod Counting
 mod Allowed
+mod Anchors
 mod Told
 mod Decided
 mod Origins
@@ -16,4 +18,5 @@ mod Readiness
 mod NoIns
 mod Deployed
 mod Middle
+mod Sealing
 mod Played

@@ -12,13 +12,13 @@ use Rattle.cs_ledger.proofs.Basics.{same_bytes, in_right}
 use Rattle.cs_ledger.proofs.Strings.{no_collision_within}
 use Rattle.cs_ledger.proofs.Votes.{log_at, all_more}
 use Rattle.cs_trail.specs.Setup.{Setup, entry_of}
-use Rattle.cs_trail.specs.Signs.{Dropped, Took, Entered, Did}
+use Rattle.cs_trail.specs.Signs.{Dropped, Took, Entered, Did, Sent}
 use Rattle.cs_trail.specs.Site.{Mark, In, Ordered, Plain, Site, signs_of}
 use Rattle.cs_trail.specs.World.{Happening, trail_of, IsLife, steps_of, firsts_of, told, history, all_recorded}
-use Rattle.cs_trail.specs.Collisions.{sessions_given, known_sessions}
+use Rattle.cs_trail.specs.Collisions.{known_sessions}
 use Rattle.cs_story.specs.Made.{view_at, AllMade}
 use Rattle.cs_story.specs.OneNode.{only_node, IsAlone, signs_at}
-use Rattle.cs_story.proofs.Views.{me-same}
+use Rattle.cs_story.proofs.Views.{sessions_given, me-same}
 use Rattle.cs_story.proofs.Logs.{seen_log, table-is}
 use Rattle.cs_story.proofs.Executions.{executions, log-is, trail-alone, world-level, firsts-world, given-known}
 use Rattle.cs_story.proofs.Allowed.{in-map, IsPlain, sane}
@@ -47,7 +47,7 @@ middle {M} site known world plain apart alone life within =
       made = made;
       world_is = (s.allowed, no_collision_within site.setup.rules.genesis (map site.setup.session_of known) _ s.within apart);
       within = s.within;
-      history_is = ap (λ f. told site.setup f) firsts ∙ told-is site.setup plain.bound (executions 0 (signs_at world)) fine;
+      history_is = ap (λ f. told site.setup f) firsts ∙ told-is site.setup plain.bound (executions 0 (signs_at world)) fine s.allowed;
       recorded_is = λ x. ap (λ f. all_recorded site.setup f x) firsts ∙ all-recorded-is site.setup plain.bound (executions 0 (signs_at world)) x fine;
     }
 
@@ -108,7 +108,7 @@ life-earlier {M} site (h ∷ later) earlier l = life-earlier site later earlier 
 
 pub known-earlier : {M : Type 0} (site : Site M) (later earlier : List (Happening M)) (x : Session) → IsIn x (known_sessions site earlier) → IsIn x (known_sessions site (later ++ earlier))
 known-earlier {M} site [] earlier x i = i
-known-earlier {M} site (h ∷ later) earlier x i = in_right x (sessions_given site h.marks) _ (known-earlier site later earlier x i)
+known-earlier {M} site (h ∷ later) earlier x i = in_right x (sessions_given site h.node h.marks) _ (known-earlier site later earlier x i)
 
 commit-marks : {M : Type 0} (site : Site M) (x : Seen.Session) (a t : List (Mark M)) → all_commit site.setup.rules (steps_of site.setup (executions 0 (signs_of t))) x ≡ true → all_commit site.setup.rules (steps_of site.setup (executions 0 (signs_of (a ++ t)))) x ≡ true
 commit-marks {M} site x [] t h = h
@@ -117,6 +117,7 @@ commit-marks {M} site x (Ordered deed ∷ a) t h = commit-marks site x a t h
 commit-marks {M} site x (Plain (Dropped cause) ∷ a) t h = commit-marks site x a t h
 commit-marks {M} site x (Plain (Took sender vote y) ∷ a) t h = commit-marks site x a t h
 commit-marks {M} site x (Plain (Entered y) ∷ a) t h = commit-marks site x a t h
+commit-marks {M} site x (Plain (Sent to message) ∷ a) t h = commit-marks site x a t h
 commit-marks {M} site x (Plain (Did slot entry effect) ∷ a) t h =
     all_more site.setup.rules (record { shard = 0; entry = entry_of site.setup entry }) (steps_of site.setup (executions 0 (signs_of (a ++ t)))) x Commit (all_items x.transaction) (commit-marks site x a t h)
 

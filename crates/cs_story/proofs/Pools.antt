@@ -1,6 +1,6 @@
 -- Where the sessions and the votes of a pool come from.
 use Rattle.std.proofs.Common.{◌≡◌, ◌⊎◌, inl, inr, ℕ, Bool, true, false, ◌&&◌, if◌then◌else◌, List, [], ◌∷◌, Option, Some, None, sym, ◌∙◌, ap, subst, refl}
-use Rattle.std.specs.Prelude.{bytes_eq}
+use Rattle.std.specs.Prelude.{Ok, bytes_eq}
 use Rattle.std.specs.Map.{lookup, remove_entry, set_value}
 use Rattle.std.proofs.lemmas.Bool.{cases_Bool, cond_both}
 use Rattle.cs_base.specs.declared.node_id.NodeId.{NodeId}
@@ -8,6 +8,8 @@ use Rattle.cs_form.specs.declared.session.Session.{Session}
 use Rattle.cs_form.specs.declared.vote.Vote.{Vote}
 use Rattle.cs_form.specs.declared.entry.Entry.{Entry}
 use Rattle.cs_form.specs.declared.entry.Entry.TheVariants.{Prepare, Decide}
+use Rattle.cs_message.specs.declared.message.Message.TheVariants as message
+use Rattle.cs_wire.specs.Opened.{Opened}
 use Rattle.cs_ledger.specs.Ledger.{Bytes, IsIn}
 use Rattle.cs_ledger.specs.Session as Seen
 use Rattle.cs_ledger.specs.Table as Shard
@@ -19,10 +21,11 @@ use Rattle.cs_trail.specs.Setup.{Setup, digest_of, is_fit, is_approved, session_
 use Rattle.cs_trail.specs.Evidence.{has_voted}
 use Rattle.cs_trail.specs.Pool.{Pool, found, is_pooled, without, changed_at, changed, with_ballot, as_locked, entering, pushed}
 use Rattle.cs_trail.specs.Bench.{is_locked, pool_after, told_by}
-use Rattle.cs_trail.specs.Signs.{Sign, Dropped, Took, Entered, Did}
-use Rattle.cs_trail.specs.Site.{Datagram, Mark, In, Ordered, Plain, Site, signs_of}
-use Rattle.cs_trail.specs.Collisions.{listed, sessions_given}
+use Rattle.cs_trail.specs.Signs.{Sign, Dropped, Took, Entered, Did, Sent}
+use Rattle.cs_trail.specs.Site.{Datagram, Tick, Mark, In, Ordered, Plain, Site, signs_of}
+use Rattle.cs_trail.specs.Collisions.{sessions_in, in_opened}
 use Rattle.cs_story.specs.Made.{view_at, HasVotedOn, current, AllMade}
+use Rattle.cs_story.proofs.Views.{sessions_given}
 use Rattle.cs_story.proofs.Turns.{untold}
 
 abbrev pub Place : Type 0
@@ -93,12 +96,13 @@ HasTaken setup d who vote (Took sender other x ∷ past) = ((d ≡ digest_of set
 HasTaken setup d who vote (Did slot entry effect ∷ past) = HasTaken setup d who vote past
 HasTaken setup d who vote (Dropped cause ∷ past) = HasTaken setup d who vote past
 HasTaken setup d who vote (Entered x ∷ past) = HasTaken setup d who vote past
+HasTaken setup d who vote (Sent to message ∷ past) = HasTaken setup d who vote past
 
 -- a place of the pool: the session was submitted and is approved, or was voted on; each vote was taken
-pub record IsSourced {M : Type 0} (site : Site M) (shard : ℕ) (t : List (Mark M)) (e : Place) : Type 0 where
+pub record IsSourced {M : Type 0} (site : Site M) (me : NodeId) (t : List (Mark M)) (e : Place) : Type 0 where
   pub digest : e.0 ≡ digest_of site.setup e.1.session
-  pub fit : is_fit site.setup shard e.1.session ≡ true
-  pub source : ((is_approved site.setup e.1.session ≡ true) × IsIn e.1.session (sessions_given site t)) ⊎ HasVotedOn e.1.session (signs_of t)
+  pub fit : is_fit site.setup me.shard e.1.session ≡ true
+  pub source : ((is_approved site.setup e.1.session ≡ true) × IsIn e.1.session (sessions_given site me t)) ⊎ HasVotedOn e.1.session (signs_of t)
   pub ballots : (b : Ballot) → IsIn b e.1.ballots → HasTaken site.setup e.0 b.sender b.vote (signs_of t)
 
 taken-more : {M : Type 0} (setup : Setup) (d : Bytes) (who : NodeId) (vote : Vote) (mark : Mark M) (t : List (Mark M)) → HasTaken setup d who vote (signs_of t) → HasTaken setup d who vote (signs_of (mark ∷ t))
@@ -107,6 +111,7 @@ taken-more {M} setup d who vote (Ordered deed) t h = h
 taken-more {M} setup d who vote (Plain (Dropped cause)) t h = h
 taken-more {M} setup d who vote (Plain (Took sender other x)) t h = inr h
 taken-more {M} setup d who vote (Plain (Entered x)) t h = h
+taken-more {M} setup d who vote (Plain (Sent to message)) t h = h
 taken-more {M} setup d who vote (Plain (Did slot entry effect)) t h = h
 
 voted-more : {M : Type 0} (x : Session) (mark : Mark M) (t : List (Mark M)) → HasVotedOn x (signs_of t) → HasVotedOn x (signs_of (mark ∷ t))
@@ -115,30 +120,33 @@ voted-more {M} x (Ordered deed) t h = h
 voted-more {M} x (Plain (Dropped cause)) t h = h
 voted-more {M} x (Plain (Took sender other y)) t h = h
 voted-more {M} x (Plain (Entered y)) t h = h
+voted-more {M} x (Plain (Sent to message)) t h = h
 voted-more {M} x (Plain (Did slot entry effect)) t h = inr h
 
-pub given-more : {M : Type 0} (site : Site M) (x : Session) (mark : Mark M) (t : List (Mark M)) → IsIn x (sessions_given site t) → IsIn x (sessions_given site (mark ∷ t))
-given-more {M} site x (In (Datagram bytes)) t h = in_right x (listed (site.session_at bytes)) _ h
-given-more {M} site x (Ordered deed) t h = h
-given-more {M} site x (Plain sign) t h = h
+pub given-more : {M : Type 0} (site : Site M) (me : NodeId) (x : Session) (mark : Mark M) (t : List (Mark M)) → IsIn x (sessions_given site me t) → IsIn x (sessions_given site me (mark ∷ t))
+given-more {M} site me x (In (Datagram bytes)) t h = in_right x (in_opened sessions_in (site.net.opened me bytes)) _ h
+given-more {M} site me x (In Tick) t h = h
+given-more {M} site me x (Ordered deed) t h = h
+given-more {M} site me x (Plain sign) t h = h
 
-sourced-more : {M : Type 0} (site : Site M) (shard : ℕ) (mark : Mark M) (t : List (Mark M)) (e : Place) → IsSourced site shard t e → IsSourced site shard (mark ∷ t) e
-sourced-more {M} site shard mark t e s =
+sourced-more : {M : Type 0} (site : Site M) (me : NodeId) (mark : Mark M) (t : List (Mark M)) (e : Place) → IsSourced site me t e → IsSourced site me (mark ∷ t) e
+sourced-more {M} site me mark t e s =
     record {
       digest = s.digest;
       fit = s.fit;
-      source = elim s.source [ inl a ↦ inl (a.0, given-more site e.1.session mark t a.1) | inr v ↦ inr (voted-more e.1.session mark t v) ];
+      source = elim s.source [ inl a ↦ inl (a.0, given-more site me e.1.session mark t a.1) | inr v ↦ inr (voted-more e.1.session mark t v) ];
       ballots = λ b i. taken-more site.setup e.0 b.sender b.vote mark t (s.ballots b i);
     }
 
 -- the session of the input at work was given
-current-given : {M : Type 0} (site : Site M) (t : List (Mark M)) (bytes : Bytes) (x : Session) → current t ≡ Some (Datagram bytes) → site.session_at bytes ≡ Some x → IsIn x (sessions_given site t)
-current-given {M} site [] bytes x c e = cc
-current-given {M} site (In (Datagram other) ∷ t) bytes x c e =
+current-given : {M : Type 0} (site : Site M) (me : NodeId) (t : List (Mark M)) (bytes : Bytes) (sender : NodeId) (x : Session) → current t ≡ Some (Datagram bytes) → site.net.opened me bytes ≡ Ok (sender, message.Submit x) → IsIn x (sessions_given site me t)
+current-given {M} site me [] bytes sender x c e = cc
+current-given {M} site me (In (Datagram other) ∷ t) bytes sender x c e =
     let same : other ≡ bytes = cc in
-    in_left x (listed (site.session_at other)) _ (subst (λ o. IsIn x (listed o)) (sym (ap site.session_at same ∙ e)) (inl refl))
-current-given {M} site (Ordered deed ∷ t) bytes x c e = current-given site t bytes x c e
-current-given {M} site (Plain sign ∷ t) bytes x c e = current-given site t bytes x c e
+    in_left x (in_opened sessions_in (site.net.opened me other)) _ (subst (λ (o : Opened). IsIn x (in_opened sessions_in o)) (sym (ap (site.net.opened me) same ∙ e)) (inl refl))
+current-given {M} site me (In Tick ∷ t) bytes sender x c e = cc
+current-given {M} site me (Ordered deed ∷ t) bytes sender x c e = current-given site me t bytes sender x c e
+current-given {M} site me (Plain sign ∷ t) bytes sender x c e = current-given site me t bytes sender x c e
 
 -- what gave a vote is well formed, and concerns the shard
 exec-fit : (rules : Seen.Rules) (shard : ℕ) (t : Table) (entry : Shard.Entry) (vote : Shard.Vote) → (Shard.exec rules shard t entry).effect ≡ Voted vote
@@ -159,6 +167,7 @@ voted-fit {M} site me x (Ordered deed ∷ t) made h = voted-fit site me x t made
 voted-fit {M} site me x (Plain (Dropped cause) ∷ t) made h = voted-fit site me x t made.1 h
 voted-fit {M} site me x (Plain (Took sender vote y) ∷ t) made h = voted-fit site me x t made.1 h
 voted-fit {M} site me x (Plain (Entered y) ∷ t) made h = voted-fit site me x t made.1 h
+voted-fit {M} site me x (Plain (Sent to message) ∷ t) made h = voted-fit site me x t made.1 h
 voted-fit {M} site me x (Plain (Did slot entry effect) ∷ t) made (inr h) = voted-fit site me x t made.1 h
 voted-fit {M} site me x (Plain (Did slot entry effect) ∷ t) made (inl now) =
     let v = view_at site me t in
@@ -176,9 +185,9 @@ voted-prepare setup shard t (Decide v x) vote e =
 
 -- ---- all places of a pool
 
-module _ {M : Type 0} (site : Site M) (shard : ℕ) (t : List (Mark M)) where
+module _ {M : Type 0} (site : Site M) (me : NodeId) (t : List (Mark M)) where
   abbrev pub AllSourced : Pool → Type 0
-  AllSourced pool = (e : Place) → IsIn e pool → IsSourced site shard t e
+  AllSourced pool = (e : Place) → IsIn e pool → IsSourced site me t e
 
   -- a change that keeps the session, and the votes but for taken ones
   pub sourced-changed : (d : Bytes) (change : Pooled → Pooled) (pool : Pool) → AllSourced pool → ((p : Pooled) → (change p).session ≡ p.session)
@@ -189,28 +198,28 @@ module _ {M : Type 0} (site : Site M) (shard : ℕ) (t : List (Mark M)) where
         | inr new ↦
             let o = new.0 in
             let s = all o new.1 in
-            let moved : IsSourced site shard t (o.0, change o.1) = record {
+            let moved : IsSourced site me t (o.0, change o.1) = record {
               digest = s.digest ∙ ap (digest_of site.setup) (sym (session o.1));
-              fit = ap (λ x. is_fit site.setup shard x) (session o.1) ∙ s.fit;
-              source = subst (λ x. ((is_approved site.setup x ≡ true) × IsIn x (sessions_given site t)) ⊎ HasVotedOn x (signs_of t)) (sym (session o.1)) s.source;
+              fit = ap (λ x. is_fit site.setup me.shard x) (session o.1) ∙ s.fit;
+              source = subst (λ x. ((is_approved site.setup x ≡ true) × IsIn x (sessions_given site me t)) ⊎ HasVotedOn x (signs_of t)) (sym (session o.1)) s.source;
               ballots = λ b j. elim (ballots o.1 b j) [ inl old ↦ s.ballots b old | inr taken ↦ subst (λ k. HasTaken site.setup k b.sender b.vote (signs_of t)) new.2 taken ];
             } in
-            subst (λ z. IsSourced site shard t z) (sym new.3) moved
+            subst (λ z. IsSourced site me t z) (sym new.3) moved
       ]
 
-  pub sourced-pushed : (x : Session) (locked : Bool) (pool : Pool) → AllSourced pool → is_fit site.setup shard x ≡ true
-      → ((is_approved site.setup x ≡ true) × IsIn x (sessions_given site t)) ⊎ HasVotedOn x (signs_of t) → AllSourced (pushed (digest_of site.setup x) x locked pool)
+  pub sourced-pushed : (x : Session) (locked : Bool) (pool : Pool) → AllSourced pool → is_fit site.setup me.shard x ≡ true
+      → ((is_approved site.setup x ≡ true) × IsIn x (sessions_given site me t)) ⊎ HasVotedOn x (signs_of t) → AllSourced (pushed (digest_of site.setup x) x locked pool)
   sourced-pushed x locked pool all fit source e i =
       elim (in_either e pool ((digest_of site.setup x, entering x locked) ∷ []) i) [
         | inl old ↦ all e old
         | inr new ↦ elim new [
-          | inl is ↦ subst (λ z. IsSourced site shard t z) (sym is) (record { digest = refl; fit = fit; source = source; ballots = λ b j. absurd j })
+          | inl is ↦ subst (λ z. IsSourced site me t z) (sym is) (record { digest = refl; fit = fit; source = source; ballots = λ b j. absurd j })
           | inr none ↦ absurd none
         ]
       ]
 
   pub sourced-after : (x : Session) (effect : Effect) (locked : Bool) (pool : Pool) → AllSourced pool
-      → ((vote : Shard.Vote) → effect ≡ Voted vote → (is_fit site.setup shard x ≡ true) × HasVotedOn x (signs_of t)) → AllSourced (pool_after effect locked (digest_of site.setup x) x pool)
+      → ((vote : Shard.Vote) → effect ≡ Voted vote → (is_fit site.setup me.shard x ≡ true) × HasVotedOn x (signs_of t)) → AllSourced (pool_after effect locked (digest_of site.setup x) x pool)
   sourced-after x (Voted vote) true pool all voted =
       cond_both (is_pooled (digest_of site.setup x) pool) _ _ AllSourced
       (λ e. sourced-changed (digest_of site.setup x) as_locked pool all (λ p. refl) (λ p b i. inl i))
@@ -221,33 +230,34 @@ module _ {M : Type 0} (site : Site M) (shard : ℕ) (t : List (Mark M)) where
   sourced-after x Skipped locked pool all voted = all
   sourced-after x Void locked pool all voted = all
 
-pub pool-sourced : {M : Type 0} (site : Site M) (me : NodeId) (t : List (Mark M)) → AllMade site me t → AllSourced site (view_at site me t).me.shard t (view_at site me t).bench.pool
+pub pool-sourced : {M : Type 0} (site : Site M) (me : NodeId) (t : List (Mark M)) → AllMade site me t → AllSourced site (view_at site me t).me t (view_at site me t).bench.pool
 pool-sourced {M} site me [] made = λ e i. absurd i
 pool-sourced {M} site me (In input ∷ t) made = λ e i. sourced-more site _ (In input) t e (pool-sourced site me t made.1 e i)
 pool-sourced {M} site me (Ordered deed ∷ t) made = λ e i. sourced-more site _ (Ordered deed) t e (pool-sourced site me t made.1 e i)
 pool-sourced {M} site me (Plain (Dropped cause) ∷ t) made = λ e i. sourced-more site _ (Plain (Dropped cause)) t e (pool-sourced site me t made.1 e i)
+pool-sourced {M} site me (Plain (Sent to message) ∷ t) made = λ e i. sourced-more site _ (Plain (Sent to message)) t e (pool-sourced site me t made.1 e i)
 pool-sourced {M} site me (Plain (Took sender vote x) ∷ t) made =
     let v = view_at site me t in
     let mark : Mark M = Plain (Took sender vote x) in
     let ballot : Ballot = record { sender = sender; vote = vote } in
-    sourced-changed site v.me.shard (mark ∷ t) (digest_of site.setup x) (with_ballot ballot) v.bench.pool
+    sourced-changed site v.me (mark ∷ t) (digest_of site.setup x) (with_ballot ballot) v.bench.pool
     (λ e i. sourced-more site _ mark t e (pool-sourced site me t made.1 e i)) (ballot-session ballot)
     (λ p b i. elim (ballot-in ballot b p i) [ inl old ↦ inl old | inr is ↦ inr (inl (refl, ap (λ (c : Ballot). c.sender) (sym is), ap (λ (c : Ballot). c.vote) (sym is))) ])
 pool-sourced {M} site me (Plain (Entered x) ∷ t) made =
     let v = view_at site me t in
     let mark : Mark M = Plain (Entered x) in
-    let all : AllSourced site v.me.shard (mark ∷ t) v.bench.pool = λ e i. sourced-more site _ mark t e (pool-sourced site me t made.1 e i) in
-    cond_both (is_pooled (digest_of site.setup x) v.bench.pool) _ _ (AllSourced site v.me.shard (mark ∷ t))
+    let all : AllSourced site v.me (mark ∷ t) v.bench.pool = λ e i. sourced-more site _ mark t e (pool-sourced site me t made.1 e i) in
+    cond_both (is_pooled (digest_of site.setup x) v.bench.pool) _ _ (AllSourced site v.me (mark ∷ t))
     (λ e. all)
     (λ e. elim made.0 [
-      | inl new ↦ sourced-pushed site v.me.shard (mark ∷ t) x false v.bench.pool all new.fit (inl (new.approved, current-given site t new.bytes x new.is_current new.reads))
-      | inr voted ↦ sourced-pushed site v.me.shard (mark ∷ t) x false v.bench.pool all (voted-fit site me x t made.1 voted) (inr voted)
+      | inl new ↦ sourced-pushed site v.me (mark ∷ t) x false v.bench.pool all new.fit (inl (new.approved, current-given site v.me t new.bytes new.sender x new.is_current new.reads))
+      | inr voted ↦ sourced-pushed site v.me (mark ∷ t) x false v.bench.pool all (voted-fit site me x t made.1 voted) (inr voted)
     ])
 pool-sourced {M} site me (Plain (Did slot entry effect) ∷ t) made =
     let v = view_at site me t in
     let mark : Mark M = Plain (Did slot entry effect) in
     let out = Shard.exec site.setup.rules v.me.shard v.bench.table (entry_of site.setup entry) in
-    sourced-after site v.me.shard (mark ∷ t) (session_in entry) out.effect (is_locked site.setup v.me.shard out.table (session_in entry)) v.bench.pool
+    sourced-after site v.me (mark ∷ t) (session_in entry) out.effect (is_locked site.setup v.me.shard out.table (session_in entry)) v.bench.pool
     (λ e i. sourced-more site _ mark t e (pool-sourced site me t made.1 e i))
     (λ vote is.
     let prepare = voted-prepare site.setup v.me.shard v.bench.table entry vote is in

@@ -20,10 +20,9 @@ use Rattle.cs_trail.specs.Setup.{digest_of, entry_of}
 use Rattle.cs_trail.specs.Bench.{Bench, start_bench, locked_at, executed}
 use Rattle.cs_trail.specs.Signs.{Sign, Did, bench_step, bench_after}
 use Rattle.cs_trail.specs.Site.{Mark, In, Ordered, Plain, Site, signs_of}
-use Rattle.cs_trail.specs.Collisions.{sessions_given}
 use Rattle.cs_trail.specs.Ready.{IsDone, bench_at, Executed, VotesFree, AcceptsLocked}
 use Rattle.cs_story.specs.Made.{view_at, AllMade}
-use Rattle.cs_story.proofs.Views.{me-same}
+use Rattle.cs_story.proofs.Views.{sessions_given, me-same}
 use Rattle.cs_story.proofs.Logs.{seen_log, table-is}
 use Rattle.cs_story.proofs.Pools.{given-more}
 use Rattle.cs_story.proofs.Executions.{log-is}
@@ -35,13 +34,13 @@ pub record IsPart {M : Type 0} (site : Site M) (me : NodeId) (t : List (Mark M))
   pub before : List (Mark M)
   pub made : AllMade site me (Plain sign ∷ before)
   pub signs : signs_of before ≡ earlier
-  pub given : (x : Session) → IsIn x (sessions_given site before) → IsIn x (sessions_given site t)
+  pub given : (x : Session) → IsIn x (sessions_given site me before) → IsIn x (sessions_given site me t)
 
 pub part : {M : Type 0} (site : Site M) (me : NodeId) (t : List (Mark M)) (later : List Sign) (sign : Sign) (earlier : List Sign) → AllMade site me t → signs_of t ≡ later ++ sign ∷ earlier → IsPart site me t sign earlier
 part {M} site me [] [] sign earlier made e = absurd cc
 part {M} site me [] (other ∷ later) sign earlier made e = absurd cc
 part {M} site me (In input ∷ t) later sign earlier made e =
-    let p = part site me t later sign earlier made.1 e in record { before = p.before; made = p.made; signs = p.signs; given = λ x i. given-more site x (In input) t (p.given x i) }
+    let p = part site me t later sign earlier made.1 e in record { before = p.before; made = p.made; signs = p.signs; given = λ x i. given-more site me x (In input) t (p.given x i) }
 part {M} site me (Ordered deed ∷ t) later sign earlier made e =
     let p = part site me t later sign earlier made.1 e in record { before = p.before; made = p.made; signs = p.signs; given = p.given }
 part {M} site me (Plain own ∷ t) [] sign earlier made e =
@@ -81,7 +80,7 @@ free-commits rules shard t x key well among is ready unvoted room =
     ∙ ap (λ b. if b then Shard.voted (Shard.with_locks t d used read) Shard.Commit else Shard.voted (Shard.with_vote t key d Shard.Abort) Shard.Abort) ready in
     subst P (sym e) refl
 
-module _ {M : Type 0} (site : Site M) (me : NodeId) (known : List Session) (plain : IsPlain site known) (t : List (Mark M)) (made : AllMade site me t) (given : (x : Session) → IsIn x (sessions_given site t) → IsIn x known) where
+module _ {M : Type 0} (site : Site M) (me : NodeId) (known : List Session) (plain : IsPlain site known) (t : List (Mark M)) (made : AllMade site me t) (given : (x : Session) → IsIn x (sessions_given site me t) → IsIn x known) where
   module _ (entry : Entry) (e : Executed site.setup me.shard (signs_of t) entry) where
     pub cut : IsPart site me t (Did e.slot entry e.effect) e.earlier
     cut = part site me t e.later (Did e.slot entry e.effect) e.earlier made e.split

@@ -8,18 +8,19 @@ use Rattle.cs_form.specs.declared.entry.Entry.TheVariants.{Prepare, Decide}
 use Rattle.cs_ledger.specs.Ledger.{Bytes}
 use Rattle.cs_ledger.specs.Session.{all_items}
 use Rattle.cs_ledger.specs.Table.{Vote, Commit, exec, table_of}
-use Rattle.cs_ledger.specs.ShardWorld.{Step, log, votes, votes_in, is_vote, is_listed, all_commit}
+use Rattle.cs_ledger.specs.ShardWorld.{Step, log, votes, votes_in, is_vote, is_listed, all_commit, IsAllowed, AllAllowed}
 use Rattle.cs_ledger.specs.ShardWorld as World
 use Rattle.cs_ledger.proofs.Votes.{all_at}
 use Rattle.cs_trail.specs.Setup.{Setup, digest_of, concerned, entry_of}
-use Rattle.cs_trail.specs.Signs.{Dropped, Took, Entered, Did}
+use Rattle.cs_trail.specs.Signs.{Dropped, Took, Entered, Did, Sent}
 use Rattle.cs_trail.specs.Site.{Mark, In, Ordered, Plain, Site, signs_of}
-use Rattle.cs_trail.specs.World.{Execution, steps_of, prepares, recorded, all_recorded, told, told_after}
+use Rattle.cs_trail.specs.World.{Execution, steps_of, prepares, recorded, all_recorded, is_voted, told, told_after}
 use Rattle.cs_story.specs.Made.{AllMade}
 use Rattle.cs_story.proofs.Views.{me-same}
 use Rattle.cs_story.proofs.Logs.{seen_log, effect-is, prepares-seen}
 use Rattle.cs_story.proofs.Counting.{all-in, all-from, in-concerned, concerned-in, among-item, item-among, votes-all}
 use Rattle.cs_story.proofs.Executions.{executions, log-is}
+use Rattle.cs_story.proofs.Anchors.{prepare-votes}
 
 pub bools-same : (a b : Bool) → (a ≡ true → b ≡ true) → (b ≡ true → a ≡ true) → a ≡ b
 bools-same true b f g = sym (f refl)
@@ -64,19 +65,24 @@ module _ (setup : Setup) (bound : (name : Bytes) → setup.rules.shard_of name <
       let v = all_at setup.rules (steps_of setup firsts) (setup.session_of x) Commit items h item.0 item.1 in
       recorded-is firsts d Commit shard computed ∙ subst (λ k. votes setup.rules (steps_of setup firsts) k (setup.session_of x) Commit ≡ true) item.2 v))
 
-  pub told-is : (firsts : List Execution) → AllComputed firsts → told setup firsts ≡ World.history setup.rules (steps_of setup firsts)
-  told-is [] computed = refl
-  told-is (e ∷ earlier) computed = after e.entry refl (told-is earlier computed.1)
+  -- what is allowed gives a vote, so an execution tells what a step of the shards together does
+  pub told-is : (firsts : List Execution) → AllComputed firsts → AllAllowed setup.rules (steps_of setup firsts) → told setup firsts ≡ World.history setup.rules (steps_of setup firsts)
+  told-is [] computed allowed = refl
+  told-is (e ∷ earlier) computed allowed = after e.entry refl (told-is earlier computed.1 allowed.1)
     where
       all_are : (x : Session) → all_recorded setup (e ∷ earlier) x ≡ all_commit setup.rules (steps_of setup (e ∷ earlier)) (setup.session_of x)
       all_are x = all-recorded-is (e ∷ earlier) x computed
 
       after : (entry : Entry) → e.entry ≡ entry → told setup earlier ≡ World.history setup.rules (steps_of setup earlier)
-          → told_after setup (e ∷ earlier) entry (told setup earlier) ≡ World.history_after setup.rules (steps_of setup (e ∷ earlier)) (entry_of setup entry) (World.history setup.rules (steps_of setup earlier))
+          → told_after setup (e ∷ earlier) entry e.effect (told setup earlier) ≡ World.history_after setup.rules (steps_of setup (e ∷ earlier)) (entry_of setup entry) (World.history setup.rules (steps_of setup earlier))
       after (Decide vote x) is before = before
       after (Prepare x) is before =
           let all = all_are x in
-          λ i. if all i && not (is_listed (setup.session_of x).transaction (before i)) then before i ++ (setup.session_of x).transaction ∷ [] else before i
+          let fine : IsAllowed setup.rules (steps_of setup earlier) e.shard (entry_of setup (Prepare x)) = subst (λ (z : Entry). IsAllowed setup.rules (steps_of setup earlier) e.shard (entry_of setup z)) is allowed.0 in
+          let table = table_of setup.rules e.shard (log e.shard (steps_of setup earlier)) in
+          let came : e.effect ≡ (exec setup.rules e.shard table (entry_of setup (Prepare x))).effect = computed.0 ∙ ap (λ (z : Entry). (exec setup.rules e.shard table (entry_of setup z)).effect) is in
+          let votes : is_voted e.effect ≡ true = ap is_voted came ∙ prepare-votes setup.rules e.shard table (setup.session_of x) fine.0 fine.1 in
+          λ i. if votes i && (all i && not (is_listed (setup.session_of x).transaction (before i))) then before i ++ (setup.session_of x).transaction ∷ [] else before i
 
 -- the executions of a node are computed
 pub computed : {M : Type 0} (site : Site M) (bound : (name : Bytes) → site.setup.rules.shard_of name < site.setup.shards) (me : NodeId) (t : List (Mark M)) → AllMade site me t → AllComputed site.setup bound (executions me.shard (signs_of t))
@@ -86,6 +92,7 @@ computed {M} site bound me (Ordered deed ∷ t) made = computed site bound me t 
 computed {M} site bound me (Plain (Dropped cause) ∷ t) made = computed site bound me t made.1
 computed {M} site bound me (Plain (Took sender vote x) ∷ t) made = computed site bound me t made.1
 computed {M} site bound me (Plain (Entered x) ∷ t) made = computed site bound me t made.1
+computed {M} site bound me (Plain (Sent to message) ∷ t) made = computed site bound me t made.1
 computed {M} site bound me (Plain (Did slot entry effect) ∷ t) made = (
   effect-is site me t slot entry effect made
       ∙ ap (λ (n : NodeId). (exec site.setup.rules n.shard (table_of site.setup.rules n.shard (seen_log site t)) (entry_of site.setup entry)).effect) (me-same site me t)

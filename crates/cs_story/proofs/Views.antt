@@ -1,9 +1,15 @@
 -- A node after its marks: what it is by the marks of each kind.
 use Rattle.std.proofs.Common.{◌≡◌, List, [], ◌∷◌, ◌++◌, refl, ap}
 use Rattle.cs_base.specs.declared.node_id.NodeId.{NodeId}
+use Rattle.cs_form.specs.declared.session.Session.{Session}
 use Rattle.cs_order.specs.Deeds.{Member}
 use Rattle.cs_trail.specs.Site.{Mark, In, Ordered, Plain, Site, View, mark_step, view_after, signs_of}
+use Rattle.cs_trail.specs.Collisions.{sessions_in, given}
 use Rattle.cs_story.specs.Made.{view_at}
+
+-- the sessions that stood in what the node was given
+abbrev pub sessions_given : {M : Type 0} → Site M → NodeId → List (Mark M) → List Session
+sessions_given {M} site me t = given site sessions_in me t
 
 pub view_after-append : {M : Type 0} (site : Site M) (a b : List (Mark M)) (v : View M) → view_after site (a ++ b) v ≡ view_after site a (view_after site b v)
 view_after-append {M} site [] b v = refl

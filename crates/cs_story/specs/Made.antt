@@ -1,9 +1,11 @@
 -- Why a mark may stand after the marks of its node that came before it. Marks and signs are newest first.
-use Rattle.std.specs.Prelude.{◌≡◌, ◌⊎◌, ℕ, Bool, true, false, ◌&&◌, ◌||◌, List, [], ◌∷◌, ◌++◌, length, Option, Some, None, slice_get}
+use Rattle.std.specs.Prelude.{◌≡◌, ◌⊎◌, ℕ, Bool, true, false, ◌&&◌, ◌||◌, List, [], ◌∷◌, ◌++◌, length, Option, Some, None, Ok, slice_get}
 use Rattle.cs_base.specs.declared.node_id.NodeId.{NodeId}
+use Rattle.cs_base.specs.NodeId.{is_client}
 use Rattle.cs_form.specs.declared.session.Session.{Session}
 use Rattle.cs_form.specs.declared.entry.Entry.{Entry}
 use Rattle.cs_form.specs.declared.entry.Entry.TheVariants.{Prepare}
+use Rattle.cs_message.specs.declared.message.Message.TheVariants as message
 use Rattle.cs_order.specs.declared.proposed.Proposed.{Proposed}
 use Rattle.cs_order.specs.declared.answers.May.TheVariants.{Only}
 use Rattle.cs_order.specs.Lists as Order
@@ -12,13 +14,15 @@ use Rattle.cs_order.specs.Runs.{Keeps}
 use Rattle.cs_ledger.specs.Ledger.{Bytes}
 use Rattle.cs_ledger.specs.Table.{Vote, Commit, Effect, Voted, exec}
 use Rattle.cs_ledger.specs.ShardWorld.{is_vote}
+use Rattle.cs_trail.specs.declared.cause.Cause.{Cause}
 use Rattle.cs_trail.specs.Setup.{Setup, digest_of, is_fit, is_approved, vote_of, entry_of}
 use Rattle.cs_trail.specs.Admission.{due}
 use Rattle.cs_trail.specs.Bench.{is_locked}
-use Rattle.cs_trail.specs.Signs.{Sign, Dropped, Took, Entered, Did}
+use Rattle.cs_trail.specs.Signs.{Sign, Dropped, Took, Entered, Did, Sent}
 use Rattle.cs_trail.specs.Site.{Input, Datagram, Mark, In, Ordered, Plain, Site, View, start_view, view_after, signs_of}
-use Rattle.cs_trail.specs.Trail.{admits_proposed, event_marks}
+use Rattle.cs_trail.specs.Trail.{admits_proposed, opened_signs, event_marks}
 use Rattle.cs_trail.specs.World.{prepares}
+use Rattle.cs_trail.specs.Ready.{IsQuiet}
 
 -- a node after its marks
 abbrev pub view_at : {M : Type 0} → Site M → NodeId → List (Mark M) → View M
@@ -31,6 +35,7 @@ log_in (Did slot entry effect ∷ past) = entry ∷ log_in past
 log_in (Dropped cause ∷ past) = log_in past
 log_in (Took sender vote x ∷ past) = log_in past
 log_in (Entered x ∷ past) = log_in past
+log_in (Sent to message ∷ past) = log_in past
 
 -- a Prepare of exactly this session was executed, and gave a vote
 abbrev pub HasVotedOn : Session → List Sign → Type 0
@@ -39,6 +44,7 @@ HasVotedOn x (Did slot entry effect ∷ past) = ((entry ≡ Prepare x) × ((vote
 HasVotedOn x (Dropped cause ∷ past) = HasVotedOn x past
 HasVotedOn x (Took sender vote y ∷ past) = HasVotedOn x past
 HasVotedOn x (Entered y ∷ past) = HasVotedOn x past
+HasVotedOn x (Sent to message ∷ past) = HasVotedOn x past
 
 -- a Prepare of a session of this digest was executed, with this vote
 abbrev pub has_given : Setup → Bytes → Vote → List Sign → Bool
@@ -47,6 +53,7 @@ has_given setup d vote (Did slot entry effect ∷ past) = (prepares setup d entr
 has_given setup d vote (Dropped cause ∷ past) = has_given setup d vote past
 has_given setup d vote (Took sender other x ∷ past) = has_given setup d vote past
 has_given setup d vote (Entered x ∷ past) = has_given setup d vote past
+has_given setup d vote (Sent to message ∷ past) = has_given setup d vote past
 
 -- the input that the node is at work on
 abbrev pub current : {M : Type 0} → List (Mark M) → Option Input
@@ -55,11 +62,13 @@ current {M} (In input ∷ past) = Some input
 current {M} (Ordered deed ∷ past) = current past
 current {M} (Plain sign ∷ past) = current past
 
--- that input holds this session, which may be voted on
+-- that input is a client's Submit of this session, which may be voted on
 pub record IsSubmitted {M : Type 0} (site : Site M) (v : View M) (t : List (Mark M)) (x : Session) : Type 0 where
   pub bytes : Bytes
   pub is_current : current t ≡ Some (Datagram bytes)
-  pub reads : site.session_at bytes ≡ Some x
+  pub sender : NodeId
+  pub reads : site.net.opened v.me bytes ≡ Ok (sender, message.Submit x)
+  pub client : is_client sender ≡ true
   pub fit : is_fit site.setup v.me.shard x ≡ true
   pub approved : is_approved site.setup x ≡ true
 
@@ -100,13 +109,15 @@ pub record Executes {M : Type 0} (site : Site M) (v : View M) (signs : List Sign
   pub reads : site.entry_in proposed ≡ entry
   pub chosen : slice_get (chosen_in v.member.deeds) slot ≡ Some proposed
 
--- A vote that was taken is the node's own, which it gave; a session that entered was submitted, or voted on.
+-- A vote that was taken is the node's own, which it gave; a session that entered was submitted, or voted on;
+-- what was sent is for a client.
 abbrev pub SignMade : {M : Type 0} → Site M → View M → List (Mark M) → Sign → Type 0
 SignMade {M} site v t (Dropped cause) = Unit {0}
 SignMade {M} site v t (Took sender vote x) =
     (sender ≡ v.me) × (has_given site.setup (digest_of site.setup x) (vote_of vote) (signs_of t) ≡ true)
 SignMade {M} site v t (Entered x) = IsSubmitted site v t x ⊎ HasVotedOn x (signs_of t)
 SignMade {M} site v t (Did slot entry effect) = Executes site v (signs_of t) slot entry effect
+SignMade {M} site v t (Sent to message) = is_client to ≡ true
 
 -- Why the mark may stand after the marks t of a node, which is at v.
 abbrev pub MadeAt : {M : Type 0} → Site M → View M → List (Mark M) → Mark M → Type 0
@@ -138,3 +149,11 @@ LocksAreGiven {M} site =
     (me : NodeId) (t : List (Mark M)) (x : Session) → AllMade site me t →
     is_locked site.setup (view_at site me t).me.shard (view_at site me t).bench.table x ≡ true →
     has_given site.setup (digest_of site.setup x) Commit (signs_of t) ≡ true
+
+-- Where no rule applies, a datagram that is dropped makes the mark of that alone, and the node stays as it is.
+abbrev pub DropChangesNothing : {M : Type 0} → Site M → Type 0
+DropChangesNothing {M} site =
+    (v : View M) (bytes : Bytes) (cause : Cause) → IsQuiet site v →
+    opened_signs site v (site.net.opened v.me bytes) ≡ Dropped cause ∷ [] →
+    (event_marks site v (Datagram bytes) ≡ Plain (Dropped cause) ∷ In (Datagram bytes) ∷ [])
+    × (view_after site (event_marks site v (Datagram bytes)) v ≡ v)

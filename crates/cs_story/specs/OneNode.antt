@@ -1,5 +1,5 @@
 -- Worlds of one node.
-use Rattle.std.specs.Prelude.{◌≡◌, ℕ, Bool, true, List, [], ◌∷◌, ◌++◌, Some}
+use Rattle.std.specs.Prelude.{◌≡◌, ℕ, ◌<◌, Bool, true, List, [], ◌∷◌, ◌++◌, Some}
 use Rattle.std.specs.List.{All}
 use Rattle.cs_base.specs.Fields.{IsBytes}
 use Rattle.cs_base.specs.declared.config.Config.{Config}
@@ -16,10 +16,11 @@ use Rattle.cs_ledger.specs.Session as Seen
 use Rattle.cs_ledger.specs.Table.{free_object}
 use Rattle.cs_trail.specs.Setup.{digest_of, concerns, session_in}
 use Rattle.cs_event.specs.declared.schedule.Event.{Event}
-use Rattle.cs_event.specs.declared.schedule.Event.TheVariants.{Say}
-use Rattle.cs_trail.specs.Play.{unplayed, play_all}
+use Rattle.cs_event.specs.declared.schedule.Event.TheVariants as event
+use Rattle.cs_trail.specs.Net.{net_of}
+use Rattle.cs_trail.specs.Play.{unplayed, played_by, play_all}
 use Rattle.cs_trail.specs.Signs.{Sign}
-use Rattle.cs_trail.specs.Site.{Input, Datagram, Site, signs_of}
+use Rattle.cs_trail.specs.Site.{Input, Datagram, Tick, Site, signs_of}
 use Rattle.cs_trail.specs.World.{Happening, trail_of, view_of, IsLife, firsts_of, all_recorded, history, accepts_in, aborts_in}
 use Rattle.cs_trail.specs.Ready.{Executed}
 use Rattle.cs_trail.specs.Collisions.{known_sessions, NoCollision}
@@ -36,6 +37,7 @@ IsAlone {M} me (h ∷ past) = (h.node ≡ me) × IsAlone me past
 
 abbrev pub InputIsBytes : Input → Type 0
 InputIsBytes (Datagram bytes) = IsBytes bytes
+InputIsBytes Tick = Unit {0}
 
 -- what is given is made of bytes
 abbrev pub AreBytes : {M : Type 0} → List (Happening M) → Type 0
@@ -50,13 +52,18 @@ pub record IsOneNode {M : Type 0} (site : Site M) (world : List (Happening M)) :
   pub life : IsLife site world
   pub bytes : AreBytes world
 
--- the event gives bytes to this node
+-- What the event gives is made of bytes, and is for this node. What is delivered is for clients: it is given to no node.
 abbrev pub IsForNode : Event → Type 0
-IsForNode (Say from to kind body) = (to ≡ only_node) × IsBytes body
+IsForNode (event.Say from to kind body) = (to ≡ only_node) × ((kind < 256) × IsBytes body)
+IsForNode (event.Inject to bytes) = (to ≡ only_node) × IsBytes bytes
+IsForNode (event.Deliver number) = Unit {0}
+IsForNode (event.Tick node) = node ≡ only_node
+IsForNode (event.Drain times) = Unit {0}
 
--- the site of a deployment whose order keeps these rules, and whose judge approves so
-abbrev pub deployed : {M : Type 0} → Config → List Object → (Tx → Bool) → Machine M → Site M
-deployed {M} config genesis approves machine = site_of (setup_of config genesis (session_of approves)) machine
+-- the site of a deployment under one master key, with these liars, whose order keeps these rules, and whose judge approves so
+abbrev pub deployed : {M : Type 0} → Config → Bytes → List NodeId → List Object → (Tx → Bool) → Machine M → Site M
+deployed {M} config master liars genesis approves machine =
+    site_of (setup_of config genesis (session_of approves)) (net_of config master liars) machine
 
 -- what the node executed and decided
 abbrev pub signs_at : {M : Type 0} → List (Happening M) → List Sign
@@ -108,22 +115,23 @@ HoldsFree {M} site world =
     (name object : Bytes) → free_object ((view_of site world only_node).bench.table.at (Seen.Object name)).state ≡ Some object →
     (ledger_of (genesis_ledger site.setup.rules.genesis) (history site world)).active name ≡ Some object
 
--- Every schedule of one node, played, is a world of one node.
+-- Every schedule of one node, played as far as the limits allow, is a world of one node.
 abbrev pub PlaysOneNode : {M : Type 0} → Machine M → Type 0
 PlaysOneNode {M} machine =
-    (config : Config) (genesis : List Object) (approves : Tx → Bool) (events : List (ℕ × Event)) →
+    (config : Config) (master : Bytes) (liars : List NodeId) (genesis : List Object) (approves : Tx → Bool) (traced : Bool) (events : List (ℕ × Event)) →
     config.shards ≡ 1 → config.f ≡ 0 → All (λ numbered. IsForNode numbered.1) events →
-    IsOneNode (deployed config genesis approves machine) (play_all (deployed config genesis approves machine) events unplayed).world
+    IsOneNode (deployed config master liars genesis approves machine)
+    (played_by (play_all (deployed config master liars genesis approves machine) traced events unplayed)).world
 
 -- It is true of the worlds of one node of every deployment under these rules.
 abbrev pub OfOneNode : {M : Type 0} → Machine M → (Site M → List (Happening M) → Type 0) → Type 0
 OfOneNode {M} machine Says =
-    (config : Config) (genesis : List Object) (approves : Tx → Bool) (world : List (Happening M)) →
-    IsOneNode (deployed config genesis approves machine) world → Says (deployed config genesis approves machine) world
+    (config : Config) (master : Bytes) (liars : List NodeId) (genesis : List Object) (approves : Tx → Bool) (world : List (Happening M)) →
+    IsOneNode (deployed config master liars genesis approves machine) world → Says (deployed config master liars genesis approves machine) world
 
 -- It is true of those in which, besides, no two hashed strings collide.
 abbrev pub OfOneNodeApart : {M : Type 0} → Machine M → (Site M → List (Happening M) → Type 0) → Type 0
 OfOneNodeApart {M} machine Says =
-    (config : Config) (genesis : List Object) (approves : Tx → Bool) (world : List (Happening M)) →
-    IsOneNode (deployed config genesis approves machine) world →
-    NoCollision (deployed config genesis approves machine) genesis world → Says (deployed config genesis approves machine) world
+    (config : Config) (master : Bytes) (liars : List NodeId) (genesis : List Object) (approves : Tx → Bool) (world : List (Happening M)) →
+    IsOneNode (deployed config master liars genesis approves machine) world →
+    NoCollision (deployed config master liars genesis approves machine) genesis world → Says (deployed config master liars genesis approves machine) world

@@ -5,4 +5,4 @@ mod one_node;
 mod rules;
 
 pub use one_node::one_node_world;
-pub use rules::marks_are_made;
+pub use rules::{a_dropped_datagram_changes_nothing, marks_are_made};

@@ -1,7 +1,7 @@
 // What holds of the marks of every node.
 
 ghost use Rattle.cs_trail.specs.Site.{Site};
-ghost use Rattle.cs_story.specs.Made.{EventIsMade, LocksAreGiven};
+ghost use Rattle.cs_story.specs.Made.{EventIsMade, LocksAreGiven, DropChangesNothing};
 
 use cs_order::Order;
 
@@ -13,4 +13,13 @@ pub fn marks_are_made<O: Order>()
     ensures made { (site : Site O.Message) → EventIsMade site }
     // A lock comes from a Prepare that was voted commit.
     ensures locks { (site : Site O.Message) → LocksAreGiven site }
+{}
+
+/// What a datagram that is dropped does to a node at which no rule applies, over any order: nothing,
+/// but that it was given and dropped.
+///
+/// It does nothing: its contract is a theorem, which a caller has by calling it.
+pub fn a_dropped_datagram_changes_nothing<O: Order>()
+    // The event makes the mark that it was dropped, and no other; the node is as it was before.
+    ensures { (site : Site O.Message) → DropChangesNothing site }
 {}

@@ -1,0 +1,68 @@
+-- Datagrams are made of bytes.
+use Rattle.std.proofs.Common.{ℕ, zero, suc, ◌<◌, List, [], ◌∷◌, ◌++◌, length, arith}
+use Rattle.std.specs.Prelude.{codes, slice_index}
+use Rattle.std.specs.Int.{w16, w32, to_be_bytes}
+use Rattle.sha2.specs.Sha256.{digest_bytes, sha256}
+use Rattle.cs_base.specs.declared.node_id.NodeId.{NodeId}
+use Rattle.cs_base.specs.Fields.{IsBytes}
+use Rattle.cs_hash.specs.Hash.{key_block, masked, hmac}
+use Rattle.cs_wire.specs.Datagram.{name_encoding}
+use Rattle.cs_wire.specs.Opened.{text_with, datagram_with}
+
+bytes-nil : IsBytes []
+bytes-nil i = omega arith
+
+bytes-cons : (byte : ℕ) (bytes : List ℕ) → byte < 256 → IsBytes bytes → IsBytes (byte ∷ bytes)
+bytes-cons byte bytes small rest zero = small
+bytes-cons byte bytes small rest (suc i) = rest i
+
+bytes-append : (a b : List ℕ) → IsBytes a → IsBytes b → IsBytes (a ++ b)
+bytes-append [] b of_a of_b = of_b
+bytes-append (byte ∷ a) b of_a of_b = bytes-cons byte (a ++ b) (of_a zero) (bytes-append a b (λ i. of_a (suc i)) of_b)
+
+-- numbers of 16 and of 32 bits, whatever the number is
+bytes-16 : (n : ℕ) → IsBytes (to_be_bytes w16 n)
+bytes-16 n zero = omega arith
+bytes-16 n (suc zero) = omega arith
+bytes-16 n (suc (suc i)) = omega arith
+
+bytes-32 : (n : ℕ) → IsBytes (to_be_bytes w32 n)
+bytes-32 n zero = omega arith
+bytes-32 n (suc zero) = omega arith
+bytes-32 n (suc (suc zero)) = omega arith
+bytes-32 n (suc (suc (suc zero))) = omega arith
+bytes-32 n (suc (suc (suc (suc i)))) = omega arith
+
+bytes-name : (name : NodeId) → IsBytes (name_encoding name)
+bytes-name name = bytes-append (to_be_bytes w16 name.shard) (to_be_bytes w16 name.index) (bytes-16 name.shard) (bytes-16 name.index)
+
+bytes-digest : (words : List ℕ) (n : ℕ) → IsBytes (digest_bytes words n)
+unfolding digest_bytes
+bytes-digest words zero = bytes-nil
+bytes-digest words (suc n) = bytes-append (digest_bytes words n) (to_be_bytes w32 (slice_index words n)) (bytes-digest words n) (bytes-32 (slice_index words n))
+
+bytes-sha256 : (bytes : List ℕ) → IsBytes (sha256 bytes)
+unfolding sha256
+bytes-sha256 bytes = bytes-digest _ 8
+
+bytes-magic : IsBytes (codes "CSP1")
+bytes-magic zero = omega arith
+bytes-magic (suc zero) = omega arith
+bytes-magic (suc (suc zero)) = omega arith
+bytes-magic (suc (suc (suc zero))) = omega arith
+bytes-magic (suc (suc (suc (suc i)))) = omega arith
+
+bytes-text : (from to : NodeId) (kind : ℕ) (body : List ℕ) → kind < 256 → IsBytes body → IsBytes (text_with from to kind body)
+unfolding text_with
+bytes-text from to kind body small fits =
+    let sized = to_be_bytes w32 (length body) ++ body in
+    let of_sized = bytes-append (to_be_bytes w32 (length body)) body (bytes-32 (length body)) fits in
+    let of_to = bytes-append (name_encoding to) sized (bytes-name to) of_sized in
+    let of_names = bytes-append (name_encoding from) (name_encoding to ++ sized) (bytes-name from) of_to in
+    let behind = kind ∷ (name_encoding from ++ (name_encoding to ++ sized)) in
+    bytes-append (codes "CSP1") behind bytes-magic (bytes-cons kind (name_encoding from ++ (name_encoding to ++ sized)) small of_names)
+
+pub bytes-datagram : (key : List ℕ) (from to : NodeId) (kind : ℕ) (body : List ℕ) → kind < 256 → IsBytes body → IsBytes (datagram_with key from to kind body)
+bytes-datagram key from to kind body small fits =
+    let text = text_with from to kind body in bytes-append text (hmac key text) (bytes-text from to kind body small fits)
+    (bytes-sha256 (masked 92 (key_block key) ++ sha256 (masked 54 (key_block key) ++ text)))
