@@ -13,8 +13,7 @@ use crate::head::write_name;
 use crate::keys::Keys;
 use crate::sealing::SealError;
 use cs_base::{Memory, NodeId, Writer};
-use cs_hash::tag;
-use cs_value::Digest;
+use cs_hash::TagKey;
 use std::alloc::Global;
 
 // What stands before the tag.
@@ -41,7 +40,7 @@ fn raw_text(
 
 fn raw_datagram(
     alloc: Global,
-    key: &Digest,
+    key: &TagKey,
     from: NodeId,
     to: NodeId,
     kind: u8,
@@ -51,7 +50,7 @@ fn raw_datagram(
     ensures { IfOk result (λ bytes. bytes.items ≡ datagram_with key.now from to kind body.now) }
 {
     let mut bytes = raw_text(alloc, from, to, kind, body)?;
-    let tag = tag(key.as_slice(), &bytes);
+    let tag = key.tag(&bytes);
     bytes.extend_from_slice(&tag)?;
     Ok(bytes)
 }
@@ -74,8 +73,7 @@ pub fn seal_with(
     let Some(row) = keys.row(to) else {
         return Err(SealError::NoKey);
     };
-    let key = row.to;
-    let bytes = raw_datagram(alloc, &key, keys.me, to, kind, body)?;
+    let bytes = raw_datagram(alloc, &row.to, keys.me, to, kind, body)?;
     out.extend_from_slice(&bytes)?;
     Ok(())
 }
