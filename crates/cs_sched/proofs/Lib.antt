@@ -1,10 +1,15 @@
+pub mod Again
+pub mod Back
 pub mod Distinct
 pub mod Objects
 pub mod OneNode
+pub mod Plain
 pub mod Played
 pub mod Reading
 pub mod Refused
+pub mod Rows
 pub mod Said
 pub mod Sound
 pub mod Steps
 pub mod Told
+pub mod Walk

@@ -1,6 +1,6 @@
 -- Who can speak, and who is honest, where there is one shard of one node and no liar.
-use Rattle.std.specs.Prelude.{◌≡◌, ℕ, ◌*◌, ◌<◌, ◌≤◌, nat_lt, nat_le, Bool, true, false, ◌&&◌, ◌||◌, List, []}
-use Rattle.std.proofs.Common.{◌∙◌, sym, refl, subst, arith}
+use Rattle.std.specs.Prelude.{◌≡◌, ◌*◌, ◌<◌, ◌≤◌, nat_lt, nat_le, Bool, true, false, ◌&&◌, ◌||◌, List, []}
+use Rattle.std.proofs.Common.{sym, refl, subst, arith}
 use Rattle.std.proofs.lemmas.Bool.{true≢false, ltb-true, leb-true}
 use Rattle.cs_base.specs.NodeId.{is_node, is_client}
 use Rattle.cs_base.specs.declared.config.Config.{Config}

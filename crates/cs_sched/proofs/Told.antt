@@ -1,10 +1,10 @@
 -- What is known of events whose lines are taken.
-use Rattle.std.specs.Prelude.{◌≡◌, ℕ, ◌*◌, ◌^◌, ◌<◌, ◌≤◌, nat_lt, nat_le, Bool, true, false, ◌&&◌, ◌||◌, List, [], ◌∷◌, length, Some, None, Result, Ok, Err, codes, if◌then◌else◌}
+use Rattle.std.specs.Prelude.{◌≡◌, ℕ, ◌^◌, ◌<◌, ◌≤◌, nat_lt, nat_le, Bool, true, false, ◌&&◌, ◌||◌, List, [], ◌∷◌, Some, Ok, Err, codes, if◌then◌else◌}
 use Rattle.std.specs.Option.{ok_or}
 use Rattle.std.specs.Str.{bytes_eq}
 use Rattle.std.specs.Str.Parse.{digits_value}
 use Rattle.std.specs.Fmt.{decimal}
-use Rattle.std.proofs.Common.{◌∙◌, sym, ap, subst, refl, inl, inr}
+use Rattle.std.proofs.Common.{◌∙◌, sym, subst, refl, inl, inr}
 use Rattle.std.proofs.lemmas.Bool.{true≢false, ltb-true, leb-true}
 use Rattle.std.proofs.lemmas.Option.{cond_some}
 use Rattle.cs_base.specs.Codes.{number_of}
@@ -14,11 +14,10 @@ use Rattle.cs_base.specs.declared.node_id.NodeId.{NodeId}
 use Rattle.cs_event.specs.declared.schedule.Schedule.{Schedule}
 use Rattle.cs_event.specs.declared.schedule.Event.{Event}
 use Rattle.cs_event.specs.declared.schedule.Event.TheVariants.{Say, Inject, Deliver, Tick, Drain}
-use Rattle.cs_sched.specs.declared.cause.Cause.{Cause}
 use Rattle.cs_sched.specs.declared.cause.Cause.TheVariants as cause
 use Rattle.cs_sched.specs.Values.{◌>>=◌, number_within, bytes_within}
 use Rattle.cs_sched.specs.Naming.{named, is_liar, speaker_in, honest_in}
-use Rattle.cs_sched.specs.Said.{only_field, number_said}
+use Rattle.cs_sched.specs.Said.{number_said}
 use Rattle.cs_sched.specs.Events.{say_of, inject_of, say_said, inject_said, deliver_said, tick_said, drain_said, event_said}
 use Rattle.cs_sched.specs.Playable.{IsHonest, IsSpeaker, IsPlayableEvent}
 use Rattle.cs_sched.proofs.Steps.{step_ok, change_ok, ok_same, when_ok, unless_ok, either_ok, some_ok}

@@ -1,3 +1,4 @@
+pub mod Again
 pub mod Drafts
 pub mod Events
 pub mod FirstBad
@@ -6,6 +7,7 @@ pub mod Names
 pub mod Naming
 pub mod Places
 pub mod Playable
+pub mod Printed
 pub mod Reading
 pub mod Refusals
 pub mod Said

@@ -1,0 +1,153 @@
+-- What is printed of a schedule is read as that schedule.
+use Rattle.std.specs.Prelude.{◌≡◌, ◌≢◌, ℕ, ◌+◌, ◌≤◌, false, List, [], ◌∷◌, ◌++◌, length, Ok, codes}
+use Rattle.std.specs.List.{All, AllByRecursion, AllPairs}
+use Rattle.std.specs.Str.Lines.{lines}
+use Rattle.std.proofs.Common.{◌∙◌, sym, ap, refl, subst, arith}
+use Rattle.std.proofs.lemmas.Bool.{le-leb}
+use Rattle.std.proofs.lemmas.List.Elements.{recursion_from_All}
+use Rattle.cs_base.specs.declared.config.Config.{Config}
+use Rattle.cs_base.specs.declared.config.TheConstants.{MOST_SHARDS, MOST_LIARS, MOST_DUMMIES}
+use Rattle.cs_value.specs.Object.{DigestFits}
+use Rattle.cs_value.specs.declared.object.Object.{Object}
+use Rattle.cs_event.specs.declared.schedule.Event.{Event}
+use Rattle.cs_event.specs.declared.schedule.Event.TheVariants.{Say, Inject, Deliver, Tick, Drain}
+use Rattle.cs_event.specs.declared.schedule.Schedule.{Schedule}
+use Rattle.cs_sched.specs.Drafts.{empty_draft}
+use Rattle.cs_sched.specs.Names.{genesis_names}
+use Rattle.cs_sched.specs.Playable.{IsPlayableEvent}
+use Rattle.cs_sched.specs.Text.{read_lines, whole, schedule_of}
+use Rattle.cs_sched.specs.declared.draft.Draft.{Draft}
+use Rattle.cs_sched.specs.declared.draft.Stage.TheVariants as stage
+use Rattle.cs_sched.proofs.Played.{schedule_sound}
+use Rattle.cs_sched.proofs.Sound.{IsSound}
+use Rattle.cs_sched.specs.Again.{numbered, renumbered, IsReadAgain}
+use Rattle.cs_sched.specs.Printed.{event_line, genesis_lines, event_lines, schedule_lines, schedule_text}
+use Rattle.cs_sched.proofs.Plain.{IsLine, field-word, field-decimal, field-bytes, field-name}
+use Rattle.cs_sched.proofs.Back.{named_small, honest_small}
+use Rattle.cs_sched.proofs.Rows.{lines_of-text, read_fields, read_lines-rows}
+use Rattle.cs_sched.proofs.Walk.{made, IsPrintable, reads_head, reads_objects, reads_events, run_step}
+
+-- a schedule without liars and contracts
+abbrev bare : Config → List ℕ → List Object → List (ℕ × Event) → Schedule
+bare config master genesis events = record { config = config; master = master; liars = []; contracts = []; genesis = genesis; events = events }
+
+-- what is known of a schedule that was read
+record IsRead (config : Config) (master : List ℕ) (genesis : List Object) (events : List (ℕ × Event)) : Type 0 where
+  one : config.shards ≡ 1
+  none : config.f ≡ 0
+  digest : DigestFits master
+  objects : AllByRecursion IsPrintable genesis
+  few : length genesis ≤ 65536
+  differ : AllPairs (λ a b. a ≢ b) (genesis_names 0 genesis)
+  played : AllByRecursion (λ event. IsPlayableEvent config [] event.1) events
+
+-- each of its lines has a word, and fields that can be told apart
+
+event_is_line : (config : Config) (event : Event) → IsPlayableEvent config [] event → IsLine (event_line event)
+event_is_line config (Say from to kind body) fits =
+    let few = fits.kind in
+    let speaker = named_small config from fits.speaker.named in
+    let listener = honest_small config [] to fits.listener in (
+      field-word (codes "say") (omega arith) refl,
+      (field-name from speaker.shard speaker.index, (field-name to listener.shard listener.index, (field-decimal kind (omega arith), (field-bytes body fits.in_bytes, tt)))),
+    )
+event_is_line config (Inject to bytes) fits =
+    let node = honest_small config [] to fits.node in
+    (field-word (codes "inject") (omega arith) refl, (field-name to node.shard node.index, (field-bytes bytes fits.in_bytes, tt)))
+event_is_line config (Deliver number) fits = (field-word (codes "deliver") (omega arith) refl, (field-decimal number fits, tt))
+event_is_line config (Tick node) fits =
+    let small = honest_small config [] node fits in
+    (field-word (codes "tick") (omega arith) refl, (field-name node small.shard small.index, tt))
+event_is_line config (Drain times) fits = (field-word (codes "drain") (omega arith) refl, (field-decimal times fits, tt))
+
+events_are_lines : (config : Config) (events : List (ℕ × Event)) (rest : List (List (List ℕ))) → AllByRecursion (λ event. IsPlayableEvent config [] event.1) events → AllByRecursion IsLine rest
+    → AllByRecursion IsLine (event_lines events ++ rest)
+events_are_lines config [] rest fit more = more
+events_are_lines config (event ∷ events) rest fit more = (event_is_line config event.1 fit.0, events_are_lines config events rest fit.1 more)
+
+objects_are_lines : (objects : List Object) (rest : List (List (List ℕ))) → AllByRecursion IsPrintable objects → AllByRecursion IsLine rest → AllByRecursion IsLine (genesis_lines objects ++ rest)
+objects_are_lines [] rest fit more = more
+objects_are_lines (object ∷ objects) rest fit more = ((field-word (codes "genesis") (omega arith) refl, (field-bytes _ fit.0.1, tt)), objects_are_lines objects rest fit.1 more)
+
+module _ (config : Config) (master : List ℕ) (genesis : List Object) (events : List (ℕ × Event)) (known : IsRead config master genesis events) where
+  are_lines : AllByRecursion IsLine (schedule_lines (bare config master genesis events))
+  are_lines =
+      let few_shards : config.shards ≤ MOST_SHARDS = config.few_shards in
+      let few_liars : config.f ≤ MOST_LIARS = config.few_liars in
+      let few_dummies : config.dummies ≤ MOST_DUMMIES = config.few_dummies in
+      let ended : AllByRecursion IsLine ((codes "end" ∷ []) ∷ []) = ((field-word (codes "end") (omega arith) refl, tt), tt) in
+      let played = events_are_lines config events ((codes "end" ∷ []) ∷ []) known.played ended in
+      let run : AllByRecursion IsLine ((codes "run" ∷ []) ∷ (event_lines events ++ (codes "end" ∷ []) ∷ [])) = ((field-word (codes "run") (omega arith) refl, tt), played) in (
+        (field-word (codes "shards") (omega arith) refl, (field-decimal config.shards (omega arith), tt)),
+        (
+          (field-word (codes "faulty") (omega arith) refl, (field-decimal config.f (omega arith), tt)),
+          (
+            (field-word (codes "dummies") (omega arith) refl, (field-decimal config.dummies (omega arith), tt)),
+            (
+              (field-word (codes "master") (omega arith) refl, (field-bytes master known.digest.1, tt)),
+              objects_are_lines genesis ((codes "run" ∷ []) ∷ (event_lines events ++ (codes "end" ∷ []) ∷ [])) known.objects run,
+            ),
+          ),
+        ),
+      )
+
+  -- the draft that its lines give
+  abbrev last : ℕ → Draft
+  last first = made stage.Ended config master genesis (numbered first events)
+
+  reads_run : (first : ℕ) → read_fields (made stage.Events config master genesis []) first (event_lines events ++ (codes "end" ∷ []) ∷ []) ≡ Ok (last first)
+  reads_run first = reads_events config master genesis (last first) ((codes "end" ∷ []) ∷ []) events [] first known.played refl
+
+  reads_all : read_fields empty_draft 1 (schedule_lines (bare config master genesis events)) ≡ Ok (last (6 + (0 + (0 + length genesis))))
+  reads_all =
+      let first : 5 + length genesis + 1 ≡ 6 + (0 + (0 + length genesis)) = omega arith in
+      let rest = (codes "run" ∷ []) ∷ (event_lines events ++ (codes "end" ∷ []) ∷ []) in
+      reads_head config master known.one known.none known.digest (last (6 + (0 + (0 + length genesis)))) (genesis_lines genesis ++ rest)
+      (reads_objects config master genesis (last (6 + (0 + (0 + length genesis)))) rest known.few known.differ genesis [] false 5 refl known.objects
+      (λ any. rw (run_step config master any genesis (5 + length genesis)) (subst (λ n. read_fields (made stage.Events config master genesis []) n (event_lines events ++ (codes "end" ∷ []) ∷ []) ≡ Ok (last (6 + (0 + (0 + length genesis))))) (sym first) (reads_run (6 + (0 + (0 + length genesis)))))))
+
+  again_bare : (limit : ℕ) → length (schedule_text (bare config master genesis events)) ≤ limit
+      → schedule_of limit (schedule_text (bare config master genesis events)) ≡ Ok (renumbered (bare config master genesis events))
+  unfolding schedule_of
+  again_bare limit short =
+      let text = schedule_text (bare config master genesis events) in
+      let read : read_lines empty_draft 1 (lines text) ≡ Ok (last (6 + (0 + (0 + length genesis)))) =
+      ap (read_lines empty_draft 1) (lines_of-text (schedule_lines (bare config master genesis events)) are_lines)
+      ∙ read_lines-rows (schedule_lines (bare config master genesis events)) empty_draft 1 are_lines ∙ reads_all in
+      rw (le-leb (length text) limit short) (ap (whole (length (lines text) + 1)) read)
+
+-- a draft's objects have encodings
+printable : (objects : List Object) → All IsPrintable objects → AllByRecursion IsPrintable objects
+printable objects all = recursion_from_All IsPrintable objects all
+
+known_of : (draft : Draft) → IsSound draft → IsRead draft.schedule.config draft.schedule.master draft.schedule.genesis draft.schedule.events
+known_of draft sound = record {
+  one = sound.playable.one_shard;
+  none = sound.playable.no_liar;
+  digest = sound.master;
+  objects = printable draft.schedule.genesis (λ k d within. (sound.playable.objects k d within, sound.encodings k d within));
+  few = sound.playable.few_objects;
+  differ = sound.playable.keys_differ;
+  played = recursion_from_All (λ event. IsPlayableEvent draft.schedule.config [] event.1) draft.schedule.events
+      (subst (λ liars. All (λ event. IsPlayableEvent draft.schedule.config liars event.1) draft.schedule.events) sound.playable.liars sound.playable.events);
+}
+
+again_sound : (limit : ℕ) (draft : Draft) → IsSound draft → length (schedule_text draft.schedule) ≤ limit → schedule_of limit (schedule_text draft.schedule) ≡ Ok (renumbered draft.schedule)
+again_sound limit draft sound =
+    let schedule = draft.schedule in
+    let same : bare schedule.config schedule.master schedule.genesis schedule.events ≡ schedule =
+    λ i. record {
+      config = schedule.config;
+      master = schedule.master;
+      liars = sym sound.playable.liars i;
+      contracts = sym sound.playable.contracts i;
+      genesis = schedule.genesis;
+      events = schedule.events;
+    } in
+    subst (λ (s : Schedule). length (schedule_text s) ≤ limit → schedule_of limit (schedule_text s) ≡ Ok (renumbered s)) same
+    (again_bare schedule.config schedule.master schedule.genesis schedule.events (known_of draft sound) limit)
+
+pub again : (limit : ℕ) → IsReadAgain limit
+again limit text schedule read short =
+    let (draft, same, sound) = schedule_sound limit text schedule read in
+    subst (λ (s : Schedule). length (schedule_text s) ≤ limit → schedule_of limit (schedule_text s) ≡ Ok (renumbered s)) same (again_sound limit draft sound) short

@@ -1,0 +1,188 @@
+-- The lines of a schedule, read one after the other, give the schedule.
+use Rattle.std.specs.Prelude.{◌≡◌, ◌≢◌, ℕ, ◌+◌, ◌<◌, ◌≤◌, ◌^◌, ◌==◌, Bool, true, false, List, [], ◌∷◌, ◌++◌, length, replicate, Ok, codes}
+use Rattle.std.specs.List.{AllByRecursion, AllPairs}
+use Rattle.std.specs.Str.{bytes_eq}
+use Rattle.std.specs.Fmt.{decimal}
+use Rattle.std.proofs.Common.{◌∙◌, sym, ap, refl, subst, arith, inl, inr, append_assoc, get_or, suc}
+use Rattle.std.proofs.lemmas.Bool.{cases_Bool, lt-ltb}
+use Rattle.std.proofs.lemmas.List.{append-nil, length-append, get_or_append_left}
+use Rattle.std.proofs.lemmas.Slice.Eq.{bytes_eq-Decides}
+use Rattle.std.proofs.Math.Seq.{get_or-append_seam}
+use Rattle.cs_base.specs.Codes.{bytes_text}
+use Rattle.cs_base.specs.Config.{config_of, configured}
+use Rattle.cs_base.specs.Fields.{IsBytes}
+use Rattle.cs_base.specs.declared.config.Config.{Config}
+use Rattle.cs_base.specs.declared.config.TheConstants.{MOST_SHARDS, MOST_LIARS, MOST_DUMMIES}
+use Rattle.cs_base.proofs.Configs.{configured-config}
+use Rattle.cs_base.proofs.HexTexts.{bytes_of-bytes_text}
+use Rattle.cs_value.specs.Object.{object_encoding, DigestFits, ObjectFits}
+use Rattle.cs_value.specs.declared.object.Object.{Object}
+use Rattle.cs_tx.specs.Digest.{name_of_genesis}
+use Rattle.cs_event.specs.declared.schedule.Event.{Event}
+use Rattle.cs_event.specs.declared.schedule.Event.TheVariants.{Say, Inject, Deliver, Tick, Drain}
+use Rattle.cs_sched.specs.Drafts.{empty_draft}
+use Rattle.cs_sched.specs.Names.{is_known, genesis_names}
+use Rattle.cs_sched.specs.Places.{line_step}
+use Rattle.cs_sched.specs.Playable.{IsPlayableEvent}
+use Rattle.cs_sched.specs.Said.{shards_said, faulty_said, dummies_said, master_said, object_said}
+use Rattle.cs_sched.specs.Values.{in_range}
+use Rattle.cs_sched.specs.declared.draft.Draft.{Draft}
+use Rattle.cs_sched.specs.declared.draft.Stage.{Stage}
+use Rattle.cs_sched.specs.declared.draft.Stage.TheVariants as stage
+use Rattle.cs_sched.proofs.Distinct.{genesis_names-append}
+use Rattle.cs_sched.proofs.Objects.{object_found}
+use Rattle.cs_sched.specs.Again.{numbered}
+use Rattle.cs_sched.specs.Printed.{number_line, bytes_line, object_line, event_line, genesis_lines, event_lines}
+use Rattle.cs_sched.proofs.Back.{number_back, within_back, bytes_back, speaker_back, honest_back}
+use Rattle.cs_sched.proofs.Rows.{read_fields, read-cons}
+
+-- a draft without liars and contracts
+abbrev pub made : Stage → Config → List ℕ → List Object → List (ℕ × Event) → Draft
+made place config master genesis events = record {
+  stage = place;
+  schedule = record { config = config; master = master; liars = []; contracts = []; genesis = genesis; events = events };
+  names = genesis_names 0 genesis;
+}
+
+-- the numbers of the configuration
+
+shards_back : (now next : Config) (shards : ℕ) → shards < 2 ^ 64 → shards ≡ 1 → in_range (configured shards now.f now.dummies) ≡ Ok next → shards_said now (decimal shards ∷ []) ≡ Ok next
+shards_back now next shards small one ranged =
+    let test : (shards == 1) ≡ true = rw one refl in
+    rw (number_back shards small, ranged, test) refl
+
+faulty_back : (now next : Config) (faulty : ℕ) → faulty < 2 ^ 64 → faulty ≡ 0 → in_range (configured now.shards faulty now.dummies) ≡ Ok next → faulty_said now (decimal faulty ∷ []) ≡ Ok next
+faulty_back now next faulty small none ranged =
+    let test : (faulty == 0) ≡ true = rw none refl in
+    rw (number_back faulty small, ranged, test) refl
+
+dummies_back : (now next : Config) (dummies : ℕ) → dummies < 2 ^ 64 → in_range (configured now.shards now.f dummies) ≡ Ok next → dummies_said now (decimal dummies ∷ []) ≡ Ok next
+dummies_back now next dummies small ranged = rw (number_back dummies small, ranged) refl
+
+master_back : (master : List ℕ) → DigestFits master → master_said (bytes_text master ∷ []) ≡ Ok master
+master_back master fits =
+    let test : (length master == 32) ≡ true = rw (fits.0) refl in
+    rw (bytes_of-bytes_text master fits.1, test) refl
+
+-- objects
+
+object_back : (place : ℕ) (object : Object) → place < 65536 → ObjectFits object → IsBytes (object_encoding object)
+    → object_said place (bytes_text (object_encoding object) ∷ []) ≡ Ok object
+object_back place object few fits encoded =
+    rw (lt-ltb place 65536 few, bytes_back 4096 (object_encoding object) fits.small encoded, object_found (object_encoding object) object fits refl) refl
+
+not_among : (name : List ℕ) (names : List (List ℕ)) → ((k : ℕ) → k < length names → get_or names k [] ≢ name) → is_known name names ≡ false
+not_among name [] differ = refl
+not_among name (first ∷ names) differ =
+    elim (cases_Bool (bytes_eq name first)) [
+      | inl same ↦ absurd (differ 0 (omega arith) (sym ((bytes_eq-Decides name first).0 same)))
+      | inr other ↦ rw other (not_among name names (λ k within. differ (suc k) (omega arith)))
+    ]
+
+new_name : (before after : List (List ℕ)) (name : List ℕ) → AllPairs (λ a b. a ≢ b) (before ++ name ∷ after) → is_known name before ≡ false
+new_name before after name differ =
+    not_among name before (λ k within same. differ k (length before) [] within (omega (arith, length-append before (name ∷ after)))
+    (get_or_append_left before (name ∷ after) [] k within ∙ same ∙ sym (get_or-append_seam before name after [])))
+
+-- the names of objects in two parts
+names-split : (place : ℕ) (before : List Object) (object : Object) (after : List Object)
+    → genesis_names place (before ++ object ∷ after) ≡ genesis_names place before ++ name_of_genesis (place + length before) object ∷ genesis_names (place + length before + 1) after
+names-split place [] object after = let same : place + 0 ≡ place = omega arith in rw same refl
+names-split place (first ∷ before) object after =
+    let same : place + 1 + length before ≡ place + length (first ∷ before) = omega arith in
+    ap (λ names. name_of_genesis place first ∷ names) (names-split (place + 1) before object after ∙ rw same refl)
+
+-- the places at which an object can stand: before the first one, and behind it
+abbrev pub genesis_stage : Bool → Stage
+genesis_stage false = stage.Liars
+genesis_stage true = stage.Genesis
+
+-- an object with its encoding
+abbrev pub IsPrintable : Object → Type 0
+IsPrintable object = ObjectFits object × IsBytes (object_encoding object)
+
+module _ (config : Config) (master : List ℕ) where
+  named : (before : List Object) (object : Object) → genesis_names 0 (before ++ object ∷ []) ≡ genesis_names 0 before ++ name_of_genesis (length before) object ∷ []
+  named before object =
+      let zero_first : 0 + length before ≡ length before = omega arith in
+      genesis_names-append 0 before object ∙ rw zero_first refl
+
+  object_step : (any : Bool) (before : List Object) (object : Object) (number : ℕ) → IsPrintable object → length before < 65536
+      → is_known (name_of_genesis (length before) object) (genesis_names 0 before) ≡ false
+      → line_step number (made (genesis_stage any) config master before []) (object_line object) ≡ Ok (made stage.Genesis config master (before ++ object ∷ []) [])
+  object_step false before object number fits few new = rw (object_back (length before) object few fits.0 fits.1, new, named before object) refl
+  object_step true before object number fits few new = rw (object_back (length before) object few fits.0 fits.1, new, named before object) refl
+
+  pub run_step : (any : Bool) (genesis : List Object) (number : ℕ) → line_step number (made (genesis_stage any) config master genesis []) (codes "run" ∷ []) ≡ Ok (made stage.Events config master genesis [])
+  run_step false genesis number = refl
+  run_step true genesis number = refl
+
+  event_step : (event : Event) (genesis : List Object) (before : List (ℕ × Event)) (number : ℕ) → IsPlayableEvent config [] event
+      → line_step number (made stage.Events config master genesis before) (event_line event) ≡ Ok (made stage.Events config master genesis (before ++ (number, event) ∷ []))
+  event_step (Say from to kind body) genesis before number fits =
+      let few = fits.kind in
+      rw (speaker_back config [] from fits.speaker, honest_back config [] to fits.listener, within_back 255 kind few (omega arith), bytes_back 32719 body fits.short fits.in_bytes) refl
+  event_step (Inject to bytes) genesis before number fits = rw (honest_back config [] to fits.node, bytes_back 32768 bytes fits.short fits.in_bytes) refl
+  event_step (Deliver count) genesis before number fits = rw (number_back count fits) refl
+  event_step (Tick node) genesis before number fits = rw (honest_back config [] node fits) refl
+  event_step (Drain times) genesis before number fits = rw (number_back times fits) refl
+
+  module _ (genesis : List Object) (last : Draft) (rest : List (List (List ℕ))) where
+    pub reads_events : (events before : List (ℕ × Event)) (number : ℕ) → AllByRecursion (λ event. IsPlayableEvent config [] event.1) events
+        → read_fields (made stage.Events config master genesis (before ++ numbered number events)) (number + length events) rest ≡ Ok last
+        → read_fields (made stage.Events config master genesis before) number (event_lines events ++ rest) ≡ Ok last
+    reads_events [] before number fit more =
+        let none : number + 0 ≡ number = omega arith in
+        let at : read_fields (made stage.Events config master genesis before) (number + 0) rest ≡ Ok last =
+        subst (λ all. read_fields (made stage.Events config master genesis all) (number + 0) rest ≡ Ok last) (append-nil before) more in
+        subst (λ n. read_fields (made stage.Events config master genesis before) n rest ≡ Ok last) none at
+    reads_events (event ∷ events) before number fit more =
+        let next : number + length (event ∷ events) ≡ number + 1 + length events = omega arith in
+        let all = sym (append_assoc before ((number, event.1) ∷ []) (numbered (number + 1) events)) in
+        read-cons (made stage.Events config master genesis before) (made stage.Events config master genesis (before ++ (number, event.1) ∷ [])) last number (event_line event.1) (event_lines events ++ rest)
+        (event_step event.1 genesis before number fit.0)
+        (reads_events events (before ++ (number, event.1) ∷ []) (number + 1) fit.1
+        (subst (λ n. read_fields (made stage.Events config master genesis ((before ++ (number, event.1) ∷ []) ++ numbered (number + 1) events)) n rest ≡ Ok last) next
+        (subst (λ found. read_fields (made stage.Events config master genesis found) (number + length (event ∷ events)) rest ≡ Ok last) all more)))
+
+    pub reads_objects : length genesis ≤ 65536 → AllPairs (λ a b. a ≢ b) (genesis_names 0 genesis)
+        → (objects before : List Object) (any : Bool) (number : ℕ) → before ++ objects ≡ genesis → AllByRecursion IsPrintable objects
+        → ((any : Bool) → read_fields (made (genesis_stage any) config master genesis []) (number + length objects) rest ≡ Ok last)
+        → read_fields (made (genesis_stage any) config master before []) number (genesis_lines objects ++ rest) ≡ Ok last
+    reads_objects few differ [] before any number is fit more =
+        let none : number + 0 ≡ number = omega arith in
+        let at : read_fields (made (genesis_stage any) config master before []) (number + 0) rest ≡ Ok last =
+        subst (λ all. read_fields (made (genesis_stage any) config master all []) (number + 0) rest ≡ Ok last) (sym is ∙ append-nil before) (more any) in
+        subst (λ n. read_fields (made (genesis_stage any) config master before []) n rest ≡ Ok last) none at
+    reads_objects few differ (object ∷ objects) before any number is fit more =
+        let next : number + length (object ∷ objects) ≡ number + 1 + length objects = omega arith in
+        let total : length before + length (object ∷ objects) ≡ length genesis = sym (length-append before (object ∷ objects)) ∙ ap length is in
+        let zero_first : 0 + length before ≡ length before = omega arith in
+        let names : AllPairs (λ a b. a ≢ b) (genesis_names 0 before ++ name_of_genesis (0 + length before) object ∷ genesis_names (0 + length before + 1) objects) =
+        subst (AllPairs (λ a b. a ≢ b)) (ap (genesis_names 0) (sym is) ∙ names-split 0 before object objects) differ in
+        let fresh : is_known (name_of_genesis (0 + length before) object) (genesis_names 0 before) ≡ false = new_name (genesis_names 0 before) (genesis_names (0 + length before + 1) objects) (name_of_genesis (0 + length before) object) names in
+        let new : is_known (name_of_genesis (length before) object) (genesis_names 0 before) ≡ false = subst (λ n. is_known (name_of_genesis n object) (genesis_names 0 before) ≡ false) zero_first fresh in
+        read-cons (made (genesis_stage any) config master before []) (made stage.Genesis config master (before ++ object ∷ []) []) last number (object_line object) (genesis_lines objects ++ rest)
+        (object_step any before object number fit.0 (omega arith) new)
+        (reads_objects few differ objects (before ++ object ∷ []) true (number + 1) (append_assoc before (object ∷ []) objects ∙ is) fit.1
+        (λ any. subst (λ n. read_fields (made (genesis_stage any) config master genesis []) n rest ≡ Ok last) next (more any)))
+
+  -- the four lines before liars
+  pub reads_head : config.shards ≡ 1 → config.f ≡ 0 → DigestFits master → (last : Draft) (rest : List (List (List ℕ))) → read_fields (made stage.Liars config master [] []) 5 rest ≡ Ok last
+      → read_fields empty_draft 1 (number_line (codes "shards") config.shards ∷ number_line (codes "faulty") config.f ∷ number_line (codes "dummies") config.dummies ∷ bytes_line (codes "master") master ∷ rest) ≡ Ok last
+  reads_head one none fits last rest more =
+      let zeros = replicate 32 0 in
+      let least = config_of 1 0 0 in
+      let few_shards : config.shards ≤ MOST_SHARDS = config.few_shards in
+      let few_liars : config.f ≤ MOST_LIARS = config.few_liars in
+      let few_dummies : config.dummies ≤ MOST_DUMMIES = config.few_dummies in
+      let whole : configured 1 0 config.dummies ≡ Ok config =
+      ap (λ n. configured n 0 config.dummies) (sym one) ∙ ap (λ n. configured config.shards n config.dummies) (sym none) ∙ configured-config config in
+      let shards : line_step 1 empty_draft (number_line (codes "shards") config.shards) ≡ Ok (made stage.Faulty least zeros [] []) =
+      rw (shards_back least least config.shards (omega arith) one (rw one refl)) refl in
+      let faulty : line_step 2 (made stage.Faulty least zeros [] []) (number_line (codes "faulty") config.f) ≡ Ok (made stage.Dummies least zeros [] []) =
+      rw (faulty_back least least config.f (omega arith) none (rw none refl)) refl in
+      let dummies : line_step 3 (made stage.Dummies least zeros [] []) (number_line (codes "dummies") config.dummies) ≡ Ok (made stage.Master config zeros [] []) =
+      rw (dummies_back least config config.dummies (omega arith) (ap in_range whole)) refl in
+      let mastered : line_step 4 (made stage.Master config zeros [] []) (bytes_line (codes "master") master) ≡ Ok (made stage.Liars config master [] []) = rw (master_back master fits) refl in
+      rw (shards, faulty, dummies, mastered) more

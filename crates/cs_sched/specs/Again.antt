@@ -1,0 +1,25 @@
+-- A schedule as its own text numbers its events.
+use Rattle.std.specs.Prelude.{◌≡◌, ◌≤◌, ℕ, ◌+◌, List, [], ◌∷◌, length, Ok}
+use Rattle.cs_event.specs.declared.schedule.Event.{Event}
+use Rattle.cs_event.specs.declared.schedule.Schedule.{Schedule}
+use Rattle.cs_sched.specs.Text.{schedule_of}
+use Rattle.cs_sched.specs.Printed.{schedule_text}
+
+-- events that stand on lines one after the other, the first on the line of this number
+abbrev pub numbered : ℕ → List (ℕ × Event) → List (ℕ × Event)
+numbered line [] = []
+numbered line (event ∷ events) = (line, event.1) ∷ numbered (line + 1) events
+
+-- the number of the line of the first event: four lines, those of liars, contracts and objects, and `run` stand before it
+abbrev pub first_line : Schedule → ℕ
+first_line schedule = 6 + (length schedule.liars + (length schedule.contracts + length schedule.genesis))
+
+-- the same schedule, with the numbers of the lines of its own text
+abbrev pub renumbered : Schedule → Schedule
+renumbered schedule = record schedule { events = numbered (first_line schedule) schedule.events }
+
+-- A schedule that was read of a text is read again, up to the numbers of lines, of the text that is printed of it, where that is within the limit.
+abbrev pub IsReadAgain : ℕ → Type 0
+IsReadAgain limit =
+    (text : List ℕ) (schedule : Schedule) → schedule_of limit text ≡ Ok schedule → length (schedule_text schedule) ≤ limit
+    → schedule_of limit (schedule_text schedule) ≡ Ok (renumbered schedule)

@@ -1,0 +1,74 @@
+-- The text of a schedule: its lines in the order of the format, each of a word and its fields.
+use Rattle.std.specs.Prelude.{ℕ, List, [], ◌∷◌, ◌++◌, map, codes}
+use Rattle.std.specs.Fmt.{decimal}
+use Rattle.cs_base.specs.Codes.{bytes_text}
+use Rattle.cs_base.specs.Fields.{each}
+use Rattle.cs_base.specs.NodeId.{node_text}
+use Rattle.cs_base.specs.declared.config.Config.{Config}
+use Rattle.cs_base.specs.declared.node_id.NodeId.{NodeId}
+use Rattle.cs_value.specs.Object.{object_encoding}
+use Rattle.cs_value.specs.declared.object.Object.{Object}
+use Rattle.cs_event.specs.declared.schedule.Event.{Event}
+use Rattle.cs_event.specs.declared.schedule.Event.TheVariants.{Say, Inject, Deliver, Tick, Drain}
+use Rattle.cs_event.specs.declared.schedule.Schedule.{Schedule}
+
+-- a line: its word, each field behind a space, and LF
+abbrev pub line_text : List (List ℕ) → List ℕ
+line_text [] = 10 ∷ []
+line_text (word ∷ fields) = word ++ (each (λ field. 32 ∷ field) fields ++ 10 ∷ [])
+
+-- what stands on a line, its word first
+
+abbrev pub number_line : List ℕ → ℕ → List (List ℕ)
+number_line word number = word ∷ decimal number ∷ []
+
+abbrev pub name_line : List ℕ → NodeId → List (List ℕ)
+name_line word name = word ∷ node_text name ∷ []
+
+abbrev pub bytes_line : List ℕ → List ℕ → List (List ℕ)
+bytes_line word bytes = word ∷ bytes_text bytes ∷ []
+
+abbrev pub object_line : Object → List (List ℕ)
+object_line object = bytes_line (codes "genesis") (object_encoding object)
+
+abbrev pub event_line : Event → List (List ℕ)
+event_line (Say from to kind body) = codes "say" ∷ node_text from ∷ node_text to ∷ decimal kind ∷ bytes_text body ∷ []
+event_line (Inject to bytes) = codes "inject" ∷ node_text to ∷ bytes_text bytes ∷ []
+event_line (Deliver number) = number_line (codes "deliver") number
+event_line (Tick node) = name_line (codes "tick") node
+event_line (Drain times) = number_line (codes "drain") times
+
+-- the lines of a configuration and its master
+abbrev pub head_lines : Config → List ℕ → List (List (List ℕ))
+head_lines config master =
+    number_line (codes "shards") config.shards
+    ∷ number_line (codes "faulty") config.f
+    ∷ number_line (codes "dummies") config.dummies
+    ∷ bytes_line (codes "master") master
+    ∷ []
+
+abbrev pub liar_lines : List NodeId → List (List (List ℕ))
+liar_lines liars = map (name_line (codes "liar")) liars
+
+abbrev pub contract_lines : List (List ℕ) → List (List (List ℕ))
+contract_lines contracts = map (bytes_line (codes "contract")) contracts
+
+abbrev pub genesis_lines : List Object → List (List (List ℕ))
+genesis_lines objects = map object_line objects
+
+abbrev pub event_lines : List (ℕ × Event) → List (List (List ℕ))
+event_lines events = map (λ numbered. event_line numbered.1) events
+
+-- all lines of a schedule
+abbrev pub schedule_lines : Schedule → List (List (List ℕ))
+schedule_lines schedule =
+    head_lines schedule.config schedule.master
+    ++ (liar_lines schedule.liars
+    ++ (contract_lines schedule.contracts
+    ++ (genesis_lines schedule.genesis
+    ++ ((codes "run" ∷ []) ∷ (event_lines schedule.events
+    ++ (codes "end" ∷ []) ∷ [])))))
+
+-- its text
+abbrev pub schedule_text : Schedule → List ℕ
+schedule_text schedule = each line_text (schedule_lines schedule)
