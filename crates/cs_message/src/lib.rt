@@ -7,6 +7,8 @@ mod message;
 mod passing;
 mod reading;
 mod rising;
+#[cfg(test)]
+mod tests;
 mod view;
 mod whole;
 mod writing;
