@@ -4,12 +4,14 @@
 mod equal;
 mod letter;
 mod mac;
+mod tag_key;
 #[cfg(test)]
 mod tests;
 
 pub use equal::same;
 pub use letter::tagged;
 pub use mac::tag;
+pub use tag_key::TagKey;
 
 /// SHA-256 of something.
 pub type Digest = [u8; 32];

@@ -66,6 +66,24 @@ fn tags_are_those_of_rfc_4231(rt: HostRuntime) -> Result<(), Fail> {
     Ok(())
 }
 
+/// The test case of RFC 4231 that gives the first 16 bytes of its tag.
+#[test]
+fn a_tag_begins_as_in_rfc_4231(rt: HostRuntime) -> Result<(), Fail> {
+    let tag = tag(&[0x0c; 20], b"Test With Truncation");
+    let wanted = bytes_of(b"a3b6167473100ee06e0c796c2955552b");
+    assert!(rt; tag[..16] == wanted[..16]);
+    Ok(())
+}
+
+#[test]
+fn a_key_hashed_ahead_gives_the_same_tags(rt: HostRuntime) -> Result<(), Fail> {
+    let key = TagKey::new(&[7; 32]);
+    for text in [b"".as_slice(), b"text".as_slice(), [0xdd; 150].as_slice()] {
+        assert!(rt; same(&key.tag(text), &tag(&[7; 32], text)));
+    }
+    Ok(())
+}
+
 /// The examples of FIPS 180-4 with SHA-256, of one block and of two.
 #[test]
 fn digests_are_those_of_fips_180_4(rt: HostRuntime) -> Result<(), Fail> {
