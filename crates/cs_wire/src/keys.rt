@@ -1,20 +1,21 @@
 //! The keys of a node or a client: one to each peer, and one from each.
-ghost use Rattle.std.specs.Prelude.{◌≡◌, IfOk};
-ghost use Rattle.cs_wire.specs.Keys.{same_name as alike, row_of, row_in, stands, Lists, IsOfMaster};
+ghost use Rattle.std.specs.Prelude.{◌≡◌, IfOk, option_copied};
+ghost use Rattle.cs_wire.specs.Keys.{same_name as alike, row_of, row_in, row_listed, stands, Lists, IsOfMaster};
 
 use crate::names::rows_of_master;
 use cs_base::{Config, Memory, NodeId, Sequence};
+use cs_hash::TagKey;
 use cs_value::Digest;
 use std::alloc::{AllocFailed, Global};
 
 /// The keys that are shared with a peer.
-#[derive(Clone, Copy, PartialEq, Eq)]
+#[derive(Drop)]
 pub struct Row {
     pub peer: NodeId,
     /// The key of what is sent to the peer.
-    pub to: Digest,
+    pub to: TagKey,
     /// The key of what comes from the peer.
-    pub from: Digest,
+    pub from: TagKey,
 }
 
 /// The keys of a node or a client.
@@ -50,12 +51,25 @@ pub fn same_name(a: NodeId, b: NodeId) -> bool
     a.shard == b.shard && a.index == b.index
 }
 
-fn row_among(rows: &[Row], peer: NodeId) -> Option<Row>
-    ensures { result ≡ row_in peer rows.now }
+impl Row {
+    /// What is shared with a peer: the key to it, and the key from it.
+    pub fn new(peer: NodeId, to: &Digest, from: &Digest) -> Row
+        ensures { result ≡ row_listed (peer, to.now, from.now) }
+    {
+        Row {
+            peer,
+            to: TagKey::new(to),
+            from: TagKey::new(from),
+        }
+    }
+}
+
+fn row_among(rows: &[Row], peer: NodeId) -> Option<&Row>
+    ensures { option_copied result ≡ row_in peer rows.now }
 {
-    for i in 0..rows.len() {
-        if same_name(rows[i].peer, peer) {
-            return Some(rows[i]);
+    for row in rows {
+        if same_name(row.peer, peer) {
+            return Some(row);
         }
     }
     None
@@ -102,7 +116,7 @@ impl Keys {
             if same_name(peer, me) || is_among(&list[..i], peer) {
                 return Err(KeysError::Twice(i));
             }
-            rows.push(Row { peer, to, from })?;
+            rows.push(Row::new(peer, &to, &from))?;
         }
         Ok(Keys { me, rows })
     }
@@ -115,8 +129,8 @@ impl Keys {
     }
 
     /// The keys that are shared with a peer.
-    pub(crate) fn row(&self, peer: NodeId) -> Option<Row>
-        ensures { result ≡ row_of peer self.now }
+    pub(crate) fn row(&self, peer: NodeId) -> Option<&Row>
+        ensures { option_copied result ≡ row_of peer self.now }
     {
         row_among(self.rows.as_slice(), peer)
     }

@@ -63,7 +63,7 @@ fn row_for(alloc: Global, master: &Digest, me: NodeId, peer: NodeId) -> Result<R
 {
     let to = key_of(alloc, master, me, peer)?;
     let from = key_of(alloc, master, peer, me)?;
-    Ok(Row { peer, to, from })
+    Ok(Row::new(peer, &to, &from))
 }
 
 // Adds what is shared with a name, where it isn't me.

@@ -8,9 +8,8 @@ use crate::head::{Head, head_of};
 use crate::keys::{Keys, same_name};
 use crate::view::MessageView;
 use cs_base::NodeId;
-use cs_hash::{same, tag};
+use cs_hash::{TagKey, same};
 use cs_message::has_form;
-use cs_value::Digest;
 
 /// The bytes of a head.
 const HEAD: usize = 17;
@@ -58,14 +57,14 @@ fn is_sized(size: u32, bytes: &[u8]) -> bool
 }
 
 // Whether the last 32 bytes are the tag of those before them.
-fn has_tag(key: &Digest, bytes: &[u8]) -> bool
+fn has_tag(key: &TagKey, bytes: &[u8]) -> bool
     requires { 32 ≤ length bytes.now }
     ensures { result ≡ tagged_so key.now bytes.now }
 {
     let (text, given) = bytes.split_at(bytes.len() - TAG);
     let mut read = [0; 32];
     read.copy_from_slice(given);
-    same(&read, &tag(key.as_slice(), text))
+    same(&read, &key.tag(text))
 }
 
 // The tests before that of the body.
@@ -94,8 +93,7 @@ fn checked(keys: &Keys, bytes: &[u8]) -> Result<Head, OpenError>
     if !is_sized(head.size, bytes) {
         return Err(OpenError::Length);
     }
-    let key = row.from;
-    if !has_tag(&key, bytes) {
+    if !has_tag(&row.from, bytes) {
         return Err(OpenError::Tag);
     }
     Ok(head)

@@ -9,9 +9,8 @@ ghost use Rattle.cs_wire.specs.declared.sealing.SealError.TheVariants.{NoKey};
 use crate::head::write_name;
 use crate::keys::Keys;
 use cs_base::{Memory, NodeId, Writer};
-use cs_hash::tag;
+use cs_hash::TagKey;
 use cs_message::{Message, write_body};
-use cs_value::Digest;
 use std::alloc::{AllocError, Global};
 
 /// Why a message isn't sealed.
@@ -64,7 +63,7 @@ fn text(alloc: Global, from: NodeId, to: NodeId, message: &Message) -> Result<Ve
 
 fn datagram(
     alloc: Global,
-    key: &Digest,
+    key: &TagKey,
     from: NodeId,
     to: NodeId,
     message: &Message,
@@ -73,7 +72,7 @@ fn datagram(
     ensures { IfOk result (λ bytes. bytes.items ≡ sealed key.now from to message.now) }
 {
     let mut bytes = text(alloc, from, to, message)?;
-    let tag = tag(key.as_slice(), &bytes);
+    let tag = key.tag(&bytes);
     bytes.extend_from_slice(&tag)?;
     Ok(bytes)
 }
@@ -94,8 +93,7 @@ pub fn seal(
     let Some(row) = keys.row(to) else {
         return Err(SealError::NoKey);
     };
-    let key = row.to;
-    let bytes = datagram(alloc, &key, keys.me, to, message)?;
+    let bytes = datagram(alloc, &row.to, keys.me, to, message)?;
     out.extend_from_slice(&bytes)?;
     Ok(())
 }
