@@ -49,6 +49,13 @@ impl SlotChanges {
         }
     }
 
+    /// How many members may lie.
+    pub fn f(&self) -> u16
+        ensures { result ≡ self.now.f }
+    {
+        self.f
+    }
+
     /// Takes the change of a member to a view. It is false exactly for a repeat.
     pub fn add(&mut self, view: u16, member: u16, change: Change) -> Result<bool, Memory>
         ensures fresh { IfOk result (λ fresh. fresh ≡ not (is_some (told_in self.old.changes view member))) }

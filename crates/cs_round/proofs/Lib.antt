@@ -1,0 +1,4 @@
+pub mod Taking
+pub mod Placing
+pub mod Reopened
+pub mod Greatest
