@@ -3,3 +3,4 @@ pub mod Concerned
 pub mod Settings
 pub mod RulesAlike
 pub mod Running
+pub mod Asking

@@ -28,11 +28,11 @@ use Rattle.cs_ledger.specs.Standing.{stands_accepted, stands_aborted}
 use Rattle.cs_table.specs.Calls.{anchor_in, prepared, decided, standing_at, locked_at as holds_at}
 use Rattle.cs_trail.specs.Setup as Setup
 use Rattle.cs_trail.specs.Pool.{Pool}
-use Rattle.cs_trail.specs.Bench.{told_by, own_pool, pool_after, locked_at, decided_at, stands_decided}
+use Rattle.cs_trail.specs.Bench.{told_by, own_pool, pool_after, locked_at, decided_by, decided_at, decided as standing}
 use Rattle.cs_trail.specs.Deployment.{genesis_from}
 use Rattle.cs_sbac.specs.declared.answers.Outcome.{Outcome}
 use Rattle.cs_sbac.specs.Held.{Held, IsOfNode, deployed}
-use Rattle.cs_sbac.specs.Calls.{placed, left, closed, Runs, RunsEntry, Executes}
+use Rattle.cs_sbac.specs.Calls.{placed, left, accepted_by, Runs, RunsEntry, Executes}
 use Rattle.cs_sbac.proofs.RulesAlike.{acts, anchors}
 
 vote-back : (v : Vote) → Setup.vote_from (vote_of v) ≡ v
@@ -178,16 +178,16 @@ module _ (config : Config) (me : NodeId) (told : Stored) (of : IsOfNode config m
           me_stays = refl;
         }
 
-    pub stands : (x : Session) → closed (standing_at (seen told) (session_of approves x).digest (anchor_in told (session_of approves x))) ≡ stands_decided setup me.shard (seen told) x
+    pub stands : (x : Session) → accepted_by (standing_at (seen told) (session_of approves x).digest (anchor_in told (session_of approves x))) ≡ standing setup me.shard (seen told) x
     stands x =
         let y : Seen.Session = session_of approves x in
-        closed-at (seen told) y.digest (anchor_in told y) ∙ ap (decided_at (seen told) y.digest) (same-anchor y)
+        accepted-at (seen told) y.digest (anchor_in told y) ∙ ap (decided_at (seen told) y.digest) (same-anchor y)
       where
-        closed-by : (a b : Bool) → closed (if a then Accepted' else if b then Aborted' else Open') ≡ (if a then true else b)
-        closed-by true b = refl
-        closed-by false true = refl
-        closed-by false false = refl
+        accepted-by : (a b : Bool) → accepted_by (if a then Accepted' else if b then Aborted' else Open') ≡ (if a then Some true else if b then Some false else None)
+        accepted-by true b = refl
+        accepted-by false true = refl
+        accepted-by false false = refl
 
-        closed-at : (t : Shard.Table) (d : Bytes) (o : Option Seen.Key) → closed (standing_at t d o) ≡ decided_at t d o
-        closed-at t d None = refl
-        closed-at t d (Some key) = closed-by (stands_accepted (t.at key) d) (stands_aborted (t.at key) d)
+        accepted-at : (t : Shard.Table) (d : Bytes) (o : Option Seen.Key) → accepted_by (standing_at t d o) ≡ decided_at t d o
+        accepted-at t d None = refl
+        accepted-at t d (Some key) = accepted-by (stands_accepted (t.at key) d) (stands_aborted (t.at key) d)

@@ -41,11 +41,11 @@ entered_in pool = if has_room pool then New else Full
 abbrev pub pool_entered : Bytes → Session → Pool → Pool
 pool_entered d x pool = if has_room pool then pushed d x false pool else pool
 
--- a session stands accepted or aborted
-abbrev pub closed : Standing → Bool
-closed Standings.Accepted = true
-closed Standings.Aborted = true
-closed Standings.Open = false
+-- whether a session was accepted, once it is decided
+abbrev pub accepted_by : Standing → Option Bool
+accepted_by Standings.Accepted = Some true
+accepted_by Standings.Aborted = Some false
+accepted_by Standings.Open = None
 
 -- a session that was voted on is locked, or leaves
 abbrev pub placed : Bool → Bytes → Session → Pool → Pool

@@ -2,26 +2,30 @@
 ghost use Rattle.std.specs.Prelude.{◌≡◌, ◌&&◌, Bool, List, [], None, OnOk, IfOk};
 ghost use Rattle.cs_value.specs.declared.object.Object.{Object};
 ghost use Rattle.cs_form.specs.declared.transaction.Tx.{Tx};
+ghost use Rattle.cs_value.specs.Object.{DigestFits};
+ghost use Rattle.cs_value.specs.Key.{KeyFits};
+ghost use Rattle.cs_form.specs.State.{StateFits};
 ghost use Rattle.cs_form.specs.Session.{SessionFits, EntryFits};
 ghost use Rattle.cs_tx.specs.Digest.{digest_of_session};
 ghost use Rattle.cs_trail.specs.Setup.{concerns, concerned, is_fit, is_approved};
 ghost use Rattle.cs_trail.specs.Pool.{found, is_pooled, changed, with_ballot};
-ghost use Rattle.cs_table.specs.Seen.{seen};
-ghost use Rattle.cs_trail.specs.Bench.{stands_decided};
+ghost use Rattle.cs_table.specs.Seen.{seen, HoldsFit};
+ghost use Rattle.cs_trail.specs.Asked.{told_at, least_dummy, key_asked};
+ghost use Rattle.cs_trail.specs.Bench.{decided};
 ghost use Rattle.cs_trail.specs.Admission.{admits, is_decided_in, due};
 ghost use Rattle.cs_sbac.specs.Fits.{DueFits};
 ghost use Rattle.cs_sbac.specs.Held.{with_pool, deployed, IsOfNode};
-ghost use Rattle.cs_sbac.specs.Calls.{counted_in, entered_in, pool_entered, closed, Executes};
+ghost use Rattle.cs_sbac.specs.Calls.{counted_in, entered_in, pool_entered, accepted_by, Executes};
 
 use crate::answers::{Counted, Entered, Outcome};
 use crate::execution::{newcomer, run};
 use crate::pool::Pool;
 use crate::setting::{concerned_shards, is_fit, is_fit_entry};
 use crate::votes::is_decided;
-use cs_base::{Config, Memory, NodeId};
+use cs_base::{Config, Key, Memory, NodeId};
 use cs_table::{Effect, Standing, Table};
 use cs_trail::Ballot;
-use cs_tx::{Entry, Judge, Session, Vote, session_digest};
+use cs_tx::{Digest, Encoded, Entry, Judge, Session, State, Vote, session_digest};
 use std::alloc::Global;
 use std::marker::Model;
 
@@ -54,12 +58,46 @@ impl Model for Sbac {
     ghost invariant = { λ s. IsSound s.is_whole s.config s.me s.table };
 }
 
-fn is_closed(standing: Standing) -> bool
-    ensures { result ≡ closed standing }
+fn is_accepted(standing: Standing) -> Option<bool>
+    ensures { result ≡ accepted_by standing }
 {
     match standing {
-        Standing::Accepted | Standing::Aborted => true,
-        Standing::Open => false,
+        Standing::Accepted => Some(true),
+        Standing::Aborted => Some(false),
+        Standing::Open => None,
+    }
+}
+
+// Each digest and each key has an encoding.
+fn digest_fits(digest: Digest)
+    ensures { DigestFits digest }
+{}
+
+fn key_fits(key: Key)
+    ensures { KeyFits key }
+{
+    match key {
+        Key::Object(digest) => digest_fits(digest),
+        Key::Dummy(_, _) => {}
+    }
+}
+
+fn copy_state(alloc: Global, state: &State) -> Result<State, Memory>
+    requires { HoldsFit state.now }
+    ensures copied { IfOk result (λ copied. copied ≡ state.now) }
+    ensures fits { IfOk result StateFits }
+{
+    match state {
+        State::Unknown => Ok(State::Unknown),
+        State::Active(object) => Ok(State::Active(object.copy(alloc)?)),
+        State::Locked(object, by) => {
+            digest_fits(*by);
+            Ok(State::Locked(object.copy(alloc)?, *by))
+        }
+        State::Inactive(by) => {
+            digest_fits(*by);
+            Ok(State::Inactive(*by))
+        }
     }
 }
 
@@ -157,16 +195,57 @@ impl Sbac {
         Ok(fit)
     }
 
-    /// Whether a session was accepted or aborted here.
-    pub fn is_decided(&self, alloc: Global, session: &Session) -> Result<bool, Memory>
+    /// Whether a session was accepted, once it is decided here.
+    pub fn decided(&self, alloc: Global, session: &Session) -> Result<Option<bool>, Memory>
         requires { SessionFits session.now }
-        ensures { (genesis : List Object) (approves : Tx → Bool) → IfOk result (λ decided. decided ≡ stands_decided (deployed self.now.config genesis approves) self.now.me.shard (seen self.now.table) session.now) }
+        ensures { (genesis : List Object) (approves : Tx → Bool) → IfOk result (λ answer. answer ≡ decided (deployed self.now.config genesis approves) self.now.me.shard (seen self.now.table) session.now) }
     {
         if !self.is_whole {
             return Err(Memory);
         }
         let standing = self.table.standing(alloc, session)?;
-        Ok(is_closed(standing))
+        Ok(is_accepted(standing))
+    }
+
+    /// The state of a key.
+    pub fn told(&self, alloc: Global, key: &Key) -> Result<State, Memory>
+        ensures told { IfOk result (λ state. state ≡ told_at (seen self.now.table) key.now) }
+        ensures fits { IfOk result StateFits }
+    {
+        if !self.is_whole {
+            return Err(Memory);
+        }
+        match self.table.record(key) {
+            None => Ok(State::Unknown),
+            Some(row) => copy_state(alloc, &row.state),
+        }
+    }
+
+    /// The key that is asked for; where none is named, the active dummy of the least serial, or
+    /// the one that is made next.
+    pub fn asked(&self, key: Option<Key>) -> Result<Key, Memory>
+        ensures key { IfOk result (λ asked. asked ≡ key_asked (seen self.now.table) self.now.me.shard key) }
+        ensures fits { IfOk result KeyFits }
+    {
+        match key {
+            Some(key) => {
+                key_fits(key);
+                Ok(key)
+            }
+            None => self.least_dummy(),
+        }
+    }
+
+    fn least_dummy(&self) -> Result<Key, Memory>
+        ensures key { IfOk result (λ key. key ≡ least_dummy (seen self.now.table) self.now.me.shard) }
+        ensures fits { IfOk result KeyFits }
+    {
+        if !self.is_whole {
+            return Err(Memory);
+        }
+        let key = self.table.least_dummy();
+        key_fits(key);
+        Ok(key)
     }
 
     fn admits_prepare<J: Judge>(

@@ -78,7 +78,7 @@ fn is_absent(
 ) -> Result<(), Fail> {
     assert!(rt; session.fits());
     assert!(rt; sbac.is_fit(alloc, session)?);
-    assert!(rt; !sbac.is_decided(alloc, session)?);
+    assert!(rt; sbac.decided(alloc, session)?.is_none());
     assert!(rt; sbac.vote(alloc, sbac.me(), session, Vote::Commit)? == Counted::NotPooled);
     assert!(rt; sbac.due(alloc)?.is_none());
     Ok(())
@@ -128,7 +128,7 @@ fn is_accepted(
     assert!(rt; matches!(&entry, Entry::Decide(Vote::Commit, _)));
     assert!(rt; outcome.effect == Effect::Accepted && outcome.voted.is_none());
     assert!(rt; session.fits());
-    assert!(rt; sbac.is_decided(alloc, session)?);
+    assert!(rt; sbac.decided(alloc, session)? == Some(true));
     assert!(rt; sbac.due(alloc)?.is_none());
     Ok(())
 }
