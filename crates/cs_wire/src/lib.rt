@@ -10,6 +10,8 @@ mod opening;
 mod raw;
 mod reading;
 mod sealing;
+#[cfg(test)]
+mod tests;
 mod view;
 
 pub use input::{Input, Out};
