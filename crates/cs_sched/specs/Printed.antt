@@ -28,6 +28,12 @@ name_line word name = word ∷ node_text name ∷ []
 abbrev pub bytes_line : List ℕ → List ℕ → List (List ℕ)
 bytes_line word bytes = word ∷ bytes_text bytes ∷ []
 
+abbrev pub liar_line : NodeId → List (List ℕ)
+liar_line name = name_line (codes "liar") name
+
+abbrev pub contract_line : List ℕ → List (List ℕ)
+contract_line text = bytes_line (codes "contract") text
+
 abbrev pub object_line : Object → List (List ℕ)
 object_line object = bytes_line (codes "genesis") (object_encoding object)
 
@@ -48,10 +54,10 @@ head_lines config master =
     ∷ []
 
 abbrev pub liar_lines : List NodeId → List (List (List ℕ))
-liar_lines liars = map (name_line (codes "liar")) liars
+liar_lines liars = map liar_line liars
 
 abbrev pub contract_lines : List (List ℕ) → List (List (List ℕ))
-contract_lines contracts = map (bytes_line (codes "contract")) contracts
+contract_lines contracts = map contract_line contracts
 
 abbrev pub genesis_lines : List Object → List (List (List ℕ))
 genesis_lines objects = map object_line objects
