@@ -1,5 +1,5 @@
 -- An execution with the node's own vote is what its signs say.
-use Rattle.std.proofs.Common.{◌≡◌, ℕ, Bool, true, false, not, ◌&&◌, cond, List, [], ◌∷◌, ◌++◌, Option, Some, None, bytes_eq, is_some, refl, ap, sym, ◌∙◌, arith, append_assoc}
+use Rattle.std.proofs.Common.{◌≡◌, ℕ, Bool, true, false, not, ◌&&◌, cond, List, [], ◌∷◌, ◌++◌, Option, Some, None, bytes_eq, is_some, refl, ap, sym, ◌∙◌, arith, append_assoc, append-nil}
 use Rattle.cs_base.specs.declared.node_id.NodeId.{NodeId}
 use Rattle.cs_form.specs.declared.session.Session.{Session}
 use Rattle.cs_form.specs.declared.vote.Vote.{Vote}
@@ -11,11 +11,11 @@ use Rattle.cs_trail.specs.Setup.{Setup, digest_of, session_in, vote_from}
 use Rattle.cs_trail.specs.Pool.{Pool, found, is_pooled, changed, with_ballot, as_locked, entering, pushed, entered, entered_locked}
 use Rattle.cs_trail.specs.Bench.{Bench, Ran, is_locked, pool_after, executed, told_by, told_of, own_pool, bench_executed}
 use Rattle.cs_trail.specs.Signs.{Sign, Entered, Did, bench_step, bench_after, own_signs, entered_signs, execution_signs}
-use Rattle.cs_node.specs.declared.made.Note.TheVariants.{Executed}
-use Rattle.cs_node.specs.declared.made.Made.{Made}
-use Rattle.cs_node.specs.Notes.{effect_from, notes_of, Tells}
+use Rattle.cs_node.specs.declared.draft.Note.TheVariants.{Executed}
+use Rattle.cs_node.specs.declared.draft.Draft.{Draft}
+use Rattle.cs_node.specs.Notes.{effect_from, notes_of, said_of, Tells}
 use Rattle.cs_node.specs.Steps.{Makes}
-use Rattle.cs_node.proofs.Sums.{notes-append, bench-append}
+use Rattle.cs_node.proofs.Sums.{notes-append, said-append, bench-append}
 
 same-bytes : (d : Bytes) → bytes_eq d d ≡ true
 same-bytes [] = refl
@@ -77,9 +77,15 @@ module _ (setup : Setup) (me : NodeId) (x : Session) where
   told-nothing true (Some (vote, true)) = refl
   told-nothing false (Some (vote, true)) = refl
 
-pub execution-makes : (setup : Setup) (me : NodeId) (b b' : Bench) (slot : ℕ) (entry : Entry) (made made' : Made) → b' ≡ bench_executed setup me b entry
-    → made'.notes ≡ made.notes ++ Executed slot entry (effect_from (executed setup me.shard b entry).effect) ∷ [] → Makes setup me (execution_signs setup me b slot entry) b b' made made'
-execution-makes setup me b b' slot entry made made' is noted =
+  said-nothing : (pooled : Bool) (told : Option (Vote × Bool)) → said_of (after pooled told) ≡ []
+  said-nothing pooled None = refl
+  said-nothing pooled (Some (vote, false)) = refl
+  said-nothing true (Some (vote, true)) = refl
+  said-nothing false (Some (vote, true)) = refl
+
+pub execution-makes : (setup : Setup) (me : NodeId) (b b' : Bench) (slot : ℕ) (entry : Entry) (made made' : Draft) → b' ≡ bench_executed setup me b entry
+    → made'.notes ≡ made.notes ++ Executed slot entry (effect_from (executed setup me.shard b entry).effect) ∷ [] → made'.said ≡ made.said → Makes setup me (execution_signs setup me b slot entry) b b' made made'
+execution-makes setup me b b' slot entry made made' is noted silent =
     let x : Session = session_in entry in
     let ran : Ran = executed setup me.shard b entry in
     let told : Option (Vote × Bool) = told_of setup me.shard x ran in
@@ -88,7 +94,11 @@ execution-makes setup me b b' slot entry made made' is noted =
     let signs : List Sign = own_signs me x told ++ entered_signs x pooled told in
     let whole : execution_signs setup me b slot entry ≡ signs ++ did = sym (append_assoc (own_signs me x told) (entered_signs x pooled told) did) in
     let told-is : notes_of (execution_signs setup me b slot entry) ≡ notes_of did = ap notes_of whole ∙ notes-append signs did ∙ ap (λ xs. notes_of did ++ xs) (told-nothing setup me x pooled told) in
+    let said-is : said_of (execution_signs setup me b slot entry) ≡ [] = ap said_of whole ∙ said-append signs did ∙ said-nothing setup me x pooled told in
     record {
-      tells = noted ∙ ap (λ xs. made.notes ++ xs) (sym told-is);
+      tells = record {
+        notes = noted ∙ ap (λ xs. made.notes ++ xs) (sym told-is);
+        said = silent ∙ sym (append-nil made.said) ∙ ap (λ xs. made.said ++ xs) (sym said-is);
+      };
       bench_is = is ∙ sym (ap (λ all. bench_after setup me.shard all b) whole ∙ bench-append setup me.shard signs did b ∙ told-bench setup me x ran.effect (is_locked setup me.shard ran.bench.table x) ran.bench.table b.pool pooled refl);
     }

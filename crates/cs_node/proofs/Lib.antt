@@ -9,3 +9,5 @@ pub mod Standing
 pub mod Doing
 pub mod Starting
 pub mod Whole
+pub mod Sealing
+pub mod Masters

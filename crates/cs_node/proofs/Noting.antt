@@ -7,8 +7,10 @@ use Rattle.cs_table.specs.Effects.{effect_of}
 use Rattle.cs_form.specs.declared.entry.Entry.{Entry}
 use Rattle.cs_form.specs.declared.vote.Vote.TheVariants.{Commit, Abort}
 use Rattle.cs_form.specs.Session.{EntryFits}
-use Rattle.cs_node.specs.declared.made.Note.{Note}
-use Rattle.cs_node.specs.Notes.{effect_from, NoteFits, NotesFit, ExecutedFits}
+use Rattle.cs_node.specs.declared.draft.Note.{Note}
+use Rattle.cs_node.specs.declared.draft.Said.{Said}
+use Rattle.cs_node.specs.declared.draft.Draft.{Draft}
+use Rattle.cs_node.specs.Notes.{effect_from, NoteFits, NotesFit, SaidFits, AllSaidFit, DraftFits, ExecutedFits}
 
 pub effect-again : (effect : Effect) (seen : Shard.Effect) → effect_of effect ≡ seen → effect ≡ effect_from seen
 effect-again effect seen is = let P : Shard.Effect → Type 0 = λ e. effect ≡ effect_from e in subst P is (back effect)
@@ -32,5 +34,23 @@ notes-push : (notes : List Note) (note : Note) → NotesFit notes → NoteFits n
 notes-push [] note fits fit = (fit, tt)
 notes-push (n ∷ notes) note fits fit = (fits.0, notes-push notes note fits.1 fit)
 
-pub noted-fits : (old new : List Note) (note : Note) → new ≡ old ++ note ∷ [] → NoteFits note → NotesFit old → NotesFit new
+noted-fits : (old new : List Note) (note : Note) → new ≡ old ++ note ∷ [] → NoteFits note → NotesFit old → NotesFit new
 noted-fits old new note is fit fits = subst NotesFit (sym is) (notes-push old note fits fit)
+
+-- a note more
+pub draft-noted : (old new : Draft) (note : Note) → new.notes ≡ old.notes ++ note ∷ [] → new.said ≡ old.said → NoteFits note → DraftFits old → DraftFits new
+draft-noted old new note is same fit fits = record {
+  notes = noted-fits old.notes new.notes note is fit fits.notes;
+  said = subst AllSaidFit (sym same) fits.said;
+}
+
+said-push : (all : List Said) (said : Said) → AllSaidFit all → SaidFits said → AllSaidFit (all ++ said ∷ [])
+said-push [] said fits fit = (fit, tt)
+said-push (s ∷ all) said fits fit = (fits.0, said-push all said fits.1 fit)
+
+-- a message more
+pub draft-said : (old new : Draft) (said : Said) → new.said ≡ old.said ++ said ∷ [] → new.notes ≡ old.notes → SaidFits said → DraftFits old → DraftFits new
+draft-said old new said is same fit fits = record {
+  notes = subst NotesFit (sym same) fits.notes;
+  said = subst AllSaidFit (sym is) (said-push old.said said fits.said fit);
+}

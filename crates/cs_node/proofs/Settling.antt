@@ -3,9 +3,9 @@ use Rattle.std.proofs.Common.{◌≡◌, ℕ, zero, suc, ◌<◌, ◌^◌, Bool,
 use Rattle.cs_trail.specs.Signs.{Sign}
 use Rattle.cs_trail.specs.Site.{Input, Mark, In, Site, View, view_after, signs_of}
 use Rattle.cs_trail.specs.Trail.{turn_marks, continued, settled, input_marks, event_marks}
-use Rattle.cs_node.specs.declared.made.Made.{Made}
+use Rattle.cs_node.specs.declared.draft.Draft.{Draft}
 use Rattle.cs_node.specs.Notes.{nothing, Tells}
-use Rattle.cs_node.specs.Steps.{Marks, TurnDone, Settles, Settling, Event}
+use Rattle.cs_node.specs.Steps.{Marks, TurnDone, Settles, Settling, Drafts}
 use Rattle.cs_node.proofs.Sums.{signs-append, view-append, marks-none, marks-more}
 
 module _ {M : Type 0} (site : Site M) where
@@ -18,7 +18,7 @@ module _ {M : Type 0} (site : Site M) where
   settled-end zero v e = refl
   settled-end (suc turns) v e = ap (continued site (settled site turns) v) e
 
-  pub settling-starts : (v : View M) (old : Made) (After : View M → Type 0) (rest : ℕ) → After v → rest < 2 ^ 80 → Settling site v old old After rest
+  pub settling-starts : (v : View M) (old : Draft) (After : View M → Type 0) (rest : ℕ) → After v → rest < 2 ^ 80 → Settling site v old old After rest
   settling-starts v old After rest after enough = record {
     done = [];
     left = 2 ^ 80;
@@ -27,7 +27,7 @@ module _ {M : Type 0} (site : Site M) where
     enough = enough;
   }
 
-  pub goes-with : (v : View M) (done fresh : List (Mark M)) (old now next : Made) (After Later : View M → Type 0) (left before rest : ℕ)
+  pub goes-with : (v : View M) (done fresh : List (Mark M)) (old now next : Draft) (After Later : View M → Type 0) (left before rest : ℕ)
       → settled site (2 ^ 80) v ≡ settled site left (view_after site done v) ++ done → Marks site done v old now After → before < left → turn_marks site (view_after site done v) ≡ Some fresh
       → Marks site fresh (view_after site done v) now next Later → rest < before → Settling site v old next Later rest
   goes-with v done fresh old now next After Later zero before rest goes marks enough e more less = absurd (omega arith)
@@ -41,18 +41,18 @@ module _ {M : Type 0} (site : Site M) where
   }
 
   -- a turn, by what its marks are
-  pub turn-goes : (v : View M) (old now next : Made) (After Later : View M → Type 0) (before rest : ℕ) (found : Option (List (Mark M)))
+  pub turn-goes : (v : View M) (old now next : Draft) (After Later : View M → Type 0) (before rest : ℕ) (found : Option (List (Mark M)))
       → (s : Settling site v old now After before) → turn_marks site (view_after site s.done v) ≡ found → TurnDone site found (view_after site s.done v) true now next Later → rest < before → Settling site v old next Later rest
   turn-goes v old now next After Later before rest None s e turn less = let x : true ≡ false = turn.0 in cc
   turn-goes v old now next After Later before rest (Some fresh) s e turn less = goes-with v s.done fresh old now next After Later s.left before rest s.goes_on s.marks s.enough e turn.1 less
 
-  pub turn-ends : (v : View M) (old now next : Made) (After Later : View M → Type 0) (before : ℕ) (found : Option (List (Mark M)))
+  pub turn-ends : (v : View M) (old now next : Draft) (After Later : View M → Type 0) (before : ℕ) (found : Option (List (Mark M)))
       → (s : Settling site v old now After before) → turn_marks site (view_after site s.done v) ≡ found → TurnDone site found (view_after site s.done v) false now next Later → Settles site v old next Later
   turn-ends v old now next After Later before None s e turn =
       let q : settled site (2 ^ 80) v ≡ s.done = s.goes_on ∙ ap (λ x. x ++ s.done) (settled-end s.left (view_after site s.done v) e) in
       let P : List (Mark M) → Type 0 = λ x. Marks site x v old next Later in
       let Q : List (Mark M) → Type 0 = λ x. turn_marks site (view_after site x v) ≡ None in
-      let R : Made → Type 0 = λ m. Marks site s.done v old m Later in
+      let R : Draft → Type 0 = λ m. Marks site s.done v old m Later in
       record {
         marks = subst P (sym q) (subst R (sym turn.1) (record { tells = s.marks.tells; after = turn.2 }));
         quiet = subst Q (sym q) e;
@@ -60,8 +60,8 @@ module _ {M : Type 0} (site : Site M) where
   turn-ends v old now next After Later before (Some fresh) s e turn = let x : false ≡ true = turn.0 in cc
 
   -- an input's own marks, and then the rules until none applies
-  pub event-made : (v : View M) (input : Input) (mid made : Made) (After Later : View M → Type 0) → Marks site (input_marks site v input ++ In input ∷ []) v nothing mid After
-      → Settles site (view_after site (input_marks site v input ++ In input ∷ []) v) mid made Later → Event site v input made Later
+  pub event-made : (v : View M) (input : Input) (mid made : Draft) (After Later : View M → Type 0) → Marks site (input_marks site v input ++ In input ∷ []) v nothing mid After
+      → Settles site (view_after site (input_marks site v input ++ In input ∷ []) v) mid made Later → Drafts site v input made Later
   unfolding event_marks
   event-made v input mid made After Later first s =
       let start : List (Mark M) = input_marks site v input ++ In input ∷ [] in
@@ -73,7 +73,7 @@ module _ {M : Type 0} (site : Site M) where
       }
 
   -- the mark of the input changes nothing
-  pub with-input : (marks : List (Mark M)) (input : Input) (v : View M) (old new : Made) (After : View M → Type 0) → Marks site marks v old new After → Marks site (marks ++ In input ∷ []) v old new After
+  pub with-input : (marks : List (Mark M)) (input : Input) (v : View M) (old new : Draft) (After : View M → Type 0) → Marks site marks v old new After → Marks site (marks ++ In input ∷ []) v old new After
   with-input marks input v old new After m =
       let P : List Sign → Type 0 = λ signs. Tells signs old new in
       record {

@@ -13,15 +13,16 @@ use Rattle.cs_order.specs.Deeds.{Member, Machine}
 use Rattle.cs_ledger.specs.Ledger.{Item}
 use Rattle.cs_ledger.specs.Session as Seen
 use Rattle.cs_ledger.specs.Table.{Table, start}
+use Rattle.cs_trail.specs.Net.{Net}
 use Rattle.cs_trail.specs.Site.{View, start_view}
 use Rattle.cs_trail.specs.Deployment.{genesis_from, rules_of, site_of}
 use Rattle.cs_table.specs.Seen.{Stored, seen}
 use Rattle.cs_tx.specs.Sessions.{item_of}
 use Rattle.cs_table.specs.Genesis.{keyed_of, genesis_rules}
 use Rattle.cs_sbac.specs.Held.{Held, deployed}
-use Rattle.cs_node.specs.declared.nodes.Core.{Core}
+use Rattle.cs_node.specs.declared.engine.Engine.{Engine}
 use Rattle.cs_node.specs.Setups.{keyed_from, AreObjects}
-use Rattle.cs_node.specs.Cores.{StandsFor}
+use Rattle.cs_node.specs.Cores.{Keeps}
 
 pub all-fit : (xs : List (Key × Object)) → AreObjects xs → All (λ item. ObjectFits item.1) xs
 all-fit [] h k d lt = absurd (omega arith)
@@ -39,11 +40,11 @@ rules-same config objects =
     let with_items : List Item → Seen.Rules = λ items. record { shard_of = (rules_of config objects).shard_of; genesis = items; dummies = config.dummies; dummy_object = (rules_of config objects).dummy_object } in
     ap with_items (items-same 0 objects)
 
-pub started : {O J M : Type 0} (stands : O → Member M → Type 0) (approves : J → Tx → Bool) (rules : Machine M) (config : Config) (me : NodeId) (objects : List Object) (given : List (Key × Object)) (order : O) (judge : J) (table : Stored) (f index : ℕ)
+pub started : {O J M : Type 0} (stands : O → Member M → Type 0) (approves : J → Tx → Bool) (rules : Machine M) (net : Net) (config : Config) (me : NodeId) (objects : List Object) (given : List (Key × Object)) (order : O) (judge : J) (table : Stored) (f index : ℕ)
     → stands order (record { f = f; me = index; deeds = [] }) → f ≡ config.f → index ≡ me.index → given ≡ keyed_from 0 objects → seen table ≡ start (genesis_rules config given) me.shard
-    → StandsFor stands approves (deployed config objects (approves judge)) (record { order = order; judge = judge; sbac = record { config = config; me = me; table = table; pool = [] } })
-    (start_view (site_of (deployed config objects (approves judge)) rules) me)
-started {O} {J} {M} stands approves rules config me objects given order judge table f index is same-f same-me named shows =
+    → Keeps stands approves (deployed config objects (approves judge)) (record { order = order; judge = judge; sbac = record { config = config; me = me; table = table; pool = [] } })
+    (start_view (site_of (deployed config objects (approves judge)) net rules) me)
+started {O} {J} {M} stands approves rules net config me objects given order judge table f index is same-f same-me named shows =
     let F : ℕ → Type 0 = λ n. stands order (record { f = n; me = index; deeds = [] }) in
     let I : ℕ → Type 0 = λ n. stands order (record { f = config.f; me = n; deeds = [] }) in
     let shown : seen table ≡ start (rules_of config objects) me.shard =

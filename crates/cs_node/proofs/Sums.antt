@@ -4,11 +4,11 @@ use Rattle.cs_ledger.specs.Table.{Effect}
 use Rattle.cs_order.specs.Deeds.{Member}
 use Rattle.cs_trail.specs.Setup.{Setup}
 use Rattle.cs_trail.specs.Bench.{Bench}
-use Rattle.cs_trail.specs.Signs.{Sign, Dropped, Took, Entered, Did, bench_step, bench_after}
+use Rattle.cs_trail.specs.Signs.{Sign, Dropped, Took, Entered, Did, Sent, bench_step, bench_after}
 use Rattle.cs_trail.specs.Site.{Mark, In, Ordered, Plain, Site, View, mark_step, view_after, plain, signs_of}
-use Rattle.cs_node.specs.declared.made.Note.TheVariants as note
-use Rattle.cs_node.specs.declared.made.Made.{Made}
-use Rattle.cs_node.specs.Notes.{effect_from, notes_of, Tells}
+use Rattle.cs_node.specs.declared.draft.Note.TheVariants as note
+use Rattle.cs_node.specs.declared.draft.Draft.{Draft}
+use Rattle.cs_node.specs.Notes.{effect_from, notes_of, said_of, Tells}
 use Rattle.cs_node.specs.Steps.{Marks, TurnDone}
 
 pub notes-append : (new old : List Sign) → notes_of (new ++ old) ≡ notes_of old ++ notes_of new
@@ -17,11 +17,25 @@ notes-append (Dropped cause ∷ new) old = ap (λ xs. xs ++ note.Dropped cause �
 notes-append (Took sender vote x ∷ new) old = notes-append new old
 notes-append (Entered x ∷ new) old = notes-append new old
 notes-append (Did slot entry effect ∷ new) old = ap (λ xs. xs ++ note.Executed slot entry (effect_from effect) ∷ []) (notes-append new old) ∙ append_assoc (notes_of old) (notes_of new) (note.Executed slot entry (effect_from effect) ∷ [])
+notes-append (Sent to message ∷ new) old = notes-append new old
+
+pub said-append : (new old : List Sign) → said_of (new ++ old) ≡ said_of old ++ said_of new
+said-append [] old = sym (append-nil (said_of old))
+said-append (Dropped cause ∷ new) old = said-append new old
+said-append (Took sender vote x ∷ new) old = said-append new old
+said-append (Entered x ∷ new) old = said-append new old
+said-append (Did slot entry effect ∷ new) old = said-append new old
+said-append (Sent to message ∷ new) old = ap (λ xs. xs ++ record { to = to; message = message } ∷ []) (said-append new old) ∙ append_assoc (said_of old) (said_of new) (record { to = to; message = message } ∷ [])
+
+pub tells-nothing : (draft : Draft) → Tells [] draft draft
+tells-nothing draft = record { notes = sym (append-nil draft.notes); said = sym (append-nil draft.said) }
 
 -- first these signs, then those
-pub tells-more : (first later : List Sign) (old mid new : Made) → Tells first old mid → Tells later mid new → Tells (later ++ first) old new
-tells-more first later old mid new a b =
-    b ∙ ap (λ xs. xs ++ notes_of later) a ∙ append_assoc old.notes (notes_of first) (notes_of later) ∙ ap (λ xs. old.notes ++ xs) (sym (notes-append later first))
+pub tells-more : (first later : List Sign) (old mid new : Draft) → Tells first old mid → Tells later mid new → Tells (later ++ first) old new
+tells-more first later old mid new a b = record {
+  notes = b.notes ∙ ap (λ xs. xs ++ notes_of later) a.notes ∙ append_assoc old.notes (notes_of first) (notes_of later) ∙ ap (λ xs. old.notes ++ xs) (sym (notes-append later first));
+  said = b.said ∙ ap (λ xs. xs ++ said_of later) a.said ∙ append_assoc old.said (said_of first) (said_of later) ∙ ap (λ xs. old.said ++ xs) (sym (said-append later first));
+}
 
 pub bench-append : (setup : Setup) (shard : ℕ) (new old : List Sign) (b : Bench) → bench_after setup shard (new ++ old) b ≡ bench_after setup shard new (bench_after setup shard old b)
 bench-append setup shard [] old b = refl
@@ -48,15 +62,15 @@ pub view-append : {M : Type 0} (site : Site M) (new old : List (Mark M)) (v : Vi
 view-append {M} site [] old v = refl
 view-append {M} site (mark ∷ new) old v = ap (mark_step site mark) (view-append site new old v)
 
-pub turn-some : {M : Type 0} (site : Site M) (found : Option (List (Mark M))) (fresh : List (Mark M)) (v : View M) (went : Bool) (old new : Made) (After : View M → Type 0) → found ≡ Some fresh → went ≡ true → Marks site fresh v old new After → TurnDone site found v went old new After
+pub turn-some : {M : Type 0} (site : Site M) (found : Option (List (Mark M))) (fresh : List (Mark M)) (v : View M) (went : Bool) (old new : Draft) (After : View M → Type 0) → found ≡ Some fresh → went ≡ true → Marks site fresh v old new After → TurnDone site found v went old new After
 turn-some {M} site found fresh v went old new After e w m = let P : Option (List (Mark M)) → Type 0 = λ o. TurnDone site o v went old new After in subst P (sym e) (w, m)
 
 -- no marks
-pub marks-none : {M : Type 0} (site : Site M) (v : View M) (old : Made) (After : View M → Type 0) → After v → Marks site [] v old old After
-marks-none {M} site v old After after = record { tells = sym (append-nil old.notes); after = after }
+pub marks-none : {M : Type 0} (site : Site M) (v : View M) (old : Draft) (After : View M → Type 0) → After v → Marks site [] v old old After
+marks-none {M} site v old After after = record { tells = tells-nothing old; after = after }
 
 -- first these marks, then those
-pub marks-more : {M : Type 0} (site : Site M) (first later : List (Mark M)) (v : View M) (old mid new : Made) (After Later : View M → Type 0) → Marks site first v old mid After → Marks site later (view_after site first v) mid new Later → Marks site (later ++ first) v old new Later
+pub marks-more : {M : Type 0} (site : Site M) (first later : List (Mark M)) (v : View M) (old mid new : Draft) (After Later : View M → Type 0) → Marks site first v old mid After → Marks site later (view_after site first v) mid new Later → Marks site (later ++ first) v old new Later
 marks-more {M} site first later v old mid new After Later a b =
     let Q : List Sign → Type 0 = λ signs. Tells signs old new in
     record {
@@ -65,7 +79,7 @@ marks-more {M} site first later v old mid new After Later a b =
     }
 
 -- first these marks, then what signs say of table and pool
-pub marks-plain : {M : Type 0} (site : Site M) (signs : List Sign) (first : List (Mark M)) (v : View M) (old mid new : Made) (After Later : View M → Type 0) → Marks site first v old mid After → Tells signs mid new
+pub marks-plain : {M : Type 0} (site : Site M) (signs : List Sign) (first : List (Mark M)) (v : View M) (old mid new : Draft) (After Later : View M → Type 0) → Marks site first v old mid After → Tells signs mid new
     → Later (with_bench (bench_after site.setup (view_after site first v).me.shard signs (view_after site first v).bench) (view_after site first v)) → Marks site (plain signs ++ first) v old new Later
 marks-plain {M} site signs first v old mid new After Later a tells after =
     let Q : List Sign → Type 0 = λ all. Tells all old new in

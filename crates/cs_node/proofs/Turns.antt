@@ -13,18 +13,18 @@ use Rattle.cs_trail.specs.Signs.{Sign, bench_after, execution_signs}
 use Rattle.cs_trail.specs.Site.{Mark, Site, View, view_after, plain, signs_of}
 use Rattle.cs_trail.specs.Admission.{due}
 use Rattle.cs_trail.specs.Trail.{with_deed, admits_proposed, proposing, due_marks, candidate_marks, propose_marks, echo_marks, step_marks, turn_marks}
-use Rattle.cs_node.specs.declared.made.Made.{Made}
+use Rattle.cs_node.specs.declared.draft.Draft.{Draft}
 use Rattle.cs_node.specs.Notes.{Tells}
 use Rattle.cs_node.specs.Steps.{Makes, Marks, TurnDone}
-use Rattle.cs_node.proofs.Sums.{with_bench, turn-some, marks-plain}
+use Rattle.cs_node.proofs.Sums.{with_bench, tells-nothing, turn-some, marks-plain}
 
 abbrev pub with_member : {M : Type 0} → Member M → View M → View M
 with_member {M} h v = record { me = v.me; bench = v.bench; member = h }
 
-module _ {M : Type 0} (site : Site M) (v : View M) (old : Made) (After : View M → Type 0) where
+module _ {M : Type 0} (site : Site M) (v : View M) (old : Draft) (After : View M → Type 0) where
   -- a deed tells nothing
   pub deed-done : (deed : Deed M) → After (with_member (did deed v.member) v) → Marks site (with_deed deed) v old old After
-  deed-done deed after = record { tells = sym (append-nil old.notes); after = after }
+  deed-done deed after = record { tells = tells-nothing old; after = after }
 
   pub proposed-done : (found : Option (List (Mark M))) (proposed : Proposed) → found ≡ Some (proposing site v proposed) → After (with_member (did (Proposing proposed (site.machine.proposing v.member proposed)) v.member) v)
       → TurnDone site found v true old old After
@@ -47,7 +47,7 @@ module _ {M : Type 0} (site : Site M) (v : View M) (old : Made) (After : View M 
       turn-some site (turn_marks site v) (with_deed deed) v true old old After (ap (step_marks site v) is) refl (deed-done deed after)
 
 -- what was chosen is executed
-pub chosen-done : {M : Type 0} (site : Site M) (v : View M) (old new : Made) (After : View M → Type 0) (proposed : Proposed) (slot : ℕ) (b' : Bench) → site.machine.step v.member ≡ Chosen proposed → slot ≡ length (chosen_in v.member.deeds)
+pub chosen-done : {M : Type 0} (site : Site M) (v : View M) (old new : Draft) (After : View M → Type 0) (proposed : Proposed) (slot : ℕ) (b' : Bench) → site.machine.step v.member ≡ Chosen proposed → slot ≡ length (chosen_in v.member.deeds)
     → Makes site.setup v.me (execution_signs site.setup v.me v.bench slot (site.entry_in proposed)) v.bench b' old new
     → After (record { me = v.me; bench = b'; member = did (Advanced (Chosen proposed) (site.machine.advancing v.member)) v.member }) → TurnDone site (turn_marks site v) v true old new After
 chosen-done {M} site v old new After proposed slot b' is at made after =

@@ -1,5 +1,6 @@
 pub mod Notes
 pub mod Setups
+pub mod Speaking
 pub mod Proposals
 pub mod Steps
 pub mod Cores

@@ -1,15 +1,21 @@
--- What the marks of an event tell.
-use Rattle.std.specs.Prelude.{◌≡◌, List, [], ◌∷◌, ◌++◌}
+-- What the marks of an event tell, and what they say to others.
+use Rattle.std.specs.Prelude.{◌≡◌, true, List, [], ◌∷◌, ◌++◌}
+use Rattle.cs_base.specs.declared.node_id.NodeId.{NodeId}
+use Rattle.cs_base.specs.NodeId.{is_client}
 use Rattle.cs_form.specs.Session.{EntryFits}
 use Rattle.cs_form.specs.declared.entry.Entry.{Entry}
-use Rattle.cs_ledger.specs.Table as Shard
-use Rattle.cs_trail.specs.Setup.{vote_from}
-use Rattle.cs_trail.specs.Signs.{Sign, Dropped, Took, Entered, Did}
 use Rattle.cs_form.specs.declared.effect.Effect.{Effect}
 use Rattle.cs_form.specs.declared.effect.Effect.TheVariants.{Voted, Accepted, Aborted, Skipped, Void}
-use Rattle.cs_node.specs.declared.made.Note.{Note}
-use Rattle.cs_node.specs.declared.made.Note.TheVariants as note
-use Rattle.cs_node.specs.declared.made.Made.{Made}
+use Rattle.cs_message.specs.Message.{MessageFits}
+use Rattle.cs_wire.specs.declared.input.Out.{Out}
+use Rattle.cs_ledger.specs.Table as Shard
+use Rattle.cs_trail.specs.Setup.{vote_from}
+use Rattle.cs_trail.specs.Net.{Net, sealed}
+use Rattle.cs_trail.specs.Signs.{Sign, Dropped, Took, Entered, Did, Sent}
+use Rattle.cs_node.specs.declared.draft.Note.{Note}
+use Rattle.cs_node.specs.declared.draft.Note.TheVariants as note
+use Rattle.cs_node.specs.declared.draft.Said.{Said}
+use Rattle.cs_node.specs.declared.draft.Draft.{Draft}
 
 abbrev pub effect_from : Shard.Effect → Effect
 effect_from (Shard.Voted vote) = Voted (vote_from vote)
@@ -25,13 +31,40 @@ notes_of (Dropped cause ∷ past) = notes_of past ++ note.Dropped cause ∷ []
 notes_of (Took sender vote x ∷ past) = notes_of past
 notes_of (Entered x ∷ past) = notes_of past
 notes_of (Did slot entry effect ∷ past) = notes_of past ++ note.Executed slot entry (effect_from effect) ∷ []
+notes_of (Sent to message ∷ past) = notes_of past
 
-abbrev pub nothing : Made
-nothing = record { notes = [] }
+-- the datagrams that signs send, the oldest first
+abbrev pub outs_of : Net → NodeId → List Sign → List Out
+outs_of net me [] = []
+outs_of net me (Dropped cause ∷ past) = outs_of net me past
+outs_of net me (Took sender vote x ∷ past) = outs_of net me past
+outs_of net me (Entered x ∷ past) = outs_of net me past
+outs_of net me (Did slot entry effect ∷ past) = outs_of net me past
+outs_of net me (Sent to message ∷ past) = outs_of net me past ++ record { to = to; bytes = sealed net me to message } ∷ []
 
--- what was made grew by what these signs tell
-abbrev pub Tells : List Sign → Made → Made → Type 0
-Tells signs old new = new.notes ≡ old.notes ++ notes_of signs
+-- ---- while an event goes on
+
+-- what signs say, before it is sealed
+abbrev pub said_of : List Sign → List Said
+said_of [] = []
+said_of (Dropped cause ∷ past) = said_of past
+said_of (Took sender vote x ∷ past) = said_of past
+said_of (Entered x ∷ past) = said_of past
+said_of (Did slot entry effect ∷ past) = said_of past
+said_of (Sent to message ∷ past) = said_of past ++ record { to = to; message = message } ∷ []
+
+-- sealed
+abbrev pub outs_for : Net → NodeId → List Said → List Out
+outs_for net me [] = []
+outs_for net me (said ∷ more) = record { to = said.to; bytes = sealed net me said.to said.message } ∷ outs_for net me more
+
+abbrev pub nothing : Draft
+nothing = record { notes = []; said = [] }
+
+-- a draft grew by what these signs tell and say
+pub record Tells (signs : List Sign) (old new : Draft) : Type 0 where
+  pub notes : new.notes ≡ old.notes ++ notes_of signs
+  pub said : new.said ≡ old.said ++ said_of signs
 
 -- an executed entry has an encoding, but where the bytes were no entry
 abbrev pub ExecutedFits : Effect → Entry → Type 0
@@ -48,3 +81,16 @@ NoteFits (note.Executed slot entry effect) = ExecutedFits effect entry
 abbrev pub NotesFit : List Note → Type 0
 NotesFit [] = Unit {0}
 NotesFit (n ∷ notes) = NoteFits n × NotesFit notes
+
+-- what is said has a body, and goes to a client
+pub record SaidFits (said : Said) : Type 0 where
+  pub message : MessageFits said.message
+  pub client : is_client said.to ≡ true
+
+abbrev pub AllSaidFit : List Said → Type 0
+AllSaidFit [] = Unit {0}
+AllSaidFit (said ∷ more) = SaidFits said × AllSaidFit more
+
+pub record DraftFits (draft : Draft) : Type 0 where
+  pub notes : NotesFit draft.notes
+  pub said : AllSaidFit draft.said

@@ -1,4 +1,4 @@
--- What the calls of a node make: marks, what these tell, and the view for which the node stands then.
+-- What the calls of a node make: marks, what these tell and say, and the view for which the node stands then.
 use Rattle.std.specs.Prelude.{◌≡◌, ℕ, ◌<◌, ◌^◌, Bool, true, false, if◌then◌else◌, List, [], ◌∷◌, ◌++◌, Option, Some, None}
 use Rattle.cs_base.specs.declared.node_id.NodeId.{NodeId}
 use Rattle.cs_order.specs.Deeds.{Member}
@@ -7,41 +7,49 @@ use Rattle.cs_trail.specs.Bench.{Bench}
 use Rattle.cs_trail.specs.Signs.{Sign, bench_after}
 use Rattle.cs_trail.specs.Site.{Input, Mark, Site, View, view_after, signs_of}
 use Rattle.cs_trail.specs.Trail.{turn_marks, settled, event_marks}
-use Rattle.cs_node.specs.declared.made.Made.{Made}
-use Rattle.cs_node.specs.Notes.{nothing, Tells}
+use Rattle.cs_node.specs.declared.draft.Draft.{Draft}
+use Rattle.cs_node.specs.declared.outs.Made.{Made}
+use Rattle.cs_node.specs.Notes.{nothing, notes_of, outs_of, Tells}
 
 abbrev pub view_of : {M : Type 0} → NodeId → Bench → Member M → View M
 view_of {M} me bench h = record { me = me; bench = bench; member = h }
 
--- these signs were made: of table and pool, and of what is told
-pub record Makes (setup : Setup) (me : NodeId) (signs : List Sign) (old new : Bench) (made made' : Made) : Type 0 where
-  pub tells : Tells signs made made'
+-- these signs were made: of table and pool, and of what is told and said
+pub record Makes (setup : Setup) (me : NodeId) (signs : List Sign) (old new : Bench) (draft draft' : Draft) : Type 0 where
+  pub tells : Tells signs draft draft'
   pub bench_is : new ≡ bench_after setup me.shard signs old
 
 -- these marks were made, and told what they say
-pub record Marks {M : Type 0} (site : Site M) (marks : List (Mark M)) (v : View M) (old new : Made) (After : View M → Type 0) : Type 0 where
+pub record Marks {M : Type 0} (site : Site M) (marks : List (Mark M)) (v : View M) (old new : Draft) (After : View M → Type 0) : Type 0 where
   pub tells : Tells (signs_of marks) old new
   pub after : After (view_after site marks v)
 
 -- one turn: the marks of the rule that applies, or nothing
-abbrev pub TurnDone : {M : Type 0} → Site M → Option (List (Mark M)) → View M → Bool → Made → Made → (View M → Type 0) → Type 0
+abbrev pub TurnDone : {M : Type 0} → Site M → Option (List (Mark M)) → View M → Bool → Draft → Draft → (View M → Type 0) → Type 0
 TurnDone {M} site None v went old new After = (went ≡ false) × (new ≡ old) × After v
 TurnDone {M} site (Some fresh) v went old new After = (went ≡ true) × Marks site fresh v old new After
 
 -- the rules were applied until none applied
-pub record Settles {M : Type 0} (site : Site M) (v : View M) (old new : Made) (After : View M → Type 0) : Type 0 where
+pub record Settles {M : Type 0} (site : Site M) (v : View M) (old new : Draft) (After : View M → Type 0) : Type 0 where
   pub marks : Marks site (settled site (2 ^ 80) v) v old new After
   pub quiet : turn_marks site (view_after site (settled site (2 ^ 80) v) v) ≡ None
 
 -- the same on the way: these marks were made, and so many turns are left
-pub record Settling {M : Type 0} (site : Site M) (v : View M) (old now : Made) (After : View M → Type 0) (rest : ℕ) : Type 0 where
+pub record Settling {M : Type 0} (site : Site M) (v : View M) (old now : Draft) (After : View M → Type 0) (rest : ℕ) : Type 0 where
   pub done : List (Mark M)
   pub left : ℕ
   pub goes_on : settled site (2 ^ 80) v ≡ settled site left (view_after site done v) ++ done
   pub marks : Marks site done v old now After
   pub enough : rest < left
 
--- one event: what it told, where it led, and that no rule applies then
+-- the marks of one event were made, and no rule applies then
+pub record Drafts {M : Type 0} (site : Site M) (v : View M) (input : Input) (draft : Draft) (After : View M → Type 0) : Type 0 where
+  pub marks : Marks site (event_marks site v input) v nothing draft After
+  pub quiet : turn_marks site (view_after site (event_marks site v input) v) ≡ None
+
+-- one event: what it told and sent, where it led, and that no rule applies then
 pub record Event {M : Type 0} (site : Site M) (v : View M) (input : Input) (made : Made) (After : View M → Type 0) : Type 0 where
-  pub marks : Marks site (event_marks site v input) v nothing made After
+  pub notes : made.notes ≡ notes_of (signs_of (event_marks site v input))
+  pub outs : made.outs ≡ outs_of site.net v.me (signs_of (event_marks site v input))
+  pub after : After (view_after site (event_marks site v input) v)
   pub quiet : turn_marks site (view_after site (event_marks site v input) v) ≡ None

@@ -4,11 +4,11 @@ ghost use Rattle.cs_value.specs.declared.object.Object.{Object};
 ghost use Rattle.cs_form.specs.declared.transaction.Tx.{Tx};
 ghost use Rattle.cs_trail.specs.Signs.{execution_signs};
 ghost use Rattle.cs_sbac.specs.Held.{Held, bench_of, deployed};
-ghost use Rattle.cs_node.specs.Notes.{NotesFit};
+ghost use Rattle.cs_node.specs.Notes.{DraftFits};
 ghost use Rattle.cs_node.specs.Proposals.{entry_in};
 ghost use Rattle.cs_node.specs.Steps.{Makes};
 
-use crate::made::Made;
+use crate::draft::Draft;
 use crate::proposals::{read_entry, void_entry};
 use cs_base::Memory;
 use cs_order::Proposed;
@@ -20,23 +20,23 @@ use std::alloc::Global;
 pub fn execute(
     alloc: Global,
     sbac: &mut Sbac,
-    made: &mut Made,
+    draft: &mut Draft,
     slot: u64,
     proposed: &Proposed,
 ) -> Result<(), Memory>
-    ensures made { (genesis : List Object) (approves : Tx → Bool) → OnOk result (Makes (deployed sbac.old.config genesis approves) sbac.old.me (execution_signs (deployed sbac.old.config genesis approves) sbac.old.me (bench_of sbac.old) slot (entry_in proposed.now)) (bench_of sbac.old) (bench_of sbac.new) made.old made.new) }
-    ensures fits { NotesFit made.old.notes → OnOk result (NotesFit made.new.notes) }
+    ensures made { (genesis : List Object) (approves : Tx → Bool) → OnOk result (Makes (deployed sbac.old.config genesis approves) sbac.old.me (execution_signs (deployed sbac.old.config genesis approves) sbac.old.me (bench_of sbac.old) slot (entry_in proposed.now)) (bench_of sbac.old) (bench_of sbac.new) draft.old draft.new) }
+    ensures fits { DraftFits draft.old → OnOk result (DraftFits draft.new) }
     ensures config { OnOk result (sbac.new.config ≡ sbac.old.config) }
     ensures me { OnOk result (sbac.new.me ≡ sbac.old.me) }
 {
     match read_entry(alloc, proposed)? {
         Some(entry) => {
             let outcome = sbac.execute(alloc, &entry)?;
-            made.executed(slot, entry, outcome.effect)?;
+            draft.executed(slot, entry, outcome.effect)?;
             Ok(())
         }
         None => {
-            made.executed(slot, void_entry(alloc), Effect::Void)?;
+            draft.executed(slot, void_entry(alloc), Effect::Void)?;
             Ok(())
         }
     }

@@ -2,46 +2,71 @@
 ghost use Rattle.std.specs.Prelude.{◌≡◌, OnOk, List};
 ghost use Rattle.cs_value.specs.declared.object.Object.{Object};
 ghost use Rattle.cs_form.specs.Session.{SessionFits};
-ghost use Rattle.cs_trail.specs.Signs.{submit_signs};
+ghost use Rattle.cs_trail.specs.Signs.{entering_signs, submit_signs};
 ghost use Rattle.cs_sbac.specs.Held.{Held, bench_of, deployed};
-ghost use Rattle.cs_node.specs.Notes.{NotesFit};
+ghost use Rattle.cs_node.specs.Notes.{DraftFits};
 ghost use Rattle.cs_node.specs.Steps.{Makes};
 
-use crate::made::Made;
-use cs_base::Memory;
+use crate::draft::Draft;
+use cs_base::{Memory, NodeId};
+use cs_message::Message;
 use cs_sbac::{Entered, Sbac};
 use cs_trail::Cause;
-use cs_tx::{Judge, Session};
+use cs_tx::{Judge, Session, session_digest};
 use std::alloc::Global;
 
-/// A client submits a session. One that was decided makes nothing.
+// A session that is undecided waits in the pool, where it is new, approved, and has room.
+fn enter<J: Judge>(
+    alloc: Global,
+    sbac: &mut Sbac,
+    judge: &J,
+    draft: &mut Draft,
+    session: Session,
+) -> Result<(), Memory>
+    requires { SessionFits session }
+    ensures made { (genesis : List Object) → OnOk result (Makes (deployed sbac.old.config genesis (J.is_approved judge.now)) sbac.old.me (entering_signs (deployed sbac.old.config genesis (J.is_approved judge.now)) (bench_of sbac.old) session) (bench_of sbac.old) (bench_of sbac.new) draft.old draft.new) }
+    ensures fits { DraftFits draft.old → OnOk result (DraftFits draft.new) }
+    ensures config { OnOk result (sbac.new.config ≡ sbac.old.config) }
+    ensures me { OnOk result (sbac.new.me ≡ sbac.old.me) }
+{
+    if sbac.pooled(alloc, &session)? {
+        return draft.drop_it(Cause::Repeat);
+    }
+    if !judge.approves(alloc, &session.tx)? {
+        return draft.drop_it(Cause::Denied);
+    }
+    match sbac.enter(alloc, session)? {
+        Entered::New => Ok(()),
+        Entered::Full => draft.drop_it(Cause::Full),
+    }
+}
+
+/// A client submits a session. The client of one that was decided is told so.
 pub fn submit<J: Judge>(
     alloc: Global,
     sbac: &mut Sbac,
     judge: &J,
-    made: &mut Made,
+    draft: &mut Draft,
+    sender: NodeId,
     session: Session,
 ) -> Result<(), Memory>
     requires { SessionFits session }
-    ensures made { (genesis : List Object) → OnOk result (Makes (deployed sbac.old.config genesis (J.is_approved judge.now)) sbac.old.me (submit_signs (deployed sbac.old.config genesis (J.is_approved judge.now)) sbac.old.me.shard (bench_of sbac.old) session) (bench_of sbac.old) (bench_of sbac.new) made.old made.new) }
-    ensures fits { NotesFit made.old.notes → OnOk result (NotesFit made.new.notes) }
+    ensures made { (genesis : List Object) → OnOk result (Makes (deployed sbac.old.config genesis (J.is_approved judge.now)) sbac.old.me (submit_signs (deployed sbac.old.config genesis (J.is_approved judge.now)) sbac.old.me.shard (bench_of sbac.old) sender session) (bench_of sbac.old) (bench_of sbac.new) draft.old draft.new) }
+    ensures fits { DraftFits draft.old → OnOk result (DraftFits draft.new) }
     ensures config { OnOk result (sbac.new.config ≡ sbac.old.config) }
     ensures me { OnOk result (sbac.new.me ≡ sbac.old.me) }
 {
+    if !sender.is_client() {
+        return draft.drop_it(Cause::Role);
+    }
     if !sbac.is_fit(alloc, &session)? {
-        return made.drop_it(Cause::Malformed);
+        return draft.drop_it(Cause::Malformed);
     }
-    if sbac.is_decided(alloc, &session)? {
-        return Ok(());
-    }
-    if sbac.pooled(alloc, &session)? {
-        return made.drop_it(Cause::Repeat);
-    }
-    if !judge.approves(alloc, &session.tx)? {
-        return made.drop_it(Cause::Denied);
-    }
-    match sbac.enter(alloc, session)? {
-        Entered::New => Ok(()),
-        Entered::Full => made.drop_it(Cause::Full),
+    match sbac.decided(alloc, &session)? {
+        Some(accepted) => {
+            let session = session_digest(alloc, &session)?;
+            draft.say(sender, Message::Decided { session, accepted })
+        }
+        None => enter(alloc, sbac, judge, draft, session),
     }
 }

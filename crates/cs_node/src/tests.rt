@@ -1,11 +1,13 @@
 //! What a node tells of what it is given.
 use super::*;
-use cs_base::{Config, Key, Memory, NodeId, Sequence, Writer};
+use cs_base::{CLIENT_SHARD, Config, Key, Memory, NodeId, Sequence};
+use cs_message::Message;
 use cs_order::Solo;
 use cs_trail::Cause;
 use cs_tx::{
-    Encoded, Entry, Name, Object, Session, TokenJudge, Trace, Tx, Value, Vote, genesis_key,
+    Encoded, Entry, Name, Object, Session, State, TokenJudge, Trace, Tx, Value, Vote, genesis_key,
 };
+use cs_wire::{Keys, read, seal};
 use std::alloc::Global;
 use std::process::Abort;
 use std::test::Fail;
@@ -17,6 +19,11 @@ const TOKEN: [u8; 32] = [
 ];
 
 const ME: NodeId = NodeId { shard: 0, index: 0 };
+
+const CLIENT: NodeId = NodeId {
+    shard: CLIENT_SHARD,
+    index: 3,
+};
 
 fn coin(alloc: Global, worth: i64) -> Result<Object, Memory> {
     let text = Vec::from_slice(alloc, b"coin")?;
@@ -55,27 +62,64 @@ fn split(alloc: Global, name: [u8; 32], rest: i64) -> Result<Session, Memory> {
     })
 }
 
+fn keys_of(rt: &impl Abort, alloc: Global, me: NodeId) -> Result<Keys, Fail> {
+    let config = Config::new(1, 0, 2).expect(rt, "a configuration");
+    let keys = Keys::from_master(alloc, &config, &[7; 32], me)?;
+    Ok(keys)
+}
+
 /// Node 0.0 of one shard of one node, with a coin of 10, and the name of the coin.
 fn start(rt: &impl Abort, alloc: Global) -> Result<(Core<Solo, TokenJudge>, [u8; 32]), Fail> {
-    let config = Config::new(1, 0, 0).expect(rt, "a configuration");
-    assert!(rt; config.has_node(ME) && config.f == 0);
+    let config = Config::new(1, 0, 2).expect(rt, "a configuration");
+    let keys = keys_of(rt, alloc, ME)?;
+    assert!(rt; config.has_node(keys.me()) && config.f == 0 && keys.me() == ME);
     let object = coin(alloc, 10)?;
     assert!(rt; object.fits());
     let Key::Object(name) = genesis_key(alloc, 0, &object)? else {
         panic!(rt; "a dummy");
     };
     let objects = [(Key::Object(name), object)];
-    match Core::start(alloc, config, ME, TokenJudge, &objects, Solo::new(alloc)) {
+    match Core::start(alloc, config, keys, TokenJudge, &objects, Solo::new(alloc)) {
         Ok(core) => Ok((core, name)),
         Err(_) => panic!(rt; "a node starts"),
     }
 }
 
-fn encoding(rt: &impl Abort, alloc: Global, session: &Session) -> Result<Vec<u8>, Fail> {
+/// The datagram by which the client submits the session.
+fn submitted(rt: &impl Abort, alloc: Global, session: Session) -> Result<Vec<u8>, Fail> {
+    let keys = keys_of(rt, alloc, CLIENT)?;
+    let mut out = Vec::new(alloc);
     assert!(rt; session.fits());
-    let mut out = Writer::new(alloc);
-    session.encode(&mut out)?;
-    Ok(out.into_bytes())
+    let sealed = seal(alloc, &keys, ME, &Message::Submit(session), &mut out);
+    assert!(rt; sealed.is_ok());
+    Ok(out)
+}
+
+/// The datagram by which the client asks.
+fn asked(rt: &impl Abort, alloc: Global, key: Option<Key>) -> Result<Vec<u8>, Fail> {
+    let keys = keys_of(rt, alloc, CLIENT)?;
+    let mut out = Vec::new(alloc);
+    if let Some(key) = &key {
+        assert!(rt; key.fits());
+    }
+    let sealed = seal(alloc, &keys, ME, &Message::Ask(key), &mut out);
+    assert!(rt; sealed.is_ok());
+    Ok(out)
+}
+
+/// What the client reads of the one answer.
+fn answer(rt: &impl Abort, alloc: Global, outs: &[Out]) -> Result<Message, Fail> {
+    let keys = keys_of(rt, alloc, CLIENT)?;
+    match outs {
+        [out] => match read(alloc, &keys, out.bytes.as_slice())? {
+            Ok((from, message)) => {
+                assert!(rt; from == ME && out.to == CLIENT);
+                Ok(message)
+            }
+            Err(_) => panic!(rt; "a datagram for the client"),
+        },
+        _ => panic!(rt; "one answer"),
+    }
 }
 
 fn is_dropped(notes: &[Note], cause: Cause) -> bool {
@@ -120,14 +164,29 @@ fn is_split(notes: &[Note]) -> bool {
     }
 }
 
-/// What the node tells of the bytes.
-fn told(
-    alloc: Global,
-    core: &mut Core<Solo, TokenJudge>,
-    bytes: &[u8],
-) -> Result<Sequence<Note>, Fail> {
-    let made = core.receive(alloc, bytes)?;
-    Ok(made.notes)
+fn is_accepted_answer(message: &Message) -> bool {
+    match message {
+        Message::Decided { accepted, .. } => *accepted,
+        _ => false,
+    }
+}
+
+fn is_active_coin(message: &Message, name: [u8; 32]) -> bool {
+    match message {
+        Message::Told { key, state } => {
+            *key == Key::Object(name) && matches!(state, State::Active(_))
+        }
+        _ => false,
+    }
+}
+
+fn is_active_dummy(message: &Message) -> bool {
+    match message {
+        Message::Told { key, state } => {
+            *key == Key::Dummy(0, 0) && matches!(state, State::Active(_))
+        }
+        _ => false,
+    }
 }
 
 #[test]
@@ -135,11 +194,11 @@ fn bytes_and_sessions_are_dropped(rt: HostRuntime) -> Result<(), Fail> {
     let alloc = rt.alloc();
     let (mut core, name) = start(&rt, alloc)?;
     assert!(rt; core.me() == ME);
-    let notes = told(alloc, &mut core, &name)?;
-    assert!(rt; is_dropped(notes.as_slice(), Cause::Body));
-    let unequal = encoding(&rt, alloc, &split(alloc, name, 7)?)?;
-    let notes = told(alloc, &mut core, &unequal)?;
-    assert!(rt; is_dropped(notes.as_slice(), Cause::Denied));
+    let made = core.step(alloc, Input::Datagram(&name))?;
+    assert!(rt; is_dropped(made.notes.as_slice(), Cause::Short) && made.outs.is_empty());
+    let unequal = submitted(&rt, alloc, split(alloc, name, 7)?)?;
+    let made = core.step(alloc, Input::Datagram(&unequal))?;
+    assert!(rt; is_dropped(made.notes.as_slice(), Cause::Denied) && made.outs.is_empty());
     Ok(())
 }
 
@@ -147,10 +206,34 @@ fn bytes_and_sessions_are_dropped(rt: HostRuntime) -> Result<(), Fail> {
 fn a_coin_is_split_once(rt: HostRuntime) -> Result<(), Fail> {
     let alloc = rt.alloc();
     let (mut core, name) = start(&rt, alloc)?;
-    let session = encoding(&rt, alloc, &split(alloc, name, 6)?)?;
-    let notes = told(alloc, &mut core, &session)?;
-    assert!(rt; is_split(notes.as_slice()));
-    let notes = told(alloc, &mut core, &session)?;
-    assert!(rt; notes.is_empty());
+    let session = submitted(&rt, alloc, split(alloc, name, 6)?)?;
+    let made = core.step(alloc, Input::Datagram(&session))?;
+    assert!(rt; is_split(made.notes.as_slice()) && made.outs.is_empty());
+    let made = core.step(alloc, Input::Datagram(&session))?;
+    assert!(rt; made.notes.is_empty());
+    let message = answer(&rt, alloc, made.outs.as_slice())?;
+    assert!(rt; is_accepted_answer(&message));
+    Ok(())
+}
+
+#[test]
+fn a_client_is_told_what_it_asks(rt: HostRuntime) -> Result<(), Fail> {
+    let alloc = rt.alloc();
+    let (mut core, name) = start(&rt, alloc)?;
+    let made = core.step(alloc, Input::Datagram(&asked(&rt, alloc, Some(Key::Object(name)))?))?;
+    let message = answer(&rt, alloc, made.outs.as_slice())?;
+    assert!(rt; is_active_coin(&message, name));
+    let made = core.step(alloc, Input::Datagram(&asked(&rt, alloc, None)?))?;
+    let message = answer(&rt, alloc, made.outs.as_slice())?;
+    assert!(rt; is_active_dummy(&message));
+    Ok(())
+}
+
+#[test]
+fn a_tick_makes_nothing(rt: HostRuntime) -> Result<(), Fail> {
+    let alloc = rt.alloc();
+    let (mut core, _) = start(&rt, alloc)?;
+    let made = core.step(alloc, Input::Tick)?;
+    assert!(rt; made.notes.is_empty() && made.outs.is_empty());
     Ok(())
 }

@@ -1,45 +1,30 @@
-use Rattle.std.proofs.Common.{◌≡◌, true, false, sym, ◌∙◌, subst}
+use Rattle.std.proofs.Common.{◌≡◌, true, None, Some, List, [], ◌∷◌, sym, ◌∙◌, subst, ap, refl, OnOk}
 use Rattle.std.proofs.lemmas.Result.{on_ok_weaker}
-use Rattle.cs_trail.specs.declared.cause.Cause.TheVariants.{Repeat, Denied}
+use Rattle.cs_message.specs.declared.message.Message.TheVariants as message
+use Rattle.cs_ledger.specs.Ledger.{Bytes}
+use Rattle.cs_trail.specs.Signs.{Sign, Sent, submit_signs}
 use Rattle.cs_sbac.specs.Held.{bench_of, deployed}
-use Rattle.cs_node.proofs.Submitting.{dropped-makes, decided-makes, repeated, denied, new-makes, full-makes}
+use Rattle.cs_node.specs.Steps.{Makes}
+use Rattle.cs_node.proofs.Submitting.{one-makes, standing}
 use Rattle.cs_node.proofs.submits.submit.Goals as goal
 
-pub returns-then-branch-clause-made : goal.returns-then-branch-clause-made
-returns-then-branch-clause-made g c = λ genesis.
-    let approves = g.J.Judge.is_approved c.args.judge.now in
-    decided-makes (deployed c.args.sbac.now.config genesis approves) c.args.sbac.now.me (bench_of c.args.sbac.now) c.args.session c.args.made.now
-    (sym (c.in_ok-is_fit.ensures genesis approves) ∙ c.if-not-branch.false) (sym (c.in_ok-is_decided.ensures genesis approves) ∙ c.if-branch.true)
-
-pub returns-then-branch-2-clause-made : goal.returns-then-branch-2-clause-made
-returns-then-branch-2-clause-made g c = λ genesis.
+pub returns-in_ok-session-in-Some-clause-made : goal.returns-in_ok-session-in-Some-clause-made
+returns-in_ok-session-in-Some-clause-made g c = λ genesis.
     let approves = g.J.Judge.is_approved c.args.judge.now in
     let setup = deployed c.args.sbac.now.config genesis approves in
     let me = c.args.sbac.now.me in
     let bench = bench_of c.args.sbac.now in
-    on_ok_weaker _ (dropped-makes setup me bench c.args.session Repeat c.args.made.now c.drop_it-then-branch-2.new.self
-    (repeated setup me bench c.args.session (sym (c.in_ok-is_fit.ensures genesis approves) ∙ c.if-not-branch.false) (sym (c.in_ok-is_decided.ensures genesis approves) ∙ c.if-branch.false) (sym c.in_ok-pooled.ensures ∙ c.if-branch-2.true))) c.drop_it-then-branch-2.ensures.tells
+    let says : Bytes → List Sign = λ digest. Sent c.args.sender (message.Decided digest c.in-Some.accepted) ∷ [] in
+    on_ok_weaker _ (one-makes setup me bench (submit_signs setup me.shard bench c.args.sender c.args.session) (Sent c.args.sender (message.Decided c.in_ok-session-in-Some.session c.in-Some.accepted)) c.args.draft.now c.say.new.self
+    (standing setup me.shard bench c.args.sender c.args.session (Some c.in-Some.accepted) (sym c.is_client.ensures ∙ c.if-not-is_client.false) (sym (c.in_ok-is_fit.ensures genesis approves) ∙ c.if-not-branch.false)
+    (sym (c.in_ok-accepted.ensures genesis approves) ∙ c.in-Some.is) ∙ ap says (sym c.in_ok-session-in-Some.ensures)) refl) c.say.ensures.tells
 
-pub returns-then-not-branch-2-clause-made : goal.returns-then-not-branch-2-clause-made
-returns-then-not-branch-2-clause-made g c = λ genesis.
+pub returns-in-None-clause-made : goal.returns-in-None-clause-made
+returns-in-None-clause-made g c = λ genesis.
     let approves = g.J.Judge.is_approved c.args.judge.now in
     let setup = deployed c.args.sbac.now.config genesis approves in
     let me = c.args.sbac.now.me in
     let bench = bench_of c.args.sbac.now in
-    on_ok_weaker _ (dropped-makes setup me bench c.args.session Denied c.args.made.now c.drop_it-then-not-branch-2.new.self
-    (denied setup me bench c.args.session (sym (c.in_ok-is_fit.ensures genesis approves) ∙ c.if-not-branch.false) (sym (c.in_ok-is_decided.ensures genesis approves) ∙ c.if-branch.false) (sym c.in_ok-pooled.ensures ∙ c.if-branch-2.false)
-    (sym c.in_ok-approves.ensures ∙ c.if-not-branch-2.true))) c.drop_it-then-not-branch-2.ensures.tells
-
-pub returns-in-New-clause-made : goal.returns-in-New-clause-made
-returns-in-New-clause-made g c = λ genesis.
-    let approves = g.J.Judge.is_approved c.args.judge.now in
-    new-makes (deployed c.args.sbac.now.config genesis approves) c.args.sbac.now.me c.args.sbac.now c.enter.new.self c.args.session _
-    (sym (c.in_ok-is_fit.ensures genesis approves) ∙ c.if-not-branch.false) (sym (c.in_ok-is_decided.ensures genesis approves) ∙ c.if-branch.false) (sym c.in_ok-pooled.ensures ∙ c.if-branch-2.false)
-    (sym c.in_ok-approves.ensures ∙ c.if-not-branch-2.false) c.in_ok-enter.ensures.answer c.in_ok-enter.ensures.pool c.args.made.now c.in-New.is
-
-pub returns-in-Full-clause-made : goal.returns-in-Full-clause-made
-returns-in-Full-clause-made g c = λ genesis.
-    let approves = g.J.Judge.is_approved c.args.judge.now in
-    on_ok_weaker _ (full-makes (deployed c.args.sbac.now.config genesis approves) c.args.sbac.now.me c.args.sbac.now c.enter.new.self c.args.session _
-    (sym (c.in_ok-is_fit.ensures genesis approves) ∙ c.if-not-branch.false) (sym (c.in_ok-is_decided.ensures genesis approves) ∙ c.if-branch.false) (sym c.in_ok-pooled.ensures ∙ c.if-branch-2.false)
-    (sym c.in_ok-approves.ensures ∙ c.if-not-branch-2.false) c.in_ok-enter.ensures.answer c.in_ok-enter.ensures.pool c.args.made.now c.drop_it-in-Full.new.self c.in-Full.is) c.drop_it-in-Full.ensures.tells
+    let P : List Sign → Type 0 = λ signs. OnOk c.enter.result (Makes setup me signs bench (bench_of c.enter.new.sbac) c.args.draft.now c.enter.new.draft) in
+    subst P (sym (standing setup me.shard bench c.args.sender c.args.session None (sym c.is_client.ensures ∙ c.if-not-is_client.false) (sym (c.in_ok-is_fit.ensures genesis approves) ∙ c.if-not-branch.false)
+    (sym (c.in_ok-accepted.ensures genesis approves) ∙ c.in-None.is))) (c.enter.ensures.made genesis)

@@ -1,8 +1,11 @@
-use Rattle.std.proofs.Common.{sym, subst}
+use Rattle.std.proofs.Common.{◌≡◌, [], None, sym, subst, ap, refl, ◌∙◌}
+use Rattle.cs_base.specs.declared.node_id.NodeId.{NodeId}
+use Rattle.cs_ledger.specs.Table.{start as begun}
 use Rattle.cs_trail.specs.Site.{start_view}
 use Rattle.cs_trail.specs.Deployment.{site_of}
+use Rattle.cs_table.specs.Genesis.{twice, genesis_rules}
 use Rattle.cs_sbac.specs.Held.{Held, deployed}
-use Rattle.cs_node.specs.Cores.{StandsFor}
+use Rattle.cs_node.specs.Cores.{Keeps}
 use Rattle.cs_node.proofs.Starting.{all-fit, started}
 use Rattle.cs_node.proofs.nodes.Core.start.Goals as goal
 
@@ -12,10 +15,19 @@ genesis-requires g c = all-fit c.args.genesis.now c.requires.objects
 pub returns : goal.returns
 returns g c = λ objects named.
     let approves = g.J.Judge.is_approved in
+    let me = c.args.keys.me in
     let setup = deployed c.args.config objects (approves c.args.judge) in
-    let P : Held → Type 0 = λ held. StandsFor g.O.Order.stands approves setup (record { order = c.args.order; judge = c.args.judge; sbac = held }) (start_view (site_of setup g.O.Order.rules) c.args.me) in (
-      c.in-Ok.ensures.finds,
-      subst P (sym c.new-sbac.ensures)
-          (started g.O.Order.stands approves g.O.Order.rules c.args.config c.args.me objects c.args.genesis.now c.args.order c.args.judge c.in-Ok.table (g.O.Order.f c.args.order) (g.O.Order.me c.args.order)
-          (g.met.O.Order.begins c.args.order c.requires.start) c.requires.f c.requires.me named c.in-Ok.ensures.table),
+    let held : NodeId → Held = λ name. record { config = c.args.config; me = name; table = c.in-Ok.table; pool = [] } in
+    let sbac-is : c.new-sbac.result ≡ held me = c.new-sbac.ensures ∙ ap held c.me-me.ensures in (
+      subst (λ (name : NodeId). twice c.args.config.shards name.shard c.args.genesis.now ≡ None) c.me-me.ensures c.in-Ok.ensures.finds,
+      λ net speaks.
+          let P : Held → Type 0 = λ sbac. Keeps g.O.Order.stands approves setup (record { order = c.args.order; judge = c.args.judge; sbac = sbac }) (start_view (site_of setup net g.O.Order.rules) me) in
+          record {
+            keeps = subst P (sym sbac-is)
+                (started g.O.Order.stands approves g.O.Order.rules net c.args.config me objects c.args.genesis.now c.args.order c.args.judge c.in-Ok.table (g.O.Order.f c.args.order) (g.O.Order.me c.args.order)
+                (g.met.O.Order.begins c.args.order c.requires.start) c.requires.f c.requires.me named
+                (c.in-Ok.ensures.table ∙ ap (λ (name : NodeId). begun (genesis_rules c.args.config c.args.genesis.now) name.shard) c.me-me.ensures));
+            me_is = refl;
+            speaks = speaks;
+          },
     )

@@ -1,0 +1,51 @@
+-- Keys that a master key gave speak in its net.
+use Rattle.std.proofs.Common.{◌≡◌, ℕ, ◌+◌, ◌*◌, ◌<◌, ◌≤◌, Bool, true, false, cond, List, [], ◌∷◌, ◌++◌, Option, Some, None, IsSome, refl, ap, sym, subst, ◌∙◌, arith}
+use Rattle.std.specs.Prelude.{◌&&◌, ◌||◌, not, nat_lt, nat_le}
+use Rattle.std.proofs.lemmas.Bool.Decides.{nat_tests}
+use Rattle.cs_base.specs.declared.config.Config.{Config}
+use Rattle.cs_base.specs.declared.node_id.NodeId.{NodeId}
+use Rattle.cs_base.specs.NodeId.{is_node, is_client, is_named}
+use Rattle.cs_base.proofs.Forms.{some_is, when_some}
+use Rattle.cs_wire.specs.declared.keys.Row.{Row}
+use Rattle.cs_wire.specs.declared.keys.Keys.{Keys}
+use Rattle.cs_wire.specs.Keys.{same_name, row_of, key_between, row_between, row_expected, IsOfMaster}
+use Rattle.cs_wire.specs.Opened.{opened, datagram_with, keys_of_master}
+use Rattle.cs_wire.proofs.Parts.{are_same}
+use Rattle.cs_wire.proofs.Masters.{opened_alike}
+use Rattle.cs_ledger.specs.Ledger.{Bytes}
+use Rattle.cs_trail.specs.Net.{Net, net_of}
+use Rattle.cs_node.specs.Speaking.{Speaks}
+
+-- a node is no client
+apart : (config : Config) (me to : NodeId) → config.shards ≤ 16 → is_node config me ≡ true → is_client to ≡ true → same_name to me ≡ false
+apart config me to few node client = by_same (same_name to me) refl
+  where
+    by_same : (same : Bool) → same_name to me ≡ same → same ≡ false
+    by_same false is = refl
+    by_same true is = absurd (no_both (subst (λ (n : NodeId). is_client n ≡ true) (are_same to me is) client))
+      where
+        no_both : is_client me ≡ true → ⊥
+        no_both also = grind (arith, nat_tests)
+
+or_true : (a b : Bool) → b ≡ true → (a || b) ≡ true
+or_true true b e = refl
+or_true false b e = e
+
+module _ (config : Config) (master : List ℕ) (liars : List NodeId) (me : NodeId) (keys : Keys) (few : config.shards ≤ 16) (node : is_node config me ≡ true) (of : IsOfMaster config master me keys) where
+  row_is : (to : NodeId) (row : Row) → row_of to keys ≡ Some row → row_between master me to ≡ row
+  row_is to row held =
+      let found = when_some (is_named config to && not (same_name to me)) (Some (row_between master me to)) row (sym (of.rows to) ∙ held) in
+      some_is _ _ found.1
+
+  reached : (to : NodeId) → is_client to ≡ true → row_of to keys ≡ Some (row_between master me to)
+  reached to client =
+      let named : is_named config to ≡ true = or_true (is_node config to) (is_client to) client in
+      of.rows to ∙ rw (named, apart config me to few node client) refl
+
+  pub of_master : Speaks (net_of config master liars) keys
+  of_master = record {
+    opens = λ bytes. opened_alike config master me keys bytes of ∙ ap (λ (n : NodeId). opened (keys_of_master config master n) bytes) (sym of.me);
+    seals = λ to row held kind body.
+        ap (λ (r : Row). datagram_with r.to keys.me to kind body) (sym (row_is to row held)) ∙ ap (λ (n : NodeId). datagram_with (key_between master n to) keys.me to kind body) (sym of.me);
+    reaches = λ to client. subst IsSome (sym (reached to client)) refl;
+  }

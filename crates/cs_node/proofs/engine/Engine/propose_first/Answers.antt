@@ -1,0 +1,25 @@
+use Rattle.std.proofs.Common.{◌≡◌, [], sym, subst, ◌∙◌}
+use Rattle.cs_order.specs.declared.answers.May.{May}
+use Rattle.cs_order.specs.Calls.{Proposable}
+use Rattle.cs_sbac.specs.Held.{deployed}
+use Rattle.cs_node.specs.Cores.{view_at}
+use Rattle.cs_node.proofs.Candidates.{is-offered, candidates-none, candidates-some}
+use Rattle.cs_node.proofs.Doing.{nothing-here, proposed-here}
+use Rattle.cs_node.proofs.engine.Engine.propose_first.Goals as goal
+
+pub propose-requires : goal.propose-requires
+propose-requires g c =
+    let held = c.args.self.now.sbac in
+    subst (λ (may : May). Proposable may c.in-Some.proposed) (sym c.requires)
+    (is-offered (deployed held.config [] (g.J.Judge.is_approved c.args.self.now.judge)) held.me.shard held.pool c.args.candidates c.in-Some.proposed (sym (c.in_ok-first_admitted.ensures []) ∙ c.in-Some.is))
+
+pub returns-in-None-clause-done : goal.returns-in-None-clause-done
+returns-in-None-clause-done g c = λ made net genesis h is.
+    nothing-here g.O.Order.stands g.J.Judge.is_approved g.O.Order.rules net c.args.self.now genesis h made _
+    (candidates-none (deployed c.args.self.now.sbac.config genesis (g.J.Judge.is_approved c.args.self.now.judge)) net g.O.Order.rules (view_at c.args.self.now.sbac h) c.args.candidates (sym (c.in_ok-first_admitted.ensures genesis) ∙ c.in-None.is)) is
+
+pub returns-clause-done : goal.returns-clause-done
+returns-clause-done g c = λ made net genesis h is.
+    proposed-here g.O.Order.stands g.J.Judge.is_approved g.O.Order.rules net c.args.self.now genesis h made c.propose.new.self _ c.in-Some.proposed
+    (candidates-some (deployed c.args.self.now.sbac.config genesis (g.J.Judge.is_approved c.args.self.now.judge)) net g.O.Order.rules (view_at c.args.self.now.sbac h) c.args.candidates c.in-Some.proposed (sym (c.in_ok-first_admitted.ensures genesis) ∙ c.in-Some.is))
+    (c.in_ok-propose-in-Some.ensures.call h is).1

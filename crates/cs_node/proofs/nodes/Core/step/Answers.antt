@@ -1,0 +1,17 @@
+use Rattle.std.proofs.Common.{sym, subst}
+use Rattle.cs_node.specs.Notes.{NotesFit, DraftFits}
+use Rattle.cs_node.specs.Speaking.{input_of}
+use Rattle.cs_node.proofs.Standing.{event-done, event-sealed, same-me}
+use Rattle.cs_node.proofs.nodes.Core.step.Goals as goal
+
+pub returns-clause-event : goal.returns-clause-event
+returns-clause-event g c = λ setup net v is.
+    let stands = g.O.Order.stands in
+    let approves = g.J.Judge.is_approved in
+    let rules = g.O.Order.rules in
+    let core = c.args.self.now in
+    event-sealed stands approves rules net core c.settle.new.self setup v (input_of c.args.input) c.settle.new.draft c.in_ok-made.made is
+    (event-done stands approves rules net core.engine c.take_in.new.self c.settle.new.self setup v (input_of c.args.input) c.new-draft.result c.take_in.new.draft c.settle.new.draft is.keeps c.new-draft.ensures
+    (λ genesis h stood. c.in_ok-take_in.ensures.marks (same-me stands approves setup net core v is) net genesis h stood is.speaks)
+    (λ genesis h stood. c.in_ok-settle.ensures.marks net genesis h stood))
+    c.in_ok-made.ensures.notes (c.in_ok-made.ensures.outs net is.speaks)

@@ -1,0 +1,35 @@
+use Rattle.std.proofs.Common.{◌≡◌, true, false, sym, ◌∙◌, subst}
+use Rattle.std.proofs.lemmas.Result.{on_ok_weaker}
+use Rattle.cs_trail.specs.declared.cause.Cause.TheVariants.{Repeat, Denied}
+use Rattle.cs_trail.specs.Signs.{entering_signs}
+use Rattle.cs_sbac.specs.Held.{bench_of, deployed}
+use Rattle.cs_node.proofs.Submitting.{dropped-makes, repeated, denied, new-makes, full-makes}
+use Rattle.cs_node.proofs.submits.enter.Goals as goal
+
+pub returns-then-branch-clause-made : goal.returns-then-branch-clause-made
+returns-then-branch-clause-made g c = λ genesis.
+    let setup = deployed c.args.sbac.now.config genesis (g.J.Judge.is_approved c.args.judge.now) in
+    let me = c.args.sbac.now.me in
+    let bench = bench_of c.args.sbac.now in
+    on_ok_weaker _ (dropped-makes setup me bench (entering_signs setup bench c.args.session) Repeat c.args.draft.now c.drop_it.new.self
+    (repeated setup me bench c.args.session (sym c.in_ok-pooled.ensures ∙ c.if-branch.true))) c.drop_it.ensures.tells
+
+pub returns-then-not-branch-clause-made : goal.returns-then-not-branch-clause-made
+returns-then-not-branch-clause-made g c = λ genesis.
+    let setup = deployed c.args.sbac.now.config genesis (g.J.Judge.is_approved c.args.judge.now) in
+    let me = c.args.sbac.now.me in
+    let bench = bench_of c.args.sbac.now in
+    on_ok_weaker _ (dropped-makes setup me bench (entering_signs setup bench c.args.session) Denied c.args.draft.now c.drop_it-then-not-branch.new.self
+    (denied setup me bench c.args.session (sym c.in_ok-pooled.ensures ∙ c.if-branch.false) (sym c.in_ok-approves.ensures ∙ c.if-not-branch.true))) c.drop_it-then-not-branch.ensures.tells
+
+pub returns-in-New-clause-made : goal.returns-in-New-clause-made
+returns-in-New-clause-made g c = λ genesis.
+    let approves = g.J.Judge.is_approved c.args.judge.now in
+    new-makes (deployed c.args.sbac.now.config genesis approves) c.args.sbac.now.me c.args.sbac.now c.enter.new.self c.args.session _
+    (sym c.in_ok-pooled.ensures ∙ c.if-branch.false) (sym c.in_ok-approves.ensures ∙ c.if-not-branch.false) c.in_ok-enter.ensures.answer c.in_ok-enter.ensures.pool c.args.draft.now c.in-New.is
+
+pub returns-in-Full-clause-made : goal.returns-in-Full-clause-made
+returns-in-Full-clause-made g c = λ genesis.
+    let approves = g.J.Judge.is_approved c.args.judge.now in
+    on_ok_weaker _ (full-makes (deployed c.args.sbac.now.config genesis approves) c.args.sbac.now.me c.args.sbac.now c.enter.new.self c.args.session _
+    (sym c.in_ok-pooled.ensures ∙ c.if-branch.false) (sym c.in_ok-approves.ensures ∙ c.if-not-branch.false) c.in_ok-enter.ensures.answer c.in_ok-enter.ensures.pool c.args.draft.now c.drop_it-in-Full.new.self c.in-Full.is) c.drop_it-in-Full.ensures.tells

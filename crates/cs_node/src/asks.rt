@@ -1,0 +1,52 @@
+//! What clients ask.
+ghost use Rattle.std.specs.Prelude.{◌≡◌, ◌∷◌, [], OnOk, Bool, List};
+ghost use Rattle.cs_base.specs.NodeId.{is_client};
+ghost use Rattle.cs_value.specs.declared.object.Object.{Object};
+ghost use Rattle.cs_form.specs.declared.transaction.Tx.{Tx};
+ghost use Rattle.cs_message.specs.Message.{AskedFits};
+ghost use Rattle.cs_trail.specs.declared.cause.Cause.TheVariants.{Role, NoProof};
+ghost use Rattle.cs_trail.specs.Signs.{Dropped, guarded, ask_signs};
+ghost use Rattle.cs_sbac.specs.Held.{Held, bench_of, deployed};
+ghost use Rattle.cs_node.specs.Notes.{Tells, DraftFits};
+ghost use Rattle.cs_node.specs.Steps.{Makes};
+
+use crate::draft::Draft;
+use cs_base::{Key, Memory, NodeId, shard_of};
+use cs_message::Message;
+use cs_sbac::Sbac;
+use cs_trail::Cause;
+use std::alloc::Global;
+
+/// A client asks for the state of a key, or for a dummy that it may use.
+pub fn ask(
+    alloc: Global,
+    sbac: &Sbac,
+    draft: &mut Draft,
+    sender: NodeId,
+    asked: Option<Key>,
+) -> Result<(), Memory>
+    requires { AskedFits asked }
+    ensures made { (genesis : List Object) (approves : Tx → Bool) → OnOk result (Makes (deployed sbac.now.config genesis approves) sbac.now.me (ask_signs (deployed sbac.now.config genesis approves) sbac.now.me.shard (bench_of sbac.now) sender asked) (bench_of sbac.now) (bench_of sbac.now) draft.old draft.new) }
+    ensures fits { DraftFits draft.old → OnOk result (DraftFits draft.new) }
+{
+    if !sender.is_client() {
+        return draft.drop_it(Cause::Role);
+    }
+    let key = sbac.asked(asked)?;
+    if shard_of(sbac.config(), &key) != sbac.me().shard {
+        return draft.drop_it(Cause::Mine);
+    }
+    let state = sbac.told(alloc, &key)?;
+    draft.say(sender, Message::Told { key, state })
+}
+
+/// A client asks for the proof of a slot. No checkpoint covers one, as none is made.
+pub fn ask_proof(draft: &mut Draft, sender: NodeId) -> Result<(), Memory>
+    ensures tells { OnOk result (Tells (guarded (is_client sender) Role (Dropped NoProof ∷ [])) draft.old draft.new) }
+    ensures fits { DraftFits draft.old → OnOk result (DraftFits draft.new) }
+{
+    if !sender.is_client() {
+        return draft.drop_it(Cause::Role);
+    }
+    draft.drop_it(Cause::NoProof)
+}

@@ -1,0 +1,84 @@
+//! What an event has made so far.
+ghost use Rattle.std.specs.Prelude.{◌≡◌, ◌∷◌, ◌++◌, [], true, OnOk};
+ghost use Rattle.cs_base.specs.NodeId.{is_client};
+ghost use Rattle.cs_message.specs.Message.{MessageFits};
+ghost use Rattle.cs_node.specs.Notes.{nothing, Tells, ExecutedFits, DraftFits};
+ghost use Rattle.cs_trail.specs.Signs.{Dropped, Sent};
+
+use cs_base::{Memory, NodeId, Sequence};
+use cs_message::Message;
+use cs_sbac::Effect;
+use cs_trail::Cause;
+use cs_tx::Entry;
+use std::alloc::Global;
+
+/// What a node tells of an input.
+#[derive(Drop)]
+pub enum Note {
+    /// The input failed a test, and changed nothing.
+    Dropped(Cause),
+    /// The entry of a slot was executed.
+    Executed {
+        slot: u64,
+        entry: Entry,
+        effect: Effect,
+    },
+}
+
+/// A message to another, before it is sealed.
+#[derive(Drop)]
+pub struct Said {
+    pub to: NodeId,
+    pub message: Message,
+}
+
+/// What an event has made so far, the oldest first.
+#[derive(Drop)]
+pub struct Draft {
+    pub notes: Sequence<Note>,
+    pub said: Sequence<Said>,
+}
+
+impl Draft {
+    /// Nothing yet.
+    pub fn new(alloc: Global) -> Self
+        ensures { result ≡ nothing }
+    {
+        Draft {
+            notes: Sequence::new(alloc),
+            said: Sequence::new(alloc),
+        }
+    }
+
+    /// Notes that the input is dropped.
+    pub fn drop_it(&mut self, cause: Cause) -> Result<(), Memory>
+        ensures tells { OnOk result (Tells (Dropped cause ∷ []) self.old self.new) }
+        ensures fits { DraftFits self.old → OnOk result (DraftFits self.new) }
+    {
+        self.notes.push(Note::Dropped(cause))?;
+        Ok(())
+    }
+
+    /// Notes what an execution came to.
+    pub fn executed(&mut self, slot: u64, entry: Entry, effect: Effect) -> Result<(), Memory>
+        ensures notes { OnOk result (self.new.notes ≡ self.old.notes ++ Note.Executed slot entry effect ∷ []) }
+        ensures said { OnOk result (self.new.said ≡ self.old.said) }
+        ensures fits { ExecutedFits effect entry → DraftFits self.old → OnOk result (DraftFits self.new) }
+    {
+        self.notes.push(Note::Executed {
+            slot,
+            entry,
+            effect,
+        })?;
+        Ok(())
+    }
+
+    /// Says something to a client.
+    pub fn say(&mut self, to: NodeId, message: Message) -> Result<(), Memory>
+        ensures tells { OnOk result (Tells (Sent to message ∷ []) self.old self.new) }
+        ensures fits { MessageFits message → is_client to ≡ true → DraftFits self.old → OnOk result (DraftFits self.new) }
+    {
+        self.said.push(Said { to, message })?;
+        Ok(())
+    }
+}
