@@ -3,25 +3,38 @@
 //! Words: `table OBJECTS SESSIONS ROUNDS` makes a shard of so many coins, at most 1,000,000, and then
 //! spends so many of them, each by a session that is prepared in so many rounds and decided once.
 //! `merkle LEAVES ROUNDS` makes so many leaves of 100 bytes and computes their root in so many rounds.
-//! It prints nothing; the status is 0, or 2 for other words, or 8 for want of memory.
+//! `seal BYTES COUNT` seals a message with so many bytes of text, at most 4,096, so many times, and
+//! `open BYTES COUNT` opens its datagram as often.
+//! It prints nothing; the status is 0, or 1 where not every datagram was sealed or opened, or 2 for
+//! other words, or 8 for want of memory.
 #![tactic(auto)]
 
+mod datagrams;
 mod merkle;
 mod table;
 
 use cs_base::Memory;
+use datagrams::{open_often, seal_often};
 use std::alloc::Global;
 use std::process::ExitCode;
 use std::{env, io};
 
+/// Everything was done.
+const DONE: u8 = 0;
+
+/// Not every datagram was sealed or opened.
+const NOT_ALL: u8 = 1;
+
+/// The words are none that are known.
+const OTHER_WORDS: u8 = 2;
+
 fn main(rt: HostRuntime) -> ExitCode {
     let words = match read_words(&rt) {
         Ok(words) => words,
-        Err(_) => return ExitCode::from(2),
+        Err(_) => return ExitCode::from(OTHER_WORDS),
     };
     match run(rt.alloc(), words.as_slice()) {
-        Ok(true) => ExitCode::from(0),
-        Ok(false) => ExitCode::from(2),
+        Ok(status) => ExitCode::from(status),
         Err(_) => ExitCode::from(8),
     }
 }
@@ -35,29 +48,52 @@ fn read_words(rt: &HostRuntime) -> io::Result<Vec<String>> {
     Ok(words)
 }
 
-// Whether the words are some that it knows.
-fn run(alloc: Global, words: &[String]) -> Result<bool, Memory> {
+fn run(alloc: Global, words: &[String]) -> Result<u8, Memory> {
     match words {
         [first, objects, sessions, rounds] if first.as_str() == "table" => {
-            match (number(objects), number(sessions), number(rounds)) {
-                (Some(objects), Some(sessions), Some(rounds)) => {
-                    table::run(alloc, objects, sessions, rounds)?;
-                    Ok(true)
-                }
-                _ => Ok(false),
-            }
+            run_table(alloc, number(objects), number(sessions), number(rounds))
         }
-        [first, leaves, rounds] if first.as_str() == "merkle" => {
-            match (number(leaves), number(rounds)) {
-                (Some(leaves), Some(rounds)) => {
-                    merkle::run(alloc, leaves, rounds)?;
-                    Ok(true)
-                }
-                _ => Ok(false),
-            }
-        }
-        _ => Ok(false),
+        [first, size, count] => run_sized(alloc, first.as_str(), number(size), number(count)),
+        _ => Ok(OTHER_WORDS),
     }
+}
+
+fn run_table(
+    alloc: Global,
+    objects: Option<u32>,
+    sessions: Option<u32>,
+    rounds: Option<u32>,
+) -> Result<u8, Memory> {
+    let (Some(objects), Some(sessions), Some(rounds)) = (objects, sessions, rounds) else {
+        return Ok(OTHER_WORDS);
+    };
+    table::run(alloc, objects, sessions, rounds)?;
+    Ok(DONE)
+}
+
+// What is done so many times with something of a size.
+fn run_sized(
+    alloc: Global,
+    word: &str,
+    size: Option<u32>,
+    count: Option<u32>,
+) -> Result<u8, Memory> {
+    let (Some(size), Some(count)) = (size, count) else {
+        return Ok(OTHER_WORDS);
+    };
+    match word {
+        "merkle" => {
+            merkle::run(alloc, size, count)?;
+            Ok(DONE)
+        }
+        "seal" => Ok(status(seal_often(alloc, size, count)?, count)),
+        "open" => Ok(status(open_often(alloc, size, count)?, count)),
+        _ => Ok(OTHER_WORDS),
+    }
+}
+
+fn status(done: u32, count: u32) -> u8 {
+    if done == count { DONE } else { NOT_ALL }
 }
 
 fn number(word: &str) -> Option<u32> {
