@@ -6,7 +6,7 @@ use Rattle.cs_order.specs.Lists.{IsIn}
 use Rattle.cs_trail.specs.Setup.{Setup}
 use Rattle.cs_trail.specs.Pool.{Pool}
 use Rattle.cs_trail.specs.Net.{Net}
-use Rattle.cs_trail.specs.Site.{Mark, Site, View}
+use Rattle.cs_trail.specs.Site.{View}
 use Rattle.cs_trail.specs.Deployment.{site_of}
 use Rattle.cs_trail.specs.Trail.{with_deed, proposing, candidate_marks, propose_marks, echo_marks}
 use Rattle.cs_node.specs.Proposals.{admits_proposed, admits_pending, first_admitted}

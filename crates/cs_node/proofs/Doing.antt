@@ -1,12 +1,12 @@
 -- What a core did in a turn, at the view for which it stood.
-use Rattle.std.proofs.Common.{◌≡◌, ℕ, Bool, true, false, List, length, Option, Some, None, refl, ap, sym, subst, ◌∙◌}
+use Rattle.std.proofs.Common.{◌≡◌, ℕ, Bool, true, false, List, length, Option, Some, None, refl, subst}
 use Rattle.cs_value.specs.declared.object.Object.{Object}
 use Rattle.cs_form.specs.declared.transaction.Tx.{Tx}
 use Rattle.cs_order.specs.declared.proposed.Proposed.{Proposed}
 use Rattle.cs_order.specs.declared.answers.Step.{Step}
 use Rattle.cs_order.specs.declared.answers.Step.TheVariants.{Chosen, Moved}
 use Rattle.cs_order.specs.Deeds.{Advanced, Echoed, Proposing, Member, Machine, did, chosen_in}
-use Rattle.cs_order.specs.Calls.{Advances, advanced}
+use Rattle.cs_order.specs.Calls.{advanced}
 use Rattle.cs_trail.specs.Setup.{Setup}
 use Rattle.cs_trail.specs.Net.{Net}
 use Rattle.cs_trail.specs.Signs.{execution_signs}

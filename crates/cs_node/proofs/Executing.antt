@@ -1,5 +1,5 @@
 -- An execution with the node's own vote is what its signs say.
-use Rattle.std.proofs.Common.{◌≡◌, ℕ, Bool, true, false, not, ◌&&◌, cond, List, [], ◌∷◌, ◌++◌, Option, Some, None, bytes_eq, is_some, refl, ap, sym, ◌∙◌, arith, append_assoc, append-nil}
+use Rattle.std.proofs.Common.{◌≡◌, ℕ, Bool, true, false, cond, List, [], ◌∷◌, ◌++◌, Option, Some, None, bytes_eq, is_some, refl, ap, sym, ◌∙◌, arith, append_assoc, append-nil}
 use Rattle.cs_base.specs.declared.node_id.NodeId.{NodeId}
 use Rattle.cs_form.specs.declared.session.Session.{Session}
 use Rattle.cs_form.specs.declared.vote.Vote.{Vote}
@@ -10,10 +10,10 @@ use Rattle.cs_trail.specs.declared.pooled.Pooled.{Pooled}
 use Rattle.cs_trail.specs.Setup.{Setup, digest_of, session_in, vote_from}
 use Rattle.cs_trail.specs.Pool.{Pool, found, is_pooled, changed, with_ballot, as_locked, entering, pushed, entered, entered_locked}
 use Rattle.cs_trail.specs.Bench.{Bench, Ran, is_locked, pool_after, executed, told_by, told_of, own_pool, bench_executed}
-use Rattle.cs_trail.specs.Signs.{Sign, Entered, Did, bench_step, bench_after, own_signs, entered_signs, execution_signs}
+use Rattle.cs_trail.specs.Signs.{Sign, Did, bench_after, own_signs, entered_signs, execution_signs}
 use Rattle.cs_node.specs.declared.draft.Note.TheVariants.{Executed}
 use Rattle.cs_node.specs.declared.draft.Draft.{Draft}
-use Rattle.cs_node.specs.Notes.{effect_from, notes_of, said_of, Tells}
+use Rattle.cs_node.specs.Notes.{effect_from, notes_of, said_of}
 use Rattle.cs_node.specs.Steps.{Makes}
 use Rattle.cs_node.proofs.Sums.{notes-append, said-append, bench-append}
 

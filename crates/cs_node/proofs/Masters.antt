@@ -1,6 +1,6 @@
 -- Keys that a master key gave speak in its net.
-use Rattle.std.proofs.Common.{◌≡◌, ℕ, ◌+◌, ◌*◌, ◌<◌, ◌≤◌, Bool, true, false, cond, List, [], ◌∷◌, ◌++◌, Option, Some, None, IsSome, refl, ap, sym, subst, ◌∙◌, arith}
-use Rattle.std.specs.Prelude.{◌&&◌, ◌||◌, not, nat_lt, nat_le}
+use Rattle.std.proofs.Common.{◌≡◌, ℕ, ◌≤◌, Bool, true, false, List, Some, IsSome, refl, ap, sym, subst, ◌∙◌, arith}
+use Rattle.std.specs.Prelude.{◌&&◌, ◌||◌, not}
 use Rattle.std.proofs.lemmas.Bool.Decides.{nat_tests}
 use Rattle.cs_base.specs.declared.config.Config.{Config}
 use Rattle.cs_base.specs.declared.node_id.NodeId.{NodeId}
@@ -8,12 +8,11 @@ use Rattle.cs_base.specs.NodeId.{is_node, is_client, is_named}
 use Rattle.cs_base.proofs.Forms.{some_is, when_some}
 use Rattle.cs_wire.specs.declared.keys.Row.{Row}
 use Rattle.cs_wire.specs.declared.keys.Keys.{Keys}
-use Rattle.cs_wire.specs.Keys.{same_name, row_of, key_between, row_between, row_expected, IsOfMaster}
+use Rattle.cs_wire.specs.Keys.{same_name, row_of, key_between, row_between, IsOfMaster}
 use Rattle.cs_wire.specs.Opened.{opened, datagram_with, keys_of_master}
 use Rattle.cs_wire.proofs.Parts.{are_same}
 use Rattle.cs_wire.proofs.Masters.{opened_alike}
-use Rattle.cs_ledger.specs.Ledger.{Bytes}
-use Rattle.cs_trail.specs.Net.{Net, net_of}
+use Rattle.cs_trail.specs.Net.{net_of}
 use Rattle.cs_node.specs.Speaking.{Speaks}
 
 -- a node is no client

@@ -1,13 +1,11 @@
 -- What is said is sealed as the net seals.
-use Rattle.std.proofs.Common.{◌≡◌, ℕ, suc, ◌+◌, ◌<◌, true, List, [], ◌∷◌, ◌++◌, length, take, drop, get_or, Option, Some, None, IsSome, refl, ap, sym, subst, ◌∙◌, append_assoc, append-nil}
+use Rattle.std.proofs.Common.{◌≡◌, ℕ, ◌+◌, ◌<◌, List, [], ◌∷◌, ◌++◌, length, drop, get_or, refl, ap, sym, subst, ◌∙◌, append_assoc}
 use Rattle.std.proofs.lemmas.List.{drop_more}
 use Rattle.cs_base.specs.declared.node_id.NodeId.{NodeId}
 use Rattle.cs_message.specs.declared.message.Message.{Message}
 use Rattle.cs_message.specs.Message.{kind_of, body_of}
 use Rattle.cs_wire.specs.declared.input.Out.{Out}
-use Rattle.cs_wire.specs.declared.keys.Row.{Row}
 use Rattle.cs_wire.specs.declared.keys.Keys.{Keys}
-use Rattle.cs_wire.specs.Keys.{row_of}
 use Rattle.cs_wire.specs.Datagram.{sealed as datagram}
 use Rattle.cs_wire.specs.Opens.{Seals}
 use Rattle.cs_wire.proofs.Masters.{sealed_is}

@@ -1,5 +1,5 @@
 -- How the marks of the turns add up to those of an event.
-use Rattle.std.proofs.Common.{◌≡◌, ℕ, zero, suc, ◌<◌, ◌^◌, Bool, true, false, List, [], ◌∷◌, ◌++◌, Option, Some, None, arith, sym, ◌∙◌, ap, subst, refl, append_assoc, append-nil}
+use Rattle.std.proofs.Common.{◌≡◌, ℕ, zero, suc, ◌<◌, ◌^◌, true, false, List, [], ◌∷◌, ◌++◌, Option, Some, None, arith, sym, ◌∙◌, ap, subst, refl, append_assoc, append-nil}
 use Rattle.cs_trail.specs.Signs.{Sign}
 use Rattle.cs_trail.specs.Site.{Input, Mark, In, Site, View, view_after, signs_of}
 use Rattle.cs_trail.specs.Trail.{turn_marks, continued, settled, input_marks, event_marks}

@@ -1,5 +1,5 @@
 -- The view for which a node stands before its first input.
-use Rattle.std.proofs.Common.{◌≡◌, ℕ, zero, suc, ◌+◌, ◌<◌, Bool, List, [], ◌∷◌, length, map, refl, ap, sym, subst, ◌∙◌, arith}
+use Rattle.std.proofs.Common.{◌≡◌, ℕ, zero, suc, ◌+◌, Bool, List, [], ◌∷◌, map, refl, ap, subst, ◌∙◌, arith}
 use Rattle.std.specs.Prelude.{All}
 use Rattle.cs_base.specs.declared.config.Config.{Config}
 use Rattle.cs_base.specs.declared.node_id.NodeId.{NodeId}
@@ -19,8 +19,7 @@ use Rattle.cs_trail.specs.Deployment.{genesis_from, rules_of, site_of}
 use Rattle.cs_table.specs.Seen.{Stored, seen}
 use Rattle.cs_tx.specs.Sessions.{item_of}
 use Rattle.cs_table.specs.Genesis.{keyed_of, genesis_rules}
-use Rattle.cs_sbac.specs.Held.{Held, deployed}
-use Rattle.cs_node.specs.declared.engine.Engine.{Engine}
+use Rattle.cs_sbac.specs.Held.{deployed}
 use Rattle.cs_node.specs.Setups.{keyed_from, AreObjects}
 use Rattle.cs_node.specs.Cores.{Keeps}
 

@@ -1,5 +1,5 @@
 -- What the tests on what a client says come to.
-use Rattle.std.proofs.Common.{◌≡◌, ℕ, Bool, true, false, not, List, [], ◌∷◌, ◌++◌, Option, Some, None, is_some, refl, ap, sym, ◌∙◌, subst, append-nil, if◌then◌else◌}
+use Rattle.std.proofs.Common.{◌≡◌, ℕ, Bool, true, false, List, [], ◌∷◌, ◌++◌, Option, refl, ap, sym, ◌∙◌, subst, append-nil, if◌then◌else◌}
 use Rattle.std.specs.Prelude.{◌==◌}
 use Rattle.cs_base.specs.declared.key.Key.{Key}
 use Rattle.cs_base.specs.Key.{shard_of_key}
@@ -9,12 +9,12 @@ use Rattle.cs_form.specs.declared.session.Session.{Session}
 use Rattle.cs_message.specs.declared.message.Message.TheVariants as message
 use Rattle.cs_wire.specs.Opened.{Opened}
 use Rattle.cs_trail.specs.declared.cause.Cause.{Cause}
-use Rattle.cs_trail.specs.declared.cause.Cause.TheVariants.{Mine, Role, Malformed, Repeat, Denied, Full, NoProof}
+use Rattle.cs_trail.specs.declared.cause.Cause.TheVariants.{Mine, Role, Malformed, Repeat, Denied, Full}
 use Rattle.cs_trail.specs.Setup.{Setup, digest_of, is_fit, is_approved}
 use Rattle.cs_trail.specs.Pool.{Pool, is_pooled, has_room, pushed, entered}
 use Rattle.cs_trail.specs.Bench.{Bench, decided}
 use Rattle.cs_trail.specs.Asked.{told_at, key_asked}
-use Rattle.cs_trail.specs.Signs.{Sign, Dropped, Entered as Enters, Sent, guarded, bench_step, bench_after, entering_signs, submitted_signs, submit_signs, told_signs, ask_signs}
+use Rattle.cs_trail.specs.Signs.{Sign, Dropped, Entered as Enters, Sent, bench_step, bench_after, entering_signs, submitted_signs, submit_signs, ask_signs}
 use Rattle.cs_trail.specs.Site.{Mark, Datagram, Site, View, plain}
 use Rattle.cs_trail.specs.Trail.{opened_signs, input_marks}
 use Rattle.cs_ledger.specs.Ledger.{Bytes}

@@ -1,7 +1,5 @@
 -- How signs and marks add up.
-use Rattle.std.proofs.Common.{◌≡◌, ℕ, List, [], ◌∷◌, ◌++◌, Option, Some, None, Bool, true, refl, ap, sym, subst, ◌∙◌, append_assoc, append-nil}
-use Rattle.cs_ledger.specs.Table.{Effect}
-use Rattle.cs_order.specs.Deeds.{Member}
+use Rattle.std.proofs.Common.{◌≡◌, ℕ, List, [], ◌∷◌, ◌++◌, Option, Some, Bool, true, refl, ap, sym, subst, ◌∙◌, append_assoc, append-nil}
 use Rattle.cs_trail.specs.Setup.{Setup}
 use Rattle.cs_trail.specs.Bench.{Bench}
 use Rattle.cs_trail.specs.Signs.{Sign, Dropped, Took, Entered, Did, Sent, bench_step, bench_after}

@@ -1,20 +1,13 @@
 -- The rules that apply: what the code did is what the marks of the rule say.
-use Rattle.std.proofs.Common.{◌≡◌, ℕ, Bool, true, false, cond, List, [], ◌∷◌, ◌++◌, length, Option, Some, None, refl, ap, sym, subst, ◌∙◌, append-nil}
+use Rattle.std.proofs.Common.{◌≡◌, ℕ, true, false, cond, List, ◌++◌, length, Option, Some, None, refl, ap, sym, subst, ◌∙◌}
 use Rattle.cs_order.specs.declared.proposed.Proposed.{Proposed}
-use Rattle.cs_order.specs.declared.answers.Step.{Step}
-use Rattle.cs_order.specs.declared.answers.Step.TheVariants.{Chosen, Moved, Quiet}
-use Rattle.cs_order.specs.declared.answers.May.{May}
-use Rattle.cs_order.specs.declared.answers.May.TheVariants.{No, Free, Only}
-use Rattle.cs_order.specs.Lists.{IsIn}
+use Rattle.cs_order.specs.declared.answers.Step.TheVariants.{Chosen, Moved}
 use Rattle.cs_order.specs.Deeds.{Deed, Advanced, Echoed, Proposing, Member, did, chosen_in}
-use Rattle.cs_form.specs.declared.entry.Entry.{Entry}
 use Rattle.cs_trail.specs.Bench.{Bench}
-use Rattle.cs_trail.specs.Signs.{Sign, bench_after, execution_signs}
-use Rattle.cs_trail.specs.Site.{Mark, Site, View, view_after, plain, signs_of}
-use Rattle.cs_trail.specs.Admission.{due}
-use Rattle.cs_trail.specs.Trail.{with_deed, admits_proposed, proposing, due_marks, candidate_marks, propose_marks, echo_marks, step_marks, turn_marks}
+use Rattle.cs_trail.specs.Signs.{Sign, execution_signs}
+use Rattle.cs_trail.specs.Site.{Mark, Site, View, plain}
+use Rattle.cs_trail.specs.Trail.{with_deed, admits_proposed, proposing, propose_marks, echo_marks, step_marks, turn_marks}
 use Rattle.cs_node.specs.declared.draft.Draft.{Draft}
-use Rattle.cs_node.specs.Notes.{Tells}
 use Rattle.cs_node.specs.Steps.{Makes, Marks, TurnDone}
 use Rattle.cs_node.proofs.Sums.{with_bench, tells-nothing, turn-some, marks-plain}
 

@@ -1,5 +1,5 @@
 -- What the calls of a node make: marks, what these tell and say, and the view for which the node stands then.
-use Rattle.std.specs.Prelude.{◌≡◌, ℕ, ◌<◌, ◌^◌, Bool, true, false, if◌then◌else◌, List, [], ◌∷◌, ◌++◌, Option, Some, None}
+use Rattle.std.specs.Prelude.{◌≡◌, ℕ, ◌<◌, ◌^◌, Bool, true, false, List, ◌++◌, Option, Some, None}
 use Rattle.cs_base.specs.declared.node_id.NodeId.{NodeId}
 use Rattle.cs_order.specs.Deeds.{Member}
 use Rattle.cs_trail.specs.Setup.{Setup}

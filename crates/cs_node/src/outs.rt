@@ -19,12 +19,7 @@ pub struct Made {
 }
 
 // Seals one message. A peer without a key gets nothing.
-fn add_out(
-    alloc: Global,
-    keys: &Keys,
-    said: &Said,
-    outs: &mut Sequence<Out>,
-) -> Result<(), Memory>
+fn add_out(alloc: Global, keys: &Keys, said: &Said, outs: &mut Sequence<Out>) -> Result<(), Memory>
     requires { SaidFits said.now }
     ensures { (net : Net) → Speaks net keys.now → OnOk result (outs.new ≡ outs.old ++ record { to = said.now.to; bytes = sealed net keys.now.me said.now.to said.now.message } ∷ []) }
 {

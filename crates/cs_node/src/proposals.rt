@@ -2,8 +2,7 @@
 ghost use Rattle.std.specs.Prelude.{◌≡◌, IfOk, IfSome};
 ghost use Rattle.cs_base.specs.Fields.{whole_at};
 ghost use Rattle.cs_form.specs.declared.entry.Entry.TheVariants.{Prepare};
-ghost use Rattle.cs_form.specs.Session.{SessionFits, EntryFits};
-ghost use Rattle.cs_form.specs.Reading.{session_at};
+ghost use Rattle.cs_form.specs.Session.{EntryFits};
 ghost use Rattle.cs_trail.specs.Deployment.{proposed_of, no_session};
 ghost use Rattle.cs_node.specs.Proposals.{entry_read};
 
@@ -23,14 +22,6 @@ fn whole<T: Encoded>(alloc: Global, bytes: &[u8]) -> Result<Option<T>, Memory>
         Err(FormError::TooLong) => Ok(None),
         Err(FormError::BadForm) => Ok(None),
     }
-}
-
-/// The session that the bytes encode.
-pub fn read_session(alloc: Global, bytes: &[u8]) -> Result<Option<Session>, Memory>
-    ensures found { IfOk result (λ found. found ≡ whole_at session_at bytes.now) }
-    ensures fits { IfOk result (λ found. IfSome found SessionFits) }
-{
-    whole(alloc, bytes)
 }
 
 /// The entry that was proposed.

@@ -220,7 +220,10 @@ fn a_coin_is_split_once(rt: HostRuntime) -> Result<(), Fail> {
 fn a_client_is_told_what_it_asks(rt: HostRuntime) -> Result<(), Fail> {
     let alloc = rt.alloc();
     let (mut core, name) = start(&rt, alloc)?;
-    let made = core.step(alloc, Input::Datagram(&asked(&rt, alloc, Some(Key::Object(name)))?))?;
+    let made = core.step(
+        alloc,
+        Input::Datagram(&asked(&rt, alloc, Some(Key::Object(name)))?),
+    )?;
     let message = answer(&rt, alloc, made.outs.as_slice())?;
     assert!(rt; is_active_coin(&message, name));
     let made = core.step(alloc, Input::Datagram(&asked(&rt, alloc, None)?))?;

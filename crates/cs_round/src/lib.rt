@@ -8,4 +8,3 @@ mod round;
 
 pub use reopening::{reopen, slot_of};
 pub use round::Round;
-

@@ -1,4 +1,4 @@
-use Rattle.std.proofs.Common.{◌≡◌, true, false, sym, ◌∙◌, subst}
+use Rattle.std.proofs.Common.{sym, ◌∙◌}
 use Rattle.std.proofs.lemmas.Result.{on_ok_weaker}
 use Rattle.cs_trail.specs.declared.cause.Cause.TheVariants.{Repeat, Denied}
 use Rattle.cs_trail.specs.Signs.{entering_signs}

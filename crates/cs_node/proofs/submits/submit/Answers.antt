@@ -1,4 +1,4 @@
-use Rattle.std.proofs.Common.{◌≡◌, true, None, Some, List, [], ◌∷◌, sym, ◌∙◌, subst, ap, refl, OnOk}
+use Rattle.std.proofs.Common.{None, Some, List, [], ◌∷◌, sym, ◌∙◌, subst, ap, refl, OnOk}
 use Rattle.std.proofs.lemmas.Result.{on_ok_weaker}
 use Rattle.cs_message.specs.declared.message.Message.TheVariants as message
 use Rattle.cs_ledger.specs.Ledger.{Bytes}

@@ -1,4 +1,4 @@
-use Rattle.std.proofs.Common.{◌≡◌, [], List, Option, sym, subst, ap, ◌∙◌, IfOk}
+use Rattle.std.proofs.Common.{[], List, Option, sym, subst, ap, ◌∙◌, IfOk}
 use Rattle.cs_trail.specs.Site.{Mark}
 use Rattle.cs_sbac.specs.Held.{deployed}
 use Rattle.cs_node.specs.Proposals.{admits_pending}

@@ -1,6 +1,6 @@
-use Rattle.std.proofs.Common.{◌≡◌, None, ap, sym, subst, ◌∙◌, IfOk}
+use Rattle.std.proofs.Common.{◌≡◌, ap, sym, subst, ◌∙◌, IfOk}
 use Rattle.cs_order.specs.declared.answers.May.{May}
-use Rattle.cs_order.specs.declared.answers.May.TheVariants.{No, Free, Only}
+use Rattle.cs_order.specs.declared.answers.May.TheVariants.{Free, Only}
 use Rattle.cs_trail.specs.Trail.{propose_marks}
 use Rattle.cs_sbac.specs.Held.{deployed}
 use Rattle.cs_node.specs.Steps.{TurnDone}

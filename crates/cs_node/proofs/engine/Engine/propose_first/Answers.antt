@@ -1,4 +1,4 @@
-use Rattle.std.proofs.Common.{◌≡◌, [], sym, subst, ◌∙◌}
+use Rattle.std.proofs.Common.{[], sym, subst, ◌∙◌}
 use Rattle.cs_order.specs.declared.answers.May.{May}
 use Rattle.cs_order.specs.Calls.{Proposable}
 use Rattle.cs_sbac.specs.Held.{deployed}

@@ -1,4 +1,4 @@
-use Rattle.std.proofs.Common.{refl, ◌∙◌}
+use Rattle.std.proofs.Common.{refl}
 use Rattle.cs_node.proofs.Settling.{settling-starts}
 use Rattle.cs_node.proofs.Standing.{stands-on, loop-goes, loop-ends}
 use Rattle.cs_node.proofs.engine.Engine.settle.Goals as goal

@@ -1,4 +1,4 @@
-use Rattle.std.proofs.Common.{◌≡◌, List}
+use Rattle.std.proofs.Common.{List}
 use Rattle.cs_value.specs.declared.object.Object.{Object}
 use Rattle.cs_order.specs.Deeds.{Member}
 use Rattle.cs_trail.specs.Net.{Net}

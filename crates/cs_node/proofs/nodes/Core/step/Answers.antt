@@ -1,5 +1,3 @@
-use Rattle.std.proofs.Common.{sym, subst}
-use Rattle.cs_node.specs.Notes.{NotesFit, DraftFits}
 use Rattle.cs_node.specs.Speaking.{input_of}
 use Rattle.cs_node.proofs.Standing.{event-done, event-sealed, same-me}
 use Rattle.cs_node.proofs.nodes.Core.step.Goals as goal

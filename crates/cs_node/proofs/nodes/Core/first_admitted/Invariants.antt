@@ -1,9 +1,0 @@
-use Rattle.std.proofs.Common.{◌≡◌, List, drop}
-use Rattle.cs_value.specs.declared.object.Object.{Object}
-use Rattle.cs_sbac.specs.Held.{deployed}
-use Rattle.cs_node.specs.Proposals.{first_admitted}
-use Rattle.cs_node.proofs.nodes.Core.first_admitted.Given as goal
-
-abbrev pub invariant-loop-proposed : goal.invariant-loop-proposed
-invariant-loop-proposed g l = (genesis : List Object) → first_admitted (deployed l.self.sbac.config genesis (g.J.Judge.is_approved l.self.judge)) l.self.sbac.me.shard l.self.sbac.pool l.candidates
-    ≡ first_admitted (deployed l.self.sbac.config genesis (g.J.Judge.is_approved l.self.judge)) l.self.sbac.me.shard l.self.sbac.pool (drop l.proposed-index l.candidates)
