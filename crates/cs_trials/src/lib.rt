@@ -6,6 +6,10 @@
 #[cfg(test)]
 mod draws;
 #[cfg(test)]
+mod plain_slot;
+#[cfg(test)]
 mod rows;
+#[cfg(test)]
+mod slots;
 #[cfg(test)]
 mod table;
