@@ -95,14 +95,21 @@ fn submitted(rt: &impl Abort, alloc: Global, session: Session) -> Result<Vec<u8>
     Ok(out)
 }
 
-/// The datagram by which the client asks.
-fn asked(rt: &impl Abort, alloc: Global, key: Option<Key>) -> Result<Vec<u8>, Fail> {
+/// The datagram by which the client asks for a key.
+fn asked(rt: &impl Abort, alloc: Global, key: Key) -> Result<Vec<u8>, Fail> {
     let keys = keys_of(rt, alloc, CLIENT)?;
     let mut out = Vec::new(alloc);
-    if let Some(key) = &key {
-        assert!(rt; key.fits());
-    }
-    let sealed = seal(alloc, &keys, ME, &Message::Ask(key), &mut out);
+    assert!(rt; key.fits());
+    let sealed = seal(alloc, &keys, ME, &Message::Ask(Some(key)), &mut out);
+    assert!(rt; sealed.is_ok());
+    Ok(out)
+}
+
+/// The datagram by which the client asks for a dummy.
+fn asked_for_dummy(rt: &impl Abort, alloc: Global) -> Result<Vec<u8>, Fail> {
+    let keys = keys_of(rt, alloc, CLIENT)?;
+    let mut out = Vec::new(alloc);
+    let sealed = seal(alloc, &keys, ME, &Message::Ask(None), &mut out);
     assert!(rt; sealed.is_ok());
     Ok(out)
 }
@@ -217,16 +224,22 @@ fn a_coin_is_split_once(rt: HostRuntime) -> Result<(), Fail> {
 }
 
 #[test]
-fn a_client_is_told_what_it_asks(rt: HostRuntime) -> Result<(), Fail> {
+fn a_client_is_told_of_a_key(rt: HostRuntime) -> Result<(), Fail> {
     let alloc = rt.alloc();
     let (mut core, name) = start(&rt, alloc)?;
-    let made = core.step(
-        alloc,
-        Input::Datagram(&asked(&rt, alloc, Some(Key::Object(name)))?),
-    )?;
+    let bytes = asked(&rt, alloc, Key::Object(name))?;
+    let made = core.step(alloc, Input::Datagram(&bytes))?;
     let message = answer(&rt, alloc, made.outs.as_slice())?;
     assert!(rt; is_active_coin(&message, name));
-    let made = core.step(alloc, Input::Datagram(&asked(&rt, alloc, None)?))?;
+    Ok(())
+}
+
+#[test]
+fn a_client_is_told_of_a_dummy(rt: HostRuntime) -> Result<(), Fail> {
+    let alloc = rt.alloc();
+    let (mut core, _) = start(&rt, alloc)?;
+    let bytes = asked_for_dummy(&rt, alloc)?;
+    let made = core.step(alloc, Input::Datagram(&bytes))?;
     let message = answer(&rt, alloc, made.outs.as_slice())?;
     assert!(rt; is_active_dummy(&message));
     Ok(())

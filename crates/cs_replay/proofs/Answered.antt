@@ -8,7 +8,7 @@ use Rattle.cs_base.specs.declared.printing.WriteError.{WriteError}
 use Rattle.cs_base.specs.declared.printing.WriteError.TheVariants as write
 use Rattle.cs_base.proofs.Outcomes.{some_text, nothing_printed}
 use Rattle.cs_replay.specs.Answers.{Replays, replay_answer, closing_status}
-use Rattle.cs_replay.proofs.Played.{take-whole}
+use Rattle.cs_replay.proofs.Courses.{take-whole}
 
 -- the text that was read is that of what was left
 text-read : (limit : ℕ) (left left' : Option (List ℕ)) (text : List ℕ) → IsText limit left left' text → IsTextOf limit left text
@@ -27,19 +27,19 @@ text-read limit (Some xs) (Some ys) text is = by (nat_lt limit (length text)) re
         let within : length text ≤ limit = grind arith in
         sym (ap (take (limit + 1)) (is.taken ∙ ap (λ rest. text ++ rest) (is.at_end within) ∙ append-nil text) ∙ whole)
 
-pub replays-text : (limit : ℕ) (left left' written written' : Option (List ℕ)) (Failed : Type 0) (text : List ℕ) (status : ℕ)
-    → IsText limit left left' text → Answers (replay_answer limit text) written written' status → Replays limit left left' written written' Failed status
-replays-text limit left left' written written' Failed text status is answers =
+pub replays-text : (limit : ℕ) (traced : Bool) (left left' written written' : Option (List ℕ)) (Failed : Type 0) (text : List ℕ) (status : ℕ)
+    → IsText limit left left' text → Answers (replay_answer limit traced text) written written' status → Replays limit traced left left' written written' Failed status
+replays-text limit traced left left' written written' Failed text status is answers =
     inr (record { text = text; is_text = text-read limit left left' text is; whole = λ other. is; answers = answers })
 
-pub unread : (limit : ℕ) (left left' written : Option (List ℕ)) (Failed : Type 0) → Replays limit left left' written written Failed 8
-unread limit left left' written Failed =
+pub unread : (limit : ℕ) (traced : Bool) (left left' written : Option (List ℕ)) (Failed : Type 0) → Replays limit traced left left' written written Failed 8
+unread limit traced left left' written Failed =
     let (text, is_text) = some_text limit left in
     inr (record {
       text = text;
       is_text = is_text;
       whole = λ other. absurd (other refl);
-      answers = nothing_printed (replay_answer limit text) written;
+      answers = nothing_printed (replay_answer limit traced text) written;
     })
 
 -- an answer whose text was printed as far as it went

@@ -1,5 +1,5 @@
 -- What is kept of the executions stands for them still after one more.
-use Rattle.std.proofs.Common.{◌≡◌, ℕ, suc, ◌+◌, ◌<◌, nat_lt, ◌==◌, Bool, true, false, not, ◌&&◌, ◌||◌, cond, List, [], ◌∷◌, ◌++◌, length, slice_index, slice_set, refl, sym, ap, subst, ◌∙◌, arith, rules}
+use Rattle.std.proofs.Common.{◌≡◌, ℕ, suc, ◌+◌, ◌<◌, nat_lt, ◌==◌, Bool, true, false, not, ◌&&◌, ◌||◌, cond, List, [], ◌∷◌, ◌++◌, length, slice_index, slice_set, Result, Ok, Err, OnOk, refl, sym, ap, subst, ◌∙◌, arith, rules}
 use Rattle.std.specs.Prelude.{bytes_eq}
 use Rattle.std.specs.List.{list_all, list_any}
 use Rattle.std.proofs.lemmas.List.{map-append, get_or-set_same, get_or-set_other}
@@ -17,9 +17,9 @@ use Rattle.cs_ledger.specs.Table as Shard
 use Rattle.cs_ledger.specs.ShardWorld.{is_vote, is_listed}
 use Rattle.cs_trail.specs.Setup.{Setup, digest_of}
 use Rattle.cs_trail.specs.Signs.{Did}
-use Rattle.cs_trail.specs.World.{Execution, slots_of, first_of, recorded, all_recorded, told}
+use Rattle.cs_trail.specs.World.{Execution, slots_of, first_of, recorded, all_recorded, is_voted, told}
 use Rattle.cs_replay.specs.Digests.{digests_of}
-use Rattle.cs_replay.specs.Kept.{Kept, Keeps, Deploys, IsBeforeFirst, is_commit, with_commit, with_told, all_commit, voted, entered_slot, executed, kept_after}
+use Rattle.cs_replay.specs.Kept.{Kept, Keeps, Deploys, IsBeforeFirst, is_commit, with_commit, with_told, all_commit, voted, told_next, entered_slot, executed, kept_after}
 
 -- ---- before the first execution
 
@@ -98,13 +98,10 @@ commit-next commits shard d0 d s = by (is_commit commits d0 shard) refl
         ∙ or-comm (is_commit commits d s) ((shard == s) && bytes_eq d d0))
 
 -- the votes after an execution
-votes-next : (kept : Kept) (shard : ℕ) (d0 d : Bytes) (effect : Shard.Effect) (s : ℕ)
-    → is_commit (voted kept shard d0 effect).commits d s ≡ (((shard == s) && (bytes_eq d d0 && is_vote Shard.Commit effect)) || is_commit kept.commits d s)
-votes-next kept shard d0 d effect s = by (is_vote Shard.Commit effect) refl
-  where
-    by : (b : Bool) → is_vote Shard.Commit effect ≡ b → is_commit (voted kept shard d0 effect).commits d s ≡ (((shard == s) && (bytes_eq d d0 && is_vote Shard.Commit effect)) || is_commit kept.commits d s)
-    by true e = rw (e, and-true (bytes_eq d d0)) (commit-next kept.commits shard d0 d s)
-    by false e = rw (e, and-false (bytes_eq d d0), and-false (shard == s)) refl
+votes-next : (kept : Kept) (shard : ℕ) (d0 d : Bytes) (vote : Shard.Vote) (s : ℕ)
+    → is_commit (voted kept shard d0 vote).commits d s ≡ (((shard == s) && (bytes_eq d d0 && is_vote Shard.Commit (Shard.Voted vote))) || is_commit kept.commits d s)
+votes-next kept shard d0 d Shard.Commit s = rw (and-true (bytes_eq d d0)) (commit-next kept.commits shard d0 d s)
+votes-next kept shard d0 d Shard.Abort s = rw (and-false (bytes_eq d d0), and-false (shard == s)) refl
 
 -- ---- transactions told
 
@@ -129,9 +126,9 @@ told-after tx d txs digests true named is = by (is_listed tx txs) refl
 length-set : (xs : List ℕ) (i x : ℕ) → length (slice_set xs i x) ≡ length xs
 length-set xs i x = search rules
 
-module _ (setup : Setup) (kept : Kept) (firsts : List Execution) (shard slot : ℕ) (effect : Shard.Effect) (k : Keeps setup firsts kept) (known : shard < kept.config.shards) where
-  abbrev first : Entry → Execution
-  first entry = record { shard = shard; slot = slot; entry = entry; effect = effect }
+module _ (setup : Setup) (kept : Kept) (firsts : List Execution) (shard slot : ℕ) (k : Keeps setup firsts kept) (known : shard < kept.config.shards) where
+  abbrev first : Entry → Shard.Effect → Execution
+  first entry effect = record { shard = shard; slot = slot; entry = entry; effect = effect }
 
   within : shard < length kept.slots
   within = subst (λ n. shard < n) (sym k.each) known
@@ -139,52 +136,91 @@ module _ (setup : Setup) (kept : Kept) (firsts : List Execution) (shard slot : �
   each : length (entered_slot kept shard).slots ≡ kept.config.shards
   each = length-set kept.slots shard (slice_index kept.slots shard + 1) ∙ k.each
 
-  slots : (entry : Entry) (s : ℕ) → s < kept.config.shards → slice_index (entered_slot kept shard).slots s ≡ slots_of s (first entry ∷ firsts)
-  slots entry s below = slots-next kept.slots shard s _ _ within (k.slots shard known) (k.slots s below)
+  slots : (entry : Entry) (effect : Shard.Effect) (s : ℕ) → s < kept.config.shards → slice_index (entered_slot kept shard).slots s ≡ slots_of s (first entry effect ∷ firsts)
+  slots entry effect s below = slots-next kept.slots shard s _ _ within (k.slots shard known) (k.slots s below)
 
-  decided : (vote : Vote) (x : Session) → Keeps setup (first (Decide vote x) ∷ firsts) (entered_slot kept shard)
-  decided vote x = record {
+  decided : (vote : Vote) (x : Session) (effect : Shard.Effect) → Keeps setup (first (Decide vote x) effect ∷ firsts) (entered_slot kept shard)
+  decided vote x effect = record {
     deploys = k.deploys;
     each = each;
-    slots = slots (Decide vote x);
+    slots = slots (Decide vote x) effect;
     commits = λ d s. k.commits d s ∙ sym (ap (λ b. b || recorded setup firsts d Shard.Commit s) (and-false (shard == s)));
     told = k.told;
   }
 
-  votes : (x : Session) (d : Bytes) (s : ℕ) → is_commit (voted (entered_slot kept shard) shard (digest_of_session x) effect).commits d s ≡ recorded setup (first (Prepare x) ∷ firsts) d Shard.Commit s
-  votes x d s =
-      votes-next (entered_slot kept shard) shard (digest_of_session x) d effect s
-      ∙ ap (λ e. ((shard == s) && (bytes_eq d e && is_vote Shard.Commit effect)) || is_commit kept.commits d s) (sym (k.deploys.session x))
-      ∙ ap (λ b. ((shard == s) && (bytes_eq d (digest_of setup x) && is_vote Shard.Commit effect)) || b) (k.commits d s)
-
-  all_votes : (x : Session) → all_commit kept.config (voted (entered_slot kept shard) shard (digest_of_session x) effect).commits x ≡ all_recorded setup (first (Prepare x) ∷ firsts) x
-  all_votes x =
-      list_all-same _ (recorded setup (first (Prepare x) ∷ firsts) (digest_of setup x) Shard.Commit)
-      (λ s. votes x (digest_of_session x) s ∙ ap (λ d. recorded setup (first (Prepare x) ∷ firsts) d Shard.Commit s) (sym (k.deploys.session x)))
-      (concerned_shards kept.config x)
-      ∙ ap (λ shards. list_all (recorded setup (first (Prepare x) ∷ firsts) (digest_of setup x) Shard.Commit) shards) (sym (k.deploys.concerns x))
-
-  prepared : (x : Session) → Keeps setup (first (Prepare x) ∷ firsts) (executed (entered_slot kept shard) shard (Prepare x) effect)
-  prepared x = record {
+  -- a Prepare that was answered by no vote
+  unvoted : (x : Session) (effect : Shard.Effect) → is_vote Shard.Commit effect ≡ false → is_voted effect ≡ false → Keeps setup (first (Prepare x) effect ∷ firsts) (entered_slot kept shard)
+  unvoted x effect other none = record {
     deploys = k.deploys;
     each = each;
-    slots = slots (Prepare x);
-    commits = votes x;
-    told =
-        ap (λ b. cond b (with_told (digest_of_tx x.tx) kept.told) kept.told) (all_votes x)
-        ∙ told-after (setup.session_of x).transaction (digest_of_tx x.tx) (told setup firsts) kept.told (all_recorded setup (first (Prepare x) ∷ firsts) x) (k.deploys.transaction x) k.told;
+    slots = slots (Prepare x) effect;
+    commits = λ d s.
+        k.commits d s
+        ∙ sym (ap (λ b. b || recorded setup firsts d Shard.Commit s)
+        (ap (λ b. (shard == s) && (bytes_eq d (digest_of setup x) && b)) other ∙ ap (λ b. (shard == s) && b) (and-false (bytes_eq d (digest_of setup x))) ∙ and-false (shard == s)));
+    told = rw none k.told;
   }
 
-  new-slot : (entry : Entry) → Keeps setup (first entry ∷ firsts) (executed (entered_slot kept shard) shard entry effect)
-  new-slot (Prepare x) = prepared x
-  new-slot (Decide vote x) = decided vote x
+  module _ (x : Session) (vote : Shard.Vote) where
+    abbrev here : Execution
+    here = first (Prepare x) (Shard.Voted vote)
+
+    votes : (d : Bytes) (s : ℕ) → is_commit (voted (entered_slot kept shard) shard (digest_of_session x) vote).commits d s ≡ recorded setup (here ∷ firsts) d Shard.Commit s
+    votes d s =
+        votes-next (entered_slot kept shard) shard (digest_of_session x) d vote s
+        ∙ ap (λ e. ((shard == s) && (bytes_eq d e && is_vote Shard.Commit (Shard.Voted vote))) || is_commit kept.commits d s) (sym (k.deploys.session x))
+        ∙ ap (λ b. ((shard == s) && (bytes_eq d (digest_of setup x) && is_vote Shard.Commit (Shard.Voted vote))) || b) (k.commits d s)
+
+    all_votes : all_commit kept.config (voted (entered_slot kept shard) shard (digest_of_session x) vote).commits x ≡ all_recorded setup (here ∷ firsts) x
+    all_votes =
+        list_all-same _ (recorded setup (here ∷ firsts) (digest_of setup x) Shard.Commit)
+        (λ s. votes (digest_of_session x) s ∙ ap (λ d. recorded setup (here ∷ firsts) d Shard.Commit s) (sym (k.deploys.session x)))
+        (concerned_shards kept.config x)
+        ∙ ap (λ shards. list_all (recorded setup (here ∷ firsts) (digest_of setup x) Shard.Commit) shards) (sym (k.deploys.concerns x))
+
+    -- what the vote leaves but for the commits
+    same-rest : (voted (entered_slot kept shard) shard (digest_of_session x) vote) ≡ record (entered_slot kept shard) { commits = (voted (entered_slot kept shard) shard (digest_of_session x) vote).commits }
+    same-rest = by vote
+      where
+        by : (v : Shard.Vote) → (voted (entered_slot kept shard) shard (digest_of_session x) v) ≡ record (entered_slot kept shard) { commits = (voted (entered_slot kept shard) shard (digest_of_session x) v).commits }
+        by Shard.Commit = refl
+        by Shard.Abort = refl
+
+    voted-on : Keeps setup (here ∷ firsts) (told_next (record (entered_slot kept shard) { commits = (voted (entered_slot kept shard) shard (digest_of_session x) vote).commits }) x)
+    voted-on = record {
+      deploys = k.deploys;
+      each = each;
+      slots = slots (Prepare x) (Shard.Voted vote);
+      commits = votes;
+      told =
+          ap (λ b. cond b (with_told (digest_of_tx x.tx) kept.told) kept.told) all_votes
+          ∙ told-after (setup.session_of x).transaction (digest_of_tx x.tx) (told setup firsts) kept.told (all_recorded setup (here ∷ firsts) x) (k.deploys.transaction x) k.told;
+    }
+
+    prepared-on : Keeps setup (here ∷ firsts) (executed (entered_slot kept shard) shard (Prepare x) (Shard.Voted vote))
+    prepared-on = subst (λ (after : Kept). Keeps setup (here ∷ firsts) (told_next after x)) (sym same-rest) voted-on
+
+  new-slot : (entry : Entry) (effect : Shard.Effect) → Keeps setup (first entry effect ∷ firsts) (executed (entered_slot kept shard) shard entry effect)
+  new-slot (Prepare x) (Shard.Voted vote) = prepared-on x vote
+  new-slot (Prepare x) Shard.Accepted = unvoted x Shard.Accepted refl refl
+  new-slot (Prepare x) Shard.Aborted = unvoted x Shard.Aborted refl refl
+  new-slot (Prepare x) Shard.Skipped = unvoted x Shard.Skipped refl refl
+  new-slot (Prepare x) Shard.Void = unvoted x Shard.Void refl refl
+  new-slot (Decide vote x) effect = decided vote x effect
 
   -- what is kept after an execution stands for the first executions after it
-  pub keeps-after : (entry : Entry) → Keeps setup (first_of shard (Did slot entry effect) firsts) (kept_after kept shard slot entry effect)
-  keeps-after entry =
+  pub keeps-after : (entry : Entry) (effect : Shard.Effect) → Keeps setup (first_of shard (Did slot entry effect) firsts) (kept_after kept shard slot entry effect)
+  keeps-after entry effect =
       subst (λ n. Keeps setup (first_of shard (Did slot entry effect) firsts) (cond (nat_lt slot n) kept (executed (entered_slot kept shard) shard entry effect))) (sym (k.slots shard known))
       (by (nat_lt slot (slots_of shard firsts)))
     where
-      by : (b : Bool) → Keeps setup (cond b firsts (first entry ∷ firsts)) (cond b kept (executed (entered_slot kept shard) shard entry effect))
+      by : (b : Bool) → Keeps setup (cond b firsts (first entry effect ∷ firsts)) (cond b kept (executed (entered_slot kept shard) shard entry effect))
       by true = k
-      by false = new-slot entry
+      by false = new-slot entry effect
+
+-- the outcome of a call that leaves what is kept after an execution
+pub keeps-on_ok : {T E : Type 0} (r : Result T E) (setup : Setup) (kept left : Kept) (firsts : List Execution) (shard slot : ℕ) (entry : Entry) (effect : Shard.Effect) → Keeps setup firsts kept → shard < kept.config.shards
+    → (shard < kept.config.shards → OnOk r (left ≡ kept_after kept shard slot entry effect)) → OnOk r (Keeps setup (first_of shard (Did slot entry effect) firsts) left)
+keeps-on_ok (Ok x) setup kept left firsts shard slot entry effect k known is =
+    subst (λ (after : Kept). Keeps setup (first_of shard (Did slot entry effect) firsts) after) (sym (is known)) (keeps-after setup kept firsts shard slot k known entry effect)
+keeps-on_ok (Err e) setup kept left firsts shard slot entry effect k known is = tt

@@ -1,10 +1,13 @@
 pub mod Answered
 pub mod Apart
+pub mod Courses
+pub mod Deliveries
 pub mod Deployed
-pub mod Encoded
 pub mod Histories
 pub mod Notes
 pub mod Outcomes
-pub mod Played
+pub mod Posted
+pub mod Taken
 pub mod Views
+pub mod Voiced
 pub mod Whole

@@ -6,12 +6,14 @@ use Rattle.cs_form.specs.declared.transaction.Tx.{Tx}
 use Rattle.cs_order.specs.Deeds.{Member, Machine}
 use Rattle.cs_trail.specs.Setup.{Setup}
 use Rattle.cs_trail.specs.Evidence.{name_eq}
-use Rattle.cs_trail.specs.Site.{Input, Datagram, Mark, In, Ordered, Plain, Site, View, start_view, mark_step, view_after}
+use Rattle.cs_trail.specs.Net.{Net}
+use Rattle.cs_trail.specs.Site.{Input, Mark, In, Ordered, Plain, Site, View, start_view, mark_step, view_after, signs_of}
 use Rattle.cs_trail.specs.Trail.{event_marks}
 use Rattle.cs_trail.specs.World.{Happening, trail_of, view_of, happens}
 use Rattle.cs_trail.specs.Deployment.{site_of}
 use Rattle.cs_node.specs.declared.nodes.Core.{Core}
-use Rattle.cs_node.specs.declared.made.Made.{Made}
+use Rattle.cs_node.specs.declared.outs.Made.{Made}
+use Rattle.cs_node.specs.Notes.{outs_of}
 use Rattle.cs_node.specs.Steps.{Event}
 use Rattle.cs_node.specs.Cores.{StandsFor}
 use Rattle.cs_replay.specs.Standing.{AllStand, HasNode, Delivered}
@@ -111,29 +113,30 @@ length-set {A} (x ∷ xs) zero y = refl
 length-set {A} (x ∷ xs) (suc k) y = ap suc (length-set xs k y)
 
 -- an input was taken by the core of its node
-pub stepped : {O J M : Type 0} (stands : O → Member M → Type 0) (approves : J → Tx → Bool) (setup : Setup) (rules : Machine M) (names : ℕ → NodeId) (world : List (Happening M)) (cores : List (Core O J M)) (place : ℕ) (core core' : Core O J M) (to : NodeId) (bytes : List ℕ) (answer : Result Made Memory)
-    → AllStand stands approves (site_of setup rules) names cores world → slice_get cores place ≡ Some core → names place ≡ to
-    → ((setup' : Setup) (v : View M) → StandsFor stands approves setup' core v → IfOk answer (λ made. Event (site_of setup' rules) v (Datagram bytes) made (StandsFor stands approves setup' core')))
-    → IfOk answer (λ made. Delivered stands approves (site_of setup rules) names (slice_set cores place core') world to bytes made)
-stepped {O} {J} {M} stands approves setup rules names world cores place core core' to bytes (Err e) all at name takes = tt
-stepped {O} {J} {M} stands approves setup rules names world cores place core core' to bytes (Ok made) all at name takes =
-    let site : Site M = site_of setup rules in
-    let before : StandsFor stands approves setup core (view_of site world to) = subst (λ (n : NodeId). StandsFor stands approves setup core (view_of site world n)) name (all.each place core at) in
-    let event : Event site (view_of site world to) (Datagram bytes) made (StandsFor stands approves setup core') = takes setup (view_of site world to) before in
-    let here : StandsFor stands approves setup core' (view_of site (happens site to (Datagram bytes) world) (names place)) =
-    subst (λ (n : NodeId). StandsFor stands approves setup core' (view_of site (happens site to (Datagram bytes) world) n)) (sym name)
-    (subst (λ (v : View M). StandsFor stands approves setup core' v) (sym (view-here site to (Datagram bytes) world)) event.marks.after) in
+pub stepped : {O J M : Type 0} (stands : O → Member M → Type 0) (approves : J → Tx → Bool) (setup : Setup) (net : Net) (rules : Machine M) (names : ℕ → NodeId) (world : List (Happening M)) (cores : List (Core O J M)) (place : ℕ) (core core' : Core O J M) (to : NodeId) (input : Input) (answer : Result Made Memory)
+    → AllStand stands approves (site_of setup net rules) names cores world → slice_get cores place ≡ Some core → names place ≡ to
+    → ((setup' : Setup) (net' : Net) (v : View M) → StandsFor stands approves setup' net' core v → IfOk answer (λ made. Event (site_of setup' net' rules) v input made (StandsFor stands approves setup' net' core')))
+    → IfOk answer (λ made. Delivered stands approves (site_of setup net rules) names (slice_set cores place core') world to input made)
+stepped {O} {J} {M} stands approves setup net rules names world cores place core core' to input (Err e) all at name takes = tt
+stepped {O} {J} {M} stands approves setup net rules names world cores place core core' to input (Ok made) all at name takes =
+    let site : Site M = site_of setup net rules in
+    let before : StandsFor stands approves setup net core (view_of site world to) = subst (λ (n : NodeId). StandsFor stands approves setup net core (view_of site world n)) name (all.each place core at) in
+    let event : Event site (view_of site world to) input made (StandsFor stands approves setup net core') = takes setup net (view_of site world to) before in
+    let here : StandsFor stands approves setup net core' (view_of site (happens site to input world) (names place)) =
+    subst (λ (n : NodeId). StandsFor stands approves setup net core' (view_of site (happens site to input world) n)) (sym name)
+    (subst (λ (v : View M). StandsFor stands approves setup net core' v) (sym (view-here site to input world)) event.after) in
     record {
-      notes = event.marks.tells;
+      notes = event.notes;
+      outs = event.outs ∙ ap (λ me. outs_of net me (signs_of (event_marks site (view_of site world to) input))) (view-me site world to);
       all = record {
         each = λ i c h.
             elim (get-set cores place i core' c h) [
               | inl p ↦
-                  subst (λ (k : ℕ). StandsFor stands approves setup c (view_of site (happens site to (Datagram bytes) world) (names k))) (sym p.0)
-                  (subst (λ (x : Core O J M). StandsFor stands approves setup x (view_of site (happens site to (Datagram bytes) world) (names place))) p.1 here)
+                  subst (λ (k : ℕ). StandsFor stands approves setup net c (view_of site (happens site to input world) (names k))) (sym p.0)
+                  (subst (λ (x : Core O J M). StandsFor stands approves setup net x (view_of site (happens site to input world) (names place))) p.1 here)
               | inr p ↦
-                  subst (λ (v : View M). StandsFor stands approves setup c v)
-                  (sym (view-there site to (names i) (Datagram bytes) world (λ same. p.0 (sym (all.apart place i (get-within cores place core at) (get-within cores i c p.1) (name ∙ same))))))
+                  subst (λ (v : View M). StandsFor stands approves setup net c v)
+                  (sym (view-there site to (names i) input world (λ same. p.0 (sym (all.apart place i (get-within cores place core at) (get-within cores i c p.1) (name ∙ same))))))
                   (all.each i c p.1)
             ];
         apart = λ i j x y. all.apart i j (subst (λ (n : ℕ). i < n) (length-set cores place core') x) (subst (λ (n : ℕ). j < n) (length-set cores place core') y);

@@ -1,5 +1,5 @@
 -- The lines of the events, and then the history, are the whole.
-use Rattle.std.proofs.Common.{◌≡◌, ℕ, suc, ◌++◌, List, [], ◌∷◌, length, Option, Result, Ok, Err, OnOk, OnErr, refl, ap, sym, subst, ◌∙◌, append_assoc}
+use Rattle.std.proofs.Common.{◌≡◌, ℕ, suc, Bool, ◌++◌, List, [], ◌∷◌, length, Option, Result, Ok, Err, IfOk, OnOk, OnErr, refl, ap, sym, subst, ◌∙◌, append_assoc}
 use Rattle.std.specs.Prelude.{codes}
 use Rattle.std.specs.List.{flat_map}
 use Rattle.std.specs.Fmt.{decimal}
@@ -11,9 +11,13 @@ use Rattle.cs_ledger.specs.Ledger.{Transaction}
 use Rattle.cs_event.specs.declared.schedule.Event.{Event}
 use Rattle.cs_trail.specs.Site.{Site}
 use Rattle.cs_trail.specs.World.{told, firsts_of, history}
-use Rattle.cs_trail.specs.Lines.{transaction_lines, history_text}
-use Rattle.cs_trail.specs.Play.{unplayed, play_all, lines}
+use Rattle.cs_trail.specs.Lines.{transaction_lines, history_text, limit_line}
+use Rattle.cs_trail.specs.Play.{Played, Course, Goes, Stops, played_by, closed, unplayed, play_all, lines}
 use Rattle.cs_replay.specs.Digests.{digests_of, tx_line, history_lines}
+use Rattle.cs_base.specs.declared.printing.WriteError.{WriteError}
+use Rattle.cs_replay.specs.declared.schedule.Ending.{Ending}
+use Rattle.cs_replay.specs.Answers.{course_status}
+use Rattle.cs_replay.specs.Closing.{ending_status, Closes}
 use Rattle.cs_replay.specs.Kept.{Kept, Keeps}
 
 transactions-printed : (txs : List Transaction) → flat_map tx_line (digests_of txs) ≡ transaction_lines txs
@@ -31,26 +35,21 @@ history-printed txs =
     ap (λ n. codes "history " ++ (decimal n ++ (codes "\n" ++ flat_map tx_line (digests_of txs)))) (same-count txs)
     ∙ ap (λ more. codes "history " ++ (decimal (length txs) ++ (codes "\n" ++ more))) (transactions-printed txs)
 
-lines-are : {M : Type 0} (site : Site M) (events : List (ℕ × Event)) → lines site events ≡ (play_all site events unplayed).text ++ history_text (history site (play_all site events unplayed).world)
+pub lines-are : {M : Type 0} (site : Site M) (traced : Bool) (events : List (ℕ × Event)) → lines site traced events ≡ closed site (play_all site traced events unplayed)
 unfolding lines
-lines-are site events = refl
+lines-are site traced events = refl
 
 -- what is kept after the last event gives the lines of the history
-pub lines-end : {M : Type 0} (site : Site M) (events : List (ℕ × Event)) (kept : Kept) → Keeps site.setup (firsts_of (play_all site events unplayed).world) kept
-    → lines site events ≡ (play_all site events unplayed).text ++ history_lines kept.told
-lines-end site events kept k =
-    lines-are site events
-    ∙ ap (λ more. (play_all site events unplayed).text ++ more)
-    (sym (history-printed (told site.setup (firsts_of (play_all site events unplayed).world))) ∙ ap history_lines (sym k.told))
+pub history-end : {M : Type 0} (site : Site M) (p : Played M) (kept : Kept) → Keeps site.setup (firsts_of p.world) kept → closed site (Goes p) ≡ p.text ++ history_lines kept.told
+history-end site p kept k =
+    ap (λ more. p.text ++ more) (sym (history-printed (told site.setup (firsts_of p.world))) ∙ ap history_lines (sym k.told))
 
 -- the lines of the events alone are a front
-pub front-of-lines : {M : Type 0} (site : Site M) (events : List (ℕ × Event)) (a b : Option (List ℕ)) → AppendsFront a b (play_all site events unplayed).text → AppendsFront a b (lines site events)
-front-of-lines site events a b (front, rest, is, written) = (
-  front,
-  rest ++ history_text (history site (play_all site events unplayed).world),
-  lines-are site events ∙ ap (λ text. text ++ history_text (history site (play_all site events unplayed).world)) is ∙ append_assoc front rest (history_text (history site (play_all site events unplayed).world)),
-  written,
-)
+pub front-of-lines : {M : Type 0} (site : Site M) (course : Course M) (a b : Option (List ℕ)) → AppendsFront a b (played_by course).text → AppendsFront a b (closed site course)
+front-of-lines site (Goes p) a b (front, rest, is, written) =
+    (front, rest ++ history_text (history site p.world), ap (λ text. text ++ history_text (history site p.world)) is ∙ append_assoc front rest (history_text (history site p.world)), written)
+front-of-lines site (Stops p line) a b (front, rest, is, written) =
+    (front, rest ++ limit_line line, ap (λ text. text ++ limit_line line) is ∙ append_assoc front rest (limit_line line), written)
 
 -- ---- a text in two parts
 
@@ -62,3 +61,24 @@ pub appended-front : {T E : Type 0} (r : Result T E) (a b c : Option (List ℕ))
 appended-front (Ok x) a b c one two whole is first second = tt
 appended-front (Err e) a b c one two whole is first (front, rest, parts, written) =
     (one ++ front, rest, is ∙ ap (λ t. one ++ t) parts ∙ sym (append_assoc one front rest), Appends-trans a b c one front first written)
+
+-- the last lines, behind those of the events
+pub closes-end : {M : Type 0} (before a b : Option (List ℕ)) (site : Site M) (course : Course M) (p : Played M) (text : List ℕ) (last : Ending) (r : Result Ending WriteError) → closed site course ≡ p.text ++ text → ending_status last ≡ course_status course
+    → Appends before a p.text → OnOk r (Appends a b text) → IfOk r (λ ending. ending ≡ last) → OnErr r (AppendsFront a b text) → Closes before b site course r
+closes-end before a b site course p text last (Ok ending) whole status first done is part =
+    (subst (λ (t : List ℕ). Appends before b t) (sym whole) (Appends-trans before a b p.text text first done), ap ending_status is ∙ status)
+closes-end before a b site course p text last (Err error) whole status first done is (front, rest, parts, written) =
+    (p.text ++ front, rest, whole ∙ ap (λ t. p.text ++ t) parts ∙ sym (append_assoc p.text front rest), Appends-trans before a b p.text front first written)
+
+-- what closes a schedule is all of its lines
+pub closes-done : {M : Type 0} (before b : Option (List ℕ)) (site : Site M) (traced : Bool) (events : List (ℕ × Event)) (r : Result Ending WriteError) → Closes before b site (play_all site traced events unplayed) r → OnOk r (Appends before b (lines site traced events))
+closes-done before b site traced events (Ok ending) closes = subst (λ (t : List ℕ). Appends before b t) (sym (lines-are site traced events)) closes.0
+closes-done before b site traced events (Err error) closes = tt
+
+pub closes-ending : {M : Type 0} (before b : Option (List ℕ)) (site : Site M) (course : Course M) (r : Result Ending WriteError) → Closes before b site course r → IfOk r (λ ending. ending_status ending ≡ course_status course)
+closes-ending before b site course (Ok ending) closes = closes.1
+closes-ending before b site course (Err error) closes = tt
+
+pub closes-part : {M : Type 0} (before b : Option (List ℕ)) (site : Site M) (traced : Bool) (events : List (ℕ × Event)) (r : Result Ending WriteError) → Closes before b site (play_all site traced events unplayed) r → OnErr r (AppendsFront before b (lines site traced events))
+closes-part before b site traced events (Ok ending) closes = tt
+closes-part before b site traced events (Err error) closes = subst (λ (t : List ℕ). AppendsFront before b t) (sym (lines-are site traced events)) closes

@@ -1,7 +1,9 @@
--- The lines of a history, by the digests of its transactions.
-use Rattle.std.specs.Prelude.{List, ◌++◌, length, codes, map}
+-- Lines by what the code has at hand: the history by its digests, a datagram by its parts.
+use Rattle.std.specs.Prelude.{ℕ, List, ◌++◌, length, codes, map}
 use Rattle.std.specs.List.{flat_map}
 use Rattle.std.specs.Fmt.{decimal}
+use Rattle.cs_base.specs.declared.node_id.NodeId.{NodeId}
+use Rattle.cs_base.specs.NodeId.{node_text}
 use Rattle.cs_base.specs.Codes.{bytes_text}
 use Rattle.cs_ledger.specs.Ledger.{Bytes, Transaction}
 
@@ -13,3 +15,9 @@ tx_line digest = codes "tx " ++ (bytes_text digest ++ codes "\n")
 
 abbrev pub history_lines : List Bytes → Bytes
 history_lines digests = codes "history " ++ (decimal (length digests) ++ (codes "\n" ++ flat_map tx_line digests))
+
+-- number, sender, receiver, kind, and the datagram in hex
+abbrev pub sent_text : ℕ → NodeId → NodeId → ℕ → Bytes → Bytes
+sent_text number from to kind hex =
+    codes "sent " ++ (decimal number ++ (codes " " ++ (node_text from ++ (codes " " ++ (node_text to ++ (codes " "
+    ++ (decimal kind ++ (codes " " ++ (hex ++ codes "\n")))))))))

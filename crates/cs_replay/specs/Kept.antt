@@ -55,10 +55,10 @@ with_told d told = if list_any (bytes_eq d) told then told else told ++ d ∷ []
 abbrev pub all_commit : Config → List (ℕ × Bytes) → Session → Bool
 all_commit config commits x = list_all (is_commit commits (digest_of_session x)) (concerned_shards config x)
 
--- a commit vote on a session of this digest
-abbrev pub voted : Kept → ℕ → Bytes → Shard.Effect → Kept
-voted kept shard d effect =
-    record kept { commits = if is_vote Shard.Commit effect then with_commit shard d kept.commits else kept.commits }
+-- the vote on a session of this digest
+abbrev pub voted : Kept → ℕ → Bytes → Shard.Vote → Kept
+voted kept shard d Shard.Commit = record kept { commits = with_commit shard d kept.commits }
+voted kept shard d Shard.Abort = kept
 
 -- the transaction of a session, where every concerned shard has voted commit
 abbrev pub told_next : Kept → Session → Kept
@@ -69,8 +69,16 @@ told_next kept x =
 abbrev pub entered_slot : Kept → ℕ → Kept
 entered_slot kept shard = record kept { slots = slice_set kept.slots shard (slice_index kept.slots shard + 1) }
 
+-- a Prepare that was answered by a vote; what is void gives nothing
+abbrev pub prepared : Kept → ℕ → Session → Shard.Effect → Kept
+prepared kept shard x (Shard.Voted vote) = told_next (voted kept shard (digest_of_session x) vote) x
+prepared kept shard x Shard.Accepted = kept
+prepared kept shard x Shard.Aborted = kept
+prepared kept shard x Shard.Skipped = kept
+prepared kept shard x Shard.Void = kept
+
 abbrev pub executed : Kept → ℕ → Entry → Shard.Effect → Kept
-executed kept shard (Prepare x) effect = told_next (voted kept shard (digest_of_session x) effect) x
+executed kept shard (Prepare x) effect = prepared kept shard x effect
 executed kept shard (Decide vote x) effect = kept
 
 -- what is kept after an execution, where the slot is new

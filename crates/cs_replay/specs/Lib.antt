@@ -3,6 +3,9 @@ pub mod Site
 pub mod Digests
 pub mod Kept
 pub mod Told
+pub mod Voicing
 pub mod Standing
+pub mod Ends
 pub mod Answers
+pub mod Closing
 pub mod Sound

@@ -5,11 +5,15 @@ use Rattle.cs_order.specs.declared.solo.NoMessage.{NoMessage}
 use Rattle.cs_order.specs.Solo.{solo}
 use Rattle.cs_event.specs.declared.schedule.Schedule.{Schedule}
 use Rattle.cs_trail.specs.Setup.{Setup}
+use Rattle.cs_trail.specs.Net.{Net, net_of}
 use Rattle.cs_trail.specs.Site.{Site}
 use Rattle.cs_trail.specs.Deployment.{setup_of, site_of}
 
 abbrev pub setup_of_schedule : Schedule → Setup
 setup_of_schedule schedule = setup_of schedule.config schedule.genesis (session_of is_token_approved)
 
+abbrev pub net_of_schedule : Schedule → Net
+net_of_schedule schedule = net_of schedule.config schedule.master schedule.liars
+
 abbrev pub site_of_schedule : Schedule → Site NoMessage
-site_of_schedule schedule = site_of (setup_of_schedule schedule) solo
+site_of_schedule schedule = site_of (setup_of_schedule schedule) (net_of_schedule schedule) solo

@@ -3,16 +3,17 @@ use Rattle.cs_order.specs.declared.solo.NoMessage.{NoMessage}
 use Rattle.cs_event.specs.declared.schedule.Schedule.{Schedule}
 use Rattle.cs_trail.specs.Site.{Site}
 use Rattle.cs_trail.specs.World.{Happening}
-use Rattle.cs_trail.specs.Play.{unplayed, play_all}
+use Rattle.cs_trail.specs.Play.{played_by}
 use Rattle.cs_trail.specs.Ready.{VotesFree, AcceptsLocked}
 use Rattle.cs_trail.specs.Collisions.{NoCollision}
 use Rattle.cs_story.specs.OneNode.{signs_at, IsSerial, SpendsOnce, DecidesOnce, ExecutesGiven, TellsAccepted, TellsCommitted, HoldsFree}
 use Rattle.cs_replay.specs.Site.{site_of_schedule}
-use Rattle.std.specs.Prelude.{List}
+use Rattle.cs_replay.specs.Answers.{course_of}
+use Rattle.std.specs.Prelude.{Bool, List}
 
 -- the events of a schedule, with all that they make
-abbrev pub world_of : Schedule → List (Happening NoMessage)
-world_of schedule = (play_all (site_of_schedule schedule) schedule.events unplayed).world
+abbrev pub world_of : Bool → Schedule → List (Happening NoMessage)
+world_of traced schedule = (played_by (course_of traced schedule)).world
 
 -- The history is serial, and no object is consumed twice. No session is decided both ways. The accepted transactions
 -- are in the history, and so are those that all concerned shards have voted for. A locked session is accepted.
@@ -27,7 +28,11 @@ pub record IsOneHistory (site : Site NoMessage) (world : List (Happening NoMessa
 
 -- Each executed session stood in an input, and a free one is voted commit. The rest is said where no two of the strings
 -- that are hashed have one hash.
-pub record IsSound (schedule : Schedule) : Type 0 where
-  pub executed : ExecutesGiven (site_of_schedule schedule) (world_of schedule)
-  pub votes_free : VotesFree (site_of_schedule schedule).setup 0 (signs_at (world_of schedule))
-  pub one_history : NoCollision (site_of_schedule schedule) schedule.genesis (world_of schedule) → IsOneHistory (site_of_schedule schedule) (world_of schedule)
+pub record IsSoundWorld (schedule : Schedule) (world : List (Happening NoMessage)) : Type 0 where
+  pub executed : ExecutesGiven (site_of_schedule schedule) world
+  pub votes_free : VotesFree (site_of_schedule schedule).setup 0 (signs_at world)
+  pub one_history : NoCollision (site_of_schedule schedule) schedule.genesis world → IsOneHistory (site_of_schedule schedule) world
+
+-- so it is of the world whose lines are printed, traced or not
+abbrev pub IsSound : Schedule → Type 0
+IsSound schedule = (traced : Bool) → IsSoundWorld schedule (world_of traced schedule)

@@ -1,13 +1,15 @@
 //! The history, kept from the executions as they come.
 ghost use Rattle.std.specs.Prelude.{◌≡◌, ◌<◌, ◌==◌, IfOk, OnOk, List, replicate};
-ghost use Rattle.cs_form.specs.Session.{SessionFits, EntryFits};
+ghost use Rattle.cs_form.specs.Session.{SessionFits};
+ghost use Rattle.cs_node.specs.Notes.{ExecutedFits};
 ghost use Rattle.cs_trail.specs.Setup.{Setup};
 ghost use Rattle.cs_trail.specs.World.{Execution, first_of};
 ghost use Rattle.cs_trail.specs.Signs.{Did};
 ghost use Rattle.cs_table.specs.Effects.{effect_of};
+ghost use Rattle.cs_table.specs.Seen.{vote_of};
 ghost use Rattle.std.specs.List.{list_all};
 ghost use Rattle.cs_tx.specs.Digest.{digest_of_session};
-ghost use Rattle.cs_replay.specs.Kept.{Keeps, IsBeforeFirst, is_commit, all_commit, voted, told_next, kept_after};
+ghost use Rattle.cs_replay.specs.Kept.{Keeps, IsBeforeFirst, is_commit, all_commit, voted, told_next, executed, kept_after};
 
 use cs_base::{Config, Memory};
 use cs_node::Effect;
@@ -61,7 +63,8 @@ impl History {
         self.told.as_slice()
     }
 
-    /// Adds the execution of an entry at a node of the shard.
+    /// Adds the execution of an entry at a node of the shard. Nothing is added of a shard that the
+    /// configuration doesn't have.
     pub fn execute(
         &mut self,
         alloc: Global,
@@ -70,9 +73,8 @@ impl History {
         entry: &Entry,
         effect: Effect,
     ) -> Result<(), Memory>
-        requires shard { shard < self.old.config.shards }
-        requires fits { EntryFits entry.now }
-        ensures kept { (setup : Setup) (firsts : List Execution) → Keeps setup firsts self.old → OnOk result (Keeps setup (first_of shard (Did slot entry.now (effect_of effect)) firsts) self.new) }
+        requires fits { ExecutedFits effect entry.now }
+        ensures kept { (setup : Setup) (firsts : List Execution) → shard < self.old.config.shards → Keeps setup firsts self.old → OnOk result (Keeps setup (first_of shard (Did slot entry.now (effect_of effect)) firsts) self.new) }
         ensures config { OnOk result (self.new.config ≡ self.old.config) }
     {
         self.enter(alloc, shard, slot, entry, effect)
@@ -86,18 +88,38 @@ impl History {
         entry: &Entry,
         effect: Effect,
     ) -> Result<(), Memory>
-        requires shard { shard < self.old.config.shards }
-        requires fits { EntryFits entry.now }
-        ensures { OnOk result (self.new ≡ kept_after self.old shard slot entry.now (effect_of effect)) }
+        requires fits { ExecutedFits effect entry.now }
+        ensures kept { shard < self.old.config.shards → OnOk result (self.new ≡ kept_after self.old shard slot entry.now (effect_of effect)) }
+        ensures config { OnOk result (self.new.config ≡ self.old.config) }
     {
-        let known = self.slots[shard as usize];
+        let place = shard as usize;
+        if place >= self.slots.len() {
+            return Ok(());
+        }
+        let known = self.slots[place];
         if u128::from(slot) < known {
             return Ok(());
         }
-        self.slots[shard as usize] = known + 1;
-        match entry {
-            Entry::Prepare(session) => self.prepare(alloc, shard, session, effect),
-            Entry::Decide(_, _) => Ok(()),
+        self.slots[place] = known + 1;
+        self.note(alloc, shard, entry, effect)
+    }
+
+    // What a new execution gives: a vote on a session. What is void gives nothing.
+    fn note(
+        &mut self,
+        alloc: Global,
+        shard: u16,
+        entry: &Entry,
+        effect: Effect,
+    ) -> Result<(), Memory>
+        requires fits { ExecutedFits effect entry.now }
+        ensures { OnOk result (self.new ≡ executed self.old shard entry.now (effect_of effect)) }
+    {
+        match (entry, effect) {
+            (Entry::Prepare(session), Effect::Voted(vote)) => {
+                self.prepare(alloc, shard, session, vote)
+            }
+            _ => Ok(()),
         }
     }
 
@@ -107,26 +129,16 @@ impl History {
         alloc: Global,
         shard: u16,
         session: &Session,
-        effect: Effect,
+        vote: Vote,
     ) -> Result<(), Memory>
         requires { SessionFits session.now }
-        ensures { OnOk result (self.new ≡ told_next (voted self.old shard (digest_of_session session.now) (effect_of effect)) session.now) }
+        ensures { OnOk result (self.new ≡ told_next (voted self.old shard (digest_of_session session.now) (vote_of vote)) session.now) }
     {
         let digest = session_digest(alloc, session)?;
-        self.count(shard, digest, effect)?;
-        self.tell(alloc, session, digest)
-    }
-
-    fn count(&mut self, shard: u16, digest: Digest, effect: Effect) -> Result<(), Memory>
-        ensures { OnOk result (self.new ≡ voted self.old shard digest (effect_of effect)) }
-    {
-        match effect {
-            Effect::Voted(Vote::Commit) => {
-                self.commits.insert((shard, digest))?;
-                Ok(())
-            }
-            _ => Ok(()),
+        if vote == Vote::Commit {
+            self.commits.insert((shard, digest))?;
         }
+        self.tell(alloc, session, digest)
     }
 
     fn tell(&mut self, alloc: Global, session: &Session, digest: Digest) -> Result<(), Memory>

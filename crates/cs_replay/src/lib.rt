@@ -2,6 +2,7 @@
 #![tactic(auto)]
 
 mod cores;
+mod halt;
 mod history;
 mod lines;
 mod play;
@@ -12,12 +13,16 @@ mod telling;
 #[cfg(test)]
 mod tests;
 mod theorem;
+#[cfg(test)]
+mod trace_tests;
+mod voices;
 mod words;
 
+pub use halt::Halt;
 pub use history::History;
-pub use lines::{history_text, slot_line};
-pub use play::play_events;
+pub use play::Replay;
 pub use program::run;
-pub use schedule::replay;
+pub use schedule::{Ending, replay};
 pub use theorem::schedules_are_sound;
+pub use voices::Voices;
 pub use words::{Command, read_words};

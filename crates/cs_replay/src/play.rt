@@ -1,130 +1,262 @@
 //! The events of a schedule, played at the nodes.
-ghost use Rattle.std.specs.Prelude.{◌≡◌, ℕ, ◌<◌, List, [], length, OnOk, OnErr, IsErrOf};
+ghost use Rattle.std.specs.Prelude.{◌≡◌, ◌≤◌, length, drop, slice_get, string_bytes, IfOk, OnOk, IsErrOf};
 ghost use Rattle.std.specs.List.{All};
-ghost use Rattle.std.specs.Io.KnownBytes.{Appends};
-ghost use Rattle.cs_base.specs.declared.node_id.NodeId.{NodeId};
 ghost use Rattle.cs_base.specs.Outside.{HasCause};
-ghost use Rattle.cs_base.specs.Answers.{AppendsFront};
-ghost use Rattle.cs_trail.specs.Setup.{Setup};
-ghost use Rattle.cs_trail.specs.Site.{Datagram};
-ghost use Rattle.cs_trail.specs.Play.{Played, unplayed, plays, play, play_all};
-ghost use Rattle.cs_trail.specs.Deployment.{site_of};
-ghost use Rattle.cs_replay.specs.Kept.{IsBeforeFirst};
-ghost use Rattle.cs_replay.specs.Standing.{HasNode, HaveNodes, Standing, CanTake, CanPlay, addressee, body_of, IsFor, input_text, event_text};
+ghost use Rattle.cs_event.specs.declared.schedule.Event.TheVariants.{Say};
+ghost use Rattle.cs_trail.specs.Play.{Played, occurs, delivers, drained, play, play_all};
+ghost use Rattle.cs_node.specs.Notes.{NotesFit};
+ghost use Rattle.cs_node.specs.Speaking.{input_of};
+ghost use Rattle.cs_replay.specs.Standing.{Setting, site_in, HasNode, Stands, Standing, IsShort, IsFor};
+ghost use Rattle.cs_replay.specs.Told.{told_text, IsTold};
+ghost use Rattle.cs_replay.specs.Ends.{Sends, Takes, Ends};
+ghost use Rattle.cs_replay.specs.declared.halt.Halt.TheVariants.{Failed as SinkFailed};
 
-use crate::cores::deliver;
+use crate::cores::{deliver, place_of};
+use crate::halt::Halt;
 use crate::history::History;
-use crate::telling::tell;
-use cs_base::{NodeId, Sink, WriteError, print};
-use cs_node::Core;
-use cs_order::Order;
+use crate::telling::{head_text, sent_text, tell};
+use crate::voices::Voices;
+use cs_base::{Memory, NodeId, Sequence, Sink, print};
 use cs_event::Event;
+use cs_node::{Core, Made};
+use cs_order::Order;
+use cs_post::{Parcel, Post, SendError};
 use cs_tx::Judge;
+use cs_wire::{Input, Out};
 use std::alloc::Global;
 
-/// Plays the events, and prints what the nodes execute. The history takes it in. Where it stops,
-/// what was written is a front of the lines of all events.
-pub fn play_events<O: Order, J: Judge + Drop, K: Sink>(
+/// The most events of a replay.
+const MOST_EVENTS: u64 = 1_000_000;
+
+/// A replay under way.
+#[derive(Drop)]
+pub struct Replay<O: Order, J: Judge + Drop> {
+    /// The honest nodes.
+    pub cores: Vec<Core<O, J>>,
+    pub history: History,
+    pub post: Post,
+    pub voices: Voices,
+    /// How many events there were.
+    pub events: u64,
+    /// Whether all is printed that happens.
+    pub traced: bool,
+}
+
+impl<O: Order, J: Judge + Drop> Replay<O, J> {
+    /// Plays the events, each by the line of its number, and prints what comes of them. It stops
+    /// at the first that would pass a limit.
+    pub fn play_all<K: Sink>(
+        &mut self,
+        alloc: Global,
+        events: &[(u64, Event)],
+        output: &mut K,
+    ) -> Result<(), Halt>
+        requires { All (λ numbered. IsShort numbered.1) events.now }
+        ensures ends { (s : Setting) (p : Played O.Message)
+            → Standing O.stands J.is_approved O.rules s self.old (K.written output.old) p → All (λ numbered. IsFor s numbered.1) events.now
+            → Ends O.stands J.is_approved O.rules s (play_all (site_in O.rules s) s.traced events.now p) self.new (K.written output.new) result }
+        ensures cause { HasCause (K.faults output.old) (K.faults output.new) (IsErrOf result SinkFailed) }
+    {
+        for (line, event) in events {
+            self.play(alloc, *line, event, output)?;
+        }
+        Ok(())
+    }
+
+    // One event.
+    fn play<K: Sink>(
+        &mut self,
+        alloc: Global,
+        line: u64,
+        event: &Event,
+        output: &mut K,
+    ) -> Result<(), Halt>
+        requires { IsShort event.now }
+        ensures ends { (s : Setting) (p : Played O.Message)
+            → Standing O.stands J.is_approved O.rules s self.old (K.written output.old) p → IsFor s event.now
+            → Ends O.stands J.is_approved O.rules s (play (site_in O.rules s) s.traced line event.now p) self.new (K.written output.new) result }
+        ensures cause { HasCause (K.faults output.old) (K.faults output.new) (IsErrOf result SinkFailed) }
+    {
+        match event {
+            Event::Say {
+                from,
+                to,
+                kind,
+                body,
+            } => self.say(alloc, line, (*from, *to), *kind, body.as_slice(), output),
+            Event::Inject { to, bytes } => {
+                self.occur(alloc, line, *to, Input::Datagram(bytes.as_slice()), output)
+            }
+            Event::Deliver { number } => self.deliver(alloc, line, *number, output),
+            Event::Tick { node } => self.occur(alloc, line, *node, Input::Tick, output),
+            Event::Drain { times } => self.drain(alloc, line, *times, output),
+        }
+    }
+
+    // One name says something to another.
+    fn say<K: Sink>(
+        &mut self,
+        alloc: Global,
+        line: u64,
+        names: (NodeId, NodeId),
+        kind: u8,
+        body: &[u8],
+        output: &mut K,
+    ) -> Result<(), Halt>
+        requires { length body.now ≤ 32719 }
+        ensures ends { (s : Setting) (p : Played O.Message)
+            → Standing O.stands J.is_approved O.rules s self.old (K.written output.old) p → IsFor s (Say names.0 names.1 kind body.now)
+            → Ends O.stands J.is_approved O.rules s (play (site_in O.rules s) s.traced line (Say names.0 names.1 kind body.now) p) self.new (K.written output.new) result }
+        ensures cause { HasCause (K.faults output.old) (K.faults output.new) (IsErrOf result SinkFailed) }
+    {
+        let (from, to) = names;
+        let bytes = self.voices.say(alloc, from, to, kind, body)?;
+        self.occur(alloc, line, to, Input::Datagram(&bytes), output)
+    }
+
+    // The oldest datagram that never came to its addressee comes, so many times.
+    fn drain<K: Sink>(
+        &mut self,
+        alloc: Global,
+        line: u64,
+        times: u64,
+        output: &mut K,
+    ) -> Result<(), Halt>
+        ensures ends { (s : Setting) (p : Played O.Message)
+            → Standing O.stands J.is_approved O.rules s self.old (K.written output.old) p
+            → Ends O.stands J.is_approved O.rules s (drained (site_in O.rules s) s.traced line times p) self.new (K.written output.new) result }
+        ensures cause { HasCause (K.faults output.old) (K.faults output.new) (IsErrOf result SinkFailed) }
+    {
+        let mut left = times;
+        while left > 0 {
+            match self.post.first_left() {
+                None => return Ok(()),
+                Some(number) => self.deliver(alloc, line, number, output)?,
+            }
+            left -= 1;
+        }
+        Ok(())
+    }
+
+    // The datagram of this number comes to its addressee. What comes to a liar or a client is no
+    // event.
+    fn deliver<K: Sink>(
+        &mut self,
+        alloc: Global,
+        line: u64,
+        number: u64,
+        output: &mut K,
+    ) -> Result<(), Halt>
+        ensures ends { (s : Setting) (p : Played O.Message)
+            → Standing O.stands J.is_approved O.rules s self.old (K.written output.old) p
+            → Ends O.stands J.is_approved O.rules s (delivers (site_in O.rules s) s.traced line number (slice_get p.parcels number) p) self.new (K.written output.new) result }
+        ensures cause { HasCause (K.faults output.old) (K.faults output.new) (IsErrOf result SinkFailed) }
+    {
+        let Some(parcel) = self.post.get(number) else {
+            return Ok(());
+        };
+        let to = parcel.to();
+        let bytes = parcel.bytes().to_vec(alloc)?;
+        self.post.arrive(number);
+        match place_of(self.cores.as_slice(), to) {
+            None => Ok(()),
+            Some(_) => self.occur(alloc, line, to, Input::Datagram(&bytes), output),
+        }
+    }
+
+    // An input at a node, and the lines of what comes of it.
+    fn occur<K: Sink>(
+        &mut self,
+        alloc: Global,
+        line: u64,
+        to: NodeId,
+        input: Input<'_>,
+        output: &mut K,
+    ) -> Result<(), Halt>
+        ensures ends { (s : Setting) (p : Played O.Message)
+            → Standing O.stands J.is_approved O.rules s self.old (K.written output.old) p → HasNode s.names s.count to
+            → Ends O.stands J.is_approved O.rules s (occurs (site_in O.rules s) s.traced line to (input_of input.entry) p) self.new (K.written output.new) result }
+        ensures cause { HasCause (K.faults output.old) (K.faults output.new) (IsErrOf result SinkFailed) }
+    {
+        let text = self.take_in(alloc, line, to, input)?;
+        print(output, text.as_bytes())?;
+        Ok(())
+    }
+
+    // An input at a node, unless it would be an event too many, or too much would have been sent:
+    // the lines of what comes of it.
+    fn take_in(
+        &mut self,
+        alloc: Global,
+        line: u64,
+        to: NodeId,
+        input: Input<'_>,
+    ) -> Result<String, Halt>
+        ensures takes { (s : Setting) (p : Played O.Message)
+            → Stands O.stands J.is_approved O.rules s self.old p → HasNode s.names s.count to
+            → Takes O.stands J.is_approved O.rules s (occurs (site_in O.rules s) s.traced line to (input_of input.entry) p) p self.new result }
+        ensures sink { IsErrOf result SinkFailed → ⊥ }
+    {
+        if self.events >= MOST_EVENTS {
+            return Err(Halt::Limit(line));
+        }
+        let made = deliver(alloc, &mut self.cores, to, input)?;
+        let number = self.post.len();
+        send_all(alloc, &mut self.post, line, to, made.outs.as_slice())?;
+        let text = self.tell(alloc, line, to, &made, number)?;
+        self.events += 1;
+        Ok(text)
+    }
+
+    // The lines of an event at a node. The first datagram that it sent has this number.
+    fn tell(
+        &mut self,
+        alloc: Global,
+        line: u64,
+        me: NodeId,
+        made: &Made,
+        number: usize,
+    ) -> Result<String, Memory>
+        requires fit { NotesFit made.now.notes }
+        requires number { number ≤ length self.old.post }
+        ensures text { IfOk result (λ text. string_bytes text ≡ told_text self.old.traced self.old.events line me made.now.notes number (drop number self.old.post)) }
+        ensures kept { OnOk result (IsTold me made.now.notes self.old.history self.new.history) }
+        ensures rest { self.new ≡ record self.old { history = self.new.history } }
+    {
+        let mut text = head_text(alloc, self.traced, self.events, line)?;
+        let notes = tell(
+            alloc,
+            &mut self.history,
+            self.traced,
+            me,
+            made.notes.as_slice(),
+        )?;
+        text.push_str(&notes)?;
+        let sent = self.post.sent_since(number);
+        let sent = sent_text(alloc, self.traced, number, sent)?;
+        text.push_str(&sent)?;
+        Ok(text)
+    }
+}
+
+// Sends what goes out of a node.
+fn send_all(
     alloc: Global,
-    cores: &mut Vec<Core<O, J>>,
-    history: &mut History,
-    events: &[(u64, Event)],
-    output: &mut K,
-) -> Result<(), WriteError>
-    requires shards { All (λ numbered. IsFor history.old.config numbered.1) events.now }
-    requires empty { IsBeforeFirst history.old }
-    requires start { CanPlay O.stands J.is_approved O.rules cores.old.items history.old.config events.now }
-    ensures done { (setup : Setup) (names : ℕ → NodeId)
-        → Standing O.stands J.is_approved (site_of setup O.rules) names cores.old.items history.old unplayed → HaveNodes names (length cores.old.items) events.now
-        → OnOk result (Standing O.stands J.is_approved (site_of setup O.rules) names cores.new.items history.new (play_all (site_of setup O.rules) events.now unplayed)) }
-    ensures whole { (setup : Setup) (names : ℕ → NodeId)
-        → Standing O.stands J.is_approved (site_of setup O.rules) names cores.old.items history.old unplayed → HaveNodes names (length cores.old.items) events.now
-        → OnOk result (Appends (K.written output.old) (K.written output.new) (play_all (site_of setup O.rules) events.now unplayed).text) }
-    ensures part { (setup : Setup) (names : ℕ → NodeId)
-        → Standing O.stands J.is_approved (site_of setup O.rules) names cores.old.items history.old unplayed → HaveNodes names (length cores.old.items) events.now
-        → OnErr result (AppendsFront (K.written output.old) (K.written output.new) (play_all (site_of setup O.rules) events.now unplayed).text) }
-    ensures cause { HasCause (K.faults output.old) (K.faults output.new) (IsErrOf result WriteError.Failed) }
+    post: &mut Post,
+    line: u64,
+    from: NodeId,
+    outs: &[Out],
+) -> Result<(), Halt>
+    ensures { Sends line from outs.now post.old post.new result }
 {
-    for (_, event) in events {
-        play_event(alloc, cores, history, event, output)?;
+    for out in outs {
+        let bytes = out.bytes.as_slice().to_vec(alloc)?;
+        let parcel = Parcel::new(from, out.to, Sequence::from_vec(bytes));
+        match post.send(parcel) {
+            Ok(()) => {}
+            Err(SendError::Full) => return Err(Halt::Limit(line)),
+            Err(SendError::Memory) => return Err(Halt::Memory),
+        }
     }
     Ok(())
-}
-
-// One event at its node, and the lines of what that node executes.
-fn play_event<O: Order, J: Judge + Drop, K: Sink>(
-    alloc: Global,
-    cores: &mut Vec<Core<O, J>>,
-    history: &mut History,
-    event: &Event,
-    output: &mut K,
-) -> Result<(), WriteError>
-    requires shard { IsFor history.old.config event.now }
-    requires takes { CanTake O.stands J.is_approved O.rules cores.old.items history.old (addressee event.now) (body_of event.now) }
-    ensures done { (setup : Setup) (names : ℕ → NodeId) (p : Played O.Message)
-        → Standing O.stands J.is_approved (site_of setup O.rules) names cores.old.items history.old p → HasNode names (length cores.old.items) (addressee event.now)
-        → OnOk result (Standing O.stands J.is_approved (site_of setup O.rules) names cores.new.items history.new (play (site_of setup O.rules) event.now p)) }
-    ensures whole { (setup : Setup) (names : ℕ → NodeId) (p : Played O.Message)
-        → Standing O.stands J.is_approved (site_of setup O.rules) names cores.old.items history.old p → HasNode names (length cores.old.items) (addressee event.now)
-        → OnOk result (Appends (K.written output.old) (K.written output.new) (event_text (site_of setup O.rules) event.now p.world)) }
-    ensures part { (setup : Setup) (names : ℕ → NodeId) (p : Played O.Message)
-        → Standing O.stands J.is_approved (site_of setup O.rules) names cores.old.items history.old p → HasNode names (length cores.old.items) (addressee event.now)
-        → OnErr result (AppendsFront (K.written output.old) (K.written output.new) (event_text (site_of setup O.rules) event.now p.world)) }
-    ensures cause { HasCause (K.faults output.old) (K.faults output.new) (IsErrOf result WriteError.Failed) }
-    ensures count { OnOk result (length cores.new.items ≡ length cores.old.items) }
-    ensures config { OnOk result (history.new.config ≡ history.old.config) }
-{
-    let to = addressee(event);
-    play_input(alloc, cores, history, to, body(event), output)
-}
-
-fn addressee(event: &Event) -> NodeId
-    ensures { result ≡ addressee event.now }
-{
-    match event {
-        Event::Say { to, .. } => *to,
-    }
-}
-
-fn body(event: &Event) -> &[u8]
-    ensures { result.now ≡ body_of event.now }
-{
-    match event {
-        Event::Say { body, .. } => body.as_slice(),
-    }
-}
-
-// An input at a node, and the lines of what it executes.
-fn play_input<O: Order, J: Judge + Drop, K: Sink>(
-    alloc: Global,
-    cores: &mut Vec<Core<O, J>>,
-    history: &mut History,
-    to: NodeId,
-    bytes: &[u8],
-    output: &mut K,
-) -> Result<(), WriteError>
-    requires shard { to.shard < history.old.config.shards }
-    requires takes { CanTake O.stands J.is_approved O.rules cores.old.items history.old to bytes.now }
-    ensures done { (setup : Setup) (names : ℕ → NodeId) (p : Played O.Message)
-        → Standing O.stands J.is_approved (site_of setup O.rules) names cores.old.items history.old p → HasNode names (length cores.old.items) to
-        → OnOk result (Standing O.stands J.is_approved (site_of setup O.rules) names cores.new.items history.new (plays (site_of setup O.rules) to (Datagram bytes.now) p)) }
-    ensures whole { (setup : Setup) (names : ℕ → NodeId) (p : Played O.Message)
-        → Standing O.stands J.is_approved (site_of setup O.rules) names cores.old.items history.old p → HasNode names (length cores.old.items) to
-        → OnOk result (Appends (K.written output.old) (K.written output.new) (input_text (site_of setup O.rules) to bytes.now p.world)) }
-    ensures part { (setup : Setup) (names : ℕ → NodeId) (p : Played O.Message)
-        → Standing O.stands J.is_approved (site_of setup O.rules) names cores.old.items history.old p → HasNode names (length cores.old.items) to
-        → OnErr result (AppendsFront (K.written output.old) (K.written output.new) (input_text (site_of setup O.rules) to bytes.now p.world)) }
-    ensures cause { HasCause (K.faults output.old) (K.faults output.new) (IsErrOf result WriteError.Failed) }
-    ensures count { OnOk result (length cores.new.items ≡ length cores.old.items) }
-    ensures config { OnOk result (history.new.config ≡ history.old.config) }
-{
-    let made = match deliver(alloc, cores, to, bytes) {
-        Ok(made) => made,
-        Err(_) => return Err(WriteError::Memory),
-    };
-    let text = match tell(alloc, history, to, made.notes.as_slice()) {
-        Ok(text) => text,
-        Err(_) => return Err(WriteError::Memory),
-    };
-    print(output, text.as_bytes())
 }

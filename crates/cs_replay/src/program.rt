@@ -1,5 +1,5 @@
 //! The whole of the program, over the words, the source and the sink that are handed in.
-ghost use Rattle.std.specs.Prelude.{◌≡◌, ◌≢◌, ℕ, List, Ok, Some, None};
+ghost use Rattle.std.specs.Prelude.{◌≡◌, ◌≢◌, ℕ, Bool, List, Ok, Some, None};
 ghost use Rattle.std.specs.Io.KnownBytes.{Keeps};
 ghost use Rattle.cs_base.specs.Outside.{HasCause, Rose};
 ghost use Rattle.cs_base.specs.Answers.{Answers};
@@ -14,14 +14,14 @@ ghost use Rattle.cs_replay.specs.declared.words.Command.TheVariants.{Replay};
 
 use crate::schedule::replay;
 use crate::theorem::schedules_are_sound;
-use crate::words::{Command, read_words};
+use crate::words::read_words;
 use cs_base::{ReadError, Sink, Source, WriteError, print, read_text};
 use cs_sched::{LIMIT, Refusal, Schedule, ScheduleError, parse, refusal_line};
 use std::alloc::Global;
 
 /// Does what the words call for, and answers the status that the process ends with: 0 where it is
-/// done, 2 for words outside the grammar, 3 for a text with a bad line and 13 for one above a
-/// limit, 5 where the source fails and 6 where the sink does, 8 for want of memory.
+/// done, 2 for words outside the grammar, 3 for a text with a bad line, 13 where a
+/// quantity of it is past its limit, 5 where the source fails and 6 where the sink does, 8 for want of memory.
 pub fn run<S: Source, K: Sink>(alloc: Global, words: &[String], input: &mut S, output: &mut K) -> u8
     // Words outside the grammar are refused, and nothing is read.
     ensures words { command_of (texts_of words.now) ≡ None → Answers words_answer (K.written output.old) (K.written output.new) result }
@@ -29,11 +29,11 @@ pub fn run<S: Source, K: Sink>(alloc: Global, words: &[String], input: &mut S, o
     ensures only_words { result ≡ 2 → command_of (texts_of words.now) ≡ None }
 
     // `replay` answers what the text of the source comes to.
-    ensures replay { command_of (texts_of words.now) ≡ Some Replay
-        → Replays LIMIT (S.left input.old) (S.left input.new) (K.written output.old) (K.written output.new) (Rose (S.faults input.old) (S.faults input.new)) result }
-    ensures complete { command_of (texts_of words.now) ≡ Some Replay
+    ensures replay { (traced : Bool) → command_of (texts_of words.now) ≡ Some (Replay traced)
+        → Replays LIMIT traced (S.left input.old) (S.left input.new) (K.written output.old) (K.written output.new) (Rose (S.faults input.old) (S.faults input.new)) result }
+    ensures complete { (traced : Bool) → command_of (texts_of words.now) ≡ Some (Replay traced)
         → (Rose (S.faults input.old) (S.faults input.new) → ⊥) → (Rose (K.faults output.old) (K.faults output.new) → ⊥)
-        → Completes LIMIT (S.left input.old) (K.written output.old) (K.written output.new) result }
+        → Completes LIMIT traced (S.left input.old) (K.written output.old) (K.written output.new) result }
 
     // What is true of every schedule that is read: of its history, which is printed, and of its decisions.
     ensures sound { (text : List ℕ) (schedule : Schedule) → schedule_of LIMIT text ≡ Ok schedule → IsSound schedule }
@@ -44,45 +44,54 @@ pub fn run<S: Source, K: Sink>(alloc: Global, words: &[String], input: &mut S, o
 {
     schedules_are_sound();
     match read_words(words) {
-        Some(Command::Replay) => replay_source(alloc, input, output),
+        Some(command) => replay_source(alloc, command.is_traced(), input, output),
         None => closing(print(output, b"words\n"), 2),
     }
 }
 
 // Replays the text of the source.
-fn replay_source<S: Source, K: Sink>(alloc: Global, input: &mut S, output: &mut K) -> u8
-    ensures replay { Replays LIMIT (S.left input.old) (S.left input.new) (K.written output.old) (K.written output.new) (Rose (S.faults input.old) (S.faults input.new)) result }
+fn replay_source<S: Source, K: Sink>(
+    alloc: Global,
+    traced: bool,
+    input: &mut S,
+    output: &mut K,
+) -> u8
+    ensures replay { Replays LIMIT traced (S.left input.old) (S.left input.new) (K.written output.old) (K.written output.new) (Rose (S.faults input.old) (S.faults input.new)) result }
     ensures only { result ≢ 2 }
     ensures read_fault { HasCause (S.faults input.old) (S.faults input.new) (result ≡ 5) }
     ensures write_fault { HasCause (K.faults output.old) (K.faults output.new) (result ≡ 6) }
 {
     match read_text(alloc, LIMIT, input) {
-        Ok(text) => answer(alloc, &text, output),
+        Ok(text) => answer(alloc, traced, &text, output),
         Err(ReadError::Failed) => closing(print(output, b"read fault\n"), 5),
         Err(ReadError::Memory) => 8,
     }
 }
 
 // Replays a text.
-fn answer<K: Sink>(alloc: Global, text: &[u8], output: &mut K) -> u8
-    ensures answers { Answers (replay_answer LIMIT text.now) (K.written output.old) (K.written output.new) result }
+fn answer<K: Sink>(alloc: Global, traced: bool, text: &[u8], output: &mut K) -> u8
+    ensures answers { Answers (replay_answer LIMIT traced text.now) (K.written output.old) (K.written output.new) result }
     ensures only { (result ≢ 2) × (result ≢ 5) }
     ensures write_fault { HasCause (K.faults output.old) (K.faults output.new) (result ≡ 6) }
 {
     match parse(alloc, text) {
-        Ok(schedule) => play(alloc, &schedule, output),
+        Ok(schedule) => play(alloc, traced, &schedule, output),
         Err(ScheduleError::Line(refusal)) => refuse(alloc, refusal, output),
         Err(ScheduleError::Memory) => 8,
     }
 }
 
-fn play<K: Sink>(alloc: Global, schedule: &Schedule, output: &mut K) -> u8
+fn play<K: Sink>(alloc: Global, traced: bool, schedule: &Schedule, output: &mut K) -> u8
     requires { IsPlayable schedule.now }
-    ensures answers { Answers (schedule_answer schedule.now) (K.written output.old) (K.written output.new) result }
+    ensures answers { Answers (schedule_answer traced schedule.now) (K.written output.old) (K.written output.new) result }
     ensures only { (result ≢ 2) × (result ≢ 5) }
     ensures write_fault { HasCause (K.faults output.old) (K.faults output.new) (result ≡ 6) }
 {
-    closing(replay(alloc, schedule, output), 0)
+    match replay(alloc, schedule, traced, output) {
+        Ok(ending) => ending.status(),
+        Err(WriteError::Failed) => 6,
+        Err(WriteError::Memory) => 8,
+    }
 }
 
 fn refuse<K: Sink>(alloc: Global, refusal: Refusal, output: &mut K) -> u8

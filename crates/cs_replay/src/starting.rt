@@ -8,10 +8,11 @@ ghost use Rattle.cs_replay.specs.Site.{site_of_schedule};
 ghost use Rattle.cs_replay.specs.Standing.{AllStand};
 
 use cs_base::{Key, Memory, NodeId};
-use cs_node::{Core, StartError};
-use cs_order::{Order, Solo};
 use cs_event::Schedule;
+use cs_node::{Core, StartError, keys_of_a_master_speak};
+use cs_order::{Order, Solo};
 use cs_tx::{Encoded, Judge, Object, TokenJudge, genesis_key};
+use cs_wire::Keys;
 use std::alloc::Global;
 
 /// The nodes of a schedule before their first input: as yet the one node of its one shard.
@@ -26,10 +27,12 @@ pub fn start_nodes(
     let genesis = keyed(alloc, schedule.genesis.as_slice())?;
     let node = NodeId { shard: 0, index: 0 };
     let order = Solo::new(alloc);
+    keys_of_a_master_speak();
+    let keys = Keys::from_master(alloc, &schedule.config, &schedule.master, node)?;
     let core = match Core::start(
         alloc,
         schedule.config,
-        node,
+        keys,
         TokenJudge,
         genesis.as_slice(),
         order,

@@ -6,15 +6,15 @@ use std::alloc::{AllocError, Global};
 use std::test::Fail;
 
 /// The first lines of a schedule of one node.
-const HEAD: &str =
+pub(crate) const HEAD: &str =
     "shards 1\nfaulty 0\ndummies 0\nmaster 0000000000000000000000000000000000000000000000000000000000000000\n";
 
 /// A coin of 5.
-const COIN: &str =
+pub(crate) const COIN: &str =
     "genesis 3c469e9d6c5875d37a43f353d4f88e61fcf812c66eee3457465a40b0da4153e004636f696e01000000000000000005\n";
 
 /// A session that splits the coin into 2 and 3. Its number is 1.
-const SPLIT: &str =
+pub(crate) const SPLIT: &str =
     "013c469e9d6c5875d37a43f353d4f88e61fcf812c66eee3457465a40b0da4153e0087472616e736665720148d0f4bc08ed70656da9cbd219fc9f52ae0b490981bfea400afd6fc1f852e5a63c469e9d6c5875d37a43f353d4f88e61fcf812c66eee3457465a40b0da4153e004636f696e010000000000000000050000023c469e9d6c5875d37a43f353d4f88e61fcf812c66eee3457465a40b0da4153e004636f696e010000000000000000023c469e9d6c5875d37a43f353d4f88e61fcf812c66eee3457465a40b0da4153e004636f696e010000000000000000030000000000000000000100";
 
 /// The same transaction under the number 2.
@@ -50,11 +50,11 @@ const WRONG: &str =
     "013c469e9d6c5875d37a43f353d4f88e61fcf812c66eee3457465a40b0da4153e0087472616e736665720148d0f4bc08ed70656da9cbd219fc9f52ae0b490981bfea400afd6fc1f852e5a63c469e9d6c5875d37a43f353d4f88e61fcf812c66eee3457465a40b0da4153e004636f696e010000000000000000040000013c469e9d6c5875d37a43f353d4f88e61fcf812c66eee3457465a40b0da4153e004636f696e010000000000000000040000";
 
 /// What is printed of the execution of `SPLIT`.
-const SLOTS: &str =
+pub(crate) const SLOTS: &str =
     "node 0.0 slot 0 prepare ac5e7025d2167b57ba56a995fe24b456a403148c19737b0ef06065b4e3630a43 commit\nnode 0.0 slot 1 decide ac5e7025d2167b57ba56a995fe24b456a403148c19737b0ef06065b4e3630a43 accepted\n";
 
 /// The history after it.
-const HISTORY: &str =
+pub(crate) const HISTORY: &str =
     "history 1\ntx 905ff0fd05d11b6302bff783f4ab02802f1f2192a2b92108919c3aa534612e7e\n";
 
 /// What is printed where `MOVE` comes first.
@@ -70,7 +70,7 @@ const SPENT: &str =
     "node 0.0 slot 0 prepare 35e2dd2d728e06a76d77fb9068d376e431ac84a160232489ebbba3d106a49700 abort\nnode 0.0 slot 1 prepare d63f1172e1dfeabddf3b7ebdc660bae1d815a20779242955a76896680a2a49fa commit\nnode 0.0 slot 2 decide d63f1172e1dfeabddf3b7ebdc660bae1d815a20779242955a76896680a2a49fa accepted\nnode 0.0 slot 3 prepare f0ff0e67f5a5d9efa15adc0b0f33256b1d45c8df2bbcfcf673b9f51de5b9cbc4 commit\nnode 0.0 slot 4 decide f0ff0e67f5a5d9efa15adc0b0f33256b1d45c8df2bbcfcf673b9f51de5b9cbc4 accepted\nhistory 2\ntx 33b558bda269ff575321fe200958fe4da4f10f788c5ca25718b9e76d4a0ed358\ntx 7d09e195ea19d4e2feb63db19e109fa329ea6dd6f7637e40e1ce2e5a28eaef52\n";
 
 /// The status, and what was written. The source's and the sink's calls of these numbers fail.
-fn answer(
+pub(crate) fn answer(
     alloc: Global,
     words: &[&str],
     text: &[u8],
@@ -147,7 +147,7 @@ fn each_cause_of_a_refusal(rt: HostRuntime) -> Result<(), Fail> {
         ("liar 0.0", 3, "refused 5 liars\n"),
         ("genesis 0", 3, "refused 5 hex\n"),
         ("genesis -", 3, "refused 5 object\n"),
-        ("run\ntick 0.0", 3, "refused 6 later\n"),
+        ("contract 00", 3, "refused 5 later\n"),
         ("run\n", 3, "refused 6 end\n"),
         ("run\nend\nrun\n", 3, "refused 7 after\n"),
     ] {

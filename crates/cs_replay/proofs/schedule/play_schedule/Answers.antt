@@ -1,47 +1,63 @@
-use Rattle.std.proofs.Common.{ℕ, List, length, subst, OnOk, OnErr}
+use Rattle.std.proofs.Common.{◌≡◌, ℕ, List, [], Err, sym, ap, subst, ◌∙◌, refl, append-nil}
+use Rattle.std.specs.List.{All}
 use Rattle.std.specs.Io.KnownBytes.{Appends}
+use Rattle.std.proofs.KnownBytes.{Appends-nil}
 use Rattle.cs_base.specs.Answers.{AppendsFront}
 use Rattle.cs_event.specs.declared.schedule.Event.{Event}
-use Rattle.cs_trail.specs.Deployment.{site_of}
-use Rattle.cs_trail.specs.Play.{unplayed, play_all, lines}
+use Rattle.cs_trail.specs.Lines.{limit_line}
+use Rattle.cs_trail.specs.Play.{Course, Stops, closed, unplayed, play_all}
+use Rattle.cs_replay.specs.declared.schedule.Ending.TheVariants.{Done, Limit}
+use Rattle.cs_replay.specs.Answers.{course_status}
 use Rattle.cs_replay.specs.Digests.{history_lines}
-use Rattle.cs_replay.specs.Standing.{HaveNodes, Standing}
-use Rattle.cs_replay.proofs.Histories.{kept-first}
-use Rattle.cs_replay.proofs.Whole.{lines-end, front-of-lines, appended, appended-front}
+use Rattle.cs_replay.specs.Closing.{Closes}
+use Rattle.cs_replay.specs.Ends.{Ends}
+use Rattle.cs_replay.specs.Standing.{Setting, site_in, Stands, Standing, IsFor}
+use Rattle.cs_replay.proofs.Whole.{history-end, closes-end, front-of-lines}
 use Rattle.cs_replay.proofs.schedule.play_schedule.Goals as goal
 
-pub returns-in-Ok-play_events-clause-done : goal.returns-in-Ok-play_events-clause-done
-returns-in-Ok-play_events-clause-done g c = λ setup names deploys all.
-    let site = site_of setup g.O.Order.rules in
-    let events = c.as_slice-events.result.now in
-    let s : Standing g.O.Order.stands g.J.Judge.is_approved site names c.args.cores.items c.in-Ok.history unplayed = record { all = all; kept = kept-first c.args.schedule.now.config setup c.in-Ok.history c.in-Ok.ensures.config c.in-Ok.ensures.empty deploys } in
-    subst
-    (λ (es : List (ℕ × Event)). HaveNodes names (length c.args.cores.items) es → OnOk c.print_history.result (Appends (g.K.Sink.written c.args.output.now) (g.K.Sink.written c.print_history.new.output) (lines site es)))
-    c.as_slice-events.ensures
-    (λ has.
-    appended c.print_history.result _ _ _ (play_all site events unplayed).text (history_lines c.play_events.new.history.told) _
-    (lines-end site events c.play_events.new.history (c.in-Ok-play_events.ensures.done setup names s has).kept)
-    (c.in-Ok-play_events.ensures.whole setup names s has) c.print_history.ensures.done)
+pub returns-in-Ok-clause-closes : goal.returns-in-Ok-clause-closes
+returns-in-Ok-clause-closes g c = λ s is stands here.
+    let site = site_in g.O.Order.rules s in
+    let st : Standing g.O.Order.stands g.J.Judge.is_approved g.O.Order.rules s c.args.replay (g.K.Sink.written c.args.output.now) unplayed =
+    record { holds = stands; printed = subst (λ before. Appends before (g.K.Sink.written c.args.output.now) []) (sym is) (Appends-nil (g.K.Sink.written c.args.output.now)) } in
+    let has = subst (λ (es : List (ℕ × Event)). All (λ numbered. IsFor s numbered.1) es) (sym c.as_slice.ensures) here in
+    let (q, goes, end) = c.in-Ok.ensures.ends s unplayed st has in
+    subst (λ (es : List (ℕ × Event)). Closes s.before (g.K.Sink.written c.print_history.new.output) site (play_all site s.traced es unplayed) c.print_history.result) c.as_slice.ensures
+    (closes-end s.before _ _ site (play_all site s.traced c.as_slice.result.now unplayed) q (history_lines c.play_all.new.self.history.told) Done c.print_history.result
+    (ap (closed site) goes ∙ history-end site q c.play_all.new.self.history end.holds.kept)
+    (sym (ap course_status goes))
+    end.printed c.print_history.ensures.done c.print_history.ensures.ending c.print_history.ensures.part)
 
-pub returns-in-Ok-play_events-clause-part : goal.returns-in-Ok-play_events-clause-part
-returns-in-Ok-play_events-clause-part g c = λ setup names deploys all.
-    let site = site_of setup g.O.Order.rules in
-    let events = c.as_slice-events.result.now in
-    let s : Standing g.O.Order.stands g.J.Judge.is_approved site names c.args.cores.items c.in-Ok.history unplayed = record { all = all; kept = kept-first c.args.schedule.now.config setup c.in-Ok.history c.in-Ok.ensures.config c.in-Ok.ensures.empty deploys } in
-    subst
-    (λ (es : List (ℕ × Event)). HaveNodes names (length c.args.cores.items) es → OnErr c.print_history.result (AppendsFront (g.K.Sink.written c.args.output.now) (g.K.Sink.written c.print_history.new.output) (lines site es)))
-    c.as_slice-events.ensures
-    (λ has.
-    appended-front c.print_history.result _ _ _ (play_all site events unplayed).text (history_lines c.play_events.new.history.told) _
-    (lines-end site events c.play_events.new.history (c.in-Ok-play_events.ensures.done setup names s has).kept)
-    (c.in-Ok-play_events.ensures.whole setup names s has) c.print_history.ensures.part)
+pub returns-in-Err-Limit-clause-closes : goal.returns-in-Err-Limit-clause-closes
+returns-in-Err-Limit-clause-closes g c = λ s is stands here.
+    let site = site_in g.O.Order.rules s in
+    let st : Standing g.O.Order.stands g.J.Judge.is_approved g.O.Order.rules s c.args.replay (g.K.Sink.written c.args.output.now) unplayed =
+    record { holds = stands; printed = subst (λ before. Appends before (g.K.Sink.written c.args.output.now) []) (sym is) (Appends-nil (g.K.Sink.written c.args.output.now)) } in
+    let has = subst (λ (es : List (ℕ × Event)). All (λ numbered. IsFor s numbered.1) es) (sym c.as_slice.ensures) here in
+    let line = c.in-Err-Limit.line in
+    let (q, stops, printed) = subst (λ h. Ends g.O.Order.stands g.J.Judge.is_approved g.O.Order.rules s (play_all site s.traced c.as_slice.result.now unplayed) c.play_all.new.self (g.K.Sink.written c.play_all.new.output) h) (c.in-Err-Limit.is ∙ ap Err c.in-Err-Limit.field-0-is) (c.play_all.ensures.ends s unplayed st has) in
+    subst (λ (es : List (ℕ × Event)). Closes s.before (g.K.Sink.written c.print_limit.new.output) site (play_all site s.traced es unplayed) c.print_limit.result) c.as_slice.ensures
+    (closes-end s.before _ _ site (play_all site s.traced c.as_slice.result.now unplayed) q (limit_line line) Limit c.print_limit.result
+    (ap (closed site) stops)
+    (sym (ap course_status stops))
+    printed c.print_limit.ensures.done c.print_limit.ensures.ending c.print_limit.ensures.part)
 
-pub returns-clause-part : goal.returns-clause-part
-returns-clause-part g c = λ setup names deploys all.
-    let site = site_of setup g.O.Order.rules in
-    let events = c.as_slice-events.result.now in
-    let s : Standing g.O.Order.stands g.J.Judge.is_approved site names c.args.cores.items c.in-Ok.history unplayed = record { all = all; kept = kept-first c.args.schedule.now.config setup c.in-Ok.history c.in-Ok.ensures.config c.in-Ok.ensures.empty deploys } in
-    subst
-    (λ (es : List (ℕ × Event)). HaveNodes names (length c.args.cores.items) es → AppendsFront (g.K.Sink.written c.args.output.now) (g.K.Sink.written c.play_events.new.output) (lines site es))
-    c.as_slice-events.ensures
-    (λ has. front-of-lines site events _ _ (c.in-Err-play_events.ensures.part setup names s has))
+pub returns-in-Err-Failed-clause-closes : goal.returns-in-Err-Failed-clause-closes
+returns-in-Err-Failed-clause-closes g c = λ s is stands here.
+    let site = site_in g.O.Order.rules s in
+    let st : Standing g.O.Order.stands g.J.Judge.is_approved g.O.Order.rules s c.args.replay (g.K.Sink.written c.args.output.now) unplayed =
+    record { holds = stands; printed = subst (λ before. Appends before (g.K.Sink.written c.args.output.now) []) (sym is) (Appends-nil (g.K.Sink.written c.args.output.now)) } in
+    let has = subst (λ (es : List (ℕ × Event)). All (λ numbered. IsFor s numbered.1) es) (sym c.as_slice.ensures) here in
+    let part = subst (λ h. Ends g.O.Order.stands g.J.Judge.is_approved g.O.Order.rules s (play_all site s.traced c.as_slice.result.now unplayed) c.play_all.new.self (g.K.Sink.written c.play_all.new.output) h) (c.in-Err-Failed.is ∙ ap Err c.in-Err-Failed.field-0-is) (c.play_all.ensures.ends s unplayed st has) in
+    subst (λ (es : List (ℕ × Event)). AppendsFront s.before (g.K.Sink.written c.play_all.new.output) (closed site (play_all site s.traced es unplayed))) c.as_slice.ensures
+    (front-of-lines site (play_all site s.traced c.as_slice.result.now unplayed) s.before _ part)
+
+pub returns-clause-closes : goal.returns-clause-closes
+returns-clause-closes g c = λ s is stands here.
+    let site = site_in g.O.Order.rules s in
+    let st : Standing g.O.Order.stands g.J.Judge.is_approved g.O.Order.rules s c.args.replay (g.K.Sink.written c.args.output.now) unplayed =
+    record { holds = stands; printed = subst (λ before. Appends before (g.K.Sink.written c.args.output.now) []) (sym is) (Appends-nil (g.K.Sink.written c.args.output.now)) } in
+    let has = subst (λ (es : List (ℕ × Event)). All (λ numbered. IsFor s numbered.1) es) (sym c.as_slice.ensures) here in
+    let part = subst (λ h. Ends g.O.Order.stands g.J.Judge.is_approved g.O.Order.rules s (play_all site s.traced c.as_slice.result.now unplayed) c.play_all.new.self (g.K.Sink.written c.play_all.new.output) h) (c.in-Err-Memory.is ∙ ap Err c.in-Err-Memory.field-0-is) (c.play_all.ensures.ends s unplayed st has) in
+    subst (λ (es : List (ℕ × Event)). AppendsFront s.before (g.K.Sink.written c.play_all.new.output) (closed site (play_all site s.traced es unplayed))) c.as_slice.ensures
+    (front-of-lines site (play_all site s.traced c.as_slice.result.now unplayed) s.before _ part)

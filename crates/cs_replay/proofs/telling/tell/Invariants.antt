@@ -1,4 +1,4 @@
-use Rattle.std.proofs.Common.{◌≡◌, List, take, string_bytes}
+use Rattle.std.proofs.Common.{◌≡◌, ◌<◌, List, take, string_bytes}
 use Rattle.cs_trail.specs.Setup.{Setup}
 use Rattle.cs_trail.specs.World.{Execution}
 use Rattle.cs_replay.specs.Kept.{Keeps}
@@ -7,6 +7,6 @@ use Rattle.cs_replay.proofs.telling.tell.Given as goal
 
 abbrev pub invariant-loop-note : goal.invariant-loop-note
 invariant-loop-note l =
-    (string_bytes l.text ≡ notes_text l.me (take l.note-index l.notes))
-    × ((setup : Setup) (firsts : List Execution) → Keeps setup firsts l.initial.history → Keeps setup (noted_firsts l.me.shard (take l.note-index l.notes) firsts) l.history)
+    (string_bytes l.text ≡ notes_text l.traced l.me (take l.note-index l.notes))
+    × ((setup : Setup) (firsts : List Execution) → l.me.shard < l.initial.history.config.shards → Keeps setup firsts l.initial.history → Keeps setup (noted_firsts l.me.shard (take l.note-index l.notes) firsts) l.history)
     × (l.history.config ≡ l.initial.history.config)
