@@ -2,12 +2,8 @@
 # Prints how many events and how many sealed bytes a second a replay of 100,000 Asks makes, the ratio of its processor time
 # to that of `openssl dgst -sha256` over the same bytes (each Ask and each answer, whole), and the growth of the time from
 # 10,000 to 100,000 events. Proves and builds crates/chainspace first.
-set -eu
-top=$(cd "$(dirname "$0")/.." && pwd)
-work=$(mktemp -d)
-trap 'rm -rf "$work"' EXIT
-"$top/chainspace" replay <"$top/examples/empty-schedule.schedule" >/dev/null
-program=$top/crates/chainspace/out/chainspace
+. "$(dirname "${BASH_SOURCE[0]}")/common.sh"
+build_chainspace
 
 # An empty Ask has 49 bytes. It is answered by Told of the dummy 0 of shard 0: 49 bytes, a key of 11 and a state of 40.
 asked=49
@@ -19,22 +15,15 @@ schedule() {
   printf 'end\n'
 }
 
-# The least processor time of three runs, in seconds.
-seconds() {
-  for _ in 1 2 3; do
-    { TIMEFORMAT=%U; time "$@" >/dev/null; } 2>&1
-  done | sort -n | head -1
-}
-
 replay() { "$program" replay <"$1"; }
 
 schedule 10000 >"$work/small"
 schedule 100000 >"$work/large"
 head -c $((100000 * (asked + told))) /dev/zero >"$work/bytes"
 
-small=$(seconds replay "$work/small")
-large=$(seconds replay "$work/large")
-other=$(seconds openssl dgst -sha256 "$work/bytes")
+small=$(least_time U replay "$work/small")
+large=$(least_time U replay "$work/large")
+other=$(least_time U openssl dgst -sha256 "$work/bytes")
 awk -v small="$small" -v large="$large" -v other="$other" -v bytes=$((100000 * (asked + told))) 'BEGIN {
   printf "100,000 Asks: %.2f s, %d events and %d sealed bytes a second\n", large, 100000 / large, bytes / large
   printf "ratio to openssl dgst -sha256 over %d bytes: %.0f\n", bytes, large / (other > 0.001 ? other : 0.001)

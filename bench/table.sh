@@ -1,24 +1,15 @@
 #!/usr/bin/env bash
 # Prints how many prepares and decides a second a table of 1,000, 10,000 and 100,000 objects makes, and the cost of one as a
 # ratio to that at 1,000 objects. The time of making the table is taken off. Proves and builds crates/cs_bench first.
-set -eu
-top=$(cd "$(dirname "$0")/.." && pwd)
-(cd "$top/crates/cs_bench" && rt run -- table 10 2 3 >/dev/null 2>&1)
-program=$top/crates/cs_bench/out/cs_bench
-
-# The least of five times, in seconds.
-seconds() {
-  for _ in 1 2 3 4 5; do
-    { TIMEFORMAT=%R; time "$program" table "$@" >/dev/null; } 2>&1
-  done | sort -n | head -1
-}
+. "$(dirname "${BASH_SOURCE[0]}")/common.sh"
+build_bench
 
 sessions=1000
 rounds=99
 baseline=
 for objects in 1000 10000 100000; do
-  empty=$(seconds "$objects" 0 0)
-  full=$(seconds "$objects" "$sessions" "$rounds")
+  empty=$(least_time R "$program" table "$objects" 0 0)
+  full=$(least_time R "$program" table "$objects" "$sessions" "$rounds")
   calls=$((sessions * (rounds + 1)))
   one=$(awk -v a="$full" -v b="$empty" -v n="$calls" 'BEGIN { printf "%.9f", (a > b ? a - b : 0.001) / n }')
   baseline=${baseline:-$one}
