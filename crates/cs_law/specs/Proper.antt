@@ -120,7 +120,7 @@ module _ (f me : ℕ) where
   lines_short (deed.Proposing e sent ∷ past) kept =
       let s = sight (at past) in
       rw (← kept.0.1) (rw (other_kind me (open_slot s) me (message.Propose (open_slot s) s.view e) s.taken refl) (lines_short past kept.1))
-  lines_short (deed.Ticked due sent ∷ past) kept = tick_short (at past) due (is_over (sight (at past)) due) sent (lines_short past kept.1) kept.0.1
+  lines_short (deed.Ticked due sent ∷ past) kept = tick_short (at past) due (is_over (sight (at past)) due) sent (lines_short past kept.1) kept.0
   lines_short (deed.Resent sent ∷ past) kept = lines_short past kept.1
   lines_short (deed.Replied slot to sent ∷ past) kept = lines_short past kept.1
 

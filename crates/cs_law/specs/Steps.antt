@@ -198,6 +198,6 @@ step_of h (deed.Echoed sent) keeps = echo_step h (pending (sight h)) sent refl k
 step_of h (deed.Proposing e sent) keeps =
     let s = sight h in
     rw (← keeps.1) (said_step (deed.Proposing e (propose_sent s e)) s (message.Propose (open_slot s) s.view e) s.view s.wait (refl, refl, refl, (propose_sent s e, refl)) (let z : ℕ = 0 in omega arith) (λ h. h))
-step_of h (deed.Ticked due sent) keeps = tick_step h due (is_over (sight h) due) sent refl keeps.1
+step_of h (deed.Ticked due sent) keeps = tick_step h due (is_over (sight h) due) sent refl keeps
 step_of h (deed.Resent sent) keeps = (still_step (deed.Resent sent) (sight h) (sight h).wait, λ sound m to one. vouch_old (sight h) sound m (resent (sight h) m to (rw keeps one)))
 step_of h (deed.Replied slot to sent) keeps = reply_step h slot to sent keeps.0 keeps.1 keeps.2

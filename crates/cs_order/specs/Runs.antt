@@ -15,7 +15,7 @@ Keeps {M} m h (Took_in from message) = (from ≤ 3 * h.f) × (from ≢ h.me) × 
 Keeps {M} m h (Advanced step sent) = (m.step h ≡ step) × (step ≡ Quiet → ⊥) × (m.advancing h ≡ sent)
 Keeps {M} m h (Echoed sent) = IsSome (m.pending h) × (m.echoing h ≡ sent)
 Keeps {M} m h (Proposing entry sent) = Proposable (m.may_propose h) entry × (m.proposing h entry ≡ sent)
-Keeps {M} m h (Ticked due sent) = (m.step h ≡ Quiet) × (m.ticking h due ≡ sent)
+Keeps {M} m h (Ticked due sent) = m.ticking h due ≡ sent
 Keeps {M} m h (Resent sent) = m.resending h ≡ sent
 Keeps {M} m h (Replied slot to sent) = (outgoing : Outgoing M) × (m.replying h slot to ≡ Some outgoing) × (sent ≡ outgoing ∷ [])
 

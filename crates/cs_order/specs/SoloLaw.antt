@@ -149,7 +149,7 @@ none_handed_out h (deed.Took_in from m) keeps message to k = k
 none_handed_out h (deed.Advanced x sent) keeps message to k = subst (λ all. IsFor message to all) (sym keeps.2) k
 none_handed_out h (deed.Echoed sent) keeps message to k = subst (λ all. IsFor message to all) (sym keeps.1) k
 none_handed_out h (deed.Proposing p sent) keeps message to k = subst (λ all. IsFor message to all) (sym keeps.1) k
-none_handed_out h (deed.Ticked due sent) keeps message to k = subst (λ all. IsFor message to all) (sym keeps.1) k
+none_handed_out h (deed.Ticked due sent) keeps message to k = subst (λ all. IsFor message to all) (sym keeps) k
 none_handed_out h (deed.Resent sent) keeps message to k = subst (λ all. IsFor message to all) (sym keeps) k
 none_handed_out h (deed.Replied slot member sent) keeps message to k = absurd (let none = keeps.1 in cc)
 

@@ -6,8 +6,7 @@ use Rattle.cs_order.specs.Deeds as deed
 use Rattle.cs_order.specs.declared.proposed.Proposed.{Proposed}
 use Rattle.cs_order.specs.declared.answers.Took.{Took}
 use Rattle.cs_order.specs.declared.answers.Took.TheVariants.{Taken, Old, Far, Leader, Repeat}
-use Rattle.cs_order.specs.declared.answers.Step.{Step}
-use Rattle.cs_order.specs.declared.answers.Step.TheVariants.{Chosen, Moved, Quiet}
+use Rattle.cs_order.specs.declared.answers.Step.TheVariants.{Chosen, Moved}
 use Rattle.cs_order.specs.declared.answers.May.{May}
 use Rattle.cs_order.specs.declared.answers.May.TheVariants.{No, Free, Only}
 use Rattle.cs_rules.specs.declared.message.OrderMessage.{OrderMessage}
@@ -39,11 +38,6 @@ took_by it Far = None
 took_by it Leader = None
 took_by it Repeat = None
 
-abbrev ticked_by : Deed OrderMessage → Step → Option (Deed OrderMessage)
-ticked_by it (Chosen e) = None
-ticked_by it Moved = None
-ticked_by it Quiet = Some it
-
 abbrev echoed_by : Deed OrderMessage → Option Proposed → Option (Deed OrderMessage)
 echoed_by it None = None
 echoed_by it (Some e) = Some it
@@ -60,7 +54,7 @@ given h (deed.Took_in from m) = took_by (deed.Took_in from m) (slot_machine.taki
 given h (deed.Advanced step sent) = Some (deed.Advanced (slot_machine.step h) (slot_machine.advancing h))
 given h (deed.Echoed sent) = echoed_by (deed.Echoed (slot_machine.echoing h)) (slot_machine.pending h)
 given h (deed.Proposing e sent) = proposed_by h e (slot_machine.may_propose h)
-given h (deed.Ticked due sent) = ticked_by (deed.Ticked due (slot_machine.ticking h due)) (slot_machine.step h)
+given h (deed.Ticked due sent) = Some (deed.Ticked due (slot_machine.ticking h due))
 given h (deed.Resent sent) = Some (deed.Resent (slot_machine.resending h))
 given h (deed.Replied slot to sent) = None
 
