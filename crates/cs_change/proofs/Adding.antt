@@ -1,5 +1,7 @@
 -- What the changes show with one more at the end.
-use Rattle.std.proofs.Common.{◌≡◌, ℕ, ◌==◌, nat_le, Bool, true, false, ◌&&◌, ◌||◌, List, [], ◌∷◌, ◌++◌, Option, Some, if◌then◌else◌, refl, ap, ◌∙◌, arith}
+use Rattle.std.proofs.Common.{◌≡◌, ℕ, ◌+◌, ◌<◌, ◌==◌, nat_le, Bool, true, false, ◌&&◌, ◌||◌, List, [], ◌∷◌, ◌++◌, drop, length, get_or, Option, Some, if◌then◌else◌, refl, sym, ap, ap₂, ◌∙◌, arith, add-one}
+use Rattle.std.proofs.lemmas.Bool.Decides.{nat_tests}
+use Rattle.std.proofs.Math.Seq.{drop-cons}
 use Rattle.std.proofs.Math.Path.{fun_ext}
 use Rattle.cs_order.specs.Counts.{when, or_else}
 use Rattle.cs_rules.specs.declared.message.Change.{Change}
@@ -40,3 +42,16 @@ one_view false before view member change m = refl
 
 pub told_added : (fresh : Bool) (changes new : List Filed) (view member : ℕ) (change : Change) → told_in new ≡ with_told fresh (told_in changes) view member change → told_in new view ≡ with_change fresh (told_in changes view) member change
 told_added fresh changes new view member change e = ap (λ (found : ℕ → ℕ → Option Change). found view) e ∙ fun_ext (λ m. one_view fresh (told_in changes) view member change m)
+
+and_false : (a b : Bool) → ((a && false) || b) ≡ b
+and_false true b = refl
+and_false false b = refl
+
+skip_first : (first : Filed) (rest : List Filed) (view member : ℕ) → nat_le view first.view ≡ false → reaches (first ∷ rest) view member ≡ reaches rest view member
+skip_first first rest view member below = rw below (and_false (first.member == member) (reaches rest view member))
+
+-- a change to an earlier view says nothing of this one
+pub earlier_says_nothing : (changes : List Filed) (i : ℕ) (filed : Filed) (view member : ℕ) → i < length changes → filed ≡ get_or changes i filed → filed.view < view → reaches (drop (i + 1) changes) view member ≡ reaches (drop i changes) view member
+earlier_says_nothing changes i filed view member within is below =
+    let parts = drop-cons changes i filed within in
+    sym (ap (λ (xs : List Filed). reaches xs view member) (parts ∙ ap₂ (λ (x : Filed) (xs : List Filed). x ∷ xs) (sym is) (rw add-one refl)) ∙ skip_first filed (drop (i + 1) changes) view member (grind (arith, nat_tests)))

@@ -1,6 +1,7 @@
 //! Changes to all views of a slot.
-ghost use Rattle.std.specs.Prelude.{◌≡◌, ℕ, ◌+◌, ◌*◌, ◌≤◌, ◌==◌, nat_le, ◌&&◌, ◌||◌, [], not, is_some, IfOk, OnErr, option_copied};
+ghost use Rattle.std.specs.Prelude.{◌≡◌, ℕ, ◌+◌, ◌*◌, ◌≤◌, ◌<◌, ◌==◌, false, nat_le, ◌&&◌, ◌||◌, [], not, is_some, IfOk, OnErr, option_copied};
 ghost use Rattle.cs_order.specs.Counts.{count_below};
+ghost use Rattle.cs_order.specs.Limits.{view_bound};
 ghost use Rattle.cs_rules.specs.Safe.{says_none, says_allowed, says_echoed, is_free, is_safe_from, is_safe};
 ghost use Rattle.cs_rules.specs.Rules.{pair_of};
 ghost use Rattle.cs_change.specs.Kept.{told_in, with_told, reaches};
@@ -10,6 +11,9 @@ use cs_base::Memory;
 use cs_rules::Change;
 use std::alloc::{AllocError, Global};
 use std::marker::Model;
+
+/// No view is this or above.
+const VIEW_BOUND: u16 = 1024;
 
 /// The change of a member to a view.
 #[derive(Drop)]
@@ -92,6 +96,14 @@ impl SlotChanges {
             count += u16::from(has_reached(self.changes.as_slice(), view, member));
         }
         count
+    }
+
+    /// No member gave a change to this view or a later one, of the views that there are.
+    pub fn end(&self) -> u16
+        ensures bound { result ≤ view_bound }
+        ensures none { (view member : ℕ) → result ≤ view → view < view_bound → reaches self.now.changes view member ≡ false }
+    {
+        end_of(self.changes.as_slice())
     }
 
     /// An entry with this digest may be proposed in the view, whatever was chosen in an earlier one.
@@ -183,4 +195,31 @@ fn has_reached(changes: &[Filed], view: u16, member: u16) -> bool
         }
     }
     false
+}
+
+fn end_of(changes: &[Filed]) -> u16
+    ensures bound { result ≤ view_bound }
+    ensures none { (view member : ℕ) → result ≤ view → view < view_bound → reaches changes.now view member ≡ false }
+{
+    let mut end = 0;
+    for filed in changes {
+        end = end_with(end, filed.view);
+    }
+    end
+}
+
+/// The view after the last one to which a change was given, with one more.
+fn end_with(end: u16, view: u16) -> u16
+    requires { end ≤ view_bound }
+    ensures bound { result ≤ view_bound }
+    ensures kept { end ≤ result }
+    ensures above { (later : ℕ) → result ≤ later → later < view_bound → view < later }
+{
+    if view < end {
+        end
+    } else if view < VIEW_BOUND {
+        view + 1
+    } else {
+        VIEW_BOUND
+    }
 }

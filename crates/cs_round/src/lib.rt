@@ -8,3 +8,6 @@ mod round;
 
 pub use reopening::{reopen, slot_of};
 pub use round::Round;
+
+#[cfg(test)]
+mod tests;

@@ -20,9 +20,6 @@ use cs_slot::Slot;
 use std::alloc::{AllocError, Global};
 use std::marker::Model;
 
-/// No view is this or above.
-const VIEW_BOUND: u16 = 1024;
-
 /// What a member took of a slot, and what it echoed there itself.
 #[derive(Drop)]
 pub struct Round {
@@ -162,7 +159,7 @@ impl Round {
         ensures { result ≡ entering_by (look_of self.now) }
     {
         let mut last = None;
-        for view in 0..VIEW_BOUND {
+        for view in 0..self.changes.end() {
             last = self.reached(view).or(last);
         }
         last

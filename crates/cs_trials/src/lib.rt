@@ -4,8 +4,6 @@
 #![tactic(auto)]
 
 #[cfg(test)]
-mod draws;
-#[cfg(test)]
 mod plain_slot;
 #[cfg(test)]
 mod rows;

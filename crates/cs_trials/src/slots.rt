@@ -1,7 +1,7 @@
 //! A slot against the plain list of what was said in it.
-use crate::draws::Draws;
 use crate::plain_slot::{DIGESTS, Entry, Kind, PlainSlot, Said, Shard, VIEWS};
 use cs_base::{Memory, Sequence};
+use cs_draws::Draws;
 use cs_order::Proposed;
 use cs_slot::Slot;
 use std::alloc::Global;
@@ -51,11 +51,6 @@ fn is_entry(found: Option<&Proposed>, entry: Option<Entry>) -> bool {
     }
 }
 
-/// A number below this one, or 0.
-fn draw(draws: &mut Draws, count: u16) -> u16 {
-    u16::try_from(draws.below(u64::from(count))).unwrap_or(0)
-}
-
 /// Two digests, of which the first is more frequent, and two entries of each.
 fn draw_entry(draws: &mut Draws) -> Entry {
     Entry {
@@ -67,7 +62,7 @@ fn draw_entry(draws: &mut Draws) -> Entry {
 /// Mostly view 0, which a slot is in anyway.
 fn draw_view(draws: &mut Draws) -> u16 {
     match draws.below(16) {
-        0 => draw(draws, VIEWS),
+        0 => draws.small(VIEWS),
         _ => 0,
     }
 }
@@ -75,14 +70,14 @@ fn draw_view(draws: &mut Draws) -> u16 {
 fn draw_said(draws: &mut Draws, members: u16) -> Said {
     let (kind, view) = match draws.below(8) {
         0 => (Kind::Done, 0),
-        1 => (Kind::Propose, draw(draws, VIEWS)),
-        2 | 3 | 4 => (Kind::Echo, draw(draws, VIEWS)),
-        _ => (Kind::Confirm, draw(draws, VIEWS)),
+        1 => (Kind::Propose, draws.small(VIEWS)),
+        2 | 3 | 4 => (Kind::Echo, draws.small(VIEWS)),
+        _ => (Kind::Confirm, draws.small(VIEWS)),
     };
     Said {
         kind,
         view,
-        member: draw(draws, members),
+        member: draws.small(members),
         entry: draw_entry(draws),
     }
 }
@@ -231,7 +226,7 @@ fn try_list(
     length: u32,
 ) -> Result<PlainSlot, Fail> {
     let number = draw_number(draws);
-    let me = draw(draws, shard.members);
+    let me = draws.small(shard.members);
     assert!(rt; shard.f <= 5);
     assert!(rt; me <= 3 * shard.f);
     let mut slot = Slot::new(alloc, shard.f, number, me)?;

@@ -2,9 +2,9 @@
 ghost use Rattle.std.specs.Prelude.{All, IfOk, OnOk};
 ghost use Rattle.cs_value.specs.Object.{ObjectFits};
 
-use crate::draws::Draws;
 use crate::rows::{self, Plan, Row};
 use cs_base::{Config, Key, Memory, Sequence};
+use cs_draws::Draws;
 use cs_table::Table;
 use cs_tx::{
     Digest, Effect, Encoded, Name, Object, Session, State, Trace, Tx, Value, Vote, genesis_key,
