@@ -3,18 +3,24 @@
 //! Words: `table OBJECTS SESSIONS ROUNDS` makes a shard of so many coins, at most 1,000,000, and then
 //! spends so many of them, each by a session that is prepared in so many rounds and decided once.
 //! `merkle LEAVES ROUNDS` makes so many leaves of 100 bytes and computes their root in so many rounds.
+//! `slots F COUNT` chooses so many entries among 3F+1 members, of 16 at most, with all messages delivered.
 //! `seal BYTES COUNT` seals a message with so many bytes of text, at most 4,096, so many times, and
 //! `open BYTES COUNT` opens its datagram as often.
-//! It prints nothing; the status is 0, or 1 where not every datagram was sealed or opened, or 2 for
-//! other words, or 8 for want of memory.
+//! `parse METHODS COUNT` reads a contract text of so many methods, at most 64, of 1,024 bytes each so
+//! many times, and `accept METHODS COUNT` also accepts it.
+//! It prints nothing; the status is 0, or 1 where not every entry was chosen, not every datagram sealed or
+//! opened or not every text read or accepted, or 2 for other words, or 8 for want of memory.
 #![tactic(auto)]
 
 mod datagrams;
+mod lang;
 mod merkle;
+mod slots;
 mod table;
 
 use cs_base::Memory;
 use datagrams::{open_often, seal_often};
+use lang::{accept_often, read_often};
 use std::alloc::Global;
 use std::process::ExitCode;
 use std::{env, io};
@@ -22,7 +28,7 @@ use std::{env, io};
 /// Everything was done.
 const DONE: u8 = 0;
 
-/// Not every datagram was sealed or opened.
+/// Not every entry was chosen, datagram sealed or opened, or text read or accepted.
 const NOT_ALL: u8 = 1;
 
 /// The words are none that are known.
@@ -86,8 +92,11 @@ fn run_sized(
             merkle::run(alloc, size, count)?;
             Ok(DONE)
         }
+        "slots" => Ok(status(slots::run(alloc, size, count)?, count)),
         "seal" => Ok(status(seal_often(alloc, size, count)?, count)),
         "open" => Ok(status(open_often(alloc, size, count)?, count)),
+        "parse" => Ok(status(read_often(alloc, size, count)?, count)),
+        "accept" => Ok(status(accept_often(alloc, size, count)?, count)),
         _ => Ok(OTHER_WORDS),
     }
 }

@@ -1,0 +1,3 @@
+pub mod KindLayers
+pub mod Layers
+pub mod Loops

@@ -1,0 +1,14 @@
+//! Kinds and costs of expressions of contract texts.
+#![tactic(auto)]
+
+mod declared;
+mod expressions;
+mod fault;
+mod kind;
+mod scope;
+
+pub use declared::{declared_kind, method_of, type_of};
+pub use expressions::{Judged, expect, judge, plus};
+pub use fault::TypeError;
+pub use kind::{BOOL, BYTES, Base, INT, Kind, kind_of};
+pub use scope::{Costs, Entry, Scope, Seen, Use};

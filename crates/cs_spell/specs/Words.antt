@@ -1,0 +1,56 @@
+-- How tokens stand in a printed text: a space or a break behind each.
+use Rattle.std.specs.Prelude.{ℕ, ◌+◌, ◌/◌, ◌%◌, nat_lt, List, [], ◌∷◌, ◌++◌, codes, if◌then◌else◌}
+use Rattle.cs_lang.specs.declared.tree.Operator.{Operator}
+use Rattle.cs_lang.specs.declared.tree.Operator.TheVariants as operator
+use Rattle.cs_lang.specs.declared.tree.Comparison.{Comparison}
+use Rattle.cs_lang.specs.declared.tree.Comparison.TheVariants as comparison
+
+-- a token on a line
+unfoldable pub word : List ℕ → List ℕ
+word token = token ++ 32 ∷ []
+
+-- the last token of a line
+unfoldable pub ending : List ℕ → List ℕ
+ending token = token ++ 10 ∷ []
+
+abbrev pub hex_digit : ℕ → ℕ
+hex_digit n = if nat_lt n 10 then 48 + n else 87 + n
+
+-- two small hex digits for each byte
+abbrev pub hex_text : List ℕ → List ℕ
+hex_text [] = []
+hex_text (b ∷ bs) = hex_digit (b / 16) ∷ hex_digit (b % 16) ∷ hex_text bs
+
+-- a byte text
+unfoldable pub quoted : List ℕ → List ℕ
+quoted bytes = codes "x\"" ++ (hex_text bytes ++ codes "\" ")
+
+abbrev pub operator_text : Operator → List ℕ
+operator_text operator.Or = codes "or"
+operator_text operator.And = codes "and"
+operator_text operator.Plus = codes "+"
+operator_text operator.Minus = codes "-"
+operator_text operator.Times = codes "*"
+operator_text operator.Divide = codes "/"
+operator_text operator.Remainder = codes "%"
+
+abbrev pub comparison_text : Comparison → List ℕ
+comparison_text comparison.Equal = codes "=="
+comparison_text comparison.NotEqual = codes "!="
+comparison_text comparison.Less = codes "<"
+comparison_text comparison.LessOrEqual = codes "<="
+comparison_text comparison.Greater = codes ">"
+comparison_text comparison.GreaterOrEqual = codes ">="
+
+-- one text behind the other
+abbrev pub each : {X : Type 0} → (X → List ℕ) → List X → List ℕ
+each text [] = []
+each text (x ∷ xs) = text x ++ each text xs
+
+abbrev pub behind_comma : {X : Type 0} → (X → List ℕ) → X → List ℕ
+behind_comma text x = word (codes ",") ++ text x
+
+-- with commas between them
+abbrev pub with_commas : {X : Type 0} → (X → List ℕ) → List X → List ℕ
+with_commas text [] = []
+with_commas text (x ∷ xs) = text x ++ each (behind_comma text) xs

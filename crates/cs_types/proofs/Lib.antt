@@ -1,0 +1,5 @@
+pub mod Actions
+pub mod Branches
+pub mod Faults
+pub mod Loops
+pub mod Staying

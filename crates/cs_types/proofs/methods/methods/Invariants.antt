@@ -1,0 +1,11 @@
+use Rattle.std.proofs.Common.{◌≡◌, drop, length}
+use Rattle.cs_kinds.specs.Told.{through}
+use Rattle.cs_types.specs.Accepted.{method_told, methods_told}
+use Rattle.cs_types.proofs.methods.methods.Given as goal
+
+abbrev pub invariant-loop-i : goal.invariant-loop-i
+invariant-loop-i l = record {
+  contract : l.scope.contract ≡ l.contract;
+  count : length l.scope.costs ≡ l.i;
+  told : through (method_told l.contract) l.scope.costs (drop l.i l.methods) ≡ methods_told l.contract;
+}

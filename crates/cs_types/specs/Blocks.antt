@@ -1,0 +1,51 @@
+-- What is told of whole statements and blocks.
+use Rattle.std.specs.Prelude.{ℕ, List, map}
+use Rattle.cs_lang.specs.declared.tree.Expr.{Expr}
+use Rattle.cs_lang.specs.declared.tree.Block.{Block}
+use Rattle.cs_lang.specs.declared.tree.Statement.{Statement}
+use Rattle.cs_lang.specs.declared.tree.Action.{Action}
+use Rattle.cs_lang.specs.declared.tree.Action.TheOpen.{Block-F, Statement-F, Action-F}
+use Rattle.cs_lang.specs.declared.tree.Action.TheFolds.{fold-Block, fold-Statement, fold-Action}
+use Rattle.cs_kinds.specs.Told.{Told}
+use Rattle.cs_kinds.specs.Scopes.{Sight}
+use Rattle.cs_kinds.specs.Judging.{Part}
+use Rattle.cs_kinds.specs.Parts.{part_of}
+use Rattle.cs_types.specs.Stating.{Added, Blocked, Stated, block_judged, let_judged, set_judged, if_judged, if_else_judged, for_in_judged, for_to_judged, make_judged, call_judged, answer_judged, stated}
+
+-- what is told of an expression, wherever it stands
+abbrev pub part : Expr → Sight → Part
+part e sight = part_of sight e
+
+abbrev pub parts : List Expr → Sight → List Part
+parts es sight = map (part_of sight) es
+
+-- what is told of a statement with its word there
+abbrev pub Acted : Type 0
+Acted = ℕ → Stated
+
+abbrev pub layer_action : Action-F Acted Blocked Stated → Acted
+layer_action (Action-F.Let name value) place = let_judged name (part value)
+layer_action (Action-F.Set name value) place = set_judged name (part value)
+layer_action (Action-F.If condition block) place = if_judged (part condition) block
+layer_action (Action-F.IfElse condition block other) place = if_else_judged (part condition) block other
+layer_action (Action-F.ForIn name list each) place = for_in_judged name (part list) each
+layer_action (Action-F.ForTo name count each) place = for_to_judged name count each place
+layer_action (Action-F.Make slot object values) place = make_judged slot object (parts values) place
+layer_action (Action-F.Call names method arguments) place = call_judged names method (parts arguments) place
+layer_action (Action-F.Answer value) place = answer_judged (part value) place
+
+abbrev pub layer_statement : Statement-F Acted Blocked Stated → Stated
+layer_statement s sight = stated (s.action s.place sight)
+
+abbrev pub layer_block : Block-F Acted Blocked Stated → Blocked
+layer_block b = block_judged b.statements
+
+-- what is told of a block, where it stands
+unfoldable pub block_told : Block → Sight → Told ℕ
+block_told = fold-Block Acted Blocked Stated layer_action layer_block layer_statement
+
+unfoldable pub statement_told : Statement → Sight → Told Added
+statement_told = fold-Statement Acted Blocked Stated layer_action layer_block layer_statement
+
+unfoldable pub action_told : Action → ℕ → Sight → Told Added
+action_told = fold-Action Acted Blocked Stated layer_action layer_block layer_statement

@@ -1,0 +1,6 @@
+pub mod Answers
+pub mod Stating
+pub mod Steps
+pub mod Blocks
+pub mod Declaring
+pub mod Accepted

@@ -1,0 +1,257 @@
+-- What is told of statements, from what is told of their parts: the cost, and the names in sight behind them.
+use Rattle.std.specs.Prelude.{ℕ, ◌*◌, min, max, Bool, true, false, nat_lt, ◌==◌, ◌&&◌, ◌||◌, List, [], ◌∷◌, ◌++◌, length, slice_get, is_some, Option, None, Some, Ok, if◌then◌else◌}
+use Rattle.std.specs.List.{list_any}
+use Rattle.std.specs.Str.{bytes_eq}
+use Rattle.cs_token.specs.Grammar.{◌>>=◌}
+use Rattle.cs_token.specs.declared.token.Text.{Text}
+use Rattle.cs_lang.specs.declared.tree.Field.{Field}
+use Rattle.cs_lang.specs.declared.tree.Slot.{Slot}
+use Rattle.cs_lang.specs.declared.tree.TypeDef.{TypeDef}
+use Rattle.cs_lang.specs.declared.tree.Method.{Method}
+use Rattle.cs_kinds.specs.declared.kind.Kind.{Kind}
+use Rattle.cs_kinds.specs.declared.kind.Kind.TheVariants as kind
+use Rattle.cs_kinds.specs.declared.scope.Use.{Use}
+use Rattle.cs_kinds.specs.declared.scope.Use.TheVariants as usage
+use Rattle.cs_kinds.specs.declared.scope.Seen.{Seen}
+use Rattle.cs_kinds.specs.declared.scope.Entry.{Entry}
+use Rattle.cs_kinds.specs.declared.scope.Costs.{Costs}
+use Rattle.cs_kinds.specs.declared.expressions.Judged.{Judged}
+use Rattle.cs_kinds.specs.Told.{Told, mistyped, unbound, through, plus}
+use Rattle.cs_kinds.specs.Kinds.{int, bool, same_kind, item_of}
+use Rattle.cs_kinds.specs.Scopes.{Sight, seen, created, with_name, with_names}
+use Rattle.cs_kinds.specs.Lookups.{type_of, method_of, declared_kind}
+use Rattle.cs_kinds.specs.Judging.{Part, wanted, or_first}
+
+-- a cost, and the names in sight behind it
+abbrev pub Added : Type 0
+Added = ℕ × List Entry
+
+-- what is told of a block where it stands
+abbrev pub Blocked : Type 0
+Blocked = Sight → Told ℕ
+
+-- what is told of a statement where it stands
+abbrev pub Stated : Type 0
+Stated = Sight → Told Added
+
+-- ---- blocks
+
+-- the cost so far, and what is in sight
+abbrev pub SoFar : Type 0
+SoFar = ℕ × Sight
+
+abbrev pub statement_added : SoFar → Stated → Told SoFar
+statement_added so_far one = one so_far.1 >>= λ d. Ok (plus so_far.0 d.0, with_names so_far.1 d.1)
+
+-- a block costs what its statements cost together; its names end with it
+abbrev pub block_judged : List Stated → Blocked
+block_judged statements sight = through statement_added (0, sight) statements >>= λ d. Ok d.0
+
+-- so many turns, which cost 1 each beside what is done in them
+abbrev pub turns : ℕ → ℕ → ℕ
+turns count cost = min (count * plus cost 1) 18446744073709551615
+
+-- a turn, with a name that can't be set
+abbrev pub turn_judged : Text → Kind → Blocked → Blocked
+turn_judged name k each sight = each (with_names sight (with_name sight.names name.bytes k usage.Read))
+
+-- ---- names and values
+
+abbrev pub is_taken : Sight → Text → Bool
+is_taken sight name = is_some (seen name.bytes sight.names)
+
+abbrev pub is_value : Kind → Bool
+is_value (kind.Value b lists) = true
+is_value _ = false
+
+-- a name for a value, which can be set; it repeats no name in sight
+abbrev pub let_judged : Text → (Sight → Part) → Stated
+let_judged name value sight =
+    if is_taken sight name then mistyped name.place
+    else (value sight).found >>= λ j. if is_value j.kind then Ok (j.cost, with_name sight.names name.bytes j.kind usage.Set) else mistyped (value sight).first
+
+abbrev pub can_be_set : Use → Bool
+can_be_set usage.Set = true
+can_be_set _ = false
+
+abbrev pub set_seen : Option Seen → Text → Part → Told ℕ
+set_seen None name value = unbound name.place
+set_seen (Some s) name value = if can_be_set s.usage then wanted s.kind value else mistyped name.place
+
+-- a new value of the same kind
+abbrev pub set_judged : Text → (Sight → Part) → Stated
+set_judged name value sight = set_seen (seen name.bytes sight.names) name (value sight) >>= λ cost. Ok (cost, sight.names)
+
+-- ---- blocks in statements
+
+-- a block behind a condition, of which the cost is told
+abbrev pub if_of : Told ℕ → Blocked → Stated
+if_of told block sight = told >>= λ cost. block sight >>= λ d. Ok (plus cost d, sight.names)
+
+abbrev pub if_judged : (Sight → Part) → Blocked → Stated
+if_judged condition block sight = if_of (wanted bool (condition sight)) block sight
+
+-- the dearer of two blocks counts
+abbrev pub if_else_judged : (Sight → Part) → Blocked → Blocked → Stated
+if_else_judged condition block other sight =
+    wanted bool (condition sight) >>= λ cost. block sight >>= λ d. other sight >>= λ e. Ok (plus cost (max d e), sight.names)
+
+-- a loop over a list that is judged and begins there; it is counted with 64 items
+abbrev pub for_in_of : Text → Told Judged → ℕ → Blocked → Stated
+for_in_of name told first each sight =
+    if is_taken sight name then mistyped name.place
+    else told >>= λ j. or_first first (item_of j.kind) >>= λ k. turn_judged name k each sight >>= λ d. Ok (plus j.cost (turns 64 d), sight.names)
+
+abbrev pub for_in_judged : Text → (Sight → Part) → Blocked → Stated
+for_in_judged name list each sight = for_in_of name (list sight).found (list sight).first each sight
+
+-- at most 1,024 turns
+abbrev pub for_to_judged : Text → ℕ → Blocked → ℕ → Stated
+for_to_judged name count each place sight =
+    if nat_lt 1024 count then mistyped place
+    else if is_taken sight name then mistyped name.place
+    else turn_judged name int each sight >>= λ d. Ok (turns count d, sight.names)
+
+-- ---- objects
+
+-- the sum with the cost of a value that has to be of a field's kind
+abbrev pub field_wanted : Field → Part → ℕ → Told ℕ
+field_wanted f v sum = declared_kind f.name.place f.kind >>= λ k. wanted k v >>= λ cost. Ok (plus sum cost)
+
+-- the sum of the costs of values that have to be of the kinds of fields
+abbrev pub fields_wanted : List Field → List Part → ℕ → Told ℕ
+fields_wanted [] values sum = Ok sum
+fields_wanted (f ∷ fs) [] sum = Ok sum
+fields_wanted (f ∷ fs) (v ∷ vs) sum = field_wanted f v sum >>= λ more. fields_wanted fs vs more
+
+-- a type with its number
+abbrev pub Numbered : Type 0
+Numbered = ℕ × TypeDef
+
+abbrev pub numbered : ℕ → Option TypeDef → Option Numbered
+numbered number None = None
+numbered number (Some t) = Some (number, t)
+
+abbrev pub numbered_at : Option ℕ → List TypeDef → Option Numbered
+numbered_at None types = None
+numbered_at (Some number) types = numbered number (slice_get types number)
+
+-- the type of this name
+abbrev pub named_type : List ℕ → List TypeDef → Option Numbered
+named_type name types = numbered_at (type_of name types) types
+
+abbrev pub takes_object : Kind → ℕ → Bool
+takes_object k number = same_kind k (kind.Object number) || same_kind k (kind.Objects number)
+
+abbrev pub not_created : Sight → Text → Told ℕ
+not_created sight slot = if is_taken sight slot then mistyped slot.place else unbound slot.place
+
+-- an object of a type that isn't declared, in a slot
+abbrev pub unknown_in : Option Seen → Text → Text → Sight → Told ℕ
+unknown_in None slot object sight = not_created sight slot
+unknown_in (Some s) slot object sight = unbound object.place
+
+-- an object of a declared type, in a slot
+abbrev pub known_in : Option Seen → Numbered → Text → Text → List Part → Sight → Told ℕ
+known_in None t slot object values sight = not_created sight slot
+known_in (Some s) t slot object values sight = if takes_object s.kind t.0 then fields_wanted t.1.fields values 0 else mistyped object.place
+
+-- the number of fields is tested first, then the slot, the type and the values
+abbrev pub make_of : Option Numbered → Text → Text → List Part → ℕ → Sight → Told ℕ
+make_of None slot object values place sight = unknown_in (created slot.bytes sight.names) slot object sight
+make_of (Some t) slot object values place sight =
+    if length t.1.fields == length values then known_in (created slot.bytes sight.names) t slot object values sight else mistyped place
+
+-- a new object in a created slot, in a procedure
+abbrev pub make_judged : Text → Text → (Sight → List Part) → ℕ → Stated
+make_judged slot object values place sight =
+    if sight.in_check then mistyped place
+    else make_of (named_type object.bytes sight.contract.types) slot object (values sight) place sight >>= λ cost. Ok (cost, sight.names)
+
+-- ---- calls
+
+-- a method, and what its procedure costs
+abbrev pub Callee : Type 0
+Callee = Method × ℕ
+
+abbrev pub procedure_cost : Option Costs → Option ℕ
+procedure_cost None = None
+procedure_cost (Some c) = Some c.procedure
+
+abbrev pub with_cost : Method → Option ℕ → Option Callee
+with_cost m None = None
+with_cost m (Some cost) = Some (m, cost)
+
+abbrev pub callee : Option Method → Option ℕ → Option Callee
+callee None cost = None
+callee (Some m) cost = with_cost m cost
+
+abbrev pub callee_at : Option ℕ → List Method → List Costs → Option Callee
+callee_at None methods costs = None
+callee_at (Some number) methods costs = callee (slice_get methods number) (procedure_cost (slice_get costs number))
+
+-- the method of this name, where it stands above
+abbrev pub callee_of : Sight → Text → Option Callee
+callee_of sight name = callee_at (method_of name.bytes sight.contract.methods) sight.contract.methods sight.costs
+
+abbrev pub is_starred : Slot → Bool
+is_starred slot = slot.many
+
+-- it consumes or reads any number of objects
+abbrev pub takes_many : Method → Bool
+takes_many m = list_any is_starred m.consumes || list_any is_starred m.reads
+
+abbrev pub is_text : Text → Text → Bool
+is_text name other = bytes_eq other.bytes name.bytes
+
+-- the name repeats none that is in sight or stands before it
+abbrev pub fresh : Sight → List Text → Text → Told (List Text)
+fresh sight before name =
+    if is_taken sight name || list_any (is_text name) before then mistyped name.place else Ok (before ++ name ∷ [])
+
+abbrev pub all_fresh : Sight → List Text → Told (List Text)
+all_fresh sight = through (fresh sight) []
+
+-- a name that is bound to what a method returns, which can't be set
+abbrev pub one_bound : Text → Field → List Entry → Told (List Entry)
+one_bound n f names = declared_kind f.name.place f.kind >>= λ k. Ok (with_name names n.bytes k usage.Read)
+
+-- the names that are bound to what a method returns
+abbrev pub bound : List Text → List Field → List Entry → Told (List Entry)
+bound [] fields names = Ok names
+bound (n ∷ ns) [] names = Ok names
+bound (n ∷ ns) (f ∷ fs) names = one_bound n f names >>= λ more. bound ns fs more
+
+-- a call of a method that doesn't stand above
+abbrev pub call_unknown : List Text → Text → Stated
+call_unknown names method sight = all_fresh sight names >>= λ _. unbound method.place
+
+abbrev pub called : Callee → List Text → Text → List Part → Stated
+called c names method arguments sight =
+    if takes_many c.0 then mistyped method.place
+    else fields_wanted c.0.takes arguments c.1 >>= λ cost. bound names c.0.returns sight.names >>= λ more. Ok (cost, more)
+
+abbrev pub has_counts : ℕ → ℕ → Method → Bool
+has_counts arguments names m = length m.takes == arguments && length m.returns == names
+
+-- the numbers of arguments and names are tested first, then the names, the method and the arguments
+abbrev pub call_of : Option Callee → List Text → Text → List Part → ℕ → Stated
+call_of None names method arguments place sight = call_unknown names method sight
+call_of (Some c) names method arguments place sight =
+    if has_counts (length arguments) (length names) c.0 then (all_fresh sight names >>= λ _. called c names method arguments sight) else mistyped place
+
+-- a call of a method above, in a procedure; neither takes any number of objects
+abbrev pub call_judged : List Text → Text → (Sight → List Part) → ℕ → Stated
+call_judged names method arguments place sight =
+    if sight.in_check || sight.starred then mistyped place
+    else call_of (callee_of sight method) names method (arguments sight) place sight
+
+-- ---- answers
+
+-- the answer of a check
+abbrev pub answer_judged : (Sight → Part) → ℕ → Stated
+answer_judged value place sight = if sight.in_check then (wanted bool (value sight) >>= λ cost. Ok (cost, sight.names)) else mistyped place
+
+-- a statement costs 1 more than its parts
+abbrev pub stated : Told Added → Told Added
+stated told = told >>= λ d. Ok (plus d.0 1, d.1)

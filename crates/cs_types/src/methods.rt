@@ -1,0 +1,60 @@
+//! Methods, and what their bodies cost.
+ghost use Rattle.std.specs.Prelude.{◌≡◌, OnOk};
+ghost use Rattle.cs_types.specs.Answers.{Tells};
+ghost use Rattle.cs_types.specs.Accepted.{body_told, method_costs, methods_told};
+
+use crate::declarations::add_names;
+use crate::statements::{block, takes_many};
+use cs_kinds::{Costs, Scope, TypeError, method_of};
+use cs_lang::{Block, Contract, Method, Sequence};
+use std::alloc::Global;
+
+/// The most methods of a contract.
+const MOST_METHODS: usize = 64;
+
+/// The cost of a procedure or a check.
+fn body(
+    alloc: Global,
+    scope: &mut Scope<'_>,
+    method: &Method,
+    in_check: bool,
+    body: &Block,
+) -> Result<u64, TypeError>
+    ensures told { Tells result (body_told scope.old.contract scope.old.costs in_check method.now body.now) }
+    ensures rest { OnOk result ((scope.new.contract ≡ scope.old.contract) × (scope.new.costs ≡ scope.old.costs)) }
+{
+    scope.enter(takes_many(method), in_check);
+    add_names(alloc, scope, method, in_check)?;
+    block(alloc, scope, body)
+}
+
+/// The costs of a method below others.
+fn method(
+    alloc: Global,
+    scope: &mut Scope<'_>,
+    above: &[Method],
+    method: &Method,
+) -> Result<Costs, TypeError>
+    ensures told { Tells result (method_costs scope.old.contract scope.old.costs above.now method.now) }
+    ensures rest { OnOk result ((scope.new.contract ≡ scope.old.contract) × (scope.new.costs ≡ scope.old.costs)) }
+{
+    if above.len() >= MOST_METHODS || method_of(above, method.name.bytes.as_slice()).is_some() {
+        return Err(TypeError::Mistyped(method.name.place));
+    }
+    let procedure = body(alloc, scope, method, false, &method.procedure)?;
+    let check = body(alloc, scope, method, true, &method.check)?;
+    Ok(Costs { procedure, check })
+}
+
+/// The costs of the methods of a contract.
+pub fn methods(alloc: Global, contract: &Contract) -> Result<Sequence<Costs>, TypeError>
+    ensures { Tells result (methods_told contract.now) }
+{
+    let mut scope = Scope::new(alloc, contract);
+    let methods = contract.methods.as_slice();
+    for i in 0..methods.len() {
+        let costs = method(alloc, &mut scope, methods.split_at(i).0, &methods[i])?;
+        scope.close(costs)?;
+    }
+    Ok(scope.into_costs())
+}
