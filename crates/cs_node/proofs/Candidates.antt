@@ -6,7 +6,7 @@ use Rattle.cs_order.specs.Lists.{IsIn}
 use Rattle.cs_trail.specs.Setup.{Setup}
 use Rattle.cs_trail.specs.Pool.{Pool}
 use Rattle.cs_trail.specs.Net.{Net}
-use Rattle.cs_trail.specs.Site.{View}
+use Rattle.cs_trail.specs.Site.{Carrier, View}
 use Rattle.cs_trail.specs.Deployment.{site_of}
 use Rattle.cs_trail.specs.Trail.{with_deed, proposing, candidate_marks, propose_marks, echo_marks}
 use Rattle.cs_node.specs.Proposals.{admits_proposed, admits_pending, first_admitted}
@@ -46,31 +46,31 @@ module _ (setup : Setup) (shard : ℕ) (pool : Pool) where
   pending-there None h = let q : false ≡ true = h in cc
   pending-there (Some x) h = refl
 
-module _ {M : Type 0} (setup : Setup) (net : Net) (rules : Machine M) (v : View M) where
+module _ {M : Type 0} (setup : Setup) (net : Net) (rules : Machine M) (carried : Carrier M) (v : View M) where
   abbrev taken : List Proposed → Option Proposed
   taken xs = first_admitted setup v.me.shard v.bench.pool xs
 
-  pub candidates-none : (xs : List Proposed) → taken xs ≡ None → candidate_marks (site_of setup net rules) v xs ≡ None
+  pub candidates-none : (xs : List Proposed) → taken xs ≡ None → candidate_marks (site_of setup net rules carried) v xs ≡ None
   candidates-none [] e = refl
   candidates-none (y ∷ xs) e = by_test (admits_proposed setup v.me.shard v.bench.pool y) (candidates-none xs) e
     where
-      by_test : (b : Bool) → (taken xs ≡ None → candidate_marks (site_of setup net rules) v xs ≡ None) → cond b (Some y) (taken xs) ≡ None → cond b (Some (proposing (site_of setup net rules) v y)) (candidate_marks (site_of setup net rules) v xs) ≡ None
+      by_test : (b : Bool) → (taken xs ≡ None → candidate_marks (site_of setup net rules carried) v xs ≡ None) → cond b (Some y) (taken xs) ≡ None → cond b (Some (proposing (site_of setup net rules carried) v y)) (candidate_marks (site_of setup net rules carried) v xs) ≡ None
       by_test true later h = let q : Some y ≡ None = h in cc
       by_test false later h = later h
 
-  pub candidates-some : (xs : List Proposed) (x : Proposed) → taken xs ≡ Some x → candidate_marks (site_of setup net rules) v xs ≡ Some (proposing (site_of setup net rules) v x)
+  pub candidates-some : (xs : List Proposed) (x : Proposed) → taken xs ≡ Some x → candidate_marks (site_of setup net rules carried) v xs ≡ Some (proposing (site_of setup net rules carried) v x)
   candidates-some [] x e = let q : None ≡ Some x = e in cc
   candidates-some (y ∷ xs) x e = by_test (admits_proposed setup v.me.shard v.bench.pool y) (candidates-some xs x) e
     where
-      by_test : (b : Bool) → (taken xs ≡ Some x → candidate_marks (site_of setup net rules) v xs ≡ Some (proposing (site_of setup net rules) v x)) → cond b (Some y) (taken xs) ≡ Some x → cond b (Some (proposing (site_of setup net rules) v y)) (candidate_marks (site_of setup net rules) v xs) ≡ Some (proposing (site_of setup net rules) v x)
-      by_test true later h = let q : y ≡ x = cc in ap (λ z. Some (proposing (site_of setup net rules) v z)) q
+      by_test : (b : Bool) → (taken xs ≡ Some x → candidate_marks (site_of setup net rules carried) v xs ≡ Some (proposing (site_of setup net rules carried) v x)) → cond b (Some y) (taken xs) ≡ Some x → cond b (Some (proposing (site_of setup net rules carried) v y)) (candidate_marks (site_of setup net rules carried) v xs) ≡ Some (proposing (site_of setup net rules carried) v x)
+      by_test true later h = let q : y ≡ x = cc in ap (λ z. Some (proposing (site_of setup net rules carried) v z)) q
       by_test false later h = later h
 
-  pub echo-some : (o : Option Proposed) (echoed : Deed M) → echoed ≡ Echoed (rules.echoing v.member) → admits_pending setup v.me.shard v.bench.pool o ≡ true → echo_marks (site_of setup net rules) v o ≡ Some (with_deed echoed)
+  pub echo-some : (o : Option Proposed) (echoed : Deed M) → echoed ≡ Echoed (rules.echoing v.member) → admits_pending setup v.me.shard v.bench.pool o ≡ true → echo_marks (site_of setup net rules carried) v o ≡ Some (with_deed (site_of setup net rules carried) v echoed)
   echo-some None echoed is h = let q : false ≡ true = h in cc
   echo-some (Some x) echoed is h = rw (h, is) refl
 
   -- where the pending proposal is not admitted the node may propose
-  pub echo-none : (o : Option Proposed) → admits_pending setup v.me.shard v.bench.pool o ≡ false → echo_marks (site_of setup net rules) v o ≡ propose_marks (site_of setup net rules) v (rules.may_propose v.member)
+  pub echo-none : (o : Option Proposed) → admits_pending setup v.me.shard v.bench.pool o ≡ false → echo_marks (site_of setup net rules carried) v o ≡ propose_marks (site_of setup net rules carried) v (rules.may_propose v.member)
   echo-none None h = refl
   echo-none (Some x) h = rw h refl

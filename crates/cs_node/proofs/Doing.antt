@@ -1,35 +1,42 @@
 -- What a core did in a turn, at the view for which it stood.
-use Rattle.std.proofs.Common.{◌≡◌, ℕ, Bool, true, false, List, length, Option, Some, None, refl, subst}
+use Rattle.std.proofs.Common.{◌≡◌, ℕ, Bool, true, false, List, [], ◌++◌, length, Option, Some, None, refl, ap, sym, subst, ◌∙◌}
 use Rattle.cs_value.specs.declared.object.Object.{Object}
 use Rattle.cs_form.specs.declared.transaction.Tx.{Tx}
 use Rattle.cs_order.specs.declared.proposed.Proposed.{Proposed}
+use Rattle.cs_order.specs.declared.answers.Outgoing.{Outgoing}
 use Rattle.cs_order.specs.declared.answers.Step.{Step}
 use Rattle.cs_order.specs.declared.answers.Step.TheVariants.{Chosen, Moved}
-use Rattle.cs_order.specs.Deeds.{Advanced, Echoed, Proposing, Member, Machine, did, chosen_in}
-use Rattle.cs_order.specs.Calls.{advanced}
+use Rattle.cs_order.specs.Deeds.{Deed, Advanced, Echoed, Proposing, Member, Machine, did, chosen_in}
+use Rattle.cs_order.specs.Calls.{Advances, Echoes, Proposes, advanced, sent_at}
 use Rattle.cs_trail.specs.Setup.{Setup}
 use Rattle.cs_trail.specs.Net.{Net}
-use Rattle.cs_trail.specs.Signs.{execution_signs}
-use Rattle.cs_trail.specs.Site.{Mark, Site, View}
-use Rattle.cs_trail.specs.Trail.{with_deed, proposing, echo_marks, turn_marks}
+use Rattle.cs_trail.specs.Signs.{Sign, execution_signs}
+use Rattle.cs_trail.specs.Site.{Carrier, Mark, Site, View}
+use Rattle.cs_trail.specs.Trail.{handed, with_deed, entered_view, proposing, echo_marks, turn_marks}
 use Rattle.cs_trail.specs.Deployment.{site_of}
-use Rattle.cs_sbac.specs.Held.{Held, bench_of, deployed}
+use Rattle.cs_pool.specs.Deployed.{deployed}
+use Rattle.cs_sbac.specs.Held.{Held, bench_of}
 use Rattle.cs_node.specs.declared.engine.Engine.{Engine}
 use Rattle.cs_node.specs.declared.draft.Draft.{Draft}
+use Rattle.cs_node.specs.Notes.{Tells}
 use Rattle.cs_node.specs.Proposals.{entry_in, admits_pending}
 use Rattle.cs_node.specs.Steps.{Makes, TurnDone}
-use Rattle.cs_node.specs.Cores.{Keeps, view_at}
+use Rattle.cs_node.specs.Cores.{IsSeated, Keeps, view_at}
 use Rattle.cs_node.proofs.Sums.{turn-some}
 use Rattle.cs_node.proofs.Turns.{deed-done, proposed-done, turn-none, moved-done, chosen-done}
 use Rattle.cs_node.proofs.Candidates.{echo-some}
-use Rattle.cs_node.proofs.Standing.{stands-on}
+use Rattle.cs_node.proofs.Standing.{keeps-on, keeps-still}
 
-module _ {O J M : Type 0} (stands : O → Member M → Type 0) (approves : J → Tx → Bool) (rules : Machine M) (net : Net) (core : Engine O J M) (genesis : List Object) (h : Member M) (made : Draft) where
+-- what a call hands out where nothing was handed out before
+pub from-nothing : {A : Type 0} (old new outs : List A) → old ≡ [] → new ≡ old ++ outs → new ≡ outs
+from-nothing {A} old new outs none is = is ∙ ap (λ xs. xs ++ outs) none
+
+module _ {O J M : Type 0} (stands : O → Member M → Type 0) (approves : J → Tx → Bool) (rules : Machine M) (carried : Carrier M) (net : Net) (core : Engine O J M) (genesis : List Object) (h : Member M) (made made' : Draft) (seated : IsSeated stands core h) where
   abbrev setup : Setup
   setup = deployed core.sbac.config genesis (approves core.judge)
 
   abbrev site : Site M
-  site = site_of setup net rules
+  site = site_of setup net rules carried
 
   abbrev v : View M
   v = view_at core.sbac h
@@ -40,32 +47,49 @@ module _ {O J M : Type 0} (stands : O → Member M → Type 0) (approves : J →
   abbrev After : Engine O J M → View M → Type 0
   After next = Keeps stands approves setup next
 
-  pub nothing-here : (found : Option (List (Mark M))) → found ≡ None → stands core.order h → TurnDone site found v false made made (After core)
-  nothing-here found none is = turn-none site v made (After core) found none (stands-on stands approves genesis core core.sbac.config core.sbac.me h is refl refl)
+  -- what was handed out is said
+  abbrev Says : List (Outgoing M) → Type 0
+  Says outs = Tells (handed site core.sbac.me outs) made made'
 
-  module _ (order : O) where
-    pub proposed-here : (found : Option (List (Mark M))) (proposed : Proposed) → found ≡ Some (proposing site v proposed) → stands order (did (Proposing proposed (rules.proposing h proposed)) h)
-        → TurnDone site found v true made made (After (with_order order))
-    proposed-here found proposed e is =
-        proposed-done site v made (After (with_order order)) found proposed e
-        (stands-on stands approves genesis (with_order order) core.sbac.config core.sbac.me (did (Proposing proposed (rules.proposing h proposed)) h) is refl refl)
+  pub nothing-here : (found : Option (List (Mark M))) → found ≡ None → TurnDone site found v false made made (After core)
+  nothing-here found none = turn-none site v made (After core) found none (keeps-still stands approves genesis core h seated)
 
-    pub echoed-here : (o : Option Proposed) → admits_pending setup core.sbac.me.shard core.sbac.pool o ≡ true → stands order (did (Echoed (rules.echoing h)) h) → TurnDone site (echo_marks site v o) v true made made (After (with_order order))
-    echoed-here o admitted is =
-        turn-some site (echo_marks site v o) (with_deed (Echoed (rules.echoing h))) v true made made (After (with_order order)) (echo-some setup net rules v o (Echoed (rules.echoing h)) refl admitted) refl
-        (deed-done site v made (After (with_order order)) (Echoed (rules.echoing h)) (stands-on stands approves genesis (with_order order) core.sbac.config core.sbac.me (did (Echoed (rules.echoing h)) h) is refl refl))
+  module _ (order : O) (empty outs : List (Outgoing M)) (none : empty ≡ []) (says : Says outs) where
+    after-deed : (deed : Deed M) → stands order (did deed h) → After (with_order order) (view_at core.sbac (did deed h))
+    after-deed deed is = keeps-on stands approves genesis core h order core.sbac (did deed h) seated is refl refl refl refl
 
-    pub moved-here : rules.step h ≡ Moved → stands order (advanced (rules.step h) (rules.advancing h) h) → TurnDone site (turn_marks site v) v true made made (After (with_order order))
-    moved-here e is =
-        let P : Step → Type 0 = λ step. stands order (advanced step (rules.advancing h) h) in
-        moved-done site v made (After (with_order order)) e
-        (stands-on stands approves genesis (with_order order) core.sbac.config core.sbac.me (did (Advanced Moved (rules.advancing h)) h) (subst P e is) refl refl)
+    pub proposed-here : (found : Option (List (Mark M))) (proposed : Proposed) → found ≡ Some (proposing site v proposed) → Proposes rules h proposed empty outs (stands order)
+        → TurnDone site found v true made made' (After (with_order order))
+    proposed-here found proposed e called =
+        proposed-done site v made made' (After (with_order order)) found proposed e (subst Says (from-nothing empty outs (rules.proposing h proposed) none called.0) says)
+        (after-deed (Proposing proposed (rules.proposing h proposed)) called.1)
 
-    pub chosen-here : (held : Held) (made' : Draft) (proposed : Proposed) (slot : ℕ) → rules.step h ≡ Chosen proposed → stands order (advanced (rules.step h) (rules.advancing h) h) → slot ≡ length (chosen_in h.deeds)
-        → Makes setup core.sbac.me (execution_signs setup core.sbac.me (bench_of core.sbac) slot (entry_in proposed)) (bench_of core.sbac) (bench_of held) made made' → held.config ≡ core.sbac.config → held.me ≡ core.sbac.me
-        → TurnDone site (turn_marks site v) v true made made' (After (record { order = order; judge = core.judge; sbac = held }))
-    chosen-here held made' proposed slot e is at makes same-config same-me =
-        let P : Step → Type 0 = λ step. stands order (advanced step (rules.advancing h) h) in
-        let next : Engine O J M = record { order = order; judge = core.judge; sbac = held } in
-        chosen-done site v made made' (After next) proposed slot (bench_of held) e at makes
-        (stands-on stands approves genesis next core.sbac.config core.sbac.me (did (Advanced (Chosen proposed) (rules.advancing h)) h) (subst P e is) same-config same-me)
+    pub echoed-here : (o : Option Proposed) → admits_pending setup core.sbac.me.shard core.sbac.pool o ≡ true → Echoes rules h empty outs (stands order)
+        → TurnDone site (echo_marks site v o) v true made made' (After (with_order order))
+    echoed-here o admitted called =
+        let deed : Deed M = Echoed (rules.echoing h) in
+        turn-some site (echo_marks site v o) (with_deed site v deed) v true made made' (After (with_order order)) (echo-some setup net rules carried v o deed refl admitted) refl
+        (deed-done site v made made' (After (with_order order)) deed (subst Says (from-nothing empty outs (rules.echoing h) none called.0) says) (after-deed deed called.1))
+
+  -- the order moved, and may have entered a view
+  pub moved-here : (order : O) (empty outs : List (Outgoing M)) (slot before : ℕ) → empty ≡ [] → slot ≡ length (chosen_in h.deeds) → before ≡ rules.view h → Advances rules h Moved empty outs (stands order)
+      → ((h' : Member M) → stands order h' → Tells (handed site core.sbac.me outs ++ entered_view slot before (rules.view h')) made made') → TurnDone site (turn_marks site v) v true made made' (After (with_order order))
+  moved-here order empty outs slot before none at seen called says =
+      let deed : Deed M = Advanced Moved (rules.advancing h) in
+      let C : Step → Type 0 = λ s. (outs ≡ empty ++ sent_at s (rules.advancing h)) × stands order (advanced s (rules.advancing h) h) in
+      let now : (outs ≡ empty ++ rules.advancing h) × stands order (did deed h) = subst C (sym called.0) (called.1, called.2) in
+      let sent : outs ≡ rules.advancing h = from-nothing empty outs (rules.advancing h) none now.0 in
+      moved-done site v made made' (After (with_order order)) (sym called.0)
+      (subst (λ (signs : List Sign). Tells signs made made') (λ i. handed site core.sbac.me (sent i) ++ entered_view (at i) (seen i) (rules.view (did deed h))) (says (did deed h) now.1))
+      (keeps-on stands approves genesis core h order core.sbac (did deed h) seated now.1 refl refl refl refl)
+
+  pub chosen-here : (order : O) (empty outs : List (Outgoing M)) (held : Held) (made'' : Draft) (proposed : Proposed) (slot : ℕ) → empty ≡ [] → Says outs → slot ≡ length (chosen_in h.deeds) → Advances rules h (Chosen proposed) empty outs (stands order)
+      → Makes setup core.sbac.me (execution_signs setup core.sbac.me (bench_of core.sbac) slot (entry_in proposed)) (bench_of core.sbac) (bench_of held) made' made'' → held.config ≡ core.sbac.config → held.me ≡ core.sbac.me
+      → TurnDone site (turn_marks site v) v true made made'' (After (record { order = order; judge = core.judge; sbac = held }))
+  chosen-here order empty outs held made'' proposed slot none says at called makes same-config same-me =
+      let deed : Deed M = Advanced (Chosen proposed) (rules.advancing h) in
+      let C : Step → Type 0 = λ s. (outs ≡ empty ++ sent_at s (rules.advancing h)) × stands order (advanced s (rules.advancing h) h) in
+      let now : (outs ≡ empty ++ rules.advancing h) × stands order (did deed h) = subst C (sym called.0) (called.1, called.2) in
+      chosen-done site v made made' made'' (After (record { order = order; judge = core.judge; sbac = held })) proposed slot (bench_of held) (sym called.0) at
+      (subst Says (from-nothing empty outs (rules.advancing h) none now.0) says) makes
+      (keeps-on stands approves genesis core h order held (did deed h) seated now.1 refl refl same-config same-me)

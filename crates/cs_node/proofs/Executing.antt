@@ -7,15 +7,18 @@ use Rattle.cs_form.specs.declared.entry.Entry.{Entry}
 use Rattle.cs_ledger.specs.Ledger.{Bytes}
 use Rattle.cs_ledger.specs.Table.{Table, Effect, Voted, Accepted, Aborted, Skipped, Void}
 use Rattle.cs_trail.specs.declared.pooled.Pooled.{Pooled}
-use Rattle.cs_trail.specs.Setup.{Setup, digest_of, session_in, vote_from}
+use Rattle.cs_message.specs.declared.message.Message.TheVariants as message
+use Rattle.cs_trail.specs.Setup.{Setup, digest_of, concerned, session_in, vote_from}
+use Rattle.cs_trail.specs.Members.{others}
 use Rattle.cs_trail.specs.Pool.{Pool, found, is_pooled, changed, with_ballot, as_locked, entering, pushed, entered, entered_locked}
 use Rattle.cs_trail.specs.Bench.{Bench, Ran, is_locked, pool_after, executed, told_by, told_of, own_pool, bench_executed}
-use Rattle.cs_trail.specs.Signs.{Sign, Did, bench_after, own_signs, entered_signs, execution_signs}
+use Rattle.cs_trail.specs.Signs.{Sign, Did, bench_after, own_signs, vote_signs, entered_signs, execution_signs}
 use Rattle.cs_node.specs.declared.draft.Note.TheVariants.{Executed}
 use Rattle.cs_node.specs.declared.draft.Draft.{Draft}
-use Rattle.cs_node.specs.Notes.{effect_from, notes_of, said_of}
+use Rattle.cs_node.specs.Notes.{effect_from, notes_of, said_of, spoken, Tells}
 use Rattle.cs_node.specs.Steps.{Makes}
-use Rattle.cs_node.proofs.Sums.{notes-append, said-append, bench-append}
+use Rattle.cs_node.proofs.Sums.{notes-append, said-append, notes-sends, bench-append}
+use Rattle.cs_node.proofs.Ticked.{bench-voted}
 
 same-bytes : (d : Bytes) → bytes_eq d d ≡ true
 same-bytes [] = refl
@@ -49,11 +52,19 @@ module _ (setup : Setup) (me : NodeId) (x : Session) where
   d = digest_of setup x
 
   abbrev after : Bool → Option (Vote × Bool) → List Sign
-  after pooled told = own_signs me x told ++ entered_signs x pooled told
+  after pooled told = own_signs me x told ++ (vote_signs setup me x told ++ entered_signs x pooled told)
+
+  -- what is said changes neither table nor pool
+  without-vote : (pooled : Bool) (told : Option (Vote × Bool)) (b : Bench) → bench_after setup me.shard (after pooled told) b ≡ bench_after setup me.shard (own_signs me x told) (bench_after setup me.shard (entered_signs x pooled told) b)
+  without-vote pooled told b =
+      bench-append setup me.shard (own_signs me x told) (vote_signs setup me x told ++ entered_signs x pooled told) b
+      ∙ ap (bench_after setup me.shard (own_signs me x told))
+      (bench-append setup me.shard (vote_signs setup me x told) (entered_signs x pooled told) b
+      ∙ bench-voted setup me.shard me x told (bench_after setup me.shard (entered_signs x pooled told) b))
 
   -- the own vote on a session that is locked
   locked-bench : (vote : Vote) (table : Table) (pool : Pool) (pooled : Bool) → is_pooled d pool ≡ pooled
-      → bench_after setup me.shard (after pooled (Some (vote, true))) (record { table = table; pool = entered_locked d x pool })
+      → bench_after setup me.shard (own_signs me x (Some (vote, true))) (bench_after setup me.shard (entered_signs x pooled (Some (vote, true))) (record { table = table; pool = entered_locked d x pool }))
       ≡ record { table = table; pool = own_pool me d (Some (vote, true)) (entered_locked d x pool) }
   locked-bench vote table pool true e = refl
   locked-bench vote table pool false e =
@@ -61,7 +72,7 @@ module _ (setup : Setup) (me : NodeId) (x : Session) where
 
   -- what the own vote leaves of what an execution left
   told-bench : (effect : Effect) (locked : Bool) (table : Table) (pool : Pool) (pooled : Bool) → is_pooled d pool ≡ pooled
-      → bench_after setup me.shard (after pooled (told_by effect locked)) (record { table = table; pool = pool_after effect locked d x pool })
+      → bench_after setup me.shard (own_signs me x (told_by effect locked)) (bench_after setup me.shard (entered_signs x pooled (told_by effect locked)) (record { table = table; pool = pool_after effect locked d x pool }))
       ≡ record { table = table; pool = own_pool me d (told_by effect locked) (pool_after effect locked d x pool) }
   told-bench (Voted vote) true table pool pooled e = locked-bench (vote_from vote) table pool pooled e
   told-bench (Voted vote) false table pool pooled e = refl
@@ -70,35 +81,71 @@ module _ (setup : Setup) (me : NodeId) (x : Session) where
   told-bench Skipped locked table pool pooled e = refl
   told-bench Void locked table pool pooled e = refl
 
-  -- entering and the own vote tell nothing
-  told-nothing : (pooled : Bool) (told : Option (Vote × Bool)) → notes_of (after pooled told) ≡ []
-  told-nothing pooled None = refl
-  told-nothing pooled (Some (vote, false)) = refl
-  told-nothing true (Some (vote, true)) = refl
-  told-nothing false (Some (vote, true)) = refl
+  -- entering and the own vote tell nothing, and say nothing
+  own-notes : (told : Option (Vote × Bool)) → notes_of (own_signs me x told) ≡ []
+  own-notes None = refl
+  own-notes (Some (vote, true)) = refl
+  own-notes (Some (vote, false)) = refl
 
-  said-nothing : (pooled : Bool) (told : Option (Vote × Bool)) → said_of (after pooled told) ≡ []
-  said-nothing pooled None = refl
-  said-nothing pooled (Some (vote, false)) = refl
-  said-nothing true (Some (vote, true)) = refl
-  said-nothing false (Some (vote, true)) = refl
+  own-said : (told : Option (Vote × Bool)) → said_of (own_signs me x told) ≡ []
+  own-said None = refl
+  own-said (Some (vote, true)) = refl
+  own-said (Some (vote, false)) = refl
 
-pub execution-makes : (setup : Setup) (me : NodeId) (b b' : Bench) (slot : ℕ) (entry : Entry) (made made' : Draft) → b' ≡ bench_executed setup me b entry
-    → made'.notes ≡ made.notes ++ Executed slot entry (effect_from (executed setup me.shard b entry).effect) ∷ [] → made'.said ≡ made.said → Makes setup me (execution_signs setup me b slot entry) b b' made made'
-execution-makes setup me b b' slot entry made made' is noted silent =
+  entered-notes : (pooled : Bool) (told : Option (Vote × Bool)) → notes_of (entered_signs x pooled told) ≡ []
+  entered-notes pooled None = refl
+  entered-notes pooled (Some (vote, false)) = refl
+  entered-notes true (Some (vote, true)) = refl
+  entered-notes false (Some (vote, true)) = refl
+
+  entered-said : (pooled : Bool) (told : Option (Vote × Bool)) → said_of (entered_signs x pooled told) ≡ []
+  entered-said pooled None = refl
+  entered-said pooled (Some (vote, false)) = refl
+  entered-said true (Some (vote, true)) = refl
+  entered-said false (Some (vote, true)) = refl
+
+  -- so the vote alone is told and said
+  after-notes : (pooled : Bool) (told : Option (Vote × Bool)) → notes_of (after pooled told) ≡ notes_of (vote_signs setup me x told)
+  after-notes pooled told =
+      notes-append (own_signs me x told) (vote_signs setup me x told ++ entered_signs x pooled told)
+      ∙ (λ i. notes-append (vote_signs setup me x told) (entered_signs x pooled told) i ++ own-notes told i)
+      ∙ append-nil (notes_of (entered_signs x pooled told) ++ notes_of (vote_signs setup me x told))
+      ∙ ap (λ xs. xs ++ notes_of (vote_signs setup me x told)) (entered-notes pooled told)
+
+  after-said : (pooled : Bool) (told : Option (Vote × Bool)) → said_of (after pooled told) ≡ said_of (vote_signs setup me x told)
+  after-said pooled told =
+      said-append (own_signs me x told) (vote_signs setup me x told ++ entered_signs x pooled told)
+      ∙ (λ i. said-append (vote_signs setup me x told) (entered_signs x pooled told) i ++ own-said told i)
+      ∙ append-nil (said_of (entered_signs x pooled told) ++ said_of (vote_signs setup me x told))
+      ∙ ap (λ xs. xs ++ said_of (vote_signs setup me x told)) (entered-said pooled told)
+
+  voted-notes : (told : Option (Vote × Bool)) → notes_of (vote_signs setup me x told) ≡ []
+  voted-notes None = refl
+  voted-notes (Some told) = notes-sends (others setup.f me (concerned setup x)) (message.Voted told.0 told.1 x)
+
+pub execution-makes : (setup : Setup) (me : NodeId) (b b' : Bench) (slot : ℕ) (entry : Entry) (made mid made' : Draft) → b' ≡ bench_executed setup me b entry
+    → Tells (vote_signs setup me (session_in entry) (told_of setup me.shard (session_in entry) (executed setup me.shard b entry))) made mid
+    → made'.notes ≡ mid.notes ++ Executed slot entry (effect_from (executed setup me.shard b entry).effect) ∷ [] → made'.said ≡ mid.said → Makes setup me (execution_signs setup me b slot entry) b b' made made'
+execution-makes setup me b b' slot entry made mid made' is tells noted silent =
     let x : Session = session_in entry in
     let ran : Ran = executed setup me.shard b entry in
     let told : Option (Vote × Bool) = told_of setup me.shard x ran in
     let pooled : Bool = is_pooled (digest_of setup x) b.pool in
     let did : List Sign = Did slot entry ran.effect ∷ [] in
-    let signs : List Sign = own_signs me x told ++ entered_signs x pooled told in
-    let whole : execution_signs setup me b slot entry ≡ signs ++ did = sym (append_assoc (own_signs me x told) (entered_signs x pooled told) did) in
-    let told-is : notes_of (execution_signs setup me b slot entry) ≡ notes_of did = ap notes_of whole ∙ notes-append signs did ∙ ap (λ xs. notes_of did ++ xs) (told-nothing setup me x pooled told) in
-    let said-is : said_of (execution_signs setup me b slot entry) ≡ [] = ap said_of whole ∙ said-append signs did ∙ said-nothing setup me x pooled told in
+    let own : List Sign = own_signs me x told in
+    let vote : List Sign = vote_signs setup me x told in
+    let enters : List Sign = entered_signs x pooled told in
+    let signs : List Sign = own ++ (vote ++ enters) in
+    let whole : execution_signs setup me b slot entry ≡ signs ++ did = ap (λ xs. own ++ xs) (sym (append_assoc vote enters did)) ∙ sym (append_assoc own (vote ++ enters) did) in
+    let quiet : notes_of vote ≡ [] = voted-notes setup me x told in
+    let told-is : notes_of (execution_signs setup me b slot entry) ≡ notes_of did = ap notes_of whole ∙ notes-append signs did ∙ ap (λ xs. notes_of did ++ xs) (after-notes setup me x pooled told ∙ quiet) in
+    let said-is : said_of (execution_signs setup me b slot entry) ≡ said_of vote = ap said_of whole ∙ said-append signs did ∙ after-said setup me x pooled told in
+    let unchanged : mid.notes ≡ made.notes = tells.notes ∙ ap (λ xs. made.notes ++ xs) quiet ∙ append-nil made.notes in
     record {
       tells = record {
-        notes = noted ∙ ap (λ xs. made.notes ++ xs) (sym told-is);
-        said = silent ∙ sym (append-nil made.said) ∙ ap (λ xs. made.said ++ xs) (sym said-is);
+        notes = noted ∙ ap (λ xs. xs ++ notes_of did) unchanged ∙ ap (λ xs. made.notes ++ xs) (sym told-is);
+        said = ap spoken silent ∙ tells.said ∙ ap (λ xs. spoken made.said ++ xs) (sym said-is);
       };
-      bench_is = is ∙ sym (ap (λ all. bench_after setup me.shard all b) whole ∙ bench-append setup me.shard signs did b ∙ told-bench setup me x ran.effect (is_locked setup me.shard ran.bench.table x) ran.bench.table b.pool pooled refl);
+      bench_is = is ∙ sym (ap (λ all. bench_after setup me.shard all b) whole ∙ bench-append setup me.shard signs did b ∙ without-vote setup me x pooled told ran.bench
+          ∙ told-bench setup me x ran.effect (is_locked setup me.shard ran.bench.table x) ran.bench.table b.pool pooled refl);
     }

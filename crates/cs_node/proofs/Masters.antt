@@ -16,7 +16,7 @@ use Rattle.cs_trail.specs.Net.{net_of}
 use Rattle.cs_node.specs.Speaking.{Speaks}
 
 -- a node is no client
-apart : (config : Config) (me to : NodeId) → config.shards ≤ 16 → is_node config me ≡ true → is_client to ≡ true → same_name to me ≡ false
+pub apart : (config : Config) (me to : NodeId) → config.shards ≤ 16 → is_node config me ≡ true → is_client to ≡ true → same_name to me ≡ false
 apart config me to few node client = by_same (same_name to me) refl
   where
     by_same : (same : Bool) → same_name to me ≡ same → same ≡ false
@@ -26,7 +26,7 @@ apart config me to few node client = by_same (same_name to me) refl
         no_both : is_client me ≡ true → ⊥
         no_both also = grind (arith, nat_tests)
 
-or_true : (a b : Bool) → b ≡ true → (a || b) ≡ true
+pub or_true : (a b : Bool) → b ≡ true → (a || b) ≡ true
 or_true true b e = refl
 or_true false b e = e
 
@@ -36,15 +36,13 @@ module _ (config : Config) (master : List ℕ) (liars : List NodeId) (me : NodeI
       let found = when_some (is_named config to && not (same_name to me)) (Some (row_between master me to)) row (sym (of.rows to) ∙ held) in
       some_is _ _ found.1
 
-  reached : (to : NodeId) → is_client to ≡ true → row_of to keys ≡ Some (row_between master me to)
-  reached to client =
-      let named : is_named config to ≡ true = or_true (is_node config to) (is_client to) client in
-      of.rows to ∙ rw (named, apart config me to few node client) refl
+  reached : (to : NodeId) → is_named config to ≡ true → same_name to me ≡ false → row_of to keys ≡ Some (row_between master me to)
+  reached to named other = of.rows to ∙ rw (named, other) refl
 
-  pub of_master : Speaks (net_of config master liars) keys
+  pub of_master : Speaks config (net_of config master liars) keys
   of_master = record {
     opens = λ bytes. opened_alike config master me keys bytes of ∙ ap (λ (n : NodeId). opened (keys_of_master config master n) bytes) (sym of.me);
     seals = λ to row held kind body.
         ap (λ (r : Row). datagram_with r.to keys.me to kind body) (sym (row_is to row held)) ∙ ap (λ (n : NodeId). datagram_with (key_between master n to) keys.me to kind body) (sym of.me);
-    reaches = λ to client. subst IsSome (sym (reached to client)) refl;
+    reaches = λ to named other. subst IsSome (sym (reached to named (ap (same_name to) (sym of.me) ∙ other))) refl;
   }

@@ -7,10 +7,11 @@ use Rattle.cs_table.specs.Effects.{effect_of}
 use Rattle.cs_form.specs.declared.entry.Entry.{Entry}
 use Rattle.cs_form.specs.declared.vote.Vote.TheVariants.{Commit, Abort}
 use Rattle.cs_form.specs.Session.{EntryFits}
+use Rattle.cs_message.specs.Message.{MessageFits}
 use Rattle.cs_node.specs.declared.draft.Note.{Note}
 use Rattle.cs_node.specs.declared.draft.Said.{Said}
 use Rattle.cs_node.specs.declared.draft.Draft.{Draft}
-use Rattle.cs_node.specs.Notes.{effect_from, NoteFits, NotesFit, SaidFits, AllSaidFit, DraftFits, ExecutedFits}
+use Rattle.cs_node.specs.Notes.{effect_from, NoteFits, NotesFit, AllSaidFit, DraftFits, ExecutedFits}
 
 pub effect-again : (effect : Effect) (seen : Shard.Effect) → effect_of effect ≡ seen → effect ≡ effect_from seen
 effect-again effect seen is = let P : Shard.Effect → Type 0 = λ e. effect ≡ effect_from e in subst P is (back effect)
@@ -44,12 +45,12 @@ draft-noted old new note is same fit fits = record {
   said = subst AllSaidFit (sym same) fits.said;
 }
 
-said-push : (all : List Said) (said : Said) → AllSaidFit all → SaidFits said → AllSaidFit (all ++ said ∷ [])
+said-push : (all : List Said) (said : Said) → AllSaidFit all → MessageFits said.message → AllSaidFit (all ++ said ∷ [])
 said-push [] said fits fit = (fit, tt)
 said-push (s ∷ all) said fits fit = (fits.0, said-push all said fits.1 fit)
 
 -- a message more
-pub draft-said : (old new : Draft) (said : Said) → new.said ≡ old.said ++ said ∷ [] → new.notes ≡ old.notes → SaidFits said → DraftFits old → DraftFits new
+pub draft-said : (old new : Draft) (said : Said) → new.said ≡ old.said ++ said ∷ [] → new.notes ≡ old.notes → MessageFits said.message → DraftFits old → DraftFits new
 draft-said old new said is same fit fits = record {
   notes = subst NotesFit (sym same) fits.notes;
   said = subst AllSaidFit (sym is) (said-push old.said said fits.said fit);

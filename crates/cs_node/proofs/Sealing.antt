@@ -1,54 +1,86 @@
 -- What is said is sealed as the net seals.
-use Rattle.std.proofs.Common.{◌≡◌, ℕ, ◌+◌, ◌<◌, List, [], ◌∷◌, ◌++◌, length, drop, get_or, refl, ap, sym, subst, ◌∙◌, append_assoc}
+use Rattle.std.proofs.Common.{◌≡◌, ℕ, ◌+◌, ◌<◌, List, [], ◌∷◌, ◌++◌, length, drop, get_or, IsSome, refl, ap, sym, subst, ◌∙◌, append_assoc}
 use Rattle.std.proofs.lemmas.List.{drop_more}
+use Rattle.cs_base.specs.declared.config.Config.{Config}
 use Rattle.cs_base.specs.declared.node_id.NodeId.{NodeId}
 use Rattle.cs_message.specs.declared.message.Message.{Message}
-use Rattle.cs_message.specs.Message.{kind_of, body_of}
+use Rattle.cs_message.specs.Message.{kind_of, body_of, MessageFits}
 use Rattle.cs_wire.specs.declared.input.Out.{Out}
 use Rattle.cs_wire.specs.declared.keys.Keys.{Keys}
+use Rattle.cs_wire.specs.Keys.{row_of}
 use Rattle.cs_wire.specs.Datagram.{sealed as datagram}
 use Rattle.cs_wire.specs.Opens.{Seals}
 use Rattle.cs_wire.proofs.Masters.{sealed_is}
 use Rattle.cs_ledger.specs.Ledger.{Bytes}
 use Rattle.cs_trail.specs.Net.{Net, sealed}
-use Rattle.cs_trail.specs.Signs.{Sign, Dropped, Took, Entered, Did, Sent}
+use Rattle.cs_trail.specs.Signs.{Sign, Dropped, Took, Entered, Viewed, Did, Sent}
 use Rattle.cs_node.specs.declared.draft.Said.{Said}
-use Rattle.cs_node.specs.Notes.{SaidFits, AllSaidFit, said_of, outs_of, outs_for}
+use Rattle.cs_node.specs.Notes.{AllSaidFit, AllReached, said_of, to_each, spoken, outs_of, outs_for}
 use Rattle.cs_node.specs.Speaking.{Speaks}
 
 -- what was sealed is the datagram of the net
-pub sealed-so : (net : Net) (keys : Keys) → Speaks net keys → (to : NodeId) (m : Message) (old bytes : Bytes) → old ≡ [] → Seals keys to m old bytes → bytes ≡ sealed net keys.me to m
-sealed-so net keys speaks to m old bytes none s =
+pub sealed-so : (config : Config) (net : Net) (keys : Keys) → Speaks config net keys → (to : NodeId) (m : Message) (old bytes : Bytes) → old ≡ [] → Seals keys to m old bytes → bytes ≡ sealed net keys.me to m
+sealed-so config net keys speaks to m old bytes none s =
     s.is ∙ ap (λ (o : Bytes). o ++ datagram s.row.to keys.me to m) none ∙ sealed_is s.row.to keys.me to m ∙ speaks.seals to s.row s.held (kind_of m) (body_of m)
 
-pub outs-more : (net : Net) (me : NodeId) (xs ys : List Said) → outs_for net me (xs ++ ys) ≡ outs_for net me xs ++ outs_for net me ys
+pub outs-more : (net : Net) (me : NodeId) (xs ys : List (NodeId × Message)) → outs_for net me (xs ++ ys) ≡ outs_for net me xs ++ outs_for net me ys
 outs-more net me [] ys = refl
-outs-more net me (x ∷ xs) ys = ap (λ (outs : List Out). record { to = x.to; bytes = sealed net me x.to x.message } ∷ outs) (outs-more net me xs ys)
+outs-more net me (x ∷ xs) ys = ap (λ (outs : List Out). record { to = x.0; bytes = sealed net me x.0 x.1 } ∷ outs) (outs-more net me xs ys)
 
 pub outs-same : (net : Net) (me : NodeId) (signs : List Sign) → outs_for net me (said_of signs) ≡ outs_of net me signs
 outs-same net me [] = refl
 outs-same net me (Dropped cause ∷ past) = outs-same net me past
 outs-same net me (Took sender vote x ∷ past) = outs-same net me past
 outs-same net me (Entered x ∷ past) = outs-same net me past
+outs-same net me (Viewed slot view ∷ past) = outs-same net me past
 outs-same net me (Did slot entry effect ∷ past) = outs-same net me past
 outs-same net me (Sent to message ∷ past) =
-    outs-more net me (said_of past) (record { to = to; message = message } ∷ [])
+    outs-more net me (said_of past) ((to, message) ∷ [])
     ∙ ap (λ (outs : List Out). outs ++ record { to = to; bytes = sealed net me to message } ∷ []) (outs-same net me past)
 
 -- ---- one after the other
 
 -- what is left fits
-pub rest-fits : (all : List Said) (i : ℕ) (d : Said) → i < length all → AllSaidFit (drop i all) → SaidFits (get_or all i d) × AllSaidFit (drop (i + 1) all)
+pub rest-fits : (all : List Said) (i : ℕ) (d : Said) → i < length all → AllSaidFit (drop i all) → MessageFits (get_or all i d).message × AllSaidFit (drop (i + 1) all)
 rest-fits all i d lt fits = subst AllSaidFit (drop_more all i d lt) fits
 
+-- of the names that are left, the first is reached
+pub names-reached : (keys : Keys) (m : Message) (names : List NodeId) (i : ℕ) (d : NodeId) → i < length names → AllReached keys (to_each (drop i names) m) → IsSome (row_of (get_or names i d) keys) × AllReached keys (to_each (drop (i + 1) names) m)
+names-reached keys m names i d lt reached = subst (λ (rest : List NodeId). AllReached keys (to_each rest m)) (drop_more names i d lt) reached
+
+split-reached : (keys : Keys) (xs ys : List (NodeId × Message)) → AllReached keys (xs ++ ys) → AllReached keys xs × AllReached keys ys
+split-reached keys [] ys reached = (tt, reached)
+split-reached keys (x ∷ xs) ys reached = let rest : AllReached keys xs × AllReached keys ys = split-reached keys xs ys reached.1 in ((reached.0, rest.0), rest.1)
+
+-- of what is left to be said, the first is for those who are reached
+pub rest-reached : (keys : Keys) (all : List Said) (i : ℕ) (d : Said) → i < length all → AllReached keys (spoken (drop i all)) → AllReached keys (to_each (get_or all i d).to (get_or all i d).message) × AllReached keys (spoken (drop (i + 1) all))
+rest-reached keys all i d lt reached =
+    split-reached keys (to_each (get_or all i d).to (get_or all i d).message) (spoken (drop (i + 1) all)) (subst (λ (rest : List Said). AllReached keys (spoken rest)) (drop_more all i d lt) reached)
+
+-- the same of what stands there
+pub first-reached : (keys : Keys) (all : List Said) (i : ℕ) (x : Said) → i < length all → x ≡ get_or all i x → AllReached keys (spoken (drop i all)) → AllReached keys (to_each x.to x.message) × AllReached keys (spoken (drop (i + 1) all))
+first-reached keys all i x lt is reached =
+    subst (λ (y : Said). AllReached keys (to_each y.to y.message) × AllReached keys (spoken (drop (i + 1) all))) (sym is) (rest-reached keys all i x lt reached)
+
 -- one more was sealed
-pub rest-sealed : (net : Net) (me : NodeId) (outs outs' whole : List Out) (all : List Said) (i : ℕ) (d : Said) → i < length all
-    → outs' ≡ outs ++ record { to = (get_or all i d).to; bytes = sealed net me (get_or all i d).to (get_or all i d).message } ∷ []
-    → outs ++ outs_for net me (drop i all) ≡ whole → outs' ++ outs_for net me (drop (i + 1) all) ≡ whole
-rest-sealed net me outs outs' whole all i d lt grew so-far =
-    let said : Said = get_or all i d in
-    let out : Out = record { to = said.to; bytes = sealed net me said.to said.message } in
-    ap (λ (o : List Out). o ++ outs_for net me (drop (i + 1) all)) grew
-    ∙ append_assoc outs (out ∷ []) (outs_for net me (drop (i + 1) all))
-    ∙ ap (λ (rest : List Said). outs ++ outs_for net me rest) (sym (drop_more all i d lt))
+pub names-sealed : (net : Net) (me : NodeId) (m : Message) (outs outs' whole : List Out) (names : List NodeId) (i : ℕ) (d : NodeId) → i < length names
+    → outs' ≡ outs ++ record { to = get_or names i d; bytes = sealed net me (get_or names i d) m } ∷ []
+    → outs ++ outs_for net me (to_each (drop i names) m) ≡ whole → outs' ++ outs_for net me (to_each (drop (i + 1) names) m) ≡ whole
+names-sealed net me m outs outs' whole names i d lt grew so-far =
+    let out : Out = record { to = get_or names i d; bytes = sealed net me (get_or names i d) m } in
+    ap (λ (o : List Out). o ++ outs_for net me (to_each (drop (i + 1) names) m)) grew
+    ∙ append_assoc outs (out ∷ []) (outs_for net me (to_each (drop (i + 1) names) m))
+    ∙ ap (λ (rest : List NodeId). outs ++ outs_for net me (to_each rest m)) (sym (drop_more names i d lt))
+    ∙ so-far
+
+pub rest-sealed : (net : Net) (me : NodeId) (outs outs' whole : List Out) (all : List Said) (i : ℕ) (d : Said) → i < length all → d ≡ get_or all i d
+    → outs' ≡ outs ++ outs_for net me (to_each d.to d.message)
+    → outs ++ outs_for net me (spoken (drop i all)) ≡ whole → outs' ++ outs_for net me (spoken (drop (i + 1) all)) ≡ whole
+rest-sealed net me outs outs' whole all i d lt is sealed so-far =
+    let first : List (NodeId × Message) = to_each (get_or all i d).to (get_or all i d).message in
+    let grew : outs' ≡ outs ++ outs_for net me first = subst (λ (y : Said). outs' ≡ outs ++ outs_for net me (to_each y.to y.message)) is sealed in
+    ap (λ (o : List Out). o ++ outs_for net me (spoken (drop (i + 1) all))) grew
+    ∙ append_assoc outs (outs_for net me first) (outs_for net me (spoken (drop (i + 1) all)))
+    ∙ ap (λ (o : List Out). outs ++ o) (sym (outs-more net me first (spoken (drop (i + 1) all))))
+    ∙ ap (λ (rest : List Said). outs ++ outs_for net me (spoken rest)) (sym (drop_more all i d lt))
     ∙ so-far

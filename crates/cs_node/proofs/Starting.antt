@@ -1,8 +1,9 @@
 -- The view for which a node stands before its first input.
-use Rattle.std.proofs.Common.{◌≡◌, ℕ, zero, suc, ◌+◌, Bool, List, [], ◌∷◌, map, refl, ap, subst, ◌∙◌, arith}
+use Rattle.std.proofs.Common.{◌≡◌, ℕ, zero, suc, ◌+◌, Bool, true, List, [], ◌∷◌, map, refl, ap, subst, ◌∙◌, arith}
 use Rattle.std.specs.Prelude.{All}
 use Rattle.cs_base.specs.declared.config.Config.{Config}
 use Rattle.cs_base.specs.declared.node_id.NodeId.{NodeId}
+use Rattle.cs_base.specs.NodeId.{is_node}
 use Rattle.cs_base.specs.declared.key.Key.{Key}
 use Rattle.cs_base.specs.declared.key.Key.TheVariants as key
 use Rattle.cs_value.specs.declared.object.Object.{Object}
@@ -14,12 +15,12 @@ use Rattle.cs_ledger.specs.Ledger.{Item}
 use Rattle.cs_ledger.specs.Session as Seen
 use Rattle.cs_ledger.specs.Table.{Table, start}
 use Rattle.cs_trail.specs.Net.{Net}
-use Rattle.cs_trail.specs.Site.{View, start_view}
+use Rattle.cs_trail.specs.Site.{Carrier, View, start_view}
 use Rattle.cs_trail.specs.Deployment.{genesis_from, rules_of, site_of}
 use Rattle.cs_table.specs.Seen.{Stored, seen}
 use Rattle.cs_tx.specs.Sessions.{item_of}
 use Rattle.cs_table.specs.Genesis.{keyed_of, genesis_rules}
-use Rattle.cs_sbac.specs.Held.{deployed}
+use Rattle.cs_pool.specs.Deployed.{deployed}
 use Rattle.cs_node.specs.Setups.{keyed_from, AreObjects}
 use Rattle.cs_node.specs.Cores.{Keeps}
 
@@ -39,18 +40,18 @@ rules-same config objects =
     let with_items : List Item → Seen.Rules = λ items. record { shard_of = (rules_of config objects).shard_of; genesis = items; dummies = config.dummies; dummy_object = (rules_of config objects).dummy_object } in
     ap with_items (items-same 0 objects)
 
-pub started : {O J M : Type 0} (stands : O → Member M → Type 0) (approves : J → Tx → Bool) (rules : Machine M) (net : Net) (config : Config) (me : NodeId) (objects : List Object) (given : List (Key × Object)) (order : O) (judge : J) (table : Stored) (f index : ℕ)
-    → stands order (record { f = f; me = index; deeds = [] }) → f ≡ config.f → index ≡ me.index → given ≡ keyed_from 0 objects → seen table ≡ start (genesis_rules config given) me.shard
+pub started : {O J M : Type 0} (stands : O → Member M → Type 0) (approves : J → Tx → Bool) (rules : Machine M) (carried : Carrier M) (net : Net) (config : Config) (me : NodeId) (objects : List Object) (given : List (Key × Object)) (order : O) (judge : J) (table : Stored) (f index : ℕ)
+    → stands order (record { f = f; me = index; deeds = [] }) → f ≡ config.f → index ≡ me.index → is_node config me ≡ true → given ≡ keyed_from 0 objects → seen table ≡ start (genesis_rules config given) me.shard
     → Keeps stands approves (deployed config objects (approves judge)) (record { order = order; judge = judge; sbac = record { config = config; me = me; table = table; pool = [] } })
-    (start_view (site_of (deployed config objects (approves judge)) net rules) me)
-started {O} {J} {M} stands approves rules net config me objects given order judge table f index is same-f same-me named shows =
+    (start_view (site_of (deployed config objects (approves judge)) net rules carried) me)
+started {O} {J} {M} stands approves rules carried net config me objects given order judge table f index is same-f same-me node named shows =
     let F : ℕ → Type 0 = λ n. stands order (record { f = n; me = index; deeds = [] }) in
     let I : ℕ → Type 0 = λ n. stands order (record { f = config.f; me = n; deeds = [] }) in
     let shown : seen table ≡ start (rules_of config objects) me.shard =
     shows ∙ ap (λ items. start (genesis_rules config items) me.shard) named ∙ ap (λ (r : Seen.Rules). start r me.shard) (rules-same config objects) in
     let at_table : Table → View M = λ t. record { me = me; bench = record { table = t; pool = [] }; member = record { f = config.f; me = me.index; deeds = [] } } in
     record {
-      order_is = subst I same-me (subst F same-f is);
+      seated = record { stood = subst I same-me (subst F same-f is); f_is = refl; index_is = refl; node = node };
       view_is = ap at_table shown;
       genesis = objects;
       setup_is = refl;

@@ -1,5 +1,5 @@
 -- What the tests on what a client says come to.
-use Rattle.std.proofs.Common.{◌≡◌, ℕ, Bool, true, false, List, [], ◌∷◌, ◌++◌, Option, refl, ap, sym, ◌∙◌, subst, append-nil, if◌then◌else◌}
+use Rattle.std.proofs.Common.{◌≡◌, ℕ, Bool, true, false, List, [], ◌∷◌, Option, refl, ap, sym, ◌∙◌, subst, if◌then◌else◌}
 use Rattle.std.specs.Prelude.{◌==◌}
 use Rattle.cs_base.specs.declared.key.Key.{Key}
 use Rattle.cs_base.specs.Key.{shard_of_key}
@@ -7,7 +7,6 @@ use Rattle.cs_base.specs.declared.node_id.NodeId.{NodeId}
 use Rattle.cs_base.specs.NodeId.{is_client}
 use Rattle.cs_form.specs.declared.session.Session.{Session}
 use Rattle.cs_message.specs.declared.message.Message.TheVariants as message
-use Rattle.cs_wire.specs.Opened.{Opened}
 use Rattle.cs_trail.specs.declared.cause.Cause.{Cause}
 use Rattle.cs_trail.specs.declared.cause.Cause.TheVariants.{Mine, Role, Malformed, Repeat, Denied, Full}
 use Rattle.cs_trail.specs.Setup.{Setup, digest_of, is_fit, is_approved}
@@ -15,9 +14,6 @@ use Rattle.cs_trail.specs.Pool.{Pool, is_pooled, has_room, pushed, entered}
 use Rattle.cs_trail.specs.Bench.{Bench, decided}
 use Rattle.cs_trail.specs.Asked.{told_at, key_asked}
 use Rattle.cs_trail.specs.Signs.{Sign, Dropped, Entered as Enters, Sent, bench_step, bench_after, entering_signs, submitted_signs, submit_signs, ask_signs}
-use Rattle.cs_trail.specs.Site.{Mark, Datagram, Site, View, plain}
-use Rattle.cs_trail.specs.Trail.{opened_signs, input_marks}
-use Rattle.cs_ledger.specs.Ledger.{Bytes}
 use Rattle.cs_sbac.specs.declared.answers.Entered.{Entered}
 use Rattle.cs_sbac.specs.declared.answers.Entered.TheVariants.{New}
 use Rattle.cs_sbac.specs.declared.answers.Entered.TheVariants as Entering
@@ -25,8 +21,8 @@ use Rattle.cs_sbac.specs.Held.{Held, bench_of, with_pool}
 use Rattle.cs_sbac.specs.Calls.{entered_in, pool_entered}
 use Rattle.cs_node.specs.declared.draft.Draft.{Draft}
 use Rattle.cs_node.specs.Notes.{Tells}
-use Rattle.cs_node.specs.Steps.{Makes, Marks}
-use Rattle.cs_node.proofs.Sums.{with_bench, tells-nothing, marks-none, marks-plain}
+use Rattle.cs_node.specs.Steps.{Makes}
+use Rattle.cs_node.proofs.Sums.{tells-nothing}
 
 -- one sign that leaves table and pool as they are
 pub one-makes : (setup : Setup) (me : NodeId) (b : Bench) (signs : List Sign) (sign : Sign) (old new : Draft) → signs ≡ sign ∷ [] → bench_step setup me.shard sign b ≡ b → Tells (sign ∷ []) old new → Makes setup me signs b b old new
@@ -43,14 +39,14 @@ told-makes setup me b signs old new same tells = record { tells = tells; bench_i
 
 -- ---- a session that is undecided
 
-room-new : (pool : Pool) → entered_in pool ≡ New → has_room pool ≡ true
+pub room-new : (pool : Pool) → entered_in pool ≡ New → has_room pool ≡ true
 room-new pool is = by_room (has_room pool) is
   where
     by_room : (room : Bool) → (if room then New else Entering.Full) ≡ New → room ≡ true
     by_room true h = refl
     by_room false h = let q : Entering.Full ≡ New = h in cc
 
-room-full : (pool : Pool) → entered_in pool ≡ Entering.Full → has_room pool ≡ false
+pub room-full : (pool : Pool) → entered_in pool ≡ Entering.Full → has_room pool ≡ false
 room-full pool is = by_room (has_room pool) is
   where
     by_room : (room : Bool) → (if room then New else Entering.Full) ≡ Entering.Full → room ≡ false
@@ -135,16 +131,3 @@ module _ (setup : Setup) (shard : ℕ) (b : Bench) (sender : NodeId) (asked : Op
 
   pub answered-so : is_client sender ≡ true → (shard_of_key setup.shards key == shard) ≡ true → answers ≡ Sent sender (message.Told key (told_at b.table key)) ∷ []
   answered-so client here = rw (client, here) refl
-
--- ---- marks
-
--- the marks of what was opened
-pub heard-marks : {M : Type 0} (site : Site M) (v : View M) (bytes : Bytes) (said : Opened) (b' : Bench) (old new : Draft) (After : View M → Type 0) → site.net.opened v.me bytes ≡ said
-    → Makes site.setup v.me (opened_signs site v said) v.bench b' old new → After (with_bench b' v) → Marks site (input_marks site v (Datagram bytes)) v old new After
-heard-marks {M} site v bytes said b' old new After is made after =
-    let signs : List Sign = opened_signs site v said in
-    let all : plain signs ++ [] ≡ input_marks site v (Datagram bytes) = append-nil (plain signs) ∙ ap (λ (o : Opened). plain (opened_signs site v o)) (sym is) in
-    let Q : View M → Type 0 = λ u. u ≡ v in
-    let P : Bench → Type 0 = λ b. After (with_bench b v) in
-    let R : List (Mark M) → Type 0 = λ marks. Marks site marks v old new After in
-    subst R all (marks-plain site signs [] v old old new Q After (marks-none site v old Q refl) made.tells (subst P made.bench_is after))

@@ -1,19 +1,23 @@
 -- How signs and marks add up.
 use Rattle.std.proofs.Common.{◌≡◌, ℕ, List, [], ◌∷◌, ◌++◌, Option, Some, Bool, true, refl, ap, sym, subst, ◌∙◌, append_assoc, append-nil}
+use Rattle.cs_base.specs.declared.node_id.NodeId.{NodeId}
+use Rattle.cs_message.specs.declared.message.Message.{Message}
 use Rattle.cs_trail.specs.Setup.{Setup}
 use Rattle.cs_trail.specs.Bench.{Bench}
-use Rattle.cs_trail.specs.Signs.{Sign, Dropped, Took, Entered, Did, Sent, bench_step, bench_after}
+use Rattle.cs_trail.specs.Signs.{Sign, Dropped, Took, Entered, Viewed, Did, Sent, bench_step, bench_after, sends}
 use Rattle.cs_trail.specs.Site.{Mark, In, Ordered, Plain, Site, View, mark_step, view_after, plain, signs_of}
 use Rattle.cs_node.specs.declared.draft.Note.TheVariants as note
+use Rattle.cs_node.specs.declared.draft.Said.{Said}
 use Rattle.cs_node.specs.declared.draft.Draft.{Draft}
-use Rattle.cs_node.specs.Notes.{effect_from, notes_of, said_of, Tells}
-use Rattle.cs_node.specs.Steps.{Marks, TurnDone}
+use Rattle.cs_node.specs.Notes.{effect_from, notes_of, said_of, to_each, spoken, Tells}
+use Rattle.cs_node.specs.Steps.{Makes, Marks, TurnDone}
 
 pub notes-append : (new old : List Sign) → notes_of (new ++ old) ≡ notes_of old ++ notes_of new
 notes-append [] old = sym (append-nil (notes_of old))
 notes-append (Dropped cause ∷ new) old = ap (λ xs. xs ++ note.Dropped cause ∷ []) (notes-append new old) ∙ append_assoc (notes_of old) (notes_of new) (note.Dropped cause ∷ [])
 notes-append (Took sender vote x ∷ new) old = notes-append new old
 notes-append (Entered x ∷ new) old = notes-append new old
+notes-append (Viewed slot view ∷ new) old = ap (λ xs. xs ++ note.Viewed slot view ∷ []) (notes-append new old) ∙ append_assoc (notes_of old) (notes_of new) (note.Viewed slot view ∷ [])
 notes-append (Did slot entry effect ∷ new) old = ap (λ xs. xs ++ note.Executed slot entry (effect_from effect) ∷ []) (notes-append new old) ∙ append_assoc (notes_of old) (notes_of new) (note.Executed slot entry (effect_from effect) ∷ [])
 notes-append (Sent to message ∷ new) old = notes-append new old
 
@@ -22,22 +26,53 @@ said-append [] old = sym (append-nil (said_of old))
 said-append (Dropped cause ∷ new) old = said-append new old
 said-append (Took sender vote x ∷ new) old = said-append new old
 said-append (Entered x ∷ new) old = said-append new old
+said-append (Viewed slot view ∷ new) old = said-append new old
 said-append (Did slot entry effect ∷ new) old = said-append new old
-said-append (Sent to message ∷ new) old = ap (λ xs. xs ++ record { to = to; message = message } ∷ []) (said-append new old) ∙ append_assoc (said_of old) (said_of new) (record { to = to; message = message } ∷ [])
+said-append (Sent to message ∷ new) old = ap (λ xs. xs ++ (to, message) ∷ []) (said-append new old) ∙ append_assoc (said_of old) (said_of new) ((to, message) ∷ [])
+
+-- one more is said to some
+pub spoken-push : (all : List Said) (said : Said) → spoken (all ++ said ∷ []) ≡ spoken all ++ to_each said.to said.message
+spoken-push [] said = append-nil (to_each said.to said.message)
+spoken-push (x ∷ all) said =
+    ap (λ xs. to_each x.to x.message ++ xs) (spoken-push all said)
+    ∙ sym (append_assoc (to_each x.to x.message) (spoken all) (to_each said.to said.message))
 
 pub tells-nothing : (draft : Draft) → Tells [] draft draft
-tells-nothing draft = record { notes = sym (append-nil draft.notes); said = sym (append-nil draft.said) }
+tells-nothing draft = record { notes = sym (append-nil draft.notes); said = sym (append-nil (spoken draft.said)) }
 
 -- first these signs, then those
 pub tells-more : (first later : List Sign) (old mid new : Draft) → Tells first old mid → Tells later mid new → Tells (later ++ first) old new
 tells-more first later old mid new a b = record {
   notes = b.notes ∙ ap (λ xs. xs ++ notes_of later) a.notes ∙ append_assoc old.notes (notes_of first) (notes_of later) ∙ ap (λ xs. old.notes ++ xs) (sym (notes-append later first));
-  said = b.said ∙ ap (λ xs. xs ++ said_of later) a.said ∙ append_assoc old.said (said_of first) (said_of later) ∙ ap (λ xs. old.said ++ xs) (sym (said-append later first));
+  said = b.said ∙ ap (λ xs. xs ++ said_of later) a.said ∙ append_assoc (spoken old.said) (said_of first) (said_of later) ∙ ap (λ xs. spoken old.said ++ xs) (sym (said-append later first));
 }
 
 pub bench-append : (setup : Setup) (shard : ℕ) (new old : List Sign) (b : Bench) → bench_after setup shard (new ++ old) b ≡ bench_after setup shard new (bench_after setup shard old b)
 bench-append setup shard [] old b = refl
 bench-append setup shard (sign ∷ new) old b = ap (bench_step setup shard sign) (bench-append setup shard new old b)
+
+-- ---- one message to several
+
+pub said-sends : (names : List NodeId) (m : Message) → said_of (sends names m) ≡ to_each names m
+said-sends [] m = refl
+said-sends (to ∷ more) m = said-append (sends more m) (Sent to m ∷ []) ∙ ap (λ xs. (to, m) ∷ xs) (said-sends more m)
+
+pub notes-sends : (names : List NodeId) (m : Message) → notes_of (sends names m) ≡ []
+notes-sends [] m = refl
+notes-sends (to ∷ more) m = notes-append (sends more m) (Sent to m ∷ []) ∙ notes-sends more m
+
+pub bench-sends : (setup : Setup) (shard : ℕ) (names : List NodeId) (m : Message) (b : Bench) → bench_after setup shard (sends names m) b ≡ b
+bench-sends setup shard [] m b = refl
+bench-sends setup shard (to ∷ more) m b = bench-append setup shard (sends more m) (Sent to m ∷ []) b ∙ bench-sends setup shard more m b
+
+-- what is pushed is said
+pub tells-sends : (names : List NodeId) (m : Message) (old new : Draft) → new.notes ≡ old.notes → new.said ≡ old.said ++ record { to = names; message = m } ∷ [] → Tells (sends names m) old new
+tells-sends names m old new same is = record {
+  notes = same ∙ sym (append-nil old.notes) ∙ ap (λ xs. old.notes ++ xs) (sym (notes-sends names m));
+  said = ap spoken is ∙ spoken-push old.said (record { to = names; message = m }) ∙ ap (λ xs. spoken old.said ++ xs) (sym (said-sends names m));
+}
+
+-- ---- marks
 
 pub signs-plain : {M : Type 0} (signs : List Sign) (past : List (Mark M)) → signs_of (plain signs ++ past) ≡ signs ++ signs_of past
 signs-plain {M} [] past = refl
@@ -85,3 +120,11 @@ marks-plain {M} site signs first v old mid new After Later a tells after =
       tells = subst Q (sym (signs-plain signs first)) (tells-more (signs_of first) signs old mid new a.tells tells);
       after = subst Later (sym (view-plain site signs first v)) after;
     }
+
+-- signs alone
+pub plain-marks : {M : Type 0} (site : Site M) (signs : List Sign) (v : View M) (b' : Bench) (old new : Draft) (After : View M → Type 0) → Makes site.setup v.me signs v.bench b' old new → After (with_bench b' v) → Marks site (plain signs) v old new After
+plain-marks {M} site signs v b' old new After made after =
+    let Q : View M → Type 0 = λ u. u ≡ v in
+    let P : Bench → Type 0 = λ b. After (with_bench b v) in
+    let R : List (Mark M) → Type 0 = λ marks. Marks site marks v old new After in
+    subst R (append-nil (plain signs)) (marks-plain site signs [] v old old new Q After (marks-none site v old Q refl) made.tells (subst P made.bench_is after))

@@ -1,17 +1,19 @@
 -- What the marks of an event tell, and what they say to others.
-use Rattle.std.specs.Prelude.{◌≡◌, true, List, [], ◌∷◌, ◌++◌}
+use Rattle.std.specs.Prelude.{◌≡◌, List, [], ◌∷◌, ◌++◌, IsSome}
 use Rattle.cs_base.specs.declared.node_id.NodeId.{NodeId}
-use Rattle.cs_base.specs.NodeId.{is_client}
 use Rattle.cs_form.specs.Session.{EntryFits}
 use Rattle.cs_form.specs.declared.entry.Entry.{Entry}
 use Rattle.cs_form.specs.declared.effect.Effect.{Effect}
 use Rattle.cs_form.specs.declared.effect.Effect.TheVariants.{Voted, Accepted, Aborted, Skipped, Void}
+use Rattle.cs_message.specs.declared.message.Message.{Message}
 use Rattle.cs_message.specs.Message.{MessageFits}
 use Rattle.cs_wire.specs.declared.input.Out.{Out}
+use Rattle.cs_wire.specs.declared.keys.Keys.{Keys}
+use Rattle.cs_wire.specs.Keys.{row_of}
 use Rattle.cs_ledger.specs.Table as Shard
 use Rattle.cs_trail.specs.Setup.{vote_from}
 use Rattle.cs_trail.specs.Net.{Net, sealed}
-use Rattle.cs_trail.specs.Signs.{Sign, Dropped, Took, Entered, Did, Sent}
+use Rattle.cs_trail.specs.Signs.{Sign, Dropped, Took, Entered, Viewed, Did, Sent}
 use Rattle.cs_node.specs.declared.draft.Note.{Note}
 use Rattle.cs_node.specs.declared.draft.Note.TheVariants as note
 use Rattle.cs_node.specs.declared.draft.Said.{Said}
@@ -30,6 +32,7 @@ notes_of [] = []
 notes_of (Dropped cause ∷ past) = notes_of past ++ note.Dropped cause ∷ []
 notes_of (Took sender vote x ∷ past) = notes_of past
 notes_of (Entered x ∷ past) = notes_of past
+notes_of (Viewed slot view ∷ past) = notes_of past ++ note.Viewed slot view ∷ []
 notes_of (Did slot entry effect ∷ past) = notes_of past ++ note.Executed slot entry (effect_from effect) ∷ []
 notes_of (Sent to message ∷ past) = notes_of past
 
@@ -39,24 +42,40 @@ outs_of net me [] = []
 outs_of net me (Dropped cause ∷ past) = outs_of net me past
 outs_of net me (Took sender vote x ∷ past) = outs_of net me past
 outs_of net me (Entered x ∷ past) = outs_of net me past
+outs_of net me (Viewed slot view ∷ past) = outs_of net me past
 outs_of net me (Did slot entry effect ∷ past) = outs_of net me past
 outs_of net me (Sent to message ∷ past) = outs_of net me past ++ record { to = to; bytes = sealed net me to message } ∷ []
 
 -- ---- while an event goes on
 
--- what signs say, before it is sealed
-abbrev pub said_of : List Sign → List Said
+-- what signs say, before it is sealed: who is told what
+abbrev pub said_of : List Sign → List (NodeId × Message)
 said_of [] = []
 said_of (Dropped cause ∷ past) = said_of past
 said_of (Took sender vote x ∷ past) = said_of past
 said_of (Entered x ∷ past) = said_of past
+said_of (Viewed slot view ∷ past) = said_of past
 said_of (Did slot entry effect ∷ past) = said_of past
-said_of (Sent to message ∷ past) = said_of past ++ record { to = to; message = message } ∷ []
+said_of (Sent to message ∷ past) = said_of past ++ (to, message) ∷ []
+
+-- each of these is told it
+abbrev pub to_each : List NodeId → Message → List (NodeId × Message)
+to_each [] message = []
+to_each (to ∷ more) message = (to, message) ∷ to_each more message
+
+abbrev pub spoken : List Said → List (NodeId × Message)
+spoken [] = []
+spoken (said ∷ more) = to_each said.to said.message ++ spoken more
 
 -- sealed
-abbrev pub outs_for : Net → NodeId → List Said → List Out
+abbrev pub outs_for : Net → NodeId → List (NodeId × Message) → List Out
 outs_for net me [] = []
-outs_for net me (said ∷ more) = record { to = said.to; bytes = sealed net me said.to said.message } ∷ outs_for net me more
+outs_for net me (said ∷ more) = record { to = said.0; bytes = sealed net me said.0 said.1 } ∷ outs_for net me more
+
+-- there are keys to all who are told something
+abbrev pub AllReached : Keys → List (NodeId × Message) → Type 0
+AllReached keys [] = Unit {0}
+AllReached keys (said ∷ more) = IsSome (row_of said.0 keys) × AllReached keys more
 
 abbrev pub nothing : Draft
 nothing = record { notes = []; said = [] }
@@ -64,7 +83,7 @@ nothing = record { notes = []; said = [] }
 -- a draft grew by what these signs tell and say
 pub record Tells (signs : List Sign) (old new : Draft) : Type 0 where
   pub notes : new.notes ≡ old.notes ++ notes_of signs
-  pub said : new.said ≡ old.said ++ said_of signs
+  pub said : spoken new.said ≡ spoken old.said ++ said_of signs
 
 -- an executed entry has an encoding, but where the bytes were no entry
 abbrev pub ExecutedFits : Effect → Entry → Type 0
@@ -76,20 +95,17 @@ ExecutedFits Void entry = Unit {0}
 
 abbrev pub NoteFits : Note → Type 0
 NoteFits (note.Dropped cause) = Unit {0}
+NoteFits (note.Viewed slot view) = Unit {0}
 NoteFits (note.Executed slot entry effect) = ExecutedFits effect entry
 
 abbrev pub NotesFit : List Note → Type 0
 NotesFit [] = Unit {0}
 NotesFit (n ∷ notes) = NoteFits n × NotesFit notes
 
--- what is said has a body, and goes to a client
-pub record SaidFits (said : Said) : Type 0 where
-  pub message : MessageFits said.message
-  pub client : is_client said.to ≡ true
-
+-- what is said has a body
 abbrev pub AllSaidFit : List Said → Type 0
 AllSaidFit [] = Unit {0}
-AllSaidFit (said ∷ more) = SaidFits said × AllSaidFit more
+AllSaidFit (said ∷ more) = MessageFits said.message × AllSaidFit more
 
 pub record DraftFits (draft : Draft) : Type 0 where
   pub notes : NotesFit draft.notes

@@ -6,7 +6,8 @@ ghost use Rattle.cs_form.specs.declared.transaction.Tx.{Tx};
 ghost use Rattle.cs_message.specs.Message.{AskedFits};
 ghost use Rattle.cs_trail.specs.declared.cause.Cause.TheVariants.{Role, NoProof};
 ghost use Rattle.cs_trail.specs.Signs.{Dropped, guarded, ask_signs};
-ghost use Rattle.cs_sbac.specs.Held.{Held, bench_of, deployed};
+ghost use Rattle.cs_pool.specs.Deployed.{deployed};
+ghost use Rattle.cs_sbac.specs.Held.{Held, bench_of};
 ghost use Rattle.cs_node.specs.Notes.{Tells, DraftFits};
 ghost use Rattle.cs_node.specs.Steps.{Makes};
 
@@ -37,7 +38,7 @@ pub fn ask(
         return draft.drop_it(Cause::Mine);
     }
     let state = sbac.told(alloc, &key)?;
-    draft.say(sender, Message::Told { key, state })
+    draft.say(alloc, sender, Message::Told { key, state })
 }
 
 /// A client asks for the proof of a slot. No checkpoint covers one, as none is made.

@@ -1,9 +1,8 @@
 //! What an event has made so far.
-ghost use Rattle.std.specs.Prelude.{◌≡◌, ◌∷◌, ◌++◌, [], true, OnOk};
-ghost use Rattle.cs_base.specs.NodeId.{is_client};
+ghost use Rattle.std.specs.Prelude.{◌≡◌, ◌∷◌, ◌++◌, [], OnOk};
 ghost use Rattle.cs_message.specs.Message.{MessageFits};
 ghost use Rattle.cs_node.specs.Notes.{nothing, Tells, ExecutedFits, DraftFits};
-ghost use Rattle.cs_trail.specs.Signs.{Dropped, Sent};
+ghost use Rattle.cs_trail.specs.Signs.{Dropped, Viewed, Sent, sends};
 
 use cs_base::{Memory, NodeId, Sequence};
 use cs_message::Message;
@@ -17,6 +16,11 @@ use std::alloc::Global;
 pub enum Note {
     /// The input failed a test, and changed nothing.
     Dropped(Cause),
+    /// The order entered a view of a slot.
+    Viewed {
+        slot: u64,
+        view: u16,
+    },
     /// The entry of a slot was executed.
     Executed {
         slot: u64,
@@ -25,10 +29,10 @@ pub enum Note {
     },
 }
 
-/// A message to another, before it is sealed.
+/// A message to others, one after the other, before it is sealed.
 #[derive(Drop)]
 pub struct Said {
-    pub to: NodeId,
+    pub to: Sequence<NodeId>,
     pub message: Message,
 }
 
@@ -73,12 +77,31 @@ impl Draft {
         Ok(())
     }
 
-    /// Says something to a client.
-    pub fn say(&mut self, to: NodeId, message: Message) -> Result<(), Memory>
-        ensures tells { OnOk result (Tells (Sent to message ∷ []) self.old self.new) }
-        ensures fits { MessageFits message → is_client to ≡ true → DraftFits self.old → OnOk result (DraftFits self.new) }
+    /// Notes a view that the order entered.
+    pub fn viewed(&mut self, slot: u64, view: u16) -> Result<(), Memory>
+        ensures tells { OnOk result (Tells (Viewed slot view ∷ []) self.old self.new) }
+        ensures fits { DraftFits self.old → OnOk result (DraftFits self.new) }
+    {
+        self.notes.push(Note::Viewed { slot, view })?;
+        Ok(())
+    }
+
+    /// Says something to these, one after the other.
+    pub fn say_to(&mut self, to: Sequence<NodeId>, message: Message) -> Result<(), Memory>
+        ensures tells { OnOk result (Tells (sends to message) self.old self.new) }
+        ensures fits { MessageFits message → DraftFits self.old → OnOk result (DraftFits self.new) }
     {
         self.said.push(Said { to, message })?;
         Ok(())
+    }
+
+    /// Says something to one.
+    pub fn say(&mut self, alloc: Global, to: NodeId, message: Message) -> Result<(), Memory>
+        ensures tells { OnOk result (Tells (Sent to message ∷ []) self.old self.new) }
+        ensures fits { MessageFits message → DraftFits self.old → OnOk result (DraftFits self.new) }
+    {
+        let mut names = Sequence::new(alloc);
+        names.push(to)?;
+        self.say_to(names, message)
     }
 }

@@ -2,21 +2,38 @@
 ghost use Rattle.std.specs.Prelude.{◌≡◌, OnOk, List, Bool};
 ghost use Rattle.cs_value.specs.declared.object.Object.{Object};
 ghost use Rattle.cs_form.specs.declared.transaction.Tx.{Tx};
+ghost use Rattle.cs_form.specs.Session.{SessionFits, EntryFits};
+ghost use Rattle.cs_trail.specs.Setup.{session_in};
 ghost use Rattle.cs_trail.specs.Signs.{execution_signs};
-ghost use Rattle.cs_sbac.specs.Held.{Held, bench_of, deployed};
+ghost use Rattle.cs_pool.specs.Deployed.{deployed};
+ghost use Rattle.cs_sbac.specs.Held.{Held, bench_of};
 ghost use Rattle.cs_node.specs.Notes.{DraftFits};
 ghost use Rattle.cs_node.specs.Proposals.{entry_in};
 ghost use Rattle.cs_node.specs.Steps.{Makes};
 
 use crate::draft::Draft;
 use crate::proposals::{read_entry, void_entry};
+use crate::sending::say_vote;
 use cs_base::Memory;
 use cs_order::Proposed;
 use cs_sbac::{Effect, Sbac};
+use cs_tx::{Entry, Session};
 use std::alloc::Global;
 
-/// Executes what was chosen in a slot, and notes what that came to. Bytes that are no entry change
-/// nothing.
+/// The session of an entry.
+fn session_in(entry: &Entry) -> &Session
+    requires { EntryFits entry.now }
+    ensures session { result.now ≡ session_in entry.now }
+    ensures fits { SessionFits result.now }
+{
+    match entry {
+        Entry::Prepare(session) => session,
+        Entry::Decide(_, session) => session,
+    }
+}
+
+/// Executes what was chosen in a slot, notes what that came to, and says the node's vote to all whom
+/// it concerns. Bytes that are no entry change nothing.
 pub fn execute(
     alloc: Global,
     sbac: &mut Sbac,
@@ -32,6 +49,7 @@ pub fn execute(
     match read_entry(alloc, proposed)? {
         Some(entry) => {
             let outcome = sbac.execute(alloc, &entry)?;
+            say_vote(alloc, sbac, draft, session_in(&entry), outcome.voted)?;
             draft.executed(slot, entry, outcome.effect)?;
             Ok(())
         }

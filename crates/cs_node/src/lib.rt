@@ -2,19 +2,27 @@
 #![tactic(auto)]
 
 mod asks;
+mod carried;
 mod causes;
 mod draft;
 mod engine;
 mod executions;
-mod messages;
+mod handing;
+mod hearing;
+mod members;
 mod nodes;
 mod outs;
 mod proposals;
+mod sending;
+mod solo_carried;
 mod speaking;
 mod submits;
 #[cfg(test)]
 mod tests;
+mod ticking;
+mod votes;
 
+pub use carried::Carried;
 pub use cs_sbac::Effect;
 pub use cs_wire::{Input, Out};
 pub use draft::Note;

@@ -6,14 +6,16 @@ ghost use Rattle.cs_trail.specs.Setup.{Setup};
 ghost use Rattle.cs_trail.specs.Net.{Net};
 ghost use Rattle.cs_trail.specs.Site.{View, start_view};
 ghost use Rattle.cs_trail.specs.Deployment.{site_of};
-ghost use Rattle.cs_sbac.specs.Held.{deployed};
+ghost use Rattle.cs_pool.specs.Deployed.{deployed};
 ghost use Rattle.cs_table.specs.Genesis.{twice};
 ghost use Rattle.cs_node.specs.Notes.{NotesFit};
 ghost use Rattle.cs_node.specs.Setups.{keyed_from, AreObjects, Starts};
-ghost use Rattle.cs_node.specs.Speaking.{Speaks, input_of};
+ghost use Rattle.cs_node.specs.Speaking.{Speaks, input_of, sender_of};
 ghost use Rattle.cs_node.specs.Steps.{Event};
+ghost use Rattle.cs_node.specs.Carriers.{carrier};
 ghost use Rattle.cs_node.specs.Cores.{StandsFor};
 
+use crate::carried::Carried;
 use crate::draft::Draft;
 use crate::engine::Engine;
 use crate::outs::{Made, seal_draft};
@@ -22,7 +24,7 @@ use cs_order::Order;
 use cs_sbac::Sbac;
 use cs_table::{Table, TableError};
 use cs_tx::{Judge, Object};
-use cs_wire::{Input, Keys};
+use cs_wire::{Input, Keys, read};
 use std::alloc::Global;
 
 /// Why a node can't start.
@@ -40,7 +42,7 @@ pub struct Core<O: Order, J: Judge + Drop> {
     engine: Engine<O, J>,
 }
 
-impl<O: Order, J: Judge + Drop> Core<O, J> {
+impl<O: Carried, J: Judge + Drop> Core<O, J> {
     /// The node that holds the keys, before its first input. The genesis objects of all shards are
     /// given, each under its key, by which the node knows those of its own.
     pub fn start(
@@ -56,7 +58,7 @@ impl<O: Order, J: Judge + Drop> Core<O, J> {
         requires start { O.at_start order }
         requires f { O.f order ≡ config.f }
         requires me { O.me order ≡ keys.me.index }
-        ensures { (objects : List AnyObject) → genesis.now ≡ keyed_from 0 objects → Starts (twice config.shards keys.me.shard genesis.now) result (λ core. (net : Net) → Speaks net keys → StandsFor O.stands J.is_approved (deployed config objects (J.is_approved judge)) net core (start_view (site_of (deployed config objects (J.is_approved judge)) net O.rules) keys.me)) }
+        ensures { (objects : List AnyObject) → genesis.now ≡ keyed_from 0 objects → Starts (twice config.shards keys.me.shard genesis.now) result (λ core. (net : Net) → Speaks config net keys → StandsFor O.stands J.is_approved (deployed config objects (J.is_approved judge)) net core (start_view (site_of (deployed config objects (J.is_approved judge)) net O.rules (carrier O.written O.read_of)) keys.me)) }
     {
         let me = keys.me();
         let table = match Table::genesis(alloc, config, me.shard, genesis) {
@@ -71,7 +73,7 @@ impl<O: Order, J: Judge + Drop> Core<O, J> {
 
     /// One event: what comes of an input, and of the rules until none applies.
     pub fn step(&mut self, alloc: Global, input: Input<'_>) -> Result<Made, Memory>
-        ensures event { (setup : Setup) (net : Net) (v : View O.Message) → StandsFor O.stands J.is_approved setup net self.old v → IfOk result (λ made. Event (site_of setup net O.rules) v (input_of input.entry) made (StandsFor O.stands J.is_approved setup net self.new)) }
+        ensures event { (setup : Setup) (net : Net) (v : View O.Message) → StandsFor O.stands J.is_approved setup net self.old v → IfOk result (λ made. Event (site_of setup net O.rules (carrier O.written O.read_of)) v (input_of input.entry) made (StandsFor O.stands J.is_approved setup net self.new)) }
         ensures fits { IfOk result (λ made. NotesFit made.notes) }
     {
         let mut draft = Draft::new(alloc);
@@ -86,5 +88,15 @@ impl<O: Order, J: Judge + Drop> Core<O, J> {
         ensures { (setup : Setup) (net : Net) (v : View O.Message) → StandsFor O.stands J.is_approved setup net self.now v → result ≡ v.me }
     {
         self.keys.me()
+    }
+
+    /// As whom bytes open at this node, if they open.
+    pub fn sender(&self, alloc: Global, bytes: &[u8]) -> Result<Option<NodeId>, Memory>
+        ensures { (setup : Setup) (net : Net) (v : View O.Message) → StandsFor O.stands J.is_approved setup net self.now v → IfOk result (λ sender. sender ≡ sender_of (net.opened v.me bytes.now)) }
+    {
+        match read(alloc, &self.keys, bytes)? {
+            Ok((sender, _)) => Ok(Some(sender)),
+            Err(_) => Ok(None),
+        }
     }
 }

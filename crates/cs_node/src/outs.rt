@@ -1,13 +1,15 @@
 //! What an event has made, with the datagrams that go out.
-ghost use Rattle.std.specs.Prelude.{◌≡◌, ◌++◌, ◌∷◌, [], true, IfOk, OnOk};
-ghost use Rattle.cs_base.specs.NodeId.{is_client};
+ghost use Rattle.std.specs.Prelude.{◌≡◌, ◌++◌, ◌∷◌, [], IfOk, OnOk, IsSome};
+ghost use Rattle.cs_base.specs.declared.config.Config.{Config};
 ghost use Rattle.cs_message.specs.Message.{MessageFits};
+ghost use Rattle.cs_wire.specs.Keys.{row_of};
 ghost use Rattle.cs_trail.specs.Net.{Net, sealed};
-ghost use Rattle.cs_node.specs.Notes.{AllSaidFit, DraftFits, SaidFits, outs_for};
+ghost use Rattle.cs_node.specs.Notes.{AllSaidFit, DraftFits, AllReached, to_each, spoken, outs_for};
 ghost use Rattle.cs_node.specs.Speaking.{Speaks};
 
 use crate::draft::{Draft, Note, Said};
-use cs_base::{Memory, Sequence};
+use cs_base::{Memory, NodeId, Sequence};
+use cs_message::Message;
 use cs_wire::{Keys, Out, SealError, seal};
 use std::alloc::Global;
 
@@ -18,16 +20,22 @@ pub struct Made {
     pub notes: Sequence<Note>,
 }
 
-// Seals one message. A peer without a key gets nothing.
-fn add_out(alloc: Global, keys: &Keys, said: &Said, outs: &mut Sequence<Out>) -> Result<(), Memory>
-    requires { SaidFits said.now }
-    ensures { (net : Net) → Speaks net keys.now → OnOk result (outs.new ≡ outs.old ++ record { to = said.now.to; bytes = sealed net keys.now.me said.now.to said.now.message } ∷ []) }
+// Seals a message for one. A peer without a key gets nothing.
+fn add_out(
+    alloc: Global,
+    keys: &Keys,
+    to: NodeId,
+    message: &Message,
+    outs: &mut Sequence<Out>,
+) -> Result<(), Memory>
+    requires { MessageFits message.now }
+    ensures { (config : Config) (net : Net) → Speaks config net keys.now → IsSome (row_of to keys.now) → OnOk result (outs.new ≡ outs.old ++ record { to = to; bytes = sealed net keys.now.me to message.now } ∷ []) }
 {
     let mut bytes = Vec::new(alloc);
-    match seal(alloc, keys, said.to, &said.message, &mut bytes) {
+    match seal(alloc, keys, to, message, &mut bytes) {
         Ok(()) => {
             outs.push(Out {
-                to: said.to,
+                to,
                 bytes: Sequence::from_vec(bytes),
             })?;
             Ok(())
@@ -37,13 +45,25 @@ fn add_out(alloc: Global, keys: &Keys, said: &Said, outs: &mut Sequence<Out>) ->
     }
 }
 
+// Seals a message for each of those to whom it is said.
+fn add_outs(alloc: Global, keys: &Keys, said: &Said, outs: &mut Sequence<Out>) -> Result<(), Memory>
+    requires { MessageFits said.now.message }
+    ensures { (config : Config) (net : Net) → Speaks config net keys.now → AllReached keys.now (to_each said.now.to said.now.message) → OnOk result (outs.new ≡ outs.old ++ outs_for net keys.now.me (to_each said.now.to said.now.message)) }
+{
+    let names = said.to.as_slice();
+    for i in 0..names.len() {
+        add_out(alloc, keys, names[i], &said.message, outs)?;
+    }
+    Ok(())
+}
+
 fn seal_each(alloc: Global, keys: &Keys, said: &[Said]) -> Result<Sequence<Out>, Memory>
     requires { AllSaidFit said.now }
-    ensures { (net : Net) → Speaks net keys.now → IfOk result (λ outs. outs ≡ outs_for net keys.now.me said.now) }
+    ensures { (config : Config) (net : Net) → Speaks config net keys.now → AllReached keys.now (spoken said.now) → IfOk result (λ outs. outs ≡ outs_for net keys.now.me (spoken said.now)) }
 {
     let mut outs = Sequence::new(alloc);
     for i in 0..said.len() {
-        add_out(alloc, keys, &said[i], &mut outs)?;
+        add_outs(alloc, keys, &said[i], &mut outs)?;
     }
     Ok(outs)
 }
@@ -52,7 +72,7 @@ fn seal_each(alloc: Global, keys: &Keys, said: &[Said]) -> Result<Sequence<Out>,
 pub fn seal_draft(alloc: Global, keys: &Keys, draft: Draft) -> Result<Made, Memory>
     requires { DraftFits draft }
     ensures notes { IfOk result (λ made. made.notes ≡ draft.notes) }
-    ensures outs { (net : Net) → Speaks net keys.now → IfOk result (λ made. made.outs ≡ outs_for net keys.now.me draft.said) }
+    ensures outs { (config : Config) (net : Net) → Speaks config net keys.now → AllReached keys.now (spoken draft.said) → IfOk result (λ made. made.outs ≡ outs_for net keys.now.me (spoken draft.said)) }
 {
     let outs = seal_each(alloc, keys, draft.said.as_slice())?;
     Ok(Made {

@@ -3,7 +3,8 @@ ghost use Rattle.std.specs.Prelude.{◌≡◌, OnOk, List};
 ghost use Rattle.cs_value.specs.declared.object.Object.{Object};
 ghost use Rattle.cs_form.specs.Session.{SessionFits};
 ghost use Rattle.cs_trail.specs.Signs.{entering_signs, submit_signs};
-ghost use Rattle.cs_sbac.specs.Held.{Held, bench_of, deployed};
+ghost use Rattle.cs_pool.specs.Deployed.{deployed};
+ghost use Rattle.cs_sbac.specs.Held.{Held, bench_of};
 ghost use Rattle.cs_node.specs.Notes.{DraftFits};
 ghost use Rattle.cs_node.specs.Steps.{Makes};
 
@@ -65,7 +66,7 @@ pub fn submit<J: Judge>(
     match sbac.decided(alloc, &session)? {
         Some(accepted) => {
             let session = session_digest(alloc, &session)?;
-            draft.say(sender, Message::Decided { session, accepted })
+            draft.say(alloc, sender, Message::Decided { session, accepted })
         }
         None => enter(alloc, sbac, judge, draft, session),
     }

@@ -5,7 +5,8 @@ use cs_message::Message;
 use cs_order::Solo;
 use cs_trail::Cause;
 use cs_tx::{
-    Encoded, Entry, Name, Object, Session, State, TokenJudge, Trace, Tx, Value, Vote, genesis_key,
+    Encoded, Entry, Name, Object, Session, State, TokenJudge, Trace, Tx, Value, Vote, concerned,
+    genesis_key,
 };
 use cs_wire::{Keys, read, seal};
 use std::alloc::Global;
@@ -38,11 +39,15 @@ fn coin(alloc: Global, worth: i64) -> Result<Object, Memory> {
 
 /// Splits a coin of 10 into one of 4 and one of so much.
 fn split(alloc: Global, name: [u8; 32], rest: i64) -> Result<Session, Memory> {
+    split_into(alloc, name, 4, rest)
+}
+
+fn split_into(alloc: Global, name: [u8; 32], first: i64, rest: i64) -> Result<Session, Memory> {
     let method = Vec::from_slice(alloc, b"transfer")?;
     let mut inputs = Sequence::new(alloc);
     inputs.push((name, coin(alloc, 10)?))?;
     let mut outputs = Sequence::new(alloc);
-    outputs.push(coin(alloc, 4)?)?;
+    outputs.push(coin(alloc, first)?)?;
     outputs.push(coin(alloc, rest)?)?;
     let mut traces = Sequence::new(alloc);
     traces.push(Trace {
@@ -251,5 +256,84 @@ fn a_tick_makes_nothing(rt: HostRuntime) -> Result<(), Fail> {
     let (mut core, _) = start(&rt, alloc)?;
     let made = core.step(alloc, Input::Tick)?;
     assert!(rt; made.notes.is_empty() && made.outs.is_empty());
+    Ok(())
+}
+
+/// Node 0 of a shard of two, each of one node, with the coin where it is of the shard.
+fn start_in(
+    rt: &impl Abort,
+    alloc: Global,
+    shard: u16,
+) -> Result<(Core<Solo, TokenJudge>, [u8; 32]), Fail> {
+    let config = Config::new(2, 0, 2).expect(rt, "a configuration");
+    let me = NodeId { shard, index: 0 };
+    let keys = Keys::from_master(alloc, &config, &[7; 32], me)?;
+    assert!(rt; config.has_node(keys.me()) && config.f == 0 && keys.me().index == 0);
+    let object = coin(alloc, 10)?;
+    assert!(rt; object.fits());
+    let Key::Object(name) = genesis_key(alloc, 0, &object)? else {
+        panic!(rt; "a dummy");
+    };
+    let objects = [(Key::Object(name), object)];
+    match Core::start(alloc, config, keys, TokenJudge, &objects, Solo::new(alloc)) {
+        Ok(core) => Ok((core, name)),
+        Err(_) => panic!(rt; "a node starts"),
+    }
+}
+
+/// A split that concerns both shards, with a dummy of the one that has no input.
+fn split_in_two(rt: &impl Abort, alloc: Global, name: [u8; 32]) -> Result<Session, Fail> {
+    let config = Config::new(2, 0, 2).expect(rt, "a configuration");
+    let home = u16::from(name[31]) % 2;
+    for first in 1..10 {
+        let mut session = split_into(alloc, name, first, 10_i64.saturating_sub(first))?;
+        assert!(rt; session.fits());
+        if concerned(alloc, &session, &config)?.len() == 2 {
+            session.dummies.push((1 - home, 0))?;
+            return Ok(session);
+        }
+    }
+    panic!(rt; "a split into both shards");
+}
+
+/// What one node says to the other.
+fn said_to(rt: &impl Abort, alloc: Global, made: &Made, to: NodeId) -> Result<Vec<u8>, Fail> {
+    match made.outs.as_slice() {
+        [out] => {
+            assert!(rt; out.to == to);
+            Ok(out.bytes.as_slice().to_vec(alloc)?)
+        }
+        _ => panic!(rt; "one datagram"),
+    }
+}
+
+fn is_decided(notes: &[Note]) -> bool {
+    match notes {
+        [
+            Note::Executed {
+                slot,
+                entry,
+                effect,
+            },
+        ] => is_accepted(*slot, entry, *effect),
+        _ => false,
+    }
+}
+
+#[test]
+fn two_shards_accept_a_session(rt: HostRuntime) -> Result<(), Fail> {
+    let alloc = rt.alloc();
+    let other = NodeId { shard: 1, index: 0 };
+    let (mut first, name) = start_in(&rt, alloc, 0)?;
+    let (mut second, _) = start_in(&rt, alloc, 1)?;
+    let session = submitted(&rt, alloc, split_in_two(&rt, alloc, name)?)?;
+    let made = first.step(alloc, Input::Datagram(&session))?;
+    let asks = said_to(&rt, alloc, &made, other)?;
+    assert!(rt; second.sender(alloc, &asks)? == Some(ME));
+    let made = second.step(alloc, Input::Datagram(&asks))?;
+    assert!(rt; is_split(made.notes.as_slice()));
+    let vote = said_to(&rt, alloc, &made, ME)?;
+    let made = first.step(alloc, Input::Datagram(&vote))?;
+    assert!(rt; is_decided(made.notes.as_slice()) && made.outs.is_empty());
     Ok(())
 }

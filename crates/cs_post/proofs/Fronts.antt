@@ -1,8 +1,10 @@
 -- What is kept of the datagrams stays true as they are sent and come.
-use Rattle.std.proofs.Common.{◌≡◌, ℕ, zero, suc, ◌+◌, ◌<◌, ◌≤◌, true, false, List, [], ◌∷◌, ◌++◌, length, get_or, slice_get, slice_set, Option, Some, None, refl, ap, sym, subst, ◌∙◌, arith, append_assoc}
+use Rattle.std.proofs.Common.{◌≡◌, ℕ, zero, suc, ◌+◌, ◌<◌, ◌≤◌, true, false, List, [], ◌∷◌, ◌++◌, length, get_or, slice_get, slice_set, Some, None, bytes_eq, refl, ap, sym, subst, ◌∙◌, arith}
 use Rattle.cs_trail.specs.Lines.{Parcel}
 use Rattle.cs_trail.specs.Play.{arrived, size_of, most_sent, first_left}
-use Rattle.cs_post.specs.Kept.{HaveArrived, IsKept, with_arrived}
+use Rattle.indexmap.specs.IndexMap.{insert_entry}
+use Rattle.cs_post.specs.Kept.{HaveArrived, IsKept, tail_of}
+use Rattle.cs_post.proofs.Tails.{all-push, all-later, all-arrived}
 
 -- ---- sizes
 
@@ -72,18 +74,31 @@ left-none count parcels front within = none-from 0 count parcels front within
 
 -- ---- what is kept
 
-pub kept-push : (parcels : List Parcel) (size delivered : ℕ) (parcel : Parcel) → IsKept parcels size delivered → size + length parcel.bytes ≤ most_sent → IsKept (parcels ++ parcel ∷ []) (size + length parcel.bytes) delivered
-kept-push parcels size delivered parcel kept within = record {
+pub kept-push : (parcels : List Parcel) (size delivered : ℕ) (numbers : List (List ℕ × ℕ)) (parcel : Parcel) (number : ℕ) → IsKept parcels size delivered numbers → size + length parcel.bytes ≤ most_sent
+    → IsKept (parcels ++ parcel ∷ []) (size + length parcel.bytes) delivered (insert_entry bytes_eq numbers (tail_of parcel.bytes) number)
+kept-push parcels size delivered numbers parcel number kept within = record {
   counted = ap (λ n. n + length parcel.bytes) kept.counted ∙ sym (size-push parcels parcel);
   within = within;
   front = front-push delivered parcels (parcel ∷ []) kept.front;
+  noted = all-push numbers (tail_of parcel.bytes) number parcels parcel kept.noted refl;
 }
 
-pub kept-arrived : (parcels : List Parcel) (size delivered k : ℕ) (parcel : Parcel) → IsKept parcels size delivered → slice_get parcels k ≡ Some parcel → IsKept (slice_set parcels k (arrived parcel)) size delivered
-kept-arrived parcels size delivered k parcel kept is = record {
+-- the number was noted, and the datagram wasn't sent
+pub kept-noted : (parcels : List Parcel) (size delivered : ℕ) (numbers : List (List ℕ × ℕ)) (tail : List ℕ) (number : ℕ) → IsKept parcels size delivered numbers → IsKept parcels size delivered (insert_entry bytes_eq numbers tail number)
+kept-noted parcels size delivered numbers tail number kept = record {
+  counted = kept.counted;
+  within = kept.within;
+  front = kept.front;
+  noted = all-later numbers tail number parcels kept.noted;
+}
+
+pub kept-arrived : (parcels : List Parcel) (size delivered k : ℕ) (numbers : List (List ℕ × ℕ)) (parcel : Parcel) → IsKept parcels size delivered numbers → slice_get parcels k ≡ Some parcel
+    → IsKept (slice_set parcels k (arrived parcel)) size delivered numbers
+kept-arrived parcels size delivered k numbers parcel kept is = record {
   counted = kept.counted ∙ sym (size-arrived parcels k parcel is);
   within = kept.within;
   front = front-arrived delivered parcels k parcel kept.front;
+  noted = all-arrived numbers parcels k parcel kept.noted is;
 }
 
 pub get-read : {A : Type 0} (xs : List A) (k : ℕ) (x : A) → k < length xs → x ≡ get_or xs k x → slice_get xs k ≡ Some x

@@ -1,6 +1,7 @@
 //! One datagram that was sent.
 ghost use Rattle.std.specs.Prelude.{◌≡◌, false};
 ghost use Rattle.cs_trail.specs.Play.{arrived};
+ghost use Rattle.cs_post.specs.Kept.{is_parcel};
 
 use cs_base::{NodeId, Sequence};
 use std::marker::Model;
@@ -54,6 +55,14 @@ impl Parcel {
         ensures { result.now ≡ self.now.bytes }
     {
         self.bytes.as_slice()
+    }
+
+    /// Whether it is exactly this datagram.
+    pub fn is(&self, from: NodeId, to: NodeId, bytes: &[u8]) -> bool
+        ensures { result ≡ is_parcel from to bytes.now self.now }
+    {
+        let spoke = self.from == from;
+        spoke && (self.to == to && self.bytes() == bytes)
     }
 
     /// Whether it came to its addressee.

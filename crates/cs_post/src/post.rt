@@ -1,10 +1,12 @@
 //! What was sent, by its numbers.
-ghost use Rattle.std.specs.Prelude.{◌≡◌, ◌≤◌, ◌<◌, ◌+◌, ◌^◌, ◌∷◌, ◌++◌, [], length, drop, option_copied, slice_get, OnOk, IsErrOf};
+ghost use Rattle.std.specs.Prelude.{◌≡◌, ◌≤◌, ◌<◌, ◌+◌, ◌^◌, ◌∷◌, ◌++◌, [], true, length, drop, option_copied, slice_get, OnOk, IsErrOf};
 ghost use Rattle.cs_trail.specs.Play.{first_left, size_of, most_sent};
-ghost use Rattle.cs_post.specs.Kept.{with_arrived};
+ghost use Rattle.cs_trail.specs.World.{was_sent};
+ghost use Rattle.cs_post.specs.Kept.{with_arrived, tail_of};
 
 use crate::parcel::Parcel;
-use cs_base::Memory;
+use cs_base::{Memory, NodeId};
+use indexmap::IndexMap;
 use std::alloc::{AllocFailed, Global};
 use std::marker::Model;
 
@@ -30,6 +32,9 @@ impl<T: Drop> From<AllocFailed<T>> for SendError {
     }
 }
 
+/// The last bytes of a datagram.
+type Tail = [u8; 32];
+
 /// The datagrams that honest nodes have sent. The number of a datagram is its place.
 #[derive(Drop)]
 pub struct Post {
@@ -38,6 +43,8 @@ pub struct Post {
     size: u64,
     // So many of the first have all come to their addressees.
     delivered: usize,
+    // For each tail, the number of a datagram that ends so: what was sent is found by it.
+    numbers: IndexMap<Tail, u64>,
 }
 
 impl Model for Post {
@@ -49,7 +56,7 @@ impl Model for Post {
 
     ghost view = { λ p. p.parcels.items };
 
-    ghost invariant = { λ p. IsKept p.parcels.items p.size p.delivered };
+    ghost invariant = { λ p. IsKept p.parcels.items p.size p.delivered p.numbers.entries };
 }
 
 impl Post {
@@ -61,6 +68,7 @@ impl Post {
             parcels: Vec::new(alloc),
             size: 0,
             delivered: 0,
+            numbers: IndexMap::new(alloc),
         }
     }
 
@@ -87,6 +95,19 @@ impl Post {
         &self.parcels[number..]
     }
 
+    /// Whether exactly this datagram was sent. It goes through all only where two datagrams end alike.
+    pub fn was_sent(&self, from: NodeId, to: NodeId, bytes: &[u8]) -> bool
+        ensures { result ≡ was_sent from to bytes.now self.now }
+    {
+        match self.numbers.get(&tail_of(bytes)) {
+            None => false,
+            Some(number) => {
+                let parcels = self.parcels.as_slice();
+                is_at(parcels, *number, from, to, bytes) || is_among(parcels, from, to, bytes)
+            }
+        }
+    }
+
     /// Sends a datagram, unless all together would have more bytes than may be sent.
     pub fn send(&mut self, parcel: Parcel) -> Result<(), SendError>
         ensures sent { OnOk result (self.new ≡ self.old ++ parcel ∷ []) }
@@ -97,6 +118,8 @@ impl Post {
         if length > MOST_SENT - self.size {
             return Err(SendError::Full);
         }
+        let number = self.parcels.len() as u64;
+        self.numbers.insert(tail_of(parcel.bytes()), number)?;
         self.parcels.push(parcel)?;
         self.size += length;
         Ok(())
@@ -126,4 +149,31 @@ impl Post {
         }
         None
     }
+}
+
+// The last 32 bytes of a datagram, where its tag stands; zeros, where there are fewer.
+fn tail_of(bytes: &[u8]) -> Tail
+    ensures { result ≡ tail_of bytes.now }
+{
+    let mut tail = [0; 32];
+    if bytes.len() >= 32 {
+        tail.copy_from_slice(&bytes[bytes.len() - 32..]);
+    }
+    tail
+}
+
+// Whether the datagram of this number is exactly this one.
+fn is_at(parcels: &[Parcel], number: u64, from: NodeId, to: NodeId, bytes: &[u8]) -> bool
+    ensures { result ≡ true → was_sent from to bytes.now parcels.now ≡ true }
+{
+    match parcels.get(number as usize) {
+        Some(parcel) => parcel.is(from, to, bytes),
+        None => false,
+    }
+}
+
+fn is_among(parcels: &[Parcel], from: NodeId, to: NodeId, bytes: &[u8]) -> bool
+    ensures { result ≡ was_sent from to bytes.now parcels.now }
+{
+    parcels.iter().any(|parcel| parcel.is(from, to, bytes))
 }

@@ -55,3 +55,26 @@ fn a_datagram_is_got_by_its_number(rt: HostRuntime) -> Result<(), Fail> {
     }
     Ok(())
 }
+
+#[test]
+fn exactly_what_was_sent_is_known(rt: HostRuntime) -> Result<(), Fail> {
+    let alloc = rt.alloc();
+    let mut post = Post::new(alloc);
+    assert!(rt; !post.was_sent(NODE, CLIENT, &[7]));
+    for byte in [8, 7, 7] {
+        let sent = post.send(parcel(alloc, byte)?);
+        assert_eq!(rt; sent, Ok(()));
+    }
+    for (from, to, bytes, was_sent) in [
+        (NODE, CLIENT, [7].as_slice(), true),
+        (NODE, CLIENT, &[8], true),
+        (NODE, CLIENT, &[9], false),
+        (NODE, CLIENT, &[], false),
+        (NODE, CLIENT, &[7, 7], false),
+        (CLIENT, CLIENT, &[7], false),
+        (NODE, NODE, &[7], false),
+    ] {
+        assert_eq!(rt; post.was_sent(from, to, bytes), was_sent);
+    }
+    Ok(())
+}

@@ -8,7 +8,7 @@ use Rattle.cs_base.specs.declared.printing.WriteError.{WriteError}
 use Rattle.cs_base.specs.declared.printing.WriteError.TheVariants as write
 use Rattle.cs_base.proofs.Outcomes.{some_text, nothing_printed}
 use Rattle.cs_replay.specs.Answers.{Replays, replay_answer, closing_status}
-use Rattle.cs_replay.proofs.Courses.{take-whole}
+use Rattle.cs_play.proofs.Courses.{take-whole}
 
 -- the text that was read is that of what was left
 text-read : (limit : ℕ) (left left' : Option (List ℕ)) (text : List ℕ) → IsText limit left left' text → IsTextOf limit left text

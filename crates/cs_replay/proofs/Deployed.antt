@@ -1,7 +1,8 @@
--- The one node of a schedule that can be played.
-use Rattle.std.proofs.Common.{◌≡◌, ℕ, zero, suc, ◌+◌, ◌*◌, ◌<◌, ◌≤◌, nat_lt, nat_le, ◌==◌, true, false, not, ◌&&◌, ◌||◌, List, [], ◌∷◌, ◌++◌, length, take, get_or, slice_get, Some, None, refl, ap, sym, subst, ◌∙◌, arith}
+-- The nodes of a schedule that can be played: one of each shard.
+use Rattle.std.proofs.Common.{◌≡◌, ℕ, zero, suc, ◌+◌, ◌*◌, ◌<◌, ◌≤◌, nat_lt, nat_le, ◌==◌, true, false, not, ◌&&◌, ◌||◌, List, [], ◌∷◌, ◌++◌, length, take, get_or, Some, None, refl, ap, sym, subst, ◌∙◌, arith}
 use Rattle.std.specs.Prelude.{Bool, Option, if◌then◌else◌}
 use Rattle.std.specs.List.{All, list_any}
+use Rattle.std.proofs.lemmas.Bool.{eqb-true, ltb-true, leb-true, lt-ltb}
 use Rattle.std.proofs.lemmas.List.{take_more, length-take}
 use Rattle.cs_base.specs.declared.config.Config.{Config}
 use Rattle.cs_base.specs.declared.key.Key.TheVariants as key
@@ -14,7 +15,9 @@ use Rattle.cs_tx.specs.Digest.{name_of_genesis}
 use Rattle.cs_tx.specs.Sessions.{session_of}
 use Rattle.cs_tx.specs.Uses as Uses
 use Rattle.cs_tx.proofs.ShardsSeen.{concerns-session_of}
+use Rattle.cs_order.specs.Counts.{count_below}
 use Rattle.cs_order.specs.Deeds.{Member}
+use Rattle.cs_order.specs.Runs.{FewLiars}
 use Rattle.cs_base.specs.NodeId.{is_node, is_client}
 use Rattle.cs_ledger.specs.Ledger.{Bytes}
 use Rattle.cs_wire.specs.Keys.{same_name}
@@ -22,19 +25,21 @@ use Rattle.cs_event.specs.declared.schedule.Schedule.{Schedule}
 use Rattle.cs_event.specs.declared.schedule.Event.{Event}
 use Rattle.cs_event.specs.declared.schedule.Event.TheVariants.{Say, Inject, Deliver, Tick, Drain}
 use Rattle.cs_trail.specs.Setup as Setup
-use Rattle.cs_trail.specs.Net.{net_of}
+use Rattle.cs_trail.specs.Net.{Net, net_of}
 use Rattle.cs_trail.specs.Evidence.{name_eq}
-use Rattle.cs_trail.specs.Site.{Site, start_view}
+use Rattle.cs_trail.specs.Site.{Site, View, start_view}
 use Rattle.cs_trail.specs.Deployment.{rules_of, setup_of}
 use Rattle.cs_node.specs.declared.nodes.Core.{Core}
 use Rattle.cs_node.specs.Cores.{StandsFor}
 use Rattle.cs_node.specs.Setups.{keyed_from, AreObjects}
-use Rattle.cs_story.specs.OneNode.{IsForNode}
+use Rattle.cs_story.specs.Given as Given
 use Rattle.cs_sched.specs.Naming.{is_liar}
-use Rattle.cs_sched.specs.Playable.{only_node, IsHonest, IsSpeaker, IsPlayable, IsPlayableEvent}
-use Rattle.cs_replay.specs.Kept.{Deploys}
-use Rattle.cs_replay.specs.Voicing.{Voicing}
-use Rattle.cs_replay.specs.Standing.{AllStand, HasNode, Rests, setting_of, IsShort, IsFor}
+use Rattle.cs_sched.specs.Playable.{IsHonest, IsSpeaker, IsPlayable, IsPlayableEvent}
+use Rattle.cs_play.specs.Kept.{Deploys}
+use Rattle.cs_play.specs.Voicing.{Voicing}
+use Rattle.cs_play.specs.Standing.{EachStands, AllStand, HasNode, Rests, IsShort, IsFor}
+use Rattle.cs_replay.specs.Site.{net_of_schedule}
+use Rattle.cs_replay.specs.Settings.{node_of_shard, setting_of}
 
 -- ---- objects under their keys
 
@@ -75,96 +80,128 @@ deploys-setup config genesis approves = record {
   concerns = λ x. below config genesis approves x config.shards;
 }
 
--- ---- one node
+-- ---- the nodes
 
-pub one-stands : {O J M : Type 0} (stands : O → Member M → Type 0) (approves : J → Tx → Bool) (site : Site M) (core : Core O J M) → StandsFor stands approves site.setup site.net core (start_view site only_node)
-    → AllStand stands approves site (λ i. only_node) (core ∷ []) []
-one-stands {O} {J} {M} stands approves site core is = record {
-  each = at;
-  apart = λ i j x y same. omega arith;
-}
-  where
-    at : (i : ℕ) (c : Core O J M) → slice_get (core ∷ []) i ≡ Some c → StandsFor stands approves site.setup site.net c (start_view site only_node)
-    at zero c h = let q : Some core ≡ Some c = h in let e : core ≡ c = cc in subst (λ (x : Core O J M). StandsFor stands approves site.setup site.net x (start_view site only_node)) e is
-    at (suc i) c h = let q : None ≡ Some c = h in cc
+none-few : (honest : ℕ → Bool) → honest 0 ≡ true → FewLiars 0 honest
+unfolding count_below
+none-few honest is = rw is (omega arith)
 
--- a core that was put behind none
-pub one-pushed : {O J M : Type 0} (stands : O → Member M → Type 0) (approves : J → Tx → Bool) (site : Site M) (front cores : List (Core O J M)) (core : Core O J M) (name : NodeId) → cores ≡ front ++ core ∷ [] → front ≡ [] → name ≡ only_node
-    → StandsFor stands approves site.setup site.net core (start_view site name) → AllStand stands approves site (λ i. only_node) cores []
-one-pushed {O} {J} {M} stands approves site front cores core name is none named stood =
-    subst (λ (cs : List (Core O J M)). AllStand stands approves site (λ i. only_node) cs []) (sym (is ∙ ap (λ f. f ++ core ∷ []) none))
-    (one-stands stands approves site core (subst (λ (n : NodeId). StandsFor stands approves site.setup site.net core (start_view site n)) named stood))
+module _ {O J M : Type 0} (stands : O → Member M → Type 0) (approves : J → Tx → Bool) (setup : Setup.Setup) (net : Net) where
+  each-push : (cores : List (Core O J M)) (core : Core O J M) (views : ℕ → View M) → EachStands stands approves setup net cores views → StandsFor stands approves setup net core (views (length cores))
+      → EachStands stands approves setup net (cores ++ core ∷ []) views
+  each-push [] core views each is zero c h =
+      let q : Some core ≡ Some c = h in
+      let e : core ≡ c = cc in
+      subst (λ (x : Core O J M). StandsFor stands approves setup net x (views 0)) e is
+  each-push [] core views each is (suc i) c h = let q : None ≡ Some c = h in absurd (cc)
+  each-push (first ∷ cores) core views each is zero c h = each zero c h
+  each-push (first ∷ cores) core views each is (suc i) c h = each-push cores core (λ j. views (suc j)) (λ j. each (suc j)) is i c h
 
--- the one node of one shard
-pub only : (config : Config) (name : NodeId) → config.shards ≡ 1 → config.f ≡ 0 → is_node config name ≡ true → name ≡ only_node
-only config name one none is = by (nat_lt name.shard config.shards) (nat_le name.index (3 * config.f)) refl refl is
-  where
-    by : (p q : Bool) → nat_lt name.shard config.shards ≡ p → nat_le name.index (3 * config.f) ≡ q → (p && q) ≡ true → name ≡ only_node
-    by true true x y e =
-        let below : name.shard < config.shards = grind arith in
-        let within : name.index ≤ 3 * config.f = grind arith in
-        let shard : name.shard ≡ 0 = omega (arith, below, one) in
-        let index : name.index ≡ 0 = omega (arith, within, none) in
-        (λ i. record { shard = shard i; index = index i })
-    by true false x y e = absurd (cc)
-    by false q x y e = absurd (cc)
+  -- one core more
+  pub each-more : (cores cores' : List (Core O J M)) (core : Core O J M) (views : ℕ → View M) (count : ℕ) → cores' ≡ cores ++ core ∷ [] → length cores ≡ count → EachStands stands approves setup net cores views
+      → StandsFor stands approves setup net core (views count) → EachStands stands approves setup net cores' views
+  each-more cores cores' core views count is at each stood =
+      subst (λ (cs : List (Core O J M)). EachStands stands approves setup net cs views) (sym is)
+      (each-push cores core views each (subst (λ n. StandsFor stands approves setup net core (views n)) (sym at) stood))
 
-pub only-is : (config : Config) → config.shards ≡ 1 → is_node config only_node ≡ true
-only-is config one = ap (λ n. nat_lt 0 n && nat_le 0 (3 * config.f)) one ∙ zero-within (3 * config.f)
-  where
-    zero-within : (n : ℕ) → (nat_lt 0 1 && nat_le 0 n) ≡ true
-    zero-within n = grind arith
+-- before the first input
+pub all-begin : {O J M : Type 0} (stands : O → Member M → Type 0) (approves : J → Tx → Bool) (site : Site M) (cores : List (Core O J M)) → EachStands stands approves site.setup site.net cores (λ i. start_view site (node_of_shard i))
+    → AllStand stands approves site node_of_shard cores []
+all-begin stands approves site cores each = record { each = each; apart = λ i j x y same. ap (λ (n : NodeId). n.shard) same }
 
-and-left : (a b : Bool) → (a && b) ≡ true → a ≡ true
-and-left true b is = refl
-and-left false b is = is
+zero-within : (n : ℕ) → nat_le 0 n ≡ true
+zero-within n = grind arith
+
+-- the node of a shard
+pub is-node : (config : Config) (shard : ℕ) → shard < config.shards → is_node config (node_of_shard shard) ≡ true
+is-node config shard below = ap (λ b. b && nat_le 0 (3 * config.f)) (lt-ltb shard config.shards below) ∙ zero-within (3 * config.f)
+
+both : (one other : Bool) → (one && other) ≡ true → (one ≡ true) × (other ≡ true)
+both true other all = (refl, all)
+both false other all = absurd (cc)
+
+either-none : (b : Bool) → (b || false) ≡ true → b ≡ true
+either-none true is = refl
+either-none false is = is
 
 module _ (schedule : Schedule) (playable : IsPlayable schedule) where
   abbrev config : Config
   config = schedule.config
 
-  named : (name : NodeId) → IsHonest config schedule.liars name → name ≡ only_node
-  named name is = only config name playable.one_shard playable.no_liar is.node
+  -- a node of the configuration is that of its shard
+  pub node-is : (name : NodeId) → is_node config name ≡ true → HasNode node_of_shard config.shards name
+  node-is name is =
+      let (in_shard, in_range) = both (nat_lt name.shard config.shards) (nat_le name.index (3 * config.f)) is in
+      let below : name.shard < config.shards = ltb-true name.shard config.shards in_shard in
+      let within : name.index ≤ 3 * config.f = leb-true name.index (3 * config.f) in_range in
+      let index : name.index ≡ 0 = omega (arith, playable.no_liar) in
+      (name.shard, below, λ i. record { shard = name.shard; index = sym index i })
 
-  -- what is said to it is said by another
-  apart : (from to : NodeId) → IsSpeaker config schedule.liars from → to ≡ only_node → same_name to from ≡ false
-  apart from to speaker is =
-      ap (λ (n : NodeId). same_name n from) is
-      ∙ other from (subst (λ (liars : List NodeId). (is_client from || is_liar liars from) ≡ true) playable.liars speaker.speaks)
+  named : (name : NodeId) → IsHonest config schedule.liars name → HasNode node_of_shard config.shards name
+  named name is = node-is name is.node
+
+  -- where no node lies
+  unless-liar : (name : NodeId) → is_node config name ≡ true → (net_of_schedule schedule).is_honest name ≡ true
+  unless-liar name node =
+      subst (λ (liars : List NodeId). (is_node config name && not (list_any (λ liar. name_eq liar name) liars)) ≡ true) (sym playable.liars) (ap (λ b. b && true) node)
+
+  is-client : (name : NodeId) → IsSpeaker config schedule.liars name → is_client name ≡ true
+  is-client name speaker = either-none (is_client name) (subst (λ (liars : List NodeId). (is_client name || is_liar liars name) ≡ true) playable.liars speaker.speaks)
+
+  client-shard : (name : NodeId) → is_client name ≡ true → name.shard ≡ 65535
+  client-shard name client =
+      let (shard, index) = both (name.shard == 65535) (nat_lt name.index 16) client in
+      eqb-true name.shard 65535 shard
+
+  -- no client is a node
+  client-other : (name : NodeId) → is_client name ≡ true → (net_of_schedule schedule).is_honest name ≡ false
+  client-other name client = by (nat_lt name.shard config.shards) refl
     where
-      other : (name : NodeId) → (is_client name || false) ≡ true → same_name only_node name ≡ false
-      other name client = by (name.shard == 65535) (0 == name.shard) refl refl client
-        where
-          by : (p q : Bool) → (name.shard == 65535) ≡ p → (0 == name.shard) ≡ q → ((p && nat_lt name.index 16) || false) ≡ true → (q && (0 == name.index)) ≡ false
-          by p false x y e = refl
-          by true true x y e = absurd (grind arith)
-          by false true x y e = absurd (cc)
+      by : (p : Bool) → nat_lt name.shard config.shards ≡ p → (net_of_schedule schedule).is_honest name ≡ false
+      by false other = ap (λ b. (b && nat_le name.index (3 * config.f)) && not (list_any (λ liar. name_eq liar name) schedule.liars)) other
+      by true below =
+          let less : name.shard < config.shards = ltb-true name.shard config.shards below in
+          absurd (omega (arith, client-shard name client, playable.few_shards))
 
-  has : (name : NodeId) → name ≡ only_node → HasNode (λ i. only_node) 1 name
-  has name is = (0, omega arith, sym is)
+  -- what is said to a node is said by another
+  apart : (from to : NodeId) → IsSpeaker config schedule.liars from → HasNode node_of_shard config.shards to → same_name to from ≡ false
+  apart from to speaker node = by (to.shard == from.shard) refl
+    where
+      shard : node.0 ≡ to.shard
+      shard = ap (λ (n : NodeId). n.shard) node.2
+
+      by : (p : Bool) → (to.shard == from.shard) ≡ p → same_name to from ≡ false
+      by false other = ap (λ b. b && (to.index == from.index)) other
+      by true same =
+          let equal : to.shard ≡ from.shard = eqb-true to.shard from.shard same in
+          absurd (omega (arith, client-shard from (is-client from speaker), equal, shard, node.1, playable.few_shards))
+
+  -- each shard has few liars, that is none
+  pub few-liars : (shard : ℕ) → shard < config.shards → FewLiars config.f (λ index. (net_of_schedule schedule).is_honest (record { shard = shard; index = index }))
+  few-liars shard below =
+      subst (λ f. FewLiars f (λ index. (net_of_schedule schedule).is_honest (record { shard = shard; index = index }))) (sym playable.no_liar)
+      (none-few (λ index. (net_of_schedule schedule).is_honest (record { shard = shard; index = index })) (unless-liar (node_of_shard shard) (is-node config shard below)))
 
   module _ (traced : Bool) (before : Option Bytes) where
     for-setting : (event : Event) → IsPlayableEvent config schedule.liars event → IsFor (setting_of traced schedule before) event
-    for-setting (Say from to kind body) is = let one = named to is.listener in (has to one, apart from to is.speaker one)
-    for-setting (Inject to bytes) is = has to (named to is.node)
+    for-setting (Say from to kind body) is = let node = named to is.listener in (node, apart from to is.speaker node)
+    for-setting (Inject to bytes) is = named to is.node
     for-setting (Deliver number) is = tt
-    for-setting (Tick node) is = has node (named node is)
+    for-setting (Tick node) is = named node is
     for-setting (Drain times) is = tt
 
-    -- each event is for the one node
+    -- each event is for one of the nodes
     pub are-for : All (λ numbered. IsFor (setting_of traced schedule before) numbered.1) schedule.events
     are-for = λ k d within. for-setting (get_or schedule.events k d).1 (playable.events k d within)
 
-    -- the node is honest, and no other
+    -- the nodes are honest, and no other
     pub rests : (config' : Config) (voicing : Voicing) → config' ≡ config → voicing.config ≡ config → voicing.master ≡ schedule.master → Rests (setting_of traced schedule before) config'.shards voicing
     rests config' voicing same voiced master = record {
       honest = λ name. (
-        λ is. has name (only config name playable.one_shard playable.no_liar (and-left (is_node config name) _ is)),
-        λ node. subst (λ (n : NodeId). (is_node config n && not (list_any (λ liar. name_eq liar n) schedule.liars)) ≡ true) node.2
-            (subst (λ (liars : List NodeId). (is_node config only_node && not (list_any (λ liar. name_eq liar only_node) liars)) ≡ true) (sym playable.liars)
-            (ap (λ b. b && true) (only-is config playable.one_shard))),
+        λ is. node-is name (both (is_node config name) _ is).0,
+        λ node. subst (λ (n : NodeId). (net_of_schedule schedule).is_honest n ≡ true) node.2 (unless-liar (node_of_shard node.0) (is-node config node.0 node.1)),
       );
-      shards = λ i within. subst (λ n. 0 < n) (sym (ap (λ (c : Config). c.shards) same ∙ playable.one_shard)) (omega arith);
+      shards = λ i within. subst (λ n. i < n) (sym (ap (λ (c : Config). c.shards) same)) within;
       liars = schedule.liars;
       speaks = ap (λ (c : Config). net_of c schedule.master schedule.liars) (sym voiced) ∙ ap (λ (m : Bytes). net_of voicing.config m schedule.liars) (sym master);
     }
@@ -179,12 +216,20 @@ module _ (schedule : Schedule) (playable : IsPlayable schedule) where
   pub are-short : All (λ numbered. IsShort numbered.1) schedule.events
   are-short = λ k d within. short (get_or schedule.events k d).1 (playable.events k d within)
 
-  for-node : (event : Event) → IsPlayableEvent config schedule.liars event → IsForNode event
-  for-node (Say from to kind body) is = (named to is.listener, (omega (arith, is.kind), is.in_bytes))
-  for-node (Inject to bytes) is = (named to is.node, is.in_bytes)
-  for-node (Deliver number) is = tt
-  for-node (Tick node) is = named node is
-  for-node (Drain times) is = tt
+  -- what the event gives is made of bytes, and is for an honest node
+  given : (event : Event) → IsPlayableEvent config schedule.liars event → Given.IsFor config (net_of_schedule schedule) event
+  given (Say from to kind body) is = record {
+    speaker = is.speaker.named;
+    lies = client-other from (is-client from is.speaker);
+    listener = unless-liar to is.listener.node;
+    kind_fits = omega (arith, is.kind);
+    short = is.short;
+    is_bytes = is.in_bytes;
+  }
+  given (Inject to bytes) is = (unless-liar to is.node.node, is.in_bytes)
+  given (Deliver number) is = tt
+  given (Tick node) is = unless-liar node is.node
+  given (Drain times) is = tt
 
-  pub are-for-node : All (λ numbered. IsForNode numbered.1) schedule.events
-  are-for-node = λ k d within. for-node (get_or schedule.events k d).1 (playable.events k d within)
+  pub are-given : All (λ numbered. Given.IsFor config (net_of_schedule schedule) numbered.1) schedule.events
+  are-given = λ k d within. given (get_or schedule.events k d).1 (playable.events k d within)

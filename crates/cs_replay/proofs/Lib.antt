@@ -1,13 +1,5 @@
 pub mod Answered
 pub mod Apart
-pub mod Courses
-pub mod Deliveries
 pub mod Deployed
-pub mod Histories
-pub mod Notes
 pub mod Outcomes
-pub mod Posted
-pub mod Taken
-pub mod Views
-pub mod Voiced
 pub mod Whole

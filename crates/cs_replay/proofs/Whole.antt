@@ -11,14 +11,14 @@ use Rattle.cs_ledger.specs.Ledger.{Transaction}
 use Rattle.cs_event.specs.declared.schedule.Event.{Event}
 use Rattle.cs_trail.specs.Site.{Site}
 use Rattle.cs_trail.specs.World.{told, firsts_of, history}
-use Rattle.cs_trail.specs.Lines.{transaction_lines, history_text, limit_line}
-use Rattle.cs_trail.specs.Play.{Played, Course, Goes, Stops, played_by, closed, unplayed, play_all, lines}
-use Rattle.cs_replay.specs.Digests.{digests_of, tx_line, history_lines}
+use Rattle.cs_trail.specs.Lines.{transaction_lines, history_text, limit_line, forged_line}
+use Rattle.cs_trail.specs.Play.{Played, Course, Goes, Stops, Forges, played_by, closed, unplayed, play_all, lines}
+use Rattle.cs_play.specs.Digests.{digests_of, tx_line, history_lines}
 use Rattle.cs_base.specs.declared.printing.WriteError.{WriteError}
 use Rattle.cs_replay.specs.declared.schedule.Ending.{Ending}
 use Rattle.cs_replay.specs.Answers.{course_status}
 use Rattle.cs_replay.specs.Closing.{ending_status, Closes}
-use Rattle.cs_replay.specs.Kept.{Kept, Keeps}
+use Rattle.cs_play.specs.Kept.{Kept, Keeps}
 
 transactions-printed : (txs : List Transaction) → flat_map tx_line (digests_of txs) ≡ transaction_lines txs
 transactions-printed [] = refl
@@ -50,6 +50,8 @@ front-of-lines site (Goes p) a b (front, rest, is, written) =
     (front, rest ++ history_text (history site p.world), ap (λ text. text ++ history_text (history site p.world)) is ∙ append_assoc front rest (history_text (history site p.world)), written)
 front-of-lines site (Stops p line) a b (front, rest, is, written) =
     (front, rest ++ limit_line line, ap (λ text. text ++ limit_line line) is ∙ append_assoc front rest (limit_line line), written)
+front-of-lines site (Forges p line) a b (front, rest, is, written) =
+    (front, rest ++ forged_line line, ap (λ text. text ++ forged_line line) is ∙ append_assoc front rest (forged_line line), written)
 
 -- ---- a text in two parts
 

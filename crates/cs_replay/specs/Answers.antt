@@ -9,7 +9,7 @@ use Rattle.cs_sched.specs.Refusals.{refusal_status, refusal_text}
 use Rattle.cs_sched.specs.declared.cause.Refusal.{Refusal}
 use Rattle.cs_event.specs.declared.schedule.Schedule.{Schedule}
 use Rattle.cs_order.specs.declared.solo.NoMessage.{NoMessage}
-use Rattle.cs_trail.specs.Play.{Course, Goes, Stops, unplayed, play_all, lines}
+use Rattle.cs_trail.specs.Play.{Course, Goes, Stops, Forges, unplayed, play_all, lines}
 use Rattle.cs_replay.specs.Site.{site_of_schedule}
 
 abbrev pub words_answer : Answer
@@ -22,10 +22,11 @@ read_fault_answer = record { status = 5; printed = codes "read fault\n" }
 abbrev pub course_of : Bool → Schedule → Course NoMessage
 course_of traced schedule = play_all (site_of_schedule schedule) traced schedule.events unplayed
 
--- it is done, or an event would have passed a limit
+-- it is done, or an event would have passed a limit, or a line injects what is forged
 abbrev pub course_status : {M : Type 0} → Course M → ℕ
 course_status {M} (Goes p) = 0
 course_status {M} (Stops p line) = 13
+course_status {M} (Forges p line) = 4
 
 -- the answer to a schedule: what its events print, and then the history, or the line of the event that was refused
 abbrev pub schedule_answer : Bool → Schedule → Answer

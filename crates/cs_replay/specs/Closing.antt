@@ -1,5 +1,5 @@
 -- How a replay ends.
-use Rattle.std.specs.Prelude.{◌≡◌, ℕ, List, Option, Result, Ok, Err}
+use Rattle.std.specs.Prelude.{◌≡◌, ℕ, Option, Result, Ok, Err}
 use Rattle.std.specs.Io.KnownBytes.{Appends}
 use Rattle.cs_base.specs.Answers.{AppendsFront}
 use Rattle.cs_base.specs.declared.printing.WriteError.{WriteError}
@@ -7,12 +7,13 @@ use Rattle.cs_ledger.specs.Ledger.{Bytes}
 use Rattle.cs_trail.specs.Site.{Site}
 use Rattle.cs_trail.specs.Play.{Course, closed}
 use Rattle.cs_replay.specs.declared.schedule.Ending.{Ending}
-use Rattle.cs_replay.specs.declared.schedule.Ending.TheVariants.{Done, Limit}
+use Rattle.cs_replay.specs.declared.schedule.Ending.TheVariants.{Done, Limit, Forged}
 use Rattle.cs_replay.specs.Answers.{course_status}
 
 abbrev pub ending_status : Ending → ℕ
 ending_status Done = 0
 ending_status Limit = 13
+ending_status Forged = 4
 
 -- all lines of a course were written, with its status; or a front of them
 abbrev pub Closes : {M : Type 0} → Option Bytes → Option Bytes → Site M → Course M → Result Ending WriteError → Type 0

@@ -1,11 +1,6 @@
 pub mod Words
 pub mod Site
-pub mod Digests
-pub mod Kept
-pub mod Told
-pub mod Voicing
-pub mod Standing
-pub mod Ends
+pub mod Settings
 pub mod Answers
 pub mod Closing
 pub mod Sound

@@ -1,4 +1,4 @@
--- The site of a schedule: the order of one member, and the judge that knows the contract `token` alone.
+-- The site of a schedule: the order of one member, which says nothing to others, and the judge that knows the contract `token` alone.
 use Rattle.cs_tx.specs.Sessions.{session_of}
 use Rattle.cs_tx.specs.Token.{is_token_approved}
 use Rattle.cs_order.specs.declared.solo.NoMessage.{NoMessage}
@@ -6,8 +6,10 @@ use Rattle.cs_order.specs.Solo.{solo}
 use Rattle.cs_event.specs.declared.schedule.Schedule.{Schedule}
 use Rattle.cs_trail.specs.Setup.{Setup}
 use Rattle.cs_trail.specs.Net.{Net, net_of}
-use Rattle.cs_trail.specs.Site.{Site}
+use Rattle.cs_trail.specs.Site.{Carrier, Site}
 use Rattle.cs_trail.specs.Deployment.{setup_of, site_of}
+use Rattle.cs_node.specs.Carriers.{carrier}
+use Rattle.cs_node.specs.SoloCarried.{solo_written, solo_read}
 
 abbrev pub setup_of_schedule : Schedule → Setup
 setup_of_schedule schedule = setup_of schedule.config schedule.genesis (session_of is_token_approved)
@@ -15,5 +17,8 @@ setup_of_schedule schedule = setup_of schedule.config schedule.genesis (session_
 abbrev pub net_of_schedule : Schedule → Net
 net_of_schedule schedule = net_of schedule.config schedule.master schedule.liars
 
+abbrev pub solo_carrier : Carrier NoMessage
+solo_carrier = carrier solo_written solo_read
+
 abbrev pub site_of_schedule : Schedule → Site NoMessage
-site_of_schedule schedule = site_of (setup_of_schedule schedule) (net_of_schedule schedule) solo
+site_of_schedule schedule = site_of (setup_of_schedule schedule) (net_of_schedule schedule) solo solo_carrier

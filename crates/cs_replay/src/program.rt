@@ -20,8 +20,15 @@ use cs_sched::{LIMIT, Refusal, Schedule, ScheduleError, parse, refusal_line};
 use std::alloc::Global;
 
 /// Does what the words call for, and answers the status that the process ends with: 0 where it is
-/// done, 2 for words outside the grammar, 3 for a text with a bad line, 13 where a
-/// quantity of it is past its limit, 5 where the source fails and 6 where the sink does, 8 for want of memory.
+/// done, 2 for words outside the grammar, 3 for a text with a bad line, 4 where a line injects what
+/// its sender never sent, 13 where a quantity is past its limit, 5 where the source fails and 6 where
+/// the sink does, 8 for want of memory.
+///
+/// For every replayed schedule, with at most f liars per shard, no forged tag and no hash collision,
+/// the accepted transactions form one serial history that the ledger takes and every checker
+/// approves; no object is consumed twice; no two honest nodes decide a session differently; each
+/// phase of a session with free objects succeeds once its stated messages have arrived; and the
+/// printed decisions are the core's. As yet schedules have f = 0.
 pub fn run<S: Source, K: Sink>(alloc: Global, words: &[String], input: &mut S, output: &mut K) -> u8
     // Words outside the grammar are refused, and nothing is read.
     ensures words { command_of (texts_of words.now) ≡ None → Answers words_answer (K.written output.old) (K.written output.new) result }
@@ -35,7 +42,8 @@ pub fn run<S: Source, K: Sink>(alloc: Global, words: &[String], input: &mut S, o
         → (Rose (S.faults input.old) (S.faults input.new) → ⊥) → (Rose (K.faults output.old) (K.faults output.new) → ⊥)
         → Completes LIMIT traced (S.left input.old) (K.written output.old) (K.written output.new) result }
 
-    // What is true of every schedule that is read: of its history, which is printed, and of its decisions.
+    // What is true of every schedule that is read, as far as it is played: of its history, which is printed, and of the decisions of
+    // all nodes. Each phase of a session succeeds: a free session is voted commit and the vote is sent, and a locked one is accepted.
     ensures sound { (text : List ℕ) (schedule : Schedule) → schedule_of LIMIT text ≡ Ok schedule → IsSound schedule }
 
     // A fault is answered only where one of that object came about in this call.

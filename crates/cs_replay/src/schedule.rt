@@ -5,25 +5,24 @@ ghost use Rattle.std.specs.Io.KnownBytes.{Appends};
 ghost use Rattle.cs_base.specs.Outside.{HasCause};
 ghost use Rattle.cs_base.specs.Answers.{AppendsFront};
 ghost use Rattle.cs_order.specs.Solo.{solo};
-ghost use Rattle.cs_trail.specs.Lines.{limit_line};
+ghost use Rattle.cs_trail.specs.Lines.{limit_line, forged_line};
 ghost use Rattle.cs_trail.specs.Play.{unplayed, play_all, lines};
 ghost use Rattle.cs_sched.specs.Playable.{IsPlayable};
-ghost use Rattle.cs_replay.specs.Site.{site_of_schedule};
-ghost use Rattle.cs_replay.specs.Digests.{history_lines};
+ghost use Rattle.cs_replay.specs.Site.{site_of_schedule, solo_carrier};
 ghost use Rattle.cs_replay.specs.Answers.{course_of, course_status};
-ghost use Rattle.cs_replay.specs.Standing.{Setting, site_in, setting_of, Stands, IsShort, IsFor};
+ghost use Rattle.cs_play.specs.Standing.{Setting, site_in, Stands, IsShort, IsFor};
+ghost use Rattle.cs_play.specs.Digests.{history_lines};
+ghost use Rattle.cs_node.specs.Carriers.{carrier};
+ghost use Rattle.cs_replay.specs.Settings.{setting_of};
 ghost use Rattle.cs_replay.specs.Closing.{ending_status, Closes};
-ghost use Rattle.cs_replay.specs.declared.schedule.Ending.TheVariants.{Done, Limit};
+ghost use Rattle.cs_replay.specs.declared.schedule.Ending.TheVariants.{Done, Limit, Forged};
 
-use crate::halt::Halt;
-use crate::history::History;
-use crate::lines::{history_text, limit_line};
-use crate::play::Replay;
 use crate::starting::start_nodes;
-use crate::voices::Voices;
 use cs_base::{Memory, Sink, WriteError, print};
 use cs_event::Schedule;
+use cs_node::Carried;
 use cs_order::{Order, Solo};
+use cs_play::{Halt, History, Replay, Voices, forged_line, history_text, limit_line};
 use cs_post::Post;
 use cs_tx::{Judge, TokenJudge};
 use std::alloc::Global;
@@ -35,6 +34,8 @@ pub enum Ending {
     Done,
     /// An event would have passed a limit.
     Limit,
+    /// A line injects what is forged.
+    Forged,
 }
 
 impl Ending {
@@ -45,13 +46,14 @@ impl Ending {
         match self {
             Ending::Done => 0,
             Ending::Limit => 13,
+            Ending::Forged => 4,
         }
     }
 }
 
 /// Plays the events of a schedule, and prints what its nodes do and then the history, or the line
-/// of the event that would have passed a limit. Where it stops, what was written is a front of the
-/// whole.
+/// of the event that would have passed a limit or injects what is forged. Where it stops, what was
+/// written is a front of the whole.
 pub fn replay<K: Sink>(
     alloc: Global,
     schedule: &Schedule,
@@ -77,7 +79,7 @@ fn begin(
     traced: bool,
 ) -> Result<Replay<Solo, TokenJudge>, Memory>
     requires { IsPlayable schedule.now }
-    ensures { (before : Option (List ℕ)) → IfOk result (λ replay. Stands ⟦<Solo as Order>⟧.stands ⟦<TokenJudge as Judge>⟧.is_approved solo (setting_of traced schedule.now before) replay unplayed) }
+    ensures { (before : Option (List ℕ)) → IfOk result (λ replay. Stands ⟦<Solo as Order>⟧.stands ⟦<TokenJudge as Judge>⟧.is_approved solo solo_carrier (setting_of traced schedule.now before) replay unplayed) }
 {
     let cores = start_nodes(alloc, schedule)?;
     let history = History::new(alloc, schedule.config)?;
@@ -94,20 +96,21 @@ fn begin(
 }
 
 // Plays the events of a schedule, and prints their lines and what stands behind them.
-fn play_schedule<O: Order, J: Judge + Drop, K: Sink>(
+fn play_schedule<O: Carried, J: Judge + Drop, K: Sink>(
     alloc: Global,
     mut replay: Replay<O, J>,
     schedule: &Schedule,
     output: &mut K,
 ) -> Result<Ending, WriteError>
     requires { All (λ numbered. IsShort numbered.1) schedule.now.events }
-    ensures closes { (s : Setting) → s.before ≡ K.written output.old → Stands O.stands J.is_approved O.rules s replay unplayed → All (λ numbered. IsFor s numbered.1) schedule.now.events
-        → Closes s.before (K.written output.new) (site_in O.rules s) (play_all (site_in O.rules s) s.traced schedule.now.events unplayed) result }
+    ensures closes { (s : Setting) → s.before ≡ K.written output.old → Stands O.stands J.is_approved O.rules (carrier O.written O.read_of) s replay unplayed → All (λ numbered. IsFor s numbered.1) schedule.now.events
+        → Closes s.before (K.written output.new) (site_in O.rules (carrier O.written O.read_of) s) (play_all (site_in O.rules (carrier O.written O.read_of) s) s.traced schedule.now.events unplayed) result }
     ensures cause { HasCause (K.faults output.old) (K.faults output.new) (IsErrOf result WriteError.Failed) }
 {
     match replay.play_all(alloc, schedule.events.as_slice(), output) {
         Ok(()) => print_history(alloc, &replay.history, output),
         Err(Halt::Limit(line)) => print_limit(alloc, line, output),
+        Err(Halt::Forged(line)) => print_forged(alloc, line, output),
         Err(Halt::Failed) => Err(WriteError::Failed),
         Err(Halt::Memory) => Err(WriteError::Memory),
     }
@@ -137,6 +140,18 @@ fn print_limit<K: Sink>(alloc: Global, line: u64, output: &mut K) -> Result<Endi
 {
     match limit_line(alloc, line) {
         Ok(text) => print_end(output, &text, Ending::Limit),
+        Err(_) => Err(WriteError::Memory),
+    }
+}
+
+fn print_forged<K: Sink>(alloc: Global, line: u64, output: &mut K) -> Result<Ending, WriteError>
+    ensures done { OnOk result (Appends (K.written output.old) (K.written output.new) (forged_line line)) }
+    ensures ending { IfOk result (λ ending. ending ≡ Forged) }
+    ensures part { OnErr result (AppendsFront (K.written output.old) (K.written output.new) (forged_line line)) }
+    ensures cause { HasCause (K.faults output.old) (K.faults output.new) (IsErrOf result WriteError.Failed) }
+{
+    match forged_line(alloc, line) {
+        Ok(text) => print_end(output, &text, Ending::Forged),
         Err(_) => Err(WriteError::Memory),
     }
 }

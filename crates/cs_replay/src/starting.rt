@@ -1,11 +1,14 @@
 //! The start of the nodes of a schedule.
-ghost use Rattle.std.specs.Prelude.{◌≡◌, ◌≤◌, [], length, IfOk};
+ghost use Rattle.std.specs.Prelude.{◌≡◌, ◌≤◌, ◌<◌, [], length, IfOk};
 ghost use Rattle.std.specs.List.{All};
 ghost use Rattle.cs_value.specs.Object.{ObjectFits};
-ghost use Rattle.cs_sched.specs.Playable.{IsPlayable, only_node};
+ghost use Rattle.cs_trail.specs.Site.{start_view};
+ghost use Rattle.cs_sched.specs.Playable.{IsPlayable};
 ghost use Rattle.cs_node.specs.Setups.{keyed_from};
-ghost use Rattle.cs_replay.specs.Site.{site_of_schedule};
-ghost use Rattle.cs_replay.specs.Standing.{AllStand};
+ghost use Rattle.cs_node.specs.Cores.{StandsFor};
+ghost use Rattle.cs_play.specs.Standing.{AllStand};
+ghost use Rattle.cs_replay.specs.Site.{setup_of_schedule, net_of_schedule, site_of_schedule};
+ghost use Rattle.cs_replay.specs.Settings.{node_of_shard};
 
 use cs_base::{Key, Memory, NodeId};
 use cs_event::Schedule;
@@ -15,36 +18,46 @@ use cs_tx::{Encoded, Judge, Object, TokenJudge, genesis_key};
 use cs_wire::Keys;
 use std::alloc::Global;
 
-/// The nodes of a schedule before their first input: as yet the one node of its one shard.
+/// The nodes of a schedule before their first input: as yet one of each shard.
 pub fn start_nodes(
     alloc: Global,
     schedule: &Schedule,
 ) -> Result<Vec<Core<Solo, TokenJudge>>, Memory>
     requires { IsPlayable schedule.now }
-    ensures nodes { IfOk result (λ cores. AllStand ⟦<Solo as Order>⟧.stands ⟦<TokenJudge as Judge>⟧.is_approved (site_of_schedule schedule.now) (λ i. only_node) cores.items []) }
-    ensures count { IfOk result (λ cores. length cores.items ≡ 1) }
+    ensures nodes { IfOk result (λ cores. AllStand ⟦<Solo as Order>⟧.stands ⟦<TokenJudge as Judge>⟧.is_approved (site_of_schedule schedule.now) node_of_shard cores.items []) }
+    ensures count { IfOk result (λ cores. length cores.items ≡ schedule.now.config.shards) }
 {
     let genesis = keyed(alloc, schedule.genesis.as_slice())?;
-    let node = NodeId { shard: 0, index: 0 };
-    let order = Solo::new(alloc);
+    let mut cores = Vec::new(alloc);
+    for shard in 0..schedule.config.shards {
+        let core = start_node(alloc, schedule, genesis.as_slice(), shard)?;
+        cores.push(core)?;
+    }
+    Ok(cores)
+}
+
+// The node of a shard.
+fn start_node(
+    alloc: Global,
+    schedule: &Schedule,
+    genesis: &[(Key, Object)],
+    shard: u16,
+) -> Result<Core<Solo, TokenJudge>, Memory>
+    requires playable { IsPlayable schedule.now }
+    requires genesis { genesis.now ≡ keyed_from 0 schedule.now.genesis }
+    requires shard { shard < schedule.now.config.shards }
+    ensures { IfOk result (λ core. StandsFor ⟦<Solo as Order>⟧.stands ⟦<TokenJudge as Judge>⟧.is_approved (setup_of_schedule schedule.now) (net_of_schedule schedule.now) core (start_view (site_of_schedule schedule.now) (node_of_shard shard))) }
+{
+    let node = NodeId { shard, index: 0 };
     keys_of_a_master_speak();
     let keys = Keys::from_master(alloc, &schedule.config, &schedule.master, node)?;
-    let core = match Core::start(
-        alloc,
-        schedule.config,
-        keys,
-        TokenJudge,
-        genesis.as_slice(),
-        order,
-    ) {
-        Ok(core) => core,
+    let order = Solo::new(alloc);
+    match Core::start(alloc, schedule.config, keys, TokenJudge, genesis, order) {
+        Ok(core) => Ok(core),
         // The keys of a schedule's objects differ.
         Err(StartError::Duplicate(_)) => unreachable!(),
-        Err(StartError::Memory) => return Err(Memory),
-    };
-    let mut cores = Vec::new(alloc);
-    cores.push(core)?;
-    Ok(cores)
+        Err(StartError::Memory) => Err(Memory),
+    }
 }
 
 // The genesis objects under their keys.

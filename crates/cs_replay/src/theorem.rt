@@ -5,8 +5,9 @@ ghost use Rattle.cs_sched.specs.declared.reader.TheConstants.{LIMIT};
 ghost use Rattle.cs_sched.specs.Text.{schedule_of};
 ghost use Rattle.cs_replay.specs.Sound.{IsSound};
 
+use cs_history::settled_world;
 use cs_order::Solo;
-use cs_story::one_node_world;
+use cs_story::schedules_play_worlds;
 
 /// What is true of every schedule that is read.
 ///
@@ -14,5 +15,6 @@ use cs_story::one_node_world;
 pub fn schedules_are_sound()
     ensures { (text : List ℕ) (schedule : Schedule) → schedule_of LIMIT text ≡ Ok schedule → IsSound schedule }
 {
-    one_node_world::<Solo>();
+    schedules_play_worlds::<Solo>();
+    settled_world::<Solo>();
 }

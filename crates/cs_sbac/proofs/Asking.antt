@@ -1,5 +1,5 @@
 -- What the record of a key tells, and which dummy is the least.
-use Rattle.std.proofs.Common.{◌≡◌, ℕ, zero, suc, ◌+◌, ◌^◌, ◌<◌, ◌≤◌, ◌⊎◌, inl, inr, Bool, true, false, cond, Option, Some, None, refl, ap, sym, ◌∙◌, arith}
+use Rattle.std.proofs.Common.{◌≡◌, ℕ, zero, suc, ◌+◌, ◌^◌, ◌<◌, ◌≤◌, ◌⊎◌, inl, inr, true, false, cond, Option, Some, None, refl, ap, sym, ◌∙◌, arith}
 use Rattle.std.proofs.lemmas.Bool.{cases_lt}
 use Rattle.cs_base.specs.declared.key.Key.{Key}
 use Rattle.cs_base.specs.declared.key.Key.TheVariants as key
@@ -17,7 +17,7 @@ use Rattle.cs_ledger.specs.Table as Shard
 use Rattle.cs_table.specs.Seen.{Stored, seen, seen_state, seen_row, row_in, name_of, HoldsFit}
 use Rattle.cs_table.specs.Dummies as stored
 use Rattle.cs_table.specs.Dummies.{IsLeastDummy, Least, NoneActive}
-use Rattle.cs_trail.specs.Asked.{object_or_dummy, object_in, state_told, told_at, is_free, has_dummy, least_from, least_dummy, key_asked}
+use Rattle.cs_trail.specs.Asked.{object_or_dummy, object_in, state_told, told_at, is_free, has_dummy, least_from, least_dummy}
 
 key-same : (k : Key) → name_of k ≡ key_seen k
 key-same (key.Object digest) = refl

@@ -1,7 +1,11 @@
--- The shards that a session concerns, as the calls on it and as the setup have them.
-use Rattle.std.proofs.Common.{◌≡◌, ℕ, zero, suc, ◌*◌, ◌<◌, nat_lt, nat_le, nat_eq, Bool, true, false, ◌||◌, ◌&&◌, List, [], ◌∷◌, ◌++◌, refl, ap, subst, sym, ◌∙◌, arith}
+-- Whether a shard is among those that a session concerns.
+use Rattle.std.proofs.Common.{◌≡◌, ℕ, zero, suc, ◌*◌, ◌<◌, ◌≤◌, ◌==◌, drop, nat_lt, nat_le, nat_eq, Bool, true, false, ◌||◌, ◌&&◌, List, [], ◌∷◌, ◌++◌, refl, ap, sym, ◌∙◌, arith}
 use Rattle.std.specs.Prelude.{if◌then◌else◌}
 use Rattle.std.specs.List.{list_any}
+use Rattle.std.specs.Int.{w32, from_be_bytes}
+use Rattle.std.proofs.lemmas.Nat.{mod_below}
+use Rattle.cs_base.specs.Key.{shard_of_key}
+use Rattle.cs_base.specs.declared.key.Key.TheVariants as key
 use Rattle.cs_base.specs.declared.config.Config.{Config}
 use Rattle.cs_base.specs.declared.node_id.NodeId.{NodeId}
 use Rattle.cs_base.specs.NodeId.{is_node}
@@ -9,10 +13,9 @@ use Rattle.cs_value.specs.declared.object.Object.{Object}
 use Rattle.cs_form.specs.declared.transaction.Tx.{Tx}
 use Rattle.cs_form.specs.declared.session.Session.{Session}
 use Rattle.cs_tx.specs.Uses as Uses
-use Rattle.cs_tx.proofs.ShardsSeen.{concerns-session_of}
 use Rattle.cs_trail.specs.Setup as Setup
-use Rattle.cs_trail.specs.Deployment.{rules_of}
-use Rattle.cs_sbac.specs.Held.{deployed}
+use Rattle.cs_pool.specs.Deployed.{deployed}
+use Rattle.cs_pool.proofs.Concerned.{concerns-session}
 
 any-append : (p : ℕ → Bool) (xs ys : List ℕ) → list_any p (xs ++ ys) ≡ (list_any p xs || list_any p ys)
 any-append p [] ys = refl
@@ -33,18 +36,6 @@ in_range config id h = let low : nat_lt id.shard config.shards ≡ true = first 
 module _ (config : Config) (genesis : List Object) (approves : Tx → Bool) (x : Session) where
   abbrev setup : Setup.Setup
   setup = deployed config genesis approves
-
-  pub concerns-session : (shard : ℕ) → Setup.concerns setup x shard ≡ Uses.concerns config x shard
-  concerns-session = concerns-session_of (rules_of config genesis) config (λ name. refl) approves x
-
-  below : (n : ℕ) → Setup.concerned_below setup x n ≡ Uses.concerned_below config x n
-  below zero = refl
-  below (suc n) =
-      ap (λ zs. zs ++ (if Setup.concerns setup x n then n ∷ [] else [])) (below n)
-      ∙ ap (λ b. Uses.concerned_below config x n ++ (if b then n ∷ [] else [])) (concerns-session n)
-
-  pub concerned-session : Setup.concerned setup x ≡ Uses.concerned_shards config x
-  concerned-session = below config.shards
 
   module _ (shard : ℕ) where
     abbrev is_it : ℕ → Bool
@@ -93,6 +84,26 @@ module _ (config : Config) (genesis : List Object) (approves : Tx → Bool) (x :
         by : (b : Bool) → nat_eq n shard ≡ b → ((nat_lt shard n && Setup.concerns setup x shard) || list_any is_it (last n)) ≡ (nat_lt shard (suc n) && Setup.concerns setup x shard)
         by true h = let e : n ≡ shard = grind arith in same-last n e
         by false h = other-last n h
+
+    -- no name is that of a key in a shard above those of the configuration
+    none-above : (names : List (List ℕ)) → config.shards ≤ shard → Uses.is_among config shard names ≡ false
+    none-above [] high = refl
+    none-above (name ∷ names) high =
+        let some : 0 < config.shards = config.some_shard in
+        let low : shard_of_key config.shards (key.Object name) < config.shards = mod_below (from_be_bytes w32 (drop 28 name)) config.shards some in
+        let other : (shard_of_key config.shards (key.Object name) == shard) ≡ false = grind arith in
+        ap (λ b. b || Uses.is_among config shard names) other ∙ none-above names high
+
+    above : config.shards ≤ shard → Setup.concerns setup x shard ≡ false
+    above high = concerns-session config genesis approves x shard ∙ none-above (Uses.names_of x.tx) high
+
+    -- whether it is one of those of the session, whatever shard it is
+    pub contains-any : list_any is_it (Setup.concerned setup x) ≡ Setup.concerns setup x shard
+    contains-any = contains-below config.shards ∙ by_range (nat_lt shard config.shards) refl
+      where
+        by_range : (low : Bool) → nat_lt shard config.shards ≡ low → (low && Setup.concerns setup x shard) ≡ Setup.concerns setup x shard
+        by_range true is = refl
+        by_range false is = sym (above (grind arith))
 
     pub contains-concerned : shard < config.shards → list_any is_it (Setup.concerned setup x) ≡ Setup.concerns setup x shard
     contains-concerned low =

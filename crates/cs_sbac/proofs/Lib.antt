@@ -1,4 +1,3 @@
-pub mod Fitting
 pub mod Concerned
 pub mod Settings
 pub mod RulesAlike

@@ -2,8 +2,8 @@
 use Rattle.std.proofs.Common.{◌≡◌, ℕ, ◌+◌, ◌==◌, List, [], ◌∷◌, ◌++◌, length, Option, Some, None, refl, ap, ◌∙◌}
 use Rattle.std.specs.Prelude.{if◌then◌else◌}
 use Rattle.cs_ledger.specs.Ledger.{Item}
-use Rattle.cs_ledger.specs.Session.{Session, DummyName, Rules, Key, Object, Dummy, Piece, objects_in, dummies_in, used_up, read_only, first_key, anchor, has_key, object_under}
-use Rattle.cs_ledger.specs.Table.{Table, Entry, Prepare, Decide, Commit, Abort, Outcome, Accepted, Aborted, Skipped, act, prepare, accept_state, is_locked_by, with_accepted, with_aborted, new_dummy, session_of}
+use Rattle.cs_ledger.specs.Session.{Session, DummyName, Rules, Key, Object, Dummy, objects_in, dummies_in, used_up, read_only, first_key, anchor, has_key, object_under}
+use Rattle.cs_ledger.specs.Table.{Table, Entry, Prepare, Decide, Commit, Abort, Accepted, Aborted, Skipped, act, prepare, accept_state, is_locked_by, with_accepted, with_aborted, new_dummy, session_of}
 
 -- the same but for the genesis and the number of the first dummies
 abbrev pub like : Rules → List Item → ℕ → Rules

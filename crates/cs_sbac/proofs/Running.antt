@@ -25,13 +25,14 @@ use Rattle.cs_table.specs.Changes.{Becomes}
 use Rattle.cs_table.specs.Effects.{ComesTo, effect_of}
 use Rattle.cs_table.specs.declared.standing.Standing.TheVariants.{Accepted as Accepted', Aborted as Aborted', Open as Open'}
 use Rattle.cs_ledger.specs.Standing.{stands_accepted, stands_aborted}
-use Rattle.cs_table.specs.Calls.{anchor_in, prepared, decided, standing_at, locked_at as holds_at}
+use Rattle.cs_table.specs.Calls.{anchor_in, prepared, decided, standing_at, recorded_at, locked_at as holds_at}
 use Rattle.cs_trail.specs.Setup as Setup
 use Rattle.cs_trail.specs.Pool.{Pool}
-use Rattle.cs_trail.specs.Bench.{told_by, own_pool, pool_after, locked_at, decided_by, decided_at, decided as standing}
+use Rattle.cs_trail.specs.Bench.{told_by, own_pool, pool_after, locked_at, decided_at, decided as standing, vote_read, noted_at, noted as on_record}
 use Rattle.cs_trail.specs.Deployment.{genesis_from}
 use Rattle.cs_sbac.specs.declared.answers.Outcome.{Outcome}
-use Rattle.cs_sbac.specs.Held.{Held, IsOfNode, deployed}
+use Rattle.cs_sbac.specs.Held.{IsOfNode}
+use Rattle.cs_pool.specs.Deployed.{deployed}
 use Rattle.cs_sbac.specs.Calls.{placed, left, accepted_by, Runs, RunsEntry, Executes}
 use Rattle.cs_sbac.proofs.RulesAlike.{acts, anchors}
 
@@ -191,3 +192,16 @@ module _ (config : Config) (me : NodeId) (told : Stored) (of : IsOfNode config m
         accepted-at : (t : Shard.Table) (d : Bytes) (o : Option Seen.Key) → accepted_by (standing_at t d o) ≡ decided_at t d o
         accepted-at t d None = refl
         accepted-at t d (Some key) = accepted-by (stands_accepted (t.at key) d) (stands_aborted (t.at key) d)
+
+    pub records : (x : Session) (vote : Option Vote) → option_map vote_of vote ≡ recorded_at (seen told) (session_of approves x).digest (anchor_in told (session_of approves x)) → vote ≡ on_record setup me.shard (seen told) x
+    records x vote is =
+        let y : Seen.Session = session_of approves x in
+        read-back vote ∙ ap vote_read is ∙ read-at (seen told) y.digest (anchor_in told y) ∙ ap (noted_at (seen told) y.digest) (same-anchor y)
+      where
+        read-back : (vote : Option Vote) → vote ≡ vote_read (option_map vote_of vote)
+        read-back None = refl
+        read-back (Some v) = ap (λ w. Some w) (sym (vote-back v))
+
+        read-at : (t : Shard.Table) (d : Bytes) (o : Option Seen.Key) → vote_read (recorded_at t d o) ≡ noted_at t d o
+        read-at t d None = refl
+        read-at t d (Some key) = refl

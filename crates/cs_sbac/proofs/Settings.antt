@@ -11,8 +11,8 @@ use Rattle.cs_tx.proofs.TestsSeen.{well_formed-session_of}
 use Rattle.cs_ledger.specs.Session as Seen
 use Rattle.cs_trail.specs.Setup as Setup
 use Rattle.cs_trail.specs.Deployment.{rules_of}
-use Rattle.cs_sbac.specs.Held.{deployed}
-use Rattle.cs_sbac.proofs.Concerned.{concerns-session}
+use Rattle.cs_pool.specs.Deployed.{deployed}
+use Rattle.cs_pool.proofs.Concerned.{concerns-session}
 
 pub some_anchor : (o : Option Key) (c : Bool) → IsNone o ↔ (c ≡ false) → is_some o ≡ c
 some_anchor (Some k) true h = refl

@@ -1,5 +1,5 @@
 -- What the calls of the pool answer, and what they leave.
-use Rattle.std.specs.Prelude.{◌≡◌, Bool, true, false, if◌then◌else◌, List, Option, Some, None}
+use Rattle.std.specs.Prelude.{◌≡◌, Bool, true, false, if◌then◌else◌, Option, Some, None}
 use Rattle.cs_base.specs.declared.node_id.NodeId.{NodeId}
 use Rattle.cs_ledger.specs.Ledger.{Bytes}
 use Rattle.cs_ledger.specs.Session.{Key}
@@ -17,22 +17,14 @@ use Rattle.cs_table.specs.Seen.{Stored, vote_of}
 use Rattle.cs_table.specs.Changes.{Becomes}
 use Rattle.cs_table.specs.Effects.{effect_of}
 use Rattle.cs_table.specs.Calls.{anchor_in, prepared, decided}
-use Rattle.cs_trail.specs.declared.pooled.Pooled.{Pooled}
+use Rattle.cs_trail.specs.declared.ballot.Ballot.{Ballot}
 use Rattle.cs_trail.specs.Setup.{Setup, session_in}
-use Rattle.cs_trail.specs.Evidence.{has_voted}
-use Rattle.cs_trail.specs.Pool.{Pool, has_room, pushed, entered_locked, without}
-use Rattle.cs_trail.specs.Bench.{Bench, executed, bench_executed, pool_after, told_by, told_of, own_pool, locked_at}
+use Rattle.cs_trail.specs.Pool.{Pool, has_room, pushed, changed, with_ballot, entered_locked, without}
+use Rattle.cs_trail.specs.Bench.{executed, bench_executed, pool_after, told_by, told_of, own_pool, locked_at}
 use Rattle.cs_sbac.specs.Held.{Held, bench_of}
-use Rattle.cs_sbac.specs.declared.answers.Counted.{Counted}
-use Rattle.cs_sbac.specs.declared.answers.Counted.TheVariants.{Counted as Taken, Repeat, NotPooled}
 use Rattle.cs_sbac.specs.declared.answers.Entered.{Entered}
 use Rattle.cs_sbac.specs.declared.answers.Entered.TheVariants.{New, Full}
 use Rattle.cs_sbac.specs.declared.answers.Outcome.{Outcome}
-
--- a node's first vote on a pooled session counts
-abbrev pub counted_in : NodeId → Option Pooled → Counted
-counted_in from None = NotPooled
-counted_in from (Some p) = if has_voted from p.ballots then Repeat else Taken
 
 -- a new session enters where one more may wait
 abbrev pub entered_in : Pool → Entered
@@ -40,6 +32,10 @@ entered_in pool = if has_room pool then New else Full
 
 abbrev pub pool_entered : Bytes → Session → Pool → Pool
 pool_entered d x pool = if has_room pool then pushed d x false pool else pool
+
+-- the same with a first vote on it
+abbrev pub pool_entered_with : Bytes → Session → Ballot → Pool → Pool
+pool_entered_with d x ballot pool = if has_room pool then changed d (with_ballot ballot) (pushed d x false pool) else pool
 
 -- whether a session was accepted, once it is decided
 abbrev pub accepted_by : Standing → Option Bool

@@ -1,16 +1,12 @@
 -- What a contract sees of the table and the pool of a node.
-use Rattle.std.specs.Prelude.{◌≡◌, Bool, true, List}
+use Rattle.std.specs.Prelude.{◌≡◌, Bool, true}
 use Rattle.cs_base.specs.declared.config.Config.{Config}
 use Rattle.cs_base.specs.declared.node_id.NodeId.{NodeId}
 use Rattle.cs_base.specs.NodeId.{is_node}
-use Rattle.cs_value.specs.declared.object.Object.{Object}
-use Rattle.cs_form.specs.declared.transaction.Tx.{Tx}
 use Rattle.cs_table.specs.Seen.{Stored, seen}
 use Rattle.cs_trail.specs.Pool.{Pool}
-use Rattle.cs_trail.specs.Setup.{Setup}
 use Rattle.cs_trail.specs.Bench.{Bench}
-use Rattle.cs_trail.specs.Deployment.{setup_of}
-use Rattle.cs_tx.specs.Sessions.{session_of}
+use Rattle.cs_pool.specs.Gathered.{Gathered}
 
 pub record Held : Type 0 where
   pub config : Config
@@ -24,9 +20,10 @@ pub record IsOfNode (config : Config) (me : NodeId) (table : Stored) : Type 0 wh
   pub shards : table.shards ≡ config.shards
   pub shard : table.shard ≡ me.shard
 
--- so, unless memory ran out in the midst of an execution
-pub record IsSound (is_whole : Bool) (config : Config) (me : NodeId) (table : Stored) : Type 0 where
+-- so, unless memory ran out in the midst of an execution; and the pool has the same configuration
+pub record IsSound (is_whole : Bool) (config : Config) (me : NodeId) (table : Stored) (pool : Gathered) : Type 0 where
   pub node : is_node config me ≡ true
+  pub same : pool.config ≡ config
   pub placed : is_whole ≡ true → IsOfNode config me table
 
 abbrev pub bench_of : Held → Bench
@@ -34,8 +31,3 @@ bench_of held = record { table = seen held.table; pool = held.pool }
 
 abbrev pub with_pool : Held → Pool → Held
 with_pool held pool = record { config = held.config; me = held.me; table = held.table; pool = pool }
-
--- The setup of a deployment with this configuration. The table and the pool look at neither the genesis nor what
--- the checks say, so their clauses hold for all.
-abbrev pub deployed : Config → List Object → (Tx → Bool) → Setup
-deployed config genesis approves = setup_of config genesis (session_of approves)

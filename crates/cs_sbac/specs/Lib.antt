@@ -1,3 +1,2 @@
-pub mod Fits
-pub mod Calls
 pub mod Held
+pub mod Calls

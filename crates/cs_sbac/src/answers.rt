@@ -1,4 +1,4 @@
-//! What the calls of the pool answer.
+//! What the calls on table and pool answer.
 use cs_table::Effect;
 use cs_tx::Vote;
 
@@ -9,17 +9,6 @@ pub enum Entered {
     New,
     /// No more sessions may wait.
     Full,
-}
-
-/// What became of a vote.
-#[derive(Clone, Copy, Debug, PartialEq, Eq)]
-pub enum Counted {
-    /// It counts.
-    Counted,
-    /// The node has voted on the session before.
-    Repeat,
-    /// The session is not in the pool.
-    NotPooled,
 }
 
 /// What the execution of an entry came to, and the node's vote, if it voted, with the mark that

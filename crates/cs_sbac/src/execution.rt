@@ -11,8 +11,8 @@ ghost use Rattle.cs_trail.specs.Bench.{own_pool};
 ghost use Rattle.cs_sbac.specs.Calls.{placed, left, Runs, RunsEntry};
 
 use crate::answers::Outcome;
-use crate::pool::Pool;
 use cs_base::{Memory, NodeId, Sequence};
+use cs_pool::Pool;
 use cs_table::{Effect, Table};
 use cs_trail::{Ballot, Pooled};
 use cs_tx::{Digest, Encoded, Entry, Session, Vote, session_digest};
@@ -38,15 +38,16 @@ fn place(
     locked: bool,
 ) -> Result<(), Memory>
     requires { SessionFits session.now }
-    ensures { OnOk result (pool.new ≡ placed locked digest.now session.now pool.old) }
+    ensures sessions { OnOk result (pool.new.sessions ≡ placed locked digest.now session.now pool.old.sessions) }
+    ensures config { pool.new.config ≡ pool.old.config }
 {
     if !locked {
-        pool.remove(digest);
-    } else if pool.contains(digest) {
-        pool.lock(digest);
+        pool.remove(digest)?;
+    } else if pool.contains(digest)? {
+        pool.lock(alloc, digest)?;
     } else {
         let session = session.copy(alloc)?;
-        pool.push(*digest, newcomer(alloc, session, true))?;
+        pool.push(alloc, *digest, newcomer(alloc, session, true))?;
     }
     Ok(())
 }
@@ -61,11 +62,12 @@ fn place_voted(
     locked: bool,
 ) -> Result<(), Memory>
     requires { SessionFits session.now }
-    ensures { OnOk result (pool.new ≡ own_pool own.sender digest.now (Some (own.vote, locked)) (placed locked digest.now session.now pool.old)) }
+    ensures sessions { OnOk result (pool.new.sessions ≡ own_pool own.sender digest.now (Some (own.vote, locked)) (placed locked digest.now session.now pool.old.sessions)) }
+    ensures config { pool.new.config ≡ pool.old.config }
 {
     place(alloc, pool, digest, session, locked)?;
     if locked {
-        pool.count(digest, own)?;
+        pool.count(alloc, digest, own)?;
     }
     Ok(())
 }
@@ -79,7 +81,8 @@ fn prepare(
 ) -> Result<Outcome, Memory>
     requires fits { SessionFits session.now }
     requires anchored { IsSome (anchor_in table.old (session_of (λ tx. true) session.now)) }
-    ensures { (approves : Tx → Bool) → IfOk result (λ answer. let x = session_of approves session.now in Runs me session.now x.digest (prepared table.old x) (anchor_in table.old x) table.old table.new pool.old pool.new answer) }
+    ensures runs { (approves : Tx → Bool) → IfOk result (λ answer. let x = session_of approves session.now in Runs me session.now x.digest (prepared table.old x) (anchor_in table.old x) table.old table.new pool.old.sessions pool.new.sessions answer) }
+    ensures config { pool.new.config ≡ pool.old.config }
 {
     let digest = session_digest(alloc, session)?;
     let vote = table.prepare(alloc, session)?;
@@ -93,12 +96,13 @@ fn prepare(
 }
 
 /// A session on which a decision took effect leaves the pool.
-fn leave(pool: &mut Pool, digest: &Digest, effect: Effect)
-    ensures { pool.new ≡ left effect digest.now pool.old }
+fn leave(pool: &mut Pool, digest: &Digest, effect: Effect) -> Result<(), Memory>
+    ensures sessions { OnOk result (pool.new.sessions ≡ left effect digest.now pool.old.sessions) }
+    ensures config { pool.new.config ≡ pool.old.config }
 {
     match effect {
         Effect::Accepted | Effect::Aborted => pool.remove(digest),
-        Effect::Voted(_) | Effect::Skipped | Effect::Void => {}
+        Effect::Voted(_) | Effect::Skipped | Effect::Void => Ok(()),
     }
 }
 
@@ -112,11 +116,12 @@ fn decide(
 ) -> Result<Outcome, Memory>
     requires fits { SessionFits session.now }
     requires anchored { IsSome (anchor_in table.old (session_of (λ tx. true) session.now)) }
-    ensures { (approves : Tx → Bool) → IfOk result (λ answer. let x = session_of approves session.now in Runs me session.now x.digest (decided table.old x (vote_of vote)) (anchor_in table.old x) table.old table.new pool.old pool.new answer) }
+    ensures runs { (approves : Tx → Bool) → IfOk result (λ answer. let x = session_of approves session.now in Runs me session.now x.digest (decided table.old x (vote_of vote)) (anchor_in table.old x) table.old table.new pool.old.sessions pool.new.sessions answer) }
+    ensures config { pool.new.config ≡ pool.old.config }
 {
     let digest = session_digest(alloc, session)?;
     let effect = table.decide(alloc, session, vote)?;
-    leave(pool, &digest, effect);
+    leave(pool, &digest, effect)?;
     Ok(Outcome {
         effect,
         voted: None,
@@ -133,7 +138,8 @@ pub fn run(
 ) -> Result<Outcome, Memory>
     requires fits { EntryFits entry.now }
     requires anchored { IsSome (anchor_in table.old (session_of (λ tx. true) (session_in entry.now))) }
-    ensures { (approves : Tx → Bool) → IfOk result (λ answer. RunsEntry approves me entry.now table.old table.new pool.old pool.new answer) }
+    ensures runs { (approves : Tx → Bool) → IfOk result (λ answer. RunsEntry approves me entry.now table.old table.new pool.old.sessions pool.new.sessions answer) }
+    ensures config { pool.new.config ≡ pool.old.config }
 {
     match entry {
         Entry::Prepare(session) => prepare(alloc, me, table, pool, session),

@@ -1,16 +1,14 @@
-//! The table of a node and its pool: the sessions that wait or are locked, the votes on them, and their execution.
+//! The table of a node and its pool: what is admitted and due, and the execution of an entry.
 #![tactic(auto)]
 
 mod answers;
 mod execution;
-mod pool;
 mod sbac;
 mod setting;
 #[cfg(test)]
 mod tests;
-mod votes;
 
-pub use answers::{Counted, Entered, Outcome};
+pub use answers::{Entered, Outcome};
+pub use cs_pool::Counted;
 pub use cs_table::Effect;
-pub use pool::Pool;
 pub use sbac::Sbac;

@@ -11,18 +11,19 @@ ghost use Rattle.cs_trail.specs.Setup.{concerns, concerned, is_fit, is_approved}
 ghost use Rattle.cs_trail.specs.Pool.{found, is_pooled, changed, with_ballot};
 ghost use Rattle.cs_table.specs.Seen.{seen, HoldsFit};
 ghost use Rattle.cs_trail.specs.Asked.{told_at, least_dummy, key_asked};
-ghost use Rattle.cs_trail.specs.Bench.{decided};
+ghost use Rattle.cs_trail.specs.Bench.{decided, noted};
 ghost use Rattle.cs_trail.specs.Admission.{admits, is_decided_in, due};
-ghost use Rattle.cs_sbac.specs.Fits.{DueFits};
-ghost use Rattle.cs_sbac.specs.Held.{with_pool, deployed, IsOfNode};
-ghost use Rattle.cs_sbac.specs.Calls.{counted_in, entered_in, pool_entered, accepted_by, Executes};
+ghost use Rattle.cs_pool.specs.Deployed.{deployed};
+ghost use Rattle.cs_pool.specs.Fits.{DueFits, AllFit};
+ghost use Rattle.cs_pool.specs.Calls.{counted_in, locked_in};
+ghost use Rattle.cs_sbac.specs.Held.{with_pool, IsOfNode};
+ghost use Rattle.cs_sbac.specs.Calls.{entered_in, pool_entered, pool_entered_with, accepted_by, Executes};
 
-use crate::answers::{Counted, Entered, Outcome};
+use crate::answers::{Entered, Outcome};
 use crate::execution::{newcomer, run};
-use crate::pool::Pool;
 use crate::setting::{concerned_shards, is_fit, is_fit_entry};
-use crate::votes::is_decided;
 use cs_base::{Config, Key, Memory, NodeId};
+use cs_pool::{Counted, Pool, is_decided};
 use cs_table::{Effect, Standing, Table};
 use cs_trail::Ballot;
 use cs_tx::{Digest, Encoded, Entry, Judge, Session, State, Vote, session_digest};
@@ -53,9 +54,9 @@ impl Model for Sbac {
 
     ghost coded = { Prim.hlevel (codes, values.the_row.coded, configs.the_row.coded) };
 
-    ghost view = { λ s. record { config = s.config; me = s.me; table = s.table; pool = s.pool } };
+    ghost view = { λ s. record { config = s.config; me = s.me; table = s.table; pool = s.pool.sessions } };
 
-    ghost invariant = { λ s. IsSound s.is_whole s.config s.me s.table };
+    ghost invariant = { λ s. IsSound s.is_whole s.config s.me s.table s.pool };
 }
 
 fn is_accepted(standing: Standing) -> Option<bool>
@@ -111,7 +112,7 @@ impl Sbac {
             config,
             me,
             table,
-            pool: Pool::new(alloc),
+            pool: Pool::new(alloc, config),
             is_whole: true,
         }
     }
@@ -143,7 +144,8 @@ impl Sbac {
         ensures { IfOk result (λ pooled. pooled ≡ is_pooled (digest_of_session session.now) self.now.pool) }
     {
         let digest = session_digest(alloc, session)?;
-        Ok(self.pool.contains(&digest))
+        let pooled = self.pool.contains(&digest)?;
+        Ok(pooled)
     }
 
     /// Brings a session into the pool, where it waits.
@@ -153,11 +155,36 @@ impl Sbac {
         ensures answer { IfOk result (λ answer. answer ≡ entered_in self.old.pool) }
         ensures pool { OnOk result (self.new ≡ with_pool self.old (pool_entered (digest_of_session session) session self.old.pool)) }
     {
-        if self.pool.waiting() >= MOST_WAITING {
+        if self.pool.waiting()? >= MOST_WAITING {
             return Ok(Entered::Full);
         }
         let digest = session_digest(alloc, &session)?;
-        self.pool.push(digest, newcomer(alloc, session, false))?;
+        self.pool
+            .push(alloc, digest, newcomer(alloc, session, false))?;
+        Ok(Entered::New)
+    }
+
+    /// Brings a session into the pool, where it waits, with a first vote on it.
+    pub fn enter_voted(
+        &mut self,
+        alloc: Global,
+        from: NodeId,
+        session: Session,
+        vote: Vote,
+    ) -> Result<Entered, Memory>
+        requires fits { SessionFits session }
+        requires new { found (digest_of_session session) self.old.pool ≡ None }
+        ensures answer { IfOk result (λ answer. answer ≡ entered_in self.old.pool) }
+        ensures pool { OnOk result (self.new ≡ with_pool self.old (pool_entered_with (digest_of_session session) session (record { sender = from; vote = vote }) self.old.pool)) }
+    {
+        if self.pool.waiting()? >= MOST_WAITING {
+            return Ok(Entered::Full);
+        }
+        let digest = session_digest(alloc, &session)?;
+        self.pool
+            .push(alloc, digest, newcomer(alloc, session, false))?;
+        let ballot = Ballot { sender: from, vote };
+        self.pool.count(alloc, &digest, ballot)?;
         Ok(Entered::New)
     }
 
@@ -174,7 +201,16 @@ impl Sbac {
         ensures pool { OnOk result (self.new ≡ with_pool self.old (changed (digest_of_session session.now) (with_ballot (record { sender = from; vote = vote })) self.old.pool)) }
     {
         let digest = session_digest(alloc, session)?;
-        self.pool.count(&digest, Ballot { sender: from, vote })
+        self.pool
+            .count(alloc, &digest, Ballot { sender: from, vote })
+    }
+
+    /// The sessions that are locked, in the order of the pool.
+    pub fn locked(&self, alloc: Global) -> Result<Vec<Session>, Memory>
+        ensures sessions { IfOk result (λ sessions. sessions.items ≡ locked_in self.now.pool) }
+        ensures fits { IfOk result (λ sessions. AllFit sessions.items) }
+    {
+        self.pool.locked(alloc)
     }
 
     /// The entry that is due: the first decision of a locked session that the votes carry, or else
@@ -183,7 +219,7 @@ impl Sbac {
         ensures entry { (genesis : List Object) (approves : Tx → Bool) → IfOk result (λ entry. entry ≡ due (deployed self.now.config genesis approves) self.now.pool) }
         ensures fits { IfOk result DueFits }
     {
-        self.pool.due(alloc, &self.config)
+        self.pool.due(alloc)
     }
 
     /// Whether a session is well formed and concerns the shard.
@@ -193,6 +229,36 @@ impl Sbac {
     {
         let fit = is_fit(alloc, &self.config, self.me.shard, session)?;
         Ok(fit)
+    }
+
+    /// The shards that a session concerns, in rising order.
+    pub fn concerned(&self, alloc: Global, session: &Session) -> Result<Vec<u16>, Memory>
+        requires { SessionFits session.now }
+        ensures { (genesis : List Object) (approves : Tx → Bool) → IfOk result (λ shards. shards.items ≡ concerned (deployed self.now.config genesis approves) session.now) }
+    {
+        let shards = concerned_shards(alloc, &self.config, session)?;
+        Ok(shards)
+    }
+
+    /// Whether a session concerns the shard.
+    pub fn concerns(&self, alloc: Global, session: &Session, shard: u16) -> Result<bool, Memory>
+        requires { SessionFits session.now }
+        ensures { (genesis : List Object) (approves : Tx → Bool) → IfOk result (λ yes. yes ≡ concerns (deployed self.now.config genesis approves) session.now shard) }
+    {
+        let shards = concerned_shards(alloc, &self.config, session)?;
+        Ok(shards.as_slice().contains(&shard))
+    }
+
+    /// The vote that is on record on a session.
+    pub fn noted(&self, alloc: Global, session: &Session) -> Result<Option<Vote>, Memory>
+        requires { SessionFits session.now }
+        ensures { (genesis : List Object) (approves : Tx → Bool) → IfOk result (λ vote. vote ≡ noted (deployed self.now.config genesis approves) self.now.me.shard (seen self.now.table) session.now) }
+    {
+        if !self.is_whole {
+            return Err(Memory);
+        }
+        let vote = self.table.recorded(alloc, session)?;
+        Ok(vote)
     }
 
     /// Whether a session was accepted, once it is decided here.
@@ -274,7 +340,8 @@ impl Sbac {
             return Ok(false);
         }
         let digest = session_digest(alloc, session)?;
-        match self.pool.get(&digest) {
+        let pooled = self.pool.get(&digest)?;
+        match pooled {
             None => Ok(false),
             Some(pooled) => Ok(is_decided(
                 self.config.f,

@@ -6,7 +6,7 @@ ghost use Rattle.cs_form.specs.Session.{SessionFits, EntryFits};
 ghost use Rattle.cs_tx.specs.Uses.{anchor_of};
 ghost use Rattle.cs_tx.specs.WellFormed.{fault_of};
 ghost use Rattle.cs_trail.specs.Setup.{concerned, is_fit, session_in};
-ghost use Rattle.cs_sbac.specs.Held.{deployed};
+ghost use Rattle.cs_pool.specs.Deployed.{deployed};
 
 use cs_base::{Config, Memory};
 use cs_tx::{Entry, Malformed, Session, anchor, concerned, well_formed};

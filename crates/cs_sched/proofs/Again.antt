@@ -33,7 +33,6 @@ bare config master genesis events = record { config = config; master = master; l
 
 -- what is known of a schedule that was read
 record IsRead (config : Config) (master : List ℕ) (genesis : List Object) (events : List (ℕ × Event)) : Type 0 where
-  one : config.shards ≡ 1
   none : config.f ≡ 0
   digest : DigestFits master
   objects : AllByRecursion IsPrintable genesis
@@ -102,7 +101,7 @@ module _ (config : Config) (master : List ℕ) (genesis : List Object) (events :
   reads_all =
       let first : 5 + length genesis + 1 ≡ 6 + (0 + (0 + length genesis)) = omega arith in
       let rest = (codes "run" ∷ []) ∷ (event_lines events ++ (codes "end" ∷ []) ∷ []) in
-      reads_head config master known.one known.none known.digest (last (6 + (0 + (0 + length genesis)))) (genesis_lines genesis ++ rest)
+      reads_head config master known.none known.digest (last (6 + (0 + (0 + length genesis)))) (genesis_lines genesis ++ rest)
       (reads_objects config master genesis (last (6 + (0 + (0 + length genesis)))) rest known.few known.differ genesis [] false 5 refl known.objects
       (λ any. rw (run_step config master any genesis (5 + length genesis)) (subst (λ n. read_fields (made stage.Events config master genesis []) n (event_lines events ++ (codes "end" ∷ []) ∷ []) ≡ Ok (last (6 + (0 + (0 + length genesis))))) (sym first) (reads_run (6 + (0 + (0 + length genesis)))))))
 
@@ -122,7 +121,6 @@ printable objects all = recursion_from_All IsPrintable objects all
 
 known_of : (draft : Draft) → IsSound draft → IsRead draft.schedule.config draft.schedule.master draft.schedule.genesis draft.schedule.events
 known_of draft sound = record {
-  one = sound.playable.one_shard;
   none = sound.playable.no_liar;
   digest = sound.master;
   objects = printable draft.schedule.genesis (λ k d within. (sound.playable.objects k d within, sound.encodings k d within));

@@ -2,7 +2,6 @@ pub mod Again
 pub mod Back
 pub mod Distinct
 pub mod Objects
-pub mod OneNode
 pub mod Plain
 pub mod Played
 pub mod Reading

@@ -36,12 +36,12 @@ module _ (draft next : Draft) (fields : List (List ℕ)) (sound : IsSound draft)
   faulty_sound : draft.schedule.events ≡ [] → faulty_line draft fields ≡ Ok next → IsSound next
   faulty_sound none is =
       let (config, said, moved) = change_ok (faulty_said draft.schedule.config fields) (λ config. with_config draft stage.Dummies config) next is in
-      subst IsSound moved (with_config-sound draft stage.Dummies config sound none (faulty_numbers draft.schedule.config config fields sound.playable.one_shard said))
+      subst IsSound moved (with_config-sound draft stage.Dummies config sound none (faulty_numbers draft.schedule.config config fields said))
 
   dummies_sound : draft.schedule.events ≡ [] → dummies_line draft fields ≡ Ok next → IsSound next
   dummies_sound none is =
       let (config, said, moved) = change_ok (dummies_said draft.schedule.config fields) (λ config. with_config draft stage.Master config) next is in
-      subst IsSound moved (with_config-sound draft stage.Master config sound none (dummies_numbers draft.schedule.config config fields sound.playable.one_shard sound.playable.no_liar said))
+      subst IsSound moved (with_config-sound draft stage.Master config sound none (dummies_numbers draft.schedule.config config fields sound.playable.no_liar said))
 
   master_sound : draft.schedule.events ≡ [] → master_line draft fields ≡ Ok next → IsSound next
   master_sound none is =

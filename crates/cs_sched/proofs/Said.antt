@@ -1,4 +1,4 @@
--- What is known of the values of lines that are taken, where there is one shard of one node.
+-- What is known of the values of lines that are taken, where no node lies.
 use Rattle.std.specs.Prelude.{◌≡◌, ℕ, ◌<◌, ◌≤◌, ◌==◌, nat_lt, nat_le, List, [], ◌∷◌, length, Some, Result, Ok, Err, codes, if◌then◌else◌}
 use Rattle.std.specs.Option.{ok_or}
 use Rattle.std.specs.Result.{result_ok}
@@ -27,30 +27,28 @@ use Rattle.cs_sched.proofs.Steps.{step_ok, ok_same, when_ok, unless_ok, some_ok}
 use Rattle.cs_sched.proofs.Objects.{found_fits}
 use Rattle.cs_sched.proofs.Sound.{configured_sound}
 
-pub shards_numbers : (now next : Config) (fields : List (List ℕ)) → now.f ≡ 0 → shards_said now fields ≡ Ok next → (next.shards ≡ 1) × (next.f ≡ 0)
+pub shards_numbers : (now next : Config) (fields : List (List ℕ)) → now.f ≡ 0 → shards_said now fields ≡ Ok next → next.f ≡ 0
 shards_numbers now next [] none is = absurd cc
 shards_numbers now next (field ∷ []) none is =
-    let (shards, number, after) = step_ok (ok_or (number_of field) cause.Number) (λ shards. in_range (configured shards now.f now.dummies) >>= (λ config. if shards == 1 then Ok config else Err cause.Later)) next is in
-    let (config, ranged, tested) = step_ok (in_range (configured shards now.f now.dummies)) (λ config. if shards == 1 then Ok config else Err cause.Later) next after in
-    let (one, same) = when_ok (shards == 1) (Ok config) cause.Later next tested in
-    configured_sound shards now.f now.dummies next (eqb-true shards 1 one) none (ranged ∙ same)
+    let (shards, number, ranged) = step_ok (ok_or (number_of field) cause.Number) (λ shards. in_range (configured shards now.f now.dummies)) next is in
+    configured_sound shards now.f now.dummies next none ranged
 shards_numbers now next (field ∷ another ∷ more) none is = absurd cc
 
-pub faulty_numbers : (now next : Config) (fields : List (List ℕ)) → now.shards ≡ 1 → faulty_said now fields ≡ Ok next → (next.shards ≡ 1) × (next.f ≡ 0)
-faulty_numbers now next [] one is = absurd cc
-faulty_numbers now next (field ∷ []) one is =
+pub faulty_numbers : (now next : Config) (fields : List (List ℕ)) → faulty_said now fields ≡ Ok next → next.f ≡ 0
+faulty_numbers now next [] is = absurd cc
+faulty_numbers now next (field ∷ []) is =
     let (faulty, number, after) = step_ok (ok_or (number_of field) cause.Number) (λ faulty. in_range (configured now.shards faulty now.dummies) >>= (λ config. if faulty == 0 then Ok config else Err cause.Later)) next is in
     let (config, ranged, tested) = step_ok (in_range (configured now.shards faulty now.dummies)) (λ config. if faulty == 0 then Ok config else Err cause.Later) next after in
     let (none, same) = when_ok (faulty == 0) (Ok config) cause.Later next tested in
-    configured_sound now.shards faulty now.dummies next one (eqb-true faulty 0 none) (ranged ∙ same)
-faulty_numbers now next (field ∷ another ∷ more) one is = absurd cc
+    configured_sound now.shards faulty now.dummies next (eqb-true faulty 0 none) (ranged ∙ same)
+faulty_numbers now next (field ∷ another ∷ more) is = absurd cc
 
-pub dummies_numbers : (now next : Config) (fields : List (List ℕ)) → now.shards ≡ 1 → now.f ≡ 0 → dummies_said now fields ≡ Ok next → (next.shards ≡ 1) × (next.f ≡ 0)
-dummies_numbers now next [] one none is = absurd cc
-dummies_numbers now next (field ∷ []) one none is =
+pub dummies_numbers : (now next : Config) (fields : List (List ℕ)) → now.f ≡ 0 → dummies_said now fields ≡ Ok next → next.f ≡ 0
+dummies_numbers now next [] none is = absurd cc
+dummies_numbers now next (field ∷ []) none is =
     let (dummies, number, ranged) = step_ok (ok_or (number_of field) cause.Number) (λ dummies. in_range (configured now.shards now.f dummies)) next is in
-    configured_sound now.shards now.f dummies next one none ranged
-dummies_numbers now next (field ∷ another ∷ more) one none is = absurd cc
+    configured_sound now.shards now.f dummies next none ranged
+dummies_numbers now next (field ∷ another ∷ more) none is = absurd cc
 
 -- where no node may lie, none does
 one_more_never : (config : Config) (liars : List NodeId) (field : List ℕ) (liar : NodeId) → config.f ≡ 0 → liar_in config liars field ≡ Ok liar → ⊥

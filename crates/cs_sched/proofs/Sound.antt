@@ -1,5 +1,5 @@
 -- What is read line by line can be played.
-use Rattle.std.specs.Prelude.{◌≡◌, ◌≢◌, ℕ, ◌+◌, ◌<◌, Bool, true, false, List, [], ◌∷◌, ◌++◌, length, min, max, replicate, Option, Some, None, Ok}
+use Rattle.std.specs.Prelude.{◌≡◌, ◌≢◌, ℕ, ◌+◌, ◌<◌, Bool, true, false, List, [], ◌∷◌, ◌++◌, length, min, replicate, Option, Some, None, Ok}
 use Rattle.std.specs.List.{All, AllPairs}
 use Rattle.std.proofs.Common.{◌∙◌, sym, ap, subst, refl, arith, zero, suc}
 use Rattle.std.proofs.lemmas.Bool.{true≢false}
@@ -10,7 +10,7 @@ use Rattle.cs_base.specs.Config.{configured, config_of, unless_out, first_out}
 use Rattle.cs_base.specs.declared.config.Config.{Config}
 use Rattle.cs_base.specs.declared.config.ConfigField.{ConfigField}
 use Rattle.cs_base.specs.declared.node_id.NodeId.{NodeId}
-use Rattle.cs_base.specs.declared.config.TheConstants.{MOST_SHARDS, MOST_LIARS}
+use Rattle.cs_base.specs.declared.config.TheConstants.{MOST_LIARS}
 use Rattle.cs_value.specs.declared.object.Object.{Object}
 use Rattle.cs_value.specs.Object.{object_encoding, DigestFits, ObjectFits}
 use Rattle.cs_tx.specs.Digest.{name_of_genesis}
@@ -61,7 +61,8 @@ zeros_fit (suc n) (suc i) = zeros_fit n i
 pub empty_sound : IsSound empty_draft
 empty_sound = record {
   playable = record {
-    one_shard = refl;
+    some_shard = omega arith;
+    few_shards = omega arith;
     no_liar = refl;
     liars = refl;
     contracts = refl;
@@ -84,28 +85,27 @@ in_range_is : (config next : Config) (out : Option ConfigField) → in_range (un
 in_range_is config next None is = ok_same config next is
 in_range_is config next (Some field) is = absurd cc
 
--- a configuration of one shard, and of no liar
-pub configured_sound : (shards f dummies : ℕ) (next : Config) → shards ≡ 1 → f ≡ 0 → in_range (configured shards f dummies) ≡ Ok next → (next.shards ≡ 1) × (next.f ≡ 0)
-configured_sound shards f dummies next one none is =
-    let same = in_range_is (config_of shards f dummies) next (first_out shards f dummies) is in
-    let next_shards : max 1 (min shards MOST_SHARDS) ≡ next.shards = ap (λ (config : Config). config.shards) same in
-    let next_f : min f MOST_LIARS ≡ next.f = ap (λ (config : Config). config.f) same in
-    (omega arith, omega arith)
+-- a configuration of no liar
+pub configured_sound : (shards f dummies : ℕ) (next : Config) → f ≡ 0 → in_range (configured shards f dummies) ≡ Ok next → next.f ≡ 0
+configured_sound shards f dummies next none is =
+    let next_f : min f MOST_LIARS ≡ next.f = ap (λ (config : Config). config.f) (in_range_is (config_of shards f dummies) next (first_out shards f dummies) is) in
+    omega arith
 
-pub with_config-sound : (draft : Draft) (next : Stage) (config : Config) → IsSound draft → draft.schedule.events ≡ [] → (config.shards ≡ 1) × (config.f ≡ 0) → IsSound (with_config draft next config)
-with_config-sound draft next config sound none numbers = record {
+pub with_config-sound : (draft : Draft) (next : Stage) (config : Config) → IsSound draft → draft.schedule.events ≡ [] → config.f ≡ 0 → IsSound (with_config draft next config)
+with_config-sound draft next config sound unplayed none = record {
   playable = record {
-    one_shard = numbers.0;
-    no_liar = numbers.1;
+    some_shard = config.some_shard;
+    few_shards = config.few_shards;
+    no_liar = none;
     liars = sound.playable.liars;
     contracts = sound.playable.contracts;
     objects = sound.playable.objects;
     few_objects = sound.playable.few_objects;
     keys_differ = sound.playable.keys_differ;
-    events = unplayed_fits config draft.schedule.liars draft.schedule.events none;
+    events = unplayed_fits config draft.schedule.liars draft.schedule.events unplayed;
   };
   names = sound.names;
-  unplayed = λ before. none;
+  unplayed = λ before. unplayed;
   master = sound.master;
   encodings = sound.encodings;
 }
@@ -113,7 +113,8 @@ with_config-sound draft next config sound none numbers = record {
 pub with_master-sound : (draft : Draft) (master : List ℕ) → IsSound draft → draft.schedule.events ≡ [] → DigestFits master → IsSound (with_master draft master)
 with_master-sound draft master sound none fits = record {
   playable = record {
-    one_shard = sound.playable.one_shard;
+    some_shard = sound.playable.some_shard;
+    few_shards = sound.playable.few_shards;
     no_liar = sound.playable.no_liar;
     liars = sound.playable.liars;
     contracts = sound.playable.contracts;
@@ -131,7 +132,8 @@ with_master-sound draft master sound none fits = record {
 pub with_event-sound : (draft : Draft) (line : ℕ) (said : Event) → IsSound draft → has_run draft.stage ≡ true → IsPlayableEvent draft.schedule.config draft.schedule.liars said → IsSound (with_event draft line said)
 with_event-sound draft line said sound run played = record {
   playable = record {
-    one_shard = sound.playable.one_shard;
+    some_shard = sound.playable.some_shard;
+    few_shards = sound.playable.few_shards;
     no_liar = sound.playable.no_liar;
     liars = sound.playable.liars;
     contracts = sound.playable.contracts;
@@ -155,7 +157,8 @@ with_genesis-sound draft object sound none fits encoded few new =
     let fresh : is_known name (genesis_names 0 draft.schedule.genesis) ≡ false = subst (λ names. is_known name names ≡ false) sound.names new in
     record {
       playable = record {
-        one_shard = sound.playable.one_shard;
+        some_shard = sound.playable.some_shard;
+        few_shards = sound.playable.few_shards;
         no_liar = sound.playable.no_liar;
         liars = sound.playable.liars;
         contracts = sound.playable.contracts;

@@ -1,15 +1,16 @@
 -- The lines of a schedule, read one after the other, give the schedule.
-use Rattle.std.specs.Prelude.{◌≡◌, ◌≢◌, ℕ, ◌+◌, ◌<◌, ◌≤◌, ◌^◌, ◌==◌, Bool, true, false, List, [], ◌∷◌, ◌++◌, length, replicate, Ok, codes}
+use Rattle.std.specs.Prelude.{◌≡◌, ◌≢◌, ℕ, ◌+◌, ◌<◌, ◌≤◌, ◌^◌, ◌==◌, Bool, true, false, List, [], ◌∷◌, ◌++◌, length, replicate, None, Ok, codes}
 use Rattle.std.specs.List.{AllByRecursion, AllPairs}
 use Rattle.std.specs.Str.{bytes_eq}
 use Rattle.std.specs.Fmt.{decimal}
 use Rattle.std.proofs.Common.{◌∙◌, sym, ap, refl, subst, arith, inl, inr, append_assoc, get_or, suc}
 use Rattle.std.proofs.lemmas.Bool.{cases_Bool, lt-ltb}
+use Rattle.std.proofs.lemmas.Bool.Decides.{nat_tests}
 use Rattle.std.proofs.lemmas.List.{append-nil, length-append, get_or_append_left}
 use Rattle.std.proofs.lemmas.Slice.Eq.{bytes_eq-Decides}
 use Rattle.std.proofs.Math.Seq.{get_or-append_seam}
 use Rattle.cs_base.specs.Codes.{bytes_text}
-use Rattle.cs_base.specs.Config.{config_of, configured}
+use Rattle.cs_base.specs.Config.{config_of, configured, first_out, unless_out}
 use Rattle.cs_base.specs.Fields.{IsBytes}
 use Rattle.cs_base.specs.declared.config.Config.{Config}
 use Rattle.cs_base.specs.declared.config.TheConstants.{MOST_SHARDS, MOST_LIARS, MOST_DUMMIES}
@@ -46,10 +47,8 @@ made place config master genesis events = record {
 
 -- the numbers of the configuration
 
-shards_back : (now next : Config) (shards : ℕ) → shards < 2 ^ 64 → shards ≡ 1 → in_range (configured shards now.f now.dummies) ≡ Ok next → shards_said now (decimal shards ∷ []) ≡ Ok next
-shards_back now next shards small one ranged =
-    let test : (shards == 1) ≡ true = rw one refl in
-    rw (number_back shards small, ranged, test) refl
+shards_back : (now next : Config) (shards : ℕ) → shards < 2 ^ 64 → in_range (configured shards now.f now.dummies) ≡ Ok next → shards_said now (decimal shards ∷ []) ≡ Ok next
+shards_back now next shards small ranged = rw (number_back shards small, ranged) refl
 
 faulty_back : (now next : Config) (faulty : ℕ) → faulty < 2 ^ 64 → faulty ≡ 0 → in_range (configured now.shards faulty now.dummies) ≡ Ok next → faulty_said now (decimal faulty ∷ []) ≡ Ok next
 faulty_back now next faulty small none ranged =
@@ -168,21 +167,27 @@ module _ (config : Config) (master : List ℕ) where
         (λ any. subst (λ n. read_fields (made (genesis_stage any) config master genesis []) n rest ≡ Ok last) next (more any)))
 
   -- the four lines before liars
-  pub reads_head : config.shards ≡ 1 → config.f ≡ 0 → DigestFits master → (last : Draft) (rest : List (List (List ℕ))) → read_fields (made stage.Liars config master [] []) 5 rest ≡ Ok last
+  pub reads_head : config.f ≡ 0 → DigestFits master → (last : Draft) (rest : List (List (List ℕ))) → read_fields (made stage.Liars config master [] []) 5 rest ≡ Ok last
       → read_fields empty_draft 1 (number_line (codes "shards") config.shards ∷ number_line (codes "faulty") config.f ∷ number_line (codes "dummies") config.dummies ∷ bytes_line (codes "master") master ∷ rest) ≡ Ok last
-  reads_head one none fits last rest more =
+  reads_head none fits last rest more =
       let zeros = replicate 32 0 in
       let least = config_of 1 0 0 in
+      let first = config_of config.shards 0 0 in
+      let some_shard : 0 < config.shards = config.some_shard in
       let few_shards : config.shards ≤ MOST_SHARDS = config.few_shards in
       let few_liars : config.f ≤ MOST_LIARS = config.few_liars in
       let few_dummies : config.dummies ≤ MOST_DUMMIES = config.few_dummies in
-      let whole : configured 1 0 config.dummies ≡ Ok config =
-      ap (λ n. configured n 0 config.dummies) (sym one) ∙ ap (λ n. configured config.shards n config.dummies) (sym none) ∙ configured-config config in
-      let shards : line_step 1 empty_draft (number_line (codes "shards") config.shards) ≡ Ok (made stage.Faulty least zeros [] []) =
-      rw (shards_back least least config.shards (omega arith) one (rw one refl)) refl in
-      let faulty : line_step 2 (made stage.Faulty least zeros [] []) (number_line (codes "faulty") config.f) ≡ Ok (made stage.Dummies least zeros [] []) =
-      rw (faulty_back least least config.f (omega arith) none (rw none refl)) refl in
-      let dummies : line_step 3 (made stage.Dummies least zeros [] []) (number_line (codes "dummies") config.dummies) ≡ Ok (made stage.Master config zeros [] []) =
-      rw (dummies_back least config config.dummies (omega arith) (ap in_range whole)) refl in
+      let same : first.shards ≡ config.shards = omega arith in
+      let out : first_out config.shards 0 0 ≡ None = grind (arith, nat_tests) in
+      let sharded : in_range (configured config.shards 0 0) ≡ Ok first = ap (λ field. in_range (unless_out first field)) out in
+      let trusted : configured first.shards config.f 0 ≡ Ok first = ap (λ n. configured first.shards n 0) none ∙ configured-config first in
+      let whole : configured first.shards 0 config.dummies ≡ Ok config =
+      ap (λ n. configured n 0 config.dummies) same ∙ ap (λ n. configured config.shards n config.dummies) (sym none) ∙ configured-config config in
+      let shards : line_step 1 empty_draft (number_line (codes "shards") config.shards) ≡ Ok (made stage.Faulty first zeros [] []) =
+      rw (shards_back least first config.shards (omega arith) sharded) refl in
+      let faulty : line_step 2 (made stage.Faulty first zeros [] []) (number_line (codes "faulty") config.f) ≡ Ok (made stage.Dummies first zeros [] []) =
+      rw (faulty_back first first config.f (omega arith) none (ap in_range trusted)) refl in
+      let dummies : line_step 3 (made stage.Dummies first zeros [] []) (number_line (codes "dummies") config.dummies) ≡ Ok (made stage.Master config zeros [] []) =
+      rw (dummies_back first config config.dummies (omega arith) (ap in_range whole)) refl in
       let mastered : line_step 4 (made stage.Master config zeros [] []) (bytes_line (codes "master") master) ≡ Ok (made stage.Liars config master [] []) = rw (master_back master fits) refl in
       rw (shards, faulty, dummies, mastered) more

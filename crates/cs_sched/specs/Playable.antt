@@ -12,10 +12,6 @@ use Rattle.cs_event.specs.declared.schedule.Event.TheVariants.{Say, Inject, Deli
 use Rattle.cs_sched.specs.Naming.{is_liar}
 use Rattle.cs_sched.specs.Names.{genesis_names}
 
--- the one node of the one shard
-abbrev pub only_node : NodeId
-only_node = record { shard = 0; index = 0 }
-
 -- an honest node: one of the configuration that is none of the liars
 pub record IsHonest (config : Config) (liars : List NodeId) (name : NodeId) : Type 0 where
   pub node : is_node config name ≡ true
@@ -48,9 +44,10 @@ IsPlayableEvent config liars (Deliver number) = number < 2 ^ 64
 IsPlayableEvent config liars (Tick node) = IsHonest config liars node
 IsPlayableEvent config liars (Drain times) = times < 2 ^ 64
 
--- One honest node alone makes up the deployment; its objects have encodings, and no two of them one key.
+-- Up to 16 shards of one honest node each make up the deployment; its objects have encodings, and no two of them one key.
 pub record IsPlayable (schedule : Schedule) : Type 0 where
-  pub one_shard : schedule.config.shards ≡ 1
+  pub some_shard : 0 < schedule.config.shards
+  pub few_shards : schedule.config.shards ≤ 16
   pub no_liar : schedule.config.f ≡ 0
   pub liars : schedule.liars ≡ []
   pub contracts : schedule.contracts ≡ []

@@ -28,12 +28,11 @@ number_said fields = do
   field ← only_field fields
   ok_or (number_of field) cause.Number
 
--- the number of shards, of which one alone is built
+-- the number of shards
 abbrev pub shards_said : Config → List (List ℕ) → Result Config Cause
 shards_said config fields = do
   shards ← number_said fields
-  next ← in_range (configured shards config.f config.dummies)
-  if shards == 1 then Ok next else Err cause.Later
+  in_range (configured shards config.f config.dummies)
 
 -- the number of liars that a shard stands, of which none alone is built
 abbrev pub faulty_said : Config → List (List ℕ) → Result Config Cause

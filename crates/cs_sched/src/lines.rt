@@ -47,11 +47,7 @@ pub(crate) fn read_shards(now: Config, fields: &[&[u8]]) -> Result<Config, Cause
     ensures { result ≡ shards_said now (views fields.now) }
 {
     let shards = only_number(fields)?;
-    let next = config(shards, u64::from(now.f), u64::from(now.dummies))?;
-    if shards != 1 {
-        return Err(Cause::Later);
-    }
-    Ok(next)
+    config(shards, u64::from(now.f), u64::from(now.dummies))
 }
 
 pub(crate) fn read_faulty(now: Config, fields: &[&[u8]]) -> Result<Config, Cause>

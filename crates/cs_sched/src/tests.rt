@@ -63,9 +63,9 @@ fn whole_texts(rt: HostRuntime) -> Result<(), Fail> {
         (LONG, "shards 18446744073709551615", 1, Cause::Limit),
         (LONG, "shards 17", 1, Cause::Limit),
         (LONG, "shards 0", 1, Cause::Limit),
-        (LONG, "shards 16", 1, Cause::Later),
-        (LONG, "shards 1\nfaulty 6", 2, Cause::Limit),
-        (LONG, "shards 1\nfaulty 1", 2, Cause::Later),
+        (LONG, "shards 16", 2, Cause::End),
+        (LONG, "shards 16\nfaulty 6", 2, Cause::Limit),
+        (LONG, "shards 16\nfaulty 1", 2, Cause::Later),
         (LONG, "shards 1\nfaulty 0\ndummies 65", 3, Cause::Limit),
         (
             LONG,
@@ -83,7 +83,7 @@ fn whole_texts(rt: HostRuntime) -> Result<(), Fail> {
         (9, "shards 1\nfaulty 1\n", 2, Cause::Limit),
         (17, "shards 1\nfaulty 1\n", 2, Cause::Limit),
         (18, "shards 1\nfaulty 1\nx", 2, Cause::Later),
-        (9, "shards 2\nfaulty 1\n", 1, Cause::Later),
+        (9, "shards 0\nfaulty 1\n", 1, Cause::Limit),
     ] {
         let refusal = Some(Refusal { line, cause });
         assert_eq!(rt; refusal_of(rt.alloc(), limit, text), refusal, "{text}");
@@ -127,6 +127,30 @@ fn lines_behind_the_head(rt: HostRuntime) -> Result<(), Fail> {
     ] {
         assert!(rt;
             refused_behind_head(rt.alloc(), lines, line, cause)?,
+            "{lines}"
+        );
+    }
+    Ok(())
+}
+
+// The first four lines of a schedule of 16 shards of one node each.
+const HEAD_OF_SHARDS: &str =
+    "shards 16\nfaulty 0\ndummies 2\nmaster 0000000000000000000000000000000000000000000000000000000000000000\n";
+
+#[test]
+fn each_shard_has_one_node(rt: HostRuntime) -> Result<(), Fail> {
+    for (lines, line, cause) in [
+        ("run\nsay c.0 15.0 1 -\ntick 7.0", 8, Cause::End),
+        ("run\ntick 16.0", 6, Cause::Node),
+        ("run\ntick 15.1", 6, Cause::Node),
+        ("run\nsay 1.0 0.0 1 -", 6, Cause::Role),
+        ("liar 15.0", 5, Cause::Liars),
+    ] {
+        let text = joined(rt.alloc(), HEAD_OF_SHARDS, lines)?;
+        let refusal = Some(Refusal { line, cause });
+        assert_eq!(rt;
+            refusal_of(rt.alloc(), LONG, text.as_str()),
+            refusal,
             "{lines}"
         );
     }

@@ -2,9 +2,9 @@
 use Rattle.std.proofs.Common.{◌≡◌, ℕ, zero, suc, ◌^◌, List, [], ◌∷◌, ◌++◌, Option, refl, ap, ◌∙◌}
 use Rattle.cs_ledger.specs.Ledger.{Bytes}
 use Rattle.cs_trail.specs.declared.cause.Cause.{Cause}
-use Rattle.cs_trail.specs.Signs.{Sign, Dropped}
-use Rattle.cs_trail.specs.Site.{Datagram, Mark, In, Plain, Site, View, view_after, plain}
-use Rattle.cs_trail.specs.Trail.{continued, opened_signs, settled, event_marks}
+use Rattle.cs_trail.specs.Signs.{Dropped}
+use Rattle.cs_trail.specs.Site.{Datagram, Mark, In, Plain, Site, View, view_after}
+use Rattle.cs_trail.specs.Trail.{continued, opened_marks, settled, event_marks}
 use Rattle.cs_trail.specs.Ready.{IsQuiet}
 use Rattle.cs_story.specs.Made.{DropChangesNothing}
 
@@ -17,11 +17,11 @@ module _ {M : Type 0} (site : Site M) (v : View M) (bytes : Bytes) (cause : Caus
   abbrev Left : List (Mark M)
   Left = Plain (Dropped cause) ∷ In (Datagram bytes) ∷ []
 
-  dropped-marks : IsQuiet site v → opened_signs site v (site.net.opened v.me bytes) ≡ Dropped cause ∷ [] → event_marks site v (Datagram bytes) ≡ Left
+  dropped-marks : IsQuiet site v → opened_marks site v (site.net.opened v.me bytes) ≡ Plain (Dropped cause) ∷ [] → event_marks site v (Datagram bytes) ≡ Left
   unfolding event_marks
   dropped-marks quiet drops =
       let P : List (Mark M) → List (Mark M) = λ first. settled site (2 ^ 80) (view_after site first v) ++ first in
-      ap (λ (signs : List Sign). P (plain signs ++ In (Datagram bytes) ∷ [])) drops
+      ap (λ (marks : List (Mark M)). P (marks ++ In (Datagram bytes) ∷ [])) drops
       ∙ ap (λ (later : List (Mark M)). later ++ Left) (none-settled site (2 ^ 80) v quiet)
 
 pub drop-changes-nothing : {M : Type 0} (site : Site M) → DropChangesNothing site

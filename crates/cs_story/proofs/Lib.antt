@@ -1,22 +1,16 @@
-mod Views
-mod Turns
-mod Inputs
-mod Dropping
-mod Logs
-mod Locks
-mod Pools
-mod Due
-mod Executions
-mod Counting
-mod Allowed
-mod Anchors
-mod Told
-mod Decided
-mod Origins
-mod Acceptance
-mod Readiness
-mod NoIns
-mod Deployed
-mod Middle
-mod Sealing
-mod Played
+pub mod Views
+pub mod Logs
+pub mod Locks
+pub mod Notes
+pub mod Silent
+pub mod Turns
+pub mod Pools
+pub mod Due
+pub mod Inputs
+pub mod Dropping
+pub mod Sealing
+pub mod Spelled
+pub mod NoIns
+pub mod Speaking
+pub mod Fitting
+pub mod Played

@@ -8,7 +8,7 @@ use Rattle.cs_ledger.specs.Table.{Vote, Effect, Table, exec, table_of}
 use Rattle.cs_ledger.specs.Table as Shard
 use Rattle.cs_ledger.specs.ShardWorld.{votes_in, is_prepare_of, is_vote}
 use Rattle.cs_trail.specs.Setup.{Setup, entry_of}
-use Rattle.cs_trail.specs.Signs.{Dropped, Took, Entered, Did, Sent}
+use Rattle.cs_trail.specs.Signs.{Dropped, Took, Entered, Viewed, Did, Sent}
 use Rattle.cs_trail.specs.Site.{Mark, In, Ordered, Plain, Site, signs_of}
 use Rattle.cs_trail.specs.World.{prepares}
 use Rattle.cs_story.specs.Made.{view_at, log_in, has_given, AllMade}
@@ -28,6 +28,7 @@ table-is {M} site me (Ordered deed ∷ t) = table-is site me t
 table-is {M} site me (Plain (Dropped cause) ∷ t) = table-is site me t
 table-is {M} site me (Plain (Took sender vote x) ∷ t) = table-is site me t
 table-is {M} site me (Plain (Entered x) ∷ t) = table-is site me t
+table-is {M} site me (Plain (Viewed slot view) ∷ t) = table-is site me t
 table-is {M} site me (Plain (Sent to message) ∷ t) = table-is site me t
 table-is {M} site me (Plain (Did slot entry effect) ∷ t) =
     ap (λ (u : Table). (exec site.setup.rules (view_at site me t).me.shard u (entry_of site.setup entry)).table) (table-is site me t)
@@ -50,6 +51,7 @@ given-is {M} site me d vote (Ordered deed ∷ t) made = given-is site me d vote 
 given-is {M} site me d vote (Plain (Dropped cause) ∷ t) made = given-is site me d vote t made.1
 given-is {M} site me d vote (Plain (Took sender other x) ∷ t) made = given-is site me d vote t made.1
 given-is {M} site me d vote (Plain (Entered x) ∷ t) made = given-is site me d vote t made.1
+given-is {M} site me d vote (Plain (Viewed slot view) ∷ t) made = given-is site me d vote t made.1
 given-is {M} site me d vote (Plain (Sent to message) ∷ t) made = given-is site me d vote t made.1
 given-is {M} site me d vote (Plain (Did slot entry effect) ∷ t) made =
     let before = given-is site me d vote t made.1 in

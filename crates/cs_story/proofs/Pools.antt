@@ -1,4 +1,4 @@
--- Where the sessions and the votes of a pool come from.
+-- Where the sessions, the votes and the locks of a pool come from.
 use Rattle.std.proofs.Common.{◌≡◌, ◌⊎◌, inl, inr, ℕ, Bool, true, false, ◌&&◌, if◌then◌else◌, List, [], ◌∷◌, Option, Some, None, sym, ◌∙◌, ap, subst, refl}
 use Rattle.std.specs.Prelude.{Ok, bytes_eq}
 use Rattle.std.specs.Map.{lookup, remove_entry, set_value}
@@ -8,25 +8,27 @@ use Rattle.cs_form.specs.declared.session.Session.{Session}
 use Rattle.cs_form.specs.declared.vote.Vote.{Vote}
 use Rattle.cs_form.specs.declared.entry.Entry.{Entry}
 use Rattle.cs_form.specs.declared.entry.Entry.TheVariants.{Prepare, Decide}
-use Rattle.cs_message.specs.declared.message.Message.TheVariants as message
+use Rattle.cs_message.specs.declared.message.Message.{Message}
 use Rattle.cs_wire.specs.Opened.{Opened}
 use Rattle.cs_ledger.specs.Ledger.{Bytes, IsIn}
 use Rattle.cs_ledger.specs.Session as Seen
 use Rattle.cs_ledger.specs.Table as Shard
-use Rattle.cs_ledger.specs.Table.{Effect, Voted, Accepted, Aborted, Skipped, Void, Outcome, Table}
-use Rattle.cs_ledger.proofs.Basics.{in_left, in_right, in_either, same_bytes}
+use Rattle.cs_ledger.specs.Table.{Commit, Effect, Voted, Accepted, Aborted, Skipped, Void, Outcome, Table}
+use Rattle.cs_ledger.proofs.Basics.{in_left, in_either, same_bytes}
 use Rattle.cs_trail.specs.declared.ballot.Ballot.{Ballot}
 use Rattle.cs_trail.specs.declared.pooled.Pooled.{Pooled}
 use Rattle.cs_trail.specs.Setup.{Setup, digest_of, is_fit, is_approved, session_in, entry_of, vote_of}
 use Rattle.cs_trail.specs.Evidence.{has_voted}
 use Rattle.cs_trail.specs.Pool.{Pool, found, is_pooled, without, changed_at, changed, with_ballot, as_locked, entering, pushed}
 use Rattle.cs_trail.specs.Bench.{is_locked, pool_after, told_by}
-use Rattle.cs_trail.specs.Signs.{Sign, Dropped, Took, Entered, Did, Sent}
+use Rattle.cs_trail.specs.Signs.{Sign, Dropped, Took, Entered, Viewed, Did, Sent}
 use Rattle.cs_trail.specs.Site.{Datagram, Tick, Mark, In, Ordered, Plain, Site, signs_of}
-use Rattle.cs_trail.specs.Collisions.{sessions_in, in_opened}
-use Rattle.cs_story.specs.Made.{view_at, HasVotedOn, current, AllMade}
+use Rattle.cs_trail.specs.Collisions.{sessions_in, in_opened, given}
+use Rattle.cs_story.specs.Made.{view_at, HasVotedOn, has_given, current, IsHeard, AllMade}
 use Rattle.cs_story.proofs.Views.{sessions_given}
+use Rattle.cs_story.proofs.Silent.{given-more, voted-more, session-more}
 use Rattle.cs_story.proofs.Turns.{untold}
+use Rattle.cs_story.proofs.Locks.{locks-given}
 
 abbrev pub Place : Type 0
 Place = Bytes × Pooled
@@ -84,6 +86,9 @@ ballot-in ballot b p =
     (λ t i. inl i)
     (λ t i. elim (in_either b p.ballots (ballot ∷ []) i) [ inl old ↦ inl old | inr new ↦ elim new [ inl is ↦ inr is | inr none ↦ absurd none ] ])
 
+ballot-locked : (ballot : Ballot) (p : Pooled) → (with_ballot ballot p).locked ≡ p.locked
+ballot-locked ballot p = cond_both (has_voted ballot.sender p.ballots) _ _ (λ (q : Pooled). q.locked ≡ p.locked) (λ t. refl) (λ t. refl)
+
 ballot-session : (ballot : Ballot) (p : Pooled) → (with_ballot ballot p).session ≡ p.session
 ballot-session ballot p = cond_both (has_voted ballot.sender p.ballots) _ _ (λ (q : Pooled). q.session ≡ p.session) (λ t. refl) (λ t. refl)
 
@@ -96,14 +101,16 @@ HasTaken setup d who vote (Took sender other x ∷ past) = ((d ≡ digest_of set
 HasTaken setup d who vote (Did slot entry effect ∷ past) = HasTaken setup d who vote past
 HasTaken setup d who vote (Dropped cause ∷ past) = HasTaken setup d who vote past
 HasTaken setup d who vote (Entered x ∷ past) = HasTaken setup d who vote past
+HasTaken setup d who vote (Viewed slot view ∷ past) = HasTaken setup d who vote past
 HasTaken setup d who vote (Sent to message ∷ past) = HasTaken setup d who vote past
 
--- a place of the pool: the session was submitted and is approved, or was voted on; each vote was taken
+-- a place of the pool: the session stood in an input and is approved, or was voted on; each vote was taken; what is locked was voted commit
 pub record IsSourced {M : Type 0} (site : Site M) (me : NodeId) (t : List (Mark M)) (e : Place) : Type 0 where
   pub digest : e.0 ≡ digest_of site.setup e.1.session
   pub fit : is_fit site.setup me.shard e.1.session ≡ true
   pub source : ((is_approved site.setup e.1.session ≡ true) × IsIn e.1.session (sessions_given site me t)) ⊎ HasVotedOn e.1.session (signs_of t)
   pub ballots : (b : Ballot) → IsIn b e.1.ballots → HasTaken site.setup e.0 b.sender b.vote (signs_of t)
+  pub locked : e.1.locked ≡ true → has_given site.setup e.0 Commit (signs_of t) ≡ true
 
 taken-more : {M : Type 0} (setup : Setup) (d : Bytes) (who : NodeId) (vote : Vote) (mark : Mark M) (t : List (Mark M)) → HasTaken setup d who vote (signs_of t) → HasTaken setup d who vote (signs_of (mark ∷ t))
 taken-more {M} setup d who vote (In input) t h = h
@@ -111,42 +118,32 @@ taken-more {M} setup d who vote (Ordered deed) t h = h
 taken-more {M} setup d who vote (Plain (Dropped cause)) t h = h
 taken-more {M} setup d who vote (Plain (Took sender other x)) t h = inr h
 taken-more {M} setup d who vote (Plain (Entered x)) t h = h
+taken-more {M} setup d who vote (Plain (Viewed slot view)) t h = h
 taken-more {M} setup d who vote (Plain (Sent to message)) t h = h
 taken-more {M} setup d who vote (Plain (Did slot entry effect)) t h = h
-
-voted-more : {M : Type 0} (x : Session) (mark : Mark M) (t : List (Mark M)) → HasVotedOn x (signs_of t) → HasVotedOn x (signs_of (mark ∷ t))
-voted-more {M} x (In input) t h = h
-voted-more {M} x (Ordered deed) t h = h
-voted-more {M} x (Plain (Dropped cause)) t h = h
-voted-more {M} x (Plain (Took sender other y)) t h = h
-voted-more {M} x (Plain (Entered y)) t h = h
-voted-more {M} x (Plain (Sent to message)) t h = h
-voted-more {M} x (Plain (Did slot entry effect)) t h = inr h
-
-pub given-more : {M : Type 0} (site : Site M) (me : NodeId) (x : Session) (mark : Mark M) (t : List (Mark M)) → IsIn x (sessions_given site me t) → IsIn x (sessions_given site me (mark ∷ t))
-given-more {M} site me x (In (Datagram bytes)) t h = in_right x (in_opened sessions_in (site.net.opened me bytes)) _ h
-given-more {M} site me x (In Tick) t h = h
-given-more {M} site me x (Ordered deed) t h = h
-given-more {M} site me x (Plain sign) t h = h
 
 sourced-more : {M : Type 0} (site : Site M) (me : NodeId) (mark : Mark M) (t : List (Mark M)) (e : Place) → IsSourced site me t e → IsSourced site me (mark ∷ t) e
 sourced-more {M} site me mark t e s =
     record {
       digest = s.digest;
       fit = s.fit;
-      source = elim s.source [ inl a ↦ inl (a.0, given-more site me e.1.session mark t a.1) | inr v ↦ inr (voted-more e.1.session mark t v) ];
+      source = elim s.source [ inl a ↦ inl (a.0, session-more site me e.1.session mark t a.1) | inr v ↦ inr (voted-more e.1.session mark t v) ];
       ballots = λ b i. taken-more site.setup e.0 b.sender b.vote mark t (s.ballots b i);
+      locked = λ h. given-more site.setup e.0 Commit mark t (s.locked h);
     }
 
--- the session of the input at work was given
-current-given : {M : Type 0} (site : Site M) (me : NodeId) (t : List (Mark M)) (bytes : Bytes) (sender : NodeId) (x : Session) → current t ≡ Some (Datagram bytes) → site.net.opened me bytes ≡ Ok (sender, message.Submit x) → IsIn x (sessions_given site me t)
-current-given {M} site me [] bytes sender x c e = cc
-current-given {M} site me (In (Datagram other) ∷ t) bytes sender x c e =
+-- what stands in the input at work was given
+current-given : {A M : Type 0} (site : Site M) (those : Message → List A) (me : NodeId) (t : List (Mark M)) (bytes : Bytes) (sender : NodeId) (said : Message) (a : A) → current t ≡ Some (Datagram bytes) → site.net.opened me bytes ≡ Ok (sender, said) → IsIn a (those said) → IsIn a (given site those me t)
+current-given {A} {M} site those me [] bytes sender said a c e i = cc
+current-given {A} {M} site those me (In (Datagram other) ∷ t) bytes sender said a c e i =
     let same : other ≡ bytes = cc in
-    in_left x (in_opened sessions_in (site.net.opened me other)) _ (subst (λ (o : Opened). IsIn x (in_opened sessions_in o)) (sym (ap (site.net.opened me) same ∙ e)) (inl refl))
-current-given {M} site me (In Tick ∷ t) bytes sender x c e = cc
-current-given {M} site me (Ordered deed ∷ t) bytes sender x c e = current-given site me t bytes sender x c e
-current-given {M} site me (Plain sign ∷ t) bytes sender x c e = current-given site me t bytes sender x c e
+    in_left a (in_opened those (site.net.opened me other)) _ (subst (λ (o : Opened). IsIn a (in_opened those o)) (sym (ap (site.net.opened me) same ∙ e)) i)
+current-given {A} {M} site those me (In Tick ∷ t) bytes sender said a c e i = cc
+current-given {A} {M} site those me (Ordered deed ∷ t) bytes sender said a c e i = current-given site those me t bytes sender said a c e i
+current-given {A} {M} site those me (Plain sign ∷ t) bytes sender said a c e i = current-given site those me t bytes sender said a c e i
+
+pub heard-given : {A M : Type 0} (site : Site M) (those : Message → List A) (me : NodeId) (t : List (Mark M)) (sender : NodeId) (said : Message) (a : A) → IsHeard site (view_at site me t) t sender said → IsIn a (those said) → IsIn a (given site those (view_at site me t).me t)
+heard-given {A} {M} site those me t sender said a heard i = current-given site those (view_at site me t).me t heard.bytes sender said a heard.is_current heard.reads i
 
 -- what gave a vote is well formed, and concerns the shard
 exec-fit : (rules : Seen.Rules) (shard : ℕ) (t : Table) (entry : Shard.Entry) (vote : Shard.Vote) → (Shard.exec rules shard t entry).effect ≡ Voted vote
@@ -167,6 +164,7 @@ voted-fit {M} site me x (Ordered deed ∷ t) made h = voted-fit site me x t made
 voted-fit {M} site me x (Plain (Dropped cause) ∷ t) made h = voted-fit site me x t made.1 h
 voted-fit {M} site me x (Plain (Took sender vote y) ∷ t) made h = voted-fit site me x t made.1 h
 voted-fit {M} site me x (Plain (Entered y) ∷ t) made h = voted-fit site me x t made.1 h
+voted-fit {M} site me x (Plain (Viewed slot view) ∷ t) made h = voted-fit site me x t made.1 h
 voted-fit {M} site me x (Plain (Sent to message) ∷ t) made h = voted-fit site me x t made.1 h
 voted-fit {M} site me x (Plain (Did slot entry effect) ∷ t) made (inr h) = voted-fit site me x t made.1 h
 voted-fit {M} site me x (Plain (Did slot entry effect) ∷ t) made (inl now) =
@@ -189,10 +187,11 @@ module _ {M : Type 0} (site : Site M) (me : NodeId) (t : List (Mark M)) where
   abbrev pub AllSourced : Pool → Type 0
   AllSourced pool = (e : Place) → IsIn e pool → IsSourced site me t e
 
-  -- a change that keeps the session, and the votes but for taken ones
+  -- a change that keeps the session, the votes but for taken ones, and the lock but where commit was voted
   pub sourced-changed : (d : Bytes) (change : Pooled → Pooled) (pool : Pool) → AllSourced pool → ((p : Pooled) → (change p).session ≡ p.session)
-      → ((p : Pooled) (b : Ballot) → IsIn b (change p).ballots → IsIn b p.ballots ⊎ HasTaken site.setup d b.sender b.vote (signs_of t)) → AllSourced (changed d change pool)
-  sourced-changed d change pool all session ballots e i =
+      → ((p : Pooled) (b : Ballot) → IsIn b (change p).ballots → IsIn b p.ballots ⊎ HasTaken site.setup d b.sender b.vote (signs_of t))
+      → ((p : Pooled) → (change p).locked ≡ true → (p.locked ≡ true) ⊎ (has_given site.setup d Commit (signs_of t) ≡ true)) → AllSourced (changed d change pool)
+  sourced-changed d change pool all session ballots locked e i =
       elim (changed-in d change pool e i) [
         | inl old ↦ all e old
         | inr new ↦
@@ -203,38 +202,42 @@ module _ {M : Type 0} (site : Site M) (me : NodeId) (t : List (Mark M)) where
               fit = ap (λ x. is_fit site.setup me.shard x) (session o.1) ∙ s.fit;
               source = subst (λ x. ((is_approved site.setup x ≡ true) × IsIn x (sessions_given site me t)) ⊎ HasVotedOn x (signs_of t)) (sym (session o.1)) s.source;
               ballots = λ b j. elim (ballots o.1 b j) [ inl old ↦ s.ballots b old | inr taken ↦ subst (λ k. HasTaken site.setup k b.sender b.vote (signs_of t)) new.2 taken ];
+              locked = λ h. elim (locked o.1 h) [ inl old ↦ s.locked old | inr given ↦ subst (λ k. has_given site.setup k Commit (signs_of t) ≡ true) new.2 given ];
             } in
             subst (λ z. IsSourced site me t z) (sym new.3) moved
       ]
 
   pub sourced-pushed : (x : Session) (locked : Bool) (pool : Pool) → AllSourced pool → is_fit site.setup me.shard x ≡ true
-      → ((is_approved site.setup x ≡ true) × IsIn x (sessions_given site me t)) ⊎ HasVotedOn x (signs_of t) → AllSourced (pushed (digest_of site.setup x) x locked pool)
-  sourced-pushed x locked pool all fit source e i =
+      → ((is_approved site.setup x ≡ true) × IsIn x (sessions_given site me t)) ⊎ HasVotedOn x (signs_of t) → (locked ≡ true → has_given site.setup (digest_of site.setup x) Commit (signs_of t) ≡ true)
+      → AllSourced (pushed (digest_of site.setup x) x locked pool)
+  sourced-pushed x locked pool all fit source given e i =
       elim (in_either e pool ((digest_of site.setup x, entering x locked) ∷ []) i) [
         | inl old ↦ all e old
         | inr new ↦ elim new [
-          | inl is ↦ subst (λ z. IsSourced site me t z) (sym is) (record { digest = refl; fit = fit; source = source; ballots = λ b j. absurd j })
+          | inl is ↦ subst (λ z. IsSourced site me t z) (sym is) (record { digest = refl; fit = fit; source = source; ballots = λ b j. absurd j; locked = given })
           | inr none ↦ absurd none
         ]
       ]
 
   pub sourced-after : (x : Session) (effect : Effect) (locked : Bool) (pool : Pool) → AllSourced pool
-      → ((vote : Shard.Vote) → effect ≡ Voted vote → (is_fit site.setup me.shard x ≡ true) × HasVotedOn x (signs_of t)) → AllSourced (pool_after effect locked (digest_of site.setup x) x pool)
-  sourced-after x (Voted vote) true pool all voted =
+      → ((vote : Shard.Vote) → effect ≡ Voted vote → (is_fit site.setup me.shard x ≡ true) × HasVotedOn x (signs_of t))
+      → (locked ≡ true → has_given site.setup (digest_of site.setup x) Commit (signs_of t) ≡ true) → AllSourced (pool_after effect locked (digest_of site.setup x) x pool)
+  sourced-after x (Voted vote) true pool all voted given =
       cond_both (is_pooled (digest_of site.setup x) pool) _ _ AllSourced
-      (λ e. sourced-changed (digest_of site.setup x) as_locked pool all (λ p. refl) (λ p b i. inl i))
-      (λ e. sourced-pushed x true pool all (voted vote refl).0 (inr (voted vote refl).1))
-  sourced-after x (Voted vote) false pool all voted = λ e i. all e (without-in (digest_of site.setup x) pool e i)
-  sourced-after x Accepted locked pool all voted = λ e i. all e (without-in (digest_of site.setup x) pool e i)
-  sourced-after x Aborted locked pool all voted = λ e i. all e (without-in (digest_of site.setup x) pool e i)
-  sourced-after x Skipped locked pool all voted = all
-  sourced-after x Void locked pool all voted = all
+      (λ e. sourced-changed (digest_of site.setup x) as_locked pool all (λ p. refl) (λ p b i. inl i) (λ p h. inr (given refl)))
+      (λ e. sourced-pushed x true pool all (voted vote refl).0 (inr (voted vote refl).1) given)
+  sourced-after x (Voted vote) false pool all voted given = λ e i. all e (without-in (digest_of site.setup x) pool e i)
+  sourced-after x Accepted locked pool all voted given = λ e i. all e (without-in (digest_of site.setup x) pool e i)
+  sourced-after x Aborted locked pool all voted given = λ e i. all e (without-in (digest_of site.setup x) pool e i)
+  sourced-after x Skipped locked pool all voted given = all
+  sourced-after x Void locked pool all voted given = all
 
 pub pool-sourced : {M : Type 0} (site : Site M) (me : NodeId) (t : List (Mark M)) → AllMade site me t → AllSourced site (view_at site me t).me t (view_at site me t).bench.pool
 pool-sourced {M} site me [] made = λ e i. absurd i
 pool-sourced {M} site me (In input ∷ t) made = λ e i. sourced-more site _ (In input) t e (pool-sourced site me t made.1 e i)
 pool-sourced {M} site me (Ordered deed ∷ t) made = λ e i. sourced-more site _ (Ordered deed) t e (pool-sourced site me t made.1 e i)
 pool-sourced {M} site me (Plain (Dropped cause) ∷ t) made = λ e i. sourced-more site _ (Plain (Dropped cause)) t e (pool-sourced site me t made.1 e i)
+pool-sourced {M} site me (Plain (Viewed slot view) ∷ t) made = λ e i. sourced-more site _ (Plain (Viewed slot view)) t e (pool-sourced site me t made.1 e i)
 pool-sourced {M} site me (Plain (Sent to message) ∷ t) made = λ e i. sourced-more site _ (Plain (Sent to message)) t e (pool-sourced site me t made.1 e i)
 pool-sourced {M} site me (Plain (Took sender vote x) ∷ t) made =
     let v = view_at site me t in
@@ -243,6 +246,7 @@ pool-sourced {M} site me (Plain (Took sender vote x) ∷ t) made =
     sourced-changed site v.me (mark ∷ t) (digest_of site.setup x) (with_ballot ballot) v.bench.pool
     (λ e i. sourced-more site _ mark t e (pool-sourced site me t made.1 e i)) (ballot-session ballot)
     (λ p b i. elim (ballot-in ballot b p i) [ inl old ↦ inl old | inr is ↦ inr (inl (refl, ap (λ (c : Ballot). c.sender) (sym is), ap (λ (c : Ballot). c.vote) (sym is))) ])
+    (λ p h. inl (sym (ballot-locked ballot p) ∙ h))
 pool-sourced {M} site me (Plain (Entered x) ∷ t) made =
     let v = view_at site me t in
     let mark : Mark M = Plain (Entered x) in
@@ -250,8 +254,8 @@ pool-sourced {M} site me (Plain (Entered x) ∷ t) made =
     cond_both (is_pooled (digest_of site.setup x) v.bench.pool) _ _ (AllSourced site v.me (mark ∷ t))
     (λ e. all)
     (λ e. elim made.0 [
-      | inl new ↦ sourced-pushed site v.me (mark ∷ t) x false v.bench.pool all new.fit (inl (new.approved, current-given site v.me t new.bytes new.sender x new.is_current new.reads))
-      | inr voted ↦ sourced-pushed site v.me (mark ∷ t) x false v.bench.pool all (voted-fit site me x t made.1 voted) (inr voted)
+      | inl new ↦ sourced-pushed site v.me (mark ∷ t) x false v.bench.pool all new.fit (inl (new.approved, heard-given site sessions_in me t new.sender new.said x new.heard new.about)) (λ h. cc)
+      | inr voted ↦ sourced-pushed site v.me (mark ∷ t) x false v.bench.pool all (voted-fit site me x t made.1 voted) (inr voted) (λ h. cc)
     ])
 pool-sourced {M} site me (Plain (Did slot entry effect) ∷ t) made =
     let v = view_at site me t in
@@ -263,3 +267,4 @@ pool-sourced {M} site me (Plain (Did slot entry effect) ∷ t) made =
     let prepare = voted-prepare site.setup v.me.shard v.bench.table entry vote is in
     let fit = exec-fit site.setup.rules v.me.shard v.bench.table (Shard.Prepare (site.setup.session_of (session_in entry))) vote (subst (λ (e : Entry). (Shard.exec site.setup.rules v.me.shard v.bench.table (entry_of site.setup e)).effect ≡ Voted vote) prepare is) in
     (fit, inl (prepare, (vote, made.0.computed ∙ is))))
+    (λ held. locks-given site me (mark ∷ t) (session_in entry) made held)

@@ -10,6 +10,7 @@ use Rattle.cs_form.specs.declared.session.Session.{Session}
 use Rattle.cs_form.specs.declared.vote.Vote as Tx
 use Rattle.cs_form.specs.declared.entry.Entry.{Entry}
 use Rattle.cs_form.specs.declared.entry.Entry.TheVariants.{Prepare, Decide}
+use Rattle.cs_message.specs.declared.message.Message.TheVariants as message
 use Rattle.cs_order.specs.declared.proposed.Proposed.{Proposed}
 use Rattle.cs_order.specs.declared.answers.Step.{Step}
 use Rattle.cs_order.specs.declared.answers.Step.TheVariants.{Chosen, Moved, Quiet}
@@ -23,25 +24,22 @@ use Rattle.cs_ledger.specs.Table.{Vote, Commit, Abort, Effect, Voted, Accepted, 
 use Rattle.cs_ledger.specs.Table as Shard
 use Rattle.cs_ledger.specs.ShardWorld.{is_vote}
 use Rattle.cs_ledger.proofs.Basics.{bytes_refl}
-use Rattle.cs_trail.specs.Setup.{Setup, digest_of, session_in, vote_of, vote_from}
+use Rattle.cs_trail.specs.Setup.{Setup, digest_of, concerned, session_in, vote_of, vote_from}
 use Rattle.cs_trail.specs.Admission.{due}
+use Rattle.cs_trail.specs.Members.{others}
 use Rattle.cs_trail.specs.Pool.{is_pooled}
-use Rattle.cs_trail.specs.Bench.{is_locked, executed, told_by, told_of}
-use Rattle.cs_trail.specs.Signs.{Sign, Took, Entered, Did, own_signs, entered_signs, execution_signs}
-use Rattle.cs_trail.specs.Site.{Mark, Ordered, Plain, Site, view_after, plain, signs_of}
-use Rattle.cs_trail.specs.Trail.{admits_proposed, due_marks, candidate_marks, propose_marks, echo_marks, step_marks, turn_marks, continued, settled}
-use Rattle.cs_story.specs.Made.{view_at, log_in, has_given, IsMade, Executes, IsLevel}
-use Rattle.cs_story.proofs.Views.{view_after-append}
+use Rattle.cs_trail.specs.Bench.{is_locked, executed, told_by}
+use Rattle.cs_trail.specs.Signs.{Sign, Took, Entered, Did, vote_signs, own_signs, entered_signs, execution_signs}
+use Rattle.cs_trail.specs.Site.{Mark, Ordered, Plain, Site, View, view_after, plain, signs_of}
+use Rattle.cs_trail.specs.Trail.{with_deed, admits_proposed, due_marks, candidate_marks, propose_marks, echo_marks, step_marks, turn_marks, continued, settled}
+use Rattle.cs_story.specs.Made.{view_at, log_in, HasVotedOn, has_given, IsMade, Executes, AllMade, IsLevel}
+use Rattle.cs_story.proofs.Views.{view_after-append, me-same}
+use Rattle.cs_story.proofs.Silent.{given-over, voted-over, said-sends, Adds, said-adds, said-level, plain-onto, Handed, all-handed, deed-level, moving-level}
 
 pub get-last : {A : Type 0} (xs : List A) (x : A) → slice_get (xs ++ x ∷ []) (length xs) ≡ Some x
 get-last {A} xs x =
     let l : length (xs ++ x ∷ []) ≡ length xs + length (x ∷ []) = length-append xs (x ∷ []) in
     slice_get-get_or (xs ++ x ∷ []) (length xs) x (grind (arith, l)) ∙ ap (λ z. Some z) (get_or-append_seam xs x [] x)
-
--- a deed that chooses nothing
-pub deed-level : {M : Type 0} (site : Site M) (me : NodeId) (t : List (Mark M)) (deed : Deed M) → IsLevel site me t → IsMade site me t (Ordered deed)
-    → chosen_in (deed ∷ (view_at site me t).member.deeds) ≡ chosen_in (view_at site me t).member.deeds → IsLevel site me (Ordered deed ∷ t)
-deed-level {M} site me t deed l made e = record { made = (made, l.made); slots = ap length e ∙ l.slots }
 
 -- a sign that executes nothing
 abbrev pub IsIdle : Sign → Type 0
@@ -76,38 +74,77 @@ pub same-vote : (vote : Vote) → vote_of (vote_from vote) ≡ vote
 same-vote Commit = refl
 same-vote Abort = refl
 
--- after an execution: the session that it brings into the pool, and the node's own vote
-module _ {M : Type 0} (site : Site M) (me : NodeId) (t : List (Mark M)) (slot : ℕ) where
-  abbrev Executed : Entry → Effect → List (Mark M)
-  Executed entry effect = Plain (Did slot entry effect) ∷ t
+-- after an execution: the session that it brings into the pool, the votes that are sent, and the node's own vote
+module _ {M : Type 0} (site : Site M) (me : NodeId) where
+  moved : (a b : List Sign) (t : List (Mark M)) → IsLevel site me (plain a ++ (plain b ++ t)) → IsLevel site me (plain (a ++ b) ++ t)
+  moved a b t l = subst (λ z. IsLevel site me z) (sym (plain-onto a b t)) l
 
-  abbrev Followed : NodeId → Entry → Effect → Bool → Option (Tx.Vote × Bool) → List (Mark M)
-  Followed who entry effect pooled told = plain (own_signs who (session_in entry) told ++ (entered_signs (session_in entry) pooled told ++ Did slot entry effect ∷ [])) ++ t
+  module _ (t : List (Mark M)) (slot : ℕ) (x : Session) (vote : Vote) where
+    abbrev Base : List (Mark M)
+    Base = Plain (Did slot (Prepare x) (Voted vote)) ∷ t
 
-  prepared : (x : Session) (effect : Effect) (pooled asks : Bool) → IsLevel site me (Executed (Prepare x) effect) → IsLevel site me (Followed (view_at site me t).me (Prepare x) effect pooled (told_by effect asks))
-  prepared x (Voted vote) true true l =
-      sign-level site me _ (Took (view_at site me t).me (vote_from vote) x) (λ past. refl) l
-      (refl, subst (λ v. has_given site.setup (digest_of site.setup x) v (signs_of (Executed (Prepare x) (Voted vote))) ≡ true) (sym (same-vote vote)) (given-now site.setup x vote (signs_of t) slot))
-  prepared x (Voted vote) false true l =
-      sign-level site me _ (Took (view_at site me t).me (vote_from vote) x) (λ past. refl)
-      (sign-level site me _ (Entered x) (λ past. refl) l (inr (inl (refl, (vote, refl)))))
-      (refl, subst (λ v. has_given site.setup (digest_of site.setup x) v (signs_of (Executed (Prepare x) (Voted vote))) ≡ true) (sym (same-vote vote)) (given-now site.setup x vote (signs_of t) slot))
-  prepared x (Voted vote) pooled false l = l
-  prepared x Accepted pooled asks l = l
-  prepared x Aborted pooled asks l = l
-  prepared x Skipped pooled asks l = l
-  prepared x Void pooled asks l = l
+    gives : has_given site.setup (digest_of site.setup x) (vote_of (vote_from vote)) (signs_of Base) ≡ true
+    gives = subst (λ v. has_given site.setup (digest_of site.setup x) v (signs_of Base) ≡ true) (sym (same-vote vote)) (given-now site.setup x vote (signs_of t) slot)
 
-  pub followed : (entry : Entry) → let v = view_at site me t in
-      let ran = executed site.setup v.me.shard v.bench entry in
-      IsLevel site me (Executed entry ran.effect)
-      → IsLevel site me (Followed v.me entry ran.effect (is_pooled (digest_of site.setup (session_in entry)) v.bench.pool) (told_of site.setup v.me.shard (session_in entry) ran))
-  followed (Prepare x) l = prepared x _ _ _ l
-  followed (Decide vote x) l =
-      let v = view_at site me t in
-      let ran = executed site.setup v.me.shard v.bench (Decide vote x) in
-      let none = untold site.setup.rules v.me.shard v.bench.table (site.setup.session_of x) (vote_of vote) (λ o. is_locked site.setup v.me.shard o.table x) in
-      subst (λ told. IsLevel site me (Followed v.me (Decide vote x) ran.effect (is_pooled (digest_of site.setup x) v.bench.pool) told)) (sym none) l
+    votes : HasVotedOn x (signs_of Base)
+    votes = inl (refl, (vote, refl))
+
+    enters : (pooled asks : Bool) → IsLevel site me Base → IsLevel site me (plain (entered_signs x pooled (Some (vote_from vote, asks))) ++ Base)
+    enters true true l = l
+    enters false true l = sign-level site me Base (Entered x) (λ past. refl) l (inr votes)
+    enters pooled false l = l
+
+    tells : (who : NodeId) (told : Tx.Vote × Bool) (before : List Sign) → told.0 ≡ vote_from vote → IsLevel site me (plain before ++ Base) → IsLevel site me (plain (vote_signs site.setup who x (Some told)) ++ (plain before ++ Base))
+    tells who told before is l =
+        let u = plain before ++ Base in
+        let given : has_given site.setup (digest_of site.setup x) (vote_of told.0) (signs_of u) ≡ true =
+        subst (λ v. has_given site.setup (digest_of site.setup x) (vote_of v) (signs_of u) ≡ true) (sym is) (given-over site me (digest_of site.setup x) (vote_of (vote_from vote)) before Base gives) in
+        said-level site me (vote_signs site.setup who x (Some told)) u l
+        (said-sends site me u (others site.setup.f who (concerned site.setup x)) (message.Voted told.0 told.1 x) (λ to i. inr (given, inr (voted-over site me x before Base votes))))
+
+    takes : (who : NodeId) (asks : Bool) (before : List Sign) → who ≡ me → IsLevel site me (plain before ++ Base) → IsLevel site me (plain (own_signs who x (Some (vote_from vote, asks))) ++ (plain before ++ Base))
+    takes who false before is l = l
+    takes who true before is l =
+        let u = plain before ++ Base in
+        sign-level site me u (Took who (vote_from vote) x) (λ past. refl) l
+        (inl (is ∙ sym (me-same site me u), given-over site me (digest_of site.setup x) (vote_of (vote_from vote)) before Base gives))
+
+    follows : (who : NodeId) (pooled asks : Bool) → who ≡ me → IsLevel site me Base
+        → IsLevel site me (plain (own_signs who x (Some (vote_from vote, asks)) ++ (vote_signs site.setup who x (Some (vote_from vote, asks)) ++ (entered_signs x pooled (Some (vote_from vote, asks)) ++ Did slot (Prepare x) (Voted vote) ∷ []))) ++ t)
+    follows who pooled asks is l =
+        let told : Option (Tx.Vote × Bool) = Some (vote_from vote, asks) in
+        let did : List Sign = Did slot (Prepare x) (Voted vote) ∷ [] in
+        let entering = entered_signs x pooled told in
+        let voting = vote_signs site.setup who x told in
+        let own = own_signs who x told in
+        let entered = enters pooled asks l in
+        let voted = tells who (vote_from vote, asks) entering refl entered in
+        let joined : IsLevel site me (plain (voting ++ entering) ++ Base) = moved voting entering Base voted in
+        let taken = takes who asks (voting ++ entering) is joined in
+        let P : List (Mark M) → Type 0 = λ z. IsLevel site me (plain own ++ z) in
+        moved own (voting ++ (entering ++ did)) t
+        (subst P (plain-onto voting entering Base ∙ ap (λ (z : List (Mark M)). plain voting ++ z) (sym (plain-onto entering did t)) ∙ sym (plain-onto voting (entering ++ did) t)) taken)
+
+  module _ (t : List (Mark M)) (slot : ℕ) where
+    abbrev Followed : NodeId → Entry → Effect → Bool → Option (Tx.Vote × Bool) → List (Mark M)
+    Followed who entry effect pooled told = plain (own_signs who (session_in entry) told ++ (vote_signs site.setup who (session_in entry) told ++ (entered_signs (session_in entry) pooled told ++ Did slot entry effect ∷ []))) ++ t
+
+    prepared : (x : Session) (effect : Effect) (pooled asks : Bool) → IsLevel site me (Plain (Did slot (Prepare x) effect) ∷ t) → IsLevel site me (Followed (view_at site me t).me (Prepare x) effect pooled (told_by effect asks))
+    prepared x (Voted vote) pooled asks l = follows t slot x vote (view_at site me t).me pooled asks (me-same site me t) l
+    prepared x Accepted pooled asks l = l
+    prepared x Aborted pooled asks l = l
+    prepared x Skipped pooled asks l = l
+    prepared x Void pooled asks l = l
+
+    pub followed : (entry : Entry) → let v = view_at site me t in
+        IsLevel site me (Plain (Did slot entry (executed site.setup v.me.shard v.bench entry).effect) ∷ t)
+        → IsLevel site me (plain (execution_signs site.setup v.me v.bench slot entry) ++ t)
+    followed (Prepare x) l = prepared x _ _ _ l
+    followed (Decide vote x) l =
+        let v = view_at site me t in
+        let ran = executed site.setup v.me.shard v.bench (Decide vote x) in
+        let none = untold site.setup.rules v.me.shard v.bench.table (site.setup.session_of x) (vote_of vote) (λ o. is_locked site.setup v.me.shard o.table x) in
+        subst (λ told. IsLevel site me (Followed v.me (Decide vote x) ran.effect (is_pooled (digest_of site.setup x) v.bench.pool) told)) (sym none) l
 
 module _ {M : Type 0} (site : Site M) (me : NodeId) where
   -- where a turn has marks, they keep the level
@@ -120,22 +157,33 @@ module _ {M : Type 0} (site : Site M) (me : NodeId) where
   chosen-level t p l e =
       let v = view_at site me t in
       let deed : Deed M = Advanced (Chosen p) (site.machine.advancing v.member) in
-      let u : List (Mark M) = Ordered deed ∷ t in
+      let done : List (Mark M) = Ordered deed ∷ t in
+      let w = view_at site me done in
       let slot = length (chosen_in v.member.deeds) in
       let entry = site.entry_in p in
-      let ran = executed site.setup v.me.shard v.bench entry in
       let differ : Chosen p ≡ Quiet → ⊥ = (λ q. cc) in
-      let executes : Executes site (view_at site me u) (signs_of u) slot entry ran.effect = record {
-        next = l.slots;
+      let made : AllMade site me done = (((e, differ, refl), tt), l.made) in
+      let a : Adds site me done (plain (Handed site me t deed) ++ done) = said-adds site me (Handed site me t deed) done made (all-handed site me t deed) in
+      let u : List (Mark M) = plain (Handed site me t deed) ++ done in
+      let count : length (chosen_in v.member.deeds ++ p ∷ []) ≡ suc (length (chosen_in v.member.deeds)) = (let q = length-append (chosen_in v.member.deeds) (p ∷ []) in grind (arith, q)) in
+      let same : length (chosen_in (view_at site me u).member.deeds) ≡ length (chosen_in w.member.deeds) = ap (λ (z : View M). length (chosen_in z.member.deeds)) a.view in
+      let executes : Executes site (view_at site me u) (signs_of u) slot entry (executed site.setup (view_at site me u).me.shard (view_at site me u).bench entry).effect = record {
+        next = l.slots ∙ sym (ap length a.log);
         computed = refl;
         proposed = p;
         reads = refl;
-        chosen = get-last (chosen_in v.member.deeds) p;
+        chosen = subst (λ (z : View M). slice_get (chosen_in z.member.deeds) slot ≡ Some p) (sym a.view) (get-last (chosen_in v.member.deeds) p);
       } in
-      let count : length (chosen_in v.member.deeds ++ p ∷ []) ≡ suc (length (chosen_in v.member.deeds)) = (let q = length-append (chosen_in v.member.deeds) (p ∷ []) in grind (arith, q)) in
-      let level : IsLevel site me (Plain (Did slot entry ran.effect) ∷ u) = record { made = (executes, (((e, differ, refl), tt), l.made)); slots = count ∙ ap suc l.slots } in
-      let signs = execution_signs site.setup v.me v.bench slot entry in
-      subst (λ z. IsLevel site me z) (sym (append_assoc (plain signs) (Ordered deed ∷ []) t)) (followed site me u slot entry level)
+      let level : IsLevel site me (Plain (Did slot entry (executed site.setup (view_at site me u).me.shard (view_at site me u).bench entry).effect) ∷ u) = record {
+        made = (executes, a.made);
+        slots = same ∙ count ∙ ap suc (l.slots ∙ sym (ap length a.log));
+      } in
+      let after = followed site me u slot entry level in
+      let moved_here = subst (λ (z : View M). IsLevel site me (plain (execution_signs site.setup z.me z.bench slot entry) ++ u)) a.view after in
+      let signs = plain (execution_signs site.setup v.me v.bench slot entry) in
+      subst (λ z. IsLevel site me z)
+      (ap (λ (z : List (Mark M)). signs ++ z) (sym (append_assoc (plain (Handed site me t deed)) (Ordered deed ∷ []) t)) ∙ sym (append_assoc signs (with_deed site v deed) t))
+      moved_here
 
   due-level : (t : List (Mark M)) (o : Option Entry) → IsLevel site me t → site.machine.may_propose (view_at site me t).member ≡ Free → due site.setup (view_at site me t).bench.pool ≡ o → TurnLevel t (due_marks site (view_at site me t) o)
   due-level t None l e d = tt
@@ -172,7 +220,7 @@ module _ {M : Type 0} (site : Site M) (me : NodeId) where
   step-level t (Chosen p) l e = chosen-level t p l e
   step-level t Moved l e =
       let differ : Moved ≡ Quiet → ⊥ = (λ q. cc) in
-      deed-level site me t (Advanced Moved (site.machine.advancing (view_at site me t).member)) l ((e, differ, refl), tt) refl
+      moving-level site me t (Advanced Moved (site.machine.advancing (view_at site me t).member)) l ((e, differ, refl), tt) refl
   step-level t Quiet l e = echo-level t _ l refl
 
   pub settled-level : (turns : ℕ) (t : List (Mark M)) → IsLevel site me t → IsLevel site me (settled site turns (view_at site me t) ++ t)

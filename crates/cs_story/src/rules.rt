@@ -1,7 +1,8 @@
 // What holds of the marks of every node.
 
 ghost use Rattle.cs_trail.specs.Site.{Site};
-ghost use Rattle.cs_story.specs.Made.{EventIsMade, LocksAreGiven, DropChangesNothing};
+ghost use Rattle.cs_story.specs.Made.{EventIsMade, LocksAreGiven, NotesAreGiven, DropChangesNothing};
+ghost use Rattle.cs_story.specs.Given.{PlaysWorlds};
 
 use cs_order::Order;
 
@@ -13,6 +14,8 @@ pub fn marks_are_made<O: Order>()
     ensures made { (site : Site O.Message) → EventIsMade site }
     // A lock comes from a Prepare that was voted commit.
     ensures locks { (site : Site O.Message) → LocksAreGiven site }
+    // A vote that is on record comes from a Prepare that gave it.
+    ensures notes { (site : Site O.Message) → NotesAreGiven site }
 {}
 
 /// What a datagram that is dropped does to a node at which no rule applies, over any order: nothing,
@@ -22,4 +25,12 @@ pub fn marks_are_made<O: Order>()
 pub fn a_dropped_datagram_changes_nothing<O: Order>()
     // The event makes the mark that it was dropped, and no other; the node is as it was before.
     ensures { (site : Site O.Message) → DropChangesNothing site }
+{}
+
+/// What the schedules play, over any order: worlds in which honest nodes keep the rules, and are given
+/// bytes of which none is forged.
+///
+/// It does nothing: its contract is a theorem, which a caller has by calling it.
+pub fn schedules_play_worlds<O: Order>()
+    ensures { PlaysWorlds O.rules }
 {}

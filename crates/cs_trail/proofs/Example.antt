@@ -1,5 +1,5 @@
 -- One node of one shard, with short stand-ins for digests and encodings: what the definitions compute.
-use Rattle.std.proofs.Common.{◌≡◌, ℕ, zero, suc, true, false, List, [], ◌∷◌, length, refl, if◌then◌else◌}
+use Rattle.std.proofs.Common.{◌≡◌, ℕ, zero, suc, true, false, List, [], ◌∷◌, length, None, refl, if◌then◌else◌}
 use Rattle.std.specs.Prelude.{codes, drop, ◌==◌, ◌++◌, Ok, Err}
 use Rattle.std.specs.Fmt.{digits}
 use Rattle.hex.specs.Hex.{encode_with}
@@ -38,7 +38,7 @@ moving digest old value new = record {
   approved = true;
 }
 
-abbrev coin : ℕ → ℕ → Item
+abbrev pub coin : ℕ → ℕ → Item
 coin name value = record { name = name ∷ []; object = value ∷ [] }
 
 -- number 16 splits the coin 1, 17 is the same transaction again, 18 moves the first half, 19 moves it again,
@@ -52,7 +52,7 @@ transaction number =
     else if number == 20 then moving 162 1 6 (coin 5 6 ∷ [])
     else record { digest = 163 ∷ []; inputs = coin 1 5 ∷ []; references = []; outputs = []; sound = true; approved = false }
 
-abbrev bytes_of : Entry → Bytes
+abbrev pub bytes_of : Entry → Bytes
 bytes_of (Prepare x) = 0 ∷ x.number ∷ []
 bytes_of (Decide Commit x) = 1 ∷ x.number ∷ []
 bytes_of (Decide Abort x) = 2 ∷ x.number ∷ []
@@ -88,6 +88,7 @@ site = record {
   };
   net = record { datagram = datagram; opened = λ name bytes. opened_as (drop 5 bytes); is_honest = name_eq me };
   machine = solo;
+  carrier = record { written = λ m. message.Want 0; read = λ said. None };
   proposed_of = λ entry. record { digest = bytes_of entry; bytes = bytes_of entry };
   entry_in = λ p. entry_at p.bytes;
 }

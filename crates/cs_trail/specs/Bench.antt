@@ -8,7 +8,7 @@ use Rattle.cs_ledger.specs.Ledger.{Bytes}
 use Rattle.cs_ledger.specs.Session.{Key, anchor}
 use Rattle.cs_ledger.specs.Table as Shard
 use Rattle.cs_ledger.specs.Table.{Table, Effect, Voted, Accepted, Aborted, Skipped, Void, Outcome, is_locked_by, exec, start}
-use Rattle.cs_ledger.specs.Standing.{stands_accepted, stands_aborted}
+use Rattle.cs_ledger.specs.Standing.{stands_accepted, stands_aborted, recorded}
 use Rattle.cs_trail.specs.Setup.{Setup, digest_of, entry_of, session_in, vote_from}
 use Rattle.cs_trail.specs.Pool.{Pool, changed, with_ballot, without, entered_locked}
 
@@ -39,6 +39,18 @@ decided_at t d (Some key) = decided_by (t.at key) d
 -- the standing of the session: whether it was accepted, once it is decided
 abbrev pub decided : Setup → ℕ → Table → Session → Option Bool
 decided setup shard t x = decided_at t (digest_of setup x) (anchor setup.rules (setup.session_of x) shard)
+
+abbrev pub vote_read : Option Shard.Vote → Option Vote
+vote_read None = None
+vote_read (Some vote) = Some (vote_from vote)
+
+abbrev pub noted_at : Table → Bytes → Option Key → Option Vote
+noted_at t d None = None
+noted_at t d (Some key) = vote_read (recorded (t.at key) d)
+
+-- the vote that is on record on the session
+abbrev pub noted : Setup → ℕ → Table → Session → Option Vote
+noted setup shard t x = noted_at t (digest_of setup x) (anchor setup.rules (setup.session_of x) shard)
 
 -- A session that was voted on is locked, or leaves; one on which a decision took effect leaves.
 abbrev pub pool_after : Effect → Bool → Bytes → Session → Pool → Pool

@@ -19,7 +19,7 @@ use Rattle.cs_ledger.specs.Session as Seen
 use Rattle.cs_trail.specs.Setup.{Setup}
 use Rattle.cs_trail.specs.Dummies.{dummy_object}
 use Rattle.cs_trail.specs.Net.{Net}
-use Rattle.cs_trail.specs.Site.{Site}
+use Rattle.cs_trail.specs.Site.{Carrier, Site}
 
 -- genesis objects under their names, the first of which has this number
 abbrev pub genesis_from : ℕ → List Object → List Item
@@ -54,11 +54,12 @@ abbrev pub entry_or_void : Option Entry → Entry
 entry_or_void (Some entry) = entry
 entry_or_void None = Prepare no_session
 
-abbrev pub site_of : {M : Type 0} → Setup → Net → Machine M → Site M
-site_of {M} setup net machine = record {
+abbrev pub site_of : {M : Type 0} → Setup → Net → Machine M → Carrier M → Site M
+site_of {M} setup net machine carrier = record {
   setup = setup;
   net = net;
   machine = machine;
+  carrier = carrier;
   proposed_of = proposed_of;
   entry_in = λ proposed. entry_or_void (whole_at entry_at proposed.bytes);
 }

@@ -1,5 +1,6 @@
 pub mod Setup
 pub mod Evidence
+pub mod Members
 pub mod Pool
 pub mod Admission
 pub mod Dummies
@@ -9,9 +10,10 @@ pub mod Asked
 pub mod Signs
 pub mod Site
 pub mod Trail
-pub mod World
 pub mod Lines
+pub mod World
 pub mod Play
 pub mod Ready
 pub mod Collisions
 pub mod Deployment
+pub mod Carrying

@@ -10,7 +10,7 @@ use Rattle.cs_trail.specs.declared.cause.Cause.{Cause}
 use Rattle.cs_trail.specs.declared.cause.Cause.TheVariants as cause
 use Rattle.cs_trail.specs.Setup.{Setup, digest_of, session_in}
 use Rattle.cs_trail.specs.Net.{Net, sealed}
-use Rattle.cs_trail.specs.Signs.{Sign, Dropped, Took, Entered, Did, Sent}
+use Rattle.cs_trail.specs.Signs.{Sign, Dropped, Took, Entered, Viewed, Did, Sent}
 
 -- ---- what a node did
 
@@ -38,13 +38,22 @@ cause_text cause.Tag = codes "tag"
 cause_text cause.Body = codes "body"
 cause_text cause.Role = codes "role"
 cause_text cause.Malformed = codes "malformed"
+cause_text cause.Old = codes "old"
+cause_text cause.Far = codes "far"
+cause_text cause.Leader = codes "leader"
 cause_text cause.Repeat = codes "repeat"
+cause_text cause.Unasked = codes "unasked"
 cause_text cause.Denied = codes "denied"
 cause_text cause.Full = codes "full"
 cause_text cause.NoProof = codes "noproof"
 
 abbrev pub drop_line : NodeId → Cause → Bytes
 drop_line me cause = codes "drop " ++ (node_text me ++ (codes " " ++ (cause_text cause ++ codes "\n")))
+
+-- the node entered a view of a slot
+abbrev pub view_line : NodeId → ℕ → ℕ → Bytes
+view_line me slot view =
+    codes "view " ++ (node_text me ++ (codes " slot " ++ (decimal slot ++ (codes " " ++ (decimal view ++ codes "\n")))))
 
 -- what is printed in a trace alone
 abbrev pub if_traced : Bool → Bytes → Bytes
@@ -54,6 +63,7 @@ if_traced traced text = if traced then text else []
 abbrev pub sign_line : Setup → Bool → NodeId → Sign → Bytes
 sign_line setup traced me (Did slot entry effect) = slot_line me slot (digest_of setup (session_in entry)) effect
 sign_line setup traced me (Dropped cause) = if_traced traced (drop_line me cause)
+sign_line setup traced me (Viewed slot view) = if_traced traced (view_line me slot view)
 sign_line setup traced me (Took sender vote x) = []
 sign_line setup traced me (Entered x) = []
 sign_line setup traced me (Sent to message) = []
@@ -80,6 +90,7 @@ parcels_of net me (Sent to message ∷ past) =
 parcels_of net me (Dropped cause ∷ past) = parcels_of net me past
 parcels_of net me (Took sender vote x ∷ past) = parcels_of net me past
 parcels_of net me (Entered x ∷ past) = parcels_of net me past
+parcels_of net me (Viewed slot view ∷ past) = parcels_of net me past
 parcels_of net me (Did slot entry effect ∷ past) = parcels_of net me past
 
 -- the kind stands behind `CSP1`
@@ -111,6 +122,10 @@ at_line event line = codes "at " ++ (decimal event ++ (codes " " ++ (decimal lin
 abbrev pub event_lines : Setup → Bool → ℕ → ℕ → NodeId → List Sign → ℕ → List Parcel → Bytes
 event_lines setup traced event line me signs number parcels =
     if_traced traced (at_line event line) ++ (sign_lines setup traced me signs ++ if_traced traced (sent_lines number parcels))
+
+-- what this line injects is forged
+abbrev pub forged_line : ℕ → Bytes
+forged_line line = codes "forged " ++ (decimal line ++ codes "\n")
 
 -- an event by this line would have passed a limit
 abbrev pub limit_line : ℕ → Bytes

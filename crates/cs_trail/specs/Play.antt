@@ -7,8 +7,8 @@ use Rattle.cs_event.specs.declared.schedule.Event.TheVariants.{Say, Inject, Deli
 use Rattle.cs_trail.specs.Signs.{Sign}
 use Rattle.cs_trail.specs.Site as Given
 use Rattle.cs_trail.specs.Site.{Input, Datagram, Mark, Site, signs_of}
-use Rattle.cs_trail.specs.World.{Happening, happens, history}
-use Rattle.cs_trail.specs.Lines.{Parcel, parcels_of, event_lines, limit_line, history_text}
+use Rattle.cs_trail.specs.World.{Happening, happens, is_genuine, history}
+use Rattle.cs_trail.specs.Lines.{Parcel, parcels_of, event_lines, limit_line, forged_line, history_text}
 
 -- what was played so far
 pub record Played (M : Type 0) : Type 0 where
@@ -19,19 +19,22 @@ pub record Played (M : Type 0) : Type 0 where
 abbrev pub unplayed : {M : Type 0} → Played M
 unplayed {M} = record { world = []; parcels = []; text = [] }
 
--- it goes on, or an event by the line of this number would have passed a limit
+-- it goes on; or an event by the line of this number would have passed a limit, or what that line injects is forged
 pub data Course (M : Type 0) : Type 0 where
   Goes : (played : Played M) → Course M
   Stops : (played : Played M) → (line : ℕ) → Course M
+  Forges : (played : Played M) → (line : ℕ) → Course M
 
 abbrev pub then_plays : {M : Type 0} → Course M → (Played M → Course M) → Course M
 then_plays {M} (Goes p) next = next p
 then_plays {M} (Stops p line) next = Stops p line
+then_plays {M} (Forges p line) next = Forges p line
 
 -- what was played, and not the event that was refused
 abbrev pub played_by : {M : Type 0} → Course M → Played M
 played_by {M} (Goes p) = p
 played_by {M} (Stops p line) = p
+played_by {M} (Forges p line) = p
 
 -- ---- an event
 
@@ -73,6 +76,13 @@ abbrev pub occurs : {M : Type 0} → Site M → Bool → ℕ → NodeId → Inpu
 occurs {M} site traced line i input p =
     if nat_lt (length p.world) most_events then within line p (plays site traced line i input p) else Stops p line
 
+-- bytes are given to a node, unless they are forged; the limit of events comes first
+abbrev pub injects : {M : Type 0} → Site M → Bool → ℕ → NodeId → Bytes → Played M → Course M
+injects {M} site traced line to bytes p =
+    if nat_lt (length p.world) most_events
+    then (if is_genuine site.net to bytes p.parcels then within line p (plays site traced line to (Datagram bytes) p) else Forges p line)
+    else Stops p line
+
 -- ---- deliveries
 
 abbrev pub arrived : Parcel → Parcel
@@ -113,7 +123,7 @@ drained {M} site traced line (suc times) p =
 -- an event, by the line of this number
 abbrev pub play : {M : Type 0} → Site M → Bool → ℕ → Event → Played M → Course M
 play {M} site traced line (Say from to kind body) p = occurs site traced line to (Datagram (site.net.datagram from to kind body)) p
-play {M} site traced line (Inject to bytes) p = occurs site traced line to (Datagram bytes) p
+play {M} site traced line (Inject to bytes) p = injects site traced line to bytes p
 play {M} site traced line (Deliver number) p = delivers site traced line number (slice_get p.parcels number) p
 play {M} site traced line (Tick node) p = occurs site traced line node Given.Tick p
 play {M} site traced line (Drain times) p = drained site traced line times p
@@ -127,6 +137,7 @@ play_all {M} site traced (e ∷ events) p = then_plays (play site traced e.0 e.1
 abbrev pub closed : {M : Type 0} → Site M → Course M → Bytes
 closed {M} site (Goes p) = p.text ++ history_text (history site p.world)
 closed {M} site (Stops p line) = p.text ++ limit_line line
+closed {M} site (Forges p line) = p.text ++ forged_line line
 
 -- the whole text that a schedule's events give
 unfoldable pub lines : {M : Type 0} → Site M → Bool → List (ℕ × Event) → Bytes

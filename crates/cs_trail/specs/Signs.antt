@@ -1,26 +1,31 @@
 -- The marks of a node that are no deeds of its order, and what they make of table and pool. Lists of marks are newest first.
-use Rattle.std.specs.Prelude.{ℕ, Bool, not, ◌&&◌, ◌==◌, if◌then◌else◌, List, [], ◌∷◌, ◌++◌, Option, Some, None}
+use Rattle.std.specs.Prelude.{ℕ, Bool, true, false, not, ◌&&◌, ◌==◌, if◌then◌else◌, List, [], ◌∷◌, ◌++◌, Option, Some, None}
 use Rattle.cs_base.specs.declared.key.Key.{Key}
 use Rattle.cs_base.specs.declared.node_id.NodeId.{NodeId}
 use Rattle.cs_base.specs.Key.{shard_of_key}
 use Rattle.cs_base.specs.NodeId.{is_client}
 use Rattle.cs_form.specs.declared.session.Session.{Session}
 use Rattle.cs_form.specs.declared.vote.Vote.{Vote}
+use Rattle.cs_form.specs.declared.vote.Vote.TheVariants.{Commit}
 use Rattle.cs_form.specs.declared.entry.Entry.{Entry}
 use Rattle.cs_message.specs.declared.message.Message.{Message}
 use Rattle.cs_message.specs.declared.message.Message.TheVariants as message
 use Rattle.cs_ledger.specs.Table.{Effect}
 use Rattle.cs_trail.specs.declared.cause.Cause.{Cause}
-use Rattle.cs_trail.specs.declared.cause.Cause.TheVariants.{Mine, Role, Malformed, Repeat, Denied, Full, NoProof}
-use Rattle.cs_trail.specs.Setup.{Setup, digest_of, is_fit, is_approved, session_in}
-use Rattle.cs_trail.specs.Pool.{is_pooled, changed, with_ballot, entered, has_room}
-use Rattle.cs_trail.specs.Bench.{Bench, Ran, executed, decided, told_of}
+use Rattle.cs_trail.specs.declared.cause.Cause.TheVariants.{Mine, Role, Malformed, Repeat, Unasked, Denied, Full}
+use Rattle.cs_trail.specs.declared.pooled.Pooled.{Pooled}
+use Rattle.cs_trail.specs.Setup.{Setup, digest_of, concerns, concerned, is_fit, is_approved, session_in}
+use Rattle.cs_trail.specs.Evidence.{has_voted}
+use Rattle.cs_trail.specs.Members.{others}
+use Rattle.cs_trail.specs.Pool.{Pool, found, is_pooled, changed, with_ballot, entered, has_room}
+use Rattle.cs_trail.specs.Bench.{Bench, Ran, executed, decided, noted, told_of}
 use Rattle.cs_trail.specs.Asked.{told_at, key_asked}
 
 pub data Sign : Type 0 where
   Dropped : (cause : Cause) → Sign
   Took : (sender : NodeId) → (vote : Vote) → (x : Session) → Sign
   Entered : (x : Session) → Sign
+  Viewed : (slot view : ℕ) → Sign
   Did : (slot : ℕ) → (entry : Entry) → (effect : Effect) → Sign
   Sent : (to : NodeId) → (message : Message) → Sign
 
@@ -30,6 +35,7 @@ bench_step setup shard (Dropped cause) b = b
 bench_step setup shard (Took sender vote x) b =
     record { table = b.table; pool = changed (digest_of setup x) (with_ballot (record { sender = sender; vote = vote })) b.pool }
 bench_step setup shard (Entered x) b = record { table = b.table; pool = entered (digest_of setup x) x b.pool }
+bench_step setup shard (Viewed slot view) b = b
 bench_step setup shard (Did slot entry effect) b = (executed setup shard b entry).bench
 bench_step setup shard (Sent to message) b = b
 
@@ -69,22 +75,40 @@ abbrev pub ask_signs : Setup → ℕ → Bench → NodeId → Option Key → Lis
 ask_signs setup shard b sender asked =
     guarded (is_client sender) Role (told_signs setup shard b sender (key_asked b.table shard asked))
 
--- What is said to a node that is alone: no other node is there to speak, and no checkpoint is made.
-abbrev pub message_signs : Setup → ℕ → Bench → NodeId → Message → List Sign
-message_signs setup shard b sender (message.Submit x) = submit_signs setup shard b sender x
-message_signs setup shard b sender (message.Ask asked) = ask_signs setup shard b sender asked
-message_signs setup shard b sender (message.AskProof slot) = guarded (is_client sender) Role (Dropped NoProof ∷ [])
-message_signs setup shard b sender (message.Propose slot view entry) = Dropped Role ∷ []
-message_signs setup shard b sender (message.Echo slot view digest) = Dropped Role ∷ []
-message_signs setup shard b sender (message.Confirm slot view digest) = Dropped Role ∷ []
-message_signs setup shard b sender (message.Change slot view change) = Dropped Role ∷ []
-message_signs setup shard b sender (message.Voted vote asks x) = Dropped Role ∷ []
-message_signs setup shard b sender (message.Decided digest accepted) = Dropped Role ∷ []
-message_signs setup shard b sender (message.Want slot) = Dropped Role ∷ []
-message_signs setup shard b sender (message.Done slot entry) = Dropped Role ∷ []
-message_signs setup shard b sender (message.Told key state) = Dropped Role ∷ []
-message_signs setup shard b sender (message.Head checkpoint) = Dropped Role ∷ []
-message_signs setup shard b sender (message.Proof proof) = Dropped Role ∷ []
+-- ---- votes of other nodes
+
+-- a vote on a session that isn't in the pool: it is answered by the vote on record, or the session enters with it
+abbrev pub asking_signs : Setup → Bench → NodeId → Vote → Bool → Session → Option Vote → List Sign
+asking_signs setup b sender vote asks x (Some noted) = guarded asks Unasked (Sent sender (message.Voted noted false x) ∷ [])
+asking_signs setup b sender vote asks x None =
+    guarded asks Unasked
+    (guarded (is_approved setup x) Denied
+    (guarded (has_room b.pool) Full (Took sender vote x ∷ Entered x ∷ [])))
+
+-- of each node the first vote on a session of the pool is taken
+abbrev pub ballot_signs : Setup → ℕ → Bench → NodeId → Vote → Bool → Session → Option Pooled → List Sign
+ballot_signs setup shard b sender vote asks x (Some p) = guarded (not (has_voted sender p.ballots)) Repeat (Took sender vote x ∷ [])
+ballot_signs setup shard b sender vote asks x None = asking_signs setup b sender vote asks x (noted setup shard b.table x)
+
+-- a node of a concerned shard votes on a session
+abbrev pub voted_signs : Setup → ℕ → Bench → NodeId → Vote → Bool → Session → List Sign
+voted_signs setup shard b sender vote asks x =
+    guarded (not (is_client sender)) Role
+    (guarded (is_fit setup shard x) Malformed
+    (guarded (concerns setup x sender.shard) Role
+    (ballot_signs setup shard b sender vote asks x (found (digest_of setup x) b.pool))))
+
+-- ---- executions
+
+-- a message to each of these nodes, one after the other
+abbrev pub sends : List NodeId → Message → List Sign
+sends [] message = []
+sends (to ∷ more) message = sends more message ++ Sent to message ∷ []
+
+-- the vote goes to all other nodes of the concerned shards
+abbrev pub vote_signs : Setup → NodeId → Session → Option (Vote × Bool) → List Sign
+vote_signs setup me x None = []
+vote_signs setup me x (Some told) = sends (others setup.f me (concerned setup x)) (message.Voted told.0 told.1 x)
 
 -- the node's own vote
 abbrev pub own_signs : NodeId → Session → Option (Vote × Bool) → List Sign
@@ -99,8 +123,17 @@ entered_signs x pooled (Some told) = if told.1 && not pooled then Entered x ∷ 
 abbrev pub ran_signs : Setup → NodeId → Bench → ℕ → Entry → Session → Ran → List Sign
 ran_signs setup me b slot entry x ran =
     own_signs me x (told_of setup me.shard x ran)
-    ++ (entered_signs x (is_pooled (digest_of setup x) b.pool) (told_of setup me.shard x ran) ++ Did slot entry ran.effect ∷ [])
+    ++ (vote_signs setup me x (told_of setup me.shard x ran)
+    ++ (entered_signs x (is_pooled (digest_of setup x) b.pool) (told_of setup me.shard x ran) ++ Did slot entry ran.effect ∷ []))
 
 -- the entry of a slot is executed
 abbrev pub execution_signs : Setup → NodeId → Bench → ℕ → Entry → List Sign
 execution_signs setup me b slot entry = ran_signs setup me b slot entry (session_in entry) (executed setup me.shard b entry)
+
+-- ---- ticks
+
+-- the votes that are asked for again, of the locked sessions
+abbrev pub asked_again : Setup → NodeId → Pool → List Sign
+asked_again setup me [] = []
+asked_again setup me (e ∷ pool) =
+    asked_again setup me pool ++ (if e.1.locked then vote_signs setup me e.1.session (Some (Commit, true)) else [])

@@ -1,7 +1,8 @@
 -- Marks, nodes, and the site on which the rules of all nodes rest.
-use Rattle.std.specs.Prelude.{List, [], ◌∷◌}
+use Rattle.std.specs.Prelude.{List, [], ◌∷◌, Option}
 use Rattle.cs_base.specs.declared.node_id.NodeId.{NodeId}
 use Rattle.cs_form.specs.declared.entry.Entry.{Entry}
+use Rattle.cs_message.specs.declared.message.Message.{Message}
 use Rattle.cs_order.specs.declared.proposed.Proposed.{Proposed}
 use Rattle.cs_order.specs.Deeds.{Deed, Member, Machine, did}
 use Rattle.cs_ledger.specs.Ledger.{Bytes}
@@ -21,11 +22,17 @@ pub data Mark (M : Type 0) : Type 0 where
   Ordered : (deed : Deed M) → Mark M
   Plain : (sign : Sign) → Mark M
 
+-- how messages of the order go between nodes
+pub record Carrier (M : Type 0) : Type 0 where
+  pub written : M → Message
+  pub read : Message → Option M  -- of a message that is none of the order's, none
+
 -- what is the same at all nodes
 pub record Site (M : Type 0) : Type 0 where
   pub setup : Setup
   pub net : Net
   pub machine : Machine M
+  pub carrier : Carrier M
   pub proposed_of : Entry → Proposed
   pub entry_in : Proposed → Entry  -- of bytes that are no entry a fixed one, which is Void
 

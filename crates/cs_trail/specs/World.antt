@@ -1,7 +1,8 @@
 -- A world: events at nodes, each with the marks that it made, the newest first. What was executed, the history, and what nodes decided.
-use Rattle.std.specs.Prelude.{◌≡◌, ℕ, suc, ◌==◌, nat_lt, Bool, true, false, not, ◌&&◌, ◌||◌, if◌then◌else◌, List, [], ◌∷◌, ◌++◌, bytes_eq}
-use Rattle.std.specs.List.{list_all}
+use Rattle.std.specs.Prelude.{◌≡◌, ℕ, suc, ◌==◌, nat_lt, Bool, true, false, not, ◌&&◌, ◌||◌, if◌then◌else◌, List, [], ◌∷◌, ◌++◌, Ok, Err, bytes_eq}
+use Rattle.std.specs.List.{list_all, list_any}
 use Rattle.cs_base.specs.declared.node_id.NodeId.{NodeId}
+use Rattle.cs_wire.specs.Opened.{Opened}
 use Rattle.cs_form.specs.declared.session.Session.{Session}
 use Rattle.cs_form.specs.declared.entry.Entry.{Entry}
 use Rattle.cs_form.specs.declared.entry.Entry.TheVariants.{Prepare, Decide}
@@ -10,8 +11,10 @@ use Rattle.cs_ledger.specs.Table.{Vote, Commit, Abort, Effect, Voted, Accepted, 
 use Rattle.cs_ledger.specs.ShardWorld.{Step, is_vote, is_listed}
 use Rattle.cs_trail.specs.Setup.{Setup, digest_of, concerned, entry_of}
 use Rattle.cs_trail.specs.Evidence.{name_eq}
-use Rattle.cs_trail.specs.Signs.{Sign, Dropped, Took, Entered, Did, Sent}
-use Rattle.cs_trail.specs.Site.{Input, Mark, Site, View, start_view, view_after, signs_of}
+use Rattle.cs_trail.specs.Net.{Net}
+use Rattle.cs_trail.specs.Lines.{Parcel, parcels_of}
+use Rattle.cs_trail.specs.Signs.{Sign, Dropped, Took, Entered, Viewed, Did, Sent}
+use Rattle.cs_trail.specs.Site.{Input, Datagram, Tick, Mark, Site, View, start_view, view_after, signs_of}
 use Rattle.cs_trail.specs.Trail.{event_marks}
 
 -- an event: an input at a node, and the marks that it made
@@ -36,6 +39,42 @@ happens {M} site i input past = record { node = i; input = input; marks = event_
 abbrev pub IsLife : {M : Type 0} → Site M → List (Happening M) → Type 0
 IsLife {M} site [] = Unit {0}
 IsLife {M} site (h ∷ past) = (h.marks ≡ event_marks site (view_of site past h.node) h.input) × IsLife site past
+
+-- ---- what was sent
+
+-- the datagrams of all events, the oldest first
+abbrev pub sent_in : {M : Type 0} → Net → List (Happening M) → List Parcel
+sent_in {M} net [] = []
+sent_in {M} net (h ∷ past) = sent_in net past ++ parcels_of net h.node (signs_of h.marks)
+
+-- exactly this datagram is among those sent
+abbrev pub was_sent : NodeId → NodeId → Bytes → List Parcel → Bool
+was_sent from to bytes parcels =
+    list_any (λ parcel. name_eq parcel.from from && (name_eq parcel.to to && bytes_eq parcel.bytes bytes)) parcels
+
+abbrev pub is_backed : Net → NodeId → Bytes → List Parcel → Opened → Bool
+is_backed net to bytes parcels (Ok said) = not (net.is_honest said.0) || was_sent said.0 to bytes parcels
+is_backed net to bytes parcels (Err error) = true
+
+-- what opens as from an honest node was sent by it
+abbrev pub is_genuine : Net → NodeId → Bytes → List Parcel → Bool
+is_genuine net to bytes parcels = is_backed net to bytes parcels (net.opened to bytes)
+
+abbrev pub is_genuine_input : Net → NodeId → Input → List Parcel → Bool
+is_genuine_input net to (Datagram bytes) parcels = is_genuine net to bytes parcels
+is_genuine_input net to Tick parcels = true
+
+-- each datagram that was given was genuine
+abbrev pub NoForgery : {M : Type 0} → Net → List (Happening M) → Type 0
+NoForgery {M} net [] = Unit {0}
+NoForgery {M} net (h ∷ past) = (is_genuine_input net h.node h.input (sent_in net past) ≡ true) × NoForgery net past
+
+-- each event was at an honest node
+abbrev pub AreHonest : {M : Type 0} → Net → List (Happening M) → Type 0
+AreHonest {M} net [] = Unit {0}
+AreHonest {M} net (h ∷ past) = (net.is_honest h.node ≡ true) × AreHonest net past
+
+-- ---- what was executed
 
 -- an execution of a slot of a shard, and what it came to
 pub record Execution : Type 0 where
@@ -63,6 +102,7 @@ first_of shard (Did slot entry effect) firsts =
 first_of shard (Dropped cause) firsts = firsts
 first_of shard (Took sender vote x) firsts = firsts
 first_of shard (Entered x) firsts = firsts
+first_of shard (Viewed slot view) firsts = firsts
 first_of shard (Sent to message) firsts = firsts
 
 abbrev pub firsts_after : ℕ → List Execution → List Sign → List Execution

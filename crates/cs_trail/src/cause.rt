@@ -24,8 +24,16 @@ pub enum Cause {
     Role,
     /// The session isn't well formed or doesn't concern the shard.
     Malformed,
-    /// The session is in the pool already.
+    /// The slot was chosen before.
+    Old,
+    /// The slot is too far ahead to be taken, or not there to be told.
+    Far,
+    /// The sender doesn't lead the view in which it proposes.
+    Leader,
+    /// The session is in the pool already, or the sender has said the same kind of thing before.
     Repeat,
+    /// The vote is on a session that isn't in the pool, and doesn't ask for a vote.
+    Unasked,
     /// The transaction isn't approved.
     Denied,
     /// No more sessions may wait.

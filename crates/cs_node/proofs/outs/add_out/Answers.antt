@@ -5,6 +5,6 @@ use Rattle.cs_node.proofs.Sealing.{sealed-so}
 use Rattle.cs_node.proofs.outs.add_out.Goals as goal
 
 pub returns-in-Ok : goal.returns-in-Ok
-returns-in-Ok c = λ net speaks.
-    let grown : Bytes → List Out = λ bytes. c.args.outs.now ++ record { to = c.args.said.now.to; bytes = bytes } ∷ [] in
-    c.in_ok-push-in-Ok.ensures.ok ∙ ap grown (c.from_vec.ensures ∙ sealed-so net c.args.keys.now speaks c.args.said.now.to c.args.said.now.message c.new-bytes.result.items _ c.new-bytes.ensures.items c.in-Ok.ensures.ok)
+returns-in-Ok c = λ config net speaks reached.
+    let grown : Bytes → List Out = λ bytes. c.args.outs.now ++ record { to = c.args.to; bytes = bytes } ∷ [] in
+    c.in_ok-push-in-Ok.ensures.ok ∙ ap grown (c.from_vec.ensures ∙ sealed-so config net c.args.keys.now speaks c.args.to c.args.message.now c.new-bytes.result.items _ c.new-bytes.ensures.items c.in-Ok.ensures.ok)

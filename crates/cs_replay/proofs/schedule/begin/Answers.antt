@@ -1,8 +1,8 @@
-use Rattle.std.proofs.Common.{◌∙◌, refl, arith}
+use Rattle.std.proofs.Common.{refl, arith}
 use Rattle.cs_tx.specs.Token.{is_token_approved}
 use Rattle.cs_replay.specs.Site.{setup_of_schedule}
 use Rattle.cs_replay.proofs.Deployed.{deploys-setup, rests}
-use Rattle.cs_replay.proofs.Histories.{kept-first}
+use Rattle.cs_play.proofs.Histories.{kept-first}
 use Rattle.cs_replay.proofs.schedule.begin.Goals as goal
 
 pub returns : goal.returns

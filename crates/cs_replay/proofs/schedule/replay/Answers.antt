@@ -1,7 +1,7 @@
 use Rattle.std.proofs.Common.{refl}
 use Rattle.cs_replay.specs.Site.{site_of_schedule}
 use Rattle.cs_replay.specs.Answers.{course_of}
-use Rattle.cs_replay.specs.Standing.{setting_of}
+use Rattle.cs_replay.specs.Settings.{setting_of}
 use Rattle.cs_replay.proofs.Deployed.{are-for, are-short}
 use Rattle.cs_replay.proofs.Whole.{closes-done, closes-ending, closes-part}
 use Rattle.cs_replay.proofs.schedule.replay.Goals as goal

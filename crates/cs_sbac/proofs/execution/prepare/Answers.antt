@@ -5,8 +5,8 @@ use Rattle.cs_sbac.specs.Calls.{placed}
 use Rattle.cs_sbac.proofs.Running.{voted-run}
 use Rattle.cs_sbac.proofs.execution.prepare.Goals as goal
 
-pub returns : goal.returns
-returns c approves =
-    voted-run c.args.me c.args.session.now (session_of approves c.args.session.now) c.args.table.now c.prepare.new.self c.args.pool.now c.place_voted.new.pool
+pub returns-clause-runs : goal.returns-clause-runs
+returns-clause-runs c approves =
+    voted-run c.args.me c.args.session.now (session_of approves c.args.session.now) c.args.table.now c.prepare.new.self c.args.pool.now.sessions c.place_voted.new.pool.sessions
     c.in_ok-vote.vote c.in_ok-locked.locked (c.in_ok-vote.ensures approves) (c.in_ok-locked.ensures approves)
-    (c.in_ok-place_voted.ensures ∙ ap (λ d. own_pool c.args.me d (Some (c.in_ok-vote.vote, c.in_ok-locked.locked)) (placed c.in_ok-locked.locked d c.args.session.now c.args.pool.now)) c.in_ok-digest.ensures)
+    (c.in_ok-place_voted.ensures.sessions ∙ ap (λ d. own_pool c.args.me d (Some (c.in_ok-vote.vote, c.in_ok-locked.locked)) (placed c.in_ok-locked.locked d c.args.session.now c.args.pool.now.sessions)) c.in_ok-digest.ensures)

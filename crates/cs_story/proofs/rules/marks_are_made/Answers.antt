@@ -1,6 +1,7 @@
--- Each event makes only marks that are made, and locks come from votes.
+-- Each event makes only marks that are made, and locks and votes on record come from votes.
 use Rattle.cs_story.proofs.Inputs.{event-level}
 use Rattle.cs_story.proofs.Locks.{locks-given}
+use Rattle.cs_story.proofs.Notes.{notes-given}
 use Rattle.cs_story.proofs.rules.marks_are_made.Goals as goal
 
 pub returns-clause-made : goal.returns-clause-made
@@ -8,3 +9,6 @@ returns-clause-made g c site = event-level site
 
 pub returns-clause-locks : goal.returns-clause-locks
 returns-clause-locks g c site = locks-given site
+
+pub returns-clause-notes : goal.returns-clause-notes
+returns-clause-notes g c site = notes-given site

@@ -1,22 +1,22 @@
-use Rattle.std.proofs.Common.{refl}
+use Rattle.cs_node.specs.Carriers.{carrier}
 use Rattle.cs_node.proofs.Settling.{settling-starts}
-use Rattle.cs_node.proofs.Standing.{stands-on, loop-goes, loop-ends}
+use Rattle.cs_node.proofs.Standing.{keeps-still, loop-goes, loop-ends}
 use Rattle.cs_node.proofs.engine.Engine.settle.Goals as goal
 
 pub loop-init : goal.loop-init
 loop-init g c = record {
-  going = λ net genesis h is. settling-starts _ _ _ _ _ (stands-on g.O.Order.stands g.J.Judge.is_approved genesis c.args.self.now _ _ h is refl refl) (g.met.O.Order.bounded c.args.self.now.order);
+  going = λ net genesis h seated. settling-starts _ _ _ _ _ (keeps-still g.O.Order.stands g.J.Judge.is_approved genesis c.args.self.now h seated) (g.met.O.Order.bounded c.args.self.now.order);
   fits = λ fits. fits;
 }
 
 pub loop-preserved : goal.loop-preserved
 loop-preserved g c = record {
-  going = λ net genesis h is. loop-goes g.O.Order.stands g.J.Judge.is_approved g.O.Order.rules net _ _ _ _ _ _ _ _ _ (c.loop.invariant.going net genesis h is) (λ genesis' h'. c.in_ok-turn.ensures.done net genesis' h') _ c.if-branch.true c.in_ok-turn.ensures.falls;
+  going = λ net genesis h seated. loop-goes g.O.Order.stands g.J.Judge.is_approved g.O.Order.rules (carrier g.O.Carried.written g.O.Carried.read_of) net _ _ _ _ _ _ _ _ _ (c.loop.invariant.going net genesis h seated) (λ genesis' h'. c.in_ok-turn.ensures.done net genesis' h') _ c.if-branch.true c.in_ok-turn.ensures.falls;
   fits = λ fits. c.in_ok-turn.ensures.fits (c.loop.invariant.fits fits);
 }
 
 pub returns : goal.returns
 returns g c = record {
-  marks = λ net genesis h is. loop-ends g.O.Order.stands g.J.Judge.is_approved g.O.Order.rules net _ _ _ _ _ _ _ _ _ (c.loop.invariant.going net genesis h is) (λ genesis' h'. c.in_ok-turn.ensures.done net genesis' h') c.if-branch.false;
+  marks = λ net genesis h seated. loop-ends g.O.Order.stands g.J.Judge.is_approved g.O.Order.rules (carrier g.O.Carried.written g.O.Carried.read_of) net _ _ _ _ _ _ _ _ _ (c.loop.invariant.going net genesis h seated) (λ genesis' h'. c.in_ok-turn.ensures.done net genesis' h') c.if-branch.false;
   fits = λ fits. c.in_ok-turn.ensures.fits (c.loop.invariant.fits fits);
 }

@@ -2,16 +2,17 @@ use Rattle.std.proofs.Common.{List}
 use Rattle.cs_value.specs.declared.object.Object.{Object}
 use Rattle.cs_order.specs.Deeds.{Member}
 use Rattle.cs_trail.specs.Net.{Net}
-use Rattle.cs_sbac.specs.Held.{deployed}
+use Rattle.cs_pool.specs.Deployed.{deployed}
 use Rattle.cs_node.specs.Notes.{DraftFits}
 use Rattle.cs_node.specs.Steps.{Settling}
-use Rattle.cs_node.specs.Cores.{Keeps, site_at, view_at}
+use Rattle.cs_node.specs.Carriers.{carrier}
+use Rattle.cs_node.specs.Cores.{IsSeated, Keeps, site_at, view_at}
 use Rattle.cs_node.proofs.engine.Engine.settle.Given as goal
 
 abbrev pub invariant-loop : goal.invariant-loop
 invariant-loop g l = record {
-  going : (net : Net) (genesis : List Object) (h : Member g.row.O-Message.Denot) → g.O.Order.stands l.initial.self.order h
-      → Settling (site_at g.O.Order.rules net l.initial.self.sbac genesis (g.J.Judge.is_approved l.initial.self.judge)) (view_at l.initial.self.sbac h) l.initial.draft l.draft
+  going : (net : Net) (genesis : List Object) (h : Member g.row.O-Message.Denot) → IsSeated g.O.Order.stands l.initial.self h
+      → Settling (site_at g.O.Order.rules (carrier g.O.Carried.written g.O.Carried.read_of) net l.initial.self.sbac genesis (g.J.Judge.is_approved l.initial.self.judge)) (view_at l.initial.self.sbac h) l.initial.draft l.draft
       (Keeps g.O.Order.stands g.J.Judge.is_approved (deployed l.initial.self.sbac.config genesis (g.J.Judge.is_approved l.initial.self.judge)) l.self) (g.O.Order.rest l.self.order);
   fits : DraftFits l.initial.draft → DraftFits l.draft;
 }

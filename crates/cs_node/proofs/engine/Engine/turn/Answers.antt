@@ -1,14 +1,21 @@
-use Rattle.std.proofs.Common.{sym, ◌∙◌}
+use Rattle.std.proofs.Common.{subst}
+use Rattle.cs_order.specs.declared.answers.Step.{Step}
+use Rattle.cs_order.specs.Calls.{Advances}
+use Rattle.cs_node.specs.Carriers.{carrier}
 use Rattle.cs_node.proofs.Doing.{moved-here, chosen-here}
 use Rattle.cs_node.proofs.engine.Engine.turn.Goals as goal
 
-pub returns-in-Moved-clause-done : goal.returns-in-Moved-clause-done
-returns-in-Moved-clause-done g c = λ net genesis h is.
-    let called = c.in_ok-proposed.ensures.call h is in
-    moved-here g.O.Order.stands g.J.Judge.is_approved g.O.Order.rules net c.args.self.now genesis h c.args.draft.now c.advance.new.self (sym called.0 ∙ c.in-Moved.is) called.2
+pub returns-in_ok-say_moved-in-Moved-clause-done : goal.returns-in_ok-say_moved-in-Moved-clause-done
+returns-in_ok-say_moved-in-Moved-clause-done g c = λ net genesis h seated.
+    let C : Step → Type 0 = λ step. Advances g.O.Order.rules h step c.new-outgoing.result.items c.advance.new.out.items (g.O.Order.stands c.advance.new.self) in
+    moved-here g.O.Order.stands g.J.Judge.is_approved g.O.Order.rules (carrier g.O.Carried.written g.O.Carried.read_of) net c.args.self.now genesis h c.args.draft.now c.say_moved.new.draft seated c.advance.new.self c.new-outgoing.result.items c.advance.new.out.items c.open_slot-slot.result c.view-view.result
+    c.new-outgoing.ensures.items (c.open_slot-slot.ensures h seated.stood) (c.view-view.ensures h seated.stood) (subst C c.in-Moved.is (c.in_ok-proposed.ensures.call h seated.stood))
+    (λ h' stood'. c.in_ok-say_moved-in-Moved.ensures.tells net genesis h' stood')
 
-pub returns-in-Chosen-clause-done : goal.returns-in-Chosen-clause-done
-returns-in-Chosen-clause-done g c = λ net genesis h is.
-    let called = c.in_ok-proposed.ensures.call h is in
-    chosen-here g.O.Order.stands g.J.Judge.is_approved g.O.Order.rules net c.args.self.now genesis h c.args.draft.now c.advance.new.self c.execute.new.sbac c.execute.new.draft c.in-Chosen.proposed c.open_slot-slot.result
-    (sym called.0 ∙ c.in-Chosen.is) called.2 (c.open_slot-slot.ensures h is) (c.in_ok-execute-in-Chosen.ensures.made genesis (g.J.Judge.is_approved c.args.self.now.judge)) c.in_ok-execute-in-Chosen.ensures.config c.in_ok-execute-in-Chosen.ensures.me
+pub returns-in_ok-execute-in-Chosen-clause-done : goal.returns-in_ok-execute-in-Chosen-clause-done
+returns-in_ok-execute-in-Chosen-clause-done g c = λ net genesis h seated.
+    let approves = g.J.Judge.is_approved c.args.self.now.judge in
+    let C : Step → Type 0 = λ step. Advances g.O.Order.rules h step c.new-outgoing.result.items c.advance.new.out.items (g.O.Order.stands c.advance.new.self) in
+    chosen-here g.O.Order.stands g.J.Judge.is_approved g.O.Order.rules (carrier g.O.Carried.written g.O.Carried.read_of) net c.args.self.now genesis h c.args.draft.now c.hand_out.new.draft seated c.advance.new.self c.new-outgoing.result.items c.advance.new.out.items c.execute.new.sbac c.execute.new.draft c.in-Chosen.proposed c.open_slot-slot.result
+    c.new-outgoing.ensures.items (c.in_ok-hand_out-in-Chosen.ensures.tells net genesis approves) (c.open_slot-slot.ensures h seated.stood) (subst C c.in-Chosen.is (c.in_ok-proposed.ensures.call h seated.stood))
+    (c.in_ok-execute-in-Chosen.ensures.made genesis approves) c.in_ok-execute-in-Chosen.ensures.config c.in_ok-execute-in-Chosen.ensures.me

@@ -4,8 +4,11 @@ use Rattle.cs_ledger.specs.Table.{start as begun}
 use Rattle.cs_trail.specs.Site.{start_view}
 use Rattle.cs_trail.specs.Deployment.{site_of}
 use Rattle.cs_table.specs.Genesis.{twice, genesis_rules}
-use Rattle.cs_sbac.specs.Held.{Held, deployed}
+use Rattle.cs_pool.specs.Deployed.{deployed}
+use Rattle.cs_sbac.specs.Held.{Held}
+use Rattle.cs_node.specs.Carriers.{carrier}
 use Rattle.cs_node.specs.Cores.{Keeps}
+use Rattle.cs_node.specs.Speaking.{Speaks}
 use Rattle.cs_node.proofs.Starting.{all-fit, started}
 use Rattle.cs_node.proofs.nodes.Core.start.Goals as goal
 
@@ -15,19 +18,21 @@ genesis-requires g c = all-fit c.args.genesis.now c.requires.objects
 pub returns : goal.returns
 returns g c = λ objects named.
     let approves = g.J.Judge.is_approved in
+    let carried = carrier g.O.Carried.written g.O.Carried.read_of in
     let me = c.args.keys.me in
     let setup = deployed c.args.config objects (approves c.args.judge) in
     let held : NodeId → Held = λ name. record { config = c.args.config; me = name; table = c.in-Ok.table; pool = [] } in
     let sbac-is : c.new-sbac.result ≡ held me = c.new-sbac.ensures ∙ ap held c.me-me.ensures in (
       subst (λ (name : NodeId). twice c.args.config.shards name.shard c.args.genesis.now ≡ None) c.me-me.ensures c.in-Ok.ensures.finds,
       λ net speaks.
-          let P : Held → Type 0 = λ sbac. Keeps g.O.Order.stands approves setup (record { order = c.args.order; judge = c.args.judge; sbac = sbac }) (start_view (site_of setup net g.O.Order.rules) me) in
+          let P : Held → Type 0 = λ sbac. Keeps g.O.Order.stands approves setup (record { order = c.args.order; judge = c.args.judge; sbac = sbac }) (start_view (site_of setup net g.O.Order.rules carried) me) in
+          let S : Held → Type 0 = λ sbac. Speaks sbac.config net c.args.keys in
           record {
             keeps = subst P (sym sbac-is)
-                (started g.O.Order.stands approves g.O.Order.rules net c.args.config me objects c.args.genesis.now c.args.order c.args.judge c.in-Ok.table (g.O.Order.f c.args.order) (g.O.Order.me c.args.order)
-                (g.met.O.Order.begins c.args.order c.requires.start) c.requires.f c.requires.me named
+                (started g.O.Order.stands approves g.O.Order.rules carried net c.args.config me objects c.args.genesis.now c.args.order c.args.judge c.in-Ok.table (g.O.Order.f c.args.order) (g.O.Order.me c.args.order)
+                (g.met.O.Order.begins c.args.order c.requires.start) c.requires.f c.requires.me c.requires.node named
                 (c.in-Ok.ensures.table ∙ ap (λ (name : NodeId). begun (genesis_rules c.args.config c.args.genesis.now) name.shard) c.me-me.ensures));
             me_is = refl;
-            speaks = speaks;
+            speaks = subst S (sym sbac-is) speaks;
           },
     )

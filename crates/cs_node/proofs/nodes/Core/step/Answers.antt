@@ -1,3 +1,4 @@
+use Rattle.cs_node.specs.Carriers.{carrier}
 use Rattle.cs_node.specs.Speaking.{input_of}
 use Rattle.cs_node.proofs.Standing.{event-done, event-sealed, same-me}
 use Rattle.cs_node.proofs.nodes.Core.step.Goals as goal
@@ -7,9 +8,10 @@ returns-clause-event g c = λ setup net v is.
     let stands = g.O.Order.stands in
     let approves = g.J.Judge.is_approved in
     let rules = g.O.Order.rules in
+    let carried = carrier g.O.Carried.written g.O.Carried.read_of in
     let core = c.args.self.now in
-    event-sealed stands approves rules net core c.settle.new.self setup v (input_of c.args.input) c.settle.new.draft c.in_ok-made.made is
-    (event-done stands approves rules net core.engine c.take_in.new.self c.settle.new.self setup v (input_of c.args.input) c.new-draft.result c.take_in.new.draft c.settle.new.draft is.keeps c.new-draft.ensures
-    (λ genesis h stood. c.in_ok-take_in.ensures.marks (same-me stands approves setup net core v is) net genesis h stood is.speaks)
-    (λ genesis h stood. c.in_ok-settle.ensures.marks net genesis h stood))
-    c.in_ok-made.ensures.notes (c.in_ok-made.ensures.outs net is.speaks)
+    event-sealed stands approves rules carried net core c.settle.new.self setup v (input_of c.args.input) c.settle.new.draft c.in_ok-made.made is
+    (event-done stands approves rules carried net core.engine c.take_in.new.self c.settle.new.self setup v (input_of c.args.input) c.new-draft.result c.take_in.new.draft c.settle.new.draft is.keeps c.new-draft.ensures
+    (λ genesis h seated. c.in_ok-take_in.ensures.marks (same-me stands approves setup net core v is) net genesis h seated is.speaks)
+    (λ genesis h seated. c.in_ok-settle.ensures.marks net genesis h seated))
+    c.in_ok-made.ensures.notes (c.in_ok-made.ensures.outs core.engine.sbac.config net is.speaks)

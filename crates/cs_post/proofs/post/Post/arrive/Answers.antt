@@ -1,6 +1,5 @@
 use Rattle.std.proofs.Common.{◌≡◌, Some, List, slice_get, slice_set, sym, ap, subst, ◌∙◌, arith}
 use Rattle.cs_trail.specs.Lines.{Parcel}
-use Rattle.cs_trail.specs.Play.{arrived}
 use Rattle.cs_post.specs.Kept.{IsKept, with_arrived}
 use Rattle.cs_post.proofs.Fronts.{kept-arrived, get-read}
 use Rattle.cs_post.proofs.post.Post.arrive.Goals as goal
@@ -10,8 +9,8 @@ invariant_of-self c =
     let parcels = c.self.inside.parcels.items in
     let parcel = c.index_mut.result.now in
     let is : slice_get parcels c.args.number ≡ Some parcel = get-read parcels c.args.number parcel (omega (arith, c.if-place-len.true, c.len.ensures)) c.index_mut.ensures.value in
-    subst (λ (p : Parcel). IsKept (slice_set parcels c.args.number p) c.self.inside.size c.self.inside.delivered) (sym c.arrive.ensures)
-    (kept-arrived parcels c.self.inside.size c.self.inside.delivered c.args.number parcel c.self.invariant is)
+    subst (λ (p : Parcel). IsKept (slice_set parcels c.args.number p) c.self.inside.size c.self.inside.delivered c.self.inside.numbers.entries) (sym c.arrive.ensures)
+    (kept-arrived parcels c.self.inside.size c.self.inside.delivered c.args.number c.self.inside.numbers.entries parcel c.self.invariant is)
 
 pub returns-then-place-len : goal.returns-then-place-len
 returns-then-place-len c =

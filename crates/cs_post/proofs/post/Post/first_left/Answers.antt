@@ -1,7 +1,5 @@
-use Rattle.std.proofs.Common.{◌≡◌, ◌<◌, ◌+◌, true, false, List, length, Some, None, sym, ap, subst, ◌∙◌, arith, rules}
-use Rattle.cs_trail.specs.Lines.{Parcel}
+use Rattle.std.proofs.Common.{◌≡◌, true, false, sym, ap, ◌∙◌, arith, rules}
 use Rattle.cs_trail.specs.Play.{first_left}
-use Rattle.cs_post.specs.Kept.{HaveArrived}
 use Rattle.cs_post.proofs.Fronts.{front-more, left-next, left-none}
 use Rattle.cs_post.proofs.post.Post.first_left.Goals as goal
 
@@ -20,6 +18,7 @@ loop-self-preserved c =
       record {
         counted = kept.counted;
         within = kept.within;
+        noted = kept.noted;
         front = front-more c.loop-self.self-inside.delivered c.loop-self.self-inside.parcels.items c.index.result.now kept.front (omega (arith, c.loop-self-test.true, c.len.ensures)) c.index.ensures came;
       },
     )

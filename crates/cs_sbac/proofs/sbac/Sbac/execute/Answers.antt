@@ -1,6 +1,7 @@
 use Rattle.std.proofs.Common.{◌≡◌, ◌∙◌, sym, subst, true, rules}
 use Rattle.cs_trail.specs.Setup.{session_in}
-use Rattle.cs_sbac.specs.Held.{Held, deployed}
+use Rattle.cs_sbac.specs.Held.{Held}
+use Rattle.cs_pool.specs.Deployed.{deployed}
 use Rattle.cs_sbac.specs.Calls.{Executes}
 use Rattle.cs_sbac.proofs.Running.{stays, anchored, executes}
 use Rattle.cs_sbac.proofs.sbac.Sbac.execute.Goals as goal
@@ -16,16 +17,17 @@ invariant_of-self-2 c =
     let whole : c.self.inside.is_whole ≡ true = search rules in
     record {
       node = c.self.invariant.node;
-      placed = λ again. stays (λ tx. true) c.self.inside.config c.self.inside.me c.args.entry.now c.self.inside.table c.run.new.table c.self.inside.pool c.run.new.pool c.in_ok-outcome.outcome
-          (c.self.invariant.placed whole) (c.in_ok-outcome.ensures (λ tx. true));
+      same = c.run.ensures.config ∙ c.self.invariant.same;
+      placed = λ again. stays (λ tx. true) c.self.inside.config c.self.inside.me c.args.entry.now c.self.inside.table c.run.new.table c.self.inside.pool.sessions c.run.new.pool.sessions c.in_ok-outcome.outcome
+          (c.self.invariant.placed whole) (c.in_ok-outcome.ensures.runs (λ tx. true));
     }
 
 pub returns : goal.returns
 returns c genesis approves =
     let whole : c.self.inside.is_whole ≡ true = search rules in
     let fit : c.in_ok-fit.fit ≡ true = search rules in
-    let after : Held = record { config = c.self.inside.config; me = c.self.inside.me; table = c.run.new.table; pool = c.run.new.pool } in
+    let after : Held = record { config = c.self.inside.config; me = c.self.inside.me; table = c.run.new.table; pool = c.run.new.pool.sessions } in
     let Does : Held → Type 0 = λ held. Executes (deployed held.config genesis approves) c.args.entry.now held after c.in_ok-outcome.outcome in
     subst Does c.self.view_is
-    (executes c.self.inside.config c.self.inside.me c.self.inside.table (c.self.invariant.placed whole) genesis approves c.args.entry.now c.run.new.table c.self.inside.pool c.run.new.pool c.in_ok-outcome.outcome
-    (sym (c.in_ok-fit.ensures.fit genesis approves) ∙ fit) (c.in_ok-outcome.ensures approves))
+    (executes c.self.inside.config c.self.inside.me c.self.inside.table (c.self.invariant.placed whole) genesis approves c.args.entry.now c.run.new.table c.self.inside.pool.sessions c.run.new.pool.sessions c.in_ok-outcome.outcome
+    (sym (c.in_ok-fit.ensures.fit genesis approves) ∙ fit) (c.in_ok-outcome.ensures.runs approves))

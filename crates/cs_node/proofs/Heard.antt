@@ -1,0 +1,143 @@
+-- What a core did as others spoke to it, at the view for which it stood.
+use Rattle.std.proofs.lemmas.Bool.Decides.{nat_tests}
+use Rattle.cs_base.specs.declared.config.Config.{Config}
+use Rattle.std.proofs.Common.{◌≡◌, ◌≢◌, arith, ℕ, ◌*◌, ◌≤◌, Bool, true, false, List, [], ◌∷◌, ◌++◌, Option, Some, None, refl, ap, sym, subst, ◌∙◌}
+use Rattle.cs_base.specs.declared.node_id.NodeId.{NodeId}
+use Rattle.cs_value.specs.declared.object.Object.{Object}
+use Rattle.cs_form.specs.declared.transaction.Tx.{Tx}
+use Rattle.cs_order.specs.declared.answers.Outgoing.{Outgoing}
+use Rattle.cs_order.specs.declared.answers.Took.{Took}
+use Rattle.cs_order.specs.declared.answers.Took.TheVariants.{Taken}
+use Rattle.cs_order.specs.Deeds.{Took_in, Replied, Member, Machine, did}
+use Rattle.cs_order.specs.Calls.{taken_in, Takes, RepliesWith}
+use Rattle.cs_trail.specs.declared.cause.Cause.{Cause}
+use Rattle.cs_trail.specs.declared.cause.Cause.TheVariants.{Role, Far}
+use Rattle.cs_trail.specs.Setup.{Setup}
+use Rattle.cs_trail.specs.Members.{is_other_member}
+use Rattle.cs_trail.specs.Net.{Net}
+use Rattle.cs_trail.specs.Signs.{Sign, Dropped}
+use Rattle.cs_trail.specs.Site.{Carrier, Mark, Site, View, plain}
+use Rattle.cs_trail.specs.Trail.{handed, drops, taking_marks, member_marks, reply_marks, want_marks}
+use Rattle.cs_trail.specs.Deployment.{site_of}
+use Rattle.cs_pool.specs.Deployed.{deployed}
+use Rattle.cs_sbac.specs.Held.{Held, bench_of}
+use Rattle.cs_node.specs.declared.engine.Engine.{Engine}
+use Rattle.cs_node.specs.declared.draft.Draft.{Draft}
+use Rattle.cs_node.specs.Notes.{Tells}
+use Rattle.cs_node.specs.Steps.{Makes, Marks}
+use Rattle.cs_node.specs.Cores.{IsSeated, Keeps, view_at}
+use Rattle.cs_node.proofs.Sums.{tells-nothing, plain-marks}
+use Rattle.cs_node.proofs.Turns.{deed-done}
+use Rattle.cs_node.proofs.Doing.{from-nothing}
+use Rattle.cs_node.proofs.Standing.{keeps-on}
+
+-- another member has another index below 3f + 1
+pub other-low : (f : ℕ) (me name : NodeId) → is_other_member f me name ≡ true → name.index ≤ 3 * f
+other-low f me name other = grind (arith, nat_tests)
+
+pub other-apart : (f : ℕ) (me name : NodeId) → is_other_member f me name ≡ true → name.index ≢ me.index
+other-apart f me name other = λ same. grind (arith, nat_tests)
+
+-- so it may ask the order
+pub may-ask : (config : Config) (me name : NodeId) (hf hi of oi : ℕ) → is_other_member config.f me name ≡ true → hf ≡ config.f → hi ≡ me.index → (hf ≡ of) × (hi ≡ oi) → (name.index ≤ 3 * of) × (name.index ≢ oi)
+may-ask config me name hf hi of oi other same-f same-index belongs = (
+  subst (λ n. name.index ≤ 3 * n) (sym same-f ∙ belongs.0) (other-low config.f me name other),
+  subst (λ n. name.index ≢ n) (sym same-index ∙ belongs.1) (other-apart config.f me name other),
+)
+
+-- an answer that a member gives, or not
+pub replied-none : {M : Type 0} (found : Option (Outgoing M)) (h : Member M) (slot to : ℕ) (old new : List (Outgoing M)) (Stands : Member M → Type 0) → RepliesWith found h slot to false old new Stands → found ≡ None
+replied-none {M} None h slot to old new Stands called = refl
+replied-none {M} (Some out) h slot to old new Stands called = let q : false ≡ true = called.0 in cc
+
+pub record HasReplied {M : Type 0} (found : Option (Outgoing M)) (h : Member M) (slot to : ℕ) (old new : List (Outgoing M)) (Stands : Member M → Type 0) : Type 0 where
+  pub out : Outgoing M
+  pub is : found ≡ Some out
+  pub grown : new ≡ old ++ out ∷ []
+  pub stood : Stands (did (Replied slot to (out ∷ [])) h)
+
+pub replied-some : {M : Type 0} (found : Option (Outgoing M)) (h : Member M) (slot to : ℕ) (old new : List (Outgoing M)) (Stands : Member M → Type 0) → RepliesWith found h slot to true old new Stands → HasReplied found h slot to old new Stands
+replied-some {M} None h slot to old new Stands called = let q : true ≡ false = called.0 in cc
+replied-some {M} (Some out) h slot to old new Stands called = record { out = out; is = refl; grown = called.1; stood = called.2 }
+
+module _ {O J M : Type 0} (stands : O → Member M → Type 0) (approves : J → Tx → Bool) (rules : Machine M) (carried : Carrier M) (net : Net) (core : Engine O J M) (genesis : List Object) (h : Member M) (made made' : Draft) (seated : IsSeated stands core h) where
+  abbrev setup : Setup
+  setup = deployed core.sbac.config genesis (approves core.judge)
+
+  abbrev site : Site M
+  site = site_of setup net rules carried
+
+  abbrev v : View M
+  v = view_at core.sbac h
+
+  abbrev After : Engine O J M → View M → Type 0
+  After next = Keeps stands approves setup next
+
+  -- table and pool did what these signs say
+  pub said-here : (signs : List Sign) (marks : List (Mark M)) (held : Held) → marks ≡ plain signs → Makes setup core.sbac.me signs (bench_of core.sbac) (bench_of held) made made' → held.config ≡ core.sbac.config → held.me ≡ core.sbac.me
+      → Marks site marks v made made' (After (record { order = core.order; judge = core.judge; sbac = held }))
+  said-here signs marks held are makes same-config same-me =
+      let next : Engine O J M = record { order = core.order; judge = core.judge; sbac = held } in
+      subst (λ (ms : List (Mark M)). Marks site ms v made made' (After next)) (sym are)
+      (plain-marks site signs v (bench_of held) made made' (After next) makes (keeps-on stands approves genesis core h core.order held h seated seated.stood refl refl same-config same-me))
+
+  -- it was dropped
+  pub dropped-here : (cause : Cause) (marks : List (Mark M)) → marks ≡ drops cause → Tells (Dropped cause ∷ []) made made' → Marks site marks v made made' (After core)
+  dropped-here cause marks are tells = said-here (Dropped cause ∷ []) marks core.sbac are (record { tells = tells; bench_is = refl }) refl refl
+
+  -- ---- the order's messages
+
+  pub refused-here : (from : ℕ) (m : M) (order : O) (answer : Took) (cause : Cause) → Takes rules h from m answer (stands order) → taking_marks from m answer ≡ drops cause → taken_in answer from m h ≡ h → Tells (Dropped cause ∷ []) made made'
+      → Marks site (taking_marks from m (rules.taking h from m)) v made made' (After (record { order = order; judge = core.judge; sbac = core.sbac }))
+  refused-here from m order answer cause called are same tells =
+      let next : Engine O J M = record { order = order; judge = core.judge; sbac = core.sbac } in
+      let T : Took → Type 0 = λ t. stands order (taken_in t from m h) in
+      let stood : stands order h = subst (stands order) same (subst T (sym called.0) called.1) in
+      let which : taking_marks from m (rules.taking h from m) ≡ plain (Dropped cause ∷ []) = ap (taking_marks from m) (sym called.0) ∙ are in
+      subst (λ (ms : List (Mark M)). Marks site ms v made made' (After next)) (sym which)
+      (plain-marks site (Dropped cause ∷ []) v (bench_of core.sbac) made made' (After next) (record { tells = tells; bench_is = refl }) (keeps-on stands approves genesis core h order core.sbac h seated stood refl refl refl refl))
+
+  pub taken-here : (from : ℕ) (m : M) (order : O) → Takes rules h from m Taken (stands order) → made' ≡ made
+      → Marks site (taking_marks from m (rules.taking h from m)) v made made' (After (record { order = order; judge = core.judge; sbac = core.sbac }))
+  taken-here from m order called same =
+      let next : Engine O J M = record { order = order; judge = core.judge; sbac = core.sbac } in
+      let T : Took → Type 0 = λ t. stands order (taken_in t from m h) in
+      let stood : stands order (did (Took_in from m) h) = subst T (sym called.0) called.1 in
+      let R : Took → Type 0 = λ t. Marks site (taking_marks from m t) v made made' (After next) in
+      let D : Draft → Type 0 = λ d. Tells [] made d in
+      subst R called.0 (record {
+        tells = subst D (sym same) (tells-nothing made);
+        after = keeps-on stands approves genesis core h order core.sbac (did (Took_in from m) h) seated stood refl refl refl refl;
+      })
+
+  module _ (sender : NodeId) where
+    pub none-here : (read : Option M) → read ≡ None → Tells (Dropped Role ∷ []) made made' → Marks site (member_marks site v sender read) v made made' (After core)
+    none-here read none tells = dropped-here Role (member_marks site v sender read) (ap (member_marks site v sender) none) tells
+
+    pub stranger-here : (read : Option M) (m : M) → read ≡ Some m → is_other_member core.sbac.config.f core.sbac.me sender ≡ false → Tells (Dropped Role ∷ []) made made' → Marks site (member_marks site v sender read) v made made' (After core)
+    stranger-here read m is other tells =
+        dropped-here Role (member_marks site v sender read) (ap (member_marks site v sender) is ∙ (rw other refl)) tells
+
+    pub member-here : (read : Option M) (m : M) → read ≡ Some m → is_other_member core.sbac.config.f core.sbac.me sender ≡ true → member_marks site v sender read ≡ taking_marks sender.index m (rules.taking h sender.index m)
+    member-here read m is other = ap (member_marks site v sender) is ∙ (rw other refl)
+
+    -- ---- an answer
+
+    pub wanted-by-none : (slot : ℕ) → is_other_member core.sbac.config.f core.sbac.me sender ≡ false → Tells (Dropped Role ∷ []) made made' → Marks site (want_marks site v sender slot) v made made' (After core)
+    wanted-by-none slot other tells = dropped-here Role (want_marks site v sender slot) (rw other refl) tells
+
+    pub unanswered-here : (slot : ℕ) (old new : List (Outgoing M)) → is_other_member core.sbac.config.f core.sbac.me sender ≡ true → RepliesWith (rules.replying h slot sender.index) h slot sender.index false old new (stands core.order)
+        → Tells (Dropped Far ∷ []) made made' → Marks site (want_marks site v sender slot) v made made' (After core)
+    unanswered-here slot old new other called tells =
+        let none : rules.replying h slot sender.index ≡ None = replied-none (rules.replying h slot sender.index) h slot sender.index old new (stands core.order) called in
+        dropped-here Far (want_marks site v sender slot) ((rw other refl) ∙ ap (reply_marks site v slot sender.index) none) tells
+
+    pub answered-here : (slot : ℕ) (old new : List (Outgoing M)) → old ≡ [] → is_other_member core.sbac.config.f core.sbac.me sender ≡ true → RepliesWith (rules.replying h slot sender.index) h slot sender.index true old new (stands core.order)
+        → Tells (handed site core.sbac.me new) made made' → Marks site (want_marks site v sender slot) v made made' (After core)
+    answered-here slot old new empty other called says =
+        let r : HasReplied (rules.replying h slot sender.index) h slot sender.index old new (stands core.order) = replied-some (rules.replying h slot sender.index) h slot sender.index old new (stands core.order) called in
+        let which : want_marks site v sender slot ≡ reply_marks site v slot sender.index (Some r.out) = (rw other refl) ∙ ap (reply_marks site v slot sender.index) r.is in
+        let S : List (Outgoing M) → Type 0 = λ outs. Tells (handed site core.sbac.me outs) made made' in
+        subst (λ (ms : List (Mark M)). Marks site ms v made made' (After core)) (sym which)
+        (deed-done site v made made' (After core) (Replied slot sender.index (r.out ∷ [])) (subst S (from-nothing old new (r.out ∷ []) empty r.grown) says)
+        (keeps-on stands approves genesis core h core.order core.sbac (did (Replied slot sender.index (r.out ∷ [])) h) seated r.stood refl refl refl refl))

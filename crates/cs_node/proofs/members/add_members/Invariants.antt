@@ -1,0 +1,6 @@
+use Rattle.std.proofs.Common.{◌≡◌, ◌++◌}
+use Rattle.cs_trail.specs.Members.{members_below, except}
+use Rattle.cs_node.proofs.members.add_members.Given as goal
+
+abbrev pub invariant-loop-index : goal.invariant-loop-index
+invariant-loop-index l = l.names ≡ l.initial.names ++ except l.me (members_below l.shard l.index)

@@ -1,0 +1,64 @@
+//! What an order hands out.
+ghost use Rattle.std.specs.Prelude.{Bool, List, OnOk};
+ghost use Rattle.cs_value.specs.declared.object.Object.{Object};
+ghost use Rattle.cs_form.specs.declared.transaction.Tx.{Tx};
+ghost use Rattle.cs_trail.specs.Net.{Net};
+ghost use Rattle.cs_trail.specs.Trail.{out_signs, handed};
+ghost use Rattle.cs_node.specs.Notes.{Tells, DraftFits};
+ghost use Rattle.cs_node.specs.Carriers.{carrier};
+ghost use Rattle.cs_node.specs.Cores.{site_at};
+
+use crate::carried::Carried;
+use crate::draft::Draft;
+use crate::members::{is_other_member, others};
+use cs_base::{Memory, NodeId};
+use cs_order::Outgoing;
+use cs_sbac::Sbac;
+use std::alloc::Global;
+
+// Says one message to another member, or to all others.
+fn say_out<O: Carried>(
+    alloc: Global,
+    sbac: &Sbac,
+    draft: &mut Draft,
+    out: Outgoing<O::Message>,
+) -> Result<(), Memory>
+    ensures tells { (net : Net) (genesis : List Object) (approves : Tx → Bool) → OnOk result (Tells (out_signs (site_at O.rules (carrier O.written O.read_of) net sbac.now genesis approves) sbac.now.me out.to out.message) draft.old draft.new) }
+    ensures fits { DraftFits draft.old → OnOk result (DraftFits draft.new) }
+{
+    let me = sbac.me();
+    let Outgoing { to, message } = out;
+    let message = O::write(alloc, message)?;
+    match to {
+        None => {
+            let names = others(alloc, sbac.config(), me, &[me.shard])?;
+            draft.say_to(names, message)
+        }
+        Some(index) => {
+            let name = NodeId {
+                shard: me.shard,
+                index,
+            };
+            if !is_other_member(sbac.config(), me, name) {
+                return Ok(());
+            }
+            draft.say(alloc, name, message)
+        }
+    }
+}
+
+/// Says what an order handed out.
+pub fn hand_out<O: Carried>(
+    alloc: Global,
+    sbac: &Sbac,
+    draft: &mut Draft,
+    outgoing: Vec<Outgoing<O::Message>>,
+) -> Result<(), Memory>
+    ensures tells { (net : Net) (genesis : List Object) (approves : Tx → Bool) → OnOk result (Tells (handed (site_at O.rules (carrier O.written O.read_of) net sbac.now genesis approves) sbac.now.me outgoing.items) draft.old draft.new) }
+    ensures fits { DraftFits draft.old → OnOk result (DraftFits draft.new) }
+{
+    for out in outgoing {
+        say_out::<O>(alloc, sbac, draft, out)?;
+    }
+    Ok(())
+}

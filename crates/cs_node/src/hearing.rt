@@ -1,0 +1,202 @@
+//! What others say to a node.
+ghost use Rattle.std.specs.Prelude.{◌≡◌, ◌≢◌, ◌≤◌, ◌*◌, OnOk, List, true};
+ghost use Rattle.cs_value.specs.declared.object.Object.{Object as AnyObject};
+ghost use Rattle.cs_message.specs.Message.{MessageFits};
+ghost use Rattle.cs_order.specs.Deeds.{Member};
+ghost use Rattle.cs_trail.specs.Site.{Datagram};
+ghost use Rattle.cs_trail.specs.declared.cause.Cause.TheVariants.{Role};
+ghost use Rattle.cs_trail.specs.Trail.{drops, taking_marks, member_marks, want_marks, message_marks, input_marks};
+ghost use Rattle.cs_pool.specs.Deployed.{deployed};
+ghost use Rattle.cs_node.specs.Notes.{DraftFits};
+ghost use Rattle.cs_node.specs.Speaking.{Speaks};
+ghost use Rattle.cs_node.specs.Steps.{Marks};
+ghost use Rattle.cs_node.specs.Carriers.{carrier};
+ghost use Rattle.cs_node.specs.Cores.{Leads};
+
+use crate::asks::{ask, ask_proof};
+use crate::carried::Carried;
+use crate::causes::cause_of;
+use crate::draft::Draft;
+use crate::engine::Engine;
+use crate::handing::hand_out;
+use crate::members::is_other_member;
+use crate::submits::submit;
+use crate::votes::hear_vote;
+use cs_base::{Memory, NodeId};
+use cs_message::Message;
+use cs_order::Took;
+use cs_trail::{Ballot, Cause};
+use cs_tx::Judge;
+use cs_wire::{Keys, read};
+use std::alloc::Global;
+
+impl<O: Carried, J: Judge + Drop> Engine<O, J> {
+    /// Does what a datagram says, or drops it.
+    pub(crate) fn hear_datagram(
+        &mut self,
+        alloc: Global,
+        keys: &Keys,
+        draft: &mut Draft,
+        bytes: &[u8],
+    ) -> Result<(), Memory>
+        ensures marks { keys.now.me ≡ self.old.sbac.me → Leads O.stands J.is_approved O.rules (carrier O.written O.read_of) self.old self.new (λ site v After. Speaks self.old.sbac.config site.net keys.now → OnOk result (Marks site (input_marks site v (Datagram bytes.now)) v draft.old draft.new After)) }
+        ensures fits { DraftFits draft.old → OnOk result (DraftFits draft.new) }
+    {
+        match read(alloc, keys, bytes)? {
+            Ok((sender, message)) => self.hear(alloc, draft, sender, message)?,
+            Err(error) => draft.drop_it(cause_of(error))?,
+        }
+        Ok(())
+    }
+
+    /// Does what a message says, or drops it.
+    fn hear(
+        &mut self,
+        alloc: Global,
+        draft: &mut Draft,
+        sender: NodeId,
+        message: Message,
+    ) -> Result<(), Memory>
+        requires { MessageFits message }
+        ensures marks { Leads O.stands J.is_approved O.rules (carrier O.written O.read_of) self.old self.new (λ site v After. OnOk result (Marks site (message_marks site v sender message) v draft.old draft.new After)) }
+        ensures fits { DraftFits draft.old → OnOk result (DraftFits draft.new) }
+    {
+        match message {
+            Message::Submit(session) => {
+                submit(alloc, &mut self.sbac, &self.judge, draft, sender, session)?;
+                Ok(())
+            }
+            Message::Voted {
+                vote,
+                asks,
+                session,
+            } => {
+                let ballot = Ballot { sender, vote };
+                hear_vote(
+                    alloc,
+                    &mut self.sbac,
+                    &self.judge,
+                    draft,
+                    ballot,
+                    asks,
+                    session,
+                )?;
+                Ok(())
+            }
+            Message::Want { slot } => self.hear_want(alloc, draft, sender, slot),
+            Message::Ask(key) => {
+                ask(alloc, &self.sbac, draft, sender, key)?;
+                Ok(())
+            }
+            Message::AskProof { .. } => {
+                ask_proof(draft, sender)?;
+                Ok(())
+            }
+            Message::Propose { slot, view, entry } => {
+                self.hear_member(alloc, draft, sender, Message::Propose { slot, view, entry })
+            }
+            Message::Echo { slot, view, digest } => {
+                self.hear_member(alloc, draft, sender, Message::Echo { slot, view, digest })
+            }
+            Message::Confirm { slot, view, digest } => {
+                self.hear_member(
+                    alloc,
+                    draft,
+                    sender,
+                    Message::Confirm { slot, view, digest },
+                )
+            }
+            Message::Change { slot, view, change } => {
+                self.hear_member(alloc, draft, sender, Message::Change { slot, view, change })
+            }
+            Message::Done { slot, entry } => {
+                self.hear_member(alloc, draft, sender, Message::Done { slot, entry })
+            }
+            Message::Decided { .. } => self.refuse(draft),
+            Message::Told { .. } => self.refuse(draft),
+            Message::Head(_) => self.refuse(draft),
+            Message::Proof(_) => self.refuse(draft),
+        }
+    }
+
+    /// Drops what its sender may not say.
+    fn refuse(&self, draft: &mut Draft) -> Result<(), Memory>
+        ensures marks { Leads O.stands J.is_approved O.rules (carrier O.written O.read_of) self.now self.now (λ site v After. OnOk result (Marks site (drops Role) v draft.old draft.new After)) }
+        ensures fits { DraftFits draft.old → OnOk result (DraftFits draft.new) }
+    {
+        draft.drop_it(Cause::Role)?;
+        Ok(())
+    }
+
+    /// Another member says something for the order.
+    fn hear_member(
+        &mut self,
+        alloc: Global,
+        draft: &mut Draft,
+        sender: NodeId,
+        message: Message,
+    ) -> Result<(), Memory>
+        requires { MessageFits message }
+        ensures marks { Leads O.stands J.is_approved O.rules (carrier O.written O.read_of) self.old self.new (λ site v After. OnOk result (Marks site (member_marks site v sender (O.read_of message)) v draft.old draft.new After)) }
+        ensures fits { DraftFits draft.old → OnOk result (DraftFits draft.new) }
+    {
+        match O::read(alloc, message)? {
+            None => {
+                draft.drop_it(Cause::Role)?;
+                Ok(())
+            }
+            Some(message) => {
+                if !is_other_member(self.sbac.config(), self.sbac.me(), sender) {
+                    draft.drop_it(Cause::Role)?;
+                    return Ok(());
+                }
+                self.take(alloc, draft, sender.index, message)
+            }
+        }
+    }
+
+    /// The order takes a message of another member, or refuses it.
+    fn take(
+        &mut self,
+        alloc: Global,
+        draft: &mut Draft,
+        from: u16,
+        message: O::Message,
+    ) -> Result<(), Memory>
+        ensures marks { from ≤ 3 * self.old.sbac.config.f → from ≢ self.old.sbac.me.index → O.rules.proper message ≡ true → Leads O.stands J.is_approved O.rules (carrier O.written O.read_of) self.old self.new (λ site v After. OnOk result (Marks site (taking_marks from message (O.rules.taking v.member from message)) v draft.old draft.new After)) }
+        ensures fits { DraftFits draft.old → OnOk result (DraftFits draft.new) }
+    {
+        match self.order.take(alloc, from, message)? {
+            Took::Taken => {}
+            Took::Old => draft.drop_it(Cause::Old)?,
+            Took::Far => draft.drop_it(Cause::Far)?,
+            Took::Leader => draft.drop_it(Cause::Leader)?,
+            Took::Repeat => draft.drop_it(Cause::Repeat)?,
+        }
+        Ok(())
+    }
+
+    /// Another member wants to know what was chosen in a slot.
+    fn hear_want(
+        &self,
+        alloc: Global,
+        draft: &mut Draft,
+        sender: NodeId,
+        slot: u64,
+    ) -> Result<(), Memory>
+        ensures marks { Leads O.stands J.is_approved O.rules (carrier O.written O.read_of) self.now self.now (λ site v After. OnOk result (Marks site (want_marks site v sender slot) v draft.old draft.new After)) }
+        ensures fits { DraftFits draft.old → OnOk result (DraftFits draft.new) }
+    {
+        if !is_other_member(self.sbac.config(), self.sbac.me(), sender) {
+            draft.drop_it(Cause::Role)?;
+            return Ok(());
+        }
+        let mut outgoing = Vec::new(alloc);
+        if !self.order.reply(alloc, slot, sender.index, &mut outgoing)? {
+            draft.drop_it(Cause::Far)?;
+            return Ok(());
+        }
+        hand_out::<O>(alloc, &self.sbac, draft, outgoing)?;
+        Ok(())
+    }
+}

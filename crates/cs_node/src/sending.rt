@@ -1,0 +1,102 @@
+//! What a node says of its own accord.
+ghost use Rattle.std.specs.Prelude.{◌≡◌, ◌∷◌, [], true, Some, Bool, List, IfOk, OnOk};
+ghost use Rattle.cs_value.specs.declared.object.Object.{Object};
+ghost use Rattle.cs_form.specs.declared.transaction.Tx.{Tx};
+ghost use Rattle.cs_form.specs.declared.vote.Vote.TheVariants.{Commit};
+ghost use Rattle.cs_form.specs.Session.{SessionFits};
+ghost use Rattle.cs_message.specs.declared.message.Message.TheVariants as message;
+ghost use Rattle.cs_message.specs.Message.{IsSlot};
+ghost use Rattle.cs_trail.specs.Setup.{concerned};
+ghost use Rattle.cs_trail.specs.Members.{others};
+ghost use Rattle.cs_trail.specs.Signs.{sends, vote_signs, asked_again};
+ghost use Rattle.cs_pool.specs.Deployed.{deployed};
+ghost use Rattle.cs_node.specs.Notes.{Tells, DraftFits};
+
+use crate::draft::Draft;
+use crate::members::others;
+use cs_base::{Memory, NodeId, Sequence};
+use cs_message::Message;
+use cs_sbac::Sbac;
+use cs_tx::{Encoded, Session, Vote};
+use std::alloc::Global;
+
+/// All other nodes of the shards that a session concerns.
+fn voters(alloc: Global, sbac: &Sbac, session: &Session) -> Result<Sequence<NodeId>, Memory>
+    requires { SessionFits session.now }
+    ensures { (genesis : List Object) (approves : Tx → Bool) → IfOk result (λ names. names ≡ others sbac.now.config.f sbac.now.me (concerned (deployed sbac.now.config genesis approves) session.now)) }
+{
+    let shards = sbac.concerned(alloc, session)?;
+    let names = others(alloc, sbac.config(), sbac.me(), shards.as_slice())?;
+    Ok(names)
+}
+
+/// Says the vote that the node gave on a session, if it gave one, to all others whom it concerns.
+pub fn say_vote(
+    alloc: Global,
+    sbac: &Sbac,
+    draft: &mut Draft,
+    session: &Session,
+    voted: Option<(Vote, bool)>,
+) -> Result<(), Memory>
+    requires { SessionFits session.now }
+    ensures tells { (genesis : List Object) (approves : Tx → Bool) → OnOk result (Tells (vote_signs (deployed sbac.now.config genesis approves) sbac.now.me session.now voted) draft.old draft.new) }
+    ensures fits { DraftFits draft.old → OnOk result (DraftFits draft.new) }
+{
+    let Some((vote, asks)) = voted else {
+        return Ok(());
+    };
+    let names = voters(alloc, sbac, session)?;
+    if names.is_empty() {
+        return Ok(());
+    }
+    let session = session.copy(alloc)?;
+    draft.say_to(
+        names,
+        Message::Voted {
+            vote,
+            asks,
+            session,
+        },
+    )
+}
+
+// Asks all whom a locked session concerns for their votes. The node itself has voted commit.
+fn ask_votes(alloc: Global, sbac: &Sbac, draft: &mut Draft, session: Session) -> Result<(), Memory>
+    requires { SessionFits session }
+    ensures tells { (genesis : List Object) (approves : Tx → Bool) → OnOk result (Tells (vote_signs (deployed sbac.now.config genesis approves) sbac.now.me session (Some (Commit, true))) draft.old draft.new) }
+    ensures fits { DraftFits draft.old → OnOk result (DraftFits draft.new) }
+{
+    let names = voters(alloc, sbac, &session)?;
+    draft.say_to(
+        names,
+        Message::Voted {
+            vote: Vote::Commit,
+            asks: true,
+            session,
+        },
+    )
+}
+
+/// Asks again for the votes on all locked sessions.
+pub fn ask_again(alloc: Global, sbac: &Sbac, draft: &mut Draft) -> Result<(), Memory>
+    ensures tells { (genesis : List Object) (approves : Tx → Bool) → OnOk result (Tells (asked_again (deployed sbac.now.config genesis approves) sbac.now.me sbac.now.pool) draft.old draft.new) }
+    ensures fits { DraftFits draft.old → OnOk result (DraftFits draft.new) }
+{
+    let mut sessions = sbac.locked(alloc)?;
+    sessions.reverse();
+    while let Some(session) = sessions.pop() {
+        ask_votes(alloc, sbac, draft, session)?;
+    }
+    Ok(())
+}
+
+/// Asks the other members of the shard for what was chosen in a slot.
+pub fn want(alloc: Global, sbac: &Sbac, draft: &mut Draft, slot: u64) -> Result<(), Memory>
+    requires { IsSlot slot }
+    ensures tells { OnOk result (Tells (sends (others sbac.now.config.f sbac.now.me (sbac.now.me.shard ∷ [])) (message.Want slot)) draft.old draft.new) }
+    ensures fits { DraftFits draft.old → OnOk result (DraftFits draft.new) }
+{
+    let me = sbac.me();
+    let names = others(alloc, sbac.config(), me, &[me.shard])?;
+    draft.say_to(names, Message::Want { slot })
+}

@@ -1,0 +1,24 @@
+//! The order of a single member, which has no message to carry.
+ghost use Rattle.cs_node.specs.SoloCarried.{solo_written, solo_read, solo_carries};
+
+use crate::carried::Carried;
+use cs_base::Memory;
+use cs_message::Message;
+use cs_order::{NoMessage, Solo};
+use std::alloc::Global;
+
+impl Carried for Solo {
+    ghost written = { solo_written };
+
+    ghost read_of = { solo_read };
+
+    ghost carries = { solo_carries };
+
+    fn write(_alloc: Global, _message: NoMessage) -> Result<Message, Memory> {
+        Ok(Message::Want { slot: 0 })
+    }
+
+    fn read(_alloc: Global, _message: Message) -> Result<Option<NoMessage>, Memory> {
+        Ok(None)
+    }
+}

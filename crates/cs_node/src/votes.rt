@@ -1,0 +1,113 @@
+//! The votes of other nodes.
+ghost use Rattle.std.specs.Prelude.{◌≡◌, ◌∷◌, [], None, OnOk, List};
+ghost use Rattle.cs_value.specs.declared.object.Object.{Object};
+ghost use Rattle.cs_form.specs.Session.{SessionFits};
+ghost use Rattle.cs_tx.specs.Digest.{digest_of_session};
+ghost use Rattle.cs_trail.specs.declared.cause.Cause.TheVariants.{Denied, Full};
+ghost use Rattle.cs_trail.specs.Setup.{is_approved};
+ghost use Rattle.cs_trail.specs.Pool.{found, has_room};
+ghost use Rattle.cs_trail.specs.Bench.{noted};
+ghost use Rattle.cs_trail.specs.Signs.{Took, Entered as Enters, guarded, asking_signs, voted_signs};
+ghost use Rattle.cs_pool.specs.Deployed.{deployed};
+ghost use Rattle.cs_sbac.specs.Held.{Held, bench_of};
+ghost use Rattle.cs_node.specs.Notes.{DraftFits};
+ghost use Rattle.cs_node.specs.Steps.{Makes};
+
+use crate::draft::Draft;
+use cs_base::Memory;
+use cs_message::Message;
+use cs_sbac::{Counted, Entered, Sbac};
+use cs_trail::{Ballot, Cause};
+use cs_tx::{Judge, Session};
+use std::alloc::Global;
+
+// A session that is new enters with the vote, where it is approved and has room.
+fn enter_voted<J: Judge>(
+    alloc: Global,
+    sbac: &mut Sbac,
+    judge: &J,
+    draft: &mut Draft,
+    ballot: Ballot,
+    session: Session,
+) -> Result<(), Memory>
+    requires fits { SessionFits session }
+    requires new { found (digest_of_session session) sbac.old.pool ≡ None }
+    ensures made { (genesis : List Object) → OnOk result (Makes (deployed sbac.old.config genesis (J.is_approved judge.now)) sbac.old.me (guarded (is_approved (deployed sbac.old.config genesis (J.is_approved judge.now)) session) Denied (guarded (has_room sbac.old.pool) Full (Took ballot.sender ballot.vote session ∷ Enters session ∷ []))) (bench_of sbac.old) (bench_of sbac.new) draft.old draft.new) }
+    ensures fits { DraftFits draft.old → OnOk result (DraftFits draft.new) }
+    ensures config { OnOk result (sbac.new.config ≡ sbac.old.config) }
+    ensures me { OnOk result (sbac.new.me ≡ sbac.old.me) }
+{
+    if !judge.approves(alloc, &session.tx)? {
+        return draft.drop_it(Cause::Denied);
+    }
+    match sbac.enter_voted(alloc, ballot.sender, session, ballot.vote)? {
+        Entered::New => Ok(()),
+        Entered::Full => draft.drop_it(Cause::Full),
+    }
+}
+
+// A vote on a session that isn't in the pool: one that asks is answered by the vote on record, or
+// the session enters.
+fn answer_vote<J: Judge>(
+    alloc: Global,
+    sbac: &mut Sbac,
+    judge: &J,
+    draft: &mut Draft,
+    ballot: Ballot,
+    asks: bool,
+    session: Session,
+) -> Result<(), Memory>
+    requires fits { SessionFits session }
+    requires new { found (digest_of_session session) sbac.old.pool ≡ None }
+    ensures made { (genesis : List Object) → OnOk result (Makes (deployed sbac.old.config genesis (J.is_approved judge.now)) sbac.old.me (asking_signs (deployed sbac.old.config genesis (J.is_approved judge.now)) (bench_of sbac.old) ballot.sender ballot.vote asks session (noted (deployed sbac.old.config genesis (J.is_approved judge.now)) sbac.old.me.shard (bench_of sbac.old).table session)) (bench_of sbac.old) (bench_of sbac.new) draft.old draft.new) }
+    ensures fits { DraftFits draft.old → OnOk result (DraftFits draft.new) }
+    ensures config { OnOk result (sbac.new.config ≡ sbac.old.config) }
+    ensures me { OnOk result (sbac.new.me ≡ sbac.old.me) }
+{
+    if !asks {
+        return draft.drop_it(Cause::Unasked);
+    }
+    match sbac.noted(alloc, &session)? {
+        Some(vote) => {
+            let answer = Message::Voted {
+                vote,
+                asks: false,
+                session,
+            };
+            draft.say(alloc, ballot.sender, answer)
+        }
+        None => enter_voted(alloc, sbac, judge, draft, ballot, session),
+    }
+}
+
+/// Another node votes on a session, and may ask for the vote of this one.
+pub fn hear_vote<J: Judge>(
+    alloc: Global,
+    sbac: &mut Sbac,
+    judge: &J,
+    draft: &mut Draft,
+    ballot: Ballot,
+    asks: bool,
+    session: Session,
+) -> Result<(), Memory>
+    requires { SessionFits session }
+    ensures made { (genesis : List Object) → OnOk result (Makes (deployed sbac.old.config genesis (J.is_approved judge.now)) sbac.old.me (voted_signs (deployed sbac.old.config genesis (J.is_approved judge.now)) sbac.old.me.shard (bench_of sbac.old) ballot.sender ballot.vote asks session) (bench_of sbac.old) (bench_of sbac.new) draft.old draft.new) }
+    ensures fits { DraftFits draft.old → OnOk result (DraftFits draft.new) }
+    ensures config { OnOk result (sbac.new.config ≡ sbac.old.config) }
+    ensures me { OnOk result (sbac.new.me ≡ sbac.old.me) }
+{
+    if ballot.sender.is_client() {
+        return draft.drop_it(Cause::Role);
+    }
+    if !sbac.is_fit(alloc, &session)? {
+        return draft.drop_it(Cause::Malformed);
+    }
+    if !sbac.concerns(alloc, &session, ballot.sender.shard)? {
+        return draft.drop_it(Cause::Role);
+    }
+    match sbac.vote(alloc, ballot.sender, &session, ballot.vote)? {
+        Counted::Counted => Ok(()),
+        Counted::Repeat => draft.drop_it(Cause::Repeat),
+        Counted::NotPooled => answer_vote(alloc, sbac, judge, draft, ballot, asks, session),
+    }
+}

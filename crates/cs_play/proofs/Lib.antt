@@ -1,0 +1,10 @@
+pub mod Courses
+pub mod Deliveries
+pub mod Forgeries
+pub mod Histories
+pub mod Notes
+pub mod Outcomes
+pub mod Posted
+pub mod Taken
+pub mod Views
+pub mod Voiced

@@ -1,0 +1,86 @@
+-- What a replay keeps of the executions so far, and what it stands for.
+use Rattle.std.specs.Prelude.{◌≡◌, ℕ, ◌+◌, ◌<◌, nat_lt, ◌==◌, ◌&&◌, Bool, List, [], ◌∷◌, ◌++◌, length, slice_index, slice_set, bytes_eq, if◌then◌else◌}
+use Rattle.std.specs.List.{list_all, list_any}
+use Rattle.cs_base.specs.declared.config.Config.{Config}
+use Rattle.cs_form.specs.declared.session.Session.{Session}
+use Rattle.cs_form.specs.declared.entry.Entry.{Entry}
+use Rattle.cs_form.specs.declared.entry.Entry.TheVariants.{Prepare, Decide}
+use Rattle.cs_tx.specs.Digest.{digest_of_tx, digest_of_session}
+use Rattle.cs_ledger.specs.Ledger.{Bytes}
+use Rattle.cs_ledger.specs.Table as Shard
+use Rattle.cs_trail.specs.Setup.{Setup, digest_of, concerned}
+use Rattle.cs_trail.specs.World.{Execution, slots_of, recorded, told}
+use Rattle.cs_play.specs.Digests.{digests_of}
+use Rattle.cs_tx.specs.Uses.{concerned_shards}
+
+-- how many slots of each shard were executed, the commit votes by shard and session, and the transactions told
+pub record Kept : Type 0 where
+  pub config : Config
+  pub slots : List ℕ
+  pub commits : List (ℕ × Bytes)
+  pub told : List Bytes
+
+-- a setup that names sessions and transactions by their digests, and concerns the shards of a configuration
+pub record Deploys (config : Config) (setup : Setup) : Type 0 where
+  pub shards : setup.shards ≡ config.shards
+  pub session : (x : Session) → digest_of setup x ≡ digest_of_session x
+  pub transaction : (x : Session) → (setup.session_of x).transaction.digest ≡ digest_of_tx x.tx
+  pub concerns : (x : Session) → concerned setup x ≡ concerned_shards config x
+
+abbrev pub is_commit : List (ℕ × Bytes) → Bytes → ℕ → Bool
+is_commit commits d shard = list_any (λ commit. (shard == commit.0) && bytes_eq d commit.1) commits
+
+-- these first executions are those that were kept
+pub record Keeps (setup : Setup) (firsts : List Execution) (kept : Kept) : Type 0 where
+  pub deploys : Deploys kept.config setup
+  pub each : length kept.slots ≡ kept.config.shards
+  pub slots : (shard : ℕ) → shard < kept.config.shards → slice_index kept.slots shard ≡ slots_of shard firsts
+  pub commits : (d : Bytes) (shard : ℕ) → is_commit kept.commits d shard ≡ recorded setup firsts d Shard.Commit shard
+  pub told : kept.told ≡ digests_of (told setup firsts)
+
+-- nothing was executed yet
+abbrev pub IsBeforeFirst : Kept → Type 0
+IsBeforeFirst kept = (setup : Setup) → Deploys kept.config setup → Keeps setup [] kept
+
+-- ---- one more execution
+
+abbrev pub with_commit : ℕ → Bytes → List (ℕ × Bytes) → List (ℕ × Bytes)
+with_commit shard d commits = if is_commit commits d shard then commits else commits ++ (shard, d) ∷ []
+
+abbrev pub with_told : Bytes → List Bytes → List Bytes
+with_told d told = if list_any (bytes_eq d) told then told else told ++ d ∷ []
+
+-- every concerned shard has voted commit
+abbrev pub all_commit : Config → List (ℕ × Bytes) → Session → Bool
+all_commit config commits x = list_all (is_commit commits (digest_of_session x)) (concerned_shards config x)
+
+-- the vote on a session of this digest
+abbrev pub voted : Kept → ℕ → Bytes → Shard.Vote → Kept
+voted kept shard d Shard.Commit = record kept { commits = with_commit shard d kept.commits }
+voted kept shard d Shard.Abort = kept
+
+-- the transaction of a session, where every concerned shard has voted commit
+abbrev pub told_next : Kept → Session → Kept
+told_next kept x =
+    record kept { told = if all_commit kept.config kept.commits x then with_told (digest_of_tx x.tx) kept.told else kept.told }
+
+-- one more slot of the shard
+abbrev pub entered_slot : Kept → ℕ → Kept
+entered_slot kept shard = record kept { slots = slice_set kept.slots shard (slice_index kept.slots shard + 1) }
+
+-- a Prepare that was answered by a vote; what is void gives nothing
+abbrev pub prepared : Kept → ℕ → Session → Shard.Effect → Kept
+prepared kept shard x (Shard.Voted vote) = told_next (voted kept shard (digest_of_session x) vote) x
+prepared kept shard x Shard.Accepted = kept
+prepared kept shard x Shard.Aborted = kept
+prepared kept shard x Shard.Skipped = kept
+prepared kept shard x Shard.Void = kept
+
+abbrev pub executed : Kept → ℕ → Entry → Shard.Effect → Kept
+executed kept shard (Prepare x) effect = prepared kept shard x effect
+executed kept shard (Decide vote x) effect = kept
+
+-- what is kept after an execution, where the slot is new
+abbrev pub kept_after : Kept → ℕ → ℕ → Entry → Shard.Effect → Kept
+kept_after kept shard slot entry effect =
+    if nat_lt slot (slice_index kept.slots shard) then kept else executed (entered_slot kept shard) shard entry effect

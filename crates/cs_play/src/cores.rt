@@ -1,0 +1,70 @@
+//! The nodes of a replay.
+ghost use Rattle.std.specs.Prelude.{◌≡◌, ◌≢◌, ℕ, ◌<◌, List, length, IfOk, IfSome, IfNone};
+ghost use Rattle.cs_base.specs.declared.node_id.NodeId.{NodeId};
+ghost use Rattle.cs_trail.specs.Setup.{Setup};
+ghost use Rattle.cs_trail.specs.Net.{Net};
+ghost use Rattle.cs_trail.specs.Site.{View};
+ghost use Rattle.cs_trail.specs.World.{Happening};
+ghost use Rattle.cs_trail.specs.Deployment.{site_of};
+ghost use Rattle.cs_node.specs.Notes.{NotesFit};
+ghost use Rattle.cs_node.specs.Speaking.{input_of, sender_of};
+ghost use Rattle.cs_node.specs.Carriers.{carrier};
+ghost use Rattle.cs_play.specs.Standing.{EachStands, AllStand, HasNode, Delivered};
+
+use cs_base::{Memory, NodeId, Sequence};
+use cs_node::{Carried, Core, Made};
+use cs_tx::Judge;
+use cs_wire::Input;
+use std::alloc::Global;
+
+/// The place of the core of a node.
+pub fn place_of<O: Carried, J: Judge + Drop>(cores: &[Core<O, J>], name: NodeId) -> Option<usize>
+    ensures within { IfSome result (λ place. place < length cores.now) }
+    ensures named { (setup : Setup) (net : Net) (views : ℕ → View O.Message) → EachStands O.stands J.is_approved setup net cores.now views → IfSome result (λ place. (views place).me ≡ name) }
+    ensures none { (setup : Setup) (net : Net) (views : ℕ → View O.Message) → EachStands O.stands J.is_approved setup net cores.now views → IfNone result ((i : ℕ) → i < length cores.now → (views i).me ≢ name) }
+{
+    for (place, core) in cores.iter().enumerate() {
+        if core.me() == name {
+            return Some(place);
+        }
+    }
+    None
+}
+
+/// As whom bytes open at a node. At a name without a core they don't open.
+pub fn sender_at<O: Carried, J: Judge + Drop>(
+    alloc: Global,
+    cores: &[Core<O, J>],
+    to: NodeId,
+    bytes: &[u8],
+) -> Result<Option<NodeId>, Memory>
+    ensures { (setup : Setup) (net : Net) (names : ℕ → NodeId) (views : ℕ → View O.Message) → EachStands O.stands J.is_approved setup net cores.now views
+        → ((i : ℕ) → (views i).me ≡ names i) → HasNode names (length cores.now) to → IfOk result (λ sender. sender ≡ sender_of (net.opened to bytes.now)) }
+{
+    match place_of(cores, to) {
+        Some(place) => cores[place].sender(alloc, bytes),
+        None => Ok(None),
+    }
+}
+
+/// Gives an input to a node. A name without a core takes nothing.
+pub fn deliver<O: Carried, J: Judge + Drop>(
+    alloc: Global,
+    cores: &mut Vec<Core<O, J>>,
+    to: NodeId,
+    input: Input<'_>,
+) -> Result<Made, Memory>
+    ensures delivered { (setup : Setup) (net : Net) (names : ℕ → NodeId) (world : List (Happening O.Message))
+        → AllStand O.stands J.is_approved (site_of setup net O.rules (carrier O.written O.read_of)) names cores.old.items world → HasNode names (length cores.old.items) to
+        → IfOk result (λ made. Delivered O.stands J.is_approved (site_of setup net O.rules (carrier O.written O.read_of)) names cores.new.items world to (input_of input.entry) made) }
+    ensures fits { IfOk result (λ made. NotesFit made.notes) }
+    ensures count { length cores.new.items ≡ length cores.old.items }
+{
+    match place_of(cores, to) {
+        Some(place) => cores[place].step(alloc, input),
+        None => Ok(Made {
+            outs: Sequence::new(alloc),
+            notes: Sequence::new(alloc),
+        }),
+    }
+}

@@ -1,0 +1,181 @@
+//! The history, kept from the executions as they come.
+ghost use Rattle.std.specs.Prelude.{◌≡◌, ◌<◌, ◌==◌, IfOk, OnOk, List, replicate};
+ghost use Rattle.cs_form.specs.Session.{SessionFits};
+ghost use Rattle.cs_node.specs.Notes.{ExecutedFits};
+ghost use Rattle.cs_trail.specs.Setup.{Setup};
+ghost use Rattle.cs_trail.specs.World.{Execution, first_of};
+ghost use Rattle.cs_trail.specs.Signs.{Did};
+ghost use Rattle.cs_table.specs.Effects.{effect_of};
+ghost use Rattle.cs_table.specs.Seen.{vote_of};
+ghost use Rattle.std.specs.List.{list_all};
+ghost use Rattle.cs_tx.specs.Digest.{digest_of_session};
+ghost use Rattle.cs_play.specs.Kept.{Keeps, IsBeforeFirst, is_commit, all_commit, voted, told_next, executed, kept_after};
+
+use cs_base::{Config, Memory};
+use cs_node::Effect;
+use cs_tx::{Digest, Entry, Session, Vote, concerned, session_digest, tx_digest};
+use indexmap::IndexSet;
+use std::alloc::Global;
+use std::marker::Model;
+
+/// What was executed so far, as far as the history needs it. Of the executions of a slot the
+/// first counts.
+#[derive(Drop)]
+pub struct History {
+    config: Config,
+    // How many slots of each shard were executed. The number of a slot is below 2^64.
+    slots: Vec<u128>,
+    // The shards that voted commit, each with the session's digest.
+    commits: IndexSet<(u16, Digest)>,
+    // The transactions on which every concerned shard has voted commit, in that order.
+    told: IndexSet<Digest>,
+}
+
+impl Model for History {
+    ghost use Rattle.cs_play.specs.Kept.{Kept};
+    ghost use Rattle.std.specs.Prelude.{◌≡◌, length};
+
+    ghost Value = { Kept };
+
+    ghost view = { λ h. record { config = h.config; slots = h.slots.items; commits = h.commits.keys; told = h.told.keys } };
+
+    ghost invariant = { λ h. length h.slots.items ≡ h.config.shards };
+}
+
+impl History {
+    /// Before the first execution.
+    pub fn new(alloc: Global, config: Config) -> Result<History, Memory>
+        ensures empty { IfOk result IsBeforeFirst }
+        ensures config { IfOk result (λ history. history.config ≡ config) }
+    {
+        Ok(History {
+            config,
+            slots: vec![in alloc; 0; config.shards as usize]?,
+            commits: IndexSet::new(alloc),
+            told: IndexSet::new(alloc),
+        })
+    }
+
+    /// The digests of the transactions, in the order of the history.
+    pub fn told(&self) -> &[Digest]
+        ensures { result.now ≡ self.now.told }
+    {
+        self.told.as_slice()
+    }
+
+    /// Adds the execution of an entry at a node of the shard. Nothing is added of a shard that the
+    /// configuration doesn't have.
+    pub fn execute(
+        &mut self,
+        alloc: Global,
+        shard: u16,
+        slot: u64,
+        entry: &Entry,
+        effect: Effect,
+    ) -> Result<(), Memory>
+        requires fits { ExecutedFits effect entry.now }
+        ensures kept { (setup : Setup) (firsts : List Execution) → shard < self.old.config.shards → Keeps setup firsts self.old → OnOk result (Keeps setup (first_of shard (Did slot entry.now (effect_of effect)) firsts) self.new) }
+        ensures config { OnOk result (self.new.config ≡ self.old.config) }
+    {
+        self.enter(alloc, shard, slot, entry, effect)
+    }
+
+    fn enter(
+        &mut self,
+        alloc: Global,
+        shard: u16,
+        slot: u64,
+        entry: &Entry,
+        effect: Effect,
+    ) -> Result<(), Memory>
+        requires fits { ExecutedFits effect entry.now }
+        ensures kept { shard < self.old.config.shards → OnOk result (self.new ≡ kept_after self.old shard slot entry.now (effect_of effect)) }
+        ensures config { OnOk result (self.new.config ≡ self.old.config) }
+    {
+        let place = shard as usize;
+        if place >= self.slots.len() {
+            return Ok(());
+        }
+        let known = self.slots[place];
+        if u128::from(slot) < known {
+            return Ok(());
+        }
+        self.slots[place] = known + 1;
+        self.note(alloc, shard, entry, effect)
+    }
+
+    // What a new execution gives: a vote on a session. What is void gives nothing.
+    fn note(
+        &mut self,
+        alloc: Global,
+        shard: u16,
+        entry: &Entry,
+        effect: Effect,
+    ) -> Result<(), Memory>
+        requires fits { ExecutedFits effect entry.now }
+        ensures { OnOk result (self.new ≡ executed self.old shard entry.now (effect_of effect)) }
+    {
+        match (entry, effect) {
+            (Entry::Prepare(session), Effect::Voted(vote)) => {
+                self.prepare(alloc, shard, session, vote)
+            }
+            _ => Ok(()),
+        }
+    }
+
+    // A vote on a session: where it is the last of its commit votes, the transaction is told.
+    fn prepare(
+        &mut self,
+        alloc: Global,
+        shard: u16,
+        session: &Session,
+        vote: Vote,
+    ) -> Result<(), Memory>
+        requires { SessionFits session.now }
+        ensures { OnOk result (self.new ≡ told_next (voted self.old shard (digest_of_session session.now) (vote_of vote)) session.now) }
+    {
+        let digest = session_digest(alloc, session)?;
+        if vote == Vote::Commit {
+            self.commits.insert((shard, digest))?;
+        }
+        self.tell(alloc, session, digest)
+    }
+
+    fn tell(&mut self, alloc: Global, session: &Session, digest: Digest) -> Result<(), Memory>
+        requires fits { SessionFits session.now }
+        requires digest { digest ≡ digest_of_session session.now }
+        ensures { OnOk result (self.new ≡ told_next self.old session.now) }
+    {
+        if self.has_all_commits(alloc, session, digest)? {
+            let transaction = tx_digest(alloc, &session.tx)?;
+            self.told.insert(transaction)?;
+        }
+        Ok(())
+    }
+
+    fn has_all_commits(
+        &self,
+        alloc: Global,
+        session: &Session,
+        digest: Digest,
+    ) -> Result<bool, Memory>
+        requires fits { SessionFits session.now }
+        requires digest { digest ≡ digest_of_session session.now }
+        ensures { IfOk result (λ all. all ≡ all_commit self.now.config self.now.commits session.now) }
+    {
+        let shards = concerned(alloc, session, &self.config)?;
+        Ok(self.have_committed(shards.as_slice(), digest))
+    }
+
+    fn have_committed(&self, shards: &[u16], digest: Digest) -> bool
+        ensures { result ≡ list_all (is_commit self.now.commits digest) shards.now }
+    {
+        shards.iter().all(|shard| self.has_commit(*shard, digest))
+    }
+
+    fn has_commit(&self, shard: u16, digest: Digest) -> bool
+        ensures { result ≡ is_commit self.now.commits digest shard }
+    {
+        self.commits.contains(&(shard, digest))
+    }
+}

@@ -1,0 +1,17 @@
+//! Plays the events of a schedule at its honest nodes, and prints what these do. It knows neither the
+//! order nor the judge of the nodes.
+#![tactic(auto)]
+
+mod cores;
+mod halt;
+mod history;
+mod lines;
+mod play;
+mod telling;
+mod voices;
+
+pub use halt::Halt;
+pub use history::History;
+pub use lines::{forged_line, history_text, limit_line};
+pub use play::Replay;
+pub use voices::Voices;

@@ -1,0 +1,200 @@
+//! The lines that are printed.
+ghost use Rattle.std.specs.Prelude.{◌≡◌, ◌++◌, codes, Some, IfOk, string_bytes};
+ghost use Rattle.cs_form.specs.Session.{SessionFits, EntryFits};
+ghost use Rattle.cs_tx.specs.Digest.{digest_of_session};
+ghost use Rattle.cs_base.specs.Codes.{bytes_text};
+ghost use Rattle.cs_trail.specs.Setup.{session_in};
+ghost use Rattle.cs_trail.specs.Lines.{slot_line, effect_text, cause_text, drop_line, at_line, kind_in, sent_line, limit_line, forged_line, view_line};
+ghost use Rattle.cs_table.specs.Effects.{effect_of};
+ghost use Rattle.cs_table.specs.Seen.{vote_of};
+ghost use Rattle.cs_ledger.specs.Table.{Voted};
+ghost use Rattle.cs_node.specs.Notes.{ExecutedFits};
+ghost use Rattle.cs_play.specs.Digests.{history_lines, sent_text};
+
+use cs_base::{Memory, NodeId, print_bytes};
+use cs_node::Effect;
+use cs_post::Parcel;
+use cs_trail::Cause;
+use cs_tx::{Digest, Entry, Session, Vote, session_digest};
+use std::alloc::Global;
+use std::fmt;
+
+/// The line of an execution of an entry.
+pub fn slot_line(
+    alloc: Global,
+    me: NodeId,
+    slot: u64,
+    entry: &Entry,
+    effect: Effect,
+) -> Result<String, Memory>
+    requires { ExecutedFits effect entry.now }
+    ensures { IfOk result (λ text. string_bytes text ≡ slot_line me slot (digest_of_session (session_in entry.now)) (effect_of effect)) }
+{
+    let effect = effect_text(alloc, entry, effect)?;
+    Ok(format!(in alloc; "node {me} slot {slot} {effect}\n")?)
+}
+
+// What an execution came to. What is void may have no digest.
+fn effect_text(alloc: Global, entry: &Entry, effect: Effect) -> Result<String, Memory>
+    requires { ExecutedFits effect entry.now }
+    ensures { IfOk result (λ text. string_bytes text ≡ effect_text (digest_of_session (session_in entry.now)) (effect_of effect)) }
+{
+    match effect {
+        Effect::Voted(vote) => vote_text(alloc, entry, vote),
+        Effect::Accepted => {
+            let digest = digest_text(alloc, entry)?;
+            Ok(format!(in alloc; "decide {digest} accepted")?)
+        }
+        Effect::Aborted => {
+            let digest = digest_text(alloc, entry)?;
+            Ok(format!(in alloc; "decide {digest} aborted")?)
+        }
+        Effect::Skipped => {
+            let digest = digest_text(alloc, entry)?;
+            Ok(format!(in alloc; "decide {digest} skipped")?)
+        }
+        Effect::Void => Ok(String::from_str(alloc, "void")?),
+    }
+}
+
+fn vote_text(alloc: Global, entry: &Entry, vote: Vote) -> Result<String, Memory>
+    requires { EntryFits entry.now }
+    ensures { IfOk result (λ text. string_bytes text ≡ effect_text (digest_of_session (session_in entry.now)) (Voted (vote_of vote))) }
+{
+    let digest = digest_text(alloc, entry)?;
+    Ok(match vote {
+        Vote::Commit => format!(in alloc; "prepare {digest} commit")?,
+        Vote::Abort => format!(in alloc; "prepare {digest} abort")?,
+    })
+}
+
+fn digest_text(alloc: Global, entry: &Entry) -> Result<String, Memory>
+    requires { EntryFits entry.now }
+    ensures { IfOk result (λ text. string_bytes text ≡ bytes_text (digest_of_session (session_in entry.now))) }
+{
+    let digest = session_digest(alloc, session_in(entry))?;
+    print_bytes(alloc, digest.as_slice())
+}
+
+fn session_in(entry: &Entry) -> &Session
+    ensures is { result.now ≡ session_in entry.now }
+    ensures fits { EntryFits entry.now → SessionFits result.now }
+{
+    match entry {
+        Entry::Prepare(session) => session,
+        Entry::Decide(_, session) => session,
+    }
+}
+
+/// The word of a cause.
+#[derive(Clone, Copy)]
+struct Word(Cause);
+
+impl fmt::Display for Word {
+    ghost output = { λ word. Some (cause_text word.0) };
+
+    fn fmt<W: fmt::Write>(&self, f: &mut fmt::Formatter<W>) -> fmt::Result {
+        f.write_str(match self.0 {
+            Cause::Short => "short",
+            Cause::Magic => "magic",
+            Cause::Kind => "kind",
+            Cause::Mine => "mine",
+            Cause::Stranger => "stranger",
+            Cause::Length => "length",
+            Cause::Tag => "tag",
+            Cause::Body => "body",
+            Cause::Role => "role",
+            Cause::Malformed => "malformed",
+            Cause::Old => "old",
+            Cause::Far => "far",
+            Cause::Leader => "leader",
+            Cause::Repeat => "repeat",
+            Cause::Unasked => "unasked",
+            Cause::Denied => "denied",
+            Cause::Full => "full",
+            Cause::NoProof => "noproof",
+        })
+    }
+}
+
+/// The line of a datagram that a node dropped.
+pub fn drop_line(alloc: Global, me: NodeId, cause: Cause) -> Result<String, Memory>
+    ensures { IfOk result (λ text. string_bytes text ≡ drop_line me cause) }
+{
+    let word = Word(cause);
+    Ok(format!(in alloc; "drop {me} {word}\n")?)
+}
+
+/// The line of a view that a node entered.
+pub fn view_line(alloc: Global, me: NodeId, slot: u64, view: u16) -> Result<String, Memory>
+    ensures { IfOk result (λ text. string_bytes text ≡ view_line me slot view) }
+{
+    Ok(format!(in alloc; "view {me} slot {slot} {view}\n")?)
+}
+
+/// The line of an event, by its number and that of its line.
+pub fn at_line(alloc: Global, event: u64, line: u64) -> Result<String, Memory>
+    ensures { IfOk result (λ text. string_bytes text ≡ at_line event line) }
+{
+    Ok(format!(in alloc; "at {event} {line}\n")?)
+}
+
+/// The line of a datagram that was sent, with its number.
+pub fn sent_line(alloc: Global, number: u64, parcel: &Parcel) -> Result<String, Memory>
+    ensures { IfOk result (λ text. string_bytes text ≡ sent_line number parcel.now) }
+{
+    let kind = kind_in(parcel.bytes());
+    let bytes = print_bytes(alloc, parcel.bytes())?;
+    parcel_line(alloc, number, parcel.from(), parcel.to(), kind, &bytes)
+}
+
+fn parcel_line(
+    alloc: Global,
+    number: u64,
+    from: NodeId,
+    to: NodeId,
+    kind: u8,
+    bytes: &str,
+) -> Result<String, Memory>
+    ensures { IfOk result (λ text. string_bytes text ≡ sent_text number from to kind bytes.now) }
+{
+    Ok(format!(in alloc; "sent {number} {from} {to} {kind} {bytes}\n")?)
+}
+
+// The kind of a datagram.
+fn kind_in(bytes: &[u8]) -> u8
+    ensures { result ≡ kind_in bytes.now }
+{
+    match bytes.get(4) {
+        Some(kind) => *kind,
+        None => 0,
+    }
+}
+
+/// The line of an event that would have passed a limit.
+pub fn limit_line(alloc: Global, line: u64) -> Result<String, Memory>
+    ensures { IfOk result (λ text. string_bytes text ≡ limit_line line) }
+{
+    Ok(format!(in alloc; "limit {line}\n")?)
+}
+
+/// The line of an event that would give a node a forged datagram.
+pub fn forged_line(alloc: Global, line: u64) -> Result<String, Memory>
+    ensures { IfOk result (λ text. string_bytes text ≡ forged_line line) }
+{
+    Ok(format!(in alloc; "forged {line}\n")?)
+}
+
+/// The lines of the history: the number of its transactions, and then each one's digest.
+pub fn history_text(alloc: Global, digests: &[Digest]) -> Result<String, Memory>
+    ensures { IfOk result (λ text. string_bytes text ≡ history_lines digests.now) }
+{
+    let count = digests.len();
+    let mut text = format!(in alloc; "history {count}\n")?;
+    for digest in digests {
+        let digest = print_bytes(alloc, digest.as_slice())?;
+        let line = format!(in alloc; "tx {digest}\n")?;
+        text.push_str(&line)?;
+    }
+    Ok(text)
+}

@@ -1,0 +1,7 @@
+pub mod Fitting
+pub mod Concerned
+pub mod Locking
+pub mod Turns
+pub mod Picking
+pub mod Keeping
+pub mod Dues
