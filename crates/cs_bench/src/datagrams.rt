@@ -1,9 +1,9 @@
 //! Datagrams of one size, sealed and opened.
 use cs_base::{CLIENT_SHARD, Memory, NodeId, Sequence};
-use cs_form::{Session, Trace, Tx};
-use cs_message::Message;
-use cs_value::{Digest, Name, Value};
+use cs_tx_form::{Session, Trace, Tx};
+use cs_tx_value::{Digest, Name, Value};
 use cs_wire::{Keys, open, seal};
+use cs_wire_message::Message;
 use std::alloc::Global;
 
 const NODE: NodeId = NodeId { shard: 0, index: 0 };

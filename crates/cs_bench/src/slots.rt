@@ -2,7 +2,7 @@
 use cs_base::{Memory, Sequence};
 use cs_log::SlotOrder;
 use cs_order::{May, Order, Outgoing, Proposed, Step};
-use cs_rules::{Change, OrderMessage};
+use cs_order_rules::{Change, OrderMessage};
 use std::alloc::Global;
 use std::mem;
 

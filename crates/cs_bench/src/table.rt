@@ -1,6 +1,6 @@
 //! Coins of one shard, and sessions that spend them.
 ghost use Rattle.std.specs.Prelude.{All, IfOk, OnOk};
-ghost use Rattle.cs_value.specs.Object.{ObjectFits};
+ghost use Rattle.cs_tx_value.specs.Object.{ObjectFits};
 
 use cs_base::{Config, Key, Memory, Sequence};
 use cs_table::{Table, TableError};

@@ -1,7 +1,7 @@
 -- What the changes to the views of a slot show.
 use Rattle.std.specs.Prelude.{ℕ, ◌==◌, nat_le, Bool, true, false, ◌&&◌, ◌||◌, List, [], ◌∷◌, Option, Some, None, if◌then◌else◌}
 use Rattle.cs_order.specs.Counts.{when, or_else}
-use Rattle.cs_rules.specs.declared.message.Change.{Change}
+use Rattle.cs_order_rules.specs.declared.message.Change.{Change}
 use Rattle.cs_change.specs.declared.slot_changes.Filed.{Filed}
 
 pub record KeptOfSlot : Type 0 where

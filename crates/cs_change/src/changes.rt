@@ -1,12 +1,12 @@
 //! Changes to one view.
 ghost use Rattle.std.specs.Prelude.{◌≡◌, ◌*◌, ◌≤◌, not, is_some, IfOk};
-ghost use Rattle.cs_rules.specs.Safe.{is_free, is_safe};
-ghost use Rattle.cs_rules.specs.Rules.{pair_of};
+ghost use Rattle.cs_order_rules.specs.Safe.{is_free, is_safe};
+ghost use Rattle.cs_order_rules.specs.Rules.{pair_of};
 ghost use Rattle.cs_change.specs.Kept.{told, with_change, none_told};
 
 use crate::slot_changes::SlotChanges;
 use cs_base::Memory;
-use cs_rules::Change;
+use cs_order_rules::Change;
 use std::alloc::Global;
 use std::marker::Model;
 

@@ -1,9 +1,9 @@
 //! What the change of a member claims, where it gave one.
 ghost use Rattle.std.specs.Prelude.{◌≡◌, option_copied};
 ghost use Rattle.std.specs.List.{list_any};
-ghost use Rattle.cs_rules.specs.Safe.{says_none, says_allowed, is_listed, says_echoed};
+ghost use Rattle.cs_order_rules.specs.Safe.{says_none, says_allowed, is_listed, says_echoed};
 
-use cs_rules::Change;
+use cs_order_rules::Change;
 
 /// It has no prepared pair.
 pub fn has_no_pair(change: Option<&Change>) -> bool

@@ -6,7 +6,7 @@ mod claims;
 mod slot_changes;
 
 pub use changes::Changes;
-pub use cs_rules::Change;
+pub use cs_order_rules::Change;
 pub use slot_changes::SlotChanges;
 
 #[cfg(test)]

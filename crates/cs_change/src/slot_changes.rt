@@ -2,13 +2,13 @@
 ghost use Rattle.std.specs.Prelude.{◌≡◌, ℕ, ◌+◌, ◌*◌, ◌≤◌, ◌<◌, ◌==◌, false, nat_le, ◌&&◌, ◌||◌, [], not, is_some, IfOk, OnErr, option_copied};
 ghost use Rattle.cs_order.specs.Counts.{count_below};
 ghost use Rattle.cs_order.specs.Limits.{view_bound};
-ghost use Rattle.cs_rules.specs.Safe.{says_none, says_allowed, says_echoed, is_free, is_safe_from, is_safe};
-ghost use Rattle.cs_rules.specs.Rules.{pair_of};
+ghost use Rattle.cs_order_rules.specs.Safe.{says_none, says_allowed, says_echoed, is_free, is_safe_from, is_safe};
+ghost use Rattle.cs_order_rules.specs.Rules.{pair_of};
 ghost use Rattle.cs_change.specs.Kept.{told_in, with_told, reaches};
 
 use crate::claims;
 use cs_base::Memory;
-use cs_rules::Change;
+use cs_order_rules::Change;
 use std::alloc::{AllocError, Global};
 use std::marker::Model;
 

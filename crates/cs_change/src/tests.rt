@@ -1,7 +1,7 @@
 //! Changes to view 1, worked by hand.
 use crate::changes::Changes;
 use cs_base::{Memory, Sequence};
-use cs_rules::Change;
+use cs_order_rules::Change;
 use std::alloc::Global;
 use std::test::Fail;
 

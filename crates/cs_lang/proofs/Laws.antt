@@ -1,16 +1,16 @@
 -- The readers of contract texts are those of the grammar's rules.
 use Rattle.std.proofs.Common.{◌≡◌, ℕ, zero, suc, ◌+◌, ◌<◌, ◌≤◌, Bool, true, false, List, [], ◌∷◌, ◌++◌, refl, sym, ap, subst, ◌∙◌, arith, inl, inr}
 use Rattle.std.specs.Prelude.{Result, Ok, Err, ◌⊎◌, if◌then◌else◌, Option, None, Some}
-use Rattle.cs_token.specs.declared.token.Token.{Token}
-use Rattle.cs_token.specs.declared.token.Text.{Text}
-use Rattle.cs_token.specs.declared.kind.Kind.{Kind}
-use Rattle.cs_token.specs.declared.kind.Kind.TheVariants as kind
-use Rattle.cs_token.specs.Kinds.{is}
-use Rattle.cs_token.specs.Grammar.{Mark, plain, Rule, Reader, begins, pair, mapped, either, nothing, links, many, pair_at, mapped_at, either_at, nothing_at, refused_at, links_at, many_at, IsReader}
-use Rattle.cs_token.specs.Rules.{sign, sign_at, name, name_at, number, number_at, bytes, room_of, less_one, joined_pair, commas}
-use Rattle.cs_token.proofs.RuleLaws.{Law, Leads, Past, fits, rows, pair_law, then_law, mapped_law, sign_law, name_law, bytes_law, number_law, wider_law, weaker_law, nothing_law, either_law, many_law, links_law, commas_law, gate_law, gate_past, gate_leads, Some', some_of, some_pair, some_mapped, some_sign, some_many, some_left, some_right, in_first, in_second}
-use Rattle.cs_token.proofs.KindTests.{disjoint, within}
-use Rattle.cs_token.proofs.Grammars.{Implies, begins_implies, begins_more, plain_append}
+use Rattle.cs_lang_token.specs.declared.token.Token.{Token}
+use Rattle.cs_lang_token.specs.declared.token.Text.{Text}
+use Rattle.cs_lang_token.specs.declared.kind.Kind.{Kind}
+use Rattle.cs_lang_token.specs.declared.kind.Kind.TheVariants as kind
+use Rattle.cs_lang_token.specs.Kinds.{is}
+use Rattle.cs_lang_token.specs.Grammar.{Mark, plain, Rule, Reader, begins, pair, mapped, either, nothing, links, many, pair_at, mapped_at, either_at, nothing_at, refused_at, links_at, many_at, IsReader}
+use Rattle.cs_lang_token.specs.Rules.{sign, sign_at, name, name_at, number, number_at, bytes, room_of, less_one, joined_pair, commas}
+use Rattle.cs_lang_token.proofs.RuleLaws.{Law, Leads, Past, fits, rows, pair_law, then_law, mapped_law, sign_law, name_law, bytes_law, number_law, wider_law, weaker_law, nothing_law, either_law, many_law, links_law, commas_law, gate_law, gate_past, gate_leads, Some', some_of, some_pair, some_mapped, some_sign, some_many, some_left, some_right, in_first, in_second}
+use Rattle.cs_lang_token.proofs.KindTests.{disjoint, within}
+use Rattle.cs_lang_token.proofs.Grammars.{Implies, begins_implies, begins_more, plain_append}
 use Rattle.std.proofs.lemmas.List.{append-nil}
 use Rattle.cs_lang.specs.declared.tree.Rank.{Rank}
 use Rattle.cs_lang.specs.declared.tree.Rank.TheVariants as rank

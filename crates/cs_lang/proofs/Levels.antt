@@ -1,8 +1,8 @@
 -- The words of the descent are the readers of the grammar.
 use Rattle.std.proofs.Common.{◌≡◌, ℕ, zero, suc, ◌+◌, ◌-◌, ◌<◌, Bool, true, false, List, [], ◌∷◌, refl, sym, ap, ◌∙◌, arith, sub-one}
-use Rattle.cs_token.specs.declared.token.Token.{Token}
-use Rattle.cs_token.specs.Grammar.{Reader}
-use Rattle.cs_token.specs.Rules.{room_of}
+use Rattle.cs_lang_token.specs.declared.token.Token.{Token}
+use Rattle.cs_lang_token.specs.Grammar.{Reader}
+use Rattle.cs_lang_token.specs.Rules.{room_of}
 use Rattle.cs_lang.specs.declared.tree.Rank.{Rank}
 use Rattle.cs_lang.specs.declared.tree.Rank.TheVariants as rank
 use Rattle.cs_lang.specs.declared.tree.ValueKind.{ValueKind}

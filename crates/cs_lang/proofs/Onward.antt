@@ -2,17 +2,17 @@
 use Rattle.std.proofs.Common.{◌≡◌, ℕ, zero, suc, ◌+◌, ◌-◌, ◌<◌, ◌≤◌, Bool, true, false, cond, List, [], ◌∷◌, ◌++◌, length, refl, sym, ap, subst, ◌∙◌, append_assoc, arith, inl, inr, rules, sub-one, add-one}
 use Rattle.std.specs.Prelude.{Result, Ok, Err, ◌⊎◌, if◌then◌else◌}
 use Rattle.std.proofs.lemmas.List.{append-nil}
-use Rattle.cs_token.specs.declared.token.Token.{Token}
-use Rattle.cs_token.specs.declared.token.Text.{Text}
-use Rattle.cs_token.specs.declared.kind.Kind.{Kind}
-use Rattle.cs_token.specs.declared.kind.Kind.TheVariants as kind
-use Rattle.cs_token.specs.Grammar.{Reader, ◌>>=◌, begins, pair_at, mapped_at, links_at, many_at}
-use Rattle.cs_token.specs.Kinds.{is}
-use Rattle.cs_token.specs.Rules.{name_at, joined, joined_pair, with_item, all_of}
-use Rattle.cs_token.specs.declared.cursor.Stop.{Stop}
-use Rattle.cs_token.specs.declared.cursor.Stop.TheVariants as reason
-use Rattle.cs_token.specs.Answers.{Fails}
-use Rattle.cs_token.proofs.Grammars.{Answer, went, stop}
+use Rattle.cs_lang_token.specs.declared.token.Token.{Token}
+use Rattle.cs_lang_token.specs.declared.token.Text.{Text}
+use Rattle.cs_lang_token.specs.declared.kind.Kind.{Kind}
+use Rattle.cs_lang_token.specs.declared.kind.Kind.TheVariants as kind
+use Rattle.cs_lang_token.specs.Grammar.{Reader, ◌>>=◌, begins, pair_at, mapped_at, links_at, many_at}
+use Rattle.cs_lang_token.specs.Kinds.{is}
+use Rattle.cs_lang_token.specs.Rules.{name_at, joined, joined_pair, with_item, all_of}
+use Rattle.cs_lang_token.specs.declared.cursor.Stop.{Stop}
+use Rattle.cs_lang_token.specs.declared.cursor.Stop.TheVariants as reason
+use Rattle.cs_lang_token.specs.Answers.{Fails}
+use Rattle.cs_lang_token.proofs.Grammars.{Answer, went, stop}
 use Rattle.cs_lang.specs.declared.tree.Operator.{Operator}
 use Rattle.cs_lang.specs.declared.tree.Rank.{Rank}
 use Rattle.cs_lang.specs.declared.tree.Rank.TheVariants as rank

@@ -1,15 +1,15 @@
 -- Contract texts are read exactly.
 use Rattle.std.proofs.Common.{◌≡◌, ℕ, ◌+◌, ◌<◌, ◌≤◌, length, arith, true, List, [], ◌∷◌, refl, sym, ap, subst, ◌∙◌}
 use Rattle.std.specs.Prelude.{Result, Ok, Err, IfOk, IfErr}
-use Rattle.cs_token.specs.declared.token.Token.{Token}
-use Rattle.cs_token.specs.declared.kind.Kind.TheVariants as kind
-use Rattle.cs_token.specs.Grammar.{Reader, IsReader, ◌>>=◌}
-use Rattle.cs_token.specs.Kinds.{is}
-use Rattle.cs_token.specs.Texts.{IsText, CanBegin, IsRefused, all_or_bad, all_at}
-use Rattle.cs_token.specs.Tokens.{tokens_of}
-use Rattle.cs_token.specs.Answers.{place_of}
-use Rattle.cs_token.proofs.Grammars.{Answer, went}
-use Rattle.cs_token.proofs.TextLaws.{text_read, read_text, read_refused}
+use Rattle.cs_lang_token.specs.declared.token.Token.{Token}
+use Rattle.cs_lang_token.specs.declared.kind.Kind.TheVariants as kind
+use Rattle.cs_lang_token.specs.Grammar.{Reader, IsReader, ◌>>=◌}
+use Rattle.cs_lang_token.specs.Kinds.{is}
+use Rattle.cs_lang_token.specs.Texts.{IsText, CanBegin, IsRefused, all_or_bad, all_at}
+use Rattle.cs_lang_token.specs.Tokens.{tokens_of}
+use Rattle.cs_lang_token.specs.Answers.{place_of}
+use Rattle.cs_lang_token.proofs.Grammars.{Answer, went}
+use Rattle.cs_lang_token.proofs.TextLaws.{text_read, read_text, read_refused}
 use Rattle.cs_lang.specs.declared.tree.Contract.{Contract}
 use Rattle.cs_lang.specs.declared.text.LangError.{LangError}
 use Rattle.cs_lang.specs.declared.text.LangError.TheVariants as error

@@ -2,13 +2,13 @@
 use Rattle.std.proofs.Common.{◌≡◌, ℕ, zero, suc, ◌+◌, ◌<◌, ◌≤◌, Bool, true, false, List, [], ◌∷◌, ◌++◌, refl, sym, ap, subst, ◌∙◌, arith, inl, inr}
 use Rattle.std.specs.Prelude.{◌⊎◌, if◌then◌else◌, Option, None, Some}
 use Rattle.std.proofs.lemmas.List.{append-nil}
-use Rattle.cs_token.specs.declared.token.Text.{Text}
-use Rattle.cs_token.specs.declared.kind.Kind.{Kind}
-use Rattle.cs_token.specs.declared.kind.Kind.TheVariants as kind
-use Rattle.cs_token.specs.Kinds.{is}
-use Rattle.cs_token.specs.Grammar.{Mark, plain, Rule, Reader, begins, pair, mapped, either, nothing, many, pair_at, mapped_at, either_at, nothing_at, refused_at, many_at, IsReader}
-use Rattle.cs_token.specs.Rules.{sign, sign_at, name, name_at, number, number_at, room_of, less_one, commas}
-use Rattle.cs_token.proofs.RuleLaws.{Law, fits, rows, pair_law, then_law, mapped_law, sign_law, name_law, number_law, wider_law, weaker_law, nothing_law, either_law, many_law, commas_law, gate_law, Some', some_of, some_pair, some_mapped, some_sign, some_many, some_left, some_right}
+use Rattle.cs_lang_token.specs.declared.token.Text.{Text}
+use Rattle.cs_lang_token.specs.declared.kind.Kind.{Kind}
+use Rattle.cs_lang_token.specs.declared.kind.Kind.TheVariants as kind
+use Rattle.cs_lang_token.specs.Kinds.{is}
+use Rattle.cs_lang_token.specs.Grammar.{Mark, plain, Rule, Reader, begins, pair, mapped, either, nothing, many, pair_at, mapped_at, either_at, nothing_at, refused_at, many_at, IsReader}
+use Rattle.cs_lang_token.specs.Rules.{sign, sign_at, name, name_at, number, number_at, room_of, less_one, commas}
+use Rattle.cs_lang_token.proofs.RuleLaws.{Law, fits, rows, pair_law, then_law, mapped_law, sign_law, name_law, number_law, wider_law, weaker_law, nothing_law, either_law, many_law, commas_law, gate_law, Some', some_of, some_pair, some_mapped, some_sign, some_many, some_left, some_right}
 use Rattle.cs_lang.specs.declared.tree.Rank.TheVariants as rank
 use Rattle.cs_lang.specs.declared.tree.ValueKind.{ValueKind}
 use Rattle.cs_lang.specs.declared.tree.Expr.{Expr}

@@ -1,12 +1,12 @@
 -- How contract texts are read from the left: the readers of the rules, as the code goes down. Each word is what one function answers.
 use Rattle.std.specs.Prelude.{ℕ, zero, suc, Bool, true, false, List, [], ◌∷◌, ◌++◌, Option, None, Some, Ok}
-use Rattle.cs_token.specs.declared.token.Token.{Token}
-use Rattle.cs_token.specs.declared.token.Text.{Text}
-use Rattle.cs_token.specs.declared.kind.Kind.{Kind}
-use Rattle.cs_token.specs.declared.kind.Kind.TheVariants as kind
-use Rattle.cs_token.specs.Kinds.{is}
-use Rattle.cs_token.specs.Grammar.{Reader, pair_at, mapped_at, either_at, nothing_at, refused_at, links_at, many_at, ◌>>=◌}
-use Rattle.cs_token.specs.Rules.{sign_at, name_at, bytes_at, number_at, room_of, joined, joined_pair, with_item, all_of}
+use Rattle.cs_lang_token.specs.declared.token.Token.{Token}
+use Rattle.cs_lang_token.specs.declared.token.Text.{Text}
+use Rattle.cs_lang_token.specs.declared.kind.Kind.{Kind}
+use Rattle.cs_lang_token.specs.declared.kind.Kind.TheVariants as kind
+use Rattle.cs_lang_token.specs.Kinds.{is}
+use Rattle.cs_lang_token.specs.Grammar.{Reader, pair_at, mapped_at, either_at, nothing_at, refused_at, links_at, many_at, ◌>>=◌}
+use Rattle.cs_lang_token.specs.Rules.{sign_at, name_at, bytes_at, number_at, room_of, joined, joined_pair, with_item, all_of}
 use Rattle.cs_lang.specs.declared.tree.Operator.{Operator}
 use Rattle.cs_lang.specs.declared.tree.Operator.TheVariants as operator
 use Rattle.cs_lang.specs.declared.tree.Rank.{Rank}

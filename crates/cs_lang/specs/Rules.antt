@@ -1,10 +1,10 @@
 -- The grammar of contract texts.
 use Rattle.std.specs.Prelude.{ℕ, zero, suc, Bool, true, false, List, [], ◌∷◌, if◌then◌else◌, Option, None, Some}
-use Rattle.cs_token.specs.declared.token.Text.{Text}
-use Rattle.cs_token.specs.declared.kind.Kind.{Kind}
-use Rattle.cs_token.specs.declared.kind.Kind.TheVariants as kind
-use Rattle.cs_token.specs.Grammar.{Rule, pair, mapped, either, nothing, links, many}
-use Rattle.cs_token.specs.Rules.{sign, name, bytes, number, room_of, less_one, joined_pair, commas}
+use Rattle.cs_lang_token.specs.declared.token.Text.{Text}
+use Rattle.cs_lang_token.specs.declared.kind.Kind.{Kind}
+use Rattle.cs_lang_token.specs.declared.kind.Kind.TheVariants as kind
+use Rattle.cs_lang_token.specs.Grammar.{Rule, pair, mapped, either, nothing, links, many}
+use Rattle.cs_lang_token.specs.Rules.{sign, name, bytes, number, room_of, less_one, joined_pair, commas}
 use Rattle.cs_lang.specs.declared.tree.Operator.{Operator}
 use Rattle.cs_lang.specs.declared.tree.Operator.TheVariants as operator
 use Rattle.cs_lang.specs.declared.tree.Rank.{Rank}

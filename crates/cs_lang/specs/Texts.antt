@@ -1,9 +1,9 @@
 -- Which texts are contracts, and why one is none.
 use Rattle.std.specs.Prelude.{◌≡◌, ℕ, ◌<◌, ◌≤◌, List, length, Result, Ok, Err}
-use Rattle.cs_token.specs.declared.token.Token.{Token}
-use Rattle.cs_token.specs.Tokens.{tokens_of}
-use Rattle.cs_token.specs.Texts.{IsText, IsRefused}
-use Rattle.cs_token.specs.Answers.{place_of}
+use Rattle.cs_lang_token.specs.declared.token.Token.{Token}
+use Rattle.cs_lang_token.specs.Tokens.{tokens_of}
+use Rattle.cs_lang_token.specs.Texts.{IsText, IsRefused}
+use Rattle.cs_lang_token.specs.Answers.{place_of}
 use Rattle.cs_lang.specs.declared.tree.Contract.{Contract}
 use Rattle.cs_lang.specs.declared.text.LangError.{LangError}
 use Rattle.cs_lang.specs.declared.text.LangError.TheVariants as error

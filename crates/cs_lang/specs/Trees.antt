@@ -1,7 +1,7 @@
 -- What the parts of a text make of the trees that they are given.
 use Rattle.std.specs.Prelude.{ℕ, Bool, true, false, List, [], ◌∷◌, ◌++◌, if◌then◌else◌, Option, None, Some}
-use Rattle.cs_token.specs.declared.token.Text.{Text}
-use Rattle.cs_token.specs.declared.token.Number.{Number}
+use Rattle.cs_lang_token.specs.declared.token.Text.{Text}
+use Rattle.cs_lang_token.specs.declared.token.Number.{Number}
 use Rattle.cs_lang.specs.declared.tree.Operator.{Operator}
 use Rattle.cs_lang.specs.declared.tree.Operator.TheVariants as operator
 use Rattle.cs_lang.specs.declared.tree.Rank.{Rank}

@@ -1,15 +1,15 @@
 //! Reading expressions.
 ghost use Rattle.std.specs.Prelude.{◌≡◌, length};
-ghost use Rattle.cs_token.specs.Answers.{Gives};
-ghost use Rattle.cs_token.specs.Kinds.{is};
-ghost use Rattle.cs_token.specs.Grammar.{begins};
+ghost use Rattle.cs_lang_token.specs.Answers.{Gives};
+ghost use Rattle.cs_lang_token.specs.Kinds.{is};
+ghost use Rattle.cs_lang_token.specs.Grammar.{begins};
 ghost use Rattle.cs_lang.specs.Trees.{tree};
 ghost use Rattle.cs_lang.specs.Readers.{kinds_of, operators_at, comparisons_at, comparison_kinds, ranked, ranked_onward, ranked_turn, below, no_level, compared_level, signed_level, post_level, post_onward, post_turn, step_kinds, access_level, primary_level, worded_level, group_level, bracket_level, empty_level, len_level, sha256_level, concat_level, called_level, depint_level, items_level, items_onward, items_turn};
 
 use crate::kinds::value_kind;
 use crate::nodes::{grouped, with_link, with_step};
 use crate::tree::{Access, Comparison, Expr, Operator, Rank, Shape};
-use cs_token::{Boxed, Cursor, Kind, Sequence, Stop};
+use cs_lang_token::{Boxed, Cursor, Kind, Sequence, Stop};
 use std::alloc::Global;
 
 /// Whether an operator of the rank follows.

@@ -1,10 +1,10 @@
 //! Reading kinds, fields and slots.
 ghost use Rattle.std.specs.Prelude.{◌≡◌, length};
-ghost use Rattle.cs_token.specs.Answers.{Gives};
+ghost use Rattle.cs_lang_token.specs.Answers.{Gives};
 ghost use Rattle.cs_lang.specs.Readers.{kind_level, field_level, fields_level, fields_onward, fields_turn, slot_level, slots_level, slots_onward, slots_turn};
 
 use crate::tree::{Field, Slot, ValueKind};
-use cs_token::{Boxed, Cursor, Kind, Sequence, Stop};
+use cs_lang_token::{Boxed, Cursor, Kind, Sequence, Stop};
 use std::alloc::Global;
 
 /// A kind, where so many more levels may be opened.

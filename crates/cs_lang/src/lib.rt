@@ -13,7 +13,7 @@ mod text;
 mod texts;
 mod tree;
 
-pub use cs_token::{Boxed, Number, Sequence, Text};
+pub use cs_lang_token::{Boxed, Number, Sequence, Text};
 pub use text::{LangError, MOST_BYTES, parse};
 pub use tree::{
     Access, Action, Block, Comparison, Contract, Expr, Field, Link, Method, Operator, Rank, Shape,

@@ -1,12 +1,12 @@
 //! Reading types, methods and whole texts.
 ghost use Rattle.std.specs.Prelude.{◌≡◌, length};
-ghost use Rattle.cs_token.specs.Answers.{Gives};
+ghost use Rattle.cs_lang_token.specs.Answers.{Gives};
 ghost use Rattle.cs_lang.specs.Readers.{optional_fields, typedef_level, slots_section, fields_section, head_level, body_level, method_level, typedefs_level, typedefs_onward, typedefs_turn, methods_level, methods_onward, methods_turn, contract_level};
 
 use crate::kinds::{fields, slots};
 use crate::statements::block;
 use crate::tree::{Block, Contract, Field, Method, Slot, TypeDef};
-use cs_token::{Cursor, Kind, Sequence, Stop};
+use cs_lang_token::{Cursor, Kind, Sequence, Stop};
 use std::alloc::Global;
 
 /// What a method takes and gives.

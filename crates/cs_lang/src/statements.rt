@@ -1,13 +1,13 @@
 //! Reading statements.
 ghost use Rattle.std.specs.Prelude.{◌≡◌, length};
-ghost use Rattle.cs_token.specs.Answers.{Gives};
-ghost use Rattle.cs_token.specs.Kinds.{is};
-ghost use Rattle.cs_token.specs.Grammar.{begins};
+ghost use Rattle.cs_lang_token.specs.Answers.{Gives};
+ghost use Rattle.cs_lang_token.specs.Kinds.{is};
+ghost use Rattle.cs_lang_token.specs.Grammar.{begins};
 ghost use Rattle.cs_lang.specs.Readers.{expression_kinds, statement_kinds, optional_items, arguments_level, let_level, set_level, if_level, for_level, make_level, names_at, names_onward, names_turn, call_level, answer_level, statement_level, statements_level, statements_onward, statements_turn, block_level};
 
 use crate::expressions::{chain, items};
 use crate::tree::{Action, Block, Expr, Rank, Statement};
-use cs_token::{Cursor, Kind, Sequence, Stop, Text};
+use cs_lang_token::{Cursor, Kind, Sequence, Stop, Text};
 use std::alloc::Global;
 
 /// Whether an expression follows.

@@ -1,14 +1,14 @@
 //! Reading whole texts.
 ghost use Rattle.std.specs.Prelude.{◌≡◌, List, IfOk, IfErr};
-ghost use Rattle.cs_token.specs.Texts.{IsText, IsRefused};
-ghost use Rattle.cs_token.specs.Answers.{place_of};
-ghost use Rattle.cs_token.specs.declared.token.Token.{Token as Read};
+ghost use Rattle.cs_lang_token.specs.Texts.{IsText, IsRefused};
+ghost use Rattle.cs_lang_token.specs.Answers.{place_of};
+ghost use Rattle.cs_lang_token.specs.declared.token.Token.{Token as Read};
 ghost use Rattle.cs_lang.specs.Rules.{contract as Spelled};
 ghost use Rattle.cs_lang.specs.Texts.{Answers, IsContract, IsRefusal, IfSyntax};
 
 use crate::methods::contract;
 use crate::tree::Contract;
-use cs_token::{Cursor, LexError, Stop, Token, tokens_of};
+use cs_lang_token::{Cursor, LexError, Stop, Token, tokens_of};
 use std::alloc::Global;
 
 /// The most bytes of a text, with its blanks and comments.

@@ -1,5 +1,5 @@
 //! Trees of contract texts.
-use cs_token::{Boxed, Sequence, Text};
+use cs_lang_token::{Boxed, Sequence, Text};
 
 /// The operators of chains.
 #[derive(Clone, Copy, Debug, PartialEq, Eq)]

@@ -1,4 +1,4 @@
--- The order is its seat, where there is one.
+-- The order is its replica, where there is one.
 use Rattle.std.proofs.Common.{◌≡◌, ℕ, ◌<◌, Bool, true, false, List, ◌++◌, Option, Some, None, IsSome, refl, sym, ap, ◌∙◌, subst}
 use Rattle.cs_order.specs.Deeds.{Member, did}
 use Rattle.cs_order.specs.Deeds as deed
@@ -7,36 +7,36 @@ use Rattle.cs_order.specs.declared.proposed.Proposed.{Proposed}
 use Rattle.cs_order.specs.declared.answers.Took.{Took}
 use Rattle.cs_order.specs.declared.answers.Took.TheVariants.{Taken, Old, Far, Leader, Repeat}
 use Rattle.cs_order.specs.declared.answers.Step.{Step}
-use Rattle.cs_rules.specs.declared.message.OrderMessage.{OrderMessage}
-use Rattle.cs_rules.specs.declared.message.OrderMessage.TheVariants as message
-use Rattle.cs_rules.specs.Facts.{Sight, open_slot}
-use Rattle.cs_rules.specs.Rules.{verdict, choice, entering, confirming, step_of, advance_sent, pending, echo_sent, propose_sent, tick_sent, is_over, waits}
-use Rattle.cs_rules.specs.SlotMachine.{slot_machine, sight}
-use Rattle.cs_round.specs.Look.{look_of, pending_by, resend_by}
-use Rattle.cs_round.specs.Looking.{resend_is}
-use Rattle.cs_log.specs.declared.seat.Seat.{Seat}
-use Rattle.cs_log.specs.Seats.{KeptSeat, kept, Mirrors, after_taking, after_step, after_echo, after_tick, said, kept_rest}
+use Rattle.cs_order_rules.specs.declared.message.OrderMessage.{OrderMessage}
+use Rattle.cs_order_rules.specs.declared.message.OrderMessage.TheVariants as message
+use Rattle.cs_order_rules.specs.Facts.{Sight, open_slot}
+use Rattle.cs_order_rules.specs.Rules.{verdict, choice, entering, confirming, step_of, advance_sent, pending, echo_sent, propose_sent, tick_sent, is_over, waits}
+use Rattle.cs_order_rules.specs.SlotMachine.{slot_machine, sight}
+use Rattle.cs_order_open.specs.Look.{look_of, pending_by, resend_by}
+use Rattle.cs_order_open.specs.Looking.{resend_is}
+use Rattle.cs_log.specs.declared.replica.Replica.{Replica}
+use Rattle.cs_log.specs.Replicas.{KeptReplica, kept, Mirrors, after_taking, after_step, after_echo, after_tick, said, kept_rest}
 use Rattle.cs_log.specs.Stands.{kept_if, SeatStands, IsLed, f_of, me_of, awaited, allowed, rest_left}
 use Rattle.cs_log.proofs.Calling.{Outs, takes, advances, lowers, echoes, echo_lowers, echo_stays, proposes, propose_lowers, ticks}
 
--- some deeds led to the seat
-abbrev pub Witness : KeptSeat → Type 0
+-- some deeds led to the replica
+abbrev pub Witness : KeptReplica → Type 0
 Witness k = (h : Member OrderMessage) × Mirrors k (sight h)
 
-pub led_as : (inside : Option Seat) (seat : Seat) → inside ≡ Some seat → IsLed (kept_if inside) → Witness (kept seat)
-led_as inside seat is led = subst (λ o. IsLed (kept_if o)) is led
+pub led_as : (inside : Option Replica) (replica : Replica) → inside ≡ Some replica → IsLed (kept_if inside) → Witness (kept replica)
+led_as inside replica is led = subst (λ o. IsLed (kept_if o)) is led
 
-pub now_is : (inside : Option Seat) (seat : Seat) (now : Option KeptSeat) → inside ≡ Some seat → kept_if inside ≡ now → Some (kept seat) ≡ now
-now_is inside seat now is view = ap kept_if (sym is) ∙ view
+pub now_is : (inside : Option Replica) (replica : Replica) (now : Option KeptReplica) → inside ≡ Some replica → kept_if inside ≡ now → Some (kept replica) ≡ now
+now_is inside replica now is view = ap kept_if (sym is) ∙ view
 
-same_member : (k new : KeptSeat) (s t : Sight) → Mirrors k s → Mirrors new t → (t.f ≡ s.f) × (t.me ≡ s.me) → (new.f ≡ k.f) × (new.me ≡ k.me)
+same_member : (k new : KeptReplica) (s t : Sight) → Mirrors k s → Mirrors new t → (t.f ≡ s.f) × (t.me ≡ s.me) → (new.f ≡ k.f) × (new.me ≡ k.me)
 same_member k new s t p q same = (q.f ∙ same.0 ∙ sym p.f, q.me ∙ same.1 ∙ sym p.me)
 
 abbrev SameIn : Sight → Sight → Type 0
 SameIn s t = (t.f ≡ s.f) × (t.me ≡ s.me)
 
 -- take
-abbrev pub TookBy : KeptSeat → KeptSeat → ℕ → OrderMessage → Took → Type 0
+abbrev pub TookBy : KeptReplica → KeptReplica → ℕ → OrderMessage → Took → Type 0
 TookBy k new from m took = (s : Sight) → Mirrors k s → (took ≡ verdict s from m) × Mirrors new (after_taking (verdict s from m) s from m)
 
 taking_same : (x : Took) (s : Sight) (from : ℕ) (m : OrderMessage) → SameIn s (after_taking x s from m)
@@ -46,17 +46,17 @@ taking_same Far s from m = (refl, refl)
 taking_same Leader s from m = (refl, refl)
 taking_same Repeat s from m = (refl, refl)
 
-pub take_led : (k new : KeptSeat) (from : ℕ) (m : OrderMessage) (took : Took) → Witness k → TookBy k new from m took → Witness new
+pub take_led : (k new : KeptReplica) (from : ℕ) (m : OrderMessage) (took : Took) → Witness k → TookBy k new from m took → Witness new
 take_led k new from m took w made = (taken_in (verdict (sight w.0) from m) from m w.0, (takes w.0 from m new took (made (sight w.0) w.1)).1)
 
-pub take_call : (k new : KeptSeat) (now : Option KeptSeat) (from : ℕ) (m : OrderMessage) (took : Took) → Some k ≡ now → TookBy k new from m took → (h : Member OrderMessage) → SeatStands now h → Takes slot_machine h from m took (λ t. Mirrors new (sight t))
+pub take_call : (k new : KeptReplica) (now : Option KeptReplica) (from : ℕ) (m : OrderMessage) (took : Took) → Some k ≡ now → TookBy k new from m took → (h : Member OrderMessage) → SeatStands now h → Takes slot_machine h from m took (λ t. Mirrors new (sight t))
 take_call k new now from m took is made h stands = takes h from m new took (made (sight h) (subst (λ o. SeatStands o h) (sym is) stands))
 
-pub take_same : (k new : KeptSeat) (now : Option KeptSeat) (from : ℕ) (m : OrderMessage) (took : Took) → Some k ≡ now → Witness k → TookBy k new from m took → (new.f ≡ f_of now) × (new.me ≡ me_of now)
+pub take_same : (k new : KeptReplica) (now : Option KeptReplica) (from : ℕ) (m : OrderMessage) (took : Took) → Some k ≡ now → Witness k → TookBy k new from m took → (new.f ≡ f_of now) × (new.me ≡ me_of now)
 take_same k new now from m took is w made = subst (λ o. (new.f ≡ f_of o) × (new.me ≡ me_of o)) is (same_member k new (sight w.0) (after_taking (verdict (sight w.0) from m) (sight w.0) from m) w.1 (made (sight w.0) w.1).1 (taking_same (verdict (sight w.0) from m) (sight w.0) from m))
 
 -- advance
-abbrev pub AdvancedBy : KeptSeat → KeptSeat → Step → Outs → Outs → Type 0
+abbrev pub AdvancedBy : KeptReplica → KeptReplica → Step → Outs → Outs → Type 0
 AdvancedBy k new x old out = (s : Sight) → Mirrors k s → (x ≡ step_of s) × (out ≡ old ++ advance_sent s) × Mirrors new (after_step s (choice s) (entering s) (confirming s))
 
 step_same : (s : Sight) (c : Option Proposed) (w : Option ℕ) (d : Option (List ℕ)) → SameIn s (after_step s c w d)
@@ -65,69 +65,69 @@ step_same s None (Some v) d = (refl, refl)
 step_same s None None (Some digest) = (refl, refl)
 step_same s None None None = (refl, refl)
 
-pub advance_led : (k new : KeptSeat) (x : Step) (old out : Outs) → Witness k → AdvancedBy k new x old out → Witness new
+pub advance_led : (k new : KeptReplica) (x : Step) (old out : Outs) → Witness k → AdvancedBy k new x old out → Witness new
 advance_led k new x old out w made = (advanced (slot_machine.step w.0) (slot_machine.advancing w.0) w.0, (advances w.0 new x old out (made (sight w.0) w.1)).2)
 
-pub advance_call : (k new : KeptSeat) (now : Option KeptSeat) (x : Step) (old out : Outs) → Some k ≡ now → AdvancedBy k new x old out → (h : Member OrderMessage) → SeatStands now h → Advances slot_machine h x old out (λ t. Mirrors new (sight t))
+pub advance_call : (k new : KeptReplica) (now : Option KeptReplica) (x : Step) (old out : Outs) → Some k ≡ now → AdvancedBy k new x old out → (h : Member OrderMessage) → SeatStands now h → Advances slot_machine h x old out (λ t. Mirrors new (sight t))
 advance_call k new now x old out is made h stands = advances h new x old out (made (sight h) (subst (λ o. SeatStands o h) (sym is) stands))
 
-pub advance_falls : (k new : KeptSeat) (now : Option KeptSeat) (x : Step) (old out : Outs) → Some k ≡ now → Witness k → AdvancedBy k new x old out → Lowers (rest_left now) (kept_rest new) x
+pub advance_falls : (k new : KeptReplica) (now : Option KeptReplica) (x : Step) (old out : Outs) → Some k ≡ now → Witness k → AdvancedBy k new x old out → Lowers (rest_left now) (kept_rest new) x
 advance_falls k new now x old out is w made = subst (λ o. Lowers (rest_left o) (kept_rest new) x) is (lowers k new w.0 x old out w.1 (advances w.0 new x old out (made (sight w.0) w.1)))
 
-pub advance_same : (k new : KeptSeat) (now : Option KeptSeat) (x : Step) (old out : Outs) → Some k ≡ now → Witness k → AdvancedBy k new x old out → (new.f ≡ f_of now) × (new.me ≡ me_of now)
+pub advance_same : (k new : KeptReplica) (now : Option KeptReplica) (x : Step) (old out : Outs) → Some k ≡ now → Witness k → AdvancedBy k new x old out → (new.f ≡ f_of now) × (new.me ≡ me_of now)
 advance_same k new now x old out is w made =
     let s = sight w.0 in
     subst (λ o. (new.f ≡ f_of o) × (new.me ≡ me_of o)) is (same_member k new s (after_step s (choice s) (entering s) (confirming s)) w.1 (made s w.1).2 (step_same s (choice s) (entering s) (confirming s)))
 
 -- echo
-abbrev pub EchoedBy : KeptSeat → KeptSeat → Outs → Outs → Type 0
+abbrev pub EchoedBy : KeptReplica → KeptReplica → Outs → Outs → Type 0
 EchoedBy k new old out = (s : Sight) → Mirrors k s → (out ≡ old ++ echo_sent s (pending s)) × Mirrors new (after_echo s (pending s))
 
 echo_same_by : (s : Sight) (o : Option Proposed) → SameIn s (after_echo s o)
 echo_same_by s None = (refl, refl)
 echo_same_by s (Some e) = (refl, refl)
 
-pub echo_led : (k new : KeptSeat) (old out : Outs) → Witness k → EchoedBy k new old out → Witness new
+pub echo_led : (k new : KeptReplica) (old out : Outs) → Witness k → EchoedBy k new old out → Witness new
 echo_led k new old out w made = echo_stays w.0 new (pending (sight w.0)) (made (sight w.0) w.1).1
 
-some_of : (k : KeptSeat) (now : Option KeptSeat) → Some k ≡ now → IsSome (awaited now) → IsSome (pending_by (look_of k.round))
+some_of : (k : KeptReplica) (now : Option KeptReplica) → Some k ≡ now → IsSome (awaited now) → IsSome (pending_by (look_of k.current))
 some_of k now is some = subst (λ o. IsSome (awaited o)) (sym is) some
 
-pub echo_call : (k new : KeptSeat) (now : Option KeptSeat) (old out : Outs) → Some k ≡ now → EchoedBy k new old out → IsSome (awaited now) → (h : Member OrderMessage) → SeatStands now h → Echoes slot_machine h old out (λ t. Mirrors new (sight t))
+pub echo_call : (k new : KeptReplica) (now : Option KeptReplica) (old out : Outs) → Some k ≡ now → EchoedBy k new old out → IsSome (awaited now) → (h : Member OrderMessage) → SeatStands now h → Echoes slot_machine h old out (λ t. Mirrors new (sight t))
 echo_call k new now old out is made some h stands =
     let p = subst (λ o. SeatStands o h) (sym is) stands in
     echoes h k new old out p (some_of k now is some) (made (sight h) p)
 
-pub echo_falls : (k new : KeptSeat) (now : Option KeptSeat) (old out : Outs) → Some k ≡ now → Witness k → EchoedBy k new old out → IsSome (awaited now) → kept_rest new < rest_left now
+pub echo_falls : (k new : KeptReplica) (now : Option KeptReplica) (old out : Outs) → Some k ≡ now → Witness k → EchoedBy k new old out → IsSome (awaited now) → kept_rest new < rest_left now
 echo_falls k new now old out is w made some =
     let pend = some_of k now is some in
     subst (λ o. kept_rest new < rest_left o) is (echo_lowers w.0 k new old out w.1 pend (echoes w.0 k new old out w.1 pend (made (sight w.0) w.1)))
 
-pub echo_same : (k new : KeptSeat) (now : Option KeptSeat) (old out : Outs) → Some k ≡ now → Witness k → EchoedBy k new old out → (new.f ≡ f_of now) × (new.me ≡ me_of now)
+pub echo_same : (k new : KeptReplica) (now : Option KeptReplica) (old out : Outs) → Some k ≡ now → Witness k → EchoedBy k new old out → (new.f ≡ f_of now) × (new.me ≡ me_of now)
 echo_same k new now old out is w made =
     let s = sight w.0 in
     subst (λ o. (new.f ≡ f_of o) × (new.me ≡ me_of o)) is (same_member k new s (after_echo s (pending s)) w.1 (made s w.1).1 (echo_same_by s (pending s)))
 
 -- propose
-abbrev pub ProposedBy : KeptSeat → KeptSeat → Proposed → Outs → Outs → Type 0
+abbrev pub ProposedBy : KeptReplica → KeptReplica → Proposed → Outs → Outs → Type 0
 ProposedBy k new e old out = (s : Sight) → Mirrors k s → (out ≡ old ++ propose_sent s e) × Mirrors new (said s (message.Propose (open_slot s) s.view e))
 
-pub propose_led : (k new : KeptSeat) (e : Proposed) (old out : Outs) → Witness k → ProposedBy k new e old out → Witness new
+pub propose_led : (k new : KeptReplica) (e : Proposed) (old out : Outs) → Witness k → ProposedBy k new e old out → Witness new
 propose_led k new e old out w made = (did (deed.Proposing e (propose_sent (sight w.0) e)) w.0, (made (sight w.0) w.1).1)
 
-pub propose_call : (k new : KeptSeat) (now : Option KeptSeat) (e : Proposed) (old out : Outs) → Some k ≡ now → ProposedBy k new e old out → (h : Member OrderMessage) → SeatStands now h → Proposes slot_machine h e old out (λ t. Mirrors new (sight t))
+pub propose_call : (k new : KeptReplica) (now : Option KeptReplica) (e : Proposed) (old out : Outs) → Some k ≡ now → ProposedBy k new e old out → (h : Member OrderMessage) → SeatStands now h → Proposes slot_machine h e old out (λ t. Mirrors new (sight t))
 propose_call k new now e old out is made h stands = proposes h new e old out (made (sight h) (subst (λ o. SeatStands o h) (sym is) stands))
 
-pub propose_falls : (k new : KeptSeat) (now : Option KeptSeat) (e : Proposed) (old out : Outs) → Some k ≡ now → Witness k → ProposedBy k new e old out → Proposable (allowed now) e → kept_rest new < rest_left now
+pub propose_falls : (k new : KeptReplica) (now : Option KeptReplica) (e : Proposed) (old out : Outs) → Some k ≡ now → Witness k → ProposedBy k new e old out → Proposable (allowed now) e → kept_rest new < rest_left now
 propose_falls k new now e old out is w made may = subst (λ o. kept_rest new < rest_left o) is (propose_lowers w.0 k new e old out w.1 (subst (λ o. Proposable (allowed o) e) (sym is) may) (proposes w.0 new e old out (made (sight w.0) w.1)))
 
-pub propose_same : (k new : KeptSeat) (now : Option KeptSeat) (e : Proposed) (old out : Outs) → Some k ≡ now → Witness k → ProposedBy k new e old out → (new.f ≡ f_of now) × (new.me ≡ me_of now)
+pub propose_same : (k new : KeptReplica) (now : Option KeptReplica) (e : Proposed) (old out : Outs) → Some k ≡ now → Witness k → ProposedBy k new e old out → (new.f ≡ f_of now) × (new.me ≡ me_of now)
 propose_same k new now e old out is w made =
     let s = sight w.0 in
     subst (λ o. (new.f ≡ f_of o) × (new.me ≡ me_of o)) is (same_member k new s (said s (message.Propose (open_slot s) s.view e)) w.1 (made s w.1).1 (refl, refl))
 
 -- tick
-abbrev pub TickedBy : KeptSeat → KeptSeat → Bool → Outs → Outs → Type 0
+abbrev pub TickedBy : KeptReplica → KeptReplica → Bool → Outs → Outs → Type 0
 TickedBy k new due old out = (s : Sight) → Mirrors k s → (out ≡ old ++ tick_sent s due) × Mirrors new (after_tick s due)
 
 tick_same_by : (s : Sight) (due over waiting : Bool) → is_over s due ≡ over → waits s due ≡ waiting → SameIn s (after_tick s due)
@@ -135,23 +135,23 @@ tick_same_by s due true waiting p q = rw p (refl, refl)
 tick_same_by s due false true p q = rw (p, q) (refl, refl)
 tick_same_by s due false false p q = rw (p, q) (refl, refl)
 
-pub tick_led : (k new : KeptSeat) (due : Bool) (old out : Outs) → Witness k → TickedBy k new due old out → Witness new
+pub tick_led : (k new : KeptReplica) (due : Bool) (old out : Outs) → Witness k → TickedBy k new due old out → Witness new
 tick_led k new due old out w made = (did (deed.Ticked due (tick_sent (sight w.0) due)) w.0, (ticks w.0 new due old out (made (sight w.0) w.1)).1)
 
-pub tick_call : (k new : KeptSeat) (now : Option KeptSeat) (due : Bool) (old out : Outs) → Some k ≡ now → TickedBy k new due old out → (h : Member OrderMessage) → SeatStands now h → Ticks slot_machine h due old out (λ t. Mirrors new (sight t))
+pub tick_call : (k new : KeptReplica) (now : Option KeptReplica) (due : Bool) (old out : Outs) → Some k ≡ now → TickedBy k new due old out → (h : Member OrderMessage) → SeatStands now h → Ticks slot_machine h due old out (λ t. Mirrors new (sight t))
 tick_call k new now due old out is made h stands = ticks h new due old out (made (sight h) (subst (λ o. SeatStands o h) (sym is) stands))
 
-pub tick_same : (k new : KeptSeat) (now : Option KeptSeat) (due : Bool) (old out : Outs) → Some k ≡ now → Witness k → TickedBy k new due old out → (new.f ≡ f_of now) × (new.me ≡ me_of now)
+pub tick_same : (k new : KeptReplica) (now : Option KeptReplica) (due : Bool) (old out : Outs) → Some k ≡ now → Witness k → TickedBy k new due old out → (new.f ≡ f_of now) × (new.me ≡ me_of now)
 tick_same k new now due old out is w made =
     let s = sight w.0 in
     subst (λ o. (new.f ≡ f_of o) × (new.me ≡ me_of o)) is (same_member k new s (after_tick s due) w.1 (made s w.1).1 (tick_same_by s due (is_over s due) (waits s due) refl refl))
 
 -- resend
-resend_stands : (o : Option KeptSeat) (h : Member OrderMessage) (sent : Outs) → SeatStands o h → SeatStands o (did (deed.Resent sent) h)
+resend_stands : (o : Option KeptReplica) (h : Member OrderMessage) (sent : Outs) → SeatStands o h → SeatStands o (did (deed.Resent sent) h)
 resend_stands None h sent stands = stands
 resend_stands (Some k) h sent stands = stands
 
-pub resends : (k : KeptSeat) (now : Option KeptSeat) (old out : Outs) → Some k ≡ now → out ≡ old ++ resend_by (look_of k.round) → (h : Member OrderMessage) → SeatStands now h → Resends slot_machine h old out (λ t. SeatStands now t)
+pub resends : (k : KeptReplica) (now : Option KeptReplica) (old out : Outs) → Some k ≡ now → out ≡ old ++ resend_by (look_of k.current) → (h : Member OrderMessage) → SeatStands now h → Resends slot_machine h old out (λ t. SeatStands now t)
 resends k now old out is sent h stands =
     let p = subst (λ o. SeatStands o h) (sym is) stands in
-    (sent ∙ ap (λ (xs : Outs). old ++ xs) (resend_is k.round (sight h) p.shows), resend_stands now h (slot_machine.resending h) stands)
+    (sent ∙ ap (λ (xs : Outs). old ++ xs) (resend_is k.current (sight h) p.shows), resend_stands now h (slot_machine.resending h) stands)

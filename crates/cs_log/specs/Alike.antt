@@ -1,8 +1,8 @@
 -- A message of a kind, slot and view.
 use Rattle.std.specs.Prelude.{ℕ, ◌==◌, Bool, false}
-use Rattle.cs_rules.specs.declared.message.OrderMessage.{OrderMessage}
-use Rattle.cs_rules.specs.declared.message.OrderMessage.TheVariants as message
-use Rattle.cs_rules.specs.Facts.{at}
+use Rattle.cs_order_rules.specs.declared.message.OrderMessage.{OrderMessage}
+use Rattle.cs_order_rules.specs.declared.message.OrderMessage.TheVariants as message
+use Rattle.cs_order_rules.specs.Facts.{at}
 
 abbrev pub is_proposal_at : ℕ → ℕ → OrderMessage → Bool
 is_proposal_at slot view (message.Propose n w e) = at n w slot view

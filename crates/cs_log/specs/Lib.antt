@@ -1,3 +1,3 @@
 pub mod Alike
-pub mod Seats
+pub mod Replicas
 pub mod Stands

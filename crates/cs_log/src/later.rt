@@ -1,10 +1,10 @@
 //! Messages of slots that aren't open yet.
 ghost use Rattle.std.specs.Prelude.{◌≡◌, ◌∷◌, not, if◌then◌else◌, reverse, IfOk};
-ghost use Rattle.cs_rules.specs.Facts.{is_like, took};
+ghost use Rattle.cs_order_rules.specs.Facts.{is_like, took};
 
 use crate::likeness::is_like;
 use cs_base::Memory;
-use cs_rules::OrderMessage;
+use cs_order_rules::OrderMessage;
 use std::alloc::AllocError;
 
 /// Keeps a message of another member. It is false exactly for a repeat.

@@ -3,8 +3,8 @@
 
 mod later;
 mod likeness;
+mod replica;
 mod saying;
-mod seat;
 mod slot_order;
 
 pub use slot_order::SlotOrder;

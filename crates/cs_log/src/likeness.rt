@@ -1,9 +1,9 @@
 //! Messages of one kind, slot and view.
 ghost use Rattle.std.specs.Prelude.{◌≡◌, ◌==◌, ◌&&◌};
-ghost use Rattle.cs_rules.specs.Facts.{is_like};
+ghost use Rattle.cs_order_rules.specs.Facts.{is_like};
 ghost use Rattle.cs_log.specs.Alike.{is_proposal_at, is_echo_at, is_confirm_at, is_change_at, is_done_at};
 
-use cs_rules::OrderMessage;
+use cs_order_rules::OrderMessage;
 
 /// Two messages are of the same kind, slot and view.
 pub fn is_like(one: &OrderMessage, other: &OrderMessage) -> bool

@@ -1,11 +1,11 @@
 //! What a member hands out.
 ghost use Rattle.std.specs.Prelude.{◌≡◌, ◌++◌, ◌∷◌, [], IfOk, OnOk, Some, option_copied, Option};
-ghost use Rattle.cs_rules.specs.Rules.{to_all, again};
-ghost use Rattle.cs_rules.specs.declared.message.OrderMessage.TheVariants as message;
+ghost use Rattle.cs_order_rules.specs.Rules.{to_all, again};
+ghost use Rattle.cs_order_rules.specs.declared.message.OrderMessage.TheVariants as message;
 
 use cs_base::{Memory, Sequence};
 use cs_order::{Outgoing, Proposed};
-use cs_rules::{Change, OrderMessage};
+use cs_order_rules::{Change, OrderMessage};
 use std::alloc::{AllocError, Global};
 
 /// Hands a message out for all others.

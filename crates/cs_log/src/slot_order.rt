@@ -1,14 +1,14 @@
 //! The order of a member among 3f+1.
 ghost use Rattle.std.specs.Prelude.{◌≡◌, ◌*◌, ◌≤◌, IfOk};
-ghost use Rattle.cs_rules.specs.SlotMachine.{slot_machine};
-ghost use Rattle.cs_law.specs.SlotLaw.{slot_law, slot_undisturbed};
-ghost use Rattle.cs_law.specs.Held.{slot_holds};
+ghost use Rattle.cs_order_rules.specs.SlotMachine.{slot_machine};
+ghost use Rattle.cs_order_law.specs.SlotLaw.{slot_law, slot_undisturbed};
+ghost use Rattle.cs_order_law.specs.Held.{slot_holds};
 ghost use Rattle.cs_log.specs.Stands.{SeatStands, SeatStarts, f_of, me_of, awaited, allowed, rest_left, seat_begins, seat_belongs, rest_bounded};
 
-use crate::seat::Seat;
+use crate::replica::Replica;
 use cs_base::Memory;
 use cs_order::{May, Order, Outgoing, Proposed, Step, Took};
-use cs_rules::OrderMessage;
+use cs_order_rules::OrderMessage;
 use std::alloc::Global;
 use std::marker::Model;
 
@@ -17,19 +17,19 @@ use std::marker::Model;
 /// After a want of memory it does nothing more: its calls answer that again, or nothing.
 #[derive(Drop)]
 pub struct SlotOrder {
-    seat: Option<Seat>,
+    replica: Option<Replica>,
 }
 
 impl Model for SlotOrder {
     ghost use Rattle.std.specs.Prelude.{Option};
-    ghost use Rattle.cs_log.specs.Seats.{KeptSeat};
+    ghost use Rattle.cs_log.specs.Replicas.{KeptReplica};
     ghost use Rattle.cs_log.specs.Stands.{kept_if, IsLed};
 
-    ghost Value = { Option KeptSeat };
+    ghost Value = { Option KeptReplica };
 
-    ghost view = { λ s. kept_if s.seat };
+    ghost view = { λ s. kept_if s.replica };
 
-    ghost invariant = { λ s. IsLed (kept_if s.seat) };
+    ghost invariant = { λ s. IsLed (kept_if s.replica) };
 }
 
 impl SlotOrder {
@@ -40,8 +40,10 @@ impl SlotOrder {
         ensures starts { IfOk result (λ order. ⟦<SlotOrder as Order>⟧.at_start order) }
         ensures whose { IfOk result (λ order. (f_of order ≡ f) × (me_of order ≡ me)) }
     {
-        let seat = Seat::new(alloc, f, me)?;
-        Ok(SlotOrder { seat: Some(seat) })
+        let replica = Replica::new(alloc, f, me)?;
+        Ok(SlotOrder {
+            replica: Some(replica),
+        })
     }
 }
 
@@ -77,35 +79,35 @@ impl Order for SlotOrder {
     ghost bounded = { λ s. rest_bounded s };
 
     fn open_slot(&self) -> u64 {
-        match &self.seat {
-            Some(seat) => seat.open_slot(),
+        match &self.replica {
+            Some(replica) => replica.open_slot(),
             None => 0,
         }
     }
 
     fn view(&self) -> u16 {
-        match &self.seat {
-            Some(seat) => seat.view(),
+        match &self.replica {
+            Some(replica) => replica.view(),
             None => 0,
         }
     }
 
     fn take(&mut self, _alloc: Global, from: u16, message: OrderMessage) -> Result<Took, Memory> {
-        let Some(mut seat) = self.seat.take() else {
+        let Some(mut replica) = self.replica.take() else {
             return Err(Memory);
         };
-        if from > 3 * seat.f() || from == seat.me() {
-            self.seat = Some(seat);
+        if from > 3 * replica.f() || from == replica.me() {
+            self.replica = Some(replica);
             return Ok(Took::Leader);
         }
-        let took = seat.take(from, message)?;
-        self.seat = Some(seat);
+        let took = replica.take(from, message)?;
+        self.replica = Some(replica);
         Ok(took)
     }
 
     fn entry(&self, slot: u64) -> Option<&Proposed> {
-        match &self.seat {
-            Some(seat) => seat.entry(slot),
+        match &self.replica {
+            Some(replica) => replica.entry(slot),
             None => None,
         }
     }
@@ -115,33 +117,33 @@ impl Order for SlotOrder {
         alloc: Global,
         out: &mut Vec<Outgoing<OrderMessage>>,
     ) -> Result<Step, Memory> {
-        let Some(mut seat) = self.seat.take() else {
+        let Some(mut replica) = self.replica.take() else {
             return Err(Memory);
         };
-        let step = seat.advance(alloc, out)?;
-        self.seat = Some(seat);
+        let step = replica.advance(alloc, out)?;
+        self.replica = Some(replica);
         Ok(step)
     }
 
     fn pending(&self) -> Option<&Proposed> {
-        match &self.seat {
-            Some(seat) => seat.pending(),
+        match &self.replica {
+            Some(replica) => replica.pending(),
             None => None,
         }
     }
 
     fn echo(&mut self, alloc: Global, out: &mut Vec<Outgoing<OrderMessage>>) -> Result<(), Memory> {
-        let Some(mut seat) = self.seat.take() else {
+        let Some(mut replica) = self.replica.take() else {
             return Err(Memory);
         };
-        seat.echo(alloc, out)?;
-        self.seat = Some(seat);
+        replica.echo(alloc, out)?;
+        self.replica = Some(replica);
         Ok(())
     }
 
     fn may_propose(&self, alloc: Global) -> Result<May, Memory> {
-        match &self.seat {
-            Some(seat) => seat.may_propose(alloc),
+        match &self.replica {
+            Some(replica) => replica.may_propose(alloc),
             None => Ok(May::No),
         }
     }
@@ -152,17 +154,17 @@ impl Order for SlotOrder {
         entry: Proposed,
         out: &mut Vec<Outgoing<OrderMessage>>,
     ) -> Result<(), Memory> {
-        let Some(mut seat) = self.seat.take() else {
+        let Some(mut replica) = self.replica.take() else {
             return Err(Memory);
         };
-        seat.propose(alloc, entry, out)?;
-        self.seat = Some(seat);
+        replica.propose(alloc, entry, out)?;
+        self.replica = Some(replica);
         Ok(())
     }
 
     fn resend(&self, alloc: Global, out: &mut Vec<Outgoing<OrderMessage>>) -> Result<(), Memory> {
-        match &self.seat {
-            Some(seat) => seat.resend(alloc, out),
+        match &self.replica {
+            Some(replica) => replica.resend(alloc, out),
             None => Err(Memory),
         }
     }
@@ -173,11 +175,11 @@ impl Order for SlotOrder {
         due: bool,
         out: &mut Vec<Outgoing<OrderMessage>>,
     ) -> Result<(), Memory> {
-        let Some(mut seat) = self.seat.take() else {
+        let Some(mut replica) = self.replica.take() else {
             return Err(Memory);
         };
-        seat.tick(alloc, due, out)?;
-        self.seat = Some(seat);
+        replica.tick(alloc, due, out)?;
+        self.replica = Some(replica);
         Ok(())
     }
 
@@ -188,8 +190,8 @@ impl Order for SlotOrder {
         to: u16,
         out: &mut Vec<Outgoing<OrderMessage>>,
     ) -> Result<bool, Memory> {
-        match &self.seat {
-            Some(seat) => seat.reply(alloc, slot, to, out),
+        match &self.replica {
+            Some(replica) => replica.reply(alloc, slot, to, out),
             None => Err(Memory),
         }
     }

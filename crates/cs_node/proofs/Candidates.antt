@@ -3,12 +3,12 @@ use Rattle.std.proofs.Common.{◌≡◌, ℕ, suc, ◌+◌, ◌<◌, Bool, true,
 use Rattle.cs_order.specs.declared.proposed.Proposed.{Proposed}
 use Rattle.cs_order.specs.Deeds.{Deed, Echoed, Machine}
 use Rattle.cs_order.specs.Lists.{IsIn}
-use Rattle.cs_trail.specs.Setup.{Setup}
-use Rattle.cs_trail.specs.Pool.{Pool}
-use Rattle.cs_trail.specs.Net.{Net}
-use Rattle.cs_trail.specs.Site.{Carrier, View}
-use Rattle.cs_trail.specs.Deployment.{site_of}
-use Rattle.cs_trail.specs.Trail.{with_deed, proposing, candidate_marks, propose_marks, echo_marks}
+use Rattle.cs_node_rules.specs.Setup.{Setup}
+use Rattle.cs_node_rules.specs.Pool.{Pool}
+use Rattle.cs_node_rules.specs.Net.{Net}
+use Rattle.cs_node_rules.specs.Site.{Carrier, View}
+use Rattle.cs_node_rules.specs.Deployment.{site_of}
+use Rattle.cs_node_rules.specs.Trail.{with_deed, proposing, candidate_marks, propose_marks, echo_marks}
 use Rattle.cs_node.specs.Proposals.{admits_proposed, admits_pending, first_admitted}
 
 module _ (setup : Setup) (shard : ℕ) (pool : Pool) where

@@ -1,20 +1,20 @@
 -- What a core did in a turn, at the view for which it stood.
 use Rattle.std.proofs.Common.{◌≡◌, ℕ, Bool, true, false, List, [], ◌++◌, length, Option, Some, None, refl, ap, sym, subst, ◌∙◌}
-use Rattle.cs_value.specs.declared.object.Object.{Object}
-use Rattle.cs_form.specs.declared.transaction.Tx.{Tx}
+use Rattle.cs_tx_value.specs.declared.object.Object.{Object}
+use Rattle.cs_tx_form.specs.declared.transaction.Tx.{Tx}
 use Rattle.cs_order.specs.declared.proposed.Proposed.{Proposed}
 use Rattle.cs_order.specs.declared.answers.Outgoing.{Outgoing}
 use Rattle.cs_order.specs.declared.answers.Step.{Step}
 use Rattle.cs_order.specs.declared.answers.Step.TheVariants.{Chosen, Moved}
 use Rattle.cs_order.specs.Deeds.{Deed, Advanced, Echoed, Proposing, Member, Machine, did, chosen_in}
 use Rattle.cs_order.specs.Calls.{Advances, Echoes, Proposes, advanced, sent_at}
-use Rattle.cs_trail.specs.Setup.{Setup}
-use Rattle.cs_trail.specs.Net.{Net}
-use Rattle.cs_trail.specs.Signs.{Sign, execution_signs}
-use Rattle.cs_trail.specs.Site.{Carrier, Mark, Site, View}
-use Rattle.cs_trail.specs.Trail.{handed, with_deed, entered_view, proposing, echo_marks, turn_marks}
-use Rattle.cs_trail.specs.Deployment.{site_of}
-use Rattle.cs_pool.specs.Deployed.{deployed}
+use Rattle.cs_node_rules.specs.Setup.{Setup}
+use Rattle.cs_node_rules.specs.Net.{Net}
+use Rattle.cs_node_rules.specs.Signs.{Sign, execution_signs}
+use Rattle.cs_node_rules.specs.Site.{Carrier, Mark, Site, View}
+use Rattle.cs_node_rules.specs.Trail.{handed, with_deed, entered_view, proposing, echo_marks, turn_marks}
+use Rattle.cs_node_rules.specs.Deployment.{site_of}
+use Rattle.cs_node_pool.specs.Deployed.{deployed}
 use Rattle.cs_sbac.specs.Held.{Held, bench_of}
 use Rattle.cs_node.specs.declared.engine.Engine.{Engine}
 use Rattle.cs_node.specs.declared.draft.Draft.{Draft}

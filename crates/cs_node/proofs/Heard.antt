@@ -3,23 +3,23 @@ use Rattle.std.proofs.lemmas.Bool.Decides.{nat_tests}
 use Rattle.cs_base.specs.declared.config.Config.{Config}
 use Rattle.std.proofs.Common.{◌≡◌, ◌≢◌, arith, ℕ, ◌*◌, ◌≤◌, Bool, true, false, List, [], ◌∷◌, ◌++◌, Option, Some, None, refl, ap, sym, subst, ◌∙◌}
 use Rattle.cs_base.specs.declared.node_id.NodeId.{NodeId}
-use Rattle.cs_value.specs.declared.object.Object.{Object}
-use Rattle.cs_form.specs.declared.transaction.Tx.{Tx}
+use Rattle.cs_tx_value.specs.declared.object.Object.{Object}
+use Rattle.cs_tx_form.specs.declared.transaction.Tx.{Tx}
 use Rattle.cs_order.specs.declared.answers.Outgoing.{Outgoing}
 use Rattle.cs_order.specs.declared.answers.Took.{Took}
 use Rattle.cs_order.specs.declared.answers.Took.TheVariants.{Taken}
 use Rattle.cs_order.specs.Deeds.{Took_in, Replied, Member, Machine, did}
 use Rattle.cs_order.specs.Calls.{taken_in, Takes, RepliesWith}
-use Rattle.cs_trail.specs.declared.cause.Cause.{Cause}
-use Rattle.cs_trail.specs.declared.cause.Cause.TheVariants.{Role, Far}
-use Rattle.cs_trail.specs.Setup.{Setup}
-use Rattle.cs_trail.specs.Members.{is_other_member}
-use Rattle.cs_trail.specs.Net.{Net}
-use Rattle.cs_trail.specs.Signs.{Sign, Dropped}
-use Rattle.cs_trail.specs.Site.{Carrier, Mark, Site, View, plain}
-use Rattle.cs_trail.specs.Trail.{handed, drops, taking_marks, member_marks, reply_marks, want_marks}
-use Rattle.cs_trail.specs.Deployment.{site_of}
-use Rattle.cs_pool.specs.Deployed.{deployed}
+use Rattle.cs_node_rules.specs.declared.cause.Cause.{Cause}
+use Rattle.cs_node_rules.specs.declared.cause.Cause.TheVariants.{Role, Far}
+use Rattle.cs_node_rules.specs.Setup.{Setup}
+use Rattle.cs_node_rules.specs.Members.{is_other_member}
+use Rattle.cs_node_rules.specs.Net.{Net}
+use Rattle.cs_node_rules.specs.Signs.{Sign, Dropped}
+use Rattle.cs_node_rules.specs.Site.{Carrier, Mark, Site, View, plain}
+use Rattle.cs_node_rules.specs.Trail.{handed, drops, taking_marks, member_marks, reply_marks, want_marks}
+use Rattle.cs_node_rules.specs.Deployment.{site_of}
+use Rattle.cs_node_pool.specs.Deployed.{deployed}
 use Rattle.cs_sbac.specs.Held.{Held, bench_of}
 use Rattle.cs_node.specs.declared.engine.Engine.{Engine}
 use Rattle.cs_node.specs.declared.draft.Draft.{Draft}

@@ -12,7 +12,7 @@ use Rattle.cs_wire.specs.Keys.{same_name, row_of, key_between, row_between, IsOf
 use Rattle.cs_wire.specs.Opened.{opened, datagram_with, keys_of_master}
 use Rattle.cs_wire.proofs.Parts.{are_same}
 use Rattle.cs_wire.proofs.Masters.{opened_alike}
-use Rattle.cs_trail.specs.Net.{net_of}
+use Rattle.cs_node_rules.specs.Net.{net_of}
 use Rattle.cs_node.specs.Speaking.{Speaks}
 
 -- a node is no client

@@ -2,8 +2,8 @@
 use Rattle.std.proofs.Common.{◌≡◌, ℕ, ◌+◌, ◌*◌, ◌<◌, length, take, get_or, Bool, true, false, not, cond, List, [], ◌∷◌, ◌++◌, refl, ap, sym, ◌∙◌, add-one, append_assoc, append-nil}
 use Rattle.std.proofs.lemmas.List.{take_more}
 use Rattle.cs_base.specs.declared.node_id.NodeId.{NodeId}
-use Rattle.cs_trail.specs.Evidence.{name_eq}
-use Rattle.cs_trail.specs.Members.{members_below, members, except, others}
+use Rattle.cs_node_rules.specs.Evidence.{name_eq}
+use Rattle.cs_node_rules.specs.Members.{members_below, members, except, others}
 
 pub except-append : (me : NodeId) (xs ys : List NodeId) → except me (xs ++ ys) ≡ except me xs ++ except me ys
 except-append me [] ys = refl

@@ -1,13 +1,13 @@
 -- Notes of executions, and that their entries have encodings.
 use Rattle.std.proofs.Common.{◌≡◌, List, [], ◌∷◌, ◌++◌, refl, sym, subst}
 use Rattle.cs_ledger.specs.Table as Shard
-use Rattle.cs_form.specs.declared.effect.Effect.{Effect}
-use Rattle.cs_form.specs.declared.effect.Effect.TheVariants.{Voted, Accepted, Aborted, Skipped, Void}
+use Rattle.cs_tx_form.specs.declared.effect.Effect.{Effect}
+use Rattle.cs_tx_form.specs.declared.effect.Effect.TheVariants.{Voted, Accepted, Aborted, Skipped, Void}
 use Rattle.cs_table.specs.Effects.{effect_of}
-use Rattle.cs_form.specs.declared.entry.Entry.{Entry}
-use Rattle.cs_form.specs.declared.vote.Vote.TheVariants.{Commit, Abort}
-use Rattle.cs_form.specs.Session.{EntryFits}
-use Rattle.cs_message.specs.Message.{MessageFits}
+use Rattle.cs_tx_form.specs.declared.entry.Entry.{Entry}
+use Rattle.cs_tx_form.specs.declared.vote.Vote.TheVariants.{Commit, Abort}
+use Rattle.cs_tx_form.specs.Session.{EntryFits}
+use Rattle.cs_wire_message.specs.Message.{MessageFits}
 use Rattle.cs_node.specs.declared.draft.Note.{Note}
 use Rattle.cs_node.specs.declared.draft.Said.{Said}
 use Rattle.cs_node.specs.declared.draft.Draft.{Draft}

@@ -2,8 +2,8 @@
 use Rattle.std.proofs.Common.{◌≡◌, ℕ, Bool, true, false, List, Option, Some, None, Ok, Err, IsSome, refl, ap, subst, nat_lt, bytes_eq, cond, length}
 use Rattle.std.specs.Prelude.{codes}
 use Rattle.cs_base.specs.declared.node_id.NodeId.{NodeId}
-use Rattle.cs_message.specs.declared.message.Message.{Message}
-use Rattle.cs_message.specs.Body.{message_whole}
+use Rattle.cs_wire_message.specs.declared.message.Message.{Message}
+use Rattle.cs_wire_message.specs.Body.{message_whole}
 use Rattle.cs_wire.specs.declared.head.Head.{Head}
 use Rattle.cs_wire.specs.declared.keys.Row.{Row}
 use Rattle.cs_wire.specs.declared.keys.Keys.{Keys}

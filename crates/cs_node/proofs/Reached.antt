@@ -5,10 +5,10 @@ use Rattle.std.specs.Prelude.{is_some, ◌||◌}
 use Rattle.cs_base.specs.declared.config.Config.{Config}
 use Rattle.cs_base.specs.declared.node_id.NodeId.{NodeId}
 use Rattle.cs_base.specs.NodeId.{is_node, is_client, is_named}
-use Rattle.cs_form.specs.declared.transaction.Tx.{Tx}
-use Rattle.cs_form.specs.declared.entry.Entry.{Entry}
-use Rattle.cs_message.specs.declared.message.Message.{Message}
-use Rattle.cs_message.specs.declared.message.Message.TheVariants as message
+use Rattle.cs_tx_form.specs.declared.transaction.Tx.{Tx}
+use Rattle.cs_tx_form.specs.declared.entry.Entry.{Entry}
+use Rattle.cs_wire_message.specs.declared.message.Message.{Message}
+use Rattle.cs_wire_message.specs.declared.message.Message.TheVariants as message
 use Rattle.cs_order.specs.declared.proposed.Proposed.{Proposed}
 use Rattle.cs_order.specs.declared.answers.Outgoing.{Outgoing}
 use Rattle.cs_order.specs.declared.answers.Took.{Took}
@@ -21,16 +21,16 @@ use Rattle.cs_order.specs.Deeds.{Deed, Advanced, Echoed, Proposing, Resent, Tick
 use Rattle.cs_wire.specs.declared.keys.Keys.{Keys}
 use Rattle.cs_wire.specs.Keys.{row_of}
 use Rattle.cs_wire.specs.Opened.{Opened}
-use Rattle.cs_trail.specs.declared.cause.Cause.TheVariants.{Role, NoProof}
-use Rattle.cs_trail.specs.Setup.{Setup}
-use Rattle.cs_trail.specs.Evidence.{name_eq}
-use Rattle.cs_trail.specs.Members.{is_other_member, others}
-use Rattle.cs_trail.specs.Net.{Net}
-use Rattle.cs_trail.specs.Admission.{due}
-use Rattle.cs_trail.specs.Signs.{Sign, Dropped, Took as Took_vote, Entered, Viewed, Did, Sent, guarded, sends, submit_signs, voted_signs, ask_signs, execution_signs, asked_again}
-use Rattle.cs_trail.specs.Site.{Carrier, Input, Datagram, Tick, Mark, In, Ordered, Site, View, view_after, plain, signs_of}
-use Rattle.cs_trail.specs.Trail.{out_signs, handed, with_deed, entered_view, moving, admits_proposed, proposing, due_marks, candidate_marks, propose_marks, echo_marks, step_marks, turn_marks, continued, settled, taking_marks, member_marks, reply_marks, want_marks, message_marks, opened_marks, again_marks, waiting_marks, input_marks, event_marks}
-use Rattle.cs_trail.specs.Deployment.{site_of}
+use Rattle.cs_node_rules.specs.declared.cause.Cause.TheVariants.{Role, NoProof}
+use Rattle.cs_node_rules.specs.Setup.{Setup}
+use Rattle.cs_node_rules.specs.Evidence.{name_eq}
+use Rattle.cs_node_rules.specs.Members.{is_other_member, others}
+use Rattle.cs_node_rules.specs.Net.{Net}
+use Rattle.cs_node_rules.specs.Admission.{due}
+use Rattle.cs_node_rules.specs.Signs.{Sign, Dropped, Took as Took_vote, Entered, Viewed, Did, Sent, guarded, sends, submit_signs, voted_signs, ask_signs, execution_signs, asked_again}
+use Rattle.cs_node_rules.specs.Site.{Carrier, Input, Datagram, Tick, Mark, In, Ordered, Site, View, view_after, plain, signs_of}
+use Rattle.cs_node_rules.specs.Trail.{out_signs, handed, with_deed, entered_view, moving, admits_proposed, proposing, due_marks, candidate_marks, propose_marks, echo_marks, step_marks, turn_marks, continued, settled, taking_marks, member_marks, reply_marks, want_marks, message_marks, opened_marks, again_marks, waiting_marks, input_marks, event_marks}
+use Rattle.cs_node_rules.specs.Deployment.{site_of}
 use Rattle.cs_node.specs.declared.nodes.Core.{Core}
 use Rattle.cs_node.specs.Notes.{said_of, AllReached}
 use Rattle.cs_node.specs.Cores.{StandsFor}

@@ -7,21 +7,21 @@ use Rattle.cs_base.specs.declared.key.Key.{Key}
 use Rattle.cs_base.specs.declared.node_id.NodeId.{NodeId}
 use Rattle.cs_base.specs.Key.{shard_of_key}
 use Rattle.cs_base.specs.NodeId.{is_node, is_client}
-use Rattle.cs_form.specs.declared.session.Session.{Session}
-use Rattle.cs_form.specs.declared.vote.Vote.{Vote}
-use Rattle.cs_form.specs.declared.vote.Vote.TheVariants.{Commit}
-use Rattle.cs_form.specs.declared.entry.Entry.{Entry}
-use Rattle.cs_message.specs.declared.message.Message.{Message}
-use Rattle.cs_message.specs.declared.message.Message.TheVariants as message
-use Rattle.cs_trail.specs.declared.cause.Cause.{Cause}
-use Rattle.cs_trail.specs.declared.pooled.Pooled.{Pooled}
-use Rattle.cs_trail.specs.Setup.{Setup, digest_of, concerns, concerned, concerned_below, is_fit, is_approved, session_in}
-use Rattle.cs_trail.specs.Evidence.{name_eq, has_voted}
-use Rattle.cs_trail.specs.Members.{members_below, members, except, others}
-use Rattle.cs_trail.specs.Pool.{Pool, found, is_pooled, has_room}
-use Rattle.cs_trail.specs.Bench.{Bench, Ran, executed, decided, noted, told_of}
-use Rattle.cs_trail.specs.Asked.{key_asked}
-use Rattle.cs_trail.specs.Signs.{Sign, Dropped, Took, Entered, Viewed, Did, Sent, guarded, entering_signs, submitted_signs, submit_signs, ask_signs, asking_signs, ballot_signs, voted_signs, sends, vote_signs, own_signs, entered_signs, execution_signs, asked_again}
+use Rattle.cs_tx_form.specs.declared.session.Session.{Session}
+use Rattle.cs_tx_form.specs.declared.vote.Vote.{Vote}
+use Rattle.cs_tx_form.specs.declared.vote.Vote.TheVariants.{Commit}
+use Rattle.cs_tx_form.specs.declared.entry.Entry.{Entry}
+use Rattle.cs_wire_message.specs.declared.message.Message.{Message}
+use Rattle.cs_wire_message.specs.declared.message.Message.TheVariants as message
+use Rattle.cs_node_rules.specs.declared.cause.Cause.{Cause}
+use Rattle.cs_node_rules.specs.declared.pooled.Pooled.{Pooled}
+use Rattle.cs_node_rules.specs.Setup.{Setup, digest_of, concerns, concerned, concerned_below, is_fit, is_approved, session_in}
+use Rattle.cs_node_rules.specs.Evidence.{name_eq, has_voted}
+use Rattle.cs_node_rules.specs.Members.{members_below, members, except, others}
+use Rattle.cs_node_rules.specs.Pool.{Pool, found, is_pooled, has_room}
+use Rattle.cs_node_rules.specs.Bench.{Bench, Ran, executed, decided, noted, told_of}
+use Rattle.cs_node_rules.specs.Asked.{key_asked}
+use Rattle.cs_node_rules.specs.Signs.{Sign, Dropped, Took, Entered, Viewed, Did, Sent, guarded, entering_signs, submitted_signs, submit_signs, ask_signs, asking_signs, ballot_signs, voted_signs, sends, vote_signs, own_signs, entered_signs, execution_signs, asked_again}
 
 module _ (Peer : NodeId → Type 0) where
   -- all that is sent goes to a peer

@@ -3,8 +3,8 @@ use Rattle.std.proofs.Common.{◌≡◌, ℕ, ◌+◌, ◌<◌, List, [], ◌∷
 use Rattle.std.proofs.lemmas.List.{drop_more}
 use Rattle.cs_base.specs.declared.config.Config.{Config}
 use Rattle.cs_base.specs.declared.node_id.NodeId.{NodeId}
-use Rattle.cs_message.specs.declared.message.Message.{Message}
-use Rattle.cs_message.specs.Message.{kind_of, body_of, MessageFits}
+use Rattle.cs_wire_message.specs.declared.message.Message.{Message}
+use Rattle.cs_wire_message.specs.Message.{kind_of, body_of, MessageFits}
 use Rattle.cs_wire.specs.declared.input.Out.{Out}
 use Rattle.cs_wire.specs.declared.keys.Keys.{Keys}
 use Rattle.cs_wire.specs.Keys.{row_of}
@@ -12,8 +12,8 @@ use Rattle.cs_wire.specs.Datagram.{sealed as datagram}
 use Rattle.cs_wire.specs.Opens.{Seals}
 use Rattle.cs_wire.proofs.Masters.{sealed_is}
 use Rattle.cs_ledger.specs.Ledger.{Bytes}
-use Rattle.cs_trail.specs.Net.{Net, sealed}
-use Rattle.cs_trail.specs.Signs.{Sign, Dropped, Took, Entered, Viewed, Did, Sent}
+use Rattle.cs_node_rules.specs.Net.{Net, sealed}
+use Rattle.cs_node_rules.specs.Signs.{Sign, Dropped, Took, Entered, Viewed, Did, Sent}
 use Rattle.cs_node.specs.declared.draft.Said.{Said}
 use Rattle.cs_node.specs.Notes.{AllSaidFit, AllReached, said_of, to_each, spoken, outs_of, outs_for}
 use Rattle.cs_node.specs.Speaking.{Speaks}

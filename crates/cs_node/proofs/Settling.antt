@@ -1,8 +1,8 @@
 -- How the marks of the turns add up to those of an event.
 use Rattle.std.proofs.Common.{◌≡◌, ℕ, zero, suc, ◌<◌, ◌^◌, true, false, List, [], ◌∷◌, ◌++◌, Option, Some, None, arith, sym, ◌∙◌, ap, subst, refl, append_assoc, append-nil}
-use Rattle.cs_trail.specs.Signs.{Sign}
-use Rattle.cs_trail.specs.Site.{Input, Mark, In, Site, View, view_after, signs_of}
-use Rattle.cs_trail.specs.Trail.{turn_marks, continued, settled, input_marks, event_marks}
+use Rattle.cs_node_rules.specs.Signs.{Sign}
+use Rattle.cs_node_rules.specs.Site.{Input, Mark, In, Site, View, view_after, signs_of}
+use Rattle.cs_node_rules.specs.Trail.{turn_marks, continued, settled, input_marks, event_marks}
 use Rattle.cs_node.specs.declared.draft.Draft.{Draft}
 use Rattle.cs_node.specs.Notes.{nothing, Tells}
 use Rattle.cs_node.specs.Steps.{Marks, TurnDone, Settles, Settling, Drafts}

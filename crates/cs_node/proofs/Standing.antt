@@ -4,16 +4,16 @@ use Rattle.std.proofs.Common.{◌≡◌, ℕ, ◌*◌, nat_lt, nat_le, ◌<◌, 
 use Rattle.cs_base.specs.declared.config.Config.{Config}
 use Rattle.cs_base.specs.declared.node_id.NodeId.{NodeId}
 use Rattle.cs_base.specs.NodeId.{is_node, is_client}
-use Rattle.cs_value.specs.declared.object.Object.{Object}
-use Rattle.cs_form.specs.declared.transaction.Tx.{Tx}
+use Rattle.cs_tx_value.specs.declared.object.Object.{Object}
+use Rattle.cs_tx_form.specs.declared.transaction.Tx.{Tx}
 use Rattle.cs_order.specs.Deeds.{Member, Machine}
 use Rattle.cs_wire.specs.declared.keys.Keys.{Keys}
-use Rattle.cs_trail.specs.Setup.{Setup}
-use Rattle.cs_trail.specs.Net.{Net}
-use Rattle.cs_trail.specs.Site.{Carrier, Input, Mark, In, Site, View, view_after, signs_of}
-use Rattle.cs_trail.specs.Trail.{turn_marks, input_marks, event_marks}
-use Rattle.cs_trail.specs.Deployment.{site_of}
-use Rattle.cs_pool.specs.Deployed.{deployed}
+use Rattle.cs_node_rules.specs.Setup.{Setup}
+use Rattle.cs_node_rules.specs.Net.{Net}
+use Rattle.cs_node_rules.specs.Site.{Carrier, Input, Mark, In, Site, View, view_after, signs_of}
+use Rattle.cs_node_rules.specs.Trail.{turn_marks, input_marks, event_marks}
+use Rattle.cs_node_rules.specs.Deployment.{site_of}
+use Rattle.cs_node_pool.specs.Deployed.{deployed}
 use Rattle.cs_sbac.specs.Held.{Held, bench_of}
 use Rattle.cs_node.specs.declared.engine.Engine.{Engine}
 use Rattle.cs_node.specs.declared.nodes.Core.{Core}

@@ -6,21 +6,21 @@ use Rattle.cs_base.specs.declared.node_id.NodeId.{NodeId}
 use Rattle.cs_base.specs.NodeId.{is_node}
 use Rattle.cs_base.specs.declared.key.Key.{Key}
 use Rattle.cs_base.specs.declared.key.Key.TheVariants as key
-use Rattle.cs_value.specs.declared.object.Object.{Object}
-use Rattle.cs_value.specs.Object.{ObjectFits, object_encoding}
-use Rattle.cs_form.specs.declared.transaction.Tx.{Tx}
+use Rattle.cs_tx_value.specs.declared.object.Object.{Object}
+use Rattle.cs_tx_value.specs.Object.{ObjectFits, object_encoding}
+use Rattle.cs_tx_form.specs.declared.transaction.Tx.{Tx}
 use Rattle.cs_tx.specs.Digest.{name_of_genesis}
 use Rattle.cs_order.specs.Deeds.{Member, Machine}
 use Rattle.cs_ledger.specs.Ledger.{Item}
 use Rattle.cs_ledger.specs.Session as Seen
 use Rattle.cs_ledger.specs.Table.{Table, start}
-use Rattle.cs_trail.specs.Net.{Net}
-use Rattle.cs_trail.specs.Site.{Carrier, View, start_view}
-use Rattle.cs_trail.specs.Deployment.{genesis_from, rules_of, site_of}
+use Rattle.cs_node_rules.specs.Net.{Net}
+use Rattle.cs_node_rules.specs.Site.{Carrier, View, start_view}
+use Rattle.cs_node_rules.specs.Deployment.{genesis_from, rules_of, site_of}
 use Rattle.cs_table.specs.Seen.{Stored, seen}
 use Rattle.cs_tx.specs.Sessions.{item_of}
 use Rattle.cs_table.specs.Genesis.{keyed_of, genesis_rules}
-use Rattle.cs_pool.specs.Deployed.{deployed}
+use Rattle.cs_node_pool.specs.Deployed.{deployed}
 use Rattle.cs_node.specs.Setups.{keyed_from, AreObjects}
 use Rattle.cs_node.specs.Cores.{Keeps}
 

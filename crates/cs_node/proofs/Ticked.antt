@@ -2,31 +2,31 @@
 use Rattle.std.proofs.Common.{◌≡◌, ℕ, Bool, true, false, cond, List, [], ◌∷◌, ◌++◌, length, reverse, Option, Some, None, arith, refl, ap, sym, subst, ◌∙◌, append-nil}
 use Rattle.std.specs.Prelude.{is_some}
 use Rattle.std.proofs.lemmas.List.{reverse-append, reverse-reverse}
-use Rattle.cs_form.specs.Session.{SessionFits}
-use Rattle.cs_pool.specs.Fits.{AllFit}
+use Rattle.cs_tx_form.specs.Session.{SessionFits}
+use Rattle.cs_node_pool.specs.Fits.{AllFit}
 use Rattle.cs_base.specs.declared.node_id.NodeId.{NodeId}
-use Rattle.cs_value.specs.declared.object.Object.{Object}
-use Rattle.cs_form.specs.declared.transaction.Tx.{Tx}
-use Rattle.cs_form.specs.declared.session.Session.{Session}
-use Rattle.cs_form.specs.declared.vote.Vote.{Vote}
-use Rattle.cs_form.specs.declared.vote.Vote.TheVariants.{Commit}
-use Rattle.cs_message.specs.declared.message.Message.TheVariants as message
+use Rattle.cs_tx_value.specs.declared.object.Object.{Object}
+use Rattle.cs_tx_form.specs.declared.transaction.Tx.{Tx}
+use Rattle.cs_tx_form.specs.declared.session.Session.{Session}
+use Rattle.cs_tx_form.specs.declared.vote.Vote.{Vote}
+use Rattle.cs_tx_form.specs.declared.vote.Vote.TheVariants.{Commit}
+use Rattle.cs_wire_message.specs.declared.message.Message.TheVariants as message
 use Rattle.cs_order.specs.declared.answers.Outgoing.{Outgoing}
 use Rattle.cs_order.specs.Deeds.{Deed, Resent, Ticked, Member, Machine, did, chosen_in}
 use Rattle.cs_order.specs.Calls.{Resends, Ticks}
-use Rattle.cs_trail.specs.Setup.{Setup, concerned}
-use Rattle.cs_trail.specs.Bench.{Bench}
-use Rattle.cs_trail.specs.Pool.{Pool}
-use Rattle.cs_trail.specs.Admission.{due}
-use Rattle.cs_trail.specs.Members.{others}
-use Rattle.cs_trail.specs.Net.{Net}
-use Rattle.cs_trail.specs.Signs.{Sign, bench_after, sends, vote_signs, asked_again}
-use Rattle.cs_trail.specs.Site.{Carrier, Mark, Ordered, Site, View, view_after}
-use Rattle.cs_trail.specs.Trail.{handed, with_deed, entered_view, again_marks, waiting_marks, tick_marks}
-use Rattle.cs_trail.specs.Deployment.{site_of}
-use Rattle.cs_pool.specs.Deployed.{deployed}
+use Rattle.cs_node_rules.specs.Setup.{Setup, concerned}
+use Rattle.cs_node_rules.specs.Bench.{Bench}
+use Rattle.cs_node_rules.specs.Pool.{Pool}
+use Rattle.cs_node_rules.specs.Admission.{due}
+use Rattle.cs_node_rules.specs.Members.{others}
+use Rattle.cs_node_rules.specs.Net.{Net}
+use Rattle.cs_node_rules.specs.Signs.{Sign, bench_after, sends, vote_signs, asked_again}
+use Rattle.cs_node_rules.specs.Site.{Carrier, Mark, Ordered, Site, View, view_after}
+use Rattle.cs_node_rules.specs.Trail.{handed, with_deed, entered_view, again_marks, waiting_marks, tick_marks}
+use Rattle.cs_node_rules.specs.Deployment.{site_of}
+use Rattle.cs_node_pool.specs.Deployed.{deployed}
 use Rattle.cs_sbac.specs.Held.{bench_of}
-use Rattle.cs_pool.specs.Calls.{locked_in}
+use Rattle.cs_node_pool.specs.Calls.{locked_in}
 use Rattle.cs_node.specs.declared.engine.Engine.{Engine}
 use Rattle.cs_node.specs.declared.draft.Draft.{Draft}
 use Rattle.cs_node.specs.Notes.{Tells}

@@ -3,23 +3,23 @@ use Rattle.std.proofs.Common.{◌≡◌, ℕ, Bool, true, false, not, cond, List
 use Rattle.std.specs.Map.{lookup, set_value}
 use Rattle.cs_base.specs.declared.node_id.NodeId.{NodeId}
 use Rattle.cs_base.specs.NodeId.{is_client}
-use Rattle.cs_form.specs.declared.session.Session.{Session}
-use Rattle.cs_form.specs.declared.vote.Vote.{Vote}
-use Rattle.cs_message.specs.declared.message.Message.TheVariants as message
+use Rattle.cs_tx_form.specs.declared.session.Session.{Session}
+use Rattle.cs_tx_form.specs.declared.vote.Vote.{Vote}
+use Rattle.cs_wire_message.specs.declared.message.Message.TheVariants as message
 use Rattle.cs_ledger.specs.Ledger.{Bytes}
-use Rattle.cs_trail.specs.declared.ballot.Ballot.{Ballot}
-use Rattle.cs_trail.specs.declared.cause.Cause.TheVariants.{Role, Malformed, Repeat, Unasked, Denied, Full}
-use Rattle.cs_trail.specs.declared.pooled.Pooled.{Pooled}
-use Rattle.cs_trail.specs.Setup.{Setup, digest_of, concerns, is_fit, is_approved}
-use Rattle.cs_trail.specs.Evidence.{has_voted}
-use Rattle.cs_trail.specs.Pool.{Pool, found, changed, changed_at, with_ballot, pushed, entered, has_room}
-use Rattle.cs_trail.specs.Bench.{Bench}
-use Rattle.cs_trail.specs.Signs.{Sign, Dropped, Took, Entered, Sent, guarded, asking_signs, ballot_signs, voted_signs}
-use Rattle.cs_pool.specs.declared.answers.Counted.TheVariants as count
+use Rattle.cs_node_rules.specs.declared.ballot.Ballot.{Ballot}
+use Rattle.cs_node_rules.specs.declared.cause.Cause.TheVariants.{Role, Malformed, Repeat, Unasked, Denied, Full}
+use Rattle.cs_node_rules.specs.declared.pooled.Pooled.{Pooled}
+use Rattle.cs_node_rules.specs.Setup.{Setup, digest_of, concerns, is_fit, is_approved}
+use Rattle.cs_node_rules.specs.Evidence.{has_voted}
+use Rattle.cs_node_rules.specs.Pool.{Pool, found, changed, changed_at, with_ballot, pushed, entered, has_room}
+use Rattle.cs_node_rules.specs.Bench.{Bench}
+use Rattle.cs_node_rules.specs.Signs.{Sign, Dropped, Took, Entered, Sent, guarded, asking_signs, ballot_signs, voted_signs}
+use Rattle.cs_node_pool.specs.declared.answers.Counted.TheVariants as count
 use Rattle.cs_sbac.specs.declared.answers.Entered.{Entered as Answer}
 use Rattle.cs_sbac.specs.declared.answers.Entered.TheVariants as enter
 use Rattle.cs_sbac.specs.Held.{Held, bench_of, with_pool}
-use Rattle.cs_pool.specs.Calls.{counted_in}
+use Rattle.cs_node_pool.specs.Calls.{counted_in}
 use Rattle.cs_sbac.specs.Calls.{entered_in, pool_entered_with}
 use Rattle.cs_node.specs.declared.draft.Draft.{Draft}
 use Rattle.cs_node.specs.Notes.{Tells}

@@ -2,8 +2,8 @@
 use Rattle.std.proofs.Common.{◌≡◌, ℕ, List, Option, Some, None, refl, sym, ap, ◌∙◌}
 use Rattle.cs_base.specs.Fields.{IsBytes, Found, IsForm, whole_at}
 use Rattle.cs_base.proofs.Forms.{whole-takes, whole-again}
-use Rattle.cs_value.specs.declared.form.FormError.{FormError}
-use Rattle.cs_value.specs.declared.form.FormError.TheVariants as errors
+use Rattle.cs_tx_value.specs.declared.form.FormError.{FormError}
+use Rattle.cs_tx_value.specs.declared.form.FormError.TheVariants as errors
 
 module _ {X : Type 0} (write : X → List ℕ) (Fits : X → Type 0) (read : List ℕ → Found X) (form : IsForm write Fits read) (bytes : List ℕ) where
   -- what was answered stands there

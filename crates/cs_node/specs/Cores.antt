@@ -1,14 +1,14 @@
 -- What a contract sees of a core: the view for which it stands, and the net in which it speaks.
 use Rattle.std.specs.Prelude.{◌≡◌, true, Bool, List}
 use Rattle.cs_base.specs.NodeId.{is_node}
-use Rattle.cs_value.specs.declared.object.Object.{Object}
-use Rattle.cs_form.specs.declared.transaction.Tx.{Tx}
+use Rattle.cs_tx_value.specs.declared.object.Object.{Object}
+use Rattle.cs_tx_form.specs.declared.transaction.Tx.{Tx}
 use Rattle.cs_order.specs.Deeds.{Member, Machine}
-use Rattle.cs_trail.specs.Setup.{Setup}
-use Rattle.cs_trail.specs.Net.{Net}
-use Rattle.cs_trail.specs.Site.{Carrier, Site, View}
-use Rattle.cs_trail.specs.Deployment.{site_of}
-use Rattle.cs_pool.specs.Deployed.{deployed}
+use Rattle.cs_node_rules.specs.Setup.{Setup}
+use Rattle.cs_node_rules.specs.Net.{Net}
+use Rattle.cs_node_rules.specs.Site.{Carrier, Site, View}
+use Rattle.cs_node_rules.specs.Deployment.{site_of}
+use Rattle.cs_node_pool.specs.Deployed.{deployed}
 use Rattle.cs_sbac.specs.Held.{Held, bench_of}
 use Rattle.cs_node.specs.declared.engine.Engine.{Engine}
 use Rattle.cs_node.specs.declared.nodes.Core.{Core}

@@ -1,13 +1,13 @@
 -- Proposed entries, as a node reads them.
 use Rattle.std.specs.Prelude.{ℕ, Bool, false, if◌then◌else◌, List, [], ◌∷◌, Option, Some, None}
 use Rattle.cs_base.specs.Fields.{whole_at}
-use Rattle.cs_form.specs.declared.entry.Entry.{Entry}
-use Rattle.cs_form.specs.Reading.{entry_at}
+use Rattle.cs_tx_form.specs.declared.entry.Entry.{Entry}
+use Rattle.cs_tx_form.specs.Reading.{entry_at}
 use Rattle.cs_order.specs.declared.proposed.Proposed.{Proposed}
-use Rattle.cs_trail.specs.Setup.{Setup}
-use Rattle.cs_trail.specs.Pool.{Pool}
-use Rattle.cs_trail.specs.Admission.{admits}
-use Rattle.cs_trail.specs.Deployment.{entry_or_void}
+use Rattle.cs_node_rules.specs.Setup.{Setup}
+use Rattle.cs_node_rules.specs.Pool.{Pool}
+use Rattle.cs_node_rules.specs.Admission.{admits}
+use Rattle.cs_node_rules.specs.Deployment.{entry_or_void}
 
 -- the entry of which these bytes are the encoding
 abbrev pub entry_read : Proposed → Option Entry

@@ -2,8 +2,8 @@
 use Rattle.std.specs.Prelude.{◌≡◌, ℕ, ◌+◌, List, [], ◌∷◌, Result, Ok, Err, Option, Some, None}
 use Rattle.cs_base.specs.declared.key.Key.{Key}
 use Rattle.cs_base.specs.declared.key.Key.TheVariants as key
-use Rattle.cs_value.specs.declared.object.Object.{Object}
-use Rattle.cs_value.specs.Object.{ObjectFits}
+use Rattle.cs_tx_value.specs.declared.object.Object.{Object}
+use Rattle.cs_tx_value.specs.Object.{ObjectFits}
 use Rattle.cs_tx.specs.Digest.{name_of_genesis}
 use Rattle.cs_node.specs.declared.nodes.StartError.{StartError}
 use Rattle.cs_node.specs.declared.nodes.StartError.TheVariants.{Duplicate, Memory}

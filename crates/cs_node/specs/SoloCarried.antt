@@ -1,9 +1,9 @@
 -- The order of a single member has no message to carry.
 use Rattle.std.proofs.Common.{◌≡◌, true, false, Option, Some, None, arith}
-use Rattle.cs_message.specs.declared.message.Message.{Message}
-use Rattle.cs_message.specs.declared.message.Message.TheVariants as message
+use Rattle.cs_wire_message.specs.declared.message.Message.{Message}
+use Rattle.cs_wire_message.specs.declared.message.Message.TheVariants as message
 use Rattle.cs_order.specs.Solo.{solo}
-use Rattle.cs_trail.specs.Carrying.{Carries}
+use Rattle.cs_node_rules.specs.Carrying.{Carries}
 use Rattle.cs_node.specs.Carriers.{carrier}
 
 -- any message within the limits would do

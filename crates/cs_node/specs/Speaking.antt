@@ -10,8 +10,8 @@ use Rattle.cs_wire.specs.declared.keys.Keys.{Keys}
 use Rattle.cs_wire.specs.Keys.{same_name, row_of}
 use Rattle.cs_wire.specs.Opened.{Opened, opened, datagram_with}
 use Rattle.cs_ledger.specs.Ledger.{Bytes}
-use Rattle.cs_trail.specs.Net.{Net}
-use Rattle.cs_trail.specs.Site.{Input, Datagram, Tick}
+use Rattle.cs_node_rules.specs.Net.{Net}
+use Rattle.cs_node_rules.specs.Site.{Input, Datagram, Tick}
 
 abbrev pub input_of : Given → Input
 input_of (given.Datagram bytes) = Datagram bytes.now

@@ -1,21 +1,21 @@
 //! What clients ask.
 ghost use Rattle.std.specs.Prelude.{◌≡◌, ◌∷◌, [], OnOk, Bool, List};
 ghost use Rattle.cs_base.specs.NodeId.{is_client};
-ghost use Rattle.cs_value.specs.declared.object.Object.{Object};
-ghost use Rattle.cs_form.specs.declared.transaction.Tx.{Tx};
-ghost use Rattle.cs_message.specs.Message.{AskedFits};
-ghost use Rattle.cs_trail.specs.declared.cause.Cause.TheVariants.{Role, NoProof};
-ghost use Rattle.cs_trail.specs.Signs.{Dropped, guarded, ask_signs};
-ghost use Rattle.cs_pool.specs.Deployed.{deployed};
+ghost use Rattle.cs_tx_value.specs.declared.object.Object.{Object};
+ghost use Rattle.cs_tx_form.specs.declared.transaction.Tx.{Tx};
+ghost use Rattle.cs_wire_message.specs.Message.{AskedFits};
+ghost use Rattle.cs_node_rules.specs.declared.cause.Cause.TheVariants.{Role, NoProof};
+ghost use Rattle.cs_node_rules.specs.Signs.{Dropped, guarded, ask_signs};
+ghost use Rattle.cs_node_pool.specs.Deployed.{deployed};
 ghost use Rattle.cs_sbac.specs.Held.{Held, bench_of};
 ghost use Rattle.cs_node.specs.Notes.{Tells, DraftFits};
 ghost use Rattle.cs_node.specs.Steps.{Makes};
 
 use crate::draft::Draft;
 use cs_base::{Key, Memory, NodeId, shard_of};
-use cs_message::Message;
+use cs_node_rules::Cause;
 use cs_sbac::Sbac;
-use cs_trail::Cause;
+use cs_wire_message::Message;
 use std::alloc::Global;
 
 /// A client asks for the state of a key, or for a dummy that it may use.

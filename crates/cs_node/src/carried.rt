@@ -1,13 +1,13 @@
 //! Orders whose messages go between nodes.
 ghost use Rattle.std.specs.Prelude.{◌≡◌, IfOk, Option};
-ghost use Rattle.cs_message.specs.declared.message.Message.{Message};
-ghost use Rattle.cs_message.specs.Message.{MessageFits};
-ghost use Rattle.cs_trail.specs.Carrying.{Carries};
+ghost use Rattle.cs_wire_message.specs.declared.message.Message.{Message};
+ghost use Rattle.cs_wire_message.specs.Message.{MessageFits};
+ghost use Rattle.cs_node_rules.specs.Carrying.{Carries};
 ghost use Rattle.cs_node.specs.Carriers.{carrier};
 
 use cs_base::Memory;
-use cs_message::Message;
 use cs_order::Order;
+use cs_wire_message::Message;
 use std::alloc::Global;
 
 /// An order whose messages are carried by those of nodes.

@@ -1,8 +1,8 @@
 //! Why what can't be opened is dropped.
 ghost use Rattle.std.specs.Prelude.{◌≡◌};
-ghost use Rattle.cs_trail.specs.Net.{cause_of as the_cause};
+ghost use Rattle.cs_node_rules.specs.Net.{cause_of as the_cause};
 
-use cs_trail::Cause;
+use cs_node_rules::Cause;
 use cs_wire::OpenError;
 
 /// The cause that names the first test of opening that failed.

@@ -1,14 +1,14 @@
 //! What an event has made so far.
 ghost use Rattle.std.specs.Prelude.{◌≡◌, ◌∷◌, ◌++◌, [], OnOk};
-ghost use Rattle.cs_message.specs.Message.{MessageFits};
+ghost use Rattle.cs_wire_message.specs.Message.{MessageFits};
 ghost use Rattle.cs_node.specs.Notes.{nothing, Tells, ExecutedFits, DraftFits};
-ghost use Rattle.cs_trail.specs.Signs.{Dropped, Viewed, Sent, sends};
+ghost use Rattle.cs_node_rules.specs.Signs.{Dropped, Viewed, Sent, sends};
 
 use cs_base::{Memory, NodeId, Sequence};
-use cs_message::Message;
+use cs_node_rules::Cause;
 use cs_sbac::Effect;
-use cs_trail::Cause;
 use cs_tx::Entry;
+use cs_wire_message::Message;
 use std::alloc::Global;
 
 /// What a node tells of an input.

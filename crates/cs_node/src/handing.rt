@@ -1,9 +1,9 @@
 //! What an order hands out.
 ghost use Rattle.std.specs.Prelude.{Bool, List, OnOk};
-ghost use Rattle.cs_value.specs.declared.object.Object.{Object};
-ghost use Rattle.cs_form.specs.declared.transaction.Tx.{Tx};
-ghost use Rattle.cs_trail.specs.Net.{Net};
-ghost use Rattle.cs_trail.specs.Trail.{out_signs, handed};
+ghost use Rattle.cs_tx_value.specs.declared.object.Object.{Object};
+ghost use Rattle.cs_tx_form.specs.declared.transaction.Tx.{Tx};
+ghost use Rattle.cs_node_rules.specs.Net.{Net};
+ghost use Rattle.cs_node_rules.specs.Trail.{out_signs, handed};
 ghost use Rattle.cs_node.specs.Notes.{Tells, DraftFits};
 ghost use Rattle.cs_node.specs.Carriers.{carrier};
 ghost use Rattle.cs_node.specs.Cores.{site_at};

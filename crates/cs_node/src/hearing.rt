@@ -1,12 +1,12 @@
 //! What others say to a node.
 ghost use Rattle.std.specs.Prelude.{◌≡◌, ◌≢◌, ◌≤◌, ◌*◌, OnOk, List, true};
-ghost use Rattle.cs_value.specs.declared.object.Object.{Object as AnyObject};
-ghost use Rattle.cs_message.specs.Message.{MessageFits};
+ghost use Rattle.cs_tx_value.specs.declared.object.Object.{Object as AnyObject};
+ghost use Rattle.cs_wire_message.specs.Message.{MessageFits};
 ghost use Rattle.cs_order.specs.Deeds.{Member};
-ghost use Rattle.cs_trail.specs.Site.{Datagram};
-ghost use Rattle.cs_trail.specs.declared.cause.Cause.TheVariants.{Role};
-ghost use Rattle.cs_trail.specs.Trail.{drops, taking_marks, member_marks, want_marks, message_marks, input_marks};
-ghost use Rattle.cs_pool.specs.Deployed.{deployed};
+ghost use Rattle.cs_node_rules.specs.Site.{Datagram};
+ghost use Rattle.cs_node_rules.specs.declared.cause.Cause.TheVariants.{Role};
+ghost use Rattle.cs_node_rules.specs.Trail.{drops, taking_marks, member_marks, want_marks, message_marks, input_marks};
+ghost use Rattle.cs_node_pool.specs.Deployed.{deployed};
 ghost use Rattle.cs_node.specs.Notes.{DraftFits};
 ghost use Rattle.cs_node.specs.Speaking.{Speaks};
 ghost use Rattle.cs_node.specs.Steps.{Marks};
@@ -23,11 +23,11 @@ use crate::members::is_other_member;
 use crate::submits::submit;
 use crate::votes::hear_vote;
 use cs_base::{Memory, NodeId};
-use cs_message::Message;
+use cs_node_rules::{Ballot, Cause};
 use cs_order::Took;
-use cs_trail::{Ballot, Cause};
 use cs_tx::Judge;
 use cs_wire::{Keys, read};
+use cs_wire_message::Message;
 use std::alloc::Global;
 
 impl<O: Carried, J: Judge + Drop> Engine<O, J> {

@@ -1,12 +1,12 @@
 //! One node.
 ghost use Rattle.std.specs.Prelude.{◌≡◌, IfOk, List, true};
 ghost use Rattle.cs_base.specs.NodeId.{is_node};
-ghost use Rattle.cs_value.specs.declared.object.Object.{Object as AnyObject};
-ghost use Rattle.cs_trail.specs.Setup.{Setup};
-ghost use Rattle.cs_trail.specs.Net.{Net};
-ghost use Rattle.cs_trail.specs.Site.{View, start_view};
-ghost use Rattle.cs_trail.specs.Deployment.{site_of};
-ghost use Rattle.cs_pool.specs.Deployed.{deployed};
+ghost use Rattle.cs_tx_value.specs.declared.object.Object.{Object as AnyObject};
+ghost use Rattle.cs_node_rules.specs.Setup.{Setup};
+ghost use Rattle.cs_node_rules.specs.Net.{Net};
+ghost use Rattle.cs_node_rules.specs.Site.{View, start_view};
+ghost use Rattle.cs_node_rules.specs.Deployment.{site_of};
+ghost use Rattle.cs_node_pool.specs.Deployed.{deployed};
 ghost use Rattle.cs_table.specs.Genesis.{twice};
 ghost use Rattle.cs_node.specs.Notes.{NotesFit};
 ghost use Rattle.cs_node.specs.Setups.{keyed_from, AreObjects, Starts};

@@ -1,16 +1,16 @@
 //! What an event has made, with the datagrams that go out.
 ghost use Rattle.std.specs.Prelude.{◌≡◌, ◌++◌, ◌∷◌, [], IfOk, OnOk, IsSome};
 ghost use Rattle.cs_base.specs.declared.config.Config.{Config};
-ghost use Rattle.cs_message.specs.Message.{MessageFits};
+ghost use Rattle.cs_wire_message.specs.Message.{MessageFits};
 ghost use Rattle.cs_wire.specs.Keys.{row_of};
-ghost use Rattle.cs_trail.specs.Net.{Net, sealed};
+ghost use Rattle.cs_node_rules.specs.Net.{Net, sealed};
 ghost use Rattle.cs_node.specs.Notes.{AllSaidFit, DraftFits, AllReached, to_each, spoken, outs_for};
 ghost use Rattle.cs_node.specs.Speaking.{Speaks};
 
 use crate::draft::{Draft, Note, Said};
 use cs_base::{Memory, NodeId, Sequence};
-use cs_message::Message;
 use cs_wire::{Keys, Out, SealError, seal};
+use cs_wire_message::Message;
 use std::alloc::Global;
 
 /// What an input made, the oldest first: what goes out, and what is told.

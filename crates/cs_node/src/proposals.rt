@@ -1,9 +1,9 @@
 //! Entries as an order carries them, and values that all of some bytes encode.
 ghost use Rattle.std.specs.Prelude.{◌≡◌, IfOk, IfSome};
 ghost use Rattle.cs_base.specs.Fields.{whole_at};
-ghost use Rattle.cs_form.specs.declared.entry.Entry.TheVariants.{Prepare};
-ghost use Rattle.cs_form.specs.Session.{EntryFits};
-ghost use Rattle.cs_trail.specs.Deployment.{proposed_of, no_session};
+ghost use Rattle.cs_tx_form.specs.declared.entry.Entry.TheVariants.{Prepare};
+ghost use Rattle.cs_tx_form.specs.Session.{EntryFits};
+ghost use Rattle.cs_node_rules.specs.Deployment.{proposed_of, no_session};
 ghost use Rattle.cs_node.specs.Proposals.{entry_read};
 
 use cs_base::{Memory, Sequence, Writer};

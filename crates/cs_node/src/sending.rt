@@ -1,23 +1,23 @@
 //! What a node says of its own accord.
 ghost use Rattle.std.specs.Prelude.{◌≡◌, ◌∷◌, [], true, Some, Bool, List, IfOk, OnOk};
-ghost use Rattle.cs_value.specs.declared.object.Object.{Object};
-ghost use Rattle.cs_form.specs.declared.transaction.Tx.{Tx};
-ghost use Rattle.cs_form.specs.declared.vote.Vote.TheVariants.{Commit};
-ghost use Rattle.cs_form.specs.Session.{SessionFits};
-ghost use Rattle.cs_message.specs.declared.message.Message.TheVariants as message;
-ghost use Rattle.cs_message.specs.Message.{IsSlot};
-ghost use Rattle.cs_trail.specs.Setup.{concerned};
-ghost use Rattle.cs_trail.specs.Members.{others};
-ghost use Rattle.cs_trail.specs.Signs.{sends, vote_signs, asked_again};
-ghost use Rattle.cs_pool.specs.Deployed.{deployed};
+ghost use Rattle.cs_tx_value.specs.declared.object.Object.{Object};
+ghost use Rattle.cs_tx_form.specs.declared.transaction.Tx.{Tx};
+ghost use Rattle.cs_tx_form.specs.declared.vote.Vote.TheVariants.{Commit};
+ghost use Rattle.cs_tx_form.specs.Session.{SessionFits};
+ghost use Rattle.cs_wire_message.specs.declared.message.Message.TheVariants as message;
+ghost use Rattle.cs_wire_message.specs.Message.{IsSlot};
+ghost use Rattle.cs_node_rules.specs.Setup.{concerned};
+ghost use Rattle.cs_node_rules.specs.Members.{others};
+ghost use Rattle.cs_node_rules.specs.Signs.{sends, vote_signs, asked_again};
+ghost use Rattle.cs_node_pool.specs.Deployed.{deployed};
 ghost use Rattle.cs_node.specs.Notes.{Tells, DraftFits};
 
 use crate::draft::Draft;
 use crate::members::others;
 use cs_base::{Memory, NodeId, Sequence};
-use cs_message::Message;
 use cs_sbac::Sbac;
 use cs_tx::{Encoded, Session, Vote};
+use cs_wire_message::Message;
 use std::alloc::Global;
 
 /// All other nodes of the shards that a session concerns.

@@ -3,8 +3,8 @@ ghost use Rattle.cs_node.specs.SoloCarried.{solo_written, solo_read, solo_carrie
 
 use crate::carried::Carried;
 use cs_base::Memory;
-use cs_message::Message;
 use cs_order::{NoMessage, Solo};
+use cs_wire_message::Message;
 use std::alloc::Global;
 
 impl Carried for Solo {

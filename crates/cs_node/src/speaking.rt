@@ -5,7 +5,7 @@ ghost use Rattle.cs_base.specs.declared.node_id.NodeId.{NodeId};
 ghost use Rattle.cs_base.specs.NodeId.{is_node};
 ghost use Rattle.cs_wire.specs.declared.keys.Keys.{Keys};
 ghost use Rattle.cs_wire.specs.Keys.{IsOfMaster};
-ghost use Rattle.cs_trail.specs.Net.{net_of};
+ghost use Rattle.cs_node_rules.specs.Net.{net_of};
 ghost use Rattle.cs_node.specs.Speaking.{Speaks};
 
 /// A node whose keys a master key gave speaks in the net of that master key.

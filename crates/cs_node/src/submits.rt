@@ -1,19 +1,19 @@
 //! Sessions that clients submit.
 ghost use Rattle.std.specs.Prelude.{◌≡◌, OnOk, List};
-ghost use Rattle.cs_value.specs.declared.object.Object.{Object};
-ghost use Rattle.cs_form.specs.Session.{SessionFits};
-ghost use Rattle.cs_trail.specs.Signs.{entering_signs, submit_signs};
-ghost use Rattle.cs_pool.specs.Deployed.{deployed};
+ghost use Rattle.cs_tx_value.specs.declared.object.Object.{Object};
+ghost use Rattle.cs_tx_form.specs.Session.{SessionFits};
+ghost use Rattle.cs_node_rules.specs.Signs.{entering_signs, submit_signs};
+ghost use Rattle.cs_node_pool.specs.Deployed.{deployed};
 ghost use Rattle.cs_sbac.specs.Held.{Held, bench_of};
 ghost use Rattle.cs_node.specs.Notes.{DraftFits};
 ghost use Rattle.cs_node.specs.Steps.{Makes};
 
 use crate::draft::Draft;
 use cs_base::{Memory, NodeId};
-use cs_message::Message;
+use cs_node_rules::Cause;
 use cs_sbac::{Entered, Sbac};
-use cs_trail::Cause;
 use cs_tx::{Judge, Session, session_digest};
+use cs_wire_message::Message;
 use std::alloc::Global;
 
 // A session that is undecided waits in the pool, where it is new, approved, and has room.

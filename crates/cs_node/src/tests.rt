@@ -1,14 +1,14 @@
 //! What a node tells of what it is given.
 use super::*;
 use cs_base::{CLIENT_SHARD, Config, Key, Memory, NodeId, Sequence};
-use cs_message::Message;
+use cs_node_rules::Cause;
 use cs_order::Solo;
-use cs_trail::Cause;
 use cs_tx::{
     Encoded, Entry, Name, Object, Session, State, TokenJudge, Trace, Tx, Value, Vote, concerned,
     genesis_key,
 };
 use cs_wire::{Keys, read, seal};
+use cs_wire_message::Message;
 use std::alloc::Global;
 use std::process::Abort;
 use std::test::Fail;

@@ -1,24 +1,24 @@
 //! The votes of other nodes.
 ghost use Rattle.std.specs.Prelude.{◌≡◌, ◌∷◌, [], None, OnOk, List};
-ghost use Rattle.cs_value.specs.declared.object.Object.{Object};
-ghost use Rattle.cs_form.specs.Session.{SessionFits};
+ghost use Rattle.cs_tx_value.specs.declared.object.Object.{Object};
+ghost use Rattle.cs_tx_form.specs.Session.{SessionFits};
 ghost use Rattle.cs_tx.specs.Digest.{digest_of_session};
-ghost use Rattle.cs_trail.specs.declared.cause.Cause.TheVariants.{Denied, Full};
-ghost use Rattle.cs_trail.specs.Setup.{is_approved};
-ghost use Rattle.cs_trail.specs.Pool.{found, has_room};
-ghost use Rattle.cs_trail.specs.Bench.{noted};
-ghost use Rattle.cs_trail.specs.Signs.{Took, Entered as Enters, guarded, asking_signs, voted_signs};
-ghost use Rattle.cs_pool.specs.Deployed.{deployed};
+ghost use Rattle.cs_node_rules.specs.declared.cause.Cause.TheVariants.{Denied, Full};
+ghost use Rattle.cs_node_rules.specs.Setup.{is_approved};
+ghost use Rattle.cs_node_rules.specs.Pool.{found, has_room};
+ghost use Rattle.cs_node_rules.specs.Bench.{noted};
+ghost use Rattle.cs_node_rules.specs.Signs.{Took, Entered as Enters, guarded, asking_signs, voted_signs};
+ghost use Rattle.cs_node_pool.specs.Deployed.{deployed};
 ghost use Rattle.cs_sbac.specs.Held.{Held, bench_of};
 ghost use Rattle.cs_node.specs.Notes.{DraftFits};
 ghost use Rattle.cs_node.specs.Steps.{Makes};
 
 use crate::draft::Draft;
 use cs_base::Memory;
-use cs_message::Message;
+use cs_node_rules::{Ballot, Cause};
 use cs_sbac::{Counted, Entered, Sbac};
-use cs_trail::{Ballot, Cause};
 use cs_tx::{Judge, Session};
+use cs_wire_message::Message;
 use std::alloc::Global;
 
 // A session that is new enters with the vote, where it is approved and has room.

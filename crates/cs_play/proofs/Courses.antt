@@ -9,15 +9,15 @@ use Rattle.cs_base.specs.declared.printing.WriteError.{WriteError}
 use Rattle.cs_base.specs.declared.printing.WriteError.TheVariants as write
 use Rattle.cs_base.specs.declared.node_id.NodeId.{NodeId}
 use Rattle.cs_ledger.specs.Ledger.{Bytes}
-use Rattle.cs_form.specs.declared.transaction.Tx.{Tx}
+use Rattle.cs_tx_form.specs.declared.transaction.Tx.{Tx}
 use Rattle.cs_order.specs.Deeds.{Member, Machine}
-use Rattle.cs_event.specs.declared.schedule.Event.{Event}
-use Rattle.cs_event.specs.declared.schedule.Event.TheVariants.{Say, Inject, Deliver, Tick, Drain}
-use Rattle.cs_trail.specs.Site as Given
-use Rattle.cs_trail.specs.Site.{Input, Datagram, Carrier, Site, signs_of}
-use Rattle.cs_trail.specs.World.{happens, is_genuine}
-use Rattle.cs_trail.specs.Lines.{Parcel, parcels_of, event_lines}
-use Rattle.cs_trail.specs.Play.{Played, Course, Goes, Stops, Forges, played_by, then_plays, size_of, most_events, most_sent, signs_of_last, plays, occurs, injects, with_arrived, comes, delivers, first_left, drains, drained, play, play_all}
+use Rattle.cs_sched_types.specs.declared.schedule.Event.{Event}
+use Rattle.cs_sched_types.specs.declared.schedule.Event.TheVariants.{Say, Inject, Deliver, Tick, Drain}
+use Rattle.cs_node_rules.specs.Site as Given
+use Rattle.cs_node_rules.specs.Site.{Input, Datagram, Carrier, Site, signs_of}
+use Rattle.cs_node_rules.specs.World.{happens, is_genuine}
+use Rattle.cs_node_rules.specs.Lines.{Parcel, parcels_of, event_lines}
+use Rattle.cs_node_rules.specs.Play.{Played, Course, Goes, Stops, Forges, played_by, then_plays, size_of, most_events, most_sent, signs_of_last, plays, occurs, injects, with_arrived, comes, delivers, first_left, drains, drained, play, play_all}
 use Rattle.cs_play.specs.declared.play.Replay.{Replay}
 use Rattle.cs_play.specs.declared.halt.Halt.{Halt}
 use Rattle.cs_play.specs.declared.halt.Halt.TheVariants as halt

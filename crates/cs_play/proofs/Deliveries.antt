@@ -1,17 +1,17 @@
 -- What is delivered, and what is drained.
 use Rattle.std.proofs.Common.{◌≡◌, ℕ, ◌<◌, ◌-◌, Bool, true, false, ◌&&◌, ◌||◌, List, slice_get, slice_set, Option, Some, None, Err, refl, ap, sym, subst, ◌∙◌}
 use Rattle.cs_base.specs.declared.node_id.NodeId.{NodeId}
-use Rattle.cs_form.specs.declared.transaction.Tx.{Tx}
+use Rattle.cs_tx_form.specs.declared.transaction.Tx.{Tx}
 use Rattle.cs_order.specs.Deeds.{Member, Machine}
-use Rattle.cs_trail.specs.Site.{Carrier, Site, Datagram}
-use Rattle.cs_trail.specs.Lines.{Parcel}
-use Rattle.cs_trail.specs.Play.{Played, Course, Goes, then_plays, arrived, with_arrived, occurs, delivers, first_left, drains, drained}
-use Rattle.cs_post.specs.Kept as Kept
+use Rattle.cs_node_rules.specs.Site.{Carrier, Site, Datagram}
+use Rattle.cs_node_rules.specs.Lines.{Parcel}
+use Rattle.cs_node_rules.specs.Play.{Played, Course, Goes, then_plays, arrived, with_arrived, occurs, delivers, first_left, drains, drained}
+use Rattle.cs_play.specs.Post as Kept
 use Rattle.cs_play.specs.declared.play.Replay.{Replay}
 use Rattle.cs_play.specs.declared.halt.Halt.{Halt}
 use Rattle.cs_base.specs.NodeId.{is_node, is_client}
 use Rattle.cs_wire.specs.Keys.{same_name}
-use Rattle.cs_trail.specs.Net.{Net, net_of}
+use Rattle.cs_node_rules.specs.Net.{Net, net_of}
 use Rattle.cs_play.specs.Voicing.{Voicing, SaysTo}
 use Rattle.cs_play.specs.Standing.{HasNode, Rests, Setting, site_in, Standing}
 use Rattle.cs_play.specs.Ends.{Ends}

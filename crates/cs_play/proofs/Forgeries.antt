@@ -3,11 +3,11 @@ use Rattle.std.proofs.Common.{◌≡◌, ℕ, ◌<◌, ◌≤◌, nat_lt, Bool, 
 use Rattle.cs_base.specs.declared.node_id.NodeId.{NodeId}
 use Rattle.cs_ledger.specs.Ledger.{Bytes}
 use Rattle.cs_wire.specs.Opened.{Opened}
-use Rattle.cs_trail.specs.Net.{Net}
-use Rattle.cs_trail.specs.Site.{Datagram, Site}
-use Rattle.cs_trail.specs.World.{is_genuine, is_backed, was_sent}
-use Rattle.cs_trail.specs.Lines.{Parcel}
-use Rattle.cs_trail.specs.Play.{Played, Course, Stops, Forges, most_events, plays, within, occurs, injects}
+use Rattle.cs_node_rules.specs.Net.{Net}
+use Rattle.cs_node_rules.specs.Site.{Datagram, Site}
+use Rattle.cs_node_rules.specs.World.{is_genuine, is_backed, was_sent}
+use Rattle.cs_node_rules.specs.Lines.{Parcel}
+use Rattle.cs_node_rules.specs.Play.{Played, Course, Stops, Forges, most_events, plays, within, occurs, injects}
 use Rattle.cs_node.specs.Speaking.{sender_of}
 use Rattle.cs_play.specs.Forging.{is_backed_by}
 

@@ -6,18 +6,18 @@ use Rattle.std.proofs.lemmas.List.{map-append, get_or-set_same, get_or-set_other
 use Rattle.std.proofs.lemmas.List.Folds.{list_any-append}
 use Rattle.std.proofs.lemmas.Slice.Eq.{bytes_eq-Decides}
 use Rattle.cs_base.specs.declared.config.Config.{Config}
-use Rattle.cs_form.specs.declared.session.Session.{Session}
-use Rattle.cs_form.specs.declared.vote.Vote.{Vote}
-use Rattle.cs_form.specs.declared.entry.Entry.{Entry}
-use Rattle.cs_form.specs.declared.entry.Entry.TheVariants.{Prepare, Decide}
+use Rattle.cs_tx_form.specs.declared.session.Session.{Session}
+use Rattle.cs_tx_form.specs.declared.vote.Vote.{Vote}
+use Rattle.cs_tx_form.specs.declared.entry.Entry.{Entry}
+use Rattle.cs_tx_form.specs.declared.entry.Entry.TheVariants.{Prepare, Decide}
 use Rattle.cs_tx.specs.Digest.{digest_of_tx, digest_of_session}
 use Rattle.cs_tx.specs.Uses.{concerned_shards}
 use Rattle.cs_ledger.specs.Ledger.{Bytes, Transaction}
 use Rattle.cs_ledger.specs.Table as Shard
 use Rattle.cs_ledger.specs.ShardWorld.{is_vote, is_listed}
-use Rattle.cs_trail.specs.Setup.{Setup, digest_of}
-use Rattle.cs_trail.specs.Signs.{Did}
-use Rattle.cs_trail.specs.World.{Execution, slots_of, first_of, recorded, all_recorded, is_voted, told}
+use Rattle.cs_node_rules.specs.Setup.{Setup, digest_of}
+use Rattle.cs_node_rules.specs.Signs.{Did}
+use Rattle.cs_node_rules.specs.World.{Execution, slots_of, first_of, recorded, all_recorded, is_voted, told}
 use Rattle.cs_play.specs.Digests.{digests_of}
 use Rattle.cs_play.specs.Kept.{Kept, Keeps, Deploys, IsBeforeFirst, is_commit, with_commit, with_told, all_commit, voted, told_next, entered_slot, executed, kept_after}
 

@@ -8,3 +8,5 @@ pub mod Posted
 pub mod Taken
 pub mod Views
 pub mod Voiced
+pub mod Fronts
+pub mod Tails

@@ -4,11 +4,11 @@ use Rattle.std.proofs.lemmas.Grind.{flat_map-append}
 use Rattle.cs_base.specs.declared.config.Config.{Config}
 use Rattle.cs_base.specs.declared.node_id.NodeId.{NodeId}
 use Rattle.cs_ledger.specs.Table as Shard
-use Rattle.cs_trail.specs.Setup.{Setup, session_in}
-use Rattle.cs_trail.specs.Net.{Net, sealed}
-use Rattle.cs_trail.specs.Signs.{Sign, Dropped, Took, Entered, Viewed, Did, Sent}
-use Rattle.cs_trail.specs.World.{Execution, first_of, firsts_after}
-use Rattle.cs_trail.specs.Lines.{parcels_of, slot_line, drop_line, view_line, if_traced, sign_lines}
+use Rattle.cs_node_rules.specs.Setup.{Setup, session_in}
+use Rattle.cs_node_rules.specs.Net.{Net, sealed}
+use Rattle.cs_node_rules.specs.Signs.{Sign, Dropped, Took, Entered, Viewed, Did, Sent}
+use Rattle.cs_node_rules.specs.World.{Execution, first_of, firsts_after}
+use Rattle.cs_node_rules.specs.Lines.{parcels_of, slot_line, drop_line, view_line, if_traced, sign_lines}
 use Rattle.cs_tx.specs.Digest.{digest_of_session}
 use Rattle.cs_table.specs.Effects.{effect_of}
 use Rattle.cs_wire.specs.declared.input.Out.{Out}

@@ -2,14 +2,14 @@
 use Rattle.std.proofs.Common.{◌≡◌, ℕ, zero, suc, ◌+◌, ◌<◌, ◌≤◌, nat_lt, nat_le, Bool, true, false, cond, List, [], ◌∷◌, ◌++◌, length, drop, slice_get, slice_set, Some, refl, ap, sym, subst, ◌∙◌, append_assoc, arith}
 use Rattle.cs_base.specs.declared.config.Config.{Config}
 use Rattle.cs_base.specs.declared.node_id.NodeId.{NodeId}
-use Rattle.cs_form.specs.declared.transaction.Tx.{Tx}
+use Rattle.cs_tx_form.specs.declared.transaction.Tx.{Tx}
 use Rattle.cs_order.specs.Deeds.{Member, Machine}
-use Rattle.cs_trail.specs.Site.{Input, Datagram, Carrier, Site, signs_of}
-use Rattle.cs_trail.specs.Signs.{Sign}
-use Rattle.cs_trail.specs.Trail.{event_marks}
-use Rattle.cs_trail.specs.World.{Execution, view_of, firsts_of}
-use Rattle.cs_trail.specs.Lines.{Parcel, parcels_of, sign_lines, if_traced, at_line, sent_lines}
-use Rattle.cs_trail.specs.Play.{Played, Goes, Stops, size_of, most_events, most_sent, plays, within, occurs, arrived, with_arrived, comes}
+use Rattle.cs_node_rules.specs.Site.{Input, Datagram, Carrier, Site, signs_of}
+use Rattle.cs_node_rules.specs.Signs.{Sign}
+use Rattle.cs_node_rules.specs.Trail.{event_marks}
+use Rattle.cs_node_rules.specs.World.{Execution, view_of, firsts_of}
+use Rattle.cs_node_rules.specs.Lines.{Parcel, parcels_of, sign_lines, if_traced, at_line, sent_lines}
+use Rattle.cs_node_rules.specs.Play.{Played, Goes, Stops, size_of, most_events, most_sent, plays, within, occurs, arrived, with_arrived, comes}
 use Rattle.cs_node.specs.declared.outs.Made.{Made}
 use Rattle.cs_node.specs.Notes.{notes_of}
 use Rattle.cs_node.specs.declared.nodes.Core.{Core}

@@ -2,15 +2,15 @@
 use Rattle.std.proofs.Common.{◌≡◌, ℕ, zero, suc, ◌<◌, ◌==◌, Bool, true, false, ◌&&◌, cond, List, [], ◌∷◌, ◌++◌, length, get_or, slice_get, slice_set, Some, None, Result, Ok, Err, IfOk, ◌⊎◌, inl, inr, refl, ap, sym, subst, ◌∙◌, arith, rules}
 use Rattle.cs_base.specs.declared.memory.Memory.{Memory}
 use Rattle.cs_base.specs.declared.node_id.NodeId.{NodeId}
-use Rattle.cs_form.specs.declared.transaction.Tx.{Tx}
+use Rattle.cs_tx_form.specs.declared.transaction.Tx.{Tx}
 use Rattle.cs_order.specs.Deeds.{Member, Machine}
-use Rattle.cs_trail.specs.Setup.{Setup}
-use Rattle.cs_trail.specs.Evidence.{name_eq}
-use Rattle.cs_trail.specs.Net.{Net}
-use Rattle.cs_trail.specs.Site.{Input, Mark, In, Ordered, Plain, Carrier, Site, View, start_view, mark_step, view_after, signs_of}
-use Rattle.cs_trail.specs.Trail.{event_marks}
-use Rattle.cs_trail.specs.World.{Happening, trail_of, view_of, happens}
-use Rattle.cs_trail.specs.Deployment.{site_of}
+use Rattle.cs_node_rules.specs.Setup.{Setup}
+use Rattle.cs_node_rules.specs.Evidence.{name_eq}
+use Rattle.cs_node_rules.specs.Net.{Net}
+use Rattle.cs_node_rules.specs.Site.{Input, Mark, In, Ordered, Plain, Carrier, Site, View, start_view, mark_step, view_after, signs_of}
+use Rattle.cs_node_rules.specs.Trail.{event_marks}
+use Rattle.cs_node_rules.specs.World.{Happening, trail_of, view_of, happens}
+use Rattle.cs_node_rules.specs.Deployment.{site_of}
 use Rattle.cs_node.specs.declared.nodes.Core.{Core}
 use Rattle.cs_node.specs.declared.outs.Made.{Made}
 use Rattle.cs_node.specs.Notes.{outs_of}

@@ -6,13 +6,13 @@ use Rattle.cs_base.specs.Answers.{AppendsFront}
 use Rattle.cs_base.specs.declared.node_id.NodeId.{NodeId}
 use Rattle.cs_base.specs.declared.printing.WriteError.{WriteError}
 use Rattle.cs_base.specs.declared.printing.WriteError.TheVariants as write
-use Rattle.cs_form.specs.declared.transaction.Tx.{Tx}
+use Rattle.cs_tx_form.specs.declared.transaction.Tx.{Tx}
 use Rattle.cs_order.specs.Deeds.{Member, Machine}
 use Rattle.cs_ledger.specs.Ledger.{Bytes}
 use Rattle.cs_wire.specs.declared.input.Out.{Out}
-use Rattle.cs_trail.specs.Lines.{Parcel}
-use Rattle.cs_trail.specs.Site.{Carrier}
-use Rattle.cs_trail.specs.Play.{Played, Course, Goes, Stops, Forges, played_by, size_of, most_sent}
+use Rattle.cs_node_rules.specs.Lines.{Parcel}
+use Rattle.cs_node_rules.specs.Site.{Carrier}
+use Rattle.cs_node_rules.specs.Play.{Played, Course, Goes, Stops, Forges, played_by, size_of, most_sent}
 use Rattle.cs_play.specs.declared.play.Replay.{Replay}
 use Rattle.cs_play.specs.declared.halt.Halt.{Halt}
 use Rattle.cs_play.specs.declared.halt.Halt.TheVariants as halt

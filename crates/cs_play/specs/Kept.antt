@@ -2,14 +2,14 @@
 use Rattle.std.specs.Prelude.{◌≡◌, ℕ, ◌+◌, ◌<◌, nat_lt, ◌==◌, ◌&&◌, Bool, List, [], ◌∷◌, ◌++◌, length, slice_index, slice_set, bytes_eq, if◌then◌else◌}
 use Rattle.std.specs.List.{list_all, list_any}
 use Rattle.cs_base.specs.declared.config.Config.{Config}
-use Rattle.cs_form.specs.declared.session.Session.{Session}
-use Rattle.cs_form.specs.declared.entry.Entry.{Entry}
-use Rattle.cs_form.specs.declared.entry.Entry.TheVariants.{Prepare, Decide}
+use Rattle.cs_tx_form.specs.declared.session.Session.{Session}
+use Rattle.cs_tx_form.specs.declared.entry.Entry.{Entry}
+use Rattle.cs_tx_form.specs.declared.entry.Entry.TheVariants.{Prepare, Decide}
 use Rattle.cs_tx.specs.Digest.{digest_of_tx, digest_of_session}
 use Rattle.cs_ledger.specs.Ledger.{Bytes}
 use Rattle.cs_ledger.specs.Table as Shard
-use Rattle.cs_trail.specs.Setup.{Setup, digest_of, concerned}
-use Rattle.cs_trail.specs.World.{Execution, slots_of, recorded, told}
+use Rattle.cs_node_rules.specs.Setup.{Setup, digest_of, concerned}
+use Rattle.cs_node_rules.specs.World.{Execution, slots_of, recorded, told}
 use Rattle.cs_play.specs.Digests.{digests_of}
 use Rattle.cs_tx.specs.Uses.{concerned_shards}
 

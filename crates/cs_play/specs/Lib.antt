@@ -5,3 +5,4 @@ pub mod Voicing
 pub mod Standing
 pub mod Ends
 pub mod Forging
+pub mod Post

@@ -2,19 +2,19 @@
 use Rattle.std.specs.Prelude.{◌≡◌, ◌↔◌, ℕ, ◌<◌, ◌≤◌, Bool, true, false, List, length, slice_get, Option, Some}
 use Rattle.std.specs.Io.KnownBytes.{Appends}
 use Rattle.cs_base.specs.declared.node_id.NodeId.{NodeId}
-use Rattle.cs_form.specs.declared.transaction.Tx.{Tx}
+use Rattle.cs_tx_form.specs.declared.transaction.Tx.{Tx}
 use Rattle.cs_order.specs.Deeds.{Member, Machine}
 use Rattle.cs_ledger.specs.Ledger.{Bytes}
 use Rattle.cs_wire.specs.Keys.{same_name}
-use Rattle.cs_event.specs.declared.schedule.Event.{Event}
-use Rattle.cs_event.specs.declared.schedule.Event.TheVariants.{Say, Inject, Deliver, Tick, Drain}
-use Rattle.cs_trail.specs.Setup.{Setup}
-use Rattle.cs_trail.specs.Net.{Net, net_of}
-use Rattle.cs_trail.specs.Site.{Input, Carrier, Site, View, signs_of}
-use Rattle.cs_trail.specs.Trail.{event_marks}
-use Rattle.cs_trail.specs.World.{Happening, view_of, happens, firsts_of}
-use Rattle.cs_trail.specs.Play.{Played, size_of, most_sent}
-use Rattle.cs_trail.specs.Deployment.{site_of}
+use Rattle.cs_sched_types.specs.declared.schedule.Event.{Event}
+use Rattle.cs_sched_types.specs.declared.schedule.Event.TheVariants.{Say, Inject, Deliver, Tick, Drain}
+use Rattle.cs_node_rules.specs.Setup.{Setup}
+use Rattle.cs_node_rules.specs.Net.{Net, net_of}
+use Rattle.cs_node_rules.specs.Site.{Input, Carrier, Site, View, signs_of}
+use Rattle.cs_node_rules.specs.Trail.{event_marks}
+use Rattle.cs_node_rules.specs.World.{Happening, view_of, happens, firsts_of}
+use Rattle.cs_node_rules.specs.Play.{Played, size_of, most_sent}
+use Rattle.cs_node_rules.specs.Deployment.{site_of}
 use Rattle.cs_node.specs.declared.nodes.Core.{Core}
 use Rattle.cs_node.specs.declared.outs.Made.{Made}
 use Rattle.cs_node.specs.Notes.{notes_of, outs_of}

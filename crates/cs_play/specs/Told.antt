@@ -4,10 +4,10 @@ use Rattle.std.specs.List.{flat_map}
 use Rattle.cs_base.specs.declared.node_id.NodeId.{NodeId}
 use Rattle.cs_tx.specs.Digest.{digest_of_session}
 use Rattle.cs_ledger.specs.Ledger.{Bytes}
-use Rattle.cs_trail.specs.Setup.{Setup, session_in}
-use Rattle.cs_trail.specs.Signs.{Did}
-use Rattle.cs_trail.specs.World.{Execution, first_of}
-use Rattle.cs_trail.specs.Lines.{Parcel, slot_line, drop_line, view_line, if_traced, at_line, sent_lines}
+use Rattle.cs_node_rules.specs.Setup.{Setup, session_in}
+use Rattle.cs_node_rules.specs.Signs.{Did}
+use Rattle.cs_node_rules.specs.World.{Execution, first_of}
+use Rattle.cs_node_rules.specs.Lines.{Parcel, slot_line, drop_line, view_line, if_traced, at_line, sent_lines}
 use Rattle.cs_table.specs.Effects.{effect_of}
 use Rattle.cs_node.specs.declared.draft.Note.{Note}
 use Rattle.cs_node.specs.declared.draft.Note.TheVariants as note

@@ -1,11 +1,11 @@
 //! The nodes of a replay.
 ghost use Rattle.std.specs.Prelude.{◌≡◌, ◌≢◌, ℕ, ◌<◌, List, length, IfOk, IfSome, IfNone};
 ghost use Rattle.cs_base.specs.declared.node_id.NodeId.{NodeId};
-ghost use Rattle.cs_trail.specs.Setup.{Setup};
-ghost use Rattle.cs_trail.specs.Net.{Net};
-ghost use Rattle.cs_trail.specs.Site.{View};
-ghost use Rattle.cs_trail.specs.World.{Happening};
-ghost use Rattle.cs_trail.specs.Deployment.{site_of};
+ghost use Rattle.cs_node_rules.specs.Setup.{Setup};
+ghost use Rattle.cs_node_rules.specs.Net.{Net};
+ghost use Rattle.cs_node_rules.specs.Site.{View};
+ghost use Rattle.cs_node_rules.specs.World.{Happening};
+ghost use Rattle.cs_node_rules.specs.Deployment.{site_of};
 ghost use Rattle.cs_node.specs.Notes.{NotesFit};
 ghost use Rattle.cs_node.specs.Speaking.{input_of, sender_of};
 ghost use Rattle.cs_node.specs.Carriers.{carrier};

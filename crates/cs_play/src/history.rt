@@ -1,10 +1,10 @@
 //! The history, kept from the executions as they come.
 ghost use Rattle.std.specs.Prelude.{◌≡◌, ◌<◌, ◌==◌, IfOk, OnOk, List, replicate};
-ghost use Rattle.cs_form.specs.Session.{SessionFits};
+ghost use Rattle.cs_tx_form.specs.Session.{SessionFits};
 ghost use Rattle.cs_node.specs.Notes.{ExecutedFits};
-ghost use Rattle.cs_trail.specs.Setup.{Setup};
-ghost use Rattle.cs_trail.specs.World.{Execution, first_of};
-ghost use Rattle.cs_trail.specs.Signs.{Did};
+ghost use Rattle.cs_node_rules.specs.Setup.{Setup};
+ghost use Rattle.cs_node_rules.specs.World.{Execution, first_of};
+ghost use Rattle.cs_node_rules.specs.Signs.{Did};
 ghost use Rattle.cs_table.specs.Effects.{effect_of};
 ghost use Rattle.cs_table.specs.Seen.{vote_of};
 ghost use Rattle.std.specs.List.{list_all};

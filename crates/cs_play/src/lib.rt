@@ -6,12 +6,18 @@ mod cores;
 mod halt;
 mod history;
 mod lines;
+mod parcel;
 mod play;
+mod post;
+#[cfg(test)]
+mod post_tests;
 mod telling;
 mod voices;
 
 pub use halt::Halt;
 pub use history::History;
 pub use lines::{forged_line, history_text, limit_line};
+pub use parcel::Parcel;
 pub use play::Replay;
+pub use post::{MOST_SENT, Post, SendError};
 pub use voices::Voices;

@@ -1,20 +1,20 @@
 //! The lines that are printed.
 ghost use Rattle.std.specs.Prelude.{◌≡◌, ◌++◌, codes, Some, IfOk, string_bytes};
-ghost use Rattle.cs_form.specs.Session.{SessionFits, EntryFits};
+ghost use Rattle.cs_tx_form.specs.Session.{SessionFits, EntryFits};
 ghost use Rattle.cs_tx.specs.Digest.{digest_of_session};
 ghost use Rattle.cs_base.specs.Codes.{bytes_text};
-ghost use Rattle.cs_trail.specs.Setup.{session_in};
-ghost use Rattle.cs_trail.specs.Lines.{slot_line, effect_text, cause_text, drop_line, at_line, kind_in, sent_line, limit_line, forged_line, view_line};
+ghost use Rattle.cs_node_rules.specs.Setup.{session_in};
+ghost use Rattle.cs_node_rules.specs.Lines.{slot_line, effect_text, cause_text, drop_line, at_line, kind_in, sent_line, limit_line, forged_line, view_line};
 ghost use Rattle.cs_table.specs.Effects.{effect_of};
 ghost use Rattle.cs_table.specs.Seen.{vote_of};
 ghost use Rattle.cs_ledger.specs.Table.{Voted};
 ghost use Rattle.cs_node.specs.Notes.{ExecutedFits};
 ghost use Rattle.cs_play.specs.Digests.{history_lines, sent_text};
 
+use crate::parcel::Parcel;
 use cs_base::{Memory, NodeId, print_bytes};
 use cs_node::Effect;
-use cs_post::Parcel;
-use cs_trail::Cause;
+use cs_node_rules::Cause;
 use cs_tx::{Digest, Entry, Session, Vote, session_digest};
 use std::alloc::Global;
 use std::fmt;

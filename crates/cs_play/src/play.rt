@@ -2,9 +2,9 @@
 ghost use Rattle.std.specs.Prelude.{◌≡◌, ◌≤◌, length, drop, slice_get, string_bytes, IfOk, OnOk, IsErrOf};
 ghost use Rattle.std.specs.List.{All};
 ghost use Rattle.cs_base.specs.Outside.{HasCause};
-ghost use Rattle.cs_event.specs.declared.schedule.Event.TheVariants.{Say};
-ghost use Rattle.cs_trail.specs.World.{is_genuine};
-ghost use Rattle.cs_trail.specs.Play.{Played, occurs, injects, delivers, drained, play, play_all};
+ghost use Rattle.cs_sched_types.specs.declared.schedule.Event.TheVariants.{Say};
+ghost use Rattle.cs_node_rules.specs.World.{is_genuine};
+ghost use Rattle.cs_node_rules.specs.Play.{Played, occurs, injects, delivers, drained, play, play_all};
 ghost use Rattle.cs_node.specs.Notes.{NotesFit};
 ghost use Rattle.cs_node.specs.Speaking.{input_of};
 ghost use Rattle.cs_node.specs.Carriers.{carrier};
@@ -17,12 +17,13 @@ ghost use Rattle.cs_play.specs.declared.halt.Halt.TheVariants.{Failed as SinkFai
 use crate::cores::{deliver, place_of, sender_at};
 use crate::halt::Halt;
 use crate::history::History;
+use crate::parcel::Parcel;
+use crate::post::{Post, SendError};
 use crate::telling::{head_text, sent_text, tell};
 use crate::voices::Voices;
 use cs_base::{Memory, NodeId, Sequence, Sink, print};
-use cs_event::Event;
 use cs_node::{Carried, Core, Made};
-use cs_post::{Parcel, Post, SendError};
+use cs_sched_types::Event;
 use cs_tx::Judge;
 use cs_wire::{Input, Out};
 use std::alloc::Global;

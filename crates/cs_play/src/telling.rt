@@ -1,17 +1,17 @@
 //! What is told of an event.
 ghost use Rattle.std.specs.Prelude.{◌≡◌, ◌+◌, ◌<◌, ◌≤◌, ◌^◌, length, IfOk, OnOk, List, string_bytes};
-ghost use Rattle.cs_trail.specs.Setup.{Setup};
-ghost use Rattle.cs_trail.specs.World.{Execution};
-ghost use Rattle.cs_trail.specs.Lines.{if_traced, at_line, sent_lines};
+ghost use Rattle.cs_node_rules.specs.Setup.{Setup};
+ghost use Rattle.cs_node_rules.specs.World.{Execution};
+ghost use Rattle.cs_node_rules.specs.Lines.{if_traced, at_line, sent_lines};
 ghost use Rattle.cs_node.specs.Notes.{NoteFits, NotesFit};
 ghost use Rattle.cs_play.specs.Kept.{Keeps};
 ghost use Rattle.cs_play.specs.Told.{note_text, notes_text, note_first, noted_firsts};
 
 use crate::history::History;
 use crate::lines::{at_line, drop_line, sent_line, slot_line, view_line};
+use crate::parcel::Parcel;
 use cs_base::{Memory, NodeId};
 use cs_node::Note;
-use cs_post::Parcel;
 use std::alloc::Global;
 
 /// The lines of the notes of a node; those of dropped datagrams and of views in a trace alone. The history takes

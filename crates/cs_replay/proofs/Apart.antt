@@ -6,7 +6,7 @@ use Rattle.std.proofs.lemmas.Slice.Eq.{bytes_eq-Decides}
 use Rattle.cs_base.specs.Key.{shard_of_key}
 use Rattle.cs_base.specs.declared.key.Key.{Key}
 use Rattle.cs_base.specs.declared.key.Key.TheVariants as key
-use Rattle.cs_value.specs.declared.object.Object.{Object}
+use Rattle.cs_tx_value.specs.declared.object.Object.{Object}
 use Rattle.cs_tx.specs.Digest.{name_of_genesis}
 use Rattle.cs_ledger.specs.Session as ledger
 use Rattle.cs_table.specs.declared.piece.Piece.{Piece}

@@ -7,10 +7,10 @@ use Rattle.std.proofs.lemmas.List.{take_more, length-take}
 use Rattle.cs_base.specs.declared.config.Config.{Config}
 use Rattle.cs_base.specs.declared.key.Key.TheVariants as key
 use Rattle.cs_base.specs.declared.node_id.NodeId.{NodeId}
-use Rattle.cs_value.specs.declared.object.Object.{Object}
-use Rattle.cs_value.specs.Object.{ObjectFits}
-use Rattle.cs_form.specs.declared.transaction.Tx.{Tx}
-use Rattle.cs_form.specs.declared.session.Session.{Session}
+use Rattle.cs_tx_value.specs.declared.object.Object.{Object}
+use Rattle.cs_tx_value.specs.Object.{ObjectFits}
+use Rattle.cs_tx_form.specs.declared.transaction.Tx.{Tx}
+use Rattle.cs_tx_form.specs.declared.session.Session.{Session}
 use Rattle.cs_tx.specs.Digest.{name_of_genesis}
 use Rattle.cs_tx.specs.Sessions.{session_of}
 use Rattle.cs_tx.specs.Uses as Uses
@@ -21,18 +21,18 @@ use Rattle.cs_order.specs.Runs.{FewLiars}
 use Rattle.cs_base.specs.NodeId.{is_node, is_client}
 use Rattle.cs_ledger.specs.Ledger.{Bytes}
 use Rattle.cs_wire.specs.Keys.{same_name}
-use Rattle.cs_event.specs.declared.schedule.Schedule.{Schedule}
-use Rattle.cs_event.specs.declared.schedule.Event.{Event}
-use Rattle.cs_event.specs.declared.schedule.Event.TheVariants.{Say, Inject, Deliver, Tick, Drain}
-use Rattle.cs_trail.specs.Setup as Setup
-use Rattle.cs_trail.specs.Net.{Net, net_of}
-use Rattle.cs_trail.specs.Evidence.{name_eq}
-use Rattle.cs_trail.specs.Site.{Site, View, start_view}
-use Rattle.cs_trail.specs.Deployment.{rules_of, setup_of}
+use Rattle.cs_sched_types.specs.declared.schedule.Schedule.{Schedule}
+use Rattle.cs_sched_types.specs.declared.schedule.Event.{Event}
+use Rattle.cs_sched_types.specs.declared.schedule.Event.TheVariants.{Say, Inject, Deliver, Tick, Drain}
+use Rattle.cs_node_rules.specs.Setup as Setup
+use Rattle.cs_node_rules.specs.Net.{Net, net_of}
+use Rattle.cs_node_rules.specs.Evidence.{name_eq}
+use Rattle.cs_node_rules.specs.Site.{Site, View, start_view}
+use Rattle.cs_node_rules.specs.Deployment.{rules_of, setup_of}
 use Rattle.cs_node.specs.declared.nodes.Core.{Core}
 use Rattle.cs_node.specs.Cores.{StandsFor}
 use Rattle.cs_node.specs.Setups.{keyed_from, AreObjects}
-use Rattle.cs_story.specs.Given as Given
+use Rattle.cs_node_law.specs.Given as Given
 use Rattle.cs_sched.specs.Naming.{is_liar}
 use Rattle.cs_sched.specs.Playable.{IsHonest, IsSpeaker, IsPlayable, IsPlayableEvent}
 use Rattle.cs_play.specs.Kept.{Deploys}

@@ -8,11 +8,11 @@ use Rattle.std.proofs.KnownBytes.{Appends-trans}
 use Rattle.cs_base.specs.Answers.{AppendsFront}
 use Rattle.cs_base.specs.Codes.{bytes_text}
 use Rattle.cs_ledger.specs.Ledger.{Transaction}
-use Rattle.cs_event.specs.declared.schedule.Event.{Event}
-use Rattle.cs_trail.specs.Site.{Site}
-use Rattle.cs_trail.specs.World.{told, firsts_of, history}
-use Rattle.cs_trail.specs.Lines.{transaction_lines, history_text, limit_line, forged_line}
-use Rattle.cs_trail.specs.Play.{Played, Course, Goes, Stops, Forges, played_by, closed, unplayed, play_all, lines}
+use Rattle.cs_sched_types.specs.declared.schedule.Event.{Event}
+use Rattle.cs_node_rules.specs.Site.{Site}
+use Rattle.cs_node_rules.specs.World.{told, firsts_of, history}
+use Rattle.cs_node_rules.specs.Lines.{transaction_lines, history_text, limit_line, forged_line}
+use Rattle.cs_node_rules.specs.Play.{Played, Course, Goes, Stops, Forges, played_by, closed, unplayed, play_all, lines}
 use Rattle.cs_play.specs.Digests.{digests_of, tx_line, history_lines}
 use Rattle.cs_base.specs.declared.printing.WriteError.{WriteError}
 use Rattle.cs_replay.specs.declared.schedule.Ending.{Ending}

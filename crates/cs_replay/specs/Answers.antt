@@ -7,9 +7,9 @@ use Rattle.cs_base.specs.declared.printing.WriteError.TheVariants as write
 use Rattle.cs_sched.specs.Text.{schedule_of}
 use Rattle.cs_sched.specs.Refusals.{refusal_status, refusal_text}
 use Rattle.cs_sched.specs.declared.cause.Refusal.{Refusal}
-use Rattle.cs_event.specs.declared.schedule.Schedule.{Schedule}
+use Rattle.cs_sched_types.specs.declared.schedule.Schedule.{Schedule}
 use Rattle.cs_order.specs.declared.solo.NoMessage.{NoMessage}
-use Rattle.cs_trail.specs.Play.{Course, Goes, Stops, Forges, unplayed, play_all, lines}
+use Rattle.cs_node_rules.specs.Play.{Course, Goes, Stops, Forges, unplayed, play_all, lines}
 use Rattle.cs_replay.specs.Site.{site_of_schedule}
 
 abbrev pub words_answer : Answer

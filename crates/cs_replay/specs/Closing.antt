@@ -4,8 +4,8 @@ use Rattle.std.specs.Io.KnownBytes.{Appends}
 use Rattle.cs_base.specs.Answers.{AppendsFront}
 use Rattle.cs_base.specs.declared.printing.WriteError.{WriteError}
 use Rattle.cs_ledger.specs.Ledger.{Bytes}
-use Rattle.cs_trail.specs.Site.{Site}
-use Rattle.cs_trail.specs.Play.{Course, closed}
+use Rattle.cs_node_rules.specs.Site.{Site}
+use Rattle.cs_node_rules.specs.Play.{Course, closed}
 use Rattle.cs_replay.specs.declared.schedule.Ending.{Ending}
 use Rattle.cs_replay.specs.declared.schedule.Ending.TheVariants.{Done, Limit, Forged}
 use Rattle.cs_replay.specs.Answers.{course_status}

@@ -2,7 +2,7 @@
 use Rattle.std.specs.Prelude.{ℕ, Bool, Option}
 use Rattle.cs_base.specs.declared.node_id.NodeId.{NodeId}
 use Rattle.cs_ledger.specs.Ledger.{Bytes}
-use Rattle.cs_event.specs.declared.schedule.Schedule.{Schedule}
+use Rattle.cs_sched_types.specs.declared.schedule.Schedule.{Schedule}
 use Rattle.cs_play.specs.Standing.{Setting}
 use Rattle.cs_replay.specs.Site.{setup_of_schedule, net_of_schedule}
 

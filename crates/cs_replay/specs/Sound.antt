@@ -2,12 +2,12 @@
 use Rattle.std.specs.Prelude.{◌≡◌, Bool, true, List}
 use Rattle.cs_base.specs.declared.node_id.NodeId.{NodeId}
 use Rattle.cs_order.specs.declared.solo.NoMessage.{NoMessage}
-use Rattle.cs_event.specs.declared.schedule.Schedule.{Schedule}
-use Rattle.cs_trail.specs.Site.{Site}
-use Rattle.cs_trail.specs.World.{Happening}
-use Rattle.cs_trail.specs.Play.{played_by}
-use Rattle.cs_trail.specs.Collisions.{NoCollision}
-use Rattle.cs_history.specs.Worlds.{is_honest, IsUpToDate, IsSerial, SpendsOnce, DecidesOnce, ExecutesGiven, TellsAccepted, TellsCommitted, HoldsFree, AllVoteFree, AllAcceptLocked}
+use Rattle.cs_sched_types.specs.declared.schedule.Schedule.{Schedule}
+use Rattle.cs_node_rules.specs.Site.{Site}
+use Rattle.cs_node_rules.specs.World.{Happening}
+use Rattle.cs_node_rules.specs.Play.{played_by}
+use Rattle.cs_node_rules.specs.Collisions.{NoCollision}
+use Rattle.cs_world_law.specs.Worlds.{is_honest, IsUpToDate, IsSerial, SpendsOnce, DecidesOnce, ExecutesGiven, TellsAccepted, TellsCommitted, HoldsFree, AllVoteFree, AllAcceptLocked}
 use Rattle.cs_replay.specs.Site.{site_of_schedule}
 use Rattle.cs_replay.specs.Answers.{course_of}
 

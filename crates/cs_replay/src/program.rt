@@ -6,7 +6,7 @@ ghost use Rattle.cs_base.specs.Answers.{Answers};
 ghost use Rattle.cs_sched.specs.declared.reader.TheConstants.{LIMIT};
 ghost use Rattle.cs_sched.specs.Playable.{IsPlayable};
 ghost use Rattle.cs_sched.specs.Text.{schedule_of};
-ghost use Rattle.cs_event.specs.declared.schedule.Schedule.{Schedule};
+ghost use Rattle.cs_sched_types.specs.declared.schedule.Schedule.{Schedule};
 ghost use Rattle.cs_replay.specs.Sound.{IsSound};
 ghost use Rattle.cs_replay.specs.Words.{command_of, texts_of};
 ghost use Rattle.cs_replay.specs.Answers.{Replays, Completes, closing_status, words_answer, replay_answer, refusal_answer, schedule_answer};

@@ -5,8 +5,8 @@ ghost use Rattle.std.specs.Io.KnownBytes.{Appends};
 ghost use Rattle.cs_base.specs.Outside.{HasCause};
 ghost use Rattle.cs_base.specs.Answers.{AppendsFront};
 ghost use Rattle.cs_order.specs.Solo.{solo};
-ghost use Rattle.cs_trail.specs.Lines.{limit_line, forged_line};
-ghost use Rattle.cs_trail.specs.Play.{unplayed, play_all, lines};
+ghost use Rattle.cs_node_rules.specs.Lines.{limit_line, forged_line};
+ghost use Rattle.cs_node_rules.specs.Play.{unplayed, play_all, lines};
 ghost use Rattle.cs_sched.specs.Playable.{IsPlayable};
 ghost use Rattle.cs_replay.specs.Site.{site_of_schedule, solo_carrier};
 ghost use Rattle.cs_replay.specs.Answers.{course_of, course_status};
@@ -19,11 +19,10 @@ ghost use Rattle.cs_replay.specs.declared.schedule.Ending.TheVariants.{Done, Lim
 
 use crate::starting::start_nodes;
 use cs_base::{Memory, Sink, WriteError, print};
-use cs_event::Schedule;
 use cs_node::Carried;
 use cs_order::{Order, Solo};
-use cs_play::{Halt, History, Replay, Voices, forged_line, history_text, limit_line};
-use cs_post::Post;
+use cs_play::{Halt, History, Post, Replay, Voices, forged_line, history_text, limit_line};
+use cs_sched_types::Schedule;
 use cs_tx::{Judge, TokenJudge};
 use std::alloc::Global;
 

@@ -1,8 +1,8 @@
 //! The start of the nodes of a schedule.
 ghost use Rattle.std.specs.Prelude.{◌≡◌, ◌≤◌, ◌<◌, [], length, IfOk};
 ghost use Rattle.std.specs.List.{All};
-ghost use Rattle.cs_value.specs.Object.{ObjectFits};
-ghost use Rattle.cs_trail.specs.Site.{start_view};
+ghost use Rattle.cs_tx_value.specs.Object.{ObjectFits};
+ghost use Rattle.cs_node_rules.specs.Site.{start_view};
 ghost use Rattle.cs_sched.specs.Playable.{IsPlayable};
 ghost use Rattle.cs_node.specs.Setups.{keyed_from};
 ghost use Rattle.cs_node.specs.Cores.{StandsFor};
@@ -11,9 +11,9 @@ ghost use Rattle.cs_replay.specs.Site.{setup_of_schedule, net_of_schedule, site_
 ghost use Rattle.cs_replay.specs.Settings.{node_of_shard};
 
 use cs_base::{Key, Memory, NodeId};
-use cs_event::Schedule;
 use cs_node::{Core, StartError, keys_of_a_master_speak};
 use cs_order::{Order, Solo};
+use cs_sched_types::Schedule;
 use cs_tx::{Encoded, Judge, Object, TokenJudge, genesis_key};
 use cs_wire::Keys;
 use std::alloc::Global;

@@ -1,13 +1,13 @@
 //! What is true of every schedule.
 ghost use Rattle.std.specs.Prelude.{◌≡◌, ℕ, List, Ok};
-ghost use Rattle.cs_event.specs.declared.schedule.Schedule.{Schedule};
+ghost use Rattle.cs_sched_types.specs.declared.schedule.Schedule.{Schedule};
 ghost use Rattle.cs_sched.specs.declared.reader.TheConstants.{LIMIT};
 ghost use Rattle.cs_sched.specs.Text.{schedule_of};
 ghost use Rattle.cs_replay.specs.Sound.{IsSound};
 
-use cs_history::settled_world;
+use cs_node_law::schedules_play_worlds;
 use cs_order::Solo;
-use cs_story::schedules_play_worlds;
+use cs_world_law::settled_world;
 
 /// What is true of every schedule that is read.
 ///

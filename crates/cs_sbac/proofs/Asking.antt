@@ -4,20 +4,20 @@ use Rattle.std.proofs.lemmas.Bool.{cases_lt}
 use Rattle.cs_base.specs.declared.key.Key.{Key}
 use Rattle.cs_base.specs.declared.key.Key.TheVariants as key
 use Rattle.cs_base.proofs.Forms.{whole-again}
-use Rattle.cs_value.specs.declared.object.Object.{Object}
-use Rattle.cs_value.specs.Object.{object_encoding, ObjectFits, object_at}
-use Rattle.cs_value.specs.Key.{KeyFits}
-use Rattle.cs_value.specs.ObjectLaw.{object_form}
-use Rattle.cs_form.specs.declared.state.State.{State}
-use Rattle.cs_form.specs.declared.state.State.TheVariants as state
-use Rattle.cs_form.specs.declared.record.Record.{Record}
+use Rattle.cs_tx_value.specs.declared.object.Object.{Object}
+use Rattle.cs_tx_value.specs.Object.{object_encoding, ObjectFits, object_at}
+use Rattle.cs_tx_value.specs.Key.{KeyFits}
+use Rattle.cs_tx_value.specs.ObjectLaw.{object_form}
+use Rattle.cs_tx_form.specs.declared.state.State.{State}
+use Rattle.cs_tx_form.specs.declared.state.State.TheVariants as state
+use Rattle.cs_tx_form.specs.declared.record.Record.{Record}
 use Rattle.cs_tx.specs.Sessions.{key_seen}
 use Rattle.cs_ledger.specs.Session as ledger
 use Rattle.cs_ledger.specs.Table as Shard
 use Rattle.cs_table.specs.Seen.{Stored, seen, seen_state, seen_row, row_in, name_of, HoldsFit}
 use Rattle.cs_table.specs.Dummies as stored
 use Rattle.cs_table.specs.Dummies.{IsLeastDummy, Least, NoneActive}
-use Rattle.cs_trail.specs.Asked.{object_or_dummy, object_in, state_told, told_at, is_free, has_dummy, least_from, least_dummy}
+use Rattle.cs_node_rules.specs.Asked.{object_or_dummy, object_in, state_told, told_at, is_free, has_dummy, least_from, least_dummy}
 
 key-same : (k : Key) → name_of k ≡ key_seen k
 key-same (key.Object digest) = refl

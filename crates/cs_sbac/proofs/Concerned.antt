@@ -9,13 +9,13 @@ use Rattle.cs_base.specs.declared.key.Key.TheVariants as key
 use Rattle.cs_base.specs.declared.config.Config.{Config}
 use Rattle.cs_base.specs.declared.node_id.NodeId.{NodeId}
 use Rattle.cs_base.specs.NodeId.{is_node}
-use Rattle.cs_value.specs.declared.object.Object.{Object}
-use Rattle.cs_form.specs.declared.transaction.Tx.{Tx}
-use Rattle.cs_form.specs.declared.session.Session.{Session}
+use Rattle.cs_tx_value.specs.declared.object.Object.{Object}
+use Rattle.cs_tx_form.specs.declared.transaction.Tx.{Tx}
+use Rattle.cs_tx_form.specs.declared.session.Session.{Session}
 use Rattle.cs_tx.specs.Uses as Uses
-use Rattle.cs_trail.specs.Setup as Setup
-use Rattle.cs_pool.specs.Deployed.{deployed}
-use Rattle.cs_pool.proofs.Concerned.{concerns-session}
+use Rattle.cs_node_rules.specs.Setup as Setup
+use Rattle.cs_node_pool.specs.Deployed.{deployed}
+use Rattle.cs_node_pool.proofs.Concerned.{concerns-session}
 
 any-append : (p : ℕ → Bool) (xs ys : List ℕ) → list_any p (xs ++ ys) ≡ (list_any p xs || list_any p ys)
 any-append p [] ys = refl

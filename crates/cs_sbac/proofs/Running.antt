@@ -4,21 +4,21 @@ use Rattle.std.specs.Prelude.{if◌then◌else◌}
 use Rattle.cs_base.specs.declared.config.Config.{Config}
 use Rattle.cs_base.specs.declared.key.Key as ours
 use Rattle.cs_base.specs.declared.node_id.NodeId.{NodeId}
-use Rattle.cs_value.specs.declared.object.Object.{Object}
-use Rattle.cs_form.specs.declared.transaction.Tx.{Tx}
-use Rattle.cs_form.specs.declared.session.Session.{Session}
-use Rattle.cs_form.specs.declared.vote.Vote.{Vote}
-use Rattle.cs_form.specs.declared.vote.Vote.TheVariants.{Commit, Abort}
-use Rattle.cs_form.specs.declared.entry.Entry.{Entry}
-use Rattle.cs_form.specs.declared.entry.Entry.TheVariants.{Prepare, Decide}
+use Rattle.cs_tx_value.specs.declared.object.Object.{Object}
+use Rattle.cs_tx_form.specs.declared.transaction.Tx.{Tx}
+use Rattle.cs_tx_form.specs.declared.session.Session.{Session}
+use Rattle.cs_tx_form.specs.declared.vote.Vote.{Vote}
+use Rattle.cs_tx_form.specs.declared.vote.Vote.TheVariants.{Commit, Abort}
+use Rattle.cs_tx_form.specs.declared.entry.Entry.{Entry}
+use Rattle.cs_tx_form.specs.declared.entry.Entry.TheVariants.{Prepare, Decide}
 use Rattle.cs_tx.specs.Uses.{anchor_of}
 use Rattle.cs_tx.specs.Sessions.{session_of, key_seen}
 use Rattle.cs_tx.proofs.AnchorSeen.{anchor-session_of}
 use Rattle.cs_ledger.specs.Ledger.{Bytes}
 use Rattle.cs_ledger.specs.Session as Seen
 use Rattle.cs_ledger.specs.Table as Shard
-use Rattle.cs_form.specs.declared.effect.Effect.{Effect}
-use Rattle.cs_form.specs.declared.effect.Effect.TheVariants.{Voted, Accepted, Aborted, Skipped, Void}
+use Rattle.cs_tx_form.specs.declared.effect.Effect.{Effect}
+use Rattle.cs_tx_form.specs.declared.effect.Effect.TheVariants.{Voted, Accepted, Aborted, Skipped, Void}
 use Rattle.cs_table.specs.Seen.{Stored, seen, vote_of}
 use Rattle.cs_table.specs.Pieces.{rules_in}
 use Rattle.cs_table.specs.Changes.{Becomes}
@@ -26,13 +26,13 @@ use Rattle.cs_table.specs.Effects.{ComesTo, effect_of}
 use Rattle.cs_table.specs.declared.standing.Standing.TheVariants.{Accepted as Accepted', Aborted as Aborted', Open as Open'}
 use Rattle.cs_ledger.specs.Standing.{stands_accepted, stands_aborted}
 use Rattle.cs_table.specs.Calls.{anchor_in, prepared, decided, standing_at, recorded_at, locked_at as holds_at}
-use Rattle.cs_trail.specs.Setup as Setup
-use Rattle.cs_trail.specs.Pool.{Pool}
-use Rattle.cs_trail.specs.Bench.{told_by, own_pool, pool_after, locked_at, decided_at, decided as standing, vote_read, noted_at, noted as on_record}
-use Rattle.cs_trail.specs.Deployment.{genesis_from}
+use Rattle.cs_node_rules.specs.Setup as Setup
+use Rattle.cs_node_rules.specs.Pool.{Pool}
+use Rattle.cs_node_rules.specs.Bench.{told_by, own_pool, pool_after, locked_at, decided_at, decided as standing, vote_read, noted_at, noted as on_record}
+use Rattle.cs_node_rules.specs.Deployment.{genesis_from}
 use Rattle.cs_sbac.specs.declared.answers.Outcome.{Outcome}
 use Rattle.cs_sbac.specs.Held.{IsOfNode}
-use Rattle.cs_pool.specs.Deployed.{deployed}
+use Rattle.cs_node_pool.specs.Deployed.{deployed}
 use Rattle.cs_sbac.specs.Calls.{placed, left, accepted_by, Runs, RunsEntry, Executes}
 use Rattle.cs_sbac.proofs.RulesAlike.{acts, anchors}
 

@@ -2,17 +2,17 @@
 use Rattle.std.proofs.Common.{◌≡◌, ◌↔◌, ℕ, Bool, true, false, ◌&&◌, List, Option, Some, None, is_none, is_some, IsNone, refl, ap, sym, ◌∙◌}
 use Rattle.cs_base.specs.declared.config.Config.{Config}
 use Rattle.cs_base.specs.declared.key.Key.{Key}
-use Rattle.cs_value.specs.declared.object.Object.{Object}
-use Rattle.cs_form.specs.declared.transaction.Tx.{Tx}
-use Rattle.cs_form.specs.declared.session.Session.{Session}
+use Rattle.cs_tx_value.specs.declared.object.Object.{Object}
+use Rattle.cs_tx_form.specs.declared.transaction.Tx.{Tx}
+use Rattle.cs_tx_form.specs.declared.session.Session.{Session}
 use Rattle.cs_tx.specs.Uses as Uses
 use Rattle.cs_tx.specs.WellFormed.{fault_of}
 use Rattle.cs_tx.proofs.TestsSeen.{well_formed-session_of}
 use Rattle.cs_ledger.specs.Session as Seen
-use Rattle.cs_trail.specs.Setup as Setup
-use Rattle.cs_trail.specs.Deployment.{rules_of}
-use Rattle.cs_pool.specs.Deployed.{deployed}
-use Rattle.cs_pool.proofs.Concerned.{concerns-session}
+use Rattle.cs_node_rules.specs.Setup as Setup
+use Rattle.cs_node_rules.specs.Deployment.{rules_of}
+use Rattle.cs_node_pool.specs.Deployed.{deployed}
+use Rattle.cs_node_pool.proofs.Concerned.{concerns-session}
 
 pub some_anchor : (o : Option Key) (c : Bool) → IsNone o ↔ (c ≡ false) → is_some o ≡ c
 some_anchor (Some k) true h = refl

@@ -4,23 +4,23 @@ use Rattle.cs_base.specs.declared.node_id.NodeId.{NodeId}
 use Rattle.cs_ledger.specs.Ledger.{Bytes}
 use Rattle.cs_ledger.specs.Session.{Key}
 use Rattle.cs_ledger.specs.Table as Shard
-use Rattle.cs_form.specs.declared.session.Session.{Session}
-use Rattle.cs_form.specs.declared.entry.Entry.{Entry}
-use Rattle.cs_form.specs.declared.entry.Entry.TheVariants.{Prepare, Decide}
-use Rattle.cs_form.specs.declared.transaction.Tx.{Tx}
+use Rattle.cs_tx_form.specs.declared.session.Session.{Session}
+use Rattle.cs_tx_form.specs.declared.entry.Entry.{Entry}
+use Rattle.cs_tx_form.specs.declared.entry.Entry.TheVariants.{Prepare, Decide}
+use Rattle.cs_tx_form.specs.declared.transaction.Tx.{Tx}
 use Rattle.cs_tx.specs.Sessions.{session_of}
-use Rattle.cs_form.specs.declared.effect.Effect.{Effect}
-use Rattle.cs_form.specs.declared.effect.Effect.TheVariants.{Voted, Accepted, Aborted, Skipped, Void}
+use Rattle.cs_tx_form.specs.declared.effect.Effect.{Effect}
+use Rattle.cs_tx_form.specs.declared.effect.Effect.TheVariants.{Voted, Accepted, Aborted, Skipped, Void}
 use Rattle.cs_table.specs.declared.standing.Standing.{Standing}
 use Rattle.cs_table.specs.declared.standing.Standing.TheVariants as Standings
 use Rattle.cs_table.specs.Seen.{Stored, vote_of}
 use Rattle.cs_table.specs.Changes.{Becomes}
 use Rattle.cs_table.specs.Effects.{effect_of}
 use Rattle.cs_table.specs.Calls.{anchor_in, prepared, decided}
-use Rattle.cs_trail.specs.declared.ballot.Ballot.{Ballot}
-use Rattle.cs_trail.specs.Setup.{Setup, session_in}
-use Rattle.cs_trail.specs.Pool.{Pool, has_room, pushed, changed, with_ballot, entered_locked, without}
-use Rattle.cs_trail.specs.Bench.{executed, bench_executed, pool_after, told_by, told_of, own_pool, locked_at}
+use Rattle.cs_node_rules.specs.declared.ballot.Ballot.{Ballot}
+use Rattle.cs_node_rules.specs.Setup.{Setup, session_in}
+use Rattle.cs_node_rules.specs.Pool.{Pool, has_room, pushed, changed, with_ballot, entered_locked, without}
+use Rattle.cs_node_rules.specs.Bench.{executed, bench_executed, pool_after, told_by, told_of, own_pool, locked_at}
 use Rattle.cs_sbac.specs.Held.{Held, bench_of}
 use Rattle.cs_sbac.specs.declared.answers.Entered.{Entered}
 use Rattle.cs_sbac.specs.declared.answers.Entered.TheVariants.{New, Full}

@@ -4,9 +4,9 @@ use Rattle.cs_base.specs.declared.config.Config.{Config}
 use Rattle.cs_base.specs.declared.node_id.NodeId.{NodeId}
 use Rattle.cs_base.specs.NodeId.{is_node}
 use Rattle.cs_table.specs.Seen.{Stored, seen}
-use Rattle.cs_trail.specs.Pool.{Pool}
-use Rattle.cs_trail.specs.Bench.{Bench}
-use Rattle.cs_pool.specs.Gathered.{Gathered}
+use Rattle.cs_node_rules.specs.Pool.{Pool}
+use Rattle.cs_node_rules.specs.Bench.{Bench}
+use Rattle.cs_node_pool.specs.Gathered.{Gathered}
 
 pub record Held : Type 0 where
   pub config : Config

@@ -1,20 +1,20 @@
 //! The execution of an entry on the table and the pool of a node.
 ghost use Rattle.std.specs.Prelude.{◌≡◌, Bool, true, Some, IsSome, OnOk, IfOk};
-ghost use Rattle.cs_form.specs.declared.transaction.Tx.{Tx};
-ghost use Rattle.cs_form.specs.Session.{SessionFits, EntryFits};
+ghost use Rattle.cs_tx_form.specs.declared.transaction.Tx.{Tx};
+ghost use Rattle.cs_tx_form.specs.Session.{SessionFits, EntryFits};
 ghost use Rattle.cs_tx.specs.Sessions.{session_of};
 ghost use Rattle.cs_table.specs.Seen.{vote_of};
 ghost use Rattle.cs_table.specs.Calls.{anchor_in, prepared, decided};
-ghost use Rattle.cs_trail.specs.Setup.{session_in};
-ghost use Rattle.cs_trail.specs.Pool.{entering};
-ghost use Rattle.cs_trail.specs.Bench.{own_pool};
+ghost use Rattle.cs_node_rules.specs.Setup.{session_in};
+ghost use Rattle.cs_node_rules.specs.Pool.{entering};
+ghost use Rattle.cs_node_rules.specs.Bench.{own_pool};
 ghost use Rattle.cs_sbac.specs.Calls.{placed, left, Runs, RunsEntry};
 
 use crate::answers::Outcome;
 use cs_base::{Memory, NodeId, Sequence};
-use cs_pool::Pool;
+use cs_node_pool::Pool;
+use cs_node_rules::{Ballot, Pooled};
 use cs_table::{Effect, Table};
-use cs_trail::{Ballot, Pooled};
 use cs_tx::{Digest, Encoded, Entry, Session, Vote, session_digest};
 use std::alloc::Global;
 

@@ -9,6 +9,6 @@ mod setting;
 mod tests;
 
 pub use answers::{Entered, Outcome};
-pub use cs_pool::Counted;
+pub use cs_node_pool::Counted;
 pub use cs_table::Effect;
 pub use sbac::Sbac;

@@ -1,21 +1,21 @@
 //! The table of a node and its pool.
 ghost use Rattle.std.specs.Prelude.{◌≡◌, ◌&&◌, Bool, List, [], None, OnOk, IfOk};
-ghost use Rattle.cs_value.specs.declared.object.Object.{Object};
-ghost use Rattle.cs_form.specs.declared.transaction.Tx.{Tx};
-ghost use Rattle.cs_value.specs.Object.{DigestFits};
-ghost use Rattle.cs_value.specs.Key.{KeyFits};
-ghost use Rattle.cs_form.specs.State.{StateFits};
-ghost use Rattle.cs_form.specs.Session.{SessionFits, EntryFits};
+ghost use Rattle.cs_tx_value.specs.declared.object.Object.{Object};
+ghost use Rattle.cs_tx_form.specs.declared.transaction.Tx.{Tx};
+ghost use Rattle.cs_tx_value.specs.Object.{DigestFits};
+ghost use Rattle.cs_tx_value.specs.Key.{KeyFits};
+ghost use Rattle.cs_tx_form.specs.State.{StateFits};
+ghost use Rattle.cs_tx_form.specs.Session.{SessionFits, EntryFits};
 ghost use Rattle.cs_tx.specs.Digest.{digest_of_session};
-ghost use Rattle.cs_trail.specs.Setup.{concerns, concerned, is_fit, is_approved};
-ghost use Rattle.cs_trail.specs.Pool.{found, is_pooled, changed, with_ballot};
+ghost use Rattle.cs_node_rules.specs.Setup.{concerns, concerned, is_fit, is_approved};
+ghost use Rattle.cs_node_rules.specs.Pool.{found, is_pooled, changed, with_ballot};
 ghost use Rattle.cs_table.specs.Seen.{seen, HoldsFit};
-ghost use Rattle.cs_trail.specs.Asked.{told_at, least_dummy, key_asked};
-ghost use Rattle.cs_trail.specs.Bench.{decided, noted};
-ghost use Rattle.cs_trail.specs.Admission.{admits, is_decided_in, due};
-ghost use Rattle.cs_pool.specs.Deployed.{deployed};
-ghost use Rattle.cs_pool.specs.Fits.{DueFits, AllFit};
-ghost use Rattle.cs_pool.specs.Calls.{counted_in, locked_in};
+ghost use Rattle.cs_node_rules.specs.Asked.{told_at, least_dummy, key_asked};
+ghost use Rattle.cs_node_rules.specs.Bench.{decided, noted};
+ghost use Rattle.cs_node_rules.specs.Admission.{admits, is_decided_in, due};
+ghost use Rattle.cs_node_pool.specs.Deployed.{deployed};
+ghost use Rattle.cs_node_pool.specs.Fits.{DueFits, AllFit};
+ghost use Rattle.cs_node_pool.specs.Calls.{counted_in, locked_in};
 ghost use Rattle.cs_sbac.specs.Held.{with_pool, IsOfNode};
 ghost use Rattle.cs_sbac.specs.Calls.{entered_in, pool_entered, pool_entered_with, accepted_by, Executes};
 
@@ -23,9 +23,9 @@ use crate::answers::{Entered, Outcome};
 use crate::execution::{newcomer, run};
 use crate::setting::{concerned_shards, is_fit, is_fit_entry};
 use cs_base::{Config, Key, Memory, NodeId};
-use cs_pool::{Counted, Pool, is_decided};
+use cs_node_pool::{Counted, Pool, is_decided};
+use cs_node_rules::Ballot;
 use cs_table::{Effect, Standing, Table};
-use cs_trail::Ballot;
 use cs_tx::{Digest, Encoded, Entry, Judge, Session, State, Vote, session_digest};
 use std::alloc::Global;
 use std::marker::Model;
@@ -46,7 +46,7 @@ pub struct Sbac {
 
 impl Model for Sbac {
     ghost use Rattle.std.specs.Coded.{codes};
-    ghost use Rattle.cs_value.specs.contracts.value.Value as values;
+    ghost use Rattle.cs_tx_value.specs.contracts.value.Value as values;
     ghost use Rattle.cs_base.specs.contracts.config.Config as configs;
     ghost use Rattle.cs_sbac.specs.Held.{Held, IsSound};
 

@@ -1,12 +1,12 @@
 //! What the setup of a deployment says of a session.
 ghost use Rattle.std.specs.Prelude.{◌≡◌, Bool, true, List, IfOk, is_none, is_some};
-ghost use Rattle.cs_value.specs.declared.object.Object.{Object};
-ghost use Rattle.cs_form.specs.declared.transaction.Tx.{Tx};
-ghost use Rattle.cs_form.specs.Session.{SessionFits, EntryFits};
+ghost use Rattle.cs_tx_value.specs.declared.object.Object.{Object};
+ghost use Rattle.cs_tx_form.specs.declared.transaction.Tx.{Tx};
+ghost use Rattle.cs_tx_form.specs.Session.{SessionFits, EntryFits};
 ghost use Rattle.cs_tx.specs.Uses.{anchor_of};
 ghost use Rattle.cs_tx.specs.WellFormed.{fault_of};
-ghost use Rattle.cs_trail.specs.Setup.{concerned, is_fit, session_in};
-ghost use Rattle.cs_pool.specs.Deployed.{deployed};
+ghost use Rattle.cs_node_rules.specs.Setup.{concerned, is_fit, session_in};
+ghost use Rattle.cs_node_pool.specs.Deployed.{deployed};
 
 use cs_base::{Config, Memory};
 use cs_tx::{Entry, Malformed, Session, anchor, concerned, well_formed};

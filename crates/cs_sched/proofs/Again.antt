@@ -7,11 +7,11 @@ use Rattle.std.proofs.lemmas.Bool.{le-leb}
 use Rattle.std.proofs.lemmas.List.Elements.{recursion_from_All}
 use Rattle.cs_base.specs.declared.config.Config.{Config}
 use Rattle.cs_base.specs.declared.config.TheConstants.{MOST_SHARDS, MOST_LIARS, MOST_DUMMIES}
-use Rattle.cs_value.specs.Object.{DigestFits}
-use Rattle.cs_value.specs.declared.object.Object.{Object}
-use Rattle.cs_event.specs.declared.schedule.Event.{Event}
-use Rattle.cs_event.specs.declared.schedule.Event.TheVariants.{Say, Inject, Deliver, Tick, Drain}
-use Rattle.cs_event.specs.declared.schedule.Schedule.{Schedule}
+use Rattle.cs_tx_value.specs.Object.{DigestFits}
+use Rattle.cs_tx_value.specs.declared.object.Object.{Object}
+use Rattle.cs_sched_types.specs.declared.schedule.Event.{Event}
+use Rattle.cs_sched_types.specs.declared.schedule.Event.TheVariants.{Say, Inject, Deliver, Tick, Drain}
+use Rattle.cs_sched_types.specs.declared.schedule.Schedule.{Schedule}
 use Rattle.cs_sched.specs.Drafts.{empty_draft}
 use Rattle.cs_sched.specs.Names.{genesis_names}
 use Rattle.cs_sched.specs.Playable.{IsPlayableEvent}

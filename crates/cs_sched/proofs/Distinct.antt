@@ -6,7 +6,7 @@ use Rattle.std.proofs.Common.{◌∙◌, sym, ap, refl, arith, get_or, zero, suc
 use Rattle.std.proofs.lemmas.Bool.{true≢false}
 use Rattle.std.proofs.lemmas.List.Quantifiers.{all_pairs_push}
 use Rattle.std.proofs.lemmas.Slice.Eq.{bytes_eq-Decides}
-use Rattle.cs_value.specs.declared.object.Object.{Object}
+use Rattle.cs_tx_value.specs.declared.object.Object.{Object}
 use Rattle.cs_tx.specs.Digest.{name_of_genesis}
 use Rattle.cs_sched.specs.Names.{is_known, genesis_names}
 

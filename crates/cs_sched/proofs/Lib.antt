@@ -12,3 +12,4 @@ pub mod Sound
 pub mod Steps
 pub mod Told
 pub mod Walk
+pub mod Texts

@@ -5,7 +5,7 @@ use Rattle.std.specs.Str.Lines.{lines}
 use Rattle.std.proofs.Common.{ap, refl, subst, inl, inr}
 use Rattle.cs_base.specs.Lines.{fields_of, ended_lines}
 use Rattle.cs_tx.specs.Digest.{name_of_genesis}
-use Rattle.cs_event.specs.declared.schedule.Schedule.{Schedule}
+use Rattle.cs_sched_types.specs.declared.schedule.Schedule.{Schedule}
 use Rattle.cs_sched.specs.declared.cause.Cause.{Cause}
 use Rattle.cs_sched.specs.declared.cause.Cause.TheVariants as cause
 use Rattle.cs_sched.specs.declared.cause.Refusal.{Refusal}

@@ -5,7 +5,7 @@ use Rattle.std.specs.Str.Lines.{lines}
 use Rattle.std.proofs.Common.{◌∙◌, sym, ap, refl, arith, inl, inr, suc}
 use Rattle.std.proofs.lemmas.List.{take_all}
 use Rattle.cs_base.specs.Lines.{fields_of, ended_lines}
-use Rattle.cs_event.specs.declared.schedule.Schedule.{Schedule}
+use Rattle.cs_sched_types.specs.declared.schedule.Schedule.{Schedule}
 use Rattle.cs_sched.specs.Drafts.{empty_draft, has_ended}
 use Rattle.cs_sched.specs.Places.{line_step}
 use Rattle.cs_sched.specs.Text.{then_lines, read_lines, whole, cut_at, schedule_of}

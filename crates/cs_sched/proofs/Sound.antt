@@ -11,10 +11,10 @@ use Rattle.cs_base.specs.declared.config.Config.{Config}
 use Rattle.cs_base.specs.declared.config.ConfigField.{ConfigField}
 use Rattle.cs_base.specs.declared.node_id.NodeId.{NodeId}
 use Rattle.cs_base.specs.declared.config.TheConstants.{MOST_LIARS}
-use Rattle.cs_value.specs.declared.object.Object.{Object}
-use Rattle.cs_value.specs.Object.{object_encoding, DigestFits, ObjectFits}
+use Rattle.cs_tx_value.specs.declared.object.Object.{Object}
+use Rattle.cs_tx_value.specs.Object.{object_encoding, DigestFits, ObjectFits}
 use Rattle.cs_tx.specs.Digest.{name_of_genesis}
-use Rattle.cs_event.specs.declared.schedule.Event.{Event}
+use Rattle.cs_sched_types.specs.declared.schedule.Event.{Event}
 use Rattle.cs_sched.specs.declared.draft.Draft.{Draft}
 use Rattle.cs_sched.specs.declared.draft.Stage.{Stage}
 use Rattle.cs_sched.specs.declared.draft.Stage.TheVariants as stage

@@ -11,9 +11,9 @@ use Rattle.cs_base.specs.Codes.{number_of}
 use Rattle.cs_base.specs.NodeId.{node_of, is_node, is_named, is_client}
 use Rattle.cs_base.specs.declared.config.Config.{Config}
 use Rattle.cs_base.specs.declared.node_id.NodeId.{NodeId}
-use Rattle.cs_event.specs.declared.schedule.Schedule.{Schedule}
-use Rattle.cs_event.specs.declared.schedule.Event.{Event}
-use Rattle.cs_event.specs.declared.schedule.Event.TheVariants.{Say, Inject, Deliver, Tick, Drain}
+use Rattle.cs_sched_types.specs.declared.schedule.Schedule.{Schedule}
+use Rattle.cs_sched_types.specs.declared.schedule.Event.{Event}
+use Rattle.cs_sched_types.specs.declared.schedule.Event.TheVariants.{Say, Inject, Deliver, Tick, Drain}
 use Rattle.cs_sched.specs.declared.cause.Cause.TheVariants as cause
 use Rattle.cs_sched.specs.Values.{◌>>=◌, number_within, bytes_within}
 use Rattle.cs_sched.specs.Naming.{named, is_liar, speaker_in, honest_in}

@@ -1,9 +1,9 @@
 -- What each event's line says, or why it is refused: the word is tested first, then the count of fields, then the fields from left to right.
 use Rattle.std.specs.Prelude.{ℕ, List, [], ◌∷◌, Result, Ok, Err, codes, if◌then◌else◌}
 use Rattle.std.specs.Str.{bytes_eq}
-use Rattle.cs_event.specs.declared.schedule.Schedule.{Schedule}
-use Rattle.cs_event.specs.declared.schedule.Event.{Event}
-use Rattle.cs_event.specs.declared.schedule.Event.TheVariants.{Say, Inject, Deliver, Tick, Drain}
+use Rattle.cs_sched_types.specs.declared.schedule.Schedule.{Schedule}
+use Rattle.cs_sched_types.specs.declared.schedule.Event.{Event}
+use Rattle.cs_sched_types.specs.declared.schedule.Event.TheVariants.{Say, Inject, Deliver, Tick, Drain}
 use Rattle.cs_sched.specs.Values.{◌>>=◌, number_within, bytes_within}
 use Rattle.cs_sched.specs.Naming.{speaker_in, honest_in}
 use Rattle.cs_sched.specs.Said.{only_field, number_said}

@@ -2,7 +2,7 @@
 use Rattle.std.specs.Prelude.{ℕ, ◌+◌, Bool, List, [], ◌∷◌}
 use Rattle.std.specs.List.{list_any}
 use Rattle.std.specs.Str.{bytes_eq}
-use Rattle.cs_value.specs.declared.object.Object.{Object}
+use Rattle.cs_tx_value.specs.declared.object.Object.{Object}
 use Rattle.cs_tx.specs.Digest.{name_of_genesis}
 
 -- whether a name is among these

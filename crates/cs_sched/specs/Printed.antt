@@ -6,11 +6,11 @@ use Rattle.cs_base.specs.Fields.{each}
 use Rattle.cs_base.specs.NodeId.{node_text}
 use Rattle.cs_base.specs.declared.config.Config.{Config}
 use Rattle.cs_base.specs.declared.node_id.NodeId.{NodeId}
-use Rattle.cs_value.specs.Object.{object_encoding}
-use Rattle.cs_value.specs.declared.object.Object.{Object}
-use Rattle.cs_event.specs.declared.schedule.Event.{Event}
-use Rattle.cs_event.specs.declared.schedule.Event.TheVariants.{Say, Inject, Deliver, Tick, Drain}
-use Rattle.cs_event.specs.declared.schedule.Schedule.{Schedule}
+use Rattle.cs_tx_value.specs.Object.{object_encoding}
+use Rattle.cs_tx_value.specs.declared.object.Object.{Object}
+use Rattle.cs_sched_types.specs.declared.schedule.Event.{Event}
+use Rattle.cs_sched_types.specs.declared.schedule.Event.TheVariants.{Say, Inject, Deliver, Tick, Drain}
+use Rattle.cs_sched_types.specs.declared.schedule.Schedule.{Schedule}
 
 -- a line: its word, each field behind a space, and LF
 abbrev pub line_text : List (List ℕ) → List ℕ

@@ -5,8 +5,8 @@ use Rattle.cs_base.specs.Codes.{number_of}
 use Rattle.cs_base.specs.Config.{configured}
 use Rattle.cs_base.specs.declared.config.Config.{Config}
 use Rattle.cs_base.specs.declared.node_id.NodeId.{NodeId}
-use Rattle.cs_value.specs.declared.object.Object.{Object}
-use Rattle.cs_event.specs.declared.schedule.Schedule.{Schedule}
+use Rattle.cs_tx_value.specs.declared.object.Object.{Object}
+use Rattle.cs_sched_types.specs.declared.schedule.Schedule.{Schedule}
 use Rattle.cs_sched.specs.Values.{◌>>=◌, in_range, master_in, object_in}
 use Rattle.cs_sched.specs.Naming.{liar_in}
 use Rattle.cs_sched.specs.declared.cause.Cause.{Cause}

@@ -8,7 +8,7 @@ use Rattle.cs_sched.specs.declared.cause.Cause.{Cause}
 use Rattle.cs_sched.specs.declared.cause.Cause.TheVariants as cause
 use Rattle.cs_sched.specs.declared.cause.Refusal.{Refusal}
 use Rattle.cs_sched.specs.declared.draft.Draft.{Draft}
-use Rattle.cs_event.specs.declared.schedule.Schedule.{Schedule}
+use Rattle.cs_sched_types.specs.declared.schedule.Schedule.{Schedule}
 
 -- goes on with the next line, or says which line is bad
 abbrev pub then_lines : ℕ → Result Draft Cause → (Draft → Result Draft Refusal) → Result Draft Refusal

@@ -4,8 +4,8 @@ use Rattle.std.specs.Option.{ok_or}
 use Rattle.cs_base.specs.Fields.{whole_at}
 use Rattle.cs_base.specs.declared.config.Config.{Config}
 use Rattle.cs_base.specs.declared.config.OutOfRange.{OutOfRange}
-use Rattle.cs_value.specs.declared.object.Object.{Object}
-use Rattle.cs_value.specs.Object.{object_at}
+use Rattle.cs_tx_value.specs.declared.object.Object.{Object}
+use Rattle.cs_tx_value.specs.Object.{object_at}
 use Rattle.cs_base.specs.Codes.{number_of, bytes_of}
 use Rattle.cs_sched.specs.declared.cause.Cause.{Cause}
 use Rattle.cs_sched.specs.declared.cause.Cause.TheVariants as cause

@@ -2,7 +2,7 @@
 ghost use Rattle.std.specs.Prelude.{◌≡◌, IfOk};
 ghost use Rattle.cs_base.specs.Config.{config_of};
 ghost use Rattle.cs_base.specs.Lines.{views};
-ghost use Rattle.cs_value.specs.Object.{ObjectFits};
+ghost use Rattle.cs_tx_value.specs.Object.{ObjectFits};
 ghost use Rattle.cs_tx.specs.Digest.{name_of_genesis};
 ghost use Rattle.cs_sched.specs.Reading.{Moves};
 ghost use Rattle.cs_sched.specs.Drafts.{empty_draft};
@@ -17,7 +17,7 @@ use crate::lines::{
 };
 use crate::name_set::NameSet;
 use cs_base::{Config, Key, Memory, Sequence};
-use cs_event::Schedule;
+use cs_sched_types::Schedule;
 use cs_tx::{Digest, Object, genesis_key};
 use std::alloc::Global;
 

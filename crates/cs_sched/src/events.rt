@@ -8,7 +8,7 @@ use crate::error::LineError;
 use crate::lines::{only_field, only_number};
 use crate::naming::{read_honest, read_speaker};
 use crate::values::{read_bytes_within, read_number_within};
-use cs_event::{Event, Schedule};
+use cs_sched_types::{Event, Schedule};
 use std::alloc::Global;
 
 /// The greatest kind of a datagram.

@@ -1,4 +1,4 @@
-//! Schedules: what they hold, and the reader of their text.
+//! Schedules: what they hold, the reader of their text, and the printer.
 #![tactic(auto)]
 
 mod cause;
@@ -10,13 +10,18 @@ mod lines;
 mod name_set;
 mod naming;
 mod places;
+mod printed;
+mod printing;
+#[cfg(test)]
+mod printing_tests;
 mod reader;
 #[cfg(test)]
 mod tests;
 mod values;
 
 pub use cause::{Cause, Refusal, refusal_line};
-pub use cs_event::{Event, Schedule};
+pub use cs_sched_types::{Event, Schedule};
 pub use error::ScheduleError;
 pub use law::printed_schedules_are_read;
+pub use printing::print;
 pub use reader::{LIMIT, parse, refusals_name_the_first_bad_line};

@@ -1,7 +1,7 @@
 //! What each line says.
 ghost use Rattle.std.specs.Prelude.{◌≡◌, ◌<◌, Err, IfOk, length};
 ghost use Rattle.cs_base.specs.Lines.{views};
-ghost use Rattle.cs_value.specs.Object.{ObjectFits};
+ghost use Rattle.cs_tx_value.specs.Object.{ObjectFits};
 ghost use Rattle.cs_sched.specs.Reading.{Gives, Lends};
 ghost use Rattle.cs_sched.specs.Said.{only_field, no_field, number_said, shards_said, faulty_said, dummies_said, master_said, liar_said, object_said};
 ghost use Rattle.cs_sched.specs.Lines.{contract_line};
@@ -11,7 +11,7 @@ use crate::error::LineError;
 use crate::naming::read_liar;
 use crate::values::{config, number, read_master, read_object};
 use cs_base::{Config, NodeId};
-use cs_event::Schedule;
+use cs_sched_types::Schedule;
 use cs_tx::{Digest, Object};
 use std::alloc::Global;
 

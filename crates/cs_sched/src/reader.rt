@@ -15,7 +15,7 @@ use crate::cause::{Cause, Refusal};
 use crate::draft::{Draft, Stage};
 use crate::error::{LineError, ScheduleError};
 use cs_base::{split_at_byte, strip_return};
-use cs_event::Schedule;
+use cs_sched_types::Schedule;
 use std::alloc::Global;
 
 /// The greatest length of a schedule's text.

@@ -4,7 +4,7 @@ use crate::error::ScheduleError;
 use crate::name_set::NameSet;
 use crate::reader::{parse, parse_within};
 use cs_base::NodeId;
-use cs_event::Event;
+use cs_sched_types::Event;
 use std::alloc::{AllocError, Global};
 use std::test::Fail;
 

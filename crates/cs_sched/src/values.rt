@@ -5,7 +5,7 @@ ghost use Rattle.cs_base.specs.Config.{configured};
 ghost use Rattle.cs_base.specs.Codes.{number_of};
 ghost use Rattle.cs_sched.specs.Reading.{Gives};
 ghost use Rattle.cs_sched.specs.Values.{number_within, in_range, bytes_within, master_in, encoded_object, object_in};
-ghost use Rattle.cs_value.specs.Object.{ObjectFits};
+ghost use Rattle.cs_tx_value.specs.Object.{ObjectFits};
 ghost use Rattle.cs_sched.specs.declared.cause.Cause.TheVariants as cause;
 
 use crate::cause::Cause;

@@ -4,7 +4,7 @@ use Rattle.std.proofs.lemmas.Bool.Decides.{eqb_tells}
 use Rattle.cs_order.specs.declared.proposed.Proposed.{Proposed}
 use Rattle.cs_order.specs.Counts.{first_below}
 use Rattle.cs_order.specs.Limits.{view_bound}
-use Rattle.cs_rules.specs.Slot.{Seen, if_enough, quorum, entry_of}
+use Rattle.cs_order_rules.specs.Slot.{Seen, if_enough, quorum, entry_of}
 use Rattle.cs_slot.specs.declared.votes.Vote.{Vote}
 use Rattle.cs_slot.specs.Kept.{vote_in, with_vote, entry_in, with_entry, NothingFrom}
 

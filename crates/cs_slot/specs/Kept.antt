@@ -5,7 +5,7 @@ use Rattle.cs_order.specs.declared.proposed.Proposed.{Proposed}
 use Rattle.cs_order.specs.Counts.{when, or_else}
 use Rattle.cs_order.specs.Limits.{view_bound}
 use Rattle.cs_slot.specs.declared.votes.Vote.{Vote}
-use Rattle.cs_rules.specs.Slot.{Seen}
+use Rattle.cs_order_rules.specs.Slot.{Seen}
 
 pub record Kept : Type 0 where
   pub f : ℕ

@@ -1,6 +1,6 @@
 //! Entries by a view, or by a member.
 ghost use Rattle.std.specs.Prelude.{◌≡◌, not, is_some, IfOk, OnErr, [], option_copied};
-ghost use Rattle.cs_rules.specs.Slot.{with_digest, is_entry};
+ghost use Rattle.cs_order_rules.specs.Slot.{with_digest, is_entry};
 ghost use Rattle.cs_slot.specs.Kept.{entry_in, with_entry};
 
 use cs_base::Memory;

@@ -2,7 +2,7 @@
 ghost use Rattle.std.specs.Prelude.{◌≡◌, ◌+◌, ◌*◌, ◌%◌, ◌≤◌, ◌<◌, not, Some, is_some, IfOk, option_copied};
 ghost use Rattle.cs_order.specs.Counts.{first_below};
 ghost use Rattle.cs_order.specs.Limits.{view_bound};
-ghost use Rattle.cs_rules.specs.Slot.{quorum, with_digest, proposal_of, entry_of, by_confirm, dones, if_done, by_done, chosen, to_confirm, in_view, prepared};
+ghost use Rattle.cs_order_rules.specs.Slot.{quorum, with_digest, proposal_of, entry_of, by_confirm, dones, if_done, by_done, chosen, to_confirm, in_view, prepared};
 ghost use Rattle.cs_slot.specs.Kept.{seen_in, none_seen, with_proposal, with_echo, with_confirm, with_done, in_later};
 
 use crate::entries::Entries;

@@ -1,6 +1,6 @@
 //! Digests that members said, by view and member.
 ghost use Rattle.std.specs.Prelude.{◌≡◌, ◌+◌, ◌*◌, ◌≤◌, not, is_some, IfOk, OnErr, []};
-ghost use Rattle.cs_rules.specs.Slot.{is_digest, votes, if_enough, quorum};
+ghost use Rattle.cs_order_rules.specs.Slot.{is_digest, votes, if_enough, quorum};
 ghost use Rattle.cs_slot.specs.Kept.{vote_in, with_vote};
 
 use cs_base::Memory;

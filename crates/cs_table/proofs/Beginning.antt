@@ -8,8 +8,8 @@ use Rattle.cs_table.specs.Seen.{Stored, seen, seen_piece, name_of}
 use Rattle.cs_table.specs.Changes.{Becomes, changed, appeared_record, appeared_each}
 use Rattle.cs_table.specs.Genesis.{second_of, is_unknown, is_dummy_below, with_dummies, empty}
 use Rattle.std.proofs.Math.Seq.{take-suc}
-use Rattle.cs_value.specs.declared.object.Object.{Object}
-use Rattle.cs_value.specs.Object.{object_encoding}
+use Rattle.cs_tx_value.specs.declared.object.Object.{Object}
+use Rattle.cs_tx_value.specs.Object.{object_encoding}
 use Rattle.cs_table.proofs.Rows.{same_table}
 use Rattle.cs_table.proofs.Loops.{Left}
 

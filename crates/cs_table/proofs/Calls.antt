@@ -3,9 +3,9 @@ use Rattle.std.proofs.Common.{◌≡◌, ℕ, ◌+◌, ◌-◌, ◌^◌, ◌==�
 use Rattle.std.specs.List.{list_any}
 use Rattle.cs_base.specs.declared.key.Key.{Key}
 use Rattle.cs_base.specs.declared.key.Key.TheVariants as key
-use Rattle.cs_value.specs.declared.object.Object.{Object}
-use Rattle.cs_form.specs.declared.transaction.Tx.{Tx}
-use Rattle.cs_form.specs.declared.session.Session.{Session}
+use Rattle.cs_tx_value.specs.declared.object.Object.{Object}
+use Rattle.cs_tx_form.specs.declared.transaction.Tx.{Tx}
+use Rattle.cs_tx_form.specs.declared.session.Session.{Session}
 use Rattle.cs_tx.specs.Digest.{digest_of_session}
 use Rattle.cs_ledger.specs.Ledger.{is_empty}
 use Rattle.cs_ledger.specs.Session as ledger

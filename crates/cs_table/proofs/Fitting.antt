@@ -4,12 +4,12 @@ use Rattle.std.specs.List.{All, list_all, AllByRecursion, flat_map}
 use Rattle.std.proofs.lemmas.List.Elements.{All-nil, All-cons, All-append, All-same}
 use Rattle.cs_base.specs.declared.key.Key.TheVariants as key
 use Rattle.cs_base.specs.Key.{shard_of_key}
-use Rattle.cs_value.specs.declared.object.Object.{Object}
-use Rattle.cs_value.specs.Object.{ObjectFits}
-use Rattle.cs_form.specs.declared.trace.Trace.{Trace}
-use Rattle.cs_form.specs.declared.session.Session.{Session}
-use Rattle.cs_form.specs.Transaction.{Keyed, KeyedFits, TraceFits}
-use Rattle.cs_form.specs.Session.{SessionFits}
+use Rattle.cs_tx_value.specs.declared.object.Object.{Object}
+use Rattle.cs_tx_value.specs.Object.{ObjectFits}
+use Rattle.cs_tx_form.specs.declared.trace.Trace.{Trace}
+use Rattle.cs_tx_form.specs.declared.session.Session.{Session}
+use Rattle.cs_tx_form.specs.Transaction.{Keyed, KeyedFits, TraceFits}
+use Rattle.cs_tx_form.specs.Session.{SessionFits}
 use Rattle.cs_tx.specs.Digest.{digest_of_tx, outputs_at, outputs_from}
 use Rattle.cs_table.specs.declared.piece.Piece.{Piece}
 use Rattle.cs_table.specs.Pieces.{pieces_in, dummies_in, dummy_object, used_in, read_in, made_in}

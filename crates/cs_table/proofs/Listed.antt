@@ -13,11 +13,11 @@ use Rattle.std.specs.declared.ops.Bound.TheVariants.{Included}
 use Rattle.std.proofs.lemmas.Bool.{cases_Bool, cases_lt, both_ways, and_parts, cond_both, eqb-true}
 use Rattle.cs_base.specs.declared.key.Key.{Key}
 use Rattle.cs_base.specs.declared.key.Key.TheVariants as key
-use Rattle.cs_form.specs.declared.state.State.{State}
-use Rattle.cs_form.specs.declared.state.State.TheVariants as state
+use Rattle.cs_tx_form.specs.declared.state.State.{State}
+use Rattle.cs_tx_form.specs.declared.state.State.TheVariants as state
 use Rattle.cs_ledger.specs.Session as ledger
 use Rattle.cs_ledger.proofs.Basics.{key_refl}
-use Rattle.cs_form.specs.declared.record.Record.{Record}
+use Rattle.cs_tx_form.specs.declared.record.Record.{Record}
 use Rattle.cs_table.specs.Seen.{Stored, name_of, is_under, row_in, seen_row, seen_state, seen}
 use Rattle.cs_table.specs.Dummies.{first_active, is_active, is_free, has_dummy, IsLeastDummy, Least, NoneActive}
 use Rattle.cs_table.proofs.Rows.{key_cmp, same_key}

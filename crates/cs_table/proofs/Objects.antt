@@ -1,14 +1,14 @@
 -- Objects that fit are equal where their encodings are.
 use Rattle.std.proofs.Common.{◌≡◌, ℕ, Bool, true, List, [], ◌++◌, bytes_eq, Some, ◌↔◌, IsTrue, sym, ap, ◌∙◌, subst}
-use Rattle.cs_value.specs.declared.object.Object.{Object}
-use Rattle.cs_value.specs.Object.{object_encoding, ObjectFits, object_at}
-use Rattle.cs_value.specs.ObjectLaw.{object_form}
+use Rattle.cs_tx_value.specs.declared.object.Object.{Object}
+use Rattle.cs_tx_value.specs.Object.{object_encoding, ObjectFits, object_at}
+use Rattle.cs_tx_value.specs.ObjectLaw.{object_form}
 use Rattle.cs_ledger.proofs.Basics.{same_bytes, bytes_refl}
 use Rattle.cs_base.specs.declared.key.Key.{Key}
-use Rattle.cs_form.specs.declared.state.State.TheVariants.{Active}
+use Rattle.cs_tx_form.specs.declared.state.State.TheVariants.{Active}
 use Rattle.cs_ledger.specs.Session.{Key as Name}
 use Rattle.cs_ledger.specs.Table.{is_active_with}
-use Rattle.cs_form.specs.declared.record.Record.{Record}
+use Rattle.cs_tx_form.specs.declared.record.Record.{Record}
 use Rattle.cs_table.specs.Seen.{row_in, seen_row, seen_state, HoldsFit}
 use Rattle.cs_table.proofs.Rows.{same_tests}
 

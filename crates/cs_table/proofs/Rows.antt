@@ -13,7 +13,7 @@ use Rattle.cs_base.specs.contracts.key.KeyOrd.TheImpl.{ghosts}
 use Rattle.cs_ledger.specs.Session as ledger
 use Rattle.cs_ledger.specs.Table.{Record as Seen, Table}
 use Rattle.cs_ledger.proofs.Basics as basics
-use Rattle.cs_form.specs.declared.record.Record.{Record}
+use Rattle.cs_tx_form.specs.declared.record.Record.{Record}
 use Rattle.cs_table.specs.Seen.{Stored, name_of, is_under, row_in, seen_row, unknown_record, seen, RowFits, RowsFit, HoldsFit}
 use Rattle.cs_table.specs.Changes.{changed, Becomes}
 

@@ -4,11 +4,11 @@ use Rattle.std.specs.List.{flat_map}
 use Rattle.sha2.specs.Sha256.{sha256}
 use Rattle.cs_base.specs.declared.key.Key.TheVariants as key
 use Rattle.cs_base.specs.Key.{shard_of_key}
-use Rattle.cs_value.specs.declared.object.Object.{Object}
-use Rattle.cs_form.specs.declared.trace.Trace.{Trace}
-use Rattle.cs_form.specs.declared.transaction.Tx.{Tx}
-use Rattle.cs_form.specs.declared.session.Session.{Session}
-use Rattle.cs_form.specs.Transaction.{Keyed}
+use Rattle.cs_tx_value.specs.declared.object.Object.{Object}
+use Rattle.cs_tx_form.specs.declared.trace.Trace.{Trace}
+use Rattle.cs_tx_form.specs.declared.transaction.Tx.{Tx}
+use Rattle.cs_tx_form.specs.declared.session.Session.{Session}
+use Rattle.cs_tx_form.specs.Transaction.{Keyed}
 use Rattle.cs_tx.specs.Digest.{digest_of_tx, name_of_output, outputs_at, outputs_from}
 use Rattle.cs_tx.specs.Uses.{inputs_of, references_of, outputs_of}
 use Rattle.cs_ledger.specs.Ledger.{Item}

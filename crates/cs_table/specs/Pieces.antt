@@ -2,10 +2,10 @@
 use Rattle.std.specs.Prelude.{ℕ, ◌==◌, List, [], ◌∷◌, ◌++◌, codes, replicate, if◌then◌else◌}
 use Rattle.cs_base.specs.declared.key.Key.TheVariants as key
 use Rattle.cs_base.specs.Key.{shard_of_key}
-use Rattle.cs_value.specs.declared.object.Object.{Object}
-use Rattle.cs_value.specs.Object.{object_encoding}
-use Rattle.cs_form.specs.declared.session.Session.{Session}
-use Rattle.cs_form.specs.Transaction.{Keyed}
+use Rattle.cs_tx_value.specs.declared.object.Object.{Object}
+use Rattle.cs_tx_value.specs.Object.{object_encoding}
+use Rattle.cs_tx_form.specs.declared.session.Session.{Session}
+use Rattle.cs_tx_form.specs.Transaction.{Keyed}
 use Rattle.cs_tx.specs.Uses.{inputs_of, references_of, outputs_of}
 use Rattle.cs_ledger.specs.Session.{Rules}
 use Rattle.cs_table.specs.declared.piece.Piece.{Piece}

@@ -3,14 +3,14 @@ use Rattle.std.specs.Prelude.{ℕ, Bool, List, [], map, Option, Some, None}
 use Rattle.std.specs.Map.{lookup}
 use Rattle.cs_base.specs.declared.key.Key.{Key}
 use Rattle.cs_base.specs.declared.key.Key.TheVariants as key
-use Rattle.cs_value.specs.Object.{object_encoding, ObjectFits}
-use Rattle.cs_form.specs.declared.vote.Vote.{Vote}
-use Rattle.cs_form.specs.declared.vote.Vote.TheVariants as vote
-use Rattle.cs_form.specs.declared.state.State.{State}
-use Rattle.cs_form.specs.declared.state.State.TheVariants as state
+use Rattle.cs_tx_value.specs.Object.{object_encoding, ObjectFits}
+use Rattle.cs_tx_form.specs.declared.vote.Vote.{Vote}
+use Rattle.cs_tx_form.specs.declared.vote.Vote.TheVariants as vote
+use Rattle.cs_tx_form.specs.declared.state.State.{State}
+use Rattle.cs_tx_form.specs.declared.state.State.TheVariants as state
 use Rattle.cs_ledger.specs.Session as ledger
 use Rattle.cs_ledger.specs.Table as table
-use Rattle.cs_form.specs.declared.record.Record.{Record}
+use Rattle.cs_tx_form.specs.declared.record.Record.{Record}
 use Rattle.cs_table.specs.declared.piece.Piece.{Piece}
 
 abbrev pub vote_of : Vote → table.Vote

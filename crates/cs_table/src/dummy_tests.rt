@@ -1,8 +1,8 @@
 //! Worked cases of the dummies of a shard, and of what a table lists.
 use crate::table::Table;
 use cs_base::{Config, Key, Memory, Sequence};
-use cs_form::Effect;
 use cs_tx::{Encoded, Name, Object, Session, State, Trace, Tx, Value, Vote};
+use cs_tx_form::Effect;
 use std::alloc::Global;
 use std::process::Abort;
 use std::test::Fail;

@@ -1,6 +1,6 @@
 //! Voting on a session, and carrying decisions out, over the keys that it has in the shard.
 ghost use Rattle.std.specs.Prelude.{◌≡◌, nat_lt, length, OnOk, IfOk, All, map, option_map, Some, None, true};
-ghost use Rattle.cs_value.specs.Object.{ObjectFits};
+ghost use Rattle.cs_tx_value.specs.Object.{ObjectFits};
 ghost use Rattle.cs_ledger.specs.Table.{prepare, with_locks, with_aborted, is_locked_by, has_room as is_fresh, is_ready as is_all_ready, Voted};
 ghost use Rattle.cs_table.specs.Seen.{seen, name_of, vote_of, seen_piece};
 ghost use Rattle.cs_table.specs.Changes.{Becomes};

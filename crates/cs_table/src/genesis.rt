@@ -1,7 +1,7 @@
 //! The table with which a shard begins.
 ghost use Rattle.std.specs.Prelude.{◌≡◌, OnOk, IfOk, All, map, []};
 ghost use Rattle.cs_base.specs.declared.config.Config.{Config};
-ghost use Rattle.cs_value.specs.Object.{ObjectFits, object_encoding};
+ghost use Rattle.cs_tx_value.specs.Object.{ObjectFits, object_encoding};
 ghost use Rattle.cs_ledger.specs.Table.{start};
 ghost use Rattle.cs_table.specs.Seen.{seen, name_of, seen_piece};
 ghost use Rattle.cs_table.specs.Changes.{Becomes, appeared_each};

@@ -20,7 +20,7 @@ mod table;
 mod tests;
 mod verdict;
 
-pub use cs_form::{Effect, Record};
+pub use cs_tx_form::{Effect, Record};
 pub use genesis::TableError;
 pub use listing::Records;
 pub use piece::Piece;

@@ -1,9 +1,9 @@
 //! The keys that a session has in a shard.
 ghost use Rattle.std.specs.Prelude.{◌≡◌, ◌≤◌, ◌++◌, [], ◌∷◌, length, IfOk, OnOk, All};
 ghost use Rattle.std.specs.List.{flat_map, AllByRecursion};
-ghost use Rattle.cs_value.specs.Object.{ObjectFits};
-ghost use Rattle.cs_form.specs.Transaction.{TraceFits};
-ghost use Rattle.cs_form.specs.Session.{SessionFits};
+ghost use Rattle.cs_tx_value.specs.Object.{ObjectFits};
+ghost use Rattle.cs_tx_form.specs.Transaction.{TraceFits};
+ghost use Rattle.cs_tx_form.specs.Session.{SessionFits};
 ghost use Rattle.cs_tx.specs.Digest.{outputs_at, outputs_from};
 ghost use Rattle.cs_table.specs.Pieces.{pieces_in, dummies_in, dummy_object as the_dummy, used_in, read_in, made_in};
 

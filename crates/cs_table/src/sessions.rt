@@ -1,8 +1,8 @@
 //! The calls on a session.
 ghost use Rattle.std.specs.Prelude.{◌≡◌, ◌==◌, ◌+◌, ◌++◌, Bool, true, not, length, IsSome, is_some, IfOk, OnOk, All, map, option_map};
-ghost use Rattle.cs_value.specs.Object.{ObjectFits};
-ghost use Rattle.cs_form.specs.declared.transaction.Tx.{Tx};
-ghost use Rattle.cs_form.specs.Session.{SessionFits};
+ghost use Rattle.cs_tx_value.specs.Object.{ObjectFits};
+ghost use Rattle.cs_tx_form.specs.declared.transaction.Tx.{Tx};
+ghost use Rattle.cs_tx_form.specs.Session.{SessionFits};
 ghost use Rattle.cs_tx.specs.Digest.{digest_of_session};
 ghost use Rattle.cs_ledger.specs.Ledger.{is_empty};
 ghost use Rattle.cs_ledger.specs.Table.{Voted};
@@ -21,8 +21,8 @@ use crate::pieces::{dummy_object, made_pieces, read_pieces, used_pieces};
 use crate::standing::Standing;
 use crate::table::Table;
 use cs_base::{Key, Memory};
-use cs_form::Effect;
 use cs_tx::{Digest, Session, Vote, session_digest};
+use cs_tx_form::Effect;
 use std::alloc::Global;
 
 /// What a session has in the shard: its digest, what it uses up, and what it only reads.

@@ -1,6 +1,6 @@
 //! What is done to several keys, one after the other.
 ghost use Rattle.std.specs.Prelude.{◌≡◌, OnOk, IfOk, map, All, option_map};
-ghost use Rattle.cs_value.specs.Object.{ObjectFits};
+ghost use Rattle.cs_tx_value.specs.Object.{ObjectFits};
 ghost use Rattle.cs_ledger.specs.Session.{has_key as is_named};
 ghost use Rattle.cs_ledger.specs.Table.{all_ready, vote_in};
 ghost use Rattle.cs_table.specs.Seen.{seen, name_of, vote_of, seen_piece, seen_place};

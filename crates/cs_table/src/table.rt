@@ -1,6 +1,6 @@
 //! The table of a shard.
 ghost use Rattle.std.specs.Prelude.{◌≡◌, [], ◌+◌, ◌-◌, ◌<◌, ◌^◌, IfSome, OnOk, option_copied, map, All};
-ghost use Rattle.cs_value.specs.Object.{object_encoding, ObjectFits};
+ghost use Rattle.cs_tx_value.specs.Object.{object_encoding, ObjectFits};
 ghost use Rattle.cs_ledger.specs.Table.{is_active_with, all_ready};
 ghost use Rattle.cs_table.specs.Seen.{seen, row_in, name_of, vote_of, seen_piece, seen_record, seen_row, unknown_record, HoldsFit, RowFits};
 ghost use Rattle.cs_table.specs.Changes.{with_next, changed, changed_record, appeared_record, noted_record, changed_each, Becomes};
@@ -9,8 +9,8 @@ use crate::change::Change;
 use crate::piece::Piece;
 use crate::record;
 use cs_base::{Config, Key, Memory};
-use cs_form::Record;
 use cs_tx::{Digest, Object, State, Vote};
+use cs_tx_form::Record;
 use std::alloc::{AllocError, Global};
 use std::collections::BTreeMap;
 use std::marker::Model;
@@ -27,7 +27,7 @@ pub struct Table {
 impl Model for Table {
     ghost use Rattle.cs_table.specs.Seen.{Stored, RowsFit};
     ghost use Rattle.std.specs.Coded.{codes};
-    ghost use Rattle.cs_value.specs.contracts.value.Value as values;
+    ghost use Rattle.cs_tx_value.specs.contracts.value.Value as values;
 
     ghost Value = { Stored };
 

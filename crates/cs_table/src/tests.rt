@@ -3,10 +3,10 @@ use crate::genesis::TableError;
 use crate::standing::Standing;
 use crate::table::Table;
 use cs_base::{Config, Key, Memory, Sequence};
-use cs_form::Effect;
 use cs_tx::{
     Encoded, Name, Object, Session, State, Trace, Tx, Value, Vote, genesis_key, output_keys,
 };
+use cs_tx_form::Effect;
 use std::alloc::Global;
 use std::process::Abort;
 use std::test::Fail;

@@ -10,8 +10,8 @@ ghost use Rattle.cs_table.specs.Effects.{settled_vote, or_lost};
 
 use crate::several::vote_in_book;
 use crate::standing::Standing;
-use cs_form::Record;
 use cs_tx::{Digest, State, Vote};
+use cs_tx_form::Record;
 
 /// How many entries a book has where the record is worn.
 const WORN: usize = 1024;

@@ -4,9 +4,9 @@ use Rattle.std.specs.Prelude.{if◌then◌else◌}
 use Rattle.std.specs.Option.{option_map}
 use Rattle.cs_base.specs.declared.config.Config.{Config}
 use Rattle.cs_base.specs.declared.key.Key.TheVariants as key
-use Rattle.cs_form.specs.declared.transaction.Tx.{Tx}
-use Rattle.cs_form.specs.declared.session.Session.{Session}
-use Rattle.cs_form.specs.Transaction.{Keyed}
+use Rattle.cs_tx_form.specs.declared.transaction.Tx.{Tx}
+use Rattle.cs_tx_form.specs.declared.session.Session.{Session}
+use Rattle.cs_tx_form.specs.Transaction.{Keyed}
 use Rattle.cs_tx.specs.Uses.{inputs_of, names, is_in, dummy_in, anchor_among, anchor_of}
 use Rattle.cs_tx.specs.Sessions.{item_of, dummy_name, key_seen, session_of}
 use Rattle.cs_ledger.specs.Session as Seen

@@ -3,11 +3,11 @@ use Rattle.std.proofs.Common.{◌≡◌, ℕ, ◌+◌, Bool, ◌||◌, List, [],
 use Rattle.std.specs.List.{flat_map}
 use Rattle.sha2.specs.Sha256.{sha256}
 use Rattle.cs_base.specs.declared.config.Config.{Config}
-use Rattle.cs_value.specs.declared.object.Object.{Object}
-use Rattle.cs_form.specs.declared.trace.Trace.{Trace}
-use Rattle.cs_form.specs.declared.transaction.Tx.{Tx}
-use Rattle.cs_form.specs.declared.session.Session.{Session}
-use Rattle.cs_form.specs.Transaction.{Keyed}
+use Rattle.cs_tx_value.specs.declared.object.Object.{Object}
+use Rattle.cs_tx_form.specs.declared.trace.Trace.{Trace}
+use Rattle.cs_tx_form.specs.declared.transaction.Tx.{Tx}
+use Rattle.cs_tx_form.specs.declared.session.Session.{Session}
+use Rattle.cs_tx_form.specs.Transaction.{Keyed}
 use Rattle.cs_tx.specs.Digest.{digest_of_tx, name_of_output, outputs_at, outputs_from}
 use Rattle.cs_tx.specs.Uses as Uses
 use Rattle.cs_tx.specs.Uses.{inputs_of, references_of, outputs_of, names, names_of}

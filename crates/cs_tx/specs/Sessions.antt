@@ -4,13 +4,13 @@ use Rattle.std.specs.Int.{w16, to_be_bytes}
 use Rattle.sha2.specs.Sha256.{sha256}
 use Rattle.cs_base.specs.declared.key.Key.{Key}
 use Rattle.cs_base.specs.declared.key.Key.TheVariants as key
-use Rattle.cs_value.specs.declared.object.Object.{Object}
-use Rattle.cs_value.specs.Object.{object_encoding}
-use Rattle.cs_form.specs.declared.trace.Trace.{Trace}
-use Rattle.cs_form.specs.declared.transaction.Tx.{Tx}
-use Rattle.cs_form.specs.declared.session.Session.{Session}
-use Rattle.cs_form.specs.Transaction.{Keyed, tx_encoding}
-use Rattle.cs_form.specs.Session.{session_encoding}
+use Rattle.cs_tx_value.specs.declared.object.Object.{Object}
+use Rattle.cs_tx_value.specs.Object.{object_encoding}
+use Rattle.cs_tx_form.specs.declared.trace.Trace.{Trace}
+use Rattle.cs_tx_form.specs.declared.transaction.Tx.{Tx}
+use Rattle.cs_tx_form.specs.declared.session.Session.{Session}
+use Rattle.cs_tx_form.specs.Transaction.{Keyed, tx_encoding}
+use Rattle.cs_tx_form.specs.Session.{session_encoding}
 use Rattle.cs_tx.specs.Uses.{inputs_of, references_of}
 use Rattle.cs_tx.specs.WellFormed.{first_failing, has_own_objects, has_earlier_deps}
 use Rattle.cs_ledger.specs.Ledger.{Item}

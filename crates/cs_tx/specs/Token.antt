@@ -2,11 +2,11 @@
 use Rattle.std.specs.Prelude.{ℕ, ◌+◌, ℤ, pos, negsuc, Bool, false, ◌&&◌, ◌==◌, bytes_eq, codes, List, [], ◌∷◌, length, map, Option, Some, None, if◌then◌else◌}
 use Rattle.std.specs.List.{list_all}
 use Rattle.sha2.specs.Sha256.{sha256}
-use Rattle.cs_value.specs.declared.object.Object.{Object}
-use Rattle.cs_value.specs.declared.value.Value.{Value, out-Value}
-use Rattle.cs_value.specs.declared.value.Value.TheOpen.{Value-F}
-use Rattle.cs_form.specs.declared.trace.Trace.{Trace}
-use Rattle.cs_form.specs.declared.transaction.Tx.{Tx}
+use Rattle.cs_tx_value.specs.declared.object.Object.{Object}
+use Rattle.cs_tx_value.specs.declared.value.Value.{Value, out-Value}
+use Rattle.cs_tx_value.specs.declared.value.Value.TheOpen.{Value-F}
+use Rattle.cs_tx_form.specs.declared.trace.Trace.{Trace}
+use Rattle.cs_tx_form.specs.declared.transaction.Tx.{Tx}
 
 -- the digest of its text, of five bytes
 abbrev pub token_id : List ℕ

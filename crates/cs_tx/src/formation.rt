@@ -4,8 +4,8 @@ ghost use Rattle.std.specs.List.{list_any, list_all};
 ghost use Rattle.std.specs.Option.{option_map};
 ghost use Rattle.cs_base.specs.Key.{shard_of_key};
 ghost use Rattle.cs_base.specs.declared.key.Key.TheVariants.{Object as object_key};
-ghost use Rattle.cs_form.specs.Transaction.{TxFits};
-ghost use Rattle.cs_form.specs.Session.{SessionFits};
+ghost use Rattle.cs_tx_form.specs.Transaction.{TxFits};
+ghost use Rattle.cs_tx_form.specs.Session.{SessionFits};
 ghost use Rattle.cs_tx.specs.Uses.{is_among};
 ghost use Rattle.cs_tx.specs.WellFormed.{has, first_twice, first_failing, is_of, has_own_objects, has_earlier_deps, rising_from, are_rising, is_served, fault_of, Finds};
 
@@ -13,8 +13,8 @@ use crate::malformed::Malformed;
 use crate::names::Names;
 use crate::uses::is_one_in;
 use cs_base::{Config, Key, shard_of};
-use cs_form::{Session, Trace, Tx};
-use cs_value::{Digest, Object};
+use cs_tx_form::{Session, Trace, Tx};
+use cs_tx_value::{Digest, Object};
 use std::alloc::Global;
 
 fn are_of(contract: &Digest, items: &[(Digest, Object)]) -> bool

@@ -1,10 +1,10 @@
 //! Who says whether a transaction is approved.
 ghost use Rattle.std.specs.Prelude.{◌≡◌, Bool, IfOk};
-ghost use Rattle.cs_form.specs.declared.transaction.Tx.{Tx as AnyTx};
-ghost use Rattle.cs_form.specs.Transaction.{TxFits};
+ghost use Rattle.cs_tx_form.specs.declared.transaction.Tx.{Tx as AnyTx};
+ghost use Rattle.cs_tx_form.specs.Transaction.{TxFits};
 
 use cs_base::Memory;
-use cs_form::Tx;
+use cs_tx_form::Tx;
 use std::alloc::Global;
 
 /// Approves transactions: the check of each trace has to say yes.

@@ -9,10 +9,10 @@ mod names;
 mod token;
 mod uses;
 
-pub use cs_form::{
+pub use cs_tx_form::{
     Checkpoint, Effect, Entry, Leaf, Proof, Record, Session, State, Stored, Trace, Tx, Vote,
 };
-pub use cs_value::{Digest, Encoded, FormError, Name, Object, Value};
+pub use cs_tx_value::{Digest, Encoded, FormError, Name, Object, Value};
 pub use digests::{entry_digest, genesis_key, output_keys, output_name, session_digest, tx_digest};
 pub use formation::well_formed;
 pub use judge::Judge;

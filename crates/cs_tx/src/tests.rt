@@ -1,4 +1,4 @@
-ghost use Rattle.cs_form.specs.Transaction.{TxFits};
+ghost use Rattle.cs_tx_form.specs.Transaction.{TxFits};
 
 use super::*;
 use cs_base::{Config, Key, Sequence, Writer};

@@ -1,6 +1,6 @@
 -- What is told of statements, one equation for each kind.
 use Rattle.std.proofs.Common.{◌≡◌, ℕ, List, map, sym, ap, ◌∙◌}
-use Rattle.cs_token.specs.declared.token.Text.{Text}
+use Rattle.cs_lang_token.specs.declared.token.Text.{Text}
 use Rattle.cs_lang.specs.declared.tree.Expr.{Expr}
 use Rattle.cs_lang.specs.declared.tree.Block.{Block, out-Block}
 use Rattle.cs_lang.specs.declared.tree.Statement.{Statement, out-Statement}
@@ -9,7 +9,7 @@ use Rattle.cs_lang.specs.declared.tree.Action.TheVariants as action
 use Rattle.cs_lang.specs.declared.tree.Action.TheVariants.{rolls-Let, rolls-Set, rolls-If, rolls-IfElse, rolls-ForIn, rolls-ForTo, rolls-Make, rolls-Call, rolls-Answer}
 use Rattle.cs_lang.specs.declared.tree.Action.TheOpen.{Action-F}
 use Rattle.cs_lang.specs.declared.tree.Action.TheFolds.{fold-roll-Action, fold_out-Block, fold_out-Statement}
-use Rattle.cs_kinds.specs.Scopes.{Sight}
+use Rattle.cs_types_kinds.specs.Scopes.{Sight}
 use Rattle.cs_types.specs.Stating.{Blocked, Stated, block_judged, let_judged, set_judged, if_judged, if_else_judged, for_in_judged, for_to_judged, make_judged, call_judged, answer_judged, stated}
 use Rattle.cs_types.specs.Blocks.{Acted, part, parts, layer_action, layer_statement, layer_block, block_told, statement_told, action_told}
 

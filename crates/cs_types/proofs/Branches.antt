@@ -1,7 +1,7 @@
 -- What is told of statements with parts, and of the names of a method, step by step.
 use Rattle.std.proofs.Common.{◌≡◌, ℕ, max, Bool, List, [], Result, Ok, Err, sym, ap, ◌∙◌}
-use Rattle.cs_token.specs.Grammar.{◌>>=◌}
-use Rattle.cs_token.specs.declared.token.Text.{Text}
+use Rattle.cs_lang_token.specs.Grammar.{◌>>=◌}
+use Rattle.cs_lang_token.specs.declared.token.Text.{Text}
 use Rattle.cs_lang.specs.declared.tree.Expr.{Expr, out-Expr}
 use Rattle.cs_lang.specs.declared.tree.Block.{Block}
 use Rattle.cs_lang.specs.declared.tree.Action.{Action}
@@ -9,17 +9,17 @@ use Rattle.cs_lang.specs.declared.tree.Action.TheVariants as action
 use Rattle.cs_lang.specs.declared.tree.Slot.{Slot}
 use Rattle.cs_lang.specs.declared.tree.TypeDef.{TypeDef}
 use Rattle.cs_lang.specs.declared.tree.Method.{Method}
-use Rattle.cs_kinds.specs.declared.fault.TypeError.{TypeError}
-use Rattle.cs_kinds.specs.declared.scope.Use.{Use}
-use Rattle.cs_kinds.specs.declared.scope.Use.TheVariants as usage
-use Rattle.cs_kinds.specs.declared.scope.Entry.{Entry}
-use Rattle.cs_kinds.specs.declared.expressions.Judged.{Judged}
-use Rattle.cs_kinds.specs.Told.{Told, plus}
-use Rattle.cs_kinds.specs.Kinds.{bool}
-use Rattle.cs_kinds.specs.Scopes.{Sight}
-use Rattle.cs_kinds.specs.Judging.{wanted}
-use Rattle.cs_kinds.specs.Parts.{part_of}
-use Rattle.cs_kinds.proofs.Layers.{part_first}
+use Rattle.cs_types_kinds.specs.declared.fault.TypeError.{TypeError}
+use Rattle.cs_types_kinds.specs.declared.scope.Use.{Use}
+use Rattle.cs_types_kinds.specs.declared.scope.Use.TheVariants as usage
+use Rattle.cs_types_kinds.specs.declared.scope.Entry.{Entry}
+use Rattle.cs_types_kinds.specs.declared.expressions.Judged.{Judged}
+use Rattle.cs_types_kinds.specs.Told.{Told, plus}
+use Rattle.cs_types_kinds.specs.Kinds.{bool}
+use Rattle.cs_types_kinds.specs.Scopes.{Sight}
+use Rattle.cs_types_kinds.specs.Judging.{wanted}
+use Rattle.cs_types_kinds.specs.Parts.{part_of}
+use Rattle.cs_types_kinds.proofs.Layers.{part_first}
 use Rattle.cs_types.specs.Answers.{Fails}
 use Rattle.cs_types.specs.Stating.{Added, for_in_of}
 use Rattle.cs_types.specs.Blocks.{action_told, block_told}

@@ -1,9 +1,9 @@
 -- What is told where a part is at fault.
 use Rattle.std.proofs.Common.{◌≡◌, Err, sym, ap, ◌∙◌}
-use Rattle.cs_token.specs.Grammar.{◌>>=◌}
-use Rattle.cs_kinds.specs.declared.fault.TypeError.{TypeError}
-use Rattle.cs_kinds.specs.declared.fault.TypeError.TheVariants as error
-use Rattle.cs_kinds.specs.Told.{Told}
+use Rattle.cs_lang_token.specs.Grammar.{◌>>=◌}
+use Rattle.cs_types_kinds.specs.declared.fault.TypeError.{TypeError}
+use Rattle.cs_types_kinds.specs.declared.fault.TypeError.TheVariants as error
+use Rattle.cs_types_kinds.specs.Told.{Told}
 use Rattle.cs_types.specs.Answers.{Fails}
 
 pub fails_told : {A : Type 0} (e : TypeError) (t : Told A) → t ≡ Err e → Fails e t

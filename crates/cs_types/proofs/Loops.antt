@@ -2,19 +2,19 @@
 use Rattle.std.proofs.Common.{◌≡◌, ℕ, ◌+◌, ◌<◌, ◌≤◌, Bool, List, [], ◌∷◌, ◌++◌, length, take, drop, get_or, map, Ok, Err, sym, ap, ◌∙◌, add-one}
 use Rattle.std.proofs.Math.Seq.{take-suc}
 use Rattle.std.proofs.lemmas.List.{drop_all, take_all}
-use Rattle.cs_token.specs.Grammar.{◌>>=◌}
-use Rattle.cs_token.specs.declared.token.Text.{Text}
+use Rattle.cs_lang_token.specs.Grammar.{◌>>=◌}
+use Rattle.cs_lang_token.specs.declared.token.Text.{Text}
 use Rattle.cs_lang.specs.declared.tree.Expr.{Expr}
 use Rattle.cs_lang.specs.declared.tree.Field.{Field}
 use Rattle.cs_lang.specs.declared.tree.Slot.{Slot}
 use Rattle.cs_lang.specs.declared.tree.TypeDef.{TypeDef}
-use Rattle.cs_kinds.specs.declared.fault.TypeError.{TypeError}
-use Rattle.cs_kinds.specs.declared.scope.Use.{Use}
-use Rattle.cs_kinds.specs.declared.scope.Entry.{Entry}
-use Rattle.cs_kinds.specs.Told.{Told, through}
-use Rattle.cs_kinds.specs.Scopes.{Sight}
-use Rattle.cs_kinds.specs.Parts.{part_of}
-use Rattle.cs_kinds.proofs.Loops.{opened}
+use Rattle.cs_types_kinds.specs.declared.fault.TypeError.{TypeError}
+use Rattle.cs_types_kinds.specs.declared.scope.Use.{Use}
+use Rattle.cs_types_kinds.specs.declared.scope.Entry.{Entry}
+use Rattle.cs_types_kinds.specs.Told.{Told, through}
+use Rattle.cs_types_kinds.specs.Scopes.{Sight}
+use Rattle.cs_types_kinds.specs.Parts.{part_of}
+use Rattle.cs_types_kinds.proofs.Loops.{opened}
 use Rattle.cs_types.specs.Answers.{Fails}
 use Rattle.cs_types.proofs.Faults.{fails_first, fails_as}
 use Rattle.cs_types.specs.Stating.{field_wanted, fields_wanted, one_bound, bound}

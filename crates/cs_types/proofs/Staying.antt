@@ -2,9 +2,9 @@
 use Rattle.std.proofs.Common.{◌≡◌, ℕ, List, [], ◌∷◌, ◌++◌, length, take, sym, ap, ◌∙◌, append_assoc}
 use Rattle.std.proofs.lemmas.List.{append-nil}
 use Rattle.std.proofs.Math.Seq.{take-append_seam}
-use Rattle.cs_kinds.specs.declared.kind.Kind.{Kind}
-use Rattle.cs_kinds.specs.declared.scope.Use.{Use}
-use Rattle.cs_kinds.specs.Scopes.{Sight, with_name, with_names}
+use Rattle.cs_types_kinds.specs.declared.kind.Kind.{Kind}
+use Rattle.cs_types_kinds.specs.declared.scope.Use.{Use}
+use Rattle.cs_types_kinds.specs.Scopes.{Sight, with_name, with_names}
 use Rattle.cs_types.specs.Steps.{Stays}
 
 pub stays_refl : (s : Sight) → Stays s s

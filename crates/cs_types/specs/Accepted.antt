@@ -1,14 +1,14 @@
 -- Which contracts are accepted, with which costs.
 use Rattle.std.specs.Prelude.{◌≡◌, ℕ, Bool, true, false, nat_le, nat_lt, ◌||◌, List, [], ◌∷◌, ◌++◌, length, take, is_some, Option, None, Some, Result, Ok, Err, if◌then◌else◌}
-use Rattle.cs_token.specs.Grammar.{◌>>=◌}
+use Rattle.cs_lang_token.specs.Grammar.{◌>>=◌}
 use Rattle.cs_lang.specs.declared.tree.Block.{Block}
 use Rattle.cs_lang.specs.declared.tree.Method.{Method}
 use Rattle.cs_lang.specs.declared.tree.Contract.{Contract}
-use Rattle.cs_kinds.specs.declared.fault.TypeError.{TypeError}
-use Rattle.cs_kinds.specs.declared.fault.TypeError.TheVariants as error
-use Rattle.cs_kinds.specs.declared.scope.Costs.{Costs}
-use Rattle.cs_kinds.specs.Told.{Told, mistyped, through}
-use Rattle.cs_kinds.specs.Lookups.{method_of}
+use Rattle.cs_types_kinds.specs.declared.fault.TypeError.{TypeError}
+use Rattle.cs_types_kinds.specs.declared.fault.TypeError.TheVariants as error
+use Rattle.cs_types_kinds.specs.declared.scope.Costs.{Costs}
+use Rattle.cs_types_kinds.specs.Told.{Told, mistyped, through}
+use Rattle.cs_types_kinds.specs.Lookups.{method_of}
 use Rattle.cs_types.specs.Answers.{Fails}
 use Rattle.cs_types.specs.Stating.{takes_many}
 use Rattle.cs_types.specs.Blocks.{block_told}

@@ -1,8 +1,8 @@
 -- What a function answers that is told something.
 use Rattle.std.specs.Prelude.{◌≡◌, Result, Ok, Err}
-use Rattle.cs_kinds.specs.declared.fault.TypeError.{TypeError}
-use Rattle.cs_kinds.specs.declared.fault.TypeError.TheVariants as error
-use Rattle.cs_kinds.specs.Told.{Told}
+use Rattle.cs_types_kinds.specs.declared.fault.TypeError.{TypeError}
+use Rattle.cs_types_kinds.specs.declared.fault.TypeError.TheVariants as error
+use Rattle.cs_types_kinds.specs.Told.{Told}
 
 -- a fault that is told; memory may run out
 abbrev pub Fails : {X : Type 0} → TypeError → Told X → Type 0

@@ -6,10 +6,10 @@ use Rattle.cs_lang.specs.declared.tree.Statement.{Statement}
 use Rattle.cs_lang.specs.declared.tree.Action.{Action}
 use Rattle.cs_lang.specs.declared.tree.Action.TheOpen.{Block-F, Statement-F, Action-F}
 use Rattle.cs_lang.specs.declared.tree.Action.TheFolds.{fold-Block, fold-Statement, fold-Action}
-use Rattle.cs_kinds.specs.Told.{Told}
-use Rattle.cs_kinds.specs.Scopes.{Sight}
-use Rattle.cs_kinds.specs.Judging.{Part}
-use Rattle.cs_kinds.specs.Parts.{part_of}
+use Rattle.cs_types_kinds.specs.Told.{Told}
+use Rattle.cs_types_kinds.specs.Scopes.{Sight}
+use Rattle.cs_types_kinds.specs.Judging.{Part}
+use Rattle.cs_types_kinds.specs.Parts.{part_of}
 use Rattle.cs_types.specs.Stating.{Added, Blocked, Stated, block_judged, let_judged, set_judged, if_judged, if_else_judged, for_in_judged, for_to_judged, make_judged, call_judged, answer_judged, stated}
 
 -- what is told of an expression, wherever it stands

@@ -2,19 +2,19 @@
 use Rattle.std.specs.Prelude.{ℕ, Bool, true, false, nat_le, not, ◌&&◌, ◌||◌, List, [], ◌∷◌, ◌++◌, length, is_some, Option, None, Some, Ok, if◌then◌else◌}
 use Rattle.std.specs.List.{list_any}
 use Rattle.std.specs.Str.{bytes_eq}
-use Rattle.cs_token.specs.Grammar.{◌>>=◌}
+use Rattle.cs_lang_token.specs.Grammar.{◌>>=◌}
 use Rattle.cs_lang.specs.declared.tree.Field.{Field}
 use Rattle.cs_lang.specs.declared.tree.Slot.{Slot}
 use Rattle.cs_lang.specs.declared.tree.TypeDef.{TypeDef}
 use Rattle.cs_lang.specs.declared.tree.Method.{Method}
-use Rattle.cs_kinds.specs.declared.kind.Kind.{Kind}
-use Rattle.cs_kinds.specs.declared.kind.Kind.TheVariants as kind
-use Rattle.cs_kinds.specs.declared.scope.Use.{Use}
-use Rattle.cs_kinds.specs.declared.scope.Use.TheVariants as usage
-use Rattle.cs_kinds.specs.declared.scope.Entry.{Entry}
-use Rattle.cs_kinds.specs.Told.{Told, mistyped, unbound, through}
-use Rattle.cs_kinds.specs.Scopes.{is_declared, with_name}
-use Rattle.cs_kinds.specs.Lookups.{type_of, declared_kind}
+use Rattle.cs_types_kinds.specs.declared.kind.Kind.{Kind}
+use Rattle.cs_types_kinds.specs.declared.kind.Kind.TheVariants as kind
+use Rattle.cs_types_kinds.specs.declared.scope.Use.{Use}
+use Rattle.cs_types_kinds.specs.declared.scope.Use.TheVariants as usage
+use Rattle.cs_types_kinds.specs.declared.scope.Entry.{Entry}
+use Rattle.cs_types_kinds.specs.Told.{Told, mistyped, unbound, through}
+use Rattle.cs_types_kinds.specs.Scopes.{is_declared, with_name}
+use Rattle.cs_types_kinds.specs.Lookups.{type_of, declared_kind}
 
 -- ---- types
 

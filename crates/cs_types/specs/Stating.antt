@@ -2,25 +2,25 @@
 use Rattle.std.specs.Prelude.{ℕ, ◌*◌, min, max, Bool, true, false, nat_lt, ◌==◌, ◌&&◌, ◌||◌, List, [], ◌∷◌, ◌++◌, length, slice_get, is_some, Option, None, Some, Ok, if◌then◌else◌}
 use Rattle.std.specs.List.{list_any}
 use Rattle.std.specs.Str.{bytes_eq}
-use Rattle.cs_token.specs.Grammar.{◌>>=◌}
-use Rattle.cs_token.specs.declared.token.Text.{Text}
+use Rattle.cs_lang_token.specs.Grammar.{◌>>=◌}
+use Rattle.cs_lang_token.specs.declared.token.Text.{Text}
 use Rattle.cs_lang.specs.declared.tree.Field.{Field}
 use Rattle.cs_lang.specs.declared.tree.Slot.{Slot}
 use Rattle.cs_lang.specs.declared.tree.TypeDef.{TypeDef}
 use Rattle.cs_lang.specs.declared.tree.Method.{Method}
-use Rattle.cs_kinds.specs.declared.kind.Kind.{Kind}
-use Rattle.cs_kinds.specs.declared.kind.Kind.TheVariants as kind
-use Rattle.cs_kinds.specs.declared.scope.Use.{Use}
-use Rattle.cs_kinds.specs.declared.scope.Use.TheVariants as usage
-use Rattle.cs_kinds.specs.declared.scope.Seen.{Seen}
-use Rattle.cs_kinds.specs.declared.scope.Entry.{Entry}
-use Rattle.cs_kinds.specs.declared.scope.Costs.{Costs}
-use Rattle.cs_kinds.specs.declared.expressions.Judged.{Judged}
-use Rattle.cs_kinds.specs.Told.{Told, mistyped, unbound, through, plus}
-use Rattle.cs_kinds.specs.Kinds.{int, bool, same_kind, item_of}
-use Rattle.cs_kinds.specs.Scopes.{Sight, seen, created, with_name, with_names}
-use Rattle.cs_kinds.specs.Lookups.{type_of, method_of, declared_kind}
-use Rattle.cs_kinds.specs.Judging.{Part, wanted, or_first}
+use Rattle.cs_types_kinds.specs.declared.kind.Kind.{Kind}
+use Rattle.cs_types_kinds.specs.declared.kind.Kind.TheVariants as kind
+use Rattle.cs_types_kinds.specs.declared.scope.Use.{Use}
+use Rattle.cs_types_kinds.specs.declared.scope.Use.TheVariants as usage
+use Rattle.cs_types_kinds.specs.declared.scope.Seen.{Seen}
+use Rattle.cs_types_kinds.specs.declared.scope.Entry.{Entry}
+use Rattle.cs_types_kinds.specs.declared.scope.Costs.{Costs}
+use Rattle.cs_types_kinds.specs.declared.expressions.Judged.{Judged}
+use Rattle.cs_types_kinds.specs.Told.{Told, mistyped, unbound, through, plus}
+use Rattle.cs_types_kinds.specs.Kinds.{int, bool, same_kind, item_of}
+use Rattle.cs_types_kinds.specs.Scopes.{Sight, seen, created, with_name, with_names}
+use Rattle.cs_types_kinds.specs.Lookups.{type_of, method_of, declared_kind}
+use Rattle.cs_types_kinds.specs.Judging.{Part, wanted, or_first}
 
 -- a cost, and the names in sight behind it
 abbrev pub Added : Type 0

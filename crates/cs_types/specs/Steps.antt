@@ -1,9 +1,9 @@
 -- What a function answers that takes a scope over a statement or a block.
 use Rattle.std.specs.Prelude.{◌≡◌, ℕ, List, ◌++◌, Result, Ok, Err}
-use Rattle.cs_kinds.specs.declared.fault.TypeError.{TypeError}
-use Rattle.cs_kinds.specs.declared.scope.Entry.{Entry}
-use Rattle.cs_kinds.specs.Told.{Told}
-use Rattle.cs_kinds.specs.Scopes.{Sight, with_names}
+use Rattle.cs_types_kinds.specs.declared.fault.TypeError.{TypeError}
+use Rattle.cs_types_kinds.specs.declared.scope.Entry.{Entry}
+use Rattle.cs_types_kinds.specs.Told.{Told}
+use Rattle.cs_types_kinds.specs.Scopes.{Sight, with_names}
 use Rattle.cs_types.specs.Answers.{Fails}
 use Rattle.cs_types.specs.Stating.{Added, SoFar}
 

@@ -5,8 +5,8 @@ ghost use Rattle.cs_types.specs.Accepted.{judged_costs, first_dear, IsAccepted, 
 
 use crate::declarations::check_types;
 use crate::methods::methods;
-use cs_kinds::{Costs, TypeError};
 use cs_lang::{Contract, Sequence};
+use cs_types_kinds::{Costs, TypeError};
 use std::alloc::Global;
 use std::marker::Model;
 

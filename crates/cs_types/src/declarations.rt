@@ -4,8 +4,8 @@ ghost use Rattle.std.specs.List.{list_any};
 ghost use Rattle.cs_types.specs.Steps.{Passes, Binds};
 ghost use Rattle.cs_types.specs.Declaring.{is_field, field_told, fields_told, type_told, types_told, slot_kind, slot_told, is_nil, slots_told, name_told, names_told, use_of_created, use_of_returned, method_names};
 
-use cs_kinds::{Kind, Scope, TypeError, Use, declared_kind, type_of};
 use cs_lang::{Field, Method, Slot, TypeDef};
+use cs_types_kinds::{Kind, Scope, TypeError, Use, declared_kind, type_of};
 use std::alloc::Global;
 
 /// The most fields of a type.

@@ -13,4 +13,4 @@ mod tests;
 mod texts;
 
 pub use checked::{Checked, MOST_COST, accept};
-pub use cs_kinds::{Costs, TypeError};
+pub use cs_types_kinds::{Costs, TypeError};

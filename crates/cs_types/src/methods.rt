@@ -5,8 +5,8 @@ ghost use Rattle.cs_types.specs.Accepted.{body_told, method_costs, methods_told}
 
 use crate::declarations::add_names;
 use crate::statements::{block, takes_many};
-use cs_kinds::{Costs, Scope, TypeError, method_of};
 use cs_lang::{Block, Contract, Method, Sequence};
+use cs_types_kinds::{Costs, Scope, TypeError, method_of};
 use std::alloc::Global;
 
 /// The most methods of a contract.

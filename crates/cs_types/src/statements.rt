@@ -4,14 +4,14 @@ ghost use Rattle.std.specs.List.{list_any};
 ghost use Rattle.cs_types.specs.Stating.{turns, is_taken, is_value, can_be_set, turn_judged, let_judged, set_judged, if_of, for_in_of, for_to_judged, field_wanted, fields_wanted, takes_object, not_created, named_type, unknown_in, make_of, make_judged, is_starred, takes_many, is_text, fresh, all_fresh, one_bound, bound, procedure_cost, call_unknown, call_of, call_judged, answer_judged, statement_added};
 ghost use Rattle.cs_types.specs.Blocks.{part, parts, action_told, statement_told, block_told};
 ghost use Rattle.cs_types.specs.Steps.{Adds, Sums, Blocks, Passes, Binds};
-ghost use Rattle.cs_kinds.specs.Told.{through};
-ghost use Rattle.cs_kinds.specs.Scopes.{created};
+ghost use Rattle.cs_types_kinds.specs.Told.{through};
+ghost use Rattle.cs_types_kinds.specs.Scopes.{created};
 
-use cs_kinds::{
+use cs_lang::{Action, Block, Expr, Field, Method, Slot, Statement, Text, TypeDef};
+use cs_types_kinds::{
     BOOL, INT, Judged, Kind, Scope, TypeError, Use, declared_kind, expect, judge, method_of, plus,
     type_of,
 };
-use cs_lang::{Action, Block, Expr, Field, Method, Slot, Statement, Text, TypeDef};
 use std::alloc::Global;
 
 /// The most turns of a loop over numbers.
@@ -53,7 +53,7 @@ fn can_be_set(usage: Use) -> bool
 }
 
 /// A name for a value.
-#[tactic(auto, using(crate::proofs::Staying::stays, cs_kinds::proofs::Layers::part_first))]
+#[tactic(auto, using(crate::proofs::Staying::stays, cs_types_kinds::proofs::Layers::part_first))]
 fn let_statement(
     alloc: Global,
     scope: &mut Scope<'_>,

@@ -10,10 +10,10 @@ use Rattle.cs_base.specs.NodeId.{is_node, is_client, is_named}
 use Rattle.cs_base.specs.Fields.{IsBytes}
 use Rattle.cs_base.proofs.Forms.{IsBytes-drop, IsBytes-take}
 use Rattle.cs_hash.specs.Hash.{hmac}
-use Rattle.cs_message.specs.declared.message.Message.{Message}
-use Rattle.cs_message.specs.Message.{kind_of, body_of}
-use Rattle.cs_message.specs.Body.{Has, message_whole}
-use Rattle.cs_message.proofs.Wholes.{whole_has, has_whole}
+use Rattle.cs_wire_message.specs.declared.message.Message.{Message}
+use Rattle.cs_wire_message.specs.Message.{kind_of, body_of}
+use Rattle.cs_wire_message.specs.Body.{Has, message_whole}
+use Rattle.cs_wire_message.proofs.Wholes.{whole_has, has_whole}
 use Rattle.cs_wire.specs.declared.head.Head.{Head}
 use Rattle.cs_wire.specs.declared.keys.Row.{Row}
 use Rattle.cs_wire.specs.declared.keys.Keys.{Keys}

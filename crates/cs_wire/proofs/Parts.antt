@@ -7,8 +7,8 @@ use Rattle.std.proofs.lemmas.List.{length-append, length-drop, take_at, drop_at,
 use Rattle.cs_base.specs.declared.node_id.NodeId.{NodeId}
 use Rattle.cs_base.specs.Fields.{IsBytes, Found, IsForm}
 use Rattle.cs_base.proofs.Forms.{wide16, wide32, number_form, byte_form, bytes_form, pair_of, mapped_of, some_is}
-use Rattle.cs_message.specs.declared.message.Message.{Message}
-use Rattle.cs_message.specs.Message.{kind_of, body_of}
+use Rattle.cs_wire_message.specs.declared.message.Message.{Message}
+use Rattle.cs_wire_message.specs.Message.{kind_of, body_of}
 use Rattle.cs_wire.specs.declared.head.Head.{Head}
 use Rattle.cs_wire.specs.Datagram.{name_encoding, text_of, text_in, tag_in, body_in}
 use Rattle.cs_wire.specs.Heads.{name_of, name_at, head_from, head_at, first, head_seen}

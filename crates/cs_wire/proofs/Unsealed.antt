@@ -7,11 +7,11 @@ use Rattle.sha2.proofs.Facts256.{length-sha256}
 use Rattle.cs_base.specs.declared.node_id.NodeId.{NodeId}
 use Rattle.cs_base.specs.Fields.{IsBytes}
 use Rattle.cs_hash.specs.Hash.{hmac}
-use Rattle.cs_message.specs.declared.message.Message.{Message}
-use Rattle.cs_message.specs.declared.message.Message.TheVariants as message
-use Rattle.cs_message.specs.Message.{kind_of, body_of, MessageFits}
-use Rattle.cs_message.specs.Body.{Has}
-use Rattle.cs_message.proofs.Short.{body_short}
+use Rattle.cs_wire_message.specs.declared.message.Message.{Message}
+use Rattle.cs_wire_message.specs.declared.message.Message.TheVariants as message
+use Rattle.cs_wire_message.specs.Message.{kind_of, body_of, MessageFits}
+use Rattle.cs_wire_message.specs.Body.{Has}
+use Rattle.cs_wire_message.proofs.Short.{body_short}
 use Rattle.cs_wire.specs.declared.head.Head.{Head}
 use Rattle.cs_wire.specs.declared.keys.Row.{Row}
 use Rattle.cs_wire.specs.declared.keys.Keys.{Keys}

@@ -3,8 +3,8 @@ use Rattle.std.specs.Prelude.{ℕ, ◌+◌, ◌-◌, Bool, ◌&&◌, ◌==◌, n
 use Rattle.std.specs.Int.{w16, w32, to_be_bytes}
 use Rattle.cs_base.specs.declared.node_id.NodeId.{NodeId}
 use Rattle.cs_hash.specs.Hash.{hmac}
-use Rattle.cs_message.specs.declared.message.Message.{Message}
-use Rattle.cs_message.specs.Message.{kind_of, body_of}
+use Rattle.cs_wire_message.specs.declared.message.Message.{Message}
+use Rattle.cs_wire_message.specs.Message.{kind_of, body_of}
 
 -- a name: shard and index
 abbrev pub name_encoding : NodeId → List ℕ

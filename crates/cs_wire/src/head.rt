@@ -2,13 +2,13 @@
 ghost use Rattle.std.specs.Prelude.{◌≡◌, ◌++◌, OnOk, OnErr};
 ghost use Rattle.std.specs.Int.{w32};
 ghost use Rattle.cs_base.specs.Fields.{bytes_at};
-ghost use Rattle.cs_value.specs.Reading.{Begins};
-ghost use Rattle.cs_message.specs.Reading.{Gets};
+ghost use Rattle.cs_tx_value.specs.Reading.{Begins};
+ghost use Rattle.cs_wire_message.specs.Reading.{Gets};
 ghost use Rattle.cs_wire.specs.Datagram.{name_encoding};
 ghost use Rattle.cs_wire.specs.Heads.{name_at, head_at, head_seen};
 
 use cs_base::{Cursor, Memory, NodeId, Writer};
-use cs_value::FormError;
+use cs_tx_value::FormError;
 
 /// What stands before the body of a datagram.
 #[derive(Clone, Copy, Debug, PartialEq, Eq)]

@@ -5,7 +5,7 @@ ghost use Rattle.cs_wire.specs.Keys.{same_name as alike, row_of, row_in, row_lis
 use crate::names::rows_of_master;
 use cs_base::{Config, Memory, NodeId, Sequence};
 use cs_hash::TagKey;
-use cs_value::Digest;
+use cs_tx_value::Digest;
 use std::alloc::{AllocFailed, Global};
 
 /// The keys that are shared with a peer.

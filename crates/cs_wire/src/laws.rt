@@ -3,8 +3,8 @@ ghost use Rattle.std.specs.Prelude.{◌≡◌, ℕ, List, [], true, false, Resul
 ghost use Rattle.cs_base.specs.declared.config.Config.{Config};
 ghost use Rattle.cs_base.specs.declared.node_id.NodeId.{NodeId};
 ghost use Rattle.cs_base.specs.NodeId.{is_named};
-ghost use Rattle.cs_message.specs.declared.message.Message.{Message};
-ghost use Rattle.cs_message.specs.Message.{MessageFits};
+ghost use Rattle.cs_wire_message.specs.declared.message.Message.{Message};
+ghost use Rattle.cs_wire_message.specs.Message.{MessageFits};
 ghost use Rattle.cs_wire.specs.declared.keys.Keys.{Keys};
 ghost use Rattle.cs_wire.specs.declared.view.MessageView.{MessageView};
 ghost use Rattle.cs_wire.specs.declared.opening.OpenError.{OpenError};

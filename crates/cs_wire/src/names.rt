@@ -8,7 +8,7 @@ use crate::head::write_name;
 use crate::keys::{Row, same_name};
 use cs_base::{CLIENT_SHARD, CLIENTS, Config, Memory, NodeId, Sequence, Writer};
 use cs_hash::tag;
-use cs_value::Digest;
+use cs_tx_value::Digest;
 use std::alloc::Global;
 
 // Adds the names of so many members of a shard.

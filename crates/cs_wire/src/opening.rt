@@ -9,7 +9,7 @@ use crate::keys::{Keys, same_name};
 use crate::view::MessageView;
 use cs_base::NodeId;
 use cs_hash::{TagKey, same};
-use cs_message::has_form;
+use cs_wire_message::has_form;
 
 /// The bytes of a head.
 const HEAD: usize = 17;

@@ -1,8 +1,8 @@
 //! Sealing bytes of any kind, as liars do.
 ghost use Rattle.std.specs.Prelude.{◌≡◌, ◌≤◌, ◌↔◌, ℕ, List, None, length, IfOk, OnOk, OnErr, IsErrOf};
 ghost use Rattle.cs_base.specs.declared.node_id.NodeId.{NodeId as Name};
-ghost use Rattle.cs_message.specs.declared.message.Message.{Message};
-ghost use Rattle.cs_message.specs.Message.{kind_of, body_of};
+ghost use Rattle.cs_wire_message.specs.declared.message.Message.{Message};
+ghost use Rattle.cs_wire_message.specs.Message.{kind_of, body_of};
 ghost use Rattle.cs_wire.specs.Datagram.{sealed};
 ghost use Rattle.cs_wire.specs.Keys.{row_of};
 ghost use Rattle.cs_wire.specs.Opened.{text_with, datagram_with};

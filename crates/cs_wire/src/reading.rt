@@ -2,7 +2,7 @@
 ghost use Rattle.std.specs.Prelude.{◌≡◌, ℕ, List, IfOk};
 ghost use Rattle.cs_base.specs.declared.config.Config.{Config};
 ghost use Rattle.cs_base.specs.declared.node_id.NodeId.{NodeId as Name};
-ghost use Rattle.cs_message.specs.Message.{MessageFits};
+ghost use Rattle.cs_wire_message.specs.Message.{MessageFits};
 ghost use Rattle.cs_wire.specs.declared.keys.Keys.{Keys as AnyKeys};
 ghost use Rattle.cs_wire.specs.Keys.{IsOfMaster};
 ghost use Rattle.cs_wire.specs.Opened.{opened, keys_of_master};
@@ -10,7 +10,7 @@ ghost use Rattle.cs_wire.specs.Opened.{opened, keys_of_master};
 use crate::keys::Keys;
 use crate::opening::{OpenError, open};
 use cs_base::{Memory, NodeId};
-use cs_message::Message;
+use cs_wire_message::Message;
 use std::alloc::Global;
 
 /// What a datagram says: its sender and its message, or the first test that fails.

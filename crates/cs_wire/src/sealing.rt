@@ -1,6 +1,6 @@
 //! Sealing datagrams.
 ghost use Rattle.std.specs.Prelude.{◌≡◌, ◌↔◌, None, IfOk, OnOk, OnErr, IsErrOf};
-ghost use Rattle.cs_message.specs.Message.{MessageFits};
+ghost use Rattle.cs_wire_message.specs.Message.{MessageFits};
 ghost use Rattle.cs_wire.specs.Datagram.{text_of, sealed};
 ghost use Rattle.cs_wire.specs.Keys.{row_of};
 ghost use Rattle.cs_wire.specs.Opens.{Seals};
@@ -10,7 +10,7 @@ use crate::head::write_name;
 use crate::keys::Keys;
 use cs_base::{Memory, NodeId, Writer};
 use cs_hash::TagKey;
-use cs_message::{Message, write_body};
+use cs_wire_message::{Message, write_body};
 use std::alloc::{AllocError, Global};
 
 /// Why a message isn't sealed.
@@ -43,7 +43,7 @@ impl From<AllocError> for SealError {
 }
 
 // What stands before the tag.
-#[tactic(auto, using(cs_message::proofs::Short::body_short), unfolding(crate::specs::Datagram::text_of))]
+#[tactic(auto, using(cs_wire_message::proofs::Short::body_short), unfolding(crate::specs::Datagram::text_of))]
 fn text(alloc: Global, from: NodeId, to: NodeId, message: &Message) -> Result<Vec<u8>, Memory>
     requires { MessageFits message.now }
     ensures { IfOk result (λ text. text.items ≡ text_of from to message.now) }

@@ -1,9 +1,9 @@
 //! Datagrams whose tags were computed elsewhere, and what comes of datagrams that were cut or changed.
 use super::*;
 use cs_base::{Config, Key, NodeId, Sequence, print_bytes};
-use cs_form::{Checkpoint, Effect, Entry, Leaf, Proof, Session, State, Trace, Tx, Vote};
-use cs_message::{Change, Message};
-use cs_value::{Digest, Name};
+use cs_tx_form::{Checkpoint, Effect, Entry, Leaf, Proof, Session, State, Trace, Tx, Vote};
+use cs_tx_value::{Digest, Name};
+use cs_wire_message::{Change, Message};
 use std::alloc::Global;
 use std::process::Abort;
 use std::test::Fail;

@@ -1,10 +1,10 @@
 //! Messages that are still bytes of a datagram.
 ghost use Rattle.std.specs.Prelude.{◌≡◌, IfOk};
-ghost use Rattle.cs_message.specs.Body.{IsBody, Has};
+ghost use Rattle.cs_wire_message.specs.Body.{IsBody, Has};
 ghost use Rattle.cs_wire.specs.Opens.{Shows};
 
 use cs_base::Memory;
-use cs_message::{Message, message_in};
+use cs_wire_message::{Message, message_in};
 use std::alloc::Global;
 
 /// A message that stands in a datagram, which it borrows.

@@ -1,5 +1,5 @@
 use Rattle.std.specs.Prelude.{All}
-use Rattle.cs_value.specs.Object.{ObjectFits}
+use Rattle.cs_tx_value.specs.Object.{ObjectFits}
 use Rattle.cs_bench.proofs.table.coins.Given as goal
 
 abbrev pub invariant-loop-place : goal.invariant-loop-place

@@ -1,6 +1,6 @@
 use Rattle.std.proofs.Common.{◌≡◌, drop}
 use Rattle.std.specs.List.{list_any}
-use Rattle.cs_rules.specs.Safe.{is_listed}
+use Rattle.cs_order_rules.specs.Safe.{is_listed}
 use Rattle.cs_change.proofs.claims.lists.Given as goal
 
 abbrev pub invariant-loop-line : goal.invariant-loop-line

@@ -1,5 +1,5 @@
 use Rattle.std.proofs.Common.{◌≡◌, drop}
-use Rattle.cs_rules.specs.Facts.{is_like, took}
+use Rattle.cs_order_rules.specs.Facts.{is_like, took}
 use Rattle.cs_log.proofs.later.has_like.Given as goal
 
 abbrev pub invariant-loop-pair : goal.invariant-loop-pair

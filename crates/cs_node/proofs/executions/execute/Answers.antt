@@ -1,8 +1,8 @@
 use Rattle.std.proofs.Common.{◌≡◌, false, ◌++◌, ◌∷◌, [], List, Some, ap, sym, subst, ◌∙◌}
-use Rattle.cs_form.specs.declared.entry.Entry.{Entry}
-use Rattle.cs_trail.specs.Deployment.{entry_or_void}
-use Rattle.cs_trail.specs.Signs.{Sign, vote_signs, execution_signs}
-use Rattle.cs_pool.specs.Deployed.{deployed}
+use Rattle.cs_tx_form.specs.declared.entry.Entry.{Entry}
+use Rattle.cs_node_rules.specs.Deployment.{entry_or_void}
+use Rattle.cs_node_rules.specs.Signs.{Sign, vote_signs, execution_signs}
+use Rattle.cs_node_pool.specs.Deployed.{deployed}
 use Rattle.cs_sbac.specs.Held.{bench_of}
 use Rattle.cs_node.specs.declared.draft.Note.TheVariants.{Executed}
 use Rattle.cs_node.specs.Notes.{Tells}

@@ -1,6 +1,6 @@
 use Rattle.std.proofs.Common.{List, sym, subst}
-use Rattle.cs_trail.specs.Signs.{Sign}
-use Rattle.cs_trail.specs.Trail.{handed, out_signs}
+use Rattle.cs_node_rules.specs.Signs.{Sign}
+use Rattle.cs_node_rules.specs.Trail.{handed, out_signs}
 use Rattle.cs_node.specs.Carriers.{carrier}
 use Rattle.cs_node.specs.Cores.{site_at}
 use Rattle.cs_node.specs.Notes.{Tells}

@@ -1,8 +1,8 @@
 use Rattle.std.proofs.Common.{Bool, List}
-use Rattle.cs_value.specs.declared.object.Object.{Object}
-use Rattle.cs_form.specs.declared.transaction.Tx.{Tx}
-use Rattle.cs_trail.specs.Net.{Net}
-use Rattle.cs_trail.specs.Trail.{handed}
+use Rattle.cs_tx_value.specs.declared.object.Object.{Object}
+use Rattle.cs_tx_form.specs.declared.transaction.Tx.{Tx}
+use Rattle.cs_node_rules.specs.Net.{Net}
+use Rattle.cs_node_rules.specs.Trail.{handed}
 use Rattle.cs_node.specs.Notes.{Tells, DraftFits}
 use Rattle.cs_node.specs.Carriers.{carrier}
 use Rattle.cs_node.specs.Cores.{site_at}

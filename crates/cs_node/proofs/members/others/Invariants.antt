@@ -1,5 +1,5 @@
 use Rattle.std.proofs.Common.{◌≡◌, take}
-use Rattle.cs_trail.specs.Members.{others}
+use Rattle.cs_node_rules.specs.Members.{others}
 use Rattle.cs_node.proofs.members.others.Given as goal
 
 abbrev pub invariant-loop-shard : goal.invariant-loop-shard

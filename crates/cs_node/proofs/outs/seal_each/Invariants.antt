@@ -1,6 +1,6 @@
 use Rattle.std.proofs.Common.{◌≡◌, ◌++◌, drop}
 use Rattle.cs_base.specs.declared.config.Config.{Config}
-use Rattle.cs_trail.specs.Net.{Net}
+use Rattle.cs_node_rules.specs.Net.{Net}
 use Rattle.cs_node.specs.Notes.{AllSaidFit, AllReached, spoken, outs_for}
 use Rattle.cs_node.specs.Speaking.{Speaks}
 use Rattle.cs_node.proofs.outs.seal_each.Given as goal

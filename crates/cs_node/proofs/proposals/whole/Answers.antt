@@ -1,5 +1,5 @@
 use Rattle.std.proofs.Common.{◌≡◌, arith, sym, ◌∙◌}
-use Rattle.cs_value.specs.declared.form.FormError.TheVariants as errors
+use Rattle.cs_tx_value.specs.declared.form.FormError.TheVariants as errors
 use Rattle.cs_node.proofs.Whole.{answered, nothing-there}
 use Rattle.cs_node.proofs.proposals.whole.Goals as goal
 

@@ -1,7 +1,7 @@
 use Rattle.std.proofs.Common.{reverse, arith, ap, sym, subst, ◌∙◌}
 use Rattle.std.proofs.lemmas.List.{reverse-reverse}
-use Rattle.cs_pool.specs.Fits.{AllFit}
-use Rattle.cs_pool.specs.Deployed.{deployed}
+use Rattle.cs_node_pool.specs.Fits.{AllFit}
+use Rattle.cs_node_pool.specs.Deployed.{deployed}
 use Rattle.cs_node.proofs.Ticked.{all-asked, next-fits, next-asked, last-asked}
 use Rattle.cs_node.proofs.sending.ask_again.Goals as goal
 

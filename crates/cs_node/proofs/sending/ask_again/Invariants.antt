@@ -1,9 +1,9 @@
 use Rattle.std.proofs.Common.{Bool, List, length, reverse}
-use Rattle.cs_value.specs.declared.object.Object.{Object}
-use Rattle.cs_form.specs.declared.transaction.Tx.{Tx}
-use Rattle.cs_trail.specs.Signs.{asked_again}
-use Rattle.cs_pool.specs.Fits.{AllFit}
-use Rattle.cs_pool.specs.Deployed.{deployed}
+use Rattle.cs_tx_value.specs.declared.object.Object.{Object}
+use Rattle.cs_tx_form.specs.declared.transaction.Tx.{Tx}
+use Rattle.cs_node_rules.specs.Signs.{asked_again}
+use Rattle.cs_node_pool.specs.Fits.{AllFit}
+use Rattle.cs_node_pool.specs.Deployed.{deployed}
 use Rattle.cs_node.specs.declared.draft.Draft.{Draft}
 use Rattle.cs_node.specs.Notes.{Tells, DraftFits}
 use Rattle.cs_node.proofs.Ticked.{asked_of}

@@ -1,5 +1,5 @@
 use Rattle.std.proofs.Common.{◌∙◌}
-use Rattle.cs_trail.specs.Members.{others}
+use Rattle.cs_node_rules.specs.Members.{others}
 use Rattle.cs_node.proofs.sending.voters.Goals as goal
 
 pub returns : goal.returns

@@ -1,8 +1,8 @@
 use Rattle.std.proofs.Common.{sym, ◌∙◌}
 use Rattle.std.proofs.lemmas.Result.{on_ok_weaker}
-use Rattle.cs_trail.specs.declared.cause.Cause.TheVariants.{Repeat, Denied}
-use Rattle.cs_trail.specs.Signs.{entering_signs}
-use Rattle.cs_pool.specs.Deployed.{deployed}
+use Rattle.cs_node_rules.specs.declared.cause.Cause.TheVariants.{Repeat, Denied}
+use Rattle.cs_node_rules.specs.Signs.{entering_signs}
+use Rattle.cs_node_pool.specs.Deployed.{deployed}
 use Rattle.cs_sbac.specs.Held.{bench_of}
 use Rattle.cs_node.proofs.Submitting.{dropped-makes, repeated, denied, new-makes, full-makes}
 use Rattle.cs_node.proofs.submits.enter.Goals as goal

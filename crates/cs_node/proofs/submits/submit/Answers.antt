@@ -1,9 +1,9 @@
 use Rattle.std.proofs.Common.{None, Some, List, [], ◌∷◌, sym, ◌∙◌, subst, ap, refl, OnOk}
 use Rattle.std.proofs.lemmas.Result.{on_ok_weaker}
-use Rattle.cs_message.specs.declared.message.Message.TheVariants as message
+use Rattle.cs_wire_message.specs.declared.message.Message.TheVariants as message
 use Rattle.cs_ledger.specs.Ledger.{Bytes}
-use Rattle.cs_trail.specs.Signs.{Sign, Sent, submit_signs}
-use Rattle.cs_pool.specs.Deployed.{deployed}
+use Rattle.cs_node_rules.specs.Signs.{Sign, Sent, submit_signs}
+use Rattle.cs_node_pool.specs.Deployed.{deployed}
 use Rattle.cs_sbac.specs.Held.{bench_of}
 use Rattle.cs_node.specs.Steps.{Makes}
 use Rattle.cs_node.proofs.Submitting.{one-makes, standing}

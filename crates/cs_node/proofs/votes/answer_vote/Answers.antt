@@ -1,13 +1,13 @@
 use Rattle.std.proofs.Common.{List, sym, subst, ◌∙◌, OnOk}
 use Rattle.std.proofs.lemmas.Result.{on_ok_weaker}
-use Rattle.cs_message.specs.declared.message.Message.TheVariants as message
-use Rattle.cs_trail.specs.Signs.{Sign, asking_signs}
-use Rattle.cs_trail.specs.Bench.{noted}
-use Rattle.cs_pool.specs.Deployed.{deployed}
+use Rattle.cs_wire_message.specs.declared.message.Message.TheVariants as message
+use Rattle.cs_node_rules.specs.Signs.{Sign, asking_signs}
+use Rattle.cs_node_rules.specs.Bench.{noted}
+use Rattle.cs_node_pool.specs.Deployed.{deployed}
 use Rattle.cs_sbac.specs.Held.{bench_of}
 use Rattle.cs_node.specs.Steps.{Makes}
 use Rattle.cs_node.proofs.Submitting.{one-makes}
-use Rattle.cs_trail.specs.Signs.{Sent}
+use Rattle.cs_node_rules.specs.Signs.{Sent}
 use Rattle.std.proofs.Common.{refl, false}
 use Rattle.cs_node.proofs.Voting.{asked-known, asked-new}
 use Rattle.cs_node.proofs.votes.answer_vote.Goals as goal

@@ -1,10 +1,10 @@
 use Rattle.std.proofs.Common.{◌≡◌, None, List, sym, subst, ◌∙◌, OnOk}
 use Rattle.std.proofs.lemmas.Result.{on_ok_weaker}
 use Rattle.cs_tx.specs.Digest.{digest_of_session}
-use Rattle.cs_trail.specs.Pool.{found}
-use Rattle.cs_trail.specs.Bench.{noted}
-use Rattle.cs_trail.specs.Signs.{Sign, asking_signs, voted_signs}
-use Rattle.cs_pool.specs.Deployed.{deployed}
+use Rattle.cs_node_rules.specs.Pool.{found}
+use Rattle.cs_node_rules.specs.Bench.{noted}
+use Rattle.cs_node_rules.specs.Signs.{Sign, asking_signs, voted_signs}
+use Rattle.cs_node_pool.specs.Deployed.{deployed}
 use Rattle.cs_sbac.specs.Held.{Held, bench_of}
 use Rattle.cs_node.specs.Steps.{Makes}
 use Rattle.cs_node.proofs.Voting.{counted-again, counted-absent, on-second, on-found, second-makes, left-alone}

@@ -2,8 +2,8 @@ use Rattle.std.proofs.Common.{ℕ, ◌≡◌, ◌<◌, List, length, ◌∙◌, 
 use Rattle.cs_node.specs.Carriers.{carrier}
 use Rattle.cs_node.specs.declared.nodes.Core.{Core}
 use Rattle.cs_node.specs.Speaking.{input_of}
-use Rattle.cs_trail.specs.World.{view_of}
-use Rattle.cs_trail.specs.Deployment.{site_of}
+use Rattle.cs_node_rules.specs.World.{view_of}
+use Rattle.cs_node_rules.specs.Deployment.{site_of}
 use Rattle.cs_play.specs.Standing.{EachStands}
 use Rattle.cs_play.proofs.Views.{get-read, stepped, named, view-me}
 use Rattle.cs_play.proofs.cores.deliver.Goals as goal

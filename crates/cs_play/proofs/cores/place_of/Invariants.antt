@@ -1,7 +1,7 @@
 use Rattle.std.proofs.Common.{◌≡◌, ℕ, ◌<◌}
-use Rattle.cs_trail.specs.Setup.{Setup}
-use Rattle.cs_trail.specs.Net.{Net}
-use Rattle.cs_trail.specs.Site.{View}
+use Rattle.cs_node_rules.specs.Setup.{Setup}
+use Rattle.cs_node_rules.specs.Net.{Net}
+use Rattle.cs_node_rules.specs.Site.{View}
 use Rattle.cs_play.specs.Standing.{EachStands}
 use Rattle.cs_play.proofs.cores.place_of.Given as goal
 

@@ -1,6 +1,6 @@
 use Rattle.std.proofs.Common.{◌≡◌, ◌+◌, ◌<◌, List, [], ◌∷◌, ◌++◌, take, sym, ap, subst, ◌∙◌}
 use Rattle.std.proofs.lemmas.List.{take_more}
-use Rattle.cs_trail.specs.World.{Execution}
+use Rattle.cs_node_rules.specs.World.{Execution}
 use Rattle.cs_node.specs.declared.draft.Note.{Note}
 use Rattle.cs_play.specs.Kept.{Keeps}
 use Rattle.cs_play.specs.Told.{notes_text, noted_firsts}

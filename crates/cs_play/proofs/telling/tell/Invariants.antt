@@ -1,6 +1,6 @@
 use Rattle.std.proofs.Common.{◌≡◌, ◌<◌, List, take, string_bytes}
-use Rattle.cs_trail.specs.Setup.{Setup}
-use Rattle.cs_trail.specs.World.{Execution}
+use Rattle.cs_node_rules.specs.Setup.{Setup}
+use Rattle.cs_node_rules.specs.World.{Execution}
 use Rattle.cs_play.specs.Kept.{Keeps}
 use Rattle.cs_play.specs.Told.{notes_text, noted_firsts}
 use Rattle.cs_play.proofs.telling.tell.Given as goal

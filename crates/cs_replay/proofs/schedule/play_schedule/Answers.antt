@@ -4,9 +4,9 @@ use Rattle.std.specs.Io.KnownBytes.{Appends}
 use Rattle.std.proofs.KnownBytes.{Appends-nil}
 use Rattle.cs_base.specs.Answers.{AppendsFront}
 use Rattle.cs_node.specs.Carriers.{carrier}
-use Rattle.cs_event.specs.declared.schedule.Event.{Event}
-use Rattle.cs_trail.specs.Lines.{limit_line, forged_line}
-use Rattle.cs_trail.specs.Play.{closed, unplayed, play_all}
+use Rattle.cs_sched_types.specs.declared.schedule.Event.{Event}
+use Rattle.cs_node_rules.specs.Lines.{limit_line, forged_line}
+use Rattle.cs_node_rules.specs.Play.{closed, unplayed, play_all}
 use Rattle.cs_replay.specs.declared.schedule.Ending.TheVariants.{Done, Limit, Forged}
 use Rattle.cs_replay.specs.Answers.{course_status}
 use Rattle.cs_play.specs.Digests.{history_lines}

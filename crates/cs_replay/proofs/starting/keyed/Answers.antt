@@ -1,7 +1,7 @@
 use Rattle.std.proofs.Common.{◌∷◌, ◌++◌, [], List, take, sym, ap, ◌∙◌}
 use Rattle.cs_base.specs.declared.key.Key.{Key}
 use Rattle.cs_base.specs.declared.key.Key.TheVariants as key
-use Rattle.cs_value.specs.declared.object.Object.{Object}
+use Rattle.cs_tx_value.specs.declared.object.Object.{Object}
 use Rattle.cs_tx.specs.Digest.{name_of_genesis}
 use Rattle.cs_node.specs.Setups.{keyed_from}
 use Rattle.cs_replay.proofs.Deployed.{keyed-more}

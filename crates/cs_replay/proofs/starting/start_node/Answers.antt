@@ -2,9 +2,9 @@ use Rattle.std.proofs.Common.{◌≡◌, true, List, sym, ap, subst, ◌∙◌}
 use Rattle.cs_base.specs.NodeId.{is_node}
 use Rattle.cs_base.specs.declared.key.Key.{Key}
 use Rattle.cs_base.specs.declared.node_id.NodeId.{NodeId}
-use Rattle.cs_value.specs.declared.object.Object.{Object}
+use Rattle.cs_tx_value.specs.declared.object.Object.{Object}
 use Rattle.cs_table.specs.Genesis.{twice}
-use Rattle.cs_trail.specs.Site.{start_view}
+use Rattle.cs_node_rules.specs.Site.{start_view}
 use Rattle.cs_node.specs.Cores.{StandsFor}
 use Rattle.cs_node.specs.Setups.{AreObjects}
 use Rattle.cs_order.specs.contracts.solo.SoloOrder.TheImpl as order

@@ -1,6 +1,6 @@
 use Rattle.std.proofs.Common.{◌+◌, [], ◌∷◌, length, ap, ◌∙◌, arith}
 use Rattle.std.proofs.lemmas.List.{length-append}
-use Rattle.cs_trail.specs.Site.{start_view}
+use Rattle.cs_node_rules.specs.Site.{start_view}
 use Rattle.cs_node.specs.Setups.{keyed_from}
 use Rattle.cs_replay.specs.Site.{setup_of_schedule, net_of_schedule, site_of_schedule}
 use Rattle.cs_replay.specs.Settings.{node_of_shard}

@@ -1,7 +1,7 @@
 use Rattle.std.proofs.Common.{◌≡◌, length}
 use Rattle.cs_order.specs.contracts.solo.SoloOrder.TheImpl as order
 use Rattle.cs_tx.specs.contracts.token.TokenJudgeJudge.TheImpl as judge
-use Rattle.cs_trail.specs.Site.{start_view}
+use Rattle.cs_node_rules.specs.Site.{start_view}
 use Rattle.cs_play.specs.Standing.{EachStands}
 use Rattle.cs_replay.specs.Site.{setup_of_schedule, net_of_schedule, site_of_schedule}
 use Rattle.cs_replay.specs.Settings.{node_of_shard}

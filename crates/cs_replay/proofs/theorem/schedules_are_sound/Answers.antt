@@ -2,7 +2,7 @@ use Rattle.std.proofs.Common.{◌≤◌, ◌==◌, Ok, ap, arith}
 use Rattle.cs_tx.specs.Sessions.{session_of}
 use Rattle.cs_tx.specs.Token.{is_token_approved}
 use Rattle.cs_node.specs.SoloCarried.{solo_carries}
-use Rattle.cs_history.specs.Worlds.{IsWorld}
+use Rattle.cs_world_law.specs.Worlds.{IsWorld}
 use Rattle.cs_sched.specs.declared.reader.TheConstants.{LIMIT}
 use Rattle.cs_sched.proofs.Played.{given_playable}
 use Rattle.cs_replay.specs.Site.{solo_carrier, site_of_schedule}

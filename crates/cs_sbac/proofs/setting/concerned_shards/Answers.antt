@@ -1,5 +1,5 @@
 use Rattle.std.proofs.Common.{◌∙◌, sym}
-use Rattle.cs_pool.proofs.Concerned.{concerned-session}
+use Rattle.cs_node_pool.proofs.Concerned.{concerned-session}
 use Rattle.cs_sbac.proofs.setting.concerned_shards.Goals as goal
 
 pub returns : goal.returns

@@ -1,5 +1,5 @@
 use Rattle.std.proofs.Common.{◌≡◌, drop}
-use Rattle.cs_kinds.specs.Told.{through}
+use Rattle.cs_types_kinds.specs.Told.{through}
 use Rattle.cs_types.specs.Declaring.{name_told, names_told}
 use Rattle.cs_types.specs.Steps.{Stays}
 use Rattle.cs_types.proofs.declarations.add_fields.Given as goal

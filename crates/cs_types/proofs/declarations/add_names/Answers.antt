@@ -1,8 +1,8 @@
 use Rattle.std.proofs.Common.{List, refl, sym, ap, ◌∙◌}
 use Rattle.std.proofs.lemmas.List.{nil_from_length}
 use Rattle.cs_lang.specs.declared.tree.Field.{Field}
-use Rattle.cs_kinds.specs.declared.scope.Use.{Use}
-use Rattle.cs_kinds.specs.declared.scope.Use.TheVariants as usage
+use Rattle.cs_types_kinds.specs.declared.scope.Use.{Use}
+use Rattle.cs_types_kinds.specs.declared.scope.Use.TheVariants as usage
 use Rattle.cs_types.specs.Declaring.{slots_told, names_told, use_of_created}
 use Rattle.cs_types.proofs.Branches.{binds_after, types_stay, slots_are, names_are}
 use Rattle.cs_types.proofs.Staying.{stays_more}

@@ -1,5 +1,5 @@
 use Rattle.std.proofs.Common.{◌≡◌, take, drop}
-use Rattle.cs_kinds.specs.Told.{through}
+use Rattle.cs_types_kinds.specs.Told.{through}
 use Rattle.cs_types.specs.Declaring.{type_told, types_told}
 use Rattle.cs_types.proofs.declarations.check_types.Given as goal
 

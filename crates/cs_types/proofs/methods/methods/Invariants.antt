@@ -1,5 +1,5 @@
 use Rattle.std.proofs.Common.{◌≡◌, drop, length}
-use Rattle.cs_kinds.specs.Told.{through}
+use Rattle.cs_types_kinds.specs.Told.{through}
 use Rattle.cs_types.specs.Accepted.{method_told, methods_told}
 use Rattle.cs_types.proofs.methods.methods.Given as goal
 

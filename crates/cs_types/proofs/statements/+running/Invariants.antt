@@ -1,5 +1,5 @@
 use Rattle.std.proofs.Common.{◌≡◌, drop, map}
-use Rattle.cs_kinds.specs.Told.{through}
+use Rattle.cs_types_kinds.specs.Told.{through}
 use Rattle.cs_types.specs.Stating.{statement_added}
 use Rattle.cs_types.specs.Blocks.{statement_told}
 use Rattle.cs_types.specs.Steps.{Stays}

@@ -1,5 +1,5 @@
 use Rattle.std.proofs.Common.{◌≡◌, take, drop}
-use Rattle.cs_kinds.specs.Told.{through}
+use Rattle.cs_types_kinds.specs.Told.{through}
 use Rattle.cs_types.specs.Stating.{fresh, all_fresh}
 use Rattle.cs_types.proofs.statements.all_fresh.Given as goal
 

@@ -1,5 +1,5 @@
 use Rattle.std.proofs.Common.{◌≡◌, drop, map}
-use Rattle.cs_kinds.specs.Parts.{part_of}
+use Rattle.cs_types_kinds.specs.Parts.{part_of}
 use Rattle.cs_types.specs.Stating.{fields_wanted}
 use Rattle.cs_types.proofs.statements.fields_wanted.Given as goal
 

@@ -1,5 +1,5 @@
 use Rattle.std.proofs.Common.{arith, subst, List, ℕ}
-use Rattle.cs_message.specs.Body.{Has}
+use Rattle.cs_wire_message.specs.Body.{Has}
 use Rattle.cs_wire.proofs.Sealed.{is_sealed}
 use Rattle.cs_wire.proofs.opening.open.Goals as goal
 

@@ -1,6 +1,6 @@
 use Rattle.std.proofs.Common.{◌≡◌, ◌≤◌}
 use Rattle.cs_order.specs.Counts.{count_below}
-use Rattle.cs_rules.specs.Safe.{says_echoed}
+use Rattle.cs_order_rules.specs.Safe.{says_echoed}
 use Rattle.cs_change.specs.Kept.{told_in}
 use Rattle.cs_change.proofs.slot_changes.SlotChanges.count_echoed.Given as goal
 

@@ -1,5 +1,5 @@
 use Rattle.std.proofs.Common.{List, ap, ◌∙◌, arith}
-use Rattle.cs_rules.proofs.Searches.{count_none, count_add}
+use Rattle.cs_order_rules.proofs.Searches.{count_none, count_add}
 use Rattle.cs_change.specs.declared.slot_changes.Filed.{Filed}
 use Rattle.cs_change.specs.Kept.{reaches}
 use Rattle.cs_change.proofs.slot_changes.SlotChanges.reached.Goals as goal

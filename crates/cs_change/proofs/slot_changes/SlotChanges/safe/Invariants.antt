@@ -1,6 +1,6 @@
 use Rattle.std.proofs.Common.{◌≡◌, false}
 use Rattle.cs_order.specs.Counts.{any_below}
-use Rattle.cs_rules.specs.Safe.{is_safe_from}
+use Rattle.cs_order_rules.specs.Safe.{is_safe_from}
 use Rattle.cs_change.specs.Kept.{told_in}
 use Rattle.cs_change.proofs.slot_changes.SlotChanges.safe.Given as goal
 

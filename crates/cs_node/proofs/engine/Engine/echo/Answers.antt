@@ -1,6 +1,6 @@
 use Rattle.std.proofs.Common.{[], List, Option, sym, subst, ap, ◌∙◌, IfOk}
-use Rattle.cs_trail.specs.Site.{Mark}
-use Rattle.cs_pool.specs.Deployed.{deployed}
+use Rattle.cs_node_rules.specs.Site.{Mark}
+use Rattle.cs_node_pool.specs.Deployed.{deployed}
 use Rattle.cs_node.specs.Carriers.{carrier}
 use Rattle.cs_node.specs.Proposals.{admits_pending}
 use Rattle.cs_node.specs.Steps.{TurnDone}

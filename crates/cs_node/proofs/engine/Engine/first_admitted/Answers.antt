@@ -1,5 +1,5 @@
 use Rattle.std.proofs.Common.{Some, refl, ap, sym, ◌∙◌}
-use Rattle.cs_pool.specs.Deployed.{deployed}
+use Rattle.cs_node_pool.specs.Deployed.{deployed}
 use Rattle.cs_node.proofs.Candidates.{passed-over, taken-up}
 use Rattle.cs_node.proofs.engine.Engine.first_admitted.Goals as goal
 

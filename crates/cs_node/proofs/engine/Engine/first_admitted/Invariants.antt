@@ -1,6 +1,6 @@
 use Rattle.std.proofs.Common.{◌≡◌, List, drop}
-use Rattle.cs_value.specs.declared.object.Object.{Object}
-use Rattle.cs_pool.specs.Deployed.{deployed}
+use Rattle.cs_tx_value.specs.declared.object.Object.{Object}
+use Rattle.cs_node_pool.specs.Deployed.{deployed}
 use Rattle.cs_node.specs.Proposals.{first_admitted}
 use Rattle.cs_node.proofs.engine.Engine.first_admitted.Given as goal
 

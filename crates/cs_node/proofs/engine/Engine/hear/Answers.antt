@@ -1,7 +1,7 @@
 use Rattle.std.proofs.Common.{refl, ap}
-use Rattle.cs_trail.specs.Signs.{submit_signs, voted_signs, ask_signs}
-use Rattle.cs_trail.specs.Trail.{message_marks}
-use Rattle.cs_pool.specs.Deployed.{deployed}
+use Rattle.cs_node_rules.specs.Signs.{submit_signs, voted_signs, ask_signs}
+use Rattle.cs_node_rules.specs.Trail.{message_marks}
+use Rattle.cs_node_pool.specs.Deployed.{deployed}
 use Rattle.cs_sbac.specs.Held.{bench_of}
 use Rattle.cs_node.specs.Carriers.{carrier}
 use Rattle.cs_node.specs.Cores.{site_at, view_at}

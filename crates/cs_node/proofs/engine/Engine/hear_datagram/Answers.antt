@@ -1,8 +1,8 @@
 use Rattle.std.proofs.Common.{◌≡◌, Ok, sym, ap, subst, ◌∙◌}
 use Rattle.cs_base.specs.declared.node_id.NodeId.{NodeId}
 use Rattle.cs_wire.specs.Opened.{Opened}
-use Rattle.cs_trail.specs.Trail.{opened_marks}
-use Rattle.cs_pool.specs.Deployed.{deployed}
+use Rattle.cs_node_rules.specs.Trail.{opened_marks}
+use Rattle.cs_node_pool.specs.Deployed.{deployed}
 use Rattle.cs_node.specs.Carriers.{carrier}
 use Rattle.cs_node.specs.Steps.{Marks}
 use Rattle.cs_node.specs.Cores.{Keeps, site_at, view_at}

@@ -1,7 +1,7 @@
 use Rattle.std.proofs.Common.{◌≡◌, true, Some, List, sym, subst, ◌∙◌, OnOk}
-use Rattle.cs_trail.specs.Site.{Mark}
-use Rattle.cs_trail.specs.Members.{is_other_member}
-use Rattle.cs_pool.specs.Deployed.{deployed}
+use Rattle.cs_node_rules.specs.Site.{Mark}
+use Rattle.cs_node_rules.specs.Members.{is_other_member}
+use Rattle.cs_node_pool.specs.Deployed.{deployed}
 use Rattle.cs_node.specs.Carriers.{carrier}
 use Rattle.cs_node.specs.Steps.{Marks}
 use Rattle.cs_node.specs.Cores.{Keeps, site_at, view_at}

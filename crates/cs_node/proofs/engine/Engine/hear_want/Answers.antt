@@ -1,6 +1,6 @@
 use Rattle.std.proofs.Common.{◌≡◌, Bool, true, sym, subst, ◌∙◌}
 use Rattle.cs_order.specs.Calls.{Replies}
-use Rattle.cs_trail.specs.Members.{is_other_member}
+use Rattle.cs_node_rules.specs.Members.{is_other_member}
 use Rattle.cs_node.specs.Carriers.{carrier}
 use Rattle.cs_node.proofs.Heard.{unanswered-here, answered-here, may-ask}
 use Rattle.cs_node.proofs.engine.Engine.hear_want.Goals as goal

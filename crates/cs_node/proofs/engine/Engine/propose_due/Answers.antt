@@ -1,6 +1,6 @@
 use Rattle.std.proofs.Common.{Some, ap, sym, ◌∙◌}
 use Rattle.cs_order.specs.declared.proposed.Proposed.{Proposed}
-use Rattle.cs_trail.specs.Trail.{due_marks, proposing}
+use Rattle.cs_node_rules.specs.Trail.{due_marks, proposing}
 use Rattle.cs_node.specs.Carriers.{carrier}
 use Rattle.cs_node.specs.Cores.{site_at, view_at}
 use Rattle.cs_node.proofs.Doing.{proposed-here}

@@ -1,7 +1,7 @@
 use Rattle.std.proofs.Common.{[], sym, subst, ◌∙◌}
 use Rattle.cs_order.specs.declared.answers.May.{May}
 use Rattle.cs_order.specs.Calls.{Proposable}
-use Rattle.cs_pool.specs.Deployed.{deployed}
+use Rattle.cs_node_pool.specs.Deployed.{deployed}
 use Rattle.cs_node.specs.Carriers.{carrier}
 use Rattle.cs_node.specs.Cores.{view_at}
 use Rattle.cs_node.proofs.Candidates.{is-offered, candidates-none, candidates-some}

@@ -1,6 +1,6 @@
 use Rattle.std.proofs.Common.{refl}
-use Rattle.cs_trail.specs.declared.cause.Cause.TheVariants.{Role}
-use Rattle.cs_trail.specs.Trail.{drops}
+use Rattle.cs_node_rules.specs.declared.cause.Cause.TheVariants.{Role}
+use Rattle.cs_node_rules.specs.Trail.{drops}
 use Rattle.cs_node.specs.Carriers.{carrier}
 use Rattle.cs_node.proofs.Heard.{dropped-here}
 use Rattle.cs_node.proofs.engine.Engine.refuse.Goals as goal

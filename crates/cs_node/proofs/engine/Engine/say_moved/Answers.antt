@@ -1,5 +1,5 @@
 use Rattle.std.proofs.Common.{ℕ, subst}
-use Rattle.cs_trail.specs.Trail.{handed, entered_view}
+use Rattle.cs_node_rules.specs.Trail.{handed, entered_view}
 use Rattle.cs_node.specs.Carriers.{carrier}
 use Rattle.cs_node.specs.Cores.{site_at}
 use Rattle.cs_node.specs.Notes.{Tells}

@@ -1,8 +1,8 @@
 use Rattle.std.proofs.Common.{List}
-use Rattle.cs_value.specs.declared.object.Object.{Object}
+use Rattle.cs_tx_value.specs.declared.object.Object.{Object}
 use Rattle.cs_order.specs.Deeds.{Member}
-use Rattle.cs_trail.specs.Net.{Net}
-use Rattle.cs_pool.specs.Deployed.{deployed}
+use Rattle.cs_node_rules.specs.Net.{Net}
+use Rattle.cs_node_pool.specs.Deployed.{deployed}
 use Rattle.cs_node.specs.Notes.{DraftFits}
 use Rattle.cs_node.specs.Steps.{Settling}
 use Rattle.cs_node.specs.Carriers.{carrier}

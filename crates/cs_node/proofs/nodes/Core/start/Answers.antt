@@ -1,10 +1,10 @@
 use Rattle.std.proofs.Common.{◌≡◌, [], None, sym, subst, ap, refl, ◌∙◌}
 use Rattle.cs_base.specs.declared.node_id.NodeId.{NodeId}
 use Rattle.cs_ledger.specs.Table.{start as begun}
-use Rattle.cs_trail.specs.Site.{start_view}
-use Rattle.cs_trail.specs.Deployment.{site_of}
+use Rattle.cs_node_rules.specs.Site.{start_view}
+use Rattle.cs_node_rules.specs.Deployment.{site_of}
 use Rattle.cs_table.specs.Genesis.{twice, genesis_rules}
-use Rattle.cs_pool.specs.Deployed.{deployed}
+use Rattle.cs_node_pool.specs.Deployed.{deployed}
 use Rattle.cs_sbac.specs.Held.{Held}
 use Rattle.cs_node.specs.Carriers.{carrier}
 use Rattle.cs_node.specs.Cores.{Keeps}

@@ -1,6 +1,6 @@
 use Rattle.std.proofs.Common.{◌≡◌, ◌≤◌}
 use Rattle.cs_node.specs.Carriers.{carrier}
-use Rattle.cs_trail.specs.Play.{Played, drained}
+use Rattle.cs_node_rules.specs.Play.{Played, drained}
 use Rattle.cs_play.specs.Standing.{Setting, site_in, Standing}
 use Rattle.cs_play.proofs.play.Replay.drain.Given as goal
 

@@ -1,7 +1,7 @@
 use Rattle.std.proofs.Common.{◌<◌, length, subst, arith}
 use Rattle.std.proofs.lemmas.Result.{err_from_is_err_and}
 use Rattle.cs_node.specs.Carriers.{carrier}
-use Rattle.cs_trail.specs.Play.{Course, most_events}
+use Rattle.cs_node_rules.specs.Play.{Course, most_events}
 use Rattle.cs_play.specs.Standing.{site_in}
 use Rattle.cs_play.specs.Ends.{Ends}
 use Rattle.cs_play.proofs.Courses.{injects-grows}

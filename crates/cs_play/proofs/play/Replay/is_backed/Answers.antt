@@ -1,7 +1,7 @@
 use Rattle.std.proofs.Common.{◌≡◌, ℕ, ◌<◌, List, length, sym, ap, subst, ◌∙◌}
 use Rattle.cs_node.specs.Carriers.{carrier}
 use Rattle.cs_node.specs.declared.nodes.Core.{Core}
-use Rattle.cs_trail.specs.World.{view_of, was_sent}
+use Rattle.cs_node_rules.specs.World.{view_of, was_sent}
 use Rattle.cs_play.specs.Standing.{site_in, EachStands}
 use Rattle.cs_play.proofs.Taken.{no-node, a-node}
 use Rattle.cs_play.proofs.Forgeries.{others-backed, honest-backed}

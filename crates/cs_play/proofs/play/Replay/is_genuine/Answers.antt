@@ -1,7 +1,7 @@
 use Rattle.std.proofs.Common.{List, length, sym, subst, ◌∙◌}
 use Rattle.cs_node.specs.Carriers.{carrier}
 use Rattle.cs_node.specs.declared.nodes.Core.{Core}
-use Rattle.cs_trail.specs.World.{view_of}
+use Rattle.cs_node_rules.specs.World.{view_of}
 use Rattle.cs_play.specs.Standing.{site_in, EachStands, HasNode}
 use Rattle.cs_play.proofs.Views.{view-me}
 use Rattle.cs_play.proofs.Forgeries.{some-genuine, none-genuine}

@@ -1,8 +1,8 @@
 use Rattle.std.proofs.Common.{ℕ, ◌+◌, drop, Err, sym, ap, subst, ◌∙◌}
 use Rattle.std.proofs.lemmas.Result.{err_from_is_err_and}
 use Rattle.cs_node.specs.Carriers.{carrier}
-use Rattle.cs_event.specs.declared.schedule.Event.{Event}
-use Rattle.cs_trail.specs.Play.{Course, play, play_all}
+use Rattle.cs_sched_types.specs.declared.schedule.Event.{Event}
+use Rattle.cs_node_rules.specs.Play.{Course, play, play_all}
 use Rattle.cs_play.specs.Standing.{site_in, IsFor}
 use Rattle.cs_play.specs.Ends.{Ends}
 use Rattle.cs_play.proofs.Courses.{drop-next, all-at, all-grows, ends-then}

@@ -1,7 +1,7 @@
 use Rattle.std.proofs.Common.{◌≡◌, ◌≤◌, drop}
 use Rattle.std.specs.List.{All}
 use Rattle.cs_node.specs.Carriers.{carrier}
-use Rattle.cs_trail.specs.Play.{Played, play_all}
+use Rattle.cs_node_rules.specs.Play.{Played, play_all}
 use Rattle.cs_play.specs.Standing.{Setting, site_in, Standing, IsFor}
 use Rattle.cs_play.proofs.play.Replay.play_all.Given as goal
 

@@ -1,8 +1,8 @@
 use Rattle.std.proofs.Common.{◌<◌, ◌++◌, List, length, sym, ap, subst, ◌∙◌, arith}
 use Rattle.std.proofs.lemmas.Result.{err_from_is_err_and}
 use Rattle.cs_node.specs.Carriers.{carrier}
-use Rattle.cs_trail.specs.Play.{occurs, size_of, most_sent, most_events}
-use Rattle.cs_trail.specs.Lines.{Parcel}
+use Rattle.cs_node_rules.specs.Play.{occurs, size_of, most_sent, most_events}
+use Rattle.cs_node_rules.specs.Lines.{Parcel}
 use Rattle.cs_node.specs.Speaking.{input_of}
 use Rattle.cs_play.specs.Standing.{site_in, HasNode}
 use Rattle.cs_play.specs.Ends.{parcels_from}

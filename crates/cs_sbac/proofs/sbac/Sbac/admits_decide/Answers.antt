@@ -1,12 +1,12 @@
 use Rattle.std.proofs.Common.{◌≡◌, ◌∙◌, ◌&&◌, sym, ap, subst, true, false, nat_eq, option_copied, rules}
 use Rattle.std.specs.List.{list_any}
-use Rattle.cs_trail.specs.Setup.{Setup, concerns, concerned}
-use Rattle.cs_trail.specs.Pool.{found}
-use Rattle.cs_trail.specs.Evidence.{is_decided}
-use Rattle.cs_trail.specs.Admission.{is_decided_in}
+use Rattle.cs_node_rules.specs.Setup.{Setup, concerns, concerned}
+use Rattle.cs_node_rules.specs.Pool.{found}
+use Rattle.cs_node_rules.specs.Evidence.{is_decided}
+use Rattle.cs_node_rules.specs.Admission.{is_decided_in}
 use Rattle.cs_tx.specs.Digest.{digest_of_session}
 use Rattle.cs_sbac.specs.Held.{Held}
-use Rattle.cs_pool.specs.Deployed.{deployed}
+use Rattle.cs_node_pool.specs.Deployed.{deployed}
 use Rattle.cs_sbac.proofs.Concerned.{contains-concerned, in_range}
 use Rattle.cs_sbac.proofs.sbac.Sbac.admits_decide.Goals as goal
 

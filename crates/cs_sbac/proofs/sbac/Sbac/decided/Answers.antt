@@ -1,8 +1,8 @@
 use Rattle.std.proofs.Common.{◌≡◌, ◌∙◌, ap, subst, true, rules}
 use Rattle.cs_table.specs.Seen.{seen}
-use Rattle.cs_trail.specs.Bench.{decided}
+use Rattle.cs_node_rules.specs.Bench.{decided}
 use Rattle.cs_sbac.specs.Held.{Held}
-use Rattle.cs_pool.specs.Deployed.{deployed}
+use Rattle.cs_node_pool.specs.Deployed.{deployed}
 use Rattle.cs_sbac.specs.Calls.{accepted_by}
 use Rattle.cs_sbac.proofs.Running.{stands}
 use Rattle.cs_sbac.proofs.sbac.Sbac.decided.Goals as goal

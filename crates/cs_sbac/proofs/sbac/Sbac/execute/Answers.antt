@@ -1,7 +1,7 @@
 use Rattle.std.proofs.Common.{◌≡◌, ◌∙◌, sym, subst, true, rules}
-use Rattle.cs_trail.specs.Setup.{session_in}
+use Rattle.cs_node_rules.specs.Setup.{session_in}
 use Rattle.cs_sbac.specs.Held.{Held}
-use Rattle.cs_pool.specs.Deployed.{deployed}
+use Rattle.cs_node_pool.specs.Deployed.{deployed}
 use Rattle.cs_sbac.specs.Calls.{Executes}
 use Rattle.cs_sbac.proofs.Running.{stays, anchored, executes}
 use Rattle.cs_sbac.proofs.sbac.Sbac.execute.Goals as goal

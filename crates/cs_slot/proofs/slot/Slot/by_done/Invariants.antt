@@ -1,6 +1,6 @@
 use Rattle.std.proofs.Common.{◌≡◌, None}
 use Rattle.cs_order.specs.Counts.{first_below}
-use Rattle.cs_rules.specs.Slot.{if_done}
+use Rattle.cs_order_rules.specs.Slot.{if_done}
 use Rattle.cs_slot.specs.Kept.{seen_in}
 use Rattle.cs_slot.proofs.slot.Slot.by_done.Given as goal
 

@@ -1,6 +1,6 @@
 use Rattle.std.proofs.Common.{◌≡◌, ◌≤◌}
 use Rattle.cs_order.specs.Counts.{count_below}
-use Rattle.cs_rules.specs.Slot.{is_entry}
+use Rattle.cs_order_rules.specs.Slot.{is_entry}
 use Rattle.cs_slot.specs.Kept.{entry_in}
 use Rattle.cs_slot.proofs.slot.Slot.done_count.Given as goal
 

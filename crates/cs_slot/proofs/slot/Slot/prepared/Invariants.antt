@@ -1,6 +1,6 @@
 use Rattle.std.proofs.Common.{◌≡◌}
 use Rattle.cs_order.specs.Counts.{last_found}
-use Rattle.cs_rules.specs.Slot.{in_view}
+use Rattle.cs_order_rules.specs.Slot.{in_view}
 use Rattle.cs_slot.specs.Kept.{seen_in}
 use Rattle.cs_slot.proofs.slot.Slot.prepared.Given as goal
 

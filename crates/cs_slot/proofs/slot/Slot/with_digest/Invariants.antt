@@ -1,6 +1,6 @@
 use Rattle.std.proofs.Common.{◌≡◌, None}
 use Rattle.cs_order.specs.Counts.{first_below}
-use Rattle.cs_rules.specs.Slot.{with_digest}
+use Rattle.cs_order_rules.specs.Slot.{with_digest}
 use Rattle.cs_slot.specs.Kept.{entry_in}
 use Rattle.cs_slot.proofs.slot.Slot.with_digest.Given as goal
 

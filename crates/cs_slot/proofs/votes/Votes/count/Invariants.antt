@@ -1,6 +1,6 @@
 use Rattle.std.proofs.Common.{◌≡◌, ◌≤◌}
 use Rattle.cs_order.specs.Counts.{count_below}
-use Rattle.cs_rules.specs.Slot.{is_digest}
+use Rattle.cs_order_rules.specs.Slot.{is_digest}
 use Rattle.cs_slot.specs.Kept.{vote_in}
 use Rattle.cs_slot.proofs.votes.Votes.count.Given as goal
 

@@ -1,6 +1,6 @@
 use Rattle.std.proofs.Common.{◌≡◌, None}
 use Rattle.cs_order.specs.Counts.{first_below}
-use Rattle.cs_rules.specs.Slot.{if_enough}
+use Rattle.cs_order_rules.specs.Slot.{if_enough}
 use Rattle.cs_slot.specs.Kept.{vote_in}
 use Rattle.cs_slot.proofs.votes.Votes.quorum.Given as goal
 

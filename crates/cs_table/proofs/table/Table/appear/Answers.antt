@@ -1,5 +1,5 @@
 use Rattle.std.proofs.Common.{◌∙◌, ap}
-use Rattle.cs_value.specs.Object.{object_encoding}
+use Rattle.cs_tx_value.specs.Object.{object_encoding}
 use Rattle.cs_table.specs.Seen.{name_of, seen_record}
 use Rattle.cs_table.specs.Changes.{appeared_record}
 use Rattle.cs_table.proofs.Rows.{becomes_again, gone}

@@ -1,6 +1,6 @@
 use Rattle.std.proofs.Common.{◌∙◌, sym, ap, true}
 use Rattle.cs_table.specs.Seen.{vote_of}
-use Rattle.cs_form.specs.declared.vote.Vote.{Vote}
+use Rattle.cs_tx_form.specs.declared.vote.Vote.{Vote}
 use Rattle.cs_tx.specs.Sessions.{session_of}
 use Rattle.cs_table.proofs.Calls.{decide_skips, decide_accepts, decide_aborts, no_anchor, at_vote}
 use Rattle.cs_table.proofs.table.Table.decide.Goals as goal

@@ -1,6 +1,6 @@
 use Rattle.std.proofs.Common.{ap}
-use Rattle.cs_value.specs.declared.object.Object.{Object}
-use Rattle.cs_value.specs.Object.{object_encoding}
+use Rattle.cs_tx_value.specs.declared.object.Object.{Object}
+use Rattle.cs_tx_value.specs.Object.{object_encoding}
 use Rattle.cs_table.specs.Pieces.{dummy_object}
 use Rattle.cs_table.proofs.Beginning.{dummies_more}
 use Rattle.cs_table.proofs.table.Table.load_dummies.Goals as goal

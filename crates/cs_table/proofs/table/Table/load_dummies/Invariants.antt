@@ -1,4 +1,4 @@
-use Rattle.cs_value.specs.Object.{object_encoding}
+use Rattle.cs_tx_value.specs.Object.{object_encoding}
 use Rattle.cs_table.specs.Seen.{seen}
 use Rattle.cs_table.specs.Changes.{Becomes}
 use Rattle.cs_table.specs.Pieces.{dummy_object}

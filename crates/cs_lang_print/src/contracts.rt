@@ -1,0 +1,198 @@
+//! Printing whole contracts.
+ghost use Rattle.std.specs.Prelude.{◌≡◌, ◌≤◌, ℕ, List, length, ◌++◌, codes, OnOk};
+ghost use Rattle.cs_lang.specs.Texts.{IsContract};
+ghost use Rattle.cs_lang_print.specs.Again.{IsReadAgain};
+ghost use Rattle.cs_lang_print.specs.Words.{each, behind_comma, with_commas};
+ghost use Rattle.cs_lang_print.specs.Texts.{field_text, star_text, slot_text, section_text, type_text, head_text, body_text, method_text, contract_text};
+
+use crate::kinds::put_kind;
+use crate::statements::{put_block, put_name};
+use crate::words::{put_ending, put_word};
+use cs_lang::{Contract, Field, Method, Slot, TypeDef};
+use std::alloc::{AllocError, Global};
+
+/// A field.
+fn put_field(field: &Field, out: &mut Vec<u8>) -> Result<(), AllocError>
+    ensures { OnOk result (out.new.items ≡ out.old.items ++ field_text field.now) }
+{
+    put_name(&field.name, out)?;
+    put_word(b":", out)?;
+    put_kind(&field.kind, out)
+}
+
+/// A field behind a comma.
+fn put_other_field(field: &Field, out: &mut Vec<u8>) -> Result<(), AllocError>
+    ensures { OnOk result (out.new.items ≡ out.old.items ++ behind_comma field_text field.now) }
+{
+    put_word(b",", out)?;
+    put_field(field, out)
+}
+
+/// Fields, each behind a comma.
+fn put_other_fields(fields: &[Field], out: &mut Vec<u8>) -> Result<(), AllocError>
+    ensures { OnOk result (out.new.items ≡ out.old.items ++ each (behind_comma field_text) fields.now) }
+{
+    for field in fields {
+        put_other_field(field, out)?;
+    }
+    Ok(())
+}
+
+/// Fields with commas between them.
+fn put_fields(fields: &[Field], out: &mut Vec<u8>) -> Result<(), AllocError>
+    ensures { OnOk result (out.new.items ≡ out.old.items ++ with_commas field_text fields.now) }
+{
+    match fields {
+        [] => Ok(()),
+        [first, others @ ..] => {
+            put_field(first, out)?;
+            put_other_fields(others, out)
+        }
+    }
+}
+
+/// The sign of any number of objects.
+fn put_star(many: bool, out: &mut Vec<u8>) -> Result<(), AllocError>
+    ensures { OnOk result (out.new.items ≡ out.old.items ++ star_text many) }
+{
+    if many {
+        return put_word(b"*", out);
+    }
+    Ok(())
+}
+
+/// A slot.
+fn put_slot(slot: &Slot, out: &mut Vec<u8>) -> Result<(), AllocError>
+    ensures { OnOk result (out.new.items ≡ out.old.items ++ slot_text slot.now) }
+{
+    put_name(&slot.name, out)?;
+    put_word(b":", out)?;
+    put_name(&slot.object, out)?;
+    put_star(slot.many, out)
+}
+
+/// A slot behind a comma.
+fn put_other_slot(slot: &Slot, out: &mut Vec<u8>) -> Result<(), AllocError>
+    ensures { OnOk result (out.new.items ≡ out.old.items ++ behind_comma slot_text slot.now) }
+{
+    put_word(b",", out)?;
+    put_slot(slot, out)
+}
+
+/// Slots, each behind a comma.
+fn put_other_slots(slots: &[Slot], out: &mut Vec<u8>) -> Result<(), AllocError>
+    ensures { OnOk result (out.new.items ≡ out.old.items ++ each (behind_comma slot_text) slots.now) }
+{
+    for slot in slots {
+        put_other_slot(slot, out)?;
+    }
+    Ok(())
+}
+
+/// Slots behind a word, where there are some.
+fn put_slots(first: &[u8], slots: &[Slot], out: &mut Vec<u8>) -> Result<(), AllocError>
+    ensures { OnOk result (out.new.items ≡ out.old.items ++ section_text first.now slot_text slots.now) }
+{
+    match slots {
+        [] => Ok(()),
+        [slot, others @ ..] => {
+            put_word(first, out)?;
+            put_slot(slot, out)?;
+            put_other_slots(others, out)
+        }
+    }
+}
+
+/// Fields behind a word, where there are some.
+fn put_fields_behind(first: &[u8], fields: &[Field], out: &mut Vec<u8>) -> Result<(), AllocError>
+    ensures { OnOk result (out.new.items ≡ out.old.items ++ section_text first.now field_text fields.now) }
+{
+    match fields {
+        [] => Ok(()),
+        [field, others @ ..] => {
+            put_word(first, out)?;
+            put_field(field, out)?;
+            put_other_fields(others, out)
+        }
+    }
+}
+
+/// A type.
+fn put_type(typedef: &TypeDef, out: &mut Vec<u8>) -> Result<(), AllocError>
+    ensures { OnOk result (out.new.items ≡ out.old.items ++ type_text typedef.now) }
+{
+    put_word(b"type", out)?;
+    put_name(&typedef.name, out)?;
+    put_word(b"(", out)?;
+    put_fields(typedef.fields.as_slice(), out)?;
+    put_word(b")", out)?;
+    put_ending(b";", out)
+}
+
+/// What a method takes and gives.
+fn put_head(method: &Method, out: &mut Vec<u8>) -> Result<(), AllocError>
+    ensures { OnOk result (out.new.items ≡ out.old.items ++ head_text method.now) }
+{
+    put_slots(b"consumes", method.consumes.as_slice(), out)?;
+    put_slots(b"reads", method.reads.as_slice(), out)?;
+    put_fields_behind(b"takes", method.takes.as_slice(), out)?;
+    put_slots(b"creates", method.creates.as_slice(), out)?;
+    put_fields_behind(b"returns", method.returns.as_slice(), out)
+}
+
+/// What a method does.
+fn put_body(alloc: Global, method: &Method, out: &mut Vec<u8>) -> Result<(), AllocError>
+    ensures { OnOk result (out.new.items ≡ out.old.items ++ body_text method.now) }
+{
+    put_ending(b"{", out)?;
+    put_word(b"procedure", out)?;
+    put_block(alloc, &method.procedure, out)?;
+    put_word(b"check", out)?;
+    put_block(alloc, &method.check, out)?;
+    put_ending(b"}", out)
+}
+
+/// A method.
+fn put_method(alloc: Global, method: &Method, out: &mut Vec<u8>) -> Result<(), AllocError>
+    ensures { OnOk result (out.new.items ≡ out.old.items ++ method_text method.now) }
+{
+    put_word(b"method", out)?;
+    put_name(&method.name, out)?;
+    put_head(method, out)?;
+    put_body(alloc, method, out)
+}
+
+/// Types, each on its line.
+fn put_types(types: &[TypeDef], out: &mut Vec<u8>) -> Result<(), AllocError>
+    ensures { OnOk result (out.new.items ≡ out.old.items ++ each type_text types.now) }
+{
+    for typedef in types {
+        put_type(typedef, out)?;
+    }
+    Ok(())
+}
+
+/// Methods.
+fn put_methods(alloc: Global, methods: &[Method], out: &mut Vec<u8>) -> Result<(), AllocError>
+    ensures { OnOk result (out.new.items ≡ out.old.items ++ each method_text methods.now) }
+{
+    for method in methods {
+        put_method(alloc, method, out)?;
+    }
+    Ok(())
+}
+
+/// Appends the text of a contract: each token with a space or a break behind it, one statement on
+/// a line, and parentheses where the grammar needs them. On want of memory a front of it is
+/// appended.
+#[tactic(auto, unfolding(crate::specs::Texts::contract_text))]
+pub fn print(alloc: Global, contract: &Contract, out: &mut Vec<u8>) -> Result<(), AllocError>
+    // What is appended is the text of the definition.
+    ensures printed { OnOk result (out.new.items ≡ out.old.items ++ contract_text contract.now) }
+    // Where a text is this contract, this one's text is the same contract but for places, if it is no
+    // longer than a text may be.
+    ensures again { (text : List ℕ) → IsContract text contract.now → length (contract_text contract.now) ≤ 65536 → IsReadAgain contract.now }
+{
+    put_types(contract.types.as_slice(), out)?;
+    put_methods(alloc, contract.methods.as_slice(), out)
+}

@@ -1,0 +1,32 @@
+//! Printing kinds.
+ghost use Rattle.std.specs.Prelude.{◌≡◌, ◌++◌, codes, OnOk};
+ghost use Rattle.cs_lang_print.specs.Words.{word};
+ghost use Rattle.cs_lang_print.specs.Expressions.{kind_text};
+
+use crate::words::put_word;
+use cs_lang::ValueKind;
+use std::alloc::AllocError;
+
+/// The kind of a list's items, in brackets.
+#[cycle(kinds)]
+fn put_items(items: &ValueKind, out: &mut Vec<u8>) -> Result<(), AllocError>
+    ensures { OnOk result (out.new.items ≡ out.old.items ++ (word (codes "[") ++ (kind_text items.now ++ word (codes "]")))) }
+{
+    put_word(b"[", out)?;
+    put_kind(items, out)?;
+    put_word(b"]", out)
+}
+
+/// A kind.
+#[cycle(kinds)]
+#[tactic(auto, using(crate::proofs::KindTexts::kinds))]
+pub fn put_kind(kind: &ValueKind, out: &mut Vec<u8>) -> Result<(), AllocError>
+    ensures { OnOk result (out.new.items ≡ out.old.items ++ kind_text kind.now) }
+{
+    match kind {
+        ValueKind::Int => put_word(b"int", out),
+        ValueKind::Bool => put_word(b"bool", out),
+        ValueKind::Bytes => put_word(b"bytes", out),
+        ValueKind::List(items) => put_items(items.get(), out),
+    }
+}

@@ -1,6 +1,0 @@
-use Rattle.std.proofs.Math.Nat.{min-le_right}
-use Rattle.cs_log.proofs.Seating.{limit_fits}
-use Rattle.cs_log.proofs.seat.limit.Goals as goal
-
-pub returns : goal.returns
-returns c = rw c.min.ensures (limit_fits _ (min-le_right c.args.view 10))

@@ -1,0 +1,36 @@
+// What holds of the marks of every node.
+
+ghost use Rattle.cs_node_rules.specs.Site.{Site};
+ghost use Rattle.cs_node_law.specs.Made.{EventIsMade, LocksAreGiven, NotesAreGiven, DropChangesNothing};
+ghost use Rattle.cs_node_law.specs.Given.{PlaysWorlds};
+
+use cs_order::Order;
+
+/// What holds of the marks of every node that keeps the rules, over any order.
+///
+/// It does nothing: its contract is a theorem, which a caller has by calling it.
+pub fn marks_are_made<O: Order>()
+    // Each event adds only marks that are made.
+    ensures made { (site : Site O.Message) → EventIsMade site }
+    // A lock comes from a Prepare that was voted commit.
+    ensures locks { (site : Site O.Message) → LocksAreGiven site }
+    // A vote that is on record comes from a Prepare that gave it.
+    ensures notes { (site : Site O.Message) → NotesAreGiven site }
+{}
+
+/// What a datagram that is dropped does to a node at which no rule applies, over any order: nothing,
+/// but that it was given and dropped.
+///
+/// It does nothing: its contract is a theorem, which a caller has by calling it.
+pub fn a_dropped_datagram_changes_nothing<O: Order>()
+    // The event makes the mark that it was dropped, and no other; the node is as it was before.
+    ensures { (site : Site O.Message) → DropChangesNothing site }
+{}
+
+/// What the schedules play, over any order: worlds in which honest nodes keep the rules, and are given
+/// bytes of which none is forged.
+///
+/// It does nothing: its contract is a theorem, which a caller has by calling it.
+pub fn schedules_play_worlds<O: Order>()
+    ensures { PlaysWorlds O.rules }
+{}

@@ -1,0 +1,19 @@
+-- What the calls of the pool answer.
+use Rattle.std.specs.Prelude.{if◌then◌else◌, List, [], ◌∷◌, Option, Some, None}
+use Rattle.cs_base.specs.declared.node_id.NodeId.{NodeId}
+use Rattle.cs_tx_form.specs.declared.session.Session.{Session}
+use Rattle.cs_node_rules.specs.declared.pooled.Pooled.{Pooled}
+use Rattle.cs_node_rules.specs.Evidence.{has_voted}
+use Rattle.cs_node_rules.specs.Pool.{Pool}
+use Rattle.cs_node_pool.specs.declared.answers.Counted.{Counted}
+use Rattle.cs_node_pool.specs.declared.answers.Counted.TheVariants.{Counted as Taken, Repeat, NotPooled}
+
+-- a node's first vote on a pooled session counts
+abbrev pub counted_in : NodeId → Option Pooled → Counted
+counted_in from None = NotPooled
+counted_in from (Some p) = if has_voted from p.ballots then Repeat else Taken
+
+-- the locked sessions, in the order of the pool
+abbrev pub locked_in : Pool → List Session
+locked_in [] = []
+locked_in (e ∷ pool) = if e.1.locked then e.1.session ∷ locked_in pool else locked_in pool

@@ -1,0 +1,26 @@
+-- What is in a pool is within all limits, so it has an encoding.
+use Rattle.std.specs.Prelude.{List, [], ◌∷◌, Option, Some, None}
+use Rattle.cs_tx_form.specs.declared.session.Session.{Session}
+use Rattle.cs_tx_form.specs.declared.entry.Entry.{Entry}
+use Rattle.cs_tx_form.specs.Session.{SessionFits, EntryFits}
+use Rattle.cs_node_rules.specs.declared.pooled.Pooled.{Pooled}
+use Rattle.cs_node_rules.specs.Pool.{Pool}
+
+abbrev pub PoolFits : Pool → Type 0
+PoolFits [] = Unit {0}
+PoolFits (e ∷ pool) = SessionFits e.1.session × PoolFits pool
+
+-- a session that is found in it is
+abbrev pub FoundFits : Option Pooled → Type 0
+FoundFits None = Unit {0}
+FoundFits (Some p) = SessionFits p.session
+
+-- the sessions of a list are
+abbrev pub AllFit : List Session → Type 0
+AllFit [] = Unit {0}
+AllFit (x ∷ xs) = SessionFits x × AllFit xs
+
+-- an entry that is due is
+abbrev pub DueFits : Option Entry → Type 0
+DueFits None = Unit {0}
+DueFits (Some entry) = EntryFits entry

@@ -1,0 +1,172 @@
+//! The pool: sessions under their digests, in the order of entering.
+ghost use Rattle.std.specs.Prelude.{◌≡◌, Bool, List, ◌++◌, ◌∷◌, [], OnOk, IfOk, None, option_copied};
+ghost use Rattle.cs_tx_value.specs.declared.object.Object.{Object};
+ghost use Rattle.cs_tx_form.specs.declared.transaction.Tx.{Tx};
+ghost use Rattle.cs_tx_form.specs.Session.{SessionFits};
+ghost use Rattle.cs_node_rules.specs.Pool.{found, is_pooled, without, changed, as_locked, with_ballot, waiting_count};
+ghost use Rattle.cs_node_rules.specs.Admission.{due};
+ghost use Rattle.cs_node_pool.specs.Deployed.{deployed};
+ghost use Rattle.cs_node_pool.specs.Fits.{DueFits, AllFit};
+ghost use Rattle.cs_node_pool.specs.Calls.{counted_in, locked_in};
+
+use crate::answers::Counted;
+use crate::kept::Kept;
+use cs_base::{Config, Memory};
+use cs_node_rules::{Ballot, Pooled};
+use cs_tx::{Digest, Entry, Session};
+use std::alloc::Global;
+use std::marker::Model;
+
+/// Sessions under their digests, in the order of entering, with the votes on each.
+///
+/// After a want of memory in the midst of a change nothing is known of it: its calls answer that
+/// again.
+#[derive(Drop)]
+pub struct Pool {
+    config: Config,
+    kept: Kept,
+    is_whole: bool,
+}
+
+impl Model for Pool {
+    ghost use Rattle.std.specs.Prelude.{◌≡◌, true};
+    ghost use Rattle.std.specs.Coded.{codes};
+    ghost use Rattle.cs_tx_value.specs.contracts.value.Value as values;
+    ghost use Rattle.cs_base.specs.contracts.config.Config as configs;
+    ghost use Rattle.cs_node_pool.specs.Gathered.{Gathered};
+    ghost use Rattle.cs_node_pool.specs.Turns.{Sound, pool_in};
+
+    ghost Value = { Gathered };
+
+    ghost coded = { Prim.hlevel (codes, values.the_row.coded, configs.the_row.coded) };
+
+    ghost view = { λ p. record { config = p.config; sessions = pool_in p.kept } };
+
+    ghost invariant = { λ p. p.is_whole ≡ true → Sound p.config p.kept };
+}
+
+impl Pool {
+    /// An empty pool.
+    pub fn new(alloc: Global, config: Config) -> Self
+        ensures { result ≡ record { config = config; sessions = [] } }
+    {
+        Pool {
+            config,
+            kept: Kept::new(alloc),
+            is_whole: true,
+        }
+    }
+
+    /// The session of a digest.
+    pub fn get(&self, digest: &Digest) -> Result<Option<&Pooled>, Memory>
+        ensures { IfOk result (λ pooled. option_copied pooled ≡ found digest.now self.now.sessions) }
+    {
+        if !self.is_whole {
+            return Err(Memory);
+        }
+        Ok(self.kept.get(digest))
+    }
+
+    /// Whether a session of this digest is there.
+    pub fn contains(&self, digest: &Digest) -> Result<bool, Memory>
+        ensures { IfOk result (λ there. there ≡ is_pooled digest.now self.now.sessions) }
+    {
+        let pooled = self.get(digest)?;
+        Ok(pooled.is_some())
+    }
+
+    /// The number of waiting sessions.
+    pub fn waiting(&self) -> Result<usize, Memory>
+        ensures { IfOk result (λ waiting. waiting ≡ waiting_count self.now.sessions) }
+    {
+        if !self.is_whole {
+            return Err(Memory);
+        }
+        Ok(self.kept.waiting())
+    }
+
+    /// Adds a session at the end.
+    pub fn push(&mut self, alloc: Global, digest: Digest, pooled: Pooled) -> Result<(), Memory>
+        requires new { found digest self.old.sessions ≡ None }
+        requires fits { SessionFits pooled.session }
+        ensures sessions { OnOk result (self.new.sessions ≡ self.old.sessions ++ (digest, pooled) ∷ []) }
+        ensures config { self.new.config ≡ self.old.config }
+    {
+        if !self.is_whole {
+            return Err(Memory);
+        }
+        self.is_whole = false;
+        self.kept.push(alloc, &self.config, digest, pooled)?;
+        self.is_whole = true;
+        Ok(())
+    }
+
+    /// Takes a session out. The others keep their order.
+    pub fn remove(&mut self, digest: &Digest) -> Result<(), Memory>
+        ensures sessions { OnOk result (self.new.sessions ≡ without digest.now self.old.sessions) }
+        ensures config { self.new.config ≡ self.old.config }
+    {
+        if !self.is_whole {
+            return Err(Memory);
+        }
+        self.kept.remove(&self.config, digest);
+        Ok(())
+    }
+
+    /// Takes a vote on a session.
+    pub fn count(
+        &mut self,
+        alloc: Global,
+        digest: &Digest,
+        ballot: Ballot,
+    ) -> Result<Counted, Memory>
+        ensures answer { IfOk result (λ answer. answer ≡ counted_in ballot.sender (found digest.now self.old.sessions)) }
+        ensures sessions { OnOk result (self.new.sessions ≡ changed digest.now (with_ballot ballot) self.old.sessions) }
+        ensures config { self.new.config ≡ self.old.config }
+    {
+        if !self.is_whole {
+            return Err(Memory);
+        }
+        self.is_whole = false;
+        let answer = self.kept.count(alloc, &self.config, digest, ballot)?;
+        self.is_whole = true;
+        Ok(answer)
+    }
+
+    /// Marks a session as locked.
+    pub fn lock(&mut self, alloc: Global, digest: &Digest) -> Result<(), Memory>
+        ensures sessions { OnOk result (self.new.sessions ≡ changed digest.now as_locked self.old.sessions) }
+        ensures config { self.new.config ≡ self.old.config }
+    {
+        if !self.is_whole {
+            return Err(Memory);
+        }
+        self.is_whole = false;
+        self.kept.lock(alloc, &self.config, digest)?;
+        self.is_whole = true;
+        Ok(())
+    }
+
+    /// Copies of the locked sessions, in the order of the pool.
+    pub fn locked(&self, alloc: Global) -> Result<Vec<Session>, Memory>
+        ensures sessions { IfOk result (λ sessions. sessions.items ≡ locked_in self.now.sessions) }
+        ensures fits { IfOk result (λ sessions. AllFit sessions.items) }
+    {
+        if !self.is_whole {
+            return Err(Memory);
+        }
+        self.kept.locked(alloc)
+    }
+
+    /// The entry that is due: the first decision of a locked session, in the order of the pool,
+    /// or else a vote on the first session that waits.
+    pub fn due(&self, alloc: Global) -> Result<Option<Entry>, Memory>
+        ensures entry { (genesis : List Object) (approves : Tx → Bool) → IfOk result (λ entry. entry ≡ due (deployed self.now.config genesis approves) self.now.sessions) }
+        ensures fits { IfOk result DueFits }
+    {
+        if !self.is_whole {
+            return Err(Memory);
+        }
+        self.kept.due(alloc, &self.config)
+    }
+}

@@ -1,0 +1,49 @@
+-- What a node admits, and what is due at it.
+use Rattle.std.specs.Prelude.{ℕ, Bool, false, ◌&&◌, if◌then◌else◌, List, [], ◌∷◌, Option, Some, None}
+use Rattle.cs_tx_form.specs.declared.session.Session.{Session}
+use Rattle.cs_tx_form.specs.declared.vote.Vote.{Vote}
+use Rattle.cs_tx_form.specs.declared.vote.Vote.TheVariants.{Commit, Abort}
+use Rattle.cs_tx_form.specs.declared.entry.Entry.{Entry}
+use Rattle.cs_tx_form.specs.declared.entry.Entry.TheVariants.{Prepare, Decide}
+use Rattle.cs_ledger.specs.Ledger.{or_else}
+use Rattle.cs_node_rules.specs.declared.pooled.Pooled.{Pooled}
+use Rattle.cs_node_rules.specs.Setup.{Setup, digest_of, concerns, concerned, is_fit, is_approved}
+use Rattle.cs_node_rules.specs.Evidence.{is_decided}
+use Rattle.cs_node_rules.specs.Pool.{Pool, found}
+
+-- it is pooled, and its votes decide so
+abbrev pub is_decided_in : ℕ → List ℕ → Vote → Option Pooled → Bool
+is_decided_in f shards vote None = false
+is_decided_in f shards vote (Some p) = is_decided f shards vote p.ballots
+
+-- a session that may be voted on; a decision that the votes taken on a pooled session support
+abbrev pub admits : Setup → ℕ → Pool → Entry → Bool
+admits setup shard pool (Prepare x) = is_fit setup shard x && is_approved setup x
+admits setup shard pool (Decide vote x) =
+    concerns setup x shard && is_decided_in setup.f (concerned setup x) vote (found (digest_of setup x) pool)
+
+-- what is due for a pooled session: nothing while it waits
+abbrev pub due_vote : ℕ → List ℕ → Pooled → Option Vote
+due_vote f shards p =
+    if p.locked
+    then (if is_decided f shards Commit p.ballots then Some Commit else if is_decided f shards Abort p.ballots then Some Abort else None)
+    else None
+
+abbrev pub decide_due : Session → Option Entry → Option Vote → Option Entry
+decide_due x later (Some vote) = Some (Decide vote x)
+decide_due x later None = later
+
+-- the first decision that is due for a locked session, in the order of the pool
+abbrev pub first_decided : Setup → Pool → Option Entry
+first_decided setup [] = None
+first_decided setup (e ∷ pool) =
+    decide_due e.1.session (first_decided setup pool) (due_vote setup.f (concerned setup e.1.session) e.1)
+
+-- the first session that waits is to be voted on
+abbrev pub first_waiting : Pool → Option Entry
+first_waiting [] = None
+first_waiting (e ∷ pool) = if e.1.locked then first_waiting pool else Some (Prepare e.1.session)
+
+-- decisions come first
+abbrev pub due : Setup → Pool → Option Entry
+due setup pool = or_else (first_decided setup pool) (first_waiting pool)

@@ -1,0 +1,52 @@
+-- What a client is told of a key, or of a dummy that it may use.
+use Rattle.std.specs.Prelude.{ℕ, zero, suc, ◌+◌, ◌^◌, Bool, true, false, Option, Some, None, if◌then◌else◌}
+use Rattle.cs_base.specs.Fields.{whole_at}
+use Rattle.cs_base.specs.declared.key.Key.{Key}
+use Rattle.cs_base.specs.declared.key.Key.TheVariants as key
+use Rattle.cs_tx_value.specs.declared.object.Object.{Object}
+use Rattle.cs_tx_value.specs.Object.{object_at}
+use Rattle.cs_tx_form.specs.declared.state.State.{State}
+use Rattle.cs_tx_form.specs.declared.state.State.TheVariants as state
+use Rattle.cs_tx.specs.Sessions.{key_seen}
+use Rattle.cs_ledger.specs.Ledger.{Bytes}
+use Rattle.cs_ledger.specs.Session as Seen
+use Rattle.cs_ledger.specs.Table as Shard
+use Rattle.cs_node_rules.specs.Dummies.{dummy_object}
+
+-- the object of which these bytes are the encoding
+abbrev pub object_or_dummy : Option Object → Object
+object_or_dummy (Some object) = object
+object_or_dummy None = dummy_object
+
+abbrev pub object_in : Bytes → Object
+object_in bytes = object_or_dummy (whole_at object_at bytes)
+
+abbrev pub state_told : Shard.State → State
+state_told Shard.Unknown = state.Unknown
+state_told (Shard.Active object) = state.Active (object_in object)
+state_told (Shard.Locked object by) = state.Locked (object_in object) by
+state_told (Shard.Inactive by) = state.Inactive by
+
+abbrev pub told_at : Shard.Table → Key → State
+told_at t key = state_told (t.at (key_seen key)).state
+
+abbrev pub is_free : Shard.State → Bool
+is_free (Shard.Active object) = true
+is_free state = false
+
+-- the dummy of this serial is active
+abbrev pub has_dummy : Shard.Table → ℕ → ℕ → Bool
+has_dummy t shard serial = is_free (t.at (Seen.Dummy shard serial)).state
+
+-- the least serial of an active dummy, of so many from this one on, or else the next one
+unfoldable pub least_from : Shard.Table → ℕ → ℕ → ℕ → ℕ
+least_from t shard zero serial = t.next
+least_from t shard (suc more) serial = if has_dummy t shard serial then serial else least_from t shard more (serial + 1)
+
+abbrev pub least_dummy : Shard.Table → ℕ → Key
+least_dummy t shard = key.Dummy shard (least_from t shard (2 ^ 64) 0)
+
+-- the key that is asked for
+abbrev pub key_asked : Shard.Table → ℕ → Option Key → Key
+key_asked t shard (Some key) = key
+key_asked t shard None = least_dummy t shard

@@ -1,0 +1,104 @@
+-- The table and the pool of a node, and what the execution of an entry makes of them.
+use Rattle.std.specs.Prelude.{ℕ, Bool, true, false, if◌then◌else◌, [], Option, Some, None}
+use Rattle.cs_base.specs.declared.node_id.NodeId.{NodeId}
+use Rattle.cs_tx_form.specs.declared.session.Session.{Session}
+use Rattle.cs_tx_form.specs.declared.vote.Vote.{Vote}
+use Rattle.cs_tx_form.specs.declared.entry.Entry.{Entry}
+use Rattle.cs_ledger.specs.Ledger.{Bytes}
+use Rattle.cs_ledger.specs.Session.{Key, anchor}
+use Rattle.cs_ledger.specs.Table as Shard
+use Rattle.cs_ledger.specs.Table.{Table, Effect, Voted, Accepted, Aborted, Skipped, Void, Outcome, is_locked_by, exec, start}
+use Rattle.cs_ledger.specs.Standing.{stands_accepted, stands_aborted, recorded}
+use Rattle.cs_node_rules.specs.Setup.{Setup, digest_of, entry_of, session_in, vote_from}
+use Rattle.cs_node_rules.specs.Pool.{Pool, changed, with_ballot, without, entered_locked}
+
+pub record Bench : Type 0 where
+  pub table : Table
+  pub pool : Pool
+
+-- before the first input
+abbrev pub start_bench : Setup → ℕ → Bench
+start_bench setup shard = record { table = start setup.rules shard; pool = [] }
+
+abbrev pub locked_at : Table → Bytes → Option Key → Bool
+locked_at t d None = false
+locked_at t d (Some key) = is_locked_by d (t.at key).state
+
+-- the session has its anchor in the shard locked
+abbrev pub is_locked : Setup → ℕ → Table → Session → Bool
+is_locked setup shard t x = locked_at t (digest_of setup x) (anchor setup.rules (setup.session_of x) shard)
+
+-- accepted, or aborted, or neither
+abbrev pub decided_by : Shard.Record → Bytes → Option Bool
+decided_by r d = if stands_accepted r d then Some true else if stands_aborted r d then Some false else None
+
+abbrev pub decided_at : Table → Bytes → Option Key → Option Bool
+decided_at t d None = None
+decided_at t d (Some key) = decided_by (t.at key) d
+
+-- the standing of the session: whether it was accepted, once it is decided
+abbrev pub decided : Setup → ℕ → Table → Session → Option Bool
+decided setup shard t x = decided_at t (digest_of setup x) (anchor setup.rules (setup.session_of x) shard)
+
+abbrev pub vote_read : Option Shard.Vote → Option Vote
+vote_read None = None
+vote_read (Some vote) = Some (vote_from vote)
+
+abbrev pub noted_at : Table → Bytes → Option Key → Option Vote
+noted_at t d None = None
+noted_at t d (Some key) = vote_read (recorded (t.at key) d)
+
+-- the vote that is on record on the session
+abbrev pub noted : Setup → ℕ → Table → Session → Option Vote
+noted setup shard t x = noted_at t (digest_of setup x) (anchor setup.rules (setup.session_of x) shard)
+
+-- A session that was voted on is locked, or leaves; one on which a decision took effect leaves.
+abbrev pub pool_after : Effect → Bool → Bytes → Session → Pool → Pool
+pool_after (Voted vote) locked d x pool = if locked then entered_locked d x pool else without d pool
+pool_after Accepted locked d x pool = without d pool
+pool_after Aborted locked d x pool = without d pool
+pool_after Skipped locked d x pool = pool
+pool_after Void locked d x pool = pool
+
+-- what an execution came to, and what it left
+pub record Ran : Type 0 where
+  pub effect : Effect
+  pub bench : Bench
+
+abbrev pub ran_of : Setup → ℕ → Pool → Session → Outcome → Ran
+ran_of setup shard pool x outcome = record {
+  effect = outcome.effect;
+  bench = record {
+    table = outcome.table;
+    pool = pool_after outcome.effect (is_locked setup shard outcome.table x) (digest_of setup x) x pool;
+  };
+}
+
+abbrev pub executed : Setup → ℕ → Bench → Entry → Ran
+executed setup shard b entry =
+    ran_of setup shard b.pool (session_in entry) (exec setup.rules shard b.table (entry_of setup entry))
+
+-- the vote that an execution gave, with the mark that the node asks for the others' votes
+abbrev pub told_by : Effect → Bool → Option (Vote × Bool)
+told_by (Voted vote) asks = Some (vote_from vote, asks)
+told_by Accepted asks = None
+told_by Aborted asks = None
+told_by Skipped asks = None
+told_by Void asks = None
+
+abbrev pub told_of : Setup → ℕ → Session → Ran → Option (Vote × Bool)
+told_of setup shard x ran = told_by ran.effect (is_locked setup shard ran.bench.table x)
+
+-- a node takes its own vote where it asks for the others'
+abbrev pub own_pool : NodeId → Bytes → Option (Vote × Bool) → Pool → Pool
+own_pool me d None pool = pool
+own_pool me d (Some told) pool = if told.1 then changed d (with_ballot (record { sender = me; vote = told.0 })) pool else pool
+
+-- table and pool after an execution, with the node's own vote
+abbrev pub bench_executed : Setup → NodeId → Bench → Entry → Bench
+bench_executed setup me b entry =
+    let ran = executed setup me.shard b entry in
+    record {
+      table = ran.bench.table;
+      pool = own_pool me (digest_of setup (session_in entry)) (told_of setup me.shard (session_in entry) ran) ran.bench.pool;
+    }

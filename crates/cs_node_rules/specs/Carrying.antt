@@ -1,0 +1,47 @@
+-- What an order may ask of the carrier of its messages.
+use Rattle.std.specs.Prelude.{◌≡◌, Bool, true, false, Option, Some, map}
+use Rattle.cs_tx_form.specs.declared.entry.Entry.{Entry}
+use Rattle.cs_tx_form.specs.Session.{EntryFits}
+use Rattle.cs_wire_message.specs.declared.message.Message.{Message}
+use Rattle.cs_wire_message.specs.declared.message.Message.TheVariants as message
+use Rattle.cs_wire_message.specs.Message.{MessageFits}
+use Rattle.cs_order.specs.declared.proposed.Proposed.{Proposed}
+use Rattle.cs_order.specs.Lists.{IsIn}
+use Rattle.cs_order.specs.Deeds.{Machine}
+use Rattle.cs_node_rules.specs.Collisions.{entries_in}
+use Rattle.cs_node_rules.specs.Deployment.{proposed_of}
+use Rattle.cs_node_rules.specs.Site.{Carrier}
+
+-- the kinds in which members of a shard agree
+abbrev pub is_ordering : Message → Bool
+is_ordering (message.Submit x) = false
+is_ordering (message.Propose slot view entry) = true
+is_ordering (message.Echo slot view digest) = true
+is_ordering (message.Confirm slot view digest) = true
+is_ordering (message.Change slot view change) = true
+is_ordering (message.Voted vote asks x) = false
+is_ordering (message.Decided digest accepted) = false
+is_ordering (message.Want slot) = false
+is_ordering (message.Done slot entry) = true
+is_ordering (message.Ask key) = false
+is_ordering (message.Told key state) = false
+is_ordering (message.Head checkpoint) = false
+is_ordering (message.AskProof slot) = false
+is_ordering (message.Proof proof) = false
+
+-- an entry with its digest, as nodes propose it
+pub record IsEntry (proposed : Proposed) : Type 0 where
+  pub entry : Entry
+  pub fits : EntryFits entry
+  pub is : proposed ≡ proposed_of entry
+
+pub record Carries {M : Type 0} (machine : Machine M) (carrier : Carrier M) : Type 0 where
+  -- what is written is within the limits of messages
+  pub fits : (m : M) → MessageFits (carrier.written m)
+  -- a proper message of entries is carried by one of the order's kinds, and read as it was
+  pub ours : (m : M) → machine.proper m ≡ true → ((p : Proposed) → IsIn p (machine.carried m) → IsEntry p) → is_ordering (carrier.written m) ≡ true
+  pub back : (m : M) → machine.proper m ≡ true → ((p : Proposed) → IsIn p (machine.carried m) → IsEntry p) → carrier.read (carrier.written m) ≡ Some m
+  -- only messages of the order's kinds are read; what is read is proper, and its entries are those of the message
+  pub theirs : (said : Message) (m : M) → carrier.read said ≡ Some m → is_ordering said ≡ true
+  pub proper : (said : Message) (m : M) → MessageFits said → carrier.read said ≡ Some m → machine.proper m ≡ true
+  pub entries : (said : Message) (m : M) → carrier.read said ≡ Some m → machine.carried m ≡ map proposed_of (entries_in said)

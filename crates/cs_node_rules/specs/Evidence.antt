@@ -1,0 +1,34 @@
+-- The votes that were taken on a session, and what they decide.
+use Rattle.std.specs.Prelude.{ℕ, ◌+◌, ◌*◌, ◌==◌, nat_lt, Bool, true, false, ◌&&◌, List}
+use Rattle.std.specs.List.{list_any, list_all}
+use Rattle.cs_base.specs.declared.node_id.NodeId.{NodeId}
+use Rattle.cs_tx_form.specs.declared.vote.Vote.{Vote}
+use Rattle.cs_tx_form.specs.declared.vote.Vote.TheVariants.{Commit, Abort}
+use Rattle.cs_order.specs.Counts.{count_below}
+use Rattle.cs_node_rules.specs.declared.ballot.Ballot.{Ballot}
+
+abbrev pub vote_eq : Vote → Vote → Bool
+vote_eq Commit Commit = true
+vote_eq Abort Abort = true
+vote_eq Commit Abort = false
+vote_eq Abort Commit = false
+
+abbrev pub name_eq : NodeId → NodeId → Bool
+name_eq a b = a.shard == b.shard && a.index == b.index
+
+abbrev pub has_voted : NodeId → List Ballot → Bool
+has_voted name ballots = list_any (λ b. name_eq b.sender name) ballots
+
+-- this node of a shard gave this vote
+abbrev pub has_ballot : ℕ → ℕ → Vote → List Ballot → Bool
+has_ballot shard index vote ballots =
+    list_any (λ b. name_eq b.sender (record { shard = shard; index = index }) && vote_eq b.vote vote) ballots
+
+-- f + 1 nodes of a shard gave this vote
+abbrev pub has_support : ℕ → List Ballot → Vote → ℕ → Bool
+has_support f ballots vote shard = nat_lt f (count_below (3 * f + 1) (λ index. has_ballot shard index vote ballots))
+
+-- commit is supported in each of these shards, abort in one of them
+abbrev pub is_decided : ℕ → List ℕ → Vote → List Ballot → Bool
+is_decided f shards Commit ballots = list_all (λ shard. has_support f ballots Commit shard) shards
+is_decided f shards Abort ballots = list_any (λ shard. has_support f ballots Abort shard) shards

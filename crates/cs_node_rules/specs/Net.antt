@@ -1,0 +1,45 @@
+-- What goes between nodes and clients.
+use Rattle.std.specs.Prelude.{ℕ, Bool, not, ◌&&◌, List}
+use Rattle.std.specs.List.{list_any}
+use Rattle.cs_base.specs.declared.config.Config.{Config}
+use Rattle.cs_base.specs.declared.node_id.NodeId.{NodeId}
+use Rattle.cs_base.specs.NodeId.{is_node}
+use Rattle.cs_wire_message.specs.declared.message.Message.{Message}
+use Rattle.cs_wire_message.specs.Message.{kind_of, body_of}
+use Rattle.cs_wire.specs.declared.opening.OpenError.{OpenError}
+use Rattle.cs_wire.specs.declared.opening.OpenError.TheVariants as error
+use Rattle.cs_wire.specs.Keys.{key_between}
+use Rattle.cs_wire.specs.Opened.{Opened, opened, datagram_with, keys_of_master}
+use Rattle.cs_ledger.specs.Ledger.{Bytes}
+use Rattle.cs_node_rules.specs.declared.cause.Cause.{Cause}
+use Rattle.cs_node_rules.specs.declared.cause.Cause.TheVariants as cause
+use Rattle.cs_node_rules.specs.Evidence.{name_eq}
+
+-- how datagrams are made and opened, and who is honest
+pub record Net : Type 0 where
+  pub datagram : NodeId → NodeId → ℕ → Bytes → Bytes  -- from a name to another, of this kind and with this body
+  pub opened : NodeId → Bytes → Opened  -- what bytes say to a name
+  pub is_honest : NodeId → Bool
+
+-- the datagram of a message
+abbrev pub sealed : Net → NodeId → NodeId → Message → Bytes
+sealed net from to m = net.datagram from to (kind_of m) (body_of m)
+
+-- the net of a configuration, under one master key, with these liars
+abbrev pub net_of : Config → Bytes → List NodeId → Net
+net_of config master liars = record {
+  datagram = λ from to kind body. datagram_with (key_between master from to) from to kind body;
+  opened = λ me bytes. opened (keys_of_master config master me) bytes;
+  is_honest = λ name. is_node config name && not (list_any (λ liar. name_eq liar name) liars);
+}
+
+-- the cause by which a datagram is dropped that can't be opened
+abbrev pub cause_of : OpenError → Cause
+cause_of error.Short = cause.Short
+cause_of error.Magic = cause.Magic
+cause_of error.Kind = cause.Kind
+cause_of error.NotMine = cause.Mine
+cause_of error.Stranger = cause.Stranger
+cause_of error.Length = cause.Length
+cause_of error.Tag = cause.Tag
+cause_of error.Body = cause.Body

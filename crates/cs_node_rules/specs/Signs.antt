@@ -1,0 +1,139 @@
+-- The marks of a node that are no deeds of its order, and what they make of table and pool. Lists of marks are newest first.
+use Rattle.std.specs.Prelude.{ℕ, Bool, true, false, not, ◌&&◌, ◌==◌, if◌then◌else◌, List, [], ◌∷◌, ◌++◌, Option, Some, None}
+use Rattle.cs_base.specs.declared.key.Key.{Key}
+use Rattle.cs_base.specs.declared.node_id.NodeId.{NodeId}
+use Rattle.cs_base.specs.Key.{shard_of_key}
+use Rattle.cs_base.specs.NodeId.{is_client}
+use Rattle.cs_tx_form.specs.declared.session.Session.{Session}
+use Rattle.cs_tx_form.specs.declared.vote.Vote.{Vote}
+use Rattle.cs_tx_form.specs.declared.vote.Vote.TheVariants.{Commit}
+use Rattle.cs_tx_form.specs.declared.entry.Entry.{Entry}
+use Rattle.cs_wire_message.specs.declared.message.Message.{Message}
+use Rattle.cs_wire_message.specs.declared.message.Message.TheVariants as message
+use Rattle.cs_ledger.specs.Table.{Effect}
+use Rattle.cs_node_rules.specs.declared.cause.Cause.{Cause}
+use Rattle.cs_node_rules.specs.declared.cause.Cause.TheVariants.{Mine, Role, Malformed, Repeat, Unasked, Denied, Full}
+use Rattle.cs_node_rules.specs.declared.pooled.Pooled.{Pooled}
+use Rattle.cs_node_rules.specs.Setup.{Setup, digest_of, concerns, concerned, is_fit, is_approved, session_in}
+use Rattle.cs_node_rules.specs.Evidence.{has_voted}
+use Rattle.cs_node_rules.specs.Members.{others}
+use Rattle.cs_node_rules.specs.Pool.{Pool, found, is_pooled, changed, with_ballot, entered, has_room}
+use Rattle.cs_node_rules.specs.Bench.{Bench, Ran, executed, decided, noted, told_of}
+use Rattle.cs_node_rules.specs.Asked.{told_at, key_asked}
+
+pub data Sign : Type 0 where
+  Dropped : (cause : Cause) → Sign
+  Took : (sender : NodeId) → (vote : Vote) → (x : Session) → Sign
+  Entered : (x : Session) → Sign
+  Viewed : (slot view : ℕ) → Sign
+  Did : (slot : ℕ) → (entry : Entry) → (effect : Effect) → Sign
+  Sent : (to : NodeId) → (message : Message) → Sign
+
+-- what one sign makes of table and pool
+abbrev pub bench_step : Setup → ℕ → Sign → Bench → Bench
+bench_step setup shard (Dropped cause) b = b
+bench_step setup shard (Took sender vote x) b =
+    record { table = b.table; pool = changed (digest_of setup x) (with_ballot (record { sender = sender; vote = vote })) b.pool }
+bench_step setup shard (Entered x) b = record { table = b.table; pool = entered (digest_of setup x) x b.pool }
+bench_step setup shard (Viewed slot view) b = b
+bench_step setup shard (Did slot entry effect) b = (executed setup shard b entry).bench
+bench_step setup shard (Sent to message) b = b
+
+abbrev pub bench_after : Setup → ℕ → List Sign → Bench → Bench
+bench_after setup shard [] b = b
+bench_after setup shard (sign ∷ past) b = bench_step setup shard sign (bench_after setup shard past b)
+
+-- the first failing test drops
+abbrev pub guarded : Bool → Cause → List Sign → List Sign
+guarded holds cause signs = if holds then signs else Dropped cause ∷ []
+
+-- a session that is undecided enters where it is new, approved, and has room
+abbrev pub entering_signs : Setup → Bench → Session → List Sign
+entering_signs setup b x =
+    guarded (not (is_pooled (digest_of setup x) b.pool)) Repeat
+    (guarded (is_approved setup x) Denied
+    (guarded (has_room b.pool) Full (Entered x ∷ [])))
+
+-- the client of a decided session is told; an undecided one enters
+abbrev pub submitted_signs : Setup → Bench → NodeId → Session → Option Bool → List Sign
+submitted_signs setup b sender x (Some accepted) = Sent sender (message.Decided (digest_of setup x) accepted) ∷ []
+submitted_signs setup b sender x None = entering_signs setup b x
+
+-- a client submits a session
+abbrev pub submit_signs : Setup → ℕ → Bench → NodeId → Session → List Sign
+submit_signs setup shard b sender x =
+    guarded (is_client sender) Role
+    (guarded (is_fit setup shard x) Malformed
+    (submitted_signs setup b sender x (decided setup shard b.table x)))
+
+abbrev pub told_signs : Setup → ℕ → Bench → NodeId → Key → List Sign
+told_signs setup shard b sender key =
+    guarded (shard_of_key setup.shards key == shard) Mine (Sent sender (message.Told key (told_at b.table key)) ∷ [])
+
+-- a client asks for the record of a key, or for a dummy that it may use
+abbrev pub ask_signs : Setup → ℕ → Bench → NodeId → Option Key → List Sign
+ask_signs setup shard b sender asked =
+    guarded (is_client sender) Role (told_signs setup shard b sender (key_asked b.table shard asked))
+
+-- ---- votes of other nodes
+
+-- a vote on a session that isn't in the pool: it is answered by the vote on record, or the session enters with it
+abbrev pub asking_signs : Setup → Bench → NodeId → Vote → Bool → Session → Option Vote → List Sign
+asking_signs setup b sender vote asks x (Some noted) = guarded asks Unasked (Sent sender (message.Voted noted false x) ∷ [])
+asking_signs setup b sender vote asks x None =
+    guarded asks Unasked
+    (guarded (is_approved setup x) Denied
+    (guarded (has_room b.pool) Full (Took sender vote x ∷ Entered x ∷ [])))
+
+-- of each node the first vote on a session of the pool is taken
+abbrev pub ballot_signs : Setup → ℕ → Bench → NodeId → Vote → Bool → Session → Option Pooled → List Sign
+ballot_signs setup shard b sender vote asks x (Some p) = guarded (not (has_voted sender p.ballots)) Repeat (Took sender vote x ∷ [])
+ballot_signs setup shard b sender vote asks x None = asking_signs setup b sender vote asks x (noted setup shard b.table x)
+
+-- a node of a concerned shard votes on a session
+abbrev pub voted_signs : Setup → ℕ → Bench → NodeId → Vote → Bool → Session → List Sign
+voted_signs setup shard b sender vote asks x =
+    guarded (not (is_client sender)) Role
+    (guarded (is_fit setup shard x) Malformed
+    (guarded (concerns setup x sender.shard) Role
+    (ballot_signs setup shard b sender vote asks x (found (digest_of setup x) b.pool))))
+
+-- ---- executions
+
+-- a message to each of these nodes, one after the other
+abbrev pub sends : List NodeId → Message → List Sign
+sends [] message = []
+sends (to ∷ more) message = sends more message ++ Sent to message ∷ []
+
+-- the vote goes to all other nodes of the concerned shards
+abbrev pub vote_signs : Setup → NodeId → Session → Option (Vote × Bool) → List Sign
+vote_signs setup me x None = []
+vote_signs setup me x (Some told) = sends (others setup.f me (concerned setup x)) (message.Voted told.0 told.1 x)
+
+-- the node's own vote
+abbrev pub own_signs : NodeId → Session → Option (Vote × Bool) → List Sign
+own_signs me x None = []
+own_signs me x (Some told) = if told.1 then Took me told.0 x ∷ [] else []
+
+-- the session that an execution brings into the pool
+abbrev pub entered_signs : Session → Bool → Option (Vote × Bool) → List Sign
+entered_signs x pooled None = []
+entered_signs x pooled (Some told) = if told.1 && not pooled then Entered x ∷ [] else []
+
+abbrev pub ran_signs : Setup → NodeId → Bench → ℕ → Entry → Session → Ran → List Sign
+ran_signs setup me b slot entry x ran =
+    own_signs me x (told_of setup me.shard x ran)
+    ++ (vote_signs setup me x (told_of setup me.shard x ran)
+    ++ (entered_signs x (is_pooled (digest_of setup x) b.pool) (told_of setup me.shard x ran) ++ Did slot entry ran.effect ∷ []))
+
+-- the entry of a slot is executed
+abbrev pub execution_signs : Setup → NodeId → Bench → ℕ → Entry → List Sign
+execution_signs setup me b slot entry = ran_signs setup me b slot entry (session_in entry) (executed setup me.shard b entry)
+
+-- ---- ticks
+
+-- the votes that are asked for again, of the locked sessions
+abbrev pub asked_again : Setup → NodeId → Pool → List Sign
+asked_again setup me [] = []
+asked_again setup me (e ∷ pool) =
+    asked_again setup me pool ++ (if e.1.locked then vote_signs setup me e.1.session (Some (Commit, true)) else [])

@@ -1,6 +1,0 @@
-use Rattle.std.proofs.Common.{◌∙◌}
-use Rattle.cs_pool.proofs.Picking.{waiting-count}
-use Rattle.cs_pool.proofs.kept.Kept.waiting.Goals as goal
-
-pub returns : goal.returns
-returns c = c.len.ensures.len ∙ waiting-count c.args.self.now.waiting c.args.self.now.sessions.entries c.requires.placed.rising c.requires.waiting

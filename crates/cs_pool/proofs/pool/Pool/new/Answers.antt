@@ -1,4 +1,0 @@
-use Rattle.cs_pool.proofs.pool.Pool.new.Goals as goal
-
-pub invariant_of-result : goal.invariant_of-result
-invariant_of-result c = λ whole. c.new.ensures.sound c.args.config

@@ -1,6 +1,0 @@
-use Rattle.std.proofs.Common.{refl}
-use Rattle.cs_round.proofs.Taking.{new_change}
-use Rattle.cs_round.proofs.round.Round.change_own.Goals as goal
-
-pub returns-clause-call : goal.returns-clause-call
-returns-clause-call c = λ s n v shows. new_change c.args.self.now _ s n v c.args.me c.args.view c.args.change c.in_ok-fresh.fresh shows (rw (← c.self.view_is) c.in_ok-fresh.ensures.fresh) (rw (← c.self.view_is) refl) (rw (← c.self.view_is) c.in_ok-fresh.ensures.now) (rw (← c.self.view_is) c.in_ok-fresh.ensures.reached) (rw (← c.self.view_is) c.in_ok-fresh.ensures.same) (rw (← c.self.view_is) refl)

@@ -1,7 +1,0 @@
-use Rattle.std.proofs.Common.{◌≡◌, ◌++◌, drop}
-use Rattle.cs_spell.specs.Texts.{slot_text}
-use Rattle.cs_spell.specs.Words.{each, behind_comma}
-use Rattle.cs_spell.proofs.contracts.put_other_slots.Given as goal
-
-abbrev pub invariant-loop-slot : goal.invariant-loop-slot
-invariant-loop-slot l = l.out.items ++ each (behind_comma slot_text) (drop l.slot-index l.slots) ≡ l.initial.out.items ++ each (behind_comma slot_text) l.slots

@@ -1,7 +1,0 @@
-use Rattle.std.proofs.Common.{◌≡◌, ◌++◌, drop}
-use Rattle.cs_spell.specs.Texts.{type_text}
-use Rattle.cs_spell.specs.Words.{each}
-use Rattle.cs_spell.proofs.contracts.put_types.Given as goal
-
-abbrev pub invariant-loop-typedef : goal.invariant-loop-typedef
-invariant-loop-typedef l = l.out.items ++ each type_text (drop l.typedef-index l.types) ≡ l.initial.out.items ++ each type_text l.types

@@ -1,0 +1,215 @@
+//! A pool against a plain list.
+use crate::plain_pool::{Due, PlainPool, is_concerned};
+use cs_base::{Config, Memory, NodeId, Sequence};
+use cs_node_pool::Pool;
+use cs_node_rules::{Ballot, Pooled};
+use cs_test_draws::Draws;
+use cs_tx::{Digest, Encoded, Entry, Name, Object, Session, Trace, Tx, Vote};
+use std::alloc::Global;
+use std::process::Abort;
+use std::test::Fail;
+
+/// How many sessions come and go.
+const SESSIONS: u64 = 12;
+
+fn digest_of(number: u64) -> Digest {
+    let mut digest = [7; 32];
+    digest[0] = (number % 256) as u8;
+    digest
+}
+
+/// An input of a shard.
+fn input(alloc: Global, number: u64, shard: u8) -> Result<(Digest, Object), Memory> {
+    let mut name = digest_of(number);
+    name[28] = 0;
+    name[29] = 0;
+    name[30] = 0;
+    name[31] = shard;
+    let object = Object {
+        contract: [7; 32],
+        type_name: Name::from_vec(Vec::from_slice(alloc, b"coin")?),
+        values: Sequence::new(alloc),
+    };
+    Ok((name, object))
+}
+
+fn trace(alloc: Global, number: u64) -> Result<Trace, Memory> {
+    let mut inputs = Sequence::new(alloc);
+    for shard in 0..2 {
+        if is_concerned(number, u16::from(shard)) {
+            inputs.push(input(alloc, number, shard)?)?;
+        }
+    }
+    Ok(Trace {
+        contract: [7; 32],
+        method: Name::from_vec(Vec::from_slice(alloc, b"transfer")?),
+        inputs,
+        references: Sequence::new(alloc),
+        parameters: Sequence::new(alloc),
+        outputs: Sequence::new(alloc),
+        returns: Sequence::new(alloc),
+        deps: Sequence::new(alloc),
+    })
+}
+
+fn session(alloc: Global, number: u64) -> Result<Session, Memory> {
+    let mut traces = Sequence::new(alloc);
+    traces.push(trace(alloc, number)?)?;
+    Ok(Session {
+        tx: Tx { traces },
+        number,
+        dummies: Sequence::new(alloc),
+    })
+}
+
+/// A session enters where it isn't there.
+fn enter(
+    rt: &impl Abort,
+    alloc: Global,
+    pool: &mut Pool,
+    plain: &mut PlainPool,
+    number: u64,
+    locked: bool,
+) -> Result<(), Fail> {
+    let digest = digest_of(number);
+    let there = pool.contains(&digest)?;
+    assert!(rt; there == plain.contains(number));
+    if there {
+        return Ok(());
+    }
+    let session = session(alloc, number)?;
+    assert!(rt; session.fits());
+    let ballots = Sequence::new(alloc);
+    let pooled = Pooled {
+        session,
+        locked,
+        ballots,
+    };
+    pool.push(alloc, digest, pooled)?;
+    plain.push(alloc, number, locked)?;
+    Ok(())
+}
+
+/// A node of one of two shards votes.
+fn vote(
+    rt: &impl Abort,
+    alloc: Global,
+    pool: &mut Pool,
+    plain: &mut PlainPool,
+    draws: &mut Draws,
+    number: u64,
+) -> Result<(), Fail> {
+    let sender = NodeId {
+        shard: draws.below(2) as u16,
+        index: draws.below(4) as u16,
+    };
+    let vote = if draws.below(2) == 0 {
+        Vote::Abort
+    } else {
+        Vote::Commit
+    };
+    let answer = pool.count(alloc, &digest_of(number), Ballot { sender, vote })?;
+    assert!(rt; answer == plain.count(number, sender, vote)?);
+    Ok(())
+}
+
+fn leave(pool: &mut Pool, plain: &mut PlainPool, number: u64) -> Result<(), Fail> {
+    pool.remove(&digest_of(number))?;
+    plain.remove(number);
+    Ok(())
+}
+
+fn shown(entry: Entry) -> Due {
+    match entry {
+        Entry::Prepare(session) => Due {
+            decision: None,
+            number: session.number,
+        },
+        Entry::Decide(vote, session) => Due {
+            decision: Some(vote),
+            number: session.number,
+        },
+    }
+}
+
+/// Both say the same, and what is due.
+fn are_alike(
+    rt: &impl Abort,
+    alloc: Global,
+    pool: &Pool,
+    plain: &PlainPool,
+) -> Result<Option<Due>, Fail> {
+    assert!(rt; pool.waiting()? == plain.waiting());
+    let due = pool.due(alloc)?.map(shown);
+    assert!(rt; due == plain.due());
+    Ok(due)
+}
+
+fn step(
+    rt: &impl Abort,
+    alloc: Global,
+    pool: &mut Pool,
+    plain: &mut PlainPool,
+    draws: &mut Draws,
+) -> Result<(), Fail> {
+    let number = draws.below(SESSIONS);
+    match draws.below(16) {
+        0 => enter(rt, alloc, pool, plain, number, true)?,
+        1 | 2 => enter(rt, alloc, pool, plain, number, false)?,
+        3 => leave(pool, plain, number)?,
+        4 | 5 => {
+            pool.lock(alloc, &digest_of(number))?;
+            plain.lock(number);
+        }
+        _ => vote(rt, alloc, pool, plain, draws, number)?,
+    }
+    Ok(())
+}
+
+/// How often each entry was due.
+#[derive(Drop)]
+struct Counts {
+    commits: u32,
+    aborts: u32,
+    votes: u32,
+}
+
+impl Counts {
+    fn add(&mut self, due: Due) {
+        let count = match due.decision {
+            Some(Vote::Commit) => &mut self.commits,
+            Some(Vote::Abort) => &mut self.aborts,
+            None => &mut self.votes,
+        };
+        *count = count.wrapping_add(1);
+    }
+}
+
+fn run(rt: &impl Abort, alloc: Global, steps: u32) -> Result<Counts, Fail> {
+    let config = Config::new(2, 1, 0).expect(rt, "a configuration");
+    let mut pool = Pool::new(alloc, config);
+    let mut plain = PlainPool::new(alloc, 1);
+    let mut draws = Draws::new(1);
+    let mut counts = Counts {
+        commits: 0,
+        aborts: 0,
+        votes: 0,
+    };
+    for _ in 0..steps {
+        step(rt, alloc, &mut pool, &mut plain, &mut draws)?;
+        if let Some(due) = are_alike(rt, alloc, &pool, &plain)? {
+            counts.add(due);
+            if due.decision.is_some() && draws.below(2) == 0 {
+                leave(&mut pool, &mut plain, due.number)?;
+            }
+        }
+    }
+    Ok(counts)
+}
+
+#[test]
+fn two_thousand_calls_on_twelve_sessions(rt: HostRuntime) -> Result<(), Fail> {
+    let counts = run(&rt, rt.alloc(), 2000)?;
+    assert!(rt; counts.commits > 50 && counts.aborts > 50 && counts.votes > 50);
+    Ok(())
+}

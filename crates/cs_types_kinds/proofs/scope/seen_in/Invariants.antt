@@ -1,0 +1,6 @@
+use Rattle.std.proofs.Common.{◌≡◌, drop}
+use Rattle.cs_types_kinds.specs.Scopes.{is_seen, first_seen}
+use Rattle.cs_types_kinds.proofs.scope.seen_in.Given as goal
+
+abbrev pub invariant-loop-entry : goal.invariant-loop-entry
+invariant-loop-entry l = first_seen (is_seen l.name) (drop l.entry-index l.entries) ≡ first_seen (is_seen l.name) l.entries

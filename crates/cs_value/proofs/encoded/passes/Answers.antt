@@ -1,6 +1,0 @@
-use Rattle.std.proofs.Common.{sym, ◌∙◌}
-use Rattle.cs_value.proofs.Whole.{passes_whole}
-use Rattle.cs_value.proofs.encoded.passes.Goals as goal
-
-pub returns : goal.returns
-returns g c = passes_whole g.T.Encoded.found_at c.args.bytes.now c.new-cursor.result c.skip.new.cursor c.new-cursor.ensures c.in_ok-skip.ensures (sym c.len.ensures ∙ c.if-len-ne0.false)

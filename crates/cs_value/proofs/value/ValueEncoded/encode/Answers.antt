@@ -1,4 +1,0 @@
-use Rattle.cs_value.proofs.value.ValueEncoded.encode.Goals as goal
-
-pub write_value-requires : goal.write_value-requires
-write_value-requires c = (4, c.requires)

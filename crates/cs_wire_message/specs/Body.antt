@@ -1,0 +1,24 @@
+-- Which bytes are the body of a message.
+use Rattle.std.specs.Prelude.{◌≡◌, ℕ, Bool, ◌&&◌, ◌==◌, List, length, Option, Some, None, if◌then◌else◌}
+use Rattle.cs_base.specs.Fields.{whole_at}
+use Rattle.cs_wire_message.specs.declared.message.Message.{Message}
+use Rattle.cs_wire_message.specs.declared.message.Message.TheVariants as message
+use Rattle.cs_wire_message.specs.Message.{kind_of, body_of, MessageFits}
+use Rattle.cs_wire_message.specs.Reading.{message_at}
+
+-- a message that fits, of this kind and with this body
+pub record Has (number : ℕ) (bytes : List ℕ) (m : Message) : Type 0 where
+  pub kind : kind_of m ≡ number
+  pub body : body_of m ≡ bytes
+  pub fits : MessageFits m
+
+abbrev pub IsBody : ℕ → List ℕ → Type 0
+IsBody kind body = (m : Message) × Has kind body m
+
+-- the body of no byte is that of asking for a dummy
+abbrev pub is_bare : ℕ → List ℕ → Bool
+is_bare kind body = kind == 10 && length body == 0
+
+-- the message of this kind with this body
+abbrev pub message_whole : ℕ → List ℕ → Option Message
+message_whole kind body = if is_bare kind body then Some (message.Ask None) else whole_at (message_at kind) body

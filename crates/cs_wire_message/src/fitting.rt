@@ -1,0 +1,105 @@
+//! Whether a message has a body.
+ghost use Rattle.std.specs.Prelude.{◌≡◌, ◌<◌, ◌↔◌, true, None, IsTrue};
+ghost use Rattle.cs_tx_value.specs.Object.{DigestFits};
+ghost use Rattle.cs_wire_message.specs.Message.{IsSlot, IsView, is_above, Rise, PreparedFits, ChangeFits, StepFits, AskedFits, MessageFits};
+
+use crate::change::Change;
+use crate::message::Message;
+use crate::rising::{MOST_ECHOED, comes_after};
+use crate::view::LAST_VIEW;
+use cs_base::Key;
+use cs_tx_form::LAST_SLOT;
+use cs_tx_value::{Digest, Encoded};
+
+fn is_slot(slot: u64) -> bool
+    ensures { IsTrue result ↔ IsSlot slot }
+{
+    slot <= LAST_SLOT
+}
+
+fn is_view(view: u16) -> bool
+    ensures { IsTrue result ↔ IsView view }
+{
+    view <= LAST_VIEW
+}
+
+// Whether an echo in an earlier view may stand behind the last digest.
+fn may_stand(view: u16, last: &Option<Digest>, echo: &(Digest, u16)) -> bool
+    ensures { IsTrue result ↔ ((DigestFits echo.now.0 × (is_above last.now echo.now.0 ≡ true)) × (echo.now.1 < view)) }
+{
+    echo.0.fits() && comes_after(last, &echo.0) && echo.1 < view
+}
+
+fn rise(view: u16, echoed: &[(Digest, u16)]) -> bool
+    ensures { IsTrue result ↔ Rise view None echoed.now }
+{
+    let mut last = None;
+    for i in 0..echoed.len() {
+        if !may_stand(view, &last, &echoed[i]) {
+            return false;
+        }
+        last = Some(echoed[i].0);
+    }
+    true
+}
+
+fn prepared_fits(view: u16, prepared: &Option<(u16, Digest)>) -> bool
+    ensures { IsTrue result ↔ PreparedFits view prepared.now }
+{
+    match prepared {
+        None => true,
+        Some(pair) => pair.0 < view && pair.1.fits(),
+    }
+}
+
+fn change_fits(view: u16, change: &Change) -> bool
+    ensures { IsTrue result ↔ ChangeFits view change.now }
+{
+    if change.echoed.len() > MOST_ECHOED as usize {
+        return false;
+    }
+    prepared_fits(view, &change.prepared) && rise(view, change.echoed.as_slice())
+}
+
+fn step_fits(slot: u64, view: u16, digest: &Digest) -> bool
+    ensures { IsTrue result ↔ StepFits slot view digest.now }
+{
+    is_slot(slot) && is_view(view) && digest.fits()
+}
+
+fn asked_fits(key: &Option<Key>) -> bool
+    ensures { IsTrue result ↔ AskedFits key.now }
+{
+    match key {
+        None => true,
+        Some(key) => key.fits(),
+    }
+}
+
+impl Message {
+    /// Whether the message is within all limits, so that it has a body and can be sealed.
+    pub fn fits(&self) -> bool
+        ensures { IsTrue result ↔ MessageFits self.now }
+    {
+        match self {
+            Message::Submit(session) => session.fits(),
+            Message::Propose { slot, view, entry } => {
+                is_slot(*slot) && is_view(*view) && entry.fits()
+            }
+            Message::Echo { slot, view, digest } => step_fits(*slot, *view, digest),
+            Message::Confirm { slot, view, digest } => step_fits(*slot, *view, digest),
+            Message::Change { slot, view, change } => {
+                is_slot(*slot) && is_view(*view) && *view >= 1 && change_fits(*view, change)
+            }
+            Message::Voted { session, .. } => session.fits(),
+            Message::Decided { session, .. } => session.fits(),
+            Message::Want { slot } => is_slot(*slot),
+            Message::Done { slot, entry } => is_slot(*slot) && entry.fits(),
+            Message::Ask(key) => asked_fits(key),
+            Message::Told { key, state } => key.fits() && state.fits(),
+            Message::Head(checkpoint) => checkpoint.fits(),
+            Message::AskProof { slot } => is_slot(*slot),
+            Message::Proof(proof) => proof.fits(),
+        }
+    }
+}

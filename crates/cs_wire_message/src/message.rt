@@ -1,0 +1,99 @@
+//! Messages.
+ghost use Rattle.std.specs.Prelude.{◌≡◌};
+ghost use Rattle.cs_wire_message.specs.Message.{kind_of};
+
+use crate::change::Change;
+use cs_base::Key;
+use cs_tx_form::{Checkpoint, Entry, Proof, Session, State, Vote};
+use cs_tx_value::Digest;
+
+/// What a node or a client says to another. One that fits has slots below 2^62 and views of at most
+/// 1,023, and all that it holds fits.
+#[derive(Drop)]
+pub enum Message {
+    /// A client wants the session to be tried.
+    Submit(Session),
+    /// The leader of a view proposes an entry for a slot.
+    Propose {
+        slot: u64,
+        view: u16,
+        entry: Entry,
+    },
+    /// A member has admitted the proposal of this digest.
+    Echo {
+        slot: u64,
+        view: u16,
+        digest: Digest,
+    },
+    /// A member has seen enough echoes of this digest.
+    Confirm {
+        slot: u64,
+        view: u16,
+        digest: Digest,
+    },
+    /// A member enters a view, which is above 0.
+    Change {
+        slot: u64,
+        view: u16,
+        change: Change,
+    },
+    /// A node's vote on a session, and whether it asks for the votes of the others.
+    Voted {
+        vote: Vote,
+        asks: bool,
+        session: Session,
+    },
+    /// What a node has decided on the session of this digest.
+    Decided {
+        session: Digest,
+        accepted: bool,
+    },
+    /// A member lacks the entry of a slot.
+    Want {
+        slot: u64,
+    },
+    /// The entry that was chosen for a slot.
+    Done {
+        slot: u64,
+        entry: Entry,
+    },
+    /// A client asks for the record of a key, or for a dummy that can be used.
+    Ask(Option<Key>),
+    /// The state of a key.
+    Told {
+        key: Key,
+        state: State,
+    },
+    /// A member has made a checkpoint.
+    Head(Checkpoint),
+    /// A client asks for the proof of a slot.
+    AskProof {
+        slot: u64,
+    },
+    /// The proof of a slot.
+    Proof(Proof),
+}
+
+impl Message {
+    /// The number of the kind, from 1 to 14.
+    pub fn kind(&self) -> u8
+        ensures { result ≡ kind_of self.now }
+    {
+        match self {
+            Message::Submit(_) => 1,
+            Message::Propose { .. } => 2,
+            Message::Echo { .. } => 3,
+            Message::Confirm { .. } => 4,
+            Message::Change { .. } => 5,
+            Message::Voted { .. } => 6,
+            Message::Decided { .. } => 7,
+            Message::Want { .. } => 8,
+            Message::Done { .. } => 9,
+            Message::Ask(_) => 10,
+            Message::Told { .. } => 11,
+            Message::Head(_) => 12,
+            Message::AskProof { .. } => 13,
+            Message::Proof(_) => 14,
+        }
+    }
+}

@@ -1,0 +1,85 @@
+//! Passing over bodies, without making the messages.
+ghost use Rattle.std.specs.Prelude.{◌≡◌};
+ghost use Rattle.cs_tx_value.specs.Reading.{Passes};
+ghost use Rattle.cs_wire_message.specs.Reading.{propose_at, step_at, voted_at, decided_at, done_at, told_at, message_at};
+
+use crate::rising::skip_claim;
+use crate::view::{skip_flag, skip_view};
+use cs_base::{Cursor, Key};
+use cs_tx_form::{Checkpoint, Entry, Proof, Session, State, Vote, skip_slot};
+use cs_tx_value::{Digest, Encoded, FormError};
+
+#[tactic(auto, unfolding(crate::specs::Reading::propose_at, cs_base::specs::Fields::pair_at))]
+fn skip_propose(cursor: &mut Cursor<'_>) -> Result<(), FormError>
+    ensures { Passes result cursor.new (propose_at cursor.old) }
+{
+    skip_slot(cursor)?;
+    skip_view(cursor)?;
+    Entry::skip(cursor)
+}
+
+#[tactic(auto, unfolding(crate::specs::Reading::step_at, cs_base::specs::Fields::pair_at))]
+fn skip_step(cursor: &mut Cursor<'_>) -> Result<(), FormError>
+    ensures { Passes result cursor.new (step_at cursor.old) }
+{
+    skip_slot(cursor)?;
+    skip_view(cursor)?;
+    Digest::skip(cursor)
+}
+
+#[tactic(auto, unfolding(crate::specs::Reading::voted_at, cs_base::specs::Fields::pair_at))]
+fn skip_voted(cursor: &mut Cursor<'_>) -> Result<(), FormError>
+    ensures { Passes result cursor.new (voted_at cursor.old) }
+{
+    Vote::skip(cursor)?;
+    skip_flag(cursor)?;
+    Session::skip(cursor)
+}
+
+#[tactic(auto, unfolding(crate::specs::Reading::decided_at, cs_base::specs::Fields::pair_at))]
+fn skip_decided(cursor: &mut Cursor<'_>) -> Result<(), FormError>
+    ensures { Passes result cursor.new (decided_at cursor.old) }
+{
+    Digest::skip(cursor)?;
+    skip_flag(cursor)
+}
+
+#[tactic(auto, unfolding(crate::specs::Reading::done_at, cs_base::specs::Fields::pair_at))]
+fn skip_done(cursor: &mut Cursor<'_>) -> Result<(), FormError>
+    ensures { Passes result cursor.new (done_at cursor.old) }
+{
+    skip_slot(cursor)?;
+    Entry::skip(cursor)
+}
+
+#[tactic(auto, unfolding(crate::specs::Reading::told_at, cs_base::specs::Fields::pair_at))]
+fn skip_told(cursor: &mut Cursor<'_>) -> Result<(), FormError>
+    ensures { Passes result cursor.new (told_at cursor.old) }
+{
+    Key::skip(cursor)?;
+    State::skip(cursor)
+}
+
+/// Passes over the body of a message of this kind, but for one of no byte.
+#[tactic(auto, using(cs_base::proofs::Many::behind_map))]
+pub fn skip_message(cursor: &mut Cursor<'_>, kind: u8) -> Result<(), FormError>
+    ensures { Passes result cursor.new (message_at kind cursor.old) }
+{
+    match kind {
+        1 => Session::skip(cursor),
+        2 => skip_propose(cursor),
+        3 => skip_step(cursor),
+        4 => skip_step(cursor),
+        5 => skip_claim(cursor),
+        6 => skip_voted(cursor),
+        7 => skip_decided(cursor),
+        8 => skip_slot(cursor),
+        9 => skip_done(cursor),
+        10 => Key::skip(cursor),
+        11 => skip_told(cursor),
+        12 => Checkpoint::skip(cursor),
+        13 => skip_slot(cursor),
+        14 => Proof::skip(cursor),
+        _ => Err(FormError::BadForm),
+    }
+}

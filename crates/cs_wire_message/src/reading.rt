@@ -1,0 +1,124 @@
+//! Reading bodies.
+ghost use Rattle.std.specs.Prelude.{◌≡◌};
+ghost use Rattle.cs_tx_value.specs.Reading.{Gives};
+ghost use Rattle.cs_wire_message.specs.Reading.{propose_at, step_at, voted_at, decided_at, done_at, told_at, message_at};
+
+use crate::message::Message;
+use crate::rising::read_claim;
+use crate::view::{read_flag, read_view};
+use cs_base::{Cursor, Key};
+use cs_tx_form::{Checkpoint, Entry, Proof, Session, State, Vote, read_slot};
+use cs_tx_value::{Digest, Encoded, FormError};
+use std::alloc::Global;
+
+#[tactic(auto, unfolding(crate::specs::Reading::propose_at, cs_base::specs::Fields::pair_at))]
+fn read_propose(alloc: Global, cursor: &mut Cursor<'_>) -> Result<(u64, (u16, Entry)), FormError>
+    ensures { Gives result cursor.new (propose_at cursor.old) }
+{
+    let slot = read_slot(cursor)?;
+    let view = read_view(cursor)?;
+    let entry = Entry::read(alloc, cursor)?;
+    Ok((slot, (view, entry)))
+}
+
+#[tactic(auto, unfolding(crate::specs::Reading::step_at, cs_base::specs::Fields::pair_at))]
+fn read_step(alloc: Global, cursor: &mut Cursor<'_>) -> Result<(u64, (u16, Digest)), FormError>
+    ensures { Gives result cursor.new (step_at cursor.old) }
+{
+    let slot = read_slot(cursor)?;
+    let view = read_view(cursor)?;
+    let digest = Digest::read(alloc, cursor)?;
+    Ok((slot, (view, digest)))
+}
+
+#[tactic(auto, unfolding(crate::specs::Reading::voted_at, cs_base::specs::Fields::pair_at))]
+fn read_voted(alloc: Global, cursor: &mut Cursor<'_>) -> Result<(Vote, (bool, Session)), FormError>
+    ensures { Gives result cursor.new (voted_at cursor.old) }
+{
+    let vote = Vote::read(alloc, cursor)?;
+    let asks = read_flag(cursor)?;
+    let session = Session::read(alloc, cursor)?;
+    Ok((vote, (asks, session)))
+}
+
+#[tactic(auto, unfolding(crate::specs::Reading::decided_at, cs_base::specs::Fields::pair_at))]
+fn read_decided(alloc: Global, cursor: &mut Cursor<'_>) -> Result<(Digest, bool), FormError>
+    ensures { Gives result cursor.new (decided_at cursor.old) }
+{
+    let session = Digest::read(alloc, cursor)?;
+    let accepted = read_flag(cursor)?;
+    Ok((session, accepted))
+}
+
+#[tactic(auto, unfolding(crate::specs::Reading::done_at, cs_base::specs::Fields::pair_at))]
+fn read_done(alloc: Global, cursor: &mut Cursor<'_>) -> Result<(u64, Entry), FormError>
+    ensures { Gives result cursor.new (done_at cursor.old) }
+{
+    let slot = read_slot(cursor)?;
+    let entry = Entry::read(alloc, cursor)?;
+    Ok((slot, entry))
+}
+
+#[tactic(auto, unfolding(crate::specs::Reading::told_at, cs_base::specs::Fields::pair_at))]
+fn read_told(alloc: Global, cursor: &mut Cursor<'_>) -> Result<(Key, State), FormError>
+    ensures { Gives result cursor.new (told_at cursor.old) }
+{
+    let key = Key::read(alloc, cursor)?;
+    let state = State::read(alloc, cursor)?;
+    Ok((key, state))
+}
+
+/// The body of a message of this kind, but for one of no byte.
+pub fn read_message(alloc: Global, cursor: &mut Cursor<'_>, kind: u8) -> Result<Message, FormError>
+    ensures { Gives result cursor.new (message_at kind cursor.old) }
+{
+    match kind {
+        1 => Ok(Message::Submit(Session::read(alloc, cursor)?)),
+        2 => {
+            let (slot, (view, entry)) = read_propose(alloc, cursor)?;
+            Ok(Message::Propose { slot, view, entry })
+        }
+        3 => {
+            let (slot, (view, digest)) = read_step(alloc, cursor)?;
+            Ok(Message::Echo { slot, view, digest })
+        }
+        4 => {
+            let (slot, (view, digest)) = read_step(alloc, cursor)?;
+            Ok(Message::Confirm { slot, view, digest })
+        }
+        5 => {
+            let (slot, (view, change)) = read_claim(alloc, cursor)?;
+            Ok(Message::Change { slot, view, change })
+        }
+        6 => {
+            let (vote, (asks, session)) = read_voted(alloc, cursor)?;
+            Ok(Message::Voted {
+                vote,
+                asks,
+                session,
+            })
+        }
+        7 => {
+            let (session, accepted) = read_decided(alloc, cursor)?;
+            Ok(Message::Decided { session, accepted })
+        }
+        8 => Ok(Message::Want {
+            slot: read_slot(cursor)?,
+        }),
+        9 => {
+            let (slot, entry) = read_done(alloc, cursor)?;
+            Ok(Message::Done { slot, entry })
+        }
+        10 => Ok(Message::Ask(Some(Key::read(alloc, cursor)?))),
+        11 => {
+            let (key, state) = read_told(alloc, cursor)?;
+            Ok(Message::Told { key, state })
+        }
+        12 => Ok(Message::Head(Checkpoint::read(alloc, cursor)?)),
+        13 => Ok(Message::AskProof {
+            slot: read_slot(cursor)?,
+        }),
+        14 => Ok(Message::Proof(Proof::read(alloc, cursor)?)),
+        _ => Err(FormError::BadForm),
+    }
+}

@@ -1,0 +1,56 @@
+//! The views of a slot.
+ghost use Rattle.std.specs.Prelude.{◌≡◌};
+ghost use Rattle.cs_tx_value.specs.Reading.{Gives, Passes};
+ghost use Rattle.cs_wire_message.specs.Reading.{view_at, flag_at};
+
+use cs_base::Cursor;
+use cs_tx_value::FormError;
+
+/// The last view of a slot.
+pub const LAST_VIEW: u16 = 1023;
+
+/// The view at the cursor.
+#[tactic(auto, unfolding(cs_base::specs::Fields::tested_at))]
+pub fn read_view(cursor: &mut Cursor<'_>) -> Result<u16, FormError>
+    ensures { Gives result cursor.new (view_at cursor.old) }
+{
+    let view = cursor.u16()?;
+    if view > LAST_VIEW {
+        return Err(FormError::BadForm);
+    }
+    Ok(view)
+}
+
+/// Passes over a view.
+#[tactic(auto, unfolding(cs_base::specs::Fields::tested_at))]
+pub fn skip_view(cursor: &mut Cursor<'_>) -> Result<(), FormError>
+    ensures { Passes result cursor.new (view_at cursor.old) }
+{
+    if cursor.u16()? > LAST_VIEW {
+        return Err(FormError::BadForm);
+    }
+    Ok(())
+}
+
+/// The flag at the cursor.
+#[tactic(auto, unfolding(crate::specs::Reading::flag_at, cs_base::specs::Fields::tested_at))]
+pub fn read_flag(cursor: &mut Cursor<'_>) -> Result<bool, FormError>
+    ensures { Gives result cursor.new (flag_at cursor.old) }
+{
+    let flag = cursor.u8()?;
+    if flag > 1 {
+        return Err(FormError::BadForm);
+    }
+    Ok(flag >= 1)
+}
+
+/// Passes over a flag.
+#[tactic(auto, using(cs_base::proofs::Many::behind_map), unfolding(crate::specs::Reading::flag_at, cs_base::specs::Fields::tested_at))]
+pub fn skip_flag(cursor: &mut Cursor<'_>) -> Result<(), FormError>
+    ensures { Passes result cursor.new (flag_at cursor.old) }
+{
+    if cursor.u8()? > 1 {
+        return Err(FormError::BadForm);
+    }
+    Ok(())
+}

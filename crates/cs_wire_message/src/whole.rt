@@ -1,0 +1,72 @@
+//! Whole bodies.
+ghost use Rattle.std.specs.Prelude.{◌≡◌, ◌≤◌, ◌↔◌, length, Some, IsTrue, IfOk, is_some};
+ghost use Rattle.cs_base.specs.Fields.{whole_at};
+ghost use Rattle.cs_wire_message.specs.Reading.{message_at};
+ghost use Rattle.cs_tx_value.specs.Reading.{GivesAll, Answers};
+ghost use Rattle.cs_wire_message.specs.declared.message.Message.{Message};
+ghost use Rattle.cs_wire_message.specs.Message.{body_of, MessageFits};
+ghost use Rattle.cs_wire_message.specs.Body.{Has, IsBody, message_whole};
+
+use crate::message::Message;
+use crate::passing::skip_message;
+use crate::reading::read_message;
+use cs_base::Cursor;
+use cs_tx_value::FormError;
+use std::alloc::Global;
+
+/// The kind of asking for a dummy, whose body has no byte.
+const ASK: u8 = 10;
+
+fn passes(kind: u8, body: &[u8]) -> bool
+    ensures { result ≡ is_some (message_whole kind body.now) }
+{
+    if kind == ASK && body.is_empty() {
+        return true;
+    }
+    let mut cursor = Cursor::new(body);
+    match skip_message(&mut cursor, kind) {
+        Ok(()) => cursor.len() == 0,
+        Err(_) => false,
+    }
+}
+
+fn read_all(alloc: Global, kind: u8, body: &[u8]) -> Result<Message, FormError>
+    ensures { GivesAll result (whole_at (message_at kind) body.now) }
+{
+    let mut cursor = Cursor::new(body);
+    let message = read_message(alloc, &mut cursor, kind)?;
+    if cursor.len() != 0 {
+        return Err(FormError::BadForm);
+    }
+    Ok(message)
+}
+
+fn read_whole(alloc: Global, kind: u8, body: &[u8]) -> Result<Message, FormError>
+    ensures { GivesAll result (message_whole kind body.now) }
+{
+    if kind == ASK && body.is_empty() {
+        return Ok(Message::Ask(None));
+    }
+    read_all(alloc, kind, body)
+}
+
+/// Whether the bytes are the body of a message of this kind. It takes no memory.
+pub fn has_form(kind: u8, body: &[u8]) -> bool
+    ensures { IsTrue result ↔ IsBody kind body.now }
+{
+    passes(kind, body)
+}
+
+/// The message of this kind that has this body.
+pub fn message_in(alloc: Global, kind: u8, body: &[u8]) -> Result<Message, FormError>
+    ensures found { IfOk result (λ message. Has kind body.now message) }
+    ensures only { (message : Message) → Has kind body.now message → Answers result message }
+{
+    read_whole(alloc, kind, body)
+}
+
+/// A datagram has room for the body of each message that fits: 32,719 bytes.
+#[tactic(auto, using(crate::proofs::Short::body_short))]
+pub fn bodies_are_short()
+    ensures { (message : Message) → MessageFits message → length (body_of message) ≤ 32719 }
+{}

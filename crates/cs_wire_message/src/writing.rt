@@ -1,0 +1,112 @@
+//! Writing bodies.
+ghost use Rattle.std.specs.Prelude.{◌≡◌, ◌++◌, ◌<◌, ◌^◌, ◌∷◌, OnOk, OnErr};
+ghost use Rattle.cs_tx_value.specs.Object.{DigestFits};
+ghost use Rattle.cs_tx_value.specs.Reading.{Begins};
+ghost use Rattle.cs_wire_message.specs.Message.{flag_encoding, step_encoding, prepared_encoding, PairFits, change_encoding, ChangeFits, asked_encoding, AskedFits, body_of, MessageFits};
+
+use crate::change::Change;
+use crate::message::Message;
+use cs_base::{Key, Memory, Writer};
+use cs_tx_value::{Digest, Encoded, write_counted};
+
+fn write_flag(flag: bool, out: &mut Writer) -> Result<(), Memory>
+    ensures ok { OnOk result (out.new ≡ out.old ++ flag_encoding flag) }
+    ensures err { OnErr result (Begins out.new out.old) }
+{
+    out.u8(u8::from(flag))
+}
+
+fn write_step(slot: u64, view: u16, digest: &Digest, out: &mut Writer) -> Result<(), Memory>
+    requires { DigestFits digest.now }
+    ensures ok { OnOk result (out.new ≡ out.old ++ step_encoding slot view digest.now) }
+    ensures err { OnErr result (Begins out.new out.old) }
+{
+    slot.encode(out)?;
+    view.encode(out)?;
+    digest.encode(out)
+}
+
+fn write_prepared(prepared: &Option<(u16, Digest)>, out: &mut Writer) -> Result<(), Memory>
+    requires { PairFits prepared.now }
+    ensures ok { OnOk result (out.new ≡ out.old ++ prepared_encoding prepared.now) }
+    ensures err { OnErr result (Begins out.new out.old) }
+{
+    match prepared {
+        None => out.u8(0),
+        Some(pair) => {
+            out.u8(1)?;
+            pair.0.encode(out)?;
+            pair.1.encode(out)
+        }
+    }
+}
+
+#[tactic(auto, using(crate::proofs::Risen::written))]
+fn write_change(view: u16, change: &Change, out: &mut Writer) -> Result<(), Memory>
+    requires { ChangeFits view change.now }
+    ensures ok { OnOk result (out.new ≡ out.old ++ change_encoding change.now) }
+    ensures err { OnErr result (Begins out.new out.old) }
+{
+    write_prepared(&change.prepared, out)?;
+    write_counted(&change.echoed, out)
+}
+
+fn write_asked(key: &Option<Key>, out: &mut Writer) -> Result<(), Memory>
+    requires { AskedFits key.now }
+    ensures ok { OnOk result (out.new ≡ out.old ++ asked_encoding key.now) }
+    ensures err { OnErr result (Begins out.new out.old) }
+{
+    match key {
+        None => Ok(()),
+        Some(key) => key.encode(out),
+    }
+}
+
+/// Appends the body of a message.
+pub fn write_body(message: &Message, out: &mut Writer) -> Result<(), Memory>
+    requires { MessageFits message.now }
+    ensures ok { OnOk result (out.new ≡ out.old ++ body_of message.now) }
+    ensures err { OnErr result (Begins out.new out.old) }
+{
+    match message {
+        Message::Submit(session) => session.encode(out),
+        Message::Propose { slot, view, entry } => {
+            slot.encode(out)?;
+            view.encode(out)?;
+            entry.encode(out)
+        }
+        Message::Echo { slot, view, digest } => write_step(*slot, *view, digest, out),
+        Message::Confirm { slot, view, digest } => write_step(*slot, *view, digest, out),
+        Message::Change { slot, view, change } => {
+            slot.encode(out)?;
+            view.encode(out)?;
+            write_change(*view, change, out)
+        }
+        Message::Voted {
+            vote,
+            asks,
+            session,
+        } => {
+            vote.encode(out)?;
+            write_flag(*asks, out)?;
+            session.encode(out)
+        }
+        Message::Decided { session, accepted } => {
+            session.encode(out)?;
+            write_flag(*accepted, out)
+        }
+        Message::Want { slot } => slot.encode(out),
+        Message::Done { slot, entry } => {
+            slot.encode(out)?;
+            entry.encode(out)
+        }
+        Message::Ask(key) => write_asked(key, out),
+        Message::Told { key, state } => {
+            key.encode(out)?;
+            state.encode(out)
+        }
+        Message::Head(checkpoint) => checkpoint.encode(out),
+        Message::AskProof { slot } => slot.encode(out),
+        Message::Proof(proof) => proof.encode(out),
+    }
+}

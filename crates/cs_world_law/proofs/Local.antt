@@ -1,0 +1,218 @@
+-- What one node holds, votes on, executes and sends is fine, where what it was given is.
+use Rattle.std.proofs.Common.{◌≡◌, ◌⊎◌, inl, inr, ℕ, List, [], ◌∷◌, ◌++◌, Some, map, sym, ◌∙◌, ap, subst, refl}
+use Rattle.std.specs.Prelude.{Ok, Err, slice_get}
+use Rattle.cs_base.specs.declared.node_id.NodeId.{NodeId}
+use Rattle.cs_tx_form.specs.declared.session.Session.{Session}
+use Rattle.cs_tx_form.specs.declared.entry.Entry.{Entry}
+use Rattle.cs_tx_form.specs.Session.{SessionFits, EntryFits}
+use Rattle.cs_wire_message.specs.declared.message.Message.{Message}
+use Rattle.cs_wire_message.specs.declared.message.Message.TheVariants as message
+use Rattle.cs_wire.specs.Opened.{Opened}
+use Rattle.cs_order.specs.declared.proposed.Proposed.{Proposed}
+use Rattle.cs_order.specs.Lists as Order
+use Rattle.cs_order.specs.Deeds.{Deed, Took_in, Advanced, Echoed, Proposing, Ticked, Resent, Replied, Member, chosen_in}
+use Rattle.cs_order.specs.Runs.{Keeps, IsKept, entries_in as entries_by, held_in}
+use Rattle.cs_ledger.specs.Ledger.{Bytes, IsIn}
+use Rattle.cs_ledger.specs.Table.{Effect}
+use Rattle.cs_ledger.proofs.Basics.{in_either}
+use Rattle.cs_node_rules.specs.Setup.{session_in}
+use Rattle.cs_node_rules.specs.Signs.{Dropped, Took, Entered, Viewed, Did, Sent}
+use Rattle.cs_node_rules.specs.Site.{Datagram, Tick, Mark, In, Ordered, Plain, Site, signs_of}
+use Rattle.cs_node_rules.specs.Collisions.{sessions_in, entries_in, in_opened}
+use Rattle.cs_node_rules.specs.Deployment.{proposed_of}
+use Rattle.cs_node_law.specs.Made.{view_at, HasVotedOn, current, IsHeard, IsMade, AllMade}
+use Rattle.cs_world_law.specs.Chain.{Known, IsFine, IsWithin, IsSound}
+use Rattle.cs_node_law.proofs.Views.{sessions_given, me-same}
+use Rattle.cs_world_law.proofs.Deeds.{deeds_in, member-is}
+use Rattle.cs_world_law.proofs.Trails.{AllWithin}
+use Rattle.cs_node_law.proofs.Pools.{Place, IsSourced, pool-sourced}
+use Rattle.cs_node_law.proofs.Due.{IsDueFrom, due-from}
+use Rattle.cs_node_law.proofs.Fitting.{session-fits, entry-fits, sessions-fit, entries-fit}
+
+-- ---- messages and entries
+
+pub order-either : {A : Type 0} (x : A) (xs ys : List A) → Order.IsIn x (xs ++ ys) → Order.IsIn x xs ⊎ Order.IsIn x ys
+order-either x [] ys h = inr h
+order-either x (z ∷ xs) ys (inl e) = inl (inl e)
+order-either x (z ∷ xs) ys (inr h) = elim (order-either x xs ys h) [ inl a ↦ inl (inr a) | inr b ↦ inr b ]
+
+in-map : {A B : Type 0} (f : A → B) (y : B) (xs : List A) → Order.IsIn y (map f xs) → (x : A) × (IsIn x xs) × (y ≡ f x)
+in-map f y [] i = absurd i
+in-map f y (x ∷ xs) (inl e) = (x, inl refl, e)
+in-map f y (x ∷ xs) (inr i) = let r = in-map f y xs i in (r.0, inr r.1, r.2)
+
+-- the session of an entry in a message stands there too
+entry-session : (m : Message) (e : Entry) → IsIn e (entries_in m) → IsIn (session_in e) (sessions_in m)
+entry-session (message.Propose slot view entry) e (inl is) = inl (ap session_in is)
+entry-session (message.Propose slot view entry) e (inr none) = absurd none
+entry-session (message.Done slot entry) e (inl is) = inl (ap session_in is)
+entry-session (message.Done slot entry) e (inr none) = absurd none
+entry-session (message.Submit y) e i = absurd i
+entry-session (message.Echo slot view digest) e i = absurd i
+entry-session (message.Confirm slot view digest) e i = absurd i
+entry-session (message.Change slot view change) e i = absurd i
+entry-session (message.Voted vote asks y) e i = absurd i
+entry-session (message.Decided digest accepted) e i = absurd i
+entry-session (message.Want slot) e i = absurd i
+entry-session (message.Ask asked) e i = absurd i
+entry-session (message.Told key state) e i = absurd i
+entry-session (message.Head checkpoint) e i = absurd i
+entry-session (message.AskProof slot) e i = absurd i
+entry-session (message.Proof proof) e i = absurd i
+
+-- a known entry, as it is proposed
+pub record IsListed (known : Known) (p : Proposed) : Type 0 where
+  pub entry : Entry
+  pub fits : EntryFits entry
+  pub is : p ≡ proposed_of entry
+  pub session : IsIn (session_in entry) known.sessions
+  pub listed : IsIn entry known.entries
+
+-- a known session
+abbrev pub IsOurs : Known → Session → Type 0
+IsOurs known x = SessionFits x × IsIn x known.sessions
+
+module _ {M : Type 0} (site : Site M) (sound : IsSound site) (known : Known) (me : NodeId) where
+  -- ---- what was given
+
+  heard-fine : (t : List (Mark M)) (bytes : Bytes) (sender : NodeId) (said : Message) → AllWithin site known me t → current t ≡ Some (Datagram bytes) → site.net.opened me bytes ≡ Ok (sender, said) → IsFine known said
+  heard-fine [] bytes sender said within c reads = cc
+  heard-fine (In (Datagram other) ∷ t) bytes sender said within c reads = let same : other ≡ bytes = cc in within.0 sender said (ap (site.net.opened me) same ∙ reads)
+  heard-fine (In Tick ∷ t) bytes sender said within c reads = cc
+  heard-fine (Ordered deed ∷ t) bytes sender said within c reads = heard-fine t bytes sender said within.1 c reads
+  heard-fine (Plain sign ∷ t) bytes sender said within c reads = heard-fine t bytes sender said within.1 c reads
+
+  -- as the node itself hears it
+  pub heard-reads : (t : List (Mark M)) (sender : NodeId) (said : Message) → (h : IsHeard site (view_at site me t) t sender said) → site.net.opened me h.bytes ≡ Ok (sender, said)
+  heard-reads t sender said h = ap (λ (n : NodeId). site.net.opened n h.bytes) (sym (me-same site me t)) ∙ h.reads
+
+  pub fine : (t : List (Mark M)) (sender : NodeId) (said : Message) → AllWithin site known me t → IsHeard site (view_at site me t) t sender said → IsFine known said
+  fine t sender said within h = heard-fine t h.bytes sender said within h.is_current (heard-reads t sender said h)
+
+  pub given-ours : (t : List (Mark M)) (x : Session) → AllWithin site known me t → IsIn x (sessions_given site me t) → IsOurs known x
+  given-ours [] x within i = absurd i
+  given-ours (In (Datagram bytes) ∷ t) x within i =
+      elim (in_either x (in_opened sessions_in (site.net.opened me bytes)) (sessions_given site me t) i) [
+        | inl here ↦ opens (site.net.opened me bytes) refl here
+        | inr before ↦ given-ours t x within.1 before
+      ]
+    where
+      opens : (o : Opened) → site.net.opened me bytes ≡ o → IsIn x (in_opened sessions_in o) → IsOurs known x
+      opens (Ok said) is j = let f = within.0 said.0 said.1 is in (sessions-fit said.1 f.fits x j, f.sessions x j)
+      opens (Err error) is j = absurd j
+  given-ours (In Tick ∷ t) x within i = given-ours t x within.1 i
+  given-ours (Ordered deed ∷ t) x within i = given-ours t x within.1 i
+  given-ours (Plain sign ∷ t) x within i = given-ours t x within.1 i
+
+  -- ---- the order's deeds
+
+  pub deeds-kept : (t : List (Mark M)) → AllMade site me t → IsKept site.machine site.setup.f me.index (deeds_in t)
+  deeds-kept [] made = tt
+  deeds-kept (In input ∷ t) made = deeds-kept t made.1
+  deeds-kept (Plain sign ∷ t) made = deeds-kept t made.1
+  deeds-kept (Ordered deed ∷ t) made = (subst (λ (h : Member M). Keeps site.machine h deed) (member-is site me t) made.0.0, deeds-kept t made.1)
+
+  pub record IsLocal (t : List (Mark M)) : Type 0 where
+    pub held : (p : Proposed) → Order.IsIn p (held_in site.machine (deeds_in t)) → IsListed known p
+    pub voted : (x : Session) → HasVotedOn x (signs_of t) → IsOurs known x
+
+  pooled-ours : (t : List (Mark M)) (e : Place) → AllMade site me t → AllWithin site known me t → IsLocal t → IsIn e (view_at site me t).bench.pool → IsOurs known e.1.session
+  pooled-ours t e made within l i =
+      let s : IsSourced site me t e = subst (λ (n : NodeId). IsSourced site n t e) (me-same site me t) (pool-sourced site me t made e i) in
+      elim s.source [
+        | inl new ↦ given-ours t e.1.session within new.1
+        | inr voted ↦ l.voted e.1.session voted
+      ]
+
+  due-ours : (t : List (Mark M)) (entry : Entry) → AllMade site me t → AllWithin site known me t → IsLocal t → IsDueFrom site.setup (view_at site me t).bench.pool entry → IsOurs known (session_in entry)
+  due-ours t entry made within l d =
+      let o = pooled-ours t d.0 made within l d.1 in
+      elim d.2 [
+        | inl prepare ↦ subst (λ z. IsOurs known (session_in z)) (sym prepare) o
+        | inr decision ↦ subst (λ z. IsOurs known (session_in z)) (sym decision.1) o
+      ]
+
+  -- what is due is known, and read back
+  pub due-read : (t : List (Mark M)) (entry : Entry) → AllMade site me t → AllWithin site known me t → IsLocal t → IsDueFrom site.setup (view_at site me t).bench.pool entry → site.entry_in (site.proposed_of entry) ≡ entry
+  due-read t entry made within l d = ap site.entry_in (sound.proposes entry) ∙ sound.reads entry (entry-fits entry (due-ours t entry made within l d).0)
+
+  -- the entries that a deed hands in
+  pub by-deed : (t : List (Mark M)) (deed : Deed M) → AllMade site me t → AllWithin site known me t → IsLocal t → IsMade site me t (Ordered deed) → IsWithin site known me (Ordered deed)
+      → (p : Proposed) → Order.IsIn p (entries_by site.machine deed) → IsListed known p
+  by-deed t (Took_in from m) made within l is in_known p i =
+      let k = is.1 in
+      let f = fine t (record { shard = (view_at site me t).me.shard; index = from }) k.said within k.heard in
+      let r = in-map proposed_of p (entries_in k.said) (subst (λ z. Order.IsIn p z) (sound.carries.entries k.said m k.reads) i) in
+      record { entry = r.0; fits = entries-fit k.said f.fits r.0 r.1; is = r.2; session = f.sessions (session_in r.0) (entry-session k.said r.0 r.1); listed = f.entries r.0 r.1 }
+  by-deed t (Advanced step sent) made within l is in_known p i = absurd i
+  by-deed t (Echoed sent) made within l is in_known p i = absurd i
+  by-deed t (Ticked on sent) made within l is in_known p i = absurd i
+  by-deed t (Resent sent) made within l is in_known p i = absurd i
+  by-deed t (Replied slot to sent) made within l is in_known p i = absurd i
+  by-deed t (Proposing proposed sent) made within l is in_known p (inr none) = absurd none
+  by-deed t (Proposing proposed sent) made within l is in_known p (inl same) =
+      elim is.1 [
+        | inl due ↦
+            let d = due-from site.setup (view_at site me t).bench.pool due.entry due.due in
+            let o = due-ours t due.entry made within l d in
+            let read : site.entry_in proposed ≡ due.entry = ap site.entry_in due.is ∙ due-read t due.entry made within l d in
+            record {
+              entry = due.entry;
+              fits = entry-fits due.entry o.0;
+              is = same ∙ due.is ∙ sound.proposes due.entry;
+              session = o.1;
+              listed = subst (λ z. IsIn z known.entries) read (in_known (site.entry_in proposed) (inl refl));
+            }
+        | inr candidate ↦
+            let may = ap site.machine.may_propose (sym (member-is site me t)) ∙ candidate.may in
+            l.held p (subst (λ z. Order.IsIn z (held_in site.machine (deeds_in t))) (sym same) (sound.holds.offered site.setup.f me.index (deeds_in t) (deeds-kept t made) candidate.candidates proposed may candidate.within))
+      ]
+
+  -- what was chosen was handed in, and read back
+  chosen-listed : (t : List (Mark M)) (slot : ℕ) (p : Proposed) → AllMade site me t → IsLocal t → slice_get (chosen_in (view_at site me t).member.deeds) slot ≡ Some p → IsListed known p
+  chosen-listed t slot p made l chosen =
+      let at = subst (λ (h : Member M). slice_get (chosen_in h.deeds) slot ≡ Some p) (member-is site me t) chosen in
+      l.held p (sound.holds.logged site.setup.f me.index (deeds_in t) (deeds-kept t made) slot p at)
+
+  -- what was executed is known
+  pub record IsDone (entry : Entry) : Type 0 where
+    pub fits : EntryFits entry
+    pub session : IsIn (session_in entry) known.sessions
+
+  pub did-done : (t : List (Mark M)) (slot : ℕ) (entry : Entry) (effect : Effect) → AllMade site me (Plain (Did slot entry effect) ∷ t) → IsLocal t → IsDone entry
+  did-done t slot entry effect made l =
+      let p = chosen-listed t slot made.0.proposed made.1 l made.0.chosen in
+      let same : p.entry ≡ entry = sym (sound.reads p.entry p.fits) ∙ ap site.entry_in (sym p.is) ∙ made.0.reads in
+      record { fits = subst EntryFits same p.fits; session = subst (λ z. IsIn (session_in z) known.sessions) same p.session }
+
+  pub local : (t : List (Mark M)) → AllMade site me t → AllWithin site known me t → IsLocal t
+  local [] made within = record { held = λ p i. absurd i; voted = λ x h. absurd h }
+  local (In input ∷ t) made within = let l = local t made.1 within.1 in record { held = l.held; voted = l.voted }
+  local (Plain (Dropped cause) ∷ t) made within = let l = local t made.1 within.1 in record { held = l.held; voted = l.voted }
+  local (Plain (Took sender vote x) ∷ t) made within = let l = local t made.1 within.1 in record { held = l.held; voted = l.voted }
+  local (Plain (Entered x) ∷ t) made within = let l = local t made.1 within.1 in record { held = l.held; voted = l.voted }
+  local (Plain (Viewed slot view) ∷ t) made within = let l = local t made.1 within.1 in record { held = l.held; voted = l.voted }
+  local (Plain (Sent to said) ∷ t) made within = let l = local t made.1 within.1 in record { held = l.held; voted = l.voted }
+  local (Plain (Did slot entry effect) ∷ t) made within =
+      let l = local t made.1 within.1 in
+      let d = did-done t slot entry effect made l in
+      record {
+        held = l.held;
+        voted = λ x h. elim h [
+          | inl now ↦ subst (λ z. IsOurs known (session_in z)) now.0 (session-fits entry d.fits, d.session)
+          | inr before ↦ l.voted x before
+        ];
+      }
+  local (Ordered deed ∷ t) made within =
+      let l = local t made.1 within.1 in
+      record {
+        held = λ p i. elim (order-either p (entries_by site.machine deed) (held_in site.machine (deeds_in t)) i) [
+          | inl now ↦ by-deed t deed made.1 within.1 l made.0 within.0 p now
+          | inr before ↦ l.held p before
+        ];
+        voted = l.voted;
+      }
+
+  -- a session of the pool is known
+  pub pooled-known : (t : List (Mark M)) (e : Place) → AllMade site me t → AllWithin site known me t → IsIn e (view_at site me t).bench.pool → IsOurs known e.1.session
+  pooled-known t e made within i = pooled-ours t e made within (local t made within) i

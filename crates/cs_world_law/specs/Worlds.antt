@@ -1,0 +1,132 @@
+-- Worlds of any number of shards, and what is said of them.
+use Rattle.std.specs.Prelude.{◌≡◌, ℕ, ◌<◌, ◌≤◌, Bool, true, List, ◌++◌, length, Some}
+use Rattle.cs_base.specs.declared.config.Config.{Config}
+use Rattle.cs_base.specs.declared.node_id.NodeId.{NodeId}
+use Rattle.cs_tx_value.specs.declared.object.Object.{Object}
+use Rattle.cs_tx_form.specs.declared.transaction.Tx.{Tx}
+use Rattle.cs_tx_form.specs.declared.session.Session.{Session}
+use Rattle.cs_tx_form.specs.declared.entry.Entry.{Entry}
+use Rattle.cs_tx_form.specs.Session.{EntryFits}
+use Rattle.cs_tx.specs.Sessions.{session_of}
+use Rattle.cs_order.specs.Deeds.{Machine}
+use Rattle.cs_order.specs.Runs.{FewLiars}
+use Rattle.cs_ledger.specs.Ledger.{Bytes, Transaction, IsIn, Serial, IsSpentOnce, genesis_ledger, ledger_of, uses_once}
+use Rattle.cs_ledger.specs.Session as Seen
+use Rattle.cs_ledger.specs.Table.{free_object}
+use Rattle.cs_node_rules.specs.Setup.{digest_of, concerns, session_in}
+use Rattle.cs_node_rules.specs.Net.{net_of}
+use Rattle.cs_node_rules.specs.Signs.{Sign}
+use Rattle.cs_node_rules.specs.Site.{Carrier, Site, signs_of}
+use Rattle.cs_node_rules.specs.World.{Happening, trail_of, view_of, IsLife, AreHonest, NoForgery, firsts_of, slots_of, all_recorded, history, accepts_in, aborts_in}
+use Rattle.cs_node_rules.specs.Ready.{Executed, VotesFree, AcceptsLocked}
+use Rattle.cs_node_rules.specs.Collisions.{known_sessions, NoCollision}
+use Rattle.cs_node_rules.specs.Carrying.{Carries}
+use Rattle.cs_node_rules.specs.Deployment.{setup_of, site_of}
+use Rattle.cs_node_law.specs.Made.{log_in}
+use Rattle.cs_node_law.specs.Given.{AreBytes}
+
+abbrev pub is_honest : {M : Type 0} → Site M → NodeId → Bool
+is_honest {M} site name = site.net.is_honest name
+
+-- A world: honest nodes keep the rules, and are given bytes of which none is forged. Few enough nodes of a shard lie.
+pub record IsWorld {M : Type 0} (site : Site M) (world : List (Happening M)) : Type 0 where
+  pub serves : site.machine.serves site.setup.f ≡ true
+  pub few : (shard : ℕ) → shard < site.setup.shards → FewLiars site.setup.f (λ index. is_honest site (record { shard = shard; index = index }))
+  pub honest : AreHonest site.net world
+  pub life : IsLife site world
+  pub bytes : AreBytes world
+  pub genuine : NoForgery site.net world
+
+-- what a node executed, took and sent
+abbrev pub signs_at : {M : Type 0} → NodeId → List (Happening M) → List Sign
+signs_at {M} i world = signs_of (trail_of i world)
+
+-- ---- what is said of a world
+
+-- The history is one that the plain ledger takes, and every check says yes.
+abbrev pub IsSerial : {M : Type 0} → Site M → List (Happening M) → Type 0
+IsSerial {M} site world = Serial (genesis_ledger site.setup.rules.genesis) (history site world)
+
+-- No object is an input of two transactions of the history, nor twice of one.
+abbrev pub SpendsOnce : {M : Type 0} → Site M → List (Happening M) → Type 0
+SpendsOnce {M} site world =
+    IsSpentOnce (history site world) × ((tx : Transaction) → IsIn tx (history site world) → uses_once tx ≡ true)
+
+-- No two honest nodes, of any shards, decide a session differently.
+abbrev pub DecidesOnce : {M : Type 0} → Site M → List (Happening M) → Type 0
+DecidesOnce {M} site world =
+    (i j : NodeId) (d : Bytes) → is_honest site i ≡ true → is_honest site j ≡ true →
+    accepts_in site.setup d (signs_at i world) ≡ true → aborts_in site.setup d (signs_at j world) ≡ true → ⊥
+
+-- Each session that an honest node executed stood in an input.
+abbrev pub ExecutesGiven : {M : Type 0} → Site M → List (Happening M) → Type 0
+ExecutesGiven {M} site world =
+    (i : NodeId) (entry : Entry) → Executed (signs_at i world) entry → IsIn (session_in entry) (known_sessions site world)
+
+-- Each entry that an honest node executed has an encoding.
+abbrev pub ExecutesFit : {M : Type 0} → Site M → List (Happening M) → Type 0
+ExecutesFit {M} site world = (i : NodeId) (entry : Entry) → Executed (signs_at i world) entry → EntryFits entry
+
+-- Each transaction that an honest node accepted is in the history.
+abbrev pub TellsAccepted : {M : Type 0} → Site M → List (Happening M) → Type 0
+TellsAccepted {M} site world =
+    (i : NodeId) (x : Session) → is_honest site i ≡ true → IsIn x (known_sessions site world) →
+    accepts_in site.setup (digest_of site.setup x) (signs_at i world) ≡ true →
+    IsIn (site.setup.session_of x).transaction (history site world)
+
+-- Once all concerned shards have voted commit on a session, its transaction is in the history, and no honest node decides abort on it, then or later.
+abbrev pub TellsCommitted : {M : Type 0} → Site M → List (Happening M) → Type 0
+TellsCommitted {M} site world =
+    (later earlier : List (Happening M)) → world ≡ later ++ earlier →
+    (x : Session) → IsIn x (known_sessions site world) → (shard : ℕ) → concerns site.setup x shard ≡ true →
+    all_recorded site.setup (firsts_of earlier) x ≡ true →
+    IsIn (site.setup.session_of x).transaction (history site earlier)
+    × ((i : NodeId) → is_honest site i ≡ true → aborts_in site.setup (digest_of site.setup x) (signs_at i world) ≡ true → ⊥)
+
+-- The node has executed every slot that its shard has.
+abbrev pub IsUpToDate : {M : Type 0} → NodeId → List (Happening M) → Type 0
+IsUpToDate {M} i world = length (log_in (signs_at i world)) ≡ slots_of i.shard (firsts_of world)
+
+-- An object that is free in the table of an honest node that has executed all of its shard is in the ledger after the history.
+abbrev pub HoldsFree : {M : Type 0} → Site M → List (Happening M) → Type 0
+HoldsFree {M} site world =
+    (i : NodeId) → is_honest site i ≡ true → IsUpToDate i world →
+    (name object : Bytes) → free_object ((view_of site world i).bench.table.at (Seen.Object name)).state ≡ Some object →
+    (ledger_of (genesis_ledger site.setup.rules.genesis) (history site world)).active name ≡ Some object
+
+-- The one node of a shard has executed all of it.
+abbrev pub LeadsAlone : {M : Type 0} → Site M → List (Happening M) → Type 0
+LeadsAlone {M} site world = site.setup.f ≡ 0 → (i : NodeId) → is_honest site i ≡ true → IsUpToDate i world
+
+-- A free session is voted commit at each honest node, and the vote is sent.
+abbrev pub AllVoteFree : {M : Type 0} → Site M → List (Happening M) → Type 0
+AllVoteFree {M} site world = (i : NodeId) → is_honest site i ≡ true → VotesFree site.setup i (signs_at i world)
+
+-- A locked session is accepted at each honest node.
+abbrev pub AllAcceptLocked : {M : Type 0} → Site M → List (Happening M) → Type 0
+AllAcceptLocked {M} site world = (i : NodeId) → is_honest site i ≡ true → AcceptsLocked site.setup i.shard (signs_at i world)
+
+-- ---- of all worlds
+
+-- the site of a deployment under one master key, with these liars, whose order keeps these rules, and whose judge approves so
+abbrev pub deployed : {M : Type 0} → Config → Bytes → List NodeId → List Object → (Tx → Bool) → Machine M → Carrier M → Site M
+deployed {M} config master liars genesis approves machine carrier =
+    site_of (setup_of config genesis (session_of approves)) (net_of config master liars) machine carrier
+
+-- It is true of the worlds of every deployment of at most 16 shards under these rules.
+abbrev pub OfWorlds : {M : Type 0} → Machine M → (Site M → List (Happening M) → Type 0) → Type 0
+OfWorlds {M} machine Says =
+    (carrier : Carrier M) → Carries machine carrier →
+    (config : Config) (master : Bytes) (liars : List NodeId) (genesis : List Object) (approves : Tx → Bool) (world : List (Happening M)) →
+    config.shards ≤ 16 → config.f ≤ 5 →
+    IsWorld (deployed config master liars genesis approves machine carrier) world → Says (deployed config master liars genesis approves machine carrier) world
+
+-- It is true of those in which, besides, no two hashed strings collide.
+abbrev pub OfWorldsApart : {M : Type 0} → Machine M → (Site M → List (Happening M) → Type 0) → Type 0
+OfWorldsApart {M} machine Says =
+    (carrier : Carrier M) → Carries machine carrier →
+    (config : Config) (master : Bytes) (liars : List NodeId) (genesis : List Object) (approves : Tx → Bool) (world : List (Happening M)) →
+    config.shards ≤ 16 → config.f ≤ 5 →
+    IsWorld (deployed config master liars genesis approves machine carrier) world →
+    NoCollision (deployed config master liars genesis approves machine carrier) genesis world →
+    Says (deployed config master liars genesis approves machine carrier) world
