@@ -5,7 +5,7 @@ use Rattle.std.specs.Int.{Width, w8, w16, w32, w64, byte_len, from_be_bytes, to_
 use Rattle.std.proofs.lemmas.Bool.{eqb-true, cases_lt, ltb-false, le-ltb, leb-true, le-leb}
 use Rattle.std.proofs.lemmas.List.{append-nil, nil_from_length, take_at, drop_at, take-append-drop, length-append, length-take, get_or-drop, get_or-take, get_or_past}
 use Rattle.std.proofs.lemmas.Nat.{be_bytes_2, be_bytes_4, be_bytes_8, from_be_bytes-to_be_bytes_2, from_be_bytes-to_be_bytes_4, from_be_bytes-to_be_bytes_8}
-use Rattle.cs_base.specs.Fields.{IsBytes, each, counted, Found, ◌>>=◌, ◌<$>◌, bytes_at, number_at, upto_at, many_at, counted_at, some_at, pair_at, tested_at, within_at, Takes, IsForm, whole_at}
+use Rattle.cs_base.specs.Fields.{IsBytes, each, counted, Found, ◌>>=◌, ◌<$>◌, bytes_at, number_at, upto_at, many_at, counted_at, some_at, pair_at, tested_at, within_at, Splits, IsForm, whole_at}
 
 pub IsBytes-drop : (n : ℕ) (bytes : List ℕ) → IsBytes bytes → IsBytes (drop n bytes)
 IsBytes-drop n bytes h i = rw get_or-drop (h (n + i))
@@ -43,7 +43,7 @@ when_some false r y e = absurd cc
 
 -- ---- forms
 
-pub Takes-then : (a x b y c : List ℕ) → Takes a x b → Takes b y c → Takes a (x ++ y) c
+pub Takes-then : (a x b y c : List ℕ) → Splits a x b → Splits b y c → Splits a (x ++ y) c
 Takes-then a x b y c p q = record { parts = p.parts ∙ ap (λ (t : List ℕ). x ++ t) q.parts ∙ sym (append_assoc x y c); rest_fits = q.rest_fits }
 
 -- ---- numbers
@@ -78,7 +78,7 @@ wide64 = record {
   below = λ bytes fits. omega (arith, fits 0, fits 1, fits 2, fits 3, fits 4, fits 5, fits 6, fits 7);
 }
 
-number-takes : (w : Width) (limit : ℕ) (wide : IsWide w limit) (bytes : List ℕ) (n : ℕ) (rest : List ℕ) → IsBytes bytes → number_at w bytes ≡ Some (n, rest) → Takes bytes (to_be_bytes w n) rest × (n < limit)
+number-takes : (w : Width) (limit : ℕ) (wide : IsWide w limit) (bytes : List ℕ) (n : ℕ) (rest : List ℕ) → IsBytes bytes → number_at w bytes ≡ Some (n, rest) → Splits bytes (to_be_bytes w n) rest × (n < limit)
 number-takes w limit wide bytes n rest fits e =
     let g = unless_some (ltb (length bytes) (byte_len w)) (from_be_bytes w (take (byte_len w) bytes), drop (byte_len w) bytes) (n, rest) e in
     let long : byte_len w ≤ length bytes = ltb-false _ _ g.0 in
@@ -96,11 +96,11 @@ number-again w limit wide n rest lt =
 pub number_form : (w : Width) (limit : ℕ) → IsWide w limit → IsForm (to_be_bytes w) (λ n. n < limit) (number_at w)
 number_form w limit wide = record { takes = number-takes w limit wide; again = number-again w limit wide }
 
-byte-takes : (bytes : List ℕ) (n : ℕ) (rest : List ℕ) → IsBytes bytes → number_at w8 bytes ≡ Some (n, rest) → Takes bytes (n ∷ []) rest × (n < 256)
+byte-takes : (bytes : List ℕ) (n : ℕ) (rest : List ℕ) → IsBytes bytes → number_at w8 bytes ≡ Some (n, rest) → Splits bytes (n ∷ []) rest × (n < 256)
 byte-takes [] n rest fits e = absurd cc
 byte-takes (b ∷ bytes) n rest fits e =
     let g = unless_some (ltb (suc (length bytes)) 1) (b, bytes) (n, rest) e in
-    subst (λ (p : ℕ × List ℕ). Takes (b ∷ bytes) (p.0 ∷ []) p.1 × (p.0 < 256)) g.1 (record { parts = refl; rest_fits = λ i. fits (suc i) }, fits 0)
+    subst (λ (p : ℕ × List ℕ). Splits (b ∷ bytes) (p.0 ∷ []) p.1 × (p.0 < 256)) g.1 (record { parts = refl; rest_fits = λ i. fits (suc i) }, fits 0)
 
 byte-again : (n : ℕ) (rest : List ℕ) → n < 256 → number_at w8 (n ∷ rest) ≡ Some (n, rest)
 byte-again n rest lt =
@@ -112,11 +112,11 @@ byte_form = record { takes = byte-takes; again = byte-again }
 
 -- ---- so many bytes
 
-bytes-takes : (n : ℕ) (bytes text rest : List ℕ) → IsBytes bytes → bytes_at n bytes ≡ Some (text, rest) → Takes bytes text rest × ((length text ≡ n) × IsBytes text)
+bytes-takes : (n : ℕ) (bytes text rest : List ℕ) → IsBytes bytes → bytes_at n bytes ≡ Some (text, rest) → Splits bytes text rest × ((length text ≡ n) × IsBytes text)
 bytes-takes n bytes text rest fits e =
     let g = unless_some (ltb (length bytes) n) (take n bytes, drop n bytes) (text, rest) e in
     let long : n ≤ length bytes = ltb-false _ _ g.0 in
-    subst (λ (p : List ℕ × List ℕ). Takes bytes p.0 p.1 × ((length p.0 ≡ n) × IsBytes p.0)) g.1
+    subst (λ (p : List ℕ × List ℕ). Splits bytes p.0 p.1 × ((length p.0 ≡ n) × IsBytes p.0)) g.1
     (record { parts = sym (take-append-drop n bytes); rest_fits = IsBytes-drop n bytes fits }, (omega (arith, length-take n bytes), IsBytes-take n bytes fits))
 
 bytes-again : (n : ℕ) (text rest : List ℕ) → (length text ≡ n) × IsBytes text → bytes_at n (text ++ rest) ≡ Some (text, rest)
@@ -131,17 +131,17 @@ bytes_form n = record { takes = bytes-takes n; again = bytes-again n }
 -- ---- forms made of forms
 
 module _ {X : Type 0} (write : X → List ℕ) (Fits : X → Type 0) (read : List ℕ → Found X) (form : IsForm write Fits read) where
-  many-takes : (n : ℕ) (bytes : List ℕ) (xs : List X) (rest : List ℕ) → IsBytes bytes → many_at read n bytes ≡ Some (xs, rest) → Takes bytes (each write xs) rest × ((length xs ≡ n) × AllByRecursion Fits xs)
+  many-takes : (n : ℕ) (bytes : List ℕ) (xs : List X) (rest : List ℕ) → IsBytes bytes → many_at read n bytes ≡ Some (xs, rest) → Splits bytes (each write xs) rest × ((length xs ≡ n) × AllByRecursion Fits xs)
   unfolding many_at
   many-takes zero bytes xs rest fits e =
-      subst (λ (p : List X × List ℕ). Takes bytes (each write p.0) p.1 × ((length p.0 ≡ 0) × AllByRecursion Fits p.0)) (some_is ([], bytes) (xs, rest) e) (record { parts = refl; rest_fits = fits }, (refl, tt))
+      subst (λ (p : List X × List ℕ). Splits bytes (each write p.0) p.1 × ((length p.0 ≡ 0) × AllByRecursion Fits p.0)) (some_is ([], bytes) (xs, rest) e) (record { parts = refl; rest_fits = fits }, (refl, tt))
   many-takes (suc n) bytes xs rest fits e =
       let a = bind_some (read bytes) (λ first. many_at read n first.1 >>= λ others. Some (first.0 ∷ others.0, others.1)) (xs, rest) e in
       let b = bind_some (many_at read n a.0.1) (λ others. Some (a.0.0 ∷ others.0, others.1)) (xs, rest) a.2 in
       let first = form.takes bytes a.0.0 a.0.1 fits a.1 in
       let others = many-takes n a.0.1 b.0.0 b.0.1 first.0.rest_fits b.1 in
       let both = Takes-then bytes (write a.0.0) a.0.1 (each write b.0.0) b.0.1 first.0 others.0 in
-      subst (λ (p : List X × List ℕ). Takes bytes (each write p.0) p.1 × ((length p.0 ≡ suc n) × AllByRecursion Fits p.0)) (some_is (a.0.0 ∷ b.0.0, b.0.1) (xs, rest) b.2) (both, (ap suc others.1.0, (first.1, others.1.1)))
+      subst (λ (p : List X × List ℕ). Splits bytes (each write p.0) p.1 × ((length p.0 ≡ suc n) × AllByRecursion Fits p.0)) (some_is (a.0.0 ∷ b.0.0, b.0.1) (xs, rest) b.2) (both, (ap suc others.1.0, (first.1, others.1.1)))
 
   many-again : (n : ℕ) (xs : List X) (rest : List ℕ) → (length xs ≡ n) × AllByRecursion Fits xs → many_at read n (each write xs ++ rest) ≡ Some (xs, rest)
   unfolding many_at
@@ -162,7 +162,7 @@ module _ {X : Type 0} (write : X → List ℕ) (Fits : X → Type 0) (read : Lis
         let a = bind_some (read bytes) (λ found. cond (test found.0) (Some found) None) (x, rest) e in
         let g = when_some (test a.0.0) (Some a.0) (x, rest) a.2 in
         let t = form.takes bytes a.0.0 a.0.1 fits a.1 in
-        subst (λ (p : X × List ℕ). Takes bytes (write p.0) p.1 × (Fits p.0 × (test p.0 ≡ true))) (some_is a.0 (x, rest) g.1) (t.0, (t.1, g.0));
+        subst (λ (p : X × List ℕ). Splits bytes (write p.0) p.1 × (Fits p.0 × (test p.0 ≡ true))) (some_is a.0 (x, rest) g.1) (t.0, (t.1, g.0));
     again = λ x rest fits. rw (form.again x rest fits.0, fits.1) refl;
   }
 
@@ -175,7 +175,7 @@ module _ {X : Type 0} (write : X → List ℕ) (Fits : X → Type 0) (read : Lis
         let t = form.takes bytes a.0.0 a.0.1 fits a.1 in
         let small : length bytes - length a.0.1 ≤ most = leb-true _ _ g.0 in
         let whole : length bytes ≡ length (write a.0.0) + length a.0.1 = ap (λ (b : List ℕ). length b) t.0.parts ∙ length-append (write a.0.0) a.0.1 in
-        subst (λ (p : X × List ℕ). Takes bytes (write p.0) p.1 × (Fits p.0 × (length (write p.0) ≤ most))) (some_is a.0 (x, rest) g.1) (t.0, (t.1, omega (arith, small, whole)));
+        subst (λ (p : X × List ℕ). Splits bytes (write p.0) p.1 × (Fits p.0 × (length (write p.0) ≤ most))) (some_is a.0 (x, rest) g.1) (t.0, (t.1, omega (arith, small, whole)));
     again = λ x rest fits.
         let small : leb (length (write x ++ rest) - length rest) most ≡ true = le-leb _ _ (omega (arith, length-append (write x) rest, fits.1)) in
         rw (form.again x rest fits.0, small) refl;
@@ -188,7 +188,7 @@ module _ {X : Type 0} (write : X → List ℕ) (Fits : X → Type 0) (read : Lis
         let a = map_some to (read bytes) (y, rest) e in
         let t = form.takes bytes a.0.0 a.0.1 fits a.1 in
         let h = there a.0.0 t.1 in
-        subst (λ (p : Y × List ℕ). Takes bytes (write (from p.0)) p.1 × FitsY p.0) a.2 (rw h.0 t.0, h.1);
+        subst (λ (p : Y × List ℕ). Splits bytes (write (from p.0)) p.1 × FitsY p.0) a.2 (rw h.0 t.0, h.1);
     again = λ y rest fits.
         let h = back y fits in
         rw (form.again (from y) rest h.1) (ap (λ (z : Y). Some (z, rest)) h.0);
@@ -204,7 +204,7 @@ module _ {X Y : Type 0} (write : X → List ℕ) (Fits : X → Type 0) (read : L
         let first = form.takes bytes a.0.0 a.0.1 fits a.1 in
         let second = form2.takes a.0.1 b.0.0 b.0.1 first.0.rest_fits b.1 in
         let both = Takes-then bytes (write a.0.0) a.0.1 (write2 b.0.0) b.0.1 first.0 second.0 in
-        subst (λ (p : (X × Y) × List ℕ). Takes bytes (write p.0.0 ++ write2 p.0.1) p.1 × (Fits p.0.0 × Fits2 p.0.1)) (some_is ((a.0.0, b.0.0), b.0.1) (x, rest) b.2) (both, (first.1, second.1));
+        subst (λ (p : (X × Y) × List ℕ). Splits bytes (write p.0.0 ++ write2 p.0.1) p.1 × (Fits p.0.0 × Fits2 p.0.1)) (some_is ((a.0.0, b.0.0), b.0.1) (x, rest) b.2) (both, (first.1, second.1));
     again = λ x rest fits.
         let regrouped : (write x.0 ++ write2 x.1) ++ rest ≡ write x.0 ++ (write2 x.1 ++ rest) = append_assoc (write x.0) (write2 x.1) rest in
         ap (pair_at read read2) regrouped ∙ rw (form.again x.0 (write2 x.1 ++ rest) fits.0, form2.again x.1 rest fits.1) refl;
@@ -285,7 +285,7 @@ some_of {X} {write = write} {Fits = Fits} {read = read} form most lt = record {
       let large : 1 ≤ a.0.0 = leb-true _ _ g.0 in
       let small : a.0.0 ≤ most = leb-true _ _ h.0 in
       let both = Takes-then bytes (a.0.0 ∷ []) a.0.1 (each write xs) rest first.0 second.0 in
-      (subst (λ (n : ℕ). Takes bytes ((n ∷ []) ++ each write xs) rest) (sym second.1.0) both, (rw second.1.0 large, (rw second.1.0 small, second.1.1)));
+      (subst (λ (n : ℕ). Splits bytes ((n ∷ []) ++ each write xs) rest) (sym second.1.0) both, (rw second.1.0 large, (rw second.1.0 small, second.1.1)));
   again = λ xs rest fits.
       let large : leb 1 (length xs) ≡ true = le-leb _ _ fits.0 in
       let small : leb (length xs) most ≡ true = le-leb _ _ fits.1.0 in

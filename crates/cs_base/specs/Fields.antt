@@ -93,13 +93,13 @@ Reads (Ok x) before after found = found ≡ Some (x, after)
 Reads (Err e) before after found = (found ≡ None) × (after ≡ before)
 
 -- what was taken from the front of the bytes
-pub record Takes (bytes text rest : List ℕ) : Type 0 where
+pub record Splits (bytes text rest : List ℕ) : Type 0 where
   pub parts : bytes ≡ text ++ rest
   pub rest_fits : IsBytes rest
 
 -- The two directions of one form: what is found fits and was written so, and what fits is found again where it was written.
 pub record IsForm {X : Type 0} (write : X → List ℕ) (Fits : X → Type 0) (read : List ℕ → Found X) : Type 0 where
-  pub takes : (bytes : List ℕ) (x : X) (rest : List ℕ) → IsBytes bytes → read bytes ≡ Some (x, rest) → Takes bytes (write x) rest × Fits x
+  pub takes : (bytes : List ℕ) (x : X) (rest : List ℕ) → IsBytes bytes → read bytes ≡ Some (x, rest) → Splits bytes (write x) rest × Fits x
   pub again : (x : X) (rest : List ℕ) → Fits x → read (write x ++ rest) ≡ Some (x, rest)
 
 -- a reader's find, where nothing is left behind it

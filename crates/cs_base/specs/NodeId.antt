@@ -1,7 +1,7 @@
 -- The names of nodes and clients.
 use Rattle.std.specs.List.{before_first, after_first}
 use Rattle.std.specs.Str.{bytes_eq}
-use Rattle.std.specs.Prelude.{ℕ, ◌*◌, Bool, ◌==◌, nat_lt, nat_le, ◌&&◌, ◌||◌, List, ◌++◌, Option, Some, None, codes, if◌then◌else◌}
+use Rattle.std.specs.Prelude.{ℕ, zero, suc, ◌*◌, Bool, ◌==◌, nat_lt, nat_le, ◌&&◌, ◌||◌, List, [], ◌∷◌, ◌++◌, Option, Some, None, codes, if◌then◌else◌}
 use Rattle.std.specs.Fmt.{decimal}
 use Rattle.cs_base.specs.Codes.{number_of}
 use Rattle.cs_base.specs.declared.node_id.TheConstants.{CLIENT_SHARD, CLIENTS}
@@ -44,3 +44,11 @@ node_at (Some shard) (Some index) = if nat_le shard 65535 && nat_le index 65535 
 -- the name of which the field is the text
 abbrev pub node_of : List ℕ → Option NodeId
 node_of field = node_at (shard_named (before_first (λ byte. byte == 46) field)) (number_of (after_first (λ byte. byte == 46) field))
+
+abbrev pub same_name : NodeId → NodeId → Bool
+same_name a b = a.shard == b.shard && a.index == b.index
+
+-- so many nodes of a shard, by rising index
+abbrev pub members_below : ℕ → ℕ → List NodeId
+members_below shard zero = []
+members_below shard (suc n) = members_below shard n ++ record { shard = shard; index = n } ∷ []

@@ -8,7 +8,7 @@ pub record KeptOfSlot : Type 0 where
   pub f : ℕ
   pub changes : List Filed
 
-pub record Kept : Type 0 where
+pub record KeptChanges : Type 0 where
   pub f : ℕ
   pub view : ℕ
   pub changes : List Filed
@@ -23,7 +23,7 @@ abbrev pub reaches : List Filed → ℕ → ℕ → Bool
 reaches [] view member = false
 reaches (filed ∷ changes) view member = ((filed.member == member) && nat_le view filed.view) || reaches changes view member
 
-abbrev pub told : Kept → ℕ → Option Change
+abbrev pub told : KeptChanges → ℕ → Option Change
 told k = told_in k.changes k.view
 
 abbrev pub none_told : ℕ → Option Change

@@ -21,9 +21,9 @@ pub struct Changes {
 
 impl Model for Changes {
     ghost use Rattle.std.specs.Prelude.{◌≤◌};
-    ghost use Rattle.cs_change.specs.Kept.{Kept};
+    ghost use Rattle.cs_change.specs.Kept.{KeptChanges};
 
-    ghost Value = { Kept };
+    ghost Value = { KeptChanges };
 
     ghost view = { λ s. record { f = s.all.f; view = s.view; changes = s.all.changes } };
 }

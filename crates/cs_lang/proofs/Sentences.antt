@@ -15,7 +15,7 @@ use Rattle.cs_lang.specs.declared.text.LangError.{LangError}
 use Rattle.cs_lang.specs.declared.text.LangError.TheVariants as error
 use Rattle.cs_lang.specs.Rules.{contract}
 use Rattle.cs_lang.specs.Readers.{contract_level}
-use Rattle.cs_lang.specs.Texts.{Answers, IsContract, IsSyntax, IsRefusal, IfSyntax}
+use Rattle.cs_lang.specs.Texts.{AnswersTree, IsContract, IsSyntax, IsRefusal, IfSyntax}
 use Rattle.cs_lang.proofs.TextRules.{contract_law}
 
 law : (n : ℕ) → IsReader (70 ≤ n) (contract n) (is (kind.Method ∷ [])) contract_level

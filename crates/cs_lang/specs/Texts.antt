@@ -33,9 +33,9 @@ IsRefusal text (error.Lex place) = (length text ≤ 65536) × (tokens_of text �
 IsRefusal text (error.Syntax place) = IsSyntax text place
 
 -- it is the answer, unless memory ran out
-abbrev pub Answers : Result Contract LangError → Contract → Type 0
-Answers (Ok x) c = x ≡ c
-Answers (Err why) c = why ≡ error.Memory
+abbrev pub AnswersTree : Result Contract LangError → Contract → Type 0
+AnswersTree (Ok x) c = x ≡ c
+AnswersTree (Err why) c = why ≡ error.Memory
 
 -- no other refusal than one of the grammar, or want of memory, and what holds of its place
 abbrev pub IfSyntax : LangError → (ℕ → Type 0) → Type 0

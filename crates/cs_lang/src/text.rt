@@ -4,7 +4,7 @@ ghost use Rattle.cs_lang_token.specs.Texts.{IsText, IsRefused};
 ghost use Rattle.cs_lang_token.specs.Answers.{place_of};
 ghost use Rattle.cs_lang_token.specs.declared.token.Token.{Token as Read};
 ghost use Rattle.cs_lang.specs.Rules.{contract as Spelled};
-ghost use Rattle.cs_lang.specs.Texts.{Answers, IsContract, IsRefusal, IfSyntax};
+ghost use Rattle.cs_lang.specs.Texts.{AnswersTree, IsContract, IsRefusal, IfSyntax};
 
 use crate::methods::contract;
 use crate::tree::Contract;
@@ -30,7 +30,7 @@ pub enum LangError {
 /// The contract that the tokens of a text of this length spell.
 fn read(alloc: Global, tokens: &[Token], end: usize) -> Result<Contract, LangError>
     ensures found { IfOk result (λ c. IsText Spelled c tokens.now) }
-    ensures only { (c : Contract) → IsText Spelled c tokens.now → Answers result c }
+    ensures only { (c : Contract) → IsText Spelled c tokens.now → AnswersTree result c }
     ensures refused { IfErr result (λ e. IfSyntax e (λ place. (bad : List Read) × IsRefused Spelled tokens.now bad × (place ≡ place_of end bad))) }
 {
     let mut cursor = Cursor::new(tokens);
@@ -51,7 +51,7 @@ pub fn parse(alloc: Global, text: &[u8]) -> Result<Contract, LangError>
     // What is read is spelled by the text, within the limits.
     ensures found { IfOk result (λ c. IsContract text.now c) }
     // What the text spells is read, unless memory runs out.
-    ensures only { (c : Contract) → IsContract text.now c → Answers result c }
+    ensures only { (c : Contract) → IsContract text.now c → AnswersTree result c }
     // A refusal has its cause, and the place that goes with it.
     ensures refused { IfErr result (IsRefusal text.now) }
 {

@@ -3,15 +3,15 @@ use Rattle.std.proofs.Common.{◌≡◌, ℕ, List, true, refl}
 use Rattle.cs_ledger.specs.Ledger.{IsIn}
 use Rattle.cs_ledger.specs.Session.{Rules, Session, concerns, all_items}
 use Rattle.cs_ledger.specs.Table.{Commit, Abort, Aborted}
-use Rattle.cs_ledger.specs.ShardWorld.{Step, IsWorld, sessions, votes, decides, all_commit, history}
+use Rattle.cs_ledger.specs.ShardWorld.{Step, IsShardWorld, sessions, votes, decides, all_commit, history}
 use Rattle.cs_ledger.proofs.Votes.{one_vote, no_both, among_some}
 use Rattle.cs_ledger.proofs.World.{World, world_of}
 use Rattle.cs_ledger.proofs.Decisions.{decided_behind, votes_concern, all_concerned}
 
-pub world : (rules : Rules) (past : List Step) → IsWorld rules past → World rules (sessions past) past
+pub world : (rules : Rules) (past : List Step) → IsShardWorld rules past → World rules (sessions past) past
 world rules past w = world_of rules (sessions past) w.1 past w.0 (λ x i. i)
 
-module _ (rules : Rules) (past : List Step) (w : IsWorld rules past) (x : Session) (k : IsIn x (sessions past)) (all : all_commit rules past x ≡ true) (shard : ℕ) where
+module _ (rules : Rules) (past : List Step) (w : IsShardWorld rules past) (x : Session) (k : IsIn x (sessions past)) (all : all_commit rules past x ≡ true) (shard : ℕ) where
   -- its transaction is in the history
   pub is_listed : concerns rules x shard ≡ true → IsIn x.transaction (history rules past)
   is_listed among = (world rules past w).story.listed x k (all, among_some rules shard (all_items x.transaction) among)

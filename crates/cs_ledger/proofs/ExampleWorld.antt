@@ -4,7 +4,7 @@ use Rattle.std.specs.Prelude.{slice_index}
 use Rattle.cs_ledger.specs.Ledger.{Bytes, Item, Transaction, IsIn, names, all_differ}
 use Rattle.cs_ledger.specs.Session.{Session, Rules, Object, Dummy}
 use Rattle.cs_ledger.specs.Table.{Commit, Active, Inactive, Prepare, Decide, Accepted, table_of}
-use Rattle.cs_ledger.specs.ShardWorld.{Step, log, decides, AllAllowed, history, sessions, NoCollision, IsWorld}
+use Rattle.cs_ledger.specs.ShardWorld.{Step, log, decides, AllAllowed, history, sessions, AreNamedApart, IsShardWorld}
 
 abbrev rules_2 : Rules
 rules_2 = record {
@@ -64,7 +64,7 @@ only z (inr (inr (inr (inr h)))) = absurd h
 heads : (let new : Bytes = 1 ∷ 2 ∷ [] in let old : Bytes = 0 ∷ 1 ∷ [] in new ≡ old) → ⊥
 heads e = let h : ℕ = 1 in let q = ap (λ (b : Bytes). slice_index b 0) e in omega (arith, q)
 
-apart : NoCollision rules_2.genesis (sessions past)
+apart : AreNamedApart rules_2.genesis (sessions past)
 apart =
     record {
       session = λ y z ky kz e. only y ky ∙ sym (only z kz);
@@ -81,5 +81,5 @@ apart =
           ];
     }
 
-pub is_world : IsWorld rules_2 past
+pub is_world : IsShardWorld rules_2 past
 is_world = (allowed, apart)

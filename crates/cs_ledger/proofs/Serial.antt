@@ -5,7 +5,7 @@ use Rattle.std.proofs.lemmas.Bool.{cases_Bool, both_ways, or_cases, or_left, or_
 use Rattle.cs_ledger.specs.Ledger.{Bytes, Item, Transaction, Ledger, IsIn, is_well_formed, names, has, object_at, or_else, genesis_ledger, ledger_after, ledger_of, Takes, Serial}
 use Rattle.cs_ledger.specs.Session.{Session, Rules, Object}
 use Rattle.cs_ledger.specs.Table.{Vote, Commit, State, Unknown, Active, Locked, Inactive, Table, is_held_by}
-use Rattle.cs_ledger.specs.ShardWorld.{is_listed, NoCollision}
+use Rattle.cs_ledger.specs.ShardWorld.{is_listed, AreNamedApart}
 use Rattle.cs_ledger.proofs.Basics.{same_bytes, bytes_from, in_left, in_right, in_either}
 use Rattle.cs_ledger.proofs.Names.{item_has, has_item, item_named, named_item, at_none, at_item}
 use Rattle.cs_ledger.proofs.Settled.{settle}
@@ -69,7 +69,7 @@ unless_none true o object e = cc
 unless_none false o object e = e
 
 -- a transaction goes to the end of the history
-module _ (rules : Rules) (known : List Session) (apart : NoCollision rules.genesis known) (commits : Session → Type 0) (txs : List Transaction) (ledger : Ledger) (told : Told rules known txs ledger) (ledger_is : ledger ≡ ledger_of (genesis_ledger rules.genesis) txs) (y : Session) (knows : IsIn y known) (well : is_well_formed y.transaction ≡ true) (approved : y.transaction.approved ≡ true) (unlisted : is_listed y.transaction txs ≡ false)
+module _ (rules : Rules) (known : List Session) (apart : AreNamedApart rules.genesis known) (commits : Session → Type 0) (txs : List Transaction) (ledger : Ledger) (told : Told rules known txs ledger) (ledger_is : ledger ≡ ledger_of (genesis_ledger rules.genesis) txs) (y : Session) (knows : IsIn y known) (well : is_well_formed y.transaction ≡ true) (approved : y.transaction.approved ≡ true) (unlisted : is_listed y.transaction txs ≡ false)
     (tables : ℕ → Table) (covered : (shard : ℕ) → Covered rules known commits ledger.active txs shard (tables shard)) (none : commits y → ⊥)
     (locks : (item : Item) → IsIn item y.transaction.inputs → ((tables (rules.shard_of item.name)).at (Object item.name)).state ≡ Locked item.object y.digest)
     (reads : (item : Item) → IsIn item y.transaction.references → IsRead item.object y.digest ((tables (rules.shard_of item.name)).at (Object item.name)).state) where

@@ -4,7 +4,7 @@ use Rattle.std.specs.Prelude.{bytes_eq}
 use Rattle.std.proofs.lemmas.Bool.{cases_Bool, both_ways, and_parts, and_from, not-true, not_from_false, false_from_ne_true}
 use Rattle.cs_ledger.specs.Ledger.{Bytes, Item, IsIn, names, has, all_differ}
 use Rattle.cs_ledger.specs.Session.{Session}
-use Rattle.cs_ledger.specs.ShardWorld.{NoCollision}
+use Rattle.cs_ledger.specs.ShardWorld.{AreNamedApart}
 use Rattle.cs_ledger.specs.Strings.{Output, Written, WrittenSession, Origin, transaction_string, output_string, genesis_string, outputs_of, transaction_of, session_from, sessions_from, genesis_from, places_of, Genesis, OfSession, OfTransaction, OfOutput, NoHashCollision, IsFaithful}
 use Rattle.cs_ledger.proofs.Basics.{bytes_from}
 use Rattle.cs_ledger.proofs.Names.{has_item}
@@ -67,7 +67,7 @@ module _ (hash : Bytes → Bytes) (size : (a b : Bytes) → length (hash a) ≡ 
       both_ways _ (not-true _ p.0) (ap (λ z. has z (places_of outputs)) same ∙ place_has r.0 outputs r.1)) in
       and_from _ _ (not_from_false _ other) (places_differ x k outputs (λ q h. within q (inr h)) p.1)
 
-  pub no_collision : NoCollision (genesis_from hash origins) (sessions_from hash written)
+  pub no_collision : AreNamedApart (genesis_from hash origins) (sessions_from hash written)
   no_collision =
       record {
         session = λ x y kx ky e.
@@ -105,7 +105,7 @@ module _ (hash : Bytes → Bytes) (size : (a b : Bytes) → length (hash a) ≡ 
       }
 
 -- fewer sessions collide no more
-pub no_collision_within : (genesis : List Item) (known fewer : List Session) → ((x : Session) → IsIn x fewer → IsIn x known) → NoCollision genesis known → NoCollision genesis fewer
+pub no_collision_within : (genesis : List Item) (known fewer : List Session) → ((x : Session) → IsIn x fewer → IsIn x known) → AreNamedApart genesis known → AreNamedApart genesis fewer
 no_collision_within genesis known fewer within apart =
     record {
       session = λ x y kx ky. apart.session x y (within x kx) (within y ky);

@@ -79,15 +79,15 @@ ledger_after ledger tx =
     }
 
 -- each item is in the ledger with exactly the carried object
-abbrev pub Holds : Ledger → List Item → Type 0
-Holds ledger items = (item : Item) → IsIn item items → ledger.active item.name ≡ Some item.object
+abbrev pub HoldsAll : Ledger → List Item → Type 0
+HoldsAll ledger items = (item : Item) → IsIn item items → ledger.active item.name ≡ Some item.object
 
 -- the ledger takes a transaction
 pub record Takes (ledger : Ledger) (tx : Transaction) : Type 0 where
   pub well_formed : is_well_formed tx ≡ true
   pub approved : tx.approved ≡ true
-  pub inputs : Holds ledger tx.inputs
-  pub references : Holds ledger tx.references
+  pub inputs : HoldsAll ledger tx.inputs
+  pub references : HoldsAll ledger tx.references
   pub fresh : (item : Item) → IsIn item tx.outputs → IsIn item.name ledger.created → ⊥
   pub differ : all_differ (names tx.outputs) ≡ true
 

@@ -114,7 +114,7 @@ abbrev pub decides : Rules → List Step → ℕ → Session → Effect → Bool
 decides rules past shard x effect = decided_in rules shard x.digest effect (log shard past)
 
 -- digests tell sessions and transactions apart, and names outputs and genesis objects
-pub record NoCollision (genesis : List Item) (known : List Session) : Type 0 where
+pub record AreNamedApart (genesis : List Item) (known : List Session) : Type 0 where
   pub session : AreToldApart known
   pub transaction : (x y : Session) → IsIn x known → IsIn y known →
       x.transaction.digest ≡ y.transaction.digest → x.transaction ≡ y.transaction
@@ -126,5 +126,5 @@ pub record NoCollision (genesis : List Item) (known : List Session) : Type 0 whe
       IsIn a.name (names genesis) → ⊥
 
 -- a list of allowed steps whose digests and names do not collide
-abbrev pub IsWorld : Rules → List Step → Type 0
-IsWorld rules past = AllAllowed rules past × NoCollision rules.genesis (sessions past)
+abbrev pub IsShardWorld : Rules → List Step → Type 0
+IsShardWorld rules past = AllAllowed rules past × AreNamedApart rules.genesis (sessions past)

@@ -65,6 +65,15 @@ abbrev pub free_object : State → Option Bytes
 free_object (Active object) = Some object
 free_object _ = None
 
+-- an object is there, which no session holds
+abbrev pub is_free : State → Bool
+is_free (Active object) = true
+is_free _ = false
+
+-- the dummy of this serial is active
+abbrev pub has_active_dummy : Table → ℕ → ℕ → Bool
+has_active_dummy t shard serial = is_free (t.at (Dummy shard serial)).state
+
 -- the vote on a session in a book
 abbrev pub vote_in : Book → Bytes → Option Vote
 vote_in [] d = None

@@ -4,7 +4,7 @@ ghost use Rattle.std.specs.Prelude.{◌≡◌, ℕ, List, true, ◌++◌};
 ghost use Rattle.cs_ledger.specs.Ledger.{IsIn};
 ghost use Rattle.cs_ledger.specs.Session.{Rules, Session, concerns};
 ghost use Rattle.cs_ledger.specs.Table.{Vote, Abort, Aborted};
-ghost use Rattle.cs_ledger.specs.ShardWorld.{Step, IsWorld, sessions, votes, decides, all_commit, one_aborts, history};
+ghost use Rattle.cs_ledger.specs.ShardWorld.{Step, IsShardWorld, sessions, votes, decides, all_commit, one_aborts, history};
 
 /// The vote of a shard stays.
 pub fn votes_more()
@@ -26,10 +26,10 @@ pub fn one_more()
 
 /// Once every concerned shard has voted commit on a session, its transaction is in the history, and no abort comes after.
 pub fn commit_stays()
-    ensures listed { (rules : Rules) (later past : List Step) → IsWorld rules (later ++ past) →
+    ensures listed { (rules : Rules) (later past : List Step) → IsShardWorld rules (later ++ past) →
         (x : Session) → IsIn x (sessions (later ++ past)) → (shard : ℕ) → concerns rules x shard ≡ true →
         all_commit rules past x ≡ true → IsIn x.transaction (history rules (later ++ past)) }
-    ensures never_aborted { (rules : Rules) (later past : List Step) → IsWorld rules (later ++ past) →
+    ensures never_aborted { (rules : Rules) (later past : List Step) → IsShardWorld rules (later ++ past) →
         (x : Session) → IsIn x (sessions (later ++ past)) → all_commit rules past x ≡ true → (shard : ℕ) →
         (votes rules (later ++ past) shard x Abort ≡ true → ⊥)
         × (decides rules (later ++ past) shard x Aborted ≡ true → ⊥) }

@@ -3,7 +3,7 @@ use Rattle.std.proofs.Common.{◌≡◌, ℕ, ◌<◌, Bool, true, false, List, 
 use Rattle.cs_order.specs.Limits.{rest_at}
 use Rattle.cs_order.specs.Deeds.{Deed, Member, did, sent_by}
 use Rattle.cs_order.specs.Deeds as deed
-use Rattle.cs_order.specs.Calls.{Proposable, Takes, Advances, Echoes, Proposes, Ticks, Replies, RepliesWith, Lowers, taken_in, advanced, sent_at}
+use Rattle.cs_order.specs.Calls.{Proposable, TakesIn, Advances, Echoes, Proposes, Ticks, Replies, RepliesWith, Lowers, taken_in, advanced, sent_at}
 use Rattle.cs_order.specs.declared.proposed.Proposed.{Proposed}
 use Rattle.cs_order.specs.declared.answers.Outgoing.{Outgoing}
 use Rattle.cs_order.specs.declared.answers.Took.{Took}
@@ -40,7 +40,7 @@ taken_by h from m new Far p = p
 taken_by h from m new Leader p = p
 taken_by h from m new Repeat p = p
 
-pub takes : (h : Member OrderMessage) (from : ℕ) (m : OrderMessage) (new : KeptReplica) (took : Took) → (took ≡ verdict (sight h) from m) × Mirrors new (after_taking (verdict (sight h) from m) (sight h) from m) → Takes slot_machine h from m took (λ t. Mirrors new (sight t))
+pub takes : (h : Member OrderMessage) (from : ℕ) (m : OrderMessage) (new : KeptReplica) (took : Took) → (took ≡ verdict (sight h) from m) × Mirrors new (after_taking (verdict (sight h) from m) (sight h) from m) → TakesIn slot_machine h from m took (λ t. Mirrors new (sight t))
 takes h from m new took p = (p.0, taken_by h from m new (verdict (sight h) from m) p.1)
 
 -- advance

@@ -11,7 +11,7 @@ use Rattle.cs_order_rules.specs.Slot.{Seen}
 use Rattle.cs_order_rules.specs.Rules.{own, change_told}
 use Rattle.cs_order_law.specs.SlotFacts.{first_of_is, change_said_is}
 use Rattle.cs_order_law.specs.Sound.{Within}
-use Rattle.cs_order_open.specs.Shows.{KeptOpenSlot, Shows, Takes, IsOf, with_fact, led}
+use Rattle.cs_order_open.specs.Shows.{KeptOpenSlot, Shows, TakesFirst, IsOf, with_fact, led}
 use Rattle.cs_order_open.specs.Later.{above, at_slot, AllTaken}
 use Rattle.cs_order_open.specs.Seeing.{took_is_found, like_proposal, like_echo, like_confirm, like_change}
 use Rattle.cs_order_open.specs.Reopening.{of_facts, shows_all, shows_more, all_above}
@@ -93,7 +93,7 @@ same_round k s current p shows =
     record { f = p.f; me = p.me; log = p.log; view = p.view; wait = p.wait; views = p.views; few = p.few; member = p.member; short = p.short; small = p.small; shows = shows; later = p.later; others = p.others; within = p.within }
 
 -- a message of another member that a current took, or not
-pub round_took : (k : KeptReplica) (s : Sight) (current : KeptOpenSlot) (from : ℕ) (m : OrderMessage) (fresh : Bool) → Mirrors k s → from ≢ k.me → slot_of m ≡ length k.log → Takes fresh current s (open_slot s) s.view from m → (fresh ≡ not (took (is_like m) s.taken from)) × Mirrors (with_round k current) (if_fresh fresh s from m)
+pub round_took : (k : KeptReplica) (s : Sight) (current : KeptOpenSlot) (from : ℕ) (m : OrderMessage) (fresh : Bool) → Mirrors k s → from ≢ k.me → slot_of m ≡ length k.log → TakesFirst fresh current s (open_slot s) s.view from m → (fresh ≡ not (took (is_like m) s.taken from)) × Mirrors (with_round k current) (if_fresh fresh s from m)
 round_took k s current from m true p other slot takes = (takes.0, here k s current from m p (slot ∙ ap length p.log) takes.1 (within_other s from m (rw (← p.me) other) p.within))
 round_took k s current from m false p other slot takes = (takes.0, same_round k s current p takes.1)
 
@@ -133,27 +133,27 @@ later_took k s later from m fresh p member other leads later_slot fresh_is now =
     (all, later_took_by k s later from m fresh p (rw (← p.f) member) (rw (← p.me) other) (rw (← p.f) leads) less all now)
 
 -- What a member says of its own is no repeat.
-said_shows : (fresh : Bool) (current : KeptOpenSlot) (s : Sight) (n v from : ℕ) (m : OrderMessage) → Takes fresh current s n v from m → took (is_like m) s.taken from ≡ false → Shows current (with_fact s from m) n v
+said_shows : (fresh : Bool) (current : KeptOpenSlot) (s : Sight) (n v from : ℕ) (m : OrderMessage) → TakesFirst fresh current s n v from m → took (is_like m) s.taken from ≡ false → Shows current (with_fact s from m) n v
 said_shows true current s n v from m takes none = takes.1
 said_shows false current s n v from m takes none = absurd (let e : false ≡ not (took (is_like m) s.taken from) = takes.0 in let f : false ≡ true = e ∙ ap not none in cc)
 
-pub says_proposal : (k : KeptReplica) (s : Sight) (current : KeptOpenSlot) (e : Proposed) (fresh : Bool) → Mirrors k s → is_some (own proposal_said s) ≡ false → Takes fresh current s (open_slot s) s.view k.me (message.Propose (open_slot s) k.view e) → Mirrors (with_round k current) (said s (message.Propose (open_slot s) s.view e))
+pub says_proposal : (k : KeptReplica) (s : Sight) (current : KeptOpenSlot) (e : Proposed) (fresh : Bool) → Mirrors k s → is_some (own proposal_said s) ≡ false → TakesFirst fresh current s (open_slot s) s.view k.me (message.Propose (open_slot s) k.view e) → Mirrors (with_round k current) (said s (message.Propose (open_slot s) s.view e))
 says_proposal k s current e fresh p none made =
-    let takes : Takes fresh current s (open_slot s) s.view s.me (message.Propose (open_slot s) s.view e) = subst (λ v. Takes fresh current s (open_slot s) s.view s.me (message.Propose (open_slot s) v e)) p.view (subst (λ j. Takes fresh current s (open_slot s) s.view j (message.Propose (open_slot s) k.view e)) p.me made) in
+    let takes : TakesFirst fresh current s (open_slot s) s.view s.me (message.Propose (open_slot s) s.view e) = subst (λ v. TakesFirst fresh current s (open_slot s) s.view s.me (message.Propose (open_slot s) v e)) p.view (subst (λ j. TakesFirst fresh current s (open_slot s) s.view j (message.Propose (open_slot s) k.view e)) p.me made) in
     let m : OrderMessage = message.Propose (open_slot s) s.view e in
     let first = took_is_found (is_like m) (proposal_said (open_slot s) s.view) (like_proposal (open_slot s) s.view e) s.taken s.me ∙ none in
     here k s current s.me m p refl (said_shows fresh current s (open_slot s) s.view s.me m takes first) (within_own s m refl (let z : ℕ = 0 in omega arith) p.within)
 
-pub says_echo : (k : KeptReplica) (s : Sight) (current : KeptOpenSlot) (d : List ℕ) (fresh : Bool) → Mirrors k s → is_some (own echo_said s) ≡ false → Takes fresh current s (open_slot s) s.view k.me (message.Echo (open_slot s) k.view d) → Mirrors (with_round k current) (said s (message.Echo (open_slot s) s.view d))
+pub says_echo : (k : KeptReplica) (s : Sight) (current : KeptOpenSlot) (d : List ℕ) (fresh : Bool) → Mirrors k s → is_some (own echo_said s) ≡ false → TakesFirst fresh current s (open_slot s) s.view k.me (message.Echo (open_slot s) k.view d) → Mirrors (with_round k current) (said s (message.Echo (open_slot s) s.view d))
 says_echo k s current d fresh p none made =
-    let takes : Takes fresh current s (open_slot s) s.view s.me (message.Echo (open_slot s) s.view d) = subst (λ v. Takes fresh current s (open_slot s) s.view s.me (message.Echo (open_slot s) v d)) p.view (subst (λ j. Takes fresh current s (open_slot s) s.view j (message.Echo (open_slot s) k.view d)) p.me made) in
+    let takes : TakesFirst fresh current s (open_slot s) s.view s.me (message.Echo (open_slot s) s.view d) = subst (λ v. TakesFirst fresh current s (open_slot s) s.view s.me (message.Echo (open_slot s) v d)) p.view (subst (λ j. TakesFirst fresh current s (open_slot s) s.view j (message.Echo (open_slot s) k.view d)) p.me made) in
     let m : OrderMessage = message.Echo (open_slot s) s.view d in
     let first = took_is_found (is_like m) (echo_said (open_slot s) s.view) (like_echo (open_slot s) s.view d) s.taken s.me ∙ none in
     here k s current s.me m p refl (said_shows fresh current s (open_slot s) s.view s.me m takes first) (within_own s m refl (let z : ℕ = 0 in omega arith) p.within)
 
-pub says_confirm : (k : KeptReplica) (s : Sight) (current : KeptOpenSlot) (d : List ℕ) (fresh : Bool) → Mirrors k s → is_some (own confirm_said s) ≡ false → Takes fresh current s (open_slot s) s.view k.me (message.Confirm (open_slot s) k.view d) → Mirrors (with_round k current) (said s (message.Confirm (open_slot s) s.view d))
+pub says_confirm : (k : KeptReplica) (s : Sight) (current : KeptOpenSlot) (d : List ℕ) (fresh : Bool) → Mirrors k s → is_some (own confirm_said s) ≡ false → TakesFirst fresh current s (open_slot s) s.view k.me (message.Confirm (open_slot s) k.view d) → Mirrors (with_round k current) (said s (message.Confirm (open_slot s) s.view d))
 says_confirm k s current d fresh p none made =
-    let takes : Takes fresh current s (open_slot s) s.view s.me (message.Confirm (open_slot s) s.view d) = subst (λ v. Takes fresh current s (open_slot s) s.view s.me (message.Confirm (open_slot s) v d)) p.view (subst (λ j. Takes fresh current s (open_slot s) s.view j (message.Confirm (open_slot s) k.view d)) p.me made) in
+    let takes : TakesFirst fresh current s (open_slot s) s.view s.me (message.Confirm (open_slot s) s.view d) = subst (λ v. TakesFirst fresh current s (open_slot s) s.view s.me (message.Confirm (open_slot s) v d)) p.view (subst (λ j. TakesFirst fresh current s (open_slot s) s.view j (message.Confirm (open_slot s) k.view d)) p.me made) in
     let m : OrderMessage = message.Confirm (open_slot s) s.view d in
     let first = took_is_found (is_like m) (confirm_said (open_slot s) s.view) (like_confirm (open_slot s) s.view d) s.taken s.me ∙ none in
     here k s current s.me m p refl (said_shows fresh current s (open_slot s) s.view s.me m takes first) (within_own s m refl (let z : ℕ = 0 in omega arith) p.within)
@@ -170,9 +170,9 @@ within_entered : (s : Sight) (w : ℕ) → s.view < w → ((j : OrderMessage) �
 within_entered s w higher old j (inl e) = subst (λ x. Within (entered s w) x) (ap (λ (x : ℕ × OrderMessage). x.1) (sym e)) (inr (refl, (let z : ℕ = 0 in omega arith)))
 within_entered s w higher old j (inr h) = elim (old j h) [ inl below ↦ inl below | inr same ↦ inr (same.0, (let le = same.1 in omega arith)) ]
 
-pub enters : (k : KeptReplica) (s : Sight) (told current : KeptOpenSlot) (w : ℕ) (change : Change) (fresh : Bool) → Mirrors k s → s.view < w → w < view_bound → Takes fresh told s (open_slot s) s.view k.me (message.Change (open_slot s) w change) → change ≡ change_told s → ((t : Sight) (n v : ℕ) → Shows told t n v → Shows current t n w) → Mirrors (record { f = k.f; me = k.me; log = k.log; view = w; wait = 0; current = current; later = k.later }) (entered s w)
+pub enters : (k : KeptReplica) (s : Sight) (told current : KeptOpenSlot) (w : ℕ) (change : Change) (fresh : Bool) → Mirrors k s → s.view < w → w < view_bound → TakesFirst fresh told s (open_slot s) s.view k.me (message.Change (open_slot s) w change) → change ≡ change_told s → ((t : Sight) (n v : ℕ) → Shows told t n v → Shows current t n w) → Mirrors (record { f = k.f; me = k.me; log = k.log; view = w; wait = 0; current = current; later = k.later }) (entered s w)
 enters k s told current w change fresh p higher small made is enter =
-    let takes : Takes fresh told s (open_slot s) s.view s.me (message.Change (open_slot s) w (change_told s)) = subst (λ c. Takes fresh told s (open_slot s) s.view s.me (message.Change (open_slot s) w c)) is (subst (λ j. Takes fresh told s (open_slot s) s.view j (message.Change (open_slot s) w change)) p.me made) in
+    let takes : TakesFirst fresh told s (open_slot s) s.view s.me (message.Change (open_slot s) w (change_told s)) = subst (λ c. TakesFirst fresh told s (open_slot s) s.view s.me (message.Change (open_slot s) w c)) is (subst (λ j. TakesFirst fresh told s (open_slot s) s.view j (message.Change (open_slot s) w change)) p.me made) in
     let m : OrderMessage = message.Change (open_slot s) w (change_told s) in
     let n = open_slot s in
     let none = took_is_found (is_like m) (change_said n w) (like_change n w (change_told s)) s.taken s.me ∙ none_later s w (first_of (change_said n w) s.taken s.me) p.within higher refl in

@@ -2,7 +2,7 @@
 use Rattle.std.proofs.Common.{◌≡◌, ℕ, ◌<◌, Bool, true, false, List, ◌++◌, Option, Some, None, IsSome, refl, sym, ap, ◌∙◌, subst}
 use Rattle.cs_order.specs.Deeds.{Member, did}
 use Rattle.cs_order.specs.Deeds as deed
-use Rattle.cs_order.specs.Calls.{Proposable, Takes, Advances, Echoes, Proposes, Ticks, Resends, Lowers, taken_in, advanced}
+use Rattle.cs_order.specs.Calls.{Proposable, TakesIn, Advances, Echoes, Proposes, Ticks, Resends, Lowers, taken_in, advanced}
 use Rattle.cs_order.specs.declared.proposed.Proposed.{Proposed}
 use Rattle.cs_order.specs.declared.answers.Took.{Took}
 use Rattle.cs_order.specs.declared.answers.Took.TheVariants.{Taken, Old, Far, Leader, Repeat}
@@ -49,7 +49,7 @@ taking_same Repeat s from m = (refl, refl)
 pub take_led : (k new : KeptReplica) (from : ℕ) (m : OrderMessage) (took : Took) → Witness k → TookBy k new from m took → Witness new
 take_led k new from m took w made = (taken_in (verdict (sight w.0) from m) from m w.0, (takes w.0 from m new took (made (sight w.0) w.1)).1)
 
-pub take_call : (k new : KeptReplica) (now : Option KeptReplica) (from : ℕ) (m : OrderMessage) (took : Took) → Some k ≡ now → TookBy k new from m took → (h : Member OrderMessage) → SeatStands now h → Takes slot_machine h from m took (λ t. Mirrors new (sight t))
+pub take_call : (k new : KeptReplica) (now : Option KeptReplica) (from : ℕ) (m : OrderMessage) (took : Took) → Some k ≡ now → TookBy k new from m took → (h : Member OrderMessage) → SeatStands now h → TakesIn slot_machine h from m took (λ t. Mirrors new (sight t))
 take_call k new now from m took is made h stands = takes h from m new took (made (sight h) (subst (λ o. SeatStands o h) (sym is) stands))
 
 pub take_same : (k new : KeptReplica) (now : Option KeptReplica) (from : ℕ) (m : OrderMessage) (took : Took) → Some k ≡ now → Witness k → TookBy k new from m took → (new.f ≡ f_of now) × (new.me ≡ me_of now)

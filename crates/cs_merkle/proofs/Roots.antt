@@ -5,7 +5,7 @@ use Rattle.std.proofs.lemmas.Bool.{lt-ltb, le-ltb, cases_lt}
 use Rattle.std.proofs.lemmas.List.{reverse-append}
 use Rattle.std.proofs.lemmas.Option.{slice_get_within}
 use Rattle.cs_merkle.specs.Tree.{split, leaf_hash, node_hash, merkle_tree_hash}
-use Rattle.cs_merkle.specs.Path.{audit_path, root_by, Shows}
+use Rattle.cs_merkle.specs.Path.{audit_path, root_by, ShowsLeaf}
 use Rattle.cs_merkle.proofs.Trees.{middle, front, back, length_front, length_back, halves_shorter, hash_of_one, hash_of_more, path_of_one, path_on_the_left, path_on_the_right}
 use Rattle.cs_merkle.proofs.Lengths.{path_is_long}
 
@@ -95,7 +95,7 @@ leads_in (suc d) (first ∷ next ∷ more) place leaf few is =
 
 pub path_shows : (leaves : List (List ℕ)) (place : ℕ) (leaf : List ℕ) →
     slice_get leaves place ≡ Some leaf →
-    Shows (merkle_tree_hash leaves) (length leaves) place leaf (audit_path leaves place)
+    ShowsLeaf (merkle_tree_hash leaves) (length leaves) place leaf (audit_path leaves place)
 path_shows leaves place leaf is = record {
   within = slice_get_within leaves place leaf is;
   long = path_is_long leaves place (slice_get_within leaves place leaf is);

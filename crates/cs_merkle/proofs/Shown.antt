@@ -5,8 +5,8 @@ use Rattle.sha2.proofs.Facts256.{length-sha256}
 use Rattle.std.proofs.lemmas.Bool.{lt-ltb, le-ltb, cases_lt, cond_both}
 use Rattle.std.proofs.lemmas.List.{reverse-reverse, length-reverse}
 use Rattle.cs_merkle.specs.Tree.{Tree, Empty, Leaf, Node, split, tree_of, hash, leaf_string, node_string, node_hash, merkle_tree_hash}
-use Rattle.cs_merkle.specs.Path.{audit_path, path_length, root_by, Shows}
-use Rattle.cs_merkle.specs.Collisions.{strings_in, strings_by, NoCollision}
+use Rattle.cs_merkle.specs.Path.{audit_path, path_length, root_by, ShowsLeaf}
+use Rattle.cs_merkle.specs.Collisions.{strings_in, strings_by, NoTreeCollision}
 use Rattle.cs_merkle.proofs.Splits.{split_below}
 use Rattle.cs_merkle.proofs.Trees.{middle, front, back, length_front, length_back, halves_shorter, tree_of_more, hash_of_one, hash_of_more, path_of_one, path_on_the_left, path_on_the_right}
 use Rattle.cs_merkle.proofs.Lengths.{length_of_few, length_on_the_left, length_on_the_right}
@@ -188,8 +188,8 @@ there_in (suc d) (first ∷ next ∷ more) place leaf (beside ∷ below) few her
     ]
 
 pub shown_is_there : (leaves : List (List ℕ)) (place : ℕ) (leaf : List ℕ) (path : List (List ℕ)) →
-    NoCollision leaves place leaf path →
-    Shows (merkle_tree_hash leaves) (length leaves) place leaf path →
+    NoTreeCollision leaves place leaf path →
+    ShowsLeaf (merkle_tree_hash leaves) (length leaves) place leaf path →
     (slice_get leaves place ≡ Some leaf) × (path ≡ audit_path leaves place)
 shown_is_there leaves place leaf path apart shows =
     let (leaf_is, path_is) =

@@ -22,6 +22,6 @@ strings_by n place leaf (beside ∷ below) =
     ∷ strings_by (n - k) (place - k) leaf below
 
 -- a string hashed for the tree over leaves and one hashed along a path, with one hash, are one
-abbrev pub NoCollision : List (List ℕ) → ℕ → List ℕ → List (List ℕ) → Type 0
-NoCollision leaves place leaf path = (a b : List ℕ) → Contains (strings_in (tree_of leaves)) a →
+abbrev pub NoTreeCollision : List (List ℕ) → ℕ → List ℕ → List (List ℕ) → Type 0
+NoTreeCollision leaves place leaf path = (a b : List ℕ) → Contains (strings_in (tree_of leaves)) a →
     Contains (strings_by (length leaves) place leaf (reverse path)) b → sha256 a ≡ sha256 b → a ≡ b

@@ -44,7 +44,7 @@ root_by n place leaf (beside ∷ below) =
     else node_hash beside (root_by (n - k) (place - k) leaf below)
 
 -- a path, from the leaf up, shows that a leaf is at this place among the n leaves under a root
-pub record Shows (root : List ℕ) (n place : ℕ) (leaf : List ℕ) (path : List (List ℕ)) : Type 0 where
+pub record ShowsLeaf (root : List ℕ) (n place : ℕ) (leaf : List ℕ) (path : List (List ℕ)) : Type 0 where
   pub within : place < n
   pub long : length path ≡ path_length n place
   pub leads : root_by n place leaf (reverse path) ≡ root

@@ -1,6 +1,6 @@
 //! Whether a path shows that a leaf is in a tree.
 ghost use Rattle.std.specs.Prelude.{◌≡◌, ◌<◌, ◌≤◌, ◌↔◌, IsTrue, length, reverse};
-ghost use Rattle.cs_merkle.specs.Path.{path_length, root_by, Shows};
+ghost use Rattle.cs_merkle.specs.Path.{path_length, root_by, ShowsLeaf};
 
 use crate::hashing::{hash_leaf, join, left_half};
 use cs_hash::{Digest, same};
@@ -42,7 +42,7 @@ fn follow(n: u64, place: u64, leaf: &[u8], path: &[Digest]) -> Digest
 /// Whether a path, from the leaf up, shows that this leaf is at a place among the n leaves under a
 /// root. It takes no memory, and answers false to a path of another length without hashing.
 pub fn verify(root: &Digest, n: u64, place: u64, leaf: &[u8], path: &[Digest]) -> bool
-    ensures { IsTrue result ↔ Shows root.now n place leaf.now path.now }
+    ensures { IsTrue result ↔ ShowsLeaf root.now n place leaf.now path.now }
 {
     if place >= n || path.len() as u64 != path_length(n, place) {
         return false;

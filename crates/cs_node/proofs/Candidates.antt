@@ -3,8 +3,8 @@ use Rattle.std.proofs.Common.{◌≡◌, ℕ, suc, ◌+◌, ◌<◌, Bool, true,
 use Rattle.cs_order.specs.declared.proposed.Proposed.{Proposed}
 use Rattle.cs_order.specs.Deeds.{Deed, Echoed, Machine}
 use Rattle.cs_order.specs.Lists.{IsIn}
-use Rattle.cs_node_rules.specs.Setup.{Setup}
-use Rattle.cs_node_rules.specs.Pool.{Pool}
+use Rattle.cs_node_state.specs.Setup.{Setup}
+use Rattle.cs_node_state.specs.Pool.{Pool}
 use Rattle.cs_node_rules.specs.Net.{Net}
 use Rattle.cs_node_rules.specs.Site.{Carrier, View}
 use Rattle.cs_node_rules.specs.Deployment.{site_of}

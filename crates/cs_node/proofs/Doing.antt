@@ -8,7 +8,7 @@ use Rattle.cs_order.specs.declared.answers.Step.{Step}
 use Rattle.cs_order.specs.declared.answers.Step.TheVariants.{Chosen, Moved}
 use Rattle.cs_order.specs.Deeds.{Deed, Advanced, Echoed, Proposing, Member, Machine, did, chosen_in}
 use Rattle.cs_order.specs.Calls.{Advances, Echoes, Proposes, advanced, sent_at}
-use Rattle.cs_node_rules.specs.Setup.{Setup}
+use Rattle.cs_node_state.specs.Setup.{Setup}
 use Rattle.cs_node_rules.specs.Net.{Net}
 use Rattle.cs_node_rules.specs.Signs.{Sign, execution_signs}
 use Rattle.cs_node_rules.specs.Site.{Carrier, Mark, Site, View}
@@ -21,7 +21,7 @@ use Rattle.cs_node.specs.declared.draft.Draft.{Draft}
 use Rattle.cs_node.specs.Notes.{Tells}
 use Rattle.cs_node.specs.Proposals.{entry_in, admits_pending}
 use Rattle.cs_node.specs.Steps.{Makes, TurnDone}
-use Rattle.cs_node.specs.Cores.{IsSeated, Keeps, view_at}
+use Rattle.cs_node.specs.Cores.{IsSeated, KeepsView, view_at}
 use Rattle.cs_node.proofs.Sums.{turn-some}
 use Rattle.cs_node.proofs.Turns.{deed-done, proposed-done, turn-none, moved-done, chosen-done}
 use Rattle.cs_node.proofs.Candidates.{echo-some}
@@ -45,7 +45,7 @@ module _ {O J M : Type 0} (stands : O → Member M → Type 0) (approves : J →
   with_order order = record { order = order; judge = core.judge; sbac = core.sbac }
 
   abbrev After : Engine O J M → View M → Type 0
-  After next = Keeps stands approves setup next
+  After next = KeepsView stands approves setup next
 
   -- what was handed out is said
   abbrev Says : List (Outgoing M) → Type 0

@@ -6,12 +6,12 @@ use Rattle.cs_tx_form.specs.declared.vote.Vote.{Vote}
 use Rattle.cs_tx_form.specs.declared.entry.Entry.{Entry}
 use Rattle.cs_ledger.specs.Ledger.{Bytes}
 use Rattle.cs_ledger.specs.Table.{Table, Effect, Voted, Accepted, Aborted, Skipped, Void}
-use Rattle.cs_node_rules.specs.declared.pooled.Pooled.{Pooled}
+use Rattle.cs_node_state.specs.declared.pooled.Pooled.{Pooled}
 use Rattle.cs_wire_message.specs.declared.message.Message.TheVariants as message
-use Rattle.cs_node_rules.specs.Setup.{Setup, digest_of, concerned, session_in, vote_from}
+use Rattle.cs_node_state.specs.Setup.{Setup, digest_of, concerned, session_in, vote_from}
 use Rattle.cs_node_rules.specs.Members.{others}
-use Rattle.cs_node_rules.specs.Pool.{Pool, found, is_pooled, changed, with_ballot, as_locked, entering, pushed, entered, entered_locked}
-use Rattle.cs_node_rules.specs.Bench.{Bench, Ran, is_locked, pool_after, executed, told_by, told_of, own_pool, bench_executed}
+use Rattle.cs_node_state.specs.Pool.{Pool, found, is_pooled, changed, with_ballot, as_locked, entering, pushed, entered, entered_locked}
+use Rattle.cs_node_state.specs.Bench.{Bench, Ran, is_locked, pool_after, executed, told_by, told_of, own_pool, bench_executed}
 use Rattle.cs_node_rules.specs.Signs.{Sign, Did, bench_after, own_signs, vote_signs, entered_signs, execution_signs}
 use Rattle.cs_node.specs.declared.draft.Note.TheVariants.{Executed}
 use Rattle.cs_node.specs.declared.draft.Draft.{Draft}

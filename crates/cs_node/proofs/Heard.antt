@@ -9,10 +9,10 @@ use Rattle.cs_order.specs.declared.answers.Outgoing.{Outgoing}
 use Rattle.cs_order.specs.declared.answers.Took.{Took}
 use Rattle.cs_order.specs.declared.answers.Took.TheVariants.{Taken}
 use Rattle.cs_order.specs.Deeds.{Took_in, Replied, Member, Machine, did}
-use Rattle.cs_order.specs.Calls.{taken_in, Takes, RepliesWith}
+use Rattle.cs_order.specs.Calls.{taken_in, TakesIn, RepliesWith}
 use Rattle.cs_node_rules.specs.declared.cause.Cause.{Cause}
 use Rattle.cs_node_rules.specs.declared.cause.Cause.TheVariants.{Role, Far}
-use Rattle.cs_node_rules.specs.Setup.{Setup}
+use Rattle.cs_node_state.specs.Setup.{Setup}
 use Rattle.cs_node_rules.specs.Members.{is_other_member}
 use Rattle.cs_node_rules.specs.Net.{Net}
 use Rattle.cs_node_rules.specs.Signs.{Sign, Dropped}
@@ -25,7 +25,7 @@ use Rattle.cs_node.specs.declared.engine.Engine.{Engine}
 use Rattle.cs_node.specs.declared.draft.Draft.{Draft}
 use Rattle.cs_node.specs.Notes.{Tells}
 use Rattle.cs_node.specs.Steps.{Makes, Marks}
-use Rattle.cs_node.specs.Cores.{IsSeated, Keeps, view_at}
+use Rattle.cs_node.specs.Cores.{IsSeated, KeepsView, view_at}
 use Rattle.cs_node.proofs.Sums.{tells-nothing, plain-marks}
 use Rattle.cs_node.proofs.Turns.{deed-done}
 use Rattle.cs_node.proofs.Doing.{from-nothing}
@@ -71,7 +71,7 @@ module _ {O J M : Type 0} (stands : O → Member M → Type 0) (approves : J →
   v = view_at core.sbac h
 
   abbrev After : Engine O J M → View M → Type 0
-  After next = Keeps stands approves setup next
+  After next = KeepsView stands approves setup next
 
   -- table and pool did what these signs say
   pub said-here : (signs : List Sign) (marks : List (Mark M)) (held : Held) → marks ≡ plain signs → Makes setup core.sbac.me signs (bench_of core.sbac) (bench_of held) made made' → held.config ≡ core.sbac.config → held.me ≡ core.sbac.me
@@ -87,7 +87,7 @@ module _ {O J M : Type 0} (stands : O → Member M → Type 0) (approves : J →
 
   -- ---- the order's messages
 
-  pub refused-here : (from : ℕ) (m : M) (order : O) (answer : Took) (cause : Cause) → Takes rules h from m answer (stands order) → taking_marks from m answer ≡ drops cause → taken_in answer from m h ≡ h → Tells (Dropped cause ∷ []) made made'
+  pub refused-here : (from : ℕ) (m : M) (order : O) (answer : Took) (cause : Cause) → TakesIn rules h from m answer (stands order) → taking_marks from m answer ≡ drops cause → taken_in answer from m h ≡ h → Tells (Dropped cause ∷ []) made made'
       → Marks site (taking_marks from m (rules.taking h from m)) v made made' (After (record { order = order; judge = core.judge; sbac = core.sbac }))
   refused-here from m order answer cause called are same tells =
       let next : Engine O J M = record { order = order; judge = core.judge; sbac = core.sbac } in
@@ -97,7 +97,7 @@ module _ {O J M : Type 0} (stands : O → Member M → Type 0) (approves : J →
       subst (λ (ms : List (Mark M)). Marks site ms v made made' (After next)) (sym which)
       (plain-marks site (Dropped cause ∷ []) v (bench_of core.sbac) made made' (After next) (record { tells = tells; bench_is = refl }) (keeps-on stands approves genesis core h order core.sbac h seated stood refl refl refl refl))
 
-  pub taken-here : (from : ℕ) (m : M) (order : O) → Takes rules h from m Taken (stands order) → made' ≡ made
+  pub taken-here : (from : ℕ) (m : M) (order : O) → TakesIn rules h from m Taken (stands order) → made' ≡ made
       → Marks site (taking_marks from m (rules.taking h from m)) v made made' (After (record { order = order; judge = core.judge; sbac = core.sbac }))
   taken-here from m order called same =
       let next : Engine O J M = record { order = order; judge = core.judge; sbac = core.sbac } in

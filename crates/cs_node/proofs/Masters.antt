@@ -4,11 +4,11 @@ use Rattle.std.specs.Prelude.{◌&&◌, ◌||◌, not}
 use Rattle.std.proofs.lemmas.Bool.Decides.{nat_tests}
 use Rattle.cs_base.specs.declared.config.Config.{Config}
 use Rattle.cs_base.specs.declared.node_id.NodeId.{NodeId}
-use Rattle.cs_base.specs.NodeId.{is_node, is_client, is_named}
+use Rattle.cs_base.specs.NodeId.{is_node, is_client, is_named, same_name}
 use Rattle.cs_base.proofs.Forms.{some_is, when_some}
 use Rattle.cs_wire.specs.declared.keys.Row.{Row}
 use Rattle.cs_wire.specs.declared.keys.Keys.{Keys}
-use Rattle.cs_wire.specs.Keys.{same_name, row_of, key_between, row_between, IsOfMaster}
+use Rattle.cs_wire.specs.Keys.{row_of, key_between, row_between, IsOfMaster}
 use Rattle.cs_wire.specs.Opened.{opened, datagram_with, keys_of_master}
 use Rattle.cs_wire.proofs.Parts.{are_same}
 use Rattle.cs_wire.proofs.Masters.{opened_alike}

@@ -2,12 +2,12 @@
 use Rattle.std.proofs.Common.{◌≡◌, ℕ, ◌+◌, ◌*◌, ◌<◌, length, take, get_or, Bool, true, false, not, cond, List, [], ◌∷◌, ◌++◌, refl, ap, sym, ◌∙◌, add-one, append_assoc, append-nil}
 use Rattle.std.proofs.lemmas.List.{take_more}
 use Rattle.cs_base.specs.declared.node_id.NodeId.{NodeId}
-use Rattle.cs_node_rules.specs.Evidence.{name_eq}
-use Rattle.cs_node_rules.specs.Members.{members_below, members, except, others}
+use Rattle.cs_base.specs.NodeId.{same_name, members_below}
+use Rattle.cs_node_rules.specs.Members.{members, except, others}
 
 pub except-append : (me : NodeId) (xs ys : List NodeId) → except me (xs ++ ys) ≡ except me xs ++ except me ys
 except-append me [] ys = refl
-except-append me (x ∷ xs) ys = by_same (except-append me xs ys) (name_eq x me)
+except-append me (x ∷ xs) ys = by_same (except-append me xs ys) (same_name x me)
   where
     by_same : except me (xs ++ ys) ≡ except me xs ++ except me ys → (same : Bool) → cond same (except me (xs ++ ys)) (x ∷ except me (xs ++ ys)) ≡ cond same (except me xs) (x ∷ except me xs) ++ except me ys
     by_same later true = later
@@ -23,12 +23,12 @@ pub others-push : (f : ℕ) (me : NodeId) (shards : List ℕ) (shard : ℕ) → 
 others-push f me shards shard = ap (except me) (members-push f shards shard) ∙ except-append me (members f shards) (members_below shard (3 * f + 1))
 
 -- the next of a shard is another, or the node itself
-pub other-next : (me : NodeId) (shard n : ℕ) → name_eq (record { shard = shard; index = n }) me ≡ false → except me (members_below shard n ++ record { shard = shard; index = n } ∷ []) ≡ except me (members_below shard n) ++ record { shard = shard; index = n } ∷ []
+pub other-next : (me : NodeId) (shard n : ℕ) → same_name (record { shard = shard; index = n }) me ≡ false → except me (members_below shard n ++ record { shard = shard; index = n } ∷ []) ≡ except me (members_below shard n) ++ record { shard = shard; index = n } ∷ []
 other-next me shard n other =
     except-append me (members_below shard n) (record { shard = shard; index = n } ∷ [])
     ∙ ap (λ b. except me (members_below shard n) ++ cond b [] (record { shard = shard; index = n } ∷ [])) other
 
-pub itself-next : (me : NodeId) (shard n : ℕ) → name_eq (record { shard = shard; index = n }) me ≡ true → except me (members_below shard n ++ record { shard = shard; index = n } ∷ []) ≡ except me (members_below shard n)
+pub itself-next : (me : NodeId) (shard n : ℕ) → same_name (record { shard = shard; index = n }) me ≡ true → except me (members_below shard n ++ record { shard = shard; index = n } ∷ []) ≡ except me (members_below shard n)
 itself-next me shard n same =
     except-append me (members_below shard n) (record { shard = shard; index = n } ∷ [])
     ∙ ap (λ b. except me (members_below shard n) ++ cond b [] (record { shard = shard; index = n } ∷ [])) same
@@ -43,12 +43,12 @@ others-more f me shards i d names names' lt so-far grown =
 
 -- one more was added, or is the node itself
 module _ (me : NodeId) (shard n : ℕ) (before names names' : List NodeId) (so-far : names ≡ before ++ except me (members_below shard n)) where
-  pub name-added : name_eq (record { shard = shard; index = n }) me ≡ false → names' ≡ names ++ record { shard = shard; index = n } ∷ [] → names' ≡ before ++ except me (members_below shard (n + 1))
+  pub name-added : same_name (record { shard = shard; index = n }) me ≡ false → names' ≡ names ++ record { shard = shard; index = n } ∷ [] → names' ≡ before ++ except me (members_below shard (n + 1))
   name-added other grown =
       grown ∙ ap (λ xs. xs ++ record { shard = shard; index = n } ∷ []) so-far ∙ append_assoc before (except me (members_below shard n)) (record { shard = shard; index = n } ∷ [])
       ∙ ap (λ xs. before ++ xs) (sym (other-next me shard n other)) ∙ ap (λ k. before ++ except me (members_below shard k)) (sym (add-one n))
 
-  pub name-passed : name_eq (record { shard = shard; index = n }) me ≡ true → names' ≡ names → names' ≡ before ++ except me (members_below shard (n + 1))
+  pub name-passed : same_name (record { shard = shard; index = n }) me ≡ true → names' ≡ names → names' ≡ before ++ except me (members_below shard (n + 1))
   name-passed same kept = kept ∙ so-far ∙ ap (λ xs. before ++ xs) (sym (itself-next me shard n same)) ∙ ap (λ k. before ++ except me (members_below shard k)) (sym (add-one n))
 
 pub is-other : (same : Bool) → true ≡ not same → same ≡ false

@@ -11,7 +11,8 @@ use Rattle.cs_wire.specs.declared.opening.OpenError.{OpenError}
 use Rattle.cs_wire.specs.declared.opening.OpenError.TheVariants as errors
 use Rattle.cs_wire.specs.Datagram.{is_kind, body_in}
 use Rattle.cs_wire.specs.Heads.{head_seen}
-use Rattle.cs_wire.specs.Keys.{same_name, row_of}
+use Rattle.cs_wire.specs.Keys.{row_of}
+use Rattle.cs_base.specs.NodeId.{same_name}
 use Rattle.cs_wire.specs.Opened.{Opened, opened, opened_body, said_by, unless_fault}
 use Rattle.cs_wire.specs.Opens.{unless, keyed_fault, head_fault, fault_of}
 

@@ -4,7 +4,7 @@ use Rattle.std.proofs.lemmas.Bool.Decides.{nat_tests}
 use Rattle.std.specs.Prelude.{is_some, ◌||◌}
 use Rattle.cs_base.specs.declared.config.Config.{Config}
 use Rattle.cs_base.specs.declared.node_id.NodeId.{NodeId}
-use Rattle.cs_base.specs.NodeId.{is_node, is_client, is_named}
+use Rattle.cs_base.specs.NodeId.{is_node, is_client, is_named, same_name}
 use Rattle.cs_tx_form.specs.declared.transaction.Tx.{Tx}
 use Rattle.cs_tx_form.specs.declared.entry.Entry.{Entry}
 use Rattle.cs_wire_message.specs.declared.message.Message.{Message}
@@ -22,11 +22,10 @@ use Rattle.cs_wire.specs.declared.keys.Keys.{Keys}
 use Rattle.cs_wire.specs.Keys.{row_of}
 use Rattle.cs_wire.specs.Opened.{Opened}
 use Rattle.cs_node_rules.specs.declared.cause.Cause.TheVariants.{Role, NoProof}
-use Rattle.cs_node_rules.specs.Setup.{Setup}
-use Rattle.cs_node_rules.specs.Evidence.{name_eq}
+use Rattle.cs_node_state.specs.Setup.{Setup}
 use Rattle.cs_node_rules.specs.Members.{is_other_member, others}
 use Rattle.cs_node_rules.specs.Net.{Net}
-use Rattle.cs_node_rules.specs.Admission.{due}
+use Rattle.cs_node_state.specs.Admission.{due}
 use Rattle.cs_node_rules.specs.Signs.{Sign, Dropped, Took as Took_vote, Entered, Viewed, Did, Sent, guarded, sends, submit_signs, voted_signs, ask_signs, execution_signs, asked_again}
 use Rattle.cs_node_rules.specs.Site.{Carrier, Input, Datagram, Tick, Mark, In, Ordered, Site, View, view_after, plain, signs_of}
 use Rattle.cs_node_rules.specs.Trail.{out_signs, handed, with_deed, entered_view, moving, admits_proposed, proposing, due_marks, candidate_marks, propose_marks, echo_marks, step_marks, turn_marks, continued, settled, taking_marks, member_marks, reply_marks, want_marks, message_marks, opened_marks, again_marks, waiting_marks, input_marks, event_marks}
@@ -44,7 +43,7 @@ module _ {M : Type 0} (Peer : NodeId → Type 0) (config : Config) (site : Site 
   -- a node of the deployment, whose peers are all others
   pub record IsHome (me : NodeId) : Type 0 where
     pub node : is_node config me ≡ true
-    pub others_too : (to : NodeId) → is_node config to ≡ true → name_eq to me ≡ false → Peer to
+    pub others_too : (to : NodeId) → is_node config to ≡ true → same_name to me ≡ false → Peer to
 
   abbrev pub Goes : List (Mark M) → Type 0
   Goes marks = AllTo Peer (signs_of marks)
@@ -79,7 +78,7 @@ module _ {M : Type 0} (Peer : NodeId → Type 0) (config : Config) (site : Site 
     other-peer to other =
         let low : v.me.shard < config.shards = in-range in
         let node : is_node config to ≡ true = grind (arith, nat_tests) in
-        let apart : name_eq to v.me ≡ false = grind (arith, nat_tests) in
+        let apart : same_name to v.me ≡ false = grind (arith, nat_tests) in
         home.others_too to node apart
 
     to-out : (to : Option ℕ) (m : M) → AllTo Peer (out_signs site v.me to m)
@@ -257,7 +256,7 @@ event-reached {O} {J} {M} stands approves rules carried net core setup v input i
     let Peer : NodeId → Type 0 = λ to. IsSome (row_of to core.keys) in
     let names : core.engine.sbac.me ≡ v.me = ap (λ (u : View M). u.me) is.keeps.view_is in
     let node : is_node config v.me ≡ true = subst (λ (n : NodeId). is_node config n ≡ true) names is.keeps.seated.node in
-    let reaches : (to : NodeId) → is_named config to ≡ true → name_eq to v.me ≡ false → Peer to = λ to named other. is.speaks.reaches to named (ap (name_eq to) is.me_is ∙ other) in
+    let reaches : (to : NodeId) → is_named config to ≡ true → same_name to v.me ≡ false → Peer to = λ to named other. is.speaks.reaches to named (ap (same_name to) is.me_is ∙ other) in
     let few : config.shards ≤ 16 = config.few_shards in
     reached-of core.keys (signs_of (event_marks site v input))
     (goes-event Peer config site (ap (λ (s : Setup). s.f) (sym is.keeps.setup_is)) (ap (λ (s : Setup). s.shards) (sym is.keeps.setup_is))

@@ -6,7 +6,7 @@ use Rattle.cs_base.specs.declared.config.Config.{Config}
 use Rattle.cs_base.specs.declared.key.Key.{Key}
 use Rattle.cs_base.specs.declared.node_id.NodeId.{NodeId}
 use Rattle.cs_base.specs.Key.{shard_of_key}
-use Rattle.cs_base.specs.NodeId.{is_node, is_client}
+use Rattle.cs_base.specs.NodeId.{is_node, is_client, same_name, members_below}
 use Rattle.cs_tx_form.specs.declared.session.Session.{Session}
 use Rattle.cs_tx_form.specs.declared.vote.Vote.{Vote}
 use Rattle.cs_tx_form.specs.declared.vote.Vote.TheVariants.{Commit}
@@ -14,13 +14,13 @@ use Rattle.cs_tx_form.specs.declared.entry.Entry.{Entry}
 use Rattle.cs_wire_message.specs.declared.message.Message.{Message}
 use Rattle.cs_wire_message.specs.declared.message.Message.TheVariants as message
 use Rattle.cs_node_rules.specs.declared.cause.Cause.{Cause}
-use Rattle.cs_node_rules.specs.declared.pooled.Pooled.{Pooled}
-use Rattle.cs_node_rules.specs.Setup.{Setup, digest_of, concerns, concerned, concerned_below, is_fit, is_approved, session_in}
-use Rattle.cs_node_rules.specs.Evidence.{name_eq, has_voted}
-use Rattle.cs_node_rules.specs.Members.{members_below, members, except, others}
-use Rattle.cs_node_rules.specs.Pool.{Pool, found, is_pooled, has_room}
-use Rattle.cs_node_rules.specs.Bench.{Bench, Ran, executed, decided, noted, told_of}
-use Rattle.cs_node_rules.specs.Asked.{key_asked}
+use Rattle.cs_node_state.specs.declared.pooled.Pooled.{Pooled}
+use Rattle.cs_node_state.specs.Setup.{Setup, digest_of, concerns, concerned, concerned_below, is_fit, is_approved, session_in}
+use Rattle.cs_node_state.specs.Evidence.{has_voted}
+use Rattle.cs_node_rules.specs.Members.{members, except, others}
+use Rattle.cs_node_state.specs.Pool.{Pool, found, is_pooled, has_room}
+use Rattle.cs_node_state.specs.Bench.{Bench, Ran, executed, decided, noted, told_of}
+use Rattle.cs_node_state.specs.Asked.{key_asked}
 use Rattle.cs_node_rules.specs.Signs.{Sign, Dropped, Took, Entered, Viewed, Did, Sent, guarded, entering_signs, submitted_signs, submit_signs, ask_signs, asking_signs, ballot_signs, voted_signs, sends, vote_signs, own_signs, entered_signs, execution_signs, asked_again}
 
 module _ (Peer : NodeId → Type 0) where
@@ -57,7 +57,7 @@ module _ (Peer : NodeId → Type 0) where
 
   -- ---- the nodes of some shards
 
-  module _ (config : Config) (me : NodeId) (others_too : (to : NodeId) → is_node config to ≡ true → name_eq to me ≡ false → Peer to) (clients : (to : NodeId) → is_client to ≡ true → Peer to) where
+  module _ (config : Config) (me : NodeId) (others_too : (to : NodeId) → is_node config to ≡ true → same_name to me ≡ false → Peer to) (clients : (to : NodeId) → is_client to ≡ true → Peer to) where
     abbrev AreNodes : List NodeId → Type 0
     AreNodes [] = Unit {0}
     AreNodes (name ∷ names) = (is_node config name ≡ true) × AreNodes names
@@ -83,9 +83,9 @@ module _ (Peer : NodeId → Type 0) where
 
     all-but : (names : List NodeId) → AreNodes names → ArePeers (except me names)
     all-but [] nodes = tt
-    all-but (name ∷ names) nodes = by_same (all-but names nodes.1) (name_eq name me) refl
+    all-but (name ∷ names) nodes = by_same (all-but names nodes.1) (same_name name me) refl
       where
-        by_same : ArePeers (except me names) → (same : Bool) → name_eq name me ≡ same → ArePeers (cond same (except me names) (name ∷ except me names))
+        by_same : ArePeers (except me names) → (same : Bool) → same_name name me ≡ same → ArePeers (cond same (except me names) (name ∷ except me names))
         by_same rest true is = rest
         by_same rest false is = (others_too name nodes.0 is, rest)
 

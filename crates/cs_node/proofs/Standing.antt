@@ -8,7 +8,7 @@ use Rattle.cs_tx_value.specs.declared.object.Object.{Object}
 use Rattle.cs_tx_form.specs.declared.transaction.Tx.{Tx}
 use Rattle.cs_order.specs.Deeds.{Member, Machine}
 use Rattle.cs_wire.specs.declared.keys.Keys.{Keys}
-use Rattle.cs_node_rules.specs.Setup.{Setup}
+use Rattle.cs_node_state.specs.Setup.{Setup}
 use Rattle.cs_node_rules.specs.Net.{Net}
 use Rattle.cs_node_rules.specs.Site.{Carrier, Input, Mark, In, Site, View, view_after, signs_of}
 use Rattle.cs_node_rules.specs.Trail.{turn_marks, input_marks, event_marks}
@@ -22,7 +22,7 @@ use Rattle.cs_node.specs.declared.draft.Draft.{Draft}
 use Rattle.cs_node.specs.Notes.{nothing, spoken, outs_of, outs_for, AllReached}
 use Rattle.cs_node.specs.Speaking.{Speaks}
 use Rattle.cs_node.specs.Steps.{view_of, Marks, TurnDone, Settles, Settling, Drafts, Event}
-use Rattle.cs_node.specs.Cores.{IsSeated, Keeps, StandsFor, view_at}
+use Rattle.cs_node.specs.Cores.{IsSeated, KeepsView, StandsFor, view_at}
 use Rattle.cs_node.proofs.Sealing.{outs-same}
 use Rattle.cs_node.proofs.Names.{me-after}
 use Rattle.cs_node.proofs.Reached.{event-reached}
@@ -31,7 +31,7 @@ use Rattle.cs_node.proofs.Settling.{turn-goes, turn-ends, with-input, event-made
 module _ {O J M : Type 0} (stands : O → Member M → Type 0) (approves : J → Tx → Bool) where
   -- An engine whose order stands for the member after more deeds of it, and whose table and pool are those of the same node.
   pub keeps-on : (genesis : List Object) (core : Engine O J M) (h : Member M) (order : O) (held : Held) (h' : Member M) → IsSeated stands core h → stands order h' → h'.f ≡ h.f → h'.me ≡ h.me → held.config ≡ core.sbac.config → held.me ≡ core.sbac.me
-      → Keeps stands approves (deployed core.sbac.config genesis (approves core.judge)) (record { order = order; judge = core.judge; sbac = held }) (view_of core.sbac.me (bench_of held) h')
+      → KeepsView stands approves (deployed core.sbac.config genesis (approves core.judge)) (record { order = order; judge = core.judge; sbac = held }) (view_of core.sbac.me (bench_of held) h')
   keeps-on genesis core h order held h' seated is same-f same-index same-config same-me =
       let N : Config × NodeId → Type 0 = λ p. is_node p.0 p.1 ≡ true in
       record {
@@ -47,11 +47,11 @@ module _ {O J M : Type 0} (stands : O → Member M → Type 0) (approves : J →
       }
 
   -- where nothing was done
-  pub keeps-still : (genesis : List Object) (core : Engine O J M) (h : Member M) → IsSeated stands core h → Keeps stands approves (deployed core.sbac.config genesis (approves core.judge)) core (view_at core.sbac h)
+  pub keeps-still : (genesis : List Object) (core : Engine O J M) (h : Member M) → IsSeated stands core h → KeepsView stands approves (deployed core.sbac.config genesis (approves core.judge)) core (view_at core.sbac h)
   keeps-still genesis core h seated = keeps-on genesis core h core.order core.sbac h seated seated.stood refl refl refl refl
 
   -- what a clause says at every genesis and member, it says at the setup and the view
-  pub at-standing : (F : Setup → View M → Type 0) (setup : Setup) (core : Engine O J M) (w : View M) → Keeps stands approves setup core w
+  pub at-standing : (F : Setup → View M → Type 0) (setup : Setup) (core : Engine O J M) (w : View M) → KeepsView stands approves setup core w
       → ((genesis : List Object) (h : Member M) → IsSeated stands core h → F (deployed core.sbac.config genesis (approves core.judge)) (view_at core.sbac h)) → F setup w
   at-standing F setup core w s all =
       let P : View M → Type 0 = λ u. F setup u in
@@ -60,9 +60,9 @@ module _ {O J M : Type 0} (stands : O → Member M → Type 0) (approves : J →
 
   module _ (rules : Machine M) (carried : Carrier M) (net : Net) (core core' : Engine O J M) (now next : Draft) where
     abbrev Turned : Bool → Setup → View M → Type 0
-    Turned went setup u = TurnDone (site_of setup net rules carried) (turn_marks (site_of setup net rules carried) u) u went now next (Keeps stands approves setup core')
+    Turned went setup u = TurnDone (site_of setup net rules carried) (turn_marks (site_of setup net rules carried) u) u went now next (KeepsView stands approves setup core')
 
-    module _ (setup : Setup) (v : View M) (old : Draft) (went : Bool) (before : ℕ) (s : Settling (site_of setup net rules carried) v old now (Keeps stands approves setup core) before)
+    module _ (setup : Setup) (v : View M) (old : Draft) (went : Bool) (before : ℕ) (s : Settling (site_of setup net rules carried) v old now (KeepsView stands approves setup core) before)
         (done : (genesis : List Object) (h : Member M) → IsSeated stands core h → Turned went (deployed core.sbac.config genesis (approves core.judge)) (view_at core.sbac h)) where
       abbrev site : Site M
       site = site_of setup net rules carried
@@ -71,10 +71,10 @@ module _ {O J M : Type 0} (stands : O → Member M → Type 0) (approves : J →
       w = view_after site s.done v
 
       abbrev After : View M → Type 0
-      After = Keeps stands approves setup core
+      After = KeepsView stands approves setup core
 
       abbrev Later : View M → Type 0
-      Later = Keeps stands approves setup core'
+      Later = KeepsView stands approves setup core'
 
       turned : Turned went setup w
       turned = at-standing (Turned went) setup core w s.marks.after done
@@ -90,19 +90,19 @@ module _ {O J M : Type 0} (stands : O → Member M → Type 0) (approves : J →
           turn-ends site v old now next After Later before (turn_marks site w) s refl (subst B e turned)
 
   -- an input, and then the rules until none applies
-  pub event-done : (rules : Machine M) (carried : Carrier M) (net : Net) (core core' core'' : Engine O J M) (setup : Setup) (v : View M) (input : Input) (start mid made : Draft) → Keeps stands approves setup core v → start ≡ nothing
-      → ((genesis : List Object) (h : Member M) → IsSeated stands core h → (let t : Setup = deployed core.sbac.config genesis (approves core.judge) in Marks (site_of t net rules carried) (input_marks (site_of t net rules carried) (view_at core.sbac h) input) (view_at core.sbac h) start mid (Keeps stands approves t core')))
-      → ((genesis : List Object) (h : Member M) → IsSeated stands core' h → (let t : Setup = deployed core'.sbac.config genesis (approves core'.judge) in Settles (site_of t net rules carried) (view_at core'.sbac h) mid made (Keeps stands approves t core'')))
-      → Drafts (site_of setup net rules carried) v input made (Keeps stands approves setup core'')
+  pub event-done : (rules : Machine M) (carried : Carrier M) (net : Net) (core core' core'' : Engine O J M) (setup : Setup) (v : View M) (input : Input) (start mid made : Draft) → KeepsView stands approves setup core v → start ≡ nothing
+      → ((genesis : List Object) (h : Member M) → IsSeated stands core h → (let t : Setup = deployed core.sbac.config genesis (approves core.judge) in Marks (site_of t net rules carried) (input_marks (site_of t net rules carried) (view_at core.sbac h) input) (view_at core.sbac h) start mid (KeepsView stands approves t core')))
+      → ((genesis : List Object) (h : Member M) → IsSeated stands core' h → (let t : Setup = deployed core'.sbac.config genesis (approves core'.judge) in Settles (site_of t net rules carried) (view_at core'.sbac h) mid made (KeepsView stands approves t core'')))
+      → Drafts (site_of setup net rules carried) v input made (KeepsView stands approves setup core'')
   event-done rules carried net core core' core'' setup v input start mid made s e took settled =
       let site : Site M = site_of setup net rules carried in
-      let After : View M → Type 0 = Keeps stands approves setup core' in
-      let F : Setup → View M → Type 0 = λ t u. Marks (site_of t net rules carried) (input_marks (site_of t net rules carried) u input) u start mid (Keeps stands approves t core') in
-      let G : Setup → View M → Type 0 = λ t u. Settles (site_of t net rules carried) u mid made (Keeps stands approves t core'') in
+      let After : View M → Type 0 = KeepsView stands approves setup core' in
+      let F : Setup → View M → Type 0 = λ t u. Marks (site_of t net rules carried) (input_marks (site_of t net rules carried) u input) u start mid (KeepsView stands approves t core') in
+      let G : Setup → View M → Type 0 = λ t u. Settles (site_of t net rules carried) u mid made (KeepsView stands approves t core'') in
       let P : Draft → Type 0 = λ m. Marks site (input_marks site v input) v m mid After in
       let first : Marks site (input_marks site v input ++ In input ∷ []) v nothing mid After = with-input site (input_marks site v input) input v nothing mid After (subst P e (at-standing F setup core v s took)) in
       let w : View M = view_after site (input_marks site v input ++ In input ∷ []) v in
-      event-made site v input mid made After (Keeps stands approves setup core'') first (at-standing G setup core' w first.after settled)
+      event-made site v input mid made After (KeepsView stands approves setup core'') first (at-standing G setup core' w first.after settled)
 
 -- keys speak in a net as far as it has nodes
 speaks-on : (config config' : Config) (net : Net) (keys : Keys) → config.shards ≡ config'.shards → config.f ≡ config'.f → Speaks config net keys → Speaks config' net keys
@@ -120,7 +120,7 @@ module _ {O J M : Type 0} (stands : O → Member M → Type 0) (approves : J →
 
   -- what was drafted is sealed
   pub event-sealed : (rules : Machine M) (carried : Carrier M) (net : Net) (core : Core O J M) (engine : Engine O J M) (setup : Setup) (v : View M) (input : Input) (draft : Draft) (made : Made) → StandsFor stands approves setup net core v
-      → Drafts (site_of setup net rules carried) v input draft (Keeps stands approves setup engine) → made.notes ≡ draft.notes
+      → Drafts (site_of setup net rules carried) v input draft (KeepsView stands approves setup engine) → made.notes ≡ draft.notes
       → (AllReached core.keys (spoken draft.said) → made.outs ≡ outs_for net core.keys.me (spoken draft.said))
       → Event (site_of setup net rules carried) v input made (StandsFor stands approves setup net (record { keys = core.keys; engine = engine }))
   event-sealed rules carried net core engine setup v input draft made is drafts notes outs =

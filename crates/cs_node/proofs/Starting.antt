@@ -16,13 +16,14 @@ use Rattle.cs_ledger.specs.Session as Seen
 use Rattle.cs_ledger.specs.Table.{Table, start}
 use Rattle.cs_node_rules.specs.Net.{Net}
 use Rattle.cs_node_rules.specs.Site.{Carrier, View, start_view}
-use Rattle.cs_node_rules.specs.Deployment.{genesis_from, rules_of, site_of}
+use Rattle.cs_node_rules.specs.Deployment.{site_of}
+use Rattle.cs_node_state.specs.Deployed.{genesis_from, rules_of}
 use Rattle.cs_table.specs.Seen.{Stored, seen}
 use Rattle.cs_tx.specs.Sessions.{item_of}
 use Rattle.cs_table.specs.Genesis.{keyed_of, genesis_rules}
 use Rattle.cs_node_pool.specs.Deployed.{deployed}
 use Rattle.cs_node.specs.Setups.{keyed_from, AreObjects}
-use Rattle.cs_node.specs.Cores.{Keeps}
+use Rattle.cs_node.specs.Cores.{KeepsView}
 
 pub all-fit : (xs : List (Key × Object)) → AreObjects xs → All (λ item. ObjectFits item.1) xs
 all-fit [] h k d lt = absurd (omega arith)
@@ -42,7 +43,7 @@ rules-same config objects =
 
 pub started : {O J M : Type 0} (stands : O → Member M → Type 0) (approves : J → Tx → Bool) (rules : Machine M) (carried : Carrier M) (net : Net) (config : Config) (me : NodeId) (objects : List Object) (given : List (Key × Object)) (order : O) (judge : J) (table : Stored) (f index : ℕ)
     → stands order (record { f = f; me = index; deeds = [] }) → f ≡ config.f → index ≡ me.index → is_node config me ≡ true → given ≡ keyed_from 0 objects → seen table ≡ start (genesis_rules config given) me.shard
-    → Keeps stands approves (deployed config objects (approves judge)) (record { order = order; judge = judge; sbac = record { config = config; me = me; table = table; pool = [] } })
+    → KeepsView stands approves (deployed config objects (approves judge)) (record { order = order; judge = judge; sbac = record { config = config; me = me; table = table; pool = [] } })
     (start_view (site_of (deployed config objects (approves judge)) net rules carried) me)
 started {O} {J} {M} stands approves rules carried net config me objects given order judge table f index is same-f same-me node named shows =
     let F : ℕ → Type 0 = λ n. stands order (record { f = n; me = index; deeds = [] }) in

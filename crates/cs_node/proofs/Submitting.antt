@@ -9,10 +9,10 @@ use Rattle.cs_tx_form.specs.declared.session.Session.{Session}
 use Rattle.cs_wire_message.specs.declared.message.Message.TheVariants as message
 use Rattle.cs_node_rules.specs.declared.cause.Cause.{Cause}
 use Rattle.cs_node_rules.specs.declared.cause.Cause.TheVariants.{Mine, Role, Malformed, Repeat, Denied, Full}
-use Rattle.cs_node_rules.specs.Setup.{Setup, digest_of, is_fit, is_approved}
-use Rattle.cs_node_rules.specs.Pool.{Pool, is_pooled, has_room, pushed, entered}
-use Rattle.cs_node_rules.specs.Bench.{Bench, decided}
-use Rattle.cs_node_rules.specs.Asked.{told_at, key_asked}
+use Rattle.cs_node_state.specs.Setup.{Setup, digest_of, is_fit, is_approved}
+use Rattle.cs_node_state.specs.Pool.{Pool, is_pooled, has_room, pushed, entered}
+use Rattle.cs_node_state.specs.Bench.{Bench, decided}
+use Rattle.cs_node_state.specs.Asked.{told_at, key_asked}
 use Rattle.cs_node_rules.specs.Signs.{Sign, Dropped, Entered as Enters, Sent, bench_step, bench_after, entering_signs, submitted_signs, submit_signs, ask_signs}
 use Rattle.cs_sbac.specs.declared.answers.Entered.{Entered}
 use Rattle.cs_sbac.specs.declared.answers.Entered.TheVariants.{New}

@@ -2,8 +2,8 @@
 use Rattle.std.proofs.Common.{◌≡◌, ℕ, List, [], ◌∷◌, ◌++◌, Option, Some, Bool, true, refl, ap, sym, subst, ◌∙◌, append_assoc, append-nil}
 use Rattle.cs_base.specs.declared.node_id.NodeId.{NodeId}
 use Rattle.cs_wire_message.specs.declared.message.Message.{Message}
-use Rattle.cs_node_rules.specs.Setup.{Setup}
-use Rattle.cs_node_rules.specs.Bench.{Bench}
+use Rattle.cs_node_state.specs.Setup.{Setup}
+use Rattle.cs_node_state.specs.Bench.{Bench}
 use Rattle.cs_node_rules.specs.Signs.{Sign, Dropped, Took, Entered, Viewed, Did, Sent, bench_step, bench_after, sends}
 use Rattle.cs_node_rules.specs.Site.{Mark, In, Ordered, Plain, Site, View, mark_step, view_after, plain, signs_of}
 use Rattle.cs_node.specs.declared.draft.Note.TheVariants as note

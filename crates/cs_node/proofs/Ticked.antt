@@ -14,10 +14,10 @@ use Rattle.cs_wire_message.specs.declared.message.Message.TheVariants as message
 use Rattle.cs_order.specs.declared.answers.Outgoing.{Outgoing}
 use Rattle.cs_order.specs.Deeds.{Deed, Resent, Ticked, Member, Machine, did, chosen_in}
 use Rattle.cs_order.specs.Calls.{Resends, Ticks}
-use Rattle.cs_node_rules.specs.Setup.{Setup, concerned}
-use Rattle.cs_node_rules.specs.Bench.{Bench}
-use Rattle.cs_node_rules.specs.Pool.{Pool}
-use Rattle.cs_node_rules.specs.Admission.{due}
+use Rattle.cs_node_state.specs.Setup.{Setup, concerned}
+use Rattle.cs_node_state.specs.Bench.{Bench}
+use Rattle.cs_node_state.specs.Pool.{Pool}
+use Rattle.cs_node_state.specs.Admission.{due}
 use Rattle.cs_node_rules.specs.Members.{others}
 use Rattle.cs_node_rules.specs.Net.{Net}
 use Rattle.cs_node_rules.specs.Signs.{Sign, bench_after, sends, vote_signs, asked_again}
@@ -31,7 +31,7 @@ use Rattle.cs_node.specs.declared.engine.Engine.{Engine}
 use Rattle.cs_node.specs.declared.draft.Draft.{Draft}
 use Rattle.cs_node.specs.Notes.{Tells}
 use Rattle.cs_node.specs.Steps.{Marks}
-use Rattle.cs_node.specs.Cores.{IsSeated, Keeps, view_at}
+use Rattle.cs_node.specs.Cores.{IsSeated, KeepsView, view_at}
 use Rattle.cs_node.proofs.Sums.{tells-nothing, tells-more, bench-append, bench-sends, with_bench, view-plain, marks-more, marks-plain}
 use Rattle.cs_node.proofs.Turns.{bench-handed, deed-done, moving-done, with_member}
 use Rattle.cs_node.proofs.Doing.{from-nothing}
@@ -100,7 +100,7 @@ module _ {O J M : Type 0} (stands : O → Member M → Type 0) (approves : J →
   v = view_at core.sbac h
 
   abbrev After : Engine O J M → View M → Type 0
-  After next = Keeps stands approves setup next
+  After next = KeepsView stands approves setup next
 
   abbrev wants : ℕ → List Sign
   wants slot = sends (others core.sbac.config.f core.sbac.me (core.sbac.me.shard ∷ [])) (message.Want slot)
@@ -157,16 +157,16 @@ bench-again {M} site v =
 
 -- both
 pub ticked-here : {O J M : Type 0} (stands : O → Member M → Type 0) (approves : J → Tx → Bool) (rules : Machine M) (carried : Carrier M) (net : Net) (core core' : Engine O J M) (genesis : List Object) (h : Member M) (made mid made' : Draft)
-    → (let t : Setup = deployed core.sbac.config genesis (approves core.judge) in Marks (site_of t net rules carried) (again_marks (site_of t net rules carried) (view_at core.sbac h)) (view_at core.sbac h) made mid (Keeps stands approves t core))
-    → ((genesis : List Object) (h : Member M) → IsSeated stands core h → (let t : Setup = deployed core.sbac.config genesis (approves core.judge) in Marks (site_of t net rules carried) (waiting_marks (site_of t net rules carried) (view_at core.sbac h) (is_some (due t core.sbac.pool))) (view_at core.sbac h) mid made' (Keeps stands approves t core')))
-    → (let t : Setup = deployed core.sbac.config genesis (approves core.judge) in Marks (site_of t net rules carried) (tick_marks (site_of t net rules carried) (view_at core.sbac h)) (view_at core.sbac h) made made' (Keeps stands approves t core'))
+    → (let t : Setup = deployed core.sbac.config genesis (approves core.judge) in Marks (site_of t net rules carried) (again_marks (site_of t net rules carried) (view_at core.sbac h)) (view_at core.sbac h) made mid (KeepsView stands approves t core))
+    → ((genesis : List Object) (h : Member M) → IsSeated stands core h → (let t : Setup = deployed core.sbac.config genesis (approves core.judge) in Marks (site_of t net rules carried) (waiting_marks (site_of t net rules carried) (view_at core.sbac h) (is_some (due t core.sbac.pool))) (view_at core.sbac h) mid made' (KeepsView stands approves t core')))
+    → (let t : Setup = deployed core.sbac.config genesis (approves core.judge) in Marks (site_of t net rules carried) (tick_marks (site_of t net rules carried) (view_at core.sbac h)) (view_at core.sbac h) made made' (KeepsView stands approves t core'))
 ticked-here {O} {J} {M} stands approves rules carried net core core' genesis h made mid made' first later =
     let setup : Setup = deployed core.sbac.config genesis (approves core.judge) in
     let site : Site M = site_of setup net rules carried in
     let v : View M = view_at core.sbac h in
     let again : List (Mark M) = again_marks site v in
     let w : View M = view_after site again v in
-    let F : Setup → View M → Type 0 = λ t u. Marks (site_of t net rules carried) (waiting_marks (site_of t net rules carried) u (is_some (due t u.bench.pool))) u mid made' (Keeps stands approves t core') in
-    let waited : Marks site (waiting_marks site w (is_some (due setup w.bench.pool))) w mid made' (Keeps stands approves setup core') = at-standing stands approves F setup core w first.after later in
-    let B : Bench → Type 0 = λ b. Marks site (waiting_marks site w (is_some (due setup b.pool))) w mid made' (Keeps stands approves setup core') in
-    marks-more site again (waiting_marks site w (is_some (due setup v.bench.pool))) v made mid made' (Keeps stands approves setup core) (Keeps stands approves setup core') first (subst B (bench-again site v) waited)
+    let F : Setup → View M → Type 0 = λ t u. Marks (site_of t net rules carried) (waiting_marks (site_of t net rules carried) u (is_some (due t u.bench.pool))) u mid made' (KeepsView stands approves t core') in
+    let waited : Marks site (waiting_marks site w (is_some (due setup w.bench.pool))) w mid made' (KeepsView stands approves setup core') = at-standing stands approves F setup core w first.after later in
+    let B : Bench → Type 0 = λ b. Marks site (waiting_marks site w (is_some (due setup b.pool))) w mid made' (KeepsView stands approves setup core') in
+    marks-more site again (waiting_marks site w (is_some (due setup v.bench.pool))) v made mid made' (KeepsView stands approves setup core) (KeepsView stands approves setup core') first (subst B (bench-again site v) waited)

@@ -5,7 +5,7 @@ use Rattle.cs_order.specs.declared.proposed.Proposed.{Proposed}
 use Rattle.cs_order.specs.declared.answers.Outgoing.{Outgoing}
 use Rattle.cs_order.specs.declared.answers.Step.TheVariants.{Chosen, Moved}
 use Rattle.cs_order.specs.Deeds.{Deed, Advanced, Proposing, Member, did, sent_by, chosen_in}
-use Rattle.cs_node_rules.specs.Bench.{Bench}
+use Rattle.cs_node_state.specs.Bench.{Bench}
 use Rattle.cs_node_rules.specs.Members.{is_other_member, others}
 use Rattle.cs_node_rules.specs.Signs.{Sign, Viewed, Sent, bench_after, execution_signs}
 use Rattle.cs_node_rules.specs.Site.{Mark, Ordered, Site, View, plain}

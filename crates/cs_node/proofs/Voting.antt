@@ -7,13 +7,13 @@ use Rattle.cs_tx_form.specs.declared.session.Session.{Session}
 use Rattle.cs_tx_form.specs.declared.vote.Vote.{Vote}
 use Rattle.cs_wire_message.specs.declared.message.Message.TheVariants as message
 use Rattle.cs_ledger.specs.Ledger.{Bytes}
-use Rattle.cs_node_rules.specs.declared.ballot.Ballot.{Ballot}
+use Rattle.cs_node_state.specs.declared.ballot.Ballot.{Ballot}
 use Rattle.cs_node_rules.specs.declared.cause.Cause.TheVariants.{Role, Malformed, Repeat, Unasked, Denied, Full}
-use Rattle.cs_node_rules.specs.declared.pooled.Pooled.{Pooled}
-use Rattle.cs_node_rules.specs.Setup.{Setup, digest_of, concerns, is_fit, is_approved}
-use Rattle.cs_node_rules.specs.Evidence.{has_voted}
-use Rattle.cs_node_rules.specs.Pool.{Pool, found, changed, changed_at, with_ballot, pushed, entered, has_room}
-use Rattle.cs_node_rules.specs.Bench.{Bench}
+use Rattle.cs_node_state.specs.declared.pooled.Pooled.{Pooled}
+use Rattle.cs_node_state.specs.Setup.{Setup, digest_of, concerns, is_fit, is_approved}
+use Rattle.cs_node_state.specs.Evidence.{has_voted}
+use Rattle.cs_node_state.specs.Pool.{Pool, found, changed, changed_at, with_ballot, pushed, entered, has_room}
+use Rattle.cs_node_state.specs.Bench.{Bench}
 use Rattle.cs_node_rules.specs.Signs.{Sign, Dropped, Took, Entered, Sent, guarded, asking_signs, ballot_signs, voted_signs}
 use Rattle.cs_node_pool.specs.declared.answers.Counted.TheVariants as count
 use Rattle.cs_sbac.specs.declared.answers.Entered.{Entered as Answer}

@@ -4,7 +4,7 @@ use Rattle.cs_base.specs.NodeId.{is_node}
 use Rattle.cs_tx_value.specs.declared.object.Object.{Object}
 use Rattle.cs_tx_form.specs.declared.transaction.Tx.{Tx}
 use Rattle.cs_order.specs.Deeds.{Member, Machine}
-use Rattle.cs_node_rules.specs.Setup.{Setup}
+use Rattle.cs_node_state.specs.Setup.{Setup}
 use Rattle.cs_node_rules.specs.Net.{Net}
 use Rattle.cs_node_rules.specs.Site.{Carrier, Site, View}
 use Rattle.cs_node_rules.specs.Deployment.{site_of}
@@ -30,7 +30,7 @@ pub record IsSeated {O J M : Type 0} (stands : O → Member M → Type 0) (engin
   pub node : is_node engine.sbac.config engine.sbac.me ≡ true
 
 -- An engine keeps a view under a setup: its order the member, its table and pool the rest.
-pub record Keeps {O J M : Type 0} (stands : O → Member M → Type 0) (approves : J → Tx → Bool) (setup : Setup) (engine : Engine O J M) (v : View M) : Type 0 where
+pub record KeepsView {O J M : Type 0} (stands : O → Member M → Type 0) (approves : J → Tx → Bool) (setup : Setup) (engine : Engine O J M) (v : View M) : Type 0 where
   pub seated : IsSeated stands engine v.member
   pub view_is : view_at engine.sbac v.member ≡ v
   pub genesis : List Object
@@ -38,7 +38,7 @@ pub record Keeps {O J M : Type 0} (stands : O → Member M → Type 0) (approves
 
 -- A core stands for a view under a setup and in a net: it keeps the view, and its keys are those of the node there.
 pub record StandsFor {O J M : Type 0} (stands : O → Member M → Type 0) (approves : J → Tx → Bool) (setup : Setup) (net : Net) (core : Core O J M) (v : View M) : Type 0 where
-  pub keeps : Keeps stands approves setup core.engine v
+  pub keeps : KeepsView stands approves setup core.engine v
   pub me_is : core.keys.me ≡ v.me
   pub speaks : Speaks core.engine.sbac.config net core.keys
 
@@ -47,4 +47,4 @@ pub record StandsFor {O J M : Type 0} (stands : O → Member M → Type 0) (appr
 abbrev pub Leads : {O J M : Type 0} → (O → Member M → Type 0) → (J → Tx → Bool) → Machine M → Carrier M → Engine O J M → Engine O J M → (Site M → View M → (View M → Type 0) → Type 0) → Type 0
 Leads {O} {J} {M} stands approves rules carrier engine engine' Says =
     (net : Net) (genesis : List Object) (h : Member M) → IsSeated stands engine h
-    → Says (site_at rules carrier net engine.sbac genesis (approves engine.judge)) (view_at engine.sbac h) (Keeps stands approves (deployed engine.sbac.config genesis (approves engine.judge)) engine')
+    → Says (site_at rules carrier net engine.sbac genesis (approves engine.judge)) (view_at engine.sbac h) (KeepsView stands approves (deployed engine.sbac.config genesis (approves engine.judge)) engine')

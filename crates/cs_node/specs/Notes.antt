@@ -11,7 +11,7 @@ use Rattle.cs_wire.specs.declared.input.Out.{Out}
 use Rattle.cs_wire.specs.declared.keys.Keys.{Keys}
 use Rattle.cs_wire.specs.Keys.{row_of}
 use Rattle.cs_ledger.specs.Table as Shard
-use Rattle.cs_node_rules.specs.Setup.{vote_from}
+use Rattle.cs_node_state.specs.Setup.{vote_from}
 use Rattle.cs_node_rules.specs.Net.{Net, sealed}
 use Rattle.cs_node_rules.specs.Signs.{Sign, Dropped, Took, Entered, Viewed, Did, Sent}
 use Rattle.cs_node.specs.declared.draft.Note.{Note}

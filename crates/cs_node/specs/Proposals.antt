@@ -4,9 +4,9 @@ use Rattle.cs_base.specs.Fields.{whole_at}
 use Rattle.cs_tx_form.specs.declared.entry.Entry.{Entry}
 use Rattle.cs_tx_form.specs.Reading.{entry_at}
 use Rattle.cs_order.specs.declared.proposed.Proposed.{Proposed}
-use Rattle.cs_node_rules.specs.Setup.{Setup}
-use Rattle.cs_node_rules.specs.Pool.{Pool}
-use Rattle.cs_node_rules.specs.Admission.{admits}
+use Rattle.cs_node_state.specs.Setup.{Setup}
+use Rattle.cs_node_state.specs.Pool.{Pool}
+use Rattle.cs_node_state.specs.Admission.{admits}
 use Rattle.cs_node_rules.specs.Deployment.{entry_or_void}
 
 -- the entry of which these bytes are the encoding

@@ -2,12 +2,12 @@
 use Rattle.std.specs.Prelude.{◌≡◌, ℕ, true, false, Option, Some, None, Ok, Err, IsSome}
 use Rattle.cs_base.specs.declared.config.Config.{Config}
 use Rattle.cs_base.specs.declared.node_id.NodeId.{NodeId}
-use Rattle.cs_base.specs.NodeId.{is_named}
+use Rattle.cs_base.specs.NodeId.{is_named, same_name}
 use Rattle.cs_wire.specs.declared.input.Input.{Input as Given}
 use Rattle.cs_wire.specs.declared.input.Input.TheVariants as given
 use Rattle.cs_wire.specs.declared.keys.Row.{Row}
 use Rattle.cs_wire.specs.declared.keys.Keys.{Keys}
-use Rattle.cs_wire.specs.Keys.{same_name, row_of}
+use Rattle.cs_wire.specs.Keys.{row_of}
 use Rattle.cs_wire.specs.Opened.{Opened, opened, datagram_with}
 use Rattle.cs_ledger.specs.Ledger.{Bytes}
 use Rattle.cs_node_rules.specs.Net.{Net}

@@ -2,8 +2,8 @@
 use Rattle.std.specs.Prelude.{◌≡◌, ℕ, ◌<◌, ◌^◌, Bool, true, false, List, ◌++◌, Option, Some, None}
 use Rattle.cs_base.specs.declared.node_id.NodeId.{NodeId}
 use Rattle.cs_order.specs.Deeds.{Member}
-use Rattle.cs_node_rules.specs.Setup.{Setup}
-use Rattle.cs_node_rules.specs.Bench.{Bench}
+use Rattle.cs_node_state.specs.Setup.{Setup}
+use Rattle.cs_node_state.specs.Bench.{Bench}
 use Rattle.cs_node_rules.specs.Signs.{Sign, bench_after}
 use Rattle.cs_node_rules.specs.Site.{Input, Mark, Site, View, view_after, signs_of}
 use Rattle.cs_node_rules.specs.Trail.{turn_marks, settled, event_marks}

@@ -5,7 +5,7 @@ ghost use Rattle.cs_order.specs.declared.answers.May.TheVariants.{Free, Only};
 ghost use Rattle.cs_order.specs.Deeds.{Member};
 ghost use Rattle.cs_node_rules.specs.Net.{Net};
 ghost use Rattle.cs_node_rules.specs.Trail.{handed, entered_view, due_marks, candidate_marks, propose_marks, echo_marks, turn_marks};
-ghost use Rattle.cs_node_rules.specs.Admission.{due};
+ghost use Rattle.cs_node_state.specs.Admission.{due};
 ghost use Rattle.cs_node_pool.specs.Deployed.{deployed};
 ghost use Rattle.cs_node.specs.Notes.{Tells, DraftFits};
 ghost use Rattle.cs_node.specs.Proposals.{admits_proposed, admits_pending, first_admitted};

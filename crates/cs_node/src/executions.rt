@@ -3,7 +3,7 @@ ghost use Rattle.std.specs.Prelude.{◌≡◌, OnOk, List, Bool};
 ghost use Rattle.cs_tx_value.specs.declared.object.Object.{Object};
 ghost use Rattle.cs_tx_form.specs.declared.transaction.Tx.{Tx};
 ghost use Rattle.cs_tx_form.specs.Session.{SessionFits, EntryFits};
-ghost use Rattle.cs_node_rules.specs.Setup.{session_in};
+ghost use Rattle.cs_node_state.specs.Setup.{session_in};
 ghost use Rattle.cs_node_rules.specs.Signs.{execution_signs};
 ghost use Rattle.cs_node_pool.specs.Deployed.{deployed};
 ghost use Rattle.cs_sbac.specs.Held.{Held, bench_of};

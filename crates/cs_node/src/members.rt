@@ -1,6 +1,7 @@
 //! The other nodes.
 ghost use Rattle.std.specs.Prelude.{◌≡◌, ◌++◌, ◌+◌, ◌*◌, IfOk, OnOk};
-ghost use Rattle.cs_node_rules.specs.Members.{is_other_member, members_below, except, others};
+ghost use Rattle.cs_node_rules.specs.Members.{is_other_member, except, others};
+ghost use Rattle.cs_base.specs.NodeId.{members_below};
 
 use cs_base::{Config, Memory, NodeId, Sequence};
 use std::alloc::Global;

@@ -2,7 +2,7 @@
 ghost use Rattle.std.specs.Prelude.{◌≡◌, IfOk, List, true};
 ghost use Rattle.cs_base.specs.NodeId.{is_node};
 ghost use Rattle.cs_tx_value.specs.declared.object.Object.{Object as AnyObject};
-ghost use Rattle.cs_node_rules.specs.Setup.{Setup};
+ghost use Rattle.cs_node_state.specs.Setup.{Setup};
 ghost use Rattle.cs_node_rules.specs.Net.{Net};
 ghost use Rattle.cs_node_rules.specs.Site.{View, start_view};
 ghost use Rattle.cs_node_rules.specs.Deployment.{site_of};

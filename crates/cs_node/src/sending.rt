@@ -6,7 +6,7 @@ ghost use Rattle.cs_tx_form.specs.declared.vote.Vote.TheVariants.{Commit};
 ghost use Rattle.cs_tx_form.specs.Session.{SessionFits};
 ghost use Rattle.cs_wire_message.specs.declared.message.Message.TheVariants as message;
 ghost use Rattle.cs_wire_message.specs.Message.{IsSlot};
-ghost use Rattle.cs_node_rules.specs.Setup.{concerned};
+ghost use Rattle.cs_node_state.specs.Setup.{concerned};
 ghost use Rattle.cs_node_rules.specs.Members.{others};
 ghost use Rattle.cs_node_rules.specs.Signs.{sends, vote_signs, asked_again};
 ghost use Rattle.cs_node_pool.specs.Deployed.{deployed};

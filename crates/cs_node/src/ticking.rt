@@ -2,7 +2,7 @@
 ghost use Rattle.std.specs.Prelude.{◌≡◌, OnOk, IfOk, is_some, length};
 ghost use Rattle.cs_wire_message.specs.Message.{IsSlot};
 ghost use Rattle.cs_order.specs.Deeds.{Member, chosen_in};
-ghost use Rattle.cs_node_rules.specs.Admission.{due};
+ghost use Rattle.cs_node_state.specs.Admission.{due};
 ghost use Rattle.cs_node_rules.specs.Trail.{again_marks, waiting_marks, tick_marks, input_marks};
 ghost use Rattle.cs_node.specs.Notes.{DraftFits};
 ghost use Rattle.cs_node.specs.Speaking.{Speaks, input_of};

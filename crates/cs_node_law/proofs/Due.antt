@@ -5,11 +5,11 @@ use Rattle.cs_tx_form.specs.declared.vote.Vote.TheVariants.{Commit, Abort}
 use Rattle.cs_tx_form.specs.declared.entry.Entry.{Entry}
 use Rattle.cs_tx_form.specs.declared.entry.Entry.TheVariants.{Prepare, Decide}
 use Rattle.cs_ledger.specs.Ledger.{IsIn, or_else}
-use Rattle.cs_node_rules.specs.declared.pooled.Pooled.{Pooled}
-use Rattle.cs_node_rules.specs.Setup.{Setup, concerned}
-use Rattle.cs_node_rules.specs.Evidence.{is_decided}
-use Rattle.cs_node_rules.specs.Pool.{Pool}
-use Rattle.cs_node_rules.specs.Admission.{due_vote, decide_due, first_decided, first_waiting, due}
+use Rattle.cs_node_state.specs.declared.pooled.Pooled.{Pooled}
+use Rattle.cs_node_state.specs.Setup.{Setup, concerned}
+use Rattle.cs_node_state.specs.Evidence.{is_decided}
+use Rattle.cs_node_state.specs.Pool.{Pool}
+use Rattle.cs_node_state.specs.Admission.{due_vote, decide_due, first_decided, first_waiting, due}
 use Rattle.cs_node_law.proofs.Pools.{Place}
 
 -- the votes on this session decide so

@@ -22,18 +22,19 @@ use Rattle.cs_order.specs.declared.proposed.Proposed.{Proposed}
 use Rattle.cs_order.specs.declared.answers.May.TheVariants.{Only}
 use Rattle.cs_order.specs.Lists as Order
 use Rattle.cs_order.specs.Deeds.{Deed, Took_in, Advanced, Echoed, Proposing, Ticked, Resent, Replied, Member, Machine}
-use Rattle.cs_order.specs.Runs.{Keeps, IsKept, held_in}
+use Rattle.cs_order.specs.Runs.{KeepsRules, IsKept, held_in}
 use Rattle.cs_order.specs.Law.{Holds}
 use Rattle.cs_ledger.specs.Ledger.{Bytes, IsIn}
 use Rattle.cs_ledger.specs.Session as Seen
 use Rattle.cs_ledger.proofs.Basics.{in_either}
-use Rattle.cs_node_rules.specs.Setup.{session_in}
+use Rattle.cs_node_state.specs.Setup.{session_in}
 use Rattle.cs_node_rules.specs.Net.{net_of}
 use Rattle.cs_node_rules.specs.Signs.{Dropped, Took, Entered, Viewed, Did, Sent}
 use Rattle.cs_node_rules.specs.Site.{Input, Datagram, Tick, Mark, In, Ordered, Plain, Carrier, Site, signs_of}
 use Rattle.cs_node_rules.specs.Collisions.{sessions_in, entries_in, in_opened, given}
 use Rattle.cs_node_rules.specs.Carrying.{IsEntry, Carries}
-use Rattle.cs_node_rules.specs.Deployment.{setup_of, proposed_of, entry_or_void, site_of}
+use Rattle.cs_node_rules.specs.Deployment.{proposed_of, entry_or_void, site_of}
+use Rattle.cs_node_state.specs.Deployed.{setup_of}
 use Rattle.cs_node_law.specs.Made.{view_at, HasVotedOn, IsTaken, IsDue, IsCandidate, Executes, IsHanded, SaidMade, AllMade, ReadsProper, InputFits}
 use Rattle.cs_node_law.specs.Given.{InputIsBytes}
 use Rattle.cs_node_law.proofs.Views.{member-is}
@@ -149,7 +150,7 @@ module _ {M : Type 0} (machine : Machine M) (carrier : Carrier M) (config : Conf
       kept [] made = tt
       kept (In input ∷ t) made = kept t made.1
       kept (Plain sign ∷ t) made = kept t made.1
-      kept (Ordered deed ∷ t) made = (subst (λ (h : Member M). Keeps machine h deed) (member-is At me t) made.0.0, kept t made.1)
+      kept (Ordered deed ∷ t) made = (subst (λ (h : Member M). KeepsRules machine h deed) (member-is At me t) made.0.0, kept t made.1)
 
       -- each entry that was handed in has an encoding; so has each session that was voted on
       pub record AllFit (t : List (Mark M)) : Type 0 where

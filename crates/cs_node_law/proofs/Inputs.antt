@@ -20,15 +20,15 @@ use Rattle.cs_ledger.specs.Ledger.{Bytes, IsIn}
 use Rattle.cs_ledger.specs.Table as Shard
 use Rattle.cs_node_rules.specs.declared.cause.Cause.{Cause}
 use Rattle.cs_node_rules.specs.declared.cause.Cause.TheVariants.{Mine, Role, Malformed, Old, Far, Leader, Repeat, Unasked, Denied, Full, NoProof}
-use Rattle.cs_node_rules.specs.declared.pooled.Pooled.{Pooled}
-use Rattle.cs_node_rules.specs.Setup.{digest_of, concerns, concerned, is_fit, is_approved}
-use Rattle.cs_node_rules.specs.Admission.{due}
-use Rattle.cs_node_rules.specs.Evidence.{has_voted}
+use Rattle.cs_node_state.specs.declared.pooled.Pooled.{Pooled}
+use Rattle.cs_node_state.specs.Setup.{digest_of, concerns, concerned, is_fit, is_approved}
+use Rattle.cs_node_state.specs.Admission.{due}
+use Rattle.cs_node_state.specs.Evidence.{has_voted}
 use Rattle.cs_node_rules.specs.Members.{is_other_member, others}
 use Rattle.cs_node_rules.specs.Net.{cause_of}
-use Rattle.cs_node_rules.specs.Pool.{Pool, found, is_pooled, has_room}
-use Rattle.cs_node_rules.specs.Asked.{told_at, key_asked}
-use Rattle.cs_node_rules.specs.Bench.{decided, noted}
+use Rattle.cs_node_state.specs.Pool.{Pool, found, is_pooled, has_room}
+use Rattle.cs_node_state.specs.Asked.{told_at, key_asked}
+use Rattle.cs_node_state.specs.Bench.{decided, noted}
 use Rattle.cs_node_rules.specs.Signs.{Sign, Dropped, Took, Entered, Sent, guarded, submitted_signs, submit_signs, told_signs, ask_signs, asking_signs, ballot_signs, voted_signs, sends, vote_signs, asked_again}
 use Rattle.cs_node_rules.specs.Site.{Input, Datagram, Tick, Mark, In, Ordered, Plain, Site, View, view_after, plain, signs_of}
 use Rattle.cs_node_rules.specs.Trail.{with_deed, taking_marks, member_marks, reply_marks, want_marks, message_marks, opened_marks, again_marks, waiting_marks, tick_marks, input_marks, event_marks, settled}

@@ -7,8 +7,8 @@ use Rattle.cs_ledger.specs.Session.{Rules, Key, Object, Dummy, has_key, objects_
 use Rattle.cs_ledger.specs.Table.{Commit, State, Unknown, Active, Locked, Inactive, Table, Entry, Outcome, is_locked_by, locked, released, made, lock_state, undo_state, accept_state, new_pieces, exec, table_of}
 use Rattle.cs_ledger.specs.ShardWorld.{votes_in, is_prepare_of, is_vote}
 use Rattle.cs_ledger.proofs.Changes.{Change, Nothing, Locks, Notes, Accepts, Aborts, change}
-use Rattle.cs_node_rules.specs.Setup.{digest_of}
-use Rattle.cs_node_rules.specs.Bench.{locked_at}
+use Rattle.cs_node_state.specs.Setup.{digest_of}
+use Rattle.cs_node_state.specs.Bench.{locked_at}
 use Rattle.cs_node_rules.specs.Site.{Site}
 use Rattle.cs_node_law.specs.Made.{view_at, LocksAreGiven}
 use Rattle.cs_node_law.proofs.Logs.{seen_log, table-is, given-is}

@@ -18,7 +18,7 @@ use Rattle.cs_order.specs.declared.answers.May.TheVariants.{No, Free, Only}
 use Rattle.cs_order.specs.Deeds.{Deed, Advanced, Echoed, Proposing, Ticked, Resent, Replied, did, sent_by, chosen_in}
 use Rattle.cs_wire.specs.Opened.{Opened}
 use Rattle.cs_node_rules.specs.declared.cause.Cause.TheVariants.{Role, NoProof}
-use Rattle.cs_node_rules.specs.Admission.{due}
+use Rattle.cs_node_state.specs.Admission.{due}
 use Rattle.cs_node_rules.specs.Members.{is_other_member, others}
 use Rattle.cs_node_rules.specs.Signs.{Sign, Dropped, guarded, submit_signs, voted_signs, ask_signs, sends, execution_signs, asked_again}
 use Rattle.cs_node_rules.specs.Site.{Input, Datagram, Tick, Mark, In, Ordered, Plain, Site, View, view_after, plain}

@@ -12,8 +12,8 @@ use Rattle.cs_ledger.specs.ShardWorld.{votes_in, is_prepare_of, is_vote}
 use Rattle.cs_ledger.proofs.Basics.{same_bytes}
 use Rattle.cs_ledger.proofs.Settled.{vote_in-append}
 use Rattle.cs_ledger.proofs.Changes.{Change, Nothing, Locks, Notes, Accepts, Aborts, change}
-use Rattle.cs_node_rules.specs.Setup.{digest_of, vote_of}
-use Rattle.cs_node_rules.specs.Bench.{vote_read, noted_at}
+use Rattle.cs_node_state.specs.Setup.{digest_of, vote_of}
+use Rattle.cs_node_state.specs.Bench.{vote_read, noted_at}
 use Rattle.cs_node_rules.specs.Site.{Site}
 use Rattle.cs_node_law.specs.Made.{view_at, NotesAreGiven}
 use Rattle.cs_node_law.proofs.Logs.{seen_log, table-is, given-is}

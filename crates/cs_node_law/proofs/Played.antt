@@ -7,7 +7,7 @@ use Rattle.cs_base.specs.Fields.{IsBytes}
 use Rattle.cs_base.specs.declared.config.Config.{Config}
 use Rattle.cs_base.specs.declared.node_id.NodeId.{NodeId}
 use Rattle.cs_base.specs.declared.node_id.TheConstants.{CLIENT_SHARD, CLIENTS}
-use Rattle.cs_base.specs.NodeId.{is_client, is_node, is_named}
+use Rattle.cs_base.specs.NodeId.{is_client, is_node, is_named, same_name}
 use Rattle.cs_tx_value.specs.declared.object.Object.{Object}
 use Rattle.cs_tx_form.specs.declared.session.Session.{Session}
 use Rattle.cs_wire_message.specs.declared.message.Message.{Message}
@@ -23,7 +23,6 @@ use Rattle.cs_wire.specs.Opened.{Opened, keys_of_master}
 use Rattle.cs_ledger.specs.Ledger.{Bytes, IsIn}
 use Rattle.cs_ledger.specs.Session as Seen
 use Rattle.cs_ledger.proofs.Basics.{in_either, bytes_refl}
-use Rattle.cs_node_rules.specs.Evidence.{name_eq}
 use Rattle.cs_node_rules.specs.Signs.{Dropped, Took, Entered, Viewed, Did, Sent}
 use Rattle.cs_node_rules.specs.Site.{Input, Datagram, Tick, Mark, In, Ordered, Plain, Carrier, Site, signs_of}
 use Rattle.cs_node_rules.specs.Trail.{event_marks}
@@ -33,7 +32,7 @@ use Rattle.cs_node_rules.specs.Net.{Net, net_of, sealed}
 use Rattle.cs_node_rules.specs.Play.{Played, unplayed, Course, Goes, Stops, Forges, then_plays, played_by, size_of, most_events, most_sent, plays, within, occurs, injects, arrived, with_arrived, delivers, first_left, drains, drained, play, play_all}
 use Rattle.cs_node_rules.specs.Carrying.{Carries}
 use Rattle.cs_node_law.specs.Made.{view_at, AllMade, IsLevel}
-use Rattle.cs_node_law.specs.Given.{InputIsBytes, AreBytes, IsSaid, IsFor, IsPlayed, PlaysWorlds}
+use Rattle.cs_node_law.specs.Given.{InputIsBytes, AreBytes, IsSaid, IsGivable, IsPlayed, PlaysWorlds}
 use Rattle.cs_node_law.proofs.Inputs.{event-level}
 use Rattle.cs_node_law.proofs.NoIns.{inputs_in, event-inputs}
 use Rattle.cs_node_law.proofs.Sealing.{bytes-datagram}
@@ -59,7 +58,7 @@ letters-set (first ∷ parcels) (suc number) parcel e = ap (λ (l : List Parcel)
 
 was-sent : (from to : NodeId) (bytes : Bytes) (parcels : List Parcel) → was_sent from to bytes (letters parcels) ≡ was_sent from to bytes parcels
 was-sent from to bytes [] = refl
-was-sent from to bytes (p ∷ parcels) = ap (λ b. (name_eq p.from from && (name_eq p.to to && bytes_eq p.bytes bytes)) || b) (was-sent from to bytes parcels)
+was-sent from to bytes (p ∷ parcels) = ap (λ b. (same_name p.from from && (same_name p.to to && bytes_eq p.bytes bytes)) || b) (was-sent from to bytes parcels)
 
 -- what was sent, by the letters alone
 same-sent : (from to : NodeId) (bytes : Bytes) (a b : List Parcel) → letters a ≡ letters b → was_sent from to bytes a ≡ was_sent from to bytes b
@@ -69,10 +68,10 @@ backed-same : (net : Net) (to : NodeId) (bytes : Bytes) (a b : List Parcel) (o :
 backed-same net to bytes a b (Ok said) same = ap (λ t. not (net.is_honest said.0) || t) (same-sent said.0 to bytes a b same)
 backed-same net to bytes a b (Err error) same = refl
 
-name-refl : (a : NodeId) → name_eq a a ≡ true
+name-refl : (a : NodeId) → same_name a a ≡ true
 name-refl a = and_from _ _ (eq-eqb a.shard a.shard refl) (eq-eqb a.index a.index refl)
 
-pub name-same : (a b : NodeId) → name_eq a b ≡ true → a ≡ b
+pub name-same : (a b : NodeId) → same_name a b ≡ true → a ≡ b
 name-same a b e =
     let h = and_parts (a.shard == b.shard) (a.index == b.index) e in
     let p : a.shard ≡ b.shard = eqb-true _ _ h.0 in
@@ -86,7 +85,7 @@ sent-there : (parcels : List Parcel) (number : ℕ) (p : Parcel) → slice_get p
 sent-there [] number p e = cc
 sent-there (first ∷ parcels) zero p e =
     let is : first ≡ p = cc in
-    or_left _ _ (subst (λ (f : Parcel). (name_eq f.from p.from && (name_eq f.to p.to && bytes_eq f.bytes p.bytes)) ≡ true) (sym is) (and_from _ _ (name-refl p.from) (and_from _ _ (name-refl p.to) (bytes_refl p.bytes))))
+    or_left _ _ (subst (λ (f : Parcel). (same_name f.from p.from && (same_name f.to p.to && bytes_eq f.bytes p.bytes)) ≡ true) (sym is) (and_from _ _ (name-refl p.from) (and_from _ _ (name-refl p.to) (bytes_refl p.bytes))))
 sent-there (first ∷ parcels) (suc number) p e = or_right _ _ (sent-there parcels number p e)
 
 parcel-in : (parcels : List Parcel) (number : ℕ) (parcel : Parcel) → slice_get parcels number ≡ Some parcel → IsIn parcel parcels
@@ -237,7 +236,7 @@ module _ {M : Type 0} (machine : Machine M) (holds : Holds machine) (carrier : C
   pub world-clean : (world : List (Happening M)) → IsLife At world → AreBytes world → (me : NodeId) → IsClean me (trail_of me world)
   world-clean [] life bytes me = record { level = record { made = tt; slots = refl }; bytes = λ input i. absurd i }
   world-clean (h ∷ past) life bytes me =
-      cond_both (name_eq h.node me) (h.marks ++ trail_of me past) (trail_of me past) (λ t. IsClean me t)
+      cond_both (same_name h.node me) (h.marks ++ trail_of me past) (trail_of me past) (λ t. IsClean me t)
       (λ same.
       let is = name-same h.node me same in
       let marks : h.marks ≡ event_marks At (view_of At past me) h.input = life.0 ∙ ap (λ n. event_marks At (view_of At past n) h.input) is in
@@ -337,7 +336,7 @@ module _ {M : Type 0} (machine : Machine M) (holds : Holds machine) (carrier : C
             or_left _ _ (ap (λ (n : NodeId). not (net.is_honest n)) is ∙ ap not said.lies)
         go (Err error) e = refl
 
-    play-played : (e : Event) (p : Played M) → IsFor config net e → Plays p → CourseIs (play At traced line e p)
+    play-played : (e : Event) (p : Played M) → IsGivable config net e → Plays p → CourseIs (play At traced line e p)
     play-played (event.Say from to kind body) p said h =
         occurs-played to (Datagram (net.datagram from to kind body)) p said.listener
         (bytes-datagram (key_between master from to) from to kind body said.kind_fits said.is_bytes)
@@ -347,11 +346,11 @@ module _ {M : Type 0} (machine : Machine M) (holds : Holds machine) (carrier : C
     play-played (event.Tick node) p here h = occurs-played node Tick p here tt refl h
     play-played (event.Drain times) p here h = drained-played times p h
 
-  all-played : (traced : Bool) (events : List (ℕ × Event)) (p : Played M) → All (λ (e : ℕ × Event). IsFor config net e.1) events → Plays p → CourseIs (play_all At traced events p)
+  all-played : (traced : Bool) (events : List (ℕ × Event)) (p : Played M) → All (λ (e : ℕ × Event). IsGivable config net e.1) events → Plays p → CourseIs (play_all At traced events p)
   all-played traced [] p here h = h
   all-played traced (e ∷ events) p here h =
       then-played traced e.0 (play At traced e.0 e.1 p) (play_all At traced events) (play-played traced e.0 e.1 p (here 0 e (omega arith)) h)
-      (λ q k. all-played traced events q (All-tail (λ (n : ℕ × Event). IsFor config net n.1) e events here) k)
+      (λ q k. all-played traced events q (All-tail (λ (n : ℕ × Event). IsGivable config net n.1) e events here) k)
 
 pub plays-worlds : {M : Type 0} (machine : Machine M) → Holds machine → PlaysWorlds machine
 plays-worlds {M} machine holds carrier carries config master liars genesis session_of traced events few small here =

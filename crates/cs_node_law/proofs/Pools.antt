@@ -15,12 +15,12 @@ use Rattle.cs_ledger.specs.Session as Seen
 use Rattle.cs_ledger.specs.Table as Shard
 use Rattle.cs_ledger.specs.Table.{Commit, Effect, Voted, Accepted, Aborted, Skipped, Void, Outcome, Table}
 use Rattle.cs_ledger.proofs.Basics.{in_left, in_either, same_bytes}
-use Rattle.cs_node_rules.specs.declared.ballot.Ballot.{Ballot}
-use Rattle.cs_node_rules.specs.declared.pooled.Pooled.{Pooled}
-use Rattle.cs_node_rules.specs.Setup.{Setup, digest_of, is_fit, is_approved, session_in, entry_of, vote_of}
-use Rattle.cs_node_rules.specs.Evidence.{has_voted}
-use Rattle.cs_node_rules.specs.Pool.{Pool, found, is_pooled, without, changed_at, changed, with_ballot, as_locked, entering, pushed}
-use Rattle.cs_node_rules.specs.Bench.{is_locked, pool_after, told_by}
+use Rattle.cs_node_state.specs.declared.ballot.Ballot.{Ballot}
+use Rattle.cs_node_state.specs.declared.pooled.Pooled.{Pooled}
+use Rattle.cs_node_state.specs.Setup.{Setup, digest_of, is_fit, is_approved, session_in, entry_of, vote_of}
+use Rattle.cs_node_state.specs.Evidence.{has_voted}
+use Rattle.cs_node_state.specs.Pool.{Pool, found, is_pooled, without, changed_at, changed, with_ballot, as_locked, entering, pushed}
+use Rattle.cs_node_state.specs.Bench.{is_locked, pool_after, told_by}
 use Rattle.cs_node_rules.specs.Signs.{Sign, Dropped, Took, Entered, Viewed, Did, Sent}
 use Rattle.cs_node_rules.specs.Site.{Datagram, Tick, Mark, In, Ordered, Plain, Site, signs_of}
 use Rattle.cs_node_rules.specs.Collisions.{sessions_in, in_opened, given}

@@ -12,9 +12,9 @@ use Rattle.cs_order.specs.Runs.{IsFor}
 use Rattle.cs_ledger.specs.Ledger.{Bytes, IsIn}
 use Rattle.cs_ledger.specs.Table.{Vote}
 use Rattle.cs_ledger.proofs.Basics.{in_right, in_either}
-use Rattle.cs_node_rules.specs.Setup.{Setup, digest_of, vote_of}
-use Rattle.cs_node_rules.specs.Evidence.{name_eq}
-use Rattle.cs_node_rules.specs.Members.{is_other_member, members_below, members, except, others}
+use Rattle.cs_node_state.specs.Setup.{Setup, digest_of, vote_of}
+use Rattle.cs_base.specs.NodeId.{same_name, members_below}
+use Rattle.cs_node_rules.specs.Members.{is_other_member, members, except, others}
 use Rattle.cs_node_rules.specs.Signs.{Sign, Dropped, Took, Entered, Viewed, Did, Sent, sends}
 use Rattle.cs_node_rules.specs.Site.{Datagram, Tick, Mark, In, Ordered, Plain, Site, View, plain, signs_of}
 use Rattle.cs_node_rules.specs.Trail.{out_signs, handed, with_deed, entered_view, moving}
@@ -146,7 +146,7 @@ module _ {M : Type 0} (site : Site M) (me : NodeId) where
 
 except-in : (me x : NodeId) (names : List NodeId) → IsIn x (except me names) → IsIn x names
 except-in me x [] i = absurd i
-except-in me x (name ∷ names) i = go (name_eq name me) (except-in me x names) i
+except-in me x (name ∷ names) i = go (same_name name me) (except-in me x names) i
   where
     go : (b : Bool) → (IsIn x (except me names) → IsIn x names) → IsIn x (if b then except me names else name ∷ except me names) → IsIn x (name ∷ names)
     go true again i = inr (again i)

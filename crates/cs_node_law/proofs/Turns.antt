@@ -24,11 +24,11 @@ use Rattle.cs_ledger.specs.Table.{Vote, Commit, Abort, Effect, Voted, Accepted, 
 use Rattle.cs_ledger.specs.Table as Shard
 use Rattle.cs_ledger.specs.ShardWorld.{is_vote}
 use Rattle.cs_ledger.proofs.Basics.{bytes_refl}
-use Rattle.cs_node_rules.specs.Setup.{Setup, digest_of, concerned, session_in, vote_of, vote_from}
-use Rattle.cs_node_rules.specs.Admission.{due}
+use Rattle.cs_node_state.specs.Setup.{Setup, digest_of, concerned, session_in, vote_of, vote_from}
+use Rattle.cs_node_state.specs.Admission.{due}
 use Rattle.cs_node_rules.specs.Members.{others}
-use Rattle.cs_node_rules.specs.Pool.{is_pooled}
-use Rattle.cs_node_rules.specs.Bench.{is_locked, executed, told_by}
+use Rattle.cs_node_state.specs.Pool.{is_pooled}
+use Rattle.cs_node_state.specs.Bench.{is_locked, executed, told_by}
 use Rattle.cs_node_rules.specs.Signs.{Sign, Took, Entered, Did, vote_signs, own_signs, entered_signs, execution_signs}
 use Rattle.cs_node_rules.specs.Site.{Mark, Ordered, Plain, Site, View, view_after, plain, signs_of}
 use Rattle.cs_node_rules.specs.Trail.{with_deed, admits_proposed, due_marks, candidate_marks, propose_marks, echo_marks, step_marks, turn_marks, continued, settled}

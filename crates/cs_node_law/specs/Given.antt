@@ -17,7 +17,8 @@ use Rattle.cs_node_rules.specs.Play.{unplayed, played_by, play_all}
 use Rattle.cs_node_rules.specs.Site.{Input, Datagram, Tick, Carrier, Site}
 use Rattle.cs_node_rules.specs.World.{Happening, IsLife, AreHonest, NoForgery}
 use Rattle.cs_node_rules.specs.Carrying.{Carries}
-use Rattle.cs_node_rules.specs.Deployment.{setup_of, site_of}
+use Rattle.cs_node_rules.specs.Deployment.{site_of}
+use Rattle.cs_node_state.specs.Deployed.{setup_of}
 
 abbrev pub InputIsBytes : Input → Type 0
 InputIsBytes (Datagram bytes) = IsBytes bytes
@@ -38,12 +39,12 @@ pub record IsSaid (config : Config) (net : Net) (from to : NodeId) (kind : ℕ) 
   pub is_bytes : IsBytes body
 
 -- what the event gives is made of bytes, and is for an honest node
-abbrev pub IsFor : Config → Net → Event → Type 0
-IsFor config net (event.Say from to kind body) = IsSaid config net from to kind body
-IsFor config net (event.Inject to bytes) = (net.is_honest to ≡ true) × IsBytes bytes
-IsFor config net (event.Deliver number) = Unit {0}
-IsFor config net (event.Tick node) = net.is_honest node ≡ true
-IsFor config net (event.Drain times) = Unit {0}
+abbrev pub IsGivable : Config → Net → Event → Type 0
+IsGivable config net (event.Say from to kind body) = IsSaid config net from to kind body
+IsGivable config net (event.Inject to bytes) = (net.is_honest to ≡ true) × IsBytes bytes
+IsGivable config net (event.Deliver number) = Unit {0}
+IsGivable config net (event.Tick node) = net.is_honest node ≡ true
+IsGivable config net (event.Drain times) = Unit {0}
 
 -- Honest nodes keep the rules, and are given bytes of which none is forged.
 pub record IsPlayed {M : Type 0} (site : Site M) (world : List (Happening M)) : Type 0 where
@@ -58,6 +59,6 @@ PlaysWorlds {M} machine =
     (carrier : Carrier M) → Carries machine carrier →
     (config : Config) (master : Bytes) (liars : List NodeId) (genesis : List Object) (session_of : Session → Seen.Session) (traced : Bool) (events : List (ℕ × Event)) →
     config.shards ≤ 16 → config.f ≤ 5 →
-    All (λ numbered. IsFor config (net_of config master liars) numbered.1) events →
+    All (λ numbered. IsGivable config (net_of config master liars) numbered.1) events →
     let site = site_of (setup_of config genesis session_of) (net_of config master liars) machine carrier in
     IsPlayed site (played_by (play_all site traced events unplayed)).world

@@ -13,14 +13,14 @@ use Rattle.cs_order.specs.declared.proposed.Proposed.{Proposed}
 use Rattle.cs_order.specs.declared.answers.May.TheVariants.{Only}
 use Rattle.cs_order.specs.Lists as Order
 use Rattle.cs_order.specs.Deeds.{Deed, Took_in, Advanced, Echoed, Proposing, Ticked, Resent, Replied, sent_by, chosen_in}
-use Rattle.cs_order.specs.Runs.{Keeps, IsFor}
+use Rattle.cs_order.specs.Runs.{KeepsRules, IsFor}
 use Rattle.cs_ledger.specs.Ledger.{Bytes, IsIn}
 use Rattle.cs_ledger.specs.Table.{Vote, Commit, Effect, Voted, exec}
 use Rattle.cs_ledger.specs.ShardWorld.{is_vote}
 use Rattle.cs_node_rules.specs.declared.cause.Cause.{Cause}
-use Rattle.cs_node_rules.specs.Setup.{Setup, digest_of, concerns, is_fit, is_approved, vote_of, entry_of}
-use Rattle.cs_node_rules.specs.Admission.{due}
-use Rattle.cs_node_rules.specs.Bench.{is_locked, noted}
+use Rattle.cs_node_state.specs.Setup.{Setup, digest_of, concerns, is_fit, is_approved, vote_of, entry_of}
+use Rattle.cs_node_state.specs.Admission.{due}
+use Rattle.cs_node_state.specs.Bench.{is_locked, noted}
 use Rattle.cs_node_rules.specs.Signs.{Sign, Dropped, Took, Entered, Viewed, Did, Sent}
 use Rattle.cs_node_rules.specs.Site.{Input, Datagram, Tick, Mark, In, Ordered, Plain, Site, View, start_view, view_after, signs_of}
 use Rattle.cs_node_rules.specs.Trail.{admits_proposed, opened_marks, event_marks}
@@ -167,7 +167,7 @@ SignMade {M} site v t (Sent to said) = ((to.shard ≡ v.me.shard) × IsHanded si
 -- Why the mark may stand after the marks t of a node, which is at v.
 abbrev pub MadeAt : {M : Type 0} → Site M → View M → List (Mark M) → Mark M → Type 0
 MadeAt {M} site v t (In input) = Unit {0}
-MadeAt {M} site v t (Ordered deed) = Keeps site.machine v.member deed × DeedMade site v t deed
+MadeAt {M} site v t (Ordered deed) = KeepsRules site.machine v.member deed × DeedMade site v t deed
 MadeAt {M} site v t (Plain sign) = SignMade site v t sign
 
 abbrev pub IsMade : {M : Type 0} → Site M → NodeId → List (Mark M) → Mark M → Type 0

@@ -7,8 +7,8 @@ use Rattle.cs_tx_form.specs.declared.transaction.Tx.{Tx}
 use Rattle.cs_tx_form.specs.declared.session.Session.{Session}
 use Rattle.cs_tx.specs.Uses as Uses
 use Rattle.cs_tx.proofs.ShardsSeen.{concerns-session_of}
-use Rattle.cs_node_rules.specs.Setup as Setup
-use Rattle.cs_node_rules.specs.Deployment.{rules_of}
+use Rattle.cs_node_state.specs.Setup as Setup
+use Rattle.cs_node_state.specs.Deployed.{rules_of}
 use Rattle.cs_node_pool.specs.Deployed.{deployed}
 
 module _ (config : Config) (genesis : List Object) (approves : Tx → Bool) (x : Session) where

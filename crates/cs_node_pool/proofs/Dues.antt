@@ -14,10 +14,10 @@ use Rattle.cs_tx_form.specs.declared.entry.Entry.{Entry}
 use Rattle.cs_tx_form.specs.declared.entry.Entry.TheVariants.{Prepare}
 use Rattle.cs_tx_form.specs.Session.{SessionFits}
 use Rattle.cs_ledger.specs.Ledger.{Bytes}
-use Rattle.cs_node_rules.specs.declared.pooled.Pooled.{Pooled}
-use Rattle.cs_node_rules.specs.Pool.{Pool}
-use Rattle.cs_node_rules.specs.Setup.{Setup, concerned}
-use Rattle.cs_node_rules.specs.Admission.{due_vote, decide_due, first_decided, first_waiting}
+use Rattle.cs_node_state.specs.declared.pooled.Pooled.{Pooled}
+use Rattle.cs_node_state.specs.Pool.{Pool}
+use Rattle.cs_node_state.specs.Setup.{Setup, concerned}
+use Rattle.cs_node_state.specs.Admission.{due_vote, decide_due, first_decided, first_waiting}
 use Rattle.cs_node_pool.specs.Deployed.{deployed}
 use Rattle.cs_node_pool.specs.Fits.{PoolFits}
 use Rattle.cs_node_pool.specs.Turns.{Turns, standing, IsPicked, waits, vote_due, is_due}

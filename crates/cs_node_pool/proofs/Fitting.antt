@@ -3,8 +3,8 @@ use Rattle.std.proofs.Common.{Bool, true, false, cond, [], ◌∷◌, ◌++◌, 
 use Rattle.std.specs.Map.{lookup, remove_entry, set_value}
 use Rattle.cs_tx_form.specs.Session.{SessionFits}
 use Rattle.cs_ledger.specs.Ledger.{Bytes}
-use Rattle.cs_node_rules.specs.declared.pooled.Pooled.{Pooled}
-use Rattle.cs_node_rules.specs.Pool.{Pool}
+use Rattle.cs_node_state.specs.declared.pooled.Pooled.{Pooled}
+use Rattle.cs_node_state.specs.Pool.{Pool}
 use Rattle.cs_node_pool.specs.Fits.{PoolFits, FoundFits}
 
 pub fits-push : (pool : Pool) (e : Bytes × Pooled) → PoolFits pool → SessionFits e.1.session → PoolFits (pool ++ e ∷ [])

@@ -8,12 +8,12 @@ use Rattle.std.specs.BTreeSet as set
 use Rattle.cs_base.specs.declared.config.Config.{Config}
 use Rattle.cs_tx_form.specs.Session.{SessionFits}
 use Rattle.cs_ledger.specs.Ledger.{Bytes}
-use Rattle.cs_node_rules.specs.declared.pooled.Pooled.{Pooled}
-use Rattle.cs_node_rules.specs.declared.ballot.Ballot.{Ballot}
-use Rattle.cs_node_rules.specs.Evidence.{has_voted}
-use Rattle.cs_node_rules.specs.Pool.{Pool, found, without, changed, changed_at, with_ballot}
+use Rattle.cs_node_state.specs.declared.pooled.Pooled.{Pooled}
+use Rattle.cs_node_state.specs.declared.ballot.Ballot.{Ballot}
+use Rattle.cs_node_state.specs.Evidence.{has_voted}
+use Rattle.cs_node_state.specs.Pool.{Pool, found, without, changed, changed_at, with_ballot}
 use Rattle.cs_node_pool.specs.Fits.{PoolFits, FoundFits}
-use Rattle.cs_node_pool.specs.Turns.{pool_in, standing, number_of, IsApart, AreBelow, Placed, IsPicked, picks, waits, is_due, Sound}
+use Rattle.cs_node_pool.specs.Turns.{pool_in, standing, number_of, IsApart, AreBelow, Placed, IsPicked, picks, waits, is_due, SoundTurns}
 use Rattle.cs_node_pool.specs.declared.kept.Kept.{Kept}
 use Rattle.cs_node_pool.proofs.Fitting.{fits-push, fits-remove, fits-set, fits-found}
 use Rattle.cs_node_pool.proofs.Turns.{found-turn, remove-turn, set-turn, Stands, number-stands, number-none, none-number, insert-last, values-last, below-push, apart-push, number-push, apart-without, below-remove, number-remove, apart-set, below-set, number-set}
@@ -75,7 +75,7 @@ module _ (config : Config) (old new : Kept) (d : Bytes) (p : Pooled) (absent : f
       → ((q : Bytes) → lookup (bytes_eq q) new.numbers.entries ≡ cond (bytes_eq d q) (Some old.next) (lookup (bytes_eq q) old.numbers.entries))
       → ((q : ℕ) → standing q new.sessions.entries ≡ cond (is_at (nat_cmp old.next) q) (Some (d, p)) (standing q old.sessions.entries))
       → Marked old.waiting old.next (waits p) new.waiting → (due : Bool) → due ≡ is_due config p → Marked old.ready old.next due new.ready
-      → Sound config old → Sound config new
+      → SoundTurns config old → SoundTurns config new
   sound-pushed fit rising next numbers stood waiting due is ready sound = record {
     placed = placed-pushed fit rising next numbers sound.placed;
     waiting = picked-marked waits old.waiting new.waiting old.sessions.entries new.sessions.entries old.next (Some (d, p)) sound.waiting stood (waits p) refl waiting.0 waiting.1;
@@ -110,7 +110,7 @@ module _ (config : Config) (old new : Kept) (d : Bytes) (n : ℕ) (is : lookup (
       → ((q : Bytes) → lookup (bytes_eq q) new.numbers.entries ≡ cond (bytes_eq d q) None (lookup (bytes_eq q) old.numbers.entries))
       → ((q : ℕ) → standing q new.sessions.entries ≡ cond (is_at (nat_cmp n) q) None (standing q old.sessions.entries))
       → Marked old.waiting n false new.waiting → Marked old.ready n false new.ready
-      → Sound config old → Sound config new
+      → SoundTurns config old → SoundTurns config new
   sound-removed rising next numbers stood waiting ready sound = record {
     placed = placed-removed rising next numbers sound.placed;
     waiting = picked-marked waits old.waiting new.waiting old.sessions.entries new.sessions.entries n None sound.waiting stood false refl waiting.0 waiting.1;
@@ -173,7 +173,7 @@ module _ (config : Config) (old new : Kept) (d : Bytes) (n : ℕ) (e : Bytes × 
     same-picks test says = says ∙ ap (picks test) (sym at)
 
     -- nothing changes where what is written is what was there
-    pub sound-same : w ≡ e.1 → new.waiting ≡ old.waiting → new.ready ≡ old.ready → Sound config old → Sound config new
+    pub sound-same : w ≡ e.1 → new.waiting ≡ old.waiting → new.ready ≡ old.ready → SoundTurns config old → SoundTurns config new
     sound-same unchanged waiting ready sound = record {
       placed = placed-set kept next numbers;
       waiting = subst (λ s. IsPicked waits s new.sessions.entries) (sym waiting)
@@ -183,7 +183,7 @@ module _ (config : Config) (old new : Kept) (d : Bytes) (n : ℕ) (e : Bytes × 
     }
 
     -- a vote is taken
-    pub sound-counted : w.locked ≡ e.1.locked → new.waiting ≡ old.waiting → (due : Bool) → due ≡ is_due config w → Marked old.ready n due new.ready → Sound config old → Sound config new
+    pub sound-counted : w.locked ≡ e.1.locked → new.waiting ≡ old.waiting → (due : Bool) → due ≡ is_due config w → Marked old.ready n due new.ready → SoundTurns config old → SoundTurns config new
     sound-counted locked waiting due due-is ready sound = record {
       placed = placed-set kept next numbers;
       waiting = subst (λ s. IsPicked waits s new.sessions.entries) (sym waiting)
@@ -192,7 +192,7 @@ module _ (config : Config) (old new : Kept) (d : Bytes) (n : ℕ) (e : Bytes × 
     }
 
     -- it is locked
-    pub sound-locked : w.locked ≡ true → Marked old.waiting n false new.waiting → (due : Bool) → due ≡ is_due config w → Marked old.ready n due new.ready → Sound config old → Sound config new
+    pub sound-locked : w.locked ≡ true → Marked old.waiting n false new.waiting → (due : Bool) → due ≡ is_due config w → Marked old.ready n due new.ready → SoundTurns config old → SoundTurns config new
     sound-locked locked waiting due due-is ready sound = record {
       placed = placed-set kept next numbers;
       waiting = picked-marked waits old.waiting new.waiting old.sessions.entries new.sessions.entries n (Some (e.0, w)) sound.waiting stood false (sym (ap (λ b. not b) locked)) waiting.0 waiting.1;

@@ -3,8 +3,8 @@ use Rattle.std.proofs.Common.{◌≡◌, true, cond, List, [], ◌∷◌, ◌++�
 use Rattle.cs_tx_form.specs.declared.session.Session.{Session}
 use Rattle.cs_tx_form.specs.Session.{SessionFits}
 use Rattle.cs_ledger.specs.Ledger.{Bytes}
-use Rattle.cs_node_rules.specs.declared.pooled.Pooled.{Pooled}
-use Rattle.cs_node_rules.specs.Pool.{Pool}
+use Rattle.cs_node_state.specs.declared.pooled.Pooled.{Pooled}
+use Rattle.cs_node_state.specs.Pool.{Pool}
 use Rattle.cs_node_pool.specs.Fits.{PoolFits, AllFit}
 use Rattle.cs_node_pool.specs.Calls.{locked_in}
 

@@ -11,8 +11,8 @@ use Rattle.std.proofs.lemmas.Map.{lookup-none}
 use Rattle.std.proofs.lemmas.Map.Entries.{none_past_head}
 use Rattle.std.proofs.lemmas.Map.Keys.{sorted_tail, IsDistinct-from_sorted}
 use Rattle.cs_ledger.specs.Ledger.{Bytes}
-use Rattle.cs_node_rules.specs.declared.pooled.Pooled.{Pooled}
-use Rattle.cs_node_rules.specs.Pool.{Pool, found, without}
+use Rattle.cs_node_state.specs.declared.pooled.Pooled.{Pooled}
+use Rattle.cs_node_state.specs.Pool.{Pool, found, without}
 use Rattle.cs_node_pool.specs.Turns.{Turns, standing, number_of, IsApart, AreBelow}
 
 pub same-bytes : (d : Bytes) → bytes_eq d d ≡ true

@@ -2,9 +2,9 @@
 use Rattle.std.specs.Prelude.{if◌then◌else◌, List, [], ◌∷◌, Option, Some, None}
 use Rattle.cs_base.specs.declared.node_id.NodeId.{NodeId}
 use Rattle.cs_tx_form.specs.declared.session.Session.{Session}
-use Rattle.cs_node_rules.specs.declared.pooled.Pooled.{Pooled}
-use Rattle.cs_node_rules.specs.Evidence.{has_voted}
-use Rattle.cs_node_rules.specs.Pool.{Pool}
+use Rattle.cs_node_state.specs.declared.pooled.Pooled.{Pooled}
+use Rattle.cs_node_state.specs.Evidence.{has_voted}
+use Rattle.cs_node_state.specs.Pool.{Pool}
 use Rattle.cs_node_pool.specs.declared.answers.Counted.{Counted}
 use Rattle.cs_node_pool.specs.declared.answers.Counted.TheVariants.{Counted as Taken, Repeat, NotPooled}
 

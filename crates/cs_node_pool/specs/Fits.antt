@@ -3,8 +3,8 @@ use Rattle.std.specs.Prelude.{List, [], ◌∷◌, Option, Some, None}
 use Rattle.cs_tx_form.specs.declared.session.Session.{Session}
 use Rattle.cs_tx_form.specs.declared.entry.Entry.{Entry}
 use Rattle.cs_tx_form.specs.Session.{SessionFits, EntryFits}
-use Rattle.cs_node_rules.specs.declared.pooled.Pooled.{Pooled}
-use Rattle.cs_node_rules.specs.Pool.{Pool}
+use Rattle.cs_node_state.specs.declared.pooled.Pooled.{Pooled}
+use Rattle.cs_node_state.specs.Pool.{Pool}
 
 abbrev pub PoolFits : Pool → Type 0
 PoolFits [] = Unit {0}

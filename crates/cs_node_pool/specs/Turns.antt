@@ -10,9 +10,9 @@ use Rattle.cs_base.specs.declared.config.Config.{Config}
 use Rattle.cs_tx_form.specs.declared.vote.Vote.{Vote}
 use Rattle.cs_ledger.specs.Ledger.{Bytes}
 use Rattle.cs_tx.specs.Uses.{concerned_shards}
-use Rattle.cs_node_rules.specs.declared.pooled.Pooled.{Pooled}
-use Rattle.cs_node_rules.specs.Pool.{Pool, found}
-use Rattle.cs_node_rules.specs.Admission.{due_vote}
+use Rattle.cs_node_state.specs.declared.pooled.Pooled.{Pooled}
+use Rattle.cs_node_state.specs.Pool.{Pool, found}
+use Rattle.cs_node_state.specs.Admission.{due_vote}
 use Rattle.cs_node_pool.specs.Fits.{PoolFits}
 use Rattle.cs_node_pool.specs.declared.kept.Kept.{Kept}
 
@@ -69,7 +69,7 @@ vote_due config p = due_vote config.f (concerned_shards config p.session) p
 abbrev pub is_due : Config → Pooled → Bool
 is_due config p = is_some (vote_due config p)
 
-pub record Sound (config : Config) (kept : Kept) : Type 0 where
+pub record SoundTurns (config : Config) (kept : Kept) : Type 0 where
   pub placed : Placed kept
   pub waiting : IsPicked waits kept.waiting kept.sessions.entries
   pub ready : IsPicked (is_due config) kept.ready kept.sessions.entries

@@ -5,7 +5,7 @@ ghost use Rattle.cs_node_pool.specs.Turns.{vote_due};
 
 use crate::votes::decision;
 use cs_base::{Config, Memory};
-use cs_node_rules::Pooled;
+use cs_node_state::Pooled;
 use cs_tx::{Vote, concerned};
 use std::alloc::Global;
 

@@ -7,19 +7,19 @@ ghost use Rattle.cs_base.specs.declared.config.Config.{Config};
 ghost use Rattle.cs_tx_value.specs.declared.object.Object.{Object};
 ghost use Rattle.cs_tx_form.specs.declared.transaction.Tx.{Tx};
 ghost use Rattle.cs_tx_form.specs.Session.{SessionFits};
-ghost use Rattle.cs_node_rules.specs.Evidence.{has_voted};
-ghost use Rattle.cs_node_rules.specs.Pool.{found, without, changed, as_locked, with_ballot, waiting_count};
-ghost use Rattle.cs_node_rules.specs.Admission.{first_decided, first_waiting, due};
+ghost use Rattle.cs_node_state.specs.Evidence.{has_voted};
+ghost use Rattle.cs_node_state.specs.Pool.{found, without, changed, as_locked, with_ballot, waiting_count};
+ghost use Rattle.cs_node_state.specs.Admission.{first_decided, first_waiting, due};
 ghost use Rattle.cs_node_pool.specs.Deployed.{deployed};
 ghost use Rattle.cs_node_pool.specs.Fits.{PoolFits, AllFit, DueFits};
 ghost use Rattle.cs_node_pool.specs.Calls.{counted_in, locked_in};
-ghost use Rattle.cs_node_pool.specs.Turns.{Placed, Sound, IsPicked, waits, pool_in};
+ghost use Rattle.cs_node_pool.specs.Turns.{Placed, SoundTurns, IsPicked, waits, pool_in};
 
 use crate::answers::Counted;
 use crate::due::vote_due;
 use crate::votes::has_voted;
 use cs_base::{Config, Memory};
-use cs_node_rules::{Ballot, Pooled};
+use cs_node_state::{Ballot, Pooled};
 use cs_tx::{Digest, Encoded, Entry, Session};
 use indexmap::IndexMap;
 use std::alloc::Global;
@@ -64,7 +64,7 @@ fn take_vote(pooled: &mut Pooled, ballot: Ballot) -> Result<bool, Memory>
 impl Kept {
     /// Nothing yet.
     pub fn new(alloc: Global) -> Self
-        ensures sound { (config : Config) → Sound config result }
+        ensures sound { (config : Config) → SoundTurns config result }
         ensures empty { pool_in result ≡ [] }
     {
         Kept {
@@ -98,10 +98,10 @@ impl Kept {
         digest: Digest,
         pooled: Pooled,
     ) -> Result<(), Memory>
-        requires sound { Sound config.now self.old }
+        requires sound { SoundTurns config.now self.old }
         requires new { found digest (pool_in self.old) ≡ None }
         requires fits { SessionFits pooled.session }
-        ensures sound { OnOk result (Sound config.now self.new) }
+        ensures sound { OnOk result (SoundTurns config.now self.new) }
         ensures pool { OnOk result (pool_in self.new ≡ pool_in self.old ++ (digest, pooled) ∷ []) }
     {
         let number = self.next;
@@ -119,8 +119,8 @@ impl Kept {
 
     /// Takes a session out. The others keep their order.
     pub fn remove(&mut self, config: &Config, digest: &Digest)
-        requires { Sound config.now self.old }
-        ensures sound { Sound config.now self.new }
+        requires { SoundTurns config.now self.old }
+        ensures sound { SoundTurns config.now self.new }
         ensures pool { pool_in self.new ≡ without digest.now (pool_in self.old) }
     {
         if let Some(number) = self.numbers.swap_remove(digest) {
@@ -138,9 +138,9 @@ impl Kept {
         digest: &Digest,
         ballot: Ballot,
     ) -> Result<Counted, Memory>
-        requires { Sound config.now self.old }
+        requires { SoundTurns config.now self.old }
         ensures answer { IfOk result (λ answer. answer ≡ counted_in ballot.sender (found digest.now (pool_in self.old))) }
-        ensures sound { OnOk result (Sound config.now self.new) }
+        ensures sound { OnOk result (SoundTurns config.now self.new) }
         ensures pool { OnOk result (pool_in self.new ≡ changed digest.now (with_ballot ballot) (pool_in self.old)) }
     {
         let Some(number) = self.numbers.get(digest) else {
@@ -161,8 +161,8 @@ impl Kept {
 
     /// Marks a session as locked.
     pub fn lock(&mut self, alloc: Global, config: &Config, digest: &Digest) -> Result<(), Memory>
-        requires { Sound config.now self.old }
-        ensures sound { OnOk result (Sound config.now self.new) }
+        requires { SoundTurns config.now self.old }
+        ensures sound { OnOk result (SoundTurns config.now self.new) }
         ensures pool { OnOk result (pool_in self.new ≡ changed digest.now as_locked (pool_in self.old)) }
     {
         let Some(number) = self.numbers.get(digest) else {
@@ -205,7 +205,7 @@ impl Kept {
     }
 
     fn decide_due(&self, alloc: Global, config: &Config) -> Result<Option<Entry>, Memory>
-        requires { Sound config.now self.now }
+        requires { SoundTurns config.now self.now }
         ensures entry { (genesis : List Object) (approves : Tx → Bool) → IfOk result (λ entry. entry ≡ first_decided (deployed config.now genesis approves) (pool_in self.now)) }
         ensures fits { IfOk result DueFits }
     {
@@ -242,7 +242,7 @@ impl Kept {
     /// The entry that is due: the first decision of a locked session, in the order of the pool,
     /// or else a vote on the first session that waits.
     pub fn due(&self, alloc: Global, config: &Config) -> Result<Option<Entry>, Memory>
-        requires { Sound config.now self.now }
+        requires { SoundTurns config.now self.now }
         ensures entry { (genesis : List Object) (approves : Tx → Bool) → IfOk result (λ entry. entry ≡ due (deployed config.now genesis approves) (pool_in self.now)) }
         ensures fits { IfOk result DueFits }
     {

@@ -3,8 +3,8 @@ ghost use Rattle.std.specs.Prelude.{◌≡◌, Bool, List, ◌++◌, ◌∷◌, 
 ghost use Rattle.cs_tx_value.specs.declared.object.Object.{Object};
 ghost use Rattle.cs_tx_form.specs.declared.transaction.Tx.{Tx};
 ghost use Rattle.cs_tx_form.specs.Session.{SessionFits};
-ghost use Rattle.cs_node_rules.specs.Pool.{found, is_pooled, without, changed, as_locked, with_ballot, waiting_count};
-ghost use Rattle.cs_node_rules.specs.Admission.{due};
+ghost use Rattle.cs_node_state.specs.Pool.{found, is_pooled, without, changed, as_locked, with_ballot, waiting_count};
+ghost use Rattle.cs_node_state.specs.Admission.{due};
 ghost use Rattle.cs_node_pool.specs.Deployed.{deployed};
 ghost use Rattle.cs_node_pool.specs.Fits.{DueFits, AllFit};
 ghost use Rattle.cs_node_pool.specs.Calls.{counted_in, locked_in};
@@ -12,7 +12,7 @@ ghost use Rattle.cs_node_pool.specs.Calls.{counted_in, locked_in};
 use crate::answers::Counted;
 use crate::kept::Kept;
 use cs_base::{Config, Memory};
-use cs_node_rules::{Ballot, Pooled};
+use cs_node_state::{Ballot, Pooled};
 use cs_tx::{Digest, Entry, Session};
 use std::alloc::Global;
 use std::marker::Model;
@@ -34,7 +34,7 @@ impl Model for Pool {
     ghost use Rattle.cs_tx_value.specs.contracts.value.Value as values;
     ghost use Rattle.cs_base.specs.contracts.config.Config as configs;
     ghost use Rattle.cs_node_pool.specs.Gathered.{Gathered};
-    ghost use Rattle.cs_node_pool.specs.Turns.{Sound, pool_in};
+    ghost use Rattle.cs_node_pool.specs.Turns.{SoundTurns, pool_in};
 
     ghost Value = { Gathered };
 
@@ -42,7 +42,7 @@ impl Model for Pool {
 
     ghost view = { λ p. record { config = p.config; sessions = pool_in p.kept } };
 
-    ghost invariant = { λ p. p.is_whole ≡ true → Sound p.config p.kept };
+    ghost invariant = { λ p. p.is_whole ≡ true → SoundTurns p.config p.kept };
 }
 
 impl Pool {

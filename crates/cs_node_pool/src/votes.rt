@@ -1,10 +1,10 @@
 //! The votes on one session.
 ghost use Rattle.std.specs.Prelude.{◌≡◌, ◌≤◌, Some, None, if◌then◌else◌};
-ghost use Rattle.cs_node_rules.specs.Evidence.{has_voted, has_ballot, has_support, is_decided};
+ghost use Rattle.cs_node_state.specs.Evidence.{has_voted, has_ballot, has_support, is_decided};
 ghost use Rattle.cs_tx_form.specs.declared.vote.Vote.TheVariants.{Commit, Abort};
 
 use cs_base::NodeId;
-use cs_node_rules::Ballot;
+use cs_node_state::Ballot;
 use cs_tx::Vote;
 
 /// Whether a vote of the node was taken.

@@ -18,7 +18,7 @@ use Rattle.cs_sched_types.specs.declared.schedule.Event.TheVariants.{Say, Inject
 use Rattle.cs_wire_message.specs.declared.message.Message.TheVariants as message
 use Rattle.cs_wire.specs.Opened.{Opened}
 use Rattle.cs_wire.specs.declared.opening.OpenError.TheVariants as error
-use Rattle.cs_node_rules.specs.Evidence.{name_eq}
+use Rattle.cs_base.specs.NodeId.{same_name}
 use Rattle.cs_node_rules.specs.Signs.{Sign, Did}
 use Rattle.cs_node_rules.specs.Site.{Datagram, Mark, Site, start_view, signs_of}
 use Rattle.cs_node_rules.specs.Trail.{event_marks, settled}
@@ -86,7 +86,7 @@ site = record {
     rules = record { shard_of = λ name. 0; genesis = coin 1 5 ∷ []; dummies = 0; dummy_object = [] };
     session_of = λ x. record { digest = x.number ∷ []; transaction = transaction x.number; dummies = [] };
   };
-  net = record { datagram = datagram; opened = λ name bytes. opened_as (drop 5 bytes); is_honest = name_eq me };
+  net = record { datagram = datagram; opened = λ name bytes. opened_as (drop 5 bytes); is_honest = same_name me };
   machine = solo;
   carrier = record { written = λ m. message.Want 0; read = λ said. None };
   proposed_of = λ entry. record { digest = bytes_of entry; bytes = bytes_of entry };

@@ -16,7 +16,7 @@ use Rattle.cs_wire_message.specs.declared.message.Message.{Message}
 use Rattle.cs_wire_message.specs.declared.message.Message.TheVariants as message
 use Rattle.cs_wire.specs.Opened.{Opened}
 use Rattle.cs_ledger.specs.Ledger.{Bytes, IsIn}
-use Rattle.cs_node_rules.specs.Setup.{session_in}
+use Rattle.cs_node_state.specs.Setup.{session_in}
 use Rattle.cs_node_rules.specs.Site.{Datagram, Tick, Mark, In, Ordered, Plain, Site}
 use Rattle.cs_node_rules.specs.World.{Happening}
 

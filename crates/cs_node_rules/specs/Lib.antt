@@ -1,12 +1,5 @@
-pub mod Setup
-pub mod Evidence
 pub mod Members
-pub mod Pool
-pub mod Admission
-pub mod Dummies
 pub mod Net
-pub mod Bench
-pub mod Asked
 pub mod Signs
 pub mod Site
 pub mod Trail

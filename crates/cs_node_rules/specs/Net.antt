@@ -3,7 +3,7 @@ use Rattle.std.specs.Prelude.{ℕ, Bool, not, ◌&&◌, List}
 use Rattle.std.specs.List.{list_any}
 use Rattle.cs_base.specs.declared.config.Config.{Config}
 use Rattle.cs_base.specs.declared.node_id.NodeId.{NodeId}
-use Rattle.cs_base.specs.NodeId.{is_node}
+use Rattle.cs_base.specs.NodeId.{is_node, same_name}
 use Rattle.cs_wire_message.specs.declared.message.Message.{Message}
 use Rattle.cs_wire_message.specs.Message.{kind_of, body_of}
 use Rattle.cs_wire.specs.declared.opening.OpenError.{OpenError}
@@ -13,7 +13,6 @@ use Rattle.cs_wire.specs.Opened.{Opened, opened, datagram_with, keys_of_master}
 use Rattle.cs_ledger.specs.Ledger.{Bytes}
 use Rattle.cs_node_rules.specs.declared.cause.Cause.{Cause}
 use Rattle.cs_node_rules.specs.declared.cause.Cause.TheVariants as cause
-use Rattle.cs_node_rules.specs.Evidence.{name_eq}
 
 -- how datagrams are made and opened, and who is honest
 pub record Net : Type 0 where
@@ -30,7 +29,7 @@ abbrev pub net_of : Config → Bytes → List NodeId → Net
 net_of config master liars = record {
   datagram = λ from to kind body. datagram_with (key_between master from to) from to kind body;
   opened = λ me bytes. opened (keys_of_master config master me) bytes;
-  is_honest = λ name. is_node config name && not (list_any (λ liar. name_eq liar name) liars);
+  is_honest = λ name. is_node config name && not (list_any (λ liar. same_name liar name) liars);
 }
 
 -- the cause by which a datagram is dropped that can't be opened

@@ -9,9 +9,9 @@ use Rattle.cs_wire_message.specs.declared.message.Message.TheVariants as message
 use Rattle.cs_ledger.specs.Ledger.{IsIn}
 use Rattle.cs_ledger.specs.Session.{Key, Piece, anchor, used_up, read_only, objects_in}
 use Rattle.cs_ledger.specs.Table as Shard
-use Rattle.cs_node_rules.specs.Setup.{Setup, digest_of, concerned}
+use Rattle.cs_node_state.specs.Setup.{Setup, digest_of, concerned}
 use Rattle.cs_node_rules.specs.Members.{others}
-use Rattle.cs_node_rules.specs.Bench.{Bench, start_bench, executed, is_locked}
+use Rattle.cs_node_state.specs.Bench.{Bench, start_bench, executed, is_locked}
 use Rattle.cs_node_rules.specs.Signs.{Sign, Did, Sent, bench_after}
 use Rattle.cs_node_rules.specs.Site.{Site, View}
 use Rattle.cs_node_rules.specs.Trail.{turn_marks}

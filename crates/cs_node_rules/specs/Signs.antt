@@ -13,13 +13,13 @@ use Rattle.cs_wire_message.specs.declared.message.Message.TheVariants as message
 use Rattle.cs_ledger.specs.Table.{Effect}
 use Rattle.cs_node_rules.specs.declared.cause.Cause.{Cause}
 use Rattle.cs_node_rules.specs.declared.cause.Cause.TheVariants.{Mine, Role, Malformed, Repeat, Unasked, Denied, Full}
-use Rattle.cs_node_rules.specs.declared.pooled.Pooled.{Pooled}
-use Rattle.cs_node_rules.specs.Setup.{Setup, digest_of, concerns, concerned, is_fit, is_approved, session_in}
-use Rattle.cs_node_rules.specs.Evidence.{has_voted}
+use Rattle.cs_node_state.specs.declared.pooled.Pooled.{Pooled}
+use Rattle.cs_node_state.specs.Setup.{Setup, digest_of, concerns, concerned, is_fit, is_approved, session_in}
+use Rattle.cs_node_state.specs.Evidence.{has_voted}
 use Rattle.cs_node_rules.specs.Members.{others}
-use Rattle.cs_node_rules.specs.Pool.{Pool, found, is_pooled, changed, with_ballot, entered, has_room}
-use Rattle.cs_node_rules.specs.Bench.{Bench, Ran, executed, decided, noted, told_of}
-use Rattle.cs_node_rules.specs.Asked.{told_at, key_asked}
+use Rattle.cs_node_state.specs.Pool.{Pool, found, is_pooled, changed, with_ballot, entered, has_room}
+use Rattle.cs_node_state.specs.Bench.{Bench, Ran, executed, decided, noted, told_of}
+use Rattle.cs_node_state.specs.Asked.{told_at, key_asked}
 
 pub data Sign : Type 0 where
   Dropped : (cause : Cause) → Sign

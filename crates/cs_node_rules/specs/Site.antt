@@ -6,8 +6,8 @@ use Rattle.cs_wire_message.specs.declared.message.Message.{Message}
 use Rattle.cs_order.specs.declared.proposed.Proposed.{Proposed}
 use Rattle.cs_order.specs.Deeds.{Deed, Member, Machine, did}
 use Rattle.cs_ledger.specs.Ledger.{Bytes}
-use Rattle.cs_node_rules.specs.Setup.{Setup}
-use Rattle.cs_node_rules.specs.Bench.{Bench, start_bench}
+use Rattle.cs_node_state.specs.Setup.{Setup}
+use Rattle.cs_node_state.specs.Bench.{Bench, start_bench}
 use Rattle.cs_node_rules.specs.Net.{Net}
 use Rattle.cs_node_rules.specs.Signs.{Sign, bench_step}
 

@@ -17,7 +17,7 @@ use Rattle.cs_order.specs.Deeds.{Deed, Took_in, Advanced, Echoed, Proposing, Tic
 use Rattle.cs_wire.specs.Opened.{Opened}
 use Rattle.cs_node_rules.specs.declared.cause.Cause.{Cause}
 use Rattle.cs_node_rules.specs.declared.cause.Cause.TheVariants.{Role, Old, Far, Leader, Repeat, NoProof}
-use Rattle.cs_node_rules.specs.Admission.{admits, due}
+use Rattle.cs_node_state.specs.Admission.{admits, due}
 use Rattle.cs_node_rules.specs.Members.{is_other_member, others}
 use Rattle.cs_node_rules.specs.Net.{cause_of}
 use Rattle.cs_node_rules.specs.Signs.{Sign, Dropped, Viewed, Sent, guarded, sends, submit_signs, voted_signs, ask_signs, execution_signs, asked_again}

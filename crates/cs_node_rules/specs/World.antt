@@ -9,8 +9,8 @@ use Rattle.cs_tx_form.specs.declared.entry.Entry.TheVariants.{Prepare, Decide}
 use Rattle.cs_ledger.specs.Ledger.{Bytes, Transaction}
 use Rattle.cs_ledger.specs.Table.{Vote, Commit, Abort, Effect, Voted, Accepted, Aborted}
 use Rattle.cs_ledger.specs.ShardWorld.{Step, is_vote, is_listed}
-use Rattle.cs_node_rules.specs.Setup.{Setup, digest_of, concerned, entry_of}
-use Rattle.cs_node_rules.specs.Evidence.{name_eq}
+use Rattle.cs_node_state.specs.Setup.{Setup, digest_of, concerned, entry_of}
+use Rattle.cs_base.specs.NodeId.{same_name}
 use Rattle.cs_node_rules.specs.Net.{Net}
 use Rattle.cs_node_rules.specs.Lines.{Parcel, parcels_of}
 use Rattle.cs_node_rules.specs.Signs.{Sign, Dropped, Took, Entered, Viewed, Did, Sent}
@@ -26,7 +26,7 @@ pub record Happening (M : Type 0) : Type 0 where
 -- all marks of a node
 abbrev pub trail_of : {M : Type 0} → NodeId → List (Happening M) → List (Mark M)
 trail_of {M} i [] = []
-trail_of {M} i (h ∷ past) = if name_eq h.node i then h.marks ++ trail_of i past else trail_of i past
+trail_of {M} i (h ∷ past) = if same_name h.node i then h.marks ++ trail_of i past else trail_of i past
 
 abbrev pub view_of : {M : Type 0} → Site M → List (Happening M) → NodeId → View M
 view_of {M} site past i = view_after site (trail_of i past) (start_view site i)
@@ -50,7 +50,7 @@ sent_in {M} net (h ∷ past) = sent_in net past ++ parcels_of net h.node (signs_
 -- exactly this datagram is among those sent
 abbrev pub was_sent : NodeId → NodeId → Bytes → List Parcel → Bool
 was_sent from to bytes parcels =
-    list_any (λ parcel. name_eq parcel.from from && (name_eq parcel.to to && bytes_eq parcel.bytes bytes)) parcels
+    list_any (λ parcel. same_name parcel.from from && (same_name parcel.to to && bytes_eq parcel.bytes bytes)) parcels
 
 abbrev pub is_backed : Net → NodeId → Bytes → List Parcel → Opened → Bool
 is_backed net to bytes parcels (Ok said) = not (net.is_honest said.0) || was_sent said.0 to bytes parcels

@@ -25,8 +25,8 @@ taken_in {M} Far from message h = h
 taken_in {M} Leader from message h = h
 taken_in {M} Repeat from message h = h
 
-abbrev pub Takes : {M : Type 0} → Machine M → Member M → ℕ → M → Took → (Member M → Type 0) → Type 0
-Takes {M} m h from message answer Stands = (answer ≡ m.taking h from message) × Stands (taken_in (m.taking h from message) from message h)
+abbrev pub TakesIn : {M : Type 0} → Machine M → Member M → ℕ → M → Took → (Member M → Type 0) → Type 0
+TakesIn {M} m h from message answer Stands = (answer ≡ m.taking h from message) × Stands (taken_in (m.taking h from message) from message h)
 
 -- a quiet step leaves no trace and hands nothing out
 abbrev pub advanced : {M : Type 0} → Step → List (Outgoing M) → Member M → Member M

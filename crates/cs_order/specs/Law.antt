@@ -6,7 +6,7 @@ use Rattle.cs_order.specs.declared.answers.Step.TheVariants.{Chosen}
 use Rattle.cs_order.specs.declared.answers.May.TheVariants.{Only}
 use Rattle.cs_order.specs.Lists.{IsIn}
 use Rattle.cs_order.specs.Deeds.{Deed, Took_in, Advanced, Echoed, Proposing, Ticked, Resent, Replied, Member, Machine, did, sent_by, chosen_in}
-use Rattle.cs_order.specs.Runs.{Act, IsKept, IsFor, member_of, log_of, Run, FewLiars, held_in, handed_in, NoCollision}
+use Rattle.cs_order.specs.Runs.{Act, IsKept, IsFor, member_of, log_of, Run, FewLiars, held_in, handed_in, EntriesToldApart}
 
 -- a member admitted the entry: it proposed it, or echoed it while it was pending
 abbrev pub Admits : {M : Type 0} → Machine M → Proposed → Member M → Deed M → Type 0
@@ -34,7 +34,7 @@ pub record IsLawful {M : Type 0} (m : Machine M) (f : ℕ) (honest : ℕ → Boo
 
 -- The law of an order: every run with few enough liars is lawful.
 abbrev pub Law : {M : Type 0} → Machine M → Type 0
-Law {M} m = (f : ℕ) (honest : ℕ → Bool) (past : List (Act M)) → m.serves f ≡ true → FewLiars f honest → Run m f honest past → NoCollision (handed_in m past) → IsLawful m f honest past
+Law {M} m = (f : ℕ) (honest : ℕ → Bool) (past : List (Act M)) → m.serves f ≡ true → FewLiars f honest → Run m f honest past → EntriesToldApart (handed_in m past) → IsLawful m f honest past
 
 -- What is sent again changes nothing of what the rules do.
 pub record Undisturbed {M : Type 0} (m : Machine M) : Type 0 where
@@ -56,7 +56,7 @@ IsPrefix {A} short long = (rest : List A) × (long ≡ short ++ rest)
 
 -- In every run the logs of two members are prefixes of one another.
 abbrev pub LogsAgree : {M : Type 0} → Machine M → Type 0
-LogsAgree {M} m = (f : ℕ) (honest : ℕ → Bool) (past : List (Act M)) → m.serves f ≡ true → FewLiars f honest → Run m f honest past → NoCollision (handed_in m past) → (i j : ℕ) → IsPrefix (log_of i past) (log_of j past) ⊎ IsPrefix (log_of j past) (log_of i past)
+LogsAgree {M} m = (f : ℕ) (honest : ℕ → Bool) (past : List (Act M)) → m.serves f ≡ true → FewLiars f honest → Run m f honest past → EntriesToldApart (handed_in m past) → (i j : ℕ) → IsPrefix (log_of i past) (log_of j past) ⊎ IsPrefix (log_of j past) (log_of i past)
 
 -- What was chosen stays.
 abbrev pub LogsStay : Type 0 → Type 0

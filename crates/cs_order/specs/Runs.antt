@@ -10,19 +10,19 @@ use Rattle.cs_order.specs.Deeds.{Deed, Took_in, Advanced, Echoed, Proposing, Tic
 use Rattle.cs_order.specs.Calls.{Proposable}
 
 -- a deed that the rules give after what the member did before
-abbrev pub Keeps : {M : Type 0} → Machine M → Member M → Deed M → Type 0
-Keeps {M} m h (Took_in from message) = (from ≤ 3 * h.f) × (from ≢ h.me) × (m.proper message ≡ true) × (m.taking h from message ≡ Taken)
-Keeps {M} m h (Advanced step sent) = (m.step h ≡ step) × (step ≡ Quiet → ⊥) × (m.advancing h ≡ sent)
-Keeps {M} m h (Echoed sent) = IsSome (m.pending h) × (m.echoing h ≡ sent)
-Keeps {M} m h (Proposing entry sent) = Proposable (m.may_propose h) entry × (m.proposing h entry ≡ sent)
-Keeps {M} m h (Ticked due sent) = m.ticking h due ≡ sent
-Keeps {M} m h (Resent sent) = m.resending h ≡ sent
-Keeps {M} m h (Replied slot to sent) = (outgoing : Outgoing M) × (m.replying h slot to ≡ Some outgoing) × (sent ≡ outgoing ∷ [])
+abbrev pub KeepsRules : {M : Type 0} → Machine M → Member M → Deed M → Type 0
+KeepsRules {M} m h (Took_in from message) = (from ≤ 3 * h.f) × (from ≢ h.me) × (m.proper message ≡ true) × (m.taking h from message ≡ Taken)
+KeepsRules {M} m h (Advanced step sent) = (m.step h ≡ step) × (step ≡ Quiet → ⊥) × (m.advancing h ≡ sent)
+KeepsRules {M} m h (Echoed sent) = IsSome (m.pending h) × (m.echoing h ≡ sent)
+KeepsRules {M} m h (Proposing entry sent) = Proposable (m.may_propose h) entry × (m.proposing h entry ≡ sent)
+KeepsRules {M} m h (Ticked due sent) = m.ticking h due ≡ sent
+KeepsRules {M} m h (Resent sent) = m.resending h ≡ sent
+KeepsRules {M} m h (Replied slot to sent) = (outgoing : Outgoing M) × (m.replying h slot to ≡ Some outgoing) × (sent ≡ outgoing ∷ [])
 
 -- all deeds of a member keep the rules
 abbrev pub IsKept : {M : Type 0} → Machine M → ℕ → ℕ → List (Deed M) → Type 0
 IsKept {M} m f me [] = Unit {0}
-IsKept {M} m f me (deed ∷ past) = Keeps m (record { f = f; me = me; deeds = past }) deed × IsKept m f me past
+IsKept {M} m f me (deed ∷ past) = KeepsRules m (record { f = f; me = me; deeds = past }) deed × IsKept m f me past
 
 -- a deed of a member; a run is a list of them, the newest first
 pub record Act (M : Type 0) : Type 0 where
@@ -63,7 +63,7 @@ Genuine {M} honest i (Replied slot to sent) past = Unit {0}
 pub record Follows {M : Type 0} (m : Machine M) (f : ℕ) (honest : ℕ → Bool) (past : List (Act M)) (act : Act M) : Type 0 where
   pub is_member : act.member < 3 * f + 1
   pub is_honest : honest act.member ≡ true
-  pub keeps : Keeps m (member_of f act.member past) act.deed
+  pub keeps : KeepsRules m (member_of f act.member past) act.deed
   pub genuine : Genuine honest act.member act.deed past
 
 abbrev pub Run : {M : Type 0} → Machine M → ℕ → (ℕ → Bool) → List (Act M) → Type 0
@@ -95,5 +95,5 @@ handed_in {M} m [] = []
 handed_in {M} m (act ∷ past) = entries_in m act.deed ++ handed_in m past
 
 -- equal digests have equal bytes
-abbrev pub NoCollision : List Proposed → Type 0
-NoCollision entries = (a b : Proposed) → IsIn a entries → IsIn b entries → a.digest ≡ b.digest → a.bytes ≡ b.bytes
+abbrev pub EntriesToldApart : List Proposed → Type 0
+EntriesToldApart entries = (a b : Proposed) → IsIn a entries → IsIn b entries → a.digest ≡ b.digest → a.bytes ≡ b.bytes

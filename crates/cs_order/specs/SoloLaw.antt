@@ -9,7 +9,7 @@ use Rattle.cs_order.specs.Lists.{IsIn, IsIn-right, slice_get-push}
 use Rattle.cs_order.specs.Limits.{last_slot}
 use Rattle.cs_order.specs.Deeds.{Deed, Member, Machine, sent_by, chosen_in}
 use Rattle.cs_order.specs.Deeds as deed
-use Rattle.cs_order.specs.Runs.{Act, Keeps, IsKept, IsFor, Run, deeds_of, member_of, entries_in, held_in}
+use Rattle.cs_order.specs.Runs.{Act, KeepsRules, IsKept, IsFor, Run, deeds_of, member_of, entries_in, held_in}
 use Rattle.cs_order.specs.Law.{Law, Admits, Admitted, HasChosen, Undisturbed, Holds}
 use Rattle.cs_order.specs.Solo.{solo, SoloStands, SoloStarts, solo_rest, waiting_of, step_at, may_at}
 
@@ -54,7 +54,7 @@ module _ {M : Type 0} (f : ℕ) (honest : ℕ → Bool) where
       ]
 
   -- what is chosen was proposed
-  chosen_by_step : (h : Member M) (past : List (Act M)) (x : Step) (sent : List _) (slot : ℕ) (a : Proposed) → Keeps {M = M} solo h (deed.Advanced x sent) → (slice_get (chosen_in h.deeds) slot ≡ Some a → Admitted {M = M} solo f a past) → ((e : Proposed) → waiting_of h.deeds ≡ Some e → Admitted {M = M} solo f e past) → slice_get (chosen_in (deed.Advanced x sent ∷ h.deeds)) slot ≡ Some a → Admitted {M = M} solo f a past
+  chosen_by_step : (h : Member M) (past : List (Act M)) (x : Step) (sent : List _) (slot : ℕ) (a : Proposed) → KeepsRules {M = M} solo h (deed.Advanced x sent) → (slice_get (chosen_in h.deeds) slot ≡ Some a → Admitted {M = M} solo f a past) → ((e : Proposed) → waiting_of h.deeds ≡ Some e → Admitted {M = M} solo f e past) → slice_get (chosen_in (deed.Advanced x sent ∷ h.deeds)) slot ≡ Some a → Admitted {M = M} solo f a past
   chosen_by_step h past (step.Chosen e) sent slot a keeps before waits k =
       elim (slice_get-push (chosen_in h.deeds) e a slot k) [
         | inl old ↦ before old
@@ -63,7 +63,7 @@ module _ {M : Type 0} (f : ℕ) (honest : ℕ → Bool) where
   chosen_by_step h past step.Moved sent slot a keeps before waits k = before k
   chosen_by_step h past step.Quiet sent slot a keeps before waits k = before k
 
-  chosen_by_deed : (h : Member M) (past : List (Act M)) (act : Deed M) (slot : ℕ) (a : Proposed) → Keeps {M = M} solo h act → (slice_get (chosen_in h.deeds) slot ≡ Some a → Admitted {M = M} solo f a past) → ((e : Proposed) → waiting_of h.deeds ≡ Some e → Admitted {M = M} solo f e past) → slice_get (chosen_in (act ∷ h.deeds)) slot ≡ Some a → Admitted {M = M} solo f a past
+  chosen_by_deed : (h : Member M) (past : List (Act M)) (act : Deed M) (slot : ℕ) (a : Proposed) → KeepsRules {M = M} solo h act → (slice_get (chosen_in h.deeds) slot ≡ Some a → Admitted {M = M} solo f a past) → ((e : Proposed) → waiting_of h.deeds ≡ Some e → Admitted {M = M} solo f e past) → slice_get (chosen_in (act ∷ h.deeds)) slot ≡ Some a → Admitted {M = M} solo f a past
   chosen_by_deed h past (deed.Took_in from m) slot a keeps before waits k = before k
   chosen_by_deed h past (deed.Advanced x sent) slot a keeps before waits k = chosen_by_step h past x sent slot a keeps before waits k
   chosen_by_deed h past (deed.Echoed sent) slot a keeps before waits k = before k
@@ -144,7 +144,7 @@ none_offered None entries k = cc
 none_offered (Some x) entries k = cc
 
 -- a single member hands nothing out
-none_handed_out : {M : Type 0} (h : Member M) (act : Deed M) → Keeps {M = M} solo h act → (message : M) (to : ℕ) → IsFor message to (sent_by act) → ⊥
+none_handed_out : {M : Type 0} (h : Member M) (act : Deed M) → KeepsRules {M = M} solo h act → (message : M) (to : ℕ) → IsFor message to (sent_by act) → ⊥
 none_handed_out h (deed.Took_in from m) keeps message to k = k
 none_handed_out h (deed.Advanced x sent) keeps message to k = subst (λ all. IsFor message to all) (sym keeps.2) k
 none_handed_out h (deed.Echoed sent) keeps message to k = subst (λ all. IsFor message to all) (sym keeps.1) k

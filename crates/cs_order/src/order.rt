@@ -3,7 +3,7 @@ ghost use Rattle.std.specs.Prelude.{◌≡◌, ◌≢◌, ℕ, ◌*◌, ◌≤�
 ghost use Rattle.cs_order.specs.declared.proposed.Proposed.{Proposed};
 ghost use Rattle.cs_order.specs.declared.answers.May.{May};
 ghost use Rattle.cs_order.specs.Deeds.{Member, Machine, chosen_in};
-ghost use Rattle.cs_order.specs.Calls.{Proposable, Takes, Advances, Echoes, Proposes, Ticks, Resends, Replies, Lowers};
+ghost use Rattle.cs_order.specs.Calls.{Proposable, TakesIn, Advances, Echoes, Proposes, Ticks, Resends, Replies, Lowers};
 ghost use Rattle.cs_order.specs.Law.{Law, Undisturbed, Holds};
 
 use crate::answers::{May, Outgoing, Step, Took};
@@ -55,9 +55,9 @@ pub trait Order: Drop {
     fn view(&self) -> u16
         ensures { (h : Member Self.Message) → stands self.now h → result ≡ rules.view h };
 
-    /// Takes a message of another member.
+    /// TakesIn a message of another member.
     fn take(&mut self, alloc: Global, from: u16, message: Self::Message) -> Result<Took, Memory>
-        ensures call { (h : Member Self.Message) → stands self.old h → from ≤ 3 * f self.old → from ≢ me self.old → rules.proper message ≡ true → IfOk result (λ took. Takes rules h from message took (stands self.new)) }
+        ensures call { (h : Member Self.Message) → stands self.old h → from ≤ 3 * f self.old → from ≢ me self.old → rules.proper message ≡ true → IfOk result (λ took. TakesIn rules h from message took (stands self.new)) }
         ensures same { OnOk result ((f self.new ≡ f self.old) × (me self.new ≡ me self.old)) };
 
     /// The entry that is chosen in a slot.

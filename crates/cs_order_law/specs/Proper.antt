@@ -9,7 +9,7 @@ use Rattle.cs_order.specs.Lists.{IsIn}
 use Rattle.cs_order.specs.Limits.{last_slot, view_bound}
 use Rattle.cs_order.specs.Deeds.{Deed, Member, did, sent_by, chosen_in}
 use Rattle.cs_order.specs.Deeds as deed
-use Rattle.cs_order.specs.Runs.{Keeps, IsKept, IsFor}
+use Rattle.cs_order.specs.Runs.{KeepsRules, IsKept, IsFor}
 use Rattle.cs_order.specs.declared.proposed.Proposed.{Proposed}
 use Rattle.cs_order.specs.declared.answers.Outgoing.{Outgoing}
 use Rattle.cs_order.specs.declared.answers.Step.{Step}

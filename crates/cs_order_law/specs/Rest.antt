@@ -1,7 +1,7 @@
 -- What is left to do falls with each deed of the rules, and is bounded.
 use Rattle.std.proofs.Common.{◌≡◌, ℕ, ◌+◌, ◌^◌, ◌≤◌, ◌<◌, ◌==◌, Bool, true, false, not, ◌||◌, if◌then◌else◌, List, [], ◌∷◌, length, length-append, Option, Some, None, is_some, IsSome, refl, sym, ap, arith}
 use Rattle.cs_order.specs.Deeds.{Deed, Member, did}
-use Rattle.cs_order.specs.Runs.{Keeps}
+use Rattle.cs_order.specs.Runs.{KeepsRules}
 use Rattle.cs_order.specs.Calls.{Proposable}
 use Rattle.cs_order.specs.Limits.{last_slot}
 use Rattle.cs_order.specs.Deeds as deed
@@ -120,7 +120,7 @@ pub none_proposed : (s : Sight) (e : Proposed) → Proposable (may_propose s) e 
 none_proposed s e h = right_false (not (leader s s.view == s.me)) (is_some (own proposal_said s)) (may_by (not (leader s s.view == s.me) || is_some (own proposal_said s)) (if (s.view == 0) || free s then Free else Only (candidates s)) e h)
 
 -- each deed of the rules lowers it
-pub rest_falls : (h : Member OrderMessage) (act : Deed OrderMessage) → Keeps slot_machine h act → IsRule act → Falls h act
+pub rest_falls : (h : Member OrderMessage) (act : Deed OrderMessage) → KeepsRules slot_machine h act → IsRule act → Falls h act
 rest_falls h (deed.Took_in from m) keeps rule = absurd rule
 rest_falls h (deed.Advanced x sent) keeps rule = advance_falls h (choice (sight h)) (entering (sight h)) (confirming (sight h)) refl refl refl x sent keeps.0 keeps.1 keeps.2
 rest_falls h (deed.Echoed sent) keeps rule = echoed_falls h (pending (sight h)) sent refl keeps.0 keeps.1

@@ -134,10 +134,10 @@ in_view_some : (v : ℕ) (o : Option (List ℕ)) → is_some o ≡ true → (pai
 in_view_some v None h = cc
 in_view_some v (Some d) h = ((v, d), refl)
 
-abbrev pub Tells : Sight → ℕ → Option (ℕ × List ℕ) → Type 0
-Tells s v o = (pair : ℕ × List ℕ) × (o ≡ Some pair) × (v ≤ pair.0) × IsIn (s.me, message.Confirm (open_slot s) pair.0 pair.1) s.taken
+abbrev pub TellsPair : Sight → ℕ → Option (ℕ × List ℕ) → Type 0
+TellsPair s v o = (pair : ℕ × List ℕ) × (o ≡ Some pair) × (v ≤ pair.0) × IsIn (s.me, message.Confirm (open_slot s) pair.0 pair.1) s.taken
 
-tells_by : (s : Sight) (v : ℕ) (o : Option (ℕ × List ℕ)) → FoundFrom (λ view. in_view view ((seen s).confirm view s.me)) v s.views o → Tells s v o
+tells_by : (s : Sight) (v : ℕ) (o : Option (ℕ × List ℕ)) → FoundFrom (λ view. in_view view ((seen s).confirm view s.me)) v s.views o → TellsPair s v o
 tells_by s v None h = absurd h
 tells_by s v (Some pair) h =
     let p = in_view_is h.0 ((seen s).confirm h.0 s.me) pair h.3 in
@@ -146,7 +146,7 @@ tells_by s v (Some pair) h =
     (pair, refl, (let le = h.1 in let same = p.0 in omega arith), subst (λ w. IsIn (s.me, message.Confirm (open_slot s) w pair.1) s.taken) (sym p.0) said)
 
 -- the prepared pair is of a view at least that of each confirm
-pub prepared_is : (s : Sight) (v : ℕ) (d : List ℕ) → v < s.views → IsIn (s.me, message.Confirm (open_slot s) v d) s.taken → Tells s v (prepared (seen s))
+pub prepared_is : (s : Sight) (v : ℕ) (d : List ℕ) → v < s.views → IsIn (s.me, message.Confirm (open_slot s) v d) s.taken → TellsPair s v (prepared (seen s))
 prepared_is s v d below h =
     let found = in_view_some v ((seen s).confirm v s.me) (is_found (confirm_said (open_slot s) v) s.taken s.me (message.Confirm (open_slot s) v d) d h (said_at (open_slot s) v d)) in
     tells_by s v (prepared (seen s)) (found_from (λ view. in_view view ((seen s).confirm view s.me)) v found.0 found.1 s.views below)

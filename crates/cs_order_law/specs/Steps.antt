@@ -3,7 +3,7 @@ use Rattle.std.proofs.Common.{◌≡◌, ◌≢◌, ℕ, ◌+◌, ◌*◌, ◌�
 use Rattle.cs_order_law.specs.SafeFacts.{and_right}
 use Rattle.cs_order.specs.Lists.{IsIn}
 use Rattle.cs_order.specs.Deeds.{Deed, Member, did, sent_by}
-use Rattle.cs_order.specs.Runs.{Keeps, IsFor}
+use Rattle.cs_order.specs.Runs.{KeepsRules, IsFor}
 use Rattle.cs_order.specs.Deeds as deed
 use Rattle.cs_order.specs.Limits.{view_bound}
 use Rattle.cs_order.specs.declared.proposed.Proposed.{Proposed}
@@ -191,7 +191,7 @@ reply_step h slot to sent out is same =
     rw same (still_step (deed.Replied slot to (out ∷ [])) (sight h) (sight h).wait, λ sound m k one. elim one [ inl it ↦ subst (λ n. Vouches (sight h) n) (sym r.2 ∙ it.0) r.1 | inr none ↦ absurd none ])
 
 -- each deed that keeps the rules is a step
-pub step_of : (h : Member OrderMessage) (act : SlotAct) → Keeps slot_machine h act → Goal h act
+pub step_of : (h : Member OrderMessage) (act : SlotAct) → KeepsRules slot_machine h act → Goal h act
 step_of h (deed.Took_in from m) keeps = (taken_step (sight h) from m keeps.1, λ sound k to none. absurd none)
 step_of h (deed.Advanced x sent) keeps = advance_step h (choice (sight h)) (entering (sight h)) (confirming (sight h)) refl refl refl x sent keeps.0 keeps.1 keeps.2
 step_of h (deed.Echoed sent) keeps = echo_step h (pending (sight h)) sent refl keeps.0 keeps.1

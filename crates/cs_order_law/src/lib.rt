@@ -4,7 +4,7 @@
 ghost use Rattle.std.specs.Prelude.{◌≡◌, ℕ, ◌+◌, ◌*◌, ◌<◌, ◌≤◌, ◌^◌, true, List, None, is_some};
 ghost use Rattle.cs_order.specs.Deeds.{Deed, Member, did};
 ghost use Rattle.cs_order.specs.Limits.{last_slot};
-ghost use Rattle.cs_order.specs.Runs.{Keeps};
+ghost use Rattle.cs_order.specs.Runs.{KeepsRules};
 ghost use Rattle.cs_order.specs.Law.{Law, Undisturbed, Holds};
 ghost use Rattle.cs_order_rules.specs.Slot.{Seen, votes, with_digest, chosen, to_confirm};
 ghost use Rattle.cs_order_rules.specs.SlotMachine.{slot_machine, slot_rest};
@@ -35,7 +35,7 @@ pub fn nothing_is_missed()
     ensures confirmed { (s : Seen) → to_confirm s ≡ None →
         (digest : List ℕ) → 2 * s.f + 1 ≤ votes s.f (s.echo s.view) digest → is_some (s.confirm s.view s.me) ≡ true }
     // Each deed of the rules lowers a number.
-    ensures falls { (h : Member OrderMessage) (act : Deed OrderMessage) → Keeps slot_machine h act → IsRule act →
+    ensures falls { (h : Member OrderMessage) (act : Deed OrderMessage) → KeepsRules slot_machine h act → IsRule act →
         slot_rest (did act h) < slot_rest h }
     ensures bounded { (h : Member OrderMessage) → slot_rest h < 2 ^ 80 }
 {}

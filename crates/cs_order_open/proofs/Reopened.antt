@@ -6,7 +6,7 @@ use Rattle.cs_order.specs.Limits.{view_bound}
 use Rattle.cs_order_rules.specs.declared.message.OrderMessage.{OrderMessage}
 use Rattle.cs_order_rules.specs.Facts.{Facts, Sight, slot_of, is_like}
 use Rattle.cs_order_law.specs.SlotFacts.{same_number}
-use Rattle.cs_order_open.specs.Shows.{KeptOpenSlot, Shows, ShowsNext, Takes, IsOf}
+use Rattle.cs_order_open.specs.Shows.{KeptOpenSlot, Shows, ShowsNext, TakesFirst, IsOf}
 use Rattle.cs_order_open.specs.Later.{above, at_slot, MayBeTaken, AllTaken}
 use Rattle.cs_order_open.specs.Reopening.{of_facts, fewer_at, all_after}
 
@@ -48,7 +48,7 @@ not_same : (k n : ℕ) → k ≢ n → (k == n) ≡ false
 not_same k n other = elim (eqb_tells k n) [ inl same ↦ absurd (other same.1) | inr it ↦ it.0 ]
 
 -- one of the slot
-pub one_taken : (f n me : ℕ) (all waiting now : Facts) (current new : KeptOpenSlot) (rest : Facts) (from : ℕ) (m : OrderMessage) (fresh : Bool) → (p : Sorted f n me all waiting current rest) → waiting ≡ now ++ (from, m) ∷ [] → AllTaken f me all → slot_of m ≡ n → IsOf f n me 0 new → ((s : Sight) (k v : ℕ) → Shows current s k v → Takes fresh new s k v from m) → Sorted f n me all now new rest
+pub one_taken : (f n me : ℕ) (all waiting now : Facts) (current new : KeptOpenSlot) (rest : Facts) (from : ℕ) (m : OrderMessage) (fresh : Bool) → (p : Sorted f n me all waiting current rest) → waiting ≡ now ++ (from, m) ∷ [] → AllTaken f me all → slot_of m ≡ n → IsOf f n me 0 new → ((s : Sight) (k v : ℕ) → Shows current s k v → TakesFirst fresh new s k v from m) → Sorted f n me all now new rest
 one_taken f n me all waiting now current new rest from m fresh p next taken slot whose call =
     record {
       sorted = (from, m) ∷ p.sorted;

@@ -12,7 +12,7 @@ use Rattle.cs_order_law.specs.SlotFacts.{same_number}
 use Rattle.cs_order_rules.specs.Rules.{insert_line, with_line}
 use Rattle.cs_slot.specs.Kept.{seen_in, in_later, with_proposal, with_echo, with_confirm, with_done}
 use Rattle.cs_change.specs.Kept.{told_in, with_told, reaches}
-use Rattle.cs_order_open.specs.Shows.{KeptOpenSlot, Shows, ShowsNext, Takes, led}
+use Rattle.cs_order_open.specs.Shows.{KeptOpenSlot, Shows, ShowsNext, TakesFirst, led}
 use Rattle.cs_order_open.specs.Seeing.{took_is_found, like_proposal, like_echo, like_confirm, like_change, like_done, shows_proposal, shows_echo, shows_confirm, shows_change, shows_done}
 
 -- nothing changed
@@ -31,7 +31,7 @@ still_slot : (k new : KeptOpenSlot) (s : Sight) (n view : ℕ) → Shows k s n v
 still_slot k new s n view shows slot changes echoed =
     still k new s n view shows slot (rw changes refl) (λ v m. rw changes refl) (rw changes refl) echoed
 
-pub new_proposal : (k new : KeptOpenSlot) (s : Sight) (n view from w : ℕ) (e : Proposed) (fresh : Bool) → Shows k s n view → from ≡ (n + w) % members s → fresh ≡ not (is_some ((seen_in k.slot).proposal w)) → seen_in new.slot ≡ with_proposal fresh (seen_in k.slot) w e → new.changes ≡ k.changes → new.echoed ≡ k.echoed → Takes fresh new s n view from (message.Propose n w e)
+pub new_proposal : (k new : KeptOpenSlot) (s : Sight) (n view from w : ℕ) (e : Proposed) (fresh : Bool) → Shows k s n view → from ≡ (n + w) % members s → fresh ≡ not (is_some ((seen_in k.slot).proposal w)) → seen_in new.slot ≡ with_proposal fresh (seen_in k.slot) w e → new.changes ≡ k.changes → new.echoed ≡ k.echoed → TakesFirst fresh new s n view from (message.Propose n w e)
 new_proposal k new s n view from w e fresh shows leads is slot changes echoed = (answer, by_fresh fresh is slot)
   where
     answer : fresh ≡ not (took (is_like (message.Propose n w e)) s.taken from)
@@ -44,7 +44,7 @@ new_proposal k new s n view from w e fresh shows leads is slot changes echoed = 
     by_fresh true first now = shows_proposal k new s n view from w e shows leads first now changes echoed
     by_fresh false first now = still_slot k new s n view shows now changes echoed
 
-pub takes_proposal : (k new : KeptOpenSlot) (s : Sight) (n view from slot w : ℕ) (e : Proposed) (m : OrderMessage) (fresh : Bool) → m ≡ message.Propose slot w e → slot_of m ≡ k.slot.n → led k.slot.f from m ≡ true → Shows k s n view → fresh ≡ not (is_some ((seen_in k.slot).proposal w)) → seen_in new.slot ≡ with_proposal fresh (seen_in k.slot) w e → new.changes ≡ k.changes → new.echoed ≡ k.echoed → Takes fresh new s n view from m
+pub takes_proposal : (k new : KeptOpenSlot) (s : Sight) (n view from slot w : ℕ) (e : Proposed) (m : OrderMessage) (fresh : Bool) → m ≡ message.Propose slot w e → slot_of m ≡ k.slot.n → led k.slot.f from m ≡ true → Shows k s n view → fresh ≡ not (is_some ((seen_in k.slot).proposal w)) → seen_in new.slot ≡ with_proposal fresh (seen_in k.slot) w e → new.changes ≡ k.changes → new.echoed ≡ k.echoed → TakesFirst fresh new s n view from m
 takes_proposal k new s n view from slot w e m fresh it slot_is leads shows is now changes echoed =
     let n_is : k.slot.n ≡ n = ap (λ (x : Seen). x.n) shows.seen in
     let f_is : k.slot.f ≡ s.f = ap (λ (x : Seen). x.f) shows.seen in
@@ -58,7 +58,7 @@ takes_proposal k new s n view from slot w e m fresh it slot_is leads shows is no
 strange_line : (from me : ℕ) (line : List ℕ × ℕ) (lines : List (List ℕ × ℕ)) → from ≢ me → with_line (when (from == me) (Some line)) lines ≡ lines
 strange_line from me line lines other = elim (eqb_tells from me) [ inl same ↦ absurd (other same.1) | inr k ↦ rw k.0 refl ]
 
-pub new_echo : (k new : KeptOpenSlot) (s : Sight) (n view from w : ℕ) (d : List ℕ) (fresh : Bool) → Shows k s n view → from ≢ s.me → fresh ≡ not (is_some ((seen_in k.slot).echo w from)) → seen_in new.slot ≡ with_echo fresh (seen_in k.slot) w from d → new.changes ≡ k.changes → new.echoed ≡ k.echoed → Takes fresh new s n view from (message.Echo n w d)
+pub new_echo : (k new : KeptOpenSlot) (s : Sight) (n view from w : ℕ) (d : List ℕ) (fresh : Bool) → Shows k s n view → from ≢ s.me → fresh ≡ not (is_some ((seen_in k.slot).echo w from)) → seen_in new.slot ≡ with_echo fresh (seen_in k.slot) w from d → new.changes ≡ k.changes → new.echoed ≡ k.echoed → TakesFirst fresh new s n view from (message.Echo n w d)
 new_echo k new s n view from w d fresh shows other is slot changes echoed = (answer, by_fresh fresh is slot)
   where
     answer : fresh ≡ not (took (is_like (message.Echo n w d)) s.taken from)
@@ -70,7 +70,7 @@ new_echo k new s n view from w d fresh shows other is slot changes echoed = (ans
     by_fresh true first now = shows_echo k new s n view from w d shows first now changes (echoed ∙ sym (strange_line from s.me (d, w) k.echoed other))
     by_fresh false first now = still_slot k new s n view shows now changes echoed
 
-pub takes_echo : (k new : KeptOpenSlot) (s : Sight) (n view from slot w : ℕ) (d : List ℕ) (m : OrderMessage) (fresh : Bool) → m ≡ message.Echo slot w d → slot_of m ≡ k.slot.n → from ≢ k.slot.me → Shows k s n view → fresh ≡ not (is_some ((seen_in k.slot).echo w from)) → seen_in new.slot ≡ with_echo fresh (seen_in k.slot) w from d → new.changes ≡ k.changes → new.echoed ≡ k.echoed → Takes fresh new s n view from m
+pub takes_echo : (k new : KeptOpenSlot) (s : Sight) (n view from slot w : ℕ) (d : List ℕ) (m : OrderMessage) (fresh : Bool) → m ≡ message.Echo slot w d → slot_of m ≡ k.slot.n → from ≢ k.slot.me → Shows k s n view → fresh ≡ not (is_some ((seen_in k.slot).echo w from)) → seen_in new.slot ≡ with_echo fresh (seen_in k.slot) w from d → new.changes ≡ k.changes → new.echoed ≡ k.echoed → TakesFirst fresh new s n view from m
 takes_echo k new s n view from slot w d m fresh it slot_is other shows is now changes echoed =
     let n_is : k.slot.n ≡ n = ap (λ (x : Seen). x.n) shows.seen in
     let me_is : k.slot.me ≡ s.me = ap (λ (x : Seen). x.me) shows.seen in
@@ -78,7 +78,7 @@ takes_echo k new s n view from slot w d m fresh it slot_is other shows is now ch
     let stranger : from ≢ s.me = rw me_is at other in
     rw (it, same) (new_echo k new s n view from w d fresh shows stranger is now changes echoed)
 
-pub new_confirm : (k new : KeptOpenSlot) (s : Sight) (n view from w : ℕ) (d : List ℕ) (fresh : Bool) → Shows k s n view → fresh ≡ not (is_some ((seen_in k.slot).confirm w from)) → seen_in new.slot ≡ with_confirm fresh (seen_in k.slot) w from d → new.changes ≡ k.changes → new.echoed ≡ k.echoed → Takes fresh new s n view from (message.Confirm n w d)
+pub new_confirm : (k new : KeptOpenSlot) (s : Sight) (n view from w : ℕ) (d : List ℕ) (fresh : Bool) → Shows k s n view → fresh ≡ not (is_some ((seen_in k.slot).confirm w from)) → seen_in new.slot ≡ with_confirm fresh (seen_in k.slot) w from d → new.changes ≡ k.changes → new.echoed ≡ k.echoed → TakesFirst fresh new s n view from (message.Confirm n w d)
 new_confirm k new s n view from w d fresh shows is slot changes echoed = (answer, by_fresh fresh is slot)
   where
     answer : fresh ≡ not (took (is_like (message.Confirm n w d)) s.taken from)
@@ -90,13 +90,13 @@ new_confirm k new s n view from w d fresh shows is slot changes echoed = (answer
     by_fresh true first now = shows_confirm k new s n view from w d shows first now changes echoed
     by_fresh false first now = still_slot k new s n view shows now changes echoed
 
-pub takes_confirm : (k new : KeptOpenSlot) (s : Sight) (n view from slot w : ℕ) (d : List ℕ) (m : OrderMessage) (fresh : Bool) → m ≡ message.Confirm slot w d → slot_of m ≡ k.slot.n → Shows k s n view → fresh ≡ not (is_some ((seen_in k.slot).confirm w from)) → seen_in new.slot ≡ with_confirm fresh (seen_in k.slot) w from d → new.changes ≡ k.changes → new.echoed ≡ k.echoed → Takes fresh new s n view from m
+pub takes_confirm : (k new : KeptOpenSlot) (s : Sight) (n view from slot w : ℕ) (d : List ℕ) (m : OrderMessage) (fresh : Bool) → m ≡ message.Confirm slot w d → slot_of m ≡ k.slot.n → Shows k s n view → fresh ≡ not (is_some ((seen_in k.slot).confirm w from)) → seen_in new.slot ≡ with_confirm fresh (seen_in k.slot) w from d → new.changes ≡ k.changes → new.echoed ≡ k.echoed → TakesFirst fresh new s n view from m
 takes_confirm k new s n view from slot w d m fresh it slot_is shows is now changes echoed =
     let n_is : k.slot.n ≡ n = ap (λ (x : Seen). x.n) shows.seen in
     let same : slot ≡ n = rw it at slot_is ∙ n_is in
     rw (it, same) (new_confirm k new s n view from w d fresh shows is now changes echoed)
 
-pub new_done : (k new : KeptOpenSlot) (s : Sight) (n view from : ℕ) (e : Proposed) (fresh : Bool) → Shows k s n view → fresh ≡ not (is_some ((seen_in k.slot).done from)) → seen_in new.slot ≡ with_done fresh (seen_in k.slot) from e → new.changes ≡ k.changes → new.echoed ≡ k.echoed → Takes fresh new s n view from (message.Done n e)
+pub new_done : (k new : KeptOpenSlot) (s : Sight) (n view from : ℕ) (e : Proposed) (fresh : Bool) → Shows k s n view → fresh ≡ not (is_some ((seen_in k.slot).done from)) → seen_in new.slot ≡ with_done fresh (seen_in k.slot) from e → new.changes ≡ k.changes → new.echoed ≡ k.echoed → TakesFirst fresh new s n view from (message.Done n e)
 new_done k new s n view from e fresh shows is slot changes echoed = (answer, by_fresh fresh is slot)
   where
     answer : fresh ≡ not (took (is_like (message.Done n e)) s.taken from)
@@ -108,13 +108,13 @@ new_done k new s n view from e fresh shows is slot changes echoed = (answer, by_
     by_fresh true first now = shows_done k new s n view from e shows first now changes echoed
     by_fresh false first now = still_slot k new s n view shows now changes echoed
 
-pub takes_done : (k new : KeptOpenSlot) (s : Sight) (n view from slot : ℕ) (e : Proposed) (m : OrderMessage) (fresh : Bool) → m ≡ message.Done slot e → slot_of m ≡ k.slot.n → Shows k s n view → fresh ≡ not (is_some ((seen_in k.slot).done from)) → seen_in new.slot ≡ with_done fresh (seen_in k.slot) from e → new.changes ≡ k.changes → new.echoed ≡ k.echoed → Takes fresh new s n view from m
+pub takes_done : (k new : KeptOpenSlot) (s : Sight) (n view from slot : ℕ) (e : Proposed) (m : OrderMessage) (fresh : Bool) → m ≡ message.Done slot e → slot_of m ≡ k.slot.n → Shows k s n view → fresh ≡ not (is_some ((seen_in k.slot).done from)) → seen_in new.slot ≡ with_done fresh (seen_in k.slot) from e → new.changes ≡ k.changes → new.echoed ≡ k.echoed → TakesFirst fresh new s n view from m
 takes_done k new s n view from slot e m fresh it slot_is shows is now changes echoed =
     let n_is : k.slot.n ≡ n = ap (λ (x : Seen). x.n) shows.seen in
     let same : slot ≡ n = rw it at slot_is ∙ n_is in
     rw (it, same) (new_done k new s n view from e fresh shows is now changes echoed)
 
-pub new_change : (k new : KeptOpenSlot) (s : Sight) (n view from w : ℕ) (c : Change) (fresh : Bool) → Shows k s n view → fresh ≡ not (is_some (told_in k.changes.changes w from)) → new.slot ≡ k.slot → told_in new.changes.changes ≡ with_told fresh (told_in k.changes.changes) w from c → ((v member : ℕ) → reaches new.changes.changes v member ≡ ((fresh && ((from == member) && nat_le v w)) || reaches k.changes.changes v member)) → new.changes.f ≡ k.changes.f → new.echoed ≡ k.echoed → Takes fresh new s n view from (message.Change n w c)
+pub new_change : (k new : KeptOpenSlot) (s : Sight) (n view from w : ℕ) (c : Change) (fresh : Bool) → Shows k s n view → fresh ≡ not (is_some (told_in k.changes.changes w from)) → new.slot ≡ k.slot → told_in new.changes.changes ≡ with_told fresh (told_in k.changes.changes) w from c → ((v member : ℕ) → reaches new.changes.changes v member ≡ ((fresh && ((from == member) && nat_le v w)) || reaches k.changes.changes v member)) → new.changes.f ≡ k.changes.f → new.echoed ≡ k.echoed → TakesFirst fresh new s n view from (message.Change n w c)
 new_change k new s n view from w c fresh shows is slot told reached f echoed = (answer, by_fresh fresh is told reached)
   where
     answer : fresh ≡ not (took (is_like (message.Change n w c)) s.taken from)
@@ -126,7 +126,7 @@ new_change k new s n view from w c fresh shows is slot told reached f echoed = (
     by_fresh true first now also = shows_change k new s n view from w c shows first slot now also f echoed
     by_fresh false first now also = still k new s n view shows (ap seen_in slot) now also f echoed
 
-pub takes_change : (k new : KeptOpenSlot) (s : Sight) (n view from slot w : ℕ) (c : Change) (m : OrderMessage) (fresh : Bool) → m ≡ message.Change slot w c → slot_of m ≡ k.slot.n → Shows k s n view → fresh ≡ not (is_some (told_in k.changes.changes w from)) → new.slot ≡ k.slot → told_in new.changes.changes ≡ with_told fresh (told_in k.changes.changes) w from c → ((v member : ℕ) → reaches new.changes.changes v member ≡ ((fresh && ((from == member) && nat_le v w)) || reaches k.changes.changes v member)) → new.changes.f ≡ k.changes.f → new.echoed ≡ k.echoed → Takes fresh new s n view from m
+pub takes_change : (k new : KeptOpenSlot) (s : Sight) (n view from slot w : ℕ) (c : Change) (m : OrderMessage) (fresh : Bool) → m ≡ message.Change slot w c → slot_of m ≡ k.slot.n → Shows k s n view → fresh ≡ not (is_some (told_in k.changes.changes w from)) → new.slot ≡ k.slot → told_in new.changes.changes ≡ with_told fresh (told_in k.changes.changes) w from c → ((v member : ℕ) → reaches new.changes.changes v member ≡ ((fresh && ((from == member) && nat_le v w)) || reaches k.changes.changes v member)) → new.changes.f ≡ k.changes.f → new.echoed ≡ k.echoed → TakesFirst fresh new s n view from m
 takes_change k new s n view from slot w c m fresh it slot_is shows is same_slot told reached f echoed =
     let n_is : k.slot.n ≡ n = ap (λ (x : Seen). x.n) shows.seen in
     let same : slot ≡ n = rw it at slot_is ∙ n_is in
@@ -144,7 +144,7 @@ later_view k new s n v view shows slot changes echoed =
     }
 
 -- The member's own messages.
-pub says_proposal : (k new : KeptOpenSlot) (s : Sight) (n view me w : ℕ) (e : Proposed) (fresh : Bool) → Shows k s n view → me ≡ (k.slot.n + w) % (3 * k.slot.f + 1) → fresh ≡ not (is_some ((seen_in k.slot).proposal w)) → seen_in new.slot ≡ with_proposal fresh (seen_in k.slot) w e → new.changes ≡ k.changes → new.echoed ≡ k.echoed → Takes fresh new s n view me (message.Propose n w e)
+pub says_proposal : (k new : KeptOpenSlot) (s : Sight) (n view me w : ℕ) (e : Proposed) (fresh : Bool) → Shows k s n view → me ≡ (k.slot.n + w) % (3 * k.slot.f + 1) → fresh ≡ not (is_some ((seen_in k.slot).proposal w)) → seen_in new.slot ≡ with_proposal fresh (seen_in k.slot) w e → new.changes ≡ k.changes → new.echoed ≡ k.echoed → TakesFirst fresh new s n view me (message.Propose n w e)
 says_proposal k new s n view me w e fresh shows leads is now changes echoed =
     let n_is : k.slot.n ≡ n = ap (λ (x : Seen). x.n) shows.seen in
     let f_is : k.slot.f ≡ s.f = ap (λ (x : Seen). x.f) shows.seen in
@@ -152,7 +152,7 @@ says_proposal k new s n view me w e fresh shows leads is now changes echoed =
     new_proposal k new s n view me w e fresh shows leader is now changes echoed
 
 -- an echo of the member itself is listed too
-pub says_echo : (k new : KeptOpenSlot) (s : Sight) (n view me w : ℕ) (d : List ℕ) (fresh : Bool) → Shows k s n view → me ≡ k.slot.me → fresh ≡ not (is_some ((seen_in k.slot).echo w me)) → seen_in new.slot ≡ with_echo fresh (seen_in k.slot) w me d → new.changes ≡ k.changes → new.echoed ≡ (if fresh then insert_line (d, w) k.echoed else k.echoed) → Takes fresh new s n view me (message.Echo n w d)
+pub says_echo : (k new : KeptOpenSlot) (s : Sight) (n view me w : ℕ) (d : List ℕ) (fresh : Bool) → Shows k s n view → me ≡ k.slot.me → fresh ≡ not (is_some ((seen_in k.slot).echo w me)) → seen_in new.slot ≡ with_echo fresh (seen_in k.slot) w me d → new.changes ≡ k.changes → new.echoed ≡ (if fresh then insert_line (d, w) k.echoed else k.echoed) → TakesFirst fresh new s n view me (message.Echo n w d)
 says_echo k new s n view me w d fresh shows mine is slot changes echoed = (answer, by_fresh fresh is slot echoed)
   where
     answer : fresh ≡ not (took (is_like (message.Echo n w d)) s.taken me)

@@ -4,11 +4,11 @@ use Rattle.cs_order_rules.specs.declared.message.OrderMessage.{OrderMessage}
 use Rattle.cs_order_rules.specs.declared.message.OrderMessage.TheVariants as message
 use Rattle.cs_order_rules.specs.Facts.{Sight, members, is_like, proposal_said, change_said, is_change_from, took, first_of}
 use Rattle.cs_order_rules.specs.Rules.{seen_at, echoed_in}
-use Rattle.cs_slot.specs.Kept.{Kept, seen_in}
+use Rattle.cs_slot.specs.Kept.{KeptSlot, seen_in}
 use Rattle.cs_change.specs.Kept.{KeptOfSlot, told_in, reaches}
 
 pub record KeptOpenSlot : Type 0 where
-  pub slot : Kept
+  pub slot : KeptSlot
   pub changes : KeptOfSlot
   pub echoed : List (List ℕ × ℕ)  -- what the member itself echoed, rising
 
@@ -31,8 +31,8 @@ ShowsNext true k s n view from m = Shows k (with_fact s from m) n view
 ShowsNext false k s n view from m = Shows k s n view
 
 -- a message of the slot is taken, unless one of its member, kind and view was
-abbrev pub Takes : Bool → KeptOpenSlot → Sight → ℕ → ℕ → ℕ → OrderMessage → Type 0
-Takes fresh k s n view from m = (fresh ≡ not (took (is_like m) s.taken from)) × ShowsNext fresh k s n view from m
+abbrev pub TakesFirst : Bool → KeptOpenSlot → Sight → ℕ → ℕ → ℕ → OrderMessage → Type 0
+TakesFirst fresh k s n view from m = (fresh ≡ not (took (is_like m) s.taken from)) × ShowsNext fresh k s n view from m
 
 -- whose it is
 pub record IsOf (f n me view : ℕ) (k : KeptOpenSlot) : Type 0 where

@@ -8,7 +8,7 @@ ghost use Rattle.cs_change.specs.Kept.{told_in};
 ghost use Rattle.cs_order_open.specs.Look.{look_of, is_reached, entering_by, change_by, has_place_by, may_echo_by, pending_by, leads_by, own_proposal, candidate_by, candidates_by, may_by};
 ghost use Rattle.cs_order_rules.specs.Facts.{Sight, slot_of};
 ghost use Rattle.cs_slot.specs.Kept.{seen_in};
-ghost use Rattle.cs_order_open.specs.Shows.{Shows, Takes, IsOf, led};
+ghost use Rattle.cs_order_open.specs.Shows.{Shows, TakesFirst, IsOf, led};
 
 use crate::lines::{is_listed, with_line};
 use crate::pairs::{Pair, with_pair};
@@ -53,13 +53,13 @@ impl OpenSlot {
         })
     }
 
-    /// Takes a message of another member. It is false exactly for a repeat.
+    /// TakesFirst a message of another member. It is false exactly for a repeat.
     pub fn take(&mut self, from: u16, message: OrderMessage) -> Result<bool, Memory>
         requires member { from ≤ 3 * self.old.slot.f }
         requires other { from ≢ self.old.slot.me }
         requires slot { slot_of message ≡ self.old.slot.n }
         requires led { led self.old.slot.f from message ≡ true }
-        ensures call { (s : Sight) (n view : ℕ) → Shows self.old s n view → IfOk result (λ fresh. Takes fresh self.new s n view from message) }
+        ensures call { (s : Sight) (n view : ℕ) → Shows self.old s n view → IfOk result (λ fresh. TakesFirst fresh self.new s n view from message) }
         ensures whose { (f n me view : ℕ) → IsOf f n me view self.old → IfOk result (λ fresh. IsOf f n me view self.new) }
     {
         match message {
@@ -86,17 +86,17 @@ impl OpenSlot {
         }
     }
 
-    /// Takes the proposal of the member itself, which leads the view.
+    /// TakesFirst the proposal of the member itself, which leads the view.
     pub fn propose_own(&mut self, me: u16, view: u16, entry: Proposed) -> Result<bool, Memory>
         requires { me ≡ (self.old.slot.n + view) % (3 * self.old.slot.f + 1) }
-        ensures call { (s : Sight) (n v : ℕ) → Shows self.old s n v → IfOk result (λ fresh. Takes fresh self.new s n v me (message.Propose n view entry)) }
+        ensures call { (s : Sight) (n v : ℕ) → Shows self.old s n v → IfOk result (λ fresh. TakesFirst fresh self.new s n v me (message.Propose n view entry)) }
         ensures whose { (f n me view : ℕ) → IsOf f n me view self.old → IfOk result (λ fresh. IsOf f n me view self.new) }
     {
         let fresh = self.slot.propose(me, view, entry)?;
         Ok(fresh)
     }
 
-    /// Takes the echo of the member itself, and lists it.
+    /// TakesFirst the echo of the member itself, and lists it.
     pub fn echo_own(
         &mut self,
         alloc: Global,
@@ -106,7 +106,7 @@ impl OpenSlot {
     ) -> Result<bool, Memory>
         requires own { me ≡ self.old.slot.me }
         requires member { me ≤ 3 * self.old.slot.f }
-        ensures call { (s : Sight) (n v : ℕ) → Shows self.old s n v → IfOk result (λ fresh. Takes fresh self.new s n v me (message.Echo n view digest)) }
+        ensures call { (s : Sight) (n v : ℕ) → Shows self.old s n v → IfOk result (λ fresh. TakesFirst fresh self.new s n v me (message.Echo n view digest)) }
         ensures whose { (f n me view : ℕ) → IsOf f n me view self.old → IfOk result (λ fresh. IsOf f n me view self.new) }
     {
         let fresh = self.slot.echo(me, view, digest)?;
@@ -117,20 +117,20 @@ impl OpenSlot {
         Ok(true)
     }
 
-    /// Takes the confirm of the member itself.
+    /// TakesFirst the confirm of the member itself.
     pub fn confirm_own(&mut self, me: u16, digest: [u8; 32], view: u16) -> Result<bool, Memory>
         requires member { me ≤ 3 * self.old.slot.f }
         requires own { (view ≡ self.old.slot.view) × (to_confirm (seen_in self.old.slot) ≡ Some digest) }
-        ensures call { (s : Sight) (n v : ℕ) → Shows self.old s n v → IfOk result (λ fresh. Takes fresh self.new s n v me (message.Confirm n view digest)) }
+        ensures call { (s : Sight) (n v : ℕ) → Shows self.old s n v → IfOk result (λ fresh. TakesFirst fresh self.new s n v me (message.Confirm n view digest)) }
         ensures whose { (f n me view : ℕ) → IsOf f n me view self.old → IfOk result (λ fresh. IsOf f n me view self.new) }
     {
         let fresh = self.slot.confirm(me, view, digest)?;
         Ok(fresh)
     }
 
-    /// Takes the change of the member itself.
+    /// TakesFirst the change of the member itself.
     pub fn change_own(&mut self, me: u16, view: u16, change: Change) -> Result<bool, Memory>
-        ensures call { (s : Sight) (n v : ℕ) → Shows self.old s n v → IfOk result (λ fresh. Takes fresh self.new s n v me (message.Change n view change)) }
+        ensures call { (s : Sight) (n v : ℕ) → Shows self.old s n v → IfOk result (λ fresh. TakesFirst fresh self.new s n v me (message.Change n view change)) }
         ensures whose { (f n me view : ℕ) → IsOf f n me view self.old → IfOk result (λ fresh. IsOf f n me view self.new) }
     {
         let fresh = self.changes.add(view, me, change)?;

@@ -22,7 +22,7 @@ use Rattle.cs_play.specs.declared.play.Replay.{Replay}
 use Rattle.cs_play.specs.declared.halt.Halt.{Halt}
 use Rattle.cs_play.specs.declared.halt.Halt.TheVariants as halt
 use Rattle.cs_play.specs.Standing.{Setting, Stands}
-use Rattle.cs_play.specs.Ends.{halt_of_write, Sends, Takes, Ends, parcels_from}
+use Rattle.cs_play.specs.Ends.{halt_of_write, Sends, TakesEvent, Ends, parcels_from}
 use Rattle.cs_wire.specs.declared.input.Out.{Out}
 
 -- ---- lists
@@ -169,7 +169,7 @@ module _ {O J M : Type 0} (stands : O → Member M → Type 0) (approves : J →
       subst (λ (halt : Halt). Ends stands approves rules carrier s course r written (Err halt)) (sym is) (p.text, rest, grown, w)
 
   -- what stopped before the lines of an event were printed
-  pub takes-ends : (course : Course M) (p : Played M) (r : Replay O J M) (written : Option (List ℕ)) (h : Halt) → Takes stands approves rules carrier s course p r (Err h) → Appends s.before written p.text → IsStart p.text (played_by course).text
+  pub takes-ends : (course : Course M) (p : Played M) (r : Replay O J M) (written : Option (List ℕ)) (h : Halt) → TakesEvent stands approves rules carrier s course p r (Err h) → Appends s.before written p.text → IsStart p.text (played_by course).text
       → Ends stands approves rules carrier s course r written (Err h)
   takes-ends course p r written (halt.Limit line) stops w start = (p, stops, w)
   takes-ends course p r written (halt.Forged line) stops w start = absurd stops
@@ -177,7 +177,7 @@ module _ {O J M : Type 0} (stands : O → Member M → Type 0) (approves : J →
   takes-ends course p r written halt.Memory stops w (rest, grown) = (p.text, rest, grown, w)
 
   pub takes-sent : (course : Course M) (p : Played M) (r : Replay O J M) (line : ℕ) (to : NodeId) (outs : List Out) (old new : List Parcel) (h : Halt) → Sends line to outs old new (Err h)
-      → (most_sent < size_of (old ++ parcels_from to outs) → course ≡ Stops p line) → Takes stands approves rules carrier s course p r (Err h)
+      → (most_sent < size_of (old ++ parcels_from to outs) → course ≡ Stops p line) → TakesEvent stands approves rules carrier s course p r (Err h)
   takes-sent course p r line to outs old new (halt.Limit by) (same, large) stops = stops large ∙ ap (λ l. Stops p l) (sym same)
   takes-sent course p r line to outs old new (halt.Forged by) sent stops = absurd sent
   takes-sent course p r line to outs old new halt.Failed sent stops = absurd sent

@@ -9,8 +9,7 @@ use Rattle.cs_node_rules.specs.Play.{Played, Course, Goes, then_plays, arrived, 
 use Rattle.cs_play.specs.Post as Kept
 use Rattle.cs_play.specs.declared.play.Replay.{Replay}
 use Rattle.cs_play.specs.declared.halt.Halt.{Halt}
-use Rattle.cs_base.specs.NodeId.{is_node, is_client}
-use Rattle.cs_wire.specs.Keys.{same_name}
+use Rattle.cs_base.specs.NodeId.{is_node, is_client, same_name}
 use Rattle.cs_node_rules.specs.Net.{Net, net_of}
 use Rattle.cs_play.specs.Voicing.{Voicing, SaysTo}
 use Rattle.cs_play.specs.Standing.{HasNode, Rests, Setting, site_in, Standing}

@@ -15,15 +15,15 @@ use Rattle.cs_tx.specs.Uses.{concerned_shards}
 use Rattle.cs_ledger.specs.Ledger.{Bytes, Transaction}
 use Rattle.cs_ledger.specs.Table as Shard
 use Rattle.cs_ledger.specs.ShardWorld.{is_vote, is_listed}
-use Rattle.cs_node_rules.specs.Setup.{Setup, digest_of}
+use Rattle.cs_node_state.specs.Setup.{Setup, digest_of}
 use Rattle.cs_node_rules.specs.Signs.{Did}
 use Rattle.cs_node_rules.specs.World.{Execution, slots_of, first_of, recorded, all_recorded, is_voted, told}
 use Rattle.cs_play.specs.Digests.{digests_of}
-use Rattle.cs_play.specs.Kept.{Kept, Keeps, Deploys, IsBeforeFirst, is_commit, with_commit, with_told, all_commit, voted, told_next, entered_slot, executed, kept_after}
+use Rattle.cs_play.specs.Kept.{KeptHistory, KeepsHistory, Deploys, IsBeforeFirst, is_commit, with_commit, with_told, all_commit, voted, told_next, entered_slot, executed, kept_after}
 
 -- ---- before the first execution
 
-pub kept-first : (config : Config) (setup : Setup) (kept : Kept) → kept.config ≡ config → IsBeforeFirst kept → Deploys config setup → Keeps setup [] kept
+pub kept-first : (config : Config) (setup : Setup) (kept : KeptHistory) → kept.config ≡ config → IsBeforeFirst kept → Deploys config setup → KeepsHistory setup [] kept
 kept-first config setup kept is empty deploys = empty setup (subst (λ (c : Config). Deploys c setup) (sym is) deploys)
 
 -- ---- tests
@@ -98,7 +98,7 @@ commit-next commits shard d0 d s = by (is_commit commits d0 shard) refl
         ∙ or-comm (is_commit commits d s) ((shard == s) && bytes_eq d d0))
 
 -- the votes after an execution
-votes-next : (kept : Kept) (shard : ℕ) (d0 d : Bytes) (vote : Shard.Vote) (s : ℕ)
+votes-next : (kept : KeptHistory) (shard : ℕ) (d0 d : Bytes) (vote : Shard.Vote) (s : ℕ)
     → is_commit (voted kept shard d0 vote).commits d s ≡ (((shard == s) && (bytes_eq d d0 && is_vote Shard.Commit (Shard.Voted vote))) || is_commit kept.commits d s)
 votes-next kept shard d0 d Shard.Commit s = rw (and-true (bytes_eq d d0)) (commit-next kept.commits shard d0 d s)
 votes-next kept shard d0 d Shard.Abort s = rw (and-false (bytes_eq d d0), and-false (shard == s)) refl
@@ -126,7 +126,7 @@ told-after tx d txs digests true named is = by (is_listed tx txs) refl
 length-set : (xs : List ℕ) (i x : ℕ) → length (slice_set xs i x) ≡ length xs
 length-set xs i x = search rules
 
-module _ (setup : Setup) (kept : Kept) (firsts : List Execution) (shard slot : ℕ) (k : Keeps setup firsts kept) (known : shard < kept.config.shards) where
+module _ (setup : Setup) (kept : KeptHistory) (firsts : List Execution) (shard slot : ℕ) (k : KeepsHistory setup firsts kept) (known : shard < kept.config.shards) where
   abbrev first : Entry → Shard.Effect → Execution
   first entry effect = record { shard = shard; slot = slot; entry = entry; effect = effect }
 
@@ -139,7 +139,7 @@ module _ (setup : Setup) (kept : Kept) (firsts : List Execution) (shard slot : �
   slots : (entry : Entry) (effect : Shard.Effect) (s : ℕ) → s < kept.config.shards → slice_index (entered_slot kept shard).slots s ≡ slots_of s (first entry effect ∷ firsts)
   slots entry effect s below = slots-next kept.slots shard s _ _ within (k.slots shard known) (k.slots s below)
 
-  decided : (vote : Vote) (x : Session) (effect : Shard.Effect) → Keeps setup (first (Decide vote x) effect ∷ firsts) (entered_slot kept shard)
+  decided : (vote : Vote) (x : Session) (effect : Shard.Effect) → KeepsHistory setup (first (Decide vote x) effect ∷ firsts) (entered_slot kept shard)
   decided vote x effect = record {
     deploys = k.deploys;
     each = each;
@@ -149,7 +149,7 @@ module _ (setup : Setup) (kept : Kept) (firsts : List Execution) (shard slot : �
   }
 
   -- a Prepare that was answered by no vote
-  unvoted : (x : Session) (effect : Shard.Effect) → is_vote Shard.Commit effect ≡ false → is_voted effect ≡ false → Keeps setup (first (Prepare x) effect ∷ firsts) (entered_slot kept shard)
+  unvoted : (x : Session) (effect : Shard.Effect) → is_vote Shard.Commit effect ≡ false → is_voted effect ≡ false → KeepsHistory setup (first (Prepare x) effect ∷ firsts) (entered_slot kept shard)
   unvoted x effect other none = record {
     deploys = k.deploys;
     each = each;
@@ -186,7 +186,7 @@ module _ (setup : Setup) (kept : Kept) (firsts : List Execution) (shard slot : �
         by Shard.Commit = refl
         by Shard.Abort = refl
 
-    voted-on : Keeps setup (here ∷ firsts) (told_next (record (entered_slot kept shard) { commits = (voted (entered_slot kept shard) shard (digest_of_session x) vote).commits }) x)
+    voted-on : KeepsHistory setup (here ∷ firsts) (told_next (record (entered_slot kept shard) { commits = (voted (entered_slot kept shard) shard (digest_of_session x) vote).commits }) x)
     voted-on = record {
       deploys = k.deploys;
       each = each;
@@ -197,10 +197,10 @@ module _ (setup : Setup) (kept : Kept) (firsts : List Execution) (shard slot : �
           ∙ told-after (setup.session_of x).transaction (digest_of_tx x.tx) (told setup firsts) kept.told (all_recorded setup (here ∷ firsts) x) (k.deploys.transaction x) k.told;
     }
 
-    prepared-on : Keeps setup (here ∷ firsts) (executed (entered_slot kept shard) shard (Prepare x) (Shard.Voted vote))
-    prepared-on = subst (λ (after : Kept). Keeps setup (here ∷ firsts) (told_next after x)) (sym same-rest) voted-on
+    prepared-on : KeepsHistory setup (here ∷ firsts) (executed (entered_slot kept shard) shard (Prepare x) (Shard.Voted vote))
+    prepared-on = subst (λ (after : KeptHistory). KeepsHistory setup (here ∷ firsts) (told_next after x)) (sym same-rest) voted-on
 
-  new-slot : (entry : Entry) (effect : Shard.Effect) → Keeps setup (first entry effect ∷ firsts) (executed (entered_slot kept shard) shard entry effect)
+  new-slot : (entry : Entry) (effect : Shard.Effect) → KeepsHistory setup (first entry effect ∷ firsts) (executed (entered_slot kept shard) shard entry effect)
   new-slot (Prepare x) (Shard.Voted vote) = prepared-on x vote
   new-slot (Prepare x) Shard.Accepted = unvoted x Shard.Accepted refl refl
   new-slot (Prepare x) Shard.Aborted = unvoted x Shard.Aborted refl refl
@@ -209,18 +209,18 @@ module _ (setup : Setup) (kept : Kept) (firsts : List Execution) (shard slot : �
   new-slot (Decide vote x) effect = decided vote x effect
 
   -- what is kept after an execution stands for the first executions after it
-  pub keeps-after : (entry : Entry) (effect : Shard.Effect) → Keeps setup (first_of shard (Did slot entry effect) firsts) (kept_after kept shard slot entry effect)
+  pub keeps-after : (entry : Entry) (effect : Shard.Effect) → KeepsHistory setup (first_of shard (Did slot entry effect) firsts) (kept_after kept shard slot entry effect)
   keeps-after entry effect =
-      subst (λ n. Keeps setup (first_of shard (Did slot entry effect) firsts) (cond (nat_lt slot n) kept (executed (entered_slot kept shard) shard entry effect))) (sym (k.slots shard known))
+      subst (λ n. KeepsHistory setup (first_of shard (Did slot entry effect) firsts) (cond (nat_lt slot n) kept (executed (entered_slot kept shard) shard entry effect))) (sym (k.slots shard known))
       (by (nat_lt slot (slots_of shard firsts)))
     where
-      by : (b : Bool) → Keeps setup (cond b firsts (first entry effect ∷ firsts)) (cond b kept (executed (entered_slot kept shard) shard entry effect))
+      by : (b : Bool) → KeepsHistory setup (cond b firsts (first entry effect ∷ firsts)) (cond b kept (executed (entered_slot kept shard) shard entry effect))
       by true = k
       by false = new-slot entry effect
 
 -- the outcome of a call that leaves what is kept after an execution
-pub keeps-on_ok : {T E : Type 0} (r : Result T E) (setup : Setup) (kept left : Kept) (firsts : List Execution) (shard slot : ℕ) (entry : Entry) (effect : Shard.Effect) → Keeps setup firsts kept → shard < kept.config.shards
-    → (shard < kept.config.shards → OnOk r (left ≡ kept_after kept shard slot entry effect)) → OnOk r (Keeps setup (first_of shard (Did slot entry effect) firsts) left)
+pub keeps-on_ok : {T E : Type 0} (r : Result T E) (setup : Setup) (kept left : KeptHistory) (firsts : List Execution) (shard slot : ℕ) (entry : Entry) (effect : Shard.Effect) → KeepsHistory setup firsts kept → shard < kept.config.shards
+    → (shard < kept.config.shards → OnOk r (left ≡ kept_after kept shard slot entry effect)) → OnOk r (KeepsHistory setup (first_of shard (Did slot entry effect) firsts) left)
 keeps-on_ok (Ok x) setup kept left firsts shard slot entry effect k known is =
-    subst (λ (after : Kept). Keeps setup (first_of shard (Did slot entry effect) firsts) after) (sym (is known)) (keeps-after setup kept firsts shard slot k known entry effect)
+    subst (λ (after : KeptHistory). KeepsHistory setup (first_of shard (Did slot entry effect) firsts) after) (sym (is known)) (keeps-after setup kept firsts shard slot k known entry effect)
 keeps-on_ok (Err e) setup kept left firsts shard slot entry effect k known is = tt

@@ -4,7 +4,7 @@ use Rattle.std.proofs.lemmas.Grind.{flat_map-append}
 use Rattle.cs_base.specs.declared.config.Config.{Config}
 use Rattle.cs_base.specs.declared.node_id.NodeId.{NodeId}
 use Rattle.cs_ledger.specs.Table as Shard
-use Rattle.cs_node_rules.specs.Setup.{Setup, session_in}
+use Rattle.cs_node_state.specs.Setup.{Setup, session_in}
 use Rattle.cs_node_rules.specs.Net.{Net, sealed}
 use Rattle.cs_node_rules.specs.Signs.{Sign, Dropped, Took, Entered, Viewed, Did, Sent}
 use Rattle.cs_node_rules.specs.World.{Execution, first_of, firsts_after}

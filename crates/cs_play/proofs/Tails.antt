@@ -4,7 +4,7 @@ use Rattle.std.specs.Map.{lookup}
 use Rattle.std.proofs.lemmas.Slice.Eq.{bytes_eq-Decides}
 use Rattle.indexmap.specs.IndexMap.{insert_entry}
 use Rattle.cs_base.specs.declared.node_id.NodeId.{NodeId}
-use Rattle.cs_node_rules.specs.Evidence.{name_eq}
+use Rattle.cs_base.specs.NodeId.{same_name}
 use Rattle.cs_node_rules.specs.Lines.{Parcel}
 use Rattle.cs_node_rules.specs.Play.{arrived}
 use Rattle.cs_node_rules.specs.World.{was_sent}
@@ -72,7 +72,7 @@ not-sent numbers from to bytes [] all none = refl
 not-sent numbers from to bytes (parcel ∷ parcels) all none =
     or-cases (is_parcel from to bytes parcel) (was_sent from to bytes parcels)
     (λ is.
-    let ends : parcel.bytes ≡ bytes = equal parcel.bytes bytes (both-true (name_eq parcel.from from) (name_eq parcel.to to) (bytes_eq parcel.bytes bytes) is) in
+    let ends : parcel.bytes ≡ bytes = equal parcel.bytes bytes (both-true (same_name parcel.from from) (same_name parcel.to to) (bytes_eq parcel.bytes bytes) is) in
     let noted : IsNoted numbers (tail_of bytes) = subst (λ bs. IsNoted numbers (tail_of bs)) ends all.0 in
     let q : false ≡ true = ap is_some none ∙ noted in
     cc)

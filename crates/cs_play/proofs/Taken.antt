@@ -14,7 +14,7 @@ use Rattle.cs_node.specs.declared.outs.Made.{Made}
 use Rattle.cs_node.specs.Notes.{notes_of}
 use Rattle.cs_node.specs.declared.nodes.Core.{Core}
 use Rattle.cs_play.specs.declared.play.Replay.{Replay}
-use Rattle.cs_play.specs.Kept.{Kept, Keeps}
+use Rattle.cs_play.specs.Kept.{KeptHistory, KeepsHistory}
 use Rattle.cs_play.specs.Told.{noted_firsts, told_text, IsTold}
 use Rattle.cs_play.specs.Voicing.{Voicing}
 use Rattle.cs_play.specs.Standing.{Setting, site_in, AllStand, HasNode, Delivered, Rests, Stands}
@@ -113,7 +113,7 @@ module _ {O J M : Type 0} (stands : O → Member M → Type 0) (approves : J →
           count = count ∙ st.count;
           all = d.all;
           kept =
-              subst (λ (firsts : List Execution). Keeps s.setup firsts r'.history)
+              subst (λ (firsts : List Execution). KeepsHistory s.setup firsts r'.history)
               (ap (λ ns. noted_firsts to.shard ns (firsts_of p.world)) d.notes ∙ firsts-noted to.shard (firsts_of p.world) (signs here s.traced line to input p))
               (told.kept s.setup (firsts_of p.world) below st.kept);
           parcels = sent;
@@ -159,11 +159,11 @@ module _ {O J M : Type 0} (stands : O → Member M → Type 0) (approves : J →
       → r'.cores ≡ r.cores → r'.history ≡ r.history → r'.voices ≡ r.voices → r'.traced ≡ r.traced → r'.events ≡ r.events
       → r'.post ≡ (with_arrived number parcel p).parcels → Stands stands approves rules carrier s r' (with_arrived number parcel p)
   arrived-stands st size cores history voices traced events post = record {
-    rests = rests-same s r.history.config r'.history.config r.voices r'.voices st.rests (ap (λ (h : Kept). h.config) history) voices;
+    rests = rests-same s r.history.config r'.history.config r.voices r'.voices st.rests (ap (λ (h : KeptHistory). h.config) history) voices;
     traced = traced ∙ st.traced;
     count = ap (λ cs. length cs.items) cores ∙ st.count;
     all = subst (λ cs. AllStand stands approves (site_in rules carrier s) s.names cs.items p.world) (sym cores) st.all;
-    kept = subst (λ (h : Kept). Keeps s.setup (firsts_of p.world) h) (sym history) st.kept;
+    kept = subst (λ (h : KeptHistory). KeepsHistory s.setup (firsts_of p.world) h) (sym history) st.kept;
     parcels = post;
     within = subst (λ n. n ≤ most_sent) (sym size) st.within;
     events = events ∙ st.events;

@@ -4,8 +4,8 @@ use Rattle.cs_base.specs.declared.memory.Memory.{Memory}
 use Rattle.cs_base.specs.declared.node_id.NodeId.{NodeId}
 use Rattle.cs_tx_form.specs.declared.transaction.Tx.{Tx}
 use Rattle.cs_order.specs.Deeds.{Member, Machine}
-use Rattle.cs_node_rules.specs.Setup.{Setup}
-use Rattle.cs_node_rules.specs.Evidence.{name_eq}
+use Rattle.cs_node_state.specs.Setup.{Setup}
+use Rattle.cs_base.specs.NodeId.{same_name}
 use Rattle.cs_node_rules.specs.Net.{Net}
 use Rattle.cs_node_rules.specs.Site.{Input, Mark, In, Ordered, Plain, Carrier, Site, View, start_view, mark_step, view_after, signs_of}
 use Rattle.cs_node_rules.specs.Trail.{event_marks}
@@ -40,13 +40,13 @@ after-append site (x ∷ xs) ys v = ap (mark_step site x) (after-append site xs 
 eq-refl : (a : ℕ) → (a == a) ≡ true
 eq-refl a = grind arith
 
-name-refl : (a : NodeId) → name_eq a a ≡ true
+name-refl : (a : NodeId) → same_name a a ≡ true
 name-refl a = ap (λ b. b && (a.index == a.index)) (eq-refl a.shard) ∙ eq-refl a.index
 
-name-other : (a b : NodeId) → (a ≡ b → ⊥) → name_eq a b ≡ false
+name-other : (a b : NodeId) → (a ≡ b → ⊥) → same_name a b ≡ false
 name-other a b other = by (a.shard == b.shard) (a.index == b.index) refl refl
   where
-    by : (p q : Bool) → (a.shard == b.shard) ≡ p → (a.index == b.index) ≡ q → name_eq a b ≡ false
+    by : (p q : Bool) → (a.shard == b.shard) ≡ p → (a.index == b.index) ≡ q → same_name a b ≡ false
     by true true x y =
         let shards : a.shard ≡ b.shard = grind arith in
         let indexes : a.index ≡ b.index = grind arith in
@@ -67,7 +67,7 @@ name-same a b same = by (a.shard == b.shard) (a.index == b.index) refl refl same
     by false q x y e = absurd (cc)
 
 pub name-equal : (a b : NodeId) → a ≡ b → (a.shard == b.shard && a.index == b.index) ≡ true
-name-equal a b e = subst (λ (n : NodeId). name_eq a n ≡ true) e (name-refl a)
+name-equal a b e = subst (λ (n : NodeId). same_name a n ≡ true) e (name-refl a)
 
 -- the node at which something happened
 pub view-here : {M : Type 0} (site : Site M) (to : NodeId) (input : Input) (past : List (Happening M))

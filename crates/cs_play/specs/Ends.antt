@@ -41,13 +41,13 @@ Sends line me outs old new (Err halt.Memory) = Unit {0}
 -- ---- events
 
 -- an event was taken in, and this text is to be printed; or it would have passed a limit
-abbrev pub Takes : {O J M : Type 0} → (O → Member M → Type 0) → (J → Tx → Bool) → Machine M → Carrier M → Setting → Course M → Played M → Replay O J M → Result (String Global) Halt → Type 0
-Takes {O} {J} {M} stands approves rules carrier s course p r (Ok text) =
+abbrev pub TakesEvent : {O J M : Type 0} → (O → Member M → Type 0) → (J → Tx → Bool) → Machine M → Carrier M → Setting → Course M → Played M → Replay O J M → Result (String Global) Halt → Type 0
+TakesEvent {O} {J} {M} stands approves rules carrier s course p r (Ok text) =
     (q : Played M) × (course ≡ Goes q) × Stands stands approves rules carrier s r q × (q.text ≡ p.text ++ string_bytes text)
-Takes {O} {J} {M} stands approves rules carrier s course p r (Err (halt.Limit line)) = course ≡ Stops p line
-Takes {O} {J} {M} stands approves rules carrier s course p r (Err (halt.Forged line)) = ⊥
-Takes {O} {J} {M} stands approves rules carrier s course p r (Err halt.Failed) = ⊥
-Takes {O} {J} {M} stands approves rules carrier s course p r (Err halt.Memory) = Unit {0}
+TakesEvent {O} {J} {M} stands approves rules carrier s course p r (Err (halt.Limit line)) = course ≡ Stops p line
+TakesEvent {O} {J} {M} stands approves rules carrier s course p r (Err (halt.Forged line)) = ⊥
+TakesEvent {O} {J} {M} stands approves rules carrier s course p r (Err halt.Failed) = ⊥
+TakesEvent {O} {J} {M} stands approves rules carrier s course p r (Err halt.Memory) = Unit {0}
 
 -- It went on; or it stopped at a limit, or at a forged datagram, with the lines of the events before; or what was written is a front of all lines.
 abbrev pub Ends : {O J M : Type 0} → (O → Member M → Type 0) → (J → Tx → Bool) → Machine M → Carrier M → Setting → Course M → Replay O J M → Option Bytes → Result (Unit {0}) Halt → Type 0

@@ -8,13 +8,13 @@ use Rattle.cs_tx_form.specs.declared.entry.Entry.TheVariants.{Prepare, Decide}
 use Rattle.cs_tx.specs.Digest.{digest_of_tx, digest_of_session}
 use Rattle.cs_ledger.specs.Ledger.{Bytes}
 use Rattle.cs_ledger.specs.Table as Shard
-use Rattle.cs_node_rules.specs.Setup.{Setup, digest_of, concerned}
+use Rattle.cs_node_state.specs.Setup.{Setup, digest_of, concerned}
 use Rattle.cs_node_rules.specs.World.{Execution, slots_of, recorded, told}
 use Rattle.cs_play.specs.Digests.{digests_of}
 use Rattle.cs_tx.specs.Uses.{concerned_shards}
 
 -- how many slots of each shard were executed, the commit votes by shard and session, and the transactions told
-pub record Kept : Type 0 where
+pub record KeptHistory : Type 0 where
   pub config : Config
   pub slots : List ℕ
   pub commits : List (ℕ × Bytes)
@@ -31,7 +31,7 @@ abbrev pub is_commit : List (ℕ × Bytes) → Bytes → ℕ → Bool
 is_commit commits d shard = list_any (λ commit. (shard == commit.0) && bytes_eq d commit.1) commits
 
 -- these first executions are those that were kept
-pub record Keeps (setup : Setup) (firsts : List Execution) (kept : Kept) : Type 0 where
+pub record KeepsHistory (setup : Setup) (firsts : List Execution) (kept : KeptHistory) : Type 0 where
   pub deploys : Deploys kept.config setup
   pub each : length kept.slots ≡ kept.config.shards
   pub slots : (shard : ℕ) → shard < kept.config.shards → slice_index kept.slots shard ≡ slots_of shard firsts
@@ -39,8 +39,8 @@ pub record Keeps (setup : Setup) (firsts : List Execution) (kept : Kept) : Type 
   pub told : kept.told ≡ digests_of (told setup firsts)
 
 -- nothing was executed yet
-abbrev pub IsBeforeFirst : Kept → Type 0
-IsBeforeFirst kept = (setup : Setup) → Deploys kept.config setup → Keeps setup [] kept
+abbrev pub IsBeforeFirst : KeptHistory → Type 0
+IsBeforeFirst kept = (setup : Setup) → Deploys kept.config setup → KeepsHistory setup [] kept
 
 -- ---- one more execution
 
@@ -55,32 +55,32 @@ abbrev pub all_commit : Config → List (ℕ × Bytes) → Session → Bool
 all_commit config commits x = list_all (is_commit commits (digest_of_session x)) (concerned_shards config x)
 
 -- the vote on a session of this digest
-abbrev pub voted : Kept → ℕ → Bytes → Shard.Vote → Kept
+abbrev pub voted : KeptHistory → ℕ → Bytes → Shard.Vote → KeptHistory
 voted kept shard d Shard.Commit = record kept { commits = with_commit shard d kept.commits }
 voted kept shard d Shard.Abort = kept
 
 -- the transaction of a session, where every concerned shard has voted commit
-abbrev pub told_next : Kept → Session → Kept
+abbrev pub told_next : KeptHistory → Session → KeptHistory
 told_next kept x =
     record kept { told = if all_commit kept.config kept.commits x then with_told (digest_of_tx x.tx) kept.told else kept.told }
 
 -- one more slot of the shard
-abbrev pub entered_slot : Kept → ℕ → Kept
+abbrev pub entered_slot : KeptHistory → ℕ → KeptHistory
 entered_slot kept shard = record kept { slots = slice_set kept.slots shard (slice_index kept.slots shard + 1) }
 
 -- a Prepare that was answered by a vote; what is void gives nothing
-abbrev pub prepared : Kept → ℕ → Session → Shard.Effect → Kept
+abbrev pub prepared : KeptHistory → ℕ → Session → Shard.Effect → KeptHistory
 prepared kept shard x (Shard.Voted vote) = told_next (voted kept shard (digest_of_session x) vote) x
 prepared kept shard x Shard.Accepted = kept
 prepared kept shard x Shard.Aborted = kept
 prepared kept shard x Shard.Skipped = kept
 prepared kept shard x Shard.Void = kept
 
-abbrev pub executed : Kept → ℕ → Entry → Shard.Effect → Kept
+abbrev pub executed : KeptHistory → ℕ → Entry → Shard.Effect → KeptHistory
 executed kept shard (Prepare x) effect = prepared kept shard x effect
 executed kept shard (Decide vote x) effect = kept
 
 -- what is kept after an execution, where the slot is new
-abbrev pub kept_after : Kept → ℕ → ℕ → Entry → Shard.Effect → Kept
+abbrev pub kept_after : KeptHistory → ℕ → ℕ → Entry → Shard.Effect → KeptHistory
 kept_after kept shard slot entry effect =
     if nat_lt slot (slice_index kept.slots shard) then kept else executed (entered_slot kept shard) shard entry effect

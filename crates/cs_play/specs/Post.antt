@@ -2,7 +2,7 @@
 use Rattle.std.specs.Prelude.{◌≡◌, ℕ, zero, suc, ◌-◌, ◌≤◌, nat_le, Bool, true, ◌&&◌, if◌then◌else◌, List, [], ◌∷◌, length, drop, replicate, Option, Some, None, is_some, slice_set, bytes_eq}
 use Rattle.std.specs.Map.{lookup}
 use Rattle.cs_base.specs.declared.node_id.NodeId.{NodeId}
-use Rattle.cs_node_rules.specs.Evidence.{name_eq}
+use Rattle.cs_base.specs.NodeId.{same_name}
 use Rattle.cs_node_rules.specs.Lines.{Parcel}
 use Rattle.cs_node_rules.specs.Play.{arrived, size_of, most_sent}
 
@@ -13,7 +13,7 @@ with_arrived number (Some parcel) parcels = slice_set parcels number (arrived pa
 
 -- exactly this datagram
 abbrev pub is_parcel : NodeId → NodeId → List ℕ → Parcel → Bool
-is_parcel from to bytes parcel = name_eq parcel.from from && (name_eq parcel.to to && bytes_eq parcel.bytes bytes)
+is_parcel from to bytes parcel = same_name parcel.from from && (same_name parcel.to to && bytes_eq parcel.bytes bytes)
 
 -- the last 32 bytes of a datagram, where its tag stands; zeros, where there are fewer
 abbrev pub tail_of : List ℕ → List ℕ

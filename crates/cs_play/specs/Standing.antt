@@ -5,10 +5,10 @@ use Rattle.cs_base.specs.declared.node_id.NodeId.{NodeId}
 use Rattle.cs_tx_form.specs.declared.transaction.Tx.{Tx}
 use Rattle.cs_order.specs.Deeds.{Member, Machine}
 use Rattle.cs_ledger.specs.Ledger.{Bytes}
-use Rattle.cs_wire.specs.Keys.{same_name}
+use Rattle.cs_base.specs.NodeId.{same_name}
 use Rattle.cs_sched_types.specs.declared.schedule.Event.{Event}
 use Rattle.cs_sched_types.specs.declared.schedule.Event.TheVariants.{Say, Inject, Deliver, Tick, Drain}
-use Rattle.cs_node_rules.specs.Setup.{Setup}
+use Rattle.cs_node_state.specs.Setup.{Setup}
 use Rattle.cs_node_rules.specs.Net.{Net, net_of}
 use Rattle.cs_node_rules.specs.Site.{Input, Carrier, Site, View, signs_of}
 use Rattle.cs_node_rules.specs.Trail.{event_marks}
@@ -20,7 +20,7 @@ use Rattle.cs_node.specs.declared.outs.Made.{Made}
 use Rattle.cs_node.specs.Notes.{notes_of, outs_of}
 use Rattle.cs_node.specs.Cores.{StandsFor}
 use Rattle.cs_play.specs.declared.play.Replay.{Replay}
-use Rattle.cs_play.specs.Kept.{Keeps}
+use Rattle.cs_play.specs.Kept.{KeepsHistory}
 use Rattle.cs_play.specs.Voicing.{Voicing}
 
 -- what stays the same in a replay
@@ -72,7 +72,7 @@ pub record Stands {O J M : Type 0} (stands : O → Member M → Type 0) (approve
   pub traced : r.traced ≡ s.traced
   pub count : length r.cores.items ≡ s.count
   pub all : AllStand stands approves (site_in rules carrier s) s.names r.cores.items p.world
-  pub kept : Keeps s.setup (firsts_of p.world) r.history
+  pub kept : KeepsHistory s.setup (firsts_of p.world) r.history
   pub parcels : r.post ≡ p.parcels
   pub within : size_of p.parcels ≤ most_sent
   pub events : r.events ≡ length p.world
@@ -93,9 +93,9 @@ IsShort (Tick node) = Unit {0}
 IsShort (Drain times) = Unit {0}
 
 -- an honest node is given something, by another
-abbrev pub IsFor : Setting → Event → Type 0
-IsFor s (Say from to kind body) = HasNode s.names s.count to × (same_name to from ≡ false)
-IsFor s (Inject to bytes) = HasNode s.names s.count to
-IsFor s (Deliver number) = Unit {0}
-IsFor s (Tick node) = HasNode s.names s.count node
-IsFor s (Drain times) = Unit {0}
+abbrev pub IsToAnother : Setting → Event → Type 0
+IsToAnother s (Say from to kind body) = HasNode s.names s.count to × (same_name to from ≡ false)
+IsToAnother s (Inject to bytes) = HasNode s.names s.count to
+IsToAnother s (Deliver number) = Unit {0}
+IsToAnother s (Tick node) = HasNode s.names s.count node
+IsToAnother s (Drain times) = Unit {0}

@@ -4,14 +4,14 @@ use Rattle.std.specs.List.{flat_map}
 use Rattle.cs_base.specs.declared.node_id.NodeId.{NodeId}
 use Rattle.cs_tx.specs.Digest.{digest_of_session}
 use Rattle.cs_ledger.specs.Ledger.{Bytes}
-use Rattle.cs_node_rules.specs.Setup.{Setup, session_in}
+use Rattle.cs_node_state.specs.Setup.{Setup, session_in}
 use Rattle.cs_node_rules.specs.Signs.{Did}
 use Rattle.cs_node_rules.specs.World.{Execution, first_of}
 use Rattle.cs_node_rules.specs.Lines.{Parcel, slot_line, drop_line, view_line, if_traced, at_line, sent_lines}
 use Rattle.cs_table.specs.Effects.{effect_of}
 use Rattle.cs_node.specs.declared.draft.Note.{Note}
 use Rattle.cs_node.specs.declared.draft.Note.TheVariants as note
-use Rattle.cs_play.specs.Kept.{Kept, Keeps}
+use Rattle.cs_play.specs.Kept.{KeptHistory, KeepsHistory}
 
 -- the line of an execution, or, in a trace, of a dropped input or of a view that was entered
 abbrev pub note_text : Bool → NodeId → Note → Bytes
@@ -38,6 +38,6 @@ told_text traced event line me notes number sent =
     (if_traced traced (at_line event line) ++ notes_text traced me notes) ++ if_traced traced (sent_lines number sent)
 
 -- the history took in the executions of these notes
-pub record IsTold (me : NodeId) (notes : List Note) (old new : Kept) : Type 0 where
-  pub kept : (setup : Setup) (firsts : List Execution) → me.shard < old.config.shards → Keeps setup firsts old → Keeps setup (noted_firsts me.shard notes firsts) new
+pub record IsTold (me : NodeId) (notes : List Note) (old new : KeptHistory) : Type 0 where
+  pub kept : (setup : Setup) (firsts : List Execution) → me.shard < old.config.shards → KeepsHistory setup firsts old → KeepsHistory setup (noted_firsts me.shard notes firsts) new
   pub config : new.config ≡ old.config

@@ -2,10 +2,10 @@
 use Rattle.std.specs.Prelude.{◌≡◌, ℕ, ◌<◌, false, true, List, [], ◌∷◌, length, get_or}
 use Rattle.cs_base.specs.declared.config.Config.{Config}
 use Rattle.cs_base.specs.declared.node_id.NodeId.{NodeId}
-use Rattle.cs_base.specs.NodeId.{is_named}
+use Rattle.cs_base.specs.NodeId.{is_named, same_name}
 use Rattle.cs_ledger.specs.Ledger.{Bytes}
 use Rattle.cs_wire.specs.declared.keys.Keys.{Keys}
-use Rattle.cs_wire.specs.Keys.{same_name, key_between, IsOfMaster}
+use Rattle.cs_wire.specs.Keys.{key_between, IsOfMaster}
 use Rattle.cs_wire.specs.Opened.{datagram_with}
 
 -- under which keys they speak

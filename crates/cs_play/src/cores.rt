@@ -1,7 +1,7 @@
 //! The nodes of a replay.
 ghost use Rattle.std.specs.Prelude.{◌≡◌, ◌≢◌, ℕ, ◌<◌, List, length, IfOk, IfSome, IfNone};
 ghost use Rattle.cs_base.specs.declared.node_id.NodeId.{NodeId};
-ghost use Rattle.cs_node_rules.specs.Setup.{Setup};
+ghost use Rattle.cs_node_state.specs.Setup.{Setup};
 ghost use Rattle.cs_node_rules.specs.Net.{Net};
 ghost use Rattle.cs_node_rules.specs.Site.{View};
 ghost use Rattle.cs_node_rules.specs.World.{Happening};

@@ -2,14 +2,14 @@
 ghost use Rattle.std.specs.Prelude.{◌≡◌, ◌<◌, ◌==◌, IfOk, OnOk, List, replicate};
 ghost use Rattle.cs_tx_form.specs.Session.{SessionFits};
 ghost use Rattle.cs_node.specs.Notes.{ExecutedFits};
-ghost use Rattle.cs_node_rules.specs.Setup.{Setup};
+ghost use Rattle.cs_node_state.specs.Setup.{Setup};
 ghost use Rattle.cs_node_rules.specs.World.{Execution, first_of};
 ghost use Rattle.cs_node_rules.specs.Signs.{Did};
 ghost use Rattle.cs_table.specs.Effects.{effect_of};
 ghost use Rattle.cs_table.specs.Seen.{vote_of};
 ghost use Rattle.std.specs.List.{list_all};
 ghost use Rattle.cs_tx.specs.Digest.{digest_of_session};
-ghost use Rattle.cs_play.specs.Kept.{Keeps, IsBeforeFirst, is_commit, all_commit, voted, told_next, executed, kept_after};
+ghost use Rattle.cs_play.specs.Kept.{KeepsHistory, IsBeforeFirst, is_commit, all_commit, voted, told_next, executed, kept_after};
 
 use cs_base::{Config, Memory};
 use cs_node::Effect;
@@ -32,10 +32,10 @@ pub struct History {
 }
 
 impl Model for History {
-    ghost use Rattle.cs_play.specs.Kept.{Kept};
+    ghost use Rattle.cs_play.specs.Kept.{KeptHistory};
     ghost use Rattle.std.specs.Prelude.{◌≡◌, length};
 
-    ghost Value = { Kept };
+    ghost Value = { KeptHistory };
 
     ghost view = { λ h. record { config = h.config; slots = h.slots.items; commits = h.commits.keys; told = h.told.keys } };
 
@@ -74,7 +74,7 @@ impl History {
         effect: Effect,
     ) -> Result<(), Memory>
         requires fits { ExecutedFits effect entry.now }
-        ensures kept { (setup : Setup) (firsts : List Execution) → shard < self.old.config.shards → Keeps setup firsts self.old → OnOk result (Keeps setup (first_of shard (Did slot entry.now (effect_of effect)) firsts) self.new) }
+        ensures kept { (setup : Setup) (firsts : List Execution) → shard < self.old.config.shards → KeepsHistory setup firsts self.old → OnOk result (KeepsHistory setup (first_of shard (Did slot entry.now (effect_of effect)) firsts) self.new) }
         ensures config { OnOk result (self.new.config ≡ self.old.config) }
     {
         self.enter(alloc, shard, slot, entry, effect)

@@ -3,7 +3,7 @@ ghost use Rattle.std.specs.Prelude.{◌≡◌, ◌++◌, codes, Some, IfOk, stri
 ghost use Rattle.cs_tx_form.specs.Session.{SessionFits, EntryFits};
 ghost use Rattle.cs_tx.specs.Digest.{digest_of_session};
 ghost use Rattle.cs_base.specs.Codes.{bytes_text};
-ghost use Rattle.cs_node_rules.specs.Setup.{session_in};
+ghost use Rattle.cs_node_state.specs.Setup.{session_in};
 ghost use Rattle.cs_node_rules.specs.Lines.{slot_line, effect_text, cause_text, drop_line, at_line, kind_in, sent_line, limit_line, forged_line, view_line};
 ghost use Rattle.cs_table.specs.Effects.{effect_of};
 ghost use Rattle.cs_table.specs.Seen.{vote_of};

@@ -9,9 +9,9 @@ ghost use Rattle.cs_node.specs.Notes.{NotesFit};
 ghost use Rattle.cs_node.specs.Speaking.{input_of};
 ghost use Rattle.cs_node.specs.Carriers.{carrier};
 ghost use Rattle.cs_play.specs.Forging.{is_backed_by};
-ghost use Rattle.cs_play.specs.Standing.{Setting, site_in, HasNode, Stands, Standing, IsShort, IsFor};
+ghost use Rattle.cs_play.specs.Standing.{Setting, site_in, HasNode, Stands, Standing, IsShort, IsToAnother};
 ghost use Rattle.cs_play.specs.Told.{told_text, IsTold};
-ghost use Rattle.cs_play.specs.Ends.{Sends, Takes, Ends};
+ghost use Rattle.cs_play.specs.Ends.{Sends, TakesEvent, Ends};
 ghost use Rattle.cs_play.specs.declared.halt.Halt.TheVariants.{Failed as SinkFailed};
 
 use crate::cores::{deliver, place_of, sender_at};
@@ -56,7 +56,7 @@ impl<O: Carried, J: Judge + Drop> Replay<O, J> {
     ) -> Result<(), Halt>
         requires { All (λ numbered. IsShort numbered.1) events.now }
         ensures ends { (s : Setting) (p : Played O.Message)
-            → Standing O.stands J.is_approved O.rules (carrier O.written O.read_of) s self.old (K.written output.old) p → All (λ numbered. IsFor s numbered.1) events.now
+            → Standing O.stands J.is_approved O.rules (carrier O.written O.read_of) s self.old (K.written output.old) p → All (λ numbered. IsToAnother s numbered.1) events.now
             → Ends O.stands J.is_approved O.rules (carrier O.written O.read_of) s (play_all (site_in O.rules (carrier O.written O.read_of) s) s.traced events.now p) self.new (K.written output.new) result }
         ensures cause { HasCause (K.faults output.old) (K.faults output.new) (IsErrOf result SinkFailed) }
     {
@@ -76,7 +76,7 @@ impl<O: Carried, J: Judge + Drop> Replay<O, J> {
     ) -> Result<(), Halt>
         requires { IsShort event.now }
         ensures ends { (s : Setting) (p : Played O.Message)
-            → Standing O.stands J.is_approved O.rules (carrier O.written O.read_of) s self.old (K.written output.old) p → IsFor s event.now
+            → Standing O.stands J.is_approved O.rules (carrier O.written O.read_of) s self.old (K.written output.old) p → IsToAnother s event.now
             → Ends O.stands J.is_approved O.rules (carrier O.written O.read_of) s (play (site_in O.rules (carrier O.written O.read_of) s) s.traced line event.now p) self.new (K.written output.new) result }
         ensures cause { HasCause (K.faults output.old) (K.faults output.new) (IsErrOf result SinkFailed) }
     {
@@ -108,7 +108,7 @@ impl<O: Carried, J: Judge + Drop> Replay<O, J> {
     ) -> Result<(), Halt>
         requires { length body.now ≤ 32719 }
         ensures ends { (s : Setting) (p : Played O.Message)
-            → Standing O.stands J.is_approved O.rules (carrier O.written O.read_of) s self.old (K.written output.old) p → IsFor s (Say names.0 names.1 kind body.now)
+            → Standing O.stands J.is_approved O.rules (carrier O.written O.read_of) s self.old (K.written output.old) p → IsToAnother s (Say names.0 names.1 kind body.now)
             → Ends O.stands J.is_approved O.rules (carrier O.written O.read_of) s (play (site_in O.rules (carrier O.written O.read_of) s) s.traced line (Say names.0 names.1 kind body.now) p) self.new (K.written output.new) result }
         ensures cause { HasCause (K.faults output.old) (K.faults output.new) (IsErrOf result SinkFailed) }
     {
@@ -245,7 +245,7 @@ impl<O: Carried, J: Judge + Drop> Replay<O, J> {
     ) -> Result<String, Halt>
         ensures takes { (s : Setting) (p : Played O.Message)
             → Stands O.stands J.is_approved O.rules (carrier O.written O.read_of) s self.old p → HasNode s.names s.count to
-            → Takes O.stands J.is_approved O.rules (carrier O.written O.read_of) s (occurs (site_in O.rules (carrier O.written O.read_of) s) s.traced line to (input_of input.entry) p) p self.new result }
+            → TakesEvent O.stands J.is_approved O.rules (carrier O.written O.read_of) s (occurs (site_in O.rules (carrier O.written O.read_of) s) s.traced line to (input_of input.entry) p) p self.new result }
         ensures sink { IsErrOf result SinkFailed → ⊥ }
     {
         if self.events >= MOST_EVENTS {

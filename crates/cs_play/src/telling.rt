@@ -1,10 +1,10 @@
 //! What is told of an event.
 ghost use Rattle.std.specs.Prelude.{◌≡◌, ◌+◌, ◌<◌, ◌≤◌, ◌^◌, length, IfOk, OnOk, List, string_bytes};
-ghost use Rattle.cs_node_rules.specs.Setup.{Setup};
+ghost use Rattle.cs_node_state.specs.Setup.{Setup};
 ghost use Rattle.cs_node_rules.specs.World.{Execution};
 ghost use Rattle.cs_node_rules.specs.Lines.{if_traced, at_line, sent_lines};
 ghost use Rattle.cs_node.specs.Notes.{NoteFits, NotesFit};
-ghost use Rattle.cs_play.specs.Kept.{Keeps};
+ghost use Rattle.cs_play.specs.Kept.{KeepsHistory};
 ghost use Rattle.cs_play.specs.Told.{note_text, notes_text, note_first, noted_firsts};
 
 use crate::history::History;
@@ -25,7 +25,7 @@ pub fn tell(
 ) -> Result<String, Memory>
     requires fit { NotesFit notes.now }
     ensures lines { IfOk result (λ text. string_bytes text ≡ notes_text traced me notes.now) }
-    ensures kept { (setup : Setup) (firsts : List Execution) → me.shard < history.old.config.shards → Keeps setup firsts history.old → OnOk result (Keeps setup (noted_firsts me.shard notes.now firsts) history.new) }
+    ensures kept { (setup : Setup) (firsts : List Execution) → me.shard < history.old.config.shards → KeepsHistory setup firsts history.old → OnOk result (KeepsHistory setup (noted_firsts me.shard notes.now firsts) history.new) }
     ensures config { OnOk result (history.new.config ≡ history.old.config) }
 {
     let mut text = String::new(alloc);
@@ -45,7 +45,7 @@ fn tell_note(
 ) -> Result<String, Memory>
     requires fits { NoteFits note.now }
     ensures line { IfOk result (λ text. string_bytes text ≡ note_text traced me note.now) }
-    ensures kept { (setup : Setup) (firsts : List Execution) → me.shard < history.old.config.shards → Keeps setup firsts history.old → OnOk result (Keeps setup (note_first me.shard note.now firsts) history.new) }
+    ensures kept { (setup : Setup) (firsts : List Execution) → me.shard < history.old.config.shards → KeepsHistory setup firsts history.old → OnOk result (KeepsHistory setup (note_first me.shard note.now firsts) history.new) }
     ensures config { OnOk result (history.new.config ≡ history.old.config) }
 {
     match note {

@@ -18,17 +18,15 @@ use Rattle.cs_tx.proofs.ShardsSeen.{concerns-session_of}
 use Rattle.cs_order.specs.Counts.{count_below}
 use Rattle.cs_order.specs.Deeds.{Member}
 use Rattle.cs_order.specs.Runs.{FewLiars}
-use Rattle.cs_base.specs.NodeId.{is_node, is_client}
+use Rattle.cs_base.specs.NodeId.{is_node, is_client, same_name}
 use Rattle.cs_ledger.specs.Ledger.{Bytes}
-use Rattle.cs_wire.specs.Keys.{same_name}
 use Rattle.cs_sched_types.specs.declared.schedule.Schedule.{Schedule}
 use Rattle.cs_sched_types.specs.declared.schedule.Event.{Event}
 use Rattle.cs_sched_types.specs.declared.schedule.Event.TheVariants.{Say, Inject, Deliver, Tick, Drain}
-use Rattle.cs_node_rules.specs.Setup as Setup
+use Rattle.cs_node_state.specs.Setup as Setup
 use Rattle.cs_node_rules.specs.Net.{Net, net_of}
-use Rattle.cs_node_rules.specs.Evidence.{name_eq}
 use Rattle.cs_node_rules.specs.Site.{Site, View, start_view}
-use Rattle.cs_node_rules.specs.Deployment.{rules_of, setup_of}
+use Rattle.cs_node_state.specs.Deployed.{rules_of, setup_of}
 use Rattle.cs_node.specs.declared.nodes.Core.{Core}
 use Rattle.cs_node.specs.Cores.{StandsFor}
 use Rattle.cs_node.specs.Setups.{keyed_from, AreObjects}
@@ -37,7 +35,7 @@ use Rattle.cs_sched.specs.Naming.{is_liar}
 use Rattle.cs_sched.specs.Playable.{IsHonest, IsSpeaker, IsPlayable, IsPlayableEvent}
 use Rattle.cs_play.specs.Kept.{Deploys}
 use Rattle.cs_play.specs.Voicing.{Voicing}
-use Rattle.cs_play.specs.Standing.{EachStands, AllStand, HasNode, Rests, IsShort, IsFor}
+use Rattle.cs_play.specs.Standing.{EachStands, AllStand, HasNode, Rests, IsShort, IsToAnother}
 use Rattle.cs_replay.specs.Site.{net_of_schedule}
 use Rattle.cs_replay.specs.Settings.{node_of_shard, setting_of}
 
@@ -143,7 +141,7 @@ module _ (schedule : Schedule) (playable : IsPlayable schedule) where
   -- where no node lies
   unless-liar : (name : NodeId) → is_node config name ≡ true → (net_of_schedule schedule).is_honest name ≡ true
   unless-liar name node =
-      subst (λ (liars : List NodeId). (is_node config name && not (list_any (λ liar. name_eq liar name) liars)) ≡ true) (sym playable.liars) (ap (λ b. b && true) node)
+      subst (λ (liars : List NodeId). (is_node config name && not (list_any (λ liar. same_name liar name) liars)) ≡ true) (sym playable.liars) (ap (λ b. b && true) node)
 
   is-client : (name : NodeId) → IsSpeaker config schedule.liars name → is_client name ≡ true
   is-client name speaker = either-none (is_client name) (subst (λ (liars : List NodeId). (is_client name || is_liar liars name) ≡ true) playable.liars speaker.speaks)
@@ -158,7 +156,7 @@ module _ (schedule : Schedule) (playable : IsPlayable schedule) where
   client-other name client = by (nat_lt name.shard config.shards) refl
     where
       by : (p : Bool) → nat_lt name.shard config.shards ≡ p → (net_of_schedule schedule).is_honest name ≡ false
-      by false other = ap (λ b. (b && nat_le name.index (3 * config.f)) && not (list_any (λ liar. name_eq liar name) schedule.liars)) other
+      by false other = ap (λ b. (b && nat_le name.index (3 * config.f)) && not (list_any (λ liar. same_name liar name) schedule.liars)) other
       by true below =
           let less : name.shard < config.shards = ltb-true name.shard config.shards below in
           absurd (omega (arith, client-shard name client, playable.few_shards))
@@ -183,7 +181,7 @@ module _ (schedule : Schedule) (playable : IsPlayable schedule) where
       (none-few (λ index. (net_of_schedule schedule).is_honest (record { shard = shard; index = index })) (unless-liar (node_of_shard shard) (is-node config shard below)))
 
   module _ (traced : Bool) (before : Option Bytes) where
-    for-setting : (event : Event) → IsPlayableEvent config schedule.liars event → IsFor (setting_of traced schedule before) event
+    for-setting : (event : Event) → IsPlayableEvent config schedule.liars event → IsToAnother (setting_of traced schedule before) event
     for-setting (Say from to kind body) is = let node = named to is.listener in (node, apart from to is.speaker node)
     for-setting (Inject to bytes) is = named to is.node
     for-setting (Deliver number) is = tt
@@ -191,7 +189,7 @@ module _ (schedule : Schedule) (playable : IsPlayable schedule) where
     for-setting (Drain times) is = tt
 
     -- each event is for one of the nodes
-    pub are-for : All (λ numbered. IsFor (setting_of traced schedule before) numbered.1) schedule.events
+    pub are-for : All (λ numbered. IsToAnother (setting_of traced schedule before) numbered.1) schedule.events
     are-for = λ k d within. for-setting (get_or schedule.events k d).1 (playable.events k d within)
 
     -- the nodes are honest, and no other
@@ -217,7 +215,7 @@ module _ (schedule : Schedule) (playable : IsPlayable schedule) where
   are-short = λ k d within. short (get_or schedule.events k d).1 (playable.events k d within)
 
   -- what the event gives is made of bytes, and is for an honest node
-  given : (event : Event) → IsPlayableEvent config schedule.liars event → Given.IsFor config (net_of_schedule schedule) event
+  given : (event : Event) → IsPlayableEvent config schedule.liars event → Given.IsGivable config (net_of_schedule schedule) event
   given (Say from to kind body) is = record {
     speaker = is.speaker.named;
     lies = client-other from (is-client from is.speaker);
@@ -231,5 +229,5 @@ module _ (schedule : Schedule) (playable : IsPlayable schedule) where
   given (Tick node) is = unless-liar node is.node
   given (Drain times) is = tt
 
-  pub are-given : All (λ numbered. Given.IsFor config (net_of_schedule schedule) numbered.1) schedule.events
+  pub are-given : All (λ numbered. Given.IsGivable config (net_of_schedule schedule) numbered.1) schedule.events
   are-given = λ k d within. given (get_or schedule.events k d).1 (playable.events k d within)

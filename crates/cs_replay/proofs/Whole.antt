@@ -18,7 +18,7 @@ use Rattle.cs_base.specs.declared.printing.WriteError.{WriteError}
 use Rattle.cs_replay.specs.declared.schedule.Ending.{Ending}
 use Rattle.cs_replay.specs.Answers.{course_status}
 use Rattle.cs_replay.specs.Closing.{ending_status, Closes}
-use Rattle.cs_play.specs.Kept.{Kept, Keeps}
+use Rattle.cs_play.specs.Kept.{KeptHistory, KeepsHistory}
 
 transactions-printed : (txs : List Transaction) → flat_map tx_line (digests_of txs) ≡ transaction_lines txs
 transactions-printed [] = refl
@@ -40,7 +40,7 @@ unfolding lines
 lines-are site traced events = refl
 
 -- what is kept after the last event gives the lines of the history
-pub history-end : {M : Type 0} (site : Site M) (p : Played M) (kept : Kept) → Keeps site.setup (firsts_of p.world) kept → closed site (Goes p) ≡ p.text ++ history_lines kept.told
+pub history-end : {M : Type 0} (site : Site M) (p : Played M) (kept : KeptHistory) → KeepsHistory site.setup (firsts_of p.world) kept → closed site (Goes p) ≡ p.text ++ history_lines kept.told
 history-end site p kept k =
     ap (λ more. p.text ++ more) (sym (history-printed (told site.setup (firsts_of p.world))) ∙ ap history_lines (sym k.told))
 

@@ -4,10 +4,11 @@ use Rattle.cs_tx.specs.Token.{is_token_approved}
 use Rattle.cs_order.specs.declared.solo.NoMessage.{NoMessage}
 use Rattle.cs_order.specs.Solo.{solo}
 use Rattle.cs_sched_types.specs.declared.schedule.Schedule.{Schedule}
-use Rattle.cs_node_rules.specs.Setup.{Setup}
+use Rattle.cs_node_state.specs.Setup.{Setup}
 use Rattle.cs_node_rules.specs.Net.{Net, net_of}
 use Rattle.cs_node_rules.specs.Site.{Carrier, Site}
-use Rattle.cs_node_rules.specs.Deployment.{setup_of, site_of}
+use Rattle.cs_node_rules.specs.Deployment.{site_of}
+use Rattle.cs_node_state.specs.Deployed.{setup_of}
 use Rattle.cs_node.specs.Carriers.{carrier}
 use Rattle.cs_node.specs.SoloCarried.{solo_written, solo_read}
 

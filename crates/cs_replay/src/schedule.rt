@@ -10,7 +10,7 @@ ghost use Rattle.cs_node_rules.specs.Play.{unplayed, play_all, lines};
 ghost use Rattle.cs_sched.specs.Playable.{IsPlayable};
 ghost use Rattle.cs_replay.specs.Site.{site_of_schedule, solo_carrier};
 ghost use Rattle.cs_replay.specs.Answers.{course_of, course_status};
-ghost use Rattle.cs_play.specs.Standing.{Setting, site_in, Stands, IsShort, IsFor};
+ghost use Rattle.cs_play.specs.Standing.{Setting, site_in, Stands, IsShort, IsToAnother};
 ghost use Rattle.cs_play.specs.Digests.{history_lines};
 ghost use Rattle.cs_node.specs.Carriers.{carrier};
 ghost use Rattle.cs_replay.specs.Settings.{setting_of};
@@ -102,7 +102,7 @@ fn play_schedule<O: Carried, J: Judge + Drop, K: Sink>(
     output: &mut K,
 ) -> Result<Ending, WriteError>
     requires { All (λ numbered. IsShort numbered.1) schedule.now.events }
-    ensures closes { (s : Setting) → s.before ≡ K.written output.old → Stands O.stands J.is_approved O.rules (carrier O.written O.read_of) s replay unplayed → All (λ numbered. IsFor s numbered.1) schedule.now.events
+    ensures closes { (s : Setting) → s.before ≡ K.written output.old → Stands O.stands J.is_approved O.rules (carrier O.written O.read_of) s replay unplayed → All (λ numbered. IsToAnother s numbered.1) schedule.now.events
         → Closes s.before (K.written output.new) (site_in O.rules (carrier O.written O.read_of) s) (play_all (site_in O.rules (carrier O.written O.read_of) s) s.traced schedule.now.events unplayed) result }
     ensures cause { HasCause (K.faults output.old) (K.faults output.new) (IsErrOf result WriteError.Failed) }
 {

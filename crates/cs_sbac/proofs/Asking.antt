@@ -14,12 +14,13 @@ use Rattle.cs_tx_form.specs.declared.record.Record.{Record}
 use Rattle.cs_tx.specs.Sessions.{key_seen}
 use Rattle.cs_ledger.specs.Session as ledger
 use Rattle.cs_ledger.specs.Table as Shard
-use Rattle.cs_table.specs.Seen.{Stored, seen, seen_state, seen_row, row_in, name_of, HoldsFit}
+use Rattle.cs_table.specs.Seen.{Stored, seen, seen_state, seen_row, row_in, HoldsFit}
 use Rattle.cs_table.specs.Dummies as stored
 use Rattle.cs_table.specs.Dummies.{IsLeastDummy, Least, NoneActive}
-use Rattle.cs_node_rules.specs.Asked.{object_or_dummy, object_in, state_told, told_at, is_free, has_dummy, least_from, least_dummy}
+use Rattle.cs_node_state.specs.Asked.{object_or_dummy, object_in, state_told, told_at, least_from, least_dummy}
+use Rattle.cs_ledger.specs.Table.{is_active, has_active_dummy}
 
-key-same : (k : Key) → name_of k ≡ key_seen k
+key-same : (k : Key) → key_seen k ≡ key_seen k
 key-same (key.Object digest) = refl
 key-same (key.Dummy shard serial) = refl
 
@@ -35,19 +36,19 @@ told-again (state.Inactive by) h = refl
 abbrev told-of : Option Record → State
 told-of row = state_told (seen_row row).state
 
-told-row : (s : Stored) (k : Key) (row : Option Record) → row_in s.rows (name_of k) ≡ row → told_at (seen s) k ≡ told-of row
+told-row : (s : Stored) (k : Key) (row : Option Record) → row_in s.rows (key_seen k) ≡ row → told_at (seen s) k ≡ told-of row
 told-row s k row is = ap (λ (name : ledger.Key). told-of (row_in s.rows name)) (sym (key-same k)) ∙ ap told-of is
 
 -- a key without a record is unknown
-pub told-none : (s : Stored) (k : Key) → row_in s.rows (name_of k) ≡ None → state.Unknown ≡ told_at (seen s) k
+pub told-none : (s : Stored) (k : Key) → row_in s.rows (key_seen k) ≡ None → state.Unknown ≡ told_at (seen s) k
 told-none s k none = sym (told-row s k None none)
 
-pub told-some : (s : Stored) (k : Key) (row : Record) → row_in s.rows (name_of k) ≡ Some row → HoldsFit row.state → row.state ≡ told_at (seen s) k
+pub told-some : (s : Stored) (k : Key) (row : Record) → row_in s.rows (key_seen k) ≡ Some row → HoldsFit row.state → row.state ≡ told_at (seen s) k
 told-some s k row is fits = sym (told-row s k (Some row) is ∙ told-again row.state fits)
 
 -- ---- dummies
 
-free-same : (s : Shard.State) → stored.is_free s ≡ is_free s
+free-same : (s : Shard.State) → stored.is_free s ≡ is_active s
 free-same Shard.Unknown = refl
 free-same (Shard.Active object) = refl
 free-same (Shard.Locked object by) = refl
@@ -57,38 +58,38 @@ abbrev IsNarrow : ledger.Key → Type 0
 IsNarrow (ledger.Object name) = Unit {0}
 IsNarrow (ledger.Dummy s serial) = serial < 2 ^ 64
 
-narrow : (k : Key) → KeyFits k → IsNarrow (name_of k)
+narrow : (k : Key) → KeyFits k → IsNarrow (key_seen k)
 narrow (key.Object digest) fits = tt
 narrow (key.Dummy shard serial) fits = fits.1
 
 module _ (t : Shard.Table) (shard : ℕ) where
-  found-here : (more serial : ℕ) → has_dummy t shard serial ≡ true → least_from t shard (suc more) serial ≡ serial
+  found-here : (more serial : ℕ) → has_active_dummy t shard serial ≡ true → least_from t shard (suc more) serial ≡ serial
   unfolding least_from
   found-here more serial has = ap (λ b. cond b serial (least_from t shard more (serial + 1))) has
 
-  passed-here : (more serial : ℕ) → has_dummy t shard serial ≡ false → least_from t shard (suc more) serial ≡ least_from t shard more (serial + 1)
+  passed-here : (more serial : ℕ) → has_active_dummy t shard serial ≡ false → least_from t shard (suc more) serial ≡ least_from t shard more (serial + 1)
   unfolding least_from
   passed-here more serial has = ap (λ b. cond b serial (least_from t shard more (serial + 1))) has
 
-  found-at : (more first serial : ℕ) → first ≤ serial → serial < first + more → has_dummy t shard serial ≡ true → ((less : ℕ) → less < serial → has_dummy t shard less ≡ false)
+  found-at : (more first serial : ℕ) → first ≤ serial → serial < first + more → has_active_dummy t shard serial ≡ true → ((less : ℕ) → less < serial → has_active_dummy t shard less ≡ false)
       → least_from t shard more first ≡ serial
   found-at zero first serial above below has none = absurd (omega (arith, above, below))
   found-at (suc more) first serial above below has none =
       elim (cases_lt first serial) as (λ (s : (first < serial) ⊎ (serial ≤ first)). least_from t shard (suc more) first ≡ serial) [
         | inl lt ↦ passed-here more first (none first lt) ∙ found-at more (first + 1) serial (omega (arith, lt)) (omega (arith, below)) has none
-        | inr le ↦ (let same : serial ≡ first = omega (arith, above, le) in found-here more first (sym (ap (has_dummy t shard) same) ∙ has) ∙ sym same)
+        | inr le ↦ (let same : serial ≡ first = omega (arith, above, le) in found-here more first (sym (ap (has_active_dummy t shard) same) ∙ has) ∙ sym same)
       ]
 
   none-left : (first : ℕ) → least_from t shard zero first ≡ t.next
   unfolding least_from
   none-left first = refl
 
-  none-at : (more first most : ℕ) → first + more ≤ most → ((serial : ℕ) → serial < most → has_dummy t shard serial ≡ false) → least_from t shard more first ≡ t.next
+  none-at : (more first most : ℕ) → first + more ≤ most → ((serial : ℕ) → serial < most → has_active_dummy t shard serial ≡ false) → least_from t shard more first ≡ t.next
   none-at zero first most within none = none-left first
   none-at (suc more) first most within none =
       passed-here more first (none first (omega (arith, within))) ∙ none-at more (first + 1) most (omega (arith, within)) none
 
-  same-has : (serial : ℕ) → stored.has_dummy t shard serial ≡ has_dummy t shard serial
+  same-has : (serial : ℕ) → stored.has_dummy t shard serial ≡ has_active_dummy t shard serial
   same-has serial = free-same (t.at (ledger.Dummy shard serial)).state
 
   least-name : (name : ledger.Key) → IsNarrow name → IsLeastDummy shard t name → name ≡ ledger.Dummy shard (least_from t shard (2 ^ 64) 0)
@@ -97,9 +98,9 @@ module _ (t : Shard.Table) (shard : ℕ) where
   least-name name small (NoneActive none) =
       ap (ledger.Dummy shard) (sym (none-at (2 ^ 64) 0 (2 ^ 64) (omega arith) (λ serial lt. sym (same-has serial) ∙ none serial lt)))
 
-  key-named : (k : Key) (serial : ℕ) → name_of k ≡ ledger.Dummy shard serial → k ≡ key.Dummy shard serial
+  key-named : (k : Key) (serial : ℕ) → key_seen k ≡ ledger.Dummy shard serial → k ≡ key.Dummy shard serial
   key-named (key.Object digest) serial is = absurd cc
   key-named (key.Dummy s n) serial is = cc
 
-  pub least-is : (k : Key) → KeyFits k → IsLeastDummy shard t (name_of k) → k ≡ least_dummy t shard
-  least-is k fits least = key-named k (least_from t shard (2 ^ 64) 0) (least-name (name_of k) (narrow k fits) least)
+  pub least-is : (k : Key) → KeyFits k → IsLeastDummy shard t (key_seen k) → k ≡ least_dummy t shard
+  least-is k fits least = key-named k (least_from t shard (2 ^ 64) 0) (least-name (key_seen k) (narrow k fits) least)

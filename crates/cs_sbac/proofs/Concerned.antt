@@ -13,7 +13,7 @@ use Rattle.cs_tx_value.specs.declared.object.Object.{Object}
 use Rattle.cs_tx_form.specs.declared.transaction.Tx.{Tx}
 use Rattle.cs_tx_form.specs.declared.session.Session.{Session}
 use Rattle.cs_tx.specs.Uses as Uses
-use Rattle.cs_node_rules.specs.Setup as Setup
+use Rattle.cs_node_state.specs.Setup as Setup
 use Rattle.cs_node_pool.specs.Deployed.{deployed}
 use Rattle.cs_node_pool.proofs.Concerned.{concerns-session}
 

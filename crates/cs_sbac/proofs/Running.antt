@@ -26,10 +26,10 @@ use Rattle.cs_table.specs.Effects.{ComesTo, effect_of}
 use Rattle.cs_table.specs.declared.standing.Standing.TheVariants.{Accepted as Accepted', Aborted as Aborted', Open as Open'}
 use Rattle.cs_ledger.specs.Standing.{stands_accepted, stands_aborted}
 use Rattle.cs_table.specs.Calls.{anchor_in, prepared, decided, standing_at, recorded_at, locked_at as holds_at}
-use Rattle.cs_node_rules.specs.Setup as Setup
-use Rattle.cs_node_rules.specs.Pool.{Pool}
-use Rattle.cs_node_rules.specs.Bench.{told_by, own_pool, pool_after, locked_at, decided_at, decided as standing, vote_read, noted_at, noted as on_record}
-use Rattle.cs_node_rules.specs.Deployment.{genesis_from}
+use Rattle.cs_node_state.specs.Setup as Setup
+use Rattle.cs_node_state.specs.Pool.{Pool}
+use Rattle.cs_node_state.specs.Bench.{told_by, own_pool, pool_after, locked_at, decided_at, decided as standing, vote_read, noted_at, noted as on_record}
+use Rattle.cs_node_state.specs.Deployed.{genesis_from}
 use Rattle.cs_sbac.specs.declared.answers.Outcome.{Outcome}
 use Rattle.cs_sbac.specs.Held.{IsOfNode}
 use Rattle.cs_node_pool.specs.Deployed.{deployed}

@@ -9,8 +9,8 @@ use Rattle.cs_tx.specs.Uses as Uses
 use Rattle.cs_tx.specs.WellFormed.{fault_of}
 use Rattle.cs_tx.proofs.TestsSeen.{well_formed-session_of}
 use Rattle.cs_ledger.specs.Session as Seen
-use Rattle.cs_node_rules.specs.Setup as Setup
-use Rattle.cs_node_rules.specs.Deployment.{rules_of}
+use Rattle.cs_node_state.specs.Setup as Setup
+use Rattle.cs_node_state.specs.Deployed.{rules_of}
 use Rattle.cs_node_pool.specs.Deployed.{deployed}
 use Rattle.cs_node_pool.proofs.Concerned.{concerns-session}
 

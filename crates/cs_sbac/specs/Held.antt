@@ -4,8 +4,8 @@ use Rattle.cs_base.specs.declared.config.Config.{Config}
 use Rattle.cs_base.specs.declared.node_id.NodeId.{NodeId}
 use Rattle.cs_base.specs.NodeId.{is_node}
 use Rattle.cs_table.specs.Seen.{Stored, seen}
-use Rattle.cs_node_rules.specs.Pool.{Pool}
-use Rattle.cs_node_rules.specs.Bench.{Bench}
+use Rattle.cs_node_state.specs.Pool.{Pool}
+use Rattle.cs_node_state.specs.Bench.{Bench}
 use Rattle.cs_node_pool.specs.Gathered.{Gathered}
 
 pub record Held : Type 0 where
@@ -21,7 +21,7 @@ pub record IsOfNode (config : Config) (me : NodeId) (table : Stored) : Type 0 wh
   pub shard : table.shard ≡ me.shard
 
 -- so, unless memory ran out in the midst of an execution; and the pool has the same configuration
-pub record IsSound (is_whole : Bool) (config : Config) (me : NodeId) (table : Stored) (pool : Gathered) : Type 0 where
+pub record IsSoundBench (is_whole : Bool) (config : Config) (me : NodeId) (table : Stored) (pool : Gathered) : Type 0 where
   pub node : is_node config me ≡ true
   pub same : pool.config ≡ config
   pub placed : is_whole ≡ true → IsOfNode config me table

@@ -7,12 +7,12 @@ ghost use Rattle.cs_tx_value.specs.Key.{KeyFits};
 ghost use Rattle.cs_tx_form.specs.State.{StateFits};
 ghost use Rattle.cs_tx_form.specs.Session.{SessionFits, EntryFits};
 ghost use Rattle.cs_tx.specs.Digest.{digest_of_session};
-ghost use Rattle.cs_node_rules.specs.Setup.{concerns, concerned, is_fit, is_approved};
-ghost use Rattle.cs_node_rules.specs.Pool.{found, is_pooled, changed, with_ballot};
+ghost use Rattle.cs_node_state.specs.Setup.{concerns, concerned, is_fit, is_approved};
+ghost use Rattle.cs_node_state.specs.Pool.{found, is_pooled, changed, with_ballot};
 ghost use Rattle.cs_table.specs.Seen.{seen, HoldsFit};
-ghost use Rattle.cs_node_rules.specs.Asked.{told_at, least_dummy, key_asked};
-ghost use Rattle.cs_node_rules.specs.Bench.{decided, noted};
-ghost use Rattle.cs_node_rules.specs.Admission.{admits, is_decided_in, due};
+ghost use Rattle.cs_node_state.specs.Asked.{told_at, least_dummy, key_asked};
+ghost use Rattle.cs_node_state.specs.Bench.{decided, noted};
+ghost use Rattle.cs_node_state.specs.Admission.{admits, is_decided_in, due};
 ghost use Rattle.cs_node_pool.specs.Deployed.{deployed};
 ghost use Rattle.cs_node_pool.specs.Fits.{DueFits, AllFit};
 ghost use Rattle.cs_node_pool.specs.Calls.{counted_in, locked_in};
@@ -24,7 +24,7 @@ use crate::execution::{newcomer, run};
 use crate::setting::{concerned_shards, is_fit, is_fit_entry};
 use cs_base::{Config, Key, Memory, NodeId};
 use cs_node_pool::{Counted, Pool, is_decided};
-use cs_node_rules::Ballot;
+use cs_node_state::Ballot;
 use cs_table::{Effect, Standing, Table};
 use cs_tx::{Digest, Encoded, Entry, Judge, Session, State, Vote, session_digest};
 use std::alloc::Global;
@@ -48,7 +48,7 @@ impl Model for Sbac {
     ghost use Rattle.std.specs.Coded.{codes};
     ghost use Rattle.cs_tx_value.specs.contracts.value.Value as values;
     ghost use Rattle.cs_base.specs.contracts.config.Config as configs;
-    ghost use Rattle.cs_sbac.specs.Held.{Held, IsSound};
+    ghost use Rattle.cs_sbac.specs.Held.{Held, IsSoundBench};
 
     ghost Value = { Held };
 
@@ -56,7 +56,7 @@ impl Model for Sbac {
 
     ghost view = { λ s. record { config = s.config; me = s.me; table = s.table; pool = s.pool.sessions } };
 
-    ghost invariant = { λ s. IsSound s.is_whole s.config s.me s.table s.pool };
+    ghost invariant = { λ s. IsSoundBench s.is_whole s.config s.me s.table s.pool };
 }
 
 fn is_accepted(standing: Standing) -> Option<bool>

@@ -5,7 +5,7 @@ ghost use Rattle.cs_tx_form.specs.declared.transaction.Tx.{Tx};
 ghost use Rattle.cs_tx_form.specs.Session.{SessionFits, EntryFits};
 ghost use Rattle.cs_tx.specs.Uses.{anchor_of};
 ghost use Rattle.cs_tx.specs.WellFormed.{fault_of};
-ghost use Rattle.cs_node_rules.specs.Setup.{concerned, is_fit, session_in};
+ghost use Rattle.cs_node_state.specs.Setup.{concerned, is_fit, session_in};
 ghost use Rattle.cs_node_pool.specs.Deployed.{deployed};
 
 use cs_base::{Config, Memory};

@@ -19,9 +19,9 @@ LineFails line.Memory step = Unit {0}
 LineFails (line.Bad cause) step = step ≡ Err cause
 
 -- a line gave what its step says
-abbrev pub Gives : {T : Type 0} → Result T LineError → Result T Cause → Type 0
-Gives (Ok x) step = step ≡ Ok x
-Gives (Err e) step = LineFails e step
+abbrev pub GivesStep : {T : Type 0} → Result T LineError → Result T Cause → Type 0
+GivesStep (Ok x) step = step ≡ Ok x
+GivesStep (Err e) step = LineFails e step
 
 -- a line moved a draft as its step says
 abbrev pub Moves : {T D : Type 0} → Result D LineError → T → Result T Cause → Type 0

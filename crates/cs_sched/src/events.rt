@@ -1,6 +1,6 @@
 //! What each event's line says.
 ghost use Rattle.cs_base.specs.Lines.{views};
-ghost use Rattle.cs_sched.specs.Reading.{Gives};
+ghost use Rattle.cs_sched.specs.Reading.{GivesStep};
 ghost use Rattle.cs_sched.specs.Events.{say_of, inject_of, say_said, inject_said, deliver_said, tick_said, drain_said, event_said};
 
 use crate::cause::Cause;
@@ -27,7 +27,7 @@ pub(crate) fn read_event(
     word: &[u8],
     fields: &[&[u8]],
 ) -> Result<Event, LineError>
-    ensures { Gives result (event_said schedule.now word.now (views fields.now)) }
+    ensures { GivesStep result (event_said schedule.now word.now (views fields.now)) }
 {
     if word == b"say".as_slice() {
         read_say(alloc, schedule, fields)
@@ -45,7 +45,7 @@ pub(crate) fn read_event(
 }
 
 fn read_say(alloc: Global, schedule: &Schedule, fields: &[&[u8]]) -> Result<Event, LineError>
-    ensures { Gives result (say_said schedule.now (views fields.now)) }
+    ensures { GivesStep result (say_said schedule.now (views fields.now)) }
 {
     match fields {
         [from, to, kind, body] => say(alloc, schedule, from, to, kind, body),
@@ -61,7 +61,7 @@ fn say(
     kind: &[u8],
     body: &[u8],
 ) -> Result<Event, LineError>
-    ensures { Gives result (say_of schedule.now from.now to.now kind.now body.now) }
+    ensures { GivesStep result (say_of schedule.now from.now to.now kind.now body.now) }
 {
     let liars = schedule.liars.as_slice();
     let from = read_speaker(&schedule.config, liars, from)?;
@@ -77,7 +77,7 @@ fn say(
 }
 
 fn read_inject(alloc: Global, schedule: &Schedule, fields: &[&[u8]]) -> Result<Event, LineError>
-    ensures { Gives result (inject_said schedule.now (views fields.now)) }
+    ensures { GivesStep result (inject_said schedule.now (views fields.now)) }
 {
     match fields {
         [to, bytes] => inject(alloc, schedule, to, bytes),
@@ -86,7 +86,7 @@ fn read_inject(alloc: Global, schedule: &Schedule, fields: &[&[u8]]) -> Result<E
 }
 
 fn inject(alloc: Global, schedule: &Schedule, to: &[u8], bytes: &[u8]) -> Result<Event, LineError>
-    ensures { Gives result (inject_of schedule.now to.now bytes.now) }
+    ensures { GivesStep result (inject_of schedule.now to.now bytes.now) }
 {
     let to = read_honest(&schedule.config, schedule.liars.as_slice(), to)?;
     let bytes = read_bytes_within(alloc, bytes, DATAGRAM_LIMIT)?;
@@ -94,14 +94,14 @@ fn inject(alloc: Global, schedule: &Schedule, to: &[u8], bytes: &[u8]) -> Result
 }
 
 fn read_deliver(fields: &[&[u8]]) -> Result<Event, LineError>
-    ensures { Gives result (deliver_said (views fields.now)) }
+    ensures { GivesStep result (deliver_said (views fields.now)) }
 {
     let number = only_number(fields)?;
     Ok(Event::Deliver { number })
 }
 
 fn read_tick(schedule: &Schedule, fields: &[&[u8]]) -> Result<Event, LineError>
-    ensures { Gives result (tick_said schedule.now (views fields.now)) }
+    ensures { GivesStep result (tick_said schedule.now (views fields.now)) }
 {
     let field = only_field(fields)?;
     let node = read_honest(&schedule.config, schedule.liars.as_slice(), field)?;
@@ -109,7 +109,7 @@ fn read_tick(schedule: &Schedule, fields: &[&[u8]]) -> Result<Event, LineError>
 }
 
 fn read_drain(fields: &[&[u8]]) -> Result<Event, LineError>
-    ensures { Gives result (drain_said (views fields.now)) }
+    ensures { GivesStep result (drain_said (views fields.now)) }
 {
     let times = only_number(fields)?;
     Ok(Event::Drain { times })

@@ -2,7 +2,7 @@
 ghost use Rattle.std.specs.Prelude.{◌≡◌, ◌<◌, Err, IfOk, length};
 ghost use Rattle.cs_base.specs.Lines.{views};
 ghost use Rattle.cs_tx_value.specs.Object.{ObjectFits};
-ghost use Rattle.cs_sched.specs.Reading.{Gives, Lends};
+ghost use Rattle.cs_sched.specs.Reading.{GivesStep, Lends};
 ghost use Rattle.cs_sched.specs.Said.{only_field, no_field, number_said, shards_said, faulty_said, dummies_said, master_said, liar_said, object_said};
 ghost use Rattle.cs_sched.specs.Lines.{contract_line};
 
@@ -69,7 +69,7 @@ pub(crate) fn read_dummies(now: Config, fields: &[&[u8]]) -> Result<Config, Caus
 }
 
 pub(crate) fn read_master_line(alloc: Global, fields: &[&[u8]]) -> Result<Digest, LineError>
-    ensures { Gives result (master_said (views fields.now)) }
+    ensures { GivesStep result (master_said (views fields.now)) }
 {
     let field = only_field(fields)?;
     read_master(alloc, field)
@@ -98,7 +98,7 @@ pub(crate) fn read_object_line(
     place: usize,
     fields: &[&[u8]],
 ) -> Result<Object, LineError>
-    ensures value { Gives result (object_said place (views fields.now)) }
+    ensures value { GivesStep result (object_said place (views fields.now)) }
     ensures fits { IfOk result ObjectFits }
     ensures place { IfOk result (λ _. place < 65536) }
 {

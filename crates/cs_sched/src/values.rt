@@ -3,7 +3,7 @@ ghost use Rattle.std.specs.Prelude.{◌≡◌, ◌≤◌, ◌<◌, ◌^◌, IfOk
 ghost use Rattle.std.specs.Option.{ok_or};
 ghost use Rattle.cs_base.specs.Config.{configured};
 ghost use Rattle.cs_base.specs.Codes.{number_of};
-ghost use Rattle.cs_sched.specs.Reading.{Gives};
+ghost use Rattle.cs_sched.specs.Reading.{GivesStep};
 ghost use Rattle.cs_sched.specs.Values.{number_within, in_range, bytes_within, master_in, encoded_object, object_in};
 ghost use Rattle.cs_tx_value.specs.Object.{ObjectFits};
 ghost use Rattle.cs_sched.specs.declared.cause.Cause.TheVariants as cause;
@@ -58,7 +58,7 @@ pub(crate) fn read_bytes_within(
     field: &[u8],
     most: usize,
 ) -> Result<Sequence<u8>, LineError>
-    ensures { Gives result (bytes_within most field.now) }
+    ensures { GivesStep result (bytes_within most field.now) }
 {
     let Some(bytes) = read_bytes(alloc, field)? else {
         return Err(LineError::Bad(Cause::Hex));
@@ -70,7 +70,7 @@ pub(crate) fn read_bytes_within(
 }
 
 pub(crate) fn read_master(alloc: Global, field: &[u8]) -> Result<Digest, LineError>
-    ensures { Gives result (master_in field.now) }
+    ensures { GivesStep result (master_in field.now) }
 {
     let Some(bytes) = read_bytes(alloc, field)? else {
         return Err(LineError::Bad(Cause::Hex));
@@ -84,7 +84,7 @@ pub(crate) fn read_master(alloc: Global, field: &[u8]) -> Result<Digest, LineErr
 }
 
 pub(crate) fn read_object(alloc: Global, field: &[u8]) -> Result<Object, LineError>
-    ensures value { Gives result (object_in field.now) }
+    ensures value { GivesStep result (object_in field.now) }
     ensures fits { IfOk result ObjectFits }
 {
     let bytes = read_bytes_within(alloc, field, OBJECT_LIMIT)?;
@@ -93,7 +93,7 @@ pub(crate) fn read_object(alloc: Global, field: &[u8]) -> Result<Object, LineErr
 
 // The object of which these bytes are the encoding.
 fn decode_object(alloc: Global, bytes: &[u8]) -> Result<Object, LineError>
-    ensures value { Gives result (ok_or (encoded_object bytes.now) cause.Object) }
+    ensures value { GivesStep result (ok_or (encoded_object bytes.now) cause.Object) }
     ensures fits { IfOk result ObjectFits }
 {
     match Object::decode(alloc, bytes) {

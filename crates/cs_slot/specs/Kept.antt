@@ -7,7 +7,7 @@ use Rattle.cs_order.specs.Limits.{view_bound}
 use Rattle.cs_slot.specs.declared.votes.Vote.{Vote}
 use Rattle.cs_order_rules.specs.Slot.{Seen}
 
-pub record Kept : Type 0 where
+pub record KeptSlot : Type 0 where
   pub f : ℕ
   pub n : ℕ
   pub me : ℕ
@@ -29,7 +29,7 @@ vote_in (vote ∷ votes) view member = if is_at view member vote then Some vote.
 abbrev pub entry_in : List (ℕ × Proposed) → ℕ → Option Proposed
 entry_in entries key = lookup (λ other. other == key) entries
 
-abbrev pub seen_in : Kept → Seen
+abbrev pub seen_in : KeptSlot → Seen
 seen_in k = record {
   f = k.f;
   n = k.n;

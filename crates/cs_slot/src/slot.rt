@@ -39,9 +39,9 @@ pub struct Slot {
 impl Model for Slot {
     ghost use Rattle.std.specs.Prelude.{◌*◌, ◌≤◌};
     ghost use Rattle.cs_order.specs.Limits.{view_bound};
-    ghost use Rattle.cs_slot.specs.Kept.{Kept, NothingFrom};
+    ghost use Rattle.cs_slot.specs.Kept.{KeptSlot, NothingFrom};
 
-    ghost Value = { Kept };
+    ghost Value = { KeptSlot };
 
     ghost view = { λ s. record { f = s.f; n = s.n; me = s.me; view = s.view; proposals = s.proposals; echoes = s.echoes; confirms = s.confirms; dones = s.dones } };
 

@@ -4,7 +4,8 @@ use Rattle.cs_ledger.specs.Session as ledger
 use Rattle.cs_ledger.specs.Table as table
 use Rattle.cs_ledger.specs.Table.{State, Unknown, Active, Locked, Inactive, Record, Table}
 use Rattle.cs_table.specs.declared.piece.Piece.{Piece}
-use Rattle.cs_table.specs.Seen.{Stored, seen, seen_piece, name_of}
+use Rattle.cs_table.specs.Seen.{Stored, seen, seen_piece}
+use Rattle.cs_tx.specs.Sessions.{key_seen}
 use Rattle.cs_table.specs.Changes.{Becomes, changed, appeared_record, appeared_each}
 use Rattle.cs_table.specs.Genesis.{second_of, is_unknown, is_dummy_below, with_dummies, empty}
 use Rattle.std.proofs.Math.Seq.{take-suc}
@@ -66,30 +67,30 @@ module _ (ps : List Piece) (i : ℕ) (p : Piece) (old now : Stored) (lt : i < le
   before = map seen_piece (take i ps)
 
   abbrev had : Bool
-  had = ledger.has_key (name_of p.key) before
+  had = ledger.has_key (key_seen p.key) before
 
   step : (if had then Some p.key else second_of (before ++ seen_piece p ∷ []) (drop (i + 1) ps)) ≡ second_of [] ps
   step = subst (λ rest. second_of before rest ≡ second_of [] ps) (next ps i p lt is) so_far.second
 
-  pub is_twice : is_unknown ((seen now).at (name_of p.key)).state ≡ false → second_of [] ps ≡ Some p.key
-  is_twice known = sym (rw (not_false had (sym known ∙ so_far.shown (name_of p.key))) at step)
+  pub is_twice : is_unknown ((seen now).at (key_seen p.key)).state ≡ false → second_of [] ps ≡ Some p.key
+  is_twice known = sym (rw (not_false had (sym known ∙ so_far.shown (key_seen p.key))) at step)
 
   before_more : map seen_piece (take (i + 1) ps) ≡ before ++ seen_piece p ∷ []
   before_more = ap (map seen_piece) (taken ps i p lt is) ∙ map-last (take i ps) p
 
-  pub loaded : (later : Stored) (object : Object) → object ≡ p.object → is_unknown ((seen now).at (name_of p.key)).state ≡ true → Becomes now later (changed (appeared_record (object_encoding object)) (name_of p.key) (seen now)) → Loading ps (i + 1) old later
+  pub loaded : (later : Stored) (object : Object) → object ≡ p.object → is_unknown ((seen now).at (key_seen p.key)).state ≡ true → Becomes now later (changed (appeared_record (object_encoding object)) (key_seen p.key) (seen now)) → Loading ps (i + 1) old later
   loaded later object same new did = record {
     left = record {
-      shows = ap (appeared_each [] (map seen_piece (drop (i + 1) ps))) (did.shows ∙ ap (λ o. changed (appeared_record (object_encoding o)) (name_of p.key) (seen now)) same)
+      shows = ap (appeared_each [] (map seen_piece (drop (i + 1) ps))) (did.shows ∙ ap (λ o. changed (appeared_record (object_encoding o)) (key_seen p.key) (seen now)) same)
           ∙ subst (λ rest. appeared_each [] (map seen_piece rest) (seen now) ≡ appeared_each [] (map seen_piece ps) (seen old)) (next ps i p lt is) so_far.left.shows;
       shards = did.shards ∙ so_far.left.shards;
       shard = did.shard ∙ so_far.left.shard;
     };
     shown = λ name.
         ap (λ t. is_unknown (t.at name).state) did.shows
-        ∙ shown_more (ledger.key_eq name (name_of p.key)) (ledger.has_key name before) (object_encoding object) ((seen now).at name) (so_far.shown name)
+        ∙ shown_more (ledger.key_eq name (key_seen p.key)) (ledger.has_key name before) (object_encoding object) ((seen now).at name) (so_far.shown name)
         ∙ ap not (sym (ap (ledger.has_key name) before_more ∙ has_last name before (seen_piece p)));
-    second = ap (λ bs. second_of bs (drop (i + 1) ps)) before_more ∙ rw (not_true had (sym new ∙ so_far.shown (name_of p.key))) at step;
+    second = ap (λ bs. second_of bs (drop (i + 1) ps)) before_more ∙ rw (not_true had (sym new ∙ so_far.shown (key_seen p.key))) at step;
   }
 
 pub begins : (ps : List Piece) (old : Stored) → seen old ≡ empty old.next → Loading ps 0 old old

@@ -12,11 +12,12 @@ use Rattle.cs_ledger.specs.Session as ledger
 use Rattle.cs_ledger.specs.Table as table
 use Rattle.cs_ledger.specs.Table.{Outcome, Vote, Table}
 use Rattle.cs_table.specs.declared.piece.Piece.{Piece}
-use Rattle.cs_table.specs.Seen.{Stored, seen, seen_piece, name_of}
+use Rattle.cs_table.specs.Seen.{Stored, seen, seen_piece}
 use Rattle.cs_table.specs.Changes.{Becomes, with_next}
 use Rattle.cs_table.specs.Effects.{ComesTo, accepted}
-use Rattle.cs_table.specs.Pieces.{rules_in, dummy_object, used_in, read_in, made_in}
-use Rattle.cs_tx.specs.Sessions.{session_of, dummy_name}
+use Rattle.cs_table.specs.Pieces.{rules_in, used_in, read_in, made_in}
+use Rattle.cs_tx.specs.Dummies.{dummy_object}
+use Rattle.cs_tx.specs.Sessions.{session_of, dummy_name, key_seen}
 use Rattle.cs_table.specs.Calls.{anchor_in, prepared, decided, makes_dummy, new_in, accepted_with}
 use Rattle.cs_table.proofs.Shown.{used_seen, read_seen, made_seen}
 use Rattle.cs_table.proofs.Executions.{becomes_same, becomes_self}
@@ -25,30 +26,30 @@ module _ (s : Stored) (x : Session) (used : List Piece) (used_is : used ≡ used
   pub used_up : map seen_piece used ≡ ledger.used_up (rules_in s.shards) (session_of approves x) s.shard
   used_up = ap (map seen_piece) used_is ∙ used_seen s.shards s.shard approves x
 
-  pub anchor_is : (key : Option Key) → option_map name_of key ≡ ledger.first_key (map seen_piece used) → anchor_in s (session_of approves x) ≡ option_map name_of key
+  pub anchor_is : (key : Option Key) → option_map key_seen key ≡ ledger.first_key (map seen_piece used) → anchor_in s (session_of approves x) ≡ option_map key_seen key
   anchor_is key first = ap ledger.first_key (sym used_up) ∙ sym first
 
   -- what is read off the table at the anchor
-  pub at_anchor : {A : Type 0} (what : Table → List ℕ → Option ledger.Key → A) (d : List ℕ) (key : Option Key) → d ≡ digest_of_session x → option_map name_of key ≡ ledger.first_key (map seen_piece used) → what (seen s) d (option_map name_of key) ≡ what (seen s) (session_of approves x).digest (anchor_in s (session_of approves x))
+  pub at_anchor : {A : Type 0} (what : Table → List ℕ → Option ledger.Key → A) (d : List ℕ) (key : Option Key) → d ≡ digest_of_session x → option_map key_seen key ≡ ledger.first_key (map seen_piece used) → what (seen s) d (option_map key_seen key) ≡ what (seen s) (session_of approves x).digest (anchor_in s (session_of approves x))
   at_anchor what d key is first =
-      ap (λ e. what (seen s) e (option_map name_of key)) is ∙ ap (what (seen s) (digest_of_session x)) (sym (anchor_is key first))
+      ap (λ e. what (seen s) e (option_map key_seen key)) is ∙ ap (what (seen s) (digest_of_session x)) (sym (anchor_is key first))
 
-  pub decided_is : (key : Key) (vote : Vote) → option_map name_of (Some key) ≡ ledger.first_key (map seen_piece used) → decided s (session_of approves x) vote ≡ table.decide (rules_in s.shards) s.shard (seen s) (session_of approves x) (name_of key) vote
+  pub decided_is : (key : Key) (vote : Vote) → option_map key_seen (Some key) ≡ ledger.first_key (map seen_piece used) → decided s (session_of approves x) vote ≡ table.decide (rules_in s.shards) s.shard (seen s) (session_of approves x) (key_seen key) vote
   decided_is key vote first = ap (table.act (rules_in s.shards) s.shard (seen s) (table.Decide (session_of approves x) vote)) (anchor_is (Some key) first)
 
-  pub no_anchor : {P : Type 0} → option_map name_of None ≡ ledger.first_key (map seen_piece used) → IsSome (anchor_in s (session_of approves x)) → P
+  pub no_anchor : {P : Type 0} → option_map key_seen None ≡ ledger.first_key (map seen_piece used) → IsSome (anchor_in s (session_of approves x)) → P
   no_anchor first some = absurd (let none = subst (λ o. IsSome o) (anchor_is None first) some in cc)
 
   module _ (read : List Piece) (read_is : read ≡ read_in s.shards s.shard x) where
     pub read_only : map seen_piece read ≡ ledger.read_only (rules_in s.shards) (session_of approves x) s.shard
     read_only = ap (map seen_piece) read_is ∙ read_seen s.shards s.shard approves x
 
-    pub prepared_is : (d : List ℕ) (key : Key) → d ≡ digest_of_session x → option_map name_of (Some key) ≡ ledger.first_key (map seen_piece used) → prepared s (session_of approves x) ≡ table.prepare (seen s) d (name_of key) (map seen_piece used) (map seen_piece read)
+    pub prepared_is : (d : List ℕ) (key : Key) → d ≡ digest_of_session x → option_map key_seen (Some key) ≡ ledger.first_key (map seen_piece used) → prepared s (session_of approves x) ≡ table.prepare (seen s) d (key_seen key) (map seen_piece used) (map seen_piece read)
     prepared_is d key is first =
         ap (table.act (rules_in s.shards) s.shard (seen s) (table.Prepare (session_of approves x))) (anchor_is (Some key) first)
-        ∙ ap (λ e. table.prepare (seen s) e (name_of key) (ledger.used_up (rules_in s.shards) (session_of approves x) s.shard) (ledger.read_only (rules_in s.shards) (session_of approves x) s.shard)) (sym is)
-        ∙ ap (λ ps. table.prepare (seen s) d (name_of key) ps (ledger.read_only (rules_in s.shards) (session_of approves x) s.shard)) (sym used_up)
-        ∙ ap (table.prepare (seen s) d (name_of key) (map seen_piece used)) (sym read_only)
+        ∙ ap (λ e. table.prepare (seen s) e (key_seen key) (ledger.used_up (rules_in s.shards) (session_of approves x) s.shard) (ledger.read_only (rules_in s.shards) (session_of approves x) s.shard)) (sym is)
+        ∙ ap (λ ps. table.prepare (seen s) d (key_seen key) ps (ledger.read_only (rules_in s.shards) (session_of approves x) s.shard)) (sym used_up)
+        ∙ ap (table.prepare (seen s) d (key_seen key) (map seen_piece used)) (sym read_only)
 
 pub comes_as : (a b : Stored) (e : table.Effect) (o p : Outcome) → o ≡ p → ComesTo p a b e → ComesTo o a b e
 comes_as a b e o p is h = subst (λ z. ComesTo z a b e) (sym is) h
@@ -119,20 +120,20 @@ skips_both : (rules : ledger.Rules) (shard : ℕ) (t : Table) (x : ledger.Sessio
 skips_both rules shard t x k table.Commit free = by_false _ _ _ free
 skips_both rules shard t x k table.Abort free = by_false _ _ _ free
 
-module _ (s : Stored) (x : Session) (used : List Piece) (used_is : used ≡ used_in s.shards s.shard x) (read : List Piece) (read_is : read ≡ read_in s.shards s.shard x) (d : List ℕ) (is : d ≡ digest_of_session x) (k : Key) (first : option_map name_of (Some k) ≡ ledger.first_key (map seen_piece used)) (approves : Tx → Bool) where
+module _ (s : Stored) (x : Session) (used : List Piece) (used_is : used ≡ used_in s.shards s.shard x) (read : List Piece) (read_is : read ≡ read_in s.shards s.shard x) (d : List ℕ) (is : d ≡ digest_of_session x) (k : Key) (first : option_map key_seen (Some k) ≡ ledger.first_key (map seen_piece used)) (approves : Tx → Bool) where
   abbrev xs : ledger.Session
   xs = session_of approves x
 
   abbrev lock : Bool
-  lock = table.is_locked_by d ((seen s).at (name_of k)).state
+  lock = table.is_locked_by d ((seen s).at (key_seen k)).state
 
-  lock_is : (b : Bool) → lock ≡ b → table.is_locked_by xs.digest ((seen s).at (name_of k)).state ≡ b
-  lock_is b h = ap (λ e. table.is_locked_by e ((seen s).at (name_of k)).state) (sym is) ∙ h
+  lock_is : (b : Bool) → lock ≡ b → table.is_locked_by xs.digest ((seen s).at (key_seen k)).state ≡ b
+  lock_is b h = ap (λ e. table.is_locked_by e ((seen s).at (key_seen k)).state) (sym is) ∙ h
 
   pub decide_skips : (vote : Vote) → lock ≡ false → ComesTo (decided s xs vote) s s table.Skipped
   decide_skips vote free =
       comes_as s s table.Skipped (decided s xs vote) (skips (seen s))
-      (decided_is s x used used_is approves k vote first ∙ skips_both (rules_in s.shards) s.shard (seen s) xs (name_of k) vote (lock_is false free))
+      (decided_is s x used used_is approves k vote first ∙ skips_both (rules_in s.shards) s.shard (seen s) xs (key_seen k) vote (lock_is false free))
       (record { effect_is = refl; table_is = becomes_self s })
 
   pub decide_accepts : (t : Stored) → lock ≡ true → Becomes s t (accepted_with s xs d (map seen_piece used) (map seen_piece read)) → ComesTo (decided s xs table.Commit) s t table.Accepted
@@ -144,13 +145,13 @@ module _ (s : Stored) (x : Session) (used : List Piece) (used_is : used ≡ used
       ∙ ap (λ ps. record { table = accepted_with s xs d (map seen_piece used) ps; effect = table.Accepted }) (sym (read_only s x used used_is approves read read_is)))
       (record { effect_is = refl; table_is = did })
 
-  pub decide_aborts : (t : Stored) → lock ≡ true → Becomes s t (table.with_aborted (seen s) d (name_of k) (map seen_piece used) (map seen_piece read)) → ComesTo (decided s xs table.Abort) s t table.Aborted
+  pub decide_aborts : (t : Stored) → lock ≡ true → Becomes s t (table.with_aborted (seen s) d (key_seen k) (map seen_piece used) (map seen_piece read)) → ComesTo (decided s xs table.Abort) s t table.Aborted
   decide_aborts t held did =
-      comes_as s t table.Aborted (decided s xs table.Abort) (record { table = table.with_aborted (seen s) d (name_of k) (map seen_piece used) (map seen_piece read); effect = table.Aborted })
+      comes_as s t table.Aborted (decided s xs table.Abort) (record { table = table.with_aborted (seen s) d (key_seen k) (map seen_piece used) (map seen_piece read); effect = table.Aborted })
       (decided_is s x used used_is approves k table.Abort first ∙ by_true _ _ _ (lock_is true held)
-      ∙ ap (λ e. record { table = table.with_aborted (seen s) e (name_of k) (ledger.used_up (rules_in s.shards) xs s.shard) (ledger.read_only (rules_in s.shards) xs s.shard); effect = table.Aborted }) (sym is)
-      ∙ ap (λ ps. record { table = table.with_aborted (seen s) d (name_of k) ps (ledger.read_only (rules_in s.shards) xs s.shard); effect = table.Aborted }) (sym (used_up s x used used_is approves))
-      ∙ ap (λ ps. record { table = table.with_aborted (seen s) d (name_of k) (map seen_piece used) ps; effect = table.Aborted }) (sym (read_only s x used used_is approves read read_is)))
+      ∙ ap (λ e. record { table = table.with_aborted (seen s) e (key_seen k) (ledger.used_up (rules_in s.shards) xs s.shard) (ledger.read_only (rules_in s.shards) xs s.shard); effect = table.Aborted }) (sym is)
+      ∙ ap (λ ps. record { table = table.with_aborted (seen s) d (key_seen k) ps (ledger.read_only (rules_in s.shards) xs s.shard); effect = table.Aborted }) (sym (used_up s x used used_is approves))
+      ∙ ap (λ ps. record { table = table.with_aborted (seen s) d (key_seen k) (map seen_piece used) ps; effect = table.Aborted }) (sym (read_only s x used used_is approves read read_is)))
       (record { effect_is = refl; table_is = did })
 
 -- ---- the same of equal arguments
@@ -170,6 +171,6 @@ carried_at s t d used read ps qs is h = subst (λ zs. Becomes s t (accepted d us
 pub at_vote : (s t : Stored) (xs : ledger.Session) (vote other : Vote) (e : table.Effect) → vote ≡ other → ComesTo (decided s xs other) s t e → ComesTo (decided s xs vote) s t e
 at_vote s t xs vote other e is h = subst (λ v. ComesTo (decided s xs v) s t e) (sym is) h
 
-pub still_some : (o : Option Key) → is_some (option_map name_of o) ≡ is_some o
+pub still_some : (o : Option Key) → is_some (option_map key_seen o) ≡ is_some o
 still_some None = refl
 still_some (Some k) = refl

@@ -15,7 +15,8 @@ use Rattle.cs_ledger.specs.Table.{Unknown, Active, Record, Table}
 use Rattle.cs_table.specs.declared.piece.Piece.{Piece}
 use Rattle.cs_table.specs.Seen.{Stored, seen, seen_piece}
 use Rattle.cs_table.specs.Changes.{Becomes, appeared_record, appeared_each}
-use Rattle.cs_table.specs.Pieces.{pieces_in, dummy_object}
+use Rattle.cs_table.specs.Pieces.{pieces_in}
+use Rattle.cs_tx.specs.Dummies.{dummy_object}
 use Rattle.cs_table.specs.Genesis.{with_keyed, keyed_of, genesis_rules, is_dummy_below, with_dummies, empty}
 use Rattle.cs_table.proofs.Rows.{same_table}
 use Rattle.cs_table.proofs.Each.{appears, all_appeared, made_record}

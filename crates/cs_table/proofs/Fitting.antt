@@ -12,7 +12,8 @@ use Rattle.cs_tx_form.specs.Transaction.{Keyed, KeyedFits, TraceFits}
 use Rattle.cs_tx_form.specs.Session.{SessionFits}
 use Rattle.cs_tx.specs.Digest.{digest_of_tx, outputs_at, outputs_from}
 use Rattle.cs_table.specs.declared.piece.Piece.{Piece}
-use Rattle.cs_table.specs.Pieces.{pieces_in, dummies_in, dummy_object, used_in, read_in, made_in}
+use Rattle.cs_table.specs.Pieces.{pieces_in, dummies_in, used_in, read_in, made_in}
+use Rattle.cs_tx.specs.Dummies.{dummy_object}
 
 abbrev pub PieceFits : Piece → Type 0
 PieceFits piece = ObjectFits piece.object

@@ -18,8 +18,10 @@ use Rattle.cs_tx_form.specs.declared.state.State.TheVariants as state
 use Rattle.cs_ledger.specs.Session as ledger
 use Rattle.cs_ledger.proofs.Basics.{key_refl}
 use Rattle.cs_tx_form.specs.declared.record.Record.{Record}
-use Rattle.cs_table.specs.Seen.{Stored, name_of, is_under, row_in, seen_row, seen_state, seen}
-use Rattle.cs_table.specs.Dummies.{first_active, is_active, is_free, has_dummy, IsLeastDummy, Least, NoneActive}
+use Rattle.cs_table.specs.Seen.{Stored, is_under, row_in, seen_row, seen_state, seen}
+use Rattle.cs_tx.specs.Sessions.{key_seen}
+use Rattle.cs_ledger.specs.Table.{is_free, has_active_dummy}
+use Rattle.cs_table.specs.Dummies.{first_active, is_active, IsLeastDummy, Least, NoneActive}
 use Rattle.cs_table.proofs.Rows.{key_cmp, same_key}
 
 abbrev Rows : Type 0
@@ -80,8 +82,8 @@ absent : (k : Key) (name : ledger.Key) → ((y : Key) → key_cmp k y ≡ Less �
 absent k name other [] above = refl
 absent k name other (e ∷ rows) above = rw (other e.0 above.0) (absent k name other rows above.1)
 
-absent_own : (k : Key) (rows : Rows) → AllByRecursion (λ y. key_cmp k y ≡ Less) (keys_of rows) → row_in rows (name_of k) ≡ None
-absent_own k rows above = absent k (name_of k) (λ y less. sym (same_key k y) ∙ ap is_eq less) rows above
+absent_own : (k : Key) (rows : Rows) → AllByRecursion (λ y. key_cmp k y ≡ Less) (keys_of rows) → row_in rows (key_seen k) ≡ None
+absent_own k rows above = absent k (key_seen k) (λ y less. sym (same_key k y) ∙ ap is_eq less) rows above
 
 greater_less : (o : Ordering) → o ≡ Greater → o ≡ Less → ⊥
 greater_less o g l = let q : Greater ≡ Less = sym g ∙ l in cc
@@ -160,7 +162,7 @@ record LeastIn (rows : Rows) (shard : ℕ) (k : Key) : Type 0 where
 module _ (shard : ℕ) (e : Key × Record) (rows : Rows) (above : AllByRecursion (λ y. key_cmp e.0 y ≡ Less) (keys_of rows)) where
   none_own : (serial : ℕ) → e.0 ≡ key.Dummy shard serial → free_in rows shard serial ≡ false
   none_own serial is =
-      ap (λ found. is_free (seen_row found).state) (subst (λ (k : Key). row_in rows (name_of k) ≡ None) is (absent_own e.0 rows above))
+      ap (λ found. is_free (seen_row found).state) (subst (λ (k : Key). row_in rows (key_seen k) ≡ None) is (absent_own e.0 rows above))
 
   -- the first row is it
   least_here : DummyOf shard e.0 → is_active e.1.state ≡ true → LeastIn (e ∷ rows) shard e.0
@@ -245,16 +247,16 @@ module _ (shard : ℕ) where
       ]
 
 -- what a scan of the shard's dummies gives
-pub least_dummy : (s : Stored) → IsStrictlySortedBy key_cmp (keys_of s.rows) → (found : Option Key) → first_active (dummies_among s.shard s.rows) ≡ found → IsLeastDummy s.shard (seen s) (name_of (or_next s.shard s.next found))
+pub least_dummy : (s : Stored) → IsStrictlySortedBy key_cmp (keys_of s.rows) → (found : Option Key) → first_active (dummies_among s.shard s.rows) ≡ found → IsLeastDummy s.shard (seen s) (key_seen (or_next s.shard s.next found))
 least_dummy s sorted None none = NoneActive (none_in s.shard s.rows none)
 least_dummy s sorted (Some k) some =
     let least = least_in s.shard s.rows k sorted some in
-    subst (λ (z : Key). IsLeastDummy s.shard (seen s) (name_of z)) (sym least.is) (Least least.serial least.free least.below)
+    subst (λ (z : Key). IsLeastDummy s.shard (seen s) (key_seen z)) (sym least.is) (Least least.serial least.free least.below)
 
 -- the rows between two keys, where these are the first and the last dummy
 pub scanned : (s : Stored) (shard : ℕ) (rows range : Rows) (low high : Key) (found : Option Key) → shard ≡ s.shard → rows ≡ s.rows → low ≡ key.Dummy shard 0 → high ≡ key.Dummy shard (2 ^ 64 - 1)
     → range ≡ entries_between key_cmp (Included low) (Included high) rows → IsStrictlySortedBy key_cmp (keys_of rows) → found ≡ first_active range
-    → IsLeastDummy s.shard (seen s) (name_of (or_next s.shard s.next found))
+    → IsLeastDummy s.shard (seen s) (key_seen (or_next s.shard s.next found))
 scanned s shard rows range low high found own held first last between sorted scan =
     let ends : entries_between key_cmp (Included low) (Included high) rows ≡ dummies_among shard rows =
     ap (λ (k : Key). entries_between key_cmp (Included k) (Included high) rows) first

@@ -14,7 +14,8 @@ use Rattle.cs_ledger.specs.Session as ledger
 use Rattle.cs_ledger.specs.Table.{Record as Seen, Table}
 use Rattle.cs_ledger.proofs.Basics as basics
 use Rattle.cs_tx_form.specs.declared.record.Record.{Record}
-use Rattle.cs_table.specs.Seen.{Stored, name_of, is_under, row_in, seen_row, unknown_record, seen, RowFits, RowsFit, HoldsFit}
+use Rattle.cs_table.specs.Seen.{Stored, is_under, row_in, seen_row, unknown_record, seen, RowFits, RowsFit, HoldsFit}
+use Rattle.cs_tx.specs.Sessions.{key_seen}
 use Rattle.cs_table.specs.Changes.{changed, Becomes}
 
 abbrev pub key_cmp : Key → Key → Ordering
@@ -24,7 +25,7 @@ abbrev Rows : Type 0
 Rows = List (Key × Record)
 
 -- the order of keys finds the key of a name
-pub same_key : (a b : Key) → is_at (key_cmp a) b ≡ is_under (name_of a) b
+pub same_key : (a b : Key) → is_at (key_cmp a) b ≡ is_under (key_seen a) b
 same_key (key.Object a) (key.Object b) = sym (texts_ties a b)
 same_key (key.Object a) (key.Dummy t m) = refl
 same_key (key.Dummy s n) (key.Object b) = refl
@@ -39,21 +40,21 @@ same_tests false false there back = refl
 key_sym : (a b : ledger.Key) → ledger.key_eq a b ≡ ledger.key_eq b a
 key_sym a b = same_tests _ _ (λ h. subst (λ z. ledger.key_eq z a ≡ true) (basics.same_key a b h) (basics.key_refl a)) (λ h. subst (λ z. ledger.key_eq z b ≡ true) (basics.same_key b a h) (basics.key_refl b))
 
-pub find_row : (rows : Rows) (q : Key) → lookup (is_at (key_cmp q)) rows ≡ row_in rows (name_of q)
+pub find_row : (rows : Rows) (q : Key) → lookup (is_at (key_cmp q)) rows ≡ row_in rows (key_seen q)
 find_row [] q = refl
-find_row (e ∷ rows) q = rw (same_key q e.0) (ap (λ found. cond (is_under (name_of q) e.0) (Some e.1) found) (find_row rows q))
+find_row (e ∷ rows) q = rw (same_key q e.0) (ap (λ found. cond (is_under (key_seen q) e.0) (Some e.1) found) (find_row rows q))
 
 -- a map after a value was put under a key, or taken out
 abbrev pub UpdatesAt : Key → Option Record → Rows → Rows → Type 0
 UpdatesAt k w rows after = (q : Key) → lookup (is_at (key_cmp q)) after ≡ cond (is_at (key_cmp k) q) w (lookup (is_at (key_cmp q)) rows)
 
-at_key : (k : Key) (w : Option Record) (rows after : Rows) → UpdatesAt k w rows after → (q : Key) → row_in after (name_of q) ≡ (if ledger.key_eq (name_of q) (name_of k) then w else row_in rows (name_of q))
+at_key : (k : Key) (w : Option Record) (rows after : Rows) → UpdatesAt k w rows after → (q : Key) → row_in after (key_seen q) ≡ (if ledger.key_eq (key_seen q) (key_seen k) then w else row_in rows (key_seen q))
 at_key k w rows after updates q =
     sym (find_row after q) ∙ updates q
-    ∙ ap (λ test. cond test w (lookup (is_at (key_cmp q)) rows)) (same_key k q ∙ key_sym (name_of k) (name_of q))
-    ∙ ap (λ found. cond (ledger.key_eq (name_of q) (name_of k)) w found) (find_row rows q)
+    ∙ ap (λ test. cond test w (lookup (is_at (key_cmp q)) rows)) (same_key k q ∙ key_sym (key_seen k) (key_seen q))
+    ∙ ap (λ found. cond (ledger.key_eq (key_seen q) (key_seen k)) w found) (find_row rows q)
 
-pub row_after : (k : Key) (w : Option Record) (rows after : Rows) → UpdatesAt k w rows after → (name : ledger.Key) → row_in after name ≡ (if ledger.key_eq name (name_of k) then w else row_in rows name)
+pub row_after : (k : Key) (w : Option Record) (rows after : Rows) → UpdatesAt k w rows after → (name : ledger.Key) → row_in after name ≡ (if ledger.key_eq name (key_seen k) then w else row_in rows name)
 row_after k w rows after updates (ledger.Object d) = at_key k w rows after updates (key.Object d)
 row_after k w rows after updates (ledger.Dummy s n) = at_key k w rows after updates (key.Dummy s n)
 
@@ -65,9 +66,9 @@ if_row : (b : Bool) (w row : Option Record) → seen_row (if b then w else row) 
 if_row true w row = refl
 if_row false w row = refl
 
-pub becomes : (s : Stored) (k : Key) (w : Option Record) (after : Rows) → UpdatesAt k w s.rows after → Becomes s (record { shards = s.shards; shard = s.shard; next = s.next; rows = after }) (changed (λ r. seen_row w) (name_of k) (seen s))
+pub becomes : (s : Stored) (k : Key) (w : Option Record) (after : Rows) → UpdatesAt k w s.rows after → Becomes s (record { shards = s.shards; shard = s.shard; next = s.next; rows = after }) (changed (λ r. seen_row w) (key_seen k) (seen s))
 becomes s k w after updates = record {
-  shows = same_table _ _ s.next (λ name. ap seen_row (row_after k w s.rows after updates name) ∙ if_row (ledger.key_eq name (name_of k)) w (row_in s.rows name));
+  shows = same_table _ _ s.next (λ name. ap seen_row (row_after k w s.rows after updates name) ∙ if_row (ledger.key_eq name (key_seen k)) w (row_in s.rows name));
   shards = refl;
   shard = refl;
 }
@@ -77,7 +78,7 @@ if_fits true w row new old = new
 if_fits false w row new old = old
 
 pub fits_after : (k : Key) (w : Option Record) (rows after : Rows) → UpdatesAt k w rows after → RowFits w → RowsFit rows → RowsFit after
-fits_after k w rows after updates new old name = rw (row_after k w rows after updates name) (if_fits (ledger.key_eq name (name_of k)) w (row_in rows name) new (old name))
+fits_after k w rows after updates new old name = rw (row_after k w rows after updates name) (if_fits (ledger.key_eq name (key_seen k)) w (row_in rows name) new (old name))
 
 -- a record that was taken out, changed and put back
 if_twice : (b : Bool) (r r' s t u : Seen) → (b ≡ true → r ≡ s) → (if b then r else (if b then u else t)) ≡ (if b then s else t)
@@ -111,4 +112,4 @@ gone a b k left = ap (λ t. t.at k) left.shows ∙ unknown_there k (seen a)
 -- what is found fits
 pub found_fits : (rows : Rows) (k : Key) → RowsFit rows → (found : Option (Bor Record)) → option_copied found ≡ lookup (is_at (key_cmp k)) rows → IfSome found (λ row. HoldsFit row.now.state)
 found_fits rows k fits None is = tt
-found_fits rows k fits (Some row) is = subst (λ found. RowFits found) (sym (is ∙ find_row rows k)) (fits (name_of k))
+found_fits rows k fits (Some row) is = subst (λ found. RowFits found) (sym (is ∙ find_row rows k)) (fits (key_seen k))

@@ -4,7 +4,7 @@ use Rattle.cs_base.specs.declared.key.Key.{Key}
 use Rattle.cs_tx_form.specs.declared.state.State.{State}
 use Rattle.cs_tx_form.specs.declared.state.State.TheVariants as state
 use Rattle.cs_ledger.specs.Session as ledger
-use Rattle.cs_ledger.specs.Table.{Active, Table}
+use Rattle.cs_ledger.specs.Table.{Active, Table, has_active_dummy}
 use Rattle.cs_ledger.specs.Table as table
 use Rattle.cs_tx_form.specs.declared.record.Record.{Record}
 
@@ -18,18 +18,10 @@ abbrev pub first_active : List (Key × Record) → Option Key
 first_active [] = None
 first_active (row ∷ rows) = if is_active row.1.state then Some row.0 else first_active rows
 
-abbrev pub is_free : table.State → Bool
-is_free (Active object) = true
-is_free _ = false
-
--- the dummy of this serial is active
-abbrev pub has_dummy : Table → ℕ → ℕ → Bool
-has_dummy t shard serial = is_free (t.at (ledger.Dummy shard serial)).state
-
 -- the active dummy of the least serial, or where none is active the one that is made next
 pub data IsLeastDummy (shard : ℕ) (t : Table) : ledger.Key → Type 0 where
-  Least : (serial : ℕ) → has_dummy t shard serial ≡ true
-      → ((less : ℕ) → less < serial → has_dummy t shard less ≡ false)
+  Least : (serial : ℕ) → has_active_dummy t shard serial ≡ true
+      → ((less : ℕ) → less < serial → has_active_dummy t shard less ≡ false)
       → IsLeastDummy shard t (ledger.Dummy shard serial)
-  NoneActive : ((serial : ℕ) → serial < 2 ^ 64 → has_dummy t shard serial ≡ false)
+  NoneActive : ((serial : ℕ) → serial < 2 ^ 64 → has_active_dummy t shard serial ≡ false)
       → IsLeastDummy shard t (ledger.Dummy shard t.next)

@@ -10,9 +10,9 @@ use Rattle.cs_ledger.specs.Table.{State, Unknown, Table}
 use Rattle.cs_table.specs.declared.piece.Piece.{Piece}
 use Rattle.cs_table.specs.declared.genesis.TableError.{TableError}
 use Rattle.cs_table.specs.declared.genesis.TableError.TheVariants.{Duplicate, Memory}
-use Rattle.cs_table.specs.Seen.{name_of, seen_piece}
+use Rattle.cs_table.specs.Seen.{seen_piece}
 use Rattle.cs_table.specs.Pieces.{rules_in, pieces_in}
-use Rattle.cs_tx.specs.Sessions.{item_of}
+use Rattle.cs_tx.specs.Sessions.{item_of, key_seen}
 use Rattle.cs_table.specs.Changes.{appeared_record}
 
 -- the objects under their names
@@ -36,7 +36,7 @@ genesis_rules config objects = record {
 -- the first key that is one of an earlier piece
 abbrev pub second_of : List ledger.Piece → List Piece → Option Key
 second_of before [] = None
-second_of before (p ∷ ps) = if ledger.has_key (name_of p.key) before then Some p.key else second_of (before ++ seen_piece p ∷ []) ps
+second_of before (p ∷ ps) = if ledger.has_key (key_seen p.key) before then Some p.key else second_of (before ++ seen_piece p ∷ []) ps
 
 -- the first key of the shard that stands twice
 abbrev pub twice : ℕ → ℕ → List (Key × Object) → Option Key

@@ -9,10 +9,7 @@ use Rattle.cs_tx_form.specs.Transaction.{Keyed}
 use Rattle.cs_tx.specs.Uses.{inputs_of, references_of, outputs_of}
 use Rattle.cs_ledger.specs.Session.{Rules}
 use Rattle.cs_table.specs.declared.piece.Piece.{Piece}
-
--- the object that each dummy carries
-abbrev pub dummy_object : Object
-dummy_object = record { contract = replicate 32 0; type_name = codes "dummy"; values = [] }
+use Rattle.cs_tx.specs.Dummies.{dummy_object}
 
 -- the rules of so many shards, as far as an execution goes by them
 abbrev pub rules_in : ℕ → Rules

@@ -12,6 +12,7 @@ use Rattle.cs_ledger.specs.Session as ledger
 use Rattle.cs_ledger.specs.Table as table
 use Rattle.cs_tx_form.specs.declared.record.Record.{Record}
 use Rattle.cs_table.specs.declared.piece.Piece.{Piece}
+use Rattle.cs_tx.specs.Sessions.{key_seen}
 
 abbrev pub vote_of : Vote → table.Vote
 vote_of vote.Commit = table.Commit
@@ -29,12 +30,8 @@ seen_place place = (place.0, vote_of place.1)
 abbrev pub seen_record : Record → table.Record
 seen_record r = record { state = seen_state r.state; book = map seen_place r.book }
 
-abbrev pub name_of : Key → ledger.Key
-name_of (key.Object digest) = ledger.Object digest
-name_of (key.Dummy shard serial) = ledger.Dummy shard serial
-
 abbrev pub seen_piece : Piece → ledger.Piece
-seen_piece p = record { key = name_of p.key; object = object_encoding p.object }
+seen_piece p = record { key = key_seen p.key; object = object_encoding p.object }
 
 -- What a table keeps: its shard among so many, the next serial of a dummy, and the records by rising keys.
 pub record Stored : Type 0 where
@@ -44,7 +41,7 @@ pub record Stored : Type 0 where
   pub rows : List (Key × Record)
 
 abbrev pub is_under : ledger.Key → Key → Bool
-is_under name key = ledger.key_eq name (name_of key)
+is_under name key = ledger.key_eq name (key_seen key)
 
 -- the stored record of a key
 abbrev pub row_in : List (Key × Record) → ledger.Key → Option Record

@@ -2,7 +2,8 @@
 ghost use Rattle.std.specs.Prelude.{◌≡◌, nat_lt, length, OnOk, IfOk, All, map, option_map, Some, None, true};
 ghost use Rattle.cs_tx_value.specs.Object.{ObjectFits};
 ghost use Rattle.cs_ledger.specs.Table.{prepare, with_locks, with_aborted, is_locked_by, has_room as is_fresh, is_ready as is_all_ready, Voted};
-ghost use Rattle.cs_table.specs.Seen.{seen, name_of, vote_of, seen_piece};
+ghost use Rattle.cs_table.specs.Seen.{seen, vote_of, seen_piece};
+ghost use Rattle.cs_tx.specs.Sessions.{key_seen};
 ghost use Rattle.cs_table.specs.Changes.{Becomes};
 ghost use Rattle.cs_table.specs.Effects.{ComesTo, settled_vote, accepted};
 ghost use Rattle.cs_table.specs.Calls.{standing_of};
@@ -23,7 +24,7 @@ const FULL: usize = 1025;
 impl Table {
     /// The vote on a session with this anchor, if it is settled.
     pub(crate) fn settled(&self, session: &Digest, anchor: &Key) -> Option<Vote>
-        ensures { option_map vote_of result ≡ settled_vote ((seen self.now).at (name_of anchor.now)) session.now }
+        ensures { option_map vote_of result ≡ settled_vote ((seen self.now).at (key_seen anchor.now)) session.now }
     {
         match self.record(anchor) {
             Some(row) => verdict::settled(row, session),
@@ -33,7 +34,7 @@ impl Table {
 
     /// Whether the session has this anchor locked.
     pub(crate) fn is_locked(&self, session: &Digest, anchor: &Key) -> bool
-        ensures { result ≡ is_locked_by session.now ((seen self.now).at (name_of anchor.now)).state }
+        ensures { result ≡ is_locked_by session.now ((seen self.now).at (key_seen anchor.now)).state }
     {
         match self.record(anchor) {
             Some(row) => verdict::is_locked_by(row, session),
@@ -42,7 +43,7 @@ impl Table {
     }
 
     pub(crate) fn standing_under(&self, session: &Digest, anchor: &Key) -> Standing
-        ensures { result ≡ standing_of ((seen self.now).at (name_of anchor.now)) session.now }
+        ensures { result ≡ standing_of ((seen self.now).at (key_seen anchor.now)) session.now }
     {
         match self.record(anchor) {
             Some(row) => verdict::standing(row, session),
@@ -51,7 +52,7 @@ impl Table {
     }
 
     pub(crate) fn recorded_under(&self, session: &Digest, anchor: &Key) -> Option<Vote>
-        ensures { option_map vote_of result ≡ recorded ((seen self.now).at (name_of anchor.now)) session.now }
+        ensures { option_map vote_of result ≡ recorded ((seen self.now).at (key_seen anchor.now)) session.now }
     {
         match self.record(anchor) {
             Some(row) => verdict::recorded(row, session),
@@ -60,7 +61,7 @@ impl Table {
     }
 
     fn has_room(&self, anchor: &Key) -> bool
-        ensures { result ≡ is_fresh ((seen self.now).at (name_of anchor.now)).book }
+        ensures { result ≡ is_fresh ((seen self.now).at (key_seen anchor.now)).book }
     {
         match self.record(anchor) {
             Some(row) => verdict::has_room(row),
@@ -70,7 +71,7 @@ impl Table {
 
     /// Whether a vote that is carried out still has a place in the book.
     fn has_place(&self, anchor: &Key) -> bool
-        ensures { result ≡ nat_lt (length ((seen self.now).at (name_of anchor.now)).book) 1025 }
+        ensures { result ≡ nat_lt (length ((seen self.now).at (key_seen anchor.now)).book) 1025 }
     {
         match self.record(anchor) {
             Some(row) => row.book.len() < FULL,
@@ -111,7 +112,7 @@ impl Table {
     ) -> Result<Vote, Memory>
         requires used { All (λ piece. ObjectFits piece.object) used.now }
         requires read { All (λ piece. ObjectFits piece.object) read.now }
-        ensures { IfOk result (λ vote. ComesTo (prepare (seen self.old) session.now (name_of anchor.now) (map seen_piece used.now) (map seen_piece read.now)) self.old self.new (Voted (vote_of vote))) }
+        ensures { IfOk result (λ vote. ComesTo (prepare (seen self.old) session.now (key_seen anchor.now) (map seen_piece used.now) (map seen_piece read.now)) self.old self.new (Voted (vote_of vote))) }
     {
         if let Some(vote) = self.settled(session, anchor) {
             return Ok(vote);
@@ -136,7 +137,7 @@ impl Table {
         used: &[Piece],
         read: &[Piece],
     ) -> Result<(), Memory>
-        ensures { OnOk result (Becomes self.old self.new (with_aborted (seen self.old) session.now (name_of anchor.now) (map seen_piece used.now) (map seen_piece read.now))) }
+        ensures { OnOk result (Becomes self.old self.new (with_aborted (seen self.old) session.now (key_seen anchor.now) (map seen_piece used.now) (map seen_piece read.now))) }
     {
         let has_place = self.has_place(anchor);
         self.change_each(alloc, used, Change::Release)?;

@@ -3,9 +3,11 @@ ghost use Rattle.std.specs.Prelude.{◌≡◌, OnOk, IfOk, All, map, []};
 ghost use Rattle.cs_base.specs.declared.config.Config.{Config};
 ghost use Rattle.cs_tx_value.specs.Object.{ObjectFits, object_encoding};
 ghost use Rattle.cs_ledger.specs.Table.{start};
-ghost use Rattle.cs_table.specs.Seen.{seen, name_of, seen_piece};
+ghost use Rattle.cs_table.specs.Seen.{seen, seen_piece};
+ghost use Rattle.cs_tx.specs.Sessions.{key_seen};
 ghost use Rattle.cs_table.specs.Changes.{Becomes, appeared_each};
-ghost use Rattle.cs_table.specs.Pieces.{pieces_in, dummy_object as the_dummy};
+ghost use Rattle.cs_table.specs.Pieces.{pieces_in};
+ghost use Rattle.cs_tx.specs.Dummies.{dummy_object as the_dummy};
 ghost use Rattle.cs_table.specs.Genesis.{keyed_of, genesis_rules, second_of, twice, is_unknown, Finds, with_dummies, empty};
 
 use crate::piece::Piece;
@@ -78,7 +80,7 @@ impl Table {
 
     /// Whether nothing is known of a key.
     fn is_unknown(&self, key: &Key) -> bool
-        ensures { result ≡ is_unknown ((seen self.now).at (name_of key.now)).state }
+        ensures { result ≡ is_unknown ((seen self.now).at (key_seen key.now)).state }
     {
         match self.record(key) {
             Some(row) => match &row.state {

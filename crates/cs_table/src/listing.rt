@@ -3,7 +3,8 @@ ghost use Rattle.std.specs.Prelude.{◌≡◌};
 ghost use Rattle.std.specs.Map.{keys_of};
 ghost use Rattle.std.specs.List.Sorted.{IsStrictlySortedBy};
 ghost use Rattle.cs_base.specs.declared.key.Key.{Key};
-ghost use Rattle.cs_table.specs.Seen.{seen, name_of};
+ghost use Rattle.cs_table.specs.Seen.{seen};
+ghost use Rattle.cs_tx.specs.Sessions.{key_seen};
 ghost use Rattle.cs_table.specs.Dummies.{IsLeastDummy, is_active, first_active};
 
 use crate::table::Table;
@@ -37,7 +38,7 @@ impl Table {
     /// The active dummy of the least serial, or where none is active the one that is made next.
     /// It looks at the dummies of the shard in rising order up to the one that it gives.
     pub fn least_dummy(&self) -> Key
-        ensures { IsLeastDummy self.now.shard (seen self.now) (name_of result) }
+        ensures { IsLeastDummy self.now.shard (seen self.now) (key_seen result) }
     {
         let shard = self.shard();
         let dummies = Key::Dummy(shard, 0)..=Key::Dummy(shard, u64::MAX);

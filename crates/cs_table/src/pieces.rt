@@ -5,7 +5,8 @@ ghost use Rattle.cs_tx_value.specs.Object.{ObjectFits};
 ghost use Rattle.cs_tx_form.specs.Transaction.{TraceFits};
 ghost use Rattle.cs_tx_form.specs.Session.{SessionFits};
 ghost use Rattle.cs_tx.specs.Digest.{outputs_at, outputs_from};
-ghost use Rattle.cs_table.specs.Pieces.{pieces_in, dummies_in, dummy_object as the_dummy, used_in, read_in, made_in};
+ghost use Rattle.cs_table.specs.Pieces.{pieces_in, dummies_in, used_in, read_in, made_in};
+ghost use Rattle.cs_tx.specs.Dummies.{dummy_object as the_dummy};
 
 use crate::piece::Piece;
 use cs_base::{Config, Key, Memory, Sequence, shard_of};

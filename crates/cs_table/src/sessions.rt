@@ -7,9 +7,9 @@ ghost use Rattle.cs_tx.specs.Digest.{digest_of_session};
 ghost use Rattle.cs_ledger.specs.Ledger.{is_empty};
 ghost use Rattle.cs_ledger.specs.Table.{Voted};
 ghost use Rattle.cs_ledger.specs.Session.{first_key as first_of};
-ghost use Rattle.cs_table.specs.Seen.{seen, name_of, vote_of, seen_piece};
+ghost use Rattle.cs_table.specs.Seen.{seen, vote_of, seen_piece};
 ghost use Rattle.cs_table.specs.Pieces.{dummies_in, used_in, read_in};
-ghost use Rattle.cs_tx.specs.Sessions.{session_of, dummy_name};
+ghost use Rattle.cs_tx.specs.Sessions.{session_of, dummy_name, key_seen};
 ghost use Rattle.cs_table.specs.Effects.{ComesTo, effect_of};
 ghost use Rattle.std.specs.List.{list_any};
 ghost use Rattle.cs_table.specs.Changes.{Becomes, with_next};
@@ -34,7 +34,7 @@ struct Uses {
 }
 
 fn first_key(pieces: &[Piece]) -> Option<Key>
-    ensures { option_map name_of result ≡ first_of (map seen_piece pieces.now) }
+    ensures { option_map key_seen result ≡ first_of (map seen_piece pieces.now) }
 {
     pieces.first().map(|piece| piece.key)
 }

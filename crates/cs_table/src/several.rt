@@ -3,7 +3,8 @@ ghost use Rattle.std.specs.Prelude.{◌≡◌, OnOk, IfOk, map, All, option_map}
 ghost use Rattle.cs_tx_value.specs.Object.{ObjectFits};
 ghost use Rattle.cs_ledger.specs.Session.{has_key as is_named};
 ghost use Rattle.cs_ledger.specs.Table.{all_ready, vote_in};
-ghost use Rattle.cs_table.specs.Seen.{seen, name_of, vote_of, seen_piece, seen_place};
+ghost use Rattle.cs_table.specs.Seen.{seen, vote_of, seen_piece, seen_place};
+ghost use Rattle.cs_tx.specs.Sessions.{key_seen};
 ghost use Rattle.cs_table.specs.Changes.{changed_each, appeared_each, changed_record, Becomes};
 
 use crate::change::Change;
@@ -15,7 +16,7 @@ use std::alloc::Global;
 
 /// Whether a key is that of one of the pieces.
 pub(crate) fn has_key(pieces: &[Piece], key: &Key) -> bool
-    ensures { result ≡ is_named (name_of key.now) (map seen_piece pieces.now) }
+    ensures { result ≡ is_named (key_seen key.now) (map seen_piece pieces.now) }
 {
     for piece in pieces {
         if *key == piece.key {

@@ -2,7 +2,8 @@
 ghost use Rattle.std.specs.Prelude.{◌≡◌, [], ◌+◌, ◌-◌, ◌<◌, ◌^◌, IfSome, OnOk, option_copied, map, All};
 ghost use Rattle.cs_tx_value.specs.Object.{object_encoding, ObjectFits};
 ghost use Rattle.cs_ledger.specs.Table.{is_active_with, all_ready};
-ghost use Rattle.cs_table.specs.Seen.{seen, row_in, name_of, vote_of, seen_piece, seen_record, seen_row, unknown_record, HoldsFit, RowFits};
+ghost use Rattle.cs_table.specs.Seen.{seen, row_in, vote_of, seen_piece, seen_record, seen_row, unknown_record, HoldsFit, RowFits};
+ghost use Rattle.cs_tx.specs.Sessions.{key_seen};
 ghost use Rattle.cs_table.specs.Changes.{with_next, changed, changed_record, appeared_record, noted_record, changed_each, Becomes};
 
 use crate::change::Change;
@@ -88,7 +89,7 @@ impl Table {
 
     /// The record that is stored under a key. A key without one is Unknown, with an empty book.
     pub fn record(&self, key: &Key) -> Option<&Record>
-        ensures row { option_copied result ≡ row_in self.now.rows (name_of key.now) }
+        ensures row { option_copied result ≡ row_in self.now.rows (key_seen key.now) }
         ensures fits { IfSome result (λ row. HoldsFit row.now.state) }
     {
         self.rows.get(key)
@@ -97,7 +98,7 @@ impl Table {
     /// Whether exactly this object is active under its key.
     pub(crate) fn has_active(&self, piece: &Piece) -> bool
         requires { ObjectFits piece.now.object }
-        ensures { result ≡ is_active_with (object_encoding piece.now.object) ((seen self.now).at (name_of piece.now.key)).state }
+        ensures { result ≡ is_active_with (object_encoding piece.now.object) ((seen self.now).at (key_seen piece.now.key)).state }
     {
         match self.record(&piece.key) {
             Some(row) => match &row.state {
@@ -110,9 +111,9 @@ impl Table {
 
     /// Takes the record of a key out.
     fn take(&mut self, alloc: Global, key: &Key) -> Record
-        ensures row { seen_record result ≡ (seen self.old).at (name_of key.now) }
+        ensures row { seen_record result ≡ (seen self.old).at (key_seen key.now) }
         ensures fits { HoldsFit result.state }
-        ensures left { Becomes self.old self.new (changed (λ r. unknown_record) (name_of key.now) (seen self.old)) }
+        ensures left { Becomes self.old self.new (changed (λ r. unknown_record) (key_seen key.now) (seen self.old)) }
     {
         let row = self.rows.remove(key);
         row_or_unknown(alloc, row)
@@ -120,9 +121,9 @@ impl Table {
 
     /// Puts the record of a key. One of which nothing is known is not stored.
     fn put(&mut self, key: Key, row: Record) -> Result<(), Memory>
-        requires gone { (seen self.old).at (name_of key) ≡ unknown_record }
+        requires gone { (seen self.old).at (key_seen key) ≡ unknown_record }
         requires fits { HoldsFit row.state }
-        ensures { OnOk result (Becomes self.old self.new (changed (λ r. seen_record row) (name_of key) (seen self.old))) }
+        ensures { OnOk result (Becomes self.old self.new (changed (λ r. seen_record row) (key_seen key) (seen self.old))) }
     {
         if record::is_unknown(&row) {
             return Ok(());
@@ -135,7 +136,7 @@ impl Table {
 
     /// Changes the state of a key.
     pub(crate) fn change(&mut self, alloc: Global, key: &Key, change: Change) -> Result<(), Memory>
-        ensures { OnOk result (Becomes self.old self.new (changed (changed_record change) (name_of key.now) (seen self.old))) }
+        ensures { OnOk result (Becomes self.old self.new (changed (changed_record change) (key_seen key.now) (seen self.old))) }
     {
         let mut row = self.take(alloc, key);
         record::change(&mut row, change);
@@ -146,7 +147,7 @@ impl Table {
     /// Makes an object active under a key of which nothing is known.
     pub(crate) fn appear(&mut self, alloc: Global, key: &Key, object: Object) -> Result<(), Memory>
         requires { ObjectFits object }
-        ensures { OnOk result (Becomes self.old self.new (changed (appeared_record (object_encoding object)) (name_of key.now) (seen self.old))) }
+        ensures { OnOk result (Becomes self.old self.new (changed (appeared_record (object_encoding object)) (key_seen key.now) (seen self.old))) }
     {
         let mut row = self.take(alloc, key);
         record::appear(&mut row, object);
@@ -162,7 +163,7 @@ impl Table {
         session: Digest,
         vote: Vote,
     ) -> Result<(), Memory>
-        ensures { OnOk result (Becomes self.old self.new (changed (noted_record session (vote_of vote)) (name_of key.now) (seen self.old))) }
+        ensures { OnOk result (Becomes self.old self.new (changed (noted_record session (vote_of vote)) (key_seen key.now) (seen self.old))) }
     {
         let mut row = self.take(alloc, key);
         record::note(&mut row, session, vote)?;

@@ -2,7 +2,7 @@
 use crate::plain_pool::{Due, PlainPool, is_concerned};
 use cs_base::{Config, Memory, NodeId, Sequence};
 use cs_node_pool::Pool;
-use cs_node_rules::{Ballot, Pooled};
+use cs_node_state::{Ballot, Pooled};
 use cs_test_draws::Draws;
 use cs_tx::{Digest, Encoded, Entry, Name, Object, Session, Trace, Tx, Vote};
 use std::alloc::Global;

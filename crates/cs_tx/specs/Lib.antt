@@ -3,3 +3,4 @@ pub mod Uses
 pub mod WellFormed
 pub mod Token
 pub mod Sessions
+pub mod Dummies

@@ -2,7 +2,7 @@
 use Rattle.std.proofs.Common.{◌≡◌, ℕ, zero, suc, ◌*◌, ◌≤◌, ◌<◌, ◌^◌, ◌++◌, List, [], ◌∷◌, length, Some, refl, arith}
 use Rattle.std.specs.Int.{w16, w64, to_be_bytes}
 use Rattle.std.proofs.lemmas.List.{length-append}
-use Rattle.cs_base.specs.Fields.{IsBytes, IsForm, counted, each, Takes, pair_at, bytes_at}
+use Rattle.cs_base.specs.Fields.{IsBytes, IsForm, counted, each, Splits, pair_at, bytes_at}
 use Rattle.cs_base.proofs.Forms.{wide16, wide64, number_form, byte_form, bytes_form, pair_of, counted_of, some_of, within_of, mapped_of, weaker_form}
 use Rattle.cs_tx_value.specs.Encoding.{value_encoding, ValueFits, AtMost}
 use Rattle.cs_tx_value.specs.Kinds.{kinds_form, takes_part, part_kinded, takes_bare, bare_kinded, Kinded}
@@ -69,7 +69,7 @@ session_form = mapped_of (pair_of tx_form (pair_of (number_form w64 (2 ^ 64) wid
 
 -- ---- votes and entries
 
-vote_takes : (kind : ℕ) (bytes : List ℕ) (v : Vote) (rest : List ℕ) → IsBytes bytes → vote_kind_at kind bytes ≡ Some (v, rest) → Takes (kind ∷ bytes) (vote_encoding v) rest × Unit {0}
+vote_takes : (kind : ℕ) (bytes : List ℕ) (v : Vote) (rest : List ℕ) → IsBytes bytes → vote_kind_at kind bytes ≡ Some (v, rest) → Splits (kind ∷ bytes) (vote_encoding v) rest × Unit {0}
 vote_takes zero bytes v rest fits e = takes_bare vote_encoding (λ _. Unit {0}) vote_kind_at vote.Abort 0 refl tt bytes v rest fits e
 vote_takes (suc zero) bytes v rest fits e = takes_bare vote_encoding (λ _. Unit {0}) vote_kind_at vote.Commit 1 refl tt bytes v rest fits e
 vote_takes (suc (suc kind)) bytes v rest fits e = absurd cc
@@ -84,7 +84,7 @@ vote_form = kinds_form vote_encoding (λ _. Unit {0}) vote_kind_at vote_takes vo
 decided_form : IsForm (λ p. vote_encoding p.0 ++ session_encoding p.1) (λ p. Unit {0} × SessionFits p.1) (pair_at vote_at session_at)
 decided_form = pair_of vote_form session_form
 
-entry_takes : (kind : ℕ) (bytes : List ℕ) (e : Entry) (rest : List ℕ) → IsBytes bytes → entry_kind_at kind bytes ≡ Some (e, rest) → Takes (kind ∷ bytes) (entry_encoding e) rest × EntryFits e
+entry_takes : (kind : ℕ) (bytes : List ℕ) (e : Entry) (rest : List ℕ) → IsBytes bytes → entry_kind_at kind bytes ≡ Some (e, rest) → Splits (kind ∷ bytes) (entry_encoding e) rest × EntryFits e
 entry_takes zero bytes e rest fits is = takes_part entry_encoding EntryFits entry_kind_at session_form entry.Prepare 0 (λ x. refl) (λ x h. h) bytes e rest fits is
 entry_takes (suc zero) bytes e rest fits is = takes_part entry_encoding EntryFits entry_kind_at decided_form decided 1 (λ p. refl) (λ p h. h.1) bytes e rest fits is
 entry_takes (suc (suc kind)) bytes e rest fits is = absurd cc
@@ -101,7 +101,7 @@ entry_form = kinds_form entry_encoding EntryFits entry_kind_at entry_takes entry
 locked_form : IsForm (λ p. object_encoding p.0 ++ p.1) (λ p. ObjectFits p.0 × DigestFits p.1) (pair_at object_at (bytes_at 32))
 locked_form = pair_of object_form (bytes_form 32)
 
-state_takes : (kind : ℕ) (bytes : List ℕ) (s : State) (rest : List ℕ) → IsBytes bytes → state_kind_at kind bytes ≡ Some (s, rest) → Takes (kind ∷ bytes) (state_encoding s) rest × StateFits s
+state_takes : (kind : ℕ) (bytes : List ℕ) (s : State) (rest : List ℕ) → IsBytes bytes → state_kind_at kind bytes ≡ Some (s, rest) → Splits (kind ∷ bytes) (state_encoding s) rest × StateFits s
 state_takes zero bytes s rest fits is = takes_bare state_encoding StateFits state_kind_at state.Unknown 0 refl tt bytes s rest fits is
 state_takes (suc zero) bytes s rest fits is = takes_part state_encoding StateFits state_kind_at object_form state.Active 1 (λ o. refl) (λ o h. h) bytes s rest fits is
 state_takes (suc (suc zero)) bytes s rest fits is = takes_part state_encoding StateFits state_kind_at locked_form locked 2 (λ p. refl) (λ p h. h) bytes s rest fits is

@@ -4,7 +4,7 @@ use Rattle.std.specs.Prelude.{nat_le}
 use Rattle.std.specs.Int.{w16, w64, to_be_bytes}
 use Rattle.std.proofs.lemmas.Bool.{leb-true, le-leb}
 use Rattle.std.proofs.lemmas.List.{length-append}
-use Rattle.cs_base.specs.Fields.{IsBytes, IsForm, Takes}
+use Rattle.cs_base.specs.Fields.{IsBytes, IsForm, Splits}
 use Rattle.cs_base.proofs.Forms.{wide16, wide64, number_form, byte_form, bytes_form, pair_of, counted_of, tested_of, mapped_of, weaker_form}
 use Rattle.cs_tx_value.specs.Kinds.{kinds_form, takes_bare, bare_kinded, Kinded}
 use Rattle.cs_tx_form.specs.declared.vote.Vote.TheVariants as vote
@@ -22,7 +22,7 @@ use Rattle.cs_tx_form.specs.Log.{effect_encoding, effect_kind_at, effect_at, lea
 abbrev Any : Effect → Type 0
 Any effect = Unit {0}
 
-effect_takes : (kind : ℕ) (bytes : List ℕ) (e : Effect) (rest : List ℕ) → IsBytes bytes → effect_kind_at kind bytes ≡ Some (e, rest) → Takes (kind ∷ bytes) (effect_encoding e) rest × Any e
+effect_takes : (kind : ℕ) (bytes : List ℕ) (e : Effect) (rest : List ℕ) → IsBytes bytes → effect_kind_at kind bytes ≡ Some (e, rest) → Splits (kind ∷ bytes) (effect_encoding e) rest × Any e
 effect_takes zero bytes e rest fits is = takes_bare effect_encoding Any effect_kind_at (Voted vote.Abort) 0 refl tt bytes e rest fits is
 effect_takes (suc zero) bytes e rest fits is = takes_bare effect_encoding Any effect_kind_at (Voted vote.Commit) 1 refl tt bytes e rest fits is
 effect_takes (suc (suc zero)) bytes e rest fits is = takes_bare effect_encoding Any effect_kind_at Accepted 2 refl tt bytes e rest fits is

@@ -4,7 +4,7 @@ use Rattle.std.specs.Prelude.{if◌then◌else◌, ◌==◌}
 use Rattle.std.specs.Int.{w32, to_be_bytes}
 use Rattle.std.proofs.lemmas.Bool.{eqb-true, eq-eqb}
 use Rattle.std.proofs.lemmas.List.{length-append}
-use Rattle.cs_base.specs.Fields.{Found, ◌>>=◌, number_at, Takes, IsForm}
+use Rattle.cs_base.specs.Fields.{Found, ◌>>=◌, number_at, Splits, IsForm}
 use Rattle.cs_base.proofs.Forms.{wide32, number_form, bind_some, when_some, some_is, Takes-then}
 
 -- the length of the encoding, and the encoding
@@ -36,8 +36,8 @@ sized_of {X} {write = write} {Fits = Fits} {read = read} form small = record {
       let whole : length a.0.1 ≡ length (write b.0.0) + length b.0.1 = ap (λ (r : List ℕ). length r) second.0.parts ∙ length-append (write b.0.0) b.0.1 in
       let is : a.0.0 ≡ length (write b.0.0) = omega (arith, just, whole) in
       let both = Takes-then bytes (to_be_bytes w32 a.0.0) a.0.1 (write b.0.0) b.0.1 first.0 second.0 in
-      subst (λ (p : X × List ℕ). Takes bytes (sized write p.0) p.1 × Fits p.0) (some_is b.0 (x, rest) g.1)
-      (subst (λ (n : ℕ). Takes bytes (to_be_bytes w32 n ++ write b.0.0) b.0.1) is both, second.1);
+      subst (λ (p : X × List ℕ). Splits bytes (sized write p.0) p.1 × Fits p.0) (some_is b.0 (x, rest) g.1)
+      (subst (λ (n : ℕ). Splits bytes (to_be_bytes w32 n ++ write b.0.0) b.0.1) is both, second.1);
   again = λ x rest fits.
       let regrouped : sized write x ++ rest ≡ to_be_bytes w32 (length (write x)) ++ (write x ++ rest) = append_assoc (to_be_bytes w32 (length (write x))) (write x) rest in
       let just : length (write x ++ rest) - length rest ≡ length (write x) = omega (arith, length-append (write x) rest) in

@@ -1,7 +1,7 @@
 //! The books of records, behind a count in two bytes.
 ghost use Rattle.std.specs.Prelude.{◌≡◌, ◌++◌, ◌↔◌, IsTrue, OnOk, OnErr};
 ghost use Rattle.cs_tx_value.specs.Encoding.{AtMost};
-ghost use Rattle.cs_tx_value.specs.Reading.{Gives, Passes, Begins, LeavesRoom};
+ghost use Rattle.cs_tx_value.specs.Reading.{ReadsValue, Passes, Begins, LeavesRoom};
 ghost use Rattle.cs_tx_form.specs.Record.{PlaceFits, book_encoding, book_at};
 
 use crate::vote::Vote;
@@ -18,7 +18,7 @@ pub fn read_book(
     alloc: Global,
     cursor: &mut Cursor<'_>,
 ) -> Result<Sequence<(Digest, Vote)>, FormError>
-    ensures { Gives result cursor.new (book_at cursor.old) }
+    ensures { ReadsValue result cursor.new (book_at cursor.old) }
 {
     let count = cursor.u16()?;
     if count > MOST_PLACES {

@@ -1,6 +1,6 @@
 //! Proofs that an entry stands in a shard's log.
 ghost use Rattle.std.specs.Prelude.{◌≡◌};
-ghost use Rattle.cs_tx_value.specs.Reading.{Gives, Passes};
+ghost use Rattle.cs_tx_value.specs.Reading.{ReadsValue, Passes};
 ghost use Rattle.cs_tx_form.specs.Log.{index_at, low_leaf_at, covered_at};
 
 use crate::checkpoint::Checkpoint;
@@ -29,7 +29,7 @@ pub struct Proof {
 
 #[tactic(auto, unfolding(cs_base::specs::Fields::tested_at))]
 fn read_index(cursor: &mut Cursor<'_>) -> Result<u8, FormError>
-    ensures { Gives result cursor.new (index_at cursor.old) }
+    ensures { ReadsValue result cursor.new (index_at cursor.old) }
 {
     let index = cursor.u8()?;
     if index > 15 {
@@ -51,7 +51,7 @@ fn skip_index(cursor: &mut Cursor<'_>) -> Result<(), FormError>
 // A leaf behind its length, whose slot is below 2^62.
 #[tactic(auto, unfolding(crate::specs::Log::low_leaf_at, crate::specs::Sized::sized_at, cs_base::specs::Fields::pair_at))]
 fn read_covered(alloc: Global, cursor: &mut Cursor<'_>) -> Result<Leaf, FormError>
-    ensures { Gives result cursor.new (covered_at cursor.old) }
+    ensures { ReadsValue result cursor.new (covered_at cursor.old) }
 {
     let size = cursor.u32()?;
     let before = cursor.len();

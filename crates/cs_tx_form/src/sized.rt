@@ -1,6 +1,6 @@
 //! Values behind their length in four bytes.
 ghost use Rattle.std.specs.Prelude.{◌≡◌, ◌<◌, ◌^◌, ◌++◌, length, OnOk, OnErr};
-ghost use Rattle.cs_tx_value.specs.Reading.{Gives, Passes, Begins, LeavesRoom};
+ghost use Rattle.cs_tx_value.specs.Reading.{ReadsValue, Passes, Begins, LeavesRoom};
 ghost use Rattle.cs_tx_form.specs.Sized.{sized, sized_at};
 
 use cs_base::{Cursor, Memory, Writer};
@@ -13,7 +13,7 @@ const LONGEST: usize = 4294967295;
 /// A length, and a value of just so many bytes.
 #[tactic(auto, unfolding(crate::specs::Sized::sized_at))]
 pub fn read_sized<T: Encoded>(alloc: Global, cursor: &mut Cursor<'_>) -> Result<T, FormError>
-    ensures { Gives result cursor.new (sized_at T.found_at cursor.old) }
+    ensures { ReadsValue result cursor.new (sized_at T.found_at cursor.old) }
 {
     let size = cursor.u32()?;
     let before = cursor.len();

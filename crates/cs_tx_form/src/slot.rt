@@ -1,6 +1,6 @@
 //! The slots of a shard's order.
 ghost use Rattle.std.specs.Prelude.{◌≡◌};
-ghost use Rattle.cs_tx_value.specs.Reading.{Gives, Passes};
+ghost use Rattle.cs_tx_value.specs.Reading.{ReadsValue, Passes};
 ghost use Rattle.cs_tx_form.specs.Log.{slot_at};
 
 use cs_base::Cursor;
@@ -12,7 +12,7 @@ pub const LAST_SLOT: u64 = 4611686018427387903;
 /// The slot at the cursor.
 #[tactic(auto, unfolding(cs_base::specs::Fields::tested_at))]
 pub fn read_slot(cursor: &mut Cursor<'_>) -> Result<u64, FormError>
-    ensures { Gives result cursor.new (slot_at cursor.old) }
+    ensures { ReadsValue result cursor.new (slot_at cursor.old) }
 {
     let slot = cursor.u64()?;
     if slot > LAST_SLOT {

@@ -6,7 +6,7 @@ use Rattle.cs_base.proofs.Many.{behind_some}
 use Rattle.cs_base.proofs.Forms.{whole-takes, whole-again, some_is}
 use Rattle.cs_tx_value.specs.declared.form.FormError.{FormError}
 use Rattle.cs_tx_value.specs.declared.form.FormError.TheVariants as errors
-use Rattle.cs_tx_value.specs.Reading.{GivesAll, PassesAll, Answers}
+use Rattle.cs_tx_value.specs.Reading.{GivesAll, PassesAll, AnswersValue}
 
 whole_of : {X : Type 0} (read : List ℕ → Found X) (bytes rest : List ℕ) (x : X) → read bytes ≡ Some (x, rest) → length rest ≡ 0 → whole_at read bytes ≡ Some x
 whole_of read bytes rest x found none = rw (found, none) refl
@@ -25,7 +25,7 @@ module _ {X : Type 0} (write : X → List ℕ) (Fits : X → Type 0) (read : Lis
   again_from : (v : X) → Fits v → bytes ≡ write v → whole_at read bytes ≡ Some v
   again_from v fits e = ap (whole_at read) e ∙ whole-again write Fits read form v fits
 
-  pub is_only : (r : Result X FormError) → GivesAll r (whole_at read bytes) → (v : X) → Fits v → bytes ≡ write v → Answers r v
+  pub is_only : (r : Result X FormError) → GivesAll r (whole_at read bytes) → (v : X) → Fits v → bytes ≡ write v → AnswersValue r v
   is_only (Ok x) given v fits e = some_is x v (sym given ∙ again_from v fits e)
   is_only (Err errors.Memory) given v fits e = refl
   is_only (Err errors.BadForm) given v fits e = let h = again_from v fits e in absurd cc

@@ -1,7 +1,7 @@
 -- Types of several kinds: a byte says the kind, and then what this kind holds stands.
 use Rattle.std.proofs.Common.{◌≡◌, ℕ, ◌<◌, ◌++◌, List, [], ◌∷◌, Some, refl, ap, subst, ◌∙◌}
 use Rattle.std.specs.Int.{w8}
-use Rattle.cs_base.specs.Fields.{IsBytes, Found, ◌>>=◌, ◌<$>◌, number_at, Takes, IsForm}
+use Rattle.cs_base.specs.Fields.{IsBytes, Found, ◌>>=◌, ◌<$>◌, number_at, Splits, IsForm}
 use Rattle.cs_base.proofs.Forms.{byte_form, bind_some, map_some, some_is}
 
 -- the kind, and what stands behind it
@@ -20,7 +20,7 @@ pub record Kinded {X : Type 0} (write : X → List ℕ) (kind_at : ℕ → List 
 
 module _ {X : Type 0} (write : X → List ℕ) (Fits : X → Type 0) (kind_at : ℕ → List ℕ → Found X) where
   -- The form, from what each kind takes and what each value spells.
-  pub kinds_form : ((kind : ℕ) (bytes : List ℕ) (x : X) (rest : List ℕ) → IsBytes bytes → kind_at kind bytes ≡ Some (x, rest) → Takes (kind ∷ bytes) (write x) rest × Fits x)
+  pub kinds_form : ((kind : ℕ) (bytes : List ℕ) (x : X) (rest : List ℕ) → IsBytes bytes → kind_at kind bytes ≡ Some (x, rest) → Splits (kind ∷ bytes) (write x) rest × Fits x)
       → ((x : X) (rest : List ℕ) → Fits x → Kinded write kind_at x rest) → IsForm write Fits (kinds_at kind_at)
   unfolding kinds_at
   kinds_form takes again = record {
@@ -39,11 +39,11 @@ module _ {X : Type 0} (write : X → List ℕ) (Fits : X → Type 0) (kind_at : 
   -- a kind that holds a part
   pub takes_part : {P : Type 0} {part : P → List ℕ} {PartFits : P → Type 0} {part_at : List ℕ → Found P} → IsForm part PartFits part_at → (make : P → X) (kind : ℕ)
       → ((p : P) → write (make p) ≡ kind ∷ part p) → ((p : P) → PartFits p → Fits (make p))
-      → (bytes : List ℕ) (x : X) (rest : List ℕ) → IsBytes bytes → (make <$> part_at bytes) ≡ Some (x, rest) → Takes (kind ∷ bytes) (write x) rest × Fits x
+      → (bytes : List ℕ) (x : X) (rest : List ℕ) → IsBytes bytes → (make <$> part_at bytes) ≡ Some (x, rest) → Splits (kind ∷ bytes) (write x) rest × Fits x
   takes_part {P} {part = part} {PartFits = PartFits} {part_at = part_at} form make kind spelled fit bytes x rest fits e =
       let a = map_some make (part_at bytes) (x, rest) e in
       let t = form.takes bytes a.0.0 a.0.1 fits a.1 in
-      subst (λ (found : X × List ℕ). Takes (kind ∷ bytes) (write found.0) found.1 × Fits found.0) a.2
+      subst (λ (found : X × List ℕ). Splits (kind ∷ bytes) (write found.0) found.1 × Fits found.0) a.2
       (rw (spelled a.0.0) (record { parts = ap (λ (r : List ℕ). kind ∷ r) t.0.parts; rest_fits = t.0.rest_fits }), fit a.0.0 t.1)
 
   pub part_kinded : {P : Type 0} {part : P → List ℕ} {PartFits : P → Type 0} {part_at : List ℕ → Found P} → IsForm part PartFits part_at → (make : P → X) (kind : ℕ) → kind < 256
@@ -59,10 +59,10 @@ module _ {X : Type 0} (write : X → List ℕ) (Fits : X → Type 0) (kind_at : 
 
   -- a kind that holds nothing
   pub takes_bare : (bare : X) (kind : ℕ) → write bare ≡ kind ∷ [] → Fits bare
-      → (bytes : List ℕ) (x : X) (rest : List ℕ) → IsBytes bytes → ◌≡◌ {A = Found X} (Some (bare, bytes)) (Some (x, rest)) → Takes (kind ∷ bytes) (write x) rest × Fits x
+      → (bytes : List ℕ) (x : X) (rest : List ℕ) → IsBytes bytes → ◌≡◌ {A = Found X} (Some (bare, bytes)) (Some (x, rest)) → Splits (kind ∷ bytes) (write x) rest × Fits x
   takes_bare bare kind spelled fit bytes x rest fits e =
       let both : ◌≡◌ {A = X × List ℕ} (bare, bytes) (x, rest) = some_is (bare, bytes) (x, rest) e in
-      subst (λ (found : X × List ℕ). Takes (kind ∷ bytes) (write found.0) found.1 × Fits found.0) both
+      subst (λ (found : X × List ℕ). Splits (kind ∷ bytes) (write found.0) found.1 × Fits found.0) both
       (rw spelled (record { parts = refl; rest_fits = fits }), fit)
 
   pub bare_kinded : (bare : X) (kind : ℕ) → kind < 256 → write bare ≡ kind ∷ [] → ((bytes : List ℕ) → kind_at kind bytes ≡ Some (bare, bytes))

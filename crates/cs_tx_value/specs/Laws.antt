@@ -5,7 +5,7 @@ use Rattle.std.specs.Prelude.{if◌then◌else◌, nat_le}
 use Rattle.std.specs.List.{AllByRecursion}
 use Rattle.std.specs.Int.{w8, w16, w64, to_be_bytes, cast_unsigned, cast_signed}
 use Rattle.std.specs.Int.RustNames.{FitsSigned}
-use Rattle.cs_base.specs.Fields.{IsBytes, each, counted, Found, ◌>>=◌, ◌<$>◌, number_at, bytes_at, tested_at, many_at, counted_at, Takes, IsForm}
+use Rattle.cs_base.specs.Fields.{IsBytes, each, counted, Found, ◌>>=◌, ◌<$>◌, number_at, bytes_at, tested_at, many_at, counted_at, Splits, IsForm}
 use Rattle.cs_base.proofs.Forms.{wide16, wide64, number_form, byte_form, bytes_form, tested_form, mapped_form, many_form, upto_form, bind_some, map_some}
 use Rattle.cs_tx_value.specs.Encoding.{value_encoding, LayerFits, ValueFitsIn}
 use Rattle.cs_tx_value.specs.Reading.{int_at, bool_at, text_at, kind_at, value_at}
@@ -60,14 +60,14 @@ module _ (ItemsFit : List Value → Type 0) (list_at : List ℕ → Found (List 
   -- the payload of one kind, as a value of that kind
   made : {X : Type 0} (write : X → List ℕ) (FitsX : X → Type 0) (read : List ℕ → Found X) (form : IsForm write FitsX read) (make : X → Value) (kind : ℕ)
       → ((x : X) → value_encoding (make x) ≡ kind ∷ write x) → ((x : X) → FitsX x → Fits (make x))
-      → (bytes : List ℕ) (v : Value) (rest : List ℕ) → IsBytes bytes → (make <$> read bytes) ≡ Some (v, rest) → Takes (kind ∷ bytes) (value_encoding v) rest × Fits v
+      → (bytes : List ℕ) (v : Value) (rest : List ℕ) → IsBytes bytes → (make <$> read bytes) ≡ Some (v, rest) → Splits (kind ∷ bytes) (value_encoding v) rest × Fits v
   made write FitsX read form make kind encoding fit bytes v rest fits e =
       let a = map_some make (read bytes) (v, rest) e in
       let t = form.takes bytes a.0.0 a.0.1 fits a.1 in
-      subst (λ (p : Value × List ℕ). Takes (kind ∷ bytes) (value_encoding p.0) p.1 × Fits p.0) a.2
+      subst (λ (p : Value × List ℕ). Splits (kind ∷ bytes) (value_encoding p.0) p.1 × Fits p.0) a.2
       (rw (encoding a.0.0) (record { parts = ap (λ (r : List ℕ). kind ∷ r) t.0.parts; rest_fits = t.0.rest_fits }), fit a.0.0 t.1)
 
-  kind-takes : (kind : ℕ) (bytes : List ℕ) (v : Value) (rest : List ℕ) → IsBytes bytes → kind_at list_at kind bytes ≡ Some (v, rest) → Takes (kind ∷ bytes) (value_encoding v) rest × Fits v
+  kind-takes : (kind : ℕ) (bytes : List ℕ) (v : Value) (rest : List ℕ) → IsBytes bytes → kind_at list_at kind bytes ≡ Some (v, rest) → Splits (kind ∷ bytes) (value_encoding v) rest × Fits v
   kind-takes zero bytes v rest fits e = made _ (FitsSigned w64) int_at int_form value.Int 0 encoding_int (λ x f. rw (out-Int x) f) bytes v rest fits e
   kind-takes (suc zero) bytes v rest fits e = made _ (λ b. Unit {0}) bool_at bool_form value.Bool 1 encoding_bool (λ x f. rw (out-Bool x) f) bytes v rest fits e
   kind-takes (suc (suc zero)) bytes v rest fits e = made _ (λ text. (length text ≤ 256) × IsBytes text) text_at text_form value.Bytes 2 encoding_bytes (λ x f. rw (out-Bytes x) f) bytes v rest fits e

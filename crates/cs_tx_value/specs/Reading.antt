@@ -39,9 +39,9 @@ Misses errors.Memory found = Unit {0}
 Misses errors.BadForm found = found ≡ None
 Misses errors.TooLong found = ⊥
 
-abbrev pub Gives : {X : Type 0} → Result X FormError → List ℕ → Found X → Type 0
-Gives (Ok x) rest found = found ≡ Some (x, rest)
-Gives (Err e) rest found = Misses e found
+abbrev pub ReadsValue : {X : Type 0} → Result X FormError → List ℕ → Found X → Type 0
+ReadsValue (Ok x) rest found = found ≡ Some (x, rest)
+ReadsValue (Err e) rest found = Misses e found
 
 -- The same for a call that makes no value and takes no memory.
 abbrev pub Passes : {X : Type 0} → Result Unit FormError → List ℕ → Found X → Type 0
@@ -63,9 +63,9 @@ pub record Begins (new old : List ℕ) : Type 0 where
   pub is : new ≡ old ++ more
 
 -- this value was answered, unless memory ran out
-abbrev pub Answers : {X : Type 0} → Result X FormError → X → Type 0
-Answers (Ok x) value = x ≡ value
-Answers (Err e) value = e ≡ errors.Memory
+abbrev pub AnswersValue : {X : Type 0} → Result X FormError → X → Type 0
+AnswersValue (Ok x) value = x ≡ value
+AnswersValue (Err e) value = e ≡ errors.Memory
 
 -- so much of the room is left behind the text, or the text is longer than the room
 abbrev pub LeavesRoom : List ℕ → ℕ → Option ℕ → Type 0

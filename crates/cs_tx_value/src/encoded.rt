@@ -1,7 +1,7 @@
 //! The types that have an encoding.
 ghost use Rattle.std.specs.Prelude.{◌≡◌, ◌++◌, ◌<◌, ◌≤◌, ◌^◌, ℕ, List, length, ◌↔◌, IsTrue, IfOk, IsOk, OnOk, OnErr, IsErrOf};
 ghost use Rattle.cs_base.specs.Fields.{Found, IsForm, whole_at};
-ghost use Rattle.cs_tx_value.specs.Reading.{Gives, GivesAll, Passes, PassesAll, Begins, Answers, LeavesRoom};
+ghost use Rattle.cs_tx_value.specs.Reading.{ReadsValue, GivesAll, Passes, PassesAll, Begins, AnswersValue, LeavesRoom};
 ghost use Rattle.cs_tx_value.specs.declared.form.FormError.TheVariants.{TooLong, Memory as NoMemory};
 
 use crate::form::FormError;
@@ -26,7 +26,7 @@ pub trait Encoded: Sized + Drop {
 
     /// Reads a value at the cursor.
     fn read(alloc: Global, cursor: &mut Cursor<'_>) -> Result<Self, FormError>
-        ensures { Gives result cursor.new (found_at cursor.old) };
+        ensures { ReadsValue result cursor.new (found_at cursor.old) };
 
     /// Passes over a value at the cursor.
     fn skip(cursor: &mut Cursor<'_>) -> Result<(), FormError>
@@ -59,7 +59,7 @@ pub trait Encoded: Sized + Drop {
         // What is answered has this encoding.
         ensures found { IfOk result (λ value. Self.Fits value × (bytes.now ≡ Self.encoding value)) }
         // What the bytes encode is answered, unless memory ran out.
-        ensures only { (value : Self) → Self.Fits value → bytes.now ≡ Self.encoding value → Answers result value }
+        ensures only { (value : Self) → Self.Fits value → bytes.now ≡ Self.encoding value → AnswersValue result value }
         ensures long { IsErrOf result TooLong ↔ (Self.LIMIT < length bytes.now) }
     {
         if bytes.len() > Self::LIMIT {

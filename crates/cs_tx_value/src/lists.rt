@@ -2,7 +2,7 @@
 ghost use Rattle.std.specs.Prelude.{◌≡◌, ◌≤◌, ◌<◌, ◌++◌, ◌↔◌, length, IsTrue, IfOk, OnOk, OnErr};
 ghost use Rattle.std.specs.List.{AllByRecursion};
 ghost use Rattle.cs_base.specs.Fields.{each, counted, many_at, counted_at, some_at};
-ghost use Rattle.cs_tx_value.specs.Reading.{Gives, Passes, Begins, LeavesRoom};
+ghost use Rattle.cs_tx_value.specs.Reading.{ReadsValue, Passes, Begins, LeavesRoom};
 
 use crate::encoded::Encoded;
 use crate::form::FormError;
@@ -15,7 +15,7 @@ pub fn read_many<T: Encoded>(
     cursor: &mut Cursor<'_>,
     count: u16,
 ) -> Result<Sequence<T>, FormError>
-    ensures { Gives result cursor.new (many_at T.found_at count cursor.old) }
+    ensures { ReadsValue result cursor.new (many_at T.found_at count cursor.old) }
 {
     let mut items = Sequence::new(alloc);
     for _ in 0..count {
@@ -32,7 +32,7 @@ pub fn read_counted<T: Encoded>(
     cursor: &mut Cursor<'_>,
     most: u8,
 ) -> Result<Sequence<T>, FormError>
-    ensures { Gives result cursor.new (counted_at most T.found_at cursor.old) }
+    ensures { ReadsValue result cursor.new (counted_at most T.found_at cursor.old) }
 {
     let count = cursor.u8()?;
     if count > most {
@@ -70,7 +70,7 @@ pub fn read_some<T: Encoded>(
     cursor: &mut Cursor<'_>,
     most: u8,
 ) -> Result<Sequence<T>, FormError>
-    ensures { Gives result cursor.new (some_at most T.found_at cursor.old) }
+    ensures { ReadsValue result cursor.new (some_at most T.found_at cursor.old) }
 {
     let count = cursor.u8()?;
     if count < 1 {

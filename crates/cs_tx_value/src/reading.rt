@@ -1,7 +1,7 @@
 //! Reading values at a cursor.
 ghost use Rattle.std.specs.Prelude.{◌≡◌};
 ghost use Rattle.cs_base.specs.Fields.{many_at, counted_at};
-ghost use Rattle.cs_tx_value.specs.Reading.{Gives, int_at, bool_at, text_at, value_at};
+ghost use Rattle.cs_tx_value.specs.Reading.{ReadsValue, int_at, bool_at, text_at, value_at};
 
 use crate::form::FormError;
 use crate::value::Value;
@@ -10,14 +10,14 @@ use std::alloc::Global;
 
 #[tactic(auto, unfolding(crate::specs::Reading::int_at))]
 fn int_of(cursor: &mut Cursor<'_>) -> Result<i64, FormError>
-    ensures { Gives result cursor.new (int_at cursor.old) }
+    ensures { ReadsValue result cursor.new (int_at cursor.old) }
 {
     Ok(cursor.u64()?.cast_signed())
 }
 
 #[tactic(auto, unfolding(crate::specs::Reading::bool_at, cs_base::specs::Fields::tested_at))]
 fn bool_of(cursor: &mut Cursor<'_>) -> Result<bool, FormError>
-    ensures { Gives result cursor.new (bool_at cursor.old) }
+    ensures { ReadsValue result cursor.new (bool_at cursor.old) }
 {
     let flag = cursor.u8()?;
     if flag > 1 {
@@ -28,7 +28,7 @@ fn bool_of(cursor: &mut Cursor<'_>) -> Result<bool, FormError>
 
 #[tactic(auto, unfolding(cs_base::specs::Fields::upto_at))]
 fn text_of(alloc: Global, cursor: &mut Cursor<'_>) -> Result<Sequence<u8>, FormError>
-    ensures { Gives result cursor.new (text_at cursor.old) }
+    ensures { ReadsValue result cursor.new (text_at cursor.old) }
 {
     let len = cursor.u16()?;
     if len > 256 {
@@ -46,7 +46,7 @@ fn values_of(
     count: u8,
     depth: u8,
 ) -> Result<Sequence<Value>, FormError>
-    ensures { Gives result cursor.new (many_at (value_at depth) count cursor.old) }
+    ensures { ReadsValue result cursor.new (many_at (value_at depth) count cursor.old) }
 {
     let mut values = Sequence::new(alloc);
     for _ in 0..count {
@@ -60,7 +60,7 @@ fn values_of(
 #[cycle(value)]
 #[tactic(auto, unfolding(cs_base::specs::Fields::upto_at))]
 fn items_of(alloc: Global, cursor: &mut Cursor<'_>, depth: u8) -> Result<Sequence<Value>, FormError>
-    ensures { Gives result cursor.new (counted_at 64 (value_at depth) cursor.old) }
+    ensures { ReadsValue result cursor.new (counted_at 64 (value_at depth) cursor.old) }
 {
     let count = cursor.u8()?;
     if count > 64 {
@@ -73,7 +73,7 @@ fn items_of(alloc: Global, cursor: &mut Cursor<'_>, depth: u8) -> Result<Sequenc
 #[cycle(value)]
 #[tactic(auto, unfolding(crate::specs::Reading::value_at))]
 pub fn value_of(alloc: Global, cursor: &mut Cursor<'_>, depth: u8) -> Result<Value, FormError>
-    ensures { Gives result cursor.new (value_at depth cursor.old) }
+    ensures { ReadsValue result cursor.new (value_at depth cursor.old) }
 {
     match cursor.u8()? {
         0 => Ok(Value::Int(int_of(cursor)?)),

@@ -16,7 +16,7 @@ use Rattle.cs_types_kinds.specs.declared.scope.Entry.{Entry}
 use Rattle.cs_types_kinds.specs.declared.expressions.Judged.{Judged}
 use Rattle.cs_types_kinds.specs.Told.{Told, plus}
 use Rattle.cs_types_kinds.specs.Kinds.{bool}
-use Rattle.cs_types_kinds.specs.Scopes.{Sight}
+use Rattle.cs_types_kinds.specs.Scopes.{InSight}
 use Rattle.cs_types_kinds.specs.Judging.{wanted}
 use Rattle.cs_types_kinds.specs.Parts.{part_of}
 use Rattle.cs_types_kinds.proofs.Layers.{part_first}
@@ -29,13 +29,13 @@ use Rattle.cs_types.proofs.Actions.{action_ifelse, action_forin}
 use Rattle.cs_types.proofs.Faults.{fails_told, fails_first, fails_as}
 use Rattle.cs_types.proofs.Staying.{stays_more}
 
-pub adds_as : (r : Result ℕ TypeError) (a b : Sight) (t u : Told Added) → u ≡ t → Adds r a b t → Adds r a b u
+pub adds_as : (r : Result ℕ TypeError) (a b : InSight) (t u : Told Added) → u ≡ t → Adds r a b t → Adds r a b u
 adds_as (Ok cost) a b t u is h = (is ∙ h.0, h.1)
 adds_as (Err e) a b t u is h = fails_as e t u (sym is) h
 
 -- ---- a loop over a list
 
-pub for_in_is : (a : Action) (name : Text) (list : Expr) (each : Block) (place : ℕ) (s : Sight) (told : Told Judged) → a ≡ action.ForIn name list each → told ≡ (part_of s list).found
+pub for_in_is : (a : Action) (name : Text) (list : Expr) (each : Block) (place : ℕ) (s : InSight) (told : Told Judged) → a ≡ action.ForIn name list each → told ≡ (part_of s list).found
     → action_told a place s ≡ for_in_of name told (out-Expr list).first (block_told each) s
 for_in_is a name list each place s told is h =
     action_forin a name list each place s is
@@ -44,16 +44,16 @@ for_in_is a name list each place s told is h =
 
 -- ---- two blocks
 
-abbrev both : Sight → ℕ → ℕ → ℕ → Told Added
+abbrev both : InSight → ℕ → ℕ → ℕ → Told Added
 both s cost d e = Ok (plus cost (max d e), s.names)
 
-abbrev behind : Block → Sight → ℕ → ℕ → Told Added
+abbrev behind : Block → InSight → ℕ → ℕ → Told Added
 behind other s cost d = block_told other s >>= both s cost d
 
-abbrev blocks : Block → Block → Sight → ℕ → Told Added
+abbrev blocks : Block → Block → InSight → ℕ → Told Added
 blocks block other s cost = block_told block s >>= behind other s cost
 
-module _ (a : Action) (condition : Expr) (block other : Block) (place : ℕ) (s : Sight) (is : a ≡ action.IfElse condition block other) where
+module _ (a : Action) (condition : Expr) (block other : Block) (place : ℕ) (s : InSight) (is : a ≡ action.IfElse condition block other) where
   pub else_cost : (e : TypeError) → Err e ≡ wanted bool (part_of s condition) → Fails e (action_told a place s)
   else_cost e h = fails_as e _ (action_told a place s) (sym (action_ifelse a condition block other place s is)) (fails_first e (wanted bool (part_of s condition)) (blocks block other s) (fails_told e _ (sym h)))
 
@@ -66,23 +66,23 @@ module _ (a : Action) (condition : Expr) (block other : Block) (place : ℕ) (s 
   first_is : (cost d : ℕ) → Ok cost ≡ wanted bool (part_of s condition) → block_told block s ≡ Ok d → behind other s cost d ≡ action_told a place s
   first_is cost d h i = sym (ap (λ (r : Told ℕ). r >>= behind other s cost) i) ∙ cost_is cost h
 
-  pub else_second : (cost d : ℕ) (e : TypeError) (u : Sight) → Ok cost ≡ wanted bool (part_of s condition) → block_told block s ≡ Ok d → u ≡ s → Fails e (block_told other u) → Fails e (action_told a place s)
+  pub else_second : (cost d : ℕ) (e : TypeError) (u : InSight) → Ok cost ≡ wanted bool (part_of s condition) → block_told block s ≡ Ok d → u ≡ s → Fails e (block_told other u) → Fails e (action_told a place s)
   else_second cost d e u h i same f = fails_as e (behind other s cost d) (action_told a place s) (first_is cost d h i) (fails_first e (block_told other s) (both s cost d) (fails_as e _ (block_told other s) (ap (block_told other) same) f))
 
-  pub else_done : (cost d e dearer sum : ℕ) (u v : Sight) → Ok cost ≡ wanted bool (part_of s condition) → block_told block s ≡ Ok d → u ≡ s → block_told other u ≡ Ok e → v ≡ s → dearer ≡ max d e → sum ≡ plus cost dearer
+  pub else_done : (cost d e dearer sum : ℕ) (u v : InSight) → Ok cost ≡ wanted bool (part_of s condition) → block_told block s ≡ Ok d → u ≡ s → block_told other u ≡ Ok e → v ≡ s → dearer ≡ max d e → sum ≡ plus cost dearer
       → action_told a place s ≡ Ok (sum, v.names)
   else_done cost d e dearer sum u v h i same j again m n =
       sym (first_is cost d h i) ∙ ap (λ (r : Told ℕ). r >>= both s cost d) (sym (ap (block_told other) same) ∙ j)
-      ∙ ap (λ (x : ℕ). Ok (plus cost x, s.names)) (sym m) ∙ ap (λ (x : ℕ). Ok (x, s.names)) (sym n) ∙ ap (λ (z : Sight). Ok (sum, z.names)) (sym again)
+      ∙ ap (λ (x : ℕ). Ok (plus cost x, s.names)) (sym m) ∙ ap (λ (x : ℕ). Ok (x, s.names)) (sym n) ∙ ap (λ (z : InSight). Ok (sum, z.names)) (sym again)
 
 -- ---- the names of a method
 
-pub binds_after : (r : Result Unit TypeError) (a b c : Sight) (t u : Told (List Entry)) → Stays a b → u ≡ t → Binds r b c t → Binds r a c u
+pub binds_after : (r : Result Unit TypeError) (a b c : InSight) (t u : Told (List Entry)) → Stays a b → u ≡ t → Binds r b c t → Binds r a c u
 binds_after (Ok done) a b c t u st is h = (is ∙ h.0, stays_more a b c st h.1)
 binds_after (Err e) a b c t u st is h = fails_as e t u (sym is) h
 
-pub types_stay : (a b : Sight) → Stays a b → b.contract.types ≡ a.contract.types
-types_stay a b p = ap (λ (z : Sight). z.contract.types) p.is
+pub types_stay : (a b : InSight) → Stays a b → b.contract.types ≡ a.contract.types
+types_stay a b p = ap (λ (z : InSight). z.contract.types) p.is
 
 pub slots_are : (types all : List TypeDef) (u v : Use) (xs ys : List Slot) (names more : List Entry) → all ≡ types → v ≡ u → ys ≡ xs → slots_told all v ys names ≡ Ok more → slots_told types u xs names ≡ Ok more
 slots_are types all u v xs ys names more h i j k =

@@ -12,7 +12,7 @@ use Rattle.cs_types_kinds.specs.declared.fault.TypeError.{TypeError}
 use Rattle.cs_types_kinds.specs.declared.scope.Use.{Use}
 use Rattle.cs_types_kinds.specs.declared.scope.Entry.{Entry}
 use Rattle.cs_types_kinds.specs.Told.{Told, through}
-use Rattle.cs_types_kinds.specs.Scopes.{Sight}
+use Rattle.cs_types_kinds.specs.Scopes.{InSight}
 use Rattle.cs_types_kinds.specs.Parts.{part_of}
 use Rattle.cs_types_kinds.proofs.Loops.{opened}
 use Rattle.cs_types.specs.Answers.{Fails}
@@ -66,7 +66,7 @@ module _ {Y : Type 0} (step : List Y → Y → Told (List Y)) where
 
 -- ---- two lists side by side
 
-module _ (sight : Sight) where
+module _ (sight : InSight) where
   pub wanted_step : (fs : List Field) (vs : List Expr) (i : ℕ) (f : Field) (v : Expr) (sum more : ℕ) (t : Told ℕ) → i < length fs → i < length vs → f ≡ get_or fs i f → v ≡ get_or vs i v
       → field_wanted f (part_of sight v) sum ≡ Ok more → fields_wanted (drop i fs) (map (part_of sight) (drop i vs)) sum ≡ t → fields_wanted (drop (i + 1) fs) (map (part_of sight) (drop (i + 1) vs)) more ≡ t
   wanted_step fs vs i f v sum more t lf lv isf isv e h =

@@ -11,6 +11,6 @@ Fails (error.Mistyped place) told = told ≡ Err (error.Mistyped place)
 Fails (error.Unbound place) told = told ≡ Err (error.Unbound place)
 Fails (error.Cost n) told = told ≡ Err (error.Cost n)
 
-abbrev pub Tells : {X : Type 0} → Result X TypeError → Told X → Type 0
-Tells (Ok x) told = told ≡ Ok x
-Tells (Err e) told = Fails e told
+abbrev pub AnswersTold : {X : Type 0} → Result X TypeError → Told X → Type 0
+AnswersTold (Ok x) told = told ≡ Ok x
+AnswersTold (Err e) told = Fails e told

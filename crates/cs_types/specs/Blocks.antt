@@ -7,16 +7,16 @@ use Rattle.cs_lang.specs.declared.tree.Action.{Action}
 use Rattle.cs_lang.specs.declared.tree.Action.TheOpen.{Block-F, Statement-F, Action-F}
 use Rattle.cs_lang.specs.declared.tree.Action.TheFolds.{fold-Block, fold-Statement, fold-Action}
 use Rattle.cs_types_kinds.specs.Told.{Told}
-use Rattle.cs_types_kinds.specs.Scopes.{Sight}
+use Rattle.cs_types_kinds.specs.Scopes.{InSight}
 use Rattle.cs_types_kinds.specs.Judging.{Part}
 use Rattle.cs_types_kinds.specs.Parts.{part_of}
 use Rattle.cs_types.specs.Stating.{Added, Blocked, Stated, block_judged, let_judged, set_judged, if_judged, if_else_judged, for_in_judged, for_to_judged, make_judged, call_judged, answer_judged, stated}
 
 -- what is told of an expression, wherever it stands
-abbrev pub part : Expr → Sight → Part
+abbrev pub part : Expr → InSight → Part
 part e sight = part_of sight e
 
-abbrev pub parts : List Expr → Sight → List Part
+abbrev pub parts : List Expr → InSight → List Part
 parts es sight = map (part_of sight) es
 
 -- what is told of a statement with its word there
@@ -41,11 +41,11 @@ abbrev pub layer_block : Block-F Acted Blocked Stated → Blocked
 layer_block b = block_judged b.statements
 
 -- what is told of a block, where it stands
-unfoldable pub block_told : Block → Sight → Told ℕ
+unfoldable pub block_told : Block → InSight → Told ℕ
 block_told = fold-Block Acted Blocked Stated layer_action layer_block layer_statement
 
-unfoldable pub statement_told : Statement → Sight → Told Added
+unfoldable pub statement_told : Statement → InSight → Told Added
 statement_told = fold-Statement Acted Blocked Stated layer_action layer_block layer_statement
 
-unfoldable pub action_told : Action → ℕ → Sight → Told Added
+unfoldable pub action_told : Action → ℕ → InSight → Told Added
 action_told = fold-Action Acted Blocked Stated layer_action layer_block layer_statement

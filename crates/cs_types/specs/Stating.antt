@@ -18,7 +18,7 @@ use Rattle.cs_types_kinds.specs.declared.scope.Costs.{Costs}
 use Rattle.cs_types_kinds.specs.declared.expressions.Judged.{Judged}
 use Rattle.cs_types_kinds.specs.Told.{Told, mistyped, unbound, through, plus}
 use Rattle.cs_types_kinds.specs.Kinds.{int, bool, same_kind, item_of}
-use Rattle.cs_types_kinds.specs.Scopes.{Sight, seen, created, with_name, with_names}
+use Rattle.cs_types_kinds.specs.Scopes.{InSight, seen, created, with_name, with_names}
 use Rattle.cs_types_kinds.specs.Lookups.{type_of, method_of, declared_kind}
 use Rattle.cs_types_kinds.specs.Judging.{Part, wanted, or_first}
 
@@ -28,17 +28,17 @@ Added = ℕ × List Entry
 
 -- what is told of a block where it stands
 abbrev pub Blocked : Type 0
-Blocked = Sight → Told ℕ
+Blocked = InSight → Told ℕ
 
 -- what is told of a statement where it stands
 abbrev pub Stated : Type 0
-Stated = Sight → Told Added
+Stated = InSight → Told Added
 
 -- ---- blocks
 
 -- the cost so far, and what is in sight
 abbrev pub SoFar : Type 0
-SoFar = ℕ × Sight
+SoFar = ℕ × InSight
 
 abbrev pub statement_added : SoFar → Stated → Told SoFar
 statement_added so_far one = one so_far.1 >>= λ d. Ok (plus so_far.0 d.0, with_names so_far.1 d.1)
@@ -57,7 +57,7 @@ turn_judged name k each sight = each (with_names sight (with_name sight.names na
 
 -- ---- names and values
 
-abbrev pub is_taken : Sight → Text → Bool
+abbrev pub is_taken : InSight → Text → Bool
 is_taken sight name = is_some (seen name.bytes sight.names)
 
 abbrev pub is_value : Kind → Bool
@@ -65,7 +65,7 @@ is_value (kind.Value b lists) = true
 is_value _ = false
 
 -- a name for a value, which can be set; it repeats no name in sight
-abbrev pub let_judged : Text → (Sight → Part) → Stated
+abbrev pub let_judged : Text → (InSight → Part) → Stated
 let_judged name value sight =
     if is_taken sight name then mistyped name.place
     else (value sight).found >>= λ j. if is_value j.kind then Ok (j.cost, with_name sight.names name.bytes j.kind usage.Set) else mistyped (value sight).first
@@ -79,7 +79,7 @@ set_seen None name value = unbound name.place
 set_seen (Some s) name value = if can_be_set s.usage then wanted s.kind value else mistyped name.place
 
 -- a new value of the same kind
-abbrev pub set_judged : Text → (Sight → Part) → Stated
+abbrev pub set_judged : Text → (InSight → Part) → Stated
 set_judged name value sight = set_seen (seen name.bytes sight.names) name (value sight) >>= λ cost. Ok (cost, sight.names)
 
 -- ---- blocks in statements
@@ -88,11 +88,11 @@ set_judged name value sight = set_seen (seen name.bytes sight.names) name (value
 abbrev pub if_of : Told ℕ → Blocked → Stated
 if_of told block sight = told >>= λ cost. block sight >>= λ d. Ok (plus cost d, sight.names)
 
-abbrev pub if_judged : (Sight → Part) → Blocked → Stated
+abbrev pub if_judged : (InSight → Part) → Blocked → Stated
 if_judged condition block sight = if_of (wanted bool (condition sight)) block sight
 
 -- the dearer of two blocks counts
-abbrev pub if_else_judged : (Sight → Part) → Blocked → Blocked → Stated
+abbrev pub if_else_judged : (InSight → Part) → Blocked → Blocked → Stated
 if_else_judged condition block other sight =
     wanted bool (condition sight) >>= λ cost. block sight >>= λ d. other sight >>= λ e. Ok (plus cost (max d e), sight.names)
 
@@ -102,7 +102,7 @@ for_in_of name told first each sight =
     if is_taken sight name then mistyped name.place
     else told >>= λ j. or_first first (item_of j.kind) >>= λ k. turn_judged name k each sight >>= λ d. Ok (plus j.cost (turns 64 d), sight.names)
 
-abbrev pub for_in_judged : Text → (Sight → Part) → Blocked → Stated
+abbrev pub for_in_judged : Text → (InSight → Part) → Blocked → Stated
 for_in_judged name list each sight = for_in_of name (list sight).found (list sight).first each sight
 
 -- at most 1,024 turns
@@ -143,27 +143,27 @@ named_type name types = numbered_at (type_of name types) types
 abbrev pub takes_object : Kind → ℕ → Bool
 takes_object k number = same_kind k (kind.Object number) || same_kind k (kind.Objects number)
 
-abbrev pub not_created : Sight → Text → Told ℕ
+abbrev pub not_created : InSight → Text → Told ℕ
 not_created sight slot = if is_taken sight slot then mistyped slot.place else unbound slot.place
 
 -- an object of a type that isn't declared, in a slot
-abbrev pub unknown_in : Option Seen → Text → Text → Sight → Told ℕ
+abbrev pub unknown_in : Option Seen → Text → Text → InSight → Told ℕ
 unknown_in None slot object sight = not_created sight slot
 unknown_in (Some s) slot object sight = unbound object.place
 
 -- an object of a declared type, in a slot
-abbrev pub known_in : Option Seen → Numbered → Text → Text → List Part → Sight → Told ℕ
+abbrev pub known_in : Option Seen → Numbered → Text → Text → List Part → InSight → Told ℕ
 known_in None t slot object values sight = not_created sight slot
 known_in (Some s) t slot object values sight = if takes_object s.kind t.0 then fields_wanted t.1.fields values 0 else mistyped object.place
 
 -- the number of fields is tested first, then the slot, the type and the values
-abbrev pub make_of : Option Numbered → Text → Text → List Part → ℕ → Sight → Told ℕ
+abbrev pub make_of : Option Numbered → Text → Text → List Part → ℕ → InSight → Told ℕ
 make_of None slot object values place sight = unknown_in (created slot.bytes sight.names) slot object sight
 make_of (Some t) slot object values place sight =
     if length t.1.fields == length values then known_in (created slot.bytes sight.names) t slot object values sight else mistyped place
 
 -- a new object in a created slot, in a procedure
-abbrev pub make_judged : Text → Text → (Sight → List Part) → ℕ → Stated
+abbrev pub make_judged : Text → Text → (InSight → List Part) → ℕ → Stated
 make_judged slot object values place sight =
     if sight.in_check then mistyped place
     else make_of (named_type object.bytes sight.contract.types) slot object (values sight) place sight >>= λ cost. Ok (cost, sight.names)
@@ -191,7 +191,7 @@ callee_at None methods costs = None
 callee_at (Some number) methods costs = callee (slice_get methods number) (procedure_cost (slice_get costs number))
 
 -- the method of this name, where it stands above
-abbrev pub callee_of : Sight → Text → Option Callee
+abbrev pub callee_of : InSight → Text → Option Callee
 callee_of sight name = callee_at (method_of name.bytes sight.contract.methods) sight.contract.methods sight.costs
 
 abbrev pub is_starred : Slot → Bool
@@ -205,11 +205,11 @@ abbrev pub is_text : Text → Text → Bool
 is_text name other = bytes_eq other.bytes name.bytes
 
 -- the name repeats none that is in sight or stands before it
-abbrev pub fresh : Sight → List Text → Text → Told (List Text)
+abbrev pub fresh : InSight → List Text → Text → Told (List Text)
 fresh sight before name =
     if is_taken sight name || list_any (is_text name) before then mistyped name.place else Ok (before ++ name ∷ [])
 
-abbrev pub all_fresh : Sight → List Text → Told (List Text)
+abbrev pub all_fresh : InSight → List Text → Told (List Text)
 all_fresh sight = through (fresh sight) []
 
 -- a name that is bound to what a method returns, which can't be set
@@ -241,7 +241,7 @@ call_of (Some c) names method arguments place sight =
     if has_counts (length arguments) (length names) c.0 then (all_fresh sight names >>= λ _. called c names method arguments sight) else mistyped place
 
 -- a call of a method above, in a procedure; neither takes any number of objects
-abbrev pub call_judged : List Text → Text → (Sight → List Part) → ℕ → Stated
+abbrev pub call_judged : List Text → Text → (InSight → List Part) → ℕ → Stated
 call_judged names method arguments place sight =
     if sight.in_check || sight.starred then mistyped place
     else call_of (callee_of sight method) names method (arguments sight) place sight
@@ -249,7 +249,7 @@ call_judged names method arguments place sight =
 -- ---- answers
 
 -- the answer of a check
-abbrev pub answer_judged : (Sight → Part) → ℕ → Stated
+abbrev pub answer_judged : (InSight → Part) → ℕ → Stated
 answer_judged value place sight = if sight.in_check then (wanted bool (value sight) >>= λ cost. Ok (cost, sight.names)) else mistyped place
 
 -- a statement costs 1 more than its parts

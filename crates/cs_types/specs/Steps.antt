@@ -3,27 +3,27 @@ use Rattle.std.specs.Prelude.{◌≡◌, ℕ, List, ◌++◌, Result, Ok, Err}
 use Rattle.cs_types_kinds.specs.declared.fault.TypeError.{TypeError}
 use Rattle.cs_types_kinds.specs.declared.scope.Entry.{Entry}
 use Rattle.cs_types_kinds.specs.Told.{Told}
-use Rattle.cs_types_kinds.specs.Scopes.{Sight, with_names}
+use Rattle.cs_types_kinds.specs.Scopes.{InSight, with_names}
 use Rattle.cs_types.specs.Answers.{Fails}
 use Rattle.cs_types.specs.Stating.{Added, SoFar}
 
 -- names were added, and all else is the same
-pub record Stays (before behind : Sight) : Type 0 where
+pub record Stays (before behind : InSight) : Type 0 where
   pub more : List Entry
   pub is : behind ≡ with_names before (before.names ++ more)
 
 -- a statement's cost is told, and the names in sight behind it
-abbrev pub Adds : Result ℕ TypeError → Sight → Sight → Told Added → Type 0
+abbrev pub Adds : Result ℕ TypeError → InSight → InSight → Told Added → Type 0
 Adds (Ok cost) before behind told = (told ≡ Ok (cost, behind.names)) × Stays before behind
 Adds (Err e) before behind told = Fails e told
 
 -- a sum is told, and what is in sight behind it
-abbrev pub Sums : Result ℕ TypeError → Sight → Sight → Told SoFar → Type 0
+abbrev pub Sums : Result ℕ TypeError → InSight → InSight → Told SoFar → Type 0
 Sums (Ok cost) before behind told = (told ≡ Ok (cost, behind)) × Stays before behind
 Sums (Err e) before behind told = Fails e told
 
 -- a block's cost is told, and nothing changes
-abbrev pub Blocks : Result ℕ TypeError → Sight → Sight → Told ℕ → Type 0
+abbrev pub Blocks : Result ℕ TypeError → InSight → InSight → Told ℕ → Type 0
 Blocks (Ok cost) before behind told = (told ≡ Ok cost) × (behind ≡ before)
 Blocks (Err e) before behind told = Fails e told
 
@@ -33,6 +33,6 @@ Passes (Ok done) x told = told ≡ Ok x
 Passes (Err e) x told = Fails e told
 
 -- the names in sight behind it are told
-abbrev pub Binds : Result Unit TypeError → Sight → Sight → Told (List Entry) → Type 0
+abbrev pub Binds : Result Unit TypeError → InSight → InSight → Told (List Entry) → Type 0
 Binds (Ok done) before behind told = (told ≡ Ok behind.names) × Stays before behind
 Binds (Err e) before behind told = Fails e told

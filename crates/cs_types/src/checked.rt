@@ -1,6 +1,6 @@
 //! Accepted contracts.
 ghost use Rattle.std.specs.Prelude.{◌≡◌};
-ghost use Rattle.cs_types.specs.Answers.{Tells};
+ghost use Rattle.cs_types.specs.Answers.{AnswersTold};
 ghost use Rattle.cs_types.specs.Accepted.{judged_costs, first_dear, IsAccepted, Accepts};
 
 use crate::declarations::check_types;
@@ -71,7 +71,7 @@ fn first_dear(costs: &[Costs]) -> Option<u64>
 
 /// The costs of the methods of a contract that is well typed.
 fn judged_costs(alloc: Global, contract: &Contract) -> Result<Sequence<Costs>, TypeError>
-    ensures { Tells result (judged_costs contract.now) }
+    ensures { AnswersTold result (judged_costs contract.now) }
 {
     check_types(contract.types.as_slice())?;
     methods(alloc, contract)

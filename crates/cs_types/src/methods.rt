@@ -1,6 +1,6 @@
 //! Methods, and what their bodies cost.
 ghost use Rattle.std.specs.Prelude.{◌≡◌, OnOk};
-ghost use Rattle.cs_types.specs.Answers.{Tells};
+ghost use Rattle.cs_types.specs.Answers.{AnswersTold};
 ghost use Rattle.cs_types.specs.Accepted.{body_told, method_costs, methods_told};
 
 use crate::declarations::add_names;
@@ -20,7 +20,7 @@ fn body(
     in_check: bool,
     body: &Block,
 ) -> Result<u64, TypeError>
-    ensures told { Tells result (body_told scope.old.contract scope.old.costs in_check method.now body.now) }
+    ensures told { AnswersTold result (body_told scope.old.contract scope.old.costs in_check method.now body.now) }
     ensures rest { OnOk result ((scope.new.contract ≡ scope.old.contract) × (scope.new.costs ≡ scope.old.costs)) }
 {
     scope.enter(takes_many(method), in_check);
@@ -35,7 +35,7 @@ fn method(
     above: &[Method],
     method: &Method,
 ) -> Result<Costs, TypeError>
-    ensures told { Tells result (method_costs scope.old.contract scope.old.costs above.now method.now) }
+    ensures told { AnswersTold result (method_costs scope.old.contract scope.old.costs above.now method.now) }
     ensures rest { OnOk result ((scope.new.contract ≡ scope.old.contract) × (scope.new.costs ≡ scope.old.costs)) }
 {
     if above.len() >= MOST_METHODS || method_of(above, method.name.bytes.as_slice()).is_some() {
@@ -48,7 +48,7 @@ fn method(
 
 /// The costs of the methods of a contract.
 pub fn methods(alloc: Global, contract: &Contract) -> Result<Sequence<Costs>, TypeError>
-    ensures { Tells result (methods_told contract.now) }
+    ensures { AnswersTold result (methods_told contract.now) }
 {
     let mut scope = Scope::new(alloc, contract);
     let methods = contract.methods.as_slice();

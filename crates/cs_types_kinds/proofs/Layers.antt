@@ -18,11 +18,11 @@ use Rattle.cs_lang.specs.declared.tree.Access.TheFolds.{fold-Access, fold-roll-A
 use Rattle.cs_types_kinds.specs.declared.expressions.Judged.{Judged}
 use Rattle.cs_types_kinds.specs.Told.{Told}
 use Rattle.cs_types_kinds.specs.Kinds.{int, bool, bytes}
-use Rattle.cs_types_kinds.specs.Scopes.{Sight}
+use Rattle.cs_types_kinds.specs.Scopes.{InSight}
 use Rattle.cs_types_kinds.specs.Judging.{Part, judged, Stepped, name_judged, list_judged, empty_judged, len_judged, sha256_judged, concat_judged, called_judged, depint_judged, path_judged, not_judged, negative_judged, compared_judged, concat_of, compared_of, chain_judged, field_judged, index_judged}
 use Rattle.cs_types_kinds.specs.Parts.{Shaped, layer_access, layer_shape, layer_expr, layer_link, layer_step, part_of, shape_part, link_part, step_part}
 
-module _ (sight : Sight) where
+module _ (sight : InSight) where
   part_is : (e : Expr) → part_of sight e ≡ record { first = (out-Expr e).first; found = shape_part sight (out-Expr e).shape (out-Expr e).place }
   unfolding part_of shape_part
   part_is e = fold_out-Expr Stepped Shaped Part Part (Judged → Told Judged) (layer_access sight) (layer_shape sight) (layer_expr sight) (layer_link sight) (layer_step sight) e

@@ -14,7 +14,7 @@ use Rattle.cs_types_kinds.specs.declared.expressions.Judged.{Judged}
 use Rattle.cs_types_kinds.specs.declared.expressions.Items.{Items}
 use Rattle.cs_types_kinds.specs.Told.{Told, mistyped, unbound, through, plus}
 use Rattle.cs_types_kinds.specs.Kinds.{int, bool, bytes, same_kind, list_of, item_of, is_list, joins, has_length, kind_of}
-use Rattle.cs_types_kinds.specs.Scopes.{Sight, seen}
+use Rattle.cs_types_kinds.specs.Scopes.{InSight, seen}
 use Rattle.cs_types_kinds.specs.Lookups.{method_of, field_of}
 
 -- an expression: the place of its first token, and what is told of it
@@ -37,7 +37,7 @@ seen_judged place None = unbound place
 seen_judged place (Some s) = judged s.kind 1
 
 -- a name
-abbrev pub name_judged : Sight → List ℕ → ℕ → Told Judged
+abbrev pub name_judged : InSight → List ℕ → ℕ → Told Judged
 name_judged sight name place = seen_judged place (seen name sight.names)
 
 abbrev pub empty_of : ℕ → Option Kind → Told Judged
@@ -53,12 +53,12 @@ method_judged place None = unbound place
 method_judged place (Some number) = judged bool 1
 
 -- whether a dep called a method
-abbrev pub called_judged : Sight → Text → ℕ → Told Judged
+abbrev pub called_judged : InSight → Text → ℕ → Told Judged
 called_judged sight name place =
     if sight.in_check then method_judged name.place (method_of name.bytes sight.contract.methods) else mistyped place
 
 -- a returned value of a dep
-abbrev pub depint_judged : Sight → ℕ → Told Judged
+abbrev pub depint_judged : InSight → ℕ → Told Judged
 depint_judged sight place = if sight.in_check then judged int 1 else mistyped place
 
 -- ---- lists
@@ -168,12 +168,12 @@ chain_judged r start rights = chain_of (kind_of_rank r) (wanted (kind_of_rank r)
 abbrev pub Stepped : Type 0
 Stepped = ℕ → Judged → Told Judged
 
-abbrev pub field_of_kind : Sight → Text → Kind → ℕ → Told Kind
+abbrev pub field_of_kind : InSight → Text → Kind → ℕ → Told Kind
 field_of_kind sight name (kind.Object number) first = field_of sight.contract number name
 field_of_kind sight name k first = mistyped first
 
 -- a field of an object
-abbrev pub field_judged : Sight → Text → Stepped
+abbrev pub field_judged : InSight → Text → Stepped
 field_judged sight name first j = field_of_kind sight name j.kind first >>= λ k. judged k (plus j.cost 1)
 
 -- an item of a list, or one of several objects

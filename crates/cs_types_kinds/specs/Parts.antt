@@ -9,27 +9,27 @@ use Rattle.cs_lang.specs.declared.tree.Access.TheFolds.{fold-Shape, fold-Expr, f
 use Rattle.cs_types_kinds.specs.declared.expressions.Judged.{Judged}
 use Rattle.cs_types_kinds.specs.Told.{Told}
 use Rattle.cs_types_kinds.specs.Kinds.{int, bool, bytes}
-use Rattle.cs_types_kinds.specs.Scopes.{Sight}
+use Rattle.cs_types_kinds.specs.Scopes.{InSight}
 use Rattle.cs_types_kinds.specs.Judging.{Part, judged, Stepped, name_judged, list_judged, empty_judged, len_judged, sha256_judged, concat_judged, called_judged, depint_judged, path_judged, not_judged, negative_judged, compared_judged, chain_judged, field_judged, index_judged}
 
 -- what is told of an expression with its own token there
 abbrev pub Shaped : Type 0
 Shaped = ℕ → Told Judged
 
-abbrev pub layer_access : Sight → Access-F Stepped Shaped Part Part (Judged → Told Judged) → Stepped
+abbrev pub layer_access : InSight → Access-F Stepped Shaped Part Part (Judged → Told Judged) → Stepped
 layer_access sight (Access-F.Field name) = field_judged sight name
 layer_access sight (Access-F.Index index) = index_judged index
 
-abbrev pub layer_step : Sight → Step-F Stepped Shaped Part Part (Judged → Told Judged) → Judged → Told Judged
+abbrev pub layer_step : InSight → Step-F Stepped Shaped Part Part (Judged → Told Judged) → Judged → Told Judged
 layer_step sight step = step.access step.first
 
-abbrev pub layer_link : Sight → Link-F Stepped Shaped Part Part (Judged → Told Judged) → Part
+abbrev pub layer_link : InSight → Link-F Stepped Shaped Part Part (Judged → Told Judged) → Part
 layer_link sight link = link.right
 
-abbrev pub layer_expr : Sight → Expr-F Stepped Shaped Part Part (Judged → Told Judged) → Part
+abbrev pub layer_expr : InSight → Expr-F Stepped Shaped Part Part (Judged → Told Judged) → Part
 layer_expr sight e = record { first = e.first; found = e.shape e.place }
 
-abbrev pub layer_shape : Sight → Shape-F Stepped Shaped Part Part (Judged → Told Judged) → Shaped
+abbrev pub layer_shape : InSight → Shape-F Stepped Shaped Part Part (Judged → Told Judged) → Shaped
 layer_shape sight (Shape-F.Number n) place = judged int 1
 layer_shape sight (Shape-F.Bytes b) place = judged bytes 1
 layer_shape sight (Shape-F.Truth b) place = judged bool 1
@@ -48,17 +48,17 @@ layer_shape sight (Shape-F.Compared c left right) place = compared_judged c left
 layer_shape sight (Shape-F.Chain r start rights) place = chain_judged r start rights
 
 -- what is told of an expression, where it stands
-unfoldable pub part_of : Sight → Expr → Part
+unfoldable pub part_of : InSight → Expr → Part
 part_of sight = fold-Expr Stepped Shaped Part Part (Judged → Told Judged) (layer_access sight) (layer_shape sight) (layer_expr sight) (layer_link sight) (layer_step sight)
 
 -- what is told of an expression of this shape
-unfoldable pub shape_part : Sight → Shape → Shaped
+unfoldable pub shape_part : InSight → Shape → Shaped
 shape_part sight = fold-Shape Stepped Shaped Part Part (Judged → Told Judged) (layer_access sight) (layer_shape sight) (layer_expr sight) (layer_link sight) (layer_step sight)
 
 -- what is told of an operator's right operand
-unfoldable pub link_part : Sight → Link → Part
+unfoldable pub link_part : InSight → Link → Part
 link_part sight = fold-Link Stepped Shaped Part Part (Judged → Told Judged) (layer_access sight) (layer_shape sight) (layer_expr sight) (layer_link sight) (layer_step sight)
 
 -- what a step makes of what stands before it
-unfoldable pub step_part : Sight → Step → Judged → Told Judged
+unfoldable pub step_part : InSight → Step → Judged → Told Judged
 step_part sight = fold-Step Stepped Shaped Part Part (Judged → Told Judged) (layer_access sight) (layer_shape sight) (layer_expr sight) (layer_link sight) (layer_step sight)

@@ -11,7 +11,7 @@ use Rattle.cs_types_kinds.specs.declared.scope.Entry.{Entry}
 use Rattle.cs_types_kinds.specs.declared.scope.Costs.{Costs}
 
 -- Where a part of a method stands.
-pub record Sight : Type 0 where
+pub record InSight : Type 0 where
   pub contract : Contract
   pub costs : List Costs  -- of the methods above
   pub starred : Bool  -- the method consumes or reads any number of objects
@@ -53,13 +53,13 @@ is_declared name es = list_any (is_name name) es
 abbrev pub with_name : List Entry → List ℕ → Kind → Use → List Entry
 with_name names name k u = names ++ record { name = name; seen = record { kind = k; usage = u } } ∷ []
 
-abbrev pub with_names : Sight → List Entry → Sight
+abbrev pub with_names : InSight → List Entry → InSight
 with_names sight names = record { contract = sight.contract; costs = sight.costs; starred = sight.starred; in_check = sight.in_check; names = names }
 
 -- at the beginning of a procedure or a check
-abbrev pub entered : Sight → Bool → Bool → Sight
+abbrev pub entered : InSight → Bool → Bool → InSight
 entered sight starred in_check = record { contract = sight.contract; costs = sight.costs; starred = starred; in_check = in_check; names = [] }
 
 -- below a method
-abbrev pub closed : Sight → Costs → Sight
+abbrev pub closed : InSight → Costs → InSight
 closed sight costs = record { contract = sight.contract; costs = sight.costs ++ costs ∷ []; starred = sight.starred; in_check = sight.in_check; names = sight.names }

@@ -105,9 +105,9 @@ impl<'a> Model for Scope<'a> {
     ghost use Rattle.cs_lang.specs.contracts.tree.ValueKind as kinds;
     ghost use Rattle.cs_lang.specs.contracts.tree.Expr as exprs;
     ghost use Rattle.cs_lang.specs.contracts.tree.Block as blocks;
-    ghost use Rattle.cs_types_kinds.specs.Scopes.{Sight};
+    ghost use Rattle.cs_types_kinds.specs.Scopes.{InSight};
 
-    ghost Value = { Sight };
+    ghost Value = { InSight };
 
     ghost coded = { Prim.hlevel (codes, kinds.the_row.coded, exprs.the_row.coded, blocks.the_row.coded) };
 

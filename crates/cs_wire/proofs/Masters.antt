@@ -6,7 +6,7 @@ use Rattle.std.proofs.lemmas.Bool.Decides.{nat_tests}
 use Rattle.cs_base.specs.declared.config.Config.{Config}
 use Rattle.cs_base.specs.declared.node_id.NodeId.{NodeId}
 use Rattle.cs_base.specs.declared.node_id.TheConstants.{CLIENT_SHARD, CLIENTS}
-use Rattle.cs_base.specs.NodeId.{is_node, is_client, is_named}
+use Rattle.cs_base.specs.NodeId.{is_node, is_client, is_named, same_name, members_below}
 use Rattle.cs_base.specs.Fields.{IsBytes}
 use Rattle.cs_base.proofs.Forms.{IsBytes-drop, IsBytes-take}
 use Rattle.cs_hash.specs.Hash.{hmac}
@@ -22,9 +22,9 @@ use Rattle.cs_wire.specs.declared.opening.OpenError.TheVariants as errors
 use Rattle.cs_wire.specs.declared.view.MessageView.{MessageView}
 use Rattle.cs_wire.specs.Datagram.{text_of, sealed, is_kind, body_in}
 use Rattle.cs_wire.specs.Heads.{head_seen}
-use Rattle.cs_wire.specs.Keys.{same_name, row_in, row_of, has_name, row_between, row_expected, IsOfMaster}
-use Rattle.cs_wire.specs.Opens.{IsSealed, Shows, fault_of, head_fault, keyed_fault, HasNoBody, Opens, unless}
-use Rattle.cs_wire.specs.Opened.{Opened, opened, opened_body, said_by, unless_fault, text_with, datagram_with, members_below, nodes_below, names_of, rows_with, keys_of_master}
+use Rattle.cs_wire.specs.Keys.{row_in, row_of, has_name, row_between, row_expected, IsOfMaster}
+use Rattle.cs_wire.specs.Opens.{IsSealed, ShowsMessage, fault_of, head_fault, keyed_fault, HasNoBody, Opens, unless}
+use Rattle.cs_wire.specs.Opened.{Opened, opened, opened_body, said_by, unless_fault, text_with, datagram_with, nodes_below, names_of, rows_with, keys_of_master}
 use Rattle.cs_wire.proofs.Parts.{are_same, head_for}
 use Rattle.cs_wire.proofs.Rows.{member_more, shard_more, row_skipped}
 use Rattle.cs_wire.proofs.Unsealed.{is_clear}
@@ -41,7 +41,7 @@ sealed_is key from to m = ap (λ (t : List ℕ). t ++ hmac key t) (text_is from 
 -- ---- reading
 
 -- what was opened is what the bytes say
-pub opened_ok : (keys : Keys) (bytes : List ℕ) (found : NodeId × MessageView) (m : Message) → Opens keys bytes (Ok found) → Shows found.1 m → Ok (found.0, m) ≡ opened keys bytes
+pub opened_ok : (keys : Keys) (bytes : List ℕ) (found : NodeId × MessageView) (m : Message) → Opens keys bytes (Ok found) → ShowsMessage found.1 m → Ok (found.0, m) ≡ opened keys bytes
 opened_ok keys bytes found m o shown =
     let c = is_clear keys bytes found.0 o.0 o.1 in
     let one : Some o.0 ≡ Some m = sym (has_whole found.1.kind found.1.body.now o.0 o.2) ∙ has_whole found.1.kind found.1.body.now m shown in

@@ -12,7 +12,7 @@ use Rattle.cs_wire_message.specs.Message.{kind_of, body_of}
 use Rattle.cs_wire.specs.declared.head.Head.{Head}
 use Rattle.cs_wire.specs.Datagram.{name_encoding, text_of, text_in, tag_in, body_in}
 use Rattle.cs_wire.specs.Heads.{name_of, name_at, head_from, head_at, first, head_seen}
-use Rattle.cs_wire.specs.Keys.{same_name}
+use Rattle.cs_base.specs.NodeId.{same_name}
 use Rattle.cs_wire.specs.Opens.{IsName}
 
 -- ---- heads

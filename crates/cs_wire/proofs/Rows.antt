@@ -6,7 +6,8 @@ use Rattle.std.proofs.lemmas.Bool.{cases_lt, lt-ltb, le-ltb}
 use Rattle.std.proofs.lemmas.Bool.Decides.{eqb_tells}
 use Rattle.cs_base.specs.declared.node_id.NodeId.{NodeId}
 use Rattle.cs_wire.specs.declared.keys.Row.{Row}
-use Rattle.cs_wire.specs.Keys.{same_name, row_in, has_name, row_between, row_expected}
+use Rattle.cs_wire.specs.Keys.{row_in, has_name, row_between, row_expected}
+use Rattle.cs_base.specs.NodeId.{same_name}
 use Rattle.cs_wire.proofs.Parts.{are_same}
 
 or_assoc : (a b c : Bool) → (a || (b || c)) ≡ ((a || b) || c)

@@ -15,7 +15,8 @@ use Rattle.cs_wire.specs.declared.opening.OpenError.{OpenError}
 use Rattle.cs_wire.specs.declared.opening.OpenError.TheVariants as errors
 use Rattle.cs_wire.specs.Datagram.{text_of, is_kind, is_sized, has_tag, text_in, tag_in, body_in}
 use Rattle.cs_wire.specs.Heads.{head_seen}
-use Rattle.cs_wire.specs.Keys.{same_name, row_of}
+use Rattle.cs_wire.specs.Keys.{row_of}
+use Rattle.cs_base.specs.NodeId.{same_name}
 use Rattle.cs_wire.specs.Opens.{IsName, IsSealed, unless, keyed_fault, head_fault, fault_of, HasNoBody, Opens}
 use Rattle.cs_wire.proofs.Parts.{head_encoding, head_for, text_parts, same_head, cut, both_are, are_same}
 

@@ -19,12 +19,12 @@ use Rattle.cs_wire.specs.declared.opening.OpenError.{OpenError}
 use Rattle.cs_wire.specs.declared.opening.OpenError.TheVariants as errors
 use Rattle.cs_wire.specs.Datagram.{text_of, sealed, is_kind, is_sized, has_tag, text_in, tag_in, body_in}
 use Rattle.cs_wire.specs.Heads.{head_at, first, head_seen}
-use Rattle.cs_wire.specs.Keys.{same_name, row_of, row_between, IsOfMaster}
+use Rattle.cs_wire.specs.Keys.{row_of, row_between, IsOfMaster}
 use Rattle.cs_base.specs.declared.config.Config.{Config}
-use Rattle.cs_base.specs.NodeId.{is_named}
+use Rattle.cs_base.specs.NodeId.{is_named, same_name}
 use Rattle.cs_base.proofs.Forms.{some_is, when_some}
 use Rattle.cs_wire.specs.declared.view.MessageView.{MessageView}
-use Rattle.cs_wire.specs.Opens.{IsName, Seals, IsSealed, keyed_fault, head_fault, fault_of, HasNoBody, Opens, OpensAs, Shows}
+use Rattle.cs_wire.specs.Opens.{IsName, Seals, IsSealed, keyed_fault, head_fault, fault_of, HasNoBody, Opens, OpensAs, ShowsMessage}
 use Rattle.cs_wire.proofs.Parts.{head_encoding, HeadFits, head_form, head_for, head_length, text_parts, split, is_same}
 
 pub record IsClear (keys : Keys) (bytes : List ℕ) (sender : NodeId) (m : Message) : Type 0 where
@@ -99,7 +99,7 @@ is_clear keys bytes sender m s =
       has = record { kind = refl; body = sym parts.body; fits = s.fits };
     }
 
-same_shown : (keys : Keys) (bytes : List ℕ) (found : NodeId × MessageView) (m2 : Message) → IsSealed keys bytes found.0 m2 → Shows found.1 m2 → (sender : NodeId) (m : Message) → IsSealed keys bytes sender m → (found.0 ≡ sender) × Shows found.1 m
+same_shown : (keys : Keys) (bytes : List ℕ) (found : NodeId × MessageView) (m2 : Message) → IsSealed keys bytes found.0 m2 → ShowsMessage found.1 m2 → (sender : NodeId) (m : Message) → IsSealed keys bytes sender m → (found.0 ≡ sender) × ShowsMessage found.1 m
 same_shown keys bytes found m2 s2 shown sender m s =
     let a = is_clear keys bytes sender m s in
     let b = is_clear keys bytes found.0 m2 s2 in

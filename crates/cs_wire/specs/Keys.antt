@@ -3,16 +3,13 @@ use Rattle.std.specs.Prelude.{◌≡◌, ℕ, ◌+◌, Bool, not, ◌&&◌, ◌|
 use Rattle.std.specs.List.{list_any}
 use Rattle.cs_base.specs.declared.config.Config.{Config}
 use Rattle.cs_base.specs.declared.node_id.NodeId.{NodeId}
-use Rattle.cs_base.specs.NodeId.{is_named}
+use Rattle.cs_base.specs.NodeId.{is_named, same_name}
 use Rattle.cs_hash.specs.Hash.{hmac}
 use Rattle.cs_wire.specs.Datagram.{name_encoding}
 use Rattle.cs_wire.specs.declared.keys.Row.{Row}
 use Rattle.cs_wire.specs.declared.keys.Keys.{Keys}
 use Rattle.cs_wire.specs.declared.keys.KeysError.{KeysError}
 use Rattle.cs_wire.specs.declared.keys.KeysError.TheVariants as errors
-
-abbrev pub same_name : NodeId → NodeId → Bool
-same_name a b = a.shard == b.shard && a.index == b.index
 
 -- the first row of a peer
 abbrev pub row_in : NodeId → List Row → Option Row

@@ -14,7 +14,8 @@ use Rattle.cs_wire.specs.declared.opening.OpenError.{OpenError}
 use Rattle.cs_wire.specs.declared.opening.OpenError.TheVariants as errors
 use Rattle.cs_wire.specs.Datagram.{name_encoding, body_in}
 use Rattle.cs_wire.specs.Heads.{head_seen}
-use Rattle.cs_wire.specs.Keys.{same_name, row_between}
+use Rattle.cs_wire.specs.Keys.{row_between}
+use Rattle.cs_base.specs.NodeId.{same_name, members_below}
 use Rattle.cs_wire.specs.Opens.{fault_of}
 
 -- ---- opening
@@ -49,11 +50,6 @@ abbrev pub datagram_with : List ℕ → NodeId → NodeId → ℕ → List ℕ �
 datagram_with key from to kind body = text_with from to kind body ++ hmac key (text_with from to kind body)
 
 -- ---- the keys of a master key
-
--- so many members of a shard
-abbrev pub members_below : ℕ → ℕ → List NodeId
-members_below shard zero = []
-members_below shard (suc n) = members_below shard n ++ record { shard = shard; index = n } ∷ []
 
 -- the members, so many of each, of so many shards
 abbrev pub nodes_below : ℕ → ℕ → List NodeId

@@ -12,7 +12,8 @@ use Rattle.cs_wire.specs.declared.opening.OpenError.TheVariants as errors
 use Rattle.cs_wire.specs.declared.view.MessageView.{MessageView}
 use Rattle.cs_wire.specs.Datagram.{sealed, is_kind, is_sized, has_tag, body_in}
 use Rattle.cs_wire.specs.Heads.{head_seen}
-use Rattle.cs_wire.specs.Keys.{same_name, row_of}
+use Rattle.cs_wire.specs.Keys.{row_of}
+use Rattle.cs_base.specs.NodeId.{same_name}
 
 -- ---- sealing
 
@@ -65,12 +66,12 @@ HasNoBody bytes None = Unit {0}
 HasNoBody bytes (Some head) = IsBody head.kind (body_in bytes) → ⊥
 
 -- the view is of this message
-abbrev pub Shows : MessageView → Message → Type 0
-Shows view m = Has view.kind view.body.now m
+abbrev pub ShowsMessage : MessageView → Message → Type 0
+ShowsMessage view m = Has view.kind view.body.now m
 
 -- what a call answers: a sender and its message where the bytes are that datagram, or else the first test that fails
 abbrev pub Opens : Keys → List ℕ → Result (NodeId × MessageView) OpenError → Type 0
-Opens keys bytes (Ok found) = (m : Message) × IsSealed keys bytes found.0 m × Shows found.1 m
+Opens keys bytes (Ok found) = (m : Message) × IsSealed keys bytes found.0 m × ShowsMessage found.1 m
 Opens keys bytes (Err errors.Body) = (fault_of keys bytes ≡ None) × HasNoBody bytes (head_seen bytes)
 Opens keys bytes (Err errors.Short) = fault_of keys bytes ≡ Some errors.Short
 Opens keys bytes (Err errors.Magic) = fault_of keys bytes ≡ Some errors.Magic
@@ -87,5 +88,5 @@ Checks (Err error) fault found = (fault ≡ Some error) × (error ≡ errors.Bod
 
 -- the answer is this sender and this message
 abbrev pub OpensAs : Result (NodeId × MessageView) OpenError → NodeId → Message → Type 0
-OpensAs (Ok found) sender m = (found.0 ≡ sender) × Shows found.1 m
+OpensAs (Ok found) sender m = (found.0 ≡ sender) × ShowsMessage found.1 m
 OpensAs (Err error) sender m = ⊥

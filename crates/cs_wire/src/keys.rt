@@ -1,6 +1,7 @@
 //! The keys of a node or a client: one to each peer, and one from each.
 ghost use Rattle.std.specs.Prelude.{◌≡◌, IfOk, option_copied};
-ghost use Rattle.cs_wire.specs.Keys.{same_name as alike, row_of, row_in, row_listed, stands, Lists, IsOfMaster};
+ghost use Rattle.cs_wire.specs.Keys.{row_of, row_in, row_listed, stands, Lists, IsOfMaster};
+ghost use Rattle.cs_base.specs.NodeId.{same_name as alike};
 
 use crate::names::rows_of_master;
 use cs_base::{Config, Memory, NodeId, Sequence};

@@ -2,13 +2,13 @@
 ghost use Rattle.std.specs.Prelude.{◌≡◌, ℕ, List, [], true, false, Result};
 ghost use Rattle.cs_base.specs.declared.config.Config.{Config};
 ghost use Rattle.cs_base.specs.declared.node_id.NodeId.{NodeId};
-ghost use Rattle.cs_base.specs.NodeId.{is_named};
+ghost use Rattle.cs_base.specs.NodeId.{is_named, same_name};
 ghost use Rattle.cs_wire_message.specs.declared.message.Message.{Message};
 ghost use Rattle.cs_wire_message.specs.Message.{MessageFits};
 ghost use Rattle.cs_wire.specs.declared.keys.Keys.{Keys};
 ghost use Rattle.cs_wire.specs.declared.view.MessageView.{MessageView};
 ghost use Rattle.cs_wire.specs.declared.opening.OpenError.{OpenError};
-ghost use Rattle.cs_wire.specs.Keys.{same_name, IsOfMaster};
+ghost use Rattle.cs_wire.specs.Keys.{IsOfMaster};
 ghost use Rattle.cs_wire.specs.Opens.{IsName, Seals, IsSealed, Opens, OpensAs};
 
 /// What `open` answers is determined: the datagram of a sender and a message that it holds the key

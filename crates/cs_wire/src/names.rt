@@ -1,8 +1,8 @@
 //! The names of a deployment, and the keys that a master key gives them.
 ghost use Rattle.std.specs.Prelude.{◌≡◌, ◌≤◌, ◌&&◌, ◌||◌, ◌==◌, nat_lt, Bool, IfOk, OnOk};
 ghost use Rattle.cs_base.specs.declared.node_id.NodeId.{NodeId};
-ghost use Rattle.cs_base.specs.NodeId.{is_named};
-ghost use Rattle.cs_wire.specs.Keys.{has_name, same_name as same_as, pair_text, key_between, row_between, row_in, row_expected};
+ghost use Rattle.cs_base.specs.NodeId.{is_named, same_name as same_as};
+ghost use Rattle.cs_wire.specs.Keys.{has_name, pair_text, key_between, row_between, row_in, row_expected};
 
 use crate::head::write_name;
 use crate::keys::{Row, same_name};

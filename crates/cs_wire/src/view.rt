@@ -1,7 +1,7 @@
 //! Messages that are still bytes of a datagram.
 ghost use Rattle.std.specs.Prelude.{◌≡◌, IfOk};
 ghost use Rattle.cs_wire_message.specs.Body.{IsBody, Has};
-ghost use Rattle.cs_wire.specs.Opens.{Shows};
+ghost use Rattle.cs_wire.specs.Opens.{ShowsMessage};
 
 use cs_base::Memory;
 use cs_wire_message::{Message, message_in};
@@ -24,7 +24,7 @@ impl<'a> MessageView<'a> {
 
     /// The message.
     pub fn to_message(&self, alloc: Global) -> Result<Message, Memory>
-        ensures { IfOk result (λ message. Shows self.now message) }
+        ensures { IfOk result (λ message. ShowsMessage self.now message) }
     {
         match message_in(alloc, self.kind, self.body) {
             Ok(message) => Ok(message),

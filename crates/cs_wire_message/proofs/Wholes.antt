@@ -3,7 +3,7 @@ use Rattle.std.proofs.Common.{◌≡◌, ℕ, Bool, true, false, cond, eqb, List
 use Rattle.std.specs.Prelude.{◌&&◌, ◌==◌, ◌↔◌, is_some, Result, Ok, Err, IfOk}
 use Rattle.cs_tx_value.specs.declared.form.FormError.{FormError}
 use Rattle.cs_tx_value.specs.declared.form.FormError.TheVariants as errors
-use Rattle.cs_tx_value.specs.Reading.{GivesAll, Answers}
+use Rattle.cs_tx_value.specs.Reading.{GivesAll, AnswersValue}
 use Rattle.std.proofs.Math.Dec.{eqb-suc-zero}
 use Rattle.std.proofs.lemmas.Bool.{eqb-true}
 use Rattle.std.proofs.lemmas.List.{append-nil, nil_from_length}
@@ -112,7 +112,7 @@ pub is_found : (kind : ℕ) (body : List ℕ) (r : Result Message FormError) →
 is_found kind body (Ok m) fits given = whole_has kind body m fits given
 is_found kind body (Err e) fits given = tt
 
-pub is_only : (kind : ℕ) (body : List ℕ) (r : Result Message FormError) → GivesAll r (message_whole kind body) → (m : Message) → Has kind body m → Answers r m
+pub is_only : (kind : ℕ) (body : List ℕ) (r : Result Message FormError) → GivesAll r (message_whole kind body) → (m : Message) → Has kind body m → AnswersValue r m
 is_only kind body (Ok x) given m h = some_is x m (sym given ∙ has_whole kind body m h)
 is_only kind body (Err errors.Memory) given m h = refl
 is_only kind body (Err errors.BadForm) given m h = let e = has_whole kind body m h in absurd cc

@@ -3,7 +3,7 @@ use Rattle.std.proofs.Common.{◌≡◌, ℕ, zero, suc, ◌^◌, ◌<◌, ◌�
 use Rattle.std.specs.Prelude.{nat_le, nat_lt, if◌then◌else◌}
 use Rattle.std.specs.Int.{w8, w16, w64, to_be_bytes}
 use Rattle.std.proofs.lemmas.Bool.{leb-true, le-leb, ltb-true, lt-ltb}
-use Rattle.cs_base.specs.Fields.{IsBytes, ◌>>=◌, ◌<$>◌, each, counted, Takes, IsForm, pair_at}
+use Rattle.cs_base.specs.Fields.{IsBytes, ◌>>=◌, ◌<$>◌, each, counted, Splits, IsForm, pair_at}
 use Rattle.cs_base.proofs.Forms.{wide16, number_form, byte_form, bytes_form, pair_of, tested_of, mapped_of, weaker_form, upto_form, bind_some, when_some, some_is, Takes-then}
 use Rattle.cs_tx_value.specs.Kinds.{kinds_at, kinds_form, takes_part, part_kinded, takes_bare, bare_kinded, Kinded}
 use Rattle.cs_tx_value.specs.KeyLaw.{key_form}
@@ -52,17 +52,17 @@ module _ (view : ℕ) (small : view < 2 ^ 16) where
   echo_form : (last : Option (List ℕ)) → IsForm echo_encoding (λ echo. (DigestFits echo.0 × (is_above last echo.0 ≡ true)) × (echo.1 < view)) (echo_at view last)
   echo_form last = pair_of (tested_of (bytes_form 32) (is_above last)) (below_form view small)
 
-  rising-takes : (last : Option (List ℕ)) (n : ℕ) (bytes : List ℕ) (xs : List (List ℕ × ℕ)) (rest : List ℕ) → IsBytes bytes → rising_at view last n bytes ≡ Some (xs, rest) → Takes bytes (each echo_encoding xs) rest × ((length xs ≡ n) × Rise view last xs)
+  rising-takes : (last : Option (List ℕ)) (n : ℕ) (bytes : List ℕ) (xs : List (List ℕ × ℕ)) (rest : List ℕ) → IsBytes bytes → rising_at view last n bytes ≡ Some (xs, rest) → Splits bytes (each echo_encoding xs) rest × ((length xs ≡ n) × Rise view last xs)
   unfolding rising_at
   rising-takes last zero bytes xs rest fits e =
-      subst (λ (p : List (List ℕ × ℕ) × List ℕ). Takes bytes (each echo_encoding p.0) p.1 × ((length p.0 ≡ 0) × Rise view last p.0)) (some_is ([], bytes) (xs, rest) e) (record { parts = refl; rest_fits = fits }, (refl, tt))
+      subst (λ (p : List (List ℕ × ℕ) × List ℕ). Splits bytes (each echo_encoding p.0) p.1 × ((length p.0 ≡ 0) × Rise view last p.0)) (some_is ([], bytes) (xs, rest) e) (record { parts = refl; rest_fits = fits }, (refl, tt))
   rising-takes last (suc n) bytes xs rest fits e =
       let a = bind_some (echo_at view last bytes) (λ first. rising_at view (Some first.0.0) n first.1 >>= λ others. Some (first.0 ∷ others.0, others.1)) (xs, rest) e in
       let b = bind_some (rising_at view (Some a.0.0.0) n a.0.1) (λ others. Some (a.0.0 ∷ others.0, others.1)) (xs, rest) a.2 in
       let first = (echo_form last).takes bytes a.0.0 a.0.1 fits a.1 in
       let others = rising-takes (Some a.0.0.0) n a.0.1 b.0.0 b.0.1 first.0.rest_fits b.1 in
       let both = Takes-then bytes (echo_encoding a.0.0) a.0.1 (each echo_encoding b.0.0) b.0.1 first.0 others.0 in
-      subst (λ (p : List (List ℕ × ℕ) × List ℕ). Takes bytes (each echo_encoding p.0) p.1 × ((length p.0 ≡ suc n) × Rise view last p.0)) (some_is (a.0.0 ∷ b.0.0, b.0.1) (xs, rest) b.2) (both, (ap suc others.1.0, (first.1, others.1.1)))
+      subst (λ (p : List (List ℕ × ℕ) × List ℕ). Splits bytes (each echo_encoding p.0) p.1 × ((length p.0 ≡ suc n) × Rise view last p.0)) (some_is (a.0.0 ∷ b.0.0, b.0.1) (xs, rest) b.2) (both, (ap suc others.1.0, (first.1, others.1.1)))
 
   rising-again : (last : Option (List ℕ)) (n : ℕ) (xs : List (List ℕ × ℕ)) (rest : List ℕ) → (length xs ≡ n) × Rise view last xs → rising_at view last n (each echo_encoding xs ++ rest) ≡ Some (xs, rest)
   unfolding rising_at
@@ -76,7 +76,7 @@ module _ (view : ℕ) (small : view < 2 ^ 16) where
   echoed_form : IsForm (counted echo_encoding) (λ xs. (length xs ≤ 16) × Rise view None xs) (echoed_at view)
   echoed_form = upto_form w8 256 (λ n. n ∷ []) byte_form 16 (omega arith) length (each echo_encoding) (Rise view None) (rising_at view None) (λ n. record { takes = rising-takes None n; again = rising-again None n })
 
-  prepared_takes : (kind : ℕ) (bytes : List ℕ) (p : Option (ℕ × List ℕ)) (rest : List ℕ) → IsBytes bytes → prepared_kind_at view kind bytes ≡ Some (p, rest) → Takes (kind ∷ bytes) (prepared_encoding p) rest × PreparedFits view p
+  prepared_takes : (kind : ℕ) (bytes : List ℕ) (p : Option (ℕ × List ℕ)) (rest : List ℕ) → IsBytes bytes → prepared_kind_at view kind bytes ≡ Some (p, rest) → Splits (kind ∷ bytes) (prepared_encoding p) rest × PreparedFits view p
   prepared_takes zero bytes p rest fits is = takes_bare prepared_encoding (PreparedFits view) (prepared_kind_at view) None 0 refl tt bytes p rest fits is
   prepared_takes (suc zero) bytes p rest fits is = takes_part prepared_encoding (PreparedFits view) (prepared_kind_at view) (pair_of (below_form view small) (bytes_form 32)) some_pair 1 (λ p. refl) (λ p h. h) bytes p rest fits is
   prepared_takes (suc (suc kind)) bytes p rest fits is = absurd cc
@@ -105,7 +105,7 @@ at_form view low high =
     let f : ChangeFits view c.1 = subst (λ (n : ℕ). ChangeFits n c.1) h.0 h.1.1.1 in
     (ap (λ (n : ℕ). (n, c.1)) (sym h.0), (f.prepared, (f.few, f.rise))))
 
-claimed-takes : (n : ℕ) (bytes : List ℕ) (c : Claim) (rest : List ℕ) → IsBytes bytes → claimed_at n bytes ≡ Some (c, rest) → Takes bytes (claim_encoding c) rest × ((c.0 ≡ n) × ClaimFits c)
+claimed-takes : (n : ℕ) (bytes : List ℕ) (c : Claim) (rest : List ℕ) → IsBytes bytes → claimed_at n bytes ≡ Some (c, rest) → Splits bytes (claim_encoding c) rest × ((c.0 ≡ n) × ClaimFits c)
 unfolding claimed_at
 claimed-takes n bytes c rest fits e =
     let inner = claim_of n <$> pair_at (prepared_at n) (echoed_at n) bytes in
@@ -172,7 +172,7 @@ IsLong (message.Head checkpoint) = MessageFits (message.Head checkpoint)
 IsLong (message.AskProof slot) = MessageFits (message.AskProof slot)
 IsLong (message.Proof proof) = MessageFits (message.Proof proof)
 
-pub message_takes : (kind : ℕ) (bytes : List ℕ) (m : Message) (rest : List ℕ) → IsBytes bytes → message_at kind bytes ≡ Some (m, rest) → Takes (kind ∷ bytes) (spelled m) rest × IsLong m
+pub message_takes : (kind : ℕ) (bytes : List ℕ) (m : Message) (rest : List ℕ) → IsBytes bytes → message_at kind bytes ≡ Some (m, rest) → Splits (kind ∷ bytes) (spelled m) rest × IsLong m
 message_takes zero bytes m rest fits is = absurd cc
 message_takes (suc zero) bytes m rest fits is = takes_part spelled IsLong message_at session_form message.Submit 1 (λ p. refl) (λ p h. h) bytes m rest fits is
 message_takes (suc (suc zero)) bytes m rest fits is = takes_part spelled IsLong message_at propose_form propose_of 2 (λ p. refl) (λ p h. h) bytes m rest fits is

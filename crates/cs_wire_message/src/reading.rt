@@ -1,6 +1,6 @@
 //! Reading bodies.
 ghost use Rattle.std.specs.Prelude.{◌≡◌};
-ghost use Rattle.cs_tx_value.specs.Reading.{Gives};
+ghost use Rattle.cs_tx_value.specs.Reading.{ReadsValue};
 ghost use Rattle.cs_wire_message.specs.Reading.{propose_at, step_at, voted_at, decided_at, done_at, told_at, message_at};
 
 use crate::message::Message;
@@ -13,7 +13,7 @@ use std::alloc::Global;
 
 #[tactic(auto, unfolding(crate::specs::Reading::propose_at, cs_base::specs::Fields::pair_at))]
 fn read_propose(alloc: Global, cursor: &mut Cursor<'_>) -> Result<(u64, (u16, Entry)), FormError>
-    ensures { Gives result cursor.new (propose_at cursor.old) }
+    ensures { ReadsValue result cursor.new (propose_at cursor.old) }
 {
     let slot = read_slot(cursor)?;
     let view = read_view(cursor)?;
@@ -23,7 +23,7 @@ fn read_propose(alloc: Global, cursor: &mut Cursor<'_>) -> Result<(u64, (u16, En
 
 #[tactic(auto, unfolding(crate::specs::Reading::step_at, cs_base::specs::Fields::pair_at))]
 fn read_step(alloc: Global, cursor: &mut Cursor<'_>) -> Result<(u64, (u16, Digest)), FormError>
-    ensures { Gives result cursor.new (step_at cursor.old) }
+    ensures { ReadsValue result cursor.new (step_at cursor.old) }
 {
     let slot = read_slot(cursor)?;
     let view = read_view(cursor)?;
@@ -33,7 +33,7 @@ fn read_step(alloc: Global, cursor: &mut Cursor<'_>) -> Result<(u64, (u16, Diges
 
 #[tactic(auto, unfolding(crate::specs::Reading::voted_at, cs_base::specs::Fields::pair_at))]
 fn read_voted(alloc: Global, cursor: &mut Cursor<'_>) -> Result<(Vote, (bool, Session)), FormError>
-    ensures { Gives result cursor.new (voted_at cursor.old) }
+    ensures { ReadsValue result cursor.new (voted_at cursor.old) }
 {
     let vote = Vote::read(alloc, cursor)?;
     let asks = read_flag(cursor)?;
@@ -43,7 +43,7 @@ fn read_voted(alloc: Global, cursor: &mut Cursor<'_>) -> Result<(Vote, (bool, Se
 
 #[tactic(auto, unfolding(crate::specs::Reading::decided_at, cs_base::specs::Fields::pair_at))]
 fn read_decided(alloc: Global, cursor: &mut Cursor<'_>) -> Result<(Digest, bool), FormError>
-    ensures { Gives result cursor.new (decided_at cursor.old) }
+    ensures { ReadsValue result cursor.new (decided_at cursor.old) }
 {
     let session = Digest::read(alloc, cursor)?;
     let accepted = read_flag(cursor)?;
@@ -52,7 +52,7 @@ fn read_decided(alloc: Global, cursor: &mut Cursor<'_>) -> Result<(Digest, bool)
 
 #[tactic(auto, unfolding(crate::specs::Reading::done_at, cs_base::specs::Fields::pair_at))]
 fn read_done(alloc: Global, cursor: &mut Cursor<'_>) -> Result<(u64, Entry), FormError>
-    ensures { Gives result cursor.new (done_at cursor.old) }
+    ensures { ReadsValue result cursor.new (done_at cursor.old) }
 {
     let slot = read_slot(cursor)?;
     let entry = Entry::read(alloc, cursor)?;
@@ -61,7 +61,7 @@ fn read_done(alloc: Global, cursor: &mut Cursor<'_>) -> Result<(u64, Entry), For
 
 #[tactic(auto, unfolding(crate::specs::Reading::told_at, cs_base::specs::Fields::pair_at))]
 fn read_told(alloc: Global, cursor: &mut Cursor<'_>) -> Result<(Key, State), FormError>
-    ensures { Gives result cursor.new (told_at cursor.old) }
+    ensures { ReadsValue result cursor.new (told_at cursor.old) }
 {
     let key = Key::read(alloc, cursor)?;
     let state = State::read(alloc, cursor)?;
@@ -70,7 +70,7 @@ fn read_told(alloc: Global, cursor: &mut Cursor<'_>) -> Result<(Key, State), For
 
 /// The body of a message of this kind, but for one of no byte.
 pub fn read_message(alloc: Global, cursor: &mut Cursor<'_>, kind: u8) -> Result<Message, FormError>
-    ensures { Gives result cursor.new (message_at kind cursor.old) }
+    ensures { ReadsValue result cursor.new (message_at kind cursor.old) }
 {
     match kind {
         1 => Ok(Message::Submit(Session::read(alloc, cursor)?)),

@@ -1,7 +1,7 @@
 //! What a member claims as it enters a view: digests that rise, with earlier views.
 ghost use Rattle.std.specs.Prelude.{◌≡◌, ◌≤◌, None};
 ghost use Rattle.cs_base.specs.Fields.{bytes_at};
-ghost use Rattle.cs_tx_value.specs.Reading.{Gives, Passes};
+ghost use Rattle.cs_tx_value.specs.Reading.{ReadsValue, Passes};
 ghost use Rattle.cs_wire_message.specs.Message.{is_above};
 ghost use Rattle.cs_wire_message.specs.Reading.{Gets, above_at, below_at, echo_at, rising_at, echoed_at, prepared_at, claimed_at, claim_at};
 
@@ -76,7 +76,7 @@ fn read_rising(
     view: u16,
     count: u8,
 ) -> Result<Sequence<(Digest, u16)>, FormError>
-    ensures { Gives result cursor.new (rising_at view None count cursor.old) }
+    ensures { ReadsValue result cursor.new (rising_at view None count cursor.old) }
 {
     let mut echoed = Sequence::new(alloc);
     let mut last = None;
@@ -105,7 +105,7 @@ fn read_echoed(
     cursor: &mut Cursor<'_>,
     view: u16,
 ) -> Result<Sequence<(Digest, u16)>, FormError>
-    ensures { Gives result cursor.new (echoed_at view cursor.old) }
+    ensures { ReadsValue result cursor.new (echoed_at view cursor.old) }
 {
     let count = cursor.u8()?;
     if count > MOST_ECHOED {
@@ -127,7 +127,7 @@ fn skip_echoed(cursor: &mut Cursor<'_>, view: u16) -> Result<(), FormError>
 
 #[tactic(auto, unfolding(cs_tx_value::specs::Kinds::kinds_at, cs_base::specs::Fields::pair_at))]
 fn read_prepared(cursor: &mut Cursor<'_>, view: u16) -> Result<Option<(u16, Digest)>, FormError>
-    ensures { Gives result cursor.new (prepared_at view cursor.old) }
+    ensures { ReadsValue result cursor.new (prepared_at view cursor.old) }
 {
     match cursor.u8()? {
         0 => Ok(None),
@@ -163,7 +163,7 @@ fn read_claimed(
     view: u16,
 ) -> Result<(u16, Change), FormError>
     requires { view ≤ 1023 }
-    ensures { Gives result cursor.new (claimed_at view cursor.old) }
+    ensures { ReadsValue result cursor.new (claimed_at view cursor.old) }
 {
     if view < 1 {
         return Err(FormError::BadForm);
@@ -188,7 +188,7 @@ fn skip_claimed(cursor: &mut Cursor<'_>, view: u16) -> Result<(), FormError>
 /// A slot, a view from 1 on, and what is claimed there.
 #[tactic(auto, unfolding(crate::specs::Reading::claim_at, cs_base::specs::Fields::upto_at, cs_base::specs::Fields::pair_at))]
 pub fn read_claim(alloc: Global, cursor: &mut Cursor<'_>) -> Result<(u64, (u16, Change)), FormError>
-    ensures { Gives result cursor.new (claim_at cursor.old) }
+    ensures { ReadsValue result cursor.new (claim_at cursor.old) }
 {
     let slot = read_slot(cursor)?;
     let view = cursor.u16()?;

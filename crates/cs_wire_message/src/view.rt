@@ -1,6 +1,6 @@
 //! The views of a slot.
 ghost use Rattle.std.specs.Prelude.{◌≡◌};
-ghost use Rattle.cs_tx_value.specs.Reading.{Gives, Passes};
+ghost use Rattle.cs_tx_value.specs.Reading.{ReadsValue, Passes};
 ghost use Rattle.cs_wire_message.specs.Reading.{view_at, flag_at};
 
 use cs_base::Cursor;
@@ -12,7 +12,7 @@ pub const LAST_VIEW: u16 = 1023;
 /// The view at the cursor.
 #[tactic(auto, unfolding(cs_base::specs::Fields::tested_at))]
 pub fn read_view(cursor: &mut Cursor<'_>) -> Result<u16, FormError>
-    ensures { Gives result cursor.new (view_at cursor.old) }
+    ensures { ReadsValue result cursor.new (view_at cursor.old) }
 {
     let view = cursor.u16()?;
     if view > LAST_VIEW {
@@ -35,7 +35,7 @@ pub fn skip_view(cursor: &mut Cursor<'_>) -> Result<(), FormError>
 /// The flag at the cursor.
 #[tactic(auto, unfolding(crate::specs::Reading::flag_at, cs_base::specs::Fields::tested_at))]
 pub fn read_flag(cursor: &mut Cursor<'_>) -> Result<bool, FormError>
-    ensures { Gives result cursor.new (flag_at cursor.old) }
+    ensures { ReadsValue result cursor.new (flag_at cursor.old) }
 {
     let flag = cursor.u8()?;
     if flag > 1 {

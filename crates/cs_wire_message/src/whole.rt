@@ -2,7 +2,7 @@
 ghost use Rattle.std.specs.Prelude.{◌≡◌, ◌≤◌, ◌↔◌, length, Some, IsTrue, IfOk, is_some};
 ghost use Rattle.cs_base.specs.Fields.{whole_at};
 ghost use Rattle.cs_wire_message.specs.Reading.{message_at};
-ghost use Rattle.cs_tx_value.specs.Reading.{GivesAll, Answers};
+ghost use Rattle.cs_tx_value.specs.Reading.{GivesAll, AnswersValue};
 ghost use Rattle.cs_wire_message.specs.declared.message.Message.{Message};
 ghost use Rattle.cs_wire_message.specs.Message.{body_of, MessageFits};
 ghost use Rattle.cs_wire_message.specs.Body.{Has, IsBody, message_whole};
@@ -60,7 +60,7 @@ pub fn has_form(kind: u8, body: &[u8]) -> bool
 /// The message of this kind that has this body.
 pub fn message_in(alloc: Global, kind: u8, body: &[u8]) -> Result<Message, FormError>
     ensures found { IfOk result (λ message. Has kind body.now message) }
-    ensures only { (message : Message) → Has kind body.now message → Answers result message }
+    ensures only { (message : Message) → Has kind body.now message → AnswersValue result message }
 {
     read_whole(alloc, kind, body)
 }

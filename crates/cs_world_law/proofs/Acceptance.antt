@@ -5,7 +5,7 @@ use Rattle.std.proofs.lemmas.Bool.{cond_both, both_ways, and_parts, and_from, or
 use Rattle.cs_ledger.specs.Ledger.{Bytes, Item, Transaction, IsIn, is_empty, names, has, all_differ}
 use Rattle.cs_ledger.specs.Session.{Session, Rules, Key, Object, Piece, key_eq, has_key, objects_in, dummies_in, object_under, first_key, used_up, read_only, anchor, all_items, concerns, well_formed}
 use Rattle.cs_ledger.specs.Table.{Vote, Commit, State, Unknown, Active, Locked, Inactive, Table, Prepare, Decide, Accepted, Skipped, Void, Outcome, is_held_by, is_locked_by, is_inactive, has_room, vote_in, made, accept_state, new_dummy, new_pieces, with_accepted, session_of, act, exec, table_of}
-use Rattle.cs_ledger.specs.ShardWorld.{Step, log, votes, votes_in, is_vote, is_prepare_of, all_commit, IsAllowed, AllAllowed, sessions, NoCollision}
+use Rattle.cs_ledger.specs.ShardWorld.{Step, log, votes, votes_in, is_vote, is_prepare_of, all_commit, IsAllowed, AllAllowed, sessions, AreNamedApart}
 use Rattle.cs_ledger.proofs.Basics.{same_bytes, bytes_from, in_left, piece_has}
 use Rattle.cs_ledger.proofs.Kept.{own}
 use Rattle.cs_ledger.proofs.Names.{piece_of, object_piece, in_objects, item_has}
@@ -44,7 +44,7 @@ under-own rules shard (other ∷ items) more item differ i home =
     one alone (inl is) same = is
     one alone (inr j) same = absurd (both_ways _ (not-true _ alone) (ap (λ n. has n (names items)) (sym same) ∙ item_has item items j))
 
-module _ (rules : Rules) (known : List Session) (apart : NoCollision rules.genesis known) (past : List Step) (allowed : AllAllowed rules past) (within : (x : Session) → IsIn x (sessions past) → IsIn x known) where
+module _ (rules : Rules) (known : List Session) (apart : AreNamedApart rules.genesis known) (past : List Step) (allowed : AllAllowed rules past) (within : (x : Session) → IsIn x (sessions past) → IsIn x known) where
   facts : Facts rules known past
   facts = facts_of rules known apart.session past allowed within
 

@@ -13,7 +13,7 @@ use Rattle.cs_node_rules.specs.Signs.{Dropped, Took, Entered, Viewed, Did, Sent}
 use Rattle.cs_node_rules.specs.Site.{Mark, In, Ordered, Plain, Site, signs_of}
 use Rattle.cs_node_law.specs.Made.{log_in, AllMade}
 use Rattle.cs_world_law.specs.Worlds.{is_honest}
-use Rattle.cs_world_law.specs.Chain.{Moment, trail_at, Known, Story, IsSound, IsUnique, shard_acts}
+use Rattle.cs_world_law.specs.Chain.{Moment, trail_at, Known, Story, IsSoundSite, IsUnique, shard_acts}
 use Rattle.cs_world_law.proofs.Deeds.{deeds_in, member-is}
 use Rattle.cs_world_law.proofs.Trails.{made-all, deeds-same}
 use Rattle.cs_world_law.proofs.Runs.{lawful}
@@ -59,7 +59,7 @@ chose {M} site i (Plain (Did n entry effect) ∷ t) slot a made e = go (slot == 
         let chosen = subst (λ (h : Member M). slice_get (chosen_in h.deeds) n ≡ Some made.0.proposed) (member-is site i t) made.0.chosen in
         record { proposed = made.0.proposed; chosen = subst (λ k. slice_get (chosen_in (deeds_in t)) k ≡ Some made.0.proposed) at chosen; reads = made.0.reads ∙ is }
 
-pub logs-agree : {M : Type 0} (site : Site M) (sound : IsSound site) (known : Known) (story : List (Moment M)) (i j : NodeId) (slot : ℕ) (a b : Entry) → Story site known story → IsUnique known.entries → is_honest site i ≡ true → is_honest site j ≡ true → i.shard ≡ j.shard
+pub logs-agree : {M : Type 0} (site : Site M) (sound : IsSoundSite site) (known : Known) (story : List (Moment M)) (i j : NodeId) (slot : ℕ) (a b : Entry) → Story site known story → IsUnique known.entries → is_honest site i ≡ true → is_honest site j ≡ true → i.shard ≡ j.shard
     → at_slot (log_in (signs_of (trail_at i story))) slot ≡ Some a → at_slot (log_in (signs_of (trail_at j story))) slot ≡ Some b → a ≡ b
 logs-agree {M} site sound known story i j slot a b story_is unique hi hj same x y =
     let u = chose site i (trail_at i story) slot a (made-all site known i story story_is) x in

@@ -18,11 +18,11 @@ use Rattle.cs_ledger.specs.Session.{all_items}
 use Rattle.cs_ledger.specs.Table as Shard
 use Rattle.cs_ledger.specs.Table.{Effect}
 use Rattle.cs_ledger.specs.ShardWorld.{Step, votes, IsAllowed, AllAllowed, sessions}
-use Rattle.cs_node_rules.specs.declared.pooled.Pooled.{Pooled}
-use Rattle.cs_node_rules.specs.Setup.{Setup, digest_of, concerns, concerned, is_fit, is_approved, session_in, entry_of}
-use Rattle.cs_node_rules.specs.Evidence.{has_support, is_decided}
-use Rattle.cs_node_rules.specs.Pool.{found}
-use Rattle.cs_node_rules.specs.Admission.{admits, is_decided_in}
+use Rattle.cs_node_state.specs.declared.pooled.Pooled.{Pooled}
+use Rattle.cs_node_state.specs.Setup.{Setup, digest_of, concerns, concerned, is_fit, is_approved, session_in, entry_of}
+use Rattle.cs_node_state.specs.Evidence.{has_support, is_decided}
+use Rattle.cs_node_state.specs.Pool.{found}
+use Rattle.cs_node_state.specs.Admission.{admits, is_decided_in}
 use Rattle.cs_node_rules.specs.Signs.{Dropped, Took, Entered, Viewed, Did, Sent}
 use Rattle.cs_node_rules.specs.Site.{Mark, In, Ordered, Plain, Site, signs_of}
 use Rattle.cs_node_rules.specs.World.{Execution, steps_of, slots_of}
@@ -32,7 +32,7 @@ use Rattle.cs_node_law.proofs.Silent.{voted-more}
 use Rattle.cs_node_law.proofs.Pools.{Place, IsSourced, found-in, pool-sourced}
 use Rattle.cs_node_law.proofs.Due.{IsDueFrom, due-from}
 use Rattle.cs_world_law.specs.Worlds.{is_honest}
-use Rattle.cs_world_law.specs.Chain.{Moment, trail_at, Known, Story, IsSound, IsUnique, acts_at, shard_acts, firsts_at, story_firsts}
+use Rattle.cs_world_law.specs.Chain.{Moment, trail_at, Known, Story, IsSoundSite, IsUnique, acts_at, shard_acts, firsts_at, story_firsts}
 use Rattle.cs_world_law.proofs.Deeds.{member-is}
 use Rattle.cs_world_law.proofs.Trails.{at, trail-both, made-all, within-all, deeds-same}
 use Rattle.cs_world_law.proofs.Local.{did-done, due-read, local}
@@ -50,7 +50,7 @@ pub seen-session : (setup : Setup) (entry : Entry) → Shard.session_of (entry_o
 seen-session setup (Prepare x) = refl
 seen-session setup (Decide vote x) = refl
 
-module _ {M : Type 0} (site : Site M) (sound : IsSound site) (known : Known) where
+module _ {M : Type 0} (site : Site M) (sound : IsSoundSite site) (known : Known) where
   -- what stands behind an entry that an honest node of a shard admitted
   abbrev pub IsBehind : List (Moment M) → ℕ → Entry → Type 0
   IsBehind story shard (Prepare x) = (is_fit site.setup shard x ≡ true) × (is_approved site.setup x ≡ true)

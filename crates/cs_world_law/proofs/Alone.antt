@@ -9,7 +9,7 @@ use Rattle.cs_node_rules.specs.Site.{Mark, In, Ordered, Plain, Site, signs_of}
 use Rattle.cs_node_rules.specs.World.{Execution, slots_of}
 use Rattle.cs_node_law.specs.Made.{log_in}
 use Rattle.cs_world_law.specs.Worlds.{is_honest}
-use Rattle.cs_world_law.specs.Chain.{Moment, trail_at, Known, Story, IsSound, firsts_at, story_firsts}
+use Rattle.cs_world_law.specs.Chain.{Moment, trail_at, Known, Story, IsSoundSite, firsts_at, story_firsts}
 use Rattle.cs_world_law.proofs.Trails.{trail-both, trail-own}
 use Rattle.cs_world_law.proofs.Firsts.{own_log}
 
@@ -22,7 +22,7 @@ same-fields a b p q = of_fields a.shard a.index b.shard b.index p q
 not-below : (n m : ℕ) → n ≡ m → nat_lt n m ≡ false
 not-below n m e = grind arith
 
-module _ {M : Type 0} (site : Site M) (sound : IsSound site) (known : Known) (trusted : site.setup.f ≡ 0) (i : NodeId) (honest : is_honest site i ≡ true) where
+module _ {M : Type 0} (site : Site M) (sound : IsSoundSite site) (known : Known) (trusted : site.setup.f ≡ 0) (i : NodeId) (honest : is_honest site i ≡ true) where
   -- another honest node is of another shard
   one-node : (j : NodeId) → is_honest site j ≡ true → j.shard ≡ i.shard → j ≡ i
   one-node j there same =

@@ -9,9 +9,10 @@ use Rattle.cs_wire_message.specs.declared.message.Message.TheVariants as message
 use Rattle.cs_order.specs.Counts.{count_below}
 use Rattle.cs_ledger.specs.Ledger.{Bytes}
 use Rattle.cs_ledger.specs.Table.{Vote}
-use Rattle.cs_node_rules.specs.declared.ballot.Ballot.{Ballot}
-use Rattle.cs_node_rules.specs.Setup.{Setup, digest_of, vote_of}
-use Rattle.cs_node_rules.specs.Evidence.{name_eq, vote_eq, has_ballot, has_support}
+use Rattle.cs_node_state.specs.declared.ballot.Ballot.{Ballot}
+use Rattle.cs_node_state.specs.Setup.{Setup, digest_of, vote_of}
+use Rattle.cs_node_state.specs.Evidence.{vote_eq, has_ballot, has_support}
+use Rattle.cs_base.specs.NodeId.{same_name}
 use Rattle.cs_node_rules.specs.Signs.{Dropped, Took, Entered, Viewed, Did, Sent}
 use Rattle.cs_node_rules.specs.Site.{Mark, In, Ordered, Plain, Site, signs_of}
 use Rattle.cs_node_law.specs.Made.{view_at, has_given, IsVoted, IsMade}
@@ -19,7 +20,7 @@ use Rattle.cs_node_law.proofs.Views.{me-same}
 use Rattle.cs_node_law.proofs.Silent.{given-more}
 use Rattle.cs_node_law.proofs.Pools.{Place, HasTaken, IsSourced}
 use Rattle.cs_world_law.specs.Worlds.{is_honest}
-use Rattle.cs_world_law.specs.Chain.{Moment, trail_at, Known, IsBacked, Story, IsSound}
+use Rattle.cs_world_law.specs.Chain.{Moment, trail_at, Known, IsBacked, Story, IsSoundSite}
 use Rattle.cs_world_law.proofs.Trails.{at, same-name, trail-both}
 use Rattle.cs_world_law.proofs.Local.{heard-reads}
 use Rattle.cs_world_law.proofs.Runs.{told-by}
@@ -31,7 +32,7 @@ given-later {M} setup d vote i m past h = trail-both (λ t. has_given setup d vo
 
 -- ---- votes that were taken
 
-module _ {M : Type 0} (site : Site M) (sound : IsSound site) (known : Known) where
+module _ {M : Type 0} (site : Site M) (sound : IsSoundSite site) (known : Known) where
   -- a vote that was heard of an honest node is one that it gave
   heard-given : (j sender : NodeId) (vote : Tx.Vote) (x : Session) (past : List (Moment M)) → Story site known past → IsBacked site j (trail_at j past) past → is_honest site j ≡ true → is_honest site sender ≡ true
       → IsVoted site (view_at site j (trail_at j past)) (trail_at j past) sender vote x → has_given site.setup (digest_of site.setup x) (vote_of vote) (signs_of (trail_at sender past)) ≡ true
@@ -121,7 +122,7 @@ votes-same tx.Abort tx.Abort e = refl
 votes-same tx.Commit tx.Abort e = cc
 votes-same tx.Abort tx.Commit e = cc
 
-module _ {M : Type 0} (site : Site M) (sound : IsSound site) (known : Known) where
+module _ {M : Type 0} (site : Site M) (sound : IsSoundSite site) (known : Known) where
   -- an honest node of a shard gave the vote
   pub record IsGiver (story : List (Moment M)) (d : Bytes) (vote : Vote) (shard : ℕ) : Type 0 where
     pub index : ℕ
@@ -140,8 +141,8 @@ module _ {M : Type 0} (site : Site M) (sound : IsSound site) (known : Known) whe
       let many = ltb-true site.setup.f (count_below n (λ index. has_ballot shard index vote e.1.ballots)) support in
       let x = pick n (λ index. has_ballot shard index vote e.1.ballots) (λ index. not (is_honest site (at shard index))) (omega arith) in
       let honest = not-false (is_honest site (at shard x.k)) x.not_other in
-      let b = any-in (λ (b : Ballot). name_eq b.sender (at shard x.k) && vote_eq b.vote vote) e.1.ballots x.is in
-      let parts = and_parts (name_eq b.0.sender (at shard x.k)) (vote_eq b.0.vote vote) b.2 in
+      let b = any-in (λ (b : Ballot). same_name b.sender (at shard x.k) && vote_eq b.vote vote) e.1.ballots x.is in
+      let parts = and_parts (same_name b.0.sender (at shard x.k)) (vote_eq b.0.vote vote) b.2 in
       let who = same-name b.0.sender (at shard x.k) parts.0 in
       let taken = s.ballots b.0 b.1 in
       let own : HasTaken site.setup e.0 (at shard x.k) vote (signs_of (trail_at j story)) =

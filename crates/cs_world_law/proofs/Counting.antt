@@ -9,7 +9,7 @@ use Rattle.cs_ledger.specs.Session.{Rules, is_among}
 use Rattle.cs_ledger.specs.Table.{Vote}
 use Rattle.cs_ledger.specs.ShardWorld.{Step, votes, all_vote, one_votes}
 use Rattle.cs_ledger.proofs.Basics.{in_left, in_right, in_either}
-use Rattle.cs_node_rules.specs.Setup.{Setup, concerns, concerned_below}
+use Rattle.cs_node_state.specs.Setup.{Setup, concerns, concerned_below}
 
 pub any-in : {A : Type 0} (test : A → Bool) (xs : List A) → list_any test xs ≡ true → (x : A) × (IsIn x xs) × (test x ≡ true)
 any-in test [] e = cc

@@ -8,7 +8,7 @@ use Rattle.cs_ledger.specs.Ledger.{Bytes}
 use Rattle.cs_ledger.specs.Table as Shard
 use Rattle.cs_ledger.specs.Table.{Vote, Commit, Abort, Effect, Voted, Accepted, Aborted, Skipped, Void, exec, table_of}
 use Rattle.cs_ledger.specs.ShardWorld.{log, votes_in, decided_in, is_vote, is_effect, is_prepare_of, is_decide_of}
-use Rattle.cs_node_rules.specs.Setup.{Setup, entry_of}
+use Rattle.cs_node_state.specs.Setup.{Setup, entry_of}
 use Rattle.cs_node_rules.specs.Signs.{Dropped, Took, Entered, Viewed, Did, Sent}
 use Rattle.cs_node_rules.specs.Site.{Mark, In, Ordered, Plain, Site, signs_of}
 use Rattle.cs_node_rules.specs.World.{steps_of, accepts_by, aborts_by, accepts_in, aborts_in}
@@ -16,7 +16,7 @@ use Rattle.cs_node_law.specs.Made.{AllMade}
 use Rattle.cs_node_law.proofs.Views.{me-same}
 use Rattle.cs_node_law.proofs.Logs.{seen, seen_log, effect-is}
 use Rattle.cs_world_law.specs.Worlds.{is_honest}
-use Rattle.cs_world_law.specs.Chain.{Moment, trail_at, Known, Story, IsSound, IsUnique, story_firsts, shard_log}
+use Rattle.cs_world_law.specs.Chain.{Moment, trail_at, Known, Story, IsSoundSite, IsUnique, story_firsts, shard_log}
 use Rattle.cs_world_law.proofs.Trails.{made-all}
 use Rattle.cs_world_law.proofs.Older.{older-votes, older-decided}
 use Rattle.cs_world_law.proofs.Firsts.{own_log, log-seen, are-first}
@@ -85,7 +85,7 @@ module _ {M : Type 0} (site : Site M) (me : NodeId) (d : Bytes) where
         | inr before ↦ elim (aborts-log t made.1 before) [ inl a ↦ inl (or_right _ _ a) | inr v ↦ inr (or_right _ _ v) ]
       ]
 
-module _ {M : Type 0} (site : Site M) (sound : IsSound site) (known : Known) (unique : IsUnique known.entries) (story : List (Moment M)) (story_is : Story site known story) (i : NodeId) (honest : is_honest site i ≡ true) (d : Bytes) where
+module _ {M : Type 0} (site : Site M) (sound : IsSoundSite site) (known : Known) (unique : IsUnique known.entries) (story : List (Moment M)) (story_is : Story site known story) (i : NodeId) (honest : is_honest site i ≡ true) (d : Bytes) where
   abbrev Log : List Shard.Entry
   Log = log i.shard (steps_of site.setup (story_firsts story))
 

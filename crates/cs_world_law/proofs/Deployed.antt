@@ -10,7 +10,7 @@ use Rattle.sha2.proofs.Facts256.{length-sha256}
 use Rattle.cs_base.specs.Fields.{IsBytes}
 use Rattle.cs_base.specs.declared.node_id.NodeId.{NodeId}
 use Rattle.cs_base.specs.declared.node_id.TheConstants.{CLIENT_SHARD, CLIENTS}
-use Rattle.cs_base.specs.NodeId.{is_node, is_client}
+use Rattle.cs_base.specs.NodeId.{is_node, is_client, same_name}
 use Rattle.cs_base.specs.declared.config.Config.{Config}
 use Rattle.cs_base.proofs.Forms.{whole-again, some_is}
 use Rattle.cs_hash.specs.Hash.{hmac}
@@ -51,12 +51,12 @@ use Rattle.cs_ledger.specs.Strings as Strings
 use Rattle.cs_ledger.specs.Strings.{Origin, Output, WrittenSession, IsString, sessions_from}
 use Rattle.cs_ledger.proofs.Basics.{in_either}
 use Rattle.cs_ledger.proofs.Strings.{no_collision}
-use Rattle.cs_node_rules.specs.Evidence.{name_eq}
 use Rattle.cs_node_rules.specs.Site.{Input, Datagram, Tick, Mark, In, Ordered, Plain, Carrier, Site}
 use Rattle.cs_node_rules.specs.World.{Happening, view_of, IsLife}
 use Rattle.cs_node_rules.specs.Collisions.{sessions_in, in_opened, known_sessions, known_entries, IsHashed, OfGenesis, OfSession, OfTransaction, OfOutput, OfEntry, NoCollision}
 use Rattle.cs_node_rules.specs.Carrying.{Carries}
-use Rattle.cs_node_rules.specs.Deployment.{genesis_from, entry_or_void}
+use Rattle.cs_node_rules.specs.Deployment.{entry_or_void}
+use Rattle.cs_node_state.specs.Deployed.{genesis_from}
 use Rattle.cs_node_law.specs.Made.{InputFits}
 use Rattle.cs_node_law.specs.Given.{InputIsBytes, AreBytes}
 use Rattle.cs_node_law.proofs.Views.{sessions_given}
@@ -64,7 +64,7 @@ use Rattle.cs_node_law.proofs.NoIns.{event-shape}
 use Rattle.cs_node_law.proofs.Speaking.{opened-fits}
 use Rattle.cs_node_law.proofs.Fitting.{sessions-fit}
 use Rattle.cs_world_law.specs.Worlds.{is_honest, IsWorld, deployed}
-use Rattle.cs_world_law.specs.Chain.{IsSound, IsUnique}
+use Rattle.cs_world_law.specs.Chain.{IsSoundSite, IsUnique}
 use Rattle.cs_world_law.proofs.Stories.{InsFit, ins-fit}
 
 -- ---- datagrams of messages
@@ -150,9 +150,9 @@ want-of (message.Proof proof) e = absurd (omega (arith, e))
 -- ---- nodes
 
 -- honest nodes are nodes
-node-of : (config : Config) (liars : List NodeId) (name : NodeId) → (is_node config name && not (list_any (λ liar. name_eq liar name) liars)) ≡ true → (name.shard < config.shards) × (name.index ≤ 3 * config.f)
+node-of : (config : Config) (liars : List NodeId) (name : NodeId) → (is_node config name && not (list_any (λ liar. same_name liar name) liars)) ≡ true → (name.shard < config.shards) × (name.index ≤ 3 * config.f)
 node-of config liars name e =
-    let n = (and_parts (is_node config name) (not (list_any (λ liar. name_eq liar name) liars)) e).0 in
+    let n = (and_parts (is_node config name) (not (list_any (λ liar. same_name liar name) liars)) e).0 in
     let p = and_parts (nat_lt name.shard config.shards) (nat_le name.index (3 * config.f)) n in
     (ltb-true name.shard config.shards p.0, within name.index (3 * config.f) p.1)
   where
@@ -212,7 +212,7 @@ module _ {M : Type 0} (config : Config) (master : Bytes) (liars : List NodeId) (
 
   -- ---- the site
 
-  pub is-sound : Law machine → Holds machine → Carries machine carrier → (world : List (Happening M)) → 0 < config.shards → config.shards ≤ 16 → config.f ≤ 5 → IsWorld At world → IsSound At
+  pub is-sound : Law machine → Holds machine → Carries machine carrier → (world : List (Happening M)) → 0 < config.shards → config.shards ≤ 16 → config.f ≤ 5 → IsWorld At world → IsSoundSite At
   is-sound law holds carries world some few small w =
       let nodes = λ (name : NodeId) (e : is_honest At name ≡ true). node-of config liars name e in
       let names = λ (name : NodeId) (e : is_honest At name ≡ true). small-name name config.shards config.f few small (nodes name e).0 (nodes name e).1 in
@@ -329,7 +329,7 @@ module _ {M : Type 0} (config : Config) (master : Bytes) (liars : List NodeId) (
         (subst (λ (p : Bytes). Hashed (79 ∷ (digest_of_tx x.0.tx ++ p))) (sym place) (OfOutput x.0 x.1 r.number r.place r.trace r.object r.has_trace r.has_object))
 
   pub are-apart : (world : List (Happening M)) → IsLife At world → AreBytes world → NoCollision At genesis world
-      → World.NoCollision At.setup.rules.genesis (map At.setup.session_of (known_sessions At world))
+      → World.AreNamedApart At.setup.rules.genesis (map At.setup.session_of (known_sessions At world))
   are-apart world life bytes apart =
       let known = known_sessions At world in
       let entries = known_entries At world in
@@ -337,8 +337,8 @@ module _ {M : Type 0} (config : Config) (master : Bytes) (liars : List NodeId) (
       let faithful = are-faithful approves known (known-fits world life bytes) in
       let strings = λ (a b : Bytes) (s : IsString sha256 (origins 0 genesis) (map (written_of approves) known) a) (t : IsString sha256 (origins 0 genesis) (map (written_of approves) known) b) (e : sha256 a ≡ sha256 b). apart a b (string-hashed known entries a s) (string-hashed known entries b t) e in
       let none = no_collision sha256 lengths (origins 0 genesis) (map (written_of approves) known) faithful strings in
-      subst (λ (l : List Item). World.NoCollision l (map (session_of approves) known)) (genesis-is 0 genesis)
-      (subst (λ (l : List Seen.Session). World.NoCollision (Strings.genesis_from sha256 (origins 0 genesis)) l) (sessions-are known) none)
+      subst (λ (l : List Item). World.AreNamedApart l (map (session_of approves) known)) (genesis-is 0 genesis)
+      (subst (λ (l : List Seen.Session). World.AreNamedApart (Strings.genesis_from sha256 (origins 0 genesis)) l) (sessions-are known) none)
 
   -- no two known entries have one digest
   pub are-unique : (world : List (Happening M)) → NoCollision At genesis world → IsUnique (known_entries At world)

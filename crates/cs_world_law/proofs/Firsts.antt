@@ -6,13 +6,13 @@ use Rattle.cs_tx_form.specs.declared.entry.Entry.{Entry}
 use Rattle.cs_ledger.specs.Ledger.{Bytes}
 use Rattle.cs_ledger.specs.Table.{Vote, Effect}
 use Rattle.cs_ledger.specs.ShardWorld.{log, votes_in}
-use Rattle.cs_node_rules.specs.Setup.{Setup, entry_of}
+use Rattle.cs_node_state.specs.Setup.{Setup, entry_of}
 use Rattle.cs_node_rules.specs.Signs.{Dropped, Took, Entered, Viewed, Did, Sent}
 use Rattle.cs_node_rules.specs.Site.{Mark, In, Ordered, Plain, Site, signs_of}
 use Rattle.cs_node_rules.specs.World.{Execution, steps_of, slots_of}
 use Rattle.cs_node_law.specs.Made.{log_in, has_given}
 use Rattle.cs_world_law.specs.Worlds.{is_honest}
-use Rattle.cs_world_law.specs.Chain.{Moment, trail_at, Known, Story, IsSound, IsUnique, firsts_at, story_firsts, shard_log}
+use Rattle.cs_world_law.specs.Chain.{Moment, trail_at, Known, Story, IsSoundSite, IsUnique, firsts_at, story_firsts, shard_log}
 use Rattle.cs_node_law.proofs.Views.{me-same}
 use Rattle.cs_node_law.proofs.Logs.{seen, seen_log, given-is}
 use Rattle.cs_world_law.proofs.Trails.{trail-both, trail-own, made-all}
@@ -46,7 +46,7 @@ record IsSilent {M : Type 0} (mark : Mark M) : Type 0 where
   pub log : (t : List (Mark M)) → log_in (signs_of (mark ∷ t)) ≡ log_in (signs_of t)
   pub firsts : (node : NodeId) (firsts : List Execution) → firsts_at node mark firsts ≡ firsts
 
-module _ {M : Type 0} (site : Site M) (sound : IsSound site) (known : Known) (unique : IsUnique known.entries) where
+module _ {M : Type 0} (site : Site M) (sound : IsSoundSite site) (known : Known) (unique : IsUnique known.entries) where
   -- an honest node of the shard executed the entry in the slot
   pub record IsSource (shard : ℕ) (story : List (Moment M)) (slot : ℕ) (entry : Entry) : Type 0 where
     pub node : NodeId

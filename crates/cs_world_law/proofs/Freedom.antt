@@ -19,9 +19,9 @@ use Rattle.cs_ledger.specs.Table as Shard
 use Rattle.cs_ledger.specs.Table.{Table, Outcome, State, exec}
 use Rattle.cs_ledger.proofs.Basics.{bytes_refl, first_is, anchor_used, in_left, in_right}
 use Rattle.cs_ledger.proofs.States.{ready_at}
-use Rattle.cs_node_rules.specs.Setup.{concerned, session_in, is_fit}
+use Rattle.cs_node_state.specs.Setup.{concerned, session_in, is_fit}
 use Rattle.cs_node_rules.specs.Members.{others}
-use Rattle.cs_node_rules.specs.Bench.{locked_at, is_locked, executed, told_by, told_of}
+use Rattle.cs_node_state.specs.Bench.{locked_at, is_locked, executed, told_by, told_of}
 use Rattle.cs_node_rules.specs.Signs.{Did, Sent, sends, vote_signs}
 use Rattle.cs_node_rules.specs.Site.{Mark, In, Ordered, Plain, Site, signs_of}
 use Rattle.cs_node_rules.specs.Ready.{bench_at, Executed, VotesFree}
@@ -30,7 +30,7 @@ use Rattle.cs_node_law.proofs.Views.{me-same}
 use Rattle.cs_node_law.proofs.Pools.{IsSourced, pool-sourced}
 use Rattle.cs_node_law.proofs.Due.{due-from}
 use Rattle.cs_world_law.specs.Worlds.{is_honest}
-use Rattle.cs_world_law.specs.Chain.{Known, IsSound}
+use Rattle.cs_world_law.specs.Chain.{Known, IsSoundSite}
 use Rattle.cs_world_law.proofs.Deeds.{deeds_in, member-is}
 use Rattle.cs_world_law.proofs.Trails.{AllWithin}
 use Rattle.cs_world_law.proofs.Local.{order-either, due-read, deeds-kept, local}
@@ -82,7 +82,7 @@ module _ {M : Type 0} (site : Site M) (known : Known) (me : NodeId) (t : List (M
 
 -- ---- where no node may lie
 
-module _ {M : Type 0} (site : Site M) (sound : IsSound site) (known : Known) (trusted : site.setup.f ≡ 0) (me : NodeId) (honest : is_honest site me ≡ true) where
+module _ {M : Type 0} (site : Site M) (sound : IsSoundSite site) (known : Known) (trusted : site.setup.f ≡ 0) (me : NodeId) (honest : is_honest site me ≡ true) where
   only-me : (from f : ℕ) → f ≡ 0 → from ≤ 3 * f → me.index < 3 * f + 1 → from ≡ me.index
   only-me from f none a b = omega arith
 

@@ -11,17 +11,17 @@ use Rattle.cs_wire.specs.Opened.{Opened}
 use Rattle.cs_order.specs.declared.proposed.Proposed.{Proposed}
 use Rattle.cs_order.specs.Lists as Order
 use Rattle.cs_order.specs.Deeds.{Deed, Took_in, Advanced, Echoed, Proposing, Ticked, Resent, Replied, Member, chosen_in}
-use Rattle.cs_order.specs.Runs.{Keeps, IsKept, entries_in as entries_by, held_in}
+use Rattle.cs_order.specs.Runs.{KeepsRules, IsKept, entries_in as entries_by, held_in}
 use Rattle.cs_ledger.specs.Ledger.{Bytes, IsIn}
 use Rattle.cs_ledger.specs.Table.{Effect}
 use Rattle.cs_ledger.proofs.Basics.{in_either}
-use Rattle.cs_node_rules.specs.Setup.{session_in}
+use Rattle.cs_node_state.specs.Setup.{session_in}
 use Rattle.cs_node_rules.specs.Signs.{Dropped, Took, Entered, Viewed, Did, Sent}
 use Rattle.cs_node_rules.specs.Site.{Datagram, Tick, Mark, In, Ordered, Plain, Site, signs_of}
 use Rattle.cs_node_rules.specs.Collisions.{sessions_in, entries_in, in_opened}
 use Rattle.cs_node_rules.specs.Deployment.{proposed_of}
 use Rattle.cs_node_law.specs.Made.{view_at, HasVotedOn, current, IsHeard, IsMade, AllMade}
-use Rattle.cs_world_law.specs.Chain.{Known, IsFine, IsWithin, IsSound}
+use Rattle.cs_world_law.specs.Chain.{Known, IsFine, IsWithin, IsSoundSite}
 use Rattle.cs_node_law.proofs.Views.{sessions_given, me-same}
 use Rattle.cs_world_law.proofs.Deeds.{deeds_in, member-is}
 use Rattle.cs_world_law.proofs.Trails.{AllWithin}
@@ -72,7 +72,7 @@ pub record IsListed (known : Known) (p : Proposed) : Type 0 where
 abbrev pub IsOurs : Known → Session → Type 0
 IsOurs known x = SessionFits x × IsIn x known.sessions
 
-module _ {M : Type 0} (site : Site M) (sound : IsSound site) (known : Known) (me : NodeId) where
+module _ {M : Type 0} (site : Site M) (sound : IsSoundSite site) (known : Known) (me : NodeId) where
   -- ---- what was given
 
   heard-fine : (t : List (Mark M)) (bytes : Bytes) (sender : NodeId) (said : Message) → AllWithin site known me t → current t ≡ Some (Datagram bytes) → site.net.opened me bytes ≡ Ok (sender, said) → IsFine known said
@@ -110,7 +110,7 @@ module _ {M : Type 0} (site : Site M) (sound : IsSound site) (known : Known) (me
   deeds-kept [] made = tt
   deeds-kept (In input ∷ t) made = deeds-kept t made.1
   deeds-kept (Plain sign ∷ t) made = deeds-kept t made.1
-  deeds-kept (Ordered deed ∷ t) made = (subst (λ (h : Member M). Keeps site.machine h deed) (member-is site me t) made.0.0, deeds-kept t made.1)
+  deeds-kept (Ordered deed ∷ t) made = (subst (λ (h : Member M). KeepsRules site.machine h deed) (member-is site me t) made.0.0, deeds-kept t made.1)
 
   pub record IsLocal (t : List (Mark M)) : Type 0 where
     pub held : (p : Proposed) → Order.IsIn p (held_in site.machine (deeds_in t)) → IsListed known p

@@ -7,12 +7,12 @@ use Rattle.cs_ledger.specs.Ledger.{Bytes, Transaction, IsIn, Ledger, Serial, use
 use Rattle.cs_ledger.specs.Session as Seen
 use Rattle.cs_ledger.specs.Session.{all_items}
 use Rattle.cs_ledger.specs.Table.{Vote, Commit, Effect, Entry, Prepare, Decide, table_of, exec, session_of}
-use Rattle.cs_ledger.specs.ShardWorld.{Step, log, is_vote, is_effect, is_prepare_of, is_decide_of, votes_in, decided_in, all_commit, sessions, IsWorld, NoCollision}
+use Rattle.cs_ledger.specs.ShardWorld.{Step, log, is_vote, is_effect, is_prepare_of, is_decide_of, votes_in, decided_in, all_commit, sessions, IsShardWorld, AreNamedApart}
 use Rattle.cs_ledger.specs.ShardWorld as World
 use Rattle.cs_ledger.proofs.Basics.{same_bytes}
 use Rattle.cs_ledger.proofs.Strings.{no_collision_within}
 use Rattle.cs_ledger.proofs.Votes.{log_at, all_more}
-use Rattle.cs_node_rules.specs.Setup.{Setup, entry_of}
+use Rattle.cs_node_state.specs.Setup.{Setup, entry_of}
 use Rattle.cs_node_rules.specs.Signs.{Sign, Dropped, Took, Entered, Viewed, Did, Sent}
 use Rattle.cs_node_rules.specs.Site.{Mark, In, Ordered, Plain, Site}
 use Rattle.cs_node_rules.specs.World.{Execution, steps_of, slots_of, first_of, told, all_recorded}
@@ -20,7 +20,7 @@ use Rattle.cs_node_law.specs.Made.{view_at}
 use Rattle.cs_node_law.proofs.Views.{me-same}
 use Rattle.cs_node_law.proofs.Logs.{seen, seen_log, table-is}
 use Rattle.cs_world_law.specs.Worlds.{is_honest}
-use Rattle.cs_world_law.specs.Chain.{Moment, trail_at, Known, Story, IsSound, IsUnique, firsts_at, story_firsts, shard_log}
+use Rattle.cs_world_law.specs.Chain.{Moment, trail_at, Known, Story, IsSoundSite, IsUnique, firsts_at, story_firsts, shard_log}
 use Rattle.cs_world_law.proofs.Older.{older-all}
 use Rattle.cs_world_law.proofs.Firsts.{own_log, slots-log, log-seen, are-first}
 use Rattle.cs_world_law.proofs.Allowed.{map-in, are-fine}
@@ -28,17 +28,17 @@ use Rattle.cs_world_law.proofs.Told.{computed, all-recorded-is, told-is}
 
 -- ---- the theorem on the shards together
 
-module _ {M : Type 0} (site : Site M) (sound : IsSound site) (known : Known) (unique : IsUnique known.entries) where
+module _ {M : Type 0} (site : Site M) (sound : IsSoundSite site) (known : Known) (unique : IsUnique known.entries) where
   abbrev pub Steps : List (Moment M) → List Step
   Steps story = steps_of site.setup (story_firsts story)
 
   pub record IsMiddle (story : List (Moment M)) : Type 0 where
-    pub world_is : IsWorld site.setup.rules (Steps story)
+    pub world_is : IsShardWorld site.setup.rules (Steps story)
     pub within : (x : Seen.Session) → IsIn x (sessions (Steps story)) → IsIn x (map site.setup.session_of known.sessions)
     pub history_is : told site.setup (story_firsts story) ≡ World.history site.setup.rules (Steps story)
     pub recorded_is : (x : Session) → all_recorded site.setup (story_firsts story) x ≡ all_commit site.setup.rules (Steps story) (site.setup.session_of x)
 
-  pub middle : NoCollision site.setup.rules.genesis (map site.setup.session_of known.sessions) → (story : List (Moment M)) → Story site known story → IsMiddle story
+  pub middle : AreNamedApart site.setup.rules.genesis (map site.setup.session_of known.sessions) → (story : List (Moment M)) → Story site known story → IsMiddle story
   middle apart story story_is =
       let fine = are-fine site sound known unique story story_is in
       let came = computed site sound known unique story story_is in
@@ -104,7 +104,7 @@ voted-session rules shard d vote (step ∷ past) h =
     h
 
 -- a known session of such a digest is that one
-pub known-there : (setup : Setup) (known : List Session) (past : List Step) → NoCollision setup.rules.genesis (map setup.session_of known) → ((x : Seen.Session) → IsIn x (sessions past) → IsIn x (map setup.session_of known))
+pub known-there : (setup : Setup) (known : List Session) (past : List Step) → AreNamedApart setup.rules.genesis (map setup.session_of known) → ((x : Seen.Session) → IsIn x (sessions past) → IsIn x (map setup.session_of known))
     → (x : Session) → IsIn x known → HasSession past (setup.session_of x).digest → IsIn (setup.session_of x) (sessions past)
 known-there setup known past apart within x knows h =
     let same = apart.session (setup.session_of x) h.0 (map-in setup.session_of x known knows) (within h.0 h.1) h.2 in

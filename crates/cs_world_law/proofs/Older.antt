@@ -6,7 +6,7 @@ use Rattle.cs_ledger.specs.Ledger.{Bytes}
 use Rattle.cs_ledger.specs.Session.{Rules}
 use Rattle.cs_ledger.specs.Table.{Vote, Effect}
 use Rattle.cs_ledger.specs.ShardWorld.{votes_in, decided_in}
-use Rattle.cs_node_rules.specs.Setup.{Setup}
+use Rattle.cs_node_state.specs.Setup.{Setup}
 use Rattle.cs_node_law.proofs.Logs.{seen}
 
 -- so many of the oldest entries

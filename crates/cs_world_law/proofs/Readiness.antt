@@ -11,13 +11,13 @@ use Rattle.cs_ledger.specs.Session as Seen
 use Rattle.cs_ledger.specs.Session.{Key, Piece, anchor, used_up, read_only, objects_in, all_items}
 use Rattle.cs_ledger.specs.Table as Shard
 use Rattle.cs_ledger.specs.Table.{Table, Outcome, State, Active, Inactive, exec, table_of, with_accepted}
-use Rattle.cs_ledger.specs.ShardWorld.{Step, log, IsAllowed, sessions, NoCollision}
+use Rattle.cs_ledger.specs.ShardWorld.{Step, log, IsAllowed, sessions, AreNamedApart}
 use Rattle.cs_ledger.proofs.Basics.{first_is}
 use Rattle.cs_ledger.proofs.States.{ready_at}
 use Rattle.cs_ledger.proofs.Votes.{among_some, commits_in}
 use Rattle.cs_ledger.proofs.Decisions.{all_concerned}
-use Rattle.cs_node_rules.specs.Setup.{Setup, digest_of, entry_of, is_fit}
-use Rattle.cs_node_rules.specs.Bench.{Bench, start_bench, locked_at, executed}
+use Rattle.cs_node_state.specs.Setup.{Setup, digest_of, entry_of, is_fit}
+use Rattle.cs_node_state.specs.Bench.{Bench, start_bench, locked_at, executed}
 use Rattle.cs_node_rules.specs.Signs.{Sign, Dropped, Took, Entered, Viewed, Did, Sent, bench_step, bench_after}
 use Rattle.cs_node_rules.specs.Site.{Mark, In, Ordered, Plain, Site, signs_of}
 use Rattle.cs_node_rules.specs.World.{Execution, steps_of}
@@ -26,7 +26,7 @@ use Rattle.cs_node_law.specs.Made.{view_at, log_in, AllMade}
 use Rattle.cs_node_law.proofs.Views.{me-same}
 use Rattle.cs_node_law.proofs.Logs.{seen}
 use Rattle.cs_world_law.specs.Worlds.{is_honest}
-use Rattle.cs_world_law.specs.Chain.{Moment, trail_at, Known, Story, IsSound, IsUnique, story_firsts, shard_log}
+use Rattle.cs_world_law.specs.Chain.{Moment, trail_at, Known, Story, IsSoundSite, IsUnique, story_firsts, shard_log}
 use Rattle.cs_world_law.proofs.Trails.{AllWithin, made-all, within-all}
 use Rattle.cs_world_law.proofs.Older.{older, at_slot, IsOlder, older-drop, older-all, older-part, at-below}
 use Rattle.cs_world_law.proofs.Firsts.{log-seen, are-first}
@@ -152,7 +152,7 @@ came {M} site known me t made within entry e =
     ∙ ap (λ (n : NodeId). (exec site.setup.rules n.shard (view_at site me c.before).bench.table (entry_of site.setup entry)).effect) (me-same site me c.before)
     ∙ ap (λ (u : Table). (exec site.setup.rules me.shard u (entry_of site.setup entry)).effect) (sym table)
 
-module _ {M : Type 0} (site : Site M) (sound : IsSound site) (known : Known) (unique : IsUnique known.entries) (story : List (Moment M)) (story_is : Story site known story) (i : NodeId) (honest : is_honest site i ≡ true) where
+module _ {M : Type 0} (site : Site M) (sound : IsSoundSite site) (known : Known) (unique : IsUnique known.entries) (story : List (Moment M)) (story_is : Story site known story) (i : NodeId) (honest : is_honest site i ≡ true) where
   fine-suffix : (later rest : List Execution) → AreFine site sound known unique (later ++ rest) → AreFine site sound known unique rest
   fine-suffix [] rest f = f
   fine-suffix (e ∷ later) rest f = fine-suffix later rest (record { allowed = f.allowed.1; within = λ x j. f.within x (inr j) })
@@ -186,7 +186,7 @@ module _ {M : Type 0} (site : Site M) (sound : IsSound site) (known : Known) (un
   pub prepare-fit : (x : Session) → Executed (signs_of (trail_at i story)) (Prepare x) → is_fit site.setup i.shard x ≡ true
   prepare-fit x e = let a = allowed-at (Prepare x) e in and_from _ _ a.0 a.1
 
-  module _ (apart : NoCollision site.setup.rules.genesis (map site.setup.session_of known.sessions)) where
+  module _ (apart : AreNamedApart site.setup.rules.genesis (map site.setup.session_of known.sessions)) where
     pub accepts-locked : AcceptsLocked site.setup i.shard (signs_of (trail_at i story))
     accepts-locked x e held = at_key (anchor site.setup.rules (site.setup.session_of x) i.shard) refl held
       where

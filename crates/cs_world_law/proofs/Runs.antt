@@ -13,11 +13,11 @@ use Rattle.cs_wire_message.specs.Message.{MessageFits}
 use Rattle.cs_order.specs.declared.proposed.Proposed.{Proposed}
 use Rattle.cs_order.specs.Lists as Order
 use Rattle.cs_order.specs.Deeds.{Deed, Took_in, Advanced, Echoed, Proposing, Ticked, Resent, Replied, Member, sent_by}
-use Rattle.cs_order.specs.Runs.{Act, Keeps, IsKept, IsFor, HandedOut, Genuine, Run, deeds_of, entries_in, held_in, handed_in, NoCollision, Follows as Next}
+use Rattle.cs_order.specs.Runs.{Act, KeepsRules, IsKept, IsFor, HandedOut, Genuine, Run, deeds_of, entries_in, held_in, handed_in, EntriesToldApart, Follows as Next}
 use Rattle.cs_order.specs.Law.{IsLawful}
 use Rattle.cs_ledger.specs.Ledger.{Bytes, IsIn}
 use Rattle.cs_ledger.specs.Table.{Vote}
-use Rattle.cs_node_rules.specs.Setup.{Setup, digest_of, vote_of}
+use Rattle.cs_node_state.specs.Setup.{Setup, digest_of, vote_of}
 use Rattle.cs_node_rules.specs.Net.{sealed}
 use Rattle.cs_node_rules.specs.Signs.{Sign, Dropped, Took, Entered, Viewed, Did, Sent}
 use Rattle.cs_node_rules.specs.Site.{Mark, In, Ordered, Plain, Site, signs_of}
@@ -25,7 +25,7 @@ use Rattle.cs_node_rules.specs.Carrying.{is_ordering, IsEntry}
 use Rattle.cs_node_rules.specs.Deployment.{proposed_of}
 use Rattle.cs_node_law.specs.Made.{view_at, has_given, IsHanded, IsHeard, SaidMade, SignMade, AllMade}
 use Rattle.cs_world_law.specs.Worlds.{is_honest}
-use Rattle.cs_world_law.specs.Chain.{Moment, trail_at, Known, HasSealed, Follows, Story, IsSound, IsUnique, acts_at, shard_acts, honest_in}
+use Rattle.cs_world_law.specs.Chain.{Moment, trail_at, Known, HasSealed, Follows, Story, IsSoundSite, IsUnique, acts_at, shard_acts, honest_in}
 use Rattle.cs_node_law.proofs.Views.{sessions_given, me-same}
 use Rattle.cs_world_law.proofs.Deeds.{deeds_in, member-is}
 use Rattle.cs_world_law.proofs.Trails.{at, AllWithin, made-all, within-all, deeds-same}
@@ -52,7 +52,7 @@ pub record IsOrdered {M : Type 0} (site : Site M) (to : ℕ) (said : Message) (d
   pub ordering : is_ordering said ≡ true
   pub back : (m : M) → site.carrier.read said ≡ Some m → HandedBy m to deeds
 
-handed-is : {M : Type 0} (site : Site M) (sound : IsSound site) (me to : ℕ) (said : Message) (deeds : List (Deed M)) → IsKept site.machine site.setup.f me deeds → ((p : Proposed) → Order.IsIn p (held_in site.machine deeds) → IsEntry p)
+handed-is : {M : Type 0} (site : Site M) (sound : IsSoundSite site) (me to : ℕ) (said : Message) (deeds : List (Deed M)) → IsKept site.machine site.setup.f me deeds → ((p : Proposed) → Order.IsIn p (held_in site.machine deeds) → IsEntry p)
     → IsHanded site to said deeds → IsOrdered site to said deeds
 handed-is {M} site sound me to said [] kept all h = absurd h
 handed-is {M} site sound me to said (deed ∷ past) kept all (inl now) =
@@ -100,7 +100,7 @@ word-more {M} site sign signs to said (inl c) =
     inl (record { vote = c.vote; asks = c.asks; x = c.x; is = c.is; given = given-sign site.setup (digest_of site.setup c.x) (vote_of c.vote) sign signs c.given; fits = c.fits })
 word-more {M} site sign signs to said (inr other) = inr other
 
-module _ {M : Type 0} (site : Site M) (sound : IsSound site) (known : Known) where
+module _ {M : Type 0} (site : Site M) (sound : IsSoundSite site) (known : Known) where
   word-of : (me : NodeId) (t : List (Mark M)) (to : NodeId) (said : Message) → AllMade site me t → AllWithin site known me t → SaidMade site (view_at site me t) t to said → IsWord site (signs_of t) to said
   word-of me t to (message.Voted vote asks x) made within h =
       inl (record {
@@ -211,11 +211,11 @@ module _ {M : Type 0} (site : Site M) (sound : IsSound site) (known : Known) whe
   next-deed : (node : NodeId) (deed : Deed M) (past : List (Moment M)) → Story site known past → Follows site known past (record { node = node; mark = Ordered deed })
       → Next site.machine site.setup.f (honest_in site node.shard) (shard_acts node.shard past) (record { member = node.index; deed = deed })
   next-deed node deed past story follows =
-      let keeps = subst (λ (h : Member M). Keeps site.machine h deed) (member-is site node (trail_at node past)) follows.made.0 in
+      let keeps = subst (λ (h : Member M). KeepsRules site.machine h deed) (member-is site node (trail_at node past)) follows.made.0 in
       record {
         is_member = sound.index node follows.honest;
         is_honest = follows.honest;
-        keeps = subst (λ ds. Keeps site.machine (record { f = site.setup.f; me = node.index; deeds = ds }) deed) (sym (deeds-same node.shard node.index past)) keeps;
+        keeps = subst (λ ds. KeepsRules site.machine (record { f = site.setup.f; me = node.index; deeds = ds }) deed) (sym (deeds-same node.shard node.index past)) keeps;
         genuine = deed-genuine node deed past story follows;
       }
 
@@ -253,7 +253,7 @@ module _ {M : Type 0} (site : Site M) (sound : IsSound site) (known : Known) whe
   handed-listed [] shard p story i = absurd i
   handed-listed (m ∷ past) shard p story i = handed-step shard m.node m.mark past p story.1 story.0 (handed-listed past shard p story.1) i
 
-  no-collision : (story : List (Moment M)) (shard : ℕ) → Story site known story → IsUnique known.entries → NoCollision (handed_in site.machine (shard_acts shard story))
+  no-collision : (story : List (Moment M)) (shard : ℕ) → Story site known story → IsUnique known.entries → EntriesToldApart (handed_in site.machine (shard_acts shard story))
   no-collision story shard story_is unique a b i j e =
       let x = handed-listed story shard a story_is i in
       let y = handed-listed story shard b story_is j in

@@ -3,7 +3,7 @@ use Rattle.std.proofs.Common.{◌≡◌, ◌⊎◌, inl, inr, ℕ, zero, suc, �
 use Rattle.std.specs.Prelude.{Ok, Err, ◌==◌, is_some, nat_lt}
 use Rattle.std.proofs.lemmas.Bool.{cond_both}
 use Rattle.cs_base.specs.declared.node_id.NodeId.{NodeId}
-use Rattle.cs_base.specs.NodeId.{is_client}
+use Rattle.cs_base.specs.NodeId.{is_client, same_name}
 use Rattle.cs_base.specs.declared.key.Key.{Key}
 use Rattle.cs_base.specs.Key.{shard_of_key}
 use Rattle.cs_tx_form.specs.declared.session.Session.{Session}
@@ -27,19 +27,18 @@ use Rattle.cs_ledger.specs.Table.{Effect}
 use Rattle.cs_ledger.proofs.Basics.{in_left, in_right}
 use Rattle.cs_node_rules.specs.declared.cause.Cause.{Cause}
 use Rattle.cs_node_rules.specs.declared.cause.Cause.TheVariants.{Mine, Role, Malformed, Repeat, Unasked, Denied, Full}
-use Rattle.cs_node_rules.specs.declared.pooled.Pooled.{Pooled}
-use Rattle.cs_node_rules.specs.Setup.{Setup, digest_of, concerns, concerned, is_fit, is_approved, session_in}
-use Rattle.cs_node_rules.specs.Evidence.{has_voted}
-use Rattle.cs_node_rules.specs.Admission.{due}
+use Rattle.cs_node_state.specs.declared.pooled.Pooled.{Pooled}
+use Rattle.cs_node_state.specs.Setup.{Setup, digest_of, concerns, concerned, is_fit, is_approved, session_in}
+use Rattle.cs_node_state.specs.Evidence.{has_voted}
+use Rattle.cs_node_state.specs.Admission.{due}
 use Rattle.cs_node_rules.specs.Members.{is_other_member, others}
-use Rattle.cs_node_rules.specs.Pool.{Pool, found, is_pooled, has_room}
-use Rattle.cs_node_rules.specs.Bench.{Bench, executed, decided, noted, told_of}
-use Rattle.cs_node_rules.specs.Asked.{told_at, key_asked}
+use Rattle.cs_node_state.specs.Pool.{Pool, found, is_pooled, has_room}
+use Rattle.cs_node_state.specs.Bench.{Bench, executed, decided, noted, told_of}
+use Rattle.cs_node_state.specs.Asked.{told_at, key_asked}
 use Rattle.cs_node_rules.specs.Signs.{Sign, Dropped, Took, Entered, Viewed, Did, Sent, guarded, entering_signs, submitted_signs, submit_signs, ask_signs, asking_signs, ballot_signs, voted_signs, sends, vote_signs, own_signs, entered_signs, execution_signs, asked_again}
 use Rattle.cs_node_rules.specs.Site.{Input, Datagram, Tick, Mark, In, Ordered, Site, View, view_after, plain, signs_of}
 use Rattle.cs_node_rules.specs.Trail.{out_signs, handed, with_deed, moving, entered_view, admits_proposed, due_marks, candidate_marks, propose_marks, echo_marks, step_marks, turn_marks, continued, settled, taking_marks, member_marks, reply_marks, message_marks, opened_marks, again_marks, waiting_marks, input_marks, event_marks}
 use Rattle.cs_node_rules.specs.World.{Happening, trail_of, view_of, IsLife}
-use Rattle.cs_node_rules.specs.Evidence.{name_eq}
 use Rattle.cs_node_rules.specs.Ready.{bench_at}
 use Rattle.cs_node_law.specs.Made.{view_at}
 use Rattle.cs_node_law.proofs.Views.{view_after-append, signs_of-append, me-same}
@@ -464,7 +463,7 @@ world-tells {M} site [] life i = λ later slot entry effect earlier e s j. none 
     none {A} [] sign earlier e = absurd cc
     none {A} (other ∷ l) sign earlier e = absurd cc
 world-tells {M} site (h ∷ past) life i =
-    cond_both (name_eq h.node i) (h.marks ++ trail_of i past) (trail_of i past) (λ t. Tells site i t)
+    cond_both (same_name h.node i) (h.marks ++ trail_of i past) (trail_of i past) (λ t. Tells site i t)
     (λ e.
     let is = same-name h.node i e in
     let made = life.0 ∙ ap (λ n. event_marks site (view_of site past n) h.input) is in

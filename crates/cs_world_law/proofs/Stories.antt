@@ -12,7 +12,7 @@ use Rattle.cs_wire_message.specs.Message.{MessageFits}
 use Rattle.cs_wire.specs.Opened.{Opened}
 use Rattle.cs_ledger.specs.Ledger.{Bytes, IsIn}
 use Rattle.cs_ledger.proofs.Basics.{same_bytes, in_left, in_right}
-use Rattle.cs_node_rules.specs.Evidence.{name_eq}
+use Rattle.cs_base.specs.NodeId.{same_name}
 use Rattle.cs_node_rules.specs.Net.{sealed}
 use Rattle.cs_node_rules.specs.Signs.{Sign, Dropped, Took, Entered, Viewed, Did, Sent}
 use Rattle.cs_node_rules.specs.Site.{Input, Datagram, Tick, Mark, In, Ordered, Plain, Site, signs_of}
@@ -30,7 +30,7 @@ use Rattle.cs_world_law.proofs.Trails.{same-name, own-name}
 
 -- ---- moments
 
-trail-node : {M : Type 0} (i n : NodeId) (xs : List (Mark M)) (ms : List (Moment M)) (b : Bool) → name_eq n i ≡ b → trail_at i (at_node n xs ++ ms) ≡ (if b then xs ++ trail_at i ms else trail_at i ms)
+trail-node : {M : Type 0} (i n : NodeId) (xs : List (Mark M)) (ms : List (Moment M)) (b : Bool) → same_name n i ≡ b → trail_at i (at_node n xs ++ ms) ≡ (if b then xs ++ trail_at i ms else trail_at i ms)
 trail-node {M} i n [] ms true e = refl
 trail-node {M} i n [] ms false e = refl
 trail-node {M} i n (x ∷ xs) ms true e = ap (λ c. if c then x ∷ trail_at i (at_node n xs ++ ms) else trail_at i (at_node n xs ++ ms)) e ∙ ap (λ z. x ∷ z) (trail-node i n xs ms true e)
@@ -39,7 +39,7 @@ trail-node {M} i n (x ∷ xs) ms false e = ap (λ c. if c then x ∷ trail_at i 
 -- the marks of a node
 pub trail-same : {M : Type 0} (i : NodeId) (past : List (Happening M)) → trail_at i (moments past) ≡ trail_of i past
 trail-same {M} i [] = refl
-trail-same {M} i (h ∷ past) = trail-node i h.node h.marks (moments past) (name_eq h.node i) refl ∙ ap (λ t. if name_eq h.node i then h.marks ++ t else t) (trail-same i past)
+trail-same {M} i (h ∷ past) = trail-node i h.node h.marks (moments past) (same_name h.node i) refl ∙ ap (λ t. if same_name h.node i then h.marks ++ t else t) (trail-same i past)
 
 at-append : {M : Type 0} (n : NodeId) (xs ys : List (Mark M)) (ms : List (Moment M)) → at_node n (xs ++ ys) ++ ms ≡ at_node n xs ++ (at_node n ys ++ ms)
 at-append {M} n [] ys ms = refl
@@ -63,7 +63,7 @@ parcel-sent : {M : Type 0} (site : Site M) (from to : NodeId) (bytes : Bytes) (n
 parcel-sent {M} site from to bytes node signs h = go signs h
   where
     test : Parcel → Bool
-    test parcel = name_eq parcel.from from && (name_eq parcel.to to && bytes_eq parcel.bytes bytes)
+    test parcel = same_name parcel.from from && (same_name parcel.to to && bytes_eq parcel.bytes bytes)
 
     more : (sign : Sign) (past : List Sign) → (node ≡ from) × HasSealed site from to bytes past → (node ≡ from) × HasSealed site from to bytes (sign ∷ past)
     more sign past r = (r.0, record { said = r.1.said; sent = inr r.1.sent; is = r.1.is })
@@ -86,8 +86,8 @@ parcel-sent {M} site from to bytes node signs h = go signs h
         elim (last (parcels_of site.net node past) p e) [
           | inl before ↦ more (Sent receiver said) past (go past before)
           | inr now ↦
-              let a = and_parts (name_eq node from) (name_eq receiver to && bytes_eq p.bytes bytes) now in
-              let b = and_parts (name_eq receiver to) (bytes_eq p.bytes bytes) a.1 in
+              let a = and_parts (same_name node from) (same_name receiver to && bytes_eq p.bytes bytes) now in
+              let b = and_parts (same_name receiver to) (bytes_eq p.bytes bytes) a.1 in
               let n : node ≡ from = same-name node from a.0 in
               let r : receiver ≡ to = same-name receiver to b.0 in (
                 n,
@@ -124,12 +124,12 @@ world-sent : {M : Type 0} (site : Site M) (from to : NodeId) (bytes : Bytes) (pa
 world-sent {M} site from to bytes [] h = absurd (both_ways false refl h)
 world-sent {M} site from to bytes (e ∷ past) h =
     elim (any-either _ (sent_in site.net past) (parcels_of site.net e.node (signs_of e.marks)) h) [
-      | inl before ↦ cond_both (name_eq e.node from) (e.marks ++ trail_of from past) (trail_of from past) (λ t. HasSealed site from to bytes (signs_of t))
+      | inl before ↦ cond_both (same_name e.node from) (e.marks ++ trail_of from past) (trail_of from past) (λ t. HasSealed site from to bytes (signs_of t))
           (λ own. over e.marks (inr (world-sent site from to bytes past before))) (λ other. world-sent site from to bytes past before)
       | inr now ↦
           let s = parcel-sent site from to bytes e.node (signs_of e.marks) now in
           subst (λ c. HasSealed site from to bytes (signs_of (if c then e.marks ++ trail_of from past else trail_of from past)))
-          (sym (ap (λ (n : NodeId). name_eq n from) s.0 ∙ own-name from)) (over e.marks (inl s.1))
+          (sym (ap (λ (n : NodeId). same_name n from) s.0 ∙ own-name from)) (over e.marks (inl s.1))
     ]
   where
     over : (xs : List (Mark M)) → HasSealed site from to bytes (signs_of xs) ⊎ HasSealed site from to bytes (signs_of (trail_of from past)) → HasSealed site from to bytes (signs_of (xs ++ trail_of from past))
@@ -139,7 +139,7 @@ world-sent {M} site from to bytes (e ∷ past) h =
 sealed-over : {M : Type 0} (site : Site M) (from to : NodeId) (bytes : Bytes) (n : NodeId) (xs : List (Mark M)) (ms : List (Moment M)) → HasSealed site from to bytes (signs_of (trail_at from ms)) → HasSealed site from to bytes (signs_of (trail_at from (at_node n xs ++ ms)))
 sealed-over {M} site from to bytes n [] ms h = h
 sealed-over {M} site from to bytes n (x ∷ xs) ms h =
-    cond_both (name_eq n from) (x ∷ trail_at from (at_node n xs ++ ms)) (trail_at from (at_node n xs ++ ms)) (λ t. HasSealed site from to bytes (signs_of t))
+    cond_both (same_name n from) (x ∷ trail_at from (at_node n xs ++ ms)) (trail_at from (at_node n xs ++ ms)) (λ t. HasSealed site from to bytes (signs_of t))
     (λ own. more x (sealed-over site from to bytes n xs ms h)) (λ other. sealed-over site from to bytes n xs ms h)
   where
     more : (mark : Mark M) → HasSealed site from to bytes (signs_of (trail_at from (at_node n xs ++ ms))) → HasSealed site from to bytes (signs_of (mark ∷ trail_at from (at_node n xs ++ ms)))
@@ -248,9 +248,9 @@ module _ {M : Type 0} (site : Site M) (known : Known) where
   AllBacked past = (i : NodeId) → IsBacked site i (trail_at i (moments past)) (moments past)
 
   all-backed : (h : Happening M) (past : List (Happening M)) → h.marks ≡ event_marks site (view_of site past h.node) h.input → is_genuine_input site.net h.node h.input (sent_in site.net past) ≡ true → AllBacked past → AllBacked (h ∷ past)
-  all-backed h past made genuine backed j = at_j (name_eq h.node j) refl
+  all-backed h past made genuine backed j = at_j (same_name h.node j) refl
     where
-      at_j : (b : Bool) → name_eq h.node j ≡ b → IsBacked site j (trail_at j (moments (h ∷ past))) (moments (h ∷ past))
+      at_j : (b : Bool) → same_name h.node j ≡ b → IsBacked site j (trail_at j (moments (h ∷ past))) (moments (h ∷ past))
       at_j true e = λ bytes sender said c reads honest.
           let shape = event-shape site (view_of site past h.node) h.input in
           let regroup : trail_at j (moments (h ∷ past)) ≡ shape.fresh ++ In h.input ∷ trail_at j (moments past) =
@@ -270,7 +270,7 @@ module _ {M : Type 0} (site : Site M) (known : Known) where
 
   all-level : (h : Happening M) (past : List (Happening M)) → EventIsMade site → ReadsProper site → InputFits site h.node h.input → h.marks ≡ event_marks site (view_of site past h.node) h.input → AllLevel past → AllLevel (h ∷ past)
   all-level h past event proper fits made level j =
-      cond_both (name_eq h.node j) (h.marks ++ trail_of j past) (trail_of j past) (λ t. IsLevel site j t)
+      cond_both (same_name h.node j) (h.marks ++ trail_of j past) (trail_of j past) (λ t. IsLevel site j t)
       (λ e. subst (λ n. IsLevel site n (h.marks ++ trail_of n past)) (same-name h.node j e)
       (subst (λ z. IsLevel site h.node (z ++ trail_of h.node past)) (sym made) (event proper h.node (trail_of h.node past) h.input fits (level h.node))))
       (λ e. level j)

@@ -11,14 +11,14 @@ use Rattle.cs_ledger.specs.Table.{Vote, Commit, exec, table_of}
 use Rattle.cs_ledger.specs.ShardWorld.{Step, log, votes, votes_in, is_vote, is_listed, all_commit, IsAllowed, AllAllowed}
 use Rattle.cs_ledger.specs.ShardWorld as World
 use Rattle.cs_ledger.proofs.Votes.{all_at}
-use Rattle.cs_node_rules.specs.Setup.{Setup, digest_of, concerned, entry_of}
+use Rattle.cs_node_state.specs.Setup.{Setup, digest_of, concerned, entry_of}
 use Rattle.cs_node_rules.specs.Signs.{Dropped, Took, Entered, Viewed, Did, Sent}
 use Rattle.cs_node_rules.specs.Site.{Mark, In, Ordered, Plain, Site}
 use Rattle.cs_node_rules.specs.World.{Execution, steps_of, slots_of, prepares, recorded, all_recorded, is_voted, told, told_after}
 use Rattle.cs_node_law.proofs.Views.{me-same}
 use Rattle.cs_node_law.proofs.Logs.{seen, seen_log, effect-is, prepares-seen}
 use Rattle.cs_world_law.proofs.Counting.{all-in, all-from, in-concerned, concerned-in, among-item, item-among, votes-all}
-use Rattle.cs_world_law.specs.Chain.{Moment, trail_at, Known, Story, IsSound, IsUnique, firsts_at, story_firsts, shard_log}
+use Rattle.cs_world_law.specs.Chain.{Moment, trail_at, Known, Story, IsSoundSite, IsUnique, firsts_at, story_firsts, shard_log}
 use Rattle.cs_world_law.proofs.Trails.{made-all}
 use Rattle.cs_world_law.proofs.Older.{lt-not, older-all}
 use Rattle.cs_world_law.proofs.Firsts.{own_log, slots-log, log-seen, are-first}
@@ -87,7 +87,7 @@ module _ (setup : Setup) (bound : (name : Bytes) → setup.rules.shard_of name <
           λ i. if votes i && (all i && not (is_listed (setup.session_of x).transaction (before i))) then before i ++ (setup.session_of x).transaction ∷ [] else before i
 
 -- the first executions are computed
-module _ {M : Type 0} (site : Site M) (sound : IsSound site) (known : Known) (unique : IsUnique known.entries) where
+module _ {M : Type 0} (site : Site M) (sound : IsSoundSite site) (known : Known) (unique : IsUnique known.entries) where
   computed-step : (node : NodeId) (mark : Mark M) (past : List (Moment M)) → Story site known (record { node = node; mark = mark } ∷ past) → AllComputed site.setup sound.bound (story_firsts past) → AllComputed site.setup sound.bound (firsts_at node mark (story_firsts past))
   computed-step node (In input) past story c = c
   computed-step node (Ordered deed) past story c = c

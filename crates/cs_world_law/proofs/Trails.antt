@@ -4,7 +4,7 @@ use Rattle.std.proofs.lemmas.Bool.{cond_both, and_from, eq-eqb}
 use Rattle.cs_base.specs.declared.node_id.NodeId.{NodeId}
 use Rattle.cs_wire.proofs.Parts.{are_same}
 use Rattle.cs_order.specs.Runs.{Act, deeds_of}
-use Rattle.cs_node_rules.specs.Evidence.{name_eq}
+use Rattle.cs_base.specs.NodeId.{same_name}
 use Rattle.cs_node_rules.specs.Site.{Mark, In, Ordered, Plain, Site}
 use Rattle.cs_node_law.specs.Made.{IsMade, AllMade}
 use Rattle.cs_world_law.specs.Chain.{Moment, trail_at, Known, IsWithin, Story, acts_at, shard_acts}
@@ -13,15 +13,15 @@ use Rattle.cs_world_law.proofs.Deeds.{deeds_in}
 abbrev pub at : ℕ → ℕ → NodeId
 at shard index = record { shard = shard; index = index }
 
-pub same-name : (a b : NodeId) → name_eq a b ≡ true → a ≡ b
+pub same-name : (a b : NodeId) → same_name a b ≡ true → a ≡ b
 same-name a b e = are_same a b e
 
-pub own-name : (a : NodeId) → name_eq a a ≡ true
+pub own-name : (a : NodeId) → same_name a a ≡ true
 own-name a = and_from _ _ (eq-eqb a.shard a.shard refl) (eq-eqb a.index a.index refl)
 
 -- what holds of the marks of a node after one more moment
 pub trail-both : {M : Type 0} (P : List (Mark M) → Type 0) (i : NodeId) (m : Moment M) (past : List (Moment M)) → (m.node ≡ i → P (m.mark ∷ trail_at i past)) → P (trail_at i past) → P (trail_at i (m ∷ past))
-trail-both {M} P i m past own other = cond_both (name_eq m.node i) (m.mark ∷ trail_at i past) (trail_at i past) P (λ e. own (same-name m.node i e)) (λ e. other)
+trail-both {M} P i m past own other = cond_both (same_name m.node i) (m.mark ∷ trail_at i past) (trail_at i past) P (λ e. own (same-name m.node i e)) (λ e. other)
 
 pub trail-own : {M : Type 0} (i : NodeId) (mark : Mark M) (past : List (Moment M)) → trail_at i (record { node = i; mark = mark } ∷ past) ≡ mark ∷ trail_at i past
 trail-own {M} i mark past = ap (λ b. if b then mark ∷ trail_at i past else trail_at i past) (own-name i)
@@ -48,9 +48,9 @@ module _ {M : Type 0} (site : Site M) (known : Known) where
 
 -- a member's deeds in the run are those of its marks
 deeds-step : {M : Type 0} (shard index : ℕ) (node : NodeId) (mark : Mark M) (acts : List (Act M)) (t : List (Mark M)) → deeds_of index acts ≡ deeds_in t
-    → deeds_of index (acts_at shard node mark acts) ≡ deeds_in (if name_eq node (at shard index) then mark ∷ t else t)
-deeds-step {M} shard index node (In input) acts t same = cond_both (name_eq node (at shard index)) (In input ∷ t) t (λ u. deeds_of index acts ≡ deeds_in u) (λ e. same) (λ e. same)
-deeds-step {M} shard index node (Plain sign) acts t same = cond_both (name_eq node (at shard index)) (Plain sign ∷ t) t (λ u. deeds_of index acts ≡ deeds_in u) (λ e. same) (λ e. same)
+    → deeds_of index (acts_at shard node mark acts) ≡ deeds_in (if same_name node (at shard index) then mark ∷ t else t)
+deeds-step {M} shard index node (In input) acts t same = cond_both (same_name node (at shard index)) (In input ∷ t) t (λ u. deeds_of index acts ≡ deeds_in u) (λ e. same) (λ e. same)
+deeds-step {M} shard index node (Plain sign) acts t same = cond_both (same_name node (at shard index)) (Plain sign ∷ t) t (λ u. deeds_of index acts ≡ deeds_in u) (λ e. same) (λ e. same)
 deeds-step {M} shard index node (Ordered deed) acts t same =
     elim (node.shard == shard) as (λ p. deeds_of index (if p then record { member = node.index; deed = deed } ∷ acts else acts) ≡ deeds_in (if p && (node.index == index) then Ordered deed ∷ t else t)) [
       | true ↦ elim (node.index == index) as (λ q. (if q then deed ∷ deeds_of index acts else deeds_of index acts) ≡ deeds_in (if q then Ordered deed ∷ t else t)) [ true ↦ ap (λ x. deed ∷ x) same | false ↦ same ]

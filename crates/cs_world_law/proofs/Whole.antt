@@ -5,7 +5,7 @@ use Rattle.std.specs.List.{list_any}
 use Rattle.std.proofs.lemmas.Bool.{and_parts, ltb-true}
 use Rattle.cs_base.specs.declared.config.Config.{Config}
 use Rattle.cs_base.specs.declared.node_id.NodeId.{NodeId}
-use Rattle.cs_base.specs.NodeId.{is_node}
+use Rattle.cs_base.specs.NodeId.{is_node, same_name}
 use Rattle.cs_tx_value.specs.declared.object.Object.{Object}
 use Rattle.cs_tx_form.specs.declared.transaction.Tx.{Tx}
 use Rattle.cs_tx_form.specs.declared.session.Session.{Session}
@@ -14,7 +14,6 @@ use Rattle.cs_order.specs.Deeds.{Machine}
 use Rattle.cs_order.specs.Law.{Law, Holds}
 use Rattle.cs_ledger.specs.Ledger.{Bytes}
 use Rattle.cs_ledger.specs.ShardWorld as World
-use Rattle.cs_node_rules.specs.Evidence.{name_eq}
 use Rattle.cs_node_rules.specs.Signs.{Did}
 use Rattle.cs_node_rules.specs.Site.{Carrier, Site}
 use Rattle.cs_node_rules.specs.World.{Happening, trail_of, AreHonest, firsts_of, told, history, all_recorded}
@@ -23,7 +22,7 @@ use Rattle.cs_node_rules.specs.Collisions.{known_sessions, known_entries, NoColl
 use Rattle.cs_node_rules.specs.Carrying.{Carries}
 use Rattle.cs_node_law.specs.Made.{EventIsMade, AllMade}
 use Rattle.cs_world_law.specs.Worlds.{is_honest, IsWorld, deployed, signs_at}
-use Rattle.cs_world_law.specs.Chain.{at_node, moments, Known, Story, IsSound, IsUnique, story_firsts}
+use Rattle.cs_world_law.specs.Chain.{at_node, moments, Known, Story, IsSoundSite, IsUnique, story_firsts}
 use Rattle.cs_world_law.proofs.Trails.{AllWithin, within-all}
 use Rattle.cs_world_law.proofs.Local.{IsDone, did-done, local}
 use Rattle.cs_world_law.proofs.Stories.{trail-same, firsts-same, IsSane, sane}
@@ -36,9 +35,9 @@ moments-append {M} [] earlier = refl
 moments-append {M} (h ∷ later) earlier = ap (λ z. at_node h.node h.marks ++ z) (moments-append later earlier) ∙ sym (append_assoc (at_node h.node h.marks) (moments later) (moments earlier))
 
 -- what an event does is at a node of a shard
-pub shards-some : (config : Config) (liars : List NodeId) (name : NodeId) → (is_node config name && not (list_any (λ liar. name_eq liar name) liars)) ≡ true → 0 < config.shards
+pub shards-some : (config : Config) (liars : List NodeId) (name : NodeId) → (is_node config name && not (list_any (λ liar. same_name liar name) liars)) ≡ true → 0 < config.shards
 shards-some config liars name e =
-    let n = (and_parts (is_node config name) (not (list_any (λ liar. name_eq liar name) liars)) e).0 in
+    let n = (and_parts (is_node config name) (not (list_any (λ liar. same_name liar name) liars)) e).0 in
     let less = ltb-true name.shard config.shards (and_parts (nat_lt name.shard config.shards) _ n).0 in
     omega arith
 
@@ -78,7 +77,7 @@ module _ {M : Type 0} (machine : Machine M) (p : IsPlace machine) where
   Here = record { sessions = known_sessions At p.world; entries = known_entries At p.world }
 
   module _ (some : 0 < p.config.shards) where
-    pub sound : IsSound At
+    pub sound : IsSoundSite At
     sound = is-sound p.config p.master p.liars p.genesis p.approves machine p.carrier p.law p.holds p.carries p.world some p.few p.small p.is_world
 
     sane-here : IsSane At Here p.world
@@ -105,7 +104,7 @@ module _ {M : Type 0} (machine : Machine M) (p : IsPlace machine) where
       pub unique : IsUnique Here.entries
       unique = are-unique p.config p.master p.liars p.genesis p.approves machine p.carrier p.world apart
 
-      pub names : World.NoCollision At.setup.rules.genesis (map At.setup.session_of Here.sessions)
+      pub names : World.AreNamedApart At.setup.rules.genesis (map At.setup.session_of Here.sessions)
       names = are-apart p.config p.master p.liars p.genesis p.approves machine p.carrier p.world p.is_world.life p.is_world.bytes apart
 
       pub whole : IsMiddle At sound Here unique (moments p.world)

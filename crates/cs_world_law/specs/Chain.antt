@@ -1,7 +1,7 @@
 -- The world at the grain of marks: moments, what holds of each by those before it, and what is read off them.
 use Rattle.std.specs.Prelude.{◌≡◌, ℕ, ◌+◌, ◌*◌, ◌<◌, ◌==◌, Bool, true, false, if◌then◌else◌, List, [], ◌∷◌, ◌++◌, Some, Ok}
 use Rattle.cs_base.specs.declared.node_id.NodeId.{NodeId}
-use Rattle.cs_base.specs.NodeId.{is_client}
+use Rattle.cs_base.specs.NodeId.{is_client, same_name}
 use Rattle.cs_tx_form.specs.declared.session.Session.{Session}
 use Rattle.cs_tx_form.specs.declared.entry.Entry.{Entry}
 use Rattle.cs_tx_form.specs.Session.{EntryFits}
@@ -11,7 +11,6 @@ use Rattle.cs_wire_message.specs.Message.{MessageFits}
 use Rattle.cs_order.specs.Runs.{Act, FewLiars}
 use Rattle.cs_order.specs.Law.{Law, Holds}
 use Rattle.cs_ledger.specs.Ledger.{Bytes, IsIn}
-use Rattle.cs_node_rules.specs.Evidence.{name_eq}
 use Rattle.cs_node_rules.specs.Net.{sealed}
 use Rattle.cs_node_rules.specs.Signs.{Sign, Sent}
 use Rattle.cs_node_rules.specs.Site.{Datagram, Tick, Mark, In, Ordered, Plain, Site, signs_of}
@@ -38,7 +37,7 @@ moments {M} (h ∷ past) = at_node h.node h.marks ++ moments past
 -- the marks of a node
 abbrev pub trail_at : {M : Type 0} → NodeId → List (Moment M) → List (Mark M)
 trail_at {M} i [] = []
-trail_at {M} i (m ∷ past) = if name_eq m.node i then m.mark ∷ trail_at i past else trail_at i past
+trail_at {M} i (m ∷ past) = if same_name m.node i then m.mark ∷ trail_at i past else trail_at i past
 
 -- ---- why a moment may follow
 
@@ -86,7 +85,7 @@ Story {M} site known (m ∷ past) = Follows site known past m × Story site know
 
 -- ---- what is known of the functions of a site
 
-pub record IsSound {M : Type 0} (site : Site M) : Type 0 where
+pub record IsSoundSite {M : Type 0} (site : Site M) : Type 0 where
   pub law : Law site.machine
   pub holds : Holds site.machine
   pub carries : Carries site.machine site.carrier

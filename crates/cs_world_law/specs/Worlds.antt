@@ -13,7 +13,7 @@ use Rattle.cs_order.specs.Runs.{FewLiars}
 use Rattle.cs_ledger.specs.Ledger.{Bytes, Transaction, IsIn, Serial, IsSpentOnce, genesis_ledger, ledger_of, uses_once}
 use Rattle.cs_ledger.specs.Session as Seen
 use Rattle.cs_ledger.specs.Table.{free_object}
-use Rattle.cs_node_rules.specs.Setup.{digest_of, concerns, session_in}
+use Rattle.cs_node_state.specs.Setup.{digest_of, concerns, session_in}
 use Rattle.cs_node_rules.specs.Net.{net_of}
 use Rattle.cs_node_rules.specs.Signs.{Sign}
 use Rattle.cs_node_rules.specs.Site.{Carrier, Site, signs_of}
@@ -21,7 +21,8 @@ use Rattle.cs_node_rules.specs.World.{Happening, trail_of, view_of, IsLife, AreH
 use Rattle.cs_node_rules.specs.Ready.{Executed, VotesFree, AcceptsLocked}
 use Rattle.cs_node_rules.specs.Collisions.{known_sessions, NoCollision}
 use Rattle.cs_node_rules.specs.Carrying.{Carries}
-use Rattle.cs_node_rules.specs.Deployment.{setup_of, site_of}
+use Rattle.cs_node_rules.specs.Deployment.{site_of}
+use Rattle.cs_node_state.specs.Deployed.{setup_of}
 use Rattle.cs_node_law.specs.Made.{log_in}
 use Rattle.cs_node_law.specs.Given.{AreBytes}
 

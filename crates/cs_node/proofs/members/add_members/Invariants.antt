@@ -1,5 +1,6 @@
 use Rattle.std.proofs.Common.{◌≡◌, ◌++◌}
-use Rattle.cs_node_rules.specs.Members.{members_below, except}
+use Rattle.cs_node_rules.specs.Members.{except}
+use Rattle.cs_base.specs.NodeId.{members_below}
 use Rattle.cs_node.proofs.members.add_members.Given as goal
 
 abbrev pub invariant-loop-index : goal.invariant-loop-index

@@ -2,7 +2,7 @@ use Rattle.std.proofs.Common.{List, sym, subst, ◌∙◌, OnOk}
 use Rattle.std.proofs.lemmas.Result.{on_ok_weaker}
 use Rattle.cs_wire_message.specs.declared.message.Message.TheVariants as message
 use Rattle.cs_node_rules.specs.Signs.{Sign, asking_signs}
-use Rattle.cs_node_rules.specs.Bench.{noted}
+use Rattle.cs_node_state.specs.Bench.{noted}
 use Rattle.cs_node_pool.specs.Deployed.{deployed}
 use Rattle.cs_sbac.specs.Held.{bench_of}
 use Rattle.cs_node.specs.Steps.{Makes}

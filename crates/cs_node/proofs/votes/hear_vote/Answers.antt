@@ -1,8 +1,8 @@
 use Rattle.std.proofs.Common.{◌≡◌, None, List, sym, subst, ◌∙◌, OnOk}
 use Rattle.std.proofs.lemmas.Result.{on_ok_weaker}
 use Rattle.cs_tx.specs.Digest.{digest_of_session}
-use Rattle.cs_node_rules.specs.Pool.{found}
-use Rattle.cs_node_rules.specs.Bench.{noted}
+use Rattle.cs_node_state.specs.Pool.{found}
+use Rattle.cs_node_state.specs.Bench.{noted}
 use Rattle.cs_node_rules.specs.Signs.{Sign, asking_signs, voted_signs}
 use Rattle.cs_node_pool.specs.Deployed.{deployed}
 use Rattle.cs_sbac.specs.Held.{Held, bench_of}

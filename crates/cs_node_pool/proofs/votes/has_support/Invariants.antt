@@ -1,6 +1,6 @@
 use Rattle.std.proofs.Common.{◌≡◌, ◌≤◌}
 use Rattle.cs_order.specs.Counts.{count_below}
-use Rattle.cs_node_rules.specs.Evidence.{has_ballot}
+use Rattle.cs_node_state.specs.Evidence.{has_ballot}
 use Rattle.cs_node_pool.proofs.votes.has_support.Given as goal
 
 abbrev pub invariant-loop-index : goal.invariant-loop-index

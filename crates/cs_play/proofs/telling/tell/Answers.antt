@@ -2,7 +2,7 @@ use Rattle.std.proofs.Common.{◌≡◌, ◌+◌, ◌<◌, List, [], ◌∷◌, 
 use Rattle.std.proofs.lemmas.List.{take_more}
 use Rattle.cs_node_rules.specs.World.{Execution}
 use Rattle.cs_node.specs.declared.draft.Note.{Note}
-use Rattle.cs_play.specs.Kept.{Keeps}
+use Rattle.cs_play.specs.Kept.{KeepsHistory}
 use Rattle.cs_play.specs.Told.{notes_text, noted_firsts}
 use Rattle.cs_base.specs.declared.config.Config.{Config}
 use Rattle.cs_play.proofs.Notes.{text-push, firsts-push, fits-at}
@@ -21,8 +21,8 @@ loop-note-preserved c =
           ∙ sym (text-push c.args.traced c.args.me (take i notes) told)
           ∙ ap (notes_text c.args.traced c.args.me) (sym more),
       λ setup firsts within k.
-          subst (λ (ns : List Note). Keeps setup (noted_firsts c.args.me.shard ns firsts) c.tell_note.new.history) (sym more)
-          (subst (λ (fs : List Execution). Keeps setup fs c.tell_note.new.history) (sym (firsts-push c.args.me.shard (take i notes) told firsts))
+          subst (λ (ns : List Note). KeepsHistory setup (noted_firsts c.args.me.shard ns firsts) c.tell_note.new.history) (sym more)
+          (subst (λ (fs : List Execution). KeepsHistory setup fs c.tell_note.new.history) (sym (firsts-push c.args.me.shard (take i notes) told firsts))
           (c.in_ok-line.ensures.kept setup (noted_firsts c.args.me.shard (take i notes) firsts) (subst (λ (config : Config). c.args.me.shard < config.shards) (sym inv.2) within) (inv.1 setup firsts within k))),
       c.in_ok-line.ensures.config ∙ inv.2,
     )

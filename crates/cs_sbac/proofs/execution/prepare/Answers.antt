@@ -1,6 +1,6 @@
 use Rattle.std.proofs.Common.{◌∙◌, ap, Some}
 use Rattle.cs_tx.specs.Sessions.{session_of}
-use Rattle.cs_node_rules.specs.Bench.{own_pool}
+use Rattle.cs_node_state.specs.Bench.{own_pool}
 use Rattle.cs_sbac.specs.Calls.{placed}
 use Rattle.cs_sbac.proofs.Running.{voted-run}
 use Rattle.cs_sbac.proofs.execution.prepare.Goals as goal

@@ -7,7 +7,7 @@ use Rattle.cs_ledger.specs.Session.{Object as Named, all_items}
 use Rattle.cs_ledger.specs.Table.{Commit, Abort, Accepted, Aborted, Table, free_object}
 use Rattle.cs_ledger.specs.ShardWorld.{log, votes_in, decided_in, all_commit}
 use Rattle.cs_ledger.proofs.Decisions.{all_concerned}
-use Rattle.cs_node_rules.specs.Setup.{digest_of, is_fit}
+use Rattle.cs_node_state.specs.Setup.{digest_of, is_fit}
 use Rattle.cs_node_rules.specs.Signs.{Sign}
 use Rattle.cs_node_rules.specs.Site.{signs_of}
 use Rattle.cs_node_rules.specs.World.{slots_of, accepts_in, aborts_in, trail_of}

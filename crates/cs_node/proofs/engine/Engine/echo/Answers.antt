@@ -4,7 +4,7 @@ use Rattle.cs_node_pool.specs.Deployed.{deployed}
 use Rattle.cs_node.specs.Carriers.{carrier}
 use Rattle.cs_node.specs.Proposals.{admits_pending}
 use Rattle.cs_node.specs.Steps.{TurnDone}
-use Rattle.cs_node.specs.Cores.{Keeps, site_at, view_at}
+use Rattle.cs_node.specs.Cores.{KeepsView, site_at, view_at}
 use Rattle.cs_node.proofs.Candidates.{pending-there, echo-none}
 use Rattle.cs_node.proofs.Doing.{echoed-here}
 use Rattle.cs_node.proofs.engine.Engine.echo.Goals as goal
@@ -33,6 +33,6 @@ returns-clause-done g c = λ net genesis h seated.
     let setup = deployed held.config genesis approves in
     let site = site_at g.O.Order.rules carried net held genesis approves in
     let v = view_at held h in
-    let P : Option (List (Mark g.row.O-Message.Denot)) → Type 0 = λ found. IfOk c.propose.result (λ went. TurnDone site found v went c.args.draft.now c.propose.new.draft (Keeps g.O.Order.stands g.J.Judge.is_approved setup c.propose.new.self)) in
+    let P : Option (List (Mark g.row.O-Message.Denot)) → Type 0 = λ found. IfOk c.propose.result (λ went. TurnDone site found v went c.args.draft.now c.propose.new.draft (KeepsView g.O.Order.stands g.J.Judge.is_approved setup c.propose.new.self)) in
     subst P (sym (echo-none setup net g.O.Order.rules carried v (g.O.Order.rules.pending h)
     (ap (admits_pending setup held.me.shard held.pool) (sym (c.in_ok-admits_pending.ensures.awaits h seated.stood)) ∙ sym (c.in_ok-admits_pending.ensures.admitted genesis) ∙ c.if-branch.false))) (c.propose.ensures.done net genesis h seated)

@@ -7,7 +7,7 @@ use Rattle.cs_table.specs.Genesis.{twice, genesis_rules}
 use Rattle.cs_node_pool.specs.Deployed.{deployed}
 use Rattle.cs_sbac.specs.Held.{Held}
 use Rattle.cs_node.specs.Carriers.{carrier}
-use Rattle.cs_node.specs.Cores.{Keeps}
+use Rattle.cs_node.specs.Cores.{KeepsView}
 use Rattle.cs_node.specs.Speaking.{Speaks}
 use Rattle.cs_node.proofs.Starting.{all-fit, started}
 use Rattle.cs_node.proofs.nodes.Core.start.Goals as goal
@@ -25,7 +25,7 @@ returns g c = λ objects named.
     let sbac-is : c.new-sbac.result ≡ held me = c.new-sbac.ensures ∙ ap held c.me-me.ensures in (
       subst (λ (name : NodeId). twice c.args.config.shards name.shard c.args.genesis.now ≡ None) c.me-me.ensures c.in-Ok.ensures.finds,
       λ net speaks.
-          let P : Held → Type 0 = λ sbac. Keeps g.O.Order.stands approves setup (record { order = c.args.order; judge = c.args.judge; sbac = sbac }) (start_view (site_of setup net g.O.Order.rules carried) me) in
+          let P : Held → Type 0 = λ sbac. KeepsView g.O.Order.stands approves setup (record { order = c.args.order; judge = c.args.judge; sbac = sbac }) (start_view (site_of setup net g.O.Order.rules carried) me) in
           let S : Held → Type 0 = λ sbac. Speaks sbac.config net c.args.keys in
           record {
             keeps = subst P (sym sbac-is)

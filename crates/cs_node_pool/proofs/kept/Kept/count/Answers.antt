@@ -1,9 +1,9 @@
 use Rattle.std.proofs.Common.{◌≡◌, ◌∙◌, true, false, if◌then◌else◌, ap, sym, subst, refl, is_some}
 use Rattle.cs_tx_form.specs.Session.{SessionFits}
 use Rattle.cs_ledger.specs.Ledger.{Bytes}
-use Rattle.cs_node_rules.specs.declared.pooled.Pooled.{Pooled}
-use Rattle.cs_node_rules.specs.Evidence.{has_voted}
-use Rattle.cs_node_rules.specs.Pool.{with_ballot}
+use Rattle.cs_node_state.specs.declared.pooled.Pooled.{Pooled}
+use Rattle.cs_node_state.specs.Evidence.{has_voted}
+use Rattle.cs_node_state.specs.Pool.{with_ballot}
 use Rattle.cs_node_pool.specs.Calls.{counted_in}
 use Rattle.cs_node_pool.specs.Turns.{is_due}
 use Rattle.cs_node_pool.specs.declared.answers.Counted.TheVariants.{Counted as Taken, Repeat}

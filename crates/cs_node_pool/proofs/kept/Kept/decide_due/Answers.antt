@@ -2,7 +2,7 @@ use Rattle.std.proofs.Common.{◌≡◌, ◌∙◌, ap, sym, subst, Option, Some
 use Rattle.cs_tx_form.specs.declared.vote.Vote.{Vote}
 use Rattle.cs_tx_form.specs.declared.entry.Entry.TheVariants.{Decide}
 use Rattle.cs_tx_form.specs.Session.{SessionFits}
-use Rattle.cs_node_rules.specs.Admission.{decide_due}
+use Rattle.cs_node_state.specs.Admission.{decide_due}
 use Rattle.cs_node_pool.specs.Turns.{is_due, pool_in, vote_due}
 use Rattle.cs_node_pool.proofs.Dues.{none-passes, passes, decide_of, decided-first, fits-standing}
 use Rattle.cs_node_pool.proofs.kept.Kept.decide_due.Goals as goal

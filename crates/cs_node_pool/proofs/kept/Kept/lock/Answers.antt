@@ -1,7 +1,7 @@
 use Rattle.std.proofs.Common.{◌≡◌, ◌∙◌, ap, sym, refl, is_some}
 use Rattle.cs_ledger.specs.Ledger.{Bytes}
-use Rattle.cs_node_rules.specs.declared.pooled.Pooled.{Pooled}
-use Rattle.cs_node_rules.specs.Pool.{as_locked}
+use Rattle.cs_node_state.specs.declared.pooled.Pooled.{Pooled}
+use Rattle.cs_node_state.specs.Pool.{as_locked}
 use Rattle.cs_node_pool.specs.Turns.{is_due}
 use Rattle.cs_node_pool.specs.declared.kept.Kept.{Kept}
 use Rattle.cs_node_pool.proofs.Keeping.{none-found, fits-at, always-at, unchanged, pool-changed, sound-locked}

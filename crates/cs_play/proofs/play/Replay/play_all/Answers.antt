@@ -3,7 +3,7 @@ use Rattle.std.proofs.lemmas.Result.{err_from_is_err_and}
 use Rattle.cs_node.specs.Carriers.{carrier}
 use Rattle.cs_sched_types.specs.declared.schedule.Event.{Event}
 use Rattle.cs_node_rules.specs.Play.{Course, play, play_all}
-use Rattle.cs_play.specs.Standing.{site_in, IsFor}
+use Rattle.cs_play.specs.Standing.{site_in, IsToAnother}
 use Rattle.cs_play.specs.Ends.{Ends}
 use Rattle.cs_play.proofs.Courses.{drop-next, all-at, all-grows, ends-then}
 use Rattle.cs_play.proofs.play.Replay.play_all.Goals as goal
@@ -16,7 +16,7 @@ returns-in_err-play-clause-ends g c = λ s p st has.
     let item = c.loop-line-item.result in
     let (q, whole, here) = c.loop-line.invariant.1 s p st has in
     let next = whole ∙ ap (λ es. play_all site s.traced es q) (drop-next k events item c.loop-line-test.true c.loop-line-item.is) in
-    let for-it = all-at (λ (x : ℕ × Event). IsFor s x.1) events k item has c.loop-line-test.true c.loop-line-item.is in
+    let for-it = all-at (λ (x : ℕ × Event). IsToAnother s x.1) events k item has c.loop-line-test.true c.loop-line-item.is in
     let e = err_from_is_err_and c.from_residual.result c.from_residual.ensures.1 in
     rw (e.1, e.2)
     (subst (λ (course : Course g.row.O-Message.Denot). Ends g.O.Order.stands g.J.Judge.is_approved g.O.Order.rules (carrier g.O.Carried.written g.O.Carried.read_of) s course c.play.new.self (g.K.Sink.written c.play.new.output) (Err c.in_err-play.field-0.0)) (sym next)

@@ -1,9 +1,9 @@
 use Rattle.std.proofs.Common.{◌≡◌, ◌∙◌, ◌&&◌, sym, ap, subst, true, false, nat_eq, option_copied, rules}
 use Rattle.std.specs.List.{list_any}
-use Rattle.cs_node_rules.specs.Setup.{Setup, concerns, concerned}
-use Rattle.cs_node_rules.specs.Pool.{found}
-use Rattle.cs_node_rules.specs.Evidence.{is_decided}
-use Rattle.cs_node_rules.specs.Admission.{is_decided_in}
+use Rattle.cs_node_state.specs.Setup.{Setup, concerns, concerned}
+use Rattle.cs_node_state.specs.Pool.{found}
+use Rattle.cs_node_state.specs.Evidence.{is_decided}
+use Rattle.cs_node_state.specs.Admission.{is_decided_in}
 use Rattle.cs_tx.specs.Digest.{digest_of_session}
 use Rattle.cs_sbac.specs.Held.{Held}
 use Rattle.cs_node_pool.specs.Deployed.{deployed}

@@ -1,6 +1,6 @@
 use Rattle.std.proofs.Common.{◌≡◌, ◌∙◌, ap, subst, nat_eq}
 use Rattle.std.specs.List.{list_any}
-use Rattle.cs_node_rules.specs.Setup.{concerns}
+use Rattle.cs_node_state.specs.Setup.{concerns}
 use Rattle.cs_sbac.specs.Held.{Held}
 use Rattle.cs_node_pool.specs.Deployed.{deployed}
 use Rattle.cs_sbac.proofs.Concerned.{contains-any}

@@ -1,6 +1,6 @@
 use Rattle.std.proofs.Common.{◌≡◌, ◌∙◌, ap, subst, true, rules}
 use Rattle.cs_table.specs.Seen.{seen}
-use Rattle.cs_node_rules.specs.Bench.{decided}
+use Rattle.cs_node_state.specs.Bench.{decided}
 use Rattle.cs_sbac.specs.Held.{Held}
 use Rattle.cs_node_pool.specs.Deployed.{deployed}
 use Rattle.cs_sbac.specs.Calls.{accepted_by}

@@ -1,5 +1,5 @@
 use Rattle.std.proofs.Common.{◌≡◌, ◌∙◌, sym, subst, true, rules}
-use Rattle.cs_node_rules.specs.Setup.{session_in}
+use Rattle.cs_node_state.specs.Setup.{session_in}
 use Rattle.cs_sbac.specs.Held.{Held}
 use Rattle.cs_node_pool.specs.Deployed.{deployed}
 use Rattle.cs_sbac.specs.Calls.{Executes}

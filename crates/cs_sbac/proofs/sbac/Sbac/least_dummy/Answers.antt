@@ -1,6 +1,6 @@
 use Rattle.std.proofs.Common.{◌≡◌, ◌∙◌, ap, subst, true, rules}
 use Rattle.cs_table.specs.Seen.{seen}
-use Rattle.cs_node_rules.specs.Asked.{least_dummy}
+use Rattle.cs_node_state.specs.Asked.{least_dummy}
 use Rattle.cs_sbac.specs.Held.{Held}
 use Rattle.cs_sbac.proofs.Asking.{least-is}
 use Rattle.cs_sbac.proofs.sbac.Sbac.least_dummy.Goals as goal

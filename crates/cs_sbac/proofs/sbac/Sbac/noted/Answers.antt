@@ -1,6 +1,6 @@
 use Rattle.std.proofs.Common.{◌≡◌, true, subst, rules}
 use Rattle.cs_table.specs.Seen.{seen}
-use Rattle.cs_node_rules.specs.Bench.{noted}
+use Rattle.cs_node_state.specs.Bench.{noted}
 use Rattle.cs_sbac.specs.Held.{Held}
 use Rattle.cs_node_pool.specs.Deployed.{deployed}
 use Rattle.cs_sbac.proofs.Running.{records}

@@ -1,7 +1,7 @@
 use Rattle.std.proofs.Common.{◌≡◌, sym, subst, ◌∙◌, IfOk}
 use Rattle.std.proofs.lemmas.Result.{IfOk-weaker}
 use Rattle.cs_table.specs.Seen.{seen}
-use Rattle.cs_node_rules.specs.Asked.{told_at}
+use Rattle.cs_node_state.specs.Asked.{told_at}
 use Rattle.cs_sbac.specs.Held.{Held}
 use Rattle.cs_sbac.proofs.Asking.{told-some}
 use Rattle.cs_sbac.proofs.sbac.Sbac.told.Goals as goal

@@ -2,13 +2,13 @@ use Rattle.std.proofs.Common.{◌≡◌, ℕ, List, Option, None, sym, ap, ◌�
 use Rattle.cs_order.specs.Limits.{view_bound}
 use Rattle.cs_order_rules.specs.Slot.{in_view}
 use Rattle.cs_order_rules.proofs.Searches.{last_none, last_more, last_ends}
-use Rattle.cs_slot.specs.Kept.{Kept, seen_in}
+use Rattle.cs_slot.specs.Kept.{KeptSlot, seen_in}
 use Rattle.cs_slot.proofs.slot.Slot.prepared.Goals as goal
 
-abbrev found : Kept → ℕ → Option (ℕ × List ℕ)
+abbrev found : KeptSlot → ℕ → Option (ℕ × List ℕ)
 found k view = in_view view ((seen_in k).confirm view k.me)
 
-none_found : (k : Kept) (view : ℕ) → (seen_in k).confirm view k.me ≡ None → found k view ≡ None
+none_found : (k : KeptSlot) (view : ℕ) → (seen_in k).confirm view k.me ≡ None → found k view ≡ None
 none_found k view none = ap (in_view view) none
 
 pub loop-view-init : goal.loop-view-init
@@ -22,6 +22,6 @@ returns c =
     let late = c.loop-view-test.false in
     let last = c.loop-view.auto.view-end in
     let at_end : c.loop-view.view ≡ c.self.inside.end = omega arith in
-    let confirms = ap (λ (k : Kept). k.confirms) c.self.view_is in
+    let confirms = ap (λ (k : KeptSlot). k.confirms) c.self.view_is in
     let all = last_ends view_bound c.self.inside.end (found c.args.self.now) c.self.invariant.2 (λ v a b. none_found c.args.self.now v (rw (← confirms) ((c.self.invariant.3 v a b).1 c.args.self.now.me))) in
     rw at_end at c.loop-view.invariant ∙ sym all

@@ -1,11 +1,12 @@
 use Rattle.std.proofs.Common.{◌∙◌, ap}
-use Rattle.cs_table.specs.Seen.{name_of, seen_record}
+use Rattle.cs_table.specs.Seen.{seen_record}
+use Rattle.cs_tx.specs.Sessions.{key_seen}
 use Rattle.cs_table.specs.Changes.{changed_record}
 use Rattle.cs_table.proofs.Rows.{becomes_again, gone}
 use Rattle.cs_table.proofs.table.Table.change.Goals as goal
 
 pub put-requires-clause-gone : goal.put-requires-clause-gone
-put-requires-clause-gone c = gone c.args.self.now c.take-row.new.self (name_of c.args.key.now) c.take-row.ensures.left
+put-requires-clause-gone c = gone c.args.self.now c.take-row.new.self (key_seen c.args.key.now) c.take-row.ensures.left
 
 pub returns : goal.returns
-returns c = becomes_again c.args.self.now c.take-row.new.self c.put.new.self (changed_record c.args.change) (name_of c.args.key.now) (seen_record c.change.new.row) c.take-row.ensures.left c.in_ok-put.ensures (c.change.ensures.now ∙ ap (changed_record c.args.change) c.take-row.ensures.row)
+returns c = becomes_again c.args.self.now c.take-row.new.self c.put.new.self (changed_record c.args.change) (key_seen c.args.key.now) (seen_record c.change.new.row) c.take-row.ensures.left c.in_ok-put.ensures (c.change.ensures.now ∙ ap (changed_record c.args.change) c.take-row.ensures.row)

@@ -1,7 +1,7 @@
 use Rattle.std.proofs.Common.{ap}
 use Rattle.cs_tx_value.specs.declared.object.Object.{Object}
 use Rattle.cs_tx_value.specs.Object.{object_encoding}
-use Rattle.cs_table.specs.Pieces.{dummy_object}
+use Rattle.cs_tx.specs.Dummies.{dummy_object}
 use Rattle.cs_table.proofs.Beginning.{dummies_more}
 use Rattle.cs_table.proofs.table.Table.load_dummies.Goals as goal
 

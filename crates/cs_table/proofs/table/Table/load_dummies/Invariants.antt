@@ -1,7 +1,7 @@
 use Rattle.cs_tx_value.specs.Object.{object_encoding}
 use Rattle.cs_table.specs.Seen.{seen}
 use Rattle.cs_table.specs.Changes.{Becomes}
-use Rattle.cs_table.specs.Pieces.{dummy_object}
+use Rattle.cs_tx.specs.Dummies.{dummy_object}
 use Rattle.cs_table.specs.Genesis.{with_dummies}
 use Rattle.cs_table.proofs.table.Table.load_dummies.Given as goal
 

@@ -1,11 +1,12 @@
 use Rattle.std.proofs.Common.{◌∙◌, ap}
-use Rattle.cs_table.specs.Seen.{name_of, vote_of, seen_record}
+use Rattle.cs_table.specs.Seen.{vote_of, seen_record}
+use Rattle.cs_tx.specs.Sessions.{key_seen}
 use Rattle.cs_table.specs.Changes.{noted_record}
 use Rattle.cs_table.proofs.Rows.{becomes_again, gone}
 use Rattle.cs_table.proofs.table.Table.note.Goals as goal
 
 pub put-requires-clause-gone : goal.put-requires-clause-gone
-put-requires-clause-gone c = gone c.args.self.now c.take-row.new.self (name_of c.args.key.now) c.take-row.ensures.left
+put-requires-clause-gone c = gone c.args.self.now c.take-row.new.self (key_seen c.args.key.now) c.take-row.ensures.left
 
 pub returns : goal.returns
-returns c = becomes_again c.args.self.now c.take-row.new.self c.put.new.self (noted_record c.args.session (vote_of c.args.vote)) (name_of c.args.key.now) (seen_record c.note.new.row) c.take-row.ensures.left c.in_ok-put.ensures (c.in_ok-note.ensures.now ∙ ap (noted_record c.args.session (vote_of c.args.vote)) c.take-row.ensures.row)
+returns c = becomes_again c.args.self.now c.take-row.new.self c.put.new.self (noted_record c.args.session (vote_of c.args.vote)) (key_seen c.args.key.now) (seen_record c.note.new.row) c.take-row.ensures.left c.in_ok-put.ensures (c.in_ok-note.ensures.now ∙ ap (noted_record c.args.session (vote_of c.args.vote)) c.take-row.ensures.row)

@@ -3,9 +3,9 @@ use Rattle.std.specs.Prelude.{ℕ, Bool, true, false, not, nat_lt, if◌then◌e
 use Rattle.std.specs.Map.{lookup, remove_entry, set_value, values_of}
 use Rattle.cs_tx_form.specs.declared.session.Session.{Session}
 use Rattle.cs_ledger.specs.Ledger.{Bytes}
-use Rattle.cs_node_rules.specs.declared.ballot.Ballot.{Ballot}
-use Rattle.cs_node_rules.specs.declared.pooled.Pooled.{Pooled}
-use Rattle.cs_node_rules.specs.Evidence.{has_voted}
+use Rattle.cs_node_state.specs.declared.ballot.Ballot.{Ballot}
+use Rattle.cs_node_state.specs.declared.pooled.Pooled.{Pooled}
+use Rattle.cs_node_state.specs.Evidence.{has_voted}
 
 abbrev pub Pool : Type 0
 Pool = List (Bytes × Pooled)

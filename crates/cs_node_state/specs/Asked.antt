@@ -11,7 +11,8 @@ use Rattle.cs_tx.specs.Sessions.{key_seen}
 use Rattle.cs_ledger.specs.Ledger.{Bytes}
 use Rattle.cs_ledger.specs.Session as Seen
 use Rattle.cs_ledger.specs.Table as Shard
-use Rattle.cs_node_rules.specs.Dummies.{dummy_object}
+use Rattle.cs_tx.specs.Dummies.{dummy_object}
+use Rattle.cs_ledger.specs.Table.{has_active_dummy}
 
 -- the object of which these bytes are the encoding
 abbrev pub object_or_dummy : Option Object → Object
@@ -30,18 +31,10 @@ state_told (Shard.Inactive by) = state.Inactive by
 abbrev pub told_at : Shard.Table → Key → State
 told_at t key = state_told (t.at (key_seen key)).state
 
-abbrev pub is_free : Shard.State → Bool
-is_free (Shard.Active object) = true
-is_free state = false
-
--- the dummy of this serial is active
-abbrev pub has_dummy : Shard.Table → ℕ → ℕ → Bool
-has_dummy t shard serial = is_free (t.at (Seen.Dummy shard serial)).state
-
 -- the least serial of an active dummy, of so many from this one on, or else the next one
 unfoldable pub least_from : Shard.Table → ℕ → ℕ → ℕ → ℕ
 least_from t shard zero serial = t.next
-least_from t shard (suc more) serial = if has_dummy t shard serial then serial else least_from t shard more (serial + 1)
+least_from t shard (suc more) serial = if has_active_dummy t shard serial then serial else least_from t shard more (serial + 1)
 
 abbrev pub least_dummy : Shard.Table → ℕ → Key
 least_dummy t shard = key.Dummy shard (least_from t shard (2 ^ 64) 0)

@@ -6,10 +6,10 @@ use Rattle.cs_tx_form.specs.declared.vote.Vote.TheVariants.{Commit, Abort}
 use Rattle.cs_tx_form.specs.declared.entry.Entry.{Entry}
 use Rattle.cs_tx_form.specs.declared.entry.Entry.TheVariants.{Prepare, Decide}
 use Rattle.cs_ledger.specs.Ledger.{or_else}
-use Rattle.cs_node_rules.specs.declared.pooled.Pooled.{Pooled}
-use Rattle.cs_node_rules.specs.Setup.{Setup, digest_of, concerns, concerned, is_fit, is_approved}
-use Rattle.cs_node_rules.specs.Evidence.{is_decided}
-use Rattle.cs_node_rules.specs.Pool.{Pool, found}
+use Rattle.cs_node_state.specs.declared.pooled.Pooled.{Pooled}
+use Rattle.cs_node_state.specs.Setup.{Setup, digest_of, concerns, concerned, is_fit, is_approved}
+use Rattle.cs_node_state.specs.Evidence.{is_decided}
+use Rattle.cs_node_state.specs.Pool.{Pool, found}
 
 -- it is pooled, and its votes decide so
 abbrev pub is_decided_in : ℕ → List ℕ → Vote → Option Pooled → Bool

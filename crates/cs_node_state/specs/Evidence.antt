@@ -5,7 +5,8 @@ use Rattle.cs_base.specs.declared.node_id.NodeId.{NodeId}
 use Rattle.cs_tx_form.specs.declared.vote.Vote.{Vote}
 use Rattle.cs_tx_form.specs.declared.vote.Vote.TheVariants.{Commit, Abort}
 use Rattle.cs_order.specs.Counts.{count_below}
-use Rattle.cs_node_rules.specs.declared.ballot.Ballot.{Ballot}
+use Rattle.cs_node_state.specs.declared.ballot.Ballot.{Ballot}
+use Rattle.cs_base.specs.NodeId.{same_name}
 
 abbrev pub vote_eq : Vote → Vote → Bool
 vote_eq Commit Commit = true
@@ -13,16 +14,13 @@ vote_eq Abort Abort = true
 vote_eq Commit Abort = false
 vote_eq Abort Commit = false
 
-abbrev pub name_eq : NodeId → NodeId → Bool
-name_eq a b = a.shard == b.shard && a.index == b.index
-
 abbrev pub has_voted : NodeId → List Ballot → Bool
-has_voted name ballots = list_any (λ b. name_eq b.sender name) ballots
+has_voted name ballots = list_any (λ b. same_name b.sender name) ballots
 
 -- this node of a shard gave this vote
 abbrev pub has_ballot : ℕ → ℕ → Vote → List Ballot → Bool
 has_ballot shard index vote ballots =
-    list_any (λ b. name_eq b.sender (record { shard = shard; index = index }) && vote_eq b.vote vote) ballots
+    list_any (λ b. same_name b.sender (record { shard = shard; index = index }) && vote_eq b.vote vote) ballots
 
 -- f + 1 nodes of a shard gave this vote
 abbrev pub has_support : ℕ → List Ballot → Vote → ℕ → Bool
