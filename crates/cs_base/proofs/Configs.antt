@@ -5,7 +5,7 @@ use Rattle.std.proofs.lemmas.Bool.Decides.{nat_tests}
 use mathlib.Core.HLevel.{is_prop→PathP}
 use native.Mathlib.Bridge.{le_prop}
 use Rattle.cs_base.specs.declared.config.Config.{Config}
-use Rattle.cs_base.specs.declared.config.TheConstants.{MOST_SHARDS, MOST_LIARS, MOST_DUMMIES}
+use Rattle.cs_base.specs.declared.limits.TheConstants.{MOST_SHARDS, MOST_LIARS, MOST_DUMMIES}
 use Rattle.cs_base.specs.Config.{first_out, config_of, unless_out, configured}
 
 pub config_same : (a b : Config) → a.shards ≡ b.shards → a.f ≡ b.f → a.dummies ≡ b.dummies → a ≡ b

@@ -1,7 +1,7 @@
 -- A configuration of three numbers, or the first of them that is out of its range.
 use Rattle.std.specs.Prelude.{ℕ, ◌<◌, ◌≤◌, nat_lt, ◌||◌, ◌==◌, min, max, Option, Some, None, Result, Ok, Err, if◌then◌else◌}
 use Rattle.std.proofs.Common.{arith}
-use Rattle.cs_base.specs.declared.config.TheConstants.{MOST_SHARDS, MOST_LIARS, MOST_DUMMIES}
+use Rattle.cs_base.specs.declared.limits.TheConstants.{MOST_SHARDS, MOST_LIARS, MOST_DUMMIES}
 use Rattle.cs_base.specs.declared.config.Config.{Config}
 use Rattle.cs_base.specs.declared.config.OutOfRange.{OutOfRange}
 use Rattle.cs_base.specs.declared.config.ConfigField.{ConfigField}

@@ -1,17 +1,9 @@
 //! How a deployment is laid out.
 ghost use Rattle.std.specs.Prelude.{◌≡◌, ◌<◌, ◌≤◌};
-ghost use Rattle.cs_base.specs.declared.config.TheConstants.{MOST_SHARDS, MOST_LIARS, MOST_DUMMIES};
+ghost use Rattle.cs_base.specs.declared.limits.TheConstants.{MOST_SHARDS, MOST_LIARS, MOST_DUMMIES};
 
+use crate::limits::{MOST_DUMMIES, MOST_LIARS, MOST_SHARDS};
 use crate::node_id::NodeId;
-
-/// The most shards of a configuration.
-pub const MOST_SHARDS: u16 = 16;
-
-/// The most liars that a shard of a configuration stands, with 3f+1 nodes: 16 of them.
-pub const MOST_LIARS: u16 = 5;
-
-/// The most dummies with which a shard begins.
-pub const MOST_DUMMIES: u16 = 64;
 
 /// The shards, the liars that each stands, and the dummies with which each begins. A shard has 3f+1 nodes.
 #[derive(Clone, Copy, Debug, PartialEq, Eq)]

@@ -7,6 +7,7 @@ mod cursor;
 mod failures;
 mod hex_text;
 mod key;
+mod limits;
 mod line;
 mod mem_sink;
 mod mem_source;
@@ -21,11 +22,16 @@ mod sequence;
 mod tests;
 mod writer;
 
-pub use config::{Config, ConfigField, MOST_DUMMIES, MOST_LIARS, MOST_SHARDS, OutOfRange};
+pub use config::{Config, ConfigField, OutOfRange};
 pub use cursor::{Cursor, Short};
 pub use failures::Failures;
 pub use hex_text::{print_bytes, printed_bytes_are_read, read_bytes};
 pub use key::{Key, keys_are_ordered_by_bytes, shard_of};
+pub use limits::{
+    BOOK_PLACES, LAST_SLOT, LEAST_DATAGRAM, MOST_BODY, MOST_DATAGRAM, MOST_DUMMIES, MOST_ECHOED,
+    MOST_ENTRY, MOST_EVENTS, MOST_GENESIS, MOST_LIARS, MOST_OBJECT, MOST_PLACES, MOST_SCHEDULE,
+    MOST_SENT, MOST_SESSION, MOST_SHARDS, MOST_TX, MOST_WAITING, SLOTS_AHEAD, VIEW_BOUND,
+};
 pub use line::{fields, place_of, split_at_byte, strip_return};
 pub use mem_sink::{MemSink, NullSink};
 pub use mem_source::MemSource;

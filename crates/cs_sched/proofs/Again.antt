@@ -6,7 +6,7 @@ use Rattle.std.proofs.Common.{◌∙◌, sym, ap, refl, subst, arith}
 use Rattle.std.proofs.lemmas.Bool.{le-leb}
 use Rattle.std.proofs.lemmas.List.Elements.{recursion_from_All}
 use Rattle.cs_base.specs.declared.config.Config.{Config}
-use Rattle.cs_base.specs.declared.config.TheConstants.{MOST_SHARDS, MOST_LIARS, MOST_DUMMIES}
+use Rattle.cs_base.specs.declared.limits.TheConstants.{MOST_SHARDS, MOST_LIARS, MOST_DUMMIES}
 use Rattle.cs_tx_value.specs.Object.{DigestFits}
 use Rattle.cs_tx_value.specs.declared.object.Object.{Object}
 use Rattle.cs_sched_types.specs.declared.schedule.Event.{Event}

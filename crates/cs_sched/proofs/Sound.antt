@@ -10,7 +10,7 @@ use Rattle.cs_base.specs.Config.{configured, config_of, unless_out, first_out}
 use Rattle.cs_base.specs.declared.config.Config.{Config}
 use Rattle.cs_base.specs.declared.config.ConfigField.{ConfigField}
 use Rattle.cs_base.specs.declared.node_id.NodeId.{NodeId}
-use Rattle.cs_base.specs.declared.config.TheConstants.{MOST_LIARS}
+use Rattle.cs_base.specs.declared.limits.TheConstants.{MOST_LIARS}
 use Rattle.cs_tx_value.specs.declared.object.Object.{Object}
 use Rattle.cs_tx_value.specs.Object.{object_encoding, DigestFits, ObjectFits}
 use Rattle.cs_tx.specs.Digest.{name_of_genesis}

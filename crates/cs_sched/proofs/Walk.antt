@@ -13,7 +13,7 @@ use Rattle.cs_base.specs.Codes.{bytes_text}
 use Rattle.cs_base.specs.Config.{config_of, configured, first_out, unless_out}
 use Rattle.cs_base.specs.Fields.{IsBytes}
 use Rattle.cs_base.specs.declared.config.Config.{Config}
-use Rattle.cs_base.specs.declared.config.TheConstants.{MOST_SHARDS, MOST_LIARS, MOST_DUMMIES}
+use Rattle.cs_base.specs.declared.limits.TheConstants.{MOST_SHARDS, MOST_LIARS, MOST_DUMMIES}
 use Rattle.cs_base.proofs.Configs.{configured-config}
 use Rattle.cs_base.proofs.HexTexts.{bytes_of-bytes_text}
 use Rattle.cs_tx_value.specs.Object.{object_encoding, DigestFits, ObjectFits}
