@@ -2,26 +2,17 @@
 ghost use Rattle.std.specs.Prelude.{All, IfOk, OnOk};
 ghost use Rattle.cs_tx_value.specs.Object.{ObjectFits};
 
-use cs_base::{Config, Key, Memory, Sequence};
+use cs_base::{Config, Key, Memory};
 use cs_table::{Table, TableError};
-use cs_tx::{Digest, Encoded, Name, Object, Session, Trace, Tx, Value, Vote, genesis_key};
+use cs_test_samples::{Transfer, coin};
+use cs_tx::{Digest, Encoded, Object, Session, Vote, genesis_key};
 use std::alloc::Global;
-
-fn coin(alloc: Global, worth: u32) -> Result<Object, Memory> {
-    let mut values = Sequence::new(alloc);
-    values.push(Value::Int(i64::from(worth)))?;
-    Ok(Object {
-        contract: [7; 32],
-        type_name: Name::from_vec(Vec::from_slice(alloc, b"coin")?),
-        values,
-    })
-}
 
 fn add_coin(alloc: Global, objects: &mut Vec<(Key, Object)>, place: u32) -> Result<(), Memory>
     requires { All (λ item. ObjectFits item.1) objects.old.items }
     ensures { OnOk result (All (λ item. ObjectFits item.1) objects.new.items) }
 {
-    let object = coin(alloc, place)?;
+    let object = coin(alloc, i64::from(place))?;
     if !object.fits() {
         return Ok(());
     }
@@ -50,26 +41,10 @@ fn again(alloc: Global, object: &Object) -> Result<Object, Memory> {
 
 /// A session that spends a coin and makes it anew.
 fn session(alloc: Global, name: Digest, object: &Object) -> Result<Session, Memory> {
-    let mut inputs = Sequence::new(alloc);
-    inputs.push((name, again(alloc, object)?))?;
-    let mut outputs = Sequence::new(alloc);
-    outputs.push(again(alloc, object)?)?;
-    let mut traces = Sequence::new(alloc);
-    traces.push(Trace {
-        contract: [7; 32],
-        method: Name::from_vec(Vec::from_slice(alloc, b"transfer")?),
-        inputs,
-        references: Sequence::new(alloc),
-        parameters: Sequence::new(alloc),
-        outputs,
-        returns: Sequence::new(alloc),
-        deps: Sequence::new(alloc),
-    })?;
-    Ok(Session {
-        tx: Tx { traces },
-        number: 1,
-        dummies: Sequence::new(alloc),
-    })
+    let mut transfer = Transfer::new(alloc);
+    transfer.inputs.push((name, again(alloc, object)?))?;
+    transfer.outputs.push(again(alloc, object)?)?;
+    transfer.into_session(alloc, 1)
 }
 
 /// Prepares a session so many times, and then decides it.

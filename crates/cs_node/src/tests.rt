@@ -1,23 +1,15 @@
 //! What a node tells of what it is given.
 use super::*;
-use cs_base::{CLIENT_SHARD, Config, Key, Memory, NodeId, Sequence};
+use cs_base::{CLIENT_SHARD, Config, Key, Memory, NodeId};
 use cs_node_rules::Cause;
 use cs_order::Solo;
-use cs_tx::{
-    Encoded, Entry, Name, Object, Session, State, TokenJudge, Trace, Tx, Value, Vote, concerned,
-    genesis_key,
-};
+use cs_test_samples::{coin, spend};
+use cs_tx::{Encoded, Entry, Session, State, TokenJudge, Vote, concerned, genesis_key};
 use cs_wire::{Keys, read, seal};
 use cs_wire_message::Message;
 use std::alloc::Global;
 use std::process::Abort;
 use std::test::Fail;
-
-/// SHA-256 of the five bytes `token`.
-const TOKEN: [u8; 32] = [
-    0x3c, 0x46, 0x9e, 0x9d, 0x6c, 0x58, 0x75, 0xd3, 0x7a, 0x43, 0xf3, 0x53, 0xd4, 0xf8, 0x8e, 0x61,
-    0xfc, 0xf8, 0x12, 0xc6, 0x6e, 0xee, 0x34, 0x57, 0x46, 0x5a, 0x40, 0xb0, 0xda, 0x41, 0x53, 0xe0,
-];
 
 const ME: NodeId = NodeId { shard: 0, index: 0 };
 
@@ -26,45 +18,9 @@ const CLIENT: NodeId = NodeId {
     index: 3,
 };
 
-fn coin(alloc: Global, worth: i64) -> Result<Object, Memory> {
-    let text = Vec::from_slice(alloc, b"coin")?;
-    let mut values = Sequence::new(alloc);
-    values.push(Value::Int(worth))?;
-    Ok(Object {
-        contract: TOKEN,
-        type_name: Name::from_vec(text),
-        values,
-    })
-}
-
 /// Splits a coin of 10 into one of 4 and one of so much.
 fn split(alloc: Global, name: [u8; 32], rest: i64) -> Result<Session, Memory> {
-    split_into(alloc, name, 4, rest)
-}
-
-fn split_into(alloc: Global, name: [u8; 32], first: i64, rest: i64) -> Result<Session, Memory> {
-    let method = Vec::from_slice(alloc, b"transfer")?;
-    let mut inputs = Sequence::new(alloc);
-    inputs.push((name, coin(alloc, 10)?))?;
-    let mut outputs = Sequence::new(alloc);
-    outputs.push(coin(alloc, first)?)?;
-    outputs.push(coin(alloc, rest)?)?;
-    let mut traces = Sequence::new(alloc);
-    traces.push(Trace {
-        contract: TOKEN,
-        method: Name::from_vec(method),
-        inputs,
-        references: Sequence::new(alloc),
-        parameters: Sequence::new(alloc),
-        outputs,
-        returns: Sequence::new(alloc),
-        deps: Sequence::new(alloc),
-    })?;
-    Ok(Session {
-        tx: Tx { traces },
-        number: 0,
-        dummies: Sequence::new(alloc),
-    })
+    spend(alloc, name, 10, &[4, rest], 0)
 }
 
 fn keys_of(rt: &impl Abort, alloc: Global, me: NodeId) -> Result<Keys, Fail> {
@@ -286,7 +242,8 @@ fn split_in_two(rt: &impl Abort, alloc: Global, name: [u8; 32]) -> Result<Sessio
     let config = Config::new(2, 0, 2).expect(rt, "a configuration");
     let home = u16::from(name[31]) % 2;
     for first in 1..10 {
-        let mut session = split_into(alloc, name, first, 10_i64.saturating_sub(first))?;
+        let made = [first, 10_i64.saturating_sub(first)];
+        let mut session = spend(alloc, name, 10, &made, 0)?;
         assert!(rt; session.fits());
         if concerned(alloc, &session, &config)?.len() == 2 {
             session.dummies.push((1 - home, 0))?;

@@ -1,56 +1,12 @@
 //! A coin is split: the session enters, is voted on, and the decision is carried out.
 use super::*;
-use cs_base::{Config, Key, Memory, NodeId, Sequence};
+use cs_base::{Config, Key, NodeId};
 use cs_table::Table;
-use cs_tx::{
-    Encoded, Entry, Name, Object, Session, TokenJudge, Trace, Tx, Value, Vote, genesis_key,
-};
+use cs_test_samples::{coin, spend};
+use cs_tx::{Encoded, Entry, Session, TokenJudge, Vote, genesis_key};
 use std::alloc::Global;
 use std::process::Abort;
 use std::test::Fail;
-
-/// SHA-256 of the five bytes `token`.
-const TOKEN: [u8; 32] = [
-    0x3c, 0x46, 0x9e, 0x9d, 0x6c, 0x58, 0x75, 0xd3, 0x7a, 0x43, 0xf3, 0x53, 0xd4, 0xf8, 0x8e, 0x61,
-    0xfc, 0xf8, 0x12, 0xc6, 0x6e, 0xee, 0x34, 0x57, 0x46, 0x5a, 0x40, 0xb0, 0xda, 0x41, 0x53, 0xe0,
-];
-
-fn coin(alloc: Global, worth: i64) -> Result<Object, Memory> {
-    let text = Vec::from_slice(alloc, b"coin")?;
-    let mut values = Sequence::new(alloc);
-    values.push(Value::Int(worth))?;
-    Ok(Object {
-        contract: TOKEN,
-        type_name: Name::from_vec(text),
-        values,
-    })
-}
-
-/// Splits a coin of 10 in two.
-fn split(alloc: Global, name: [u8; 32]) -> Result<Session, Memory> {
-    let method = Vec::from_slice(alloc, b"transfer")?;
-    let mut inputs = Sequence::new(alloc);
-    inputs.push((name, coin(alloc, 10)?))?;
-    let mut outputs = Sequence::new(alloc);
-    outputs.push(coin(alloc, 4)?)?;
-    outputs.push(coin(alloc, 6)?)?;
-    let mut traces = Sequence::new(alloc);
-    traces.push(Trace {
-        contract: TOKEN,
-        method: Name::from_vec(method),
-        inputs,
-        references: Sequence::new(alloc),
-        parameters: Sequence::new(alloc),
-        outputs,
-        returns: Sequence::new(alloc),
-        deps: Sequence::new(alloc),
-    })?;
-    Ok(Session {
-        tx: Tx { traces },
-        number: 0,
-        dummies: Sequence::new(alloc),
-    })
-}
 
 /// Node 0.0 of one shard of one node, with a coin of 10, and the session that splits it.
 fn start(rt: &impl Abort, alloc: Global) -> Result<(Sbac, Session), Fail> {
@@ -65,7 +21,7 @@ fn start(rt: &impl Abort, alloc: Global) -> Result<(Sbac, Session), Fail> {
     };
     let objects = [(key, object)];
     let table = Table::genesis(alloc, config, 0, &objects)?;
-    let session = split(alloc, name)?;
+    let session = spend(alloc, name, 10, &[4, 6], 0)?;
     Ok((Sbac::new(alloc, config, me, table), session))
 }
 

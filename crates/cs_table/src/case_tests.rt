@@ -1,8 +1,9 @@
 //! Every case of a Prepare, against each state of its keys and each kind of book.
 use crate::change::Change;
 use crate::table::Table;
-use cs_base::{Config, Key, Memory, Sequence};
-use cs_tx::{Digest, Encoded, Name, Object, Session, Trace, Tx, Value, Vote, session_digest};
+use cs_base::{Config, Key, Memory};
+use cs_test_samples::{Transfer, coin};
+use cs_tx::{Digest, Encoded, Session, Vote, session_digest};
 use std::alloc::Global;
 use std::process::Abort;
 use std::test::Fail;
@@ -55,40 +56,13 @@ const REFERENCE: Digest = [3; 32];
 
 const ANOTHER: Digest = [4; 32];
 
-fn coin(alloc: Global, worth: i64) -> Result<Object, Memory> {
-    let text = Vec::from_slice(alloc, b"coin")?;
-    let mut values = Sequence::new(alloc);
-    values.push(Value::Int(worth))?;
-    Ok(Object {
-        contract: [7; 32],
-        type_name: Name::from_vec(text),
-        values,
-    })
-}
-
 /// A session that uses up two coins of 5 and reads a third.
 fn session(alloc: Global) -> Result<Session, Memory> {
-    let mut inputs = Sequence::new(alloc);
-    inputs.push((ANCHOR, coin(alloc, 5)?))?;
-    inputs.push((INPUT, coin(alloc, 5)?))?;
-    let mut references = Sequence::new(alloc);
-    references.push((REFERENCE, coin(alloc, 5)?))?;
-    let mut traces = Sequence::new(alloc);
-    traces.push(Trace {
-        contract: [7; 32],
-        method: Name::from_vec(Vec::from_slice(alloc, b"transfer")?),
-        inputs,
-        references,
-        parameters: Sequence::new(alloc),
-        outputs: Sequence::new(alloc),
-        returns: Sequence::new(alloc),
-        deps: Sequence::new(alloc),
-    })?;
-    Ok(Session {
-        tx: Tx { traces },
-        number: 1,
-        dummies: Sequence::new(alloc),
-    })
+    let mut transfer = Transfer::new(alloc);
+    transfer.inputs.push((ANCHOR, coin(alloc, 5)?))?;
+    transfer.inputs.push((INPUT, coin(alloc, 5)?))?;
+    transfer.references.push((REFERENCE, coin(alloc, 5)?))?;
+    transfer.into_session(alloc, 1)
 }
 
 fn put(

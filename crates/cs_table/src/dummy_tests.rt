@@ -1,22 +1,12 @@
 //! Worked cases of the dummies of a shard, and of what a table lists.
 use crate::table::Table;
-use cs_base::{Config, Key, Memory, Sequence};
-use cs_tx::{Encoded, Name, Object, Session, State, Trace, Tx, Value, Vote};
+use cs_base::{Config, Key, Memory};
+use cs_test_samples::{coin, spend};
+use cs_tx::{Encoded, Session, State, Vote};
 use cs_tx_form::Effect;
 use std::alloc::Global;
 use std::process::Abort;
 use std::test::Fail;
-
-fn coin(alloc: Global, worth: i64) -> Result<Object, Memory> {
-    let text = Vec::from_slice(alloc, b"coin")?;
-    let mut values = Sequence::new(alloc);
-    values.push(Value::Int(worth))?;
-    Ok(Object {
-        contract: [7; 32],
-        type_name: Name::from_vec(text),
-        values,
-    })
-}
 
 /// Shard 1 of two, which holds no object and this many dummies.
 fn dummies_alone(rt: &impl Abort, alloc: Global, dummies: u16) -> Result<Table, Fail> {
@@ -26,27 +16,9 @@ fn dummies_alone(rt: &impl Abort, alloc: Global, dummies: u16) -> Result<Table, 
 
 /// A session that uses up a coin of shard 0, and in shard 1 the dummy of this serial.
 fn session(alloc: Global, number: u64, serial: u64) -> Result<Session, Memory> {
-    let method = Vec::from_slice(alloc, b"transfer")?;
-    let mut inputs = Sequence::new(alloc);
-    inputs.push(([2; 32], coin(alloc, 5)?))?;
-    let mut traces = Sequence::new(alloc);
-    traces.push(Trace {
-        contract: [7; 32],
-        method: Name::from_vec(method),
-        inputs,
-        references: Sequence::new(alloc),
-        parameters: Sequence::new(alloc),
-        outputs: Sequence::new(alloc),
-        returns: Sequence::new(alloc),
-        deps: Sequence::new(alloc),
-    })?;
-    let mut dummies = Sequence::new(alloc);
-    dummies.push((1, serial))?;
-    Ok(Session {
-        tx: Tx { traces },
-        number,
-        dummies,
-    })
+    let mut session = spend(alloc, [2; 32], 5, &[], number)?;
+    session.dummies.push((1, serial))?;
+    Ok(session)
 }
 
 fn prepared(

@@ -2,25 +2,13 @@
 use crate::genesis::TableError;
 use crate::standing::Standing;
 use crate::table::Table;
-use cs_base::{Config, Key, Memory, Sequence};
-use cs_tx::{
-    Encoded, Name, Object, Session, State, Trace, Tx, Value, Vote, genesis_key, output_keys,
-};
+use cs_base::{Config, Key, Memory};
+use cs_test_samples::{coin, spend};
+use cs_tx::{Encoded, Session, State, Vote, genesis_key, output_keys};
 use cs_tx_form::Effect;
 use std::alloc::Global;
 use std::process::Abort;
 use std::test::Fail;
-
-fn coin(alloc: Global, worth: i64) -> Result<Object, Memory> {
-    let text = Vec::from_slice(alloc, b"coin")?;
-    let mut values = Sequence::new(alloc);
-    values.push(Value::Int(worth))?;
-    Ok(Object {
-        contract: [7; 32],
-        type_name: Name::from_vec(text),
-        values,
-    })
-}
 
 fn config(rt: &impl Abort) -> Config {
     Config::new(1, 0, 2).expect(rt, "a configuration")
@@ -38,28 +26,7 @@ fn one_coin(rt: &impl Abort, alloc: Global) -> Result<(Key, Table), Fail> {
 
 /// Splits the coin, which is said to be worth so much, in two.
 fn split(alloc: Global, name: [u8; 32], worth: i64, number: u64) -> Result<Session, Memory> {
-    let method = Vec::from_slice(alloc, b"transfer")?;
-    let mut inputs = Sequence::new(alloc);
-    inputs.push((name, coin(alloc, worth)?))?;
-    let mut outputs = Sequence::new(alloc);
-    outputs.push(coin(alloc, 4)?)?;
-    outputs.push(coin(alloc, 6)?)?;
-    let mut traces = Sequence::new(alloc);
-    traces.push(Trace {
-        contract: [7; 32],
-        method: Name::from_vec(method),
-        inputs,
-        references: Sequence::new(alloc),
-        parameters: Sequence::new(alloc),
-        outputs,
-        returns: Sequence::new(alloc),
-        deps: Sequence::new(alloc),
-    })?;
-    Ok(Session {
-        tx: Tx { traces },
-        number,
-        dummies: Sequence::new(alloc),
-    })
+    spend(alloc, name, worth, &[4, 6], number)
 }
 
 fn prepared(
@@ -197,8 +164,8 @@ fn an_abort_is_kept_when_the_coin_comes(rt: HostRuntime) -> Result<(), Fail> {
     let (key, mut table) = one_coin(&rt, alloc)?;
     let first = split(alloc, name_of(&rt, key), 10, 1)?;
     let made = first_output(&rt, alloc, &first)?;
-    let early = split(alloc, made, 4, 1)?;
-    let late = split(alloc, made, 4, 2)?;
+    let early = spend(alloc, made, 4, &[4, 6], 1)?;
+    let late = spend(alloc, made, 4, &[4, 6], 2)?;
     assert!(rt; prepared(&rt, alloc, &mut table, &early)? == Vote::Abort);
     assert!(rt; prepared(&rt, alloc, &mut table, &first)? == Vote::Commit);
     assert!(rt; decided(&rt, alloc, &mut table, &first, Vote::Commit)? == Effect::Accepted);

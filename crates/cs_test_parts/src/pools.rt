@@ -4,7 +4,8 @@ use cs_base::{Config, Memory, NodeId, Sequence};
 use cs_node_pool::Pool;
 use cs_node_state::{Ballot, Pooled};
 use cs_test_draws::Draws;
-use cs_tx::{Digest, Encoded, Entry, Name, Object, Session, Trace, Tx, Vote};
+use cs_test_samples::{Transfer, coin};
+use cs_tx::{Digest, Encoded, Entry, Session, Vote};
 use std::alloc::Global;
 use std::process::Abort;
 use std::test::Fail;
@@ -18,48 +19,25 @@ fn digest_of(number: u64) -> Digest {
     digest
 }
 
-/// An input of a shard.
-fn input(alloc: Global, number: u64, shard: u8) -> Result<(Digest, Object), Memory> {
+/// The name of an input of a shard.
+fn name_in(number: u64, shard: u8) -> Digest {
     let mut name = digest_of(number);
     name[28] = 0;
     name[29] = 0;
     name[30] = 0;
     name[31] = shard;
-    let object = Object {
-        contract: [7; 32],
-        type_name: Name::from_vec(Vec::from_slice(alloc, b"coin")?),
-        values: Sequence::new(alloc),
-    };
-    Ok((name, object))
-}
-
-fn trace(alloc: Global, number: u64) -> Result<Trace, Memory> {
-    let mut inputs = Sequence::new(alloc);
-    for shard in 0..2 {
-        if is_concerned(number, u16::from(shard)) {
-            inputs.push(input(alloc, number, shard)?)?;
-        }
-    }
-    Ok(Trace {
-        contract: [7; 32],
-        method: Name::from_vec(Vec::from_slice(alloc, b"transfer")?),
-        inputs,
-        references: Sequence::new(alloc),
-        parameters: Sequence::new(alloc),
-        outputs: Sequence::new(alloc),
-        returns: Sequence::new(alloc),
-        deps: Sequence::new(alloc),
-    })
+    name
 }
 
 fn session(alloc: Global, number: u64) -> Result<Session, Memory> {
-    let mut traces = Sequence::new(alloc);
-    traces.push(trace(alloc, number)?)?;
-    Ok(Session {
-        tx: Tx { traces },
-        number,
-        dummies: Sequence::new(alloc),
-    })
+    let mut transfer = Transfer::new(alloc);
+    for shard in 0..2 {
+        if is_concerned(number, u16::from(shard)) {
+            let input = (name_in(number, shard), coin(alloc, 0)?);
+            transfer.inputs.push(input)?;
+        }
+    }
+    transfer.into_session(alloc, number)
 }
 
 /// A session enters where it isn't there.

@@ -3,28 +3,17 @@ ghost use Rattle.std.specs.Prelude.{All, IfOk, OnOk};
 ghost use Rattle.cs_tx_value.specs.Object.{ObjectFits};
 
 use crate::rows::{self, Plan, Row};
-use cs_base::{Config, Key, Memory, Sequence};
+use cs_base::{Config, Key, Memory};
 use cs_table::Table;
 use cs_test_draws::Draws;
-use cs_tx::{
-    Digest, Effect, Encoded, Name, Object, Session, State, Trace, Tx, Value, Vote, genesis_key,
-};
+use cs_test_samples::{Transfer, coin};
+use cs_tx::{Digest, Effect, Encoded, Object, Session, State, Vote, genesis_key};
 use std::alloc::Global;
 use std::process::Abort;
 use std::test::Fail;
 
 /// What no coin is worth.
 const WRONG: u32 = 4_000_000_000;
-
-fn coin(alloc: Global, worth: u32) -> Result<Object, Memory> {
-    let mut values = Sequence::new(alloc);
-    values.push(Value::Int(i64::from(worth)))?;
-    Ok(Object {
-        contract: [7; 32],
-        type_name: Name::from_vec(Vec::from_slice(alloc, b"coin")?),
-        values,
-    })
-}
 
 fn add_coin(
     rt: &impl Abort,
@@ -35,7 +24,7 @@ fn add_coin(
     requires { All (λ item. ObjectFits item.1) objects.old.items }
     ensures { OnOk result (All (λ item. ObjectFits item.1) objects.new.items) }
 {
-    let object = coin(alloc, place)?;
+    let object = coin(alloc, i64::from(place))?;
     assert!(rt; object.fits());
     let key = genesis_key(alloc, place, &object)?;
     objects.push((key, object))?;
@@ -71,34 +60,16 @@ fn named_coin(
     } else {
         WRONG
     };
-    Ok((name_at(objects, place), coin(alloc, worth)?))
-}
-
-fn trace(alloc: Global, objects: &[(Key, Object)], plan: Plan) -> Result<Trace, Memory> {
-    let mut inputs = Sequence::new(alloc);
-    inputs.push(named_coin(alloc, objects, plan.input, plan.is_right)?)?;
-    let mut references = Sequence::new(alloc);
-    references.push(named_coin(alloc, objects, plan.reference, true)?)?;
-    Ok(Trace {
-        contract: [7; 32],
-        method: Name::from_vec(Vec::from_slice(alloc, b"transfer")?),
-        inputs,
-        references,
-        parameters: Sequence::new(alloc),
-        outputs: Sequence::new(alloc),
-        returns: Sequence::new(alloc),
-        deps: Sequence::new(alloc),
-    })
+    Ok((name_at(objects, place), coin(alloc, i64::from(worth))?))
 }
 
 fn session(alloc: Global, objects: &[(Key, Object)], plan: Plan) -> Result<Session, Memory> {
-    let mut traces = Sequence::new(alloc);
-    traces.push(trace(alloc, objects, plan)?)?;
-    Ok(Session {
-        tx: Tx { traces },
-        number: plan.number,
-        dummies: Sequence::new(alloc),
-    })
+    let mut transfer = Transfer::new(alloc);
+    let input = named_coin(alloc, objects, plan.input, plan.is_right)?;
+    transfer.inputs.push(input)?;
+    let reference = named_coin(alloc, objects, plan.reference, true)?;
+    transfer.references.push(reference)?;
+    transfer.into_session(alloc, plan.number)
 }
 
 /// What the session of a number uses: two coins next to each other, mostly as they are.
