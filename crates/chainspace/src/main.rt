@@ -1,17 +1,17 @@
-//! The program: standard input and output, handed to the library.
+//! The program: its words, standard input and standard output, handed to the library.
 #![tactic(auto)]
 
 mod adapters;
 
 use adapters::{StandardInput, StandardOutput};
+use cs_replay::{WordsError, words_or_status};
+use std::env;
 use std::process::ExitCode;
-use std::{env, io};
 
 fn main(rt: HostRuntime) -> ExitCode {
-    // Words that are no text are outside the grammar.
-    let words = match read_words(&rt) {
+    let words = match words_or_status(rt.alloc(), read_words(&rt)) {
         Ok(words) => words,
-        Err(_) => Vec::new(rt.alloc()),
+        Err(status) => return ExitCode::from(status),
     };
     let mut input = StandardInput::new(rt.stdin());
     let mut output = StandardOutput::new(rt.stdout());
@@ -19,7 +19,7 @@ fn main(rt: HostRuntime) -> ExitCode {
 }
 
 // The words behind the program's name.
-fn read_words(rt: &HostRuntime) -> io::Result<Vec<String>> {
+fn read_words(rt: &HostRuntime) -> Result<Vec<String>, WordsError> {
     let mut words = Vec::new(rt.alloc());
     for word in env::args(rt)?.skip(1) {
         words.push(word)?;

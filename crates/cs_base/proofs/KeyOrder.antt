@@ -11,13 +11,13 @@ use Rattle.std.proofs.Math.Nat.{mod-lt, mod-one, mod-eq_of_lt, div-one, mul-le-m
 use Rattle.cs_base.specs.Key.{key_bytes}
 use Rattle.cs_base.specs.declared.key.Key.TheVariants.{Dummy}
 
-nat_cmp-less : (x y : ℕ) → x < y → nat_cmp x y ≡ Less
+pub nat_cmp-less : (x y : ℕ) → x < y → nat_cmp x y ≡ Less
 nat_cmp-less x y less = sym (nat_cmp_is x y Less less)
 
-nat_cmp-equal : (x y : ℕ) → x ≡ y → nat_cmp x y ≡ Equal
+pub nat_cmp-equal : (x y : ℕ) → x ≡ y → nat_cmp x y ≡ Equal
 nat_cmp-equal x y same = sym (nat_cmp_is x y Equal same)
 
-nat_cmp-greater : (x y : ℕ) → y < x → nat_cmp x y ≡ Greater
+pub nat_cmp-greater : (x y : ℕ) → y < x → nat_cmp x y ≡ Greater
 nat_cmp-greater x y more = sym (nat_cmp_is x y Greater more)
 
 -- ---- of two numbers of two digits the high ones decide, and then the low ones

@@ -9,8 +9,8 @@ use Rattle.hex.specs.Hex.{decode_of, encode_lower}
 -- the number of which the field is the decimal text, without sign or leading zeros, below 2 ^ 64
 abbrev pub number_of : List ℕ → Option ℕ
 number_of field =
-    if nat_lt (digits_value 10 field) (2 ^ 64) && bytes_eq field (decimal (digits_value 10 field)) then Some (digits_value 10 field)
-    else None
+    if nat_lt (digits_value 10 field) (2 ^ 64) && bytes_eq field (decimal (digits_value 10 field))
+    then Some (digits_value 10 field) else None
 
 -- the bytes of which the field is the hex text, in either case; `-` stands for no byte
 abbrev pub bytes_of : List ℕ → Option (List ℕ)

@@ -37,7 +37,9 @@ bytes_at n bytes = if nat_lt (length bytes) n then None else Some (take n bytes,
 
 -- an unsigned number, its highest byte first
 abbrev pub number_at : Width → List ℕ → Found ℕ
-number_at w bytes = if nat_lt (length bytes) (byte_len w) then None else Some (from_be_bytes w (take (byte_len w) bytes), drop (byte_len w) bytes)
+number_at w bytes =
+    if nat_lt (length bytes) (byte_len w) then None
+    else Some (from_be_bytes w (take (byte_len w) bytes), drop (byte_len w) bytes)
 
 -- a number of at most so much, and then what it decides
 unfoldable pub upto_at : {X : Type 0} → Width → ℕ → (ℕ → List ℕ → Found X) → List ℕ → Found X
@@ -87,7 +89,8 @@ abbrev pub behind : {X : Type 0} → Found X → Option (List ℕ)
 behind (Some x) = Some x.1
 behind None = None
 
--- What a call answered is what a reader finds, and the cursor then stands behind it. Where the reader finds nothing, the cursor stays.
+-- What a call answered is what a reader finds, and the cursor then stands behind it. Where the reader finds nothing,
+-- the cursor stays.
 abbrev pub Reads : {X E : Type 0} → Result X E → List ℕ → List ℕ → Found X → Type 0
 Reads (Ok x) before after found = found ≡ Some (x, after)
 Reads (Err e) before after found = (found ≡ None) × (after ≡ before)
@@ -97,9 +100,11 @@ pub record Splits (bytes text rest : List ℕ) : Type 0 where
   pub parts : bytes ≡ text ++ rest
   pub rest_fits : IsBytes rest
 
--- The two directions of one form: what is found fits and was written so, and what fits is found again where it was written.
+-- The two directions of one form: what is found fits and was written so, and what fits is found again where it was
+-- written.
 pub record IsForm {X : Type 0} (write : X → List ℕ) (Fits : X → Type 0) (read : List ℕ → Found X) : Type 0 where
-  pub takes : (bytes : List ℕ) (x : X) (rest : List ℕ) → IsBytes bytes → read bytes ≡ Some (x, rest) → Splits bytes (write x) rest × Fits x
+  pub takes : (bytes : List ℕ) (x : X) (rest : List ℕ)
+      → IsBytes bytes → read bytes ≡ Some (x, rest) → Splits bytes (write x) rest × Fits x
   pub again : (x : X) (rest : List ℕ) → Fits x → read (write x ++ rest) ≡ Some (x, rest)
 
 -- a reader's find, where nothing is left behind it

@@ -1,4 +1,5 @@
 pub mod formers
+pub mod Options
 pub mod Fields
 pub mod Config
 pub mod NodeId

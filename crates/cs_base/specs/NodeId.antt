@@ -39,11 +39,13 @@ shard_named front = if bytes_eq front (codes "c") then Some CLIENT_SHARD else un
 abbrev pub node_at : Option ℕ → Option ℕ → Option NodeId
 node_at None index = None
 node_at (Some shard) None = None
-node_at (Some shard) (Some index) = if nat_le shard 65535 && nat_le index 65535 then Some (record { shard = shard; index = index }) else None
+node_at (Some shard) (Some index) =
+    if nat_le shard 65535 && nat_le index 65535 then Some (record { shard = shard; index = index }) else None
 
 -- the name of which the field is the text
 abbrev pub node_of : List ℕ → Option NodeId
-node_of field = node_at (shard_named (before_first (λ byte. byte == 46) field)) (number_of (after_first (λ byte. byte == 46) field))
+node_of field =
+    node_at (shard_named (before_first (λ byte. byte == 46) field)) (number_of (after_first (λ byte. byte == 46) field))
 
 abbrev pub same_name : NodeId → NodeId → Bool
 same_name a b = a.shard == b.shard && a.index == b.index

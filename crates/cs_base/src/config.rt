@@ -5,7 +5,8 @@ ghost use Rattle.cs_base.specs.declared.limits.TheConstants.{MOST_SHARDS, MOST_L
 use crate::limits::{MOST_DUMMIES, MOST_LIARS, MOST_SHARDS};
 use crate::node_id::NodeId;
 
-/// The shards, the liars that each stands, and the dummies with which each begins. A shard has 3f+1 nodes.
+/// The shards, the liars that each stands, and the dummies with which each begins. A shard has 3f+1
+/// nodes.
 #[derive(Clone, Copy, Debug, PartialEq, Eq)]
 pub struct Config {
     pub shards: u16,

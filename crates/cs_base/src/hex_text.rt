@@ -8,7 +8,8 @@ use crate::sequence::Sequence;
 use hex::FromHexError;
 use std::alloc::Global;
 
-/// The bytes of which the field is the text: hex of either case with an even number of digits, or `-` for no byte.
+/// The bytes of which the field is the text: hex of either case with an even number of digits, or
+/// `-` for no byte.
 pub fn read_bytes(alloc: Global, field: &[u8]) -> Result<Option<Sequence<u8>>, Memory>
     ensures { IfOk result (λ bytes. bytes ≡ bytes_of field.now) }
 {

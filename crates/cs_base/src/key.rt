@@ -14,8 +14,8 @@ pub enum Key {
     Dummy(u16, u64),
 }
 
-/// The shard that holds a key. For an object it is its last four bytes, as a number with the highest byte first,
-/// modulo the number of shards.
+/// The shard that holds a key. For an object it is its last four bytes, as a number with the
+/// highest byte first, modulo the number of shards.
 pub fn shard_of(config: &Config, key: &Key) -> u16
     ensures { result ≡ shard_of_key config.now.shards key.now }
 {
@@ -28,8 +28,8 @@ pub fn shard_of(config: &Config, key: &Key) -> u16
     }
 }
 
-/// Keys are ordered as the bytes that they are encoded by: objects before dummies, then by the digest,
-/// or by the shard and the serial number.
+/// Keys are ordered as the bytes that they are encoded by: objects before dummies, then by the
+/// digest, or by the shard and the serial number.
 pub fn keys_are_ordered_by_bytes()
     ensures { (a : Key) (b : Key) → IsInWidth a → IsInWidth b
         → ⟦<Key as Ord>⟧.cmp a b ≡ slice_cmp nat_cmp (key_bytes a) (key_bytes b) }

@@ -1,4 +1,5 @@
-//! What every crate stands on: lists, fields of bytes, names of nodes and keys, text, and the outside.
+//! What every crate stands on: lists, fields of bytes, names of nodes and keys, text, and the
+//! outside.
 #![tactic(auto)]
 
 mod compare;
@@ -28,9 +29,10 @@ pub use failures::Failures;
 pub use hex_text::{print_bytes, printed_bytes_are_read, read_bytes};
 pub use key::{Key, keys_are_ordered_by_bytes, shard_of};
 pub use limits::{
-    BOOK_PLACES, LAST_SLOT, LEAST_DATAGRAM, MOST_BODY, MOST_DATAGRAM, MOST_DUMMIES, MOST_ECHOED,
-    MOST_ENTRY, MOST_EVENTS, MOST_GENESIS, MOST_LIARS, MOST_OBJECT, MOST_PLACES, MOST_SCHEDULE,
-    MOST_SENT, MOST_SESSION, MOST_SHARDS, MOST_TX, MOST_WAITING, SLOTS_AHEAD, VIEW_BOUND,
+    BOOK_PLACES, LAST_SLOT, LAST_VIEW, LEAST_DATAGRAM, MOST_BODY, MOST_DATAGRAM, MOST_DUMMIES,
+    MOST_ECHOED, MOST_ENTRY, MOST_EVENTS, MOST_GENESIS, MOST_LIARS, MOST_OBJECT, MOST_PLACES,
+    MOST_SCHEDULE, MOST_SENT, MOST_SESSION, MOST_SHARDS, MOST_TX, MOST_WAITING, SLOTS_AHEAD,
+    VIEW_BOUND,
 };
 pub use line::{fields, place_of, split_at_byte, strip_return};
 pub use mem_sink::{MemSink, NullSink};

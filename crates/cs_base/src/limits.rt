@@ -1,21 +1,29 @@
 //! All limits, each with the reason for its number.
 
-/// The most shards of a configuration: the prepared votes of a session over all of them fit in one page of a log.
+/// The most shards of a configuration: a session that concerns them all has an input in one of
+/// them, and so at most 15 dummies.
 pub const MOST_SHARDS: u16 = 16;
 
-/// The most liars that a shard of a configuration stands, with 3f+1 nodes: a mask of its 16 members has 16 bits.
+/// The most liars that a shard of a configuration stands, with 3f+1 nodes: a mask of its 16 members
+/// has 16 bits.
 pub const MOST_LIARS: u16 = 5;
 
-/// The most dummies with which a shard begins: a client asks for one after the other, and each use makes the next.
+/// The most dummies with which a shard begins: so many sessions may hold one at a time, and each
+/// use makes the next.
 pub const MOST_DUMMIES: u16 = 64;
 
-/// No view is this or above: each of 16 members leads 64 of them, and a wait doubles no more after the tenth.
-pub const VIEW_BOUND: u16 = 1024;
+/// No view is this or above: each of 16 members leads 64 of them, and a wait doubles no more after
+/// the tenth.
+pub const VIEW_BOUND: u16 = 1_024;
+
+/// The last view of a slot, the one below `VIEW_BOUND`.
+pub const LAST_VIEW: u16 = 1_023;
 
 /// The last slot, 2^62 - 1, which is never chosen: sums of slots and windows stay far below 2^64.
 pub const LAST_SLOT: u64 = 4_611_686_018_427_387_903;
 
-/// How far above the open slot a message is taken: a member that lags by less than 16 slots loses nothing.
+/// How far above the open slot a message is taken: a member that lags by less than 16 slots loses
+/// nothing.
 pub const SLOTS_AHEAD: u64 = 15;
 
 /// The most digests that a member echoes in one slot: what a change lists stays below a datagram.
@@ -24,28 +32,31 @@ pub const MOST_ECHOED: u8 = 16;
 /// The bytes of a datagram without its body: the head of 17, and the tag of 32.
 pub const LEAST_DATAGRAM: usize = 49;
 
-/// The most bytes of a datagram: half of what UDP carries, and above the longest body.
+/// The most bytes of a datagram: half of 64 KiB, below what UDP carries, and above any message's.
 pub const MOST_DATAGRAM: usize = 32_768;
 
 /// The most bytes of a body: those of a datagram less the 49 of its head and tag.
 pub const MOST_BODY: usize = 32_719;
 
-/// The most bytes of an object: two of them, read and made anew, fit in a transaction.
+/// The most bytes of an object: half of a transaction's.
 pub const MOST_OBJECT: usize = 4_096;
 
-/// The most bytes of a transaction: a proposal of one fits in a datagram with room to spare.
+/// The most bytes of a transaction: the proposal of a session of one fits in a datagram with room
+/// to spare.
 pub const MOST_TX: usize = 8_192;
 
-/// The most bytes of a session: a transaction, a number of 8, a count of 1, and 15 dummies of 10 each.
+/// The most bytes of a session: a transaction, a number of 8, a count of 1, and 15 dummies of 10
+/// each.
 pub const MOST_SESSION: usize = 8_351;
 
-/// The most bytes of an entry: a session, its kind, and a vote.
+/// The most bytes of an entry: its kind, a vote, and a session.
 pub const MOST_ENTRY: usize = 8_353;
 
 /// A record with this many places in its book takes no new session: its memory stays bounded.
 pub const BOOK_PLACES: u16 = 1_024;
 
-/// The most places of a book: the one above `BOOK_PLACES` is kept for the session that holds the lock, if it aborts.
+/// The most places of a book: the one above `BOOK_PLACES` is kept for the session that holds the
+/// lock, if it aborts.
 pub const MOST_PLACES: u16 = 1_025;
 
 /// The most sessions that wait in a pool: at 8,351 bytes each they take 34 MB.
@@ -60,5 +71,6 @@ pub const MOST_SCHEDULE: usize = 16_777_216;
 /// The most events of a replay: each delivery of a drain is one, so a short text can ask for many.
 pub const MOST_EVENTS: u64 = 1_000_000;
 
-/// The most bytes that the nodes of a replay send: 256 MiB, which are kept so that each can be delivered again.
+/// The most bytes that the nodes of a replay send: 256 MiB, which are kept so that each datagram
+/// can be delivered again.
 pub const MOST_SENT: u64 = 268_435_456;

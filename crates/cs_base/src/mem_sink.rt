@@ -6,7 +6,8 @@ use crate::failures::Failures;
 use crate::outside::{Put, Sink};
 use std::alloc::Global;
 
-/// A sink that keeps what is written to it. The listed calls fail, and no others, unless memory runs out.
+/// A sink that keeps what is written to it. The listed calls fail, and no others, unless memory
+/// runs out.
 #[derive(Drop)]
 pub struct MemSink {
     bytes: Vec<u8>,
@@ -48,10 +49,12 @@ impl Sink for MemSink {
     fn write(&mut self, piece: &[u8]) -> Put
         requires { 0 < length piece.now }
         ensures bytes { Writes (sink_written self.old) (sink_written self.new) piece.now result }
-        ensures cause { HasCause (sink_faults self.old) (sink_faults self.new) (result ≡ Put.Failed) }
+        ensures cause { HasCause (sink_faults self.old) (sink_faults self.new)
+            (result ≡ Put.Failed) }
 
         // Exactly the listed calls fail.
-        ensures counted { CountsCall (sink_failures self.old) (sink_failures self.new) (result ≡ Put.Failed) }
+        ensures counted { CountsCall (sink_failures self.old) (sink_failures self.new)
+            (result ≡ Put.Failed) }
 
         // Each piece is taken whole.
         ensures whole { (n : ℕ) → result ≡ Put.Took n → n ≡ length piece.now }

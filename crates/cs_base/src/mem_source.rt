@@ -55,10 +55,12 @@ impl Source for MemSource {
     fn read(&mut self, buf: &mut [u8]) -> Got
         requires { 0 < length buf.old }
         ensures bytes { Reads (source_left self.old) (source_left self.new) buf.new result }
-        ensures cause { HasCause (source_faults self.old) (source_faults self.new) (result ≡ Got.Failed) }
+        ensures cause { HasCause (source_faults self.old) (source_faults self.new)
+            (result ≡ Got.Failed) }
 
         // Exactly the listed calls fail.
-        ensures counted { CountsCall (source_failures self.old) (source_failures self.new) (result ≡ Got.Failed) }
+        ensures counted { CountsCall (source_failures self.old) (source_failures self.new)
+            (result ≡ Got.Failed) }
     {
         if self.failures.is_due() {
             return Got::Failed;

@@ -73,5 +73,6 @@ fn with_numbers(shard: Option<u64>, index: Option<u64>) -> Option<NodeId>
 
 /// What is printed of a name is read as that name.
 pub fn printed_node_is_read()
-    ensures { (id : NodeId) → id.shard < 2 ^ 16 → id.index < 2 ^ 16 → node_of (node_text id) ≡ Some id }
+    ensures { (id : NodeId) → id.shard < 2 ^ 16 → id.index < 2 ^ 16
+        → node_of (node_text id) ≡ Some id }
 {}

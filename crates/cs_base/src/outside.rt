@@ -1,4 +1,5 @@
-//! What bytes are read from and written to, by what is left, what was written, and how often it failed.
+//! What bytes are read from and written to, by what is left, what was written, and how often it
+//! failed.
 ghost use Rattle.std.specs.Prelude.{◌≡◌, ◌<◌, List, ℕ, Option, length};
 ghost use Rattle.cs_base.specs.Outside.{HasCause, Reads, Writes};
 

@@ -23,11 +23,14 @@ impl From<AllocError> for WriteError {
     }
 }
 
-/// Writes all of a text. It stops at the first call of the sink that isn't answered by taking bytes.
+/// Writes all of a text. It stops at the first call of the sink that isn't answered by taking
+/// bytes.
 pub fn print<K: Sink>(output: &mut K, text: &[u8]) -> Result<(), WriteError>
     ensures done { OnOk result (Appends (K.written output.old) (K.written output.new) text.now) }
-    ensures part { OnErr result (AppendsFront (K.written output.old) (K.written output.new) text.now) }
-    ensures cause { HasCause (K.faults output.old) (K.faults output.new) (IsErrOf result WriteError.Failed) }
+    ensures part { OnErr result
+        (AppendsFront (K.written output.old) (K.written output.new) text.now) }
+    ensures cause { HasCause (K.faults output.old) (K.faults output.new)
+        (IsErrOf result WriteError.Failed) }
 {
     let mut rest = text;
     while !rest.is_empty() {

@@ -25,15 +25,18 @@ impl From<AllocError> for ReadError {
 // How many bytes are asked for at once.
 const PIECE: usize = 4096;
 
-/// All that is left of a source; or, where that is longer than the limit, one byte more than the limit.
+/// All that is left of a source; or, where that is longer than the limit, one byte more than the
+/// limit.
 pub fn read_text<S: Source>(
     alloc: Global,
     limit: usize,
     input: &mut S,
 ) -> Result<Vec<u8>, ReadError>
     requires { limit < 2 ^ 32 }
-    ensures text { IfOk result (λ text. IsText limit (S.left input.old) (S.left input.new) text.items) }
-    ensures cause { HasCause (S.faults input.old) (S.faults input.new) (IsErrOf result ReadError.Failed) }
+    ensures text { IfOk result (λ text.
+        IsText limit (S.left input.old) (S.left input.new) text.items) }
+    ensures cause { HasCause (S.faults input.old) (S.faults input.new)
+        (IsErrOf result ReadError.Failed) }
 {
     let mut text = Vec::new(alloc);
     let mut piece = [0; PIECE];

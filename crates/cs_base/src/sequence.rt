@@ -4,7 +4,8 @@ ghost use Rattle.std.specs.Prelude.{◌≡◌, ◌++◌, ◌∷◌, [], ◌↔�
 use std::alloc::{AllocFailed, Global};
 use std::marker::Model;
 
-/// A vector that contracts see as the list of its elements. Two of them are equal where their elements are.
+/// A vector that contracts see as the list of its elements. Two of them are equal where their
+/// elements are.
 #[derive(Drop)]
 pub struct Sequence<T> {
     elements: Vec<T>,

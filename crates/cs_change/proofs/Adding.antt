@@ -3,7 +3,8 @@ use Rattle.std.proofs.Common.{◌≡◌, ℕ, ◌+◌, ◌<◌, ◌==◌, nat_le
 use Rattle.std.proofs.lemmas.Bool.Decides.{nat_tests}
 use Rattle.std.proofs.Math.Seq.{drop-cons}
 use Rattle.std.proofs.Math.Path.{fun_ext}
-use Rattle.cs_order.specs.Counts.{when, or_else}
+use Rattle.cs_order.specs.Counts.{when}
+use Rattle.cs_base.specs.Options.{or_else}
 use Rattle.cs_order_rules.specs.declared.message.Change.{Change}
 use Rattle.cs_change.specs.declared.slot_changes.Filed.{Filed}
 use Rattle.cs_change.specs.Kept.{told_in, with_told, with_change, reaches}

@@ -1,6 +1,7 @@
 -- What the changes to the views of a slot show.
 use Rattle.std.specs.Prelude.{ℕ, ◌==◌, nat_le, Bool, true, false, ◌&&◌, ◌||◌, List, [], ◌∷◌, Option, Some, None, if◌then◌else◌}
-use Rattle.cs_order.specs.Counts.{when, or_else}
+use Rattle.cs_order.specs.Counts.{when}
+use Rattle.cs_base.specs.Options.{or_else}
 use Rattle.cs_order_rules.specs.declared.message.Change.{Change}
 use Rattle.cs_change.specs.declared.slot_changes.Filed.{Filed}
 
@@ -16,12 +17,14 @@ pub record KeptChanges : Type 0 where
 -- the change of a member to a view
 abbrev pub told_in : List Filed → ℕ → ℕ → Option Change
 told_in [] view member = None
-told_in (filed ∷ changes) view member = if (filed.view == view) && (filed.member == member) then Some filed.change else told_in changes view member
+told_in (filed ∷ changes) view member =
+    if (filed.view == view) && (filed.member == member) then Some filed.change else told_in changes view member
 
 -- the member gave a change to this view or a later one
 abbrev pub reaches : List Filed → ℕ → ℕ → Bool
 reaches [] view member = false
-reaches (filed ∷ changes) view member = ((filed.member == member) && nat_le view filed.view) || reaches changes view member
+reaches (filed ∷ changes) view member =
+    ((filed.member == member) && nat_le view filed.view) || reaches changes view member
 
 abbrev pub told : KeptChanges → ℕ → Option Change
 told k = told_in k.changes k.view

@@ -1,5 +1,6 @@
 //! Changes to one view.
-ghost use Rattle.std.specs.Prelude.{◌≡◌, ◌*◌, ◌≤◌, not, is_some, IfOk};
+ghost use Rattle.std.specs.Prelude.{◌≡◌, ◌*◌, ◌≤◌, ◌<◌, not, is_some, IfOk};
+ghost use Rattle.cs_order.specs.Limits.{view_bound};
 ghost use Rattle.cs_order_rules.specs.Safe.{is_free, is_safe};
 ghost use Rattle.cs_order_rules.specs.Rules.{pair_of};
 ghost use Rattle.cs_change.specs.Kept.{told, with_change, none_told};
@@ -33,8 +34,9 @@ impl Changes {
     pub fn new(alloc: Global, f: u16, view: u16) -> Result<Changes, Memory>
         requires few { f ≤ 5 }
         requires above { 1 ≤ view }
-        requires below { view ≤ 1023 }
-        ensures { IfOk result (λ changes. (changes.f ≡ f) × (changes.view ≡ view) × (told changes ≡ none_told)) }
+        requires below { view < view_bound }
+        ensures { IfOk result (λ changes.
+            (changes.f ≡ f) × (changes.view ≡ view) × (told changes ≡ none_told)) }
     {
         Ok(Changes {
             view,
@@ -46,14 +48,16 @@ impl Changes {
     pub fn add(&mut self, member: u16, change: Change) -> Result<bool, Memory>
         requires { member ≤ 3 * self.old.f }
         ensures fresh { IfOk result (λ fresh. fresh ≡ not (is_some (told self.old member))) }
-        ensures now { IfOk result (λ fresh. told self.new ≡ with_change fresh (told self.old) member change) }
-        ensures same { IfOk result (λ fresh. (self.new.f ≡ self.old.f) × (self.new.view ≡ self.old.view)) }
+        ensures now { IfOk result (λ fresh.
+            told self.new ≡ with_change fresh (told self.old) member change) }
+        ensures same { IfOk result (λ fresh.
+            (self.new.f ≡ self.old.f) × (self.new.view ≡ self.old.view)) }
     {
-        let fresh = self.all.add(self.view, member, change)?;
-        Ok(fresh)
+        self.all.add(self.view, member, change)
     }
 
-    /// An entry with this digest may be proposed in the view, whatever was chosen in an earlier one.
+    /// An entry with this digest may be proposed in the view,
+    /// whatever was chosen in an earlier one.
     pub fn safe(&self, digest: &[u8; 32]) -> bool
         ensures { result ≡ is_safe self.now.f (told self.now) self.now.view digest.now }
     {

@@ -29,7 +29,7 @@ pub fn allows(change: Option<&Change>, view: u16, digest: &[u8; 32]) -> bool
 }
 
 /// It lists the digest as echoed at a view from the first to below the second.
-pub fn echoed(change: Option<&Change>, from: u16, below: u16, digest: &[u8; 32]) -> bool
+pub fn lists_echo(change: Option<&Change>, from: u16, below: u16, digest: &[u8; 32]) -> bool
     ensures { result ≡ says_echoed from below digest.now (option_copied change.entry) }
 {
     match change {

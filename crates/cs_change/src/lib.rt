@@ -1,4 +1,5 @@
-//! The changes of a shard's members to later views, and which digests they make safe to propose there.
+//! The changes of a shard's members to later views,
+//! and which digests they make safe to propose there.
 #![tactic(auto)]
 
 mod changes;

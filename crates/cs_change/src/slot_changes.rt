@@ -7,13 +7,10 @@ ghost use Rattle.cs_order_rules.specs.Rules.{pair_of};
 ghost use Rattle.cs_change.specs.Kept.{told_in, with_told, reaches};
 
 use crate::claims;
-use cs_base::Memory;
+use cs_base::{Memory, VIEW_BOUND};
 use cs_order_rules::Change;
 use std::alloc::{AllocError, Global};
 use std::marker::Model;
-
-/// No view is this or above.
-const VIEW_BOUND: u16 = 1024;
 
 /// The change of a member to a view.
 #[derive(Drop)]
@@ -62,9 +59,14 @@ impl SlotChanges {
 
     /// Takes the change of a member to a view. It is false exactly for a repeat.
     pub fn add(&mut self, view: u16, member: u16, change: Change) -> Result<bool, Memory>
-        ensures fresh { IfOk result (λ fresh. fresh ≡ not (is_some (told_in self.old.changes view member))) }
-        ensures now { IfOk result (λ fresh. told_in self.new.changes ≡ with_told fresh (told_in self.old.changes) view member change) }
-        ensures reached { IfOk result (λ fresh. (v m : ℕ) → reaches self.new.changes v m ≡ ((fresh && ((member == m) && nat_le v view)) || reaches self.old.changes v m)) }
+        ensures fresh { IfOk result (λ fresh.
+            fresh ≡ not (is_some (told_in self.old.changes view member))) }
+        ensures now { IfOk result (λ fresh.
+            told_in self.new.changes
+            ≡ with_told fresh (told_in self.old.changes) view member change) }
+        ensures reached { IfOk result (λ fresh. (v m : ℕ) →
+            reaches self.new.changes v m
+            ≡ ((fresh && ((member == m) && nat_le v view)) || reaches self.old.changes v m)) }
         ensures same { IfOk result (λ fresh. self.new.f ≡ self.old.f) }
     {
         if self.get(view, member).is_some() {
@@ -88,7 +90,7 @@ impl SlotChanges {
     }
 
     /// How many members gave a change to this view or a later one.
-    pub fn reached(&self, view: u16) -> u16
+    pub fn count_reached(&self, view: u16) -> u16
         ensures { result ≡ count_below (3 * self.now.f + 1) (reaches self.now.changes view) }
     {
         let mut count = 0;
@@ -101,12 +103,14 @@ impl SlotChanges {
     /// No member gave a change to this view or a later one, of the views that there are.
     pub fn end(&self) -> u16
         ensures bound { result ≤ view_bound }
-        ensures none { (view member : ℕ) → result ≤ view → view < view_bound → reaches self.now.changes view member ≡ false }
+        ensures none { (view member : ℕ) → result ≤ view → view < view_bound →
+            reaches self.now.changes view member ≡ false }
     {
         end_of(self.changes.as_slice())
     }
 
-    /// An entry with this digest may be proposed in the view, whatever was chosen in an earlier one.
+    /// An entry with this digest may be proposed in the view,
+    /// whatever was chosen in an earlier one.
     pub fn safe(&self, view: u16, digest: &[u8; 32]) -> bool
         ensures { result ≡ is_safe self.now.f (told_in self.now.changes view) view digest.now }
     {
@@ -138,14 +142,16 @@ impl SlotChanges {
 
     /// 2f+1 members allow the digest from a view on, and f+1 echoed it since then.
     fn safe_from(&self, view: u16, from: u16, digest: &[u8; 32]) -> bool
-        ensures { result ≡ is_safe_from self.now.f (told_in self.now.changes view) view digest.now from }
+        ensures { result
+            ≡ is_safe_from self.now.f (told_in self.now.changes view) view digest.now from }
     {
         self.count_allowed(view, from, digest) > 2 * self.f
             && self.count_echoed(view, from, digest) > self.f
     }
 
     fn count_free(&self, view: u16) -> u16
-        ensures { result ≡ count_below (3 * self.now.f + 1) (λ member. says_none (told_in self.now.changes view member)) }
+        ensures { result ≡ count_below (3 * self.now.f + 1)
+            (λ member. says_none (told_in self.now.changes view member)) }
     {
         let mut count = 0;
         for member in 0..3 * self.f + 1 {
@@ -155,7 +161,8 @@ impl SlotChanges {
     }
 
     fn count_allowed(&self, view: u16, from: u16, digest: &[u8; 32]) -> u16
-        ensures { result ≡ count_below (3 * self.now.f + 1) (λ member. says_allowed from digest.now (told_in self.now.changes view member)) }
+        ensures { result ≡ count_below (3 * self.now.f + 1)
+            (λ member. says_allowed from digest.now (told_in self.now.changes view member)) }
     {
         let mut count = 0;
         for member in 0..3 * self.f + 1 {
@@ -165,11 +172,12 @@ impl SlotChanges {
     }
 
     fn count_echoed(&self, view: u16, from: u16, digest: &[u8; 32]) -> u16
-        ensures { result ≡ count_below (3 * self.now.f + 1) (λ member. says_echoed from view digest.now (told_in self.now.changes view member)) }
+        ensures { result ≡ count_below (3 * self.now.f + 1)
+            (λ member. says_echoed from view digest.now (told_in self.now.changes view member)) }
     {
         let mut count = 0;
         for member in 0..3 * self.f + 1 {
-            count += u16::from(claims::echoed(self.get(view, member), from, view, digest));
+            count += u16::from(claims::lists_echo(self.get(view, member), from, view, digest));
         }
         count
     }
@@ -199,7 +207,8 @@ fn has_reached(changes: &[Filed], view: u16, member: u16) -> bool
 
 fn end_of(changes: &[Filed]) -> u16
     ensures bound { result ≤ view_bound }
-    ensures none { (view member : ℕ) → result ≤ view → view < view_bound → reaches changes.now view member ≡ false }
+    ensures none { (view member : ℕ) → result ≤ view → view < view_bound →
+        reaches changes.now view member ≡ false }
 {
     let mut end = 0;
     for filed in changes {

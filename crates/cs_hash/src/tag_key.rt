@@ -27,7 +27,9 @@ impl Model for TagKey {
 
     ghost view = { λ key. key.bytes };
 
-    ghost invariant = { λ key. Holds256 key.inner (masked 54 (key_block key.bytes)) × Holds256 key.outer (masked 92 (key_block key.bytes)) };
+    ghost invariant = { λ key.
+        Holds256 key.inner (masked 54 (key_block key.bytes))
+        × Holds256 key.outer (masked 92 (key_block key.bytes)) };
 }
 
 // SHA-256 of what a hasher holds and bytes.

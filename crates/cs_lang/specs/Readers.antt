@@ -1,4 +1,5 @@
--- How contract texts are read from the left: the readers of the rules, as the code goes down. Each word is what one function answers.
+-- How contract texts are read from the left: the readers of the rules, as the code goes down.
+-- Each word is what one function answers.
 use Rattle.std.specs.Prelude.{ℕ, zero, suc, Bool, true, false, List, [], ◌∷◌, ◌++◌, Option, None, Some, Ok}
 use Rattle.cs_lang_token.specs.declared.token.Token.{Token}
 use Rattle.cs_lang_token.specs.declared.token.Text.{Text}
@@ -80,7 +81,13 @@ unfoldable pub fields_turn : ℕ → List Field → Reader (List Field)
 fields_turn left = turn with_item (pair_at (word_at kind.Comma) (field_level left))
 
 unfoldable pub slot_level : Reader Slot
-slot_level = mapped_at slot_of (pair_at name_at (pair_at (word_at kind.Colon) (pair_at name_at (either_at (is (kind.Star ∷ [])) (mapped_at starred (word_at kind.Star)) (nothing_at false)))))
+slot_level =
+    mapped_at slot_of
+    (pair_at name_at
+    (pair_at (word_at kind.Colon)
+    (pair_at name_at
+    (either_at (is (kind.Star ∷ [])) (mapped_at starred (word_at kind.Star))
+    (nothing_at false)))))
 
 unfoldable pub slots_level : Reader (List Slot)
 slots_level = commas_at slot_level
@@ -103,13 +110,22 @@ abbrev pub bracket_at : Reader (List Expr) → Bool → Reader Expr
 bracket_at items room = mapped_at listed (pair_at (sign_at kind.OpenList room) (pair_at items (word_at kind.CloseList)))
 
 abbrev pub concat_at : Reader Expr → Bool → Reader Expr
-concat_at inside room = mapped_at concat_expr (pair_at (word_at kind.Concat) (in_parentheses_at (pair_at inside (pair_at (word_at kind.Comma) inside)) room))
+concat_at inside room =
+    mapped_at concat_expr
+    (pair_at (word_at kind.Concat)
+    (in_parentheses_at (pair_at inside (pair_at (word_at kind.Comma) inside)) room))
 
 abbrev pub called_at : Bool → Reader Expr
-called_at room = mapped_at called_expr (pair_at (word_at kind.Called) (in_parentheses_at (pair_at number_at (pair_at (word_at kind.Comma) name_at)) room))
+called_at room =
+    mapped_at called_expr
+    (pair_at (word_at kind.Called)
+    (in_parentheses_at (pair_at number_at (pair_at (word_at kind.Comma) name_at)) room))
 
 abbrev pub depint_at : Bool → Reader Expr
-depint_at room = mapped_at depint_expr (pair_at (word_at kind.DepInt) (in_parentheses_at (pair_at number_at (pair_at (word_at kind.Comma) number_at)) room))
+depint_at room =
+    mapped_at depint_expr
+    (pair_at (word_at kind.DepInt)
+    (in_parentheses_at (pair_at number_at (pair_at (word_at kind.Comma) number_at)) room))
 
 abbrev pub empty_at : Reader ValueKind → Reader Expr
 empty_at kinds = mapped_at empty_expr (pair_at (word_at kind.Empty) kinds)
@@ -124,20 +140,28 @@ abbrev pub worded_of : Reader Expr → Reader Expr → Reader Expr → Reader Ex
 worded_of empty len sha256 concat called depint =
     either_at (is (kind.True ∷ [])) (mapped_at (truth_expr true) (word_at kind.True))
     (either_at (is (kind.False ∷ [])) (mapped_at (truth_expr false) (word_at kind.False))
-    (either_at (is (kind.Empty ∷ [])) empty (either_at (is (kind.Len ∷ [])) len (either_at (is (kind.Sha256 ∷ [])) sha256
-    (either_at (is (kind.Concat ∷ [])) concat (either_at (is (kind.Called ∷ [])) called depint))))))
+    (either_at (is (kind.Empty ∷ [])) empty
+    (either_at (is (kind.Len ∷ [])) len
+    (either_at (is (kind.Sha256 ∷ [])) sha256
+    (either_at (is (kind.Concat ∷ [])) concat
+    (either_at (is (kind.Called ∷ [])) called depint))))))
 
 abbrev pub worded_at : Reader Expr → Reader ValueKind → Bool → Reader Expr
-worded_at inside kinds room = worded_of (empty_at kinds) (len_at inside room) (sha256_at inside room) (concat_at inside room) (called_at room) (depint_at room)
+worded_at inside kinds room =
+    worded_of (empty_at kinds) (len_at inside room) (sha256_at inside room) (concat_at inside room)
+    (called_at room) (depint_at room)
 
 abbrev pub primary_of : Reader Expr → Reader Expr → Reader Expr → Reader Expr
 primary_of group bracket worded =
-    either_at (is (kind.Open ∷ [])) group (either_at (is (kind.OpenList ∷ [])) bracket
-    (either_at (is (kind.Number ∷ [])) (mapped_at number_expr number_at) (either_at (is (kind.Bytes ∷ [])) (mapped_at bytes_expr bytes_at)
+    either_at (is (kind.Open ∷ [])) group
+    (either_at (is (kind.OpenList ∷ [])) bracket
+    (either_at (is (kind.Number ∷ [])) (mapped_at number_expr number_at)
+    (either_at (is (kind.Bytes ∷ [])) (mapped_at bytes_expr bytes_at)
     (either_at (is (kind.Name ∷ [])) (mapped_at name_expr name_at) worded))))
 
 abbrev pub primary_at : Reader Expr → Reader ValueKind → Bool → Reader Expr
-primary_at inside kinds room = primary_of (group_at inside room) (bracket_at (commas_at inside) room) (worded_at inside kinds room)
+primary_at inside kinds room =
+    primary_of (group_at inside room) (bracket_at (commas_at inside) room) (worded_at inside kinds room)
 
 abbrev pub access_at : Reader Expr → Bool → Reader (ℕ × Access)
 access_at inside room =
@@ -148,7 +172,10 @@ abbrev pub step_kinds : List Kind
 step_kinds = kind.Dot ∷ kind.OpenList ∷ []
 
 abbrev pub post_at : Reader Expr → Reader ValueKind → Bool → Reader Expr
-post_at inside kinds room = mapped_at (joined_pair with_step) (pair_at (primary_at inside kinds room) (links_at (is step_kinds) (access_at inside room) 64))
+post_at inside kinds room =
+    mapped_at (joined_pair with_step)
+    (pair_at (primary_at inside kinds room)
+    (links_at (is step_kinds) (access_at inside room) 64))
 
 abbrev pub kinds_of : Rank → List Kind
 kinds_of rank.Or = kind.Or ∷ []
@@ -159,16 +186,23 @@ kinds_of rank.Product = kind.Star ∷ kind.Slash ∷ kind.Percent ∷ []
 unfoldable pub operators_at : Rank → Reader (Operator × ℕ)
 operators_at rank.Or = mapped_at (operation operator.Or) (word_at kind.Or)
 operators_at rank.And = mapped_at (operation operator.And) (word_at kind.And)
-operators_at rank.Sum = either_at (is (kind.Plus ∷ [])) (mapped_at (operation operator.Plus) (word_at kind.Plus)) (mapped_at (operation operator.Minus) (word_at kind.Minus))
+operators_at rank.Sum =
+    either_at (is (kind.Plus ∷ [])) (mapped_at (operation operator.Plus) (word_at kind.Plus))
+    (mapped_at (operation operator.Minus) (word_at kind.Minus))
 operators_at rank.Product =
     either_at (is (kind.Star ∷ [])) (mapped_at (operation operator.Times) (word_at kind.Star))
-    (either_at (is (kind.Slash ∷ [])) (mapped_at (operation operator.Divide) (word_at kind.Slash)) (mapped_at (operation operator.Remainder) (word_at kind.Percent)))
+    (either_at (is (kind.Slash ∷ [])) (mapped_at (operation operator.Divide) (word_at kind.Slash))
+    (mapped_at (operation operator.Remainder) (word_at kind.Percent)))
 
 abbrev pub chain_at : Rank → Reader Expr → Reader Expr
-chain_at rank r = mapped_at (joined_pair (with_link rank)) (pair_at r (links_at (is (kinds_of rank)) (pair_at (operators_at rank) r) 64))
+chain_at rank r =
+    mapped_at (joined_pair (with_link rank))
+    (pair_at r
+    (links_at (is (kinds_of rank)) (pair_at (operators_at rank) r) 64))
 
 abbrev pub signed_of : Reader Expr → Bool → Reader Expr → Reader Expr
-signed_of operand room post = either_at (is (kind.Minus ∷ [])) (mapped_at negative_expr (pair_at (sign_at kind.Minus room) operand)) post
+signed_of operand room post =
+    either_at (is (kind.Minus ∷ [])) (mapped_at negative_expr (pair_at (sign_at kind.Minus room) operand)) post
 
 abbrev pub comparison_kinds : List Kind
 comparison_kinds = kind.Equal ∷ kind.NotEqual ∷ kind.Less ∷ kind.LessOrEqual ∷ kind.Greater ∷ kind.GreaterOrEqual ∷ []
@@ -179,19 +213,27 @@ comparisons_at =
     (either_at (is (kind.NotEqual ∷ [])) (mapped_at (comparing comparison.NotEqual) (word_at kind.NotEqual))
     (either_at (is (kind.Less ∷ [])) (mapped_at (comparing comparison.Less) (word_at kind.Less))
     (either_at (is (kind.LessOrEqual ∷ [])) (mapped_at (comparing comparison.LessOrEqual) (word_at kind.LessOrEqual))
-    (either_at (is (kind.Greater ∷ [])) (mapped_at (comparing comparison.Greater) (word_at kind.Greater)) (mapped_at (comparing comparison.GreaterOrEqual) (word_at kind.GreaterOrEqual))))))
+    (either_at (is (kind.Greater ∷ [])) (mapped_at (comparing comparison.Greater) (word_at kind.Greater))
+    (mapped_at (comparing comparison.GreaterOrEqual) (word_at kind.GreaterOrEqual))))))
 
 abbrev pub compared_at : Reader Expr → Reader Expr
-compared_at r = mapped_at compared_expr (pair_at r (either_at (is comparison_kinds) (mapped_at Some (pair_at comparisons_at r)) (nothing_at None)))
+compared_at r =
+    mapped_at compared_expr
+    (pair_at r
+    (either_at (is comparison_kinds) (mapped_at Some (pair_at comparisons_at r))
+    (nothing_at None)))
 
 abbrev pub signed_at : (Part → Reader Expr) → Reader ValueKind → Bool → Reader Expr
 signed_at inside kinds room = signed_of (inside Signed) room (post_at (inside Whole) kinds room)
 
 abbrev pub no_of : Reader Expr → Bool → Reader Expr → Reader Expr
-no_of operand room compared = either_at (is (kind.Not ∷ [])) (mapped_at not_expr (pair_at (sign_at kind.Not room) operand)) compared
+no_of operand room compared =
+    either_at (is (kind.Not ∷ [])) (mapped_at not_expr (pair_at (sign_at kind.Not room) operand)) compared
 
 abbrev pub no_at : (Part → Reader Expr) → Reader ValueKind → Bool → Reader Expr
-no_at inside kinds room = no_of (inside Negated) room (compared_at (chain_at rank.Sum (chain_at rank.Product (signed_at inside kinds room))))
+no_at inside kinds room =
+    no_of (inside Negated) room
+    (compared_at (chain_at rank.Sum (chain_at rank.Product (signed_at inside kinds room))))
 
 abbrev pub reader_of : Part → (Part → Reader Expr) → Reader ValueKind → Bool → Reader Expr
 reader_of Whole inside kinds room = chain_at rank.Or (chain_at rank.And (no_at inside kinds room))
@@ -238,7 +280,9 @@ unfoldable pub depint_level : ℕ → Reader Expr
 depint_level left = depint_at (room_of left)
 
 unfoldable pub worded_level : ℕ → Reader Expr
-worded_level left = worded_of (empty_level left) (len_level left) (sha256_level left) (concat_level left) (called_level left) (depint_level left)
+worded_level left =
+    worded_of (empty_level left) (len_level left) (sha256_level left) (concat_level left) (called_level left)
+    (depint_level left)
 
 unfoldable pub primary_level : ℕ → Reader Expr
 primary_level left = primary_of (group_level left) (bracket_level left) (worded_level left)
@@ -247,7 +291,10 @@ unfoldable pub access_level : ℕ → Reader (ℕ × Access)
 access_level left = access_at (inside_expr left Whole) (room_of left)
 
 unfoldable pub post_level : ℕ → Reader Expr
-post_level left = mapped_at (joined_pair with_step) (pair_at (primary_level left) (links_at (is step_kinds) (access_level left) 64))
+post_level left =
+    mapped_at (joined_pair with_step)
+    (pair_at (primary_level left)
+    (links_at (is step_kinds) (access_level left) 64))
 
 unfoldable pub post_onward : ℕ → ℕ → Expr → Reader Expr
 post_onward left more = onward with_step (is step_kinds) (access_level left) more
@@ -284,7 +331,8 @@ unfoldable pub ranked : Rank → ℕ → Reader Expr
 ranked rank left = chain_at rank (below rank left)
 
 unfoldable pub ranked_onward : Rank → ℕ → ℕ → Expr → Reader Expr
-ranked_onward rank left more = onward (with_link rank) (is (kinds_of rank)) (pair_at (operators_at rank) (below rank left)) more
+ranked_onward rank left more =
+    onward (with_link rank) (is (kinds_of rank)) (pair_at (operators_at rank) (below rank left)) more
 
 unfoldable pub ranked_turn : Rank → ℕ → Expr → Reader Expr
 ranked_turn rank left = turn (with_link rank) (pair_at (operators_at rank) (below rank left))
@@ -293,7 +341,8 @@ unfoldable pub items_level : ℕ → Reader (List Expr)
 items_level left = commas_at (ranked rank.Or left)
 
 unfoldable pub items_onward : ℕ → ℕ → List Expr → Reader (List Expr)
-items_onward left more = onward with_item (is (kind.Comma ∷ [])) (pair_at (word_at kind.Comma) (ranked rank.Or left)) more
+items_onward left more =
+    onward with_item (is (kind.Comma ∷ [])) (pair_at (word_at kind.Comma) (ranked rank.Or left)) more
 
 unfoldable pub items_turn : ℕ → List Expr → Reader (List Expr)
 items_turn left = turn with_item (pair_at (word_at kind.Comma) (ranked rank.Or left))
@@ -303,7 +352,8 @@ items_turn left = turn with_item (pair_at (word_at kind.Comma) (ranked rank.Or l
 -- what an expression begins with
 abbrev pub expression_kinds : List Kind
 expression_kinds =
-    kind.Not ∷ kind.Minus ∷ kind.Open ∷ kind.OpenList ∷ kind.Number ∷ kind.Bytes ∷ kind.Name ∷ kind.True ∷ kind.False ∷ kind.Empty ∷ kind.Len ∷ kind.Sha256
+    kind.Not ∷ kind.Minus ∷ kind.Open ∷ kind.OpenList ∷ kind.Number ∷ kind.Bytes ∷ kind.Name
+    ∷ kind.True ∷ kind.False ∷ kind.Empty ∷ kind.Len ∷ kind.Sha256
     ∷ kind.Concat ∷ kind.Called ∷ kind.DepInt ∷ []
 
 abbrev pub statement_kinds : List Kind
@@ -316,22 +366,49 @@ abbrev pub arguments_at : Reader (List Expr) → Bool → Reader (List Expr)
 arguments_at optional room = mapped_at inner (in_parentheses_at optional room)
 
 abbrev pub let_at : Reader Expr → Reader Statement
-let_at expr = mapped_at let_of (pair_at (word_at kind.Let) (pair_at name_at (pair_at (word_at kind.Becomes) (pair_at expr (word_at kind.Semicolon)))))
+let_at expr =
+    mapped_at let_of
+    (pair_at (word_at kind.Let)
+    (pair_at name_at
+    (pair_at (word_at kind.Becomes)
+    (pair_at expr
+    (word_at kind.Semicolon)))))
 
 abbrev pub set_at : Reader Expr → Reader Statement
-set_at expr = mapped_at set_of (pair_at (word_at kind.Set) (pair_at name_at (pair_at (word_at kind.Becomes) (pair_at expr (word_at kind.Semicolon)))))
+set_at expr =
+    mapped_at set_of
+    (pair_at (word_at kind.Set)
+    (pair_at name_at
+    (pair_at (word_at kind.Becomes)
+    (pair_at expr
+    (word_at kind.Semicolon)))))
 
 abbrev pub if_at : Reader Expr → Reader Block → Reader Statement
-if_at expr block = mapped_at if_of (pair_at (word_at kind.If) (pair_at expr (pair_at block (either_at (is (kind.Else ∷ [])) (mapped_at else_of (pair_at (word_at kind.Else) block)) (nothing_at None)))))
+if_at expr block =
+    mapped_at if_of
+    (pair_at (word_at kind.If)
+    (pair_at expr
+    (pair_at block
+    (either_at (is (kind.Else ∷ [])) (mapped_at else_of (pair_at (word_at kind.Else) block))
+    (nothing_at None)))))
 
 abbrev pub range_at : Reader Expr → Reader Range
-range_at expr = either_at (is (kind.In ∷ [])) (mapped_at items_of (pair_at (word_at kind.In) expr)) (mapped_at numbers_of (pair_at (word_at kind.To) number_at))
+range_at expr =
+    either_at (is (kind.In ∷ [])) (mapped_at items_of (pair_at (word_at kind.In) expr))
+    (mapped_at numbers_of (pair_at (word_at kind.To) number_at))
 
 abbrev pub for_at : Reader Expr → Reader Block → Reader Statement
 for_at expr block = mapped_at for_of (pair_at (word_at kind.For) (pair_at name_at (pair_at (range_at expr) block)))
 
 abbrev pub make_at : Reader (List Expr) → Reader Statement
-make_at arguments = mapped_at make_of (pair_at (word_at kind.Make) (pair_at name_at (pair_at (word_at kind.Becomes) (pair_at name_at (pair_at arguments (word_at kind.Semicolon))))))
+make_at arguments =
+    mapped_at make_of
+    (pair_at (word_at kind.Make)
+    (pair_at name_at
+    (pair_at (word_at kind.Becomes)
+    (pair_at name_at
+    (pair_at arguments
+    (word_at kind.Semicolon))))))
 
 unfoldable pub names_at : Reader (List Text)
 names_at = mapped_at names_of (many_at (is (kind.Comma ∷ [])) (pair_at (word_at kind.Comma) name_at))
@@ -342,21 +419,34 @@ call_rest_at arguments =
     (mapped_at binds_of (pair_at names_at (pair_at (word_at kind.Becomes) (pair_at name_at arguments))))
 
 abbrev pub call_at : Reader (List Expr) → Reader Statement
-call_at arguments = mapped_at call_of (pair_at (word_at kind.Call) (pair_at name_at (pair_at (call_rest_at arguments) (word_at kind.Semicolon))))
+call_at arguments =
+    mapped_at call_of
+    (pair_at (word_at kind.Call)
+    (pair_at name_at
+    (pair_at (call_rest_at arguments)
+    (word_at kind.Semicolon))))
 
 abbrev pub answer_at : Reader Expr → Reader Statement
 answer_at expr = mapped_at answer_of (pair_at (word_at kind.Answer) (pair_at expr (word_at kind.Semicolon)))
 
-abbrev pub statement_of : Reader Statement → Reader Statement → Reader Statement → Reader Statement → Reader Statement → Reader Statement → Reader Statement → Reader Statement
+abbrev pub statement_of : Reader Statement → Reader Statement → Reader Statement → Reader Statement
+    → Reader Statement → Reader Statement → Reader Statement → Reader Statement
 statement_of lets sets ifs fors makes calls answers =
-    either_at (is (kind.Let ∷ [])) lets (either_at (is (kind.Set ∷ [])) sets (either_at (is (kind.If ∷ [])) ifs (either_at (is (kind.For ∷ [])) fors
-    (either_at (is (kind.Make ∷ [])) makes (either_at (is (kind.Call ∷ [])) calls answers)))))
+    either_at (is (kind.Let ∷ [])) lets
+    (either_at (is (kind.Set ∷ [])) sets
+    (either_at (is (kind.If ∷ [])) ifs
+    (either_at (is (kind.For ∷ [])) fors
+    (either_at (is (kind.Make ∷ [])) makes
+    (either_at (is (kind.Call ∷ [])) calls answers)))))
 
 abbrev pub statement_at : Reader Block → Reader Expr → Reader (List Expr) → Reader Statement
-statement_at block expr arguments = statement_of (let_at expr) (set_at expr) (if_at expr block) (for_at expr block) (make_at arguments) (call_at arguments) (answer_at expr)
+statement_at block expr arguments =
+    statement_of (let_at expr) (set_at expr) (if_at expr block) (for_at expr block) (make_at arguments)
+    (call_at arguments) (answer_at expr)
 
 abbrev pub braces_at : Reader (List Statement) → Bool → Reader Block
-braces_at statements room = mapped_at block_of (pair_at (sign_at kind.OpenBlock room) (pair_at statements (word_at kind.CloseBlock)))
+braces_at statements room =
+    mapped_at block_of (pair_at (sign_at kind.OpenBlock room) (pair_at statements (word_at kind.CloseBlock)))
 
 unfoldable pub optional_items : ℕ → Reader (List Expr)
 optional_items left = optional_at (items_level left)
@@ -368,8 +458,15 @@ unfoldable pub arguments_level : ℕ → Reader (List Expr)
 arguments_level left = arguments_at (inside_optional left) (room_of left)
 
 unfoldable pub statements_at : ℕ → Reader (List Statement)
-statements_at zero = many_at (is statement_kinds) (statement_at (braces_at refused_at false) (ranked rank.Or zero) (arguments_level zero))
-statements_at (suc left) = many_at (is statement_kinds) (statement_at (braces_at (statements_at left) true) (ranked rank.Or (suc left)) (arguments_level (suc left)))
+statements_at zero =
+    many_at (is statement_kinds)
+    (statement_at (braces_at refused_at false) (ranked rank.Or zero) (arguments_level zero))
+statements_at (suc left) =
+    many_at (is statement_kinds)
+    (statement_at
+    (braces_at (statements_at left) true)
+    (ranked rank.Or (suc left))
+    (arguments_level (suc left)))
 
 -- what stands within one more level
 unfoldable pub inside_statements : ℕ → Reader (List Statement)
@@ -401,7 +498,9 @@ unfoldable pub answer_level : ℕ → Reader Statement
 answer_level left = answer_at (ranked rank.Or left)
 
 unfoldable pub statement_level : ℕ → Reader Statement
-statement_level left = statement_of (let_level left) (set_level left) (if_level left) (for_level left) (make_level left) (call_level left) (answer_level left)
+statement_level left =
+    statement_of (let_level left) (set_level left) (if_level left) (for_level left) (make_level left)
+    (call_level left) (answer_level left)
 
 unfoldable pub statements_level : ℕ → Reader (List Statement)
 statements_level left = many_at (is statement_kinds) (statement_level left)
@@ -427,7 +526,14 @@ unfoldable pub optional_fields : Reader (List Field)
 optional_fields = either_at (is (kind.Name ∷ [])) (fields_level 63) (nothing_at [])
 
 unfoldable pub typedef_level : Reader TypeDef
-typedef_level = mapped_at typedef_of (pair_at (word_at kind.Type) (pair_at name_at (pair_at (word_at kind.Open) (pair_at optional_fields (pair_at (word_at kind.Close) (word_at kind.Semicolon))))))
+typedef_level =
+    mapped_at typedef_of
+    (pair_at (word_at kind.Type)
+    (pair_at name_at
+    (pair_at (word_at kind.Open)
+    (pair_at optional_fields
+    (pair_at (word_at kind.Close)
+    (word_at kind.Semicolon))))))
 
 abbrev pub section_at : {X : Type 0} → Kind → Reader (List X) → Reader (List X)
 section_at k r = either_at (is (k ∷ [])) (mapped_at after_word (pair_at (word_at k) r)) (nothing_at [])
@@ -439,10 +545,23 @@ unfoldable pub fields_section : Kind → Reader (List Field)
 fields_section k = section_at k (fields_level 64)
 
 unfoldable pub head_level : Reader Head
-head_level = mapped_at head_of (pair_at (slots_section kind.Consumes) (pair_at (slots_section kind.Reads) (pair_at (fields_section kind.Takes) (pair_at (slots_section kind.Creates) (fields_section kind.Returns)))))
+head_level =
+    mapped_at head_of
+    (pair_at (slots_section kind.Consumes)
+    (pair_at (slots_section kind.Reads)
+    (pair_at (fields_section kind.Takes)
+    (pair_at (slots_section kind.Creates)
+    (fields_section kind.Returns)))))
 
 unfoldable pub body_level : Reader Body
-body_level = mapped_at body_of (pair_at (word_at kind.OpenBlock) (pair_at (word_at kind.Procedure) (pair_at (block_level 63) (pair_at (word_at kind.Check) (pair_at (block_level 63) (word_at kind.CloseBlock))))))
+body_level =
+    mapped_at body_of
+    (pair_at (word_at kind.OpenBlock)
+    (pair_at (word_at kind.Procedure)
+    (pair_at (block_level 63)
+    (pair_at (word_at kind.Check)
+    (pair_at (block_level 63)
+    (word_at kind.CloseBlock))))))
 
 unfoldable pub method_level : Reader Method
 method_level = mapped_at method_of (pair_at (word_at kind.Method) (pair_at name_at (pair_at head_level body_level)))

@@ -59,13 +59,22 @@ abbrev pub bracket : Rule Expr → Bool → Rule Expr
 bracket inside room = mapped listed (pair (sign kind.OpenList room) (pair (commas inside) (word kind.CloseList)))
 
 abbrev pub concat : Rule Expr → Bool → Rule Expr
-concat inside room = mapped concat_expr (pair (word kind.Concat) (in_parentheses (pair inside (pair (word kind.Comma) inside)) room))
+concat inside room =
+    mapped concat_expr
+    (pair (word kind.Concat)
+    (in_parentheses (pair inside (pair (word kind.Comma) inside)) room))
 
 abbrev pub called : Bool → Rule Expr
-called room = mapped called_expr (pair (word kind.Called) (in_parentheses (pair number (pair (word kind.Comma) name)) room))
+called room =
+    mapped called_expr
+    (pair (word kind.Called)
+    (in_parentheses (pair number (pair (word kind.Comma) name)) room))
 
 abbrev pub depint : Bool → Rule Expr
-depint room = mapped depint_expr (pair (word kind.DepInt) (in_parentheses (pair number (pair (word kind.Comma) number)) room))
+depint room =
+    mapped depint_expr
+    (pair (word kind.DepInt)
+    (in_parentheses (pair number (pair (word kind.Comma) number)) room))
 
 -- those that begin with a reserved word
 abbrev pub worded : Rule Expr → Rule ValueKind → Bool → Rule Expr
@@ -79,8 +88,12 @@ worded inside kinds room =
 
 abbrev pub primary : Rule Expr → Rule ValueKind → Bool → Rule Expr
 primary inside kinds room =
-    either (group inside room) (either (bracket inside room)
-    (either (mapped number_expr number) (either (mapped bytes_expr bytes) (either (mapped name_expr name) (worded inside kinds room)))))
+    either (group inside room)
+    (either (bracket inside room)
+    (either (mapped number_expr number)
+    (either (mapped bytes_expr bytes)
+    (either (mapped name_expr name)
+    (worded inside kinds room)))))
 
 -- ---- expressions
 
@@ -91,16 +104,20 @@ access inside room more =
     (mapped index_step (pair (sign kind.OpenList (if more then room else false)) (pair inside (word kind.CloseList))))
 
 abbrev pub post : Rule Expr → Rule ValueKind → Bool → Rule Expr
-post inside kinds room = mapped (joined_pair with_step) (pair (primary inside kinds room) (links (access inside room) 64))
+post inside kinds room =
+    mapped (joined_pair with_step) (pair (primary inside kinds room) (links (access inside room) 64))
 
 -- the operators of a chain
 abbrev pub operators : Rank → Bool → Rule (Operator × ℕ)
 operators rank.Or more = mapped (operation operator.Or) (sign kind.Or more)
 operators rank.And more = mapped (operation operator.And) (sign kind.And more)
-operators rank.Sum more = either (mapped (operation operator.Plus) (sign kind.Plus more)) (mapped (operation operator.Minus) (sign kind.Minus more))
+operators rank.Sum more =
+    either (mapped (operation operator.Plus) (sign kind.Plus more))
+    (mapped (operation operator.Minus) (sign kind.Minus more))
 operators rank.Product more =
     either (mapped (operation operator.Times) (sign kind.Star more))
-    (either (mapped (operation operator.Divide) (sign kind.Slash more)) (mapped (operation operator.Remainder) (sign kind.Percent more)))
+    (either (mapped (operation operator.Divide) (sign kind.Slash more))
+    (mapped (operation operator.Remainder) (sign kind.Percent more)))
 
 -- operand { operator operand }, with at most 64 operators
 abbrev pub chain : Rank → Rule Expr → Rule Expr
@@ -108,7 +125,8 @@ chain rank R = mapped (joined_pair (with_link rank)) (pair R (links (λ more. pa
 
 -- "-" signed | post
 abbrev pub signed : Rule Expr → Rule Expr → Rule ValueKind → Bool → Rule Expr
-signed inside operand kinds room = either (mapped negative_expr (pair (sign kind.Minus room) operand)) (post inside kinds room)
+signed inside operand kinds room =
+    either (mapped negative_expr (pair (sign kind.Minus room) operand)) (post inside kinds room)
 
 abbrev pub comparisons : Rule (Comparison × ℕ)
 comparisons =
@@ -116,7 +134,8 @@ comparisons =
     (either (mapped (comparing comparison.NotEqual) (word kind.NotEqual))
     (either (mapped (comparing comparison.Less) (word kind.Less))
     (either (mapped (comparing comparison.LessOrEqual) (word kind.LessOrEqual))
-    (either (mapped (comparing comparison.Greater) (word kind.Greater)) (mapped (comparing comparison.GreaterOrEqual) (word kind.GreaterOrEqual))))))
+    (either (mapped (comparing comparison.Greater) (word kind.Greater))
+    (mapped (comparing comparison.GreaterOrEqual) (word kind.GreaterOrEqual))))))
 
 -- sum [ comparison sum ]
 abbrev pub compared : Rule Expr → Rule Expr
@@ -133,7 +152,9 @@ product inside kinds room = chain rank.Product (signed (inside Whole) (inside Si
 
 -- "not" no | compared
 abbrev pub no : (Part → Rule Expr) → Rule ValueKind → Bool → Rule Expr
-no inside kinds room = either (mapped not_expr (pair (sign kind.Not room) (inside Negated))) (compared (chain rank.Sum (product inside kinds room)))
+no inside kinds room =
+    either (mapped not_expr (pair (sign kind.Not room) (inside Negated)))
+    (compared (chain rank.Sum (product inside kinds room)))
 
 abbrev pub rule_of : Part → (Part → Rule Expr) → Rule ValueKind → Bool → Rule Expr
 rule_of Whole inside kinds room = chain rank.Or (chain rank.And (no inside kinds room))
@@ -152,7 +173,13 @@ abbrev pub arguments : Rule Expr → Bool → Rule (List Expr)
 arguments inside room = mapped inner (in_parentheses (either (commas inside) (nothing [])) room)
 
 abbrev pub if_rule : Rule Expr → Rule Block → Rule Statement
-if_rule expr block = mapped if_of (pair (word kind.If) (pair expr (pair block (either (mapped else_of (pair (word kind.Else) block)) (nothing None)))))
+if_rule expr block =
+    mapped if_of
+    (pair (word kind.If)
+    (pair expr
+    (pair block
+    (either (mapped else_of (pair (word kind.Else) block))
+    (nothing None)))))
 
 abbrev pub range : Rule Expr → Rule Range
 range expr = either (mapped items_of (pair (word kind.In) expr)) (mapped numbers_of (pair (word kind.To) number))
@@ -161,23 +188,40 @@ abbrev pub for_rule : Rule Expr → Rule Block → Rule Statement
 for_rule expr block = mapped for_of (pair (word kind.For) (pair name (pair (range expr) block)))
 
 abbrev pub make_rule : Rule Expr → Bool → Rule Statement
-make_rule inside room = mapped make_of (pair (word kind.Make) (pair name (pair (word kind.Becomes) (pair name (pair (arguments inside room) (word kind.Semicolon))))))
+make_rule inside room =
+    mapped make_of
+    (pair (word kind.Make)
+    (pair name
+    (pair (word kind.Becomes)
+    (pair name
+    (pair (arguments inside room)
+    (word kind.Semicolon))))))
 
 -- behind the first name of a call
 abbrev pub call_rest : Rule Expr → Bool → Rule CallRest
 call_rest inside room =
     either (mapped Arguments (arguments inside room))
-    (mapped binds_of (pair (mapped names_of (many (pair (word kind.Comma) name))) (pair (word kind.Becomes) (pair name (arguments inside room)))))
+    (mapped binds_of
+    (pair (mapped names_of (many (pair (word kind.Comma) name)))
+    (pair (word kind.Becomes)
+    (pair name
+    (arguments inside room)))))
 
 abbrev pub call_rule : Rule Expr → Bool → Rule Statement
-call_rule inside room = mapped call_of (pair (word kind.Call) (pair name (pair (call_rest inside room) (word kind.Semicolon))))
+call_rule inside room =
+    mapped call_of (pair (word kind.Call) (pair name (pair (call_rest inside room) (word kind.Semicolon))))
 
 -- expr is an expression that stands in the statement, inside one that stands in its parentheses
 abbrev pub statement_rule : Rule Block → Rule Expr → Rule Expr → Bool → Rule Statement
 statement_rule block expr inside room =
-    either (mapped let_of (pair (word kind.Let) (pair name (pair (word kind.Becomes) (pair expr (word kind.Semicolon))))))
-    (either (mapped set_of (pair (word kind.Set) (pair name (pair (word kind.Becomes) (pair expr (word kind.Semicolon))))))
-    (either (if_rule expr block) (either (for_rule expr block) (either (make_rule inside room) (either (call_rule inside room)
+    either (mapped let_of (pair (word kind.Let) (pair name (pair (word kind.Becomes)
+    (pair expr (word kind.Semicolon))))))
+    (either (mapped set_of (pair (word kind.Set) (pair name (pair (word kind.Becomes)
+    (pair expr (word kind.Semicolon))))))
+    (either (if_rule expr block)
+    (either (for_rule expr block)
+    (either (make_rule inside room)
+    (either (call_rule inside room)
     (mapped answer_of (pair (word kind.Answer) (pair expr (word kind.Semicolon)))))))))
 
 -- "{" { statement } "}"
@@ -187,7 +231,13 @@ braces statements room = mapped block_of (pair (sign kind.OpenBlock room) (pair 
 -- statements that nest less than n deep, where so many more levels may be opened
 abbrev pub statements : ℕ → ℕ → Rule (List Statement)
 statements zero left = λ x ms. ⊥
-statements (suc n) left = many (statement_rule (braces (statements n (less_one left)) (room_of left)) (expression n left Whole) (expression n (less_one left) Whole) (room_of left))
+statements (suc n) left =
+    many
+    (statement_rule
+    (braces (statements n (less_one left)) (room_of left))
+    (expression n left Whole)
+    (expression n (less_one left) Whole)
+    (room_of left))
 
 -- ---- the whole text
 
@@ -195,26 +245,52 @@ abbrev pub field : Rule ValueKind → Rule Field
 field kinds = mapped field_of (pair name (pair (word kind.Colon) kinds))
 
 abbrev pub slot : Rule Slot
-slot = mapped slot_of (pair name (pair (word kind.Colon) (pair name (either (mapped starred (word kind.Star)) (nothing false)))))
+slot =
+    mapped slot_of
+    (pair name
+    (pair (word kind.Colon)
+    (pair name
+    (either (mapped starred (word kind.Star))
+    (nothing false)))))
 
 abbrev pub typedef : Rule ValueKind → Rule TypeDef
-typedef kinds = mapped typedef_of (pair (word kind.Type) (pair name (pair (word kind.Open) (pair (either (commas (field kinds)) (nothing [])) (pair (word kind.Close) (word kind.Semicolon))))))
+typedef kinds =
+    mapped typedef_of
+    (pair (word kind.Type)
+    (pair name
+    (pair (word kind.Open)
+    (pair (either (commas (field kinds)) (nothing []))
+    (pair (word kind.Close)
+    (word kind.Semicolon))))))
 
 -- [ word rows ]
 abbrev pub section : {X : Type 0} → Kind → Rule X → Rule (List X)
 section k R = either (mapped after_word (pair (word k) (commas R))) (nothing [])
 
 abbrev pub head : Rule ValueKind → Rule Head
-head kinds = mapped head_of (pair (section kind.Consumes slot) (pair (section kind.Reads slot) (pair (section kind.Takes (field kinds)) (pair (section kind.Creates slot) (section kind.Returns (field kinds))))))
+head kinds =
+    mapped head_of
+    (pair (section kind.Consumes slot)
+    (pair (section kind.Reads slot)
+    (pair (section kind.Takes (field kinds))
+    (pair (section kind.Creates slot)
+    (section kind.Returns (field kinds))))))
 
 abbrev pub body : Rule Block → Rule Body
-body block = mapped body_of (pair (word kind.OpenBlock) (pair (word kind.Procedure) (pair block (pair (word kind.Check) (pair block (word kind.CloseBlock))))))
+body block =
+    mapped body_of
+    (pair (word kind.OpenBlock)
+    (pair (word kind.Procedure)
+    (pair block
+    (pair (word kind.Check)
+    (pair block
+    (word kind.CloseBlock))))))
 
 abbrev pub method : Rule ValueKind → Rule Block → Rule Method
 method kinds block = mapped method_of (pair (word kind.Method) (pair name (pair (head kinds) (body block))))
 
--- Contract texts by the depth to which they nest. 64 levels may be opened: the parentheses of a type and the braces of a method open the first, and
--- the braces of a procedure or a check the second.
+-- Contract texts by the depth to which they nest. 64 levels may be opened: the parentheses of a type and the braces
+-- of a method open the first, and the braces of a procedure or a check the second.
 abbrev pub contract : ℕ → Rule Contract
 contract n =
     let methods = method (kinds n 64) (braces (statements n 62) true) in

@@ -9,27 +9,36 @@ use Rattle.cs_lang.specs.declared.text.LangError.{LangError}
 use Rattle.cs_lang.specs.declared.text.LangError.TheVariants as error
 use Rattle.cs_lang.specs.Rules.{contract}
 
--- The text has at most 65,536 bytes, and its tokens spell the contract within the limits of the grammar.
+-- 65,536 bytes at most, with its blanks and comments
+abbrev pub IsShort : List ℕ → Type 0
+IsShort text = length text ≤ 65536
+
+-- The text is short, and its tokens spell the contract within the limits of the grammar.
 pub record IsContract (text : List ℕ) (c : Contract) : Type 0 where
-  pub short : length text ≤ 65536
+  pub short : IsShort text
   pub tokens : List Token
   pub read : tokens_of text ≡ Ok tokens
   pub spells : IsText contract c tokens
 
--- The text has tokens, and place is that of the first with which no contract text can go on, or the text's length.
+-- The text is short and has tokens, and place is that of the first with which no contract text can go on,
+-- or the text's length.
 pub record IsSyntax (text : List ℕ) (place : ℕ) : Type 0 where
-  pub short : length text ≤ 65536
+  pub short : IsShort text
   pub tokens : List Token
   pub read : tokens_of text ≡ Ok tokens
   pub bad : List Token
   pub refused : IsRefused contract tokens bad
   pub at : place ≡ place_of (length text) bad
 
+-- No contract goes on at this place, or behind the tokens where one could.
+abbrev pub StopsAt : List Token → ℕ → ℕ → Type 0
+StopsAt tokens end place = (bad : List Token) × IsRefused contract tokens bad × (place ≡ place_of end bad)
+
 -- what holds of a refusal
 abbrev pub IsRefusal : List ℕ → LangError → Type 0
 IsRefusal text error.Memory = Unit {0}
 IsRefusal text error.TooLong = 65536 < length text
-IsRefusal text (error.Lex place) = (length text ≤ 65536) × (tokens_of text ≡ Err place)
+IsRefusal text (error.Lex place) = IsShort text × (tokens_of text ≡ Err place)
 IsRefusal text (error.Syntax place) = IsSyntax text place
 
 -- it is the answer, unless memory ran out

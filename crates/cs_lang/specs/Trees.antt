@@ -62,14 +62,17 @@ abbrev pub chain_begun : Rank → Expr → ℕ → Link → Expr
 chain_begun rank left place link = tree (first_of left) place (shape.Chain rank left (link ∷ []))
 
 abbrev pub chain_extended : Rank → Expr → ℕ → Link → Opened → Expr
-chain_extended rank left place link (Shape-F.Chain old start links) = tree (first_of left) place (shape.Chain rank start (links ++ link ∷ []))
+chain_extended rank left place link (Shape-F.Chain old start links) =
+    tree (first_of left) place (shape.Chain rank start (links ++ link ∷ []))
 chain_extended rank left place link _ = left
 
 -- an operator and its right operand behind a chain of its rank join it; behind anything else they begin one
 abbrev pub with_link : Rank → Expr → (Operator × ℕ) × Expr → Expr
 with_link rank left p =
     let link = roll-Link (record { operator = p.0.0; first = first_of left; place = p.0.1; right = p.1 }) in
-    if is_chain rank left then chain_extended rank left p.0.1 link (out-Shape (shape_of left)) else chain_begun rank left p.0.1 link
+    if is_chain rank left
+    then chain_extended rank left p.0.1 link (out-Shape (shape_of left))
+    else chain_begun rank left p.0.1 link
 
 abbrev pub shape_is_path : Opened → Bool
 shape_is_path (Shape-F.Path start steps) = true
@@ -82,7 +85,8 @@ abbrev pub path_begun : Expr → ℕ → Step → Expr
 path_begun left place step = tree (first_of left) place (shape.Path left (step ∷ []))
 
 abbrev pub path_extended : Expr → ℕ → Step → Opened → Expr
-path_extended left place step (Shape-F.Path start steps) = tree (first_of left) place (shape.Path start (steps ++ step ∷ []))
+path_extended left place step (Shape-F.Path start steps) =
+    tree (first_of left) place (shape.Path start (steps ++ step ∷ []))
 path_extended left place step _ = left
 
 -- a step behind a path joins it; behind anything else it begins one

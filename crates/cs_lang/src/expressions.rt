@@ -9,7 +9,8 @@ ghost use Rattle.cs_lang.specs.Readers.{kinds_of, operators_at, comparisons_at, 
 use crate::kinds::value_kind;
 use crate::nodes::{grouped, with_link, with_step};
 use crate::tree::{Access, Comparison, Expr, Operator, Rank, Shape};
-use cs_lang_token::{Boxed, Cursor, Kind, Sequence, Stop};
+use cs_base::Sequence;
+use cs_lang_token::{Boxed, Cursor, Kind, MOST_OPERATORS, MOST_STEPS, Stop};
 use std::alloc::Global;
 
 /// Whether an operator of the rank follows.
@@ -123,10 +124,10 @@ fn rights(
     rank: Rank,
     first: Expr,
 ) -> Result<Expr, Stop>
-    ensures { Gives result cursor.new (ranked_onward rank left 64 first cursor.old) }
+    ensures { Gives result cursor.new (ranked_onward rank left MOST_OPERATORS first cursor.old) }
 {
     let mut all = first;
-    for _ in 0..64u8 {
+    for _ in 0..MOST_OPERATORS {
         if !at_rank(cursor, rank) {
             return Ok(all);
         }
@@ -234,10 +235,10 @@ fn at_step(cursor: &Cursor<'_>) -> bool
 /// Steps behind an expression.
 #[cycle(expression)]
 fn steps(alloc: Global, cursor: &mut Cursor<'_>, left: u8, first: Expr) -> Result<Expr, Stop>
-    ensures { Gives result cursor.new (post_onward left 64 first cursor.old) }
+    ensures { Gives result cursor.new (post_onward left MOST_STEPS first cursor.old) }
 {
     let mut all = first;
-    for _ in 0..64u8 {
+    for _ in 0..MOST_STEPS {
         if !at_step(cursor) {
             return Ok(all);
         }

@@ -4,7 +4,8 @@ ghost use Rattle.cs_lang_token.specs.Answers.{Gives};
 ghost use Rattle.cs_lang.specs.Readers.{kind_level, field_level, fields_level, fields_onward, fields_turn, slot_level, slots_level, slots_onward, slots_turn};
 
 use crate::tree::{Field, Slot, ValueKind};
-use cs_lang_token::{Boxed, Cursor, Kind, Sequence, Stop};
+use cs_base::Sequence;
+use cs_lang_token::{Boxed, Cursor, Kind, Stop};
 use std::alloc::Global;
 
 /// A kind, where so many more levels may be opened.

@@ -1,4 +1,4 @@
-//! The contract language: its trees, its reader and its printer.
+//! The contract language: its trees, and their reader.
 #![tactic(auto)]
 
 mod expressions;
@@ -13,8 +13,8 @@ mod text;
 mod texts;
 mod tree;
 
-pub use cs_lang_token::{Boxed, Number, Sequence, Text};
-pub use text::{LangError, MOST_BYTES, parse};
+pub use cs_lang_token::{Boxed, Number, Text};
+pub use text::{LangError, parse};
 pub use tree::{
     Access, Action, Block, Comparison, Contract, Expr, Field, Link, Method, Operator, Rank, Shape,
     Slot, Statement, Step, TypeDef, ValueKind,

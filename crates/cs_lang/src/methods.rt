@@ -6,7 +6,8 @@ ghost use Rattle.cs_lang.specs.Readers.{optional_fields, typedef_level, slots_se
 use crate::kinds::{fields, slots};
 use crate::statements::block;
 use crate::tree::{Block, Contract, Field, Method, Slot, TypeDef};
-use cs_lang_token::{Cursor, Kind, Sequence, Stop};
+use cs_base::Sequence;
+use cs_lang_token::{Cursor, Kind, MOST_LEVELS, Stop};
 use std::alloc::Global;
 
 /// What a method takes and gives.
@@ -47,7 +48,7 @@ fn optional_fields(alloc: Global, cursor: &mut Cursor<'_>) -> Result<Sequence<Fi
     ensures { Gives result cursor.new (optional_fields cursor.old) }
 {
     if cursor.at(Kind::Name) {
-        return fields(alloc, cursor, 63);
+        return fields(alloc, cursor, MOST_LEVELS - 1);
     }
     Ok(Sequence::new(alloc))
 }
@@ -77,7 +78,7 @@ fn fields_behind(
         return Ok(Sequence::new(alloc));
     }
     cursor.sign(word)?;
-    fields(alloc, cursor, 64)
+    fields(alloc, cursor, MOST_LEVELS)
 }
 
 /// What a method takes and gives.
@@ -106,9 +107,9 @@ fn read_body(alloc: Global, cursor: &mut Cursor<'_>) -> Result<Body, Stop>
 {
     cursor.sign(Kind::OpenBlock)?;
     cursor.sign(Kind::Procedure)?;
-    let procedure = block(alloc, cursor, 63)?;
+    let procedure = block(alloc, cursor, MOST_LEVELS - 1)?;
     cursor.sign(Kind::Check)?;
-    let check = block(alloc, cursor, 63)?;
+    let check = block(alloc, cursor, MOST_LEVELS - 1)?;
     let end = cursor.sign(Kind::CloseBlock)?;
     Ok(Body {
         procedure,

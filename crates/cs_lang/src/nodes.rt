@@ -3,7 +3,8 @@ ghost use Rattle.std.specs.Prelude.{◌≡◌, IfOk};
 ghost use Rattle.cs_lang.specs.Trees.{same_rank, is_chain, is_path, chain_begun, path_begun, with_link, with_step, grouped};
 
 use crate::tree::{Access, Expr, Link, Operator, Rank, Shape, Step};
-use cs_lang_token::{Boxed, Sequence};
+use cs_base::Sequence;
+use cs_lang_token::Boxed;
 use std::alloc::{AllocError, Global};
 
 impl Rank {

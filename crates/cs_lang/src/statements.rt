@@ -7,7 +7,8 @@ ghost use Rattle.cs_lang.specs.Readers.{expression_kinds, statement_kinds, optio
 
 use crate::expressions::{chain, items};
 use crate::tree::{Action, Block, Expr, Rank, Statement};
-use cs_lang_token::{Cursor, Kind, Sequence, Stop, Text};
+use cs_base::Sequence;
+use cs_lang_token::{Cursor, Kind, Stop, Text};
 use std::alloc::Global;
 
 /// Whether an expression follows.
@@ -228,15 +229,15 @@ fn call_statement(alloc: Global, cursor: &mut Cursor<'_>, left: u8) -> Result<St
             action: Action::Call(Sequence::new(alloc), first, arguments),
         });
     }
-    let mut names = names(alloc, cursor)?;
-    names.push_front(first)?;
+    let mut names = names(alloc, cursor)?.into_vec();
+    names.insert(0, first)?;
     cursor.sign(Kind::Becomes)?;
     let method = cursor.name(alloc)?;
     let arguments = arguments(alloc, cursor, left)?;
     cursor.sign(Kind::Semicolon)?;
     Ok(Statement {
         place,
-        action: Action::Call(names, method, arguments),
+        action: Action::Call(Sequence::from_vec(names), method, arguments),
     })
 }
 
@@ -298,7 +299,8 @@ fn other_statements(
     left: u8,
     first: Sequence<Statement>,
 ) -> Result<Sequence<Statement>, Stop>
-    ensures { Gives result cursor.new (statements_onward left (length cursor.old) first cursor.old) }
+    ensures { Gives result cursor.new
+        (statements_onward left (length cursor.old) first cursor.old) }
 {
     let mut all = first;
     for _ in 0..cursor.len() {

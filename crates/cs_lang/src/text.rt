@@ -1,18 +1,13 @@
 //! Reading whole texts.
-ghost use Rattle.std.specs.Prelude.{◌≡◌, List, IfOk, IfErr};
-ghost use Rattle.cs_lang_token.specs.Texts.{IsText, IsRefused};
-ghost use Rattle.cs_lang_token.specs.Answers.{place_of};
-ghost use Rattle.cs_lang_token.specs.declared.token.Token.{Token as Read};
+ghost use Rattle.std.specs.Prelude.{IfOk, IfErr};
+ghost use Rattle.cs_lang_token.specs.Texts.{IsText};
 ghost use Rattle.cs_lang.specs.Rules.{contract as Spelled};
-ghost use Rattle.cs_lang.specs.Texts.{AnswersTree, IsContract, IsRefusal, IfSyntax};
+ghost use Rattle.cs_lang.specs.Texts.{AnswersTree, IsContract, IsRefusal, IfSyntax, StopsAt};
 
 use crate::methods::contract;
 use crate::tree::Contract;
-use cs_lang_token::{Cursor, LexError, Stop, Token, tokens_of};
+use cs_lang_token::{Cursor, LexError, MOST_TEXT, Stop, Token, tokens_of};
 use std::alloc::Global;
-
-/// The most bytes of a text, with its blanks and comments.
-pub const MOST_BYTES: usize = 65_536;
 
 /// Why a text is no contract.
 #[derive(Clone, Copy, Debug, PartialEq, Eq)]
@@ -31,7 +26,7 @@ pub enum LangError {
 fn read(alloc: Global, tokens: &[Token], end: usize) -> Result<Contract, LangError>
     ensures found { IfOk result (λ c. IsText Spelled c tokens.now) }
     ensures only { (c : Contract) → IsText Spelled c tokens.now → AnswersTree result c }
-    ensures refused { IfErr result (λ e. IfSyntax e (λ place. (bad : List Read) × IsRefused Spelled tokens.now bad × (place ≡ place_of end bad))) }
+    ensures refused { IfErr result (λ e. IfSyntax e (λ place. StopsAt tokens.now end place)) }
 {
     let mut cursor = Cursor::new(tokens);
     match contract(alloc, &mut cursor) {
@@ -55,7 +50,7 @@ pub fn parse(alloc: Global, text: &[u8]) -> Result<Contract, LangError>
     // A refusal has its cause, and the place that goes with it.
     ensures refused { IfErr result (IsRefusal text.now) }
 {
-    if text.len() > MOST_BYTES {
+    if text.len() > MOST_TEXT {
         return Err(LangError::TooLong);
     }
     match tokens_of(alloc, text) {

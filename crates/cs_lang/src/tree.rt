@@ -1,5 +1,6 @@
 //! Trees of contract texts.
-use cs_lang_token::{Boxed, Sequence, Text};
+use cs_base::Sequence;
+use cs_lang_token::{Boxed, Text};
 
 /// The operators of chains.
 #[derive(Clone, Copy, Debug, PartialEq, Eq)]

@@ -12,7 +12,7 @@ use Rattle.cs_lang.specs.declared.tree.Action.TheOpen.{Action-F}
 use Rattle.cs_lang.specs.declared.tree.Action.TheFolds.{fold-roll-Action, fold_out-Block, fold_out-Statement}
 use Rattle.cs_lang_print.specs.Words.{word, ending, each}
 use Rattle.cs_lang_print.specs.Expressions.{expr_text}
-use Rattle.cs_lang_print.specs.Statements.{name_text, arguments_text, bound_text, assigned, block_of, closed, layer_action, layer_statement, layer_block, statements_text, statement_text, action_text}
+use Rattle.cs_lang_print.specs.Statements.{name_text, arguments_text, bound_text, assigned, block_until, block_text, layer_action, layer_statement, layer_block, statements_text, statement_text, action_text}
 use Rattle.cs_lang_print.proofs.RunTexts.{each-map}
 
 pub statement_is : (s : Statement) → statement_text s ≡ action_text (out-Statement s).action
@@ -40,32 +40,32 @@ action_set name value = ap action_text (sym (rolls-Set name value)) ∙ fold-rol
 pub text_set : (s : Statement) (name : Text) (value : Expr) → (out-Statement s).action ≡ action.Set name value → statement_text s ≡ assigned (codes "set") name value
 text_set s name value is = statement_is s ∙ ap action_text is ∙ action_set name value
 
-pub action_if : (condition : Expr) (block : Block) → action_text (action.If condition block) ≡ word (codes "if") ++ (expr_text condition ++ closed (statements_text block))
+pub action_if : (condition : Expr) (block : Block) → action_text (action.If condition block) ≡ word (codes "if") ++ (expr_text condition ++ block_text (statements_text block))
 unfolding action_text statements_text
 action_if condition block = ap action_text (sym (rolls-If condition block)) ∙ fold-roll-Action (List ℕ) (List ℕ) (List ℕ) layer_action layer_block layer_statement (Action-F.If condition block)
 
-pub text_if : (s : Statement) (condition : Expr) (block : Block) → (out-Statement s).action ≡ action.If condition block → statement_text s ≡ word (codes "if") ++ (expr_text condition ++ closed (statements_text block))
+pub text_if : (s : Statement) (condition : Expr) (block : Block) → (out-Statement s).action ≡ action.If condition block → statement_text s ≡ word (codes "if") ++ (expr_text condition ++ block_text (statements_text block))
 text_if s condition block is = statement_is s ∙ ap action_text is ∙ action_if condition block
 
-pub action_ifelse : (condition : Expr) (block other : Block) → action_text (action.IfElse condition block other) ≡ word (codes "if") ++ (expr_text condition ++ (block_of (word (codes "}")) (statements_text block) ++ (word (codes "else") ++ closed (statements_text other))))
+pub action_ifelse : (condition : Expr) (block other : Block) → action_text (action.IfElse condition block other) ≡ word (codes "if") ++ (expr_text condition ++ (block_until (word (codes "}")) (statements_text block) ++ (word (codes "else") ++ block_text (statements_text other))))
 unfolding action_text statements_text
 action_ifelse condition block other = ap action_text (sym (rolls-IfElse condition block other)) ∙ fold-roll-Action (List ℕ) (List ℕ) (List ℕ) layer_action layer_block layer_statement (Action-F.IfElse condition block other)
 
-pub text_ifelse : (s : Statement) (condition : Expr) (block other : Block) → (out-Statement s).action ≡ action.IfElse condition block other → statement_text s ≡ word (codes "if") ++ (expr_text condition ++ (block_of (word (codes "}")) (statements_text block) ++ (word (codes "else") ++ closed (statements_text other))))
+pub text_ifelse : (s : Statement) (condition : Expr) (block other : Block) → (out-Statement s).action ≡ action.IfElse condition block other → statement_text s ≡ word (codes "if") ++ (expr_text condition ++ (block_until (word (codes "}")) (statements_text block) ++ (word (codes "else") ++ block_text (statements_text other))))
 text_ifelse s condition block other is = statement_is s ∙ ap action_text is ∙ action_ifelse condition block other
 
-pub action_forin : (name : Text) (list : Expr) (block : Block) → action_text (action.ForIn name list block) ≡ word (codes "for") ++ (name_text name ++ ((word (codes "in") ++ expr_text list) ++ closed (statements_text block)))
+pub action_forin : (name : Text) (list : Expr) (block : Block) → action_text (action.ForIn name list block) ≡ word (codes "for") ++ (name_text name ++ ((word (codes "in") ++ expr_text list) ++ block_text (statements_text block)))
 unfolding action_text statements_text
 action_forin name list block = ap action_text (sym (rolls-ForIn name list block)) ∙ fold-roll-Action (List ℕ) (List ℕ) (List ℕ) layer_action layer_block layer_statement (Action-F.ForIn name list block)
 
-pub text_forin : (s : Statement) (name : Text) (list : Expr) (block : Block) → (out-Statement s).action ≡ action.ForIn name list block → statement_text s ≡ word (codes "for") ++ (name_text name ++ ((word (codes "in") ++ expr_text list) ++ closed (statements_text block)))
+pub text_forin : (s : Statement) (name : Text) (list : Expr) (block : Block) → (out-Statement s).action ≡ action.ForIn name list block → statement_text s ≡ word (codes "for") ++ (name_text name ++ ((word (codes "in") ++ expr_text list) ++ block_text (statements_text block)))
 text_forin s name list block is = statement_is s ∙ ap action_text is ∙ action_forin name list block
 
-pub action_forto : (name : Text) (count : ℕ) (block : Block) → action_text (action.ForTo name count block) ≡ word (codes "for") ++ (name_text name ++ ((word (codes "to") ++ word (decimal count)) ++ closed (statements_text block)))
+pub action_forto : (name : Text) (count : ℕ) (block : Block) → action_text (action.ForTo name count block) ≡ word (codes "for") ++ (name_text name ++ ((word (codes "to") ++ word (decimal count)) ++ block_text (statements_text block)))
 unfolding action_text statements_text
 action_forto name count block = ap action_text (sym (rolls-ForTo name count block)) ∙ fold-roll-Action (List ℕ) (List ℕ) (List ℕ) layer_action layer_block layer_statement (Action-F.ForTo name count block)
 
-pub text_forto : (s : Statement) (name : Text) (count : ℕ) (block : Block) → (out-Statement s).action ≡ action.ForTo name count block → statement_text s ≡ word (codes "for") ++ (name_text name ++ ((word (codes "to") ++ word (decimal count)) ++ closed (statements_text block)))
+pub text_forto : (s : Statement) (name : Text) (count : ℕ) (block : Block) → (out-Statement s).action ≡ action.ForTo name count block → statement_text s ≡ word (codes "for") ++ (name_text name ++ ((word (codes "to") ++ word (decimal count)) ++ block_text (statements_text block)))
 text_forto s name count block is = statement_is s ∙ ap action_text is ∙ action_forto name count block
 
 pub action_make : (slot object : Text) (values : List Expr) → action_text (action.Make slot object values) ≡ word (codes "make") ++ (name_text slot ++ (word (codes "=") ++ (name_text object ++ (arguments_text values ++ ending (codes ";")))))

@@ -13,7 +13,7 @@ use Rattle.cs_lang.specs.Trees.{let_of, set_of, if_of, else_of, Range, Items, Nu
 use Rattle.cs_lang.specs.Rules.{word as word_rule, Whole, expression, arguments, if_rule, for_rule, make_rule, call_rule, statement_rule, braces, statements}
 use Rattle.cs_lang_print.specs.Words.{word, ending, each, behind_comma, with_commas}
 use Rattle.cs_lang_print.specs.Expressions.{expr_text}
-use Rattle.cs_lang_print.specs.Statements.{name_text, arguments_text, block_of as block_text, statements_text, statement_text}
+use Rattle.cs_lang_print.specs.Statements.{name_text, arguments_text, block_until, statements_text, statement_text}
 use Rattle.cs_lang_print.specs.Places.{bare_text, bare, bare_block, bare_statement}
 use Rattle.cs_lang_print.proofs.Lexed.{IsWord}
 use Rattle.cs_lang_print.proofs.Actions.{statement_is, statements_are, action_let, action_set, action_if, action_ifelse, action_forin, action_forto, action_make, action_call, action_answer}
@@ -63,7 +63,7 @@ StatementsGood left ss = (n : ℕ) → left + 3 ≤ n → Says (map bare_stateme
 
 -- a block whose brace closes in either way
 abbrev pub BlockGood : ℕ → Block → Type 0
-BlockGood left b = (n : ℕ) → left + 2 ≤ n → (closing : List ℕ) → Says no_place (sign kind.CloseBlock true) 0 closing → Says bare_block (braces (statements n (less_one left)) (room_of left)) b (block_text closing (statements_text b))
+BlockGood left b = (n : ℕ) → left + 2 ≤ n → (closing : List ℕ) → Says no_place (sign kind.CloseBlock true) 0 closing → Says bare_block (braces (statements n (less_one left)) (room_of left)) b (block_until closing (statements_text b))
 
 pub says_closed : Says no_place (sign kind.CloseBlock true) 0 (ending (codes "}"))
 says_closed = says_ending kind.CloseBlock (codes "}") (omega arith) (λ place rest. refl)
@@ -74,7 +74,7 @@ says_before_else = says_sign kind.CloseBlock (codes "}") (omega arith) (λ place
 says_block : (left : ℕ) (p : ℕ × (List Statement × ℕ)) → room_of left ≡ true → StatementsGood (less_one left) p.1.0 → BlockGood left (block_of p)
 says_block left p room g n le closing close =
     let one = room_one left room in
-    says_text (block_text closing (statements_text (block_of p))) (ap (block_text closing) (sym (statements_are (block_of p) ∙ ap (each statement_text) (out_statements p))))
+    says_text (block_until closing (statements_text (block_of p))) (ap (block_until closing) (sym (statements_are (block_of p) ∙ ap (each statement_text) (out_statements p))))
     (says_same (block_of p) (move_block (0, (p.1.0, 0)) ∙ sym (move_block p))
     (says_mapped {B = both no_place (both (map bare_statement) no_place)} {x = (0, (p.1.0, 0))} bare_block block_of move_block
     (says_pair (says_gate kind.OpenBlock (room_of left) (ending (codes "{")) room (says_ending kind.OpenBlock (codes "{") (omega arith) (λ place rest. refl)))

@@ -17,7 +17,7 @@ use Rattle.cs_lang.specs.declared.tree.Access.TheOpen.{Access-F, Shape-F}
 use Rattle.cs_lang.specs.declared.tree.Access.TheFolds.{fold-roll-Access, fold-roll-Shape, fold_out-Expr, fold_out-Link, fold_out-Step}
 use Rattle.cs_lang_print.specs.Words.{word, quoted, operator_text, comparison_text, with_commas}
 use Rattle.cs_lang_print.specs.Spelling.{Spelled, tightness_of, operand_tightness, within, run_text}
-use Rattle.cs_lang_print.specs.Expressions.{Linked, layer_access, layer_shape, layer_expr, layer_link, layer_step, spelled, spelled_shape, spelled_link, step_text, access_text, expr_text, text_of, truth_text, applied, kind_text}
+use Rattle.cs_lang_print.specs.Expressions.{Linked, layer_access, layer_shape, layer_expr, layer_link, layer_step, spelled, spelled_shape, spelled_link, step_text, access_text, expr_text, spelled_text, truth_text, applied, kind_text}
 use Rattle.cs_lang_print.specs.Runs.{openings, parts_text}
 use Rattle.cs_lang_print.proofs.RunTexts.{with_commas-map, run_is, runs_map}
 
@@ -76,7 +76,7 @@ tightness_name e name is = ap (λ (s : Spelled). s.tightness) (spelled_is e ∙ 
 pub text_name : (e : Expr) (name : List ℕ) → (out-Expr e).shape ≡ shape.Name name → (spelled e).text ≡ word name
 text_name e name is = ap (λ (s : Spelled). s.text) (spelled_is e ∙ ap spelled_shape is ∙ shape_name name)
 
-pub shape_list : (items : List Expr) → spelled_shape (shape.List items) ≡ record { tightness = 8; text = word (codes "[") ++ (with_commas text_of (map spelled items) ++ word (codes "]")) }
+pub shape_list : (items : List Expr) → spelled_shape (shape.List items) ≡ record { tightness = 8; text = word (codes "[") ++ (with_commas spelled_text (map spelled items) ++ word (codes "]")) }
 unfolding spelled spelled_shape spelled_link step_text
 shape_list items = ap spelled_shape (sym (rolls-List items)) ∙ fold-roll-Shape (List ℕ) Spelled Spelled Linked (List ℕ) layer_access layer_shape layer_expr layer_link layer_step (Shape-F.List items)
 
@@ -84,7 +84,7 @@ pub tightness_list : (e : Expr) (items : List Expr) → (out-Expr e).shape ≡ s
 tightness_list e items is = ap (λ (s : Spelled). s.tightness) (spelled_is e ∙ ap spelled_shape is ∙ shape_list items)
 
 pub text_list : (e : Expr) (items : List Expr) → (out-Expr e).shape ≡ shape.List items → (spelled e).text ≡ word (codes "[") ++ (with_commas expr_text items ++ word (codes "]"))
-text_list e items is = ap (λ (s : Spelled). s.text) (spelled_is e ∙ ap spelled_shape is ∙ shape_list items) ∙ ap (λ (t : List ℕ). word (codes "[") ++ (t ++ word (codes "]"))) (with_commas-map text_of spelled items)
+text_list e items is = ap (λ (s : Spelled). s.text) (spelled_is e ∙ ap spelled_shape is ∙ shape_list items) ∙ ap (λ (t : List ℕ). word (codes "[") ++ (t ++ word (codes "]"))) (with_commas-map spelled_text spelled items)
 
 pub shape_empty : (k : ValueKind) → spelled_shape (shape.Empty k) ≡ record { tightness = 8; text = word (codes "empty") ++ kind_text k }
 unfolding spelled spelled_shape spelled_link step_text

@@ -12,7 +12,8 @@ use Rattle.std.proofs.lemmas.Fmt.{digits_decimal, digits_value-decimal, decimal_
 use Rattle.cs_lang_token.specs.declared.kind.Kind.{Kind}
 use Rattle.cs_lang_token.specs.declared.kind.Kind.TheVariants as kind
 use Rattle.cs_lang_token.specs.declared.lexeme.Lexeme.{Lexeme}
-use Rattle.cs_lang_token.specs.Tokens.{is_blank, is_digit, is_letter, is_name_character, is_hex, run_length, kind_of_word, word_at, number_from, number_at, hex_value, hex_bytes, is_first, starts, quoted_at, byte_text_at, or_else, lexeme_at, sign_at, blank_length}
+use Rattle.cs_lang_token.specs.Tokens.{is_blank, is_digit, is_letter, is_name_character, is_hex, run_length, kind_of_word, word_at, number_from, number_at, hex_value, hex_bytes, is_first, starts, quoted_at, byte_text_at, lexeme_at, sign_at, blank_length}
+use Rattle.cs_base.specs.Options.{or_else}
 use Rattle.cs_lang_print.specs.Words.{hex_digit, hex_text}
 
 pub and_first : (a b : Bool) → (a && b) ≡ true → a ≡ true

@@ -8,7 +8,7 @@ use Rattle.std.proofs.lemmas.Bool.Decides.{Decides-eqb}
 use Rattle.cs_lang_print.specs.Words.{word, each, behind_comma, with_commas}
 use Rattle.cs_lang_print.specs.Spelling.{in_parentheses, held, run_on, run_text}
 use Rattle.cs_lang_print.specs.Expressions.{applied}
-use Rattle.cs_lang_print.specs.Statements.{block_of, closed}
+use Rattle.cs_lang_print.specs.Statements.{block_until, block_text}
 use Rattle.cs_lang_print.specs.Runs.{times, openings, closing, parts_text, comma_text, items_text}
 
 pub each-map : {X Y : Type 0} (text : Y → List ℕ) (f : X → Y) (xs : List X) → each text (map f xs) ≡ each (λ x. text (f x)) xs
@@ -133,11 +133,11 @@ pub ruleset items = (items_are)
 pub concat_is : (f b : List ℕ) → applied (codes "concat") (f ++ (word (codes ",") ++ b)) ≡ (word (codes "concat") ++ (word (codes "(") ++ f)) ++ (word (codes ",") ++ (b ++ word (codes ")")))
 concat_is f b = simp append_assoc
 
-pub if_else_is : (e b o : List ℕ) → word (codes "if") ++ (e ++ (block_of (word (codes "}")) b ++ (word (codes "else") ++ closed o))) ≡ (word (codes "if") ++ e) ++ ((block_of (word (codes "}")) b ++ word (codes "else")) ++ closed o)
+pub if_else_is : (e b o : List ℕ) → word (codes "if") ++ (e ++ (block_until (word (codes "}")) b ++ (word (codes "else") ++ block_text o))) ≡ (word (codes "if") ++ e) ++ ((block_until (word (codes "}")) b ++ word (codes "else")) ++ block_text o)
 if_else_is e b o = simp append_assoc
 
-pub if_is : (e b : List ℕ) → word (codes "if") ++ (e ++ closed b) ≡ (word (codes "if") ++ e) ++ closed b
+pub if_is : (e b : List ℕ) → word (codes "if") ++ (e ++ block_text b) ≡ (word (codes "if") ++ e) ++ block_text b
 if_is e b = simp append_assoc
 
-pub for_is : (n e b : List ℕ) → word (codes "for") ++ (n ++ ((word (codes "in") ++ e) ++ closed b)) ≡ (word (codes "for") ++ (n ++ (word (codes "in") ++ e))) ++ closed b
+pub for_is : (n e b : List ℕ) → word (codes "for") ++ (n ++ ((word (codes "in") ++ e) ++ block_text b)) ≡ (word (codes "for") ++ (n ++ (word (codes "in") ++ e))) ++ block_text b
 for_is n e b = simp append_assoc

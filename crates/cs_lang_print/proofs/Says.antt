@@ -12,7 +12,8 @@ use Rattle.cs_lang_token.specs.declared.kind.Kind.TheVariants as kind
 use Rattle.cs_lang_token.specs.Kinds.{code, is}
 use Rattle.cs_lang_token.specs.Grammar.{Mark, plain, Within, Rule, token, pair, mapped, either, nothing, many, links}
 use Rattle.cs_lang_token.specs.Rules.{place_of_token, text_of, number_of, sign, name, bytes, number}
-use Rattle.cs_lang_token.specs.Tokens.{piece_at, lexeme_at, word_at, or_else}
+use Rattle.cs_lang_token.specs.Tokens.{piece_at, lexeme_at, word_at}
+use Rattle.cs_base.specs.Options.{or_else}
 use Rattle.cs_lang_token.specs.declared.lexeme.Lexeme.{Lexeme}
 use Rattle.cs_lang_print.specs.Places.{bare_text}
 use Rattle.cs_lang_print.specs.Words.{word, ending, quoted, hex_text}

@@ -17,7 +17,7 @@ use Rattle.cs_lang.specs.declared.methods.Body.{Body}
 use Rattle.cs_lang.specs.Trees.{field_of, slot_of, starred, typedef_of, after_word, head_of, body_of, method_of, first_and_others, contract_of}
 use Rattle.cs_lang.specs.Rules.{word as word_rule, kinds, braces, statements, field, slot, typedef, section, head, body, method, contract}
 use Rattle.cs_lang_print.specs.Words.{word, ending, each, with_commas}
-use Rattle.cs_lang_print.specs.Statements.{closed, statements_text}
+use Rattle.cs_lang_print.specs.Statements.{block_text, statements_text}
 use Rattle.cs_lang_print.specs.Texts.{field_text, star_text, slot_text, section_text, type_text, method_text, contract_text}
 use Rattle.cs_lang_print.specs.Places.{bare_text, bare_block, bare_field, bare_slot, bare_type, bare_method, without_places}
 use Rattle.cs_lang_print.proofs.Lexed.{IsWord}
@@ -98,8 +98,8 @@ heading m =
 
 abbrev doing : Body → List ℕ
 doing m =
-    ending (codes "{") ++ (word (codes "procedure") ++ (closed (statements_text m.procedure)
-    ++ (word (codes "check") ++ (closed (statements_text m.check) ++ ending (codes "}")))))
+    ending (codes "{") ++ (word (codes "procedure") ++ (block_text (statements_text m.procedure)
+    ++ (word (codes "check") ++ (block_text (statements_text m.check) ++ ending (codes "}")))))
 
 abbrev HeadGood : Head → Type 0
 HeadGood h = (n : ℕ) → 65 ≤ n → Says bare_head (head (kinds n 64)) h (heading h)

@@ -79,7 +79,8 @@ action_layer (Action-F.IfElse condition block other) = action.IfElse (bare condi
 action_layer (Action-F.ForIn name list block) = action.ForIn (bare_text name) (bare list) block
 action_layer (Action-F.ForTo name count block) = action.ForTo (bare_text name) count block
 action_layer (Action-F.Make slot object values) = action.Make (bare_text slot) (bare_text object) (map bare values)
-action_layer (Action-F.Call names method arguments) = action.Call (map bare_text names) (bare_text method) (map bare arguments)
+action_layer (Action-F.Call names method arguments) =
+    action.Call (map bare_text names) (bare_text method) (map bare arguments)
 action_layer (Action-F.Answer value) = action.Answer (bare value)
 
 abbrev pub statement_layer : Statement-F Action Block Statement → Statement

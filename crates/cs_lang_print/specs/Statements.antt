@@ -18,11 +18,11 @@ abbrev pub arguments_text : List Expr → List ℕ
 arguments_text es = word (codes "(") ++ (with_commas expr_text es ++ word (codes ")"))
 
 -- a block, from its statements; its brace ends a line, except before `else`
-abbrev pub block_of : List ℕ → List ℕ → List ℕ
-block_of closing statements = ending (codes "{") ++ (statements ++ closing)
+abbrev pub block_until : List ℕ → List ℕ → List ℕ
+block_until closing statements = ending (codes "{") ++ (statements ++ closing)
 
-abbrev pub closed : List ℕ → List ℕ
-closed = block_of (ending (codes "}"))
+abbrev pub block_text : List ℕ → List ℕ
+block_text = block_until (ending (codes "}"))
 
 -- the names that a call binds
 abbrev pub bound_text : List Text → List ℕ
@@ -30,19 +30,37 @@ bound_text [] = []
 bound_text (n ∷ ns) = with_commas name_text (n ∷ ns) ++ word (codes "=")
 
 abbrev pub assigned : List ℕ → Text → Expr → List ℕ
-assigned first name value = word first ++ (name_text name ++ (word (codes "=") ++ (expr_text value ++ ending (codes ";"))))
+assigned first name value =
+    word first ++ (name_text name ++ (word (codes "=") ++ (expr_text value ++ ending (codes ";"))))
+
+abbrev pub make_text : Text → Text → List Expr → List ℕ
+make_text slot object values =
+    word (codes "make") ++ (name_text slot ++ (word (codes "=")
+    ++ (name_text object ++ (arguments_text values ++ ending (codes ";")))))
+
+abbrev pub call_text : List Text → Text → List Expr → List ℕ
+call_text names method arguments =
+    word (codes "call") ++ (bound_text names
+    ++ (name_text method ++ (arguments_text arguments ++ ending (codes ";"))))
+
+abbrev pub answer_text : Expr → List ℕ
+answer_text value = word (codes "answer") ++ (expr_text value ++ ending (codes ";"))
 
 -- a block is given by its statements; a statement and an action by their text
 abbrev pub layer_action : Action-F (List ℕ) (List ℕ) (List ℕ) → List ℕ
 layer_action (Action-F.Let name value) = assigned (codes "let") name value
 layer_action (Action-F.Set name value) = assigned (codes "set") name value
-layer_action (Action-F.If condition block) = word (codes "if") ++ (expr_text condition ++ closed block)
-layer_action (Action-F.IfElse condition block other) = word (codes "if") ++ (expr_text condition ++ (block_of (word (codes "}")) block ++ (word (codes "else") ++ closed other)))
-layer_action (Action-F.ForIn name list block) = word (codes "for") ++ (name_text name ++ ((word (codes "in") ++ expr_text list) ++ closed block))
-layer_action (Action-F.ForTo name count block) = word (codes "for") ++ (name_text name ++ ((word (codes "to") ++ word (decimal count)) ++ closed block))
-layer_action (Action-F.Make slot object values) = word (codes "make") ++ (name_text slot ++ (word (codes "=") ++ (name_text object ++ (arguments_text values ++ ending (codes ";")))))
-layer_action (Action-F.Call names method arguments) = word (codes "call") ++ (bound_text names ++ (name_text method ++ (arguments_text arguments ++ ending (codes ";"))))
-layer_action (Action-F.Answer value) = word (codes "answer") ++ (expr_text value ++ ending (codes ";"))
+layer_action (Action-F.If condition block) = word (codes "if") ++ (expr_text condition ++ block_text block)
+layer_action (Action-F.IfElse condition block other) =
+    word (codes "if") ++ (expr_text condition ++ (block_until (word (codes "}")) block
+    ++ (word (codes "else") ++ block_text other)))
+layer_action (Action-F.ForIn name list block) =
+    word (codes "for") ++ (name_text name ++ ((word (codes "in") ++ expr_text list) ++ block_text block))
+layer_action (Action-F.ForTo name count block) =
+    word (codes "for") ++ (name_text name ++ ((word (codes "to") ++ word (decimal count)) ++ block_text block))
+layer_action (Action-F.Make slot object values) = make_text slot object values
+layer_action (Action-F.Call names method arguments) = call_text names method arguments
+layer_action (Action-F.Answer value) = answer_text value
 
 abbrev pub layer_statement : Statement-F (List ℕ) (List ℕ) (List ℕ) → List ℕ
 layer_statement s = s.action

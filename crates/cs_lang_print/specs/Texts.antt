@@ -7,7 +7,7 @@ use Rattle.cs_lang.specs.declared.tree.Method.{Method}
 use Rattle.cs_lang.specs.declared.tree.Contract.{Contract}
 use Rattle.cs_lang_print.specs.Words.{word, ending, each, with_commas}
 use Rattle.cs_lang_print.specs.Expressions.{kind_text}
-use Rattle.cs_lang_print.specs.Statements.{name_text, closed, statements_text}
+use Rattle.cs_lang_print.specs.Statements.{name_text, block_text, statements_text}
 
 abbrev pub field_text : Field → List ℕ
 field_text f = name_text f.name ++ (word (codes ":") ++ kind_text f.kind)
@@ -24,7 +24,9 @@ section_text first text [] = []
 section_text first text (x ∷ xs) = word first ++ with_commas text (x ∷ xs)
 
 abbrev pub type_text : TypeDef → List ℕ
-type_text t = word (codes "type") ++ (name_text t.name ++ (word (codes "(") ++ (with_commas field_text t.fields ++ (word (codes ")") ++ ending (codes ";")))))
+type_text t =
+    word (codes "type") ++ (name_text t.name ++ (word (codes "(")
+    ++ (with_commas field_text t.fields ++ (word (codes ")") ++ ending (codes ";")))))
 
 abbrev pub head_text : Method → List ℕ
 head_text m =
@@ -34,8 +36,8 @@ head_text m =
 
 abbrev pub body_text : Method → List ℕ
 body_text m =
-    ending (codes "{") ++ (word (codes "procedure") ++ (closed (statements_text m.procedure)
-    ++ (word (codes "check") ++ (closed (statements_text m.check) ++ ending (codes "}")))))
+    ending (codes "{") ++ (word (codes "procedure") ++ (block_text (statements_text m.procedure)
+    ++ (word (codes "check") ++ (block_text (statements_text m.check) ++ ending (codes "}")))))
 
 abbrev pub method_text : Method → List ℕ
 method_text m = word (codes "method") ++ (name_text m.name ++ (head_text m ++ body_text m))

@@ -1,5 +1,5 @@
 -- How tokens stand in a printed text: a space or a break behind each.
-use Rattle.std.specs.Prelude.{ℕ, ◌+◌, ◌/◌, ◌%◌, nat_lt, List, [], ◌∷◌, ◌++◌, codes, if◌then◌else◌}
+use Rattle.std.specs.Prelude.{◌≡◌, ℕ, ◌+◌, ◌/◌, ◌%◌, nat_lt, List, [], ◌∷◌, ◌++◌, codes, Result, Vec, OnOk, if◌then◌else◌}
 use Rattle.cs_lang.specs.declared.tree.Operator.{Operator}
 use Rattle.cs_lang.specs.declared.tree.Operator.TheVariants as operator
 use Rattle.cs_lang.specs.declared.tree.Comparison.{Comparison}
@@ -41,6 +41,10 @@ comparison_text comparison.Less = codes "<"
 comparison_text comparison.LessOrEqual = codes "<="
 comparison_text comparison.Greater = codes ">"
 comparison_text comparison.GreaterOrEqual = codes ">="
+
+-- Unless it failed, the text stands behind what was there.
+abbrev pub Appends : {A E Z : Type 0} → Result A E → Vec ℕ Z → Vec ℕ Z → List ℕ → Type 0
+Appends result old new text = OnOk result (new.items ≡ old.items ++ text)
 
 -- one text behind the other
 abbrev pub each : {X : Type 0} → (X → List ℕ) → List X → List ℕ

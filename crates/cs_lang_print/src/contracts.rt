@@ -1,8 +1,8 @@
 //! Printing whole contracts.
-ghost use Rattle.std.specs.Prelude.{◌≡◌, ◌≤◌, ℕ, List, length, ◌++◌, codes, OnOk};
-ghost use Rattle.cs_lang.specs.Texts.{IsContract};
+ghost use Rattle.std.specs.Prelude.{ℕ, List};
+ghost use Rattle.cs_lang.specs.Texts.{IsContract, IsShort};
 ghost use Rattle.cs_lang_print.specs.Again.{IsReadAgain};
-ghost use Rattle.cs_lang_print.specs.Words.{each, behind_comma, with_commas};
+ghost use Rattle.cs_lang_print.specs.Words.{each, behind_comma, with_commas, Appends};
 ghost use Rattle.cs_lang_print.specs.Texts.{field_text, star_text, slot_text, section_text, type_text, head_text, body_text, method_text, contract_text};
 
 use crate::kinds::put_kind;
@@ -13,7 +13,7 @@ use std::alloc::{AllocError, Global};
 
 /// A field.
 fn put_field(field: &Field, out: &mut Vec<u8>) -> Result<(), AllocError>
-    ensures { OnOk result (out.new.items ≡ out.old.items ++ field_text field.now) }
+    ensures { Appends result out.old out.new (field_text field.now) }
 {
     put_name(&field.name, out)?;
     put_word(b":", out)?;
@@ -22,7 +22,7 @@ fn put_field(field: &Field, out: &mut Vec<u8>) -> Result<(), AllocError>
 
 /// A field behind a comma.
 fn put_other_field(field: &Field, out: &mut Vec<u8>) -> Result<(), AllocError>
-    ensures { OnOk result (out.new.items ≡ out.old.items ++ behind_comma field_text field.now) }
+    ensures { Appends result out.old out.new (behind_comma field_text field.now) }
 {
     put_word(b",", out)?;
     put_field(field, out)
@@ -30,7 +30,7 @@ fn put_other_field(field: &Field, out: &mut Vec<u8>) -> Result<(), AllocError>
 
 /// Fields, each behind a comma.
 fn put_other_fields(fields: &[Field], out: &mut Vec<u8>) -> Result<(), AllocError>
-    ensures { OnOk result (out.new.items ≡ out.old.items ++ each (behind_comma field_text) fields.now) }
+    ensures { Appends result out.old out.new (each (behind_comma field_text) fields.now) }
 {
     for field in fields {
         put_other_field(field, out)?;
@@ -40,7 +40,7 @@ fn put_other_fields(fields: &[Field], out: &mut Vec<u8>) -> Result<(), AllocErro
 
 /// Fields with commas between them.
 fn put_fields(fields: &[Field], out: &mut Vec<u8>) -> Result<(), AllocError>
-    ensures { OnOk result (out.new.items ≡ out.old.items ++ with_commas field_text fields.now) }
+    ensures { Appends result out.old out.new (with_commas field_text fields.now) }
 {
     match fields {
         [] => Ok(()),
@@ -53,7 +53,7 @@ fn put_fields(fields: &[Field], out: &mut Vec<u8>) -> Result<(), AllocError>
 
 /// The sign of any number of objects.
 fn put_star(many: bool, out: &mut Vec<u8>) -> Result<(), AllocError>
-    ensures { OnOk result (out.new.items ≡ out.old.items ++ star_text many) }
+    ensures { Appends result out.old out.new (star_text many) }
 {
     if many {
         return put_word(b"*", out);
@@ -63,7 +63,7 @@ fn put_star(many: bool, out: &mut Vec<u8>) -> Result<(), AllocError>
 
 /// A slot.
 fn put_slot(slot: &Slot, out: &mut Vec<u8>) -> Result<(), AllocError>
-    ensures { OnOk result (out.new.items ≡ out.old.items ++ slot_text slot.now) }
+    ensures { Appends result out.old out.new (slot_text slot.now) }
 {
     put_name(&slot.name, out)?;
     put_word(b":", out)?;
@@ -73,7 +73,7 @@ fn put_slot(slot: &Slot, out: &mut Vec<u8>) -> Result<(), AllocError>
 
 /// A slot behind a comma.
 fn put_other_slot(slot: &Slot, out: &mut Vec<u8>) -> Result<(), AllocError>
-    ensures { OnOk result (out.new.items ≡ out.old.items ++ behind_comma slot_text slot.now) }
+    ensures { Appends result out.old out.new (behind_comma slot_text slot.now) }
 {
     put_word(b",", out)?;
     put_slot(slot, out)
@@ -81,7 +81,7 @@ fn put_other_slot(slot: &Slot, out: &mut Vec<u8>) -> Result<(), AllocError>
 
 /// Slots, each behind a comma.
 fn put_other_slots(slots: &[Slot], out: &mut Vec<u8>) -> Result<(), AllocError>
-    ensures { OnOk result (out.new.items ≡ out.old.items ++ each (behind_comma slot_text) slots.now) }
+    ensures { Appends result out.old out.new (each (behind_comma slot_text) slots.now) }
 {
     for slot in slots {
         put_other_slot(slot, out)?;
@@ -91,7 +91,7 @@ fn put_other_slots(slots: &[Slot], out: &mut Vec<u8>) -> Result<(), AllocError>
 
 /// Slots behind a word, where there are some.
 fn put_slots(first: &[u8], slots: &[Slot], out: &mut Vec<u8>) -> Result<(), AllocError>
-    ensures { OnOk result (out.new.items ≡ out.old.items ++ section_text first.now slot_text slots.now) }
+    ensures { Appends result out.old out.new (section_text first.now slot_text slots.now) }
 {
     match slots {
         [] => Ok(()),
@@ -105,7 +105,7 @@ fn put_slots(first: &[u8], slots: &[Slot], out: &mut Vec<u8>) -> Result<(), Allo
 
 /// Fields behind a word, where there are some.
 fn put_fields_behind(first: &[u8], fields: &[Field], out: &mut Vec<u8>) -> Result<(), AllocError>
-    ensures { OnOk result (out.new.items ≡ out.old.items ++ section_text first.now field_text fields.now) }
+    ensures { Appends result out.old out.new (section_text first.now field_text fields.now) }
 {
     match fields {
         [] => Ok(()),
@@ -119,7 +119,7 @@ fn put_fields_behind(first: &[u8], fields: &[Field], out: &mut Vec<u8>) -> Resul
 
 /// A type.
 fn put_type(typedef: &TypeDef, out: &mut Vec<u8>) -> Result<(), AllocError>
-    ensures { OnOk result (out.new.items ≡ out.old.items ++ type_text typedef.now) }
+    ensures { Appends result out.old out.new (type_text typedef.now) }
 {
     put_word(b"type", out)?;
     put_name(&typedef.name, out)?;
@@ -131,7 +131,7 @@ fn put_type(typedef: &TypeDef, out: &mut Vec<u8>) -> Result<(), AllocError>
 
 /// What a method takes and gives.
 fn put_head(method: &Method, out: &mut Vec<u8>) -> Result<(), AllocError>
-    ensures { OnOk result (out.new.items ≡ out.old.items ++ head_text method.now) }
+    ensures { Appends result out.old out.new (head_text method.now) }
 {
     put_slots(b"consumes", method.consumes.as_slice(), out)?;
     put_slots(b"reads", method.reads.as_slice(), out)?;
@@ -142,7 +142,7 @@ fn put_head(method: &Method, out: &mut Vec<u8>) -> Result<(), AllocError>
 
 /// What a method does.
 fn put_body(alloc: Global, method: &Method, out: &mut Vec<u8>) -> Result<(), AllocError>
-    ensures { OnOk result (out.new.items ≡ out.old.items ++ body_text method.now) }
+    ensures { Appends result out.old out.new (body_text method.now) }
 {
     put_ending(b"{", out)?;
     put_word(b"procedure", out)?;
@@ -154,7 +154,7 @@ fn put_body(alloc: Global, method: &Method, out: &mut Vec<u8>) -> Result<(), All
 
 /// A method.
 fn put_method(alloc: Global, method: &Method, out: &mut Vec<u8>) -> Result<(), AllocError>
-    ensures { OnOk result (out.new.items ≡ out.old.items ++ method_text method.now) }
+    ensures { Appends result out.old out.new (method_text method.now) }
 {
     put_word(b"method", out)?;
     put_name(&method.name, out)?;
@@ -164,7 +164,7 @@ fn put_method(alloc: Global, method: &Method, out: &mut Vec<u8>) -> Result<(), A
 
 /// Types, each on its line.
 fn put_types(types: &[TypeDef], out: &mut Vec<u8>) -> Result<(), AllocError>
-    ensures { OnOk result (out.new.items ≡ out.old.items ++ each type_text types.now) }
+    ensures { Appends result out.old out.new (each type_text types.now) }
 {
     for typedef in types {
         put_type(typedef, out)?;
@@ -174,7 +174,7 @@ fn put_types(types: &[TypeDef], out: &mut Vec<u8>) -> Result<(), AllocError>
 
 /// Methods.
 fn put_methods(alloc: Global, methods: &[Method], out: &mut Vec<u8>) -> Result<(), AllocError>
-    ensures { OnOk result (out.new.items ≡ out.old.items ++ each method_text methods.now) }
+    ensures { Appends result out.old out.new (each method_text methods.now) }
 {
     for method in methods {
         put_method(alloc, method, out)?;
@@ -188,10 +188,11 @@ fn put_methods(alloc: Global, methods: &[Method], out: &mut Vec<u8>) -> Result<(
 #[tactic(auto, unfolding(crate::specs::Texts::contract_text))]
 pub fn print(alloc: Global, contract: &Contract, out: &mut Vec<u8>) -> Result<(), AllocError>
     // What is appended is the text of the definition.
-    ensures printed { OnOk result (out.new.items ≡ out.old.items ++ contract_text contract.now) }
-    // Where a text is this contract, this one's text is the same contract but for places, if it is no
-    // longer than a text may be.
-    ensures again { (text : List ℕ) → IsContract text contract.now → length (contract_text contract.now) ≤ 65536 → IsReadAgain contract.now }
+    ensures printed { Appends result out.old out.new (contract_text contract.now) }
+    // Where a text is this contract, what is printed is the same contract but for places, if it is
+    // no longer than a text may be.
+    ensures again { (text : List ℕ) → IsContract text contract.now →
+        IsShort (contract_text contract.now) → IsReadAgain contract.now }
 {
     put_types(contract.types.as_slice(), out)?;
     put_methods(alloc, contract.methods.as_slice(), out)

@@ -1,18 +1,15 @@
 //! Printing expressions.
-ghost use Rattle.std.specs.Prelude.{◌≡◌, ◌<◌, ◌++◌, false, codes, OnOk};
-ghost use Rattle.std.specs.Fmt.{decimal};
-ghost use Rattle.cs_lang_print.specs.Words.{word, operator_text, with_commas};
-ghost use Rattle.cs_lang_print.specs.Spelling.{tightness_of, operand_tightness, within};
-ghost use Rattle.cs_lang_print.specs.Expressions.{spelled, spelled_link, step_text, expr_text, truth_text, kind_text, applied};
+ghost use Rattle.std.specs.Prelude.{◌≡◌, ◌++◌, false, codes};
+ghost use Rattle.cs_lang_print.specs.Words.{word, operator_text, with_commas, Appends};
+ghost use Rattle.cs_lang_print.specs.Spelling.{tightness_of, operand_tightness, within, in_parentheses, in_brackets};
+ghost use Rattle.cs_lang_print.specs.Expressions.{spelled, spelled_link, step_text, expr_text, truth_text, kind_text, applied, called_text, depint_text};
 ghost use Rattle.cs_lang_print.specs.Runs.{times, openings, closing, parts_text, comma_text, items_text};
 
 use crate::kinds::put_kind;
 use crate::words::{put_comparison, put_number, put_operator, put_quoted, put_word};
 use cs_lang::{Access, Expr, Link, Operator, Rank, Shape, Step, Text, ValueKind};
+use cs_lang_token::MOST_OPERATORS;
 use std::alloc::{AllocError, Global};
-
-/// The most operators of a chain, and steps of a path, without parentheses.
-const MOST_OPERATORS: usize = 64;
 
 /// How tightly primary expressions hold together.
 const PRIMARY: u8 = 8;
@@ -69,7 +66,7 @@ fn tightness(expr: &Expr) -> u8
 /// An expression where it has to hold together so tightly.
 #[cycle(spelling)]
 fn put_within(alloc: Global, tight: u8, expr: &Expr, out: &mut Vec<u8>) -> Result<(), AllocError>
-    ensures { OnOk result (out.new.items ≡ out.old.items ++ within tight (spelled expr.now)) }
+    ensures { Appends result out.old out.new (within tight (spelled expr.now)) }
 {
     if tightness(expr) < tight {
         return put_grouped(alloc, expr, out);
@@ -80,7 +77,7 @@ fn put_within(alloc: Global, tight: u8, expr: &Expr, out: &mut Vec<u8>) -> Resul
 /// An expression in parentheses.
 #[cycle(spelling)]
 fn put_grouped(alloc: Global, expr: &Expr, out: &mut Vec<u8>) -> Result<(), AllocError>
-    ensures { OnOk result (out.new.items ≡ out.old.items ++ (word (codes "(") ++ (expr_text expr.now ++ word (codes ")")))) }
+    ensures { Appends result out.old out.new (in_parentheses (expr_text expr.now)) }
 {
     put_word(b"(", out)?;
     put_expr(alloc, expr, out)?;
@@ -90,7 +87,7 @@ fn put_grouped(alloc: Global, expr: &Expr, out: &mut Vec<u8>) -> Result<(), Allo
 /// An item, behind a comma where it isn't the first.
 #[cycle(spelling)]
 fn put_item(alloc: Global, behind: bool, item: &Expr, out: &mut Vec<u8>) -> Result<(), AllocError>
-    ensures { OnOk result (out.new.items ≡ out.old.items ++ (comma_text behind ++ expr_text item.now)) }
+    ensures { Appends result out.old out.new (comma_text behind ++ expr_text item.now) }
 {
     put_comma(behind, out)?;
     put_expr(alloc, item, out)
@@ -99,7 +96,7 @@ fn put_item(alloc: Global, behind: bool, item: &Expr, out: &mut Vec<u8>) -> Resu
 /// Expressions, each behind a comma but the first.
 #[cycle(spelling)]
 fn put_row(alloc: Global, items: &[Expr], out: &mut Vec<u8>) -> Result<(), AllocError>
-    ensures { OnOk result (out.new.items ≡ out.old.items ++ items_text expr_text false items.now) }
+    ensures { Appends result out.old out.new (items_text expr_text false items.now) }
 {
     let mut behind = false;
     for item in items {
@@ -113,14 +110,14 @@ fn put_row(alloc: Global, items: &[Expr], out: &mut Vec<u8>) -> Result<(), Alloc
 #[cycle(spelling)]
 #[tactic(auto, using(crate::proofs::RunTexts::items))]
 pub fn put_list(alloc: Global, items: &[Expr], out: &mut Vec<u8>) -> Result<(), AllocError>
-    ensures { OnOk result (out.new.items ≡ out.old.items ++ with_commas expr_text items.now) }
+    ensures { Appends result out.old out.new (with_commas expr_text items.now) }
 {
     put_row(alloc, items, out)
 }
 
 /// A comma, behind an item.
 fn put_comma(behind: bool, out: &mut Vec<u8>) -> Result<(), AllocError>
-    ensures { OnOk result (out.new.items ≡ out.old.items ++ comma_text behind) }
+    ensures { Appends result out.old out.new (comma_text behind) }
 {
     if behind {
         return put_word(b",", out);
@@ -130,7 +127,7 @@ fn put_comma(behind: bool, out: &mut Vec<u8>) -> Result<(), AllocError>
 
 /// So many opening parentheses.
 fn put_opened(count: usize, out: &mut Vec<u8>) -> Result<(), AllocError>
-    ensures { OnOk result (out.new.items ≡ out.old.items ++ times count (word (codes "("))) }
+    ensures { Appends result out.old out.new (times count (word (codes "("))) }
 {
     for _ in 0..count {
         put_word(b"(", out)?;
@@ -141,7 +138,7 @@ fn put_opened(count: usize, out: &mut Vec<u8>) -> Result<(), AllocError>
 /// The parentheses that open before so many operators or steps.
 #[tactic(auto, unfolding(crate::specs::Runs::openings))]
 fn put_openings(count: usize, out: &mut Vec<u8>) -> Result<(), AllocError>
-    ensures { OnOk result (out.new.items ≡ out.old.items ++ openings count) }
+    ensures { Appends result out.old out.new (openings count) }
 {
     put_opened(count.saturating_sub(1) / MOST_OPERATORS, out)
 }
@@ -149,7 +146,7 @@ fn put_openings(count: usize, out: &mut Vec<u8>) -> Result<(), AllocError>
 /// The parenthesis that closes before an operator or a step with so many behind it, with itself,
 /// where that one stands behind another.
 fn put_closing(behind: bool, left: usize, out: &mut Vec<u8>) -> Result<(), AllocError>
-    ensures { OnOk result (out.new.items ≡ out.old.items ++ closing behind left) }
+    ensures { Appends result out.old out.new (closing behind left) }
 {
     if behind && left % MOST_OPERATORS == 0 {
         return put_word(b")", out);
@@ -166,7 +163,8 @@ fn put_right(
     right: &Expr,
     out: &mut Vec<u8>,
 ) -> Result<(), AllocError>
-    ensures { OnOk result (out.new.items ≡ out.old.items ++ (word (operator_text operator) ++ within tight (spelled right.now))) }
+    ensures { Appends result out.old out.new (word (operator_text operator)
+        ++ within tight (spelled right.now)) }
 {
     put_operator(operator, out)?;
     put_within(alloc, tight, right, out)
@@ -176,7 +174,7 @@ fn put_right(
 #[cycle(spelling)]
 #[tactic(auto, using(crate::proofs::Layers::links))]
 fn put_link(alloc: Global, tight: u8, link: &Link, out: &mut Vec<u8>) -> Result<(), AllocError>
-    ensures { OnOk result (out.new.items ≡ out.old.items ++ spelled_link link.now tight) }
+    ensures { Appends result out.old out.new (spelled_link link.now tight) }
 {
     put_right(alloc, tight, link.operator, &link.right, out)
 }
@@ -191,7 +189,7 @@ fn put_next_link(
     link: &Link,
     out: &mut Vec<u8>,
 ) -> Result<(), AllocError>
-    ensures { OnOk result (out.new.items ≡ out.old.items ++ (closing behind left ++ spelled_link link.now tight)) }
+    ensures { Appends result out.old out.new (closing behind left ++ spelled_link link.now tight) }
 {
     put_closing(behind, left, out)?;
     put_link(alloc, tight, link, out)
@@ -200,7 +198,8 @@ fn put_next_link(
 /// Operators and their right operands.
 #[cycle(spelling)]
 fn put_links(alloc: Global, tight: u8, links: &[Link], out: &mut Vec<u8>) -> Result<(), AllocError>
-    ensures { OnOk result (out.new.items ≡ out.old.items ++ parts_text (λ link. spelled_link link tight) false links.now) }
+    ensures { Appends result out.old out.new
+        (parts_text (λ link. spelled_link link tight) false links.now) }
 {
     let mut behind = false;
     let mut left = links.len();
@@ -215,7 +214,7 @@ fn put_links(alloc: Global, tight: u8, links: &[Link], out: &mut Vec<u8>) -> Res
 /// An expression in brackets.
 #[cycle(spelling)]
 fn put_index(alloc: Global, index: &Expr, out: &mut Vec<u8>) -> Result<(), AllocError>
-    ensures { OnOk result (out.new.items ≡ out.old.items ++ (word (codes "[") ++ (expr_text index.now ++ word (codes "]")))) }
+    ensures { Appends result out.old out.new (in_brackets (expr_text index.now)) }
 {
     put_word(b"[", out)?;
     put_expr(alloc, index, out)?;
@@ -224,7 +223,7 @@ fn put_index(alloc: Global, index: &Expr, out: &mut Vec<u8>) -> Result<(), Alloc
 
 /// A name behind a dot.
 fn put_field(name: &Text, out: &mut Vec<u8>) -> Result<(), AllocError>
-    ensures { OnOk result (out.new.items ≡ out.old.items ++ (word (codes ".") ++ word name.now.bytes)) }
+    ensures { Appends result out.old out.new (word (codes ".") ++ word name.now.bytes) }
 {
     put_word(b".", out)?;
     put_word(name.bytes.as_slice(), out)
@@ -234,7 +233,7 @@ fn put_field(name: &Text, out: &mut Vec<u8>) -> Result<(), AllocError>
 #[cycle(spelling)]
 #[tactic(auto, using(crate::proofs::Layers::steps))]
 fn put_step(alloc: Global, step: &Step, out: &mut Vec<u8>) -> Result<(), AllocError>
-    ensures { OnOk result (out.new.items ≡ out.old.items ++ step_text step.now) }
+    ensures { Appends result out.old out.new (step_text step.now) }
 {
     match &step.access {
         Access::Field(name) => put_field(name, out),
@@ -251,7 +250,7 @@ fn put_next_step(
     step: &Step,
     out: &mut Vec<u8>,
 ) -> Result<(), AllocError>
-    ensures { OnOk result (out.new.items ≡ out.old.items ++ (closing behind left ++ step_text step.now)) }
+    ensures { Appends result out.old out.new (closing behind left ++ step_text step.now) }
 {
     put_closing(behind, left, out)?;
     put_step(alloc, step, out)
@@ -260,7 +259,7 @@ fn put_next_step(
 /// Steps into a value.
 #[cycle(spelling)]
 fn put_steps(alloc: Global, steps: &[Step], out: &mut Vec<u8>) -> Result<(), AllocError>
-    ensures { OnOk result (out.new.items ≡ out.old.items ++ parts_text step_text false steps.now) }
+    ensures { Appends result out.old out.new (parts_text step_text false steps.now) }
 {
     let mut behind = false;
     let mut left = steps.len();
@@ -274,7 +273,7 @@ fn put_steps(alloc: Global, steps: &[Step], out: &mut Vec<u8>) -> Result<(), All
 
 /// A truth.
 fn put_truth(truth: bool, out: &mut Vec<u8>) -> Result<(), AllocError>
-    ensures { OnOk result (out.new.items ≡ out.old.items ++ word (truth_text truth)) }
+    ensures { Appends result out.old out.new (word (truth_text truth)) }
 {
     if truth {
         put_word(b"true", out)
@@ -285,7 +284,7 @@ fn put_truth(truth: bool, out: &mut Vec<u8>) -> Result<(), AllocError>
 
 /// The number of a dep and the name of a method.
 fn put_called(alloc: Global, dep: u64, method: &Text, out: &mut Vec<u8>) -> Result<(), AllocError>
-    ensures { OnOk result (out.new.items ≡ out.old.items ++ applied (codes "called") (word (decimal dep) ++ (word (codes ",") ++ word method.now.bytes))) }
+    ensures { Appends result out.old out.new (called_text dep method.now) }
 {
     put_word(b"called", out)?;
     put_word(b"(", out)?;
@@ -297,7 +296,7 @@ fn put_called(alloc: Global, dep: u64, method: &Text, out: &mut Vec<u8>) -> Resu
 
 /// The number of a dep and the place of a returned value.
 fn put_depint(alloc: Global, dep: u64, value: u64, out: &mut Vec<u8>) -> Result<(), AllocError>
-    ensures { OnOk result (out.new.items ≡ out.old.items ++ applied (codes "depint") (word (decimal dep) ++ (word (codes ",") ++ word (decimal value)))) }
+    ensures { Appends result out.old out.new (depint_text dep value) }
 {
     put_word(b"depint", out)?;
     put_word(b"(", out)?;
@@ -309,7 +308,7 @@ fn put_depint(alloc: Global, dep: u64, value: u64, out: &mut Vec<u8>) -> Result<
 
 /// The kind of an empty list.
 fn put_empty(kind: &ValueKind, out: &mut Vec<u8>) -> Result<(), AllocError>
-    ensures { OnOk result (out.new.items ≡ out.old.items ++ (word (codes "empty") ++ kind_text kind.now)) }
+    ensures { Appends result out.old out.new (word (codes "empty") ++ kind_text kind.now) }
 {
     put_word(b"empty", out)?;
     put_kind(kind, out)
@@ -323,7 +322,7 @@ fn put_applied(
     inner: &Expr,
     out: &mut Vec<u8>,
 ) -> Result<(), AllocError>
-    ensures { OnOk result (out.new.items ≡ out.old.items ++ applied name.now (expr_text inner.now)) }
+    ensures { Appends result out.old out.new (applied name.now (expr_text inner.now)) }
 {
     put_word(name, out)?;
     put_grouped(alloc, inner, out)
@@ -332,7 +331,8 @@ fn put_applied(
 /// The first of two that are put together.
 #[cycle(spelling)]
 fn put_front(alloc: Global, front: &Expr, out: &mut Vec<u8>) -> Result<(), AllocError>
-    ensures { OnOk result (out.new.items ≡ out.old.items ++ (word (codes "concat") ++ (word (codes "(") ++ expr_text front.now))) }
+    ensures { Appends result out.old out.new (word (codes "concat")
+        ++ (word (codes "(") ++ expr_text front.now)) }
 {
     put_word(b"concat", out)?;
     put_word(b"(", out)?;
@@ -342,7 +342,8 @@ fn put_front(alloc: Global, front: &Expr, out: &mut Vec<u8>) -> Result<(), Alloc
 /// The second of two that are put together.
 #[cycle(spelling)]
 fn put_back(alloc: Global, back: &Expr, out: &mut Vec<u8>) -> Result<(), AllocError>
-    ensures { OnOk result (out.new.items ≡ out.old.items ++ (word (codes ",") ++ (expr_text back.now ++ word (codes ")")))) }
+    ensures { Appends result out.old out.new (word (codes ",")
+        ++ (expr_text back.now ++ word (codes ")"))) }
 {
     put_word(b",", out)?;
     put_expr(alloc, back, out)?;
@@ -352,7 +353,7 @@ fn put_back(alloc: Global, back: &Expr, out: &mut Vec<u8>) -> Result<(), AllocEr
 /// Items in brackets.
 #[cycle(spelling)]
 fn put_items(alloc: Global, items: &[Expr], out: &mut Vec<u8>) -> Result<(), AllocError>
-    ensures { OnOk result (out.new.items ≡ out.old.items ++ (word (codes "[") ++ (with_commas expr_text items.now ++ word (codes "]")))) }
+    ensures { Appends result out.old out.new (in_brackets (with_commas expr_text items.now)) }
 {
     put_word(b"[", out)?;
     put_list(alloc, items, out)?;
@@ -368,7 +369,7 @@ fn put_turned(
     inner: &Expr,
     out: &mut Vec<u8>,
 ) -> Result<(), AllocError>
-    ensures { OnOk result (out.new.items ≡ out.old.items ++ (word name.now ++ within tight (spelled inner.now))) }
+    ensures { Appends result out.old out.new (word name.now ++ within tight (spelled inner.now)) }
 {
     put_word(name, out)?;
     put_within(alloc, tight, inner, out)
@@ -378,7 +379,7 @@ fn put_turned(
 #[cycle(spelling)]
 #[tactic(auto, using(crate::proofs::Layers::texts))]
 pub fn put_expr(alloc: Global, expr: &Expr, out: &mut Vec<u8>) -> Result<(), AllocError>
-    ensures { OnOk result (out.new.items ≡ out.old.items ++ expr_text expr.now) }
+    ensures { Appends result out.old out.new (expr_text expr.now) }
 {
     match &expr.shape {
         Shape::Number(number) => put_number(alloc, *number, out),

@@ -1,7 +1,7 @@
 //! Printing kinds.
-ghost use Rattle.std.specs.Prelude.{◌≡◌, ◌++◌, codes, OnOk};
-ghost use Rattle.cs_lang_print.specs.Words.{word};
+ghost use Rattle.cs_lang_print.specs.Words.{Appends};
 ghost use Rattle.cs_lang_print.specs.Expressions.{kind_text};
+ghost use Rattle.cs_lang_print.specs.Spelling.{in_brackets};
 
 use crate::words::put_word;
 use cs_lang::ValueKind;
@@ -10,7 +10,7 @@ use std::alloc::AllocError;
 /// The kind of a list's items, in brackets.
 #[cycle(kinds)]
 fn put_items(items: &ValueKind, out: &mut Vec<u8>) -> Result<(), AllocError>
-    ensures { OnOk result (out.new.items ≡ out.old.items ++ (word (codes "[") ++ (kind_text items.now ++ word (codes "]")))) }
+    ensures { Appends result out.old out.new (in_brackets (kind_text items.now)) }
 {
     put_word(b"[", out)?;
     put_kind(items, out)?;
@@ -21,7 +21,7 @@ fn put_items(items: &ValueKind, out: &mut Vec<u8>) -> Result<(), AllocError>
 #[cycle(kinds)]
 #[tactic(auto, using(crate::proofs::KindTexts::kinds))]
 pub fn put_kind(kind: &ValueKind, out: &mut Vec<u8>) -> Result<(), AllocError>
-    ensures { OnOk result (out.new.items ≡ out.old.items ++ kind_text kind.now) }
+    ensures { Appends result out.old out.new (kind_text kind.now) }
 {
     match kind {
         ValueKind::Int => put_word(b"int", out),

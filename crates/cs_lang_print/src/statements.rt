@@ -1,9 +1,9 @@
 //! Printing statements, one on a line.
-ghost use Rattle.std.specs.Prelude.{◌≡◌, ◌++◌, codes, OnOk};
+ghost use Rattle.std.specs.Prelude.{◌++◌, codes};
 ghost use Rattle.std.specs.Fmt.{decimal};
-ghost use Rattle.cs_lang_print.specs.Words.{word, ending, each, behind_comma};
+ghost use Rattle.cs_lang_print.specs.Words.{word, each, behind_comma, Appends};
 ghost use Rattle.cs_lang_print.specs.Expressions.{expr_text};
-ghost use Rattle.cs_lang_print.specs.Statements.{name_text, arguments_text, bound_text, assigned, block_of, closed, statements_text, statement_text};
+ghost use Rattle.cs_lang_print.specs.Statements.{name_text, arguments_text, bound_text, assigned, block_until, block_text, statements_text, statement_text, make_text, call_text, answer_text};
 
 use crate::expressions::{put_expr, put_list};
 use crate::words::{put_ending, put_number, put_word};
@@ -12,14 +12,14 @@ use std::alloc::{AllocError, Global};
 
 /// A name.
 pub fn put_name(name: &Text, out: &mut Vec<u8>) -> Result<(), AllocError>
-    ensures { OnOk result (out.new.items ≡ out.old.items ++ name_text name.now) }
+    ensures { Appends result out.old out.new (name_text name.now) }
 {
     put_word(name.bytes.as_slice(), out)
 }
 
 /// A name behind a comma.
 fn put_other_name(name: &Text, out: &mut Vec<u8>) -> Result<(), AllocError>
-    ensures { OnOk result (out.new.items ≡ out.old.items ++ behind_comma name_text name.now) }
+    ensures { Appends result out.old out.new (behind_comma name_text name.now) }
 {
     put_word(b",", out)?;
     put_name(name, out)
@@ -27,7 +27,7 @@ fn put_other_name(name: &Text, out: &mut Vec<u8>) -> Result<(), AllocError>
 
 /// Names, each behind a comma.
 fn put_other_names(names: &[Text], out: &mut Vec<u8>) -> Result<(), AllocError>
-    ensures { OnOk result (out.new.items ≡ out.old.items ++ each (behind_comma name_text) names.now) }
+    ensures { Appends result out.old out.new (each (behind_comma name_text) names.now) }
 {
     for name in names {
         put_other_name(name, out)?;
@@ -37,7 +37,7 @@ fn put_other_names(names: &[Text], out: &mut Vec<u8>) -> Result<(), AllocError>
 
 /// The names that a call binds.
 fn put_bound(names: &[Text], out: &mut Vec<u8>) -> Result<(), AllocError>
-    ensures { OnOk result (out.new.items ≡ out.old.items ++ bound_text names.now) }
+    ensures { Appends result out.old out.new (bound_text names.now) }
 {
     match names {
         [] => Ok(()),
@@ -51,7 +51,7 @@ fn put_bound(names: &[Text], out: &mut Vec<u8>) -> Result<(), AllocError>
 
 /// Arguments in their parentheses.
 fn put_arguments(alloc: Global, items: &[Expr], out: &mut Vec<u8>) -> Result<(), AllocError>
-    ensures { OnOk result (out.new.items ≡ out.old.items ++ arguments_text items.now) }
+    ensures { Appends result out.old out.new (arguments_text items.now) }
 {
     put_word(b"(", out)?;
     put_list(alloc, items, out)?;
@@ -66,7 +66,7 @@ fn put_value(
     value: &Expr,
     out: &mut Vec<u8>,
 ) -> Result<(), AllocError>
-    ensures { OnOk result (out.new.items ≡ out.old.items ++ assigned first.now name.now value.now) }
+    ensures { Appends result out.old out.new (assigned first.now name.now value.now) }
 {
     put_word(first, out)?;
     put_name(name, out)?;
@@ -83,7 +83,7 @@ fn put_make(
     values: &[Expr],
     out: &mut Vec<u8>,
 ) -> Result<(), AllocError>
-    ensures { OnOk result (out.new.items ≡ out.old.items ++ (word (codes "make") ++ (name_text slot.now ++ (word (codes "=") ++ (name_text object.now ++ (arguments_text values.now ++ ending (codes ";"))))))) }
+    ensures { Appends result out.old out.new (make_text slot.now object.now values.now) }
 {
     put_word(b"make", out)?;
     put_name(slot, out)?;
@@ -101,7 +101,7 @@ fn put_call(
     arguments: &[Expr],
     out: &mut Vec<u8>,
 ) -> Result<(), AllocError>
-    ensures { OnOk result (out.new.items ≡ out.old.items ++ (word (codes "call") ++ (bound_text names.now ++ (name_text method.now ++ (arguments_text arguments.now ++ ending (codes ";")))))) }
+    ensures { Appends result out.old out.new (call_text names.now method.now arguments.now) }
 {
     put_word(b"call", out)?;
     put_bound(names, out)?;
@@ -112,7 +112,7 @@ fn put_call(
 
 /// What a check answers.
 fn put_answer(alloc: Global, value: &Expr, out: &mut Vec<u8>) -> Result<(), AllocError>
-    ensures { OnOk result (out.new.items ≡ out.old.items ++ (word (codes "answer") ++ (expr_text value.now ++ ending (codes ";")))) }
+    ensures { Appends result out.old out.new (answer_text value.now) }
 {
     put_word(b"answer", out)?;
     put_expr(alloc, value, out)?;
@@ -121,7 +121,7 @@ fn put_answer(alloc: Global, value: &Expr, out: &mut Vec<u8>) -> Result<(), Allo
 
 /// The condition of blocks.
 fn put_condition(alloc: Global, condition: &Expr, out: &mut Vec<u8>) -> Result<(), AllocError>
-    ensures { OnOk result (out.new.items ≡ out.old.items ++ (word (codes "if") ++ expr_text condition.now)) }
+    ensures { Appends result out.old out.new (word (codes "if") ++ expr_text condition.now) }
 {
     put_word(b"if", out)?;
     put_expr(alloc, condition, out)
@@ -129,7 +129,8 @@ fn put_condition(alloc: Global, condition: &Expr, out: &mut Vec<u8>) -> Result<(
 
 /// The items that a loop goes over.
 fn put_for_in(alloc: Global, name: &Text, list: &Expr, out: &mut Vec<u8>) -> Result<(), AllocError>
-    ensures { OnOk result (out.new.items ≡ out.old.items ++ (word (codes "for") ++ (name_text name.now ++ (word (codes "in") ++ expr_text list.now)))) }
+    ensures { Appends result out.old out.new (word (codes "for") ++ (name_text name.now
+        ++ (word (codes "in") ++ expr_text list.now))) }
 {
     put_word(b"for", out)?;
     put_name(name, out)?;
@@ -146,7 +147,8 @@ fn put_for_to(
     block: &Block,
     out: &mut Vec<u8>,
 ) -> Result<(), AllocError>
-    ensures { OnOk result (out.new.items ≡ out.old.items ++ (word (codes "for") ++ (name_text name.now ++ ((word (codes "to") ++ word (decimal count)) ++ closed (statements_text block.now))))) }
+    ensures { Appends result out.old out.new (word (codes "for") ++ (name_text name.now
+        ++ ((word (codes "to") ++ word (decimal count)) ++ block_text (statements_text block.now)))) }
 {
     put_word(b"for", out)?;
     put_name(name, out)?;
@@ -159,7 +161,7 @@ fn put_for_to(
 #[cycle(printing)]
 #[tactic(auto, using(crate::proofs::Actions::actions))]
 fn put_statement(alloc: Global, one: &Statement, out: &mut Vec<u8>) -> Result<(), AllocError>
-    ensures { OnOk result (out.new.items ≡ out.old.items ++ statement_text one.now) }
+    ensures { Appends result out.old out.new (statement_text one.now) }
 {
     match &one.action {
         Action::Let(name, value) => put_value(alloc, b"let", name, value, out),
@@ -191,7 +193,7 @@ fn put_statement(alloc: Global, one: &Statement, out: &mut Vec<u8>) -> Result<()
 /// Statements.
 #[cycle(printing)]
 fn put_all(alloc: Global, statements: &[Statement], out: &mut Vec<u8>) -> Result<(), AllocError>
-    ensures { OnOk result (out.new.items ≡ out.old.items ++ each statement_text statements.now) }
+    ensures { Appends result out.old out.new (each statement_text statements.now) }
 {
     for one in statements {
         put_statement(alloc, one, out)?;
@@ -203,7 +205,7 @@ fn put_all(alloc: Global, statements: &[Statement], out: &mut Vec<u8>) -> Result
 #[cycle(printing)]
 #[tactic(auto, using(crate::proofs::Actions::blocks))]
 fn put_statements(alloc: Global, block: &Block, out: &mut Vec<u8>) -> Result<(), AllocError>
-    ensures { OnOk result (out.new.items ≡ out.old.items ++ statements_text block.now) }
+    ensures { Appends result out.old out.new (statements_text block.now) }
 {
     put_all(alloc, block.statements.as_slice(), out)
 }
@@ -211,7 +213,8 @@ fn put_statements(alloc: Global, block: &Block, out: &mut Vec<u8>) -> Result<(),
 /// A block with `else` behind it.
 #[cycle(printing)]
 fn put_block_before_else(alloc: Global, block: &Block, out: &mut Vec<u8>) -> Result<(), AllocError>
-    ensures { OnOk result (out.new.items ≡ out.old.items ++ (block_of (word (codes "}")) (statements_text block.now) ++ word (codes "else"))) }
+    ensures { Appends result out.old out.new
+        (block_until (word (codes "}")) (statements_text block.now) ++ word (codes "else")) }
 {
     put_ending(b"{", out)?;
     put_statements(alloc, block, out)?;
@@ -222,7 +225,7 @@ fn put_block_before_else(alloc: Global, block: &Block, out: &mut Vec<u8>) -> Res
 /// A block in its braces.
 #[cycle(printing)]
 pub fn put_block(alloc: Global, block: &Block, out: &mut Vec<u8>) -> Result<(), AllocError>
-    ensures { OnOk result (out.new.items ≡ out.old.items ++ closed (statements_text block.now)) }
+    ensures { Appends result out.old out.new (block_text (statements_text block.now)) }
 {
     put_ending(b"{", out)?;
     put_statements(alloc, block, out)?;

@@ -1,7 +1,7 @@
 //! Tokens of a printed text.
-ghost use Rattle.std.specs.Prelude.{◌≡◌, ◌<◌, ◌++◌, OnOk};
+ghost use Rattle.std.specs.Prelude.{◌≡◌, ◌<◌};
 ghost use Rattle.std.specs.Fmt.{decimal};
-ghost use Rattle.cs_lang_print.specs.Words.{word, ending, hex_digit, hex_text, quoted, operator_text, comparison_text};
+ghost use Rattle.cs_lang_print.specs.Words.{word, ending, hex_digit, hex_text, quoted, operator_text, comparison_text, Appends};
 
 use cs_lang::{Comparison, Operator};
 use std::alloc::{AllocError, Global};
@@ -9,7 +9,7 @@ use std::alloc::{AllocError, Global};
 /// A token on a line, and a space.
 #[tactic(auto, unfolding(crate::specs::Words::word))]
 pub fn put_word(token: &[u8], out: &mut Vec<u8>) -> Result<(), AllocError>
-    ensures { OnOk result (out.new.items ≡ out.old.items ++ word token.now) }
+    ensures { Appends result out.old out.new (word token.now) }
 {
     out.extend_from_slice(token)?;
     out.extend_from_slice(b" ")
@@ -18,7 +18,7 @@ pub fn put_word(token: &[u8], out: &mut Vec<u8>) -> Result<(), AllocError>
 /// The last token of a line, and a break.
 #[tactic(auto, unfolding(crate::specs::Words::ending))]
 pub fn put_ending(token: &[u8], out: &mut Vec<u8>) -> Result<(), AllocError>
-    ensures { OnOk result (out.new.items ≡ out.old.items ++ ending token.now) }
+    ensures { Appends result out.old out.new (ending token.now) }
 {
     out.extend_from_slice(token)?;
     out.extend_from_slice(b"\n")
@@ -38,7 +38,7 @@ fn hex_digit(number: u8) -> u8
 
 /// Two hex digits for each byte.
 fn put_hex(bytes: &[u8], out: &mut Vec<u8>) -> Result<(), AllocError>
-    ensures { OnOk result (out.new.items ≡ out.old.items ++ hex_text bytes.now) }
+    ensures { Appends result out.old out.new (hex_text bytes.now) }
 {
     for byte in bytes {
         let digits = [hex_digit(*byte / 16), hex_digit(*byte % 16)];
@@ -50,7 +50,7 @@ fn put_hex(bytes: &[u8], out: &mut Vec<u8>) -> Result<(), AllocError>
 /// A byte text on a line.
 #[tactic(auto, unfolding(crate::specs::Words::quoted))]
 pub fn put_quoted(bytes: &[u8], out: &mut Vec<u8>) -> Result<(), AllocError>
-    ensures { OnOk result (out.new.items ≡ out.old.items ++ quoted bytes.now) }
+    ensures { Appends result out.old out.new (quoted bytes.now) }
 {
     out.extend_from_slice(b"x\"")?;
     put_hex(bytes, out)?;
@@ -59,7 +59,7 @@ pub fn put_quoted(bytes: &[u8], out: &mut Vec<u8>) -> Result<(), AllocError>
 
 /// A number on a line.
 pub fn put_number(alloc: Global, number: u64, out: &mut Vec<u8>) -> Result<(), AllocError>
-    ensures { OnOk result (out.new.items ≡ out.old.items ++ word (decimal number)) }
+    ensures { Appends result out.old out.new (word (decimal number)) }
 {
     let text = format!(in alloc; "{number}")?;
     put_word(text.as_bytes(), out)
@@ -67,7 +67,7 @@ pub fn put_number(alloc: Global, number: u64, out: &mut Vec<u8>) -> Result<(), A
 
 /// An operator on a line.
 pub fn put_operator(operator: Operator, out: &mut Vec<u8>) -> Result<(), AllocError>
-    ensures { OnOk result (out.new.items ≡ out.old.items ++ word (operator_text operator)) }
+    ensures { Appends result out.old out.new (word (operator_text operator)) }
 {
     match operator {
         Operator::Or => put_word(b"or", out),
@@ -82,7 +82,7 @@ pub fn put_operator(operator: Operator, out: &mut Vec<u8>) -> Result<(), AllocEr
 
 /// A comparison on a line.
 pub fn put_comparison(comparison: Comparison, out: &mut Vec<u8>) -> Result<(), AllocError>
-    ensures { OnOk result (out.new.items ≡ out.old.items ++ word (comparison_text comparison)) }
+    ensures { Appends result out.old out.new (word (comparison_text comparison)) }
 {
     match comparison {
         Comparison::Equal => put_word(b"==", out),

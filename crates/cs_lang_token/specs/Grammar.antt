@@ -79,12 +79,15 @@ refused_at ts = Err ts
 abbrev pub links : {X : Type 0} → (Bool → Rule X) → ℕ → Rule (List X)
 links R left [] ms = ms ≡ []
 links R zero (x ∷ xs) ms = (a : List Mark) × (b : List Mark) × (ms ≡ a ++ b) × R false x a × links R zero xs b
-links R (suc left) (x ∷ xs) ms = (a : List Mark) × (b : List Mark) × (ms ≡ a ++ b) × R true x a × links R left xs b
+links R (suc left) (x ∷ xs) ms =
+    (a : List Mark) × (b : List Mark) × (ms ≡ a ++ b) × R true x a × links R left xs b
 
 abbrev pub links_at : {X : Type 0} → (Token → Bool) → Reader X → ℕ → Reader (List X)
 links_at first r zero ts = if begins first ts then Err ts else Ok ([], ts)
 links_at first r (suc left) ts =
-    if begins first ts then (r ts >>= λ x. links_at first r left x.1 >>= λ xs. Ok (x.0 ∷ xs.0, xs.1)) else Ok ([], ts)
+    if begins first ts
+    then (r ts >>= λ x. links_at first r left x.1 >>= λ xs. Ok (x.0 ∷ xs.0, xs.1))
+    else Ok ([], ts)
 
 -- a row without a limit
 abbrev pub many : {X : Type 0} → Rule X → Rule (List X)
@@ -119,9 +122,14 @@ pub record Begins {X : Type 0} (R : Rule X) (ts bad : List Token) : Type 0 where
 
 -- A reader is that of a rule, where no token that goes_on follows.
 pub record IsReader {X : Type 0} (Enough : Type 0) (R : Rule X) (goes_on : Token → Bool) (r : Reader X) : Type 0 where
-  pub reads : (x : X) (ms : List Mark) (rest : List Token) → R x ms → begins goes_on rest ≡ false → r (plain ms ++ rest) ≡ after ms rest (x, rest)
+  pub reads : (x : X) (ms : List Mark) (rest : List Token) → R x ms → begins goes_on rest ≡ false
+      → r (plain ms ++ rest) ≡ after ms rest (x, rest)
   pub found : Enough → (ts : List Token) (x : X) (rest : List Token) → r ts ≡ Ok (x, rest) → Found R ts x rest
   pub stuck : Enough → (ts bad : List Token) → r ts ≡ Err bad → Begins R ts bad
-  pub same_ok : Enough → (p q : List Token) (t : Token) (us vs : List Token) (x : X) → r (p ++ t ∷ us) ≡ Ok (x, q ++ t ∷ us) → r (p ++ t ∷ vs) ≡ Ok (x, q ++ t ∷ vs)
-  pub same_err : Enough → (p q : List Token) (t : Token) (us vs : List Token) → r (p ++ t ∷ us) ≡ Err (q ++ t ∷ us) → r (p ++ t ∷ vs) ≡ Err (q ++ t ∷ vs)
+  pub same_ok : Enough → (p q : List Token) (t : Token) (us vs : List Token) (x : X)
+      → r (p ++ t ∷ us) ≡ Ok (x, q ++ t ∷ us)
+      → r (p ++ t ∷ vs) ≡ Ok (x, q ++ t ∷ vs)
+  pub same_err : Enough → (p q : List Token) (t : Token) (us vs : List Token)
+      → r (p ++ t ∷ us) ≡ Err (q ++ t ∷ us)
+      → r (p ++ t ∷ vs) ≡ Err (q ++ t ∷ vs)
   pub some : Enough → (x : X) × (ms : List Mark) × R x ms

@@ -23,7 +23,8 @@ pub record CanBegin {X : Type 0} (Spells : ℕ → Rule X) (ts : List Token) : T
   pub tokens : plain marks ≡ ts
   pub within : Within marks
 
--- The tokens are no text, and bad begins with the first token with which none can go on; it is empty where one could go on.
+-- The tokens are no text, and bad begins with the first token with which none can go on;
+-- it is empty where one could go on.
 pub record IsRefused {X : Type 0} (Spells : ℕ → Rule X) (ts bad : List Token) : Type 0 where
   pub before : List Token
   pub parts : ts ≡ before ++ bad

@@ -1,11 +1,12 @@
 -- The tokens of a text.
-use Rattle.std.specs.Prelude.{◌≡◌, ℕ, zero, suc, ◌+◌, ◌*◌, ◌-◌, Bool, true, false, not, nat_le, ◌==◌, ◌&&◌, ◌||◌, List, [], ◌∷◌, ◌++◌, ◌%◌, length, take, drop, position, unwrap_or, codes, Option, None, Some, Result, Ok, Err, if◌then◌else◌}
+use Rattle.std.specs.Prelude.{◌≡◌, ℕ, zero, suc, ◌+◌, ◌*◌, ◌-◌, Bool, true, false, not, nat_le, ◌<◌, ◌≤◌, ◌==◌, ◌&&◌, ◌||◌, List, [], ◌∷◌, ◌++◌, ◌%◌, length, take, drop, position, unwrap_or, codes, Option, None, Some, Result, Ok, Err, if◌then◌else◌}
 use Rattle.std.specs.Str.{bytes_eq}
 use Rattle.cs_lang_token.specs.declared.token.Token.{Token}
 use Rattle.cs_lang_token.specs.declared.kind.Kind.{Kind}
 use Rattle.cs_lang_token.specs.declared.kind.Kind.TheVariants as kind
 use Rattle.cs_lang_token.specs.declared.lexeme.Lexeme.{Lexeme}
 use Rattle.cs_lang_token.specs.Grammar.{◌>>=◌}
+use Rattle.cs_base.specs.Options.{or_else}
 
 -- ---- characters
 
@@ -81,6 +82,10 @@ kind_of_word word =
     else if bytes_eq word (codes "check") then kind.Check
     else kind_of_statement_word word
 
+-- It has a byte at least, and no more than there are.
+abbrev pub HasBytes : Lexeme → ℕ → Type 0
+HasBytes x most = (0 < x.length) × (x.length ≤ most)
+
 -- as many name characters as there are, up to 32
 abbrev pub word_at : List ℕ → Lexeme
 word_at bytes = let word = take (run_length is_name_character (take 32 bytes)) bytes in
@@ -98,7 +103,8 @@ number_from value (c ∷ cs) =
 abbrev pub number_at : ℕ → List ℕ → Lexeme
 number_at first rest =
     if first == 48 then record { kind = kind.Number; number = 0; bytes = []; length = 1 }
-    else (let r = number_from (first - 48) rest in record { kind = kind.Number; number = r.0; bytes = []; length = r.1 + 1 })
+    else (let r = number_from (first - 48) rest in
+    record { kind = kind.Number; number = r.0; bytes = []; length = r.1 + 1 })
 
 abbrev pub hex_value : ℕ → ℕ
 hex_value c = if is_digit c then c - 48 else if is_hex c then c - 87 else 0
@@ -119,7 +125,9 @@ is_first c = starts (λ b. b == c)
 -- behind the quote: an even number of hexadecimal digits, at most 512 of them, and a quote
 abbrev pub quoted_at : List ℕ → Option Lexeme
 quoted_at rest = let n = run_length is_hex (take 512 rest) in
-    if n % 2 == 0 && is_first 34 (drop n rest) then Some (record { kind = kind.Bytes; number = 0; bytes = hex_bytes (take n rest); length = n + 3 }) else None
+    if n % 2 == 0 && is_first 34 (drop n rest)
+    then Some (record { kind = kind.Bytes; number = 0; bytes = hex_bytes (take n rest); length = n + 3 })
+    else None
 
 -- x and a quote, and what belongs behind them
 abbrev pub byte_text_at : List ℕ → Option Lexeme
@@ -167,19 +175,19 @@ abbrev pub signed : ℕ → Option Kind → Option Lexeme
 signed length None = None
 signed length (Some k) = Some (record { kind = k; number = 0; bytes = []; length = length })
 
-abbrev pub or_else : Option Lexeme → Option Lexeme → Option Lexeme
-or_else (Some x) other = Some x
-or_else None other = other
-
 -- a sign of two characters, else one of one
 abbrev pub sign_at : ℕ → List ℕ → Option Lexeme
 sign_at c rest = or_else (if is_first 61 rest then signed 2 (two_sign c) else None) (signed 1 (one_sign c))
+
+-- a byte text, else a word
+abbrev pub byte_text_or_word_at : List ℕ → Option Lexeme
+byte_text_or_word_at bytes = or_else (byte_text_at bytes) (Some (word_at bytes))
 
 -- the longest token at the front of a text
 abbrev pub lexeme_at : List ℕ → Option Lexeme
 lexeme_at [] = None
 lexeme_at (c ∷ cs) =
-    if is_letter c then or_else (byte_text_at (c ∷ cs)) (Some (word_at (c ∷ cs)))
+    if is_letter c then byte_text_or_word_at (c ∷ cs)
     else if is_digit c then Some (number_at c cs)
     else sign_at c cs
 
@@ -200,11 +208,19 @@ abbrev pub token_piece : ℕ → Option Lexeme → Option (List Token × ℕ)
 token_piece place None = None
 token_piece place (Some x) = Some (token_of place x ∷ [], x.length)
 
--- what stands at the front: the tokens, of which there is one at most, and how many bytes they have; None where no token begins
+-- what stands at the front: the tokens, of which there is one at most, and how many bytes they have;
+-- None where no token begins
 abbrev pub piece_at : ℕ → List ℕ → Option (List Token × ℕ)
-piece_at place bytes = if 0 == blank_length bytes then token_piece place (lexeme_at bytes) else Some ([], blank_length bytes)
+piece_at place bytes =
+    if 0 == blank_length bytes then token_piece place (lexeme_at bytes) else Some ([], blank_length bytes)
 
-abbrev pub after_piece : ℕ → List ℕ → Option (List Token × ℕ) → (ℕ → List ℕ → Result (List Token) ℕ) → Result (List Token) ℕ
+-- what stands at the front has so many bytes, and its tokens come behind the others
+abbrev pub AddsPiece : ℕ → List ℕ → ℕ → List Token → List Token → Type 0
+AddsPiece place bytes count old new =
+    (more : List Token) × (piece_at place bytes ≡ Some (more, count)) × (new ≡ old ++ more)
+
+abbrev pub after_piece : ℕ → List ℕ → Option (List Token × ℕ) → (ℕ → List ℕ → Result (List Token) ℕ)
+    → Result (List Token) ℕ
 after_piece place bytes None others = Err place
 after_piece place bytes (Some p) others = others (place + p.1) (drop p.1 bytes) >>= λ ts. Ok (p.0 ++ ts)
 

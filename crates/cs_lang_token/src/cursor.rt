@@ -6,8 +6,8 @@ ghost use Rattle.cs_lang_token.specs.Rules.{sign_at, name_at, bytes_at, number_a
 ghost use Rattle.cs_lang_token.specs.Answers.{Gives, place_of};
 
 use crate::kind::Kind;
-use crate::sequence::Sequence;
 use crate::token::{Number, Text, Token};
+use cs_base::Sequence;
 use std::alloc::{AllocError, AllocFailed, Global};
 use std::marker::Model;
 
@@ -140,10 +140,10 @@ impl<'a> Cursor<'a> {
                 if !token.is(Kind::Name) {
                     return Err(Stop::Syntax);
                 }
-                let bytes = Sequence::from_slice(alloc, token.bytes.as_slice())?;
+                let bytes = Vec::from_slice(alloc, token.bytes.as_slice())?;
                 self.rest = rest;
                 Ok(Text {
-                    bytes,
+                    bytes: Sequence::from_vec(bytes),
                     place: token.place,
                 })
             }
@@ -160,10 +160,10 @@ impl<'a> Cursor<'a> {
                 if !token.is(Kind::Bytes) {
                     return Err(Stop::Syntax);
                 }
-                let bytes = Sequence::from_slice(alloc, token.bytes.as_slice())?;
+                let bytes = Vec::from_slice(alloc, token.bytes.as_slice())?;
                 self.rest = rest;
                 Ok(Text {
-                    bytes,
+                    bytes: Sequence::from_vec(bytes),
                     place: token.place,
                 })
             }

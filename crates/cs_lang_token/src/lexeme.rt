@@ -1,9 +1,10 @@
 //! The longest token at the front of a text.
 ghost use Rattle.std.specs.Prelude.{◌≡◌, ℕ, ◌+◌, ◌<◌, ◌≤◌, ◌==◌, ◌∷◌, List, true, not, position, take, length, Some, IfOk, IfSome};
-ghost use Rattle.cs_lang_token.specs.Tokens.{is_blank, is_digit, is_letter, is_name_character, is_hex, is_first, starts, run_length, kind_of_word, kind_of_statement_word, kind_of_logic_word, kind_of_value_word, word_at, number_from, number_at, hex_value, hex_bytes, quoted_at, byte_text_at, operator_sign, one_sign, two_sign, sign_at, or_else, lexeme_at, blank_length};
+ghost use Rattle.cs_lang_token.specs.Tokens.{is_blank, is_digit, is_letter, is_name_character, is_hex, is_first, starts, run_length, kind_of_word, kind_of_statement_word, kind_of_logic_word, kind_of_value_word, word_at, number_from, number_at, hex_value, hex_bytes, quoted_at, byte_text_at, operator_sign, one_sign, two_sign, sign_at, HasBytes, byte_text_or_word_at, lexeme_at, blank_length};
 
 use crate::kind::Kind;
-use crate::sequence::Sequence;
+use crate::limits::{MOST_DIGITS, MOST_NAME, MOST_NUMBER};
+use cs_base::Sequence;
 use std::alloc::{AllocError, Global};
 
 /// A token at the front of a text, and how many bytes it has.
@@ -14,8 +15,6 @@ pub struct Lexeme {
     pub bytes: Sequence<u8>,
     pub length: usize,
 }
-
-const MOST_NUMBER: u128 = 9_223_372_036_854_775_807;
 
 fn is_blank(c: u8) -> bool
     ensures { result ≡ is_blank c }
@@ -220,14 +219,14 @@ fn kind_of_word(word: &[u8]) -> Kind
 fn word(alloc: Global, bytes: &[u8]) -> Result<Lexeme, AllocError>
     requires { starts is_letter bytes.now ≡ true }
     ensures value { IfOk result (λ x. x ≡ word_at bytes.now) }
-    ensures bound { IfOk result (λ x. (0 < x.length) × (x.length ≤ length bytes.now)) }
+    ensures bound { IfOk result (λ x. HasBytes x (length bytes.now)) }
 {
-    let length = name_length(front(bytes, 32));
+    let length = name_length(front(bytes, MOST_NAME));
     let word = front(bytes, length);
     Ok(Lexeme {
         kind: kind_of_word(word),
         number: 0,
-        bytes: Sequence::from_slice(alloc, word)?,
+        bytes: Sequence::from_vec(Vec::from_slice(alloc, word)?),
         length,
     })
 }
@@ -254,7 +253,7 @@ fn number_from(value: u64, digits: &[u8]) -> (u64, usize)
 fn number(alloc: Global, first: u8, rest: &[u8]) -> Lexeme
     requires { (48 ≤ first) × (first ≤ 57) }
     ensures value { result ≡ number_at first rest.now }
-    ensures bound { (0 < result.length) × (result.length ≤ length rest.now + 1) }
+    ensures bound { HasBytes result (length rest.now + 1) }
 {
     if first == b'0' {
         return Lexeme {
@@ -300,11 +299,11 @@ fn hex_bytes(alloc: Global, digits: &[u8]) -> Result<Sequence<u8>, AllocError>
 }
 
 /// What belongs behind the quote of a byte text.
-fn quoted(alloc: Global, rest: &[u8]) -> Result<Option<Lexeme>, AllocError>
+fn quoted_bytes(alloc: Global, rest: &[u8]) -> Result<Option<Lexeme>, AllocError>
     ensures value { IfOk result (λ x. x ≡ quoted_at rest.now) }
-    ensures bound { IfOk result (λ found. IfSome found (λ x. (0 < x.length) × (x.length ≤ length rest.now + 2))) }
+    ensures bound { IfOk result (λ found. IfSome found (λ x. HasBytes x (length rest.now + 2))) }
 {
-    let count = hex_length(front(rest, 512));
+    let count = hex_length(front(rest, MOST_DIGITS));
     let (digits, behind) = rest.split_at(count);
     if count % 2 == 0 && is_first(b'"', behind) {
         return Ok(Some(Lexeme {
@@ -320,12 +319,12 @@ fn quoted(alloc: Global, rest: &[u8]) -> Result<Option<Lexeme>, AllocError>
 /// A byte text, where there is one.
 fn byte_text(alloc: Global, bytes: &[u8]) -> Result<Option<Lexeme>, AllocError>
     ensures value { IfOk result (λ x. x ≡ byte_text_at bytes.now) }
-    ensures bound { IfOk result (λ found. IfSome found (λ x. (0 < x.length) × (x.length ≤ length bytes.now))) }
+    ensures bound { IfOk result (λ found. IfSome found (λ x. HasBytes x (length bytes.now))) }
 {
     match bytes {
         [c, d, rest @ ..] => {
             if *c == b'x' && *d == b'"' {
-                return quoted(alloc, rest);
+                return quoted_bytes(alloc, rest);
             }
             Ok(None)
         }
@@ -384,7 +383,7 @@ fn two_sign(c: u8) -> Option<Kind>
 /// A sign, where there is one.
 fn sign(alloc: Global, c: u8, rest: &[u8]) -> Option<Lexeme>
     ensures value { result ≡ sign_at c rest.now }
-    ensures bound { IfSome result (λ x. (0 < x.length) × (x.length ≤ length rest.now + 1)) }
+    ensures bound { IfSome result (λ x. HasBytes x (length rest.now + 1)) }
 {
     if is_first(b'=', rest) {
         if let Some(kind) = two_sign(c) {
@@ -405,11 +404,11 @@ fn sign(alloc: Global, c: u8, rest: &[u8]) -> Option<Lexeme>
     })
 }
 
-/// A word or a byte text.
-fn worded(alloc: Global, bytes: &[u8]) -> Result<Lexeme, AllocError>
+/// A byte text, or else a word.
+fn byte_text_or_word(alloc: Global, bytes: &[u8]) -> Result<Lexeme, AllocError>
     requires { starts is_letter bytes.now ≡ true }
-    ensures value { IfOk result (λ x. Some x ≡ or_else (byte_text_at bytes.now) (Some (word_at bytes.now))) }
-    ensures bound { IfOk result (λ x. (0 < x.length) × (x.length ≤ length bytes.now)) }
+    ensures value { IfOk result (λ x. Some x ≡ byte_text_or_word_at bytes.now) }
+    ensures bound { IfOk result (λ x. HasBytes x (length bytes.now)) }
 {
     if let Some(found) = byte_text(alloc, bytes)? {
         return Ok(found);
@@ -420,13 +419,13 @@ fn worded(alloc: Global, bytes: &[u8]) -> Result<Lexeme, AllocError>
 /// The longest token at the front, where there is one.
 pub fn longest(alloc: Global, bytes: &[u8]) -> Result<Option<Lexeme>, AllocError>
     ensures value { IfOk result (λ x. x ≡ lexeme_at bytes.now) }
-    ensures bound { IfOk result (λ found. IfSome found (λ x. (0 < x.length) × (x.length ≤ length bytes.now))) }
+    ensures bound { IfOk result (λ found. IfSome found (λ x. HasBytes x (length bytes.now))) }
 {
     match bytes {
         [] => Ok(None),
         [c, rest @ ..] => {
             if is_letter(*c) {
-                return Ok(Some(worded(alloc, bytes)?));
+                return Ok(Some(byte_text_or_word(alloc, bytes)?));
             }
             if is_digit(*c) {
                 return Ok(Some(number(alloc, *c, rest)));

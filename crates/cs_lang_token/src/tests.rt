@@ -62,20 +62,9 @@ fn places_where_no_token_begins(rt: HostRuntime) -> Result<(), Fail> {
 }
 
 #[test]
-fn boxes_and_sequences(rt: HostRuntime) -> Result<(), Fail> {
+fn boxes(rt: HostRuntime) -> Result<(), Fail> {
     let boxed = Boxed::new(rt.alloc(), 7u8)?;
     assert_eq!(rt; *boxed.get(), 7);
     assert_eq!(rt; boxed.into_inner(), 7);
-    let mut all = Sequence::new(rt.alloc());
-    assert!(rt; all.is_empty());
-    all.push(2u8)?;
-    all.push_front(1u8)?;
-    assert_eq!(rt; all.as_slice(), [1u8, 2].as_slice());
-    let back = Sequence::from_vec(all.into_vec());
-    assert_eq!(rt; back.len(), 2);
-    assert_eq!(rt;
-        Sequence::from_slice(rt.alloc(), back.as_slice())?.as_slice(),
-        [1u8, 2].as_slice()
-    );
     Ok(())
 }

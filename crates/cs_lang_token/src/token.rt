@@ -3,7 +3,7 @@ ghost use Rattle.std.specs.Prelude.{◌≡◌, ◌∷◌, []};
 ghost use Rattle.cs_lang_token.specs.Kinds.{is};
 
 use crate::kind::Kind;
-use crate::sequence::Sequence;
+use cs_base::Sequence;
 
 /// A token: what it is, the number that it spells, the characters of a name or the bytes of a byte
 /// text, and the offset at which it stands. What a token of its kind doesn't spell is 0 or empty.

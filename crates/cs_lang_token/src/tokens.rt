@@ -1,8 +1,7 @@
 //! The tokens of a text.
-ghost use Rattle.std.specs.Prelude.{◌≡◌, ◌<◌, ◌≤◌, ◌++◌, List, Some, None, Ok, Err, length, IfOk, IfErr};
-ghost use Rattle.cs_lang_token.specs.Tokens.{piece_at, tokens_of};
+ghost use Rattle.std.specs.Prelude.{◌≡◌, ◌<◌, ◌≤◌, None, Ok, Err, length, IfOk, IfErr};
+ghost use Rattle.cs_lang_token.specs.Tokens.{piece_at, AddsPiece, tokens_of};
 ghost use Rattle.cs_lang_token.specs.Lexing.{IfBad};
-ghost use Rattle.cs_lang_token.specs.declared.token.Token.{Token as Read};
 
 use crate::lexeme::{blank_length, longest};
 use crate::token::Token;
@@ -46,9 +45,10 @@ fn piece(
     bytes: &[u8],
     tokens: &mut Vec<Token>,
 ) -> Result<usize, LexError>
-    ensures ok { IfOk result (λ n. (more : List Read) × (piece_at place bytes.now ≡ Some (more, n)) × (tokens.new.items ≡ tokens.old.items ++ more)) }
+    ensures ok { IfOk result (λ n. AddsPiece place bytes.now n tokens.old.items tokens.new.items) }
     ensures bound { IfOk result (λ n. 0 < length bytes.now → (0 < n) × (n ≤ length bytes.now)) }
-    ensures bad { IfErr result (λ e. IfBad e (λ at. (at ≡ place) × (piece_at place bytes.now ≡ None))) }
+    ensures bad { IfErr result
+        (λ e. IfBad e (λ at. (at ≡ place) × (piece_at place bytes.now ≡ None))) }
 {
     let blank = blank_length(bytes);
     if blank > 0 {

@@ -2,7 +2,8 @@
 use Rattle.std.proofs.Common.{◌≡◌, ◌≤◌, [], ◌∷◌, ◌++◌, length, Bool, true, false, Option, Some, None, refl, sym, ap, ◌∙◌, arith, length-append}
 use Rattle.std.specs.Prelude.{bytes_eq, if◌then◌else◌}
 use Rattle.std.proofs.lemmas.Bool.{ltb-false, le-ltb}
-use Rattle.cs_ledger.specs.Ledger.{Bytes, or_else}
+use Rattle.cs_ledger.specs.Ledger.{Bytes}
+use Rattle.cs_base.specs.Options.{or_else}
 use Rattle.cs_ledger.specs.Table.{Vote, Commit, Abort, Book, State, Unknown, Active, Locked, Inactive, is_held_by, is_inactive, vote_in, has_room, locked, made}
 use Rattle.cs_ledger.proofs.Basics.{bytes_refl, bytes_differ}
 

@@ -1,5 +1,6 @@
 -- The plain ledger. It has no shards, votes, locks, sessions or messages.
 use Rattle.std.specs.Prelude.{◌≡◌, ℕ, Bool, true, false, not, ◌&&◌, ◌||◌, ◌⊎◌, List, [], ◌∷◌, ◌++◌, Option, Some, None, bytes_eq, if◌then◌else◌}
+use Rattle.cs_base.specs.Options.{or_else}
 
 -- the 32 bytes of a name or a digest, or the encoding of an object
 abbrev pub Bytes : Type 0
@@ -57,10 +58,6 @@ is_well_formed tx = not (is_empty tx.inputs) && (uses_once tx && tx.sound)
 abbrev pub object_at : List Item → Bytes → Option Bytes
 object_at [] name = None
 object_at (item ∷ items) name = if bytes_eq name item.name then Some item.object else object_at items name
-
-abbrev pub or_else : {A : Type 0} → Option A → Option A → Option A
-or_else (Some x) other = Some x
-or_else None other = other
 
 pub record Ledger : Type 0 where
   pub active : Bytes → Option Bytes  -- the object under each name

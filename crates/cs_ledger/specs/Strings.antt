@@ -82,7 +82,8 @@ places_of (output ∷ outputs) = output.place ∷ places_of outputs
 pub data IsString (hash : Bytes → Bytes) (origins : List Origin) (written : List WrittenSession) : Bytes → Type 0 where
   Genesis : (origin : Origin) → IsIn origin origins → IsString hash origins written (genesis_string origin)
   OfSession : (x : WrittenSession) → IsIn x written → IsString hash origins written (session_string x)
-  OfTransaction : (x : WrittenSession) → IsIn x written → IsString hash origins written (transaction_string x.transaction)
+  OfTransaction : (x : WrittenSession) → IsIn x written
+      → IsString hash origins written (transaction_string x.transaction)
   OfOutput : (x : WrittenSession) (output : Output) → IsIn x written → IsIn output x.transaction.outputs →
       IsString hash origins written (output_string hash x.transaction output)
 

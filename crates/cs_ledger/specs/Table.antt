@@ -1,5 +1,6 @@
 -- The table of a shard, and what executing an entry does to it.
 use Rattle.std.specs.Prelude.{ℕ, ◌+◌, ◌-◌, ◌^◌, Bool, true, false, not, ◌&&◌, ◌||◌, List, [], ◌∷◌, ◌++◌, length, Option, Some, None, bytes_eq, ◌==◌, nat_lt, if◌then◌else◌}
+use Rattle.cs_base.specs.declared.limits.TheConstants.{BOOK_PLACES, MOST_PLACES}
 use Rattle.cs_ledger.specs.Ledger.{Bytes, is_empty}
 use Rattle.cs_ledger.specs.Session.{Session, Rules, Key, Object, Dummy, Piece, key_eq, has_key, object_under, objects_in, dummies_in, used_up, read_only, anchor, concerns, well_formed}
 
@@ -81,7 +82,11 @@ vote_in (place ∷ book) d = if bytes_eq d place.0 then Some place.1 else vote_i
 
 -- else the record is worn
 abbrev pub has_room : Book → Bool
-has_room book = nat_lt (length book) 1024
+has_room book = nat_lt (length book) BOOK_PLACES
+
+-- the vote of a session that is aborted still has a place
+abbrev pub has_place : Book → Bool
+has_place book = nat_lt (length book) MOST_PLACES
 
 -- each key is Active with exactly the carried object
 abbrev pub all_ready : Table → List Piece → Bool
@@ -146,11 +151,18 @@ with_vote t anchor d vote =
 abbrev pub voted : Table → Vote → Outcome
 voted t vote = record { table = t; effect = Voted vote }
 
--- the keys here are all Active with exactly the carried objects, and the anchor's book has room, or not
+-- the keys here are all Active with exactly the carried objects, or one of them is not
+abbrev pub prepare_fresh : Table → Bytes → Key → List Piece → List Piece → Outcome
+prepare_fresh t d anchor used read =
+    if is_ready t used read
+    then voted (with_locks t d used read) Commit
+    else voted (with_vote t anchor d Abort) Abort
+
+-- the anchor's book has room, or else there is no place for a vote
 abbrev pub prepare_open : Table → Bytes → Key → List Piece → List Piece → Outcome
 prepare_open t d anchor used read =
     if has_room (t.at anchor).book
-    then (if is_ready t used read then voted (with_locks t d used read) Commit else voted (with_vote t anchor d Abort) Abort)
+    then prepare_fresh t d anchor used read
     else voted t Abort
 
 -- it is in the anchor's book, or the anchor is Inactive by another session, or neither
@@ -183,7 +195,9 @@ abbrev pub with_accepted : Rules → ℕ → Table → Session → Table
 with_accepted rules shard t x =
     record {
       at = λ key. record {
-        state = accept_state (has_key key (used_up rules x shard)) (has_key key (read_only rules x shard)) x.digest (object_under (new_pieces rules shard t x) key) (t.at key).state;
+        state = accept_state
+            (has_key key (used_up rules x shard)) (has_key key (read_only rules x shard))
+            x.digest (object_under (new_pieces rules shard t x) key) (t.at key).state;
         book = (t.at key).book;
       };
       next = t.next + length (new_dummy rules shard t (dummies_in rules shard x.dummies));
@@ -195,7 +209,7 @@ with_aborted t d anchor used read =
     record {
       at = λ key. record {
         state = undo_state (has_key key used) (has_key key read) (t.at key).state;
-        book = if key_eq key anchor && nat_lt (length (t.at key).book) 1025
+        book = if key_eq key anchor && has_place (t.at key).book
             then (t.at key).book ++ (d, Commit) ∷ []
             else (t.at key).book;
       };
@@ -218,7 +232,8 @@ decide rules shard t x anchor Abort =
 
 abbrev pub act : Rules → ℕ → Table → Entry → Option Key → Outcome
 act rules shard t entry None = record { table = t; effect = Void }
-act rules shard t (Prepare x) (Some anchor) = prepare t x.digest anchor (used_up rules x shard) (read_only rules x shard)
+act rules shard t (Prepare x) (Some anchor) =
+    prepare t x.digest anchor (used_up rules x shard) (read_only rules x shard)
 act rules shard t (Decide x vote) (Some anchor) = decide rules shard t x anchor vote
 
 abbrev pub session_of : Entry → Session

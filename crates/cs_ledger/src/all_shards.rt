@@ -25,7 +25,8 @@ pub fn composition()
     ensures serial { (rules : Rules) (past : List Step) → IsShardWorld rules past →
         Serial (genesis_ledger rules.genesis) (history rules past) }
     // No object is consumed by two transactions of the history.
-    ensures spent_once { (rules : Rules) (past : List Step) → IsShardWorld rules past → IsSpentOnce (history rules past) }
+    ensures spent_once { (rules : Rules) (past : List Step) → IsShardWorld rules past →
+        IsSpentOnce (history rules past) }
     // Every accepted transaction is in the history.
     ensures accepted { (rules : Rules) (past : List Step) → IsShardWorld rules past →
         (x : Session) → IsIn x (sessions past) → (shard : ℕ) →
@@ -37,7 +38,8 @@ pub fn composition()
     // No shard votes abort on such a session, and none aborts it.
     ensures no_abort { (rules : Rules) (past : List Step) → IsShardWorld rules past →
         (x : Session) → IsIn x (sessions past) → all_commit rules past x ≡ true → (shard : ℕ) →
-        (votes rules past shard x Abort ≡ true → ⊥) × (decides rules past shard x Aborted ≡ true → ⊥) }
+        (votes rules past shard x Abort ≡ true → ⊥)
+        × (decides rules past shard x Aborted ≡ true → ⊥) }
     // An object that is free in a table is in the ledger after the history.
     ensures objects { (rules : Rules) (past : List Step) → IsShardWorld rules past →
         (shard : ℕ) (name object : Bytes) →
@@ -45,7 +47,8 @@ pub fn composition()
         (ledger_of (genesis_ledger rules.genesis) (history rules past)).active name ≡ Some object }
 {}
 
-/// Digests and names stay apart where the strings that are hashed do not collide, and all hashes have one length.
+/// Digests and names stay apart where the strings that are hashed do not collide, and all
+/// hashes have one length.
 pub fn names_apart()
     ensures { (hash : Bytes → Bytes) (origins : List Origin) (written : List WrittenSession) →
         ((a b : Bytes) → length (hash a) ≡ length (hash b)) → IsFaithful written →

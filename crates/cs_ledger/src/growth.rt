@@ -24,13 +24,18 @@ pub fn one_more()
         one_aborts rules past x ≡ true → one_aborts rules (later ++ past) x ≡ true }
 {}
 
-/// Once every concerned shard has voted commit on a session, its transaction is in the history, and no abort comes after.
+/// Once every concerned shard has voted commit on a session, its transaction is in the history,
+/// and no abort comes after.
 pub fn commit_stays()
-    ensures listed { (rules : Rules) (later past : List Step) → IsShardWorld rules (later ++ past) →
-        (x : Session) → IsIn x (sessions (later ++ past)) → (shard : ℕ) → concerns rules x shard ≡ true →
+    ensures listed { (rules : Rules) (later past : List Step) →
+        IsShardWorld rules (later ++ past) →
+        (x : Session) → IsIn x (sessions (later ++ past)) →
+        (shard : ℕ) → concerns rules x shard ≡ true →
         all_commit rules past x ≡ true → IsIn x.transaction (history rules (later ++ past)) }
-    ensures never_aborted { (rules : Rules) (later past : List Step) → IsShardWorld rules (later ++ past) →
-        (x : Session) → IsIn x (sessions (later ++ past)) → all_commit rules past x ≡ true → (shard : ℕ) →
+    ensures never_aborted { (rules : Rules) (later past : List Step) →
+        IsShardWorld rules (later ++ past) →
+        (x : Session) → IsIn x (sessions (later ++ past)) →
+        all_commit rules past x ≡ true → (shard : ℕ) →
         (votes rules (later ++ past) shard x Abort ≡ true → ⊥)
         × (decides rules (later ++ past) shard x Aborted ≡ true → ⊥) }
 {}

@@ -1,4 +1,5 @@
-//! The plain ledger, what shards make of sessions, and the theorem that all shards together give one serial history.
+//! The plain ledger, what shards make of sessions, and the theorem that all shards together
+//! give one serial history.
 #![tactic(auto)]
 
 mod all_shards;

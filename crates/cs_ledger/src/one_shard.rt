@@ -9,15 +9,19 @@ ghost use Rattle.cs_ledger.specs.ShardWorld.{sessions_of, votes_in};
 
 /// A shard votes once on a session.
 pub fn one_vote()
-    ensures { (rules : Rules) (shard : ℕ) (entries : List Entry) → AreToldApart (sessions_of entries) →
+    ensures { (rules : Rules) (shard : ℕ) (entries : List Entry) →
+        AreToldApart (sessions_of entries) →
         (x : Session) → IsIn x (sessions_of entries) → (v w : Vote) →
-        votes_in rules shard x.digest v entries ≡ true → votes_in rules shard x.digest w entries ≡ true → v ≡ w }
+        votes_in rules shard x.digest v entries ≡ true →
+        votes_in rules shard x.digest w entries ≡ true → v ≡ w }
 {}
 
 /// A session whose standing is Aborted keeps it. Logs are newest first.
 pub fn aborted_stays()
-    ensures { (rules : Rules) (shard : ℕ) (earlier later : List Entry) → AreToldApart (sessions_of (later ++ earlier)) →
-        (x : Session) → IsIn x (sessions_of (later ++ earlier)) → (key : Key) → anchor rules x shard ≡ Some key →
+    ensures { (rules : Rules) (shard : ℕ) (earlier later : List Entry) →
+        AreToldApart (sessions_of (later ++ earlier)) →
+        (x : Session) → IsIn x (sessions_of (later ++ earlier)) →
+        (key : Key) → anchor rules x shard ≡ Some key →
         stands_aborted ((table_of rules shard earlier).at key) x.digest ≡ true →
         stands_aborted ((table_of rules shard (later ++ earlier)).at key) x.digest ≡ true }
 {}

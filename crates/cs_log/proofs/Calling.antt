@@ -16,10 +16,10 @@ use Rattle.cs_order_rules.specs.declared.message.OrderMessage.TheVariants as mes
 use Rattle.cs_order_rules.specs.Facts.{open_slot}
 use Rattle.cs_order_rules.specs.Rules.{verdict, choice, entering, confirming, step_by, sent_by as advance_by, step_of, advance_sent, pending, echo_sent, propose_sent, tick_sent, is_over, waits, reply_with}
 use Rattle.cs_order_rules.specs.SlotMachine.{slot_machine, sight, slot_rest}
-use Rattle.cs_order_law.specs.Rest.{rest_falls}
+use Rattle.cs_order_law.specs.laws.Rest.{rest_falls}
 use Rattle.cs_order_open.specs.Look.{look_of, pending_by, may_by, left_by}
-use Rattle.cs_order_open.specs.Looking.{left_is, pending_is, may_is}
-use Rattle.cs_log.specs.Stands.{SeatStands, allowed, awaited}
+use Rattle.cs_order_open.specs.laws.Looking.{left_is, pending_is, may_is}
+use Rattle.cs_log.specs.Stands.{ReplicaStands, allowed, awaited}
 use Rattle.cs_log.specs.Replicas.{KeptReplica, Mirrors, after_taking, after_step, after_echo, after_tick, said, kept_rest, RepliedWith}
 
 abbrev pub Outs : Type 0
@@ -107,10 +107,10 @@ replies_by h k slot to answer old now (Some out) p made = (made.0, made.1, p)
 pub replies : (h : Member OrderMessage) (k : KeptReplica) (slot to : ℕ) (answer : Bool) (old now : Outs) → Mirrors k (sight h) → RepliedWith (reply_with slot to (slice_get k.log slot)) answer old now → Replies slot_machine h slot to answer old now (λ t. Mirrors k (sight t))
 replies h k slot to answer old now p made = replies_by h k slot to answer old now (reply_with slot to (slice_get (sight h).log slot)) p (subst (λ (log : List Proposed). RepliedWith (reply_with slot to (slice_get log slot)) answer old now) p.log made)
 
-pub allows_rule : (o : Option KeptReplica) (h : Member OrderMessage) → SeatStands o h → allowed o ≡ slot_machine.may_propose h
+pub allows_rule : (o : Option KeptReplica) (h : Member OrderMessage) → ReplicaStands o h → allowed o ≡ slot_machine.may_propose h
 allows_rule None h stands = absurd stands
 allows_rule (Some k) h stands = may_is k.current (sight h) stands.shows
 
-pub awaits_rule : (o : Option KeptReplica) (h : Member OrderMessage) → SeatStands o h → awaited o ≡ slot_machine.pending h
+pub awaits_rule : (o : Option KeptReplica) (h : Member OrderMessage) → ReplicaStands o h → awaited o ≡ slot_machine.pending h
 awaits_rule None h stands = absurd stands
 awaits_rule (Some k) h stands = pending_is k.current (sight h) stands.shows

@@ -5,8 +5,8 @@ use Rattle.cs_order_rules.specs.declared.message.OrderMessage.{OrderMessage}
 use Rattle.cs_order_rules.specs.declared.message.OrderMessage.TheVariants as message
 use Rattle.cs_order_rules.specs.Facts.{Facts, slot_of, is_like, took}
 use Rattle.cs_order_open.specs.Later.{above, at_slot}
-use Rattle.cs_order_open.specs.Seeing.{like_proposal, like_echo, like_confirm, like_change, like_done}
-use Rattle.cs_order_open.specs.Reopening.{no_proposal, no_echo, no_confirm, no_change, no_done, took_at}
+use Rattle.cs_order_open.specs.laws.Seeing.{like_proposal, like_echo, like_confirm, like_change, like_done}
+use Rattle.cs_order_open.specs.laws.Reopening.{no_proposal, no_echo, no_confirm, no_change, no_done, took_at}
 
 pub above_here : (n from : ℕ) (m : OrderMessage) (facts : Facts) → slot_of m ≤ n → above n ((from, m) ∷ facts) ≡ above n facts
 above_here n from m facts h = rw (le-ltb n (slot_of m) h) refl

@@ -2,5 +2,5 @@ pub mod LaterSlots
 pub mod Mirroring
 pub mod Verdicts
 pub mod Calling
-pub mod Seating
+pub mod Acting
 pub mod Whole

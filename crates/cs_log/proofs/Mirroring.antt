@@ -9,20 +9,20 @@ use Rattle.cs_order_rules.specs.declared.message.OrderMessage.TheVariants as mes
 use Rattle.cs_order_rules.specs.Facts.{Facts, Sight, open_slot, slot_of, view_of, is_like, took, first_of, proposal_said, echo_said, confirm_said, change_said}
 use Rattle.cs_order_rules.specs.Slot.{Seen}
 use Rattle.cs_order_rules.specs.Rules.{own, change_told}
-use Rattle.cs_order_law.specs.SlotFacts.{first_of_is, change_said_is}
-use Rattle.cs_order_law.specs.Sound.{Within}
+use Rattle.cs_order_law.specs.laws.SlotFacts.{first_of_is, change_said_is}
+use Rattle.cs_order_law.specs.Terms.{Within}
 use Rattle.cs_order_open.specs.Shows.{KeptOpenSlot, Shows, TakesFirst, IsOf, with_fact, led}
 use Rattle.cs_order_open.specs.Later.{above, at_slot, AllTaken}
-use Rattle.cs_order_open.specs.Seeing.{took_is_found, like_proposal, like_echo, like_confirm, like_change}
-use Rattle.cs_order_open.specs.Reopening.{of_facts, shows_all, shows_more, all_above}
+use Rattle.cs_order_open.specs.laws.Seeing.{took_is_found, like_proposal, like_echo, like_confirm, like_change}
+use Rattle.cs_order_open.specs.laws.Reopening.{of_facts, shows_all, shows_more, all_above}
 use Rattle.cs_log.specs.Replicas.{KeptReplica, Mirrors, IsSeen, longest_wait, at_first, said, entered, chose, waited, if_fresh}
 use Rattle.cs_log.proofs.LaterSlots.{above_here, above_there, at_above, above_above, took_above}
 
--- a current shows the same whatever else the member sees
+-- an open slot shows the same whatever else the member sees
 pub moved : (k : KeptOpenSlot) (s : Sight) (n v : ℕ) (log : List Proposed) (view wait : ℕ) → Shows k s n v → Shows k (record { f = s.f; me = s.me; taken = s.taken; log = log; view = view; wait = wait; views = s.views }) n v
 moved k s n v log view wait p = record { seen = p.seen; same_f = p.same_f; told = p.told; reached = p.reached; echoed = p.echoed; led_only = p.led_only }
 
--- whose current it is
+-- whose open slot it is
 pub is_of : (k : KeptOpenSlot) (s : Sight) (n v : ℕ) → Shows k s n v → IsOf s.f n s.me v k
 is_of k s n v p =
     record {
@@ -34,23 +34,23 @@ is_of k s n v p =
     }
 
 -- What is known of a replica that is seen.
-pub seat_of : (k : KeptReplica) → (p : IsSeen k) → IsOf k.f (length k.log) k.me k.view k.current
-seat_of k p = let m = p.1 in rw (m.f, m.log, m.me, m.view) (is_of k.current p.0 (open_slot p.0) p.0.view m.shows)
+pub replica_of : (k : KeptReplica) → (p : IsSeen k) → IsOf k.f (length k.log) k.me k.view k.current
+replica_of k p = let m = p.1 in rw (m.f, m.log, m.me, m.view) (is_of k.current p.0 (open_slot p.0) p.0.view m.shows)
 
-pub seat_few : (k : KeptReplica) → IsSeen k → k.f ≤ 5
-seat_few k p = rw p.1.f p.1.few
+pub replica_few : (k : KeptReplica) → IsSeen k → k.f ≤ 5
+replica_few k p = rw p.1.f p.1.few
 
-pub seat_member : (k : KeptReplica) → IsSeen k → k.me ≤ 3 * k.f
-seat_member k p = rw (p.1.me, p.1.f) p.1.member
+pub replica_member : (k : KeptReplica) → IsSeen k → k.me ≤ 3 * k.f
+replica_member k p = rw (p.1.me, p.1.f) p.1.member
 
-pub seat_short : (k : KeptReplica) → IsSeen k → length k.log ≤ last_slot
-seat_short k p = rw p.1.log p.1.short
+pub replica_short : (k : KeptReplica) → IsSeen k → length k.log ≤ last_slot
+replica_short k p = rw p.1.log p.1.short
 
-pub seat_small : (k : KeptReplica) → IsSeen k → k.view < view_bound
-seat_small k p = rw p.1.view p.1.small
+pub replica_small : (k : KeptReplica) → IsSeen k → k.view < view_bound
+replica_small k p = rw p.1.view p.1.small
 
-pub seat_others : (k : KeptReplica) → IsSeen k → AllTaken k.f k.me k.later
-seat_others k p = rw (p.1.f, p.1.me, p.1.later) p.1.others
+pub replica_others : (k : KeptReplica) → IsSeen k → AllTaken k.f k.me k.later
+replica_others k p = rw (p.1.f, p.1.me, p.1.later) p.1.others
 
 -- A message of another member is none of one's own.
 within_other : (s : Sight) (from : ℕ) (m : OrderMessage) → from ≢ s.me → ((j : OrderMessage) → IsIn (s.me, j) s.taken → Within s j) → (j : OrderMessage) → IsIn (s.me, j) ((from, m) ∷ s.taken) → Within s j
@@ -92,7 +92,7 @@ same_round : (k : KeptReplica) (s : Sight) (current : KeptOpenSlot) → Mirrors 
 same_round k s current p shows =
     record { f = p.f; me = p.me; log = p.log; view = p.view; wait = p.wait; views = p.views; few = p.few; member = p.member; short = p.short; small = p.small; shows = shows; later = p.later; others = p.others; within = p.within }
 
--- a message of another member that a current took, or not
+-- a message of another member that the open slot took, or not
 pub round_took : (k : KeptReplica) (s : Sight) (current : KeptOpenSlot) (from : ℕ) (m : OrderMessage) (fresh : Bool) → Mirrors k s → from ≢ k.me → slot_of m ≡ length k.log → TakesFirst fresh current s (open_slot s) s.view from m → (fresh ≡ not (took (is_like m) s.taken from)) × Mirrors (with_round k current) (if_fresh fresh s from m)
 round_took k s current from m true p other slot takes = (takes.0, here k s current from m p (slot ∙ ap length p.log) takes.1 (within_other s from m (rw (← p.me) other) p.within))
 round_took k s current from m false p other slot takes = (takes.0, same_round k s current p takes.1)

@@ -13,10 +13,10 @@ use Rattle.cs_order_rules.specs.Facts.{Sight, open_slot}
 use Rattle.cs_order_rules.specs.Rules.{verdict, choice, entering, confirming, step_of, advance_sent, pending, echo_sent, propose_sent, tick_sent, is_over, waits}
 use Rattle.cs_order_rules.specs.SlotMachine.{slot_machine, sight}
 use Rattle.cs_order_open.specs.Look.{look_of, pending_by, resend_by}
-use Rattle.cs_order_open.specs.Looking.{resend_is}
+use Rattle.cs_order_open.specs.laws.Looking.{resend_is}
 use Rattle.cs_log.specs.declared.replica.Replica.{Replica}
 use Rattle.cs_log.specs.Replicas.{KeptReplica, kept, Mirrors, after_taking, after_step, after_echo, after_tick, said, kept_rest}
-use Rattle.cs_log.specs.Stands.{kept_if, SeatStands, IsLed, f_of, me_of, awaited, allowed, rest_left}
+use Rattle.cs_log.specs.Stands.{kept_if, ReplicaStands, IsLed, f_of, me_of, awaited, allowed, rest_left}
 use Rattle.cs_log.proofs.Calling.{Outs, takes, advances, lowers, echoes, echo_lowers, echo_stays, proposes, propose_lowers, ticks}
 
 -- some deeds led to the replica
@@ -49,8 +49,8 @@ taking_same Repeat s from m = (refl, refl)
 pub take_led : (k new : KeptReplica) (from : ℕ) (m : OrderMessage) (took : Took) → Witness k → TookBy k new from m took → Witness new
 take_led k new from m took w made = (taken_in (verdict (sight w.0) from m) from m w.0, (takes w.0 from m new took (made (sight w.0) w.1)).1)
 
-pub take_call : (k new : KeptReplica) (now : Option KeptReplica) (from : ℕ) (m : OrderMessage) (took : Took) → Some k ≡ now → TookBy k new from m took → (h : Member OrderMessage) → SeatStands now h → TakesIn slot_machine h from m took (λ t. Mirrors new (sight t))
-take_call k new now from m took is made h stands = takes h from m new took (made (sight h) (subst (λ o. SeatStands o h) (sym is) stands))
+pub take_call : (k new : KeptReplica) (now : Option KeptReplica) (from : ℕ) (m : OrderMessage) (took : Took) → Some k ≡ now → TookBy k new from m took → (h : Member OrderMessage) → ReplicaStands now h → TakesIn slot_machine h from m took (λ t. Mirrors new (sight t))
+take_call k new now from m took is made h stands = takes h from m new took (made (sight h) (subst (λ o. ReplicaStands o h) (sym is) stands))
 
 pub take_same : (k new : KeptReplica) (now : Option KeptReplica) (from : ℕ) (m : OrderMessage) (took : Took) → Some k ≡ now → Witness k → TookBy k new from m took → (new.f ≡ f_of now) × (new.me ≡ me_of now)
 take_same k new now from m took is w made = subst (λ o. (new.f ≡ f_of o) × (new.me ≡ me_of o)) is (same_member k new (sight w.0) (after_taking (verdict (sight w.0) from m) (sight w.0) from m) w.1 (made (sight w.0) w.1).1 (taking_same (verdict (sight w.0) from m) (sight w.0) from m))
@@ -68,8 +68,8 @@ step_same s None None None = (refl, refl)
 pub advance_led : (k new : KeptReplica) (x : Step) (old out : Outs) → Witness k → AdvancedBy k new x old out → Witness new
 advance_led k new x old out w made = (advanced (slot_machine.step w.0) (slot_machine.advancing w.0) w.0, (advances w.0 new x old out (made (sight w.0) w.1)).2)
 
-pub advance_call : (k new : KeptReplica) (now : Option KeptReplica) (x : Step) (old out : Outs) → Some k ≡ now → AdvancedBy k new x old out → (h : Member OrderMessage) → SeatStands now h → Advances slot_machine h x old out (λ t. Mirrors new (sight t))
-advance_call k new now x old out is made h stands = advances h new x old out (made (sight h) (subst (λ o. SeatStands o h) (sym is) stands))
+pub advance_call : (k new : KeptReplica) (now : Option KeptReplica) (x : Step) (old out : Outs) → Some k ≡ now → AdvancedBy k new x old out → (h : Member OrderMessage) → ReplicaStands now h → Advances slot_machine h x old out (λ t. Mirrors new (sight t))
+advance_call k new now x old out is made h stands = advances h new x old out (made (sight h) (subst (λ o. ReplicaStands o h) (sym is) stands))
 
 pub advance_falls : (k new : KeptReplica) (now : Option KeptReplica) (x : Step) (old out : Outs) → Some k ≡ now → Witness k → AdvancedBy k new x old out → Lowers (rest_left now) (kept_rest new) x
 advance_falls k new now x old out is w made = subst (λ o. Lowers (rest_left o) (kept_rest new) x) is (lowers k new w.0 x old out w.1 (advances w.0 new x old out (made (sight w.0) w.1)))
@@ -93,9 +93,9 @@ echo_led k new old out w made = echo_stays w.0 new (pending (sight w.0)) (made (
 some_of : (k : KeptReplica) (now : Option KeptReplica) → Some k ≡ now → IsSome (awaited now) → IsSome (pending_by (look_of k.current))
 some_of k now is some = subst (λ o. IsSome (awaited o)) (sym is) some
 
-pub echo_call : (k new : KeptReplica) (now : Option KeptReplica) (old out : Outs) → Some k ≡ now → EchoedBy k new old out → IsSome (awaited now) → (h : Member OrderMessage) → SeatStands now h → Echoes slot_machine h old out (λ t. Mirrors new (sight t))
+pub echo_call : (k new : KeptReplica) (now : Option KeptReplica) (old out : Outs) → Some k ≡ now → EchoedBy k new old out → IsSome (awaited now) → (h : Member OrderMessage) → ReplicaStands now h → Echoes slot_machine h old out (λ t. Mirrors new (sight t))
 echo_call k new now old out is made some h stands =
-    let p = subst (λ o. SeatStands o h) (sym is) stands in
+    let p = subst (λ o. ReplicaStands o h) (sym is) stands in
     echoes h k new old out p (some_of k now is some) (made (sight h) p)
 
 pub echo_falls : (k new : KeptReplica) (now : Option KeptReplica) (old out : Outs) → Some k ≡ now → Witness k → EchoedBy k new old out → IsSome (awaited now) → kept_rest new < rest_left now
@@ -115,8 +115,8 @@ ProposedBy k new e old out = (s : Sight) → Mirrors k s → (out ≡ old ++ pro
 pub propose_led : (k new : KeptReplica) (e : Proposed) (old out : Outs) → Witness k → ProposedBy k new e old out → Witness new
 propose_led k new e old out w made = (did (deed.Proposing e (propose_sent (sight w.0) e)) w.0, (made (sight w.0) w.1).1)
 
-pub propose_call : (k new : KeptReplica) (now : Option KeptReplica) (e : Proposed) (old out : Outs) → Some k ≡ now → ProposedBy k new e old out → (h : Member OrderMessage) → SeatStands now h → Proposes slot_machine h e old out (λ t. Mirrors new (sight t))
-propose_call k new now e old out is made h stands = proposes h new e old out (made (sight h) (subst (λ o. SeatStands o h) (sym is) stands))
+pub propose_call : (k new : KeptReplica) (now : Option KeptReplica) (e : Proposed) (old out : Outs) → Some k ≡ now → ProposedBy k new e old out → (h : Member OrderMessage) → ReplicaStands now h → Proposes slot_machine h e old out (λ t. Mirrors new (sight t))
+propose_call k new now e old out is made h stands = proposes h new e old out (made (sight h) (subst (λ o. ReplicaStands o h) (sym is) stands))
 
 pub propose_falls : (k new : KeptReplica) (now : Option KeptReplica) (e : Proposed) (old out : Outs) → Some k ≡ now → Witness k → ProposedBy k new e old out → Proposable (allowed now) e → kept_rest new < rest_left now
 propose_falls k new now e old out is w made may = subst (λ o. kept_rest new < rest_left o) is (propose_lowers w.0 k new e old out w.1 (subst (λ o. Proposable (allowed o) e) (sym is) may) (proposes w.0 new e old out (made (sight w.0) w.1)))
@@ -138,8 +138,8 @@ tick_same_by s due false false p q = rw (p, q) (refl, refl)
 pub tick_led : (k new : KeptReplica) (due : Bool) (old out : Outs) → Witness k → TickedBy k new due old out → Witness new
 tick_led k new due old out w made = (did (deed.Ticked due (tick_sent (sight w.0) due)) w.0, (ticks w.0 new due old out (made (sight w.0) w.1)).1)
 
-pub tick_call : (k new : KeptReplica) (now : Option KeptReplica) (due : Bool) (old out : Outs) → Some k ≡ now → TickedBy k new due old out → (h : Member OrderMessage) → SeatStands now h → Ticks slot_machine h due old out (λ t. Mirrors new (sight t))
-tick_call k new now due old out is made h stands = ticks h new due old out (made (sight h) (subst (λ o. SeatStands o h) (sym is) stands))
+pub tick_call : (k new : KeptReplica) (now : Option KeptReplica) (due : Bool) (old out : Outs) → Some k ≡ now → TickedBy k new due old out → (h : Member OrderMessage) → ReplicaStands now h → Ticks slot_machine h due old out (λ t. Mirrors new (sight t))
+tick_call k new now due old out is made h stands = ticks h new due old out (made (sight h) (subst (λ o. ReplicaStands o h) (sym is) stands))
 
 pub tick_same : (k new : KeptReplica) (now : Option KeptReplica) (due : Bool) (old out : Outs) → Some k ≡ now → Witness k → TickedBy k new due old out → (new.f ≡ f_of now) × (new.me ≡ me_of now)
 tick_same k new now due old out is w made =
@@ -147,11 +147,11 @@ tick_same k new now due old out is w made =
     subst (λ o. (new.f ≡ f_of o) × (new.me ≡ me_of o)) is (same_member k new s (after_tick s due) w.1 (made s w.1).1 (tick_same_by s due (is_over s due) (waits s due) refl refl))
 
 -- resend
-resend_stands : (o : Option KeptReplica) (h : Member OrderMessage) (sent : Outs) → SeatStands o h → SeatStands o (did (deed.Resent sent) h)
+resend_stands : (o : Option KeptReplica) (h : Member OrderMessage) (sent : Outs) → ReplicaStands o h → ReplicaStands o (did (deed.Resent sent) h)
 resend_stands None h sent stands = stands
 resend_stands (Some k) h sent stands = stands
 
-pub resends : (k : KeptReplica) (now : Option KeptReplica) (old out : Outs) → Some k ≡ now → out ≡ old ++ resend_by (look_of k.current) → (h : Member OrderMessage) → SeatStands now h → Resends slot_machine h old out (λ t. SeatStands now t)
+pub resends : (k : KeptReplica) (now : Option KeptReplica) (old out : Outs) → Some k ≡ now → out ≡ old ++ resend_by (look_of k.current) → (h : Member OrderMessage) → ReplicaStands now h → Resends slot_machine h old out (λ t. ReplicaStands now t)
 resends k now old out is sent h stands =
-    let p = subst (λ o. SeatStands o h) (sym is) stands in
+    let p = subst (λ o. ReplicaStands o h) (sym is) stands in
     (sent ∙ ap (λ (xs : Outs). old ++ xs) (resend_is k.current (sight h) p.shows), resend_stands now h (slot_machine.resending h) stands)

@@ -1,3 +1,4 @@
 pub mod Alike
 pub mod Replicas
 pub mod Stands
+pub mod laws

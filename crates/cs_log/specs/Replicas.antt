@@ -1,5 +1,6 @@
 -- What a member keeps of its shard's order, and when that mirrors what it sees.
 use Rattle.std.specs.Prelude.{◌≡◌, ℕ, ◌+◌, ◌*◌, ◌≤◌, ◌<◌, min, Bool, true, false, if◌then◌else◌, List, [], ◌∷◌, ◌++◌, length, reverse, Option, Some, None}
+use Rattle.cs_log.specs.declared.replica.TheConstants.{LONGEST_WAIT}
 use Rattle.cs_order.specs.Limits.{last_slot, view_bound, rest_at}
 use Rattle.cs_order.specs.Lists.{IsIn}
 use Rattle.cs_order.specs.declared.proposed.Proposed.{Proposed}
@@ -10,7 +11,7 @@ use Rattle.cs_order_rules.specs.declared.message.OrderMessage.{OrderMessage}
 use Rattle.cs_order_rules.specs.declared.message.OrderMessage.TheVariants as message
 use Rattle.cs_order_rules.specs.Facts.{Facts, Sight, open_slot}
 use Rattle.cs_order_rules.specs.Rules.{change_told, is_over, waits}
-use Rattle.cs_order_law.specs.Sound.{Within}
+use Rattle.cs_order_law.specs.Terms.{Within}
 use Rattle.cs_order_open.specs.Shows.{KeptOpenSlot, Shows, with_fact}
 use Rattle.cs_order_open.specs.Look.{look_of, left_by}
 use Rattle.cs_order_open.specs.Later.{above, AllTaken}
@@ -26,11 +27,19 @@ pub record KeptReplica : Type 0 where
   pub later : Facts  -- what was taken of later slots, the newest first
 
 abbrev pub kept : Replica → KeptReplica
-kept replica = record { f = replica.f; me = replica.me; log = replica.log.items; view = replica.view; wait = replica.wait; current = replica.current; later = reverse replica.later.items }
+kept replica = record {
+  f = replica.f;
+  me = replica.me;
+  log = replica.log.items;
+  view = replica.view;
+  wait = replica.wait;
+  current = replica.current;
+  later = reverse replica.later.items;
+}
 
 -- a wait counts no further: no view waits for more ticks
 abbrev pub longest_wait : ℕ
-longest_wait = 8192
+longest_wait = LONGEST_WAIT
 
 -- What is kept is what the rules look at.
 pub record Mirrors (k : KeptReplica) (s : Sight) : Type 0 where
@@ -73,7 +82,15 @@ abbrev pub said : Sight → OrderMessage → Sight
 said s m = with_fact s s.me m
 
 abbrev pub entered : Sight → ℕ → Sight
-entered s view = record { f = s.f; me = s.me; taken = (s.me, message.Change (open_slot s) view (change_told s)) ∷ s.taken; log = s.log; view = view; wait = 0; views = s.views }
+entered s view = record {
+  f = s.f;
+  me = s.me;
+  taken = (s.me, message.Change (open_slot s) view (change_told s)) ∷ s.taken;
+  log = s.log;
+  view = view;
+  wait = 0;
+  views = s.views;
+}
 
 abbrev pub chose : Sight → Proposed → Sight
 chose s e = record { f = s.f; me = s.me; taken = s.taken; log = s.log ++ e ∷ []; view = 0; wait = 0; views = s.views }
@@ -89,7 +106,7 @@ after_echo s None = s
 after_echo s (Some e) = said s (message.Echo (open_slot s) s.view e.digest)
 
 abbrev pub waited : Sight → Sight
-waited s = record { f = s.f; me = s.me; taken = s.taken; log = s.log; view = s.view; wait = s.wait + 1; views = s.views }
+waited s = record s { wait = s.wait + 1 }
 
 abbrev pub after_tick : Sight → Bool → Sight
 after_tick s due = if is_over s due then entered s (s.view + 1) else (if waits s due then waited s else s)
@@ -99,6 +116,7 @@ abbrev pub kept_rest : KeptReplica → ℕ
 kept_rest k = rest_at (length k.log) k.view (left_by (look_of k.current))
 
 -- what a member answers, and hands out with that
-abbrev pub RepliedWith : Option (Outgoing OrderMessage) → Bool → List (Outgoing OrderMessage) → List (Outgoing OrderMessage) → Type 0
+abbrev pub RepliedWith : Option (Outgoing OrderMessage) → Bool
+    → List (Outgoing OrderMessage) → List (Outgoing OrderMessage) → Type 0
 RepliedWith None answer old new = (answer ≡ false) × (new ≡ old)
 RepliedWith (Some out) answer old new = (answer ≡ true) × (new ≡ old ++ out ∷ [])

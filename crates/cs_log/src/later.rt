@@ -14,8 +14,10 @@ pub fn put_off(
     from: u16,
     message: OrderMessage,
 ) -> Result<bool, Memory>
-    ensures fresh { IfOk result (λ fresh. fresh ≡ not (took (is_like message) (reverse later.old.items) from)) }
-    ensures now { IfOk result (λ fresh. reverse later.new.items ≡ (if fresh then (from, message) ∷ reverse later.old.items else reverse later.old.items)) }
+    ensures fresh { IfOk result (λ fresh.
+        fresh ≡ not (took (is_like message) (reverse later.old.items) from)) }
+    ensures now { IfOk result (λ fresh. reverse later.new.items
+        ≡ (if fresh then (from, message) ∷ reverse later.old.items else reverse later.old.items)) }
 {
     if has_like(later.as_slice(), from, &message) {
         return Ok(false);

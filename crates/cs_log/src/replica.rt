@@ -8,11 +8,11 @@ ghost use Rattle.cs_order_rules.specs.Facts.{Sight, open_slot, slot_of, is_like,
 ghost use Rattle.cs_order_rules.specs.Rules.{verdict, choice, entering, confirming, step_of, advance_sent, pending, echo_sent, may_propose, propose_sent, change_to, tick_sent, to_all, reply_with};
 ghost use Rattle.cs_order_open.specs.Shows.{led};
 ghost use Rattle.cs_order_open.specs.Look.{look_of, pending_by, may_by, resend_by};
-ghost use Rattle.cs_log.specs.Replicas.{kept, Mirrors, IsSeen, at_first, after_taking, if_fresh, said, entered, chose, after_step, after_echo, after_tick, RepliedWith};
+ghost use Rattle.cs_log.specs.Replicas.{kept, longest_wait, Mirrors, IsSeen, at_first, after_taking, if_fresh, said, entered, chose, after_step, after_echo, after_tick, RepliedWith};
 
 use crate::later::put_off;
 use crate::saying::{change_again, confirm_again, echo_again, hand_out, propose_again, say};
-use cs_base::Memory;
+use cs_base::{Memory, SLOTS_AHEAD, VIEW_BOUND};
 use cs_order::{May, Outgoing, Proposed, Step, Took};
 use cs_order_open::{OpenSlot, reopen, slot_of};
 use cs_order_rules::OrderMessage;
@@ -21,9 +21,6 @@ use std::mem;
 
 /// A wait counts no further: no view waits for more ticks.
 const LONGEST_WAIT: u16 = 8192;
-
-/// No view is this or above.
-const VIEW_BOUND: u16 = 1024;
 
 /// What a member keeps. After a want of memory it is not used again.
 #[derive(Drop)]
@@ -98,14 +95,16 @@ impl Replica {
         requires seen { IsSeen (kept self.old) }
         requires member { from ≤ 3 * self.old.f }
         requires other { from ≢ self.old.me }
-        ensures { (s : Sight) → Mirrors (kept self.old) s → IfOk result (λ took. (took ≡ verdict s from message) × Mirrors (kept self.new) (after_taking (verdict s from message) s from message)) }
+        ensures { (s : Sight) → Mirrors (kept self.old) s →
+            IfOk result (λ took. (took ≡ verdict s from message)
+            × Mirrors (kept self.new) (after_taking (verdict s from message) s from message)) }
     {
         let slot = slot_of(&message);
         let open = self.open_slot();
         if slot < open {
             return Ok(Took::Old);
         }
-        if slot > open + 15 {
+        if slot > open + SLOTS_AHEAD {
             return Ok(Took::Far);
         }
         if !self.is_led(from, &message) {
@@ -140,7 +139,9 @@ impl Replica {
         requires other { from ≢ self.old.me }
         requires slot { length self.old.log.items ≤ slot_of message }
         requires led { led self.old.f from message ≡ true }
-        ensures { (s : Sight) → Mirrors (kept self.old) s → IfOk result (λ fresh. (fresh ≡ not (took (is_like message) s.taken from)) × Mirrors (kept self.new) (if_fresh fresh s from message)) }
+        ensures { (s : Sight) → Mirrors (kept self.old) s →
+            IfOk result (λ fresh. (fresh ≡ not (took (is_like message) s.taken from))
+            × Mirrors (kept self.new) (if_fresh fresh s from message)) }
     {
         if slot_of(&message) > self.open_slot() {
             let fresh = put_off(&mut self.later, from, message)?;
@@ -157,7 +158,10 @@ impl Replica {
         out: &mut Vec<Outgoing<OrderMessage>>,
     ) -> Result<Step, Memory>
         requires { IsSeen (kept self.old) }
-        ensures { (s : Sight) → Mirrors (kept self.old) s → IfOk result (λ step. (step ≡ step_of s) × (out.new.items ≡ out.old.items ++ advance_sent s) × Mirrors (kept self.new) (after_step s (choice s) (entering s) (confirming s))) }
+        ensures { (s : Sight) → Mirrors (kept self.old) s →
+            IfOk result (λ step. (step ≡ step_of s)
+            × (out.new.items ≡ out.old.items ++ advance_sent s)
+            × Mirrors (kept self.new) (after_step s (choice s) (entering s) (confirming s))) }
     {
         if let Some(entry) = self.current.chosen() {
             let chosen = entry.copy(alloc)?;
@@ -180,7 +184,8 @@ impl Replica {
     fn choose(&mut self, alloc: Global, entry: Proposed) -> Result<(), Memory>
         requires seen { IsSeen (kept self.old) }
         requires room { length self.old.log.items < last_slot }
-        ensures { (s : Sight) → Mirrors (kept self.old) s → OnOk result (Mirrors (kept self.new) (chose s entry)) }
+        ensures { (s : Sight) → Mirrors (kept self.old) s →
+            OnOk result (Mirrors (kept self.new) (chose s entry)) }
     {
         if let Err(refused) = self.log.push(entry) {
             return Err(AllocError::from(refused).into());
@@ -204,7 +209,9 @@ impl Replica {
         requires seen { IsSeen (kept self.old) }
         requires later { self.old.view < view }
         requires small { view < view_bound }
-        ensures { (s : Sight) → Mirrors (kept self.old) s → OnOk result ((out.new.items ≡ out.old.items ++ change_to s view) × Mirrors (kept self.new) (entered s view)) }
+        ensures { (s : Sight) → Mirrors (kept self.old) s →
+            OnOk result ((out.new.items ≡ out.old.items ++ change_to s view)
+            × Mirrors (kept self.new) (entered s view)) }
     {
         let slot = self.open_slot();
         let change = self.current.change(alloc)?;
@@ -231,7 +238,10 @@ impl Replica {
     ) -> Result<(), Memory>
         requires seen { IsSeen (kept self.old) }
         requires due { to_confirm (look_of self.old.current).seen ≡ Some digest }
-        ensures { (s : Sight) → Mirrors (kept self.old) s → OnOk result ((out.new.items ≡ out.old.items ++ to_all (message.Confirm (open_slot s) s.view digest)) × Mirrors (kept self.new) (said s (message.Confirm (open_slot s) s.view digest))) }
+        ensures { (s : Sight) → Mirrors (kept self.old) s →
+            (let confirm = message.Confirm (open_slot s) s.view digest in
+            OnOk result ((out.new.items ≡ out.old.items ++ to_all confirm)
+            × Mirrors (kept self.new) (said s confirm))) }
     {
         let slot = self.open_slot();
         let view = self.view;
@@ -253,7 +263,9 @@ impl Replica {
         out: &mut Vec<Outgoing<OrderMessage>>,
     ) -> Result<(), Memory>
         requires { IsSeen (kept self.old) }
-        ensures { (s : Sight) → Mirrors (kept self.old) s → OnOk result ((out.new.items ≡ out.old.items ++ echo_sent s (pending s)) × Mirrors (kept self.new) (after_echo s (pending s))) }
+        ensures { (s : Sight) → Mirrors (kept self.old) s →
+            OnOk result ((out.new.items ≡ out.old.items ++ echo_sent s (pending s))
+            × Mirrors (kept self.new) (after_echo s (pending s))) }
     {
         let Some(entry) = self.current.pending() else {
             return Ok(());
@@ -282,7 +294,9 @@ impl Replica {
     ) -> Result<(), Memory>
         requires seen { IsSeen (kept self.old) }
         requires may { Proposable (may_by (look_of self.old.current)) entry }
-        ensures { (s : Sight) → Mirrors (kept self.old) s → OnOk result ((out.new.items ≡ out.old.items ++ propose_sent s entry) × Mirrors (kept self.new) (said s (message.Propose (open_slot s) s.view entry))) }
+        ensures { (s : Sight) → Mirrors (kept self.old) s →
+            OnOk result ((out.new.items ≡ out.old.items ++ propose_sent s entry)
+            × Mirrors (kept self.new) (said s (message.Propose (open_slot s) s.view entry))) }
     {
         let slot = self.open_slot();
         let view = self.view;
@@ -294,7 +308,8 @@ impl Replica {
     /// Says the own messages of the open slot and the view again.
     pub fn resend(&self, alloc: Global, out: &mut Vec<Outgoing<OrderMessage>>) -> Result<(), Memory>
         requires { IsSeen (kept self.now) }
-        ensures { OnOk result (out.new.items ≡ out.old.items ++ resend_by (look_of self.now.current)) }
+        ensures { OnOk result (
+            out.new.items ≡ out.old.items ++ resend_by (look_of self.now.current)) }
     {
         let slot = self.open_slot();
         let current = &self.current;
@@ -312,7 +327,9 @@ impl Replica {
         out: &mut Vec<Outgoing<OrderMessage>>,
     ) -> Result<(), Memory>
         requires { IsSeen (kept self.old) }
-        ensures { (s : Sight) → Mirrors (kept self.old) s → OnOk result ((out.new.items ≡ out.old.items ++ tick_sent s due) × Mirrors (kept self.new) (after_tick s due)) }
+        ensures { (s : Sight) → Mirrors (kept self.old) s →
+            OnOk result ((out.new.items ≡ out.old.items ++ tick_sent s due)
+            × Mirrors (kept self.new) (after_tick s due)) }
     {
         if !due && !self.current.has_echoed() {
             return Ok(());
@@ -329,8 +346,9 @@ impl Replica {
     /// One more tick ends the wait of the view.
     fn is_over(&self) -> bool
         requires view { self.now.view < view_bound }
-        requires wait { self.now.wait ≤ 8192 }
-        ensures { result ≡ ((self.now.wait + 1 == 8 * 2 ^ min self.now.view 10) && nat_lt (self.now.view + 1) view_bound) }
+        requires wait { self.now.wait ≤ longest_wait }
+        ensures { result ≡ ((self.now.wait + 1 == 8 * 2 ^ min self.now.view 10)
+            && nat_lt (self.now.view + 1) view_bound) }
     {
         self.wait + 1 == limit(self.view) && self.view + 1 < VIEW_BOUND
     }
@@ -343,7 +361,9 @@ impl Replica {
         to: u16,
         out: &mut Vec<Outgoing<OrderMessage>>,
     ) -> Result<bool, Memory>
-        ensures { IfOk result (λ answer. RepliedWith (reply_with slot to (slice_get self.now.log.items slot)) answer out.old.items out.new.items) }
+        ensures { IfOk result (λ answer.
+            RepliedWith (reply_with slot to (slice_get self.now.log.items slot)) answer
+            out.old.items out.new.items) }
     {
         let Some(entry) = self.entry(slot) else {
             return Ok(false);

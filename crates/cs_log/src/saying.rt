@@ -21,7 +21,8 @@ pub fn hand_out(
     to: Option<u16>,
     message: OrderMessage,
 ) -> Result<(), Memory>
-    ensures { OnOk result (out.new.items ≡ out.old.items ++ record { to = to; message = message } ∷ []) }
+    ensures { OnOk result (
+        out.new.items ≡ out.old.items ++ record { to = to; message = message } ∷ []) }
 {
     if let Err(refused) = out.push(Outgoing { to, message }) {
         return Err(AllocError::from(refused).into());
@@ -37,7 +38,8 @@ pub fn propose_again(
     view: u16,
     own: Option<&Proposed>,
 ) -> Result<(), Memory>
-    ensures { OnOk result (out.new.items ≡ out.old.items ++ again (message.Propose slot view) (option_copied own.entry)) }
+    ensures { OnOk result (out.new.items
+        ≡ out.old.items ++ again (message.Propose slot view) (option_copied own.entry)) }
 {
     let Some(entry) = own else {
         return Ok(());
@@ -68,7 +70,8 @@ pub fn confirm_again(
     view: u16,
     own: Option<[u8; 32]>,
 ) -> Result<(), Memory>
-    ensures { OnOk result (out.new.items ≡ out.old.items ++ again (message.Confirm slot view) own) }
+    ensures { OnOk result (out.new.items
+        ≡ out.old.items ++ again (message.Confirm slot view) own) }
 {
     let Some(digest) = own else {
         return Ok(());
@@ -84,7 +87,8 @@ pub fn change_again(
     view: u16,
     own: Option<&Change>,
 ) -> Result<(), Memory>
-    ensures { OnOk result (out.new.items ≡ out.old.items ++ again (message.Change slot view) (option_copied own.entry)) }
+    ensures { OnOk result (out.new.items
+        ≡ out.old.items ++ again (message.Change slot view) (option_copied own.entry)) }
 {
     let Some(change) = own else {
         return Ok(());

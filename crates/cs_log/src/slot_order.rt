@@ -1,9 +1,10 @@
 //! The order of a member among 3f+1.
 ghost use Rattle.std.specs.Prelude.{◌≡◌, ◌*◌, ◌≤◌, IfOk};
 ghost use Rattle.cs_order_rules.specs.SlotMachine.{slot_machine};
-ghost use Rattle.cs_order_law.specs.SlotLaw.{slot_law, slot_undisturbed};
-ghost use Rattle.cs_order_law.specs.Held.{slot_holds};
-ghost use Rattle.cs_log.specs.Stands.{SeatStands, SeatStarts, f_of, me_of, awaited, allowed, rest_left, seat_begins, seat_belongs, rest_bounded};
+ghost use Rattle.cs_order_law.specs.laws.SlotLaw.{slot_law, slot_undisturbed};
+ghost use Rattle.cs_order_law.specs.laws.Held.{slot_holds};
+ghost use Rattle.cs_log.specs.Stands.{ReplicaStands, ReplicaStarts, f_of, me_of, awaited, allowed, rest_left};
+ghost use Rattle.cs_log.specs.laws.Standing.{replica_begins, replica_belongs, rest_bounded};
 
 use crate::replica::Replica;
 use cs_base::Memory;
@@ -52,13 +53,13 @@ impl Order for SlotOrder {
 
     ghost rules = { slot_machine };
 
-    ghost stands = { λ s h. SeatStands s h };
+    ghost stands = { λ s h. ReplicaStands s h };
 
     ghost f = { λ s. f_of s };
 
     ghost me = { λ s. me_of s };
 
-    ghost at_start = { λ s. SeatStarts s };
+    ghost at_start = { λ s. ReplicaStarts s };
 
     ghost awaits = { λ s. awaited s };
 
@@ -72,9 +73,9 @@ impl Order for SlotOrder {
 
     ghost holds = { slot_holds };
 
-    ghost begins = { λ s. seat_begins s };
+    ghost begins = { λ s. replica_begins s };
 
-    ghost belongs = { λ s h stands. seat_belongs s h stands };
+    ghost belongs = { λ s h stands. replica_belongs s h stands };
 
     ghost bounded = { λ s. rest_bounded s };
 

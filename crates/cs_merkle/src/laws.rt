@@ -18,8 +18,8 @@ pub fn paths_verify()
         ShowsLeaf (merkle_tree_hash leaves) (length leaves) place leaf (audit_path leaves place) }
 {}
 
-/// Where the strings hashed for a tree and along a path don't collide, what the path shows under the
-/// root of a list is the leaf at that place of the list, and the path is the leaf's audit path.
+/// Where the strings hashed for a tree and along a path don't collide, what the path shows under
+/// the root of a list is the leaf at that place of the list, and the path is the leaf's audit path.
 pub fn shown_leaf_is_there()
     ensures { (leaves : List (List ℕ)) (place : ℕ) (leaf : List ℕ) (path : List (List ℕ)) →
         NoTreeCollision leaves place leaf path →

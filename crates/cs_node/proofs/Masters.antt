@@ -9,7 +9,8 @@ use Rattle.cs_base.proofs.Forms.{some_is, when_some}
 use Rattle.cs_wire.specs.declared.keys.Row.{Row}
 use Rattle.cs_wire.specs.declared.keys.Keys.{Keys}
 use Rattle.cs_wire.specs.Keys.{row_of, key_between, row_between, IsOfMaster}
-use Rattle.cs_wire.specs.Opened.{opened, datagram_with, keys_of_master}
+use Rattle.cs_wire.specs.Opened.{opened, keys_of_master}
+use Rattle.cs_wire.specs.Datagram.{datagram_with}
 use Rattle.cs_wire.proofs.Parts.{are_same}
 use Rattle.cs_wire.proofs.Masters.{opened_alike}
 use Rattle.cs_node_rules.specs.Net.{net_of}

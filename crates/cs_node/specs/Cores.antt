@@ -1,50 +1,76 @@
 -- What a contract sees of a core: the view for which it stands, and the net in which it speaks.
-use Rattle.std.specs.Prelude.{◌≡◌, true, Bool, List}
+use Rattle.std.specs.Prelude.{◌≡◌, true, Bool, List, Option, Result, IfOk, OnOk}
 use Rattle.cs_base.specs.NodeId.{is_node}
 use Rattle.cs_tx_value.specs.declared.object.Object.{Object}
 use Rattle.cs_tx_form.specs.declared.transaction.Tx.{Tx}
 use Rattle.cs_order.specs.Deeds.{Member, Machine}
 use Rattle.cs_node_state.specs.Setup.{Setup}
 use Rattle.cs_node_rules.specs.Net.{Net}
-use Rattle.cs_node_rules.specs.Site.{Carrier, Site, View}
+use Rattle.cs_node_rules.specs.Site.{Carrier, Mark, Site, View}
 use Rattle.cs_node_rules.specs.Deployment.{site_of}
 use Rattle.cs_node_pool.specs.Deployed.{deployed}
 use Rattle.cs_sbac.specs.Held.{Held, bench_of}
+use Rattle.cs_node.specs.declared.draft.Draft.{Draft}
 use Rattle.cs_node.specs.declared.engine.Engine.{Engine}
 use Rattle.cs_node.specs.declared.nodes.Core.{Core}
 use Rattle.cs_node.specs.Speaking.{Speaks}
-use Rattle.cs_node.specs.Steps.{view_of}
+use Rattle.cs_node.specs.Steps.{view_of, Marks, TurnDone}
 
 abbrev pub site_at : {M : Type 0} → Machine M → Carrier M → Net → Held → List Object → (Tx → Bool) → Site M
 site_at {M} rules carrier net held genesis approves = site_of (deployed held.config genesis approves) net rules carrier
+
+-- it holds at every site of a node that holds these, whatever the net, the genesis and the judge
+abbrev pub AtEverySite : {M : Type 0} → Machine M → Carrier M → Held → (Site M → Type 0) → Type 0
+AtEverySite {M} rules carrier held Holds =
+    (net : Net) (genesis : List Object) (approves : Tx → Bool) → Holds (site_at rules carrier net held genesis approves)
 
 -- the view, but for the deeds of the order
 abbrev pub view_at : {M : Type 0} → Held → Member M → View M
 view_at {M} held h = view_of held.me (bench_of held) h
 
 -- The order stands for the member that the node is in its shard, and the node is one of the configuration.
-pub record IsSeated {O J M : Type 0} (stands : O → Member M → Type 0) (engine : Engine O J M) (h : Member M) : Type 0 where
+pub record IsSeated {O J M : Type 0} (stands : O → Member M → Type 0)
+    (engine : Engine O J M) (h : Member M) : Type 0 where
   pub stood : stands engine.order h
   pub f_is : h.f ≡ engine.sbac.config.f
   pub index_is : h.me ≡ engine.sbac.me.index
   pub node : is_node engine.sbac.config engine.sbac.me ≡ true
 
 -- An engine keeps a view under a setup: its order the member, its table and pool the rest.
-pub record KeepsView {O J M : Type 0} (stands : O → Member M → Type 0) (approves : J → Tx → Bool) (setup : Setup) (engine : Engine O J M) (v : View M) : Type 0 where
+pub record KeepsView {O J M : Type 0} (stands : O → Member M → Type 0) (approves : J → Tx → Bool)
+    (setup : Setup) (engine : Engine O J M) (v : View M) : Type 0 where
   pub seated : IsSeated stands engine v.member
   pub view_is : view_at engine.sbac v.member ≡ v
   pub genesis : List Object
   pub setup_is : deployed engine.sbac.config genesis (approves engine.judge) ≡ setup
 
 -- A core stands for a view under a setup and in a net: it keeps the view, and its keys are those of the node there.
-pub record StandsFor {O J M : Type 0} (stands : O → Member M → Type 0) (approves : J → Tx → Bool) (setup : Setup) (net : Net) (core : Core O J M) (v : View M) : Type 0 where
+pub record StandsFor {O J M : Type 0} (stands : O → Member M → Type 0) (approves : J → Tx → Bool)
+    (setup : Setup) (net : Net) (core : Core O J M) (v : View M) : Type 0 where
   pub keeps : KeepsView stands approves setup core.engine v
   pub me_is : core.keys.me ≡ v.me
   pub speaks : Speaks core.engine.sbac.config net core.keys
 
--- Where a call of an engine leads, as it keeps the view of its member, at any genesis and in any net: what it says of the site and the
--- view, and of what the view is after.
-abbrev pub Leads : {O J M : Type 0} → (O → Member M → Type 0) → (J → Tx → Bool) → Machine M → Carrier M → Engine O J M → Engine O J M → (Site M → View M → (View M → Type 0) → Type 0) → Type 0
+-- Where a call of an engine leads, as it keeps the view of its member, at any genesis and in any net: what it says of the
+-- site and the view, and of what the view is after.
+abbrev pub Leads : {O J M : Type 0} → (O → Member M → Type 0) → (J → Tx → Bool) → Machine M → Carrier M
+    → Engine O J M → Engine O J M → (Site M → View M → (View M → Type 0) → Type 0) → Type 0
 Leads {O} {J} {M} stands approves rules carrier engine engine' Says =
     (net : Net) (genesis : List Object) (h : Member M) → IsSeated stands engine h
-    → Says (site_at rules carrier net engine.sbac genesis (approves engine.judge)) (view_at engine.sbac h) (KeepsView stands approves (deployed engine.sbac.config genesis (approves engine.judge)) engine')
+    → Says (site_at rules carrier net engine.sbac genesis (approves engine.judge)) (view_at engine.sbac h)
+    (KeepsView stands approves (deployed engine.sbac.config genesis (approves engine.judge)) engine')
+
+-- Where a call with this outcome leads, unless memory ran out: it made these marks of the site and the view, and drafted
+-- what they say.
+abbrev pub LeadsBy : {O J M A E : Type 0} → (O → Member M → Type 0) → (J → Tx → Bool) → Machine M → Carrier M
+    → Engine O J M → Engine O J M → Draft → Draft → Result A E → (Site M → View M → List (Mark M)) → Type 0
+LeadsBy {O} {J} {M} {A} {E} stands approves rules carrier engine engine' draft draft' result marks =
+    Leads stands approves rules carrier engine engine'
+    (λ site v After. OnOk result (Marks site (marks site v) v draft draft' After))
+
+-- Where a turn with this outcome leads, unless memory ran out: it went on by these marks, or there are none.
+abbrev pub TurnsBy : {O J M E : Type 0} → (O → Member M → Type 0) → (J → Tx → Bool) → Machine M → Carrier M
+    → Engine O J M → Engine O J M → Draft → Draft → Result Bool E → (Site M → View M → Option (List (Mark M))) → Type 0
+TurnsBy {O} {J} {M} {E} stands approves rules carrier engine engine' draft draft' result marks =
+    Leads stands approves rules carrier engine engine'
+    (λ site v After. IfOk result (λ went. TurnDone site (marks site v) v went draft draft' After))

@@ -3,6 +3,6 @@ pub mod Setups
 pub mod Speaking
 pub mod Proposals
 pub mod Steps
-pub mod Carriers
+pub mod Signing
 pub mod SoloCarried
 pub mod Cores

@@ -44,7 +44,8 @@ outs_of net me (Took sender vote x ∷ past) = outs_of net me past
 outs_of net me (Entered x ∷ past) = outs_of net me past
 outs_of net me (Viewed slot view ∷ past) = outs_of net me past
 outs_of net me (Did slot entry effect ∷ past) = outs_of net me past
-outs_of net me (Sent to message ∷ past) = outs_of net me past ++ record { to = to; bytes = sealed net me to message } ∷ []
+outs_of net me (Sent to message ∷ past) =
+    outs_of net me past ++ record { to = to; bytes = sealed net me to message } ∷ []
 
 -- ---- while an event goes on
 

@@ -11,7 +11,8 @@ use Rattle.cs_node.specs.declared.nodes.StartError.TheVariants.{Duplicate, Memor
 -- genesis objects under their keys, the first of which has this number
 abbrev pub keyed_from : ℕ → List Object → List (Key × Object)
 keyed_from number [] = []
-keyed_from number (object ∷ objects) = (key.Object (name_of_genesis number object), object) ∷ keyed_from (number + 1) objects
+keyed_from number (object ∷ objects) =
+    (key.Object (name_of_genesis number object), object) ∷ keyed_from (number + 1) objects
 
 -- none of these keys is a dummy's, and the objects have encodings
 abbrev pub AreObjects : List (Key × Object) → Type 0

@@ -8,7 +8,8 @@ use Rattle.cs_wire.specs.declared.input.Input.TheVariants as given
 use Rattle.cs_wire.specs.declared.keys.Row.{Row}
 use Rattle.cs_wire.specs.declared.keys.Keys.{Keys}
 use Rattle.cs_wire.specs.Keys.{row_of}
-use Rattle.cs_wire.specs.Opened.{Opened, opened, datagram_with}
+use Rattle.cs_wire.specs.Opened.{Opened, opened}
+use Rattle.cs_wire.specs.Datagram.{datagram_with}
 use Rattle.cs_ledger.specs.Ledger.{Bytes}
 use Rattle.cs_node_rules.specs.Net.{Net}
 use Rattle.cs_node_rules.specs.Site.{Input, Datagram, Tick}
@@ -26,5 +27,6 @@ sender_of (Err error) = None
 -- configuration but their holder.
 pub record Speaks (config : Config) (net : Net) (keys : Keys) : Type 0 where
   pub opens : (bytes : Bytes) → opened keys bytes ≡ net.opened keys.me bytes
-  pub seals : (to : NodeId) (row : Row) → row_of to keys ≡ Some row → (kind : ℕ) (body : Bytes) → datagram_with row.to keys.me to kind body ≡ net.datagram keys.me to kind body
+  pub seals : (to : NodeId) (row : Row) → row_of to keys ≡ Some row →
+      (kind : ℕ) (body : Bytes) → datagram_with row.to keys.me to kind body ≡ net.datagram keys.me to kind body
   pub reaches : (to : NodeId) → is_named config to ≡ true → same_name to keys.me ≡ false → IsSome (row_of to keys)

@@ -15,17 +15,20 @@ abbrev pub view_of : {M : Type 0} → NodeId → Bench → Member M → View M
 view_of {M} me bench h = record { me = me; bench = bench; member = h }
 
 -- these signs were made: of table and pool, and of what is told and said
-pub record Makes (setup : Setup) (me : NodeId) (signs : List Sign) (old new : Bench) (draft draft' : Draft) : Type 0 where
+pub record Makes (setup : Setup) (me : NodeId) (signs : List Sign)
+    (old new : Bench) (draft draft' : Draft) : Type 0 where
   pub tells : Tells signs draft draft'
   pub bench_is : new ≡ bench_after setup me.shard signs old
 
 -- these marks were made, and told what they say
-pub record Marks {M : Type 0} (site : Site M) (marks : List (Mark M)) (v : View M) (old new : Draft) (After : View M → Type 0) : Type 0 where
+pub record Marks {M : Type 0} (site : Site M) (marks : List (Mark M)) (v : View M)
+    (old new : Draft) (After : View M → Type 0) : Type 0 where
   pub tells : Tells (signs_of marks) old new
   pub after : After (view_after site marks v)
 
 -- one turn: the marks of the rule that applies, or nothing
-abbrev pub TurnDone : {M : Type 0} → Site M → Option (List (Mark M)) → View M → Bool → Draft → Draft → (View M → Type 0) → Type 0
+abbrev pub TurnDone : {M : Type 0} → Site M → Option (List (Mark M)) → View M → Bool
+    → Draft → Draft → (View M → Type 0) → Type 0
 TurnDone {M} site None v went old new After = (went ≡ false) × (new ≡ old) × After v
 TurnDone {M} site (Some fresh) v went old new After = (went ≡ true) × Marks site fresh v old new After
 
@@ -35,7 +38,8 @@ pub record Settles {M : Type 0} (site : Site M) (v : View M) (old new : Draft) (
   pub quiet : turn_marks site (view_after site (settled site (2 ^ 80) v) v) ≡ None
 
 -- the same on the way: these marks were made, and so many turns are left
-pub record Settling {M : Type 0} (site : Site M) (v : View M) (old now : Draft) (After : View M → Type 0) (rest : ℕ) : Type 0 where
+pub record Settling {M : Type 0} (site : Site M) (v : View M)
+    (old now : Draft) (After : View M → Type 0) (rest : ℕ) : Type 0 where
   pub done : List (Mark M)
   pub left : ℕ
   pub goes_on : settled site (2 ^ 80) v ≡ settled site left (view_after site done v) ++ done
@@ -43,12 +47,14 @@ pub record Settling {M : Type 0} (site : Site M) (v : View M) (old now : Draft) 
   pub enough : rest < left
 
 -- the marks of one event were made, and no rule applies then
-pub record Drafts {M : Type 0} (site : Site M) (v : View M) (input : Input) (draft : Draft) (After : View M → Type 0) : Type 0 where
+pub record Drafts {M : Type 0} (site : Site M) (v : View M) (input : Input)
+    (draft : Draft) (After : View M → Type 0) : Type 0 where
   pub marks : Marks site (event_marks site v input) v nothing draft After
   pub quiet : turn_marks site (view_after site (event_marks site v input) v) ≡ None
 
 -- one event: what it told and sent, where it led, and that no rule applies then
-pub record Event {M : Type 0} (site : Site M) (v : View M) (input : Input) (made : Made) (After : View M → Type 0) : Type 0 where
+pub record Event {M : Type 0} (site : Site M) (v : View M) (input : Input)
+    (made : Made) (After : View M → Type 0) : Type 0 where
   pub notes : made.notes ≡ notes_of (signs_of (event_marks site v input))
   pub outs : made.outs ≡ outs_of site.net v.me (signs_of (event_marks site v input))
   pub after : After (view_after site (event_marks site v input) v)

@@ -1,15 +1,12 @@
 //! What clients ask.
-ghost use Rattle.std.specs.Prelude.{◌≡◌, ◌∷◌, [], OnOk, Bool, List};
+ghost use Rattle.std.specs.Prelude.{◌∷◌, [], OnOk, Bool};
 ghost use Rattle.cs_base.specs.NodeId.{is_client};
-ghost use Rattle.cs_tx_value.specs.declared.object.Object.{Object};
 ghost use Rattle.cs_tx_form.specs.declared.transaction.Tx.{Tx};
 ghost use Rattle.cs_wire_message.specs.Message.{AskedFits};
 ghost use Rattle.cs_node_rules.specs.declared.cause.Cause.TheVariants.{Role, NoProof};
 ghost use Rattle.cs_node_rules.specs.Signs.{Dropped, guarded, ask_signs};
-ghost use Rattle.cs_node_pool.specs.Deployed.{deployed};
-ghost use Rattle.cs_sbac.specs.Held.{Held, bench_of};
 ghost use Rattle.cs_node.specs.Notes.{Tells, DraftFits};
-ghost use Rattle.cs_node.specs.Steps.{Makes};
+ghost use Rattle.cs_node.specs.Signing.{Does};
 
 use crate::draft::Draft;
 use cs_base::{Key, Memory, NodeId, shard_of};
@@ -27,7 +24,9 @@ pub fn ask(
     asked: Option<Key>,
 ) -> Result<(), Memory>
     requires { AskedFits asked }
-    ensures made { (genesis : List Object) (approves : Tx → Bool) → OnOk result (Makes (deployed sbac.now.config genesis approves) sbac.now.me (ask_signs (deployed sbac.now.config genesis approves) sbac.now.me.shard (bench_of sbac.now) sender asked) (bench_of sbac.now) (bench_of sbac.now) draft.old draft.new) }
+    ensures made { (approves : Tx → Bool) →
+        Does approves sbac.now sbac.now draft.old draft.new result
+        (λ setup b. ask_signs setup sbac.now.me.shard b sender asked) }
     ensures fits { DraftFits draft.old → OnOk result (DraftFits draft.new) }
 {
     if !sender.is_client() {
@@ -43,7 +42,8 @@ pub fn ask(
 
 /// A client asks for the proof of a slot. No checkpoint covers one, as none is made.
 pub fn ask_proof(draft: &mut Draft, sender: NodeId) -> Result<(), Memory>
-    ensures tells { OnOk result (Tells (guarded (is_client sender) Role (Dropped NoProof ∷ [])) draft.old draft.new) }
+    ensures tells { let signs = guarded (is_client sender) Role (Dropped NoProof ∷ []) in
+        OnOk result (Tells signs draft.old draft.new) }
     ensures fits { DraftFits draft.old → OnOk result (DraftFits draft.new) }
 {
     if !sender.is_client() {

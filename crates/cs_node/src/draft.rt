@@ -64,10 +64,12 @@ impl Draft {
     }
 
     /// Notes what an execution came to.
-    pub fn executed(&mut self, slot: u64, entry: Entry, effect: Effect) -> Result<(), Memory>
-        ensures notes { OnOk result (self.new.notes ≡ self.old.notes ++ Note.Executed slot entry effect ∷ []) }
+    pub fn note_execution(&mut self, slot: u64, entry: Entry, effect: Effect) -> Result<(), Memory>
+        ensures notes { let note = Note.Executed slot entry effect in
+            OnOk result (self.new.notes ≡ self.old.notes ++ note ∷ []) }
         ensures said { OnOk result (self.new.said ≡ self.old.said) }
-        ensures fits { ExecutedFits effect entry → DraftFits self.old → OnOk result (DraftFits self.new) }
+        ensures fits { ExecutedFits effect entry → DraftFits self.old →
+            OnOk result (DraftFits self.new) }
     {
         self.notes.push(Note::Executed {
             slot,
@@ -78,7 +80,7 @@ impl Draft {
     }
 
     /// Notes a view that the order entered.
-    pub fn viewed(&mut self, slot: u64, view: u16) -> Result<(), Memory>
+    pub fn note_view(&mut self, slot: u64, view: u16) -> Result<(), Memory>
         ensures tells { OnOk result (Tells (Viewed slot view ∷ []) self.old self.new) }
         ensures fits { DraftFits self.old → OnOk result (DraftFits self.new) }
     {

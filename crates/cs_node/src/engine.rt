@@ -4,14 +4,14 @@ ghost use Rattle.cs_tx_value.specs.declared.object.Object.{Object as AnyObject};
 ghost use Rattle.cs_order.specs.declared.answers.May.TheVariants.{Free, Only};
 ghost use Rattle.cs_order.specs.Deeds.{Member};
 ghost use Rattle.cs_node_rules.specs.Net.{Net};
-ghost use Rattle.cs_node_rules.specs.Trail.{handed, entered_view, due_marks, candidate_marks, propose_marks, echo_marks, turn_marks};
+ghost use Rattle.cs_node_rules.specs.Trail.{handed, entered_view, due_marks, candidate_marks, propose_marks, echo_marks, turn_marks, input_marks};
 ghost use Rattle.cs_node_state.specs.Admission.{due};
 ghost use Rattle.cs_node_pool.specs.Deployed.{deployed};
 ghost use Rattle.cs_node.specs.Notes.{Tells, DraftFits};
 ghost use Rattle.cs_node.specs.Proposals.{admits_proposed, admits_pending, first_admitted};
-ghost use Rattle.cs_node.specs.Steps.{TurnDone, Settles};
-ghost use Rattle.cs_node.specs.Carriers.{carrier};
-ghost use Rattle.cs_node.specs.Cores.{Leads, site_at};
+ghost use Rattle.cs_node.specs.Speaking.{Speaks, input_of};
+ghost use Rattle.cs_node.specs.Steps.{Marks, Settles};
+ghost use Rattle.cs_node.specs.Cores.{Leads, TurnsBy, site_at};
 
 use crate::carried::Carried;
 use crate::draft::Draft;
@@ -22,6 +22,7 @@ use cs_base::{Memory, Sequence};
 use cs_order::{May, Order, Outgoing, Proposed, Step};
 use cs_sbac::Sbac;
 use cs_tx::Judge;
+use cs_wire::{Input, Keys};
 use std::alloc::Global;
 
 /// What applies the rules of a node: its order, its table and its pool.
@@ -33,9 +34,31 @@ pub struct Engine<O: Order, J: Judge + Drop> {
 }
 
 impl<O: Carried, J: Judge + Drop> Engine<O, J> {
+    /// Does what an input says.
+    pub fn take_in(
+        &mut self,
+        alloc: Global,
+        keys: &Keys,
+        draft: &mut Draft,
+        input: Input<'_>,
+    ) -> Result<(), Memory>
+        ensures marks { keys.now.me ≡ self.old.sbac.me →
+            Leads O.stands J.is_approved O.rules O.carrier self.old self.new (λ site v After.
+            Speaks self.old.sbac.config site.net keys.now →
+            let marks = input_marks site v (input_of input.entry) in
+            OnOk result (Marks site marks v draft.old draft.new After)) }
+        ensures fits { DraftFits draft.old → OnOk result (DraftFits draft.new) }
+    {
+        match input {
+            Input::Datagram(bytes) => self.hear_datagram(alloc, keys, draft, bytes),
+            Input::Tick => self.tick(alloc, draft),
+        }
+    }
+
     /// Applies the rules until none applies.
     pub fn settle(&mut self, alloc: Global, draft: &mut Draft) -> Result<(), Memory>
-        ensures marks { Leads O.stands J.is_approved O.rules (carrier O.written O.read_of) self.old self.new (λ site v After. OnOk result (Settles site v draft.old draft.new After)) }
+        ensures marks { Leads O.stands J.is_approved O.rules O.carrier self.old self.new
+            (λ site v After. OnOk result (Settles site v draft.old draft.new After)) }
         ensures fits { DraftFits draft.old → OnOk result (DraftFits draft.new) }
     {
         while self.turn(alloc, draft)? {}
@@ -44,8 +67,10 @@ impl<O: Carried, J: Judge + Drop> Engine<O, J> {
 
     /// Applies the first rule that applies.
     fn turn(&mut self, alloc: Global, draft: &mut Draft) -> Result<bool, Memory>
-        ensures done { Leads O.stands J.is_approved O.rules (carrier O.written O.read_of) self.old self.new (λ site v After. IfOk result (λ went. TurnDone site (turn_marks site v) v went draft.old draft.new After)) }
-        ensures falls { IfOk result (λ went. went ≡ true → O.rest self.new.order < O.rest self.old.order) }
+        ensures done { TurnsBy O.stands J.is_approved O.rules O.carrier self.old self.new
+            draft.old draft.new result (λ site v. turn_marks site v) }
+        ensures falls { IfOk result (λ went. went ≡ true →
+            O.rest self.new.order < O.rest self.old.order) }
         ensures fits { DraftFits draft.old → OnOk result (DraftFits draft.new) }
     {
         let slot = self.order.open_slot();
@@ -65,7 +90,7 @@ impl<O: Carried, J: Judge + Drop> Engine<O, J> {
         }
     }
 
-    /// Says what a deed of the order handed out by which it may have entered a view, and notes that.
+    /// Says what a deed of the order handed out, and notes the view that it may have entered.
     pub(crate) fn say_moved(
         &self,
         alloc: Global,
@@ -74,18 +99,26 @@ impl<O: Carried, J: Judge + Drop> Engine<O, J> {
         before: u16,
         outgoing: Vec<Outgoing<O::Message>>,
     ) -> Result<(), Memory>
-        ensures tells { (net : Net) (genesis : List AnyObject) (h : Member O.Message) → O.stands self.now.order h → OnOk result (Tells (handed (site_at O.rules (carrier O.written O.read_of) net self.now.sbac genesis (J.is_approved self.now.judge)) self.now.sbac.me outgoing.items ++ entered_view slot before (O.rules.view h)) draft.old draft.new) }
+        ensures tells { (net : Net) (genesis : List AnyObject) (h : Member O.Message) →
+            O.stands self.now.order h →
+            let approves = J.is_approved self.now.judge in
+            let site = site_at O.rules O.carrier net self.now.sbac genesis approves in
+            let said = handed site self.now.sbac.me outgoing.items in
+            let entered = entered_view slot before (O.rules.view h) in
+            OnOk result (Tells (said ++ entered) draft.old draft.new) }
         ensures fits { DraftFits draft.old → OnOk result (DraftFits draft.new) }
     {
-        note_view(draft, slot, before, self.order.view())?;
+        note_entered_view(draft, slot, before, self.order.view())?;
         hand_out::<O>(alloc, &self.sbac, draft, outgoing)?;
         Ok(())
     }
 
     /// Echoes the pending proposal where the node admits it, and else proposes.
     fn echo(&mut self, alloc: Global, draft: &mut Draft) -> Result<bool, Memory>
-        ensures done { Leads O.stands J.is_approved O.rules (carrier O.written O.read_of) self.old self.new (λ site v After. IfOk result (λ went. TurnDone site (echo_marks site v (O.rules.pending v.member)) v went draft.old draft.new After)) }
-        ensures falls { IfOk result (λ went. went ≡ true → O.rest self.new.order < O.rest self.old.order) }
+        ensures done { TurnsBy O.stands J.is_approved O.rules O.carrier self.old self.new
+            draft.old draft.new result (λ site v. echo_marks site v (O.rules.pending v.member)) }
+        ensures falls { IfOk result (λ went. went ≡ true →
+            O.rest self.new.order < O.rest self.old.order) }
         ensures fits { DraftFits draft.old → OnOk result (DraftFits draft.new) }
     {
         if self.admits_pending(alloc)? {
@@ -99,8 +132,13 @@ impl<O: Carried, J: Judge + Drop> Engine<O, J> {
 
     /// Whether the node admits the pending proposal.
     fn admits_pending(&self, alloc: Global) -> Result<bool, Memory>
-        ensures awaits { (h : Member O.Message) → O.stands self.now.order h → O.awaits self.now.order ≡ O.rules.pending h }
-        ensures admitted { (genesis : List AnyObject) → IfOk result (λ yes. yes ≡ admits_pending (deployed self.now.sbac.config genesis (J.is_approved self.now.judge)) self.now.sbac.me.shard self.now.sbac.pool (O.awaits self.now.order)) }
+        ensures awaits { (h : Member O.Message) → O.stands self.now.order h →
+            O.awaits self.now.order ≡ O.rules.pending h }
+        ensures admitted { (genesis : List AnyObject) →
+            let setup = deployed self.now.sbac.config genesis (J.is_approved self.now.judge) in
+            let held = self.now.sbac in
+            let pending = O.awaits self.now.order in
+            IfOk result (λ yes. yes ≡ admits_pending setup held.me.shard held.pool pending) }
     {
         match self.order.pending() {
             None => Ok(false),
@@ -109,7 +147,10 @@ impl<O: Carried, J: Judge + Drop> Engine<O, J> {
     }
 
     fn admits(&self, alloc: Global, proposed: &Proposed) -> Result<bool, Memory>
-        ensures { (genesis : List AnyObject) → IfOk result (λ yes. yes ≡ admits_proposed (deployed self.now.sbac.config genesis (J.is_approved self.now.judge)) self.now.sbac.me.shard self.now.sbac.pool proposed.now) }
+        ensures { (genesis : List AnyObject) →
+            let setup = deployed self.now.sbac.config genesis (J.is_approved self.now.judge) in
+            let held = self.now.sbac in
+            IfOk result (λ yes. yes ≡ admits_proposed setup held.me.shard held.pool proposed.now) }
     {
         match read_entry(alloc, proposed)? {
             None => Ok(false),
@@ -119,8 +160,11 @@ impl<O: Carried, J: Judge + Drop> Engine<O, J> {
 
     /// Proposes, where the order lets the node propose.
     fn propose(&mut self, alloc: Global, draft: &mut Draft) -> Result<bool, Memory>
-        ensures done { Leads O.stands J.is_approved O.rules (carrier O.written O.read_of) self.old self.new (λ site v After. IfOk result (λ went. TurnDone site (propose_marks site v (O.rules.may_propose v.member)) v went draft.old draft.new After)) }
-        ensures falls { IfOk result (λ went. went ≡ true → O.rest self.new.order < O.rest self.old.order) }
+        ensures done { TurnsBy O.stands J.is_approved O.rules O.carrier self.old self.new
+            draft.old draft.new result
+            (λ site v. propose_marks site v (O.rules.may_propose v.member)) }
+        ensures falls { IfOk result (λ went. went ≡ true →
+            O.rest self.new.order < O.rest self.old.order) }
         ensures fits { DraftFits draft.old → OnOk result (DraftFits draft.new) }
     {
         match self.order.may_propose(alloc)? {
@@ -133,8 +177,10 @@ impl<O: Carried, J: Judge + Drop> Engine<O, J> {
     /// Proposes the due entry.
     fn propose_due(&mut self, alloc: Global, draft: &mut Draft) -> Result<bool, Memory>
         requires { O.allows self.old.order ≡ Free }
-        ensures done { Leads O.stands J.is_approved O.rules (carrier O.written O.read_of) self.old self.new (λ site v After. IfOk result (λ went. TurnDone site (due_marks site v (due site.setup v.bench.pool)) v went draft.old draft.new After)) }
-        ensures falls { IfOk result (λ went. went ≡ true → O.rest self.new.order < O.rest self.old.order) }
+        ensures done { TurnsBy O.stands J.is_approved O.rules O.carrier self.old self.new
+            draft.old draft.new result (λ site v. due_marks site v (due site.setup v.bench.pool)) }
+        ensures falls { IfOk result (λ went. went ≡ true →
+            O.rest self.new.order < O.rest self.old.order) }
         ensures fits { DraftFits draft.old → OnOk result (DraftFits draft.new) }
     {
         match self.sbac.due(alloc)? {
@@ -157,8 +203,10 @@ impl<O: Carried, J: Judge + Drop> Engine<O, J> {
         candidates: Sequence<Proposed>,
     ) -> Result<bool, Memory>
         requires { O.allows self.old.order ≡ Only candidates }
-        ensures done { Leads O.stands J.is_approved O.rules (carrier O.written O.read_of) self.old self.new (λ site v After. IfOk result (λ went. TurnDone site (candidate_marks site v candidates) v went draft.old draft.new After)) }
-        ensures falls { IfOk result (λ went. went ≡ true → O.rest self.new.order < O.rest self.old.order) }
+        ensures done { TurnsBy O.stands J.is_approved O.rules O.carrier self.old self.new
+            draft.old draft.new result (λ site v. candidate_marks site v candidates) }
+        ensures falls { IfOk result (λ went. went ≡ true →
+            O.rest self.new.order < O.rest self.old.order) }
         ensures fits { DraftFits draft.old → OnOk result (DraftFits draft.new) }
     {
         match self.first_admitted(alloc, &candidates)? {
@@ -177,7 +225,11 @@ impl<O: Carried, J: Judge + Drop> Engine<O, J> {
         alloc: Global,
         candidates: &Sequence<Proposed>,
     ) -> Result<Option<Proposed>, Memory>
-        ensures { (genesis : List AnyObject) → IfOk result (λ first. first ≡ first_admitted (deployed self.now.sbac.config genesis (J.is_approved self.now.judge)) self.now.sbac.me.shard self.now.sbac.pool candidates.now) }
+        ensures { (genesis : List AnyObject) →
+            let setup = deployed self.now.sbac.config genesis (J.is_approved self.now.judge) in
+            let held = self.now.sbac in
+            let found = first_admitted setup held.me.shard held.pool candidates.now in
+            IfOk result (λ first. first ≡ found) }
     {
         for proposed in candidates.as_slice() {
             if self.admits(alloc, proposed)? {
@@ -189,12 +241,12 @@ impl<O: Carried, J: Judge + Drop> Engine<O, J> {
 }
 
 // Notes the view that was entered, if one was.
-fn note_view(draft: &mut Draft, slot: u64, before: u16, after: u16) -> Result<(), Memory>
+fn note_entered_view(draft: &mut Draft, slot: u64, before: u16, after: u16) -> Result<(), Memory>
     ensures tells { OnOk result (Tells (entered_view slot before after) draft.old draft.new) }
     ensures fits { DraftFits draft.old → OnOk result (DraftFits draft.new) }
 {
     if before < after {
-        return draft.viewed(slot, after);
+        return draft.note_view(slot, after);
     }
     Ok(())
 }

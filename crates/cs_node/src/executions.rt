@@ -1,15 +1,12 @@
 //! Execution of what was chosen.
-ghost use Rattle.std.specs.Prelude.{◌≡◌, OnOk, List, Bool};
-ghost use Rattle.cs_tx_value.specs.declared.object.Object.{Object};
+ghost use Rattle.std.specs.Prelude.{◌≡◌, OnOk, Bool};
 ghost use Rattle.cs_tx_form.specs.declared.transaction.Tx.{Tx};
 ghost use Rattle.cs_tx_form.specs.Session.{SessionFits, EntryFits};
 ghost use Rattle.cs_node_state.specs.Setup.{session_in};
 ghost use Rattle.cs_node_rules.specs.Signs.{execution_signs};
-ghost use Rattle.cs_node_pool.specs.Deployed.{deployed};
-ghost use Rattle.cs_sbac.specs.Held.{Held, bench_of};
 ghost use Rattle.cs_node.specs.Notes.{DraftFits};
 ghost use Rattle.cs_node.specs.Proposals.{entry_in};
-ghost use Rattle.cs_node.specs.Steps.{Makes};
+ghost use Rattle.cs_node.specs.Signing.{Does};
 
 use crate::draft::Draft;
 use crate::proposals::{read_entry, void_entry};
@@ -32,8 +29,8 @@ fn session_in(entry: &Entry) -> &Session
     }
 }
 
-/// Executes what was chosen in a slot, notes what that came to, and says the node's vote to all whom
-/// it concerns. Bytes that are no entry change nothing.
+/// Executes what was chosen in a slot, notes what that came to, and says the node's vote to all
+/// whom it concerns. Bytes that are no entry change nothing.
 pub fn execute(
     alloc: Global,
     sbac: &mut Sbac,
@@ -41,7 +38,9 @@ pub fn execute(
     slot: u64,
     proposed: &Proposed,
 ) -> Result<(), Memory>
-    ensures made { (genesis : List Object) (approves : Tx → Bool) → OnOk result (Makes (deployed sbac.old.config genesis approves) sbac.old.me (execution_signs (deployed sbac.old.config genesis approves) sbac.old.me (bench_of sbac.old) slot (entry_in proposed.now)) (bench_of sbac.old) (bench_of sbac.new) draft.old draft.new) }
+    ensures made { (approves : Tx → Bool) →
+        Does approves sbac.old sbac.new draft.old draft.new result
+        (λ setup b. execution_signs setup sbac.old.me b slot (entry_in proposed.now)) }
     ensures fits { DraftFits draft.old → OnOk result (DraftFits draft.new) }
     ensures config { OnOk result (sbac.new.config ≡ sbac.old.config) }
     ensures me { OnOk result (sbac.new.me ≡ sbac.old.me) }
@@ -50,11 +49,11 @@ pub fn execute(
         Some(entry) => {
             let outcome = sbac.execute(alloc, &entry)?;
             say_vote(alloc, sbac, draft, session_in(&entry), outcome.voted)?;
-            draft.executed(slot, entry, outcome.effect)?;
+            draft.note_execution(slot, entry, outcome.effect)?;
             Ok(())
         }
         None => {
-            draft.executed(slot, void_entry(alloc), Effect::Void)?;
+            draft.note_execution(slot, void_entry(alloc), Effect::Void)?;
             Ok(())
         }
     }

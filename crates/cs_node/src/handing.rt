@@ -1,12 +1,8 @@
 //! What an order hands out.
-ghost use Rattle.std.specs.Prelude.{Bool, List, OnOk};
-ghost use Rattle.cs_tx_value.specs.declared.object.Object.{Object};
-ghost use Rattle.cs_tx_form.specs.declared.transaction.Tx.{Tx};
-ghost use Rattle.cs_node_rules.specs.Net.{Net};
+ghost use Rattle.std.specs.Prelude.{OnOk};
 ghost use Rattle.cs_node_rules.specs.Trail.{out_signs, handed};
 ghost use Rattle.cs_node.specs.Notes.{Tells, DraftFits};
-ghost use Rattle.cs_node.specs.Carriers.{carrier};
-ghost use Rattle.cs_node.specs.Cores.{site_at};
+ghost use Rattle.cs_node.specs.Cores.{AtEverySite};
 
 use crate::carried::Carried;
 use crate::draft::Draft;
@@ -23,7 +19,8 @@ fn say_out<O: Carried>(
     draft: &mut Draft,
     out: Outgoing<O::Message>,
 ) -> Result<(), Memory>
-    ensures tells { (net : Net) (genesis : List Object) (approves : Tx → Bool) → OnOk result (Tells (out_signs (site_at O.rules (carrier O.written O.read_of) net sbac.now genesis approves) sbac.now.me out.to out.message) draft.old draft.new) }
+    ensures tells { AtEverySite O.rules O.carrier sbac.now (λ site.
+        OnOk result (Tells (out_signs site sbac.now.me out.to out.message) draft.old draft.new)) }
     ensures fits { DraftFits draft.old → OnOk result (DraftFits draft.new) }
 {
     let me = sbac.me();
@@ -54,7 +51,8 @@ pub fn hand_out<O: Carried>(
     draft: &mut Draft,
     outgoing: Vec<Outgoing<O::Message>>,
 ) -> Result<(), Memory>
-    ensures tells { (net : Net) (genesis : List Object) (approves : Tx → Bool) → OnOk result (Tells (handed (site_at O.rules (carrier O.written O.read_of) net sbac.now genesis approves) sbac.now.me outgoing.items) draft.old draft.new) }
+    ensures tells { AtEverySite O.rules O.carrier sbac.now (λ site.
+        OnOk result (Tells (handed site sbac.now.me outgoing.items) draft.old draft.new)) }
     ensures fits { DraftFits draft.old → OnOk result (DraftFits draft.new) }
 {
     for out in outgoing {

@@ -10,8 +10,7 @@ ghost use Rattle.cs_node_pool.specs.Deployed.{deployed};
 ghost use Rattle.cs_node.specs.Notes.{DraftFits};
 ghost use Rattle.cs_node.specs.Speaking.{Speaks};
 ghost use Rattle.cs_node.specs.Steps.{Marks};
-ghost use Rattle.cs_node.specs.Carriers.{carrier};
-ghost use Rattle.cs_node.specs.Cores.{Leads};
+ghost use Rattle.cs_node.specs.Cores.{Leads, LeadsBy};
 
 use crate::asks::{ask, ask_proof};
 use crate::carried::Carried;
@@ -40,7 +39,11 @@ impl<O: Carried, J: Judge + Drop> Engine<O, J> {
         draft: &mut Draft,
         bytes: &[u8],
     ) -> Result<(), Memory>
-        ensures marks { keys.now.me ≡ self.old.sbac.me → Leads O.stands J.is_approved O.rules (carrier O.written O.read_of) self.old self.new (λ site v After. Speaks self.old.sbac.config site.net keys.now → OnOk result (Marks site (input_marks site v (Datagram bytes.now)) v draft.old draft.new After)) }
+        ensures marks { keys.now.me ≡ self.old.sbac.me →
+            Leads O.stands J.is_approved O.rules O.carrier self.old self.new (λ site v After.
+            Speaks self.old.sbac.config site.net keys.now →
+            let marks = input_marks site v (Datagram bytes.now) in
+            OnOk result (Marks site marks v draft.old draft.new After)) }
         ensures fits { DraftFits draft.old → OnOk result (DraftFits draft.new) }
     {
         match read(alloc, keys, bytes)? {
@@ -59,7 +62,8 @@ impl<O: Carried, J: Judge + Drop> Engine<O, J> {
         message: Message,
     ) -> Result<(), Memory>
         requires { MessageFits message }
-        ensures marks { Leads O.stands J.is_approved O.rules (carrier O.written O.read_of) self.old self.new (λ site v After. OnOk result (Marks site (message_marks site v sender message) v draft.old draft.new After)) }
+        ensures marks { LeadsBy O.stands J.is_approved O.rules O.carrier self.old self.new
+            draft.old draft.new result (λ site v. message_marks site v sender message) }
         ensures fits { DraftFits draft.old → OnOk result (DraftFits draft.new) }
     {
         match message {
@@ -122,7 +126,8 @@ impl<O: Carried, J: Judge + Drop> Engine<O, J> {
 
     /// Drops what its sender may not say.
     fn refuse(&self, draft: &mut Draft) -> Result<(), Memory>
-        ensures marks { Leads O.stands J.is_approved O.rules (carrier O.written O.read_of) self.now self.now (λ site v After. OnOk result (Marks site (drops Role) v draft.old draft.new After)) }
+        ensures marks { LeadsBy O.stands J.is_approved O.rules O.carrier self.now self.now
+            draft.old draft.new result (λ site v. drops Role) }
         ensures fits { DraftFits draft.old → OnOk result (DraftFits draft.new) }
     {
         draft.drop_it(Cause::Role)?;
@@ -138,7 +143,9 @@ impl<O: Carried, J: Judge + Drop> Engine<O, J> {
         message: Message,
     ) -> Result<(), Memory>
         requires { MessageFits message }
-        ensures marks { Leads O.stands J.is_approved O.rules (carrier O.written O.read_of) self.old self.new (λ site v After. OnOk result (Marks site (member_marks site v sender (O.read_of message)) v draft.old draft.new After)) }
+        ensures marks { LeadsBy O.stands J.is_approved O.rules O.carrier self.old self.new
+            draft.old draft.new result
+            (λ site v. member_marks site v sender (O.carrier.read message)) }
         ensures fits { DraftFits draft.old → OnOk result (DraftFits draft.new) }
     {
         match O::read(alloc, message)? {
@@ -164,7 +171,11 @@ impl<O: Carried, J: Judge + Drop> Engine<O, J> {
         from: u16,
         message: O::Message,
     ) -> Result<(), Memory>
-        ensures marks { from ≤ 3 * self.old.sbac.config.f → from ≢ self.old.sbac.me.index → O.rules.proper message ≡ true → Leads O.stands J.is_approved O.rules (carrier O.written O.read_of) self.old self.new (λ site v After. OnOk result (Marks site (taking_marks from message (O.rules.taking v.member from message)) v draft.old draft.new After)) }
+        ensures marks { from ≤ 3 * self.old.sbac.config.f → from ≢ self.old.sbac.me.index →
+            O.rules.proper message ≡ true →
+            LeadsBy O.stands J.is_approved O.rules O.carrier self.old self.new
+            draft.old draft.new result
+            (λ site v. taking_marks from message (O.rules.taking v.member from message)) }
         ensures fits { DraftFits draft.old → OnOk result (DraftFits draft.new) }
     {
         match self.order.take(alloc, from, message)? {
@@ -185,7 +196,8 @@ impl<O: Carried, J: Judge + Drop> Engine<O, J> {
         sender: NodeId,
         slot: u64,
     ) -> Result<(), Memory>
-        ensures marks { Leads O.stands J.is_approved O.rules (carrier O.written O.read_of) self.now self.now (λ site v After. OnOk result (Marks site (want_marks site v sender slot) v draft.old draft.new After)) }
+        ensures marks { LeadsBy O.stands J.is_approved O.rules O.carrier self.now self.now
+            draft.old draft.new result (λ site v. want_marks site v sender slot) }
         ensures fits { DraftFits draft.old → OnOk result (DraftFits draft.new) }
     {
         if !is_other_member(self.sbac.config(), self.sbac.me(), sender) {

@@ -20,7 +20,8 @@ fn add_members(
     me: NodeId,
     shard: u16,
 ) -> Result<(), Memory>
-    ensures { OnOk result (names.new ≡ names.old ++ except me (members_below shard (3 * config.now.f + 1))) }
+    ensures { let members = members_below shard (3 * config.now.f + 1) in
+        OnOk result (names.new ≡ names.old ++ except me members) }
 {
     for index in 0..3 * config.f + 1 {
         let name = NodeId { shard, index };

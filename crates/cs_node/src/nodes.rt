@@ -12,7 +12,6 @@ ghost use Rattle.cs_node.specs.Notes.{NotesFit};
 ghost use Rattle.cs_node.specs.Setups.{keyed_from, AreObjects, Starts};
 ghost use Rattle.cs_node.specs.Speaking.{Speaks, input_of, sender_of};
 ghost use Rattle.cs_node.specs.Steps.{Event};
-ghost use Rattle.cs_node.specs.Carriers.{carrier};
 ghost use Rattle.cs_node.specs.Cores.{StandsFor};
 
 use crate::carried::Carried;
@@ -58,7 +57,12 @@ impl<O: Carried, J: Judge + Drop> Core<O, J> {
         requires start { O.at_start order }
         requires f { O.f order ≡ config.f }
         requires me { O.me order ≡ keys.me.index }
-        ensures { (objects : List AnyObject) → genesis.now ≡ keyed_from 0 objects → Starts (twice config.shards keys.me.shard genesis.now) result (λ core. (net : Net) → Speaks config net keys → StandsFor O.stands J.is_approved (deployed config objects (J.is_approved judge)) net core (start_view (site_of (deployed config objects (J.is_approved judge)) net O.rules (carrier O.written O.read_of)) keys.me)) }
+        ensures { (objects : List AnyObject) → genesis.now ≡ keyed_from 0 objects →
+            let setup = deployed config objects (J.is_approved judge) in
+            Starts (twice config.shards keys.me.shard genesis.now) result (λ core.
+            (net : Net) → Speaks config net keys →
+            let v = start_view (site_of setup net O.rules O.carrier) keys.me in
+            StandsFor O.stands J.is_approved setup net core v) }
     {
         let me = keys.me();
         let table = match Table::genesis(alloc, config, me.shard, genesis) {
@@ -73,7 +77,11 @@ impl<O: Carried, J: Judge + Drop> Core<O, J> {
 
     /// One event: what comes of an input, and of the rules until none applies.
     pub fn step(&mut self, alloc: Global, input: Input<'_>) -> Result<Made, Memory>
-        ensures event { (setup : Setup) (net : Net) (v : View O.Message) → StandsFor O.stands J.is_approved setup net self.old v → IfOk result (λ made. Event (site_of setup net O.rules (carrier O.written O.read_of)) v (input_of input.entry) made (StandsFor O.stands J.is_approved setup net self.new)) }
+        ensures event { (setup : Setup) (net : Net) (v : View O.Message) →
+            StandsFor O.stands J.is_approved setup net self.old v →
+            let site = site_of setup net O.rules O.carrier in
+            let After = StandsFor O.stands J.is_approved setup net self.new in
+            IfOk result (λ made. Event site v (input_of input.entry) made After) }
         ensures fits { IfOk result (λ made. NotesFit made.notes) }
     {
         let mut draft = Draft::new(alloc);
@@ -85,14 +93,17 @@ impl<O: Carried, J: Judge + Drop> Core<O, J> {
 
     /// The name of the node.
     pub fn me(&self) -> NodeId
-        ensures { (setup : Setup) (net : Net) (v : View O.Message) → StandsFor O.stands J.is_approved setup net self.now v → result ≡ v.me }
+        ensures { (setup : Setup) (net : Net) (v : View O.Message) →
+            StandsFor O.stands J.is_approved setup net self.now v → result ≡ v.me }
     {
         self.keys.me()
     }
 
     /// As whom bytes open at this node, if they open.
     pub fn sender(&self, alloc: Global, bytes: &[u8]) -> Result<Option<NodeId>, Memory>
-        ensures { (setup : Setup) (net : Net) (v : View O.Message) → StandsFor O.stands J.is_approved setup net self.now v → IfOk result (λ sender. sender ≡ sender_of (net.opened v.me bytes.now)) }
+        ensures { (setup : Setup) (net : Net) (v : View O.Message) →
+            StandsFor O.stands J.is_approved setup net self.now v →
+            IfOk result (λ sender. sender ≡ sender_of (net.opened v.me bytes.now)) }
     {
         match read(alloc, &self.keys, bytes)? {
             Ok((sender, _)) => Ok(Some(sender)),

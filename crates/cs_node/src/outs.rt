@@ -29,7 +29,10 @@ fn add_out(
     outs: &mut Sequence<Out>,
 ) -> Result<(), Memory>
     requires { MessageFits message.now }
-    ensures { (config : Config) (net : Net) → Speaks config net keys.now → IsSome (row_of to keys.now) → OnOk result (outs.new ≡ outs.old ++ record { to = to; bytes = sealed net keys.now.me to message.now } ∷ []) }
+    ensures { (config : Config) (net : Net) →
+        Speaks config net keys.now → IsSome (row_of to keys.now) →
+        OnOk result (outs.new ≡
+        outs.old ++ record { to = to; bytes = sealed net keys.now.me to message.now } ∷ []) }
 {
     let mut bytes = Vec::new(alloc);
     match seal(alloc, keys, to, message, &mut bytes) {
@@ -48,7 +51,10 @@ fn add_out(
 // Seals a message for each of those to whom it is said.
 fn add_outs(alloc: Global, keys: &Keys, said: &Said, outs: &mut Sequence<Out>) -> Result<(), Memory>
     requires { MessageFits said.now.message }
-    ensures { (config : Config) (net : Net) → Speaks config net keys.now → AllReached keys.now (to_each said.now.to said.now.message) → OnOk result (outs.new ≡ outs.old ++ outs_for net keys.now.me (to_each said.now.to said.now.message)) }
+    ensures { (config : Config) (net : Net) → Speaks config net keys.now →
+        let each = to_each said.now.to said.now.message in
+        AllReached keys.now each →
+        OnOk result (outs.new ≡ outs.old ++ outs_for net keys.now.me each) }
 {
     let names = said.to.as_slice();
     for i in 0..names.len() {
@@ -59,7 +65,9 @@ fn add_outs(alloc: Global, keys: &Keys, said: &Said, outs: &mut Sequence<Out>) -
 
 fn seal_each(alloc: Global, keys: &Keys, said: &[Said]) -> Result<Sequence<Out>, Memory>
     requires { AllSaidFit said.now }
-    ensures { (config : Config) (net : Net) → Speaks config net keys.now → AllReached keys.now (spoken said.now) → IfOk result (λ outs. outs ≡ outs_for net keys.now.me (spoken said.now)) }
+    ensures { (config : Config) (net : Net) →
+        Speaks config net keys.now → AllReached keys.now (spoken said.now) →
+        IfOk result (λ outs. outs ≡ outs_for net keys.now.me (spoken said.now)) }
 {
     let mut outs = Sequence::new(alloc);
     for i in 0..said.len() {
@@ -72,7 +80,9 @@ fn seal_each(alloc: Global, keys: &Keys, said: &[Said]) -> Result<Sequence<Out>,
 pub fn seal_draft(alloc: Global, keys: &Keys, draft: Draft) -> Result<Made, Memory>
     requires { DraftFits draft }
     ensures notes { IfOk result (λ made. made.notes ≡ draft.notes) }
-    ensures outs { (config : Config) (net : Net) → Speaks config net keys.now → AllReached keys.now (spoken draft.said) → IfOk result (λ made. made.outs ≡ outs_for net keys.now.me (spoken draft.said)) }
+    ensures outs { (config : Config) (net : Net) →
+        Speaks config net keys.now → AllReached keys.now (spoken draft.said) →
+        IfOk result (λ made. made.outs ≡ outs_for net keys.now.me (spoken draft.said)) }
 {
     let outs = seal_each(alloc, keys, draft.said.as_slice())?;
     Ok(Made {

@@ -1,7 +1,5 @@
 //! What a node says of its own accord.
-ghost use Rattle.std.specs.Prelude.{◌≡◌, ◌∷◌, [], true, Some, Bool, List, IfOk, OnOk};
-ghost use Rattle.cs_tx_value.specs.declared.object.Object.{Object};
-ghost use Rattle.cs_tx_form.specs.declared.transaction.Tx.{Tx};
+ghost use Rattle.std.specs.Prelude.{◌≡◌, ◌∷◌, [], true, Some, IfOk, OnOk};
 ghost use Rattle.cs_tx_form.specs.declared.vote.Vote.TheVariants.{Commit};
 ghost use Rattle.cs_tx_form.specs.Session.{SessionFits};
 ghost use Rattle.cs_wire_message.specs.declared.message.Message.TheVariants as message;
@@ -9,8 +7,8 @@ ghost use Rattle.cs_wire_message.specs.Message.{IsSlot};
 ghost use Rattle.cs_node_state.specs.Setup.{concerned};
 ghost use Rattle.cs_node_rules.specs.Members.{others};
 ghost use Rattle.cs_node_rules.specs.Signs.{sends, vote_signs, asked_again};
-ghost use Rattle.cs_node_pool.specs.Deployed.{deployed};
 ghost use Rattle.cs_node.specs.Notes.{Tells, DraftFits};
+ghost use Rattle.cs_node.specs.Signing.{AtEverySetup};
 
 use crate::draft::Draft;
 use crate::members::others;
@@ -23,7 +21,9 @@ use std::alloc::Global;
 /// All other nodes of the shards that a session concerns.
 fn voters(alloc: Global, sbac: &Sbac, session: &Session) -> Result<Sequence<NodeId>, Memory>
     requires { SessionFits session.now }
-    ensures { (genesis : List Object) (approves : Tx → Bool) → IfOk result (λ names. names ≡ others sbac.now.config.f sbac.now.me (concerned (deployed sbac.now.config genesis approves) session.now)) }
+    ensures { AtEverySetup sbac.now.config (λ setup.
+        let all = others sbac.now.config.f sbac.now.me (concerned setup session.now) in
+        IfOk result (λ names. names ≡ all)) }
 {
     let shards = sbac.concerned(alloc, session)?;
     let names = others(alloc, sbac.config(), sbac.me(), shards.as_slice())?;
@@ -39,7 +39,8 @@ pub fn say_vote(
     voted: Option<(Vote, bool)>,
 ) -> Result<(), Memory>
     requires { SessionFits session.now }
-    ensures tells { (genesis : List Object) (approves : Tx → Bool) → OnOk result (Tells (vote_signs (deployed sbac.now.config genesis approves) sbac.now.me session.now voted) draft.old draft.new) }
+    ensures tells { AtEverySetup sbac.now.config (λ setup.
+        OnOk result (Tells (vote_signs setup sbac.now.me session.now voted) draft.old draft.new)) }
     ensures fits { DraftFits draft.old → OnOk result (DraftFits draft.new) }
 {
     let Some((vote, asks)) = voted else {
@@ -63,7 +64,9 @@ pub fn say_vote(
 // Asks all whom a locked session concerns for their votes. The node itself has voted commit.
 fn ask_votes(alloc: Global, sbac: &Sbac, draft: &mut Draft, session: Session) -> Result<(), Memory>
     requires { SessionFits session }
-    ensures tells { (genesis : List Object) (approves : Tx → Bool) → OnOk result (Tells (vote_signs (deployed sbac.now.config genesis approves) sbac.now.me session (Some (Commit, true))) draft.old draft.new) }
+    ensures tells { AtEverySetup sbac.now.config (λ setup.
+        let signs = vote_signs setup sbac.now.me session (Some (Commit, true)) in
+        OnOk result (Tells signs draft.old draft.new)) }
     ensures fits { DraftFits draft.old → OnOk result (DraftFits draft.new) }
 {
     let names = voters(alloc, sbac, &session)?;
@@ -79,7 +82,8 @@ fn ask_votes(alloc: Global, sbac: &Sbac, draft: &mut Draft, session: Session) ->
 
 /// Asks again for the votes on all locked sessions.
 pub fn ask_again(alloc: Global, sbac: &Sbac, draft: &mut Draft) -> Result<(), Memory>
-    ensures tells { (genesis : List Object) (approves : Tx → Bool) → OnOk result (Tells (asked_again (deployed sbac.now.config genesis approves) sbac.now.me sbac.now.pool) draft.old draft.new) }
+    ensures tells { AtEverySetup sbac.now.config (λ setup.
+        OnOk result (Tells (asked_again setup sbac.now.me sbac.now.pool) draft.old draft.new)) }
     ensures fits { DraftFits draft.old → OnOk result (DraftFits draft.new) }
 {
     let mut sessions = sbac.locked(alloc)?;
@@ -93,7 +97,8 @@ pub fn ask_again(alloc: Global, sbac: &Sbac, draft: &mut Draft) -> Result<(), Me
 /// Asks the other members of the shard for what was chosen in a slot.
 pub fn want(alloc: Global, sbac: &Sbac, draft: &mut Draft, slot: u64) -> Result<(), Memory>
     requires { IsSlot slot }
-    ensures tells { OnOk result (Tells (sends (others sbac.now.config.f sbac.now.me (sbac.now.me.shard ∷ [])) (message.Want slot)) draft.old draft.new) }
+    ensures tells { let members = others sbac.now.config.f sbac.now.me (sbac.now.me.shard ∷ []) in
+        OnOk result (Tells (sends members (message.Want slot)) draft.old draft.new) }
     ensures fits { DraftFits draft.old → OnOk result (DraftFits draft.new) }
 {
     let me = sbac.me();

@@ -1,5 +1,5 @@
 //! The order of a single member, which has no message to carry.
-ghost use Rattle.cs_node.specs.SoloCarried.{solo_written, solo_read, solo_carries};
+ghost use Rattle.cs_node.specs.SoloCarried.{solo_carrier, solo_carries};
 
 use crate::carried::Carried;
 use cs_base::Memory;
@@ -8,9 +8,7 @@ use cs_wire_message::Message;
 use std::alloc::Global;
 
 impl Carried for Solo {
-    ghost written = { solo_written };
-
-    ghost read_of = { solo_read };
+    ghost carrier = { solo_carrier };
 
     ghost carries = { solo_carries };
 

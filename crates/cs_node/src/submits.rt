@@ -1,12 +1,9 @@
 //! Sessions that clients submit.
-ghost use Rattle.std.specs.Prelude.{◌≡◌, OnOk, List};
-ghost use Rattle.cs_tx_value.specs.declared.object.Object.{Object};
+ghost use Rattle.std.specs.Prelude.{◌≡◌, OnOk};
 ghost use Rattle.cs_tx_form.specs.Session.{SessionFits};
 ghost use Rattle.cs_node_rules.specs.Signs.{entering_signs, submit_signs};
-ghost use Rattle.cs_node_pool.specs.Deployed.{deployed};
-ghost use Rattle.cs_sbac.specs.Held.{Held, bench_of};
 ghost use Rattle.cs_node.specs.Notes.{DraftFits};
-ghost use Rattle.cs_node.specs.Steps.{Makes};
+ghost use Rattle.cs_node.specs.Signing.{Does};
 
 use crate::draft::Draft;
 use cs_base::{Memory, NodeId};
@@ -25,7 +22,8 @@ fn enter<J: Judge>(
     session: Session,
 ) -> Result<(), Memory>
     requires { SessionFits session }
-    ensures made { (genesis : List Object) → OnOk result (Makes (deployed sbac.old.config genesis (J.is_approved judge.now)) sbac.old.me (entering_signs (deployed sbac.old.config genesis (J.is_approved judge.now)) (bench_of sbac.old) session) (bench_of sbac.old) (bench_of sbac.new) draft.old draft.new) }
+    ensures made { Does (J.is_approved judge.now) sbac.old sbac.new draft.old draft.new result
+        (λ setup b. entering_signs setup b session) }
     ensures fits { DraftFits draft.old → OnOk result (DraftFits draft.new) }
     ensures config { OnOk result (sbac.new.config ≡ sbac.old.config) }
     ensures me { OnOk result (sbac.new.me ≡ sbac.old.me) }
@@ -52,7 +50,8 @@ pub fn submit<J: Judge>(
     session: Session,
 ) -> Result<(), Memory>
     requires { SessionFits session }
-    ensures made { (genesis : List Object) → OnOk result (Makes (deployed sbac.old.config genesis (J.is_approved judge.now)) sbac.old.me (submit_signs (deployed sbac.old.config genesis (J.is_approved judge.now)) sbac.old.me.shard (bench_of sbac.old) sender session) (bench_of sbac.old) (bench_of sbac.new) draft.old draft.new) }
+    ensures made { Does (J.is_approved judge.now) sbac.old sbac.new draft.old draft.new result
+        (λ setup b. submit_signs setup sbac.old.me.shard b sender session) }
     ensures fits { DraftFits draft.old → OnOk result (DraftFits draft.new) }
     ensures config { OnOk result (sbac.new.config ≡ sbac.old.config) }
     ensures me { OnOk result (sbac.new.me ≡ sbac.old.me) }

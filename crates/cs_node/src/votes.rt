@@ -1,6 +1,5 @@
 //! The votes of other nodes.
-ghost use Rattle.std.specs.Prelude.{◌≡◌, ◌∷◌, [], None, OnOk, List};
-ghost use Rattle.cs_tx_value.specs.declared.object.Object.{Object};
+ghost use Rattle.std.specs.Prelude.{◌≡◌, ◌∷◌, [], None, OnOk};
 ghost use Rattle.cs_tx_form.specs.Session.{SessionFits};
 ghost use Rattle.cs_tx.specs.Digest.{digest_of_session};
 ghost use Rattle.cs_node_rules.specs.declared.cause.Cause.TheVariants.{Denied, Full};
@@ -8,10 +7,8 @@ ghost use Rattle.cs_node_state.specs.Setup.{is_approved};
 ghost use Rattle.cs_node_state.specs.Pool.{found, has_room};
 ghost use Rattle.cs_node_state.specs.Bench.{noted};
 ghost use Rattle.cs_node_rules.specs.Signs.{Took, Entered as Enters, guarded, asking_signs, voted_signs};
-ghost use Rattle.cs_node_pool.specs.Deployed.{deployed};
-ghost use Rattle.cs_sbac.specs.Held.{Held, bench_of};
 ghost use Rattle.cs_node.specs.Notes.{DraftFits};
-ghost use Rattle.cs_node.specs.Steps.{Makes};
+ghost use Rattle.cs_node.specs.Signing.{Does};
 
 use crate::draft::Draft;
 use cs_base::Memory;
@@ -33,7 +30,9 @@ fn enter_voted<J: Judge>(
 ) -> Result<(), Memory>
     requires fits { SessionFits session }
     requires new { found (digest_of_session session) sbac.old.pool ≡ None }
-    ensures made { (genesis : List Object) → OnOk result (Makes (deployed sbac.old.config genesis (J.is_approved judge.now)) sbac.old.me (guarded (is_approved (deployed sbac.old.config genesis (J.is_approved judge.now)) session) Denied (guarded (has_room sbac.old.pool) Full (Took ballot.sender ballot.vote session ∷ Enters session ∷ []))) (bench_of sbac.old) (bench_of sbac.new) draft.old draft.new) }
+    ensures made { Does (J.is_approved judge.now) sbac.old sbac.new draft.old draft.new result
+        (λ setup b. let signs = Took ballot.sender ballot.vote session ∷ Enters session ∷ [] in
+        guarded (is_approved setup session) Denied (guarded (has_room b.pool) Full signs)) }
     ensures fits { DraftFits draft.old → OnOk result (DraftFits draft.new) }
     ensures config { OnOk result (sbac.new.config ≡ sbac.old.config) }
     ensures me { OnOk result (sbac.new.me ≡ sbac.old.me) }
@@ -60,7 +59,9 @@ fn answer_vote<J: Judge>(
 ) -> Result<(), Memory>
     requires fits { SessionFits session }
     requires new { found (digest_of_session session) sbac.old.pool ≡ None }
-    ensures made { (genesis : List Object) → OnOk result (Makes (deployed sbac.old.config genesis (J.is_approved judge.now)) sbac.old.me (asking_signs (deployed sbac.old.config genesis (J.is_approved judge.now)) (bench_of sbac.old) ballot.sender ballot.vote asks session (noted (deployed sbac.old.config genesis (J.is_approved judge.now)) sbac.old.me.shard (bench_of sbac.old).table session)) (bench_of sbac.old) (bench_of sbac.new) draft.old draft.new) }
+    ensures made { Does (J.is_approved judge.now) sbac.old sbac.new draft.old draft.new result
+        (λ setup b. let on_record = noted setup sbac.old.me.shard b.table session in
+        asking_signs setup b ballot.sender ballot.vote asks session on_record) }
     ensures fits { DraftFits draft.old → OnOk result (DraftFits draft.new) }
     ensures config { OnOk result (sbac.new.config ≡ sbac.old.config) }
     ensures me { OnOk result (sbac.new.me ≡ sbac.old.me) }
@@ -92,7 +93,8 @@ pub fn hear_vote<J: Judge>(
     session: Session,
 ) -> Result<(), Memory>
     requires { SessionFits session }
-    ensures made { (genesis : List Object) → OnOk result (Makes (deployed sbac.old.config genesis (J.is_approved judge.now)) sbac.old.me (voted_signs (deployed sbac.old.config genesis (J.is_approved judge.now)) sbac.old.me.shard (bench_of sbac.old) ballot.sender ballot.vote asks session) (bench_of sbac.old) (bench_of sbac.new) draft.old draft.new) }
+    ensures made { Does (J.is_approved judge.now) sbac.old sbac.new draft.old draft.new result
+        (λ setup b. voted_signs setup sbac.old.me.shard b ballot.sender ballot.vote asks session) }
     ensures fits { DraftFits draft.old → OnOk result (DraftFits draft.new) }
     ensures config { OnOk result (sbac.new.config ≡ sbac.old.config) }
     ensures me { OnOk result (sbac.new.me ≡ sbac.old.me) }

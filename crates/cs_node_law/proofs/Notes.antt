@@ -4,7 +4,8 @@ use Rattle.std.specs.Prelude.{bytes_eq, nat_lt, ◌==◌}
 use Rattle.std.proofs.lemmas.Bool.{and_from, or_left, or_right}
 use Rattle.cs_tx_form.specs.declared.vote.Vote.{Vote as Said}
 use Rattle.cs_tx_form.specs.declared.vote.Vote.TheVariants as tx
-use Rattle.cs_ledger.specs.Ledger.{Bytes, or_else}
+use Rattle.cs_ledger.specs.Ledger.{Bytes}
+use Rattle.cs_base.specs.Options.{or_else}
 use Rattle.cs_ledger.specs.Session.{Rules, Key, Object, Dummy, has_key, key_eq, objects_in, anchor, used_up, read_only, object_under}
 use Rattle.cs_ledger.specs.Table.{Vote, Commit, Abort, Book, State, Unknown, Active, Locked, Inactive, Table, Entry, Outcome, Effect, Voted, is_locked_by, vote_in, locked, released, made, lock_state, undo_state, accept_state, new_pieces, exec, table_of}
 use Rattle.cs_ledger.specs.Standing.{is_inactive_by, recorded}

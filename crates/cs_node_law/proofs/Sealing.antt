@@ -6,8 +6,7 @@ use Rattle.sha2.specs.Sha256.{digest_bytes, sha256}
 use Rattle.cs_base.specs.declared.node_id.NodeId.{NodeId}
 use Rattle.cs_base.specs.Fields.{IsBytes}
 use Rattle.cs_hash.specs.Hash.{key_block, masked, hmac}
-use Rattle.cs_wire.specs.Datagram.{name_encoding}
-use Rattle.cs_wire.specs.Opened.{text_with, datagram_with}
+use Rattle.cs_wire.specs.Datagram.{name_encoding, text_with, datagram_with}
 
 pub bytes-nil : IsBytes []
 bytes-nil i = omega arith

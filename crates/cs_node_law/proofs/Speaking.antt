@@ -12,10 +12,10 @@ use Rattle.cs_wire_message.proofs.Wholes.{whole_has}
 use Rattle.cs_wire.specs.declared.head.Head.{Head}
 use Rattle.cs_wire.specs.declared.keys.Keys.{Keys}
 use Rattle.cs_wire.specs.declared.opening.OpenError.{OpenError}
-use Rattle.cs_wire.specs.Datagram.{body_in}
+use Rattle.cs_wire.specs.Datagram.{body_in, text_with, datagram_with}
 use Rattle.cs_wire.specs.Heads.{first, head_seen}
 use Rattle.cs_wire.specs.Opens.{IsName, fault_of}
-use Rattle.cs_wire.specs.Opened.{said_by, opened_body, unless_fault, opened, text_with, datagram_with}
+use Rattle.cs_wire.specs.Opened.{said_by, opened_body, unless_fault, opened}
 use Rattle.cs_wire.proofs.Parts.{head_encoding, HeadFits, head_form}
 
 -- ---- what opens is within the limits

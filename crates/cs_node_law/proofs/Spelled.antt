@@ -10,7 +10,7 @@ use Rattle.cs_tx_value.specs.declared.value.Value.{Value, out-Value, roll-Value}
 use Rattle.cs_tx_value.specs.declared.value.Value.TheVariants.{rolls-Int, rolls-Bool, rolls-Bytes, rolls-List}
 use Rattle.cs_tx_value.specs.declared.value.Value.TheOpen.{Value-F}
 use Rattle.cs_tx_value.specs.Encoding.{value_encoding, LayerFits, ValueFitsIn, AtMost}
-use Rattle.cs_tx_value.specs.Layers.{roll-out, encoding_int, encoding_bool, encoding_bytes, encoding_list}
+use Rattle.cs_tx_value.specs.laws.Layers.{roll-out, encoding_int, encoding_bool, encoding_bytes, encoding_list}
 use Rattle.cs_tx_value.specs.Name.{name_encoding, NameFits}
 use Rattle.cs_tx_value.specs.Key.{key_encoding, KeyFits}
 use Rattle.cs_tx_value.specs.Object.{object_encoding, DigestFits, ObjectFits}

@@ -57,7 +57,8 @@ pub record IsPlayed {M : Type 0} (site : Site M) (world : List (Happening M)) : 
 abbrev pub PlaysWorlds : {M : Type 0} → Machine M → Type 0
 PlaysWorlds {M} machine =
     (carrier : Carrier M) → Carries machine carrier →
-    (config : Config) (master : Bytes) (liars : List NodeId) (genesis : List Object) (session_of : Session → Seen.Session) (traced : Bool) (events : List (ℕ × Event)) →
+    (config : Config) (master : Bytes) (liars : List NodeId) (genesis : List Object)
+    (session_of : Session → Seen.Session) (traced : Bool) (events : List (ℕ × Event)) →
     config.shards ≤ 16 → config.f ≤ 5 →
     All (λ numbered. IsGivable config (net_of config master liars) numbered.1) events →
     let site = site_of (setup_of config genesis session_of) (net_of config master liars) machine carrier in

@@ -46,7 +46,8 @@ log_in (Sent to message ∷ past) = log_in past
 -- a Prepare of exactly this session was executed, and gave a vote
 abbrev pub HasVotedOn : Session → List Sign → Type 0
 HasVotedOn x [] = ⊥
-HasVotedOn x (Did slot entry effect ∷ past) = ((entry ≡ Prepare x) × ((vote : Vote) × (effect ≡ Voted vote))) ⊎ HasVotedOn x past
+HasVotedOn x (Did slot entry effect ∷ past) =
+    ((entry ≡ Prepare x) × ((vote : Vote) × (effect ≡ Voted vote))) ⊎ HasVotedOn x past
 HasVotedOn x (Dropped cause ∷ past) = HasVotedOn x past
 HasVotedOn x (Took sender vote y ∷ past) = HasVotedOn x past
 HasVotedOn x (Entered y ∷ past) = HasVotedOn x past
@@ -56,7 +57,8 @@ HasVotedOn x (Sent to message ∷ past) = HasVotedOn x past
 -- a Prepare of a session of this digest was executed, with this vote
 abbrev pub has_given : Setup → Bytes → Vote → List Sign → Bool
 has_given setup d vote [] = false
-has_given setup d vote (Did slot entry effect ∷ past) = (prepares setup d entry && is_vote vote effect) || has_given setup d vote past
+has_given setup d vote (Did slot entry effect ∷ past) =
+    (prepares setup d entry && is_vote vote effect) || has_given setup d vote past
 has_given setup d vote (Dropped cause ∷ past) = has_given setup d vote past
 has_given setup d vote (Took sender other x ∷ past) = has_given setup d vote past
 has_given setup d vote (Entered x ∷ past) = has_given setup d vote past
@@ -71,7 +73,8 @@ current {M} (Ordered deed ∷ past) = current past
 current {M} (Plain sign ∷ past) = current past
 
 -- that input says this, as from this sender
-pub record IsHeard {M : Type 0} (site : Site M) (v : View M) (t : List (Mark M)) (sender : NodeId) (said : Message) : Type 0 where
+pub record IsHeard {M : Type 0} (site : Site M) (v : View M) (t : List (Mark M))
+    (sender : NodeId) (said : Message) : Type 0 where
   pub bytes : Bytes
   pub is_current : current t ≡ Some (Datagram bytes)
   pub reads : site.net.opened v.me bytes ≡ Ok (sender, said)
@@ -86,7 +89,8 @@ pub record IsOffered {M : Type 0} (site : Site M) (v : View M) (t : List (Mark M
   pub approved : is_approved site.setup x ≡ true
 
 -- a node of a concerned shard votes on this session
-pub record IsVoted {M : Type 0} (site : Site M) (v : View M) (t : List (Mark M)) (sender : NodeId) (vote : Said) (x : Session) : Type 0 where
+pub record IsVoted {M : Type 0} (site : Site M) (v : View M) (t : List (Mark M))
+    (sender : NodeId) (vote : Said) (x : Session) : Type 0 where
   pub asks : Bool
   pub heard : IsHeard site v t sender (message.Voted vote asks x)
   pub fit : is_fit site.setup v.me.shard x ≡ true
@@ -128,7 +132,8 @@ DeedMade {M} site v t (Resent sent) = Unit {0}
 DeedMade {M} site v t (Replied slot to sent) = Unit {0}
 
 -- the entry that was chosen for the next slot is executed on the table
-pub record Executes {M : Type 0} (site : Site M) (v : View M) (signs : List Sign) (slot : ℕ) (entry : Entry) (effect : Effect) : Type 0 where
+pub record Executes {M : Type 0} (site : Site M) (v : View M) (signs : List Sign)
+    (slot : ℕ) (entry : Entry) (effect : Effect) : Type 0 where
   pub next : slot ≡ length (log_in signs)
   pub computed : effect ≡ (exec site.setup.rules v.me.shard v.bench.table (entry_of site.setup entry)).effect
   pub proposed : Proposed
@@ -153,16 +158,18 @@ SaidMade {M} site v t to (message.Voted vote asks x) =
 SaidMade {M} site v t to (message.Want slot) = Unit {0}
 SaidMade {M} site v t to said = (is_client to ≡ true) × (is_ordering said ≡ false)
 
--- A vote that was taken is the node's own, which it gave, or was heard; a session that entered was offered, or voted on;
--- what was sent was handed out by the order for a member of the shard, or is the node's own word.
+-- A vote that was taken is the node's own, which it gave, or was heard; a session that entered was offered, or voted
+-- on; what was sent was handed out by the order for a member of the shard, or is the node's own word.
 abbrev pub SignMade : {M : Type 0} → Site M → View M → List (Mark M) → Sign → Type 0
 SignMade {M} site v t (Dropped cause) = Unit {0}
 SignMade {M} site v t (Took sender vote x) =
-    ((sender ≡ v.me) × (has_given site.setup (digest_of site.setup x) (vote_of vote) (signs_of t) ≡ true)) ⊎ IsVoted site v t sender vote x
+    ((sender ≡ v.me) × (has_given site.setup (digest_of site.setup x) (vote_of vote) (signs_of t) ≡ true))
+    ⊎ IsVoted site v t sender vote x
 SignMade {M} site v t (Entered x) = IsOffered site v t x ⊎ HasVotedOn x (signs_of t)
 SignMade {M} site v t (Viewed slot view) = Unit {0}
 SignMade {M} site v t (Did slot entry effect) = Executes site v (signs_of t) slot entry effect
-SignMade {M} site v t (Sent to said) = ((to.shard ≡ v.me.shard) × IsHanded site to.index said v.member.deeds) ⊎ SaidMade site v t to said
+SignMade {M} site v t (Sent to said) =
+    ((to.shard ≡ v.me.shard) × IsHanded site to.index said v.member.deeds) ⊎ SaidMade site v t to said
 
 -- Why the mark may stand after the marks t of a node, which is at v.
 abbrev pub MadeAt : {M : Type 0} → Site M → View M → List (Mark M) → Mark M → Type 0
@@ -184,11 +191,13 @@ pub record IsLevel {M : Type 0} (site : Site M) (me : NodeId) (t : List (Mark M)
 
 -- the order's messages that are read are proper
 abbrev pub ReadsProper : {M : Type 0} → Site M → Type 0
-ReadsProper {M} site = (said : Message) (m : M) → MessageFits said → site.carrier.read said ≡ Some m → site.machine.proper m ≡ true
+ReadsProper {M} site =
+    (said : Message) (m : M) → MessageFits said → site.carrier.read said ≡ Some m → site.machine.proper m ≡ true
 
 -- what the input says to the node is within the limits of messages
 abbrev pub InputFits : {M : Type 0} → Site M → NodeId → Input → Type 0
-InputFits {M} site me (Datagram bytes) = (sender : NodeId) (said : Message) → site.net.opened me bytes ≡ Ok (sender, said) → MessageFits said
+InputFits {M} site me (Datagram bytes) =
+    (sender : NodeId) (said : Message) → site.net.opened me bytes ≡ Ok (sender, said) → MessageFits said
 InputFits {M} site me Tick = Unit {0}
 
 -- The rules of a node add only marks that are made.

@@ -18,8 +18,8 @@ pub fn marks_are_made<O: Order>()
     ensures notes { (site : Site O.Message) → NotesAreGiven site }
 {}
 
-/// What a datagram that is dropped does to a node at which no rule applies, over any order: nothing,
-/// but that it was given and dropped.
+/// What a datagram that is dropped does to a node at which no rule applies, over any order:
+/// nothing, but that it was given and dropped.
 ///
 /// It does nothing: its contract is a theorem, which a caller has by calling it.
 pub fn a_dropped_datagram_changes_nothing<O: Order>()
@@ -27,8 +27,8 @@ pub fn a_dropped_datagram_changes_nothing<O: Order>()
     ensures { (site : Site O.Message) → DropChangesNothing site }
 {}
 
-/// What the schedules play, over any order: worlds in which honest nodes keep the rules, and are given
-/// bytes of which none is forged.
+/// What the schedules play, over any order: worlds in which honest nodes keep the rules, and are
+/// given bytes of which none is forged.
 ///
 /// It does nothing: its contract is a theorem, which a caller has by calling it.
 pub fn schedules_play_worlds<O: Order>()

@@ -7,7 +7,15 @@ use Rattle.cs_node_state.specs.Setup.{Setup}
 use Rattle.cs_node_state.specs.Deployed.{setup_of}
 use Rattle.cs_tx.specs.Sessions.{session_of}
 
--- The setup of a deployment with this configuration. Pool and table look at neither the genesis nor what the checks
--- say, so their clauses hold for all.
+-- the setup of a deployment with this configuration
 abbrev pub deployed : Config → List Object → (Tx → Bool) → Setup
 deployed config genesis approves = setup_of config genesis (session_of approves)
+
+-- so at every setup of a deployment with this configuration: pool and table look at neither the genesis nor what the
+-- checks say
+abbrev pub AtAnySetup : Config → (Setup → Type 0) → Type 0
+AtAnySetup config Holds = (genesis : List Object) (approves : Tx → Bool) → Holds (deployed config genesis approves)
+
+-- the same where the checks say this
+abbrev pub AtAnyGenesis : Config → (Tx → Bool) → (Setup → Type 0) → Type 0
+AtAnyGenesis config approves Holds = (genesis : List Object) → Holds (deployed config genesis approves)

@@ -60,6 +60,11 @@ pub record IsPicked (test : Pooled → Bool) (chosen : BTreeSet ℕ) (turns : Tu
   pub rising : set.IsOrdered nat_cmp chosen
   pub has : (n : ℕ) → contains nat_cmp chosen n ≡ picks test (standing n turns)
 
+-- the set has this number or not, and the others as before
+abbrev pub IsMarked : ℕ → Bool → BTreeSet ℕ → BTreeSet ℕ → Type 0
+IsMarked number belongs before after =
+    (n : ℕ) → contains nat_cmp after n ≡ (if is_at (nat_cmp number) n then belongs else contains nat_cmp before n)
+
 abbrev pub waits : Pooled → Bool
 waits p = not p.locked
 

@@ -1,19 +1,16 @@
 //! How a pool is kept, so that no call goes over all its sessions.
-ghost use Rattle.std.specs.Prelude.{◌≡◌, ◌++◌, ◌∷◌, [], ℕ, Bool, List, if◌then◌else◌, OnOk, IfOk, None, option_copied};
+ghost use Rattle.std.specs.Prelude.{◌≡◌, ◌++◌, ◌∷◌, [], OnOk, IfOk, None, option_copied};
 ghost use Rattle.std.specs.Ordering.{nat_cmp};
-ghost use Rattle.std.specs.BTreeMap.{is_at};
-ghost use Rattle.std.specs.BTreeSet.{contains, IsOrdered};
+ghost use Rattle.std.specs.BTreeSet.{IsOrdered};
 ghost use Rattle.cs_base.specs.declared.config.Config.{Config};
-ghost use Rattle.cs_tx_value.specs.declared.object.Object.{Object};
-ghost use Rattle.cs_tx_form.specs.declared.transaction.Tx.{Tx};
 ghost use Rattle.cs_tx_form.specs.Session.{SessionFits};
 ghost use Rattle.cs_node_state.specs.Evidence.{has_voted};
 ghost use Rattle.cs_node_state.specs.Pool.{found, without, changed, as_locked, with_ballot, waiting_count};
 ghost use Rattle.cs_node_state.specs.Admission.{first_decided, first_waiting, due};
-ghost use Rattle.cs_node_pool.specs.Deployed.{deployed};
+ghost use Rattle.cs_node_pool.specs.Deployed.{AtAnySetup};
 ghost use Rattle.cs_node_pool.specs.Fits.{PoolFits, AllFit, DueFits};
 ghost use Rattle.cs_node_pool.specs.Calls.{counted_in, locked_in};
-ghost use Rattle.cs_node_pool.specs.Turns.{Placed, SoundTurns, IsPicked, waits, pool_in};
+ghost use Rattle.cs_node_pool.specs.Turns.{Placed, SoundTurns, IsPicked, IsMarked, waits, pool_in};
 
 use crate::answers::Counted;
 use crate::due::vote_due;
@@ -38,7 +35,7 @@ pub struct Kept {
 
 /// Has a number in a set, or not.
 fn mark(chosen: &mut BTreeSet<u64>, number: u64, belongs: bool) -> Result<(), Memory>
-    ensures has { OnOk result ((n : ℕ) → contains nat_cmp chosen.new n ≡ (if is_at (nat_cmp number) n then belongs else contains nat_cmp chosen.old n)) }
+    ensures has { OnOk result (IsMarked number belongs chosen.old chosen.new) }
     ensures rising { IsOrdered nat_cmp chosen.new }
 {
     if belongs {
@@ -51,7 +48,8 @@ fn mark(chosen: &mut BTreeSet<u64>, number: u64, belongs: bool) -> Result<(), Me
 
 /// Takes a vote, unless it repeats one of its node. Whether it does.
 fn take_vote(pooled: &mut Pooled, ballot: Ballot) -> Result<bool, Memory>
-    ensures repeats { IfOk result (λ repeats. repeats ≡ has_voted ballot.sender pooled.old.ballots) }
+    ensures repeats { IfOk result (λ repeats.
+        repeats ≡ has_voted ballot.sender pooled.old.ballots) }
     ensures ballots { OnOk result (pooled.new ≡ with_ballot ballot pooled.old) }
 {
     if has_voted(pooled.ballots.as_slice(), ballot.sender) {
@@ -139,9 +137,11 @@ impl Kept {
         ballot: Ballot,
     ) -> Result<Counted, Memory>
         requires { SoundTurns config.now self.old }
-        ensures answer { IfOk result (λ answer. answer ≡ counted_in ballot.sender (found digest.now (pool_in self.old))) }
+        ensures answer { IfOk result (λ answer.
+            answer ≡ counted_in ballot.sender (found digest.now (pool_in self.old))) }
         ensures sound { OnOk result (SoundTurns config.now self.new) }
-        ensures pool { OnOk result (pool_in self.new ≡ changed digest.now (with_ballot ballot) (pool_in self.old)) }
+        ensures pool { OnOk result (pool_in self.new
+            ≡ changed digest.now (with_ballot ballot) (pool_in self.old)) }
     {
         let Some(number) = self.numbers.get(digest) else {
             return Ok(Counted::NotPooled);
@@ -163,7 +163,8 @@ impl Kept {
     pub fn lock(&mut self, alloc: Global, config: &Config, digest: &Digest) -> Result<(), Memory>
         requires { SoundTurns config.now self.old }
         ensures sound { OnOk result (SoundTurns config.now self.new) }
-        ensures pool { OnOk result (pool_in self.new ≡ changed digest.now as_locked (pool_in self.old)) }
+        ensures pool { OnOk result (pool_in self.new
+            ≡ changed digest.now as_locked (pool_in self.old)) }
     {
         let Some(number) = self.numbers.get(digest) else {
             return Ok(());
@@ -206,7 +207,8 @@ impl Kept {
 
     fn decide_due(&self, alloc: Global, config: &Config) -> Result<Option<Entry>, Memory>
         requires { SoundTurns config.now self.now }
-        ensures entry { (genesis : List Object) (approves : Tx → Bool) → IfOk result (λ entry. entry ≡ first_decided (deployed config.now genesis approves) (pool_in self.now)) }
+        ensures entry { AtAnySetup config.now (λ setup.
+            IfOk result (λ entry. entry ≡ first_decided setup (pool_in self.now))) }
         ensures fits { IfOk result DueFits }
     {
         let Some(number) = self.ready.first() else {
@@ -243,7 +245,8 @@ impl Kept {
     /// or else a vote on the first session that waits.
     pub fn due(&self, alloc: Global, config: &Config) -> Result<Option<Entry>, Memory>
         requires { SoundTurns config.now self.now }
-        ensures entry { (genesis : List Object) (approves : Tx → Bool) → IfOk result (λ entry. entry ≡ due (deployed config.now genesis approves) (pool_in self.now)) }
+        ensures entry { AtAnySetup config.now (λ setup.
+            IfOk result (λ entry. entry ≡ due setup (pool_in self.now))) }
         ensures fits { IfOk result DueFits }
     {
         match self.decide_due(alloc, config)? {

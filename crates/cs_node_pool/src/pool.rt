@@ -1,11 +1,9 @@
 //! The pool: sessions under their digests, in the order of entering.
-ghost use Rattle.std.specs.Prelude.{◌≡◌, Bool, List, ◌++◌, ◌∷◌, [], OnOk, IfOk, None, option_copied};
-ghost use Rattle.cs_tx_value.specs.declared.object.Object.{Object};
-ghost use Rattle.cs_tx_form.specs.declared.transaction.Tx.{Tx};
+ghost use Rattle.std.specs.Prelude.{◌≡◌, ◌++◌, ◌∷◌, [], OnOk, IfOk, None, option_copied};
 ghost use Rattle.cs_tx_form.specs.Session.{SessionFits};
 ghost use Rattle.cs_node_state.specs.Pool.{found, is_pooled, without, changed, as_locked, with_ballot, waiting_count};
 ghost use Rattle.cs_node_state.specs.Admission.{due};
-ghost use Rattle.cs_node_pool.specs.Deployed.{deployed};
+ghost use Rattle.cs_node_pool.specs.Deployed.{AtAnySetup};
 ghost use Rattle.cs_node_pool.specs.Fits.{DueFits, AllFit};
 ghost use Rattle.cs_node_pool.specs.Calls.{counted_in, locked_in};
 
@@ -59,7 +57,8 @@ impl Pool {
 
     /// The session of a digest.
     pub fn get(&self, digest: &Digest) -> Result<Option<&Pooled>, Memory>
-        ensures { IfOk result (λ pooled. option_copied pooled ≡ found digest.now self.now.sessions) }
+        ensures { IfOk result (λ pooled.
+            option_copied pooled ≡ found digest.now self.now.sessions) }
     {
         if !self.is_whole {
             return Err(Memory);
@@ -89,7 +88,8 @@ impl Pool {
     pub fn push(&mut self, alloc: Global, digest: Digest, pooled: Pooled) -> Result<(), Memory>
         requires new { found digest self.old.sessions ≡ None }
         requires fits { SessionFits pooled.session }
-        ensures sessions { OnOk result (self.new.sessions ≡ self.old.sessions ++ (digest, pooled) ∷ []) }
+        ensures sessions { OnOk result (self.new.sessions
+            ≡ self.old.sessions ++ (digest, pooled) ∷ []) }
         ensures config { self.new.config ≡ self.old.config }
     {
         if !self.is_whole {
@@ -120,8 +120,10 @@ impl Pool {
         digest: &Digest,
         ballot: Ballot,
     ) -> Result<Counted, Memory>
-        ensures answer { IfOk result (λ answer. answer ≡ counted_in ballot.sender (found digest.now self.old.sessions)) }
-        ensures sessions { OnOk result (self.new.sessions ≡ changed digest.now (with_ballot ballot) self.old.sessions) }
+        ensures answer { IfOk result (λ answer.
+            answer ≡ counted_in ballot.sender (found digest.now self.old.sessions)) }
+        ensures sessions { OnOk result (self.new.sessions
+            ≡ changed digest.now (with_ballot ballot) self.old.sessions) }
         ensures config { self.new.config ≡ self.old.config }
     {
         if !self.is_whole {
@@ -135,7 +137,8 @@ impl Pool {
 
     /// Marks a session as locked.
     pub fn lock(&mut self, alloc: Global, digest: &Digest) -> Result<(), Memory>
-        ensures sessions { OnOk result (self.new.sessions ≡ changed digest.now as_locked self.old.sessions) }
+        ensures sessions { OnOk result (self.new.sessions
+            ≡ changed digest.now as_locked self.old.sessions) }
         ensures config { self.new.config ≡ self.old.config }
     {
         if !self.is_whole {
@@ -161,7 +164,8 @@ impl Pool {
     /// The entry that is due: the first decision of a locked session, in the order of the pool,
     /// or else a vote on the first session that waits.
     pub fn due(&self, alloc: Global) -> Result<Option<Entry>, Memory>
-        ensures entry { (genesis : List Object) (approves : Tx → Bool) → IfOk result (λ entry. entry ≡ due (deployed self.now.config genesis approves) self.now.sessions) }
+        ensures entry { AtAnySetup self.now.config (λ setup.
+            IfOk result (λ entry. entry ≡ due setup self.now.sessions)) }
         ensures fits { IfOk result DueFits }
     {
         if !self.is_whole {

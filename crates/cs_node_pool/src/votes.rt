@@ -1,6 +1,6 @@
 //! The votes on one session.
-ghost use Rattle.std.specs.Prelude.{◌≡◌, ◌≤◌, Some, None, if◌then◌else◌};
-ghost use Rattle.cs_node_state.specs.Evidence.{has_voted, has_ballot, has_support, is_decided};
+ghost use Rattle.std.specs.Prelude.{◌≡◌, ◌≤◌};
+ghost use Rattle.cs_node_state.specs.Evidence.{has_voted, has_ballot, has_support, is_decided, decided_vote};
 ghost use Rattle.cs_tx_form.specs.declared.vote.Vote.TheVariants.{Commit, Abort};
 
 use cs_base::NodeId;
@@ -67,7 +67,7 @@ pub fn is_decided(f: u16, shards: &[u16], vote: Vote, ballots: &[Ballot]) -> boo
 /// The vote that is decided, commit before abort.
 pub fn decision(f: u16, shards: &[u16], ballots: &[Ballot]) -> Option<Vote>
     requires { f ≤ 5 }
-    ensures { result ≡ (if is_decided f shards.now Commit ballots.now then Some Commit else if is_decided f shards.now Abort ballots.now then Some Abort else None) }
+    ensures { result ≡ decided_vote f shards.now ballots.now }
 {
     if is_committed(f, shards, ballots) {
         Some(Vote::Commit)

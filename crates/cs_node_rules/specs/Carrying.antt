@@ -39,9 +39,12 @@ pub record Carries {M : Type 0} (machine : Machine M) (carrier : Carrier M) : Ty
   -- what is written is within the limits of messages
   pub fits : (m : M) → MessageFits (carrier.written m)
   -- a proper message of entries is carried by one of the order's kinds, and read as it was
-  pub ours : (m : M) → machine.proper m ≡ true → ((p : Proposed) → IsIn p (machine.carried m) → IsEntry p) → is_ordering (carrier.written m) ≡ true
-  pub back : (m : M) → machine.proper m ≡ true → ((p : Proposed) → IsIn p (machine.carried m) → IsEntry p) → carrier.read (carrier.written m) ≡ Some m
+  pub ours : (m : M) → machine.proper m ≡ true → ((p : Proposed) → IsIn p (machine.carried m) → IsEntry p) →
+      is_ordering (carrier.written m) ≡ true
+  pub back : (m : M) → machine.proper m ≡ true → ((p : Proposed) → IsIn p (machine.carried m) → IsEntry p) →
+      carrier.read (carrier.written m) ≡ Some m
   -- only messages of the order's kinds are read; what is read is proper, and its entries are those of the message
   pub theirs : (said : Message) (m : M) → carrier.read said ≡ Some m → is_ordering said ≡ true
   pub proper : (said : Message) (m : M) → MessageFits said → carrier.read said ≡ Some m → machine.proper m ≡ true
-  pub entries : (said : Message) (m : M) → carrier.read said ≡ Some m → machine.carried m ≡ map proposed_of (entries_in said)
+  pub entries : (said : Message) (m : M) → carrier.read said ≡ Some m →
+      machine.carried m ≡ map proposed_of (entries_in said)

@@ -41,7 +41,8 @@ in_opened {A} those (Err error) = []
 -- what stood in the datagrams that a node was given
 abbrev pub given : {A M : Type 0} → Site M → (Message → List A) → NodeId → List (Mark M) → List A
 given {A} {M} site those me [] = []
-given {A} {M} site those me (In (Datagram bytes) ∷ past) = in_opened those (site.net.opened me bytes) ++ given site those me past
+given {A} {M} site those me (In (Datagram bytes) ∷ past) =
+    in_opened those (site.net.opened me bytes) ++ given site those me past
 given {A} {M} site those me (In Tick ∷ past) = given site those me past
 given {A} {M} site those me (Ordered deed ∷ past) = given site those me past
 given {A} {M} site those me (Plain sign ∷ past) = given site those me past
@@ -68,7 +69,8 @@ known_sessions {M} site (h ∷ past) = given site sessions_in h.node h.marks ++ 
 
 abbrev pub known_entries : {M : Type 0} → Site M → List (Happening M) → List Entry
 known_entries {M} site [] = []
-known_entries {M} site (h ∷ past) = given site entries_in h.node h.marks ++ (entries_proposed site h.marks ++ known_entries site past)
+known_entries {M} site (h ∷ past) =
+    given site entries_in h.node h.marks ++ (entries_proposed site h.marks ++ known_entries site past)
 
 -- a string that is hashed, its letter in front: of a genesis object (G), of a session (S), of its transaction (T),
 -- of an output by its trace and its place there (O), of an entry (E)

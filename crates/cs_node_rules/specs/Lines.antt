@@ -25,7 +25,8 @@ effect_text digest Void = codes "void"
 
 abbrev pub slot_line : NodeId → ℕ → Bytes → Effect → Bytes
 slot_line me slot digest effect =
-    codes "node " ++ (node_text me ++ (codes " slot " ++ (decimal slot ++ (codes " " ++ (effect_text digest effect ++ codes "\n")))))
+    codes "node " ++ (node_text me ++ (codes " slot " ++ (decimal slot
+    ++ (codes " " ++ (effect_text digest effect ++ codes "\n")))))
 
 abbrev pub cause_text : Cause → Bytes
 cause_text cause.Short = codes "short"
@@ -104,7 +105,8 @@ kind_in bytes = kind_or_none (slice_get bytes 4)
 -- the datagram of this number, whole
 abbrev pub sent_line : ℕ → Parcel → Bytes
 sent_line number parcel =
-    codes "sent " ++ (decimal number ++ (codes " " ++ (node_text parcel.from ++ (codes " " ++ (node_text parcel.to ++ (codes " "
+    codes "sent " ++ (decimal number
+    ++ (codes " " ++ (node_text parcel.from ++ (codes " " ++ (node_text parcel.to ++ (codes " "
     ++ (decimal (kind_in parcel.bytes) ++ (codes " " ++ (bytes_text parcel.bytes ++ codes "\n")))))))))
 
 -- the first of which has this number
@@ -121,7 +123,8 @@ at_line event line = codes "at " ++ (decimal event ++ (codes " " ++ (decimal lin
 -- the event at a node: that it came, what the node did, what it sent
 abbrev pub event_lines : Setup → Bool → ℕ → ℕ → NodeId → List Sign → ℕ → List Parcel → Bytes
 event_lines setup traced event line me signs number parcels =
-    if_traced traced (at_line event line) ++ (sign_lines setup traced me signs ++ if_traced traced (sent_lines number parcels))
+    if_traced traced (at_line event line)
+    ++ (sign_lines setup traced me signs ++ if_traced traced (sent_lines number parcels))
 
 -- what this line injects is forged
 abbrev pub forged_line : ℕ → Bytes

@@ -9,7 +9,8 @@ use Rattle.cs_wire_message.specs.Message.{kind_of, body_of}
 use Rattle.cs_wire.specs.declared.opening.OpenError.{OpenError}
 use Rattle.cs_wire.specs.declared.opening.OpenError.TheVariants as error
 use Rattle.cs_wire.specs.Keys.{key_between}
-use Rattle.cs_wire.specs.Opened.{Opened, opened, datagram_with, keys_of_master}
+use Rattle.cs_wire.specs.Opened.{Opened, opened, keys_of_master}
+use Rattle.cs_wire.specs.Datagram.{datagram_with}
 use Rattle.cs_ledger.specs.Ledger.{Bytes}
 use Rattle.cs_node_rules.specs.declared.cause.Cause.{Cause}
 use Rattle.cs_node_rules.specs.declared.cause.Cause.TheVariants as cause

@@ -80,7 +80,9 @@ occurs {M} site traced line i input p =
 abbrev pub injects : {M : Type 0} → Site M → Bool → ℕ → NodeId → Bytes → Played M → Course M
 injects {M} site traced line to bytes p =
     if nat_lt (length p.world) most_events
-    then (if is_genuine site.net to bytes p.parcels then within line p (plays site traced line to (Datagram bytes) p) else Forges p line)
+    then (if is_genuine site.net to bytes p.parcels
+    then within line p (plays site traced line to (Datagram bytes) p)
+    else Forges p line)
     else Stops p line
 
 -- ---- deliveries
@@ -122,7 +124,8 @@ drained {M} site traced line (suc times) p =
 
 -- an event, by the line of this number
 abbrev pub play : {M : Type 0} → Site M → Bool → ℕ → Event → Played M → Course M
-play {M} site traced line (Say from to kind body) p = occurs site traced line to (Datagram (site.net.datagram from to kind body)) p
+play {M} site traced line (Say from to kind body) p =
+    occurs site traced line to (Datagram (site.net.datagram from to kind body)) p
 play {M} site traced line (Inject to bytes) p = injects site traced line to bytes p
 play {M} site traced line (Deliver number) p = delivers site traced line number (slice_get p.parcels number) p
 play {M} site traced line (Tick node) p = occurs site traced line node Given.Tick p

@@ -20,7 +20,8 @@ use Rattle.cs_node_rules.specs.Trail.{turn_marks}
 pub record IsFree (setup : Setup) (shard : ℕ) (t : Shard.Table) (x : Session) : Type 0 where
   pub key : Key
   pub is_anchor : anchor setup.rules (setup.session_of x) shard ≡ Some key
-  pub ready : Shard.is_ready t (used_up setup.rules (setup.session_of x) shard) (read_only setup.rules (setup.session_of x) shard) ≡ true
+  pub ready : Shard.is_ready t
+      (used_up setup.rules (setup.session_of x) shard) (read_only setup.rules (setup.session_of x) shard) ≡ true
   pub unvoted : Shard.vote_in (t.at key).book (digest_of setup x) ≡ None
   pub room : Shard.has_room (t.at key).book ≡ true
 
@@ -45,7 +46,8 @@ pub record Executed (signs : List Sign) (entry : Entry) : Type 0 where
 
 -- the vote commit went to all other nodes of the concerned shards, with the mark that it asks for theirs
 abbrev pub TellsCommit : Setup → NodeId → List Sign → Session → Type 0
-TellsCommit setup me signs x = (to : NodeId) → IsIn to (others setup.f me (concerned setup x)) → IsIn (Sent to (message.Voted Commit true x)) signs
+TellsCommit setup me signs x =
+    (to : NodeId) → IsIn to (others setup.f me (concerned setup x)) → IsIn (Sent to (message.Voted Commit true x)) signs
 
 -- first phase: a session that was free is voted commit, and the vote is sent
 abbrev pub VotesFree : Setup → NodeId → List Sign → Type 0

@@ -1,4 +1,5 @@
--- The marks of a node that are no deeds of its order, and what they make of table and pool. Lists of marks are newest first.
+-- The marks of a node that are no deeds of its order, and what they make of table and pool. Lists of marks are newest
+-- first.
 use Rattle.std.specs.Prelude.{ℕ, Bool, true, false, not, ◌&&◌, ◌==◌, if◌then◌else◌, List, [], ◌∷◌, ◌++◌, Option, Some, None}
 use Rattle.cs_base.specs.declared.key.Key.{Key}
 use Rattle.cs_base.specs.declared.node_id.NodeId.{NodeId}
@@ -33,7 +34,10 @@ pub data Sign : Type 0 where
 abbrev pub bench_step : Setup → ℕ → Sign → Bench → Bench
 bench_step setup shard (Dropped cause) b = b
 bench_step setup shard (Took sender vote x) b =
-    record { table = b.table; pool = changed (digest_of setup x) (with_ballot (record { sender = sender; vote = vote })) b.pool }
+    record {
+      table = b.table;
+      pool = changed (digest_of setup x) (with_ballot (record { sender = sender; vote = vote })) b.pool;
+    }
 bench_step setup shard (Entered x) b = record { table = b.table; pool = entered (digest_of setup x) x b.pool }
 bench_step setup shard (Viewed slot view) b = b
 bench_step setup shard (Did slot entry effect) b = (executed setup shard b entry).bench
@@ -79,7 +83,8 @@ ask_signs setup shard b sender asked =
 
 -- a vote on a session that isn't in the pool: it is answered by the vote on record, or the session enters with it
 abbrev pub asking_signs : Setup → Bench → NodeId → Vote → Bool → Session → Option Vote → List Sign
-asking_signs setup b sender vote asks x (Some noted) = guarded asks Unasked (Sent sender (message.Voted noted false x) ∷ [])
+asking_signs setup b sender vote asks x (Some noted) =
+    guarded asks Unasked (Sent sender (message.Voted noted false x) ∷ [])
 asking_signs setup b sender vote asks x None =
     guarded asks Unasked
     (guarded (is_approved setup x) Denied
@@ -87,8 +92,10 @@ asking_signs setup b sender vote asks x None =
 
 -- of each node the first vote on a session of the pool is taken
 abbrev pub ballot_signs : Setup → ℕ → Bench → NodeId → Vote → Bool → Session → Option Pooled → List Sign
-ballot_signs setup shard b sender vote asks x (Some p) = guarded (not (has_voted sender p.ballots)) Repeat (Took sender vote x ∷ [])
-ballot_signs setup shard b sender vote asks x None = asking_signs setup b sender vote asks x (noted setup shard b.table x)
+ballot_signs setup shard b sender vote asks x (Some p) =
+    guarded (not (has_voted sender p.ballots)) Repeat (Took sender vote x ∷ [])
+ballot_signs setup shard b sender vote asks x None =
+    asking_signs setup b sender vote asks x (noted setup shard b.table x)
 
 -- a node of a concerned shard votes on a session
 abbrev pub voted_signs : Setup → ℕ → Bench → NodeId → Vote → Bool → Session → List Sign
@@ -124,11 +131,13 @@ abbrev pub ran_signs : Setup → NodeId → Bench → ℕ → Entry → Session 
 ran_signs setup me b slot entry x ran =
     own_signs me x (told_of setup me.shard x ran)
     ++ (vote_signs setup me x (told_of setup me.shard x ran)
-    ++ (entered_signs x (is_pooled (digest_of setup x) b.pool) (told_of setup me.shard x ran) ++ Did slot entry ran.effect ∷ []))
+    ++ (entered_signs x (is_pooled (digest_of setup x) b.pool) (told_of setup me.shard x ran)
+    ++ Did slot entry ran.effect ∷ []))
 
 -- the entry of a slot is executed
 abbrev pub execution_signs : Setup → NodeId → Bench → ℕ → Entry → List Sign
-execution_signs setup me b slot entry = ran_signs setup me b slot entry (session_in entry) (executed setup me.shard b entry)
+execution_signs setup me b slot entry =
+    ran_signs setup me b slot entry (session_in entry) (executed setup me.shard b entry)
 
 -- ---- ticks
 

@@ -53,7 +53,8 @@ start_view {M} site me = record {
 abbrev pub mark_step : {M : Type 0} → Site M → Mark M → View M → View M
 mark_step {M} site (In input) v = v
 mark_step {M} site (Ordered deed) v = record { me = v.me; bench = v.bench; member = did deed v.member }
-mark_step {M} site (Plain sign) v = record { me = v.me; bench = bench_step site.setup v.me.shard sign v.bench; member = v.member }
+mark_step {M} site (Plain sign) v =
+    record { me = v.me; bench = bench_step site.setup v.me.shard sign v.bench; member = v.member }
 
 abbrev pub view_after : {M : Type 0} → Site M → List (Mark M) → View M → View M
 view_after {M} site [] v = v

@@ -47,7 +47,8 @@ entered_view slot before after = if nat_lt before after then Viewed slot after �
 abbrev pub moving : {M : Type 0} → Site M → View M → Deed M → List (Mark M)
 moving {M} site v deed =
     plain (handed site v.me (sent_by deed)
-    ++ entered_view (length (chosen_in v.member.deeds)) (site.machine.view v.member) (site.machine.view (did deed v.member)))
+    ++ entered_view (length (chosen_in v.member.deeds))
+    (site.machine.view v.member) (site.machine.view (did deed v.member)))
     ++ Ordered deed ∷ []
 
 abbrev pub admits_proposed : {M : Type 0} → Site M → View M → Proposed → Bool
@@ -91,7 +92,8 @@ step_marks {M} site v Quiet = echo_marks site v (site.machine.pending v.member)
 abbrev pub turn_marks : {M : Type 0} → Site M → View M → Option (List (Mark M))
 turn_marks {M} site v = step_marks site v (site.machine.step v.member)
 
-abbrev pub continued : {M : Type 0} → Site M → (View M → List (Mark M)) → View M → Option (List (Mark M)) → List (Mark M)
+abbrev pub continued : {M : Type 0} → Site M → (View M → List (Mark M)) → View M
+    → Option (List (Mark M)) → List (Mark M)
 continued {M} site later v None = []
 continued {M} site later v (Some fresh) = later (view_after site fresh v) ++ fresh
 
@@ -135,14 +137,20 @@ want_marks {M} site v sender slot =
 -- What is said to a node. No checkpoint is made.
 abbrev pub message_marks : {M : Type 0} → Site M → View M → NodeId → Message → List (Mark M)
 message_marks {M} site v sender (message.Submit x) = plain (submit_signs site.setup v.me.shard v.bench sender x)
-message_marks {M} site v sender (message.Propose slot view entry) = member_marks site v sender (site.carrier.read (message.Propose slot view entry))
-message_marks {M} site v sender (message.Echo slot view digest) = member_marks site v sender (site.carrier.read (message.Echo slot view digest))
-message_marks {M} site v sender (message.Confirm slot view digest) = member_marks site v sender (site.carrier.read (message.Confirm slot view digest))
-message_marks {M} site v sender (message.Change slot view change) = member_marks site v sender (site.carrier.read (message.Change slot view change))
-message_marks {M} site v sender (message.Voted vote asks x) = plain (voted_signs site.setup v.me.shard v.bench sender vote asks x)
+message_marks {M} site v sender (message.Propose slot view entry) =
+    member_marks site v sender (site.carrier.read (message.Propose slot view entry))
+message_marks {M} site v sender (message.Echo slot view digest) =
+    member_marks site v sender (site.carrier.read (message.Echo slot view digest))
+message_marks {M} site v sender (message.Confirm slot view digest) =
+    member_marks site v sender (site.carrier.read (message.Confirm slot view digest))
+message_marks {M} site v sender (message.Change slot view change) =
+    member_marks site v sender (site.carrier.read (message.Change slot view change))
+message_marks {M} site v sender (message.Voted vote asks x) =
+    plain (voted_signs site.setup v.me.shard v.bench sender vote asks x)
 message_marks {M} site v sender (message.Decided digest accepted) = drops Role
 message_marks {M} site v sender (message.Want slot) = want_marks site v sender slot
-message_marks {M} site v sender (message.Done slot entry) = member_marks site v sender (site.carrier.read (message.Done slot entry))
+message_marks {M} site v sender (message.Done slot entry) =
+    member_marks site v sender (site.carrier.read (message.Done slot entry))
 message_marks {M} site v sender (message.Ask asked) = plain (ask_signs site.setup v.me.shard v.bench sender asked)
 message_marks {M} site v sender (message.Told key state) = drops Role
 message_marks {M} site v sender (message.Head checkpoint) = drops Role

@@ -1,4 +1,5 @@
--- A world: events at nodes, each with the marks that it made, the newest first. What was executed, the history, and what nodes decided.
+-- A world: events at nodes, each with the marks that it made, the newest first. What was executed, the history, and what
+-- nodes decided.
 use Rattle.std.specs.Prelude.{◌≡◌, ℕ, suc, ◌==◌, nat_lt, Bool, true, false, not, ◌&&◌, ◌||◌, if◌then◌else◌, List, [], ◌∷◌, ◌++◌, Ok, Err, bytes_eq}
 use Rattle.std.specs.List.{list_all, list_any}
 use Rattle.cs_base.specs.declared.node_id.NodeId.{NodeId}
@@ -33,7 +34,8 @@ view_of {M} site past i = view_after site (trail_of i past) (start_view site i)
 
 -- one more event
 abbrev pub happens : {M : Type 0} → Site M → NodeId → Input → List (Happening M) → List (Happening M)
-happens {M} site i input past = record { node = i; input = input; marks = event_marks site (view_of site past i) input } ∷ past
+happens {M} site i input past =
+    record { node = i; input = input; marks = event_marks site (view_of site past i) input } ∷ past
 
 -- each event made the marks that the rules of its node give
 abbrev pub IsLife : {M : Type 0} → Site M → List (Happening M) → Type 0

@@ -1,4 +1,4 @@
-//! What a node does on each input, as functions of what it was given, and what a replay prints of it.
+//! What a node does on each input, as functions of what it was given, and what a replay prints.
 #![tactic(auto)]
 
 mod cause;

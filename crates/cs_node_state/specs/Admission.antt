@@ -2,13 +2,12 @@
 use Rattle.std.specs.Prelude.{ℕ, Bool, false, ◌&&◌, if◌then◌else◌, List, [], ◌∷◌, Option, Some, None}
 use Rattle.cs_tx_form.specs.declared.session.Session.{Session}
 use Rattle.cs_tx_form.specs.declared.vote.Vote.{Vote}
-use Rattle.cs_tx_form.specs.declared.vote.Vote.TheVariants.{Commit, Abort}
 use Rattle.cs_tx_form.specs.declared.entry.Entry.{Entry}
 use Rattle.cs_tx_form.specs.declared.entry.Entry.TheVariants.{Prepare, Decide}
-use Rattle.cs_ledger.specs.Ledger.{or_else}
+use Rattle.cs_base.specs.Options.{or_else}
 use Rattle.cs_node_state.specs.declared.pooled.Pooled.{Pooled}
 use Rattle.cs_node_state.specs.Setup.{Setup, digest_of, concerns, concerned, is_fit, is_approved}
-use Rattle.cs_node_state.specs.Evidence.{is_decided}
+use Rattle.cs_node_state.specs.Evidence.{is_decided, decided_vote}
 use Rattle.cs_node_state.specs.Pool.{Pool, found}
 
 -- it is pooled, and its votes decide so
@@ -24,10 +23,7 @@ admits setup shard pool (Decide vote x) =
 
 -- what is due for a pooled session: nothing while it waits
 abbrev pub due_vote : ℕ → List ℕ → Pooled → Option Vote
-due_vote f shards p =
-    if p.locked
-    then (if is_decided f shards Commit p.ballots then Some Commit else if is_decided f shards Abort p.ballots then Some Abort else None)
-    else None
+due_vote f shards p = if p.locked then decided_vote f shards p.ballots else None
 
 abbrev pub decide_due : Session → Option Entry → Option Vote → Option Entry
 decide_due x later (Some vote) = Some (Decide vote x)

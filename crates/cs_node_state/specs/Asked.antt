@@ -34,7 +34,10 @@ told_at t key = state_told (t.at (key_seen key)).state
 -- the least serial of an active dummy, of so many from this one on, or else the next one
 unfoldable pub least_from : Shard.Table → ℕ → ℕ → ℕ → ℕ
 least_from t shard zero serial = t.next
-least_from t shard (suc more) serial = if has_active_dummy t shard serial then serial else least_from t shard more (serial + 1)
+least_from t shard (suc more) serial =
+    if has_active_dummy t shard serial
+    then serial
+    else least_from t shard more (serial + 1)
 
 abbrev pub least_dummy : Shard.Table → ℕ → Key
 least_dummy t shard = key.Dummy shard (least_from t shard (2 ^ 64) 0)

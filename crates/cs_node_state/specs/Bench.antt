@@ -92,7 +92,10 @@ told_of setup shard x ran = told_by ran.effect (is_locked setup shard ran.bench.
 -- a node takes its own vote where it asks for the others'
 abbrev pub own_pool : NodeId → Bytes → Option (Vote × Bool) → Pool → Pool
 own_pool me d None pool = pool
-own_pool me d (Some told) pool = if told.1 then changed d (with_ballot (record { sender = me; vote = told.0 })) pool else pool
+own_pool me d (Some told) pool =
+    if told.1
+    then changed d (with_ballot (record { sender = me; vote = told.0 })) pool
+    else pool
 
 -- table and pool after an execution, with the node's own vote
 abbrev pub bench_executed : Setup → NodeId → Bench → Entry → Bench
@@ -100,5 +103,6 @@ bench_executed setup me b entry =
     let ran = executed setup me.shard b entry in
     record {
       table = ran.bench.table;
-      pool = own_pool me (digest_of setup (session_in entry)) (told_of setup me.shard (session_in entry) ran) ran.bench.pool;
+      pool = own_pool me
+          (digest_of setup (session_in entry)) (told_of setup me.shard (session_in entry) ran) ran.bench.pool;
     }

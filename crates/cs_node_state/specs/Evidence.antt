@@ -1,5 +1,5 @@
 -- The votes that were taken on a session, and what they decide.
-use Rattle.std.specs.Prelude.{ℕ, ◌+◌, ◌*◌, ◌==◌, nat_lt, Bool, true, false, ◌&&◌, List}
+use Rattle.std.specs.Prelude.{ℕ, ◌+◌, ◌*◌, ◌==◌, nat_lt, Bool, true, false, ◌&&◌, if◌then◌else◌, List, Option, Some, None}
 use Rattle.std.specs.List.{list_any, list_all}
 use Rattle.cs_base.specs.declared.node_id.NodeId.{NodeId}
 use Rattle.cs_tx_form.specs.declared.vote.Vote.{Vote}
@@ -30,3 +30,10 @@ has_support f ballots vote shard = nat_lt f (count_below (3 * f + 1) (λ index. 
 abbrev pub is_decided : ℕ → List ℕ → Vote → List Ballot → Bool
 is_decided f shards Commit ballots = list_all (λ shard. has_support f ballots Commit shard) shards
 is_decided f shards Abort ballots = list_any (λ shard. has_support f ballots Abort shard) shards
+
+-- the vote that is decided, commit before abort
+abbrev pub decided_vote : ℕ → List ℕ → List Ballot → Option Vote
+decided_vote f shards ballots =
+    if is_decided f shards Commit ballots then Some Commit
+    else if is_decided f shards Abort ballots then Some Abort
+    else None

@@ -1,6 +1,7 @@
 -- The pool of a node, in the order of entering: each session under its digest, by which sessions are told apart.
 use Rattle.std.specs.Prelude.{ℕ, Bool, true, false, not, nat_lt, if◌then◌else◌, List, [], ◌∷◌, ◌++◌, Option, Some, None, is_some, count_by, bytes_eq}
 use Rattle.std.specs.Map.{lookup, remove_entry, set_value, values_of}
+use Rattle.cs_base.specs.declared.limits.TheConstants.{MOST_WAITING}
 use Rattle.cs_tx_form.specs.declared.session.Session.{Session}
 use Rattle.cs_ledger.specs.Ledger.{Bytes}
 use Rattle.cs_node_state.specs.declared.ballot.Ballot.{Ballot}
@@ -57,4 +58,4 @@ waiting_count pool = count_by (λ p. not p.locked) (values_of pool)
 
 -- one more session may wait
 abbrev pub has_room : Pool → Bool
-has_room pool = nat_lt (waiting_count pool) 4096
+has_room pool = nat_lt (waiting_count pool) MOST_WAITING

@@ -1,5 +1,5 @@
-//! What a node keeps, as definitions: its pool, the votes on each session, the table of its shard, what it admits,
-//! and what the execution of an entry makes of these.
+//! What a node keeps, as definitions: its pool, the votes on each session, the table of its shard,
+//! what it admits, and what the execution of an entry makes of these.
 #![tactic(auto)]
 
 mod ballot;

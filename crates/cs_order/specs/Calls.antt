@@ -25,8 +25,11 @@ taken_in {M} Far from message h = h
 taken_in {M} Leader from message h = h
 taken_in {M} Repeat from message h = h
 
+-- the call that takes a message in: it answers by the rules, and the member stands for what follows
 abbrev pub TakesIn : {M : Type 0} → Machine M → Member M → ℕ → M → Took → (Member M → Type 0) → Type 0
-TakesIn {M} m h from message answer Stands = (answer ≡ m.taking h from message) × Stands (taken_in (m.taking h from message) from message h)
+TakesIn {M} m h from message answer Stands =
+    (answer ≡ m.taking h from message)
+    × Stands (taken_in (m.taking h from message) from message h)
 
 -- a quiet step leaves no trace and hands nothing out
 abbrev pub advanced : {M : Type 0} → Step → List (Outgoing M) → Member M → Member M
@@ -39,26 +42,41 @@ sent_at {M} (Chosen entry) sent = sent
 sent_at {M} Moved sent = sent
 sent_at {M} Quiet sent = []
 
-abbrev pub Advances : {M : Type 0} → Machine M → Member M → Step → List (Outgoing M) → List (Outgoing M) → (Member M → Type 0) → Type 0
-Advances {M} m h answer old new Stands = (answer ≡ m.step h) × (new ≡ old ++ sent_at (m.step h) (m.advancing h)) × Stands (advanced (m.step h) (m.advancing h) h)
+abbrev pub Advances : {M : Type 0} → Machine M → Member M → Step
+    → List (Outgoing M) → List (Outgoing M) → (Member M → Type 0) → Type 0
+Advances {M} m h answer old new Stands =
+    (answer ≡ m.step h)
+    × (new ≡ old ++ sent_at (m.step h) (m.advancing h))
+    × Stands (advanced (m.step h) (m.advancing h) h)
 
-abbrev pub Echoes : {M : Type 0} → Machine M → Member M → List (Outgoing M) → List (Outgoing M) → (Member M → Type 0) → Type 0
+abbrev pub Echoes : {M : Type 0} → Machine M → Member M
+    → List (Outgoing M) → List (Outgoing M) → (Member M → Type 0) → Type 0
 Echoes {M} m h old new Stands = (new ≡ old ++ m.echoing h) × Stands (did (Echoed (m.echoing h)) h)
 
-abbrev pub Proposes : {M : Type 0} → Machine M → Member M → Proposed → List (Outgoing M) → List (Outgoing M) → (Member M → Type 0) → Type 0
-Proposes {M} m h entry old new Stands = (new ≡ old ++ m.proposing h entry) × Stands (did (Proposing entry (m.proposing h entry)) h)
+abbrev pub Proposes : {M : Type 0} → Machine M → Member M → Proposed
+    → List (Outgoing M) → List (Outgoing M) → (Member M → Type 0) → Type 0
+Proposes {M} m h entry old new Stands =
+    (new ≡ old ++ m.proposing h entry)
+    × Stands (did (Proposing entry (m.proposing h entry)) h)
 
-abbrev pub Ticks : {M : Type 0} → Machine M → Member M → Bool → List (Outgoing M) → List (Outgoing M) → (Member M → Type 0) → Type 0
+abbrev pub Ticks : {M : Type 0} → Machine M → Member M → Bool
+    → List (Outgoing M) → List (Outgoing M) → (Member M → Type 0) → Type 0
 Ticks {M} m h due old new Stands = (new ≡ old ++ m.ticking h due) × Stands (did (Ticked due (m.ticking h due)) h)
 
-abbrev pub Resends : {M : Type 0} → Machine M → Member M → List (Outgoing M) → List (Outgoing M) → (Member M → Type 0) → Type 0
+abbrev pub Resends : {M : Type 0} → Machine M → Member M
+    → List (Outgoing M) → List (Outgoing M) → (Member M → Type 0) → Type 0
 Resends {M} m h old new Stands = (new ≡ old ++ m.resending h) × Stands (did (Resent (m.resending h)) h)
 
-abbrev pub RepliesWith : {M : Type 0} → Option (Outgoing M) → Member M → ℕ → ℕ → Bool → List (Outgoing M) → List (Outgoing M) → (Member M → Type 0) → Type 0
+abbrev pub RepliesWith : {M : Type 0} → Option (Outgoing M) → Member M → ℕ → ℕ → Bool
+    → List (Outgoing M) → List (Outgoing M) → (Member M → Type 0) → Type 0
 RepliesWith {M} None h slot to answer old new Stands = (answer ≡ false) × (new ≡ old)
-RepliesWith {M} (Some out) h slot to answer old new Stands = (answer ≡ true) × (new ≡ old ++ out ∷ []) × Stands (did (Replied slot to (out ∷ [])) h)
+RepliesWith {M} (Some out) h slot to answer old new Stands =
+    (answer ≡ true)
+    × (new ≡ old ++ out ∷ [])
+    × Stands (did (Replied slot to (out ∷ [])) h)
 
-abbrev pub Replies : {M : Type 0} → Machine M → Member M → ℕ → ℕ → Bool → List (Outgoing M) → List (Outgoing M) → (Member M → Type 0) → Type 0
+abbrev pub Replies : {M : Type 0} → Machine M → Member M → ℕ → ℕ → Bool
+    → List (Outgoing M) → List (Outgoing M) → (Member M → Type 0) → Type 0
 Replies {M} m h slot to answer old new Stands = RepliesWith (m.replying h slot to) h slot to answer old new Stands
 
 -- a step lowered the number by which a caller's loop ends

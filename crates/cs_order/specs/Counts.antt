@@ -1,13 +1,10 @@
 -- Counts and searches over the numbers below a bound.
 use Rattle.std.specs.Prelude.{ℕ, zero, suc, ◌+◌, Bool, false, ◌||◌, if◌then◌else◌, Option, Some, None}
+use Rattle.cs_base.specs.Options.{or_else}
 
 -- the value, where the test holds
 abbrev pub when : {A : Type 0} → Bool → Option A → Option A
 when {A} b o = if b then o else None
-
-abbrev pub or_else : {A : Type 0} → Option A → Option A → Option A
-or_else None b = b
-or_else (Some x) b = Some x
 
 -- how many of the numbers below pass the test
 unfoldable pub count_below : ℕ → (ℕ → Bool) → ℕ

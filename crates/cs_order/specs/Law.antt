@@ -34,21 +34,36 @@ pub record IsLawful {M : Type 0} (m : Machine M) (f : ℕ) (honest : ℕ → Boo
 
 -- The law of an order: every run with few enough liars is lawful.
 abbrev pub Law : {M : Type 0} → Machine M → Type 0
-Law {M} m = (f : ℕ) (honest : ℕ → Bool) (past : List (Act M)) → m.serves f ≡ true → FewLiars f honest → Run m f honest past → EntriesToldApart (handed_in m past) → IsLawful m f honest past
+Law {M} m =
+    (f : ℕ) (honest : ℕ → Bool) (past : List (Act M))
+    → m.serves f ≡ true → FewLiars f honest → Run m f honest past → EntriesToldApart (handed_in m past)
+    → IsLawful m f honest past
 
 -- What is sent again changes nothing of what the rules do.
 pub record Undisturbed {M : Type 0} (m : Machine M) : Type 0 where
   pub by_resend : (h : Member M) (sent : List (Outgoing M)) → m.step (did (Resent sent) h) ≡ m.step h
-  pub by_reply : (h : Member M) (slot to : ℕ) (sent : List (Outgoing M)) → m.step (did (Replied slot to sent) h) ≡ m.step h
+  pub by_reply : (h : Member M) (slot to : ℕ) (sent : List (Outgoing M))
+      → m.step (did (Replied slot to sent) h) ≡ m.step h
 
 -- Each entry that a member gives was handed in at it, and each message that it hands out is proper.
 pub record Holds {M : Type 0} (m : Machine M) : Type 0 where
-  pub chosen : (f me : ℕ) (deeds : List (Deed M)) → IsKept m f me deeds → (entry : Proposed) → m.step (record { f = f; me = me; deeds = deeds }) ≡ Chosen entry → IsIn entry (held_in m deeds)
-  pub pending : (f me : ℕ) (deeds : List (Deed M)) → IsKept m f me deeds → (entry : Proposed) → m.pending (record { f = f; me = me; deeds = deeds }) ≡ Some entry → IsIn entry (held_in m deeds)
-  pub offered : (f me : ℕ) (deeds : List (Deed M)) → IsKept m f me deeds → (entries : List Proposed) (entry : Proposed) → m.may_propose (record { f = f; me = me; deeds = deeds }) ≡ Only entries → IsIn entry entries → IsIn entry (held_in m deeds)
-  pub logged : (f me : ℕ) (deeds : List (Deed M)) → IsKept m f me deeds → (slot : ℕ) (entry : Proposed) → slice_get (chosen_in deeds) slot ≡ Some entry → IsIn entry (held_in m deeds)
-  pub sent : (f me : ℕ) (deed : Deed M) (deeds : List (Deed M)) → IsKept m f me (deed ∷ deeds) → (message : M) (to : ℕ) → IsFor message to (sent_by deed) → (entry : Proposed) → IsIn entry (m.carried message) → IsIn entry (held_in m (deed ∷ deeds))
-  pub proper : (f me : ℕ) (deed : Deed M) (deeds : List (Deed M)) → IsKept m f me (deed ∷ deeds) → (message : M) (to : ℕ) → IsFor message to (sent_by deed) → m.proper message ≡ true
+  pub chosen : (f me : ℕ) (deeds : List (Deed M)) → IsKept m f me deeds
+      → (entry : Proposed) → m.step (record { f = f; me = me; deeds = deeds }) ≡ Chosen entry
+      → IsIn entry (held_in m deeds)
+  pub pending : (f me : ℕ) (deeds : List (Deed M)) → IsKept m f me deeds
+      → (entry : Proposed) → m.pending (record { f = f; me = me; deeds = deeds }) ≡ Some entry
+      → IsIn entry (held_in m deeds)
+  pub offered : (f me : ℕ) (deeds : List (Deed M)) → IsKept m f me deeds
+      → (entries : List Proposed) (entry : Proposed)
+      → m.may_propose (record { f = f; me = me; deeds = deeds }) ≡ Only entries
+      → IsIn entry entries → IsIn entry (held_in m deeds)
+  pub logged : (f me : ℕ) (deeds : List (Deed M)) → IsKept m f me deeds
+      → (slot : ℕ) (entry : Proposed) → slice_get (chosen_in deeds) slot ≡ Some entry → IsIn entry (held_in m deeds)
+  pub sent : (f me : ℕ) (deed : Deed M) (deeds : List (Deed M)) → IsKept m f me (deed ∷ deeds)
+      → (message : M) (to : ℕ) → IsFor message to (sent_by deed)
+      → (entry : Proposed) → IsIn entry (m.carried message) → IsIn entry (held_in m (deed ∷ deeds))
+  pub proper : (f me : ℕ) (deed : Deed M) (deeds : List (Deed M)) → IsKept m f me (deed ∷ deeds)
+      → (message : M) (to : ℕ) → IsFor message to (sent_by deed) → m.proper message ≡ true
 
 -- the list is the beginning of the other
 abbrev pub IsPrefix : {A : Type 0} → List A → List A → Type 0
@@ -56,7 +71,10 @@ IsPrefix {A} short long = (rest : List A) × (long ≡ short ++ rest)
 
 -- In every run the logs of two members are prefixes of one another.
 abbrev pub LogsAgree : {M : Type 0} → Machine M → Type 0
-LogsAgree {M} m = (f : ℕ) (honest : ℕ → Bool) (past : List (Act M)) → m.serves f ≡ true → FewLiars f honest → Run m f honest past → EntriesToldApart (handed_in m past) → (i j : ℕ) → IsPrefix (log_of i past) (log_of j past) ⊎ IsPrefix (log_of j past) (log_of i past)
+LogsAgree {M} m =
+    (f : ℕ) (honest : ℕ → Bool) (past : List (Act M))
+    → m.serves f ≡ true → FewLiars f honest → Run m f honest past → EntriesToldApart (handed_in m past)
+    → (i j : ℕ) → IsPrefix (log_of i past) (log_of j past) ⊎ IsPrefix (log_of j past) (log_of i past)
 
 -- What was chosen stays.
 abbrev pub LogsStay : Type 0 → Type 0

@@ -6,4 +6,4 @@ pub mod Calls
 pub mod Runs
 pub mod Law
 pub mod Solo
-pub mod SoloLaw
+pub mod laws

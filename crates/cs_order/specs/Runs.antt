@@ -11,13 +11,15 @@ use Rattle.cs_order.specs.Calls.{Proposable}
 
 -- a deed that the rules give after what the member did before
 abbrev pub KeepsRules : {M : Type 0} → Machine M → Member M → Deed M → Type 0
-KeepsRules {M} m h (Took_in from message) = (from ≤ 3 * h.f) × (from ≢ h.me) × (m.proper message ≡ true) × (m.taking h from message ≡ Taken)
+KeepsRules {M} m h (Took_in from message) =
+    (from ≤ 3 * h.f) × (from ≢ h.me) × (m.proper message ≡ true) × (m.taking h from message ≡ Taken)
 KeepsRules {M} m h (Advanced step sent) = (m.step h ≡ step) × (step ≡ Quiet → ⊥) × (m.advancing h ≡ sent)
 KeepsRules {M} m h (Echoed sent) = IsSome (m.pending h) × (m.echoing h ≡ sent)
 KeepsRules {M} m h (Proposing entry sent) = Proposable (m.may_propose h) entry × (m.proposing h entry ≡ sent)
 KeepsRules {M} m h (Ticked due sent) = m.ticking h due ≡ sent
 KeepsRules {M} m h (Resent sent) = m.resending h ≡ sent
-KeepsRules {M} m h (Replied slot to sent) = (outgoing : Outgoing M) × (m.replying h slot to ≡ Some outgoing) × (sent ≡ outgoing ∷ [])
+KeepsRules {M} m h (Replied slot to sent) =
+    (outgoing : Outgoing M) × (m.replying h slot to ≡ Some outgoing) × (sent ≡ outgoing ∷ [])
 
 -- all deeds of a member keep the rules
 abbrev pub IsKept : {M : Type 0} → Machine M → ℕ → ℕ → List (Deed M) → Type 0
@@ -43,11 +45,13 @@ log_of {M} i past = chosen_in (deeds_of i past)
 -- the message is handed out for the member, or for all
 abbrev pub IsFor : {M : Type 0} → M → ℕ → List (Outgoing M) → Type 0
 IsFor {M} message member [] = ⊥
-IsFor {M} message member (out ∷ outs) = ((out.message ≡ message) × ((out.to ≡ None) ⊎ (out.to ≡ Some member))) ⊎ IsFor message member outs
+IsFor {M} message member (out ∷ outs) =
+    ((out.message ≡ message) × ((out.to ≡ None) ⊎ (out.to ≡ Some member))) ⊎ IsFor message member outs
 
 abbrev pub HandedOut : {M : Type 0} → ℕ → M → ℕ → List (Act M) → Type 0
 HandedOut {M} from message to [] = ⊥
-HandedOut {M} from message to (act ∷ past) = ((act.member ≡ from) × IsFor message to (sent_by act.deed)) ⊎ HandedOut from message to past
+HandedOut {M} from message to (act ∷ past) =
+    ((act.member ≡ from) × IsFor message to (sent_by act.deed)) ⊎ HandedOut from message to past
 
 -- what is taken as from an honest member was handed out by it; a liar's message is any message
 abbrev pub Genuine : {M : Type 0} → (ℕ → Bool) → ℕ → Deed M → List (Act M) → Type 0
@@ -60,7 +64,8 @@ Genuine {M} honest i (Resent sent) past = Unit {0}
 Genuine {M} honest i (Replied slot to sent) past = Unit {0}
 
 -- an act that may come after these
-pub record Follows {M : Type 0} (m : Machine M) (f : ℕ) (honest : ℕ → Bool) (past : List (Act M)) (act : Act M) : Type 0 where
+pub record Follows {M : Type 0} (m : Machine M) (f : ℕ) (honest : ℕ → Bool) (past : List (Act M)) (act : Act M)
+    : Type 0 where
   pub is_member : act.member < 3 * f + 1
   pub is_honest : honest act.member ≡ true
   pub keeps : KeepsRules m (member_of f act.member past) act.deed

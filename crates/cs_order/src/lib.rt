@@ -1,4 +1,5 @@
-//! The agreement of one shard: what a member does, the law that every order keeps, and the order of a single member.
+//! The agreement of one shard: what a member does, the law that every order keeps,
+//! and the order of a single member.
 #![tactic(auto)]
 
 mod agreement;

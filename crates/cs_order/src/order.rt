@@ -11,12 +11,6 @@ use crate::proposed::Proposed;
 use cs_base::Memory;
 use std::alloc::Global;
 
-/// The last slot, which is never chosen.
-pub const LAST_SLOT: u64 = 4_611_686_018_427_387_903;
-
-/// No view is this or above.
-pub const VIEW_BOUND: u16 = 1024;
-
 /// The agreement of one shard, as one member sees it.
 ///
 /// What a call gives to `out` stands at its end, for the caller to send. After a want of memory
@@ -50,19 +44,24 @@ pub trait Order: Drop {
 
     /// The first slot that is not chosen.
     fn open_slot(&self) -> u64
-        ensures { (h : Member Self.Message) → stands self.now h → result ≡ length (chosen_in h.deeds) };
+        ensures { (h : Member Self.Message) → stands self.now h →
+            result ≡ length (chosen_in h.deeds) };
 
+    /// The view that the member is in.
     fn view(&self) -> u16
         ensures { (h : Member Self.Message) → stands self.now h → result ≡ rules.view h };
 
-    /// TakesIn a message of another member.
+    /// Takes a message of another member.
     fn take(&mut self, alloc: Global, from: u16, message: Self::Message) -> Result<Took, Memory>
-        ensures call { (h : Member Self.Message) → stands self.old h → from ≤ 3 * f self.old → from ≢ me self.old → rules.proper message ≡ true → IfOk result (λ took. TakesIn rules h from message took (stands self.new)) }
+        ensures call { (h : Member Self.Message) → stands self.old h →
+            from ≤ 3 * f self.old → from ≢ me self.old → rules.proper message ≡ true →
+            IfOk result (λ took. TakesIn rules h from message took (stands self.new)) }
         ensures same { OnOk result ((f self.new ≡ f self.old) × (me self.new ≡ me self.old)) };
 
     /// The entry that is chosen in a slot.
     fn entry(&self, slot: u64) -> Option<&Proposed>
-        ensures { (h : Member Self.Message) → stands self.now h → option_copied result ≡ slice_get (chosen_in h.deeds) slot };
+        ensures { (h : Member Self.Message) → stands self.now h →
+            option_copied result ≡ slice_get (chosen_in h.deeds) slot };
 
     /// Chooses an entry, enters a view or confirms, whichever applies first.
     fn advance(
@@ -70,25 +69,30 @@ pub trait Order: Drop {
         alloc: Global,
         out: &mut Vec<Outgoing<Self::Message>>,
     ) -> Result<Step, Memory>
-        ensures call { (h : Member Self.Message) → stands self.old h → IfOk result (λ step. Advances rules h step out.old.items out.new.items (stands self.new)) }
+        ensures call { (h : Member Self.Message) → stands self.old h →
+            IfOk result (λ step. Advances rules h step out.old.items out.new.items
+            (stands self.new)) }
         ensures falls { IfOk result (λ step. Lowers (rest self.old) (rest self.new) step) }
         ensures same { OnOk result ((f self.new ≡ f self.old) × (me self.new ≡ me self.old)) };
 
     /// The proposal that the member may echo, if it admits the entry.
     fn pending(&self) -> Option<&Proposed>
         ensures now { option_copied result ≡ awaits self.now }
-        ensures rule { (h : Member Self.Message) → stands self.now h → awaits self.now ≡ rules.pending h };
+        ensures rule { (h : Member Self.Message) → stands self.now h →
+            awaits self.now ≡ rules.pending h };
 
     /// Echoes the pending proposal.
     fn echo(&mut self, alloc: Global, out: &mut Vec<Outgoing<Self::Message>>) -> Result<(), Memory>
-        ensures call { IsSome (awaits self.old) → (h : Member Self.Message) → stands self.old h → OnOk result (Echoes rules h out.old.items out.new.items (stands self.new)) }
+        ensures call { IsSome (awaits self.old) → (h : Member Self.Message) → stands self.old h →
+            OnOk result (Echoes rules h out.old.items out.new.items (stands self.new)) }
         ensures falls { IsSome (awaits self.old) → OnOk result (rest self.new < rest self.old) }
         ensures same { OnOk result ((f self.new ≡ f self.old) × (me self.new ≡ me self.old)) };
 
     /// What the member may propose, if it admits the entry.
     fn may_propose(&self, alloc: Global) -> Result<May, Memory>
         ensures now { IfOk result (λ may. may ≡ allows self.now) }
-        ensures rule { (h : Member Self.Message) → stands self.now h → allows self.now ≡ rules.may_propose h };
+        ensures rule { (h : Member Self.Message) → stands self.now h →
+            allows self.now ≡ rules.may_propose h };
 
     /// Proposes an entry.
     fn propose(
@@ -98,22 +102,26 @@ pub trait Order: Drop {
         out: &mut Vec<Outgoing<Self::Message>>,
     ) -> Result<(), Memory>
         requires { Proposable (allows self.old) entry }
-        ensures call { (h : Member Self.Message) → stands self.old h → OnOk result (Proposes rules h entry out.old.items out.new.items (stands self.new)) }
+        ensures call { (h : Member Self.Message) → stands self.old h →
+            OnOk result (Proposes rules h entry out.old.items out.new.items (stands self.new)) }
         ensures falls { OnOk result (rest self.new < rest self.old) }
         ensures same { OnOk result ((f self.new ≡ f self.old) × (me self.new ≡ me self.old)) };
 
     /// Sends the messages of the open slot and view again.
     fn resend(&self, alloc: Global, out: &mut Vec<Outgoing<Self::Message>>) -> Result<(), Memory>
-        ensures { (h : Member Self.Message) → stands self.now h → OnOk result (Resends rules h out.old.items out.new.items (stands self.now)) };
+        ensures { (h : Member Self.Message) → stands self.now h →
+            OnOk result (Resends rules h out.old.items out.new.items (stands self.now)) };
 
-    /// Counts a tick, at which the next view may be entered. An entry that is due makes the member wait.
+    /// Counts a tick, at which the next view may be entered.
+    /// An entry that is due makes the member wait.
     fn tick(
         &mut self,
         alloc: Global,
         due: bool,
         out: &mut Vec<Outgoing<Self::Message>>,
     ) -> Result<(), Memory>
-        ensures call { (h : Member Self.Message) → stands self.old h → OnOk result (Ticks rules h due out.old.items out.new.items (stands self.new)) }
+        ensures call { (h : Member Self.Message) → stands self.old h →
+            OnOk result (Ticks rules h due out.old.items out.new.items (stands self.new)) }
         ensures same { OnOk result ((f self.new ≡ f self.old) × (me self.new ≡ me self.old)) };
 
     /// Answers another member that asks for a slot, and says whether there is an answer.
@@ -124,7 +132,10 @@ pub trait Order: Drop {
         to: u16,
         out: &mut Vec<Outgoing<Self::Message>>,
     ) -> Result<bool, Memory>
-        ensures { (h : Member Self.Message) → stands self.now h → to ≤ 3 * f self.now → to ≢ me self.now → IfOk result (λ answer. Replies rules h slot to answer out.old.items out.new.items (stands self.now)) };
+        ensures { (h : Member Self.Message) → stands self.now h →
+            to ≤ 3 * f self.now → to ≢ me self.now →
+            IfOk result (λ answer. Replies rules h slot to answer out.old.items out.new.items
+            (stands self.now)) };
 
     /// In every run of one shard with few enough liars, the law holds.
     ghost law: { Law rules };
@@ -136,10 +147,13 @@ pub trait Order: Drop {
     ghost holds: { Holds rules };
 
     /// A member at its start stands for no deeds.
-    ghost begins: { (s : Self) → at_start s → stands s (record { f = f s; me = me s; deeds = [] }) };
+    ghost begins: { (s : Self) → at_start s →
+        stands s (record { f = f s; me = me s; deeds = [] }) };
 
     /// A value stands for deeds of its own member alone.
-    ghost belongs: { (s : Self) (h : Member Self.Message) → stands s h → (h.f ≡ f s) × (h.me ≡ me s) };
+    ghost belongs: { (s : Self) (h : Member Self.Message) → stands s h →
+        (h.f ≡ f s) × (h.me ≡ me s) };
 
+    /// A caller's turns come to an end.
     ghost bounded: { (s : Self) → rest s < 2 ^ 80 };
 }

@@ -2,12 +2,12 @@
 ghost use Rattle.std.specs.Prelude.{◌≡◌, false, None, IfOk, length};
 ghost use Rattle.cs_order.specs.declared.answers.Took.{Took};
 ghost use Rattle.cs_order.specs.Solo.{solo, SoloStands, SoloStarts, solo_rest, may_at};
-ghost use Rattle.cs_order.specs.SoloLaw.{solo_law, solo_undisturbed, solo_holds, solo_begins, solo_bounded};
+ghost use Rattle.cs_order.specs.laws.SoloLaw.{solo_law, solo_undisturbed, solo_holds, solo_begins, solo_bounded};
 
 use crate::answers::{May, Outgoing, Step, Took};
-use crate::order::{LAST_SLOT, Order};
+use crate::order::Order;
 use crate::proposed::Proposed;
-use cs_base::Memory;
+use cs_base::{LAST_SLOT, Memory};
 use std::alloc::{AllocError, Global};
 
 /// The message of an order that sends none.

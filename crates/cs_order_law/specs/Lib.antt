@@ -1,14 +1,2 @@
-pub mod Quorum
-pub mod SafeFacts
-pub mod Views
-pub mod SlotFacts
-pub mod RuleFacts
-pub mod Sound
-pub mod Steps
-pub mod SlotLaw
-pub mod Rest
-pub mod Exact
-pub mod Sights
-pub mod Lines
-pub mod Proper
-pub mod Held
+pub mod Terms
+pub mod laws

@@ -5,10 +5,10 @@ use Rattle.std.proofs.lemmas.Bool.Decides.{eqb_tells}
 use Rattle.cs_order.specs.Limits.{view_bound}
 use Rattle.cs_order_rules.specs.declared.message.OrderMessage.{OrderMessage}
 use Rattle.cs_order_rules.specs.Facts.{Facts, Sight, slot_of, is_like}
-use Rattle.cs_order_law.specs.SlotFacts.{same_number}
+use Rattle.cs_order_law.specs.laws.SlotFacts.{same_number}
 use Rattle.cs_order_open.specs.Shows.{KeptOpenSlot, Shows, ShowsNext, TakesFirst, IsOf}
 use Rattle.cs_order_open.specs.Later.{above, at_slot, MayBeTaken, AllTaken}
-use Rattle.cs_order_open.specs.Reopening.{of_facts, fewer_at, all_after}
+use Rattle.cs_order_open.specs.laws.Reopening.{of_facts, fewer_at, all_after}
 
 abbrev pub ShowsSlot : ℕ → ℕ → ℕ → KeptOpenSlot → Facts → Type 0
 ShowsSlot f n me current facts = (s : Sight) → s.f ≡ f → s.me ≡ me → s.views ≡ view_bound → s.taken ≡ at_slot n facts → Shows current s n 0

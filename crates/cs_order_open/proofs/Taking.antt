@@ -8,12 +8,12 @@ use Rattle.cs_order_rules.specs.declared.message.OrderMessage.{OrderMessage}
 use Rattle.cs_order_rules.specs.declared.message.OrderMessage.TheVariants as message
 use Rattle.cs_order_rules.specs.Slot.{Seen}
 use Rattle.cs_order_rules.specs.Facts.{Sight, members, slot_of, proposal_said, echo_said, confirm_said, change_said, done_said, is_like, took, first_of}
-use Rattle.cs_order_law.specs.SlotFacts.{same_number}
+use Rattle.cs_order_law.specs.laws.SlotFacts.{same_number}
 use Rattle.cs_order_rules.specs.Rules.{insert_line, with_line}
 use Rattle.cs_slot.specs.Kept.{seen_in, in_later, with_proposal, with_echo, with_confirm, with_done}
 use Rattle.cs_change.specs.Kept.{told_in, with_told, reaches}
 use Rattle.cs_order_open.specs.Shows.{KeptOpenSlot, Shows, ShowsNext, TakesFirst, led}
-use Rattle.cs_order_open.specs.Seeing.{took_is_found, like_proposal, like_echo, like_confirm, like_change, like_done, shows_proposal, shows_echo, shows_confirm, shows_change, shows_done}
+use Rattle.cs_order_open.specs.laws.Seeing.{took_is_found, like_proposal, like_echo, like_confirm, like_change, like_done, shows_proposal, shows_echo, shows_confirm, shows_change, shows_done}
 
 -- nothing changed
 still : (k new : KeptOpenSlot) (s : Sight) (n view : ℕ) → Shows k s n view → seen_in new.slot ≡ seen_in k.slot → told_in new.changes.changes ≡ told_in k.changes.changes → ((v m : ℕ) → reaches new.changes.changes v m ≡ reaches k.changes.changes v m) → new.changes.f ≡ k.changes.f → new.echoed ≡ k.echoed → Shows new s n view

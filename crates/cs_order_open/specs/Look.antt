@@ -5,6 +5,7 @@ use Rattle.cs_order.specs.declared.proposed.Proposed.{Proposed}
 use Rattle.cs_order.specs.declared.answers.Outgoing.{Outgoing}
 use Rattle.cs_order.specs.declared.answers.May.{May}
 use Rattle.cs_order.specs.declared.answers.May.TheVariants.{No, Free, Only}
+use Rattle.cs_base.specs.declared.limits.TheConstants.{MOST_ECHOED}
 use Rattle.cs_order.specs.Counts.{count_below, last_below, when}
 use Rattle.cs_order_rules.specs.declared.message.Change.{Change}
 use Rattle.cs_order_rules.specs.declared.message.OrderMessage.{OrderMessage}
@@ -63,10 +64,22 @@ abbrev pub safe_by : Look → List ℕ → Bool
 safe_by x digest = is_safe x.f (x.told x.seen.view) x.seen.view digest
 
 abbrev pub has_place_by : Look → List ℕ → Bool
-has_place_by x digest = nat_lt (length x.echoed) 16 || list_any (λ (line : List ℕ × ℕ). bytes_eq line.0 digest) x.echoed
+has_place_by x digest =
+    nat_lt (length x.echoed) MOST_ECHOED || list_any (λ (line : List ℕ × ℕ). bytes_eq line.0 digest) x.echoed
+
+-- what the member itself echoed and confirmed in its view, and told as it entered it
+abbrev pub own_echo : Look → Option (List ℕ)
+own_echo x = x.seen.echo x.seen.view x.seen.me
+
+abbrev pub own_confirm : Look → Option (List ℕ)
+own_confirm x = x.seen.confirm x.seen.view x.seen.me
+
+abbrev pub own_change : Look → Option Change
+own_change x = x.told x.seen.view x.seen.me
 
 abbrev pub may_echo_by : Look → List ℕ → Bool
-may_echo_by x digest = (((x.seen.view == 0) || safe_by x digest) && not (is_some (x.seen.echo x.seen.view x.seen.me))) && has_place_by x digest
+may_echo_by x digest =
+    (((x.seen.view == 0) || safe_by x digest) && not (is_some (own_echo x))) && has_place_by x digest
 
 abbrev pub if_may_by : Look → Option Proposed → Option Proposed
 if_may_by x None = None
@@ -89,16 +102,20 @@ abbrev pub candidates_by : Look → List Proposed
 candidates_by x = filter_map (candidate_by x) (pairs_below (3 * x.seen.f + 1) (x.told x.seen.view))
 
 abbrev pub may_by : Look → May
-may_by x = if not (leads_by x) || is_some (own_proposal x) then No else (if (x.seen.view == 0) || free_by x then Free else Only (candidates_by x))
+may_by x =
+    if not (leads_by x) || is_some (own_proposal x)
+    then No
+    else (if (x.seen.view == 0) || free_by x then Free else Only (candidates_by x))
 
 -- what is sent again
 abbrev pub resend_by : Look → List (Outgoing OrderMessage)
 resend_by x =
     again (message.Propose x.seen.n x.seen.view) (own_proposal x)
-    ++ again (message.Echo x.seen.n x.seen.view) (x.seen.echo x.seen.view x.seen.me)
-    ++ again (message.Confirm x.seen.n x.seen.view) (x.seen.confirm x.seen.view x.seen.me)
-    ++ again (message.Change x.seen.n x.seen.view) (x.told x.seen.view x.seen.me)
+    ++ again (message.Echo x.seen.n x.seen.view) (own_echo x)
+    ++ again (message.Confirm x.seen.n x.seen.view) (own_confirm x)
+    ++ again (message.Change x.seen.n x.seen.view) (own_change x)
 
 -- how many of proposing, echoing and confirming are left
 abbrev pub left_by : Look → ℕ
-left_by x = one_unless (own_proposal x) + (one_unless (x.seen.echo x.seen.view x.seen.me) + one_unless (x.seen.confirm x.seen.view x.seen.me))
+left_by x =
+    one_unless (own_proposal x) + (one_unless (own_echo x) + one_unless (own_confirm x))

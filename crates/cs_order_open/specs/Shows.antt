@@ -19,7 +19,8 @@ pub record Shows (k : KeptOpenSlot) (s : Sight) (n view : ℕ) : Type 0 where
   pub reached : (v member : ℕ) → reaches k.changes.changes v member ≡ took (is_change_from n v) s.taken member
   pub echoed : k.echoed ≡ echoed_in s.me n s.taken
   -- only the leader of a view proposes in it
-  pub led_only : (v member : ℕ) → (member == (n + v) % members s) ≡ false → first_of (proposal_said n v) s.taken member ≡ None
+  pub led_only : (v member : ℕ) → (member == (n + v) % members s) ≡ false
+      → first_of (proposal_said n v) s.taken member ≡ None
 
 -- one more message was taken
 abbrev pub with_fact : Sight → ℕ → OrderMessage → Sight

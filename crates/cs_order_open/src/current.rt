@@ -5,14 +5,14 @@ ghost use Rattle.cs_order_rules.specs.declared.message.OrderMessage.TheVariants 
 ghost use Rattle.cs_order_rules.specs.Slot.{chosen, to_confirm};
 ghost use Rattle.cs_order_rules.specs.Rules.{pairs_below};
 ghost use Rattle.cs_change.specs.Kept.{told_in};
-ghost use Rattle.cs_order_open.specs.Look.{look_of, is_reached, entering_by, change_by, has_place_by, may_echo_by, pending_by, leads_by, own_proposal, candidate_by, candidates_by, may_by};
+ghost use Rattle.cs_order_open.specs.Look.{look_of, is_reached, entering_by, change_by, has_place_by, may_echo_by, pending_by, leads_by, own_proposal, own_echo, own_confirm, own_change, candidate_by, candidates_by, may_by};
 ghost use Rattle.cs_order_rules.specs.Facts.{Sight, slot_of};
 ghost use Rattle.cs_slot.specs.Kept.{seen_in};
 ghost use Rattle.cs_order_open.specs.Shows.{Shows, TakesFirst, IsOf, led};
 
 use crate::lines::{is_listed, with_line};
 use crate::pairs::{Pair, with_pair};
-use cs_base::{Memory, Sequence};
+use cs_base::{MOST_ECHOED, Memory, Sequence};
 use cs_change::SlotChanges;
 use cs_order::{May, Proposed};
 use cs_order_rules::{Change, OrderMessage};
@@ -42,7 +42,8 @@ impl OpenSlot {
     pub fn new(alloc: Global, f: u16, n: u64, me: u16) -> Result<OpenSlot, Memory>
         requires few { f ≤ 5 }
         requires member { me ≤ 3 * f }
-        ensures shows { IfOk result (λ current. (s : Sight) → s.f ≡ f → s.me ≡ me → s.views ≡ view_bound → s.taken ≡ [] → Shows current s n 0) }
+        ensures shows { IfOk result (λ current. (s : Sight) →
+            s.f ≡ f → s.me ≡ me → s.views ≡ view_bound → s.taken ≡ [] → Shows current s n 0) }
         ensures whose { IfOk result (λ current. IsOf f n me 0 current) }
     {
         let slot = Slot::new(alloc, f, n, me)?;
@@ -53,14 +54,16 @@ impl OpenSlot {
         })
     }
 
-    /// TakesFirst a message of another member. It is false exactly for a repeat.
+    /// Takes a message of another member. It is false exactly for a repeat.
     pub fn take(&mut self, from: u16, message: OrderMessage) -> Result<bool, Memory>
         requires member { from ≤ 3 * self.old.slot.f }
         requires other { from ≢ self.old.slot.me }
         requires slot { slot_of message ≡ self.old.slot.n }
         requires led { led self.old.slot.f from message ≡ true }
-        ensures call { (s : Sight) (n view : ℕ) → Shows self.old s n view → IfOk result (λ fresh. TakesFirst fresh self.new s n view from message) }
-        ensures whose { (f n me view : ℕ) → IsOf f n me view self.old → IfOk result (λ fresh. IsOf f n me view self.new) }
+        ensures call { (s : Sight) (n view : ℕ) → Shows self.old s n view →
+            IfOk result (λ fresh. TakesFirst fresh self.new s n view from message) }
+        ensures whose { (f n me view : ℕ) → IsOf f n me view self.old →
+            IfOk result (λ fresh. IsOf f n me view self.new) }
     {
         match message {
             OrderMessage::Propose { view, entry, .. } => {
@@ -86,17 +89,20 @@ impl OpenSlot {
         }
     }
 
-    /// TakesFirst the proposal of the member itself, which leads the view.
+    /// Takes the proposal of the member itself, which leads the view.
     pub fn propose_own(&mut self, me: u16, view: u16, entry: Proposed) -> Result<bool, Memory>
         requires { me ≡ (self.old.slot.n + view) % (3 * self.old.slot.f + 1) }
-        ensures call { (s : Sight) (n v : ℕ) → Shows self.old s n v → IfOk result (λ fresh. TakesFirst fresh self.new s n v me (message.Propose n view entry)) }
-        ensures whose { (f n me view : ℕ) → IsOf f n me view self.old → IfOk result (λ fresh. IsOf f n me view self.new) }
+        ensures call { (s : Sight) (n v : ℕ) → Shows self.old s n v →
+            IfOk result (λ fresh.
+            TakesFirst fresh self.new s n v me (message.Propose n view entry)) }
+        ensures whose { (f n me view : ℕ) → IsOf f n me view self.old →
+            IfOk result (λ fresh. IsOf f n me view self.new) }
     {
         let fresh = self.slot.propose(me, view, entry)?;
         Ok(fresh)
     }
 
-    /// TakesFirst the echo of the member itself, and lists it.
+    /// Takes the echo of the member itself, and lists it.
     pub fn echo_own(
         &mut self,
         alloc: Global,
@@ -106,8 +112,11 @@ impl OpenSlot {
     ) -> Result<bool, Memory>
         requires own { me ≡ self.old.slot.me }
         requires member { me ≤ 3 * self.old.slot.f }
-        ensures call { (s : Sight) (n v : ℕ) → Shows self.old s n v → IfOk result (λ fresh. TakesFirst fresh self.new s n v me (message.Echo n view digest)) }
-        ensures whose { (f n me view : ℕ) → IsOf f n me view self.old → IfOk result (λ fresh. IsOf f n me view self.new) }
+        ensures call { (s : Sight) (n v : ℕ) → Shows self.old s n v →
+            IfOk result (λ fresh.
+            TakesFirst fresh self.new s n v me (message.Echo n view digest)) }
+        ensures whose { (f n me view : ℕ) → IsOf f n me view self.old →
+            IfOk result (λ fresh. IsOf f n me view self.new) }
     {
         let fresh = self.slot.echo(me, view, digest)?;
         if !fresh {
@@ -117,21 +126,28 @@ impl OpenSlot {
         Ok(true)
     }
 
-    /// TakesFirst the confirm of the member itself.
+    /// Takes the confirm of the member itself.
     pub fn confirm_own(&mut self, me: u16, digest: [u8; 32], view: u16) -> Result<bool, Memory>
         requires member { me ≤ 3 * self.old.slot.f }
-        requires own { (view ≡ self.old.slot.view) × (to_confirm (seen_in self.old.slot) ≡ Some digest) }
-        ensures call { (s : Sight) (n v : ℕ) → Shows self.old s n v → IfOk result (λ fresh. TakesFirst fresh self.new s n v me (message.Confirm n view digest)) }
-        ensures whose { (f n me view : ℕ) → IsOf f n me view self.old → IfOk result (λ fresh. IsOf f n me view self.new) }
+        requires own { (view ≡ self.old.slot.view)
+            × (to_confirm (seen_in self.old.slot) ≡ Some digest) }
+        ensures call { (s : Sight) (n v : ℕ) → Shows self.old s n v →
+            IfOk result (λ fresh.
+            TakesFirst fresh self.new s n v me (message.Confirm n view digest)) }
+        ensures whose { (f n me view : ℕ) → IsOf f n me view self.old →
+            IfOk result (λ fresh. IsOf f n me view self.new) }
     {
         let fresh = self.slot.confirm(me, view, digest)?;
         Ok(fresh)
     }
 
-    /// TakesFirst the change of the member itself.
+    /// Takes the change of the member itself.
     pub fn change_own(&mut self, me: u16, view: u16, change: Change) -> Result<bool, Memory>
-        ensures call { (s : Sight) (n v : ℕ) → Shows self.old s n v → IfOk result (λ fresh. TakesFirst fresh self.new s n v me (message.Change n view change)) }
-        ensures whose { (f n me view : ℕ) → IsOf f n me view self.old → IfOk result (λ fresh. IsOf f n me view self.new) }
+        ensures call { (s : Sight) (n v : ℕ) → Shows self.old s n v →
+            IfOk result (λ fresh.
+            TakesFirst fresh self.new s n v me (message.Change n view change)) }
+        ensures whose { (f n me view : ℕ) → IsOf f n me view self.old →
+            IfOk result (λ fresh. IsOf f n me view self.new) }
     {
         let fresh = self.changes.add(view, me, change)?;
         Ok(fresh)
@@ -141,7 +157,8 @@ impl OpenSlot {
     #[tactic(auto, using(crate::proofs::Taking::later_view))]
     pub fn enter(&mut self, view: u16)
         requires { self.old.slot.view < view }
-        ensures shows { (s : Sight) (n v : ℕ) → Shows self.old s n v → Shows self.new s n view }
+        ensures shows { (s : Sight) (n v : ℕ) → Shows self.old s n v →
+            Shows self.new s n view }
         ensures whose { (f n me v : ℕ) → IsOf f n me v self.old → IsOf f n me view self.new }
     {
         self.slot.enter(view);
@@ -160,12 +177,12 @@ impl OpenSlot {
     {
         let mut last = None;
         for view in 0..self.changes.end() {
-            last = self.reached(view).or(last);
+            last = self.view_if_reached(view).or(last);
         }
         last
     }
 
-    fn reached(&self, view: u16) -> Option<u16>
+    fn view_if_reached(&self, view: u16) -> Option<u16>
         ensures { result ≡ (if is_reached (look_of self.now) view then Some view else None) }
     {
         if self.is_reached(view) {
@@ -179,7 +196,7 @@ impl OpenSlot {
     fn is_reached(&self, view: u16) -> bool
         ensures { result ≡ is_reached (look_of self.now) view }
     {
-        view > self.slot.view() && self.changes.reached(view) > self.changes.f()
+        view > self.slot.view() && self.changes.count_reached(view) > self.changes.f()
     }
 
     /// The digest to confirm.
@@ -221,11 +238,11 @@ impl OpenSlot {
             && self.has_place(digest)
     }
 
-    /// Fewer than 16 digests were echoed in the slot, or this is one of them.
+    /// The slot has room for the echo of one more digest, or this is one of those echoed.
     fn has_place(&self, digest: &[u8; 32]) -> bool
         ensures { result ≡ has_place_by (look_of self.now) digest.now }
     {
-        self.echoed.len() < 16 || is_listed(self.echoed.as_slice(), digest)
+        self.echoed.len() < usize::from(MOST_ECHOED) || is_listed(self.echoed.as_slice(), digest)
     }
 
     /// The member echoed in the slot.
@@ -259,21 +276,21 @@ impl OpenSlot {
 
     /// What the member echoed in its view.
     pub fn own_echo(&self) -> Option<[u8; 32]>
-        ensures { result ≡ (seen_in self.now.slot).echo self.now.slot.view self.now.slot.me }
+        ensures { result ≡ own_echo (look_of self.now) }
     {
-        self.slot.echoed(self.slot.view(), self.slot.me())
+        self.slot.echo_of(self.slot.view(), self.slot.me())
     }
 
     /// What the member confirmed in its view.
     pub fn own_confirm(&self) -> Option<[u8; 32]>
-        ensures { result ≡ (seen_in self.now.slot).confirm self.now.slot.view self.now.slot.me }
+        ensures { result ≡ own_confirm (look_of self.now) }
     {
-        self.slot.confirmed(self.slot.view(), self.slot.me())
+        self.slot.confirm_of(self.slot.view(), self.slot.me())
     }
 
     /// What the member told as it entered its view.
     pub fn own_change(&self) -> Option<&Change>
-        ensures { option_copied result ≡ told_in self.now.changes.changes self.now.slot.view self.now.slot.me }
+        ensures { option_copied result ≡ own_change (look_of self.now) }
     {
         self.changes.get(self.slot.view(), self.slot.me())
     }
@@ -326,7 +343,9 @@ impl OpenSlot {
     /// The prepared pairs of the changes to the view, by falling view and rising digest.
     fn pairs(&self, alloc: Global) -> Result<Vec<Pair>, Memory>
         requires { self.now.slot.f ≤ 5 }
-        ensures { IfOk result (λ pairs. pairs.items ≡ pairs_below (3 * self.now.slot.f + 1) (told_in self.now.changes.changes self.now.slot.view)) }
+        ensures { IfOk result (λ pairs. pairs.items
+            ≡ pairs_below (3 * self.now.slot.f + 1)
+            (told_in self.now.changes.changes self.now.slot.view)) }
     {
         let mut pairs = Vec::new(alloc);
         for member in 0..3 * self.slot.f() + 1 {

@@ -26,7 +26,9 @@ pub fn with_line(alloc: Global, lines: &[Line], line: Line) -> Result<Vec<Line>,
 
 /// Gives out the next line, after the one that waits where that comes before it.
 fn place(waiting: Option<Line>, other: Line, out: &mut Vec<Line>) -> Result<Option<Line>, Memory>
-    ensures { IfOk result (λ now. (rest : List (List ℕ × ℕ)) → out.new.items ++ with_line now rest ≡ out.old.items ++ with_line waiting (other ∷ rest)) }
+    ensures { IfOk result (λ now. (rest : List (List ℕ × ℕ)) →
+        out.new.items ++ with_line now rest
+        ≡ out.old.items ++ with_line waiting (other ∷ rest)) }
 {
     let Some(line) = waiting else {
         out.push(other)?;

@@ -28,7 +28,9 @@ pub fn with_pair(alloc: Global, pairs: Vec<Pair>, pair: Option<Pair>) -> Result<
 
 /// Gives out the next pair, after the one that waits where that comes before it.
 fn place(waiting: Option<Pair>, other: Pair, out: &mut Vec<Pair>) -> Result<Option<Pair>, Memory>
-    ensures { IfOk result (λ now. (rest : List (ℕ × List ℕ)) → out.new.items ++ with_pair now rest ≡ out.old.items ++ with_pair waiting (other ∷ rest)) }
+    ensures { IfOk result (λ now. (rest : List (ℕ × List ℕ)) →
+        out.new.items ++ with_pair now rest
+        ≡ out.old.items ++ with_pair waiting (other ∷ rest)) }
 {
     let Some(pair) = waiting else {
         out.push(other)?;

@@ -10,8 +10,8 @@ use cs_base::Memory;
 use cs_order_rules::OrderMessage;
 use std::alloc::{AllocError, Global};
 
-/// The current of a slot, by the messages that were taken of it and of later slots, the oldest first,
-/// and those of the later slots.
+/// The open slot of a number, by the messages that were taken of it and of later slots,
+/// the oldest first, and those of the later slots.
 pub fn reopen(
     alloc: Global,
     f: u16,
@@ -22,7 +22,9 @@ pub fn reopen(
     requires few { f ≤ 5 }
     requires member { me ≤ 3 * f }
     requires taken { AllTaken f me (reverse later.items) }
-    ensures shows { IfOk result (λ pair. (s : Sight) → s.f ≡ f → s.me ≡ me → s.views ≡ view_bound → s.taken ≡ at_slot n (reverse later.items) → Shows pair.0 s n 0) }
+    ensures shows { IfOk result (λ pair. (s : Sight) →
+        s.f ≡ f → s.me ≡ me → s.views ≡ view_bound →
+        s.taken ≡ at_slot n (reverse later.items) → Shows pair.0 s n 0) }
     ensures whose { IfOk result (λ pair. IsOf f n me 0 pair.0) }
     ensures rest { IfOk result (λ pair. reverse pair.1.items ≡ above n (reverse later.items)) }
 {

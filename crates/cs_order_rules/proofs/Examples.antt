@@ -1,6 +1,7 @@
 -- A view change after a confirm that was lost, and changes that make a digest safe, worked out by hand.
 use Rattle.std.proofs.Common.{◌≡◌, ℕ, Bool, true, false, List, [], ◌∷◌, ◌++◌, Option, Some, None, refl}
 use Rattle.cs_order.specs.Counts.{count_below, any_below, first_below, last_below, last_found}
+use Rattle.cs_order.specs.Limits.{view_bound}
 use Rattle.cs_order.specs.Deeds.{Deed, Member, chosen_in}
 use Rattle.cs_order.specs.Deeds as deed
 use Rattle.cs_order.specs.declared.proposed.Proposed.{Proposed}
@@ -185,7 +186,7 @@ sent_again_before = refl
 
 -- Changes to view 1, taken by member 3.
 abbrev with_changes : List (ℕ × OrderMessage) → Sight
-with_changes taken = record { f = 1; me = 3; taken = taken; log = []; view = 1; wait = 0; views = 1024 }
+with_changes taken = record { f = 1; me = 3; taken = taken; log = []; view = 1; wait = 0; views = view_bound }
 
 abbrev three_changes : List (ℕ × OrderMessage)
 three_changes = (2, change_2) ∷ (1, change_2) ∷ (0, message.Change 0 1 (record { prepared = Some (0, other); echoed = [] })) ∷ []

@@ -1,2 +1,1 @@
-pub mod Searches
 mod Examples

@@ -3,7 +3,9 @@ use Rattle.std.specs.Prelude.{ℕ, ◌+◌, ◌*◌, ◌%◌, ◌==◌, nat_lt, 
 use Rattle.std.specs.List.{list_all}
 use Rattle.std.specs.Cmp.Lexicographic.{slice_cmp}
 use Rattle.std.specs.Ordering.{nat_cmp, is_lt}
-use Rattle.cs_order.specs.Counts.{when, or_else, count_below}
+use Rattle.cs_base.specs.declared.limits.TheConstants.{MOST_ECHOED}
+use Rattle.cs_order.specs.Counts.{when, count_below}
+use Rattle.cs_base.specs.Options.{or_else}
 use Rattle.cs_order.specs.Limits.{last_slot, view_bound}
 use Rattle.cs_order.specs.declared.proposed.Proposed.{Proposed}
 use Rattle.cs_order_rules.specs.declared.message.Change.{Change}
@@ -143,6 +145,11 @@ abbrev pub pair_below : ℕ → Option (ℕ × List ℕ) → Bool
 pair_below view None = true
 pair_below view (Some pair) = nat_lt pair.0 view
 
+-- what a change to a view lists: rising digests, as many as may be echoed in a slot, each at an earlier view
+abbrev pub lists_echoes : ℕ → List (List ℕ × ℕ) → Bool
+lists_echoes view lines =
+    (rises lines && nat_le (length lines) MOST_ECHOED) && list_all (λ (line : List ℕ × ℕ). nat_lt line.1 view) lines
+
 abbrev pub is_place : ℕ → ℕ → Bool
 is_place slot view = nat_le slot last_slot && nat_lt view view_bound
 
@@ -150,5 +157,5 @@ abbrev pub proper : OrderMessage → Bool
 proper (message.Propose n w e) = is_place n w
 proper (message.Echo n w d) = is_place n w
 proper (message.Confirm n w d) = is_place n w
-proper (message.Change n w c) = (is_place n w && (nat_lt 0 w && pair_below w c.prepared)) && ((rises c.echoed && nat_le (length c.echoed) 16) && list_all (λ (line : List ℕ × ℕ). nat_lt line.1 w) c.echoed)
+proper (message.Change n w c) = (is_place n w && (nat_lt 0 w && pair_below w c.prepared)) && lists_echoes w c.echoed
 proper (message.Done n e) = is_place n 0

@@ -3,6 +3,7 @@ use Rattle.std.specs.List.{list_any, filter_map}
 use Rattle.std.specs.Cmp.Lexicographic.{slice_cmp}
 use Rattle.std.specs.Ordering.{nat_cmp, is_lt}
 use Rattle.std.specs.Prelude.{ℕ, zero, suc, ◌+◌, ◌*◌, ◌%◌, ◌^◌, ◌==◌, min, nat_lt, nat_le, bytes_eq, Bool, true, not, ◌&&◌, ◌||◌, if◌then◌else◌, List, [], ◌∷◌, ◌++◌, length, Option, Some, None, is_some, slice_get}
+use Rattle.cs_base.specs.declared.limits.TheConstants.{MOST_ECHOED, SLOTS_AHEAD}
 use Rattle.cs_order.specs.Counts.{when, last_below}
 use Rattle.cs_order.specs.Limits.{view_bound, rest_at}
 use Rattle.cs_order.specs.declared.proposed.Proposed.{Proposed}
@@ -57,13 +58,15 @@ choice s = chosen (seen s)
 
 -- Enter: the greatest view above the member's that f+1 members have reached.
 abbrev pub entering : Sight → Option ℕ
-entering s = last_below s.views (λ view. nat_lt s.view view && nat_le (s.f + 1) (count_of s (is_change_from (open_slot s) view)))
+entering s =
+    last_below s.views (λ view. nat_lt s.view view && nat_le (s.f + 1) (count_of s (is_change_from (open_slot s) view)))
 
 -- Confirm.
 abbrev pub confirming : Sight → Option (List ℕ)
 confirming s = to_confirm (seen s)
 
--- What a change to a view tells: the member's prepared pair of greatest view, and each digest that it echoed, rising, with the greatest view.
+-- What a change to a view tells: the member's prepared pair of greatest view,
+-- and each digest that it echoed, rising, with the greatest view.
 abbrev pub insert_line : List ℕ × ℕ → List (List ℕ × ℕ) → List (List ℕ × ℕ)
 insert_line line [] = line ∷ []
 insert_line line (other ∷ lines) =
@@ -116,9 +119,11 @@ abbrev pub safe : Sight → List ℕ → Bool
 safe s digest = is_safe s.f (change_of s s.view) s.view digest
 
 -- Echo, without admission: the leader's proposal of the view, where it is safe, nothing was echoed
--- in the view, and the digest is one of at most 16 echoed in the slot.
+-- in the view, and the digest is one of the most that are echoed in a slot.
 abbrev pub has_place : Sight → List ℕ → Bool
-has_place s digest = let lines = echoed_in s.me (open_slot s) s.taken in nat_lt (length lines) 16 || list_any (λ (line : List ℕ × ℕ). bytes_eq line.0 digest) lines
+has_place s digest =
+    let lines = echoed_in s.me (open_slot s) s.taken in
+    nat_lt (length lines) MOST_ECHOED || list_any (λ (line : List ℕ × ℕ). bytes_eq line.0 digest) lines
 
 abbrev pub may_echo : Sight → Proposed → Bool
 may_echo s e = (((s.view == 0) || safe s e.digest) && not (is_some (own echo_said s))) && has_place s e.digest
@@ -141,7 +146,10 @@ comes_before p q = nat_lt q.0 p.0 || ((p.0 == q.0) && is_lt (slice_cmp nat_cmp p
 
 abbrev pub insert_pair : ℕ × List ℕ → List (ℕ × List ℕ) → List (ℕ × List ℕ)
 insert_pair p [] = p ∷ []
-insert_pair p (q ∷ qs) = if comes_before p q then p ∷ q ∷ qs else (if comes_before q p then q ∷ insert_pair p qs else q ∷ qs)
+insert_pair p (q ∷ qs) =
+    if comes_before p q
+    then p ∷ q ∷ qs
+    else (if comes_before q p then q ∷ insert_pair p qs else q ∷ qs)
 
 abbrev pub pair_of : Option Change → Option (ℕ × List ℕ)
 pair_of None = None
@@ -163,12 +171,16 @@ abbrev pub candidates : Sight → List Proposed
 candidates s = filter_map (candidate s) (pairs_below (members s) (change_of s s.view))
 
 abbrev pub may_propose : Sight → May
-may_propose s = if not (leader s s.view == s.me) || is_some (own proposal_said s) then No else (if (s.view == 0) || free s then Free else Only (candidates s))
+may_propose s =
+    if not (leader s s.view == s.me) || is_some (own proposal_said s)
+    then No
+    else (if (s.view == 0) || free s then Free else Only (candidates s))
 
 abbrev pub propose_sent : Sight → Proposed → List (Outgoing OrderMessage)
 propose_sent s e = to_all (message.Propose (open_slot s) s.view e)
 
--- What is taken: messages of 16 slots from the open one on, proposals of the leader alone, and of each kind, slot and view the first of a member.
+-- What is taken: messages of the open slot and of those not too far ahead, proposals of the leader alone,
+-- and of each kind, slot and view the first of a member.
 abbrev pub is_led : Sight → ℕ → OrderMessage → Bool
 is_led s from (message.Propose n w e) = from == (n + w) % members s
 is_led s from (message.Echo n w d) = true
@@ -180,13 +192,14 @@ abbrev pub verdict : Sight → ℕ → OrderMessage → Took
 verdict s from m =
     if nat_lt (slot_of m) (open_slot s)
     then Old
-    else (if nat_lt (open_slot s + 15) (slot_of m)
+    else (if nat_lt (open_slot s + SLOTS_AHEAD) (slot_of m)
     then Far
     else (if not (is_led s from m)
     then Leader
     else (if took (is_like m) s.taken from then Repeat else Taken)))
 
--- A tick: the wait grows where an entry is due or the member echoed in the slot, and at its limit the next view is entered.
+-- A tick: the wait grows where an entry is due or the member echoed in the slot,
+-- and at its limit the next view is entered.
 abbrev pub waits : Sight → Bool → Bool
 waits s due = due || is_some (first_of (echo_in (open_slot s)) s.taken s.me)
 

@@ -34,7 +34,9 @@ says_echoed from below digest (Some change) = list_any (is_listed from below dig
 abbrev pub SafeAt : ℕ → (ℕ → Option Change) → ℕ → List ℕ → Type 0
 SafeAt f changes view digest =
     (2 * f + 1 ≤ count_below (3 * f + 1) (λ m. says_none (changes m)))
-    ⊎ ((v : ℕ) × (v < view) × (2 * f + 1 ≤ count_below (3 * f + 1) (λ m. says_allowed v digest (changes m))) × (f + 1 ≤ count_below (3 * f + 1) (λ m. says_echoed v view digest (changes m))))
+    ⊎ ((v : ℕ) × (v < view)
+    × (2 * f + 1 ≤ count_below (3 * f + 1) (λ m. says_allowed v digest (changes m)))
+    × (f + 1 ≤ count_below (3 * f + 1) (λ m. says_echoed v view digest (changes m))))
 
 -- the same as tests: 2f+1 changes have no pair
 abbrev pub is_free : ℕ → (ℕ → Option Change) → Bool

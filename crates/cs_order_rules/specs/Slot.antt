@@ -1,7 +1,8 @@
 -- One slot, as one member sees it, and the rules that look at it alone.
 use Rattle.std.specs.Prelude.{ℕ, ◌+◌, ◌*◌, nat_le, nat_lt, Bool, false, not, ◌&&◌, List, Option, Some, None, is_some, bytes_eq}
 use Rattle.cs_order.specs.declared.proposed.Proposed.{Proposed}
-use Rattle.cs_order.specs.Counts.{count_below, first_below, last_found, or_else, when}
+use Rattle.cs_order.specs.Counts.{count_below, first_below, last_found, when}
+use Rattle.cs_base.specs.Options.{or_else}
 use Rattle.cs_order.specs.Limits.{last_slot}
 
 -- What was taken in the slot: by view, and by view or member and then member.
@@ -40,14 +41,21 @@ with_digest digest (Some e) = when (bytes_eq e.digest digest) (Some e)
 abbrev pub proposal_of : Seen → List ℕ → Option Proposed
 proposal_of s digest = first_below s.views (λ view. with_digest digest (s.proposal view))
 
+-- the entry of the Done of the least member that is done with the digest
+abbrev pub done_with : Seen → List ℕ → Option Proposed
+done_with s digest = first_below (3 * s.f + 1) (λ member. with_digest digest (s.done member))
+
 -- Choose: the least view in which 2f+1 confirms agree on a digest of which an entry is known.
 -- Its entry is that of the proposal of least view, or else that of the Done of the least member.
 abbrev pub entry_of : Seen → Option (List ℕ) → Option Proposed
 entry_of s None = None
-entry_of s (Some digest) = or_else (proposal_of s digest) (first_below (3 * s.f + 1) (λ member. with_digest digest (s.done member)))
+entry_of s (Some digest) = or_else (proposal_of s digest) (done_with s digest)
+
+abbrev pub confirmed_entry : Seen → ℕ → Option Proposed
+confirmed_entry s view = entry_of s (quorum s.f (s.confirm view))
 
 abbrev pub by_confirm : Seen → Option Proposed
-by_confirm s = first_below s.views (λ view. entry_of s (quorum s.f (s.confirm view)))
+by_confirm s = first_below s.views (confirmed_entry s)
 
 -- or else the entry with which f+1 members are done
 abbrev pub same_entry : Proposed → Proposed → Bool
@@ -64,8 +72,11 @@ abbrev pub if_done : Seen → Option Proposed → Option Proposed
 if_done s None = None
 if_done s (Some e) = when (nat_le (s.f + 1) (dones s e)) (Some e)
 
+abbrev pub done_by : Seen → ℕ → Option Proposed
+done_by s member = if_done s (s.done member)
+
 abbrev pub by_done : Seen → Option Proposed
-by_done s = first_below (3 * s.f + 1) (λ member. if_done s (s.done member))
+by_done s = first_below (3 * s.f + 1) (done_by s)
 
 -- the last slot is never chosen
 abbrev pub chosen : Seen → Option Proposed

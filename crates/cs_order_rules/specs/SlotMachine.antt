@@ -1,6 +1,6 @@
 -- The order among 3f+1 members as a machine: what a member's deeds come to, and the rules on it.
 use Rattle.std.specs.Prelude.{ℕ, ◌+◌, Bool, true, ◌||◌, if◌then◌else◌, List, [], ◌∷◌, length, Option, Some, None, is_some}
-use Rattle.cs_order.specs.Counts.{or_else}
+use Rattle.cs_base.specs.Options.{or_else}
 use Rattle.cs_order.specs.Limits.{view_bound}
 use Rattle.cs_order.specs.Deeds.{Deed, Took_in, Advanced, Echoed, Proposing, Ticked, Resent, Replied, Member, Machine, chosen_in}
 use Rattle.cs_order.specs.declared.answers.Outgoing.{Outgoing}
@@ -63,7 +63,8 @@ view_in (Ticked due sent ∷ past) = after (entered_by sent) (λ entered. entere
 view_in (Resent sent ∷ past) = view_in past
 view_in (Replied slot to sent ∷ past) = view_in past
 
--- the wait: the ticks since the view was entered or the slot opened at which an entry was due or the member had echoed in the slot
+-- the wait: the ticks since the view was entered or the slot opened
+-- at which an entry was due or the member had echoed in the slot
 abbrev pub wait_by : Step → List (Outgoing OrderMessage) → ℕ → ℕ
 wait_by (Chosen e) sent wait = 0
 wait_by Moved sent wait = after (entered_by sent) (λ entered. 0) wait
@@ -78,13 +79,22 @@ wait_in me (Took_in from m ∷ past) = wait_in me past
 wait_in me (Advanced step sent ∷ past) = wait_by step sent (wait_in me past)
 wait_in me (Echoed sent ∷ past) = wait_in me past
 wait_in me (Proposing entry sent ∷ past) = wait_in me past
-wait_in me (Ticked due sent ∷ past) = after (entered_by sent) (λ entered. 0) (if due || has_echoed me past then wait_in me past + 1 else wait_in me past)
+wait_in me (Ticked due sent ∷ past) =
+    after (entered_by sent) (λ entered. 0) (if due || has_echoed me past then wait_in me past + 1 else wait_in me past)
 wait_in me (Resent sent ∷ past) = wait_in me past
 wait_in me (Replied slot to sent ∷ past) = wait_in me past
 
 -- all that the rules look at
 abbrev pub sight : Member OrderMessage → Sight
-sight h = record { f = h.f; me = h.me; taken = facts_in h.me h.deeds; log = chosen_in h.deeds; view = view_in h.deeds; wait = wait_in h.me h.deeds; views = view_bound }
+sight h = record {
+  f = h.f;
+  me = h.me;
+  taken = facts_in h.me h.deeds;
+  log = chosen_in h.deeds;
+  view = view_in h.deeds;
+  wait = wait_in h.me h.deeds;
+  views = view_bound;
+}
 
 abbrev pub slot_machine : Machine OrderMessage
 slot_machine = record {

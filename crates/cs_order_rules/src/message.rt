@@ -11,7 +11,7 @@ pub struct Change {
     pub echoed: Sequence<([u8; 32], u16)>,
 }
 
-/// What a member says to the others. A view is 0 to 1,023, and a slot below 2^62.
+/// What a member says to the others. A view is below `VIEW_BOUND`, and a slot at most `LAST_SLOT`.
 #[derive(Drop)]
 pub enum OrderMessage {
     /// The leader of a view proposes an entry.

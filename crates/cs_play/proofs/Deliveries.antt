@@ -12,7 +12,7 @@ use Rattle.cs_play.specs.declared.halt.Halt.{Halt}
 use Rattle.cs_base.specs.NodeId.{is_node, is_client, same_name}
 use Rattle.cs_node_rules.specs.Net.{Net, net_of}
 use Rattle.cs_play.specs.Voicing.{Voicing, SaysTo}
-use Rattle.cs_play.specs.Standing.{HasNode, Rests, Setting, site_in, Standing}
+use Rattle.cs_play.specs.Standing.{HasNode, Rests, Setting, site_in, StandsPrinted}
 use Rattle.cs_play.specs.Ends.{Ends}
 use Rattle.cs_play.proofs.Courses.{drained-left, drained-grows, ends-then}
 use Rattle.cs_play.proofs.Taken.{arrived-stands, size-arrived, unread, read}
@@ -33,16 +33,16 @@ module _ {O J M : Type 0} (stands : O → Member M → Type 0) (approves : J →
   site = site_in rules carrier s
 
   -- the same datagrams
-  pub same-post : (r : Replay O J M) (post' : List Parcel) (written : Option (List ℕ)) (p : Played M) → Standing stands approves rules carrier s r written p → post' ≡ r.post
-      → Standing stands approves rules carrier s (record { cores = r.cores; history = r.history; post = post'; voices = r.voices; events = r.events; traced = r.traced }) written p
+  pub same-post : (r : Replay O J M) (post' : List Parcel) (written : Option (List ℕ)) (p : Played M) → StandsPrinted stands approves rules carrier s r written p → post' ≡ r.post
+      → StandsPrinted stands approves rules carrier s (record { cores = r.cores; history = r.history; post = post'; voices = r.voices; events = r.events; traced = r.traced }) written p
   same-post r post' written p st is =
-      subst (λ (post : List Parcel). Standing stands approves rules carrier s (record { cores = r.cores; history = r.history; post = post; voices = r.voices; events = r.events; traced = r.traced }) written p) (sym is) st
+      subst (λ (post : List Parcel). StandsPrinted stands approves rules carrier s (record { cores = r.cores; history = r.history; post = post; voices = r.voices; events = r.events; traced = r.traced }) written p) (sym is) st
 
   -- the same voices
-  pub same-voices : (r : Replay O J M) (voices' : Voicing) (written : Option (List ℕ)) (p : Played M) → Standing stands approves rules carrier s r written p → voices' ≡ r.voices
-      → Standing stands approves rules carrier s (record { cores = r.cores; history = r.history; post = r.post; voices = voices'; events = r.events; traced = r.traced }) written p
+  pub same-voices : (r : Replay O J M) (voices' : Voicing) (written : Option (List ℕ)) (p : Played M) → StandsPrinted stands approves rules carrier s r written p → voices' ≡ r.voices
+      → StandsPrinted stands approves rules carrier s (record { cores = r.cores; history = r.history; post = r.post; voices = voices'; events = r.events; traced = r.traced }) written p
   same-voices r voices' written p st is =
-      subst (λ (voices : Voicing). Standing stands approves rules carrier s (record { cores = r.cores; history = r.history; post = r.post; voices = voices; events = r.events; traced = r.traced }) written p) (sym is) st
+      subst (λ (voices : Voicing). StandsPrinted stands approves rules carrier s (record { cores = r.cores; history = r.history; post = r.post; voices = voices; events = r.events; traced = r.traced }) written p) (sym is) st
 
   -- ---- drained
 
@@ -67,7 +67,7 @@ module _ {O J M : Type 0} (stands : O → Member M → Type 0) (approves : J →
 
   -- ---- delivered
 
-  module _ (r : Replay O J M) (written : Option (List ℕ)) (p : Played M) (line number : ℕ) (parcel : Parcel) (post' : List Parcel) (st : Standing stands approves rules carrier s r written p)
+  module _ (r : Replay O J M) (written : Option (List ℕ)) (p : Played M) (line number : ℕ) (parcel : Parcel) (post' : List Parcel) (st : StandsPrinted stands approves rules carrier s r written p)
       (there : Some parcel ≡ slice_get r.post number) (arrives : post' ≡ Kept.with_arrived number (slice_get r.post number) r.post) where
     abbrev next : Played M
     next = with_arrived number parcel p
@@ -81,7 +81,7 @@ module _ {O J M : Type 0} (stands : O → Member M → Type 0) (approves : J →
     moved : post' ≡ next.parcels
     moved = arrives ∙ ap (λ f. Kept.with_arrived number f r.post) (sym there) ∙ ap (λ ps. slice_set ps number (arrived parcel)) st.holds.parcels
 
-    pub arrived-standing : Standing stands approves rules carrier s left written next
+    pub arrived-standing : StandsPrinted stands approves rules carrier s left written next
     arrived-standing = record {
       holds = arrived-stands stands approves rules carrier s r left p number parcel st.holds (size-arrived p.parcels number parcel found) refl refl refl refl refl moved;
       printed = st.printed;

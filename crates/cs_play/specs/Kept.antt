@@ -62,7 +62,9 @@ voted kept shard d Shard.Abort = kept
 -- the transaction of a session, where every concerned shard has voted commit
 abbrev pub told_next : KeptHistory → Session → KeptHistory
 told_next kept x =
-    record kept { told = if all_commit kept.config kept.commits x then with_told (digest_of_tx x.tx) kept.told else kept.told }
+    record kept {
+      told = if all_commit kept.config kept.commits x then with_told (digest_of_tx x.tx) kept.told else kept.told;
+    }
 
 -- one more slot of the shard
 abbrev pub entered_slot : KeptHistory → ℕ → KeptHistory

@@ -33,7 +33,8 @@ HaveArrived zero parcels = Unit {0}
 HaveArrived (suc count) [] = ⊥
 HaveArrived (suc count) (parcel ∷ parcels) = (parcel.arrived ≡ true) × HaveArrived count parcels
 
--- the bytes of all of them, which are not too many; how many of the first came to their addressees; and, for each tail, a number
+-- the bytes of all of them, which are not too many; how many of the first came to their addressees; and, for each tail,
+-- a number
 pub record IsKept (parcels : List Parcel) (size delivered : ℕ) (numbers : List (List ℕ × ℕ)) : Type 0 where
   pub counted : size ≡ size_of parcels
   pub within : size ≤ most_sent

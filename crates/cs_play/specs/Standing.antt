@@ -1,6 +1,8 @@
 -- What the variables of a replay stand for.
 use Rattle.std.specs.Prelude.{◌≡◌, ◌↔◌, ℕ, ◌<◌, ◌≤◌, Bool, true, false, List, length, slice_get, Option, Some}
+use Rattle.std.specs.List.{All}
 use Rattle.std.specs.Io.KnownBytes.{Appends}
+use Rattle.cs_base.specs.declared.limits.TheConstants.{MOST_BODY}
 use Rattle.cs_base.specs.declared.node_id.NodeId.{NodeId}
 use Rattle.cs_tx_form.specs.declared.transaction.Tx.{Tx}
 use Rattle.cs_order.specs.Deeds.{Member, Machine}
@@ -38,12 +40,14 @@ site_in {M} rules carrier s = site_of s.setup s.net rules carrier
 -- ---- nodes
 
 -- the cores stand for these views
-abbrev pub EachStands : {O J M : Type 0} → (O → Member M → Type 0) → (J → Tx → Bool) → Setup → Net → List (Core O J M) → (ℕ → View M) → Type 0
+abbrev pub EachStands : {O J M : Type 0} → (O → Member M → Type 0) → (J → Tx → Bool)
+    → Setup → Net → List (Core O J M) → (ℕ → View M) → Type 0
 EachStands {O} {J} {M} stands approves setup net cores views =
     (i : ℕ) (core : Core O J M) → slice_get cores i ≡ Some core → StandsFor stands approves setup net core (views i)
 
 -- the cores are those of different nodes, and stand for their views after these events
-pub record AllStand {O J M : Type 0} (stands : O → Member M → Type 0) (approves : J → Tx → Bool) (site : Site M) (names : ℕ → NodeId) (cores : List (Core O J M)) (world : List (Happening M)) : Type 0 where
+pub record AllStand {O J M : Type 0} (stands : O → Member M → Type 0) (approves : J → Tx → Bool)
+    (site : Site M) (names : ℕ → NodeId) (cores : List (Core O J M)) (world : List (Happening M)) : Type 0 where
   pub each : EachStands stands approves site.setup site.net cores (λ i. view_of site world (names i))
   pub apart : (i j : ℕ) → i < length cores → j < length cores → names i ≡ names j → i ≡ j
 
@@ -52,7 +56,9 @@ abbrev pub HasNode : (ℕ → NodeId) → ℕ → NodeId → Type 0
 HasNode names count name = (i : ℕ) × (i < count) × (names i ≡ name)
 
 -- an input at a node was taken: what it told and sent, and the cores after it
-pub record Delivered {O J M : Type 0} (stands : O → Member M → Type 0) (approves : J → Tx → Bool) (site : Site M) (names : ℕ → NodeId) (cores : List (Core O J M)) (world : List (Happening M)) (to : NodeId) (input : Input) (made : Made) : Type 0 where
+pub record Delivered {O J M : Type 0} (stands : O → Member M → Type 0) (approves : J → Tx → Bool)
+    (site : Site M) (names : ℕ → NodeId) (cores : List (Core O J M)) (world : List (Happening M))
+    (to : NodeId) (input : Input) (made : Made) : Type 0 where
   pub notes : made.notes ≡ notes_of (signs_of (event_marks site (view_of site world to) input))
   pub outs : made.outs ≡ outs_of site.net to (signs_of (event_marks site (view_of site world to) input))
   pub all : AllStand stands approves site names cores (happens site to input world)
@@ -67,7 +73,8 @@ pub record Rests (s : Setting) (count : ℕ) (voicing : Voicing) : Type 0 where
   pub speaks : s.net ≡ net_of voicing.config voicing.master liars
 
 -- it stands for what was played
-pub record Stands {O J M : Type 0} (stands : O → Member M → Type 0) (approves : J → Tx → Bool) (rules : Machine M) (carrier : Carrier M) (s : Setting) (r : Replay O J M) (p : Played M) : Type 0 where
+pub record Stands {O J M : Type 0} (stands : O → Member M → Type 0) (approves : J → Tx → Bool)
+    (rules : Machine M) (carrier : Carrier M) (s : Setting) (r : Replay O J M) (p : Played M) : Type 0 where
   pub rests : Rests s r.history.config.shards r.voices
   pub traced : r.traced ≡ s.traced
   pub count : length r.cores.items ≡ s.count
@@ -78,19 +85,24 @@ pub record Stands {O J M : Type 0} (stands : O → Member M → Type 0) (approve
   pub events : r.events ≡ length p.world
 
 -- and the lines of its events were written
-pub record Standing {O J M : Type 0} (stands : O → Member M → Type 0) (approves : J → Tx → Bool) (rules : Machine M) (carrier : Carrier M) (s : Setting) (r : Replay O J M) (written : Option Bytes) (p : Played M) : Type 0 where
+pub record StandsPrinted {O J M : Type 0} (stands : O → Member M → Type 0) (approves : J → Tx → Bool)
+    (rules : Machine M) (carrier : Carrier M) (s : Setting) (r : Replay O J M) (written : Option Bytes) (p : Played M)
+    : Type 0 where
   pub holds : Stands stands approves rules carrier s r p
   pub printed : Appends s.before written p.text
 
 -- ---- events
 
--- what is said is short enough for a datagram
+-- what is said is short enough for a datagram, and so is what each of these events says
 abbrev pub IsShort : Event → Type 0
-IsShort (Say from to kind body) = length body ≤ 32719
+IsShort (Say from to kind body) = length body ≤ MOST_BODY
 IsShort (Inject to bytes) = Unit {0}
 IsShort (Deliver number) = Unit {0}
 IsShort (Tick node) = Unit {0}
 IsShort (Drain times) = Unit {0}
+
+abbrev pub AllShort : List (ℕ × Event) → Type 0
+AllShort events = All (λ numbered. IsShort numbered.1) events
 
 -- an honest node is given something, by another
 abbrev pub IsToAnother : Setting → Event → Type 0
@@ -99,3 +111,6 @@ IsToAnother s (Inject to bytes) = HasNode s.names s.count to
 IsToAnother s (Deliver number) = Unit {0}
 IsToAnother s (Tick node) = HasNode s.names s.count node
 IsToAnother s (Drain times) = Unit {0}
+
+abbrev pub AllToOthers : Setting → List (ℕ × Event) → Type 0
+AllToOthers s events = All (λ numbered. IsToAnother s numbered.1) events

@@ -17,7 +17,8 @@ use Rattle.cs_play.specs.Kept.{KeptHistory, KeepsHistory}
 abbrev pub note_text : Bool → NodeId → Note → Bytes
 note_text traced me (note.Dropped cause) = if_traced traced (drop_line me cause)
 note_text traced me (note.Viewed slot view) = if_traced traced (view_line me slot view)
-note_text traced me (note.Executed slot entry effect) = slot_line me slot (digest_of_session (session_in entry)) (effect_of effect)
+note_text traced me (note.Executed slot entry effect) =
+    slot_line me slot (digest_of_session (session_in entry)) (effect_of effect)
 
 abbrev pub notes_text : Bool → NodeId → List Note → Bytes
 notes_text traced me notes = flat_map (note_text traced me) notes
@@ -39,5 +40,6 @@ told_text traced event line me notes number sent =
 
 -- the history took in the executions of these notes
 pub record IsTold (me : NodeId) (notes : List Note) (old new : KeptHistory) : Type 0 where
-  pub kept : (setup : Setup) (firsts : List Execution) → me.shard < old.config.shards → KeepsHistory setup firsts old → KeepsHistory setup (noted_firsts me.shard notes firsts) new
+  pub kept : (setup : Setup) (firsts : List Execution) → me.shard < old.config.shards
+      → KeepsHistory setup firsts old → KeepsHistory setup (noted_firsts me.shard notes firsts) new
   pub config : new.config ≡ old.config

@@ -6,7 +6,7 @@ use Rattle.cs_base.specs.NodeId.{is_named, same_name}
 use Rattle.cs_ledger.specs.Ledger.{Bytes}
 use Rattle.cs_wire.specs.declared.keys.Keys.{Keys}
 use Rattle.cs_wire.specs.Keys.{key_between, IsOfMaster}
-use Rattle.cs_wire.specs.Opened.{datagram_with}
+use Rattle.cs_wire.specs.Datagram.{datagram_with}
 
 -- under which keys they speak
 pub record Voicing : Type 0 where
@@ -21,7 +21,8 @@ AreOfMaster config master (keys ∷ more) = IsOfMaster config master keys.me key
 -- what one of them says to another
 abbrev pub SaysTo : Voicing → NodeId → NodeId → ℕ → Bytes → Bytes → Type 0
 SaysTo v from to kind body bytes =
-    is_named v.config to ≡ true → same_name to from ≡ false → bytes ≡ datagram_with (key_between v.master from to) from to kind body
+    is_named v.config to ≡ true → same_name to from ≡ false
+    → bytes ≡ datagram_with (key_between v.master from to) from to kind body
 
 -- the keys at this place are those of this name
 pub record HoldsAt (config : Config) (master : Bytes) (name : NodeId) (keys : List Keys) (place : ℕ) : Type 0 where

@@ -8,7 +8,6 @@ ghost use Rattle.cs_node_rules.specs.World.{Happening};
 ghost use Rattle.cs_node_rules.specs.Deployment.{site_of};
 ghost use Rattle.cs_node.specs.Notes.{NotesFit};
 ghost use Rattle.cs_node.specs.Speaking.{input_of, sender_of};
-ghost use Rattle.cs_node.specs.Carriers.{carrier};
 ghost use Rattle.cs_play.specs.Standing.{EachStands, AllStand, HasNode, Delivered};
 
 use cs_base::{Memory, NodeId, Sequence};
@@ -20,8 +19,12 @@ use std::alloc::Global;
 /// The place of the core of a node.
 pub fn place_of<O: Carried, J: Judge + Drop>(cores: &[Core<O, J>], name: NodeId) -> Option<usize>
     ensures within { IfSome result (λ place. place < length cores.now) }
-    ensures named { (setup : Setup) (net : Net) (views : ℕ → View O.Message) → EachStands O.stands J.is_approved setup net cores.now views → IfSome result (λ place. (views place).me ≡ name) }
-    ensures none { (setup : Setup) (net : Net) (views : ℕ → View O.Message) → EachStands O.stands J.is_approved setup net cores.now views → IfNone result ((i : ℕ) → i < length cores.now → (views i).me ≢ name) }
+    ensures named { (setup : Setup) (net : Net) (views : ℕ → View O.Message)
+        → EachStands O.stands J.is_approved setup net cores.now views
+        → IfSome result (λ place. (views place).me ≡ name) }
+    ensures none { (setup : Setup) (net : Net) (views : ℕ → View O.Message)
+        → EachStands O.stands J.is_approved setup net cores.now views
+        → IfNone result ((i : ℕ) → i < length cores.now → (views i).me ≢ name) }
 {
     for (place, core) in cores.iter().enumerate() {
         if core.me() == name {
@@ -38,8 +41,10 @@ pub fn sender_at<O: Carried, J: Judge + Drop>(
     to: NodeId,
     bytes: &[u8],
 ) -> Result<Option<NodeId>, Memory>
-    ensures { (setup : Setup) (net : Net) (names : ℕ → NodeId) (views : ℕ → View O.Message) → EachStands O.stands J.is_approved setup net cores.now views
-        → ((i : ℕ) → (views i).me ≡ names i) → HasNode names (length cores.now) to → IfOk result (λ sender. sender ≡ sender_of (net.opened to bytes.now)) }
+    ensures { (setup : Setup) (net : Net) (names : ℕ → NodeId) (views : ℕ → View O.Message)
+        → EachStands O.stands J.is_approved setup net cores.now views
+        → ((i : ℕ) → (views i).me ≡ names i) → HasNode names (length cores.now) to
+        → IfOk result (λ sender. sender ≡ sender_of (net.opened to bytes.now)) }
 {
     match place_of(cores, to) {
         Some(place) => cores[place].sender(alloc, bytes),
@@ -54,9 +59,13 @@ pub fn deliver<O: Carried, J: Judge + Drop>(
     to: NodeId,
     input: Input<'_>,
 ) -> Result<Made, Memory>
-    ensures delivered { (setup : Setup) (net : Net) (names : ℕ → NodeId) (world : List (Happening O.Message))
-        → AllStand O.stands J.is_approved (site_of setup net O.rules (carrier O.written O.read_of)) names cores.old.items world → HasNode names (length cores.old.items) to
-        → IfOk result (λ made. Delivered O.stands J.is_approved (site_of setup net O.rules (carrier O.written O.read_of)) names cores.new.items world to (input_of input.entry) made) }
+    ensures delivered { (setup : Setup) (net : Net)
+        → (names : ℕ → NodeId) (world : List (Happening O.Message))
+        → AllStand O.stands J.is_approved (site_of setup net O.rules O.carrier)
+        names cores.old.items world
+        → HasNode names (length cores.old.items) to
+        → IfOk result (Delivered O.stands J.is_approved (site_of setup net O.rules O.carrier)
+        names cores.new.items world to (input_of input.entry)) }
     ensures fits { IfOk result (λ made. NotesFit made.notes) }
     ensures count { length cores.new.items ≡ length cores.old.items }
 {

@@ -37,7 +37,12 @@ impl Model for History {
 
     ghost Value = { KeptHistory };
 
-    ghost view = { λ h. record { config = h.config; slots = h.slots.items; commits = h.commits.keys; told = h.told.keys } };
+    ghost view = { λ h. record {
+      config = h.config;
+      slots = h.slots.items;
+      commits = h.commits.keys;
+      told = h.told.keys;
+    } };
 
     ghost invariant = { λ h. length h.slots.items ≡ h.config.shards };
 }
@@ -74,7 +79,10 @@ impl History {
         effect: Effect,
     ) -> Result<(), Memory>
         requires fits { ExecutedFits effect entry.now }
-        ensures kept { (setup : Setup) (firsts : List Execution) → shard < self.old.config.shards → KeepsHistory setup firsts self.old → OnOk result (KeepsHistory setup (first_of shard (Did slot entry.now (effect_of effect)) firsts) self.new) }
+        ensures kept { (setup : Setup) (firsts : List Execution)
+            → shard < self.old.config.shards → KeepsHistory setup firsts self.old
+            → OnOk result (KeepsHistory setup
+            (first_of shard (Did slot entry.now (effect_of effect)) firsts) self.new) }
         ensures config { OnOk result (self.new.config ≡ self.old.config) }
     {
         self.enter(alloc, shard, slot, entry, effect)
@@ -89,7 +97,8 @@ impl History {
         effect: Effect,
     ) -> Result<(), Memory>
         requires fits { ExecutedFits effect entry.now }
-        ensures kept { shard < self.old.config.shards → OnOk result (self.new ≡ kept_after self.old shard slot entry.now (effect_of effect)) }
+        ensures kept { shard < self.old.config.shards
+            → OnOk result (self.new ≡ kept_after self.old shard slot entry.now (effect_of effect)) }
         ensures config { OnOk result (self.new.config ≡ self.old.config) }
     {
         let place = shard as usize;
@@ -132,7 +141,8 @@ impl History {
         vote: Vote,
     ) -> Result<(), Memory>
         requires { SessionFits session.now }
-        ensures { OnOk result (self.new ≡ told_next (voted self.old shard (digest_of_session session.now) (vote_of vote)) session.now) }
+        ensures { OnOk result (self.new ≡ told_next
+            (voted self.old shard (digest_of_session session.now) (vote_of vote)) session.now) }
     {
         let digest = session_digest(alloc, session)?;
         if vote == Vote::Commit {
@@ -141,6 +151,7 @@ impl History {
         self.tell(alloc, session, digest)
     }
 
+    // Tells the transaction of a session, where every concerned shard has voted commit.
     fn tell(&mut self, alloc: Global, session: &Session, digest: Digest) -> Result<(), Memory>
         requires fits { SessionFits session.now }
         requires digest { digest ≡ digest_of_session session.now }
@@ -161,7 +172,8 @@ impl History {
     ) -> Result<bool, Memory>
         requires fits { SessionFits session.now }
         requires digest { digest ≡ digest_of_session session.now }
-        ensures { IfOk result (λ all. all ≡ all_commit self.now.config self.now.commits session.now) }
+        ensures { IfOk result (λ all.
+            all ≡ all_commit self.now.config self.now.commits session.now) }
     {
         let shards = concerned(alloc, session, &self.config)?;
         Ok(self.have_committed(shards.as_slice(), digest))

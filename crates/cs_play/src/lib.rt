@@ -1,5 +1,5 @@
-//! Plays the events of a schedule at its honest nodes, and prints what these do. It knows neither the
-//! order nor the judge of the nodes.
+//! Plays the events of a schedule at its honest nodes, and prints what these do. It knows neither
+//! the order nor the judge of the nodes.
 #![tactic(auto)]
 
 mod cores;
@@ -19,5 +19,5 @@ pub use history::History;
 pub use lines::{forged_line, history_text, limit_line};
 pub use parcel::Parcel;
 pub use play::Replay;
-pub use post::{MOST_SENT, Post, SendError};
+pub use post::{Post, SendError};
 pub use voices::Voices;

@@ -28,7 +28,8 @@ pub fn slot_line(
     effect: Effect,
 ) -> Result<String, Memory>
     requires { ExecutedFits effect entry.now }
-    ensures { IfOk result (λ text. string_bytes text ≡ slot_line me slot (digest_of_session (session_in entry.now)) (effect_of effect)) }
+    ensures { IfOk result (λ text. string_bytes text
+        ≡ slot_line me slot (digest_of_session (session_in entry.now)) (effect_of effect)) }
 {
     let effect = effect_text(alloc, entry, effect)?;
     Ok(format!(in alloc; "node {me} slot {slot} {effect}\n")?)
@@ -37,7 +38,8 @@ pub fn slot_line(
 // What an execution came to. What is void may have no digest.
 fn effect_text(alloc: Global, entry: &Entry, effect: Effect) -> Result<String, Memory>
     requires { ExecutedFits effect entry.now }
-    ensures { IfOk result (λ text. string_bytes text ≡ effect_text (digest_of_session (session_in entry.now)) (effect_of effect)) }
+    ensures { IfOk result (λ text. string_bytes text
+        ≡ effect_text (digest_of_session (session_in entry.now)) (effect_of effect)) }
 {
     match effect {
         Effect::Voted(vote) => vote_text(alloc, entry, vote),
@@ -59,7 +61,8 @@ fn effect_text(alloc: Global, entry: &Entry, effect: Effect) -> Result<String, M
 
 fn vote_text(alloc: Global, entry: &Entry, vote: Vote) -> Result<String, Memory>
     requires { EntryFits entry.now }
-    ensures { IfOk result (λ text. string_bytes text ≡ effect_text (digest_of_session (session_in entry.now)) (Voted (vote_of vote))) }
+    ensures { IfOk result (λ text. string_bytes text
+        ≡ effect_text (digest_of_session (session_in entry.now)) (Voted (vote_of vote))) }
 {
     let digest = digest_text(alloc, entry)?;
     Ok(match vote {
@@ -70,7 +73,8 @@ fn vote_text(alloc: Global, entry: &Entry, vote: Vote) -> Result<String, Memory>
 
 fn digest_text(alloc: Global, entry: &Entry) -> Result<String, Memory>
     requires { EntryFits entry.now }
-    ensures { IfOk result (λ text. string_bytes text ≡ bytes_text (digest_of_session (session_in entry.now))) }
+    ensures { IfOk result (λ text.
+        string_bytes text ≡ bytes_text (digest_of_session (session_in entry.now))) }
 {
     let digest = session_digest(alloc, session_in(entry))?;
     print_bytes(alloc, digest.as_slice())

@@ -1,17 +1,16 @@
 //! The events of a schedule, played at the nodes.
 ghost use Rattle.std.specs.Prelude.{◌≡◌, ◌≤◌, length, drop, slice_get, string_bytes, IfOk, OnOk, IsErrOf};
-ghost use Rattle.std.specs.List.{All};
 ghost use Rattle.cs_base.specs.Outside.{HasCause};
+ghost use Rattle.cs_base.specs.declared.limits.TheConstants.{MOST_BODY};
 ghost use Rattle.cs_sched_types.specs.declared.schedule.Event.TheVariants.{Say};
 ghost use Rattle.cs_node_rules.specs.World.{is_genuine};
-ghost use Rattle.cs_node_rules.specs.Play.{Played, occurs, injects, delivers, drained, play, play_all};
+ghost use Rattle.cs_node_rules.specs.Play.{occurs, injects, delivers, drained, play, play_all};
 ghost use Rattle.cs_node.specs.Notes.{NotesFit};
 ghost use Rattle.cs_node.specs.Speaking.{input_of};
-ghost use Rattle.cs_node.specs.Carriers.{carrier};
 ghost use Rattle.cs_play.specs.Forging.{is_backed_by};
-ghost use Rattle.cs_play.specs.Standing.{Setting, site_in, HasNode, Stands, Standing, IsShort, IsToAnother};
+ghost use Rattle.cs_play.specs.Standing.{HasNode, IsShort, AllShort, IsToAnother, AllToOthers};
 ghost use Rattle.cs_play.specs.Told.{told_text, IsTold};
-ghost use Rattle.cs_play.specs.Ends.{Sends, TakesEvent, Ends};
+ghost use Rattle.cs_play.specs.Ends.{Sends, Always, Plays, TakesIn, WhereStands};
 ghost use Rattle.cs_play.specs.declared.halt.Halt.TheVariants.{Failed as SinkFailed};
 
 use crate::cores::{deliver, place_of, sender_at};
@@ -21,15 +20,12 @@ use crate::parcel::Parcel;
 use crate::post::{Post, SendError};
 use crate::telling::{head_text, sent_text, tell};
 use crate::voices::Voices;
-use cs_base::{Memory, NodeId, Sequence, Sink, print};
+use cs_base::{MOST_EVENTS, Memory, NodeId, Sequence, Sink, print};
 use cs_node::{Carried, Core, Made};
 use cs_sched_types::Event;
 use cs_tx::Judge;
 use cs_wire::{Input, Out};
 use std::alloc::Global;
-
-/// The most events of a replay.
-const MOST_EVENTS: u64 = 1_000_000;
 
 /// A replay under way.
 #[derive(Drop)]
@@ -54,11 +50,13 @@ impl<O: Carried, J: Judge + Drop> Replay<O, J> {
         events: &[(u64, Event)],
         output: &mut K,
     ) -> Result<(), Halt>
-        requires { All (λ numbered. IsShort numbered.1) events.now }
-        ensures ends { (s : Setting) (p : Played O.Message)
-            → Standing O.stands J.is_approved O.rules (carrier O.written O.read_of) s self.old (K.written output.old) p → All (λ numbered. IsToAnother s numbered.1) events.now
-            → Ends O.stands J.is_approved O.rules (carrier O.written O.read_of) s (play_all (site_in O.rules (carrier O.written O.read_of) s) s.traced events.now p) self.new (K.written output.new) result }
-        ensures cause { HasCause (K.faults output.old) (K.faults output.new) (IsErrOf result SinkFailed) }
+        requires { AllShort events.now }
+        ensures ends { Plays O.stands J.is_approved O.rules O.carrier
+            self.old (K.written output.old) self.new (K.written output.new) result
+            (λ s. AllToOthers s events.now)
+            (λ site traced. play_all site traced events.now) }
+        ensures cause { HasCause (K.faults output.old) (K.faults output.new)
+            (IsErrOf result SinkFailed) }
     {
         for (line, event) in events {
             self.play(alloc, *line, event, output)?;
@@ -75,10 +73,12 @@ impl<O: Carried, J: Judge + Drop> Replay<O, J> {
         output: &mut K,
     ) -> Result<(), Halt>
         requires { IsShort event.now }
-        ensures ends { (s : Setting) (p : Played O.Message)
-            → Standing O.stands J.is_approved O.rules (carrier O.written O.read_of) s self.old (K.written output.old) p → IsToAnother s event.now
-            → Ends O.stands J.is_approved O.rules (carrier O.written O.read_of) s (play (site_in O.rules (carrier O.written O.read_of) s) s.traced line event.now p) self.new (K.written output.new) result }
-        ensures cause { HasCause (K.faults output.old) (K.faults output.new) (IsErrOf result SinkFailed) }
+        ensures ends { Plays O.stands J.is_approved O.rules O.carrier
+            self.old (K.written output.old) self.new (K.written output.new) result
+            (λ s. IsToAnother s event.now)
+            (λ site traced. play site traced line event.now) }
+        ensures cause { HasCause (K.faults output.old) (K.faults output.new)
+            (IsErrOf result SinkFailed) }
     {
         match event {
             Event::Say {
@@ -106,11 +106,13 @@ impl<O: Carried, J: Judge + Drop> Replay<O, J> {
         body: &[u8],
         output: &mut K,
     ) -> Result<(), Halt>
-        requires { length body.now ≤ 32719 }
-        ensures ends { (s : Setting) (p : Played O.Message)
-            → Standing O.stands J.is_approved O.rules (carrier O.written O.read_of) s self.old (K.written output.old) p → IsToAnother s (Say names.0 names.1 kind body.now)
-            → Ends O.stands J.is_approved O.rules (carrier O.written O.read_of) s (play (site_in O.rules (carrier O.written O.read_of) s) s.traced line (Say names.0 names.1 kind body.now) p) self.new (K.written output.new) result }
-        ensures cause { HasCause (K.faults output.old) (K.faults output.new) (IsErrOf result SinkFailed) }
+        requires { length body.now ≤ MOST_BODY }
+        ensures ends { Plays O.stands J.is_approved O.rules O.carrier
+            self.old (K.written output.old) self.new (K.written output.new) result
+            (λ s. IsToAnother s (Say names.0 names.1 kind body.now))
+            (λ site traced. play site traced line (Say names.0 names.1 kind body.now)) }
+        ensures cause { HasCause (K.faults output.old) (K.faults output.new)
+            (IsErrOf result SinkFailed) }
     {
         let (from, to) = names;
         let bytes = self.voices.say(alloc, from, to, kind, body)?;
@@ -126,10 +128,12 @@ impl<O: Carried, J: Judge + Drop> Replay<O, J> {
         bytes: &[u8],
         output: &mut K,
     ) -> Result<(), Halt>
-        ensures ends { (s : Setting) (p : Played O.Message)
-            → Standing O.stands J.is_approved O.rules (carrier O.written O.read_of) s self.old (K.written output.old) p → HasNode s.names s.count to
-            → Ends O.stands J.is_approved O.rules (carrier O.written O.read_of) s (injects (site_in O.rules (carrier O.written O.read_of) s) s.traced line to bytes.now p) self.new (K.written output.new) result }
-        ensures cause { HasCause (K.faults output.old) (K.faults output.new) (IsErrOf result SinkFailed) }
+        ensures ends { Plays O.stands J.is_approved O.rules O.carrier
+            self.old (K.written output.old) self.new (K.written output.new) result
+            (λ s. HasNode s.names s.count to)
+            (λ site traced. injects site traced line to bytes.now) }
+        ensures cause { HasCause (K.faults output.old) (K.faults output.new)
+            (IsErrOf result SinkFailed) }
     {
         if self.events >= MOST_EVENTS {
             return Err(Halt::Limit(line));
@@ -143,9 +147,9 @@ impl<O: Carried, J: Judge + Drop> Replay<O, J> {
 
     // Whether what opens at a node as from an honest node was sent by it.
     fn is_genuine(&self, alloc: Global, to: NodeId, bytes: &[u8]) -> Result<bool, Memory>
-        ensures { (s : Setting) (p : Played O.Message)
-            → Stands O.stands J.is_approved O.rules (carrier O.written O.read_of) s self.now p → HasNode s.names s.count to
-            → IfOk result (λ genuine. genuine ≡ is_genuine s.net to bytes.now p.parcels) }
+        ensures { WhereStands O.stands J.is_approved O.rules O.carrier self.now (λ s p.
+            HasNode s.names s.count to
+            → IfOk result (λ genuine. genuine ≡ is_genuine s.net to bytes.now p.parcels)) }
     {
         let sender = sender_at(alloc, self.cores.as_slice(), to, bytes)?;
         match sender {
@@ -155,9 +159,8 @@ impl<O: Carried, J: Judge + Drop> Replay<O, J> {
     }
 
     fn is_backed(&self, from: NodeId, to: NodeId, bytes: &[u8]) -> bool
-        ensures { (s : Setting) (p : Played O.Message)
-            → Stands O.stands J.is_approved O.rules (carrier O.written O.read_of) s self.now p
-            → result ≡ is_backed_by s.net to bytes.now p.parcels from }
+        ensures { WhereStands O.stands J.is_approved O.rules O.carrier self.now (λ s p.
+            result ≡ is_backed_by s.net to bytes.now p.parcels from) }
     {
         match place_of(self.cores.as_slice(), from) {
             Some(_) => self.post.was_sent(from, to, bytes),
@@ -173,10 +176,12 @@ impl<O: Carried, J: Judge + Drop> Replay<O, J> {
         times: u64,
         output: &mut K,
     ) -> Result<(), Halt>
-        ensures ends { (s : Setting) (p : Played O.Message)
-            → Standing O.stands J.is_approved O.rules (carrier O.written O.read_of) s self.old (K.written output.old) p
-            → Ends O.stands J.is_approved O.rules (carrier O.written O.read_of) s (drained (site_in O.rules (carrier O.written O.read_of) s) s.traced line times p) self.new (K.written output.new) result }
-        ensures cause { HasCause (K.faults output.old) (K.faults output.new) (IsErrOf result SinkFailed) }
+        ensures ends { Plays O.stands J.is_approved O.rules O.carrier
+            self.old (K.written output.old) self.new (K.written output.new) result
+            Always
+            (λ site traced. drained site traced line times) }
+        ensures cause { HasCause (K.faults output.old) (K.faults output.new)
+            (IsErrOf result SinkFailed) }
     {
         let mut left = times;
         while left > 0 {
@@ -198,10 +203,12 @@ impl<O: Carried, J: Judge + Drop> Replay<O, J> {
         number: u64,
         output: &mut K,
     ) -> Result<(), Halt>
-        ensures ends { (s : Setting) (p : Played O.Message)
-            → Standing O.stands J.is_approved O.rules (carrier O.written O.read_of) s self.old (K.written output.old) p
-            → Ends O.stands J.is_approved O.rules (carrier O.written O.read_of) s (delivers (site_in O.rules (carrier O.written O.read_of) s) s.traced line number (slice_get p.parcels number) p) self.new (K.written output.new) result }
-        ensures cause { HasCause (K.faults output.old) (K.faults output.new) (IsErrOf result SinkFailed) }
+        ensures ends { Plays O.stands J.is_approved O.rules O.carrier
+            self.old (K.written output.old) self.new (K.written output.new) result
+            Always
+            (λ site traced p. delivers site traced line number (slice_get p.parcels number) p) }
+        ensures cause { HasCause (K.faults output.old) (K.faults output.new)
+            (IsErrOf result SinkFailed) }
     {
         let Some(parcel) = self.post.get(number) else {
             return Ok(());
@@ -224,10 +231,12 @@ impl<O: Carried, J: Judge + Drop> Replay<O, J> {
         input: Input<'_>,
         output: &mut K,
     ) -> Result<(), Halt>
-        ensures ends { (s : Setting) (p : Played O.Message)
-            → Standing O.stands J.is_approved O.rules (carrier O.written O.read_of) s self.old (K.written output.old) p → HasNode s.names s.count to
-            → Ends O.stands J.is_approved O.rules (carrier O.written O.read_of) s (occurs (site_in O.rules (carrier O.written O.read_of) s) s.traced line to (input_of input.entry) p) self.new (K.written output.new) result }
-        ensures cause { HasCause (K.faults output.old) (K.faults output.new) (IsErrOf result SinkFailed) }
+        ensures ends { Plays O.stands J.is_approved O.rules O.carrier
+            self.old (K.written output.old) self.new (K.written output.new) result
+            (λ s. HasNode s.names s.count to)
+            (λ site traced. occurs site traced line to (input_of input.entry)) }
+        ensures cause { HasCause (K.faults output.old) (K.faults output.new)
+            (IsErrOf result SinkFailed) }
     {
         let text = self.take_in(alloc, line, to, input)?;
         print(output, text.as_bytes())?;
@@ -243,9 +252,9 @@ impl<O: Carried, J: Judge + Drop> Replay<O, J> {
         to: NodeId,
         input: Input<'_>,
     ) -> Result<String, Halt>
-        ensures takes { (s : Setting) (p : Played O.Message)
-            → Stands O.stands J.is_approved O.rules (carrier O.written O.read_of) s self.old p → HasNode s.names s.count to
-            → TakesEvent O.stands J.is_approved O.rules (carrier O.written O.read_of) s (occurs (site_in O.rules (carrier O.written O.read_of) s) s.traced line to (input_of input.entry) p) p self.new result }
+        ensures takes { TakesIn O.stands J.is_approved O.rules O.carrier self.old self.new result
+            (λ s. HasNode s.names s.count to)
+            (λ site traced. occurs site traced line to (input_of input.entry)) }
         ensures sink { IsErrOf result SinkFailed → ⊥ }
     {
         if self.events >= MOST_EVENTS {
@@ -270,7 +279,9 @@ impl<O: Carried, J: Judge + Drop> Replay<O, J> {
     ) -> Result<String, Memory>
         requires fit { NotesFit made.now.notes }
         requires number { number ≤ length self.old.post }
-        ensures text { IfOk result (λ text. string_bytes text ≡ told_text self.old.traced self.old.events line me made.now.notes number (drop number self.old.post)) }
+        ensures text { IfOk result (λ text. string_bytes text
+            ≡ told_text self.old.traced self.old.events line me
+            made.now.notes number (drop number self.old.post)) }
         ensures kept { OnOk result (IsTold me made.now.notes self.old.history self.new.history) }
         ensures rest { self.new ≡ record self.old { history = self.new.history } }
     {

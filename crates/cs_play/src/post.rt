@@ -5,13 +5,10 @@ ghost use Rattle.cs_node_rules.specs.World.{was_sent};
 ghost use Rattle.cs_play.specs.Post.{with_arrived, tail_of};
 
 use crate::parcel::Parcel;
-use cs_base::{Memory, NodeId};
+use cs_base::{MOST_SENT, Memory, NodeId};
 use indexmap::IndexMap;
 use std::alloc::{AllocFailed, Global};
 use std::marker::Model;
-
-/// The most bytes that all datagrams together may have.
-pub const MOST_SENT: u64 = 268_435_456;
 
 /// Why a datagram was not sent.
 #[derive(Clone, Copy, Debug, PartialEq, Eq)]
@@ -95,7 +92,8 @@ impl Post {
         &self.parcels[number..]
     }
 
-    /// Whether exactly this datagram was sent. It goes through all only where two datagrams end alike.
+    /// Whether exactly this datagram was sent. It goes through all only where two datagrams end
+    /// alike.
     pub fn was_sent(&self, from: NodeId, to: NodeId, bytes: &[u8]) -> bool
         ensures { result ≡ was_sent from to bytes.now self.now }
     {
@@ -112,7 +110,8 @@ impl Post {
     pub fn send(&mut self, parcel: Parcel) -> Result<(), SendError>
         ensures sent { OnOk result (self.new ≡ self.old ++ parcel ∷ []) }
         ensures within { OnOk result (size_of self.new ≤ most_sent) }
-        ensures full { IsErrOf result SendError.Full → most_sent < size_of self.old + length parcel.bytes }
+        ensures full { IsErrOf result SendError.Full
+            → most_sent < size_of self.old + length parcel.bytes }
     {
         let length = parcel.bytes().len() as u64;
         if length > MOST_SENT - self.size {

@@ -14,8 +14,8 @@ use cs_base::{Memory, NodeId};
 use cs_node::Note;
 use std::alloc::Global;
 
-/// The lines of the notes of a node; those of dropped datagrams and of views in a trace alone. The history takes
-/// their executions in.
+/// The lines of the notes of a node; those of dropped datagrams and of views in a trace alone. The
+/// history takes their executions in.
 pub fn tell(
     alloc: Global,
     history: &mut History,
@@ -25,7 +25,9 @@ pub fn tell(
 ) -> Result<String, Memory>
     requires fit { NotesFit notes.now }
     ensures lines { IfOk result (λ text. string_bytes text ≡ notes_text traced me notes.now) }
-    ensures kept { (setup : Setup) (firsts : List Execution) → me.shard < history.old.config.shards → KeepsHistory setup firsts history.old → OnOk result (KeepsHistory setup (noted_firsts me.shard notes.now firsts) history.new) }
+    ensures kept { (setup : Setup) (firsts : List Execution)
+        → me.shard < history.old.config.shards → KeepsHistory setup firsts history.old
+        → OnOk result (KeepsHistory setup (noted_firsts me.shard notes.now firsts) history.new) }
     ensures config { OnOk result (history.new.config ≡ history.old.config) }
 {
     let mut text = String::new(alloc);
@@ -45,7 +47,9 @@ fn tell_note(
 ) -> Result<String, Memory>
     requires fits { NoteFits note.now }
     ensures line { IfOk result (λ text. string_bytes text ≡ note_text traced me note.now) }
-    ensures kept { (setup : Setup) (firsts : List Execution) → me.shard < history.old.config.shards → KeepsHistory setup firsts history.old → OnOk result (KeepsHistory setup (note_first me.shard note.now firsts) history.new) }
+    ensures kept { (setup : Setup) (firsts : List Execution)
+        → me.shard < history.old.config.shards → KeepsHistory setup firsts history.old
+        → OnOk result (KeepsHistory setup (note_first me.shard note.now firsts) history.new) }
     ensures config { OnOk result (history.new.config ≡ history.old.config) }
 {
     match note {
@@ -93,7 +97,8 @@ pub fn sent_text(
     parcels: &[Parcel],
 ) -> Result<String, Memory>
     requires { number + length parcels.now < 2 ^ 64 }
-    ensures { IfOk result (λ text. string_bytes text ≡ if_traced traced (sent_lines number parcels.now)) }
+    ensures { IfOk result (λ text.
+        string_bytes text ≡ if_traced traced (sent_lines number parcels.now)) }
 {
     if traced {
         parcel_lines(alloc, number, parcels)

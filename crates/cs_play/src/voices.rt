@@ -1,5 +1,6 @@
 //! Those whose words a schedule says: liars and clients.
 ghost use Rattle.std.specs.Prelude.{◌≡◌, ◌≤◌, ◌<◌, ℕ, length, IfOk, IfSome, OnOk, List, get_or};
+ghost use Rattle.cs_base.specs.declared.limits.TheConstants.{MOST_BODY};
 ghost use Rattle.cs_base.specs.declared.config.Config.{Config as AnyConfig};
 ghost use Rattle.cs_wire.specs.Keys.{IsOfMaster};
 ghost use Rattle.cs_wire.specs.declared.keys.Keys.{Keys as AnyKeys};
@@ -51,7 +52,7 @@ impl Voices {
         kind: u8,
         body: &[u8],
     ) -> Result<Vec<u8>, Memory>
-        requires short { length body.now ≤ 32719 }
+        requires short { length body.now ≤ MOST_BODY }
         ensures says { IfOk result (λ bytes. SaysTo self.old from to kind body.now bytes.items) }
         ensures same { OnOk result (self.new ≡ self.old) }
     {

@@ -1,7 +1,7 @@
 //! Tallies.
 ghost use Rattle.std.specs.Prelude.{◌≡◌, ℕ, ◌==◌, ◌||◌, ◌≤◌, ◌<◌, not, false, length, IfOk};
 ghost use Rattle.cs_order.specs.Counts.{count_below};
-ghost use Rattle.cs_quorum.specs.Marks.{members_of, is_marked};
+ghost use Rattle.cs_quorum.specs.Marks.{members_of, is_marked, is_in_either};
 
 use cs_base::Memory;
 use std::alloc::Global;
@@ -40,7 +40,8 @@ impl Tally {
     pub fn mark(&mut self, member: u16) -> bool
         requires { member < members_of self.old }
         ensures fresh { result ≡ not (is_marked self.old member) }
-        ensures marked { (other : ℕ) → is_marked self.new other ≡ ((other == member) || is_marked self.old other) }
+        ensures marked { (other : ℕ) →
+            is_marked self.new other ≡ ((other == member) || is_marked self.old other) }
         ensures members { members_of self.new ≡ members_of self.old }
     {
         let fresh = !self.marks[member as usize];
@@ -58,7 +59,7 @@ impl Tally {
     /// How many members are marked here or in the other, which is of as many members.
     pub fn merged(&self, other: &Tally) -> u16
         requires { members_of other.now ≡ members_of self.now }
-        ensures { result ≡ count_below (members_of self.now) (λ member. is_marked self.now member || is_marked other.now member) }
+        ensures { result ≡ count_below (members_of self.now) (is_in_either self.now other.now) }
     {
         count_either(self.marks.as_slice(), other.marks.as_slice())
     }
@@ -69,8 +70,8 @@ fn count_marks(marks: &[bool]) -> u16
     ensures { result ≡ count_below (length marks.now) (is_marked marks.now) }
 {
     let mut count = 0;
-    for member in 0..marks.len() {
-        count += u16::from(marks[member]);
+    for mark in marks {
+        count += u16::from(*mark);
     }
     count
 }
@@ -78,7 +79,7 @@ fn count_marks(marks: &[bool]) -> u16
 fn count_either(marks: &[bool], others: &[bool]) -> u16
     requires few { length marks.now ≤ 16 }
     requires same { length others.now ≡ length marks.now }
-    ensures { result ≡ count_below (length marks.now) (λ member. is_marked marks.now member || is_marked others.now member) }
+    ensures { result ≡ count_below (length marks.now) (is_in_either marks.now others.now) }
 {
     let mut count = 0;
     for member in 0..marks.len() {

@@ -1,5 +1,5 @@
 -- The lines of the events, and then the history, are the whole.
-use Rattle.std.proofs.Common.{◌≡◌, ℕ, suc, Bool, ◌++◌, List, [], ◌∷◌, length, Option, Result, Ok, Err, IfOk, OnOk, OnErr, refl, ap, sym, subst, ◌∙◌, append_assoc}
+use Rattle.std.proofs.Common.{◌≡◌, ℕ, suc, Bool, ◌++◌, List, [], ◌∷◌, length, Option, Result, Ok, Err, IfOk, OnOk, OnErr, refl, ap, sym, subst, ◌∙◌, append_assoc, append-nil}
 use Rattle.std.specs.Prelude.{codes}
 use Rattle.std.specs.List.{flat_map}
 use Rattle.std.specs.Fmt.{decimal}
@@ -17,8 +17,17 @@ use Rattle.cs_play.specs.Digests.{digests_of, tx_line, history_lines}
 use Rattle.cs_base.specs.declared.printing.WriteError.{WriteError}
 use Rattle.cs_replay.specs.declared.schedule.Ending.{Ending}
 use Rattle.cs_replay.specs.Answers.{course_status}
-use Rattle.cs_replay.specs.Closing.{ending_status, Closes}
+use Rattle.cs_replay.specs.declared.schedule.Ending.TheVariants.{Done, Limit, Forged}
+use Rattle.cs_replay.specs.Closing.{ending_status, IsLast, Closes}
 use Rattle.cs_play.specs.Kept.{KeptHistory, KeepsHistory}
+use Rattle.cs_tx_form.specs.declared.transaction.Tx.{Tx}
+use Rattle.cs_order.specs.Deeds.{Member, Machine}
+use Rattle.cs_node_rules.specs.Site.{Carrier}
+use Rattle.cs_play.specs.declared.play.Replay.{Replay}
+use Rattle.cs_play.specs.declared.halt.Halt.{Halt}
+use Rattle.cs_play.specs.declared.halt.Halt.TheVariants as halt
+use Rattle.cs_play.specs.Standing.{Setting, site_in}
+use Rattle.cs_play.specs.Ends.{Ends}
 
 transactions-printed : (txs : List Transaction) → flat_map tx_line (digests_of txs) ≡ transaction_lines txs
 transactions-printed [] = refl
@@ -71,6 +80,38 @@ closes-end before a b site course p text last (Ok ending) whole status first don
     (subst (λ (t : List ℕ). Appends before b t) (sym whole) (Appends-trans before a b p.text text first done), ap ending_status is ∙ status)
 closes-end before a b site course p text last (Err error) whole status first done is (front, rest, parts, written) =
     (p.text ++ front, rest, whole ∙ ap (λ t. p.text ++ t) parts ∙ sym (append_assoc p.text front rest), Appends-trans before a b p.text front first written)
+
+module _ {O J M : Type 0} (stands : O → Member M → Type 0) (approves : J → Tx → Bool) (rules : Machine M) (carrier : Carrier M) (s : Setting) (course : Course M) (r : Replay O J M) (a : Option (List ℕ)) where
+  -- the last lines, by how the events ended, are those of their course
+  pub closes-last : (b : Option (List ℕ)) (played : Result (Unit {0}) Halt) (text : List ℕ) (last : Ending) (result : Result Ending WriteError)
+      → Ends stands approves rules carrier s course r a played → IsLast r.history.told played text last
+      → OnOk result (Appends a b text) → IfOk result (λ ending. ending ≡ last) → OnErr result (AppendsFront a b text)
+      → Closes s.before b (site_in rules carrier s) course result
+  closes-last b (Ok done) text last result (q, goes, end) (is, ending) all same part =
+      closes-end s.before a b (site_in rules carrier s) course q text last result
+      (ap (closed (site_in rules carrier s)) goes ∙ history-end (site_in rules carrier s) q r.history end.holds.kept ∙ ap (λ t. q.text ++ t) (sym is))
+      (ap ending_status ending ∙ sym (ap course_status goes)) end.printed all same part
+  closes-last b (Err (halt.Limit line)) text last result (q, stops, printed) (is, ending) all same part =
+      closes-end s.before a b (site_in rules carrier s) course q text last result
+      (ap (closed (site_in rules carrier s)) stops ∙ ap (λ t. q.text ++ t) (sym is))
+      (ap ending_status ending ∙ sym (ap course_status stops)) printed all same part
+  closes-last b (Err (halt.Forged line)) text last result (q, stops, printed) (is, ending) all same part =
+      closes-end s.before a b (site_in rules carrier s) course q text last result
+      (ap (closed (site_in rules carrier s)) stops ∙ ap (λ t. q.text ++ t) (sym is))
+      (ap ending_status ending ∙ sym (ap course_status stops)) printed all same part
+  closes-last b (Err halt.Failed) text last result ends never all same part = absurd never
+  closes-last b (Err halt.Memory) text last result ends never all same part = absurd never
+
+  lines-so-far : (p : Played M) → played_by course ≡ p → Appends s.before a p.text → AppendsFront s.before a (played_by course).text
+  lines-so-far p is written = (p.text, [], ap (λ (q : Played M). q.text) is ∙ sym (append-nil p.text), written)
+
+  -- and without them those of the events are a front
+  pub front-last : (played : Result (Unit {0}) Halt) → Ends stands approves rules carrier s course r a played → AppendsFront s.before a (closed (site_in rules carrier s) course)
+  front-last (Ok done) (q, goes, end) = front-of-lines (site_in rules carrier s) course s.before a (lines-so-far q (ap played_by goes) end.printed)
+  front-last (Err (halt.Limit line)) (q, stops, printed) = front-of-lines (site_in rules carrier s) course s.before a (lines-so-far q (ap played_by stops) printed)
+  front-last (Err (halt.Forged line)) (q, stops, printed) = front-of-lines (site_in rules carrier s) course s.before a (lines-so-far q (ap played_by stops) printed)
+  front-last (Err halt.Failed) part = front-of-lines (site_in rules carrier s) course s.before a part
+  front-last (Err halt.Memory) part = front-of-lines (site_in rules carrier s) course s.before a part
 
 -- what closes a schedule is all of its lines
 pub closes-done : {M : Type 0} (before b : Option (List ℕ)) (site : Site M) (traced : Bool) (events : List (ℕ × Event)) (r : Result Ending WriteError) → Closes before b site (play_all site traced events unplayed) r → OnOk r (Appends before b (lines site traced events))

@@ -31,11 +31,15 @@ course_status {M} (Forges p line) = 4
 -- the answer to a schedule: what its events print, and then the history, or the line of the event that was refused
 abbrev pub schedule_answer : Bool → Schedule → Answer
 schedule_answer traced schedule =
-    record { status = course_status (course_of traced schedule); printed = lines (site_of_schedule schedule) traced schedule.events }
+    record {
+      status = course_status (course_of traced schedule);
+      printed = lines (site_of_schedule schedule) traced schedule.events;
+    }
 
 -- the answer to a first bad line
 abbrev pub refusal_answer : Refusal → Answer
-refusal_answer refusal = record { status = refusal_status refusal.cause; printed = refusal_text refusal.line refusal.cause }
+refusal_answer refusal =
+    record { status = refusal_status refusal.cause; printed = refusal_text refusal.line refusal.cause }
 
 abbrev pub answer_to : Bool → Result Schedule Refusal → Answer
 answer_to traced (Ok schedule) = schedule_answer traced schedule
@@ -46,14 +50,16 @@ abbrev pub replay_answer : ℕ → Bool → List ℕ → Answer
 replay_answer limit traced text = answer_to traced (schedule_of limit text)
 
 -- the answer is that to the text that the source had
-pub record ReplaysText (limit : ℕ) (traced : Bool) (left left' written written' : Option (List ℕ)) (status : ℕ) : Type 0 where
+pub record ReplaysText (limit : ℕ) (traced : Bool) (left left' written written' : Option (List ℕ)) (status : ℕ)
+    : Type 0 where
   pub text : List ℕ
   pub is_text : IsTextOf limit left text
   pub whole : status ≢ 8 → IsText limit left left' text
   pub answers : Answers (replay_answer limit traced text) written written' status
 
 -- the source has failed, or its text was read
-abbrev pub Replays : ℕ → Bool → Option (List ℕ) → Option (List ℕ) → Option (List ℕ) → Option (List ℕ) → Type 0 → ℕ → Type 0
+abbrev pub Replays : ℕ → Bool → Option (List ℕ) → Option (List ℕ) → Option (List ℕ) → Option (List ℕ)
+    → Type 0 → ℕ → Type 0
 Replays limit traced left left' written written' ReadFailed status =
     (ReadFailed × Answers read_fault_answer written written' status)
     ⊎ ReplaysText limit traced left left' written written' status

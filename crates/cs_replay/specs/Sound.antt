@@ -15,9 +15,10 @@ use Rattle.cs_replay.specs.Answers.{course_of}
 abbrev pub world_of : Bool → Schedule → List (Happening NoMessage)
 world_of traced schedule = (played_by (course_of traced schedule)).world
 
--- The history is serial, and no object is consumed twice. No two honest nodes decide a session differently. The accepted
--- transactions are in the history, and so are those that all concerned shards have voted for. A locked session is accepted.
--- The node of a shard has executed all of it, and what is free in its table is in the ledger after the history.
+-- The history is serial, and no object is consumed twice. No two honest nodes decide a session differently. The
+-- accepted transactions are in the history, and so are those that all concerned shards have voted for. A locked session
+-- is accepted. The node of a shard has executed all of it, and what is free in its table is in the ledger after the
+-- history.
 pub record IsOneHistory (site : Site NoMessage) (world : List (Happening NoMessage)) : Type 0 where
   pub serial : IsSerial site world
   pub spent_once : SpendsOnce site world
@@ -33,7 +34,8 @@ pub record IsOneHistory (site : Site NoMessage) (world : List (Happening NoMessa
 pub record IsSoundWorld (schedule : Schedule) (world : List (Happening NoMessage)) : Type 0 where
   pub executed : ExecutesGiven (site_of_schedule schedule) world
   pub votes_free : AllVoteFree (site_of_schedule schedule) world
-  pub one_history : NoCollision (site_of_schedule schedule) schedule.genesis world → IsOneHistory (site_of_schedule schedule) world
+  pub one_history : NoCollision (site_of_schedule schedule) schedule.genesis world
+      → IsOneHistory (site_of_schedule schedule) world
 
 -- so it is of the world whose lines are printed, traced or not
 abbrev pub IsSound : Schedule → Type 0

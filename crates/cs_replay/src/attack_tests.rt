@@ -1,4 +1,5 @@
-//! Attacks on several shards of one node each: each schedule of `examples/attacks`, without its comments.
+//! Several shards of one node each: `examples/two-shards-one-dummy.schedule`, in which all is well,
+//! and then each attack of `examples/attacks`, without their comments.
 use crate::tests::answer;
 use std::alloc::{AllocError, Global};
 use std::test::Fail;

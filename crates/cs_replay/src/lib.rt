@@ -1,4 +1,5 @@
-//! Replays a schedule: reads its text, plays its events at the honest nodes, and prints what they execute and the history.
+//! Replays a schedule: reads its text, plays its events at the honest nodes, and prints what they
+//! execute and the history.
 #![tactic(auto)]
 
 #[cfg(test)]
@@ -16,4 +17,4 @@ mod words;
 pub use program::run;
 pub use schedule::{Ending, replay};
 pub use theorem::schedules_are_sound;
-pub use words::{Command, read_words};
+pub use words::{Command, WordsError, read_words, words_or_status};

@@ -1,21 +1,16 @@
 //! A schedule replayed.
-ghost use Rattle.std.specs.Prelude.{◌≡◌, ℕ, List, Option, IfOk, OnOk, OnErr, IsErrOf};
-ghost use Rattle.std.specs.List.{All};
+ghost use Rattle.std.specs.Prelude.{◌≡◌, ℕ, List, Option, string_bytes, IfOk, OnOk, OnErr, IsErrOf};
 ghost use Rattle.std.specs.Io.KnownBytes.{Appends};
 ghost use Rattle.cs_base.specs.Outside.{HasCause};
 ghost use Rattle.cs_base.specs.Answers.{AppendsFront};
 ghost use Rattle.cs_order.specs.Solo.{solo};
-ghost use Rattle.cs_node_rules.specs.Lines.{limit_line, forged_line};
-ghost use Rattle.cs_node_rules.specs.Play.{unplayed, play_all, lines};
+ghost use Rattle.cs_node_rules.specs.Play.{unplayed, play_all};
+ghost use Rattle.cs_node.specs.SoloCarried.{solo_carrier};
 ghost use Rattle.cs_sched.specs.Playable.{IsPlayable};
-ghost use Rattle.cs_replay.specs.Site.{site_of_schedule, solo_carrier};
-ghost use Rattle.cs_replay.specs.Answers.{course_of, course_status};
-ghost use Rattle.cs_play.specs.Standing.{Setting, site_in, Stands, IsShort, IsToAnother};
-ghost use Rattle.cs_play.specs.Digests.{history_lines};
-ghost use Rattle.cs_node.specs.Carriers.{carrier};
+ghost use Rattle.cs_play.specs.Standing.{Setting, site_in, Stands, AllShort, AllToOthers};
 ghost use Rattle.cs_replay.specs.Settings.{setting_of};
-ghost use Rattle.cs_replay.specs.Closing.{ending_status, Closes};
-ghost use Rattle.cs_replay.specs.declared.schedule.Ending.TheVariants.{Done, Limit, Forged};
+ghost use Rattle.cs_replay.specs.Answers.{schedule_answer};
+ghost use Rattle.cs_replay.specs.Closing.{ending_status, IsLast, Closes};
 
 use crate::starting::start_nodes;
 use cs_base::{Memory, Sink, WriteError, print};
@@ -60,10 +55,14 @@ pub fn replay<K: Sink>(
     output: &mut K,
 ) -> Result<Ending, WriteError>
     requires { IsPlayable schedule.now }
-    ensures done { OnOk result (Appends (K.written output.old) (K.written output.new) (lines (site_of_schedule schedule.now) traced schedule.now.events)) }
-    ensures ending { IfOk result (λ ending. ending_status ending ≡ course_status (course_of traced schedule.now)) }
-    ensures part { OnErr result (AppendsFront (K.written output.old) (K.written output.new) (lines (site_of_schedule schedule.now) traced schedule.now.events)) }
-    ensures cause { HasCause (K.faults output.old) (K.faults output.new) (IsErrOf result WriteError.Failed) }
+    ensures done { OnOk result (Appends (K.written output.old) (K.written output.new)
+        (schedule_answer traced schedule.now).printed) }
+    ensures ending { IfOk result (λ ending.
+        ending_status ending ≡ (schedule_answer traced schedule.now).status) }
+    ensures part { OnErr result (AppendsFront (K.written output.old) (K.written output.new)
+        (schedule_answer traced schedule.now).printed) }
+    ensures cause { HasCause (K.faults output.old) (K.faults output.new)
+        (IsErrOf result WriteError.Failed) }
 {
     match begin(alloc, schedule, traced) {
         Ok(replay) => play_schedule(alloc, replay, schedule, output),
@@ -78,7 +77,9 @@ fn begin(
     traced: bool,
 ) -> Result<Replay<Solo, TokenJudge>, Memory>
     requires { IsPlayable schedule.now }
-    ensures { (before : Option (List ℕ)) → IfOk result (λ replay. Stands ⟦<Solo as Order>⟧.stands ⟦<TokenJudge as Judge>⟧.is_approved solo solo_carrier (setting_of traced schedule.now before) replay unplayed) }
+    ensures { (before : Option (List ℕ)) → IfOk result (λ replay.
+        Stands ⟦<Solo as Order>⟧.stands ⟦<TokenJudge as Judge>⟧.is_approved solo solo_carrier
+        (setting_of traced schedule.now before) replay unplayed) }
 {
     let cores = start_nodes(alloc, schedule)?;
     let history = History::new(alloc, schedule.config)?;
@@ -101,57 +102,39 @@ fn play_schedule<O: Carried, J: Judge + Drop, K: Sink>(
     schedule: &Schedule,
     output: &mut K,
 ) -> Result<Ending, WriteError>
-    requires { All (λ numbered. IsShort numbered.1) schedule.now.events }
-    ensures closes { (s : Setting) → s.before ≡ K.written output.old → Stands O.stands J.is_approved O.rules (carrier O.written O.read_of) s replay unplayed → All (λ numbered. IsToAnother s numbered.1) schedule.now.events
-        → Closes s.before (K.written output.new) (site_in O.rules (carrier O.written O.read_of) s) (play_all (site_in O.rules (carrier O.written O.read_of) s) s.traced schedule.now.events unplayed) result }
-    ensures cause { HasCause (K.faults output.old) (K.faults output.new) (IsErrOf result WriteError.Failed) }
+    requires { AllShort schedule.now.events }
+    ensures closes { (s : Setting) → s.before ≡ K.written output.old
+        → Stands O.stands J.is_approved O.rules O.carrier s replay unplayed
+        → AllToOthers s schedule.now.events
+        → Closes s.before (K.written output.new) (site_in O.rules O.carrier s)
+        (play_all (site_in O.rules O.carrier s) s.traced schedule.now.events unplayed) result }
+    ensures cause { HasCause (K.faults output.old) (K.faults output.new)
+        (IsErrOf result WriteError.Failed) }
 {
-    match replay.play_all(alloc, schedule.events.as_slice(), output) {
-        Ok(()) => print_history(alloc, &replay.history, output),
-        Err(Halt::Limit(line)) => print_limit(alloc, line, output),
-        Err(Halt::Forged(line)) => print_forged(alloc, line, output),
+    let played = replay.play_all(alloc, schedule.events.as_slice(), output);
+    match last_lines(alloc, &replay.history, played) {
+        Ok((text, ending)) => print_end(output, &text, ending),
         Err(Halt::Failed) => Err(WriteError::Failed),
-        Err(Halt::Memory) => Err(WriteError::Memory),
+        Err(_) => Err(WriteError::Memory),
     }
 }
 
-fn print_history<K: Sink>(
+// What is printed behind the lines of the events, by how these ended: the history, or the line of
+// the event that was refused.
+fn last_lines(
     alloc: Global,
     history: &History,
-    output: &mut K,
-) -> Result<Ending, WriteError>
-    ensures done { OnOk result (Appends (K.written output.old) (K.written output.new) (history_lines history.now.told)) }
-    ensures ending { IfOk result (λ ending. ending ≡ Done) }
-    ensures part { OnErr result (AppendsFront (K.written output.old) (K.written output.new) (history_lines history.now.told)) }
-    ensures cause { HasCause (K.faults output.old) (K.faults output.new) (IsErrOf result WriteError.Failed) }
+    played: Result<(), Halt>,
+) -> Result<(String, Ending), Halt>
+    ensures last { IfOk result (λ last.
+        IsLast history.now.told played (string_bytes last.0) last.1) }
+    ensures failed { IsErrOf result Halt.Failed → IsErrOf played Halt.Failed }
 {
-    match history_text(alloc, history.told()) {
-        Ok(text) => print_end(output, &text, Ending::Done),
-        Err(_) => Err(WriteError::Memory),
-    }
-}
-
-fn print_limit<K: Sink>(alloc: Global, line: u64, output: &mut K) -> Result<Ending, WriteError>
-    ensures done { OnOk result (Appends (K.written output.old) (K.written output.new) (limit_line line)) }
-    ensures ending { IfOk result (λ ending. ending ≡ Limit) }
-    ensures part { OnErr result (AppendsFront (K.written output.old) (K.written output.new) (limit_line line)) }
-    ensures cause { HasCause (K.faults output.old) (K.faults output.new) (IsErrOf result WriteError.Failed) }
-{
-    match limit_line(alloc, line) {
-        Ok(text) => print_end(output, &text, Ending::Limit),
-        Err(_) => Err(WriteError::Memory),
-    }
-}
-
-fn print_forged<K: Sink>(alloc: Global, line: u64, output: &mut K) -> Result<Ending, WriteError>
-    ensures done { OnOk result (Appends (K.written output.old) (K.written output.new) (forged_line line)) }
-    ensures ending { IfOk result (λ ending. ending ≡ Forged) }
-    ensures part { OnErr result (AppendsFront (K.written output.old) (K.written output.new) (forged_line line)) }
-    ensures cause { HasCause (K.faults output.old) (K.faults output.new) (IsErrOf result WriteError.Failed) }
-{
-    match forged_line(alloc, line) {
-        Ok(text) => print_end(output, &text, Ending::Forged),
-        Err(_) => Err(WriteError::Memory),
+    match played {
+        Ok(()) => Ok((history_text(alloc, history.told())?, Ending::Done)),
+        Err(Halt::Limit(line)) => Ok((limit_line(alloc, line)?, Ending::Limit)),
+        Err(Halt::Forged(line)) => Ok((forged_line(alloc, line)?, Ending::Forged)),
+        Err(halt) => Err(halt),
     }
 }
 
@@ -159,8 +142,10 @@ fn print_forged<K: Sink>(alloc: Global, line: u64, output: &mut K) -> Result<End
 fn print_end<K: Sink>(output: &mut K, text: &str, ending: Ending) -> Result<Ending, WriteError>
     ensures done { OnOk result (Appends (K.written output.old) (K.written output.new) text.now) }
     ensures ending { IfOk result (λ printed. printed ≡ ending) }
-    ensures part { OnErr result (AppendsFront (K.written output.old) (K.written output.new) text.now) }
-    ensures cause { HasCause (K.faults output.old) (K.faults output.new) (IsErrOf result WriteError.Failed) }
+    ensures part { OnErr result
+        (AppendsFront (K.written output.old) (K.written output.new) text.now) }
+    ensures cause { HasCause (K.faults output.old) (K.faults output.new)
+        (IsErrOf result WriteError.Failed) }
 {
     match print(output, text.as_bytes()) {
         Ok(()) => Ok(ending),

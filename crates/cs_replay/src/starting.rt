@@ -1,6 +1,7 @@
 //! The start of the nodes of a schedule.
 ghost use Rattle.std.specs.Prelude.{◌≡◌, ◌≤◌, ◌<◌, [], length, IfOk};
 ghost use Rattle.std.specs.List.{All};
+ghost use Rattle.cs_base.specs.declared.limits.TheConstants.{MOST_GENESIS};
 ghost use Rattle.cs_tx_value.specs.Object.{ObjectFits};
 ghost use Rattle.cs_node_rules.specs.Site.{start_view};
 ghost use Rattle.cs_sched.specs.Playable.{IsPlayable};
@@ -24,7 +25,9 @@ pub fn start_nodes(
     schedule: &Schedule,
 ) -> Result<Vec<Core<Solo, TokenJudge>>, Memory>
     requires { IsPlayable schedule.now }
-    ensures nodes { IfOk result (λ cores. AllStand ⟦<Solo as Order>⟧.stands ⟦<TokenJudge as Judge>⟧.is_approved (site_of_schedule schedule.now) node_of_shard cores.items []) }
+    ensures nodes { IfOk result (λ cores.
+        AllStand ⟦<Solo as Order>⟧.stands ⟦<TokenJudge as Judge>⟧.is_approved
+        (site_of_schedule schedule.now) node_of_shard cores.items []) }
     ensures count { IfOk result (λ cores. length cores.items ≡ schedule.now.config.shards) }
 {
     let genesis = keyed(alloc, schedule.genesis.as_slice())?;
@@ -46,7 +49,10 @@ fn start_node(
     requires playable { IsPlayable schedule.now }
     requires genesis { genesis.now ≡ keyed_from 0 schedule.now.genesis }
     requires shard { shard < schedule.now.config.shards }
-    ensures { IfOk result (λ core. StandsFor ⟦<Solo as Order>⟧.stands ⟦<TokenJudge as Judge>⟧.is_approved (setup_of_schedule schedule.now) (net_of_schedule schedule.now) core (start_view (site_of_schedule schedule.now) (node_of_shard shard))) }
+    ensures { IfOk result (λ core.
+        StandsFor ⟦<Solo as Order>⟧.stands ⟦<TokenJudge as Judge>⟧.is_approved
+        (setup_of_schedule schedule.now) (net_of_schedule schedule.now) core
+        (start_view (site_of_schedule schedule.now) (node_of_shard shard))) }
 {
     let node = NodeId { shard, index: 0 };
     keys_of_a_master_speak();
@@ -63,7 +69,7 @@ fn start_node(
 // The genesis objects under their keys.
 fn keyed(alloc: Global, objects: &[Object]) -> Result<Vec<(Key, Object)>, Memory>
     requires fits { All ObjectFits objects.now }
-    requires few { length objects.now ≤ 65536 }
+    requires few { length objects.now ≤ MOST_GENESIS }
     ensures { IfOk result (λ keyed. keyed.items ≡ keyed_from 0 objects.now) }
 {
     let mut keyed = Vec::new(alloc);

@@ -1,5 +1,6 @@
 //! Worked schedules, and what the program answers to them.
 use crate::program::run;
+use crate::words::{WordsError, words_or_status};
 use cs_base::{MemSink, MemSource, print_bytes};
 use sha2::{Digest, Sha256};
 use std::alloc::{AllocError, Global};
@@ -130,6 +131,17 @@ fn words(rt: HostRuntime) -> Result<(), Fail> {
         assert_eq!(rt; found, status);
         assert_eq!(rt; printed.as_slice(), written.as_bytes());
     }
+    Ok(())
+}
+
+/// Words that are no text become no words, which are outside the grammar.
+#[test]
+fn words_that_are_not_read(rt: HostRuntime) -> Result<(), Fail> {
+    let alloc = rt.alloc();
+    let not_text = words_or_status(alloc, Err(WordsError::NotText));
+    assert_eq!(rt; not_text.map(|words| words.len()), Ok(0));
+    let no_memory = words_or_status(alloc, Err(WordsError::Memory));
+    assert_eq!(rt; no_memory.map(|words| words.len()), Err(8));
     Ok(())
 }
 

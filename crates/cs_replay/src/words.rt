@@ -1,7 +1,14 @@
-//! The grammar of the words of the command line.
-ghost use Rattle.std.specs.Prelude.{◌≡◌, option_map};
+//! The words of the command line: their grammar, and what stands for words that were not read.
+ghost use Rattle.std.specs.Prelude.{◌≡◌, ◌↔◌, [], option_map, IfOk, IsOkAnd};
+ghost use Rattle.std.specs.IoError.{error_kind};
+ghost use Rattle.std.specs.declared.io.ErrorKind.TheVariants.{InvalidData};
 ghost use Rattle.cs_replay.specs.Words.{command_of, replay_of, texts_of};
 ghost use Rattle.cs_replay.specs.declared.words.Command.TheVariants.{Replay};
+ghost use Rattle.cs_replay.specs.declared.words.WordsError.TheVariants.{NotText, Memory};
+
+use std::alloc::{AllocFailed, Global};
+use std::io;
+use std::io::ErrorKind;
 
 /// What the words call for.
 #[derive(Clone, Copy, Debug, PartialEq, Eq)]
@@ -19,6 +26,54 @@ impl Command {
         match self {
             Command::Replay { traced } => traced,
         }
+    }
+}
+
+/// Why the words of the command line were not read.
+#[derive(Clone, Copy, Debug, PartialEq, Eq)]
+pub enum WordsError {
+    /// A word is no text.
+    NotText,
+    /// There was not enough memory.
+    Memory,
+}
+
+impl From<io::Error> for WordsError {
+    // `env::args` answers `InvalidData` at a word that is no text, and any other kind for want of
+    // memory alone.
+    ghost from_gives = { λ error e. (e ≡ NotText) ↔ (error_kind error ≡ InvalidData) };
+
+    fn from(error: io::Error) -> WordsError {
+        match error.kind() {
+            ErrorKind::InvalidData => WordsError::NotText,
+            _ => WordsError::Memory,
+        }
+    }
+}
+
+impl<T: Drop> From<AllocFailed<T>> for WordsError {
+    ghost from_gives = { λ _ e. e ≡ Memory };
+
+    fn from(_: AllocFailed<T>) -> WordsError {
+        WordsError::Memory
+    }
+}
+
+/// The words that `run` is called with, by how they were read: no words where one is no text, since
+/// such words are outside the grammar too. Where there was no memory for them, nothing is known of
+/// them, and it answers the status that the process ends with.
+pub fn words_or_status(
+    alloc: Global,
+    words: Result<Vec<String>, WordsError>,
+) -> Result<Vec<String>, u8>
+    ensures read { IfOk words (λ read. result ≡ Ok read) }
+    ensures not_text { words ≡ Err NotText → IsOkAnd result (λ read. read.items ≡ []) }
+    ensures no_memory { words ≡ Err Memory → result ≡ Err 8 }
+{
+    match words {
+        Ok(words) => Ok(words),
+        Err(WordsError::NotText) => Ok(Vec::new(alloc)),
+        Err(WordsError::Memory) => Err(8),
     }
 }
 

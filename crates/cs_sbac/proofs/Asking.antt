@@ -7,7 +7,7 @@ use Rattle.cs_base.proofs.Forms.{whole-again}
 use Rattle.cs_tx_value.specs.declared.object.Object.{Object}
 use Rattle.cs_tx_value.specs.Object.{object_encoding, ObjectFits, object_at}
 use Rattle.cs_tx_value.specs.Key.{KeyFits}
-use Rattle.cs_tx_value.specs.ObjectLaw.{object_form}
+use Rattle.cs_tx_value.specs.laws.Object.{object_form}
 use Rattle.cs_tx_form.specs.declared.state.State.{State}
 use Rattle.cs_tx_form.specs.declared.state.State.TheVariants as state
 use Rattle.cs_tx_form.specs.declared.record.Record.{Record}
@@ -15,10 +15,9 @@ use Rattle.cs_tx.specs.Sessions.{key_seen}
 use Rattle.cs_ledger.specs.Session as ledger
 use Rattle.cs_ledger.specs.Table as Shard
 use Rattle.cs_table.specs.Seen.{Stored, seen, seen_state, seen_row, row_in, HoldsFit}
-use Rattle.cs_table.specs.Dummies as stored
 use Rattle.cs_table.specs.Dummies.{IsLeastDummy, Least, NoneActive}
 use Rattle.cs_node_state.specs.Asked.{object_or_dummy, object_in, state_told, told_at, least_from, least_dummy}
-use Rattle.cs_ledger.specs.Table.{is_active, has_active_dummy}
+use Rattle.cs_ledger.specs.Table.{has_active_dummy}
 
 key-same : (k : Key) → key_seen k ≡ key_seen k
 key-same (key.Object digest) = refl
@@ -47,12 +46,6 @@ pub told-some : (s : Stored) (k : Key) (row : Record) → row_in s.rows (key_see
 told-some s k row is fits = sym (told-row s k (Some row) is ∙ told-again row.state fits)
 
 -- ---- dummies
-
-free-same : (s : Shard.State) → stored.is_free s ≡ is_active s
-free-same Shard.Unknown = refl
-free-same (Shard.Active object) = refl
-free-same (Shard.Locked object by) = refl
-free-same (Shard.Inactive by) = refl
 
 abbrev IsNarrow : ledger.Key → Type 0
 IsNarrow (ledger.Object name) = Unit {0}
@@ -89,14 +82,11 @@ module _ (t : Shard.Table) (shard : ℕ) where
   none-at (suc more) first most within none =
       passed-here more first (none first (omega (arith, within))) ∙ none-at more (first + 1) most (omega (arith, within)) none
 
-  same-has : (serial : ℕ) → stored.has_dummy t shard serial ≡ has_active_dummy t shard serial
-  same-has serial = free-same (t.at (ledger.Dummy shard serial)).state
-
   least-name : (name : ledger.Key) → IsNarrow name → IsLeastDummy shard t name → name ≡ ledger.Dummy shard (least_from t shard (2 ^ 64) 0)
   least-name name small (Least serial has none) =
-      ap (ledger.Dummy shard) (sym (found-at (2 ^ 64) 0 serial (omega arith) (omega (arith, small)) (sym (same-has serial) ∙ has) (λ less lt. sym (same-has less) ∙ none less lt)))
+      ap (ledger.Dummy shard) (sym (found-at (2 ^ 64) 0 serial (omega arith) (omega (arith, small)) has none))
   least-name name small (NoneActive none) =
-      ap (ledger.Dummy shard) (sym (none-at (2 ^ 64) 0 (2 ^ 64) (omega arith) (λ serial lt. sym (same-has serial) ∙ none serial lt)))
+      ap (ledger.Dummy shard) (sym (none-at (2 ^ 64) 0 (2 ^ 64) (omega arith) none))
 
   key-named : (k : Key) (serial : ℕ) → key_seen k ≡ ledger.Dummy shard serial → k ≡ key.Dummy shard serial
   key-named (key.Object digest) serial is = absurd cc

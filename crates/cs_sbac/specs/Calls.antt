@@ -35,7 +35,10 @@ pool_entered d x pool = if has_room pool then pushed d x false pool else pool
 
 -- the same with a first vote on it
 abbrev pub pool_entered_with : Bytes → Session → Ballot → Pool → Pool
-pool_entered_with d x ballot pool = if has_room pool then changed d (with_ballot ballot) (pushed d x false pool) else pool
+pool_entered_with d x ballot pool =
+    if has_room pool
+    then changed d (with_ballot ballot) (pushed d x false pool)
+    else pool
 
 -- whether a session was accepted, once it is decided
 abbrev pub accepted_by : Standing → Option Bool
@@ -50,7 +53,8 @@ placed locked d x pool = if locked then entered_locked d x pool else without d p
 -- the execution of an entry answered this, and left this
 pub record Executes (setup : Setup) (entry : Entry) (old new : Held) (answer : Outcome) : Type 0 where
   pub effect_is : effect_of answer.effect ≡ (executed setup old.me.shard (bench_of old) entry).effect
-  pub voted_is : answer.voted ≡ told_of setup old.me.shard (session_in entry) (executed setup old.me.shard (bench_of old) entry)
+  pub voted_is : answer.voted
+      ≡ told_of setup old.me.shard (session_in entry) (executed setup old.me.shard (bench_of old) entry)
   pub bench_is : bench_of new ≡ bench_executed setup old.me (bench_of old) entry
   pub config_stays : new.config ≡ old.config
   pub me_stays : new.me ≡ old.me
@@ -74,6 +78,10 @@ pub record Runs (me : NodeId) (x : Session) (d : Bytes) (outcome : Shard.Outcome
 
 abbrev pub RunsEntry : (Tx → Bool) → NodeId → Entry → Stored → Stored → Pool → Pool → Outcome → Type 0
 RunsEntry approves me (Prepare x) told tnew pold pnew answer =
-    Runs me x (session_of approves x).digest (prepared told (session_of approves x)) (anchor_in told (session_of approves x)) told tnew pold pnew answer
+    Runs me x (session_of approves x).digest
+    (prepared told (session_of approves x)) (anchor_in told (session_of approves x))
+    told tnew pold pnew answer
 RunsEntry approves me (Decide vote x) told tnew pold pnew answer =
-    Runs me x (session_of approves x).digest (decided told (session_of approves x) (vote_of vote)) (anchor_in told (session_of approves x)) told tnew pold pnew answer
+    Runs me x (session_of approves x).digest
+    (decided told (session_of approves x) (vote_of vote)) (anchor_in told (session_of approves x))
+    told tnew pold pnew answer

@@ -21,7 +21,8 @@ pub record IsOfNode (config : Config) (me : NodeId) (table : Stored) : Type 0 wh
   pub shard : table.shard ≡ me.shard
 
 -- so, unless memory ran out in the midst of an execution; and the pool has the same configuration
-pub record IsSoundBench (is_whole : Bool) (config : Config) (me : NodeId) (table : Stored) (pool : Gathered) : Type 0 where
+pub record IsSoundBench (is_whole : Bool) (config : Config) (me : NodeId)
+    (table : Stored) (pool : Gathered) : Type 0 where
   pub node : is_node config me ≡ true
   pub same : pool.config ≡ config
   pub placed : is_whole ≡ true → IsOfNode config me table

@@ -38,7 +38,8 @@ fn place(
     locked: bool,
 ) -> Result<(), Memory>
     requires { SessionFits session.now }
-    ensures sessions { OnOk result (pool.new.sessions ≡ placed locked digest.now session.now pool.old.sessions) }
+    ensures sessions { OnOk result (pool.new.sessions
+        ≡ placed locked digest.now session.now pool.old.sessions) }
     ensures config { pool.new.config ≡ pool.old.config }
 {
     if !locked {
@@ -62,7 +63,9 @@ fn place_voted(
     locked: bool,
 ) -> Result<(), Memory>
     requires { SessionFits session.now }
-    ensures sessions { OnOk result (pool.new.sessions ≡ own_pool own.sender digest.now (Some (own.vote, locked)) (placed locked digest.now session.now pool.old.sessions)) }
+    ensures sessions { OnOk result (pool.new.sessions
+        ≡ own_pool own.sender digest.now (Some (own.vote, locked))
+        (placed locked digest.now session.now pool.old.sessions)) }
     ensures config { pool.new.config ≡ pool.old.config }
 {
     place(alloc, pool, digest, session, locked)?;
@@ -81,7 +84,10 @@ fn prepare(
 ) -> Result<Outcome, Memory>
     requires fits { SessionFits session.now }
     requires anchored { IsSome (anchor_in table.old (session_of (λ tx. true) session.now)) }
-    ensures runs { (approves : Tx → Bool) → IfOk result (λ answer. let x = session_of approves session.now in Runs me session.now x.digest (prepared table.old x) (anchor_in table.old x) table.old table.new pool.old.sessions pool.new.sessions answer) }
+    ensures runs { (approves : Tx → Bool) → IfOk result (λ answer.
+        let x = session_of approves session.now in
+        Runs me session.now x.digest (prepared table.old x) (anchor_in table.old x)
+        table.old table.new pool.old.sessions pool.new.sessions answer) }
     ensures config { pool.new.config ≡ pool.old.config }
 {
     let digest = session_digest(alloc, session)?;
@@ -116,7 +122,10 @@ fn decide(
 ) -> Result<Outcome, Memory>
     requires fits { SessionFits session.now }
     requires anchored { IsSome (anchor_in table.old (session_of (λ tx. true) session.now)) }
-    ensures runs { (approves : Tx → Bool) → IfOk result (λ answer. let x = session_of approves session.now in Runs me session.now x.digest (decided table.old x (vote_of vote)) (anchor_in table.old x) table.old table.new pool.old.sessions pool.new.sessions answer) }
+    ensures runs { (approves : Tx → Bool) → IfOk result (λ answer.
+        let x = session_of approves session.now in
+        Runs me session.now x.digest (decided table.old x (vote_of vote)) (anchor_in table.old x)
+        table.old table.new pool.old.sessions pool.new.sessions answer) }
     ensures config { pool.new.config ≡ pool.old.config }
 {
     let digest = session_digest(alloc, session)?;
@@ -137,8 +146,11 @@ pub fn run(
     entry: &Entry,
 ) -> Result<Outcome, Memory>
     requires fits { EntryFits entry.now }
-    requires anchored { IsSome (anchor_in table.old (session_of (λ tx. true) (session_in entry.now))) }
-    ensures runs { (approves : Tx → Bool) → IfOk result (λ answer. RunsEntry approves me entry.now table.old table.new pool.old.sessions pool.new.sessions answer) }
+    requires anchored { IsSome
+        (anchor_in table.old (session_of (λ tx. true) (session_in entry.now))) }
+    ensures runs { (approves : Tx → Bool) → IfOk result (λ answer.
+        RunsEntry approves me entry.now
+        table.old table.new pool.old.sessions pool.new.sessions answer) }
     ensures config { pool.new.config ≡ pool.old.config }
 {
     match entry {

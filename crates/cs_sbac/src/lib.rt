@@ -2,7 +2,9 @@
 #![tactic(auto)]
 
 mod answers;
+mod entries;
 mod execution;
+mod queries;
 mod sbac;
 mod setting;
 #[cfg(test)]

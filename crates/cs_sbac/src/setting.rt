@@ -1,12 +1,10 @@
 //! What the setup of a deployment says of a session.
-ghost use Rattle.std.specs.Prelude.{◌≡◌, Bool, true, List, IfOk, is_none, is_some};
-ghost use Rattle.cs_tx_value.specs.declared.object.Object.{Object};
-ghost use Rattle.cs_tx_form.specs.declared.transaction.Tx.{Tx};
+ghost use Rattle.std.specs.Prelude.{◌≡◌, true, IfOk, is_none, is_some};
 ghost use Rattle.cs_tx_form.specs.Session.{SessionFits, EntryFits};
 ghost use Rattle.cs_tx.specs.Uses.{anchor_of};
 ghost use Rattle.cs_tx.specs.WellFormed.{fault_of};
 ghost use Rattle.cs_node_state.specs.Setup.{concerned, is_fit, session_in};
-ghost use Rattle.cs_node_pool.specs.Deployed.{deployed};
+ghost use Rattle.cs_node_pool.specs.Deployed.{AtAnySetup};
 
 use cs_base::{Config, Memory};
 use cs_tx::{Entry, Malformed, Session, anchor, concerned, well_formed};
@@ -19,7 +17,8 @@ pub fn concerned_shards(
     session: &Session,
 ) -> Result<Vec<u16>, Memory>
     requires { SessionFits session.now }
-    ensures { (genesis : List Object) (approves : Tx → Bool) → IfOk result (λ shards. shards.items ≡ concerned (deployed config.now genesis approves) session.now) }
+    ensures { AtAnySetup config.now (λ setup.
+        IfOk result (λ shards. shards.items ≡ concerned setup session.now)) }
 {
     let shards = concerned(alloc, session, config)?;
     Ok(shards)
@@ -45,9 +44,11 @@ fn is_well_formed(alloc: Global, config: &Config, session: &Session) -> Result<b
 /// Whether a session is well formed and concerns the shard.
 pub fn is_fit(alloc: Global, config: &Config, shard: u16, session: &Session) -> Result<bool, Memory>
     requires { SessionFits session.now }
-    ensures fit { (genesis : List Object) (approves : Tx → Bool) → IfOk result (λ fit. fit ≡ is_fit (deployed config.now genesis approves) shard session.now) }
+    ensures fit { AtAnySetup config.now (λ setup.
+        IfOk result (λ fit. fit ≡ is_fit setup shard session.now)) }
     // Then the shard has a key of the session, by which it is held.
-    ensures anchored { IfOk result (λ fit. fit ≡ true → is_some (anchor_of config.now session.now shard) ≡ true) }
+    ensures anchored { IfOk result (λ fit.
+        fit ≡ true → is_some (anchor_of config.now session.now shard) ≡ true) }
 {
     if !is_well_formed(alloc, config, session)? {
         return Ok(false);
@@ -63,8 +64,10 @@ pub fn is_fit_entry(
     entry: &Entry,
 ) -> Result<bool, Memory>
     requires { EntryFits entry.now }
-    ensures fit { (genesis : List Object) (approves : Tx → Bool) → IfOk result (λ fit. fit ≡ is_fit (deployed config.now genesis approves) shard (session_in entry.now)) }
-    ensures anchored { IfOk result (λ fit. fit ≡ true → is_some (anchor_of config.now (session_in entry.now) shard) ≡ true) }
+    ensures fit { AtAnySetup config.now (λ setup.
+        IfOk result (λ fit. fit ≡ is_fit setup shard (session_in entry.now))) }
+    ensures anchored { IfOk result (λ fit.
+        fit ≡ true → is_some (anchor_of config.now (session_in entry.now) shard) ≡ true) }
 {
     match entry {
         Entry::Prepare(session) => is_fit(alloc, config, shard, session),

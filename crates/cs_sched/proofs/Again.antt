@@ -6,7 +6,7 @@ use Rattle.std.proofs.Common.{◌∙◌, sym, ap, refl, subst, arith}
 use Rattle.std.proofs.lemmas.Bool.{le-leb}
 use Rattle.std.proofs.lemmas.List.Elements.{recursion_from_All}
 use Rattle.cs_base.specs.declared.config.Config.{Config}
-use Rattle.cs_base.specs.declared.limits.TheConstants.{MOST_SHARDS, MOST_LIARS, MOST_DUMMIES}
+use Rattle.cs_base.specs.declared.limits.TheConstants.{MOST_SHARDS, MOST_LIARS, MOST_DUMMIES, MOST_GENESIS}
 use Rattle.cs_tx_value.specs.Object.{DigestFits}
 use Rattle.cs_tx_value.specs.declared.object.Object.{Object}
 use Rattle.cs_sched_types.specs.declared.schedule.Event.{Event}
@@ -21,7 +21,7 @@ use Rattle.cs_sched.specs.declared.draft.Stage.TheVariants as stage
 use Rattle.cs_sched.proofs.Played.{schedule_sound}
 use Rattle.cs_sched.proofs.Sound.{IsSound}
 use Rattle.cs_sched.specs.Again.{numbered, renumbered, IsReadAgain}
-use Rattle.cs_sched.specs.Printed.{event_line, genesis_lines, event_lines, schedule_lines, schedule_text}
+use Rattle.cs_sched.specs.Printed.{event_words, genesis_lines, event_lines, schedule_lines, schedule_text}
 use Rattle.cs_sched.proofs.Plain.{IsLine, field-word, field-decimal, field-bytes, field-name}
 use Rattle.cs_sched.proofs.Back.{named_small, honest_small}
 use Rattle.cs_sched.proofs.Rows.{lines_of-text, read_fields, read_lines-rows}
@@ -36,13 +36,13 @@ record IsRead (config : Config) (master : List ℕ) (genesis : List Object) (eve
   none : config.f ≡ 0
   digest : DigestFits master
   objects : AllByRecursion IsPrintable genesis
-  few : length genesis ≤ 65536
+  few : length genesis ≤ MOST_GENESIS
   differ : AllPairs (λ a b. a ≢ b) (genesis_names 0 genesis)
   played : AllByRecursion (λ event. IsPlayableEvent config [] event.1) events
 
 -- each of its lines has a word, and fields that can be told apart
 
-event_is_line : (config : Config) (event : Event) → IsPlayableEvent config [] event → IsLine (event_line event)
+event_is_line : (config : Config) (event : Event) → IsPlayableEvent config [] event → IsLine (event_words event)
 event_is_line config (Say from to kind body) fits =
     let few = fits.kind in
     let speaker = named_small config from fits.speaker.named in

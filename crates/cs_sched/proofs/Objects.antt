@@ -5,7 +5,7 @@ use Rattle.cs_base.specs.Fields.{IsBytes, whole_at}
 use Rattle.cs_base.proofs.Forms.{whole-takes, whole-again}
 use Rattle.cs_tx_value.specs.declared.object.Object.{Object}
 use Rattle.cs_tx_value.specs.Object.{object_encoding, ObjectFits, object_at}
-use Rattle.cs_tx_value.specs.ObjectLaw.{object_form}
+use Rattle.cs_tx_value.specs.laws.Object.{object_form}
 use Rattle.cs_sched.specs.Values.{encoded_object}
 
 pub object_found : (bytes : List ℕ) (object : Object) → ObjectFits object → bytes ≡ object_encoding object → encoded_object bytes ≡ Some object

@@ -9,6 +9,7 @@ use Rattle.hex.specs.Hex.{decode_of}
 use Rattle.hex.specs.declared.error.FromHexError.{FromHexError}
 use Rattle.hex.proofs.HexLemmas.{decode_of-ok}
 use Rattle.cs_base.specs.Fields.{IsBytes}
+use Rattle.cs_base.specs.declared.limits.TheConstants.{MOST_GENESIS, MOST_OBJECT}
 use Rattle.cs_base.specs.Config.{configured}
 use Rattle.cs_base.specs.Codes.{number_of, bytes_of}
 use Rattle.cs_base.specs.NodeId.{is_client}
@@ -104,12 +105,12 @@ master_said-ok (field ∷ []) master is =
     subst DigestFits same (eqb-true (length bytes) 32 long, bytes_fit field bytes (some_ok (bytes_of field) cause.Hex bytes hex))
 master_said-ok (field ∷ another ∷ more) master is = absurd cc
 
-pub object_said-ok : (place : ℕ) (fields : List (List ℕ)) (object : Object) → object_said place fields ≡ Ok object → (place < 65536) × (ObjectFits object × IsBytes (object_encoding object))
+pub object_said-ok : (place : ℕ) (fields : List (List ℕ)) (object : Object) → object_said place fields ≡ Ok object → (place < MOST_GENESIS) × (ObjectFits object × IsBytes (object_encoding object))
 object_said-ok place [] object is = absurd cc
 object_said-ok place (field ∷ []) object is =
-    let (few, read) = when_ok (nat_lt place 65536) (object_in field) cause.Limit object is in
-    let (bytes, within, encoded) = step_ok (bytes_within 4096 field) (λ bytes. ok_or (encoded_object bytes) cause.Object) object read in
-    let fits = (bytes_within-ok 4096 field bytes within).1 in
+    let (few, read) = when_ok (nat_lt place MOST_GENESIS) (object_in field) cause.Limit object is in
+    let (bytes, within, encoded) = step_ok (bytes_within MOST_OBJECT field) (λ bytes. ok_or (encoded_object bytes) cause.Object) object read in
+    let fits = (bytes_within-ok MOST_OBJECT field bytes within).1 in
     let found = found_fits bytes object fits (some_ok (encoded_object bytes) cause.Object object encoded) in
-    (ltb-true place 65536 few, (found.0, subst IsBytes found.1 fits))
+    (ltb-true place MOST_GENESIS few, (found.0, subst IsBytes found.1 fits))
 object_said-ok place (field ∷ another ∷ more) object is = absurd cc

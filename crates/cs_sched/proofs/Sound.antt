@@ -10,7 +10,7 @@ use Rattle.cs_base.specs.Config.{configured, config_of, unless_out, first_out}
 use Rattle.cs_base.specs.declared.config.Config.{Config}
 use Rattle.cs_base.specs.declared.config.ConfigField.{ConfigField}
 use Rattle.cs_base.specs.declared.node_id.NodeId.{NodeId}
-use Rattle.cs_base.specs.declared.limits.TheConstants.{MOST_LIARS}
+use Rattle.cs_base.specs.declared.limits.TheConstants.{MOST_LIARS, MOST_GENESIS}
 use Rattle.cs_tx_value.specs.declared.object.Object.{Object}
 use Rattle.cs_tx_value.specs.Object.{object_encoding, DigestFits, ObjectFits}
 use Rattle.cs_tx.specs.Digest.{name_of_genesis}
@@ -148,7 +148,7 @@ with_event-sound draft line said sound run played = record {
   encodings = sound.encodings;
 }
 
-pub with_genesis-sound : (draft : Draft) (object : Object) → IsSound draft → draft.schedule.events ≡ [] → ObjectFits object → IsBytes (object_encoding object) → length draft.schedule.genesis < 65536
+pub with_genesis-sound : (draft : Draft) (object : Object) → IsSound draft → draft.schedule.events ≡ [] → ObjectFits object → IsBytes (object_encoding object) → length draft.schedule.genesis < MOST_GENESIS
     → is_known (name_of_genesis (length draft.schedule.genesis) object) draft.names ≡ false → IsSound (with_genesis draft object (name_of_genesis (length draft.schedule.genesis) object))
 with_genesis-sound draft object sound none fits encoded few new =
     let name = name_of_genesis (length draft.schedule.genesis) object in

@@ -8,6 +8,7 @@ use Rattle.std.proofs.Common.{◌∙◌, sym, subst, refl, inl, inr}
 use Rattle.std.proofs.lemmas.Bool.{true≢false, ltb-true, leb-true}
 use Rattle.std.proofs.lemmas.Option.{cond_some}
 use Rattle.cs_base.specs.Codes.{number_of}
+use Rattle.cs_base.specs.declared.limits.TheConstants.{MOST_BODY, MOST_DATAGRAM}
 use Rattle.cs_base.specs.NodeId.{node_of, is_node, is_named, is_client}
 use Rattle.cs_base.specs.declared.config.Config.{Config}
 use Rattle.cs_base.specs.declared.node_id.NodeId.{NodeId}
@@ -86,17 +87,17 @@ module _ (schedule : Schedule) where
 
   say_of-ok : (from to kind body : List ℕ) (said : Event) → say_of schedule from to kind body ≡ Ok said → Fits said
   say_of-ok from to kind body said is =
-      let heard = λ (speaker listener : NodeId) (number : ℕ). bytes_within 32719 body >>= (λ bytes. Ok (Say speaker listener number bytes)) in
+      let heard = λ (speaker listener : NodeId) (number : ℕ). bytes_within MOST_BODY body >>= (λ bytes. Ok (Say speaker listener number bytes)) in
       let (speaker, spoken, first) = step_ok (speaker_in schedule.config schedule.liars from) (λ speaker. honest_in schedule.config schedule.liars to >>= (λ listener. number_within 255 kind >>= (λ number. heard speaker listener number))) said is in
       let (listener, listened, second) = step_ok (honest_in schedule.config schedule.liars to) (λ listener. number_within 255 kind >>= (λ number. heard speaker listener number)) said first in
       let (number, kinded, third) = step_ok (number_within 255 kind) (λ number. heard speaker listener number) said second in
-      let (bytes, within, same) = change_ok (bytes_within 32719 body) (λ bytes. Say speaker listener number bytes) said third in
+      let (bytes, within, same) = change_ok (bytes_within MOST_BODY body) (λ bytes. Say speaker listener number bytes) said third in
       subst Fits {x = Say speaker listener number bytes} same (record {
         speaker = speaker_ok schedule.config schedule.liars from speaker spoken;
         listener = honest_ok schedule.config schedule.liars to listener listened;
         kind = number_within-ok 255 kind number kinded;
-        short = (bytes_within-ok 32719 body bytes within).0;
-        in_bytes = (bytes_within-ok 32719 body bytes within).1;
+        short = (bytes_within-ok MOST_BODY body bytes within).0;
+        in_bytes = (bytes_within-ok MOST_BODY body bytes within).1;
       })
 
   say_said-ok : (fields : List (List ℕ)) (said : Event) → say_said schedule fields ≡ Ok said → Fits said
@@ -109,12 +110,12 @@ module _ (schedule : Schedule) where
 
   inject_of-ok : (to given : List ℕ) (said : Event) → inject_of schedule to given ≡ Ok said → Fits said
   inject_of-ok to given said is =
-      let (node, listened, first) = step_ok (honest_in schedule.config schedule.liars to) (λ node. bytes_within 32768 given >>= (λ bytes. Ok (Inject node bytes))) said is in
-      let (bytes, within, same) = change_ok (bytes_within 32768 given) (λ bytes. Inject node bytes) said first in
+      let (node, listened, first) = step_ok (honest_in schedule.config schedule.liars to) (λ node. bytes_within MOST_DATAGRAM given >>= (λ bytes. Ok (Inject node bytes))) said is in
+      let (bytes, within, same) = change_ok (bytes_within MOST_DATAGRAM given) (λ bytes. Inject node bytes) said first in
       subst Fits {x = Inject node bytes} same (record {
         node = honest_ok schedule.config schedule.liars to node listened;
-        short = (bytes_within-ok 32768 given bytes within).0;
-        in_bytes = (bytes_within-ok 32768 given bytes within).1;
+        short = (bytes_within-ok MOST_DATAGRAM given bytes within).0;
+        in_bytes = (bytes_within-ok MOST_DATAGRAM given bytes within).1;
       })
 
   inject_said-ok : (fields : List (List ℕ)) (said : Event) → inject_said schedule fields ≡ Ok said → Fits said

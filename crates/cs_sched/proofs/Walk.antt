@@ -13,7 +13,7 @@ use Rattle.cs_base.specs.Codes.{bytes_text}
 use Rattle.cs_base.specs.Config.{config_of, configured, first_out, unless_out}
 use Rattle.cs_base.specs.Fields.{IsBytes}
 use Rattle.cs_base.specs.declared.config.Config.{Config}
-use Rattle.cs_base.specs.declared.limits.TheConstants.{MOST_SHARDS, MOST_LIARS, MOST_DUMMIES}
+use Rattle.cs_base.specs.declared.limits.TheConstants.{MOST_SHARDS, MOST_LIARS, MOST_DUMMIES, MOST_BODY, MOST_DATAGRAM, MOST_GENESIS, MOST_OBJECT}
 use Rattle.cs_base.proofs.Configs.{configured-config}
 use Rattle.cs_base.proofs.HexTexts.{bytes_of-bytes_text}
 use Rattle.cs_tx_value.specs.Object.{object_encoding, DigestFits, ObjectFits}
@@ -33,7 +33,7 @@ use Rattle.cs_sched.specs.declared.draft.Stage.TheVariants as stage
 use Rattle.cs_sched.proofs.Distinct.{genesis_names-append}
 use Rattle.cs_sched.proofs.Objects.{object_found}
 use Rattle.cs_sched.specs.Again.{numbered}
-use Rattle.cs_sched.specs.Printed.{number_line, bytes_line, object_line, event_line, genesis_lines, event_lines}
+use Rattle.cs_sched.specs.Printed.{number_words, bytes_words, object_words, event_words, genesis_lines, event_lines}
 use Rattle.cs_sched.proofs.Back.{number_back, within_back, bytes_back, speaker_back, honest_back}
 use Rattle.cs_sched.proofs.Rows.{read_fields, read-cons}
 
@@ -65,10 +65,10 @@ master_back master fits =
 
 -- objects
 
-object_back : (place : ℕ) (object : Object) → place < 65536 → ObjectFits object → IsBytes (object_encoding object)
+object_back : (place : ℕ) (object : Object) → place < MOST_GENESIS → ObjectFits object → IsBytes (object_encoding object)
     → object_said place (bytes_text (object_encoding object) ∷ []) ≡ Ok object
 object_back place object few fits encoded =
-    rw (lt-ltb place 65536 few, bytes_back 4096 (object_encoding object) fits.small encoded, object_found (object_encoding object) object fits refl) refl
+    rw (lt-ltb place MOST_GENESIS few, bytes_back MOST_OBJECT (object_encoding object) fits.small encoded, object_found (object_encoding object) object fits refl) refl
 
 not_among : (name : List ℕ) (names : List (List ℕ)) → ((k : ℕ) → k < length names → get_or names k [] ≢ name) → is_known name names ≡ false
 not_among name [] differ = refl
@@ -106,9 +106,9 @@ module _ (config : Config) (master : List ℕ) where
       let zero_first : 0 + length before ≡ length before = omega arith in
       genesis_names-append 0 before object ∙ rw zero_first refl
 
-  object_step : (any : Bool) (before : List Object) (object : Object) (number : ℕ) → IsPrintable object → length before < 65536
+  object_step : (any : Bool) (before : List Object) (object : Object) (number : ℕ) → IsPrintable object → length before < MOST_GENESIS
       → is_known (name_of_genesis (length before) object) (genesis_names 0 before) ≡ false
-      → line_step number (made (genesis_stage any) config master before []) (object_line object) ≡ Ok (made stage.Genesis config master (before ++ object ∷ []) [])
+      → line_step number (made (genesis_stage any) config master before []) (object_words object) ≡ Ok (made stage.Genesis config master (before ++ object ∷ []) [])
   object_step false before object number fits few new = rw (object_back (length before) object few fits.0 fits.1, new, named before object) refl
   object_step true before object number fits few new = rw (object_back (length before) object few fits.0 fits.1, new, named before object) refl
 
@@ -117,11 +117,11 @@ module _ (config : Config) (master : List ℕ) where
   run_step true genesis number = refl
 
   event_step : (event : Event) (genesis : List Object) (before : List (ℕ × Event)) (number : ℕ) → IsPlayableEvent config [] event
-      → line_step number (made stage.Events config master genesis before) (event_line event) ≡ Ok (made stage.Events config master genesis (before ++ (number, event) ∷ []))
+      → line_step number (made stage.Events config master genesis before) (event_words event) ≡ Ok (made stage.Events config master genesis (before ++ (number, event) ∷ []))
   event_step (Say from to kind body) genesis before number fits =
       let few = fits.kind in
-      rw (speaker_back config [] from fits.speaker, honest_back config [] to fits.listener, within_back 255 kind few (omega arith), bytes_back 32719 body fits.short fits.in_bytes) refl
-  event_step (Inject to bytes) genesis before number fits = rw (honest_back config [] to fits.node, bytes_back 32768 bytes fits.short fits.in_bytes) refl
+      rw (speaker_back config [] from fits.speaker, honest_back config [] to fits.listener, within_back 255 kind few (omega arith), bytes_back MOST_BODY body fits.short fits.in_bytes) refl
+  event_step (Inject to bytes) genesis before number fits = rw (honest_back config [] to fits.node, bytes_back MOST_DATAGRAM bytes fits.short fits.in_bytes) refl
   event_step (Deliver count) genesis before number fits = rw (number_back count fits) refl
   event_step (Tick node) genesis before number fits = rw (honest_back config [] node fits) refl
   event_step (Drain times) genesis before number fits = rw (number_back times fits) refl
@@ -138,13 +138,13 @@ module _ (config : Config) (master : List ℕ) where
     reads_events (event ∷ events) before number fit more =
         let next : number + length (event ∷ events) ≡ number + 1 + length events = omega arith in
         let all = sym (append_assoc before ((number, event.1) ∷ []) (numbered (number + 1) events)) in
-        read-cons (made stage.Events config master genesis before) (made stage.Events config master genesis (before ++ (number, event.1) ∷ [])) last number (event_line event.1) (event_lines events ++ rest)
+        read-cons (made stage.Events config master genesis before) (made stage.Events config master genesis (before ++ (number, event.1) ∷ [])) last number (event_words event.1) (event_lines events ++ rest)
         (event_step event.1 genesis before number fit.0)
         (reads_events events (before ++ (number, event.1) ∷ []) (number + 1) fit.1
         (subst (λ n. read_fields (made stage.Events config master genesis ((before ++ (number, event.1) ∷ []) ++ numbered (number + 1) events)) n rest ≡ Ok last) next
         (subst (λ found. read_fields (made stage.Events config master genesis found) (number + length (event ∷ events)) rest ≡ Ok last) all more)))
 
-    pub reads_objects : length genesis ≤ 65536 → AllPairs (λ a b. a ≢ b) (genesis_names 0 genesis)
+    pub reads_objects : length genesis ≤ MOST_GENESIS → AllPairs (λ a b. a ≢ b) (genesis_names 0 genesis)
         → (objects before : List Object) (any : Bool) (number : ℕ) → before ++ objects ≡ genesis → AllByRecursion IsPrintable objects
         → ((any : Bool) → read_fields (made (genesis_stage any) config master genesis []) (number + length objects) rest ≡ Ok last)
         → read_fields (made (genesis_stage any) config master before []) number (genesis_lines objects ++ rest) ≡ Ok last
@@ -161,14 +161,14 @@ module _ (config : Config) (master : List ℕ) where
         subst (AllPairs (λ a b. a ≢ b)) (ap (genesis_names 0) (sym is) ∙ names-split 0 before object objects) differ in
         let fresh : is_known (name_of_genesis (0 + length before) object) (genesis_names 0 before) ≡ false = new_name (genesis_names 0 before) (genesis_names (0 + length before + 1) objects) (name_of_genesis (0 + length before) object) names in
         let new : is_known (name_of_genesis (length before) object) (genesis_names 0 before) ≡ false = subst (λ n. is_known (name_of_genesis n object) (genesis_names 0 before) ≡ false) zero_first fresh in
-        read-cons (made (genesis_stage any) config master before []) (made stage.Genesis config master (before ++ object ∷ []) []) last number (object_line object) (genesis_lines objects ++ rest)
+        read-cons (made (genesis_stage any) config master before []) (made stage.Genesis config master (before ++ object ∷ []) []) last number (object_words object) (genesis_lines objects ++ rest)
         (object_step any before object number fit.0 (omega arith) new)
         (reads_objects few differ objects (before ++ object ∷ []) true (number + 1) (append_assoc before (object ∷ []) objects ∙ is) fit.1
         (λ any. subst (λ n. read_fields (made (genesis_stage any) config master genesis []) n rest ≡ Ok last) next (more any)))
 
   -- the four lines before liars
   pub reads_head : config.f ≡ 0 → DigestFits master → (last : Draft) (rest : List (List (List ℕ))) → read_fields (made stage.Liars config master [] []) 5 rest ≡ Ok last
-      → read_fields empty_draft 1 (number_line (codes "shards") config.shards ∷ number_line (codes "faulty") config.f ∷ number_line (codes "dummies") config.dummies ∷ bytes_line (codes "master") master ∷ rest) ≡ Ok last
+      → read_fields empty_draft 1 (number_words (codes "shards") config.shards ∷ number_words (codes "faulty") config.f ∷ number_words (codes "dummies") config.dummies ∷ bytes_words (codes "master") master ∷ rest) ≡ Ok last
   reads_head none fits last rest more =
       let zeros = replicate 32 0 in
       let least = config_of 1 0 0 in
@@ -183,11 +183,11 @@ module _ (config : Config) (master : List ℕ) where
       let trusted : configured first.shards config.f 0 ≡ Ok first = ap (λ n. configured first.shards n 0) none ∙ configured-config first in
       let whole : configured first.shards 0 config.dummies ≡ Ok config =
       ap (λ n. configured n 0 config.dummies) same ∙ ap (λ n. configured config.shards n config.dummies) (sym none) ∙ configured-config config in
-      let shards : line_step 1 empty_draft (number_line (codes "shards") config.shards) ≡ Ok (made stage.Faulty first zeros [] []) =
+      let shards : line_step 1 empty_draft (number_words (codes "shards") config.shards) ≡ Ok (made stage.Faulty first zeros [] []) =
       rw (shards_back least first config.shards (omega arith) sharded) refl in
-      let faulty : line_step 2 (made stage.Faulty first zeros [] []) (number_line (codes "faulty") config.f) ≡ Ok (made stage.Dummies first zeros [] []) =
+      let faulty : line_step 2 (made stage.Faulty first zeros [] []) (number_words (codes "faulty") config.f) ≡ Ok (made stage.Dummies first zeros [] []) =
       rw (faulty_back first first config.f (omega arith) none (ap in_range trusted)) refl in
-      let dummies : line_step 3 (made stage.Dummies first zeros [] []) (number_line (codes "dummies") config.dummies) ≡ Ok (made stage.Master config zeros [] []) =
+      let dummies : line_step 3 (made stage.Dummies first zeros [] []) (number_words (codes "dummies") config.dummies) ≡ Ok (made stage.Master config zeros [] []) =
       rw (dummies_back first config config.dummies (omega arith) (ap in_range whole)) refl in
-      let mastered : line_step 4 (made stage.Master config zeros [] []) (bytes_line (codes "master") master) ≡ Ok (made stage.Liars config master [] []) = rw (master_back master fits) refl in
+      let mastered : line_step 4 (made stage.Master config zeros [] []) (bytes_words (codes "master") master) ≡ Ok (made stage.Liars config master [] []) = rw (master_back master fits) refl in
       rw (shards, faulty, dummies, mastered) more

@@ -10,7 +10,7 @@ abbrev pub numbered : ℕ → List (ℕ × Event) → List (ℕ × Event)
 numbered line [] = []
 numbered line (event ∷ events) = (line, event.1) ∷ numbered (line + 1) events
 
--- the number of the line of the first event: four lines, those of liars, contracts and objects, and `run` stand before it
+-- the number of the line of the first event: before it stand four lines, those of liars, contracts and objects, and `run`
 abbrev pub first_line : Schedule → ℕ
 first_line schedule = 6 + (length schedule.liars + (length schedule.contracts + length schedule.genesis))
 
@@ -18,8 +18,10 @@ first_line schedule = 6 + (length schedule.liars + (length schedule.contracts + 
 abbrev pub renumbered : Schedule → Schedule
 renumbered schedule = record schedule { events = numbered (first_line schedule) schedule.events }
 
--- A schedule that was read of a text is read again, up to the numbers of lines, of the text that is printed of it, where that is within the limit.
+-- A schedule that was read of a text is read again of the text that is printed of it, up to the numbers of lines,
+-- where that text is within the limit.
 abbrev pub IsReadAgain : ℕ → Type 0
 IsReadAgain limit =
-    (text : List ℕ) (schedule : Schedule) → schedule_of limit text ≡ Ok schedule → length (schedule_text schedule) ≤ limit
+    (text : List ℕ) (schedule : Schedule) → schedule_of limit text ≡ Ok schedule
+    → length (schedule_text schedule) ≤ limit
     → schedule_of limit (schedule_text schedule) ≡ Ok (renumbered schedule)

@@ -1,6 +1,8 @@
--- What each event's line says, or why it is refused: the word is tested first, then the count of fields, then the fields from left to right.
+-- What each event's line says, or why it is refused: the word is tested first, then the count of fields, then the
+-- fields from left to right.
 use Rattle.std.specs.Prelude.{ℕ, List, [], ◌∷◌, Result, Ok, Err, codes, if◌then◌else◌}
 use Rattle.std.specs.Str.{bytes_eq}
+use Rattle.cs_base.specs.declared.limits.TheConstants.{MOST_BODY, MOST_DATAGRAM}
 use Rattle.cs_sched_types.specs.declared.schedule.Schedule.{Schedule}
 use Rattle.cs_sched_types.specs.declared.schedule.Event.{Event}
 use Rattle.cs_sched_types.specs.declared.schedule.Event.TheVariants.{Say, Inject, Deliver, Tick, Drain}
@@ -16,14 +18,14 @@ say_of schedule from to kind body = do
   speaker ← speaker_in schedule.config schedule.liars from
   listener ← honest_in schedule.config schedule.liars to
   number ← number_within 255 kind
-  bytes ← bytes_within 32719 body
+  bytes ← bytes_within MOST_BODY body
   Ok (Say speaker listener number bytes)
 
 -- to whom these bytes are given
 abbrev pub inject_of : Schedule → List ℕ → List ℕ → Result Event Cause
 inject_of schedule to bytes = do
   node ← honest_in schedule.config schedule.liars to
-  given ← bytes_within 32768 bytes
+  given ← bytes_within MOST_DATAGRAM bytes
   Ok (Inject node given)
 
 abbrev pub say_said : Schedule → List (List ℕ) → Result Event Cause

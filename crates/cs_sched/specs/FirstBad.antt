@@ -5,7 +5,7 @@ use Rattle.std.specs.Str.Lines.{lines}
 use Rattle.cs_base.specs.Lines.{fields_of, ended_lines}
 use Rattle.cs_sched.specs.Drafts.{empty_draft}
 use Rattle.cs_sched.specs.Places.{line_step}
-use Rattle.cs_sched.specs.Text.{read_lines}
+use Rattle.cs_sched.specs.Text.{read_lines, schedule_of}
 use Rattle.cs_sched.specs.declared.cause.Refusal.{Refusal}
 use Rattle.cs_sched.specs.declared.draft.Draft.{Draft}
 
@@ -16,7 +16,8 @@ lines_within limit text = if nat_le (length text) limit then lines text else end
 -- the named line is bad for this cause, or it is the one behind the last
 abbrev pub IsBad : List (List ℕ) → Draft → Refusal → Type 0
 IsBad read before refusal =
-    (line_step refusal.line before (fields_of (slice_index_or read (refusal.line - 1) [])) ≡ Err refusal.cause) ⊎ (refusal.line ≡ length read + 1)
+    (line_step refusal.line before (fields_of (slice_index_or read (refusal.line - 1) [])) ≡ Err refusal.cause)
+    ⊎ (refusal.line ≡ length read + 1)
 
 -- each line before the named one is good, and that one is not
 pub record IsFirstBad (read : List (List ℕ)) (refusal : Refusal) : Type 0 where
@@ -24,3 +25,9 @@ pub record IsFirstBad (read : List (List ℕ)) (refusal : Refusal) : Type 0 wher
   pub numbered : 0 < refusal.line
   pub good : read_lines empty_draft 1 (take (refusal.line - 1) read) ≡ Ok before
   pub bad : IsBad read before refusal
+
+-- each refusal of a text names the first bad line of it
+abbrev pub RefusesFirstBad : ℕ → Type 0
+RefusesFirstBad limit =
+    (text : List ℕ) (refusal : Refusal) → schedule_of limit text ≡ Err refusal
+    → IsFirstBad (lines_within limit text) refusal

@@ -27,7 +27,9 @@ with_master draft master = record draft { stage = stage.Liars; schedule = record
 
 -- one more liar
 abbrev pub with_liar : Draft → NodeId → Draft
-with_liar draft liar = record draft { schedule = record draft.schedule { liars = draft.schedule.liars ++ liar ∷ [] } }
+with_liar draft liar = record draft {
+  schedule = record draft.schedule { liars = draft.schedule.liars ++ liar ∷ [] };
+}
 
 -- one more object and its name, behind which no liar can stand
 abbrev pub with_genesis : Draft → Object → List ℕ → Draft
@@ -39,7 +41,9 @@ with_genesis draft object name = record draft {
 
 -- one more event, with the number of its line
 abbrev pub with_event : Draft → ℕ → Event → Draft
-with_event draft line event = record draft { schedule = record draft.schedule { events = draft.schedule.events ++ (line, event) ∷ [] } }
+with_event draft line event = record draft {
+  schedule = record draft.schedule { events = draft.schedule.events ++ (line, event) ∷ [] };
+}
 
 -- nothing but the next stage
 abbrev pub at_stage : Draft → Stage → Draft
@@ -80,7 +84,8 @@ contract_line fields = do
 
 -- an object, whose name is its key, unless an earlier one has that key
 abbrev pub named_object : Draft → Object → List ℕ → Result Draft Cause
-named_object draft object name = if is_known name draft.names then Err cause.Key else Ok (with_genesis draft object name)
+named_object draft object name =
+    if is_known name draft.names then Err cause.Key else Ok (with_genesis draft object name)
 
 abbrev pub genesis_line : Draft → List (List ℕ) → Result Draft Cause
 genesis_line draft fields = do

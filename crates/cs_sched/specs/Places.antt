@@ -30,10 +30,14 @@ events_place line draft word fields =
 
 -- a line of this word and these fields, where it has this place
 abbrev pub line_at : Stage → ℕ → Draft → List ℕ → List (List ℕ) → Result Draft Cause
-line_at stage.Shards line draft word fields = if bytes_eq word (codes "shards") then shards_line draft fields else Err cause.Word
-line_at stage.Faulty line draft word fields = if bytes_eq word (codes "faulty") then faulty_line draft fields else Err cause.Word
-line_at stage.Dummies line draft word fields = if bytes_eq word (codes "dummies") then dummies_line draft fields else Err cause.Word
-line_at stage.Master line draft word fields = if bytes_eq word (codes "master") then master_line draft fields else Err cause.Word
+line_at stage.Shards line draft word fields =
+    if bytes_eq word (codes "shards") then shards_line draft fields else Err cause.Word
+line_at stage.Faulty line draft word fields =
+    if bytes_eq word (codes "faulty") then faulty_line draft fields else Err cause.Word
+line_at stage.Dummies line draft word fields =
+    if bytes_eq word (codes "dummies") then dummies_line draft fields else Err cause.Word
+line_at stage.Master line draft word fields =
+    if bytes_eq word (codes "master") then master_line draft fields else Err cause.Word
 line_at stage.Liars line draft word fields = liars_place draft word fields
 line_at stage.Genesis line draft word fields = genesis_place draft word fields
 line_at stage.Events line draft word fields = events_place line draft word fields
@@ -42,4 +46,5 @@ line_at stage.Ended line draft word fields = Err cause.After
 -- the draft after a line of these fields; a line without fields, and one that begins with `#`, is passed over
 abbrev pub line_step : ℕ → Draft → List (List ℕ) → Result Draft Cause
 line_step line draft [] = Ok draft
-line_step line draft (word ∷ fields) = if slice_index word 0 == 35 then Ok draft else line_at draft.stage line draft word fields
+line_step line draft (word ∷ fields) =
+    if slice_index word 0 == 35 then Ok draft else line_at draft.stage line draft word fields

@@ -4,6 +4,7 @@ use Rattle.std.specs.List.{All, AllPairs}
 use Rattle.cs_base.specs.Fields.{IsBytes}
 use Rattle.cs_base.specs.NodeId.{is_node, is_named, is_client}
 use Rattle.cs_base.specs.declared.config.Config.{Config}
+use Rattle.cs_base.specs.declared.limits.TheConstants.{MOST_SHARDS, MOST_BODY, MOST_DATAGRAM, MOST_GENESIS}
 use Rattle.cs_base.specs.declared.node_id.NodeId.{NodeId}
 use Rattle.cs_tx_value.specs.Object.{ObjectFits}
 use Rattle.cs_sched_types.specs.declared.schedule.Schedule.{Schedule}
@@ -27,13 +28,13 @@ pub record IsSaid (config : Config) (liars : List NodeId) (from to : NodeId) (nu
   pub speaker : IsSpeaker config liars from
   pub listener : IsHonest config liars to
   pub kind : number ≤ 255
-  pub short : length bytes ≤ 32719
+  pub short : length bytes ≤ MOST_BODY
   pub in_bytes : IsBytes bytes
 
 -- an honest node is given bytes
 pub record IsInjected (config : Config) (liars : List NodeId) (to : NodeId) (bytes : List ℕ) : Type 0 where
   pub node : IsHonest config liars to
-  pub short : length bytes ≤ 32768
+  pub short : length bytes ≤ MOST_DATAGRAM
   pub in_bytes : IsBytes bytes
 
 -- an event that can stand in a schedule of these liars
@@ -47,11 +48,11 @@ IsPlayableEvent config liars (Drain times) = times < 2 ^ 64
 -- Up to 16 shards of one honest node each make up the deployment; its objects have encodings, and no two of them one key.
 pub record IsPlayable (schedule : Schedule) : Type 0 where
   pub some_shard : 0 < schedule.config.shards
-  pub few_shards : schedule.config.shards ≤ 16
+  pub few_shards : schedule.config.shards ≤ MOST_SHARDS
   pub no_liar : schedule.config.f ≡ 0
   pub liars : schedule.liars ≡ []
   pub contracts : schedule.contracts ≡ []
   pub objects : All ObjectFits schedule.genesis
-  pub few_objects : length schedule.genesis ≤ 65536
+  pub few_objects : length schedule.genesis ≤ MOST_GENESIS
   pub keys_differ : AllPairs (λ a b. a ≢ b) (genesis_names 0 schedule.genesis)
   pub events : All (λ numbered. IsPlayableEvent schedule.config schedule.liars numbered.1) schedule.events

@@ -17,53 +17,54 @@ abbrev pub line_text : List (List ℕ) → List ℕ
 line_text [] = 10 ∷ []
 line_text (word ∷ fields) = word ++ (each (λ field. 32 ∷ field) fields ++ 10 ∷ [])
 
--- what stands on a line, its word first
+-- the words of a line: the one that names it, and its fields
 
-abbrev pub number_line : List ℕ → ℕ → List (List ℕ)
-number_line word number = word ∷ decimal number ∷ []
+abbrev pub number_words : List ℕ → ℕ → List (List ℕ)
+number_words word number = word ∷ decimal number ∷ []
 
-abbrev pub name_line : List ℕ → NodeId → List (List ℕ)
-name_line word name = word ∷ node_text name ∷ []
+abbrev pub name_words : List ℕ → NodeId → List (List ℕ)
+name_words word name = word ∷ node_text name ∷ []
 
-abbrev pub bytes_line : List ℕ → List ℕ → List (List ℕ)
-bytes_line word bytes = word ∷ bytes_text bytes ∷ []
+abbrev pub bytes_words : List ℕ → List ℕ → List (List ℕ)
+bytes_words word bytes = word ∷ bytes_text bytes ∷ []
 
-abbrev pub liar_line : NodeId → List (List ℕ)
-liar_line name = name_line (codes "liar") name
+abbrev pub liar_words : NodeId → List (List ℕ)
+liar_words name = name_words (codes "liar") name
 
-abbrev pub contract_line : List ℕ → List (List ℕ)
-contract_line text = bytes_line (codes "contract") text
+abbrev pub contract_words : List ℕ → List (List ℕ)
+contract_words text = bytes_words (codes "contract") text
 
-abbrev pub object_line : Object → List (List ℕ)
-object_line object = bytes_line (codes "genesis") (object_encoding object)
+abbrev pub object_words : Object → List (List ℕ)
+object_words object = bytes_words (codes "genesis") (object_encoding object)
 
-abbrev pub event_line : Event → List (List ℕ)
-event_line (Say from to kind body) = codes "say" ∷ node_text from ∷ node_text to ∷ decimal kind ∷ bytes_text body ∷ []
-event_line (Inject to bytes) = codes "inject" ∷ node_text to ∷ bytes_text bytes ∷ []
-event_line (Deliver number) = number_line (codes "deliver") number
-event_line (Tick node) = name_line (codes "tick") node
-event_line (Drain times) = number_line (codes "drain") times
+abbrev pub event_words : Event → List (List ℕ)
+event_words (Say from to kind body) =
+    codes "say" ∷ node_text from ∷ node_text to ∷ decimal kind ∷ bytes_text body ∷ []
+event_words (Inject to bytes) = codes "inject" ∷ node_text to ∷ bytes_text bytes ∷ []
+event_words (Deliver number) = number_words (codes "deliver") number
+event_words (Tick node) = name_words (codes "tick") node
+event_words (Drain times) = number_words (codes "drain") times
 
 -- the lines of a configuration and its master
 abbrev pub head_lines : Config → List ℕ → List (List (List ℕ))
 head_lines config master =
-    number_line (codes "shards") config.shards
-    ∷ number_line (codes "faulty") config.f
-    ∷ number_line (codes "dummies") config.dummies
-    ∷ bytes_line (codes "master") master
+    number_words (codes "shards") config.shards
+    ∷ number_words (codes "faulty") config.f
+    ∷ number_words (codes "dummies") config.dummies
+    ∷ bytes_words (codes "master") master
     ∷ []
 
 abbrev pub liar_lines : List NodeId → List (List (List ℕ))
-liar_lines liars = map liar_line liars
+liar_lines liars = map liar_words liars
 
 abbrev pub contract_lines : List (List ℕ) → List (List (List ℕ))
-contract_lines contracts = map contract_line contracts
+contract_lines contracts = map contract_words contracts
 
 abbrev pub genesis_lines : List Object → List (List (List ℕ))
-genesis_lines objects = map object_line objects
+genesis_lines objects = map object_words objects
 
 abbrev pub event_lines : List (ℕ × Event) → List (List (List ℕ))
-event_lines events = map (λ numbered. event_line numbered.1) events
+event_lines events = map (λ numbered. event_words numbered.1) events
 
 -- all lines of a schedule
 abbrev pub schedule_lines : Schedule → List (List (List ℕ))

@@ -3,6 +3,7 @@ use Rattle.std.specs.Prelude.{ℕ, ◌==◌, nat_lt, List, [], ◌∷◌, Result
 use Rattle.std.specs.Option.{ok_or}
 use Rattle.cs_base.specs.Codes.{number_of}
 use Rattle.cs_base.specs.Config.{configured}
+use Rattle.cs_base.specs.declared.limits.TheConstants.{MOST_GENESIS}
 use Rattle.cs_base.specs.declared.config.Config.{Config}
 use Rattle.cs_base.specs.declared.node_id.NodeId.{NodeId}
 use Rattle.cs_tx_value.specs.declared.object.Object.{Object}
@@ -59,8 +60,8 @@ liar_said schedule fields = do
   field ← only_field fields
   liar_in schedule.config schedule.liars field
 
--- the next object, where so many stand before it, which are to be below 65,536
+-- the next object, where so many stand before it, which are to be few
 abbrev pub object_said : ℕ → List (List ℕ) → Result Object Cause
 object_said place fields = do
   field ← only_field fields
-  if nat_lt place 65536 then object_in field else Err cause.Limit
+  if nat_lt place MOST_GENESIS then object_in field else Err cause.Limit

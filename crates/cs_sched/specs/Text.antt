@@ -23,7 +23,8 @@ read_lines draft number (line ∷ more) =
 
 -- a schedule is whole where the line `end` was met, before the line of this number
 abbrev pub whole : ℕ → Result Draft Refusal → Result Schedule Refusal
-whole number (Ok draft) = if has_ended draft.stage then Ok draft.schedule else Err (record { line = number; cause = cause.End })
+whole number (Ok draft) =
+    if has_ended draft.stage then Ok draft.schedule else Err (record { line = number; cause = cause.End })
 whole number (Err refusal) = Err refusal
 
 -- the first bad line, or else the line in which the text passes its limit
@@ -31,8 +32,14 @@ abbrev pub cut_at : ℕ → Result Draft Refusal → Result Schedule Refusal
 cut_at number (Ok draft) = Err (record { line = number; cause = cause.Limit })
 cut_at number (Err refusal) = Err refusal
 
+-- what a text within its limit comes to
+abbrev pub whole_read : List ℕ → Result Schedule Refusal
+whole_read text = whole (length (lines text) + 1) (read_lines empty_draft 1 (lines text))
+
+-- what a text above its limit comes to, of which this is the part within
+abbrev pub part_read : List ℕ → Result Schedule Refusal
+part_read text = cut_at (length (ended_lines text) + 1) (read_lines empty_draft 1 (ended_lines text))
+
 -- the schedule of a text, or its first bad line; of a text above the limit the lines that end within it are read
 unfoldable pub schedule_of : ℕ → List ℕ → Result Schedule Refusal
-schedule_of limit text =
-    if nat_le (length text) limit then whole (length (lines text) + 1) (read_lines empty_draft 1 (lines text))
-    else cut_at (length (ended_lines (take limit text)) + 1) (read_lines empty_draft 1 (ended_lines (take limit text)))
+schedule_of limit text = if nat_le (length text) limit then whole_read text else part_read (take limit text)

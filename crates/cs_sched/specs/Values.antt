@@ -2,6 +2,7 @@
 use Rattle.std.specs.Prelude.{ℕ, ◌==◌, nat_le, List, length, Option, Result, Ok, Err, if◌then◌else◌}
 use Rattle.std.specs.Option.{ok_or}
 use Rattle.cs_base.specs.Fields.{whole_at}
+use Rattle.cs_base.specs.declared.limits.TheConstants.{MOST_OBJECT}
 use Rattle.cs_base.specs.declared.config.Config.{Config}
 use Rattle.cs_base.specs.declared.config.OutOfRange.{OutOfRange}
 use Rattle.cs_tx_value.specs.declared.object.Object.{Object}
@@ -43,8 +44,8 @@ master_in field = do
 abbrev pub encoded_object : List ℕ → Option Object
 encoded_object bytes = whole_at object_at bytes
 
--- an object in hex, in at most 4,096 bytes
+-- an object in hex, of at most so many bytes as an object has
 abbrev pub object_in : List ℕ → Result Object Cause
 object_in field = do
-  bytes ← bytes_within 4096 field
+  bytes ← bytes_within MOST_OBJECT field
   ok_or (encoded_object bytes) cause.Object

@@ -8,17 +8,12 @@ use crate::error::LineError;
 use crate::lines::{only_field, only_number};
 use crate::naming::{read_honest, read_speaker};
 use crate::values::{read_bytes_within, read_number_within};
+use cs_base::{MOST_BODY, MOST_DATAGRAM};
 use cs_sched_types::{Event, Schedule};
 use std::alloc::Global;
 
 /// The greatest kind of a datagram.
 const MOST_KIND: u64 = 255;
-
-/// The greatest length of a body: a datagram of it has 49 bytes more, and at most 32,768.
-const BODY_LIMIT: usize = 32_719;
-
-/// The greatest length of a datagram.
-const DATAGRAM_LIMIT: usize = 32_768;
 
 // The event that a line of this word says, behind these lines of the schedule.
 pub(crate) fn read_event(
@@ -67,7 +62,7 @@ fn say(
     let from = read_speaker(&schedule.config, liars, from)?;
     let to = read_honest(&schedule.config, liars, to)?;
     let kind = read_number_within(kind, MOST_KIND)? as u8;
-    let body = read_bytes_within(alloc, body, BODY_LIMIT)?;
+    let body = read_bytes_within(alloc, body, MOST_BODY)?;
     Ok(Event::Say {
         from,
         to,
@@ -89,7 +84,7 @@ fn inject(alloc: Global, schedule: &Schedule, to: &[u8], bytes: &[u8]) -> Result
     ensures { GivesStep result (inject_of schedule.now to.now bytes.now) }
 {
     let to = read_honest(&schedule.config, schedule.liars.as_slice(), to)?;
-    let bytes = read_bytes_within(alloc, bytes, DATAGRAM_LIMIT)?;
+    let bytes = read_bytes_within(alloc, bytes, MOST_DATAGRAM)?;
     Ok(Event::Inject { to, bytes })
 }
 

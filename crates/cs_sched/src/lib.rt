@@ -6,11 +6,11 @@ mod draft;
 mod error;
 mod events;
 mod law;
+mod line_printing;
 mod lines;
 mod name_set;
 mod naming;
 mod places;
-mod printed;
 mod printing;
 #[cfg(test)]
 mod printing_tests;
@@ -24,4 +24,4 @@ pub use cs_sched_types::{Event, Schedule};
 pub use error::ScheduleError;
 pub use law::printed_schedules_are_read;
 pub use printing::print;
-pub use reader::{LIMIT, parse, refusals_name_the_first_bad_line};
+pub use reader::{parse, refusals_name_the_first_bad_line};

@@ -1,6 +1,7 @@
 //! What each line says.
 ghost use Rattle.std.specs.Prelude.{◌≡◌, ◌<◌, Err, IfOk, length};
 ghost use Rattle.cs_base.specs.Lines.{views};
+ghost use Rattle.cs_base.specs.declared.limits.TheConstants.{MOST_GENESIS};
 ghost use Rattle.cs_tx_value.specs.Object.{ObjectFits};
 ghost use Rattle.cs_sched.specs.Reading.{GivesStep, Lends};
 ghost use Rattle.cs_sched.specs.Said.{only_field, no_field, number_said, shards_said, faulty_said, dummies_said, master_said, liar_said, object_said};
@@ -10,13 +11,10 @@ use crate::cause::Cause;
 use crate::error::LineError;
 use crate::naming::read_liar;
 use crate::values::{config, number, read_master, read_object};
-use cs_base::{Config, NodeId};
+use cs_base::{Config, MOST_GENESIS, NodeId};
 use cs_sched_types::Schedule;
 use cs_tx::{Digest, Object};
 use std::alloc::Global;
-
-/// The most genesis objects.
-const MOST_OBJECTS: usize = 65_536;
 
 pub(crate) fn only_field<'a>(fields: &[&'a [u8]]) -> Result<&'a [u8], Cause>
     ensures { Lends result (only_field (views fields.now)) }
@@ -100,10 +98,10 @@ pub(crate) fn read_object_line(
 ) -> Result<Object, LineError>
     ensures value { GivesStep result (object_said place (views fields.now)) }
     ensures fits { IfOk result ObjectFits }
-    ensures place { IfOk result (λ _. place < 65536) }
+    ensures place { IfOk result (λ _. place < MOST_GENESIS) }
 {
     let field = only_field(fields)?;
-    if place >= MOST_OBJECTS {
+    if place >= MOST_GENESIS {
         return Err(LineError::Bad(Cause::Limit));
     }
     read_object(alloc, field)

@@ -34,7 +34,8 @@ impl NameSet {
     // Adds a name at the end, or answers false where it is there already.
     pub(crate) fn insert(&mut self, name: Digest) -> Result<bool, Memory>
         ensures added { IfOk result (λ added. added ≡ not (is_known name self.old)) }
-        ensures names { IfOk result (λ added. self.new ≡ (if added then self.old ++ name ∷ [] else self.old)) }
+        ensures names { IfOk result (λ added.
+            self.new ≡ (if added then self.old ++ name ∷ [] else self.old)) }
     {
         Ok(self.names.insert(name)?)
     }

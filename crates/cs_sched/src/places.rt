@@ -36,7 +36,8 @@ impl Draft {
         word: &[u8],
         fields: &[&[u8]],
     ) -> Result<(), LineError>
-        ensures { Moves result self.new (line_at self.old.stage line self.old word.now (views fields.now)) }
+        ensures { Moves result self.new
+            (line_at self.old.stage line self.old word.now (views fields.now)) }
     {
         match self.stage {
             Stage::Shards if word == b"shards".as_slice() => self.take_shards(fields),

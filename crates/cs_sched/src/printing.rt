@@ -1,13 +1,13 @@
-//! All lines of a schedule.
+//! A schedule, printed line by line.
 ghost use Rattle.std.specs.Prelude.{◌≡◌, ◌++◌, ◌∷◌, [], OnOk, OnErr, codes};
 ghost use Rattle.std.specs.List.{All};
 ghost use Rattle.cs_base.specs.Fields.{each};
 ghost use Rattle.cs_tx_value.specs.Object.{ObjectFits};
 ghost use Rattle.cs_tx_value.specs.Reading.{Begins};
 ghost use Rattle.cs_sched_types.specs.declared.schedule.Event.TheVariants.{Say, Inject};
-ghost use Rattle.cs_sched.specs.Printed.{line_text, liar_line, contract_line, object_line, event_line, head_lines, liar_lines, contract_lines, genesis_lines, event_lines, schedule_text};
+ghost use Rattle.cs_sched.specs.Printed.{line_text, liar_words, contract_words, object_words, event_words, head_lines, liar_lines, contract_lines, genesis_lines, event_lines, schedule_text};
 
-use crate::printed::{print_bytes_line, print_line, print_name, print_number};
+use crate::line_printing::{print_bytes_line, print_line, print_name, print_number};
 use cs_base::{Memory, NodeId, Sequence, Writer, print_bytes};
 use cs_sched_types::{Event, Schedule};
 use cs_tx_value::{Encoded, Object};
@@ -46,7 +46,8 @@ fn print_end(out: &mut Writer) -> Result<(), Memory>
 }
 
 fn print_head(alloc: Global, schedule: &Schedule, out: &mut Writer) -> Result<(), Memory>
-    ensures ok { OnOk result (out.new ≡ out.old ++ each line_text (head_lines schedule.now.config schedule.now.master)) }
+    ensures ok { OnOk result (out.new
+        ≡ out.old ++ each line_text (head_lines schedule.now.config schedule.now.master)) }
     ensures err { OnErr result (Begins out.new out.old) }
 {
     let config = schedule.config;
@@ -68,7 +69,7 @@ fn print_liars(alloc: Global, liars: &[NodeId], out: &mut Writer) -> Result<(), 
 }
 
 fn print_liar(alloc: Global, liar: NodeId, out: &mut Writer) -> Result<(), Memory>
-    ensures ok { OnOk result (out.new ≡ out.old ++ line_text (liar_line liar)) }
+    ensures ok { OnOk result (out.new ≡ out.old ++ line_text (liar_words liar)) }
     ensures err { OnErr result (Begins out.new out.old) }
 {
     print_name(alloc, b"liar".as_slice(), liar, out)
@@ -80,7 +81,8 @@ fn print_contracts(
     contracts: &[Sequence<u8>],
     out: &mut Writer,
 ) -> Result<(), Memory>
-    ensures ok { OnOk result (out.new ≡ out.old ++ each line_text (contract_lines contracts.now)) }
+    ensures ok { OnOk result (out.new
+        ≡ out.old ++ each line_text (contract_lines contracts.now)) }
     ensures err { OnErr result (Begins out.new out.old) }
 {
     for contract in contracts {
@@ -90,7 +92,7 @@ fn print_contracts(
 }
 
 fn print_contract(alloc: Global, contract: &Sequence<u8>, out: &mut Writer) -> Result<(), Memory>
-    ensures ok { OnOk result (out.new ≡ out.old ++ line_text (contract_line contract.now)) }
+    ensures ok { OnOk result (out.new ≡ out.old ++ line_text (contract_words contract.now)) }
     ensures err { OnErr result (Begins out.new out.old) }
 {
     print_bytes_line(alloc, b"contract".as_slice(), contract.as_slice(), out)
@@ -110,7 +112,7 @@ fn print_genesis(alloc: Global, objects: &[Object], out: &mut Writer) -> Result<
 
 fn print_object(alloc: Global, object: &Object, out: &mut Writer) -> Result<(), Memory>
     requires { ObjectFits object.now }
-    ensures ok { OnOk result (out.new ≡ out.old ++ line_text (object_line object.now)) }
+    ensures ok { OnOk result (out.new ≡ out.old ++ line_text (object_words object.now)) }
     ensures err { OnErr result (Begins out.new out.old) }
 {
     let mut encoding = Writer::new(alloc);
@@ -131,7 +133,7 @@ fn print_events(alloc: Global, events: &[(u64, Event)], out: &mut Writer) -> Res
 }
 
 fn print_event(alloc: Global, event: &Event, out: &mut Writer) -> Result<(), Memory>
-    ensures ok { OnOk result (out.new ≡ out.old ++ line_text (event_line event.now)) }
+    ensures ok { OnOk result (out.new ≡ out.old ++ line_text (event_words event.now)) }
     ensures err { OnErr result (Begins out.new out.old) }
 {
     match event {
@@ -157,7 +159,8 @@ fn print_say(
     body: &[u8],
     out: &mut Writer,
 ) -> Result<(), Memory>
-    ensures ok { OnOk result (out.new ≡ out.old ++ line_text (event_line (Say from to kind body.now))) }
+    ensures ok { OnOk result (out.new
+        ≡ out.old ++ line_text (event_words (Say from to kind body.now))) }
     ensures err { OnErr result (Begins out.new out.old) }
 {
     let from = format!(in alloc; "{from}")?;
@@ -175,7 +178,7 @@ fn print_say(
 
 #[tactic(auto, using(crate::proofs::Texts::unchanged))]
 fn print_inject(alloc: Global, to: NodeId, bytes: &[u8], out: &mut Writer) -> Result<(), Memory>
-    ensures ok { OnOk result (out.new ≡ out.old ++ line_text (event_line (Inject to bytes.now))) }
+    ensures ok { OnOk result (out.new ≡ out.old ++ line_text (event_words (Inject to bytes.now))) }
     ensures err { OnErr result (Begins out.new out.old) }
 {
     let to = format!(in alloc; "{to}")?;

@@ -1,34 +1,28 @@
 //! The lines of a text, read one by one.
-ghost use Rattle.std.specs.Prelude.{◌≡◌, ℕ, ◌+◌, List, Result, Ok, Err, IfOk, length};
-ghost use Rattle.std.specs.Str.Lines.{lines};
-ghost use Rattle.cs_base.specs.Lines.{ended_lines};
-ghost use Rattle.cs_sched.specs.Drafts.{empty_draft};
-ghost use Rattle.cs_sched.specs.FirstBad.{lines_within, IsFirstBad};
+ghost use Rattle.std.specs.Prelude.{ℕ, Result, Ok, IfOk};
+ghost use Rattle.cs_base.specs.declared.limits.TheConstants.{MOST_SCHEDULE};
+ghost use Rattle.cs_sched.specs.FirstBad.{RefusesFirstBad};
 ghost use Rattle.cs_sched.specs.Playable.{IsPlayable};
 ghost use Rattle.cs_sched.specs.Reading.{Moves, MovesText, GivesText, TextFails, Comes};
-ghost use Rattle.cs_sched.specs.Text.{then_lines, read_lines, whole, cut_at, schedule_of};
+ghost use Rattle.cs_sched.specs.Text.{then_lines, whole, whole_read, part_read, schedule_of};
 ghost use Rattle.cs_sched.specs.declared.cause.Cause.{Cause};
-ghost use Rattle.cs_sched.specs.declared.cause.Refusal.{Refusal};
 ghost use Rattle.cs_sched.specs.declared.draft.Draft.{Draft};
 
 use crate::cause::{Cause, Refusal};
 use crate::draft::{Draft, Stage};
 use crate::error::{LineError, ScheduleError};
-use cs_base::{split_at_byte, strip_return};
+use cs_base::{MOST_SCHEDULE, split_at_byte, strip_return};
 use cs_sched_types::Schedule;
 use std::alloc::Global;
 
-/// The greatest length of a schedule's text.
-pub const LIMIT: usize = 16_777_216;
-
-/// The schedule of a text of at most 16,777,216 bytes, or its first bad line. Of a longer text
+/// The schedule of a text of at most `MOST_SCHEDULE` bytes, or its first bad line. Of a longer text
 /// the lines that end within that length are read first; where none of them is bad the refusal is
 /// `Limit`, at the line in which the next byte stands.
 pub fn parse(alloc: Global, text: &[u8]) -> Result<Schedule, ScheduleError>
-    ensures given { GivesText result (schedule_of LIMIT text.now) }
+    ensures given { GivesText result (schedule_of MOST_SCHEDULE text.now) }
     ensures playable { IfOk result IsPlayable }
 {
-    parse_within(alloc, LIMIT, text)
+    parse_within(alloc, MOST_SCHEDULE, text)
 }
 
 #[tactic(auto, unfolding(crate::specs::Text::schedule_of))]
@@ -48,7 +42,7 @@ pub(crate) fn parse_within(
 
 // The schedule of a text within its limit.
 fn read_whole(alloc: Global, text: &[u8]) -> Result<Schedule, ScheduleError>
-    ensures { GivesText result (whole (length (lines text.now) + 1) (read_lines empty_draft 1 (lines text.now))) }
+    ensures { GivesText result (whole_read text.now) }
 {
     let (mut draft, line, rest) = read_ended(alloc, text)?;
     if rest.is_empty() {
@@ -73,7 +67,7 @@ fn finish(draft: Draft, line: u64) -> Result<Schedule, ScheduleError>
 
 // The refusal of a text above its limit, of which this is the part within.
 fn refuse_long(alloc: Global, text: &[u8]) -> ScheduleError
-    ensures { TextFails result (cut_at (length (ended_lines text.now) + 1) (read_lines empty_draft 1 (ended_lines text.now))) }
+    ensures { TextFails result (part_read text.now) }
 {
     match read_ended(alloc, text) {
         Ok((_, line, _)) => ScheduleError::Line(Refusal {
@@ -101,7 +95,8 @@ fn read_ended(alloc: Global, text: &[u8]) -> Result<(Draft, u64, &[u8]), Schedul
 }
 
 fn at_line(line: u64, taken: Result<(), LineError>) -> Result<(), ScheduleError>
-    ensures { (next : Draft) (step : Result Draft Cause) → Moves taken next step → MovesText result next (then_lines line step Ok) }
+    ensures { (next : Draft) (step : Result Draft Cause) → Moves taken next step
+        → MovesText result next (then_lines line step Ok) }
 {
     match taken {
         Ok(()) => Ok(()),
@@ -112,5 +107,5 @@ fn at_line(line: u64, taken: Result<(), LineError>) -> Result<(), ScheduleError>
 
 /// A refusal names the first bad line: each line before it is good.
 pub fn refusals_name_the_first_bad_line()
-    ensures { (limit : ℕ) (text : List ℕ) (refusal : Refusal) → schedule_of limit text ≡ Err refusal → IsFirstBad (lines_within limit text) refusal }
+    ensures { (limit : ℕ) → RefusesFirstBad limit }
 {}

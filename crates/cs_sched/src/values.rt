@@ -10,12 +10,9 @@ ghost use Rattle.cs_sched.specs.declared.cause.Cause.TheVariants as cause;
 
 use crate::cause::Cause;
 use crate::error::LineError;
-use cs_base::{Config, Sequence, read_bytes, read_number};
+use cs_base::{Config, MOST_OBJECT, Sequence, read_bytes, read_number};
 use cs_tx::{Digest, Encoded, FormError, Object};
 use std::alloc::Global;
-
-/// The greatest length of an object's encoding.
-const OBJECT_LIMIT: usize = 4_096;
 
 pub(crate) fn number(field: &[u8]) -> Result<u64, Cause>
     ensures { result ≡ ok_or (number_of field.now) cause.Number }
@@ -87,7 +84,7 @@ pub(crate) fn read_object(alloc: Global, field: &[u8]) -> Result<Object, LineErr
     ensures value { GivesStep result (object_in field.now) }
     ensures fits { IfOk result ObjectFits }
 {
-    let bytes = read_bytes_within(alloc, field, OBJECT_LIMIT)?;
+    let bytes = read_bytes_within(alloc, field, MOST_OBJECT)?;
     decode_object(alloc, bytes.as_slice())
 }
 

@@ -1,8 +1,9 @@
 -- What a list shows with one more vote or entry at its end.
-use Rattle.std.proofs.Common.{◌≡◌, ℕ, ◌==◌, ◌&&◌, Bool, true, false, List, [], ◌∷◌, ◌++◌, Option, Some, None, if◌then◌else◌, refl, sym, ap, ◌∙◌}
+use Rattle.std.proofs.Common.{◌≡◌, ℕ, ◌==◌, Bool, true, false, List, [], ◌∷◌, ◌++◌, Option, Some, if◌then◌else◌, refl, ap, ◌∙◌}
 use Rattle.std.proofs.Math.Path.{fun_ext}
 use Rattle.cs_order.specs.declared.proposed.Proposed.{Proposed}
-use Rattle.cs_order.specs.Counts.{when, or_else}
+use Rattle.cs_order.specs.Counts.{when}
+use Rattle.cs_base.specs.Options.{or_else}
 use Rattle.cs_slot.specs.declared.votes.Vote.{Vote}
 use Rattle.cs_slot.specs.Kept.{is_at, vote_in, with_vote, entry_in, with_entry}
 

@@ -2,7 +2,8 @@
 use Rattle.std.specs.Prelude.{◌≡◌, ℕ, ◌==◌, ◌≤◌, ◌<◌, ◌&&◌, Bool, true, false, List, [], ◌∷◌, Option, Some, None, if◌then◌else◌}
 use Rattle.std.specs.Map.{lookup}
 use Rattle.cs_order.specs.declared.proposed.Proposed.{Proposed}
-use Rattle.cs_order.specs.Counts.{when, or_else}
+use Rattle.cs_order.specs.Counts.{when}
+use Rattle.cs_base.specs.Options.{or_else}
 use Rattle.cs_order.specs.Limits.{view_bound}
 use Rattle.cs_slot.specs.declared.votes.Vote.{Vote}
 use Rattle.cs_order_rules.specs.Slot.{Seen}
@@ -84,4 +85,6 @@ in_later view s = record s { view = view }
 
 -- nothing was proposed or confirmed in this view or a later one
 abbrev pub NothingFrom : ℕ → List (ℕ × Proposed) → List Vote → Type 0
-NothingFrom view proposals confirms = (v : ℕ) → view ≤ v → v < view_bound → (entry_in proposals v ≡ None) × ((member : ℕ) → vote_in confirms v member ≡ None)
+NothingFrom view proposals confirms =
+    (v : ℕ) → view ≤ v → v < view_bound
+    → (entry_in proposals v ≡ None) × ((member : ℕ) → vote_in confirms v member ≡ None)

@@ -43,7 +43,8 @@ impl Entries {
     /// Adds an entry, and says whether it is the first under the number.
     pub fn add(&mut self, key: u16, entry: Proposed) -> Result<bool, Memory>
         ensures fresh { IfOk result (λ fresh. fresh ≡ not (is_some (entry_in self.old key))) }
-        ensures now { IfOk result (λ fresh. entry_in self.new ≡ with_entry fresh (entry_in self.old) key entry) }
+        ensures now { IfOk result (λ fresh.
+            entry_in self.new ≡ with_entry fresh (entry_in self.old) key entry) }
         ensures err { OnErr result (self.new ≡ self.old) }
     {
         if self.get(key).is_some() {

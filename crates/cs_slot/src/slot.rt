@@ -1,22 +1,15 @@
 //! One slot.
 ghost use Rattle.std.specs.Prelude.{◌≡◌, ◌+◌, ◌*◌, ◌%◌, ◌≤◌, ◌<◌, not, Some, is_some, IfOk, option_copied};
-ghost use Rattle.cs_order.specs.Counts.{first_below};
 ghost use Rattle.cs_order.specs.Limits.{view_bound};
-ghost use Rattle.cs_order_rules.specs.Slot.{quorum, with_digest, proposal_of, entry_of, by_confirm, dones, if_done, by_done, chosen, to_confirm, in_view, prepared};
+ghost use Rattle.cs_order_rules.specs.Slot.{proposal_of, done_with, confirmed_entry, by_confirm, dones, done_by, by_done, chosen, to_confirm, in_view, prepared};
 ghost use Rattle.cs_slot.specs.Kept.{seen_in, none_seen, with_proposal, with_echo, with_confirm, with_done, in_later};
 
 use crate::entries::Entries;
 use crate::votes::Votes;
-use cs_base::Memory;
+use cs_base::{LAST_SLOT, Memory, VIEW_BOUND};
 use cs_order::Proposed;
 use std::alloc::Global;
 use std::marker::Model;
-
-/// The last slot, which is never chosen.
-const LAST_SLOT: u64 = 4_611_686_018_427_387_903;
-
-/// No view is this or above.
-const VIEW_BOUND: u16 = 1024;
 
 /// One slot, as one member sees it.
 ///
@@ -43,9 +36,19 @@ impl Model for Slot {
 
     ghost Value = { KeptSlot };
 
-    ghost view = { λ s. record { f = s.f; n = s.n; me = s.me; view = s.view; proposals = s.proposals; echoes = s.echoes; confirms = s.confirms; dones = s.dones } };
+    ghost view = { λ s. record {
+      f = s.f;
+      n = s.n;
+      me = s.me;
+      view = s.view;
+      proposals = s.proposals;
+      echoes = s.echoes;
+      confirms = s.confirms;
+      dones = s.dones;
+    } };
 
-    ghost invariant = { λ s. (s.f ≤ 5) × (s.me ≤ 3 * s.f) × (s.end ≤ view_bound) × NothingFrom s.end s.proposals s.confirms };
+    ghost invariant = { λ s. (s.f ≤ 5) × (s.me ≤ 3 * s.f)
+        × (s.end ≤ view_bound) × NothingFrom s.end s.proposals s.confirms };
 }
 
 impl Slot {
@@ -99,8 +102,10 @@ impl Slot {
     /// Takes a proposal of the member that leads the view. It is false exactly for a repeat.
     pub fn propose(&mut self, member: u16, view: u16, entry: Proposed) -> Result<bool, Memory>
         requires { member ≡ (self.old.n + view) % (3 * self.old.f + 1) }
-        ensures fresh { IfOk result (λ fresh. fresh ≡ not (is_some ((seen_in self.old).proposal view))) }
-        ensures now { IfOk result (λ fresh. seen_in self.new ≡ with_proposal fresh (seen_in self.old) view entry) }
+        ensures fresh { IfOk result (λ fresh.
+            fresh ≡ not (is_some ((seen_in self.old).proposal view))) }
+        ensures now { IfOk result (λ fresh.
+            seen_in self.new ≡ with_proposal fresh (seen_in self.old) view entry) }
     {
         let fresh = self.proposals.add(view, entry)?;
         self.end = end_with(self.end, view);
@@ -110,20 +115,26 @@ impl Slot {
     /// Takes an echo of a member. It is false exactly for a repeat.
     pub fn echo(&mut self, member: u16, view: u16, digest: [u8; 32]) -> Result<bool, Memory>
         requires { member ≤ 3 * self.old.f }
-        ensures fresh { IfOk result (λ fresh. fresh ≡ not (is_some ((seen_in self.old).echo view member))) }
-        ensures now { IfOk result (λ fresh. seen_in self.new ≡ with_echo fresh (seen_in self.old) view member digest) }
+        ensures fresh { IfOk result (λ fresh.
+            fresh ≡ not (is_some ((seen_in self.old).echo view member))) }
+        ensures now { IfOk result (λ fresh.
+            seen_in self.new ≡ with_echo fresh (seen_in self.old) view member digest) }
     {
         self.echoes.add(view, member, digest)
     }
 
     /// Takes a confirm of a member. It is false exactly for a repeat.
     ///
-    /// The slot's own member confirms what `to_confirm` gives, in the slot's view. It is then prepared.
+    /// The slot's own member confirms what `to_confirm` gives, in the slot's view.
+    /// It is then prepared.
     pub fn confirm(&mut self, member: u16, view: u16, digest: [u8; 32]) -> Result<bool, Memory>
         requires member { member ≤ 3 * self.old.f }
-        requires own { member ≡ self.old.me → (view ≡ self.old.view) × (to_confirm (seen_in self.old) ≡ Some digest) }
-        ensures fresh { IfOk result (λ fresh. fresh ≡ not (is_some ((seen_in self.old).confirm view member))) }
-        ensures now { IfOk result (λ fresh. seen_in self.new ≡ with_confirm fresh (seen_in self.old) view member digest) }
+        requires own { member ≡ self.old.me →
+            (view ≡ self.old.view) × (to_confirm (seen_in self.old) ≡ Some digest) }
+        ensures fresh { IfOk result (λ fresh.
+            fresh ≡ not (is_some ((seen_in self.old).confirm view member))) }
+        ensures now { IfOk result (λ fresh.
+            seen_in self.new ≡ with_confirm fresh (seen_in self.old) view member digest) }
     {
         let fresh = self.confirms.add(view, member, digest)?;
         self.end = end_with(self.end, view);
@@ -133,8 +144,10 @@ impl Slot {
     /// Takes an entry that a member has chosen. It is false exactly for a repeat.
     pub fn done(&mut self, member: u16, entry: Proposed) -> Result<bool, Memory>
         requires { member ≤ 3 * self.old.f }
-        ensures fresh { IfOk result (λ fresh. fresh ≡ not (is_some ((seen_in self.old).done member))) }
-        ensures now { IfOk result (λ fresh. seen_in self.new ≡ with_done fresh (seen_in self.old) member entry) }
+        ensures fresh { IfOk result (λ fresh.
+            fresh ≡ not (is_some ((seen_in self.old).done member))) }
+        ensures now { IfOk result (λ fresh.
+            seen_in self.new ≡ with_done fresh (seen_in self.old) member entry) }
     {
         self.dones.add(member, entry)
     }
@@ -155,14 +168,14 @@ impl Slot {
     }
 
     /// What a member echoed in a view.
-    pub fn echoed(&self, view: u16, member: u16) -> Option<[u8; 32]>
+    pub fn echo_of(&self, view: u16, member: u16) -> Option<[u8; 32]>
         ensures { result ≡ (seen_in self.now).echo view member }
     {
         self.echoes.get(view, member)
     }
 
     /// What a member confirmed in a view.
-    pub fn confirmed(&self, view: u16, member: u16) -> Option<[u8; 32]>
+    pub fn confirm_of(&self, view: u16, member: u16) -> Option<[u8; 32]>
         ensures { result ≡ (seen_in self.now).confirm view member }
     {
         self.confirms.get(view, member)
@@ -222,7 +235,8 @@ impl Slot {
         }
     }
 
-    /// The entry that 2f+1 members confirmed, in the least view in which they did and the entry is known.
+    /// The entry that 2f+1 members confirmed, in the least view in which they did
+    /// and the entry is known.
     fn by_confirm(&self) -> Option<&Proposed>
         ensures { option_copied result ≡ by_confirm (seen_in self.now) }
     {
@@ -235,7 +249,7 @@ impl Slot {
     }
 
     fn confirmed_in(&self, view: u16) -> Option<&Proposed>
-        ensures { option_copied result ≡ entry_of (seen_in self.now) (quorum self.now.f ((seen_in self.now).confirm view)) }
+        ensures { option_copied result ≡ confirmed_entry (seen_in self.now) view }
     {
         let digest = self.confirms.quorum(self.f, view)?;
         match self.with_digest(&digest) {
@@ -246,7 +260,7 @@ impl Slot {
 
     /// The entry of the least member that is done with the digest.
     fn done_with(&self, digest: &[u8; 32]) -> Option<&Proposed>
-        ensures { option_copied result ≡ first_below (3 * self.now.f + 1) (λ member. with_digest digest.now ((seen_in self.now).done member)) }
+        ensures { option_copied result ≡ done_with (seen_in self.now) digest.now }
     {
         for member in 0..3 * self.f + 1 {
             if let Some(entry) = self.dones.with_digest(member, digest) {
@@ -261,15 +275,15 @@ impl Slot {
         ensures { option_copied result ≡ by_done (seen_in self.now) }
     {
         for member in 0..3 * self.f + 1 {
-            if let Some(entry) = self.agreed_done(member) {
+            if let Some(entry) = self.done_if_enough(member) {
                 return Some(entry);
             }
         }
         None
     }
 
-    fn agreed_done(&self, member: u16) -> Option<&Proposed>
-        ensures { option_copied result ≡ if_done (seen_in self.now) ((seen_in self.now).done member) }
+    fn done_if_enough(&self, member: u16) -> Option<&Proposed>
+        ensures { option_copied result ≡ done_by (seen_in self.now) member }
     {
         let entry = self.dones.get(member)?;
         if self.done_count(entry) > self.f {

@@ -84,7 +84,7 @@ fn one_slot_by_hand(rt: HostRuntime) -> Result<(), Fail> {
     assert_eq!(rt; name_of(slot.proposal(0)), Some(4));
     assert_eq!(rt; name_of(slot.with_digest(&digest)), Some(4));
     assert_eq!(rt;
-        (slot.echoed(0, 2), slot.confirmed(0, 0)),
+        (slot.echo_of(0, 2), slot.confirm_of(0, 0)),
         (Some(digest), None)
     );
     slot.enter(1);

@@ -49,8 +49,10 @@ impl Votes {
 
     /// Adds a vote, and says whether it is the member's first in the view.
     pub fn add(&mut self, view: u16, member: u16, digest: [u8; 32]) -> Result<bool, Memory>
-        ensures fresh { IfOk result (λ fresh. fresh ≡ not (is_some (vote_in self.old view member))) }
-        ensures now { IfOk result (λ fresh. vote_in self.new ≡ with_vote fresh (vote_in self.old) view member digest) }
+        ensures fresh { IfOk result (λ fresh.
+            fresh ≡ not (is_some (vote_in self.old view member))) }
+        ensures now { IfOk result (λ fresh.
+            vote_in self.new ≡ with_vote fresh (vote_in self.old) view member digest) }
         ensures err { OnErr result (self.new ≡ self.old) }
     {
         if self.get(view, member).is_some() {
@@ -72,7 +74,7 @@ impl Votes {
         ensures { result ≡ quorum f (vote_in self.now view) }
     {
         for member in 0..3 * f + 1 {
-            if let Some(digest) = self.agreed(f, view, member) {
+            if let Some(digest) = self.digest_if_enough(f, view, member) {
                 return Some(digest);
             }
         }
@@ -80,7 +82,7 @@ impl Votes {
     }
 
     /// What a member said in a view, where 2f+1 members said it.
-    fn agreed(&self, f: u16, view: u16, member: u16) -> Option<[u8; 32]>
+    fn digest_if_enough(&self, f: u16, view: u16, member: u16) -> Option<[u8; 32]>
         requires { f ≤ 5 }
         ensures { result ≡ if_enough f (vote_in self.now view) (vote_in self.now view member) }
     {

@@ -1,5 +1,5 @@
 -- What the changes of several keys, one after the other, come to.
-use Rattle.std.proofs.Common.{◌≡◌, Bool, true, false, ◌||◌, if◌then◌else◌, List, [], ◌∷◌, ◌++◌, Option, Some, None, nat_lt, ◌&&◌, length, refl, sym, ap, ◌∙◌, subst}
+use Rattle.std.proofs.Common.{◌≡◌, Bool, true, false, ◌||◌, if◌then◌else◌, List, [], ◌∷◌, ◌++◌, Option, Some, None, ◌&&◌, refl, sym, ap, ◌∙◌, subst}
 use Rattle.cs_ledger.specs.Ledger.{Bytes}
 use Rattle.cs_ledger.specs.Session.{Key, Piece, key_eq, has_key, object_under}
 use Rattle.cs_ledger.specs.Table as ledger
@@ -84,7 +84,7 @@ pub notes : (anchor : Key) (d : Bytes) (vote : Vote) (t : Table) → changed (no
 notes anchor d vote t = same_table _ _ t.next (λ name. note_at (key_eq name anchor) d vote (t.at name))
 
 -- the anchor's book has room, or not
-abort_at : (b room : Bool) (d : Bytes) (s : State) (r : Record) → (b ≡ true → nat_lt (length r.book) 1025 ≡ room) → record { state = s; book = if b && nat_lt (length r.book) 1025 then r.book ++ (d, ledger.Commit) ∷ [] else r.book } ≡ (if b && room then noted_record d ledger.Commit (with_state s r) else with_state s r)
+abort_at : (b room : Bool) (d : Bytes) (s : State) (r : Record) → (b ≡ true → ledger.has_place r.book ≡ room) → record { state = s; book = if b && ledger.has_place r.book then r.book ++ (d, ledger.Commit) ∷ [] else r.book } ≡ (if b && room then noted_record d ledger.Commit (with_state s r) else with_state s r)
 abort_at true true d s r h = rw (h refl) refl
 abort_at true false d s r h = rw (h refl) refl
 abort_at false room d s r h = refl
@@ -98,13 +98,13 @@ if_none true r s = refl
 if_none false r s = refl
 
 module _ (d : Bytes) (anchor : Key) (used read : List Piece) (t : Table) where
-  aborted_is : (room : Bool) → nat_lt (length (t.at anchor).book) 1025 ≡ room → (name : Key) → (ledger.with_aborted t d anchor used read).at name ≡ (if key_eq name anchor && room then noted_record d ledger.Commit ((undone used read t).at name) else (undone used read t).at name)
-  aborted_is room is name = abort_at (key_eq name anchor) room d (ledger.undo_state (has_key name used) (has_key name read) (t.at name).state) (t.at name) (λ same. subst (λ k. nat_lt (length (t.at k).book) 1025 ≡ room) (sym (basics.same_key name anchor same)) is)
+  aborted_is : (room : Bool) → ledger.has_place (t.at anchor).book ≡ room → (name : Key) → (ledger.with_aborted t d anchor used read).at name ≡ (if key_eq name anchor && room then noted_record d ledger.Commit ((undone used read t).at name) else (undone used read t).at name)
+  aborted_is room is name = abort_at (key_eq name anchor) room d (ledger.undo_state (has_key name used) (has_key name read) (t.at name).state) (t.at name) (λ same. subst (λ k. ledger.has_place (t.at k).book ≡ room) (sym (basics.same_key name anchor same)) is)
 
-  pub aborts_noted : nat_lt (length (t.at anchor).book) 1025 ≡ true → changed (noted_record d ledger.Commit) anchor (changed_each (changed_record Release) read (changed_each (changed_record Release) used t)) ≡ ledger.with_aborted t d anchor used read
+  pub aborts_noted : ledger.has_place (t.at anchor).book ≡ true → changed (noted_record d ledger.Commit) anchor (changed_each (changed_record Release) read (changed_each (changed_record Release) used t)) ≡ ledger.with_aborted t d anchor used read
   aborts_noted is = ap (changed (noted_record d ledger.Commit) anchor) (undoes used read t) ∙ same_table _ _ t.next (λ name. sym (if_and (key_eq name anchor) _ _) ∙ sym (aborted_is true is name))
 
-  pub aborts_full : nat_lt (length (t.at anchor).book) 1025 ≡ false → changed_each (changed_record Release) read (changed_each (changed_record Release) used t) ≡ ledger.with_aborted t d anchor used read
+  pub aborts_full : ledger.has_place (t.at anchor).book ≡ false → changed_each (changed_record Release) read (changed_each (changed_record Release) used t) ≡ ledger.with_aborted t d anchor used read
   aborts_full is = undoes used read t ∙ same_table _ _ t.next (λ name. sym (if_none (key_eq name anchor) _ _) ∙ sym (aborted_is false is name))
 
 -- ---- what comes into being

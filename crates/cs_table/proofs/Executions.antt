@@ -1,5 +1,5 @@
 -- How the calls that execute come to what the definitions give.
-use Rattle.std.proofs.Common.{◌≡◌, Bool, true, false, if◌then◌else◌, List, Option, Some, None, nat_lt, length, refl, sym, ap, ◌∙◌}
+use Rattle.std.proofs.Common.{◌≡◌, Bool, true, false, if◌then◌else◌, List, Option, Some, None, refl, sym, ap, ◌∙◌}
 use Rattle.cs_ledger.specs.Ledger.{Bytes}
 use Rattle.cs_ledger.specs.Session.{Key, Piece}
 use Rattle.cs_ledger.specs.Table as ledger
@@ -26,10 +26,10 @@ locked a b c d used read one two = becomes_same a c _ _ (locks d used read (seen
 abbrev released_all : List Piece → Table → Table
 released_all ps t = changed_each (changed_record Release) ps t
 
-pub aborted_full : (a b c : Stored) (d : Bytes) (anchor : Key) (used read : List Piece) → nat_lt (length ((seen a).at anchor).book) 1025 ≡ false → Becomes a b (released_all used (seen a)) → Becomes b c (released_all read (seen b)) → Becomes a c (ledger.with_aborted (seen a) d anchor used read)
+pub aborted_full : (a b c : Stored) (d : Bytes) (anchor : Key) (used read : List Piece) → ledger.has_place ((seen a).at anchor).book ≡ false → Becomes a b (released_all used (seen a)) → Becomes b c (released_all read (seen b)) → Becomes a c (ledger.with_aborted (seen a) d anchor used read)
 aborted_full a b c d anchor used read full one two = becomes_same a c _ _ (aborts_full d anchor used read (seen a) full) (after a b c (released_all used) (released_all read) one two)
 
-pub aborted_noted : (a b c e : Stored) (d : Bytes) (anchor : Key) (used read : List Piece) → nat_lt (length ((seen a).at anchor).book) 1025 ≡ true → Becomes a b (released_all used (seen a)) → Becomes b c (released_all read (seen b)) → Becomes c e (changed (noted_record d ledger.Commit) anchor (seen c)) → Becomes a e (ledger.with_aborted (seen a) d anchor used read)
+pub aborted_noted : (a b c e : Stored) (d : Bytes) (anchor : Key) (used read : List Piece) → ledger.has_place ((seen a).at anchor).book ≡ true → Becomes a b (released_all used (seen a)) → Becomes b c (released_all read (seen b)) → Becomes c e (changed (noted_record d ledger.Commit) anchor (seen c)) → Becomes a e (ledger.with_aborted (seen a) d anchor used read)
 aborted_noted a b c e d anchor used read room one two three =
     becomes_same a e _ _ (aborts_noted d anchor used read (seen a) room)
     (after a c e (λ t. released_all read (released_all used t)) (changed (noted_record d ledger.Commit) anchor) (after a b c (released_all used) (released_all read) one two) three)

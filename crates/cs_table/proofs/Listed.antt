@@ -23,6 +23,7 @@ use Rattle.cs_tx.specs.Sessions.{key_seen}
 use Rattle.cs_ledger.specs.Table.{is_free, has_active_dummy}
 use Rattle.cs_table.specs.Dummies.{first_active, is_active, IsLeastDummy, Least, NoneActive}
 use Rattle.cs_table.proofs.Rows.{key_cmp, same_key}
+use Rattle.cs_base.proofs.KeyOrder.{nat_cmp-less, nat_cmp-equal, nat_cmp-greater}
 
 abbrev Rows : Type 0
 Rows = List (Key × Record)
@@ -38,15 +39,6 @@ dummies_among shard rows = filter (λ e. is_dummy_of shard e.0) rows
 abbrev pub or_next : ℕ → ℕ → Option Key → Key
 or_next shard next (Some k) = k
 or_next shard next None = key.Dummy shard next
-
-nat_cmp-less : (x y : ℕ) → x < y → nat_cmp x y ≡ Less
-nat_cmp-less x y less = sym (nat_cmp_is x y Less less)
-
-nat_cmp-equal : (x y : ℕ) → x ≡ y → nat_cmp x y ≡ Equal
-nat_cmp-equal x y same = sym (nat_cmp_is x y Equal same)
-
-nat_cmp-greater : (x y : ℕ) → y < x → nat_cmp x y ≡ Greater
-nat_cmp-greater x y more = sym (nat_cmp_is x y Greater more)
 
 dummies_cmp : (shard n m : ℕ) → key_cmp (key.Dummy shard n) (key.Dummy shard m) ≡ nat_cmp n m
 dummies_cmp shard n m = ap (λ o. ordering_then o (nat_cmp n m)) (nat_cmp-equal shard shard refl)

@@ -2,7 +2,7 @@
 use Rattle.std.proofs.Common.{◌≡◌, ℕ, Bool, true, List, [], ◌++◌, bytes_eq, Some, ◌↔◌, IsTrue, sym, ap, ◌∙◌, subst}
 use Rattle.cs_tx_value.specs.declared.object.Object.{Object}
 use Rattle.cs_tx_value.specs.Object.{object_encoding, ObjectFits, object_at}
-use Rattle.cs_tx_value.specs.ObjectLaw.{object_form}
+use Rattle.cs_tx_value.specs.laws.Object.{object_form}
 use Rattle.cs_ledger.proofs.Basics.{same_bytes, bytes_refl}
 use Rattle.cs_base.specs.declared.key.Key.{Key}
 use Rattle.cs_tx_form.specs.declared.state.State.TheVariants.{Active}

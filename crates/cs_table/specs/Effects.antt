@@ -27,7 +27,10 @@ or_lost true None = Some ledger.Abort
 or_lost false None = None
 
 abbrev pub settled_vote : ledger.Record → Bytes → Option ledger.Vote
-settled_vote r d = if ledger.is_held_by d r.state then Some ledger.Commit else or_lost (ledger.is_inactive r.state) (ledger.vote_in r.book d)
+settled_vote r d =
+    if ledger.is_held_by d r.state
+    then Some ledger.Commit
+    else or_lost (ledger.is_inactive r.state) (ledger.vote_in r.book d)
 
 -- what an accepted session leaves of a table, with what comes into being
 abbrev pub accepted : Bytes → List Piece → List Piece → List Piece → ℕ → ledger.Table → ledger.Table

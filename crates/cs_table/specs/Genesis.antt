@@ -36,7 +36,10 @@ genesis_rules config objects = record {
 -- the first key that is one of an earlier piece
 abbrev pub second_of : List ledger.Piece → List Piece → Option Key
 second_of before [] = None
-second_of before (p ∷ ps) = if ledger.has_key (key_seen p.key) before then Some p.key else second_of (before ++ seen_piece p ∷ []) ps
+second_of before (p ∷ ps) =
+    if ledger.has_key (key_seen p.key) before
+    then Some p.key
+    else second_of (before ++ seen_piece p ∷ []) ps
 
 -- the first key of the shard that stands twice
 abbrev pub twice : ℕ → ℕ → List (Key × Object) → Option Key
@@ -58,7 +61,10 @@ is_dummy_below shard n (ledger.Object name) = false
 is_dummy_below shard n (ledger.Dummy s serial) = s == shard && nat_lt serial n
 
 abbrev pub with_dummies : ℕ → ℕ → List ℕ → Table → Table
-with_dummies shard n object t = record { at = λ name. if is_dummy_below shard n name then appeared_record object (t.at name) else t.at name; next = t.next }
+with_dummies shard n object t = record {
+  at = λ name. if is_dummy_below shard n name then appeared_record object (t.at name) else t.at name;
+  next = t.next;
+}
 
 -- nothing is known of any key
 abbrev pub empty : ℕ → Table

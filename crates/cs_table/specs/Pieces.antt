@@ -1,9 +1,9 @@
 -- The keys that a session has in a shard, with the objects that it carries under them.
-use Rattle.std.specs.Prelude.{ℕ, ◌==◌, List, [], ◌∷◌, ◌++◌, codes, replicate, if◌then◌else◌}
+use Rattle.std.specs.Prelude.{ℕ, ◌==◌, List, [], ◌∷◌, ◌++◌, codes, replicate, All, if◌then◌else◌}
 use Rattle.cs_base.specs.declared.key.Key.TheVariants as key
 use Rattle.cs_base.specs.Key.{shard_of_key}
 use Rattle.cs_tx_value.specs.declared.object.Object.{Object}
-use Rattle.cs_tx_value.specs.Object.{object_encoding}
+use Rattle.cs_tx_value.specs.Object.{object_encoding, ObjectFits}
 use Rattle.cs_tx_form.specs.declared.session.Session.{Session}
 use Rattle.cs_tx_form.specs.Transaction.{Keyed}
 use Rattle.cs_tx.specs.Uses.{inputs_of, references_of, outputs_of}
@@ -27,6 +27,10 @@ pieces_in shards shard (item ∷ items) =
     if shard_of_key shards (key.Object item.0) == shard
     then record { key = key.Object item.0; object = item.1 } ∷ pieces_in shards shard items
     else pieces_in shards shard items
+
+-- each object is within all limits
+abbrev pub PiecesFit : List Piece → Type 0
+PiecesFit pieces = All (λ piece. ObjectFits piece.object) pieces
 
 abbrev pub dummies_in : ℕ → List (ℕ × ℕ) → List Piece
 dummies_in shard [] = []

@@ -58,6 +58,10 @@ seen_row (Some r) = seen_record r
 abbrev pub seen : Stored → table.Table
 seen s = record { at = λ name. seen_row (row_in s.rows name); next = s.next }
 
+-- the record that it shows of a key
+abbrev pub shown_at : Stored → Key → table.Record
+shown_at s key = (seen s).at (key_seen key)
+
 -- the object of a state is within all limits
 abbrev pub HoldsFit : State → Type 0
 HoldsFit state.Unknown = Unit {0}

@@ -1,11 +1,11 @@
 //! Voting on a session, and carrying decisions out, over the keys that it has in the shard.
-ghost use Rattle.std.specs.Prelude.{◌≡◌, nat_lt, length, OnOk, IfOk, All, map, option_map, Some, None, true};
-ghost use Rattle.cs_tx_value.specs.Object.{ObjectFits};
-ghost use Rattle.cs_ledger.specs.Table.{prepare, with_locks, with_aborted, is_locked_by, has_room as is_fresh, is_ready as is_all_ready, Voted};
-ghost use Rattle.cs_table.specs.Seen.{seen, vote_of, seen_piece};
+ghost use Rattle.std.specs.Prelude.{◌≡◌, OnOk, IfOk, map, option_map};
+ghost use Rattle.cs_ledger.specs.Table.{prepare, with_locks, with_aborted, is_locked_by, has_room as is_fresh, has_place, is_ready as is_all_ready, Voted};
+ghost use Rattle.cs_table.specs.Seen.{seen, shown_at, vote_of, seen_piece};
 ghost use Rattle.cs_tx.specs.Sessions.{key_seen};
 ghost use Rattle.cs_table.specs.Changes.{Becomes};
 ghost use Rattle.cs_table.specs.Effects.{ComesTo, settled_vote, accepted};
+ghost use Rattle.cs_table.specs.Pieces.{PiecesFit};
 ghost use Rattle.cs_table.specs.Calls.{standing_of};
 ghost use Rattle.cs_ledger.specs.Standing.{recorded};
 
@@ -14,17 +14,15 @@ use crate::piece::Piece;
 use crate::standing::Standing;
 use crate::table::Table;
 use crate::verdict;
-use cs_base::{Key, Memory};
+use cs_base::{Key, MOST_PLACES, Memory};
 use cs_tx::{Digest, Vote};
 use std::alloc::Global;
-
-/// How many entries a book has at most.
-const FULL: usize = 1025;
 
 impl Table {
     /// The vote on a session with this anchor, if it is settled.
     pub(crate) fn settled(&self, session: &Digest, anchor: &Key) -> Option<Vote>
-        ensures { option_map vote_of result ≡ settled_vote ((seen self.now).at (key_seen anchor.now)) session.now }
+        ensures { option_map vote_of result
+            ≡ settled_vote (shown_at self.now anchor.now) session.now }
     {
         match self.record(anchor) {
             Some(row) => verdict::settled(row, session),
@@ -34,7 +32,7 @@ impl Table {
 
     /// Whether the session has this anchor locked.
     pub(crate) fn is_locked(&self, session: &Digest, anchor: &Key) -> bool
-        ensures { result ≡ is_locked_by session.now ((seen self.now).at (key_seen anchor.now)).state }
+        ensures { result ≡ is_locked_by session.now (shown_at self.now anchor.now).state }
     {
         match self.record(anchor) {
             Some(row) => verdict::is_locked_by(row, session),
@@ -43,7 +41,7 @@ impl Table {
     }
 
     pub(crate) fn standing_under(&self, session: &Digest, anchor: &Key) -> Standing
-        ensures { result ≡ standing_of ((seen self.now).at (key_seen anchor.now)) session.now }
+        ensures { result ≡ standing_of (shown_at self.now anchor.now) session.now }
     {
         match self.record(anchor) {
             Some(row) => verdict::standing(row, session),
@@ -52,7 +50,7 @@ impl Table {
     }
 
     pub(crate) fn recorded_under(&self, session: &Digest, anchor: &Key) -> Option<Vote>
-        ensures { option_map vote_of result ≡ recorded ((seen self.now).at (key_seen anchor.now)) session.now }
+        ensures { option_map vote_of result ≡ recorded (shown_at self.now anchor.now) session.now }
     {
         match self.record(anchor) {
             Some(row) => verdict::recorded(row, session),
@@ -61,7 +59,7 @@ impl Table {
     }
 
     fn has_room(&self, anchor: &Key) -> bool
-        ensures { result ≡ is_fresh ((seen self.now).at (key_seen anchor.now)).book }
+        ensures { result ≡ is_fresh (shown_at self.now anchor.now).book }
     {
         match self.record(anchor) {
             Some(row) => verdict::has_room(row),
@@ -71,18 +69,19 @@ impl Table {
 
     /// Whether a vote that is carried out still has a place in the book.
     fn has_place(&self, anchor: &Key) -> bool
-        ensures { result ≡ nat_lt (length ((seen self.now).at (key_seen anchor.now)).book) 1025 }
+        ensures { result ≡ has_place (shown_at self.now anchor.now).book }
     {
         match self.record(anchor) {
-            Some(row) => row.book.len() < FULL,
+            Some(row) => row.book.len() < usize::from(MOST_PLACES),
             None => true,
         }
     }
 
     fn is_ready(&self, used: &[Piece], read: &[Piece]) -> bool
-        requires used { All (λ piece. ObjectFits piece.object) used.now }
-        requires read { All (λ piece. ObjectFits piece.object) read.now }
-        ensures { result ≡ is_all_ready (seen self.now) (map seen_piece used.now) (map seen_piece read.now) }
+        requires used { PiecesFit used.now }
+        requires read { PiecesFit read.now }
+        ensures { result
+            ≡ is_all_ready (seen self.now) (map seen_piece used.now) (map seen_piece read.now) }
     {
         self.all_active(used) && self.all_active(read)
     }
@@ -94,7 +93,9 @@ impl Table {
         used: &[Piece],
         read: &[Piece],
     ) -> Result<(), Memory>
-        ensures { OnOk result (Becomes self.old self.new (with_locks (seen self.old) session.now (map seen_piece used.now) (map seen_piece read.now))) }
+        ensures { OnOk result (Becomes self.old self.new
+            (with_locks (seen self.old) session.now
+            (map seen_piece used.now) (map seen_piece read.now))) }
     {
         self.change_each(alloc, used, Change::Lock(*session))?;
         self.change_each(alloc, read, Change::Lock(*session))?;
@@ -110,9 +111,12 @@ impl Table {
         used: &[Piece],
         read: &[Piece],
     ) -> Result<Vote, Memory>
-        requires used { All (λ piece. ObjectFits piece.object) used.now }
-        requires read { All (λ piece. ObjectFits piece.object) read.now }
-        ensures { IfOk result (λ vote. ComesTo (prepare (seen self.old) session.now (key_seen anchor.now) (map seen_piece used.now) (map seen_piece read.now)) self.old self.new (Voted (vote_of vote))) }
+        requires used { PiecesFit used.now }
+        requires read { PiecesFit read.now }
+        ensures { IfOk result (λ vote. ComesTo
+            (prepare (seen self.old) session.now (key_seen anchor.now)
+            (map seen_piece used.now) (map seen_piece read.now))
+            self.old self.new (Voted (vote_of vote))) }
     {
         if let Some(vote) = self.settled(session, anchor) {
             return Ok(vote);
@@ -137,7 +141,9 @@ impl Table {
         used: &[Piece],
         read: &[Piece],
     ) -> Result<(), Memory>
-        ensures { OnOk result (Becomes self.old self.new (with_aborted (seen self.old) session.now (key_seen anchor.now) (map seen_piece used.now) (map seen_piece read.now))) }
+        ensures { OnOk result (Becomes self.old self.new
+            (with_aborted (seen self.old) session.now (key_seen anchor.now)
+            (map seen_piece used.now) (map seen_piece read.now))) }
     {
         let has_place = self.has_place(anchor);
         self.change_each(alloc, used, Change::Release)?;
@@ -148,7 +154,8 @@ impl Table {
         Ok(())
     }
 
-    /// Uses up the first keys of a session, frees those that it read, and brings objects into being.
+    /// Uses up the first keys of a session, frees those that it read, and brings objects into
+    /// being.
     pub(crate) fn carry_out(
         &mut self,
         alloc: Global,
@@ -157,8 +164,10 @@ impl Table {
         read: &[Piece],
         made: &[Piece],
     ) -> Result<(), Memory>
-        requires { All (λ piece. ObjectFits piece.object) made.now }
-        ensures { OnOk result (Becomes self.old self.new (accepted session.now (map seen_piece used.now) (map seen_piece read.now) (map seen_piece made.now) (seen self.old).next (seen self.old))) }
+        requires { PiecesFit made.now }
+        ensures { OnOk result (Becomes self.old self.new
+            (accepted session.now (map seen_piece used.now) (map seen_piece read.now)
+            (map seen_piece made.now) (seen self.old).next (seen self.old))) }
     {
         self.change_each(alloc, read, Change::Release)?;
         self.change_each(alloc, used, Change::UseUp(*session))?;

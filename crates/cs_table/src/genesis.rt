@@ -3,10 +3,9 @@ ghost use Rattle.std.specs.Prelude.{◌≡◌, OnOk, IfOk, All, map, []};
 ghost use Rattle.cs_base.specs.declared.config.Config.{Config};
 ghost use Rattle.cs_tx_value.specs.Object.{ObjectFits, object_encoding};
 ghost use Rattle.cs_ledger.specs.Table.{start};
-ghost use Rattle.cs_table.specs.Seen.{seen, seen_piece};
-ghost use Rattle.cs_tx.specs.Sessions.{key_seen};
+ghost use Rattle.cs_table.specs.Seen.{seen, shown_at, seen_piece};
 ghost use Rattle.cs_table.specs.Changes.{Becomes, appeared_each};
-ghost use Rattle.cs_table.specs.Pieces.{pieces_in};
+ghost use Rattle.cs_table.specs.Pieces.{pieces_in, PiecesFit};
 ghost use Rattle.cs_tx.specs.Dummies.{dummy_object as the_dummy};
 ghost use Rattle.cs_table.specs.Genesis.{keyed_of, genesis_rules, second_of, twice, is_unknown, Finds, with_dummies, empty};
 
@@ -44,7 +43,8 @@ fn genesis_pieces(
     shard: u16,
     objects: &[(Key, Object)],
 ) -> Result<Vec<Piece>, Memory>
-    ensures { IfOk result (λ pieces. pieces.items ≡ pieces_in config.now.shards shard (keyed_of objects.now)) }
+    ensures { IfOk result (λ pieces.
+        pieces.items ≡ pieces_in config.now.shards shard (keyed_of objects.now)) }
 {
     let mut pieces = Vec::new(alloc);
     for item in objects {
@@ -65,7 +65,8 @@ impl Table {
         objects: &[(Key, Object)],
     ) -> Result<Table, TableError>
         requires { All (λ item. ObjectFits item.1) objects.now }
-        ensures table { IfOk result (λ table. seen table ≡ start (genesis_rules config objects.now) shard) }
+        ensures table { IfOk result (λ table.
+            seen table ≡ start (genesis_rules config objects.now) shard) }
         ensures shards { IfOk result (λ table. table.shards ≡ config.shards) }
         ensures shard { IfOk result (λ table. table.shard ≡ shard) }
         ensures finds { Finds result (twice config.shards shard objects.now) }
@@ -80,7 +81,7 @@ impl Table {
 
     /// Whether nothing is known of a key.
     fn is_unknown(&self, key: &Key) -> bool
-        ensures { result ≡ is_unknown ((seen self.now).at (key_seen key.now)).state }
+        ensures { result ≡ is_unknown (shown_at self.now key.now).state }
     {
         match self.record(key) {
             Some(row) => match &row.state {
@@ -93,9 +94,10 @@ impl Table {
 
     /// Makes objects active, of whose keys nothing is known.
     fn load(&mut self, alloc: Global, pieces: &[Piece]) -> Result<(), TableError>
-        requires fits { All (λ piece. ObjectFits piece.object) pieces.now }
+        requires fits { PiecesFit pieces.now }
         requires empty { seen self.old ≡ empty self.old.next }
-        ensures table { OnOk result (Becomes self.old self.new (appeared_each [] (map seen_piece pieces.now) (seen self.old))) }
+        ensures table { OnOk result (Becomes self.old self.new
+            (appeared_each [] (map seen_piece pieces.now) (seen self.old))) }
         ensures finds { Finds result (second_of [] pieces.now) }
     {
         for piece in pieces {
@@ -110,7 +112,8 @@ impl Table {
 
     /// Makes the dummies of the first serials active.
     fn load_dummies(&mut self, alloc: Global, count: u16) -> Result<(), Memory>
-        ensures { OnOk result (Becomes self.old self.new (with_dummies self.old.shard count (object_encoding the_dummy) (seen self.old))) }
+        ensures { OnOk result (Becomes self.old self.new
+            (with_dummies self.old.shard count (object_encoding the_dummy) (seen self.old))) }
     {
         let shard = self.shard();
         for serial in 0..count {

@@ -1,11 +1,10 @@
 //! The keys that a session has in a shard.
-ghost use Rattle.std.specs.Prelude.{◌≡◌, ◌≤◌, ◌++◌, [], ◌∷◌, length, IfOk, OnOk, All};
+ghost use Rattle.std.specs.Prelude.{◌≡◌, ◌≤◌, ◌++◌, [], ◌∷◌, length, IfOk, OnOk};
 ghost use Rattle.std.specs.List.{flat_map, AllByRecursion};
-ghost use Rattle.cs_tx_value.specs.Object.{ObjectFits};
 ghost use Rattle.cs_tx_form.specs.Transaction.{TraceFits};
 ghost use Rattle.cs_tx_form.specs.Session.{SessionFits};
 ghost use Rattle.cs_tx.specs.Digest.{outputs_at, outputs_from};
-ghost use Rattle.cs_table.specs.Pieces.{pieces_in, dummies_in, used_in, read_in, made_in};
+ghost use Rattle.cs_table.specs.Pieces.{pieces_in, dummies_in, used_in, read_in, made_in, PiecesFit};
 ghost use Rattle.cs_tx.specs.Dummies.{dummy_object as the_dummy};
 
 use crate::piece::Piece;
@@ -34,7 +33,8 @@ pub(crate) fn add_piece(
     name: Digest,
     object: &Object,
 ) -> Result<(), Memory>
-    ensures { OnOk result (pieces.new.items ≡ pieces.old.items ++ pieces_in config.now.shards shard ((name, object.now) ∷ [])) }
+    ensures { OnOk result (pieces.new.items
+        ≡ pieces.old.items ++ pieces_in config.now.shards shard ((name, object.now) ∷ [])) }
 {
     let key = Key::Object(name);
     if shard_of(config, &key) == shard {
@@ -51,7 +51,8 @@ fn add_pieces(
     shard: u16,
     items: &[(Digest, Object)],
 ) -> Result<(), Memory>
-    ensures { OnOk result (pieces.new.items ≡ pieces.old.items ++ pieces_in config.now.shards shard items.now) }
+    ensures { OnOk result (pieces.new.items
+        ≡ pieces.old.items ++ pieces_in config.now.shards shard items.now) }
 {
     for item in items {
         add_piece(alloc, pieces, config, shard, item.0, &item.1)?;
@@ -66,7 +67,10 @@ fn add_inputs(
     shard: u16,
     traces: &[Trace],
 ) -> Result<(), Memory>
-    ensures { OnOk result (pieces.new.items ≡ pieces.old.items ++ pieces_in config.now.shards shard (flat_map (λ trace. trace.inputs) traces.now)) }
+    ensures { OnOk result (pieces.new.items
+        ≡ pieces.old.items
+        ++ pieces_in config.now.shards shard
+        (flat_map (λ trace. trace.inputs) traces.now)) }
 {
     for trace in traces {
         add_pieces(alloc, pieces, config, shard, trace.inputs.as_slice())?;
@@ -81,7 +85,10 @@ fn add_references(
     shard: u16,
     traces: &[Trace],
 ) -> Result<(), Memory>
-    ensures { OnOk result (pieces.new.items ≡ pieces.old.items ++ pieces_in config.now.shards shard (flat_map (λ trace. trace.references) traces.now)) }
+    ensures { OnOk result (pieces.new.items
+        ≡ pieces.old.items
+        ++ pieces_in config.now.shards shard
+        (flat_map (λ trace. trace.references) traces.now)) }
 {
     for trace in traces {
         add_pieces(alloc, pieces, config, shard, trace.references.as_slice())?;
@@ -119,7 +126,9 @@ fn add_outputs_at(
     outputs: &[Object],
 ) -> Result<(), Memory>
     requires { length outputs.now ≤ 64 }
-    ensures { OnOk result (pieces.new.items ≡ pieces.old.items ++ pieces_in config.now.shards shard (outputs_at digest.now trace 0 outputs.now)) }
+    ensures { OnOk result (pieces.new.items
+        ≡ pieces.old.items
+        ++ pieces_in config.now.shards shard (outputs_at digest.now trace 0 outputs.now)) }
 {
     for place in 0..outputs.len() {
         let name = output_name(digest, trace, place as u16);
@@ -138,7 +147,10 @@ fn add_outputs(
 ) -> Result<(), Memory>
     requires few { length traces.now ≤ 16 }
     requires fit { AllByRecursion TraceFits traces.now }
-    ensures { OnOk result (pieces.new.items ≡ pieces.old.items ++ pieces_in config.now.shards shard (flat_map (λ outputs. outputs) (outputs_from digest.now 0 traces.now))) }
+    ensures { OnOk result (pieces.new.items
+        ≡ pieces.old.items
+        ++ pieces_in config.now.shards shard
+        (flat_map (λ outputs. outputs) (outputs_from digest.now 0 traces.now))) }
 {
     for number in 0..traces.len() {
         let outputs = traces[number].outputs.as_slice();
@@ -155,8 +167,9 @@ pub fn used_pieces(
     session: &Session,
 ) -> Result<Vec<Piece>, Memory>
     requires { SessionFits session.now }
-    ensures now { IfOk result (λ pieces. pieces.items ≡ used_in config.now.shards shard session.now) }
-    ensures fit { IfOk result (λ pieces. All (λ piece. ObjectFits piece.object) pieces.items) }
+    ensures now { IfOk result (λ pieces.
+        pieces.items ≡ used_in config.now.shards shard session.now) }
+    ensures fit { IfOk result (λ pieces. PiecesFit pieces.items) }
 {
     let mut pieces = Vec::new(alloc);
     add_inputs(
@@ -178,8 +191,9 @@ pub fn read_pieces(
     session: &Session,
 ) -> Result<Vec<Piece>, Memory>
     requires { SessionFits session.now }
-    ensures now { IfOk result (λ pieces. pieces.items ≡ read_in config.now.shards shard session.now) }
-    ensures fit { IfOk result (λ pieces. All (λ piece. ObjectFits piece.object) pieces.items) }
+    ensures now { IfOk result (λ pieces.
+        pieces.items ≡ read_in config.now.shards shard session.now) }
+    ensures fit { IfOk result (λ pieces. PiecesFit pieces.items) }
 {
     let mut pieces = Vec::new(alloc);
     add_references(
@@ -200,8 +214,9 @@ pub fn made_pieces(
     session: &Session,
 ) -> Result<Vec<Piece>, Memory>
     requires { SessionFits session.now }
-    ensures now { IfOk result (λ pieces. pieces.items ≡ made_in config.now.shards shard session.now) }
-    ensures fit { IfOk result (λ pieces. All (λ piece. ObjectFits piece.object) pieces.items) }
+    ensures now { IfOk result (λ pieces.
+        pieces.items ≡ made_in config.now.shards shard session.now) }
+    ensures fit { IfOk result (λ pieces. PiecesFit pieces.items) }
 {
     let digest = tx_digest(alloc, &session.tx)?;
     let mut pieces = Vec::new(alloc);

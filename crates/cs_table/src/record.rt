@@ -48,7 +48,8 @@ pub(crate) fn change(row: &mut Record, change: Change)
 
 /// Makes the object active, where nothing was known of the key.
 pub(crate) fn appear(row: &mut Record, object: Object)
-    ensures now { seen_record row.new ≡ appeared_record (object_encoding object) (seen_record row.old) }
+    ensures now { seen_record row.new
+        ≡ appeared_record (object_encoding object) (seen_record row.old) }
     ensures fits { ObjectFits object → HoldsFit row.old.state → HoldsFit row.new.state }
 {
     if let State::Unknown = row.state {
@@ -58,7 +59,8 @@ pub(crate) fn appear(row: &mut Record, object: Object)
 
 /// Adds a vote to the book.
 pub(crate) fn note(row: &mut Record, session: Digest, vote: Vote) -> Result<(), Memory>
-    ensures now { OnOk result (seen_record row.new ≡ noted_record session (vote_of vote) (seen_record row.old)) }
+    ensures now { OnOk result (seen_record row.new
+        ≡ noted_record session (vote_of vote) (seen_record row.old)) }
     ensures fits { OnOk result (row.new.state ≡ row.old.state) }
 {
     row.book.push((session, vote))?;

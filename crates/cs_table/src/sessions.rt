@@ -1,19 +1,17 @@
 //! The calls on a session.
-ghost use Rattle.std.specs.Prelude.{◌≡◌, ◌==◌, ◌+◌, ◌++◌, Bool, true, not, length, IsSome, is_some, IfOk, OnOk, All, map, option_map};
-ghost use Rattle.cs_tx_value.specs.Object.{ObjectFits};
+ghost use Rattle.std.specs.Prelude.{◌≡◌, ◌==◌, ◌+◌, ◌++◌, Bool, true, length, IsSome, is_some, IfOk, OnOk, map, option_map};
 ghost use Rattle.cs_tx_form.specs.declared.transaction.Tx.{Tx};
 ghost use Rattle.cs_tx_form.specs.Session.{SessionFits};
 ghost use Rattle.cs_tx.specs.Digest.{digest_of_session};
-ghost use Rattle.cs_ledger.specs.Ledger.{is_empty};
 ghost use Rattle.cs_ledger.specs.Table.{Voted};
 ghost use Rattle.cs_ledger.specs.Session.{first_key as first_of};
 ghost use Rattle.cs_table.specs.Seen.{seen, vote_of, seen_piece};
-ghost use Rattle.cs_table.specs.Pieces.{dummies_in, used_in, read_in};
+ghost use Rattle.cs_table.specs.Pieces.{used_in, read_in, PiecesFit};
 ghost use Rattle.cs_tx.specs.Sessions.{session_of, dummy_name, key_seen};
 ghost use Rattle.cs_table.specs.Effects.{ComesTo, effect_of};
 ghost use Rattle.std.specs.List.{list_any};
 ghost use Rattle.cs_table.specs.Changes.{Becomes, with_next};
-ghost use Rattle.cs_table.specs.Calls.{accepted_with, makes_dummy as makes_new, new_in, anchor_in, prepared, decided, locked_at, standing_at, recorded_at};
+ghost use Rattle.cs_table.specs.Calls.{accepted_with, makes_dummy as makes_new, new_in, anchor_in, prepared, decided, is_locked_in, standing_in, recorded_in};
 ghost use Rattle.cs_table.specs.declared.standing.Standing.{Standing};
 
 use crate::piece::Piece;
@@ -50,10 +48,12 @@ impl Table {
     fn uses(&self, alloc: Global, session: &Session) -> Result<Uses, Memory>
         requires { SessionFits session.now }
         ensures digest { IfOk result (λ uses. uses.digest ≡ digest_of_session session.now) }
-        ensures used { IfOk result (λ uses. uses.used.items ≡ used_in self.now.shards self.now.shard session.now) }
-        ensures read { IfOk result (λ uses. uses.read.items ≡ read_in self.now.shards self.now.shard session.now) }
-        ensures used_fit { IfOk result (λ uses. All (λ piece. ObjectFits piece.object) uses.used.items) }
-        ensures read_fit { IfOk result (λ uses. All (λ piece. ObjectFits piece.object) uses.read.items) }
+        ensures used { IfOk result (λ uses.
+            uses.used.items ≡ used_in self.now.shards self.now.shard session.now) }
+        ensures read { IfOk result (λ uses.
+            uses.read.items ≡ read_in self.now.shards self.now.shard session.now) }
+        ensures used_fit { IfOk result (λ uses. PiecesFit uses.used.items) }
+        ensures read_fit { IfOk result (λ uses. PiecesFit uses.read.items) }
     {
         let digest = session_digest(alloc, session)?;
         let used = used_pieces(alloc, self.config(), self.shard(), session)?;
@@ -65,7 +65,8 @@ impl Table {
     /// the shard has.
     pub fn has_anchor(&self, alloc: Global, session: &Session) -> Result<bool, Memory>
         requires { SessionFits session.now }
-        ensures { IfOk result (λ has. has ≡ is_some (anchor_in self.now (session_of (λ tx. true) session.now))) }
+        ensures { IfOk result (λ has.
+            has ≡ is_some (anchor_in self.now (session_of (λ tx. true) session.now))) }
     {
         let uses = self.uses(alloc, session)?;
         let anchor = first_key(uses.used.as_slice());
@@ -78,7 +79,9 @@ impl Table {
     pub fn prepare(&mut self, alloc: Global, session: &Session) -> Result<Vote, Memory>
         requires fits { SessionFits session.now }
         requires anchored { IsSome (anchor_in self.old (session_of (λ tx. true) session.now)) }
-        ensures { (approves : Tx → Bool) → IfOk result (λ vote. ComesTo (prepared self.old (session_of approves session.now)) self.old self.new (Voted (vote_of vote))) }
+        ensures { (approves : Tx → Bool) → IfOk result (λ vote.
+            ComesTo (prepared self.old (session_of approves session.now))
+            self.old self.new (Voted (vote_of vote))) }
     {
         let uses = self.uses(alloc, session)?;
         let used = uses.used.as_slice();
@@ -97,7 +100,9 @@ impl Table {
     pub fn decide(&mut self, alloc: Global, session: &Session, vote: Vote) -> Result<Effect, Memory>
         requires fits { SessionFits session.now }
         requires anchored { IsSome (anchor_in self.old (session_of (λ tx. true) session.now)) }
-        ensures { (approves : Tx → Bool) → IfOk result (λ effect. ComesTo (decided self.old (session_of approves session.now) (vote_of vote)) self.old self.new (effect_of effect)) }
+        ensures { (approves : Tx → Bool) → IfOk result (λ effect.
+            ComesTo (decided self.old (session_of approves session.now) (vote_of vote))
+            self.old self.new (effect_of effect)) }
     {
         let uses = self.uses(alloc, session)?;
         let used = uses.used.as_slice();
@@ -131,7 +136,9 @@ impl Table {
         read: &[Piece],
     ) -> Result<(), Memory>
         requires fits { SessionFits session.now }
-        ensures { (approves : Tx → Bool) → OnOk result (Becomes self.old self.new (accepted_with self.old (session_of approves session.now) digest.now (map seen_piece used.now) (map seen_piece read.now))) }
+        ensures { (approves : Tx → Bool) → OnOk result (Becomes self.old self.new
+            (accepted_with self.old (session_of approves session.now) digest.now
+            (map seen_piece used.now) (map seen_piece read.now))) }
     {
         let mut made = made_pieces(alloc, self.config(), self.shard(), session)?;
         self.add_new_dummy(alloc, session.dummies.as_slice(), &mut made)?;
@@ -152,10 +159,13 @@ impl Table {
         dummies: &[(u16, u64)],
         made: &mut Vec<Piece>,
     ) -> Result<(), Memory>
-        requires { All (λ piece. ObjectFits piece.object) made.old.items }
-        ensures made { OnOk result (map seen_piece made.new.items ≡ map seen_piece made.old.items ++ new_in self.old (map dummy_name dummies.now)) }
-        ensures fit { OnOk result (All (λ piece. ObjectFits piece.object) made.new.items) }
-        ensures table { OnOk result (Becomes self.old self.new (with_next (self.old.next + length (new_in self.old (map dummy_name dummies.now))) (seen self.old))) }
+        requires { PiecesFit made.old.items }
+        ensures made { OnOk result (map seen_piece made.new.items
+            ≡ map seen_piece made.old.items ++ new_in self.old (map dummy_name dummies.now)) }
+        ensures fit { OnOk result (PiecesFit made.new.items) }
+        ensures table { OnOk result (Becomes self.old self.new
+            (with_next (self.old.next + length (new_in self.old (map dummy_name dummies.now)))
+            (seen self.old))) }
     {
         if !self.makes_dummy(dummies) {
             return Ok(());
@@ -172,7 +182,8 @@ impl Table {
     /// Whether a session has locked its anchor. The session fits.
     pub fn locks(&self, alloc: Global, session: &Session) -> Result<bool, Memory>
         requires { SessionFits session.now }
-        ensures { (approves : Tx → Bool) → IfOk result (λ locks. let x = session_of approves session.now in locks ≡ locked_at (seen self.now) x.digest (anchor_in self.now x)) }
+        ensures { (approves : Tx → Bool) → IfOk result (λ locks.
+            locks ≡ is_locked_in self.now (session_of approves session.now)) }
     {
         let uses = self.uses(alloc, session)?;
         match first_key(uses.used.as_slice()) {
@@ -184,7 +195,8 @@ impl Table {
     /// Whether a session was accepted or aborted here.
     pub fn standing(&self, alloc: Global, session: &Session) -> Result<Standing, Memory>
         requires { SessionFits session.now }
-        ensures { (approves : Tx → Bool) → IfOk result (λ standing. let x = session_of approves session.now in standing ≡ standing_at (seen self.now) x.digest (anchor_in self.now x)) }
+        ensures { (approves : Tx → Bool) → IfOk result (λ standing.
+            standing ≡ standing_in self.now (session_of approves session.now)) }
     {
         let uses = self.uses(alloc, session)?;
         match first_key(uses.used.as_slice()) {
@@ -196,7 +208,8 @@ impl Table {
     /// The vote that is on record on a session, if there is one.
     pub fn recorded(&self, alloc: Global, session: &Session) -> Result<Option<Vote>, Memory>
         requires { SessionFits session.now }
-        ensures { (approves : Tx → Bool) → IfOk result (λ vote. let x = session_of approves session.now in option_map vote_of vote ≡ recorded_at (seen self.now) x.digest (anchor_in self.now x)) }
+        ensures { (approves : Tx → Bool) → IfOk result (λ vote.
+            option_map vote_of vote ≡ recorded_in self.now (session_of approves session.now)) }
     {
         let uses = self.uses(alloc, session)?;
         match first_key(uses.used.as_slice()) {

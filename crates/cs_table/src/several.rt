@@ -1,6 +1,6 @@
 //! What is done to several keys, one after the other.
-ghost use Rattle.std.specs.Prelude.{◌≡◌, OnOk, IfOk, map, All, option_map};
-ghost use Rattle.cs_tx_value.specs.Object.{ObjectFits};
+ghost use Rattle.std.specs.Prelude.{◌≡◌, OnOk, map, option_map};
+ghost use Rattle.cs_table.specs.Pieces.{PiecesFit};
 ghost use Rattle.cs_ledger.specs.Session.{has_key as is_named};
 ghost use Rattle.cs_ledger.specs.Table.{all_ready, vote_in};
 ghost use Rattle.cs_table.specs.Seen.{seen, vote_of, seen_piece, seen_place};
@@ -41,7 +41,7 @@ pub(crate) fn vote_in_book(book: &[(Digest, Vote)], session: &Digest) -> Option<
 impl Table {
     /// Whether each key is active with exactly the carried object.
     pub(crate) fn all_active(&self, pieces: &[Piece]) -> bool
-        requires { All (λ piece. ObjectFits piece.object) pieces.now }
+        requires { PiecesFit pieces.now }
         ensures { result ≡ all_ready (seen self.now) (map seen_piece pieces.now) }
     {
         for piece in pieces {
@@ -59,7 +59,8 @@ impl Table {
         pieces: &[Piece],
         change: Change,
     ) -> Result<(), Memory>
-        ensures { OnOk result (Becomes self.old self.new (changed_each (changed_record change) (map seen_piece pieces.now) (seen self.old))) }
+        ensures { OnOk result (Becomes self.old self.new
+            (changed_each (changed_record change) (map seen_piece pieces.now) (seen self.old))) }
     {
         for piece in pieces {
             self.change(alloc, &piece.key, change)?;
@@ -74,8 +75,9 @@ impl Table {
         read: &[Piece],
         made: &[Piece],
     ) -> Result<(), Memory>
-        requires { All (λ piece. ObjectFits piece.object) made.now }
-        ensures { OnOk result (Becomes self.old self.new (appeared_each (map seen_piece read.now) (map seen_piece made.now) (seen self.old))) }
+        requires { PiecesFit made.now }
+        ensures { OnOk result (Becomes self.old self.new
+            (appeared_each (map seen_piece read.now) (map seen_piece made.now) (seen self.old))) }
     {
         for piece in made {
             if !has_key(read, &piece.key) {

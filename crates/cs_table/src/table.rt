@@ -1,10 +1,10 @@
 //! The table of a shard.
-ghost use Rattle.std.specs.Prelude.{◌≡◌, [], ◌+◌, ◌-◌, ◌<◌, ◌^◌, IfSome, OnOk, option_copied, map, All};
+ghost use Rattle.std.specs.Prelude.{◌≡◌, [], ◌+◌, ◌-◌, ◌<◌, ◌^◌, IfSome, OnOk, option_copied};
 ghost use Rattle.cs_tx_value.specs.Object.{object_encoding, ObjectFits};
-ghost use Rattle.cs_ledger.specs.Table.{is_active_with, all_ready};
-ghost use Rattle.cs_table.specs.Seen.{seen, row_in, vote_of, seen_piece, seen_record, seen_row, unknown_record, HoldsFit, RowFits};
+ghost use Rattle.cs_ledger.specs.Table.{is_active_with};
+ghost use Rattle.cs_table.specs.Seen.{seen, shown_at, row_in, vote_of, seen_record, seen_row, unknown_record, HoldsFit, RowFits};
 ghost use Rattle.cs_tx.specs.Sessions.{key_seen};
-ghost use Rattle.cs_table.specs.Changes.{with_next, changed, changed_record, appeared_record, noted_record, changed_each, Becomes};
+ghost use Rattle.cs_table.specs.Changes.{with_next, changed, changed_record, appeared_record, noted_record, Becomes};
 
 use crate::change::Change;
 use crate::piece::Piece;
@@ -34,7 +34,12 @@ impl Model for Table {
 
     ghost coded = { Prim.hlevel (codes, values.the_row.coded) };
 
-    ghost view = { λ t. record { shards = t.config.shards; shard = t.shard; next = t.next; rows = t.rows.entries } };
+    ghost view = { λ t. record {
+      shards = t.config.shards;
+      shard = t.shard;
+      next = t.next;
+      rows = t.rows.entries;
+    } };
 
     ghost invariant = { λ t. RowsFit t.rows.entries };
 }
@@ -42,7 +47,8 @@ impl Model for Table {
 impl Table {
     /// A table with no record, of a shard of the configuration.
     pub(crate) fn empty(alloc: Global, config: Config, shard: u16) -> Table
-        ensures { result ≡ record { shards = config.shards; shard = shard; next = config.dummies; rows = [] } }
+        ensures { result
+            ≡ record { shards = config.shards; shard = shard; next = config.dummies; rows = [] } }
     {
         Table {
             shard,
@@ -98,7 +104,9 @@ impl Table {
     /// Whether exactly this object is active under its key.
     pub(crate) fn has_active(&self, piece: &Piece) -> bool
         requires { ObjectFits piece.now.object }
-        ensures { result ≡ is_active_with (object_encoding piece.now.object) ((seen self.now).at (key_seen piece.now.key)).state }
+        ensures { result
+            ≡ is_active_with (object_encoding piece.now.object)
+            (shown_at self.now piece.now.key).state }
     {
         match self.record(&piece.key) {
             Some(row) => match &row.state {
@@ -111,9 +119,10 @@ impl Table {
 
     /// Takes the record of a key out.
     fn take(&mut self, alloc: Global, key: &Key) -> Record
-        ensures row { seen_record result ≡ (seen self.old).at (key_seen key.now) }
+        ensures row { seen_record result ≡ shown_at self.old key.now }
         ensures fits { HoldsFit result.state }
-        ensures left { Becomes self.old self.new (changed (λ r. unknown_record) (key_seen key.now) (seen self.old)) }
+        ensures left { Becomes self.old self.new
+            (changed (λ r. unknown_record) (key_seen key.now) (seen self.old)) }
     {
         let row = self.rows.remove(key);
         row_or_unknown(alloc, row)
@@ -121,9 +130,10 @@ impl Table {
 
     /// Puts the record of a key. One of which nothing is known is not stored.
     fn put(&mut self, key: Key, row: Record) -> Result<(), Memory>
-        requires gone { (seen self.old).at (key_seen key) ≡ unknown_record }
+        requires gone { shown_at self.old key ≡ unknown_record }
         requires fits { HoldsFit row.state }
-        ensures { OnOk result (Becomes self.old self.new (changed (λ r. seen_record row) (key_seen key) (seen self.old))) }
+        ensures { OnOk result (Becomes self.old self.new
+            (changed (λ r. seen_record row) (key_seen key) (seen self.old))) }
     {
         if record::is_unknown(&row) {
             return Ok(());
@@ -136,7 +146,8 @@ impl Table {
 
     /// Changes the state of a key.
     pub(crate) fn change(&mut self, alloc: Global, key: &Key, change: Change) -> Result<(), Memory>
-        ensures { OnOk result (Becomes self.old self.new (changed (changed_record change) (key_seen key.now) (seen self.old))) }
+        ensures { OnOk result (Becomes self.old self.new
+            (changed (changed_record change) (key_seen key.now) (seen self.old))) }
     {
         let mut row = self.take(alloc, key);
         record::change(&mut row, change);
@@ -147,7 +158,9 @@ impl Table {
     /// Makes an object active under a key of which nothing is known.
     pub(crate) fn appear(&mut self, alloc: Global, key: &Key, object: Object) -> Result<(), Memory>
         requires { ObjectFits object }
-        ensures { OnOk result (Becomes self.old self.new (changed (appeared_record (object_encoding object)) (key_seen key.now) (seen self.old))) }
+        ensures { OnOk result (Becomes self.old self.new
+            (changed (appeared_record (object_encoding object)) (key_seen key.now)
+            (seen self.old))) }
     {
         let mut row = self.take(alloc, key);
         record::appear(&mut row, object);
@@ -163,7 +176,8 @@ impl Table {
         session: Digest,
         vote: Vote,
     ) -> Result<(), Memory>
-        ensures { OnOk result (Becomes self.old self.new (changed (noted_record session (vote_of vote)) (key_seen key.now) (seen self.old))) }
+        ensures { OnOk result (Becomes self.old self.new
+            (changed (noted_record session (vote_of vote)) (key_seen key.now) (seen self.old))) }
     {
         let mut row = self.take(alloc, key);
         record::note(&mut row, session, vote)?;

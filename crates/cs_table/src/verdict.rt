@@ -1,8 +1,7 @@
 //! What the record of its anchor says of a session.
-ghost use Rattle.std.specs.Prelude.{◌≡◌, option_map, None, not, is_some, ◌||◌, ◌&&◌, if◌then◌else◌};
+ghost use Rattle.std.specs.Prelude.{◌≡◌, option_map, None, if◌then◌else◌};
 ghost use Rattle.cs_ledger.specs.Standing.{recorded, is_inactive_by};
-ghost use Rattle.cs_ledger.specs.Table.{vote_in};
-ghost use Rattle.cs_table.specs.Calls.{standing_of};
+ghost use Rattle.cs_table.specs.Calls.{standing_of, is_over};
 ghost use Rattle.cs_table.specs.declared.standing.Standing.TheVariants.{Aborted, Open};
 ghost use Rattle.cs_ledger.specs.Table.{is_held_by, is_inactive, is_locked_by, has_room};
 ghost use Rattle.cs_table.specs.Seen.{seen_record, vote_of};
@@ -10,11 +9,9 @@ ghost use Rattle.cs_table.specs.Effects.{settled_vote, or_lost};
 
 use crate::several::vote_in_book;
 use crate::standing::Standing;
+use cs_base::BOOK_PLACES;
 use cs_tx::{Digest, State, Vote};
 use cs_tx_form::Record;
-
-/// How many entries a book has where the record is worn.
-const WORN: usize = 1024;
 
 /// Whether the session holds the lock.
 pub(crate) fn is_locked_by(row: &Record, session: &Digest) -> bool
@@ -30,7 +27,7 @@ pub(crate) fn is_locked_by(row: &Record, session: &Digest) -> bool
 pub(crate) fn has_room(row: &Record) -> bool
     ensures { result ≡ has_room (seen_record row.now).book }
 {
-    row.book.len() < WORN
+    row.book.len() < usize::from(BOOK_PLACES)
 }
 
 /// The vote on a session of which this is the anchor's record, if it is settled.
@@ -63,7 +60,7 @@ pub(crate) fn standing(row: &Record, session: &Digest) -> Standing
 }
 
 fn open_or_aborted(row: &Record, session: &Digest) -> Standing
-    ensures { result ≡ (if is_some (vote_in (seen_record row.now).book session.now) || (not (has_room (seen_record row.now).book) && not (is_locked_by session.now (seen_record row.now).state)) then Aborted else Open) }
+    ensures { result ≡ (if is_over (seen_record row.now) session.now then Aborted else Open) }
 {
     if vote_in_book(row.book.as_slice(), session).is_some() {
         return Standing::Aborted;

@@ -20,7 +20,8 @@ fn turn(rt: &impl Abort, alloc: Global, shard: &mut Shard, me: u16) -> Result<()
     shard.turn(rt, alloc, me, digest)
 }
 
-/// A letter arrives, where its receiver is one of the first members, which are honest. It may be lost, or stay to arrive again.
+/// A letter arrives, where its receiver is one of the first members, which are honest.
+/// It may be lost, or stay to arrive again.
 fn arrive(
     rt: &impl Abort,
     alloc: Global,

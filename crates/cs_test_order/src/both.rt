@@ -1,4 +1,5 @@
-//! A member, and beside it the plain program of the same member: each call answers and says the same.
+//! A member, and beside it the plain program of the same member:
+//! each call answers and says the same.
 use crate::plain_order::{PlainMay, PlainOrder, PlainStep};
 use crate::said::{Kind, Said, entry};
 use cs_base::Memory;
@@ -99,7 +100,8 @@ impl Both {
         Ok(true)
     }
 
-    /// Proposes the digest, or the first of the candidates. It is false where there is nothing to propose.
+    /// Proposes the digest, or the first of the candidates.
+    /// It is false where there is nothing to propose.
     pub fn propose(&mut self, rt: &impl Abort, alloc: Global, digest: u8) -> Result<bool, Fail> {
         let plain = self.plain.may_propose(alloc)?;
         let may = self.order.may_propose(alloc)?;

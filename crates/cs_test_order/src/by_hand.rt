@@ -132,7 +132,8 @@ fn chose_but_last(rt: &impl Abort, shard: &Shard) {
     assert!(rt; shard.chosen(rt, 3, 0).is_none());
 }
 
-/// What members 0 and 1 confirmed last before view 3, and which of it member 3 proposes there first.
+/// What members 0 and 1 confirmed last before view 3,
+/// and which of it member 3 proposes there first.
 struct Candidates {
     pairs: [(u16, u8); 2],
     first: u8,

@@ -1,5 +1,5 @@
-//! Trials of the order among 3f+1 members: rows by hand, and each call against a plain program of the rules, over messages in
-//! any order from fixed seeds.
+//! Trials of the order among 3f+1 members: rows by hand, and each call against a plain program
+//! of the rules, over messages in any order from fixed seeds.
 //!
 //! It has tests alone.
 #![tactic(auto)]

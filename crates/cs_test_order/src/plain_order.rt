@@ -1,6 +1,6 @@
 //! The rules of a member of 3f+1, on the plain list of all that it took and said.
 use crate::said::{DIGESTS, Kind, NOTHING, Said, Told};
-use cs_base::Memory;
+use cs_base::{MOST_ECHOED, Memory, SLOTS_AHEAD};
 use cs_order::Took;
 use std::alloc::Global;
 
@@ -110,7 +110,7 @@ impl PlainOrder {
         if said.slot < self.slot() {
             return Took::Old;
         }
-        if said.slot > self.slot().saturating_add(15) {
+        if said.slot > self.slot().saturating_add(SLOTS_AHEAD) {
             return Took::Far;
         }
         if said.kind == Kind::Propose && !self.leads(from, said.slot, said.view) {
@@ -169,7 +169,8 @@ impl PlainOrder {
         false
     }
 
-    /// The digest that a quorum confirmed, in the least view in which it did and the entry is known.
+    /// The digest that a quorum confirmed, in the least view in which it did
+    /// and the entry is known.
     fn by_confirm(&self) -> Option<u8> {
         for view in 0..self.views() {
             match self.agreed(Kind::Confirm, view) {
@@ -303,10 +304,10 @@ impl PlainOrder {
         self.is_free()
     }
 
-    /// At most 16 digests are echoed in a slot.
+    /// A member echoes only so many digests in a slot.
     fn has_place(&self, digest: u8) -> bool {
         let told = self.told();
-        told.count() < 16 || told.echoed_in(digest).is_some()
+        told.count() < u16::from(MOST_ECHOED) || told.echoed_in(digest).is_some()
     }
 
     pub fn pending(&self) -> Option<u8> {

@@ -16,7 +16,8 @@ pub enum Kind {
     Done,
 }
 
-/// What a change tells: the pair confirmed last, and the greatest view in which each digest was echoed.
+/// What a change tells: the pair confirmed last,
+/// and the greatest view in which each digest was echoed.
 #[derive(Clone, Copy, PartialEq, Eq)]
 pub struct Told {
     pub prepared: Option<(u16, u8)>,

@@ -1,15 +1,12 @@
 //! A slot against the plain list of what was said in it.
 use crate::plain_slot::{DIGESTS, Entry, Kind, PlainSlot, Said, Shard, VIEWS};
-use cs_base::{Memory, Sequence};
+use cs_base::{LAST_SLOT, Memory, Sequence};
 use cs_order::Proposed;
 use cs_slot::Slot;
 use cs_test_draws::Draws;
 use std::alloc::Global;
 use std::process::Abort;
 use std::test::Fail;
-
-/// The last slot, in which nothing is chosen.
-const LAST_SLOT: u64 = 4_611_686_018_427_387_903;
 
 const ONE_MEMBER: Shard = Shard {
     f: 0,

@@ -13,7 +13,7 @@ use Rattle.cs_tx_form.specs.declared.transaction.Tx.{Tx}
 use Rattle.cs_tx_form.specs.declared.session.Session.{Session}
 use Rattle.cs_tx_form.specs.Transaction.{tx_encoding, TraceFits, TxFits}
 use Rattle.cs_tx_form.specs.Session.{session_encoding, SessionFits}
-use Rattle.cs_tx_form.specs.Laws.{tx_form, session_form}
+use Rattle.cs_tx_form.specs.laws.Session.{tx_form, session_form}
 use Rattle.cs_tx.specs.Sessions.{outputs_written_at, outputs_written, written_tx, written_of}
 use Rattle.cs_ledger.specs.Ledger.{IsIn, has, all_differ}
 use Rattle.cs_ledger.specs.Strings.{Output, WrittenSession, IsFaithful, places_of}

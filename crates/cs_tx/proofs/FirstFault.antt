@@ -1,12 +1,13 @@
 -- The first fault of a session, by the names that it uses.
 use Rattle.std.proofs.Common.{◌≡◌, ℕ, ◌<◌, Bool, List, [], ◌++◌, length, Option, Some, None, refl, sym, ap, ◌∙◌, arith}
+use Rattle.cs_base.specs.Options.{or_else}
 use Rattle.cs_base.specs.declared.config.Config.{Config}
 use Rattle.cs_base.specs.declared.key.Key.TheVariants as key
 use Rattle.cs_tx.specs.declared.malformed.Malformed.{Malformed}
 use Rattle.cs_tx.specs.declared.malformed.Malformed.TheVariants as malformed
 use Rattle.cs_tx_form.specs.declared.session.Session.{Session}
 use Rattle.cs_tx.specs.Uses.{inputs_of, references_of, outputs_of, names}
-use Rattle.cs_tx.specs.WellFormed.{no_input, used_twice, first_twice, foreign, late_dep, first_failing, has_own_objects, has_earlier_deps, are_right, wrong_dummies, or_else, fault_of}
+use Rattle.cs_tx.specs.WellFormed.{no_input, used_twice, first_twice, foreign, late_dep, first_failing, has_own_objects, has_earlier_deps, are_right, wrong_dummies, fault_of}
 
 here : (test later : Option Malformed) (fault : Malformed) → test ≡ Some fault → or_else test later ≡ Some fault
 here test later fault e = ap (λ (t : Option Malformed). or_else t later) e

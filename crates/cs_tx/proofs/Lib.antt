@@ -4,5 +4,6 @@ pub mod Faithful
 pub mod Faults
 pub mod FirstFault
 pub mod Outputs
+pub mod OutputsNamed
 pub mod ShardsSeen
 pub mod TestsSeen

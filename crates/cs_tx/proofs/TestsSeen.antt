@@ -1,6 +1,7 @@
 -- A session is well formed where the ledger's session is.
 use Rattle.std.proofs.Common.{◌≡◌, ℕ, nat_lt, nat_eq, Bool, true, false, not, ◌||◌, ◌&&◌, List, [], ◌∷◌, ◌++◌, map, length, Option, Some, None, is_none, bytes_eq, refl, ap, sym, ◌∙◌, if◌then◌else◌, arith}
 use Rattle.std.specs.List.{list_any, list_all}
+use Rattle.cs_base.specs.Options.{or_else}
 use Rattle.cs_base.specs.Key.{shard_of_key}
 use Rattle.cs_base.specs.declared.config.Config.{Config}
 use Rattle.cs_base.specs.declared.key.Key.TheVariants as key
@@ -185,21 +186,21 @@ module _ (rules : Seen.Rules) (config : Config) (placed : IsPlaced rules config)
       last true = refl
       last false = refl
 
-      two : (l : Option ℕ) (h : Bool) → is_none (Tests.or_else (Tests.late_dep l) (Tests.wrong_dummies h)) ≡ (is_none l && h)
+      two : (l : Option ℕ) (h : Bool) → is_none (or_else (Tests.late_dep l) (Tests.wrong_dummies h)) ≡ (is_none l && h)
       two (Some n) h = refl
       two None h = last h
 
-      three : (f l : Option ℕ) (h : Bool) → is_none (Tests.or_else (Tests.foreign f) (Tests.or_else (Tests.late_dep l) (Tests.wrong_dummies h))) ≡ (is_none f && (is_none l && h))
+      three : (f l : Option ℕ) (h : Bool) → is_none (or_else (Tests.foreign f) (or_else (Tests.late_dep l) (Tests.wrong_dummies h))) ≡ (is_none f && (is_none l && h))
       three (Some n) l h = refl
       three None l h = two l h
 
       four : (u : Option Malformed) (f l : Option ℕ) (h : Bool)
-          → is_none (Tests.or_else u (Tests.or_else (Tests.foreign f) (Tests.or_else (Tests.late_dep l) (Tests.wrong_dummies h)))) ≡ (is_none u && (is_none f && (is_none l && h)))
+          → is_none (or_else u (or_else (Tests.foreign f) (or_else (Tests.late_dep l) (Tests.wrong_dummies h)))) ≡ (is_none u && (is_none f && (is_none l && h)))
       four (Some m) f l h = refl
       four None f l h = three f l h
 
       five : (n u : Option Malformed) (f l : Option ℕ) (h : Bool)
-          → is_none (Tests.or_else n (Tests.or_else u (Tests.or_else (Tests.foreign f) (Tests.or_else (Tests.late_dep l) (Tests.wrong_dummies h))))) ≡ (is_none n && (is_none u && (is_none f && (is_none l && h))))
+          → is_none (or_else n (or_else u (or_else (Tests.foreign f) (or_else (Tests.late_dep l) (Tests.wrong_dummies h))))) ≡ (is_none n && (is_none u && (is_none f && (is_none l && h))))
       five (Some m) u f l h = refl
       five None u f l h = four u f l h
 

@@ -34,12 +34,14 @@ name_of_output digest trace place = tagged_digest 79 (digest ++ (to_be_bytes w16
 -- outputs of one trace under their names, the first of them at this place
 abbrev pub outputs_at : List ℕ → ℕ → ℕ → List Object → List Keyed
 outputs_at digest trace place [] = []
-outputs_at digest trace place (object ∷ objects) = (name_of_output digest trace place, object) ∷ outputs_at digest trace (place + 1) objects
+outputs_at digest trace place (object ∷ objects) =
+    (name_of_output digest trace place, object) ∷ outputs_at digest trace (place + 1) objects
 
 -- for each of these traces, the first of which has this number, its outputs under their names
 abbrev pub outputs_from : List ℕ → ℕ → List Trace → List (List Keyed)
 outputs_from digest number [] = []
-outputs_from digest number (trace ∷ traces) = outputs_at digest number 0 trace.outputs ∷ outputs_from digest (number + 1) traces
+outputs_from digest number (trace ∷ traces) =
+    outputs_at digest number 0 trace.outputs ∷ outputs_from digest (number + 1) traces
 
 abbrev pub keys : List Keyed → List Key
 keys items = map (λ item. key.Object item.0) items

@@ -31,11 +31,13 @@ outputs_written_at number place (object ∷ objects) =
 -- those of these traces, the first of which has this number
 abbrev pub outputs_written : ℕ → List Trace → List Output
 outputs_written number [] = []
-outputs_written number (trace ∷ traces) = outputs_written_at number 0 trace.outputs ++ outputs_written (number + 1) traces
+outputs_written number (trace ∷ traces) =
+    outputs_written_at number 0 trace.outputs ++ outputs_written (number + 1) traces
 
 -- the objects of each trace are of its contract, and it rests on earlier traces alone
 abbrev pub is_sound : Tx → Bool
-is_sound tx = is_none (first_failing has_own_objects 0 tx.traces) && is_none (first_failing has_earlier_deps 0 tx.traces)
+is_sound tx =
+    is_none (first_failing has_own_objects 0 tx.traces) && is_none (first_failing has_earlier_deps 0 tx.traces)
 
 abbrev pub written_tx : (Tx → Bool) → Tx → Written
 written_tx approves tx = record {

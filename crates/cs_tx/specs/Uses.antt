@@ -8,6 +8,7 @@ use Rattle.cs_base.specs.Key.{shard_of_key}
 use Rattle.cs_tx_form.specs.declared.transaction.Tx.{Tx}
 use Rattle.cs_tx_form.specs.declared.session.Session.{Session}
 use Rattle.cs_tx_form.specs.Transaction.{Keyed}
+use Rattle.cs_tx.specs.declared.names.Names.{Names}
 use Rattle.cs_tx.specs.Digest.{digest_of_tx, outputs_from}
 
 -- the objects of a transaction under their names, in the order of traces
@@ -26,6 +27,10 @@ names items = map (λ item. item.0) items
 -- every name that a transaction uses
 abbrev pub names_of : Tx → List (List ℕ)
 names_of tx = names (inputs_of tx) ++ (names (references_of tx) ++ names (outputs_of tx))
+
+-- every name that was found
+abbrev pub all_of : Names → List (List ℕ)
+all_of found = found.inputs ++ (found.references ++ found.outputs)
 
 -- an object's name is that of a key in this shard
 abbrev pub is_in : Config → ℕ → List ℕ → Bool
@@ -50,7 +55,8 @@ concerned_shards config x = concerned_below config x config.shards
 -- the first dummy of a shard
 abbrev pub dummy_in : ℕ → List (ℕ × ℕ) → Option Key
 dummy_in shard [] = None
-dummy_in shard (dummy ∷ dummies) = if dummy.0 == shard then Some (key.Dummy dummy.0 dummy.1) else dummy_in shard dummies
+dummy_in shard (dummy ∷ dummies) =
+    if dummy.0 == shard then Some (key.Dummy dummy.0 dummy.1) else dummy_in shard dummies
 
 -- the first of these names, or else the dummy
 abbrev pub anchor_among : Option (List ℕ) → Option Key → Option Key

@@ -4,6 +4,7 @@ use Rattle.std.specs.List.{list_any, list_all}
 use Rattle.cs_base.specs.declared.config.Config.{Config}
 use Rattle.cs_base.specs.declared.key.Key.TheVariants as key
 use Rattle.cs_base.specs.Key.{shard_of_key}
+use Rattle.cs_base.specs.Options.{or_else}
 use Rattle.cs_tx_value.specs.declared.object.Object.{Object}
 use Rattle.cs_tx_form.specs.declared.trace.Trace.{Trace}
 use Rattle.cs_tx_form.specs.declared.session.Session.{Session}
@@ -36,13 +37,15 @@ used_twice None = None
 -- the first of these traces that fails a test; the first of them has this number
 abbrev pub first_failing : (ℕ → Trace → Bool) → ℕ → List Trace → Option ℕ
 first_failing test number [] = None
-first_failing test number (trace ∷ traces) = if test number trace then first_failing test (number + 1) traces else Some number
+first_failing test number (trace ∷ traces) =
+    if test number trace then first_failing test (number + 1) traces else Some number
 
 abbrev pub is_of : List ℕ → Object → Bool
 is_of contract object = bytes_eq object.contract contract
 
 abbrev pub has_own_objects : ℕ → Trace → Bool
-has_own_objects number trace = list_all (λ item. is_of trace.contract item.1) trace.inputs && list_all (is_of trace.contract) trace.outputs
+has_own_objects number trace =
+    list_all (λ item. is_of trace.contract item.1) trace.inputs && list_all (is_of trace.contract) trace.outputs
 
 abbrev pub foreign : Option ℕ → Option Malformed
 foreign (Some trace) = Some (malformed.Foreign trace)
@@ -80,17 +83,14 @@ is_served config inputs dummies name =
 abbrev pub are_right : Config → List (List ℕ) → List (List ℕ) → List (ℕ × ℕ) → Bool
 are_right config inputs used dummies =
     are_rising dummies
-    && (list_all (λ dummy. wants_dummy config inputs used dummy.0) dummies && list_all (is_served config inputs dummies) used)
+    && (list_all (λ dummy. wants_dummy config inputs used dummy.0) dummies
+    && list_all (is_served config inputs dummies) used)
 
 abbrev pub wrong_dummies : Bool → Option Malformed
 wrong_dummies true = None
 wrong_dummies false = Some malformed.Dummies
 
 -- ---- the tests
-
-abbrev pub or_else : Option Malformed → Option Malformed → Option Malformed
-or_else (Some fault) later = Some fault
-or_else None later = later
 
 -- the first test that fails
 abbrev pub fault_of : Config → Session → Option Malformed

@@ -115,8 +115,9 @@ fn are_served(config: &Config, inputs: &[Digest], dummies: &[(u16, u64)], names:
 }
 
 impl Names {
-    ghost use Rattle.std.specs.Prelude.{◌≡◌, ◌++◌, []};
+    ghost use Rattle.std.specs.Prelude.{◌≡◌, []};
     ghost use Rattle.std.specs.List.{list_all};
+    ghost use Rattle.cs_tx.specs.Uses.{all_of};
     ghost use Rattle.cs_tx.specs.WellFormed.{first_twice, wants_dummy, is_served, are_right};
 
     /// The first input that is an earlier one, or a reference.
@@ -134,19 +135,22 @@ impl Names {
     }
 
     fn want_dummy(&self, config: &Config, shard: u16) -> bool
-        ensures { result ≡ wants_dummy config.now self.now.inputs (self.now.inputs ++ (self.now.references ++ self.now.outputs)) shard }
+        ensures { result ≡ wants_dummy config.now self.now.inputs (all_of self.now) shard }
     {
         self.concern(config, shard) && !is_one_in(config, shard, self.inputs.as_slice())
     }
 
     fn want_each(&self, config: &Config, dummies: &[(u16, u64)]) -> bool
-        ensures { result ≡ list_all (λ dummy. wants_dummy config.now self.now.inputs (self.now.inputs ++ (self.now.references ++ self.now.outputs)) dummy.0) dummies.now }
+        ensures { result ≡
+            list_all (λ dummy. wants_dummy config.now self.now.inputs (all_of self.now) dummy.0)
+            dummies.now }
     {
         dummies.iter().all(|dummy| self.want_dummy(config, dummy.0))
     }
 
     fn are_all_served(&self, config: &Config, dummies: &[(u16, u64)]) -> bool
-        ensures { result ≡ list_all (is_served config.now self.now.inputs dummies.now) (self.now.inputs ++ (self.now.references ++ self.now.outputs)) }
+        ensures { result ≡
+            list_all (is_served config.now self.now.inputs dummies.now) (all_of self.now) }
     {
         let inputs = self.inputs.as_slice();
         are_served(config, inputs, dummies, inputs)
@@ -156,7 +160,8 @@ impl Names {
 
     /// Whether the session's dummies are those that its names want.
     fn fit_dummies(&self, config: &Config, session: &Session) -> bool
-        ensures { result ≡ are_right config.now self.now.inputs (self.now.inputs ++ (self.now.references ++ self.now.outputs)) session.now.dummies }
+        ensures { result ≡
+            are_right config.now self.now.inputs (all_of self.now) session.now.dummies }
     {
         let dummies = session.dummies.as_slice();
         rise(dummies) && self.want_each(config, dummies) && self.are_all_served(config, dummies)

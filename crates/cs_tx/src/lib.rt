@@ -1,4 +1,5 @@
-//! Transactions and sessions: their digests and keys, what they use, the tests of a session, judges.
+//! Transactions and sessions: their digests and keys, what they use, the tests of a session,
+//! judges.
 #![tactic(auto)]
 
 mod digests;

@@ -40,7 +40,8 @@ fn input_names(alloc: Global, traces: &[Trace]) -> Result<Sequence<Digest>, Memo
 }
 
 fn reference_names(alloc: Global, traces: &[Trace]) -> Result<Sequence<Digest>, Memory>
-    ensures { IfOk result (λ found. found ≡ names (flat_map (λ trace. trace.references) traces.now)) }
+    ensures { IfOk result (λ found.
+        found ≡ names (flat_map (λ trace. trace.references) traces.now)) }
 {
     let mut found = Sequence::new(alloc);
     for trace in traces {
@@ -57,7 +58,8 @@ fn add_output_names(
     outputs: &[Object],
 ) -> Result<(), Memory>
     requires { length outputs.now ≤ 64 }
-    ensures { OnOk result (found.new ≡ found.old ++ names (outputs_at digest.now trace 0 outputs.now)) }
+    ensures { OnOk result
+        (found.new ≡ found.old ++ names (outputs_at digest.now trace 0 outputs.now)) }
 {
     for place in 0..outputs.len() {
         found.push(output_name(digest, trace, place as u16))?;
@@ -72,7 +74,9 @@ fn output_names(
 ) -> Result<Sequence<Digest>, Memory>
     requires few { length traces.now ≤ 16 }
     requires fit { AllByRecursion TraceFits traces.now }
-    ensures { IfOk result (λ found. found ≡ names (flat_map (λ outputs. outputs) (outputs_from digest.now 0 traces.now))) }
+    ensures { IfOk result (λ found.
+        found ≡
+        names (flat_map (λ outputs. outputs) (outputs_from digest.now 0 traces.now))) }
 {
     let mut found = Sequence::new(alloc);
     for number in 0..traces.len() {
@@ -95,7 +99,8 @@ impl Names {
     pub fn of(alloc: Global, tx: &Tx) -> Result<Names, Memory>
         requires { TxFits tx.now }
         ensures inputs { IfOk result (λ found. found.inputs ≡ names (inputs_of tx.now)) }
-        ensures references { IfOk result (λ found. found.references ≡ names (references_of tx.now)) }
+        ensures references { IfOk result (λ found.
+            found.references ≡ names (references_of tx.now)) }
         ensures outputs { IfOk result (λ found. found.outputs ≡ names (outputs_of tx.now)) }
     {
         let digest = tx_digest(alloc, tx)?;

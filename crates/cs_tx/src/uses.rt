@@ -21,12 +21,12 @@ pub fn is_one_in(config: &Config, shard: u16, names: &[Digest]) -> bool
 }
 
 impl Names {
-    ghost use Rattle.std.specs.Prelude.{◌≡◌, ◌++◌};
-    ghost use Rattle.cs_tx.specs.Uses.{is_among};
+    ghost use Rattle.std.specs.Prelude.{◌≡◌};
+    ghost use Rattle.cs_tx.specs.Uses.{all_of, is_among};
 
     /// Whether the shard is that of an input, a reference or an output.
     pub fn concern(&self, config: &Config, shard: u16) -> bool
-        ensures { result ≡ is_among config.now shard (self.now.inputs ++ (self.now.references ++ self.now.outputs)) }
+        ensures { result ≡ is_among config.now shard (all_of self.now) }
     {
         is_one_in(config, shard, self.inputs.as_slice())
             || is_one_in(config, shard, self.references.as_slice())
@@ -73,7 +73,8 @@ fn first_dummy_in(shard: u16, dummies: &[(u16, u64)]) -> Option<Key>
 }
 
 fn first_input_in(config: &Config, shard: u16, traces: &[Trace]) -> Option<Digest>
-    ensures { result ≡ find (is_in config.now shard) (names (flat_map (λ trace. trace.inputs) traces.now)) }
+    ensures { result ≡
+        find (is_in config.now shard) (names (flat_map (λ trace. trace.inputs) traces.now)) }
 {
     for trace in traces {
         if let Some(name) = first_in(config, shard, trace.inputs.as_slice()) {

@@ -2,9 +2,7 @@ pub mod Transaction
 pub mod Session
 pub mod State
 pub mod Reading
-pub mod Laws
 pub mod Sized
 pub mod Record
-pub mod RecordLaws
 pub mod Log
-pub mod LogLaws
+pub mod laws

@@ -1,6 +1,7 @@
 -- The encodings and limits of what is kept and proved of a shard's log.
 use Rattle.std.specs.Prelude.{ℕ, zero, suc, ◌<◌, ◌≤◌, ◌^◌, nat_le, List, [], ◌∷◌, ◌++◌, Some, None}
 use Rattle.std.specs.Int.{w8, w16, w64, to_be_bytes}
+use Rattle.cs_base.specs.declared.limits.TheConstants.{LAST_SLOT}
 use Rattle.cs_base.specs.Fields.{counted, Found, ◌<$>◌, number_at, bytes_at, counted_at, pair_at, tested_at}
 use Rattle.cs_tx_value.specs.Encoding.{AtMost}
 use Rattle.cs_tx_value.specs.Kinds.{kinds_at}
@@ -38,7 +39,8 @@ pub record LeafFits (l : Leaf) : Type 0 where
 -- ---- checkpoints
 
 abbrev pub checkpoint_encoding : Checkpoint → List ℕ
-checkpoint_encoding c = to_be_bytes w16 c.shard ++ (to_be_bytes w64 c.number ++ (c.previous ++ (c.leaf_root ++ c.table_root)))
+checkpoint_encoding c =
+    to_be_bytes w16 c.shard ++ (to_be_bytes w64 c.number ++ (c.previous ++ (c.leaf_root ++ c.table_root)))
 
 pub record CheckpointFits (c : Checkpoint) : Type 0 where
   pub shard : c.shard < 2 ^ 16
@@ -50,7 +52,8 @@ pub record CheckpointFits (c : Checkpoint) : Type 0 where
 -- ---- proofs: checkpoint, place, leaf behind its length, path
 
 abbrev pub proof_encoding : Proof → List ℕ
-proof_encoding p = checkpoint_encoding p.checkpoint ++ (p.place ∷ (sized leaf_encoding p.leaf ++ counted (λ digest. digest) p.path))
+proof_encoding p =
+    checkpoint_encoding p.checkpoint ++ (p.place ∷ (sized leaf_encoding p.leaf ++ counted (λ digest. digest) p.path))
 
 pub record ProofFits (p : Proof) : Type 0 where
   pub checkpoint : CheckpointFits p.checkpoint
@@ -80,14 +83,17 @@ unfoldable pub leaf_at : List ℕ → Found Leaf
 leaf_at bytes = leaf_of <$> pair_at (number_at w64) (pair_at (sized_at entry_at) effect_at) bytes
 
 abbrev pub checkpoint_of : ℕ × (ℕ × (List ℕ × (List ℕ × List ℕ))) → Checkpoint
-checkpoint_of p = record { shard = p.0; number = p.1.0; previous = p.1.1.0; leaf_root = p.1.1.1.0; table_root = p.1.1.1.1 }
+checkpoint_of p =
+    record { shard = p.0; number = p.1.0; previous = p.1.1.0; leaf_root = p.1.1.1.0; table_root = p.1.1.1.1 }
 
 unfoldable pub checkpoint_at : List ℕ → Found Checkpoint
-checkpoint_at bytes = checkpoint_of <$> pair_at (number_at w16) (pair_at (number_at w64) (pair_at (bytes_at 32) (pair_at (bytes_at 32) (bytes_at 32)))) bytes
+checkpoint_at bytes =
+    checkpoint_of <$> pair_at (number_at w16)
+    (pair_at (number_at w64) (pair_at (bytes_at 32) (pair_at (bytes_at 32) (bytes_at 32)))) bytes
 
 -- a slot of a shard's order
 abbrev pub slot_at : List ℕ → Found ℕ
-slot_at = tested_at (λ n. nat_le n 4611686018427387903) (number_at w64)
+slot_at = tested_at (λ n. nat_le n LAST_SLOT) (number_at w64)
 
 -- a place among 16
 abbrev pub index_at : List ℕ → Found ℕ
@@ -104,4 +110,5 @@ abbrev pub proof_of : Checkpoint × (ℕ × (Leaf × List (List ℕ))) → Proof
 proof_of p = record { checkpoint = p.0; place = p.1.0; leaf = p.1.1.0; path = p.1.1.1 }
 
 unfoldable pub proof_at : List ℕ → Found Proof
-proof_at bytes = proof_of <$> pair_at checkpoint_at (pair_at index_at (pair_at covered_at (counted_at 4 (bytes_at 32)))) bytes
+proof_at bytes =
+    proof_of <$> pair_at checkpoint_at (pair_at index_at (pair_at covered_at (counted_at 4 (bytes_at 32)))) bytes

@@ -1,6 +1,7 @@
 -- What stands at the front of a list of bytes.
 use Rattle.std.specs.Prelude.{ℕ, zero, suc, List, Some, None}
 use Rattle.std.specs.Int.{w8, w16, w64}
+use Rattle.cs_base.specs.declared.limits.TheConstants.{MOST_TX}
 use Rattle.cs_base.specs.Fields.{Found, ◌<$>◌, number_at, bytes_at, counted_at, pair_at, some_at, within_at}
 use Rattle.cs_tx_value.specs.declared.object.Object.{Object}
 use Rattle.cs_tx_value.specs.declared.value.Value.{Value}
@@ -31,13 +32,24 @@ abbrev pub Back : Type 0
 Back = List Value × (List Object × (List Value × List ℕ))
 
 abbrev pub trace_of : Front × Back → Trace
-trace_of p = record { contract = p.0.0; method = p.0.1.0; inputs = p.0.1.1.0; references = p.0.1.1.1; parameters = p.1.0; outputs = p.1.1.0; returns = p.1.1.1.0; deps = p.1.1.1.1 }
+trace_of p = record {
+  contract = p.0.0;
+  method = p.0.1.0;
+  inputs = p.0.1.1.0;
+  references = p.0.1.1.1;
+  parameters = p.1.0;
+  outputs = p.1.1.0;
+  returns = p.1.1.1.0;
+  deps = p.1.1.1.1;
+}
 
 unfoldable pub front_at : List ℕ → Found Front
 front_at = pair_at (bytes_at 32) (pair_at name_at (pair_at (counted_at 64 keyed_at) (counted_at 64 keyed_at)))
 
 unfoldable pub back_at : List ℕ → Found Back
-back_at = pair_at (counted_at 16 (value_at 4)) (pair_at (counted_at 64 object_at) (pair_at (counted_at 16 (value_at 4)) (counted_at 15 (number_at w8))))
+back_at =
+    pair_at (counted_at 16 (value_at 4))
+    (pair_at (counted_at 64 object_at) (pair_at (counted_at 16 (value_at 4)) (counted_at 15 (number_at w8))))
 
 unfoldable pub trace_at : List ℕ → Found Trace
 trace_at bytes = trace_of <$> pair_at front_at back_at bytes
@@ -46,7 +58,7 @@ abbrev pub tx_of : List Trace → Tx
 tx_of traces = record { traces = traces }
 
 unfoldable pub tx_at : List ℕ → Found Tx
-tx_at = within_at 8192 (λ bytes. tx_of <$> some_at 16 trace_at bytes)
+tx_at = within_at MOST_TX (λ bytes. tx_of <$> some_at 16 trace_at bytes)
 
 -- ---- sessions, votes and entries
 

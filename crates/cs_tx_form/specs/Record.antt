@@ -1,6 +1,7 @@
 -- The encodings and limits of records.
 use Rattle.std.specs.Prelude.{ℕ, List, ◌++◌, length}
 use Rattle.std.specs.Int.{w16, to_be_bytes}
+use Rattle.cs_base.specs.declared.limits.TheConstants.{MOST_PLACES}
 use Rattle.cs_base.specs.declared.key.Key.{Key}
 use Rattle.cs_base.specs.Fields.{each, Found, ◌<$>◌, bytes_at, pair_at, many_at, upto_at}
 use Rattle.cs_tx_value.specs.Encoding.{AtMost}
@@ -34,7 +35,7 @@ record_encoding r = state_encoding r.state ++ book_encoding r.book
 
 pub record RecordFits (r : Record) : Type 0 where
   pub state : StateFits r.state
-  pub book : AtMost 1025 PlaceFits r.book
+  pub book : AtMost MOST_PLACES PlaceFits r.book
 
 -- a key, and its record
 abbrev pub stored_encoding : Stored → List ℕ
@@ -50,7 +51,7 @@ abbrev pub place_at : List ℕ → Found Place
 place_at = pair_at (bytes_at 32) vote_at
 
 abbrev pub book_at : List ℕ → Found (List Place)
-book_at = upto_at w16 1025 (many_at place_at)
+book_at = upto_at w16 MOST_PLACES (many_at place_at)
 
 abbrev pub record_of : State × List Place → Record
 record_of p = record { state = p.0; book = p.1 }

@@ -1,5 +1,6 @@
 -- The encodings and limits of traces and transactions.
 use Rattle.std.specs.Prelude.{ℕ, ◌<◌, ◌≤◌, List, [], ◌∷◌, ◌++◌, length}
+use Rattle.cs_base.specs.declared.limits.TheConstants.{MOST_TX}
 use Rattle.cs_base.specs.Fields.{counted}
 use Rattle.cs_tx_value.specs.declared.object.Object.{Object}
 use Rattle.cs_tx_value.specs.Encoding.{value_encoding, ValueFits, AtMost}
@@ -20,11 +21,14 @@ KeyedFits k = DigestFits k.0 × ObjectFits k.1
 
 -- contract, method, inputs and references
 abbrev pub trace_front : Trace → List ℕ
-trace_front t = t.contract ++ (name_encoding t.method ++ (counted keyed_encoding t.inputs ++ counted keyed_encoding t.references))
+trace_front t =
+    t.contract ++ (name_encoding t.method ++ (counted keyed_encoding t.inputs ++ counted keyed_encoding t.references))
 
 -- parameters, outputs, returns and deps
 abbrev pub trace_back : Trace → List ℕ
-trace_back t = counted value_encoding t.parameters ++ (counted object_encoding t.outputs ++ (counted value_encoding t.returns ++ counted (λ n. n ∷ []) t.deps))
+trace_back t =
+    counted value_encoding t.parameters ++
+    (counted object_encoding t.outputs ++ (counted value_encoding t.returns ++ counted (λ n. n ∷ []) t.deps))
 
 abbrev pub trace_encoding : Trace → List ℕ
 trace_encoding t = trace_front t ++ trace_back t
@@ -45,4 +49,4 @@ tx_encoding tx = counted trace_encoding tx.traces
 pub record TxFits (tx : Tx) : Type 0 where
   pub some : 1 ≤ length tx.traces
   pub traces : AtMost 16 TraceFits tx.traces
-  pub small : length (tx_encoding tx) ≤ 8192
+  pub small : length (tx_encoding tx) ≤ MOST_TX

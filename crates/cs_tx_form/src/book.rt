@@ -1,18 +1,16 @@
 //! The books of records, behind a count in two bytes.
 ghost use Rattle.std.specs.Prelude.{◌≡◌, ◌++◌, ◌↔◌, IsTrue, OnOk, OnErr};
+ghost use Rattle.cs_base.specs.declared.limits.TheConstants.{MOST_PLACES};
 ghost use Rattle.cs_tx_value.specs.Encoding.{AtMost};
 ghost use Rattle.cs_tx_value.specs.Reading.{ReadsValue, Passes, Begins, LeavesRoom};
 ghost use Rattle.cs_tx_form.specs.Record.{PlaceFits, book_encoding, book_at};
 
 use crate::vote::Vote;
-use cs_base::{Cursor, Memory, Sequence, Writer};
+use cs_base::{Cursor, MOST_PLACES, Memory, Sequence, Writer};
 use cs_tx_value::{Digest, FormError, each_fits, read_many, room_each, skip_many, write_each};
 use std::alloc::Global;
 
-/// The most places of a book: 1,024, and one more for the abort of a session that holds a lock.
-const MOST_PLACES: u16 = 1025;
-
-/// A book of at most 1,025 places.
+/// A book of at most `MOST_PLACES` places.
 #[tactic(auto, unfolding(cs_base::specs::Fields::upto_at))]
 pub fn read_book(
     alloc: Global,
@@ -27,7 +25,7 @@ pub fn read_book(
     read_many(alloc, cursor, count)
 }
 
-/// Passes over a book of at most 1,025 places.
+/// Passes over a book of at most `MOST_PLACES` places.
 #[tactic(auto, unfolding(cs_base::specs::Fields::upto_at))]
 pub fn skip_book(cursor: &mut Cursor<'_>) -> Result<(), FormError>
     ensures { Passes result cursor.new (book_at cursor.old) }
@@ -41,7 +39,7 @@ pub fn skip_book(cursor: &mut Cursor<'_>) -> Result<(), FormError>
 
 /// Appends a book.
 pub fn write_book(book: &Sequence<(Digest, Vote)>, out: &mut Writer) -> Result<(), Memory>
-    requires { AtMost 1025 PlaceFits book.now }
+    requires { AtMost MOST_PLACES PlaceFits book.now }
     ensures ok { OnOk result (out.new ≡ out.old ++ book_encoding book.now) }
     ensures err { OnErr result (Begins out.new out.old) }
 {
@@ -49,9 +47,9 @@ pub fn write_book(book: &Sequence<(Digest, Vote)>, out: &mut Writer) -> Result<(
     write_each(book.as_slice(), out)
 }
 
-/// Whether a book has at most 1,025 places.
+/// Whether a book has at most `MOST_PLACES` places.
 pub fn book_fits(book: &Sequence<(Digest, Vote)>) -> bool
-    ensures { IsTrue result ↔ AtMost 1025 PlaceFits book.now }
+    ensures { IsTrue result ↔ AtMost MOST_PLACES PlaceFits book.now }
 {
     if book.len() > MOST_PLACES as usize {
         return false;

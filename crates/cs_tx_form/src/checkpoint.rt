@@ -15,9 +15,9 @@ pub struct Checkpoint {
 }
 
 impl Encoded for Checkpoint {
-    ghost use Rattle.cs_tx_value.specs.Limits.{unlimited};
+    ghost use Rattle.cs_tx_value.specs.laws.Limits.{unlimited};
     ghost use Rattle.cs_tx_form.specs.Log.{checkpoint_encoding, CheckpointFits, checkpoint_at};
-    ghost use Rattle.cs_tx_form.specs.LogLaws.{checkpoint_form};
+    ghost use Rattle.cs_tx_form.specs.laws.Log.{checkpoint_form};
 
     ghost encoding = { checkpoint_encoding };
 
@@ -27,7 +27,7 @@ impl Encoded for Checkpoint {
 
     ghost LIMIT = { 18446744073709551615 };
 
-    const LIMIT: usize = 18446744073709551615;
+    const LIMIT: usize = usize::MAX;
 
     #[tactic(auto, unfolding(crate::specs::Log::checkpoint_at, cs_base::specs::Fields::pair_at))]
     fn read(alloc: Global, cursor: &mut Cursor<'_>) -> Result<Checkpoint, FormError> {

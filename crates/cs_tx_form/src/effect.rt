@@ -17,9 +17,9 @@ pub enum Effect {
 }
 
 impl Encoded for Effect {
-    ghost use Rattle.cs_tx_value.specs.Limits.{unlimited};
+    ghost use Rattle.cs_tx_value.specs.laws.Limits.{unlimited};
     ghost use Rattle.cs_tx_form.specs.Log.{effect_encoding, effect_at};
-    ghost use Rattle.cs_tx_form.specs.LogLaws.{effect_form};
+    ghost use Rattle.cs_tx_form.specs.laws.Log.{effect_form};
 
     ghost encoding = { effect_encoding };
 
@@ -29,7 +29,7 @@ impl Encoded for Effect {
 
     ghost LIMIT = { 18446744073709551615 };
 
-    const LIMIT: usize = 18446744073709551615;
+    const LIMIT: usize = usize::MAX;
 
     #[tactic(auto, unfolding(cs_tx_value::specs::Kinds::kinds_at))]
     fn read(_alloc: Global, cursor: &mut Cursor<'_>) -> Result<Effect, FormError> {

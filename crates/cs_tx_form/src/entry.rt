@@ -1,7 +1,7 @@
 //! Entries of a shard's order.
 use crate::session::Session;
 use crate::vote::Vote;
-use cs_base::{Cursor, Memory, Writer};
+use cs_base::{Cursor, MOST_ENTRY, Memory, Writer};
 use cs_tx_value::{Encoded, FormError};
 use std::alloc::Global;
 
@@ -16,7 +16,8 @@ pub enum Entry {
 impl Encoded for Entry {
     ghost use Rattle.cs_tx_form.specs.Session.{entry_encoding, EntryFits};
     ghost use Rattle.cs_tx_form.specs.Reading.{entry_at};
-    ghost use Rattle.cs_tx_form.specs.Laws.{entry_form, entry_short};
+    ghost use Rattle.cs_base.specs.declared.limits.TheConstants.{MOST_ENTRY};
+    ghost use Rattle.cs_tx_form.specs.laws.Session.{entry_form, entry_short};
 
     ghost encoding = { entry_encoding };
 
@@ -24,9 +25,9 @@ impl Encoded for Entry {
 
     ghost found_at = { entry_at };
 
-    ghost LIMIT = { 8353 };
+    ghost LIMIT = { MOST_ENTRY };
 
-    const LIMIT: usize = 8353;
+    const LIMIT: usize = MOST_ENTRY;
 
     #[tactic(auto, unfolding(cs_tx_value::specs::Kinds::kinds_at, cs_base::specs::Fields::pair_at))]
     fn read(alloc: Global, cursor: &mut Cursor<'_>) -> Result<Entry, FormError> {

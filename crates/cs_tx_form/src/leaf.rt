@@ -15,9 +15,9 @@ pub struct Leaf {
 }
 
 impl Encoded for Leaf {
-    ghost use Rattle.cs_tx_value.specs.Limits.{unlimited};
+    ghost use Rattle.cs_tx_value.specs.laws.Limits.{unlimited};
     ghost use Rattle.cs_tx_form.specs.Log.{leaf_encoding, LeafFits, leaf_at};
-    ghost use Rattle.cs_tx_form.specs.LogLaws.{leaf_form};
+    ghost use Rattle.cs_tx_form.specs.laws.Log.{leaf_form};
 
     ghost encoding = { leaf_encoding };
 
@@ -27,7 +27,7 @@ impl Encoded for Leaf {
 
     ghost LIMIT = { 18446744073709551615 };
 
-    const LIMIT: usize = 18446744073709551615;
+    const LIMIT: usize = usize::MAX;
 
     #[tactic(auto, unfolding(crate::specs::Log::leaf_at, cs_base::specs::Fields::pair_at))]
     fn read(alloc: Global, cursor: &mut Cursor<'_>) -> Result<Leaf, FormError> {
@@ -48,7 +48,7 @@ impl Encoded for Leaf {
         Effect::skip(cursor)
     }
 
-    #[tactic(auto, using(crate::specs::LogLaws::entry_small))]
+    #[tactic(auto, using(crate::specs::laws::Log::entry_small))]
     fn encode(&self, out: &mut Writer) -> Result<(), Memory> {
         self.slot.encode(out)?;
         write_sized(&self.entry, out)?;

@@ -1,5 +1,5 @@
-//! What is written of the ledger's data: transactions, sessions and entries, the records of a shard, and what is
-//! proved of its log; and the one encoding that each has.
+//! What is written of the ledger's data: transactions, sessions and entries, the records of a
+//! shard, and what is proved of its log; and the one encoding that each has.
 #![tactic(auto)]
 
 mod book;
@@ -26,7 +26,7 @@ pub use proof::Proof;
 pub use record::Record;
 pub use session::Session;
 pub use sized::{read_sized, room_sized, skip_sized, write_sized};
-pub use slot::{LAST_SLOT, read_slot, skip_slot};
+pub use slot::{read_slot, skip_slot};
 pub use state::State;
 pub use stored::Stored;
 pub use trace::Trace;

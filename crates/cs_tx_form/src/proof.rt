@@ -8,8 +8,8 @@ use crate::effect::Effect;
 use crate::entry::Entry;
 use crate::leaf::Leaf;
 use crate::sized::{read_sized, room_sized, skip_sized, write_sized};
-use crate::slot::{LAST_SLOT, read_slot, skip_slot};
-use cs_base::{Cursor, Memory, Sequence, Writer};
+use crate::slot::{read_slot, skip_slot};
+use cs_base::{Cursor, LAST_SLOT, Memory, Sequence, Writer};
 use cs_tx_value::{
     Digest, Encoded, FormError, copy_each, few_fit, read_counted, room_counted, skip_counted,
     write_counted,
@@ -91,9 +91,9 @@ fn skip_covered(cursor: &mut Cursor<'_>) -> Result<(), FormError>
 }
 
 impl Encoded for Proof {
-    ghost use Rattle.cs_tx_value.specs.Limits.{unlimited};
+    ghost use Rattle.cs_tx_value.specs.laws.Limits.{unlimited};
     ghost use Rattle.cs_tx_form.specs.Log.{proof_encoding, ProofFits, proof_at};
-    ghost use Rattle.cs_tx_form.specs.LogLaws.{proof_form};
+    ghost use Rattle.cs_tx_form.specs.laws.Log.{proof_form};
 
     ghost encoding = { proof_encoding };
 
@@ -103,7 +103,7 @@ impl Encoded for Proof {
 
     ghost LIMIT = { 18446744073709551615 };
 
-    const LIMIT: usize = 18446744073709551615;
+    const LIMIT: usize = usize::MAX;
 
     #[tactic(auto, unfolding(crate::specs::Log::proof_at, cs_base::specs::Fields::pair_at))]
     fn read(alloc: Global, cursor: &mut Cursor<'_>) -> Result<Proof, FormError> {
@@ -127,7 +127,7 @@ impl Encoded for Proof {
         skip_counted::<Digest>(cursor, 4)
     }
 
-    #[tactic(auto, using(crate::specs::LogLaws::leaf_small))]
+    #[tactic(auto, using(crate::specs::laws::Log::leaf_small))]
     fn encode(&self, out: &mut Writer) -> Result<(), Memory> {
         self.checkpoint.encode(out)?;
         self.place.encode(out)?;

@@ -15,9 +15,9 @@ pub struct Record {
 }
 
 impl Encoded for Record {
-    ghost use Rattle.cs_tx_value.specs.Limits.{unlimited};
+    ghost use Rattle.cs_tx_value.specs.laws.Limits.{unlimited};
     ghost use Rattle.cs_tx_form.specs.Record.{record_encoding, RecordFits, record_at};
-    ghost use Rattle.cs_tx_form.specs.RecordLaws.{record_form};
+    ghost use Rattle.cs_tx_form.specs.laws.Record.{record_form};
 
     ghost encoding = { record_encoding };
 
@@ -27,7 +27,7 @@ impl Encoded for Record {
 
     ghost LIMIT = { 18446744073709551615 };
 
-    const LIMIT: usize = 18446744073709551615;
+    const LIMIT: usize = usize::MAX;
 
     #[tactic(auto, unfolding(crate::specs::Record::record_at, cs_base::specs::Fields::pair_at))]
     fn read(alloc: Global, cursor: &mut Cursor<'_>) -> Result<Record, FormError> {

@@ -1,6 +1,6 @@
 //! Sessions.
 use crate::transaction::Tx;
-use cs_base::{Cursor, Memory, Sequence, Writer};
+use cs_base::{Cursor, MOST_SESSION, Memory, Sequence, Writer};
 use cs_tx_value::{
     Encoded, FormError, copy_each, few_fit, read_counted, room_counted, skip_counted, write_counted,
 };
@@ -18,7 +18,8 @@ pub struct Session {
 impl Encoded for Session {
     ghost use Rattle.cs_tx_form.specs.Session.{session_encoding, SessionFits};
     ghost use Rattle.cs_tx_form.specs.Reading.{session_at};
-    ghost use Rattle.cs_tx_form.specs.Laws.{session_form, session_short};
+    ghost use Rattle.cs_base.specs.declared.limits.TheConstants.{MOST_SESSION};
+    ghost use Rattle.cs_tx_form.specs.laws.Session.{session_form, session_short};
 
     ghost encoding = { session_encoding };
 
@@ -26,9 +27,9 @@ impl Encoded for Session {
 
     ghost found_at = { session_at };
 
-    ghost LIMIT = { 8351 };
+    ghost LIMIT = { MOST_SESSION };
 
-    const LIMIT: usize = 8351;
+    const LIMIT: usize = MOST_SESSION;
 
     #[tactic(auto, unfolding(crate::specs::Reading::session_at, cs_base::specs::Fields::pair_at))]
     fn read(alloc: Global, cursor: &mut Cursor<'_>) -> Result<Session, FormError> {

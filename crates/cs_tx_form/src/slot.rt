@@ -3,11 +3,8 @@ ghost use Rattle.std.specs.Prelude.{◌≡◌};
 ghost use Rattle.cs_tx_value.specs.Reading.{ReadsValue, Passes};
 ghost use Rattle.cs_tx_form.specs.Log.{slot_at};
 
-use cs_base::Cursor;
+use cs_base::{Cursor, LAST_SLOT};
 use cs_tx_value::FormError;
-
-/// The last slot of a shard's order: there are 2^62.
-pub const LAST_SLOT: u64 = 4611686018427387903;
 
 /// The slot at the cursor.
 #[tactic(auto, unfolding(cs_base::specs::Fields::tested_at))]

@@ -13,10 +13,10 @@ pub enum State {
 }
 
 impl Encoded for State {
-    ghost use Rattle.cs_tx_value.specs.Limits.{unlimited};
+    ghost use Rattle.cs_tx_value.specs.laws.Limits.{unlimited};
     ghost use Rattle.cs_tx_form.specs.State.{state_encoding, StateFits};
     ghost use Rattle.cs_tx_form.specs.Reading.{state_at};
-    ghost use Rattle.cs_tx_form.specs.Laws.{state_form};
+    ghost use Rattle.cs_tx_form.specs.laws.Session.{state_form};
 
     ghost encoding = { state_encoding };
 
@@ -26,7 +26,7 @@ impl Encoded for State {
 
     ghost LIMIT = { 18446744073709551615 };
 
-    const LIMIT: usize = 18446744073709551615;
+    const LIMIT: usize = usize::MAX;
 
     #[tactic(auto, unfolding(cs_tx_value::specs::Kinds::kinds_at, cs_base::specs::Fields::pair_at))]
     fn read(alloc: Global, cursor: &mut Cursor<'_>) -> Result<State, FormError> {

@@ -12,9 +12,9 @@ pub struct Stored {
 }
 
 impl Encoded for Stored {
-    ghost use Rattle.cs_tx_value.specs.Limits.{unlimited};
+    ghost use Rattle.cs_tx_value.specs.laws.Limits.{unlimited};
     ghost use Rattle.cs_tx_form.specs.Record.{stored_encoding, StoredFits, stored_at};
-    ghost use Rattle.cs_tx_form.specs.RecordLaws.{stored_form};
+    ghost use Rattle.cs_tx_form.specs.laws.Record.{stored_form};
 
     ghost encoding = { stored_encoding };
 
@@ -24,7 +24,7 @@ impl Encoded for Stored {
 
     ghost LIMIT = { 18446744073709551615 };
 
-    const LIMIT: usize = 18446744073709551615;
+    const LIMIT: usize = usize::MAX;
 
     #[tactic(auto, unfolding(crate::specs::Record::stored_at, cs_base::specs::Fields::pair_at))]
     fn read(alloc: Global, cursor: &mut Cursor<'_>) -> Result<Stored, FormError> {

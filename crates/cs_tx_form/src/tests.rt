@@ -1,5 +1,5 @@
 use super::*;
-use cs_base::{Key, Sequence, Writer};
+use cs_base::{Key, LAST_SLOT, Sequence, Writer};
 use cs_tx_value::{Digest, Encoded, FormError, Name, Object, Value};
 use std::alloc::Global;
 use std::process::Abort;

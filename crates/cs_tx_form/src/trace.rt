@@ -69,10 +69,10 @@ fn put_back(trace: &Trace, out: &mut Writer) -> Result<(), Memory>
 }
 
 impl Encoded for Trace {
-    ghost use Rattle.cs_tx_value.specs.Limits.{unlimited};
+    ghost use Rattle.cs_tx_value.specs.laws.Limits.{unlimited};
     ghost use Rattle.cs_tx_form.specs.Transaction.{trace_encoding, TraceFits};
     ghost use Rattle.cs_tx_form.specs.Reading.{trace_at};
-    ghost use Rattle.cs_tx_form.specs.Laws.{trace_form};
+    ghost use Rattle.cs_tx_form.specs.laws.Session.{trace_form};
 
     ghost encoding = { trace_encoding };
 
@@ -82,7 +82,7 @@ impl Encoded for Trace {
 
     ghost LIMIT = { 18446744073709551615 };
 
-    const LIMIT: usize = 18446744073709551615;
+    const LIMIT: usize = usize::MAX;
 
     #[tactic(auto, unfolding(crate::specs::Reading::trace_at, crate::specs::Reading::front_at, crate::specs::Reading::back_at, cs_base::specs::Fields::pair_at))]
     fn read(alloc: Global, cursor: &mut Cursor<'_>) -> Result<Trace, FormError> {

@@ -1,6 +1,6 @@
 //! Transactions.
 use crate::trace::Trace;
-use cs_base::{Cursor, Memory, Sequence, Writer};
+use cs_base::{Cursor, MOST_TX, Memory, Sequence, Writer};
 use cs_tx_value::{
     Encoded, FormError, copy_each, few_fit, read_some, room_counted, skip_some, write_counted,
 };
@@ -15,7 +15,8 @@ pub struct Tx {
 impl Encoded for Tx {
     ghost use Rattle.cs_tx_form.specs.Transaction.{tx_encoding, TxFits};
     ghost use Rattle.cs_tx_form.specs.Reading.{tx_at};
-    ghost use Rattle.cs_tx_form.specs.Laws.{tx_form};
+    ghost use Rattle.cs_base.specs.declared.limits.TheConstants.{MOST_TX};
+    ghost use Rattle.cs_tx_form.specs.laws.Session.{tx_form};
 
     ghost encoding = { tx_encoding };
 
@@ -23,15 +24,15 @@ impl Encoded for Tx {
 
     ghost found_at = { tx_at };
 
-    ghost LIMIT = { 8192 };
+    ghost LIMIT = { MOST_TX };
 
-    const LIMIT: usize = 8192;
+    const LIMIT: usize = MOST_TX;
 
     #[tactic(auto, unfolding(crate::specs::Reading::tx_at, cs_base::specs::Fields::within_at))]
     fn read(alloc: Global, cursor: &mut Cursor<'_>) -> Result<Tx, FormError> {
         let before = cursor.len();
         let traces = read_some(alloc, cursor, 16)?;
-        if before.saturating_sub(cursor.len()) > 8192 {
+        if before.saturating_sub(cursor.len()) > MOST_TX {
             return Err(FormError::BadForm);
         }
         Ok(Tx { traces })
@@ -41,7 +42,7 @@ impl Encoded for Tx {
     fn skip(cursor: &mut Cursor<'_>) -> Result<(), FormError> {
         let before = cursor.len();
         skip_some::<Trace>(cursor, 16)?;
-        if before.saturating_sub(cursor.len()) > 8192 {
+        if before.saturating_sub(cursor.len()) > MOST_TX {
             return Err(FormError::BadForm);
         }
         Ok(())
@@ -55,7 +56,7 @@ impl Encoded for Tx {
         if self.traces.is_empty() || !few_fit(&self.traces, 16) {
             return false;
         }
-        self.room(8192).is_some()
+        self.room(MOST_TX).is_some()
     }
 
     fn room(&self, room: usize) -> Option<usize> {

@@ -11,10 +11,10 @@ pub enum Vote {
 }
 
 impl Encoded for Vote {
-    ghost use Rattle.cs_tx_value.specs.Limits.{unlimited};
+    ghost use Rattle.cs_tx_value.specs.laws.Limits.{unlimited};
     ghost use Rattle.cs_tx_form.specs.Session.{vote_encoding};
     ghost use Rattle.cs_tx_form.specs.Reading.{vote_at};
-    ghost use Rattle.cs_tx_form.specs.Laws.{vote_form};
+    ghost use Rattle.cs_tx_form.specs.laws.Session.{vote_form};
 
     ghost encoding = { vote_encoding };
 
@@ -24,7 +24,7 @@ impl Encoded for Vote {
 
     ghost LIMIT = { 18446744073709551615 };
 
-    const LIMIT: usize = 18446744073709551615;
+    const LIMIT: usize = usize::MAX;
 
     #[tactic(auto, unfolding(cs_tx_value::specs::Kinds::kinds_at))]
     fn read(_alloc: Global, cursor: &mut Cursor<'_>) -> Result<Vote, FormError> {

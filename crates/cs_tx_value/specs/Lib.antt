@@ -1,12 +1,7 @@
-pub mod Limits
 pub mod Reading
 pub mod Encoding
 pub mod Kinds
-pub mod Layers
-pub mod Laws
 pub mod Name
-pub mod NameLaw
 pub mod Object
-pub mod ObjectLaw
 pub mod Key
-pub mod KeyLaw
+pub mod laws

@@ -1,5 +1,6 @@
 -- Objects: a contract's id, a type's name and at most 16 values, in at most 4,096 bytes.
 use Rattle.std.specs.Prelude.{◌≡◌, ℕ, ◌≤◌, List, ◌++◌, length}
+use Rattle.cs_base.specs.declared.limits.TheConstants.{MOST_OBJECT}
 use Rattle.cs_base.specs.Fields.{IsBytes, counted, Found, ◌<$>◌, bytes_at, counted_at, pair_at, within_at}
 use Rattle.cs_tx_value.specs.declared.object.Object.{Object}
 use Rattle.cs_tx_value.specs.declared.value.Value.{Value}
@@ -17,7 +18,7 @@ pub record ObjectFits (o : Object) : Type 0 where
   pub contract : DigestFits o.contract
   pub type_name : NameFits o.type_name
   pub values : AtMost 16 ValueFits o.values
-  pub small : length (object_encoding o) ≤ 4096
+  pub small : length (object_encoding o) ≤ MOST_OBJECT
 
 abbrev pub object_of : List ℕ × (List ℕ × List Value) → Object
 object_of p = record { contract = p.0; type_name = p.1.0; values = p.1.1 }
@@ -27,4 +28,4 @@ abbrev pub object_fields_at : List ℕ → Found Object
 object_fields_at bytes = object_of <$> pair_at (bytes_at 32) (pair_at name_at (counted_at 16 (value_at 4))) bytes
 
 unfoldable pub object_at : List ℕ → Found Object
-object_at = within_at 4096 object_fields_at
+object_at = within_at MOST_OBJECT object_fields_at

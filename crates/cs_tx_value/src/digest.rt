@@ -10,7 +10,7 @@ use std::alloc::Global;
 pub type Digest = [u8; 32];
 
 impl Encoded for [u8; 32] {
-    ghost use Rattle.cs_tx_value.specs.Limits.{unlimited};
+    ghost use Rattle.cs_tx_value.specs.laws.Limits.{unlimited};
     ghost use Rattle.std.specs.Prelude.{◌≡◌, length};
     ghost use Rattle.cs_base.specs.Fields.{IsBytes, bytes_at};
     ghost use Rattle.cs_base.proofs.Forms.{bytes_form};
@@ -23,7 +23,7 @@ impl Encoded for [u8; 32] {
 
     ghost LIMIT = { 18446744073709551615 };
 
-    const LIMIT: usize = 18446744073709551615;
+    const LIMIT: usize = usize::MAX;
 
     fn read(_alloc: Global, cursor: &mut Cursor<'_>) -> Result<[u8; 32], FormError> {
         let bytes = cursor.take(32)?;

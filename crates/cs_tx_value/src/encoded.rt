@@ -52,14 +52,16 @@ pub trait Encoded: Sized + Drop {
 
     ghost form: { IsForm encoding Fits found_at };
 
-    ghost short: { (value : Self) → Fits value → length (encoding value) < 2 ^ 64 → length (encoding value) ≤ LIMIT };
+    ghost short: { (value : Self) → Fits value → length (encoding value) < 2 ^ 64
+        → length (encoding value) ≤ LIMIT };
 
     /// The value that the bytes encode, all of the bytes.
     final fn decode(alloc: Global, bytes: &[u8]) -> Result<Self, FormError>
         // What is answered has this encoding.
         ensures found { IfOk result (λ value. Self.Fits value × (bytes.now ≡ Self.encoding value)) }
         // What the bytes encode is answered, unless memory ran out.
-        ensures only { (value : Self) → Self.Fits value → bytes.now ≡ Self.encoding value → AnswersValue result value }
+        ensures only { (value : Self) → Self.Fits value → bytes.now ≡ Self.encoding value
+            → AnswersValue result value }
         ensures long { IsErrOf result TooLong ↔ (Self.LIMIT < length bytes.now) }
     {
         if bytes.len() > Self::LIMIT {
@@ -71,9 +73,11 @@ pub trait Encoded: Sized + Drop {
     /// Whether the bytes are an encoding, as `decode` finds, without the value.
     final fn check_form(bytes: &[u8]) -> Result<(), FormError>
         // Some value has this encoding.
-        ensures found { IfOk result (λ _. (value : Self) × Self.Fits value × (bytes.now ≡ Self.encoding value)) }
+        ensures found { IfOk result (λ _.
+            (value : Self) × Self.Fits value × (bytes.now ≡ Self.encoding value)) }
         // An encoding is found to be one.
-        ensures only { (value : Self) → Self.Fits value → bytes.now ≡ Self.encoding value → IsOk result }
+        ensures only { (value : Self) → Self.Fits value → bytes.now ≡ Self.encoding value
+            → IsOk result }
         ensures long { IsErrOf result TooLong ↔ (Self.LIMIT < length bytes.now) }
         ensures memory { IsErrOf result NoMemory → ⊥ }
     {

@@ -10,7 +10,8 @@ use cs_base::{Cursor, Key, Memory, Writer};
 use std::alloc::Global;
 
 fn put_dummy(shard: u16, serial: u64, out: &mut Writer) -> Result<(), Memory>
-    ensures ok { OnOk result (out.new ≡ out.old ++ (1 ∷ (to_be_bytes w16 shard ++ to_be_bytes w64 serial))) }
+    ensures ok { OnOk result
+        (out.new ≡ out.old ++ (1 ∷ (to_be_bytes w16 shard ++ to_be_bytes w64 serial))) }
     ensures err { OnErr result (Begins out.new out.old) }
 {
     out.u8(1)?;
@@ -18,9 +19,9 @@ fn put_dummy(shard: u16, serial: u64, out: &mut Writer) -> Result<(), Memory>
 }
 
 impl Encoded for Key {
-    ghost use Rattle.cs_tx_value.specs.Limits.{unlimited};
+    ghost use Rattle.cs_tx_value.specs.laws.Limits.{unlimited};
     ghost use Rattle.cs_tx_value.specs.Key.{key_encoding, KeyFits, key_at};
-    ghost use Rattle.cs_tx_value.specs.KeyLaw.{key_form};
+    ghost use Rattle.cs_tx_value.specs.laws.Key.{key_form};
 
     ghost encoding = { key_encoding };
 
@@ -30,7 +31,7 @@ impl Encoded for Key {
 
     ghost LIMIT = { 18446744073709551615 };
 
-    const LIMIT: usize = 18446744073709551615;
+    const LIMIT: usize = usize::MAX;
 
     #[tactic(auto, unfolding(crate::specs::Kinds::kinds_at, cs_base::specs::Fields::pair_at))]
     fn read(alloc: Global, cursor: &mut Cursor<'_>) -> Result<Key, FormError> {

@@ -74,11 +74,11 @@ impl Name {
 }
 
 impl Encoded for Name {
-    ghost use Rattle.cs_tx_value.specs.Limits.{unlimited};
+    ghost use Rattle.cs_tx_value.specs.laws.Limits.{unlimited};
     ghost use Rattle.std.specs.Prelude.{◌≡◌, ◌≤◌, ◌∷◌, length, true};
     ghost use Rattle.cs_base.specs.Fields.{IsBytes};
     ghost use Rattle.cs_tx_value.specs.Name.{name_encoding, NameFits, name_at, is_spelled};
-    ghost use Rattle.cs_tx_value.specs.NameLaw.{name_form};
+    ghost use Rattle.cs_tx_value.specs.laws.Name.{name_form};
 
     ghost encoding = { name_encoding };
 
@@ -88,7 +88,7 @@ impl Encoded for Name {
 
     ghost LIMIT = { 18446744073709551615 };
 
-    const LIMIT: usize = 18446744073709551615;
+    const LIMIT: usize = usize::MAX;
 
     #[tactic(auto, unfolding(cs_base::specs::Fields::upto_at, cs_base::specs::Fields::tested_at))]
     fn read(alloc: Global, cursor: &mut Cursor<'_>) -> Result<Name, FormError> {

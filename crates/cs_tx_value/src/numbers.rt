@@ -7,7 +7,7 @@ use cs_base::{Cursor, Memory, Writer};
 use std::alloc::Global;
 
 impl Encoded for u8 {
-    ghost use Rattle.cs_tx_value.specs.Limits.{unlimited};
+    ghost use Rattle.cs_tx_value.specs.laws.Limits.{unlimited};
     ghost use Rattle.std.specs.Prelude.{◌<◌, [], ◌∷◌};
     ghost use Rattle.std.specs.Int.{w8};
     ghost use Rattle.cs_base.specs.Fields.{number_at};
@@ -21,7 +21,7 @@ impl Encoded for u8 {
 
     ghost LIMIT = { 18446744073709551615 };
 
-    const LIMIT: usize = 18446744073709551615;
+    const LIMIT: usize = usize::MAX;
 
     fn read(_alloc: Global, cursor: &mut Cursor<'_>) -> Result<u8, FormError> {
         Ok(cursor.u8()?)
@@ -55,7 +55,7 @@ impl Encoded for u8 {
 }
 
 impl Encoded for u16 {
-    ghost use Rattle.cs_tx_value.specs.Limits.{unlimited};
+    ghost use Rattle.cs_tx_value.specs.laws.Limits.{unlimited};
     ghost use Rattle.std.specs.Prelude.{◌<◌, ◌^◌};
     ghost use Rattle.std.specs.Int.{w16, to_be_bytes};
     ghost use Rattle.cs_base.specs.Fields.{number_at};
@@ -69,7 +69,7 @@ impl Encoded for u16 {
 
     ghost LIMIT = { 18446744073709551615 };
 
-    const LIMIT: usize = 18446744073709551615;
+    const LIMIT: usize = usize::MAX;
 
     fn read(_alloc: Global, cursor: &mut Cursor<'_>) -> Result<u16, FormError> {
         Ok(cursor.u16()?)
@@ -104,7 +104,7 @@ impl Encoded for u16 {
 }
 
 impl Encoded for u64 {
-    ghost use Rattle.cs_tx_value.specs.Limits.{unlimited};
+    ghost use Rattle.cs_tx_value.specs.laws.Limits.{unlimited};
     ghost use Rattle.std.specs.Prelude.{◌<◌, ◌^◌};
     ghost use Rattle.std.specs.Int.{w64, to_be_bytes};
     ghost use Rattle.cs_base.specs.Fields.{number_at};
@@ -118,7 +118,7 @@ impl Encoded for u64 {
 
     ghost LIMIT = { 18446744073709551615 };
 
-    const LIMIT: usize = 18446744073709551615;
+    const LIMIT: usize = usize::MAX;
 
     fn read(_alloc: Global, cursor: &mut Cursor<'_>) -> Result<u64, FormError> {
         Ok(cursor.u64()?)

@@ -6,7 +6,7 @@ use crate::form::FormError;
 use crate::lists::{copy_each, few_fit, read_counted, room_counted, skip_counted, write_counted};
 use crate::name::Name;
 use crate::value::Value;
-use cs_base::{Cursor, Memory, Sequence, Writer};
+use cs_base::{Cursor, MOST_OBJECT, Memory, Sequence, Writer};
 use std::alloc::Global;
 
 /// An object of a contract. One that fits has at most 16 values, and an encoding of at most
@@ -37,7 +37,8 @@ impl Object {
 
 impl Encoded for Object {
     ghost use Rattle.cs_tx_value.specs.Object.{object_encoding, ObjectFits, object_at};
-    ghost use Rattle.cs_tx_value.specs.ObjectLaw.{object_form};
+    ghost use Rattle.cs_base.specs.declared.limits.TheConstants.{MOST_OBJECT};
+    ghost use Rattle.cs_tx_value.specs.laws.Object.{object_form};
 
     ghost encoding = { object_encoding };
 
@@ -45,9 +46,9 @@ impl Encoded for Object {
 
     ghost found_at = { object_at };
 
-    ghost LIMIT = { 4096 };
+    ghost LIMIT = { MOST_OBJECT };
 
-    const LIMIT: usize = 4096;
+    const LIMIT: usize = MOST_OBJECT;
 
     #[tactic(auto, unfolding(crate::specs::Object::object_at, cs_base::specs::Fields::within_at, cs_base::specs::Fields::pair_at))]
     fn read(alloc: Global, cursor: &mut Cursor<'_>) -> Result<Object, FormError> {
@@ -55,7 +56,7 @@ impl Encoded for Object {
         let contract = Digest::read(alloc, cursor)?;
         let type_name = Name::read(alloc, cursor)?;
         let values = read_counted(alloc, cursor, 16)?;
-        if before.saturating_sub(cursor.len()) > 4096 {
+        if before.saturating_sub(cursor.len()) > MOST_OBJECT {
             return Err(FormError::BadForm);
         }
         Ok(Object {
@@ -71,7 +72,7 @@ impl Encoded for Object {
         Digest::skip(cursor)?;
         Name::skip(cursor)?;
         skip_counted::<Value>(cursor, 16)?;
-        if before.saturating_sub(cursor.len()) > 4096 {
+        if before.saturating_sub(cursor.len()) > MOST_OBJECT {
             return Err(FormError::BadForm);
         }
         Ok(())
@@ -87,7 +88,7 @@ impl Encoded for Object {
         if !self.contract.fits() || !self.type_name.fits() || !few_fit(&self.values, 16) {
             return false;
         }
-        self.room(4096).is_some()
+        self.room(MOST_OBJECT).is_some()
     }
 
     fn room(&self, room: usize) -> Option<usize> {

@@ -7,7 +7,7 @@ use cs_base::{Cursor, Memory, Writer};
 use std::alloc::Global;
 
 impl<A: Encoded, B: Encoded> Encoded for (A, B) {
-    ghost use Rattle.cs_tx_value.specs.Limits.{unlimited};
+    ghost use Rattle.cs_tx_value.specs.laws.Limits.{unlimited};
     ghost use Rattle.std.specs.Prelude.{◌++◌};
     ghost use Rattle.cs_base.specs.Fields.{pair_at};
     ghost use Rattle.cs_base.proofs.Forms.{pair_form};
@@ -20,7 +20,7 @@ impl<A: Encoded, B: Encoded> Encoded for (A, B) {
 
     ghost LIMIT = { 18446744073709551615 };
 
-    const LIMIT: usize = 18446744073709551615;
+    const LIMIT: usize = usize::MAX;
 
     #[tactic(auto, unfolding(cs_base::specs::Fields::pair_at))]
     fn read(alloc: Global, cursor: &mut Cursor<'_>) -> Result<(A, B), FormError> {
@@ -53,7 +53,8 @@ impl<A: Encoded, B: Encoded> Encoded for (A, B) {
         Ok((self.0.copy(alloc)?, self.1.copy(alloc)?))
     }
 
-    ghost form = { pair_form A.encoding A.Fits A.found_at A.form B.encoding B.Fits B.found_at B.form };
+    ghost form = { pair_form A.encoding A.Fits A.found_at A.form
+        B.encoding B.Fits B.found_at B.form };
 
     ghost short = { λ value fits lt. unlimited _ lt };
 }

@@ -18,7 +18,7 @@ fn values_room(values: &[Value], room: usize) -> Option<usize>
 
 /// What is left of so much room behind the encoding of a value.
 #[cycle(room)]
-#[tactic(auto, using(crate::specs::Layers::writes))]
+#[tactic(auto, using(crate::specs::laws::Layers::writes))]
 pub fn value_room(value: &Value, room: usize) -> Option<usize>
     ensures { LeavesRoom (value_encoding value.now) room result }
 {

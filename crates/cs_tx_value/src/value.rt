@@ -33,10 +33,10 @@ impl Value {
 }
 
 impl Encoded for Value {
-    ghost use Rattle.cs_tx_value.specs.Limits.{unlimited};
+    ghost use Rattle.cs_tx_value.specs.laws.Limits.{unlimited};
     ghost use Rattle.cs_tx_value.specs.Encoding.{value_encoding, ValueFits};
     ghost use Rattle.cs_tx_value.specs.Reading.{value_at};
-    ghost use Rattle.cs_tx_value.specs.Laws.{value_form};
+    ghost use Rattle.cs_tx_value.specs.laws.Value.{value_form};
 
     ghost encoding = { value_encoding };
 
@@ -46,7 +46,7 @@ impl Encoded for Value {
 
     ghost LIMIT = { 18446744073709551615 };
 
-    const LIMIT: usize = 18446744073709551615;
+    const LIMIT: usize = usize::MAX;
 
     fn read(alloc: Global, cursor: &mut Cursor<'_>) -> Result<Value, FormError> {
         value_of(alloc, cursor, 4)

@@ -9,7 +9,8 @@ use crate::value::Value;
 use cs_base::{Memory, Writer};
 
 fn put_int(number: i64, out: &mut Writer) -> Result<(), Memory>
-    ensures ok { OnOk result (out.new ≡ out.old ++ (0 ∷ to_be_bytes w64 (cast_unsigned w64 number))) }
+    ensures ok { OnOk result
+        (out.new ≡ out.old ++ (0 ∷ to_be_bytes w64 (cast_unsigned w64 number))) }
     ensures err { OnErr result (Begins out.new out.old) }
 {
     out.u8(0)?;
@@ -26,7 +27,8 @@ fn put_bool(flag: bool, out: &mut Writer) -> Result<(), Memory>
 
 fn put_text(text: &[u8], out: &mut Writer) -> Result<(), Memory>
     requires { length text.now ≤ 256 }
-    ensures ok { OnOk result (out.new ≡ out.old ++ (2 ∷ (to_be_bytes w16 (length text.now) ++ text.now))) }
+    ensures ok { OnOk result
+        (out.new ≡ out.old ++ (2 ∷ (to_be_bytes w16 (length text.now) ++ text.now))) }
     ensures err { OnErr result (Begins out.new out.old) }
 {
     out.u8(2)?;
@@ -60,7 +62,7 @@ fn put_items(items: &[Value], out: &mut Writer) -> Result<(), Memory>
 
 /// Appends the encoding of a value.
 #[cycle(write)]
-#[tactic(auto, using(crate::specs::Layers::writes))]
+#[tactic(auto, using(crate::specs::laws::Layers::writes))]
 pub fn write_value(value: &Value, out: &mut Writer) -> Result<(), Memory>
     requires { IsBounded value.now }
     ensures ok { OnOk result (out.new ≡ out.old ++ value_encoding value.now) }

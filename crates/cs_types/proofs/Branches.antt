@@ -21,7 +21,7 @@ use Rattle.cs_types_kinds.specs.Judging.{wanted}
 use Rattle.cs_types_kinds.specs.Parts.{part_of}
 use Rattle.cs_types_kinds.proofs.Layers.{part_first}
 use Rattle.cs_types.specs.Answers.{Fails}
-use Rattle.cs_types.specs.Stating.{Added, for_in_of}
+use Rattle.cs_types.specs.Stating.{Added, for_in_told}
 use Rattle.cs_types.specs.Blocks.{action_told, block_told}
 use Rattle.cs_types.specs.Declaring.{slots_told, names_told, use_of_created, use_of_returned, method_names}
 use Rattle.cs_types.specs.Steps.{Stays, Adds, Binds}
@@ -36,11 +36,11 @@ adds_as (Err e) a b t u is h = fails_as e t u (sym is) h
 -- ---- a loop over a list
 
 pub for_in_is : (a : Action) (name : Text) (list : Expr) (each : Block) (place : ℕ) (s : InSight) (told : Told Judged) → a ≡ action.ForIn name list each → told ≡ (part_of s list).found
-    → action_told a place s ≡ for_in_of name told (out-Expr list).first (block_told each) s
+    → action_told a place s ≡ for_in_told name told (out-Expr list).first (block_told each) s
 for_in_is a name list each place s told is h =
     action_forin a name list each place s is
-    ∙ ap (λ (r : Told Judged). for_in_of name r (part_of s list).first (block_told each) s) (sym h)
-    ∙ ap (λ (first : ℕ). for_in_of name told first (block_told each) s) (part_first s list)
+    ∙ ap (λ (r : Told Judged). for_in_told name r (part_of s list).first (block_told each) s) (sym h)
+    ∙ ap (λ (first : ℕ). for_in_told name told first (block_told each) s) (part_first s list)
 
 -- ---- two blocks
 

@@ -8,7 +8,7 @@ use Rattle.cs_types_kinds.specs.declared.fault.TypeError.{TypeError}
 use Rattle.cs_types_kinds.specs.declared.fault.TypeError.TheVariants as error
 use Rattle.cs_types_kinds.specs.declared.scope.Costs.{Costs}
 use Rattle.cs_types_kinds.specs.Told.{Told, mistyped, through}
-use Rattle.cs_types_kinds.specs.Lookups.{method_of}
+use Rattle.cs_types_kinds.specs.Lookups.{method_number}
 use Rattle.cs_types.specs.Answers.{Fails}
 use Rattle.cs_types.specs.Stating.{takes_many}
 use Rattle.cs_types.specs.Blocks.{block_told}
@@ -18,19 +18,21 @@ use Rattle.cs_types.specs.Declaring.{types_told, method_names}
 abbrev pub body_told : Contract → List Costs → Bool → Method → Block → Told ℕ
 body_told contract costs in_check m block =
     method_names contract.types in_check m >>= λ names.
-    block_told block (record { contract = contract; costs = costs; starred = takes_many m; in_check = in_check; names = names })
+    block_told block
+    (record { contract = contract; costs = costs; starred = takes_many m; in_check = in_check; names = names })
 
 -- the costs of a method below others; there are at most 64, of distinct names
 abbrev pub method_costs : Contract → List Costs → List Method → Method → Told Costs
 method_costs contract costs above m =
-    if nat_le 64 (length above) || is_some (method_of m.name.bytes above) then mistyped m.name.place
+    if nat_le 64 (length above) || is_some (method_number m.name.bytes above) then mistyped m.name.place
     else body_told contract costs false m m.procedure >>= λ procedure.
     body_told contract costs true m m.check >>= λ check.
     Ok (record { procedure = procedure; check = check })
 
 -- one method more, behind as many as there are costs
 abbrev pub method_told : Contract → List Costs → Method → Told (List Costs)
-method_told contract costs m = method_costs contract costs (take (length costs) contract.methods) m >>= λ c. Ok (costs ++ c ∷ [])
+method_told contract costs m =
+    method_costs contract costs (take (length costs) contract.methods) m >>= λ c. Ok (costs ++ c ∷ [])
 
 abbrev pub methods_told : Contract → Told (List Costs)
 methods_told contract = through (method_told contract) [] contract.methods
@@ -42,13 +44,17 @@ judged_costs contract = types_told contract.types >>= λ types. methods_told con
 -- the first cost above the limit
 abbrev pub first_dear : List Costs → Option ℕ
 first_dear [] = None
-first_dear (c ∷ cs) = if nat_lt 1000000 c.procedure then Some c.procedure else if nat_lt 1000000 c.check then Some c.check else first_dear cs
+first_dear (c ∷ cs) =
+    if nat_lt 1000000 c.procedure then Some c.procedure
+    else if nat_lt 1000000 c.check then Some c.check
+    else first_dear cs
 
 abbrev pub or_dear : List Costs → Option ℕ → Told (List Costs)
 or_dear costs None = Ok costs
 or_dear costs (Some cost) = Err (error.Cost cost)
 
--- the costs of an accepted contract; else its first place at fault, or where there is none the first cost above the limit
+-- the costs of an accepted contract; else its first place at fault, or where there is none
+-- the first cost above the limit
 abbrev pub accepted_costs : Contract → Told (List Costs)
 accepted_costs contract = judged_costs contract >>= λ costs. or_dear costs (first_dear costs)
 

@@ -23,29 +23,29 @@ parts es sight = map (part_of sight) es
 abbrev pub Acted : Type 0
 Acted = ℕ → Stated
 
-abbrev pub layer_action : Action-F Acted Blocked Stated → Acted
-layer_action (Action-F.Let name value) place = let_judged name (part value)
-layer_action (Action-F.Set name value) place = set_judged name (part value)
-layer_action (Action-F.If condition block) place = if_judged (part condition) block
-layer_action (Action-F.IfElse condition block other) place = if_else_judged (part condition) block other
-layer_action (Action-F.ForIn name list each) place = for_in_judged name (part list) each
-layer_action (Action-F.ForTo name count each) place = for_to_judged name count each place
-layer_action (Action-F.Make slot object values) place = make_judged slot object (parts values) place
-layer_action (Action-F.Call names method arguments) place = call_judged names method (parts arguments) place
-layer_action (Action-F.Answer value) place = answer_judged (part value) place
+abbrev pub action_from_parts : Action-F Acted Blocked Stated → Acted
+action_from_parts (Action-F.Let name value) place = let_judged name (part value)
+action_from_parts (Action-F.Set name value) place = set_judged name (part value)
+action_from_parts (Action-F.If condition block) place = if_judged (part condition) block
+action_from_parts (Action-F.IfElse condition block other) place = if_else_judged (part condition) block other
+action_from_parts (Action-F.ForIn name list each) place = for_in_judged name (part list) each
+action_from_parts (Action-F.ForTo name count each) place = for_to_judged name count each place
+action_from_parts (Action-F.Make slot object values) place = make_judged slot object (parts values) place
+action_from_parts (Action-F.Call names method arguments) place = call_judged names method (parts arguments) place
+action_from_parts (Action-F.Answer value) place = answer_judged (part value) place
 
-abbrev pub layer_statement : Statement-F Acted Blocked Stated → Stated
-layer_statement s sight = stated (s.action s.place sight)
+abbrev pub statement_from_parts : Statement-F Acted Blocked Stated → Stated
+statement_from_parts s sight = stated (s.action s.place sight)
 
-abbrev pub layer_block : Block-F Acted Blocked Stated → Blocked
-layer_block b = block_judged b.statements
+abbrev pub block_from_parts : Block-F Acted Blocked Stated → Blocked
+block_from_parts b = block_judged b.statements
 
 -- what is told of a block, where it stands
 unfoldable pub block_told : Block → InSight → Told ℕ
-block_told = fold-Block Acted Blocked Stated layer_action layer_block layer_statement
+block_told = fold-Block Acted Blocked Stated action_from_parts block_from_parts statement_from_parts
 
 unfoldable pub statement_told : Statement → InSight → Told Added
-statement_told = fold-Statement Acted Blocked Stated layer_action layer_block layer_statement
+statement_told = fold-Statement Acted Blocked Stated action_from_parts block_from_parts statement_from_parts
 
 unfoldable pub action_told : Action → ℕ → InSight → Told Added
-action_told = fold-Action Acted Blocked Stated layer_action layer_block layer_statement
+action_told = fold-Action Acted Blocked Stated action_from_parts block_from_parts statement_from_parts

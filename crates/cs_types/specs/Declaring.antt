@@ -14,7 +14,7 @@ use Rattle.cs_types_kinds.specs.declared.scope.Use.TheVariants as usage
 use Rattle.cs_types_kinds.specs.declared.scope.Entry.{Entry}
 use Rattle.cs_types_kinds.specs.Told.{Told, mistyped, unbound, through}
 use Rattle.cs_types_kinds.specs.Scopes.{is_declared, with_name}
-use Rattle.cs_types_kinds.specs.Lookups.{type_of, declared_kind}
+use Rattle.cs_types_kinds.specs.Lookups.{type_number, declared_kind}
 
 -- ---- types
 
@@ -33,7 +33,7 @@ fields_told = through field_told []
 -- at most 64 types, of distinct names
 abbrev pub type_told : List TypeDef → TypeDef → Told (List TypeDef)
 type_told before t =
-    if nat_le 64 (length before) || is_some (type_of t.name.bytes before) then mistyped t.name.place
+    if nat_le 64 (length before) || is_some (type_number t.name.bytes before) then mistyped t.name.place
     else fields_told t.fields >>= λ fields. Ok (before ++ t ∷ [])
 
 abbrev pub types_told : List TypeDef → Told (List TypeDef)
@@ -52,7 +52,7 @@ slot_of_type slot u names (Some number) = Ok (with_name names slot.name.bytes (s
 abbrev pub slot_told : List TypeDef → Use → Slot → Bool → List Entry → Told (List Entry)
 slot_told types u slot last names =
     if is_declared slot.name.bytes names || slot.many && not last then mistyped slot.name.place
-    else slot_of_type slot u names (type_of slot.object.bytes types)
+    else slot_of_type slot u names (type_number slot.object.bytes types)
 
 abbrev pub is_nil : {X : Type 0} → List X → Bool
 is_nil [] = true

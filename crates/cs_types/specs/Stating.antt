@@ -19,7 +19,7 @@ use Rattle.cs_types_kinds.specs.declared.expressions.Judged.{Judged}
 use Rattle.cs_types_kinds.specs.Told.{Told, mistyped, unbound, through, plus}
 use Rattle.cs_types_kinds.specs.Kinds.{int, bool, same_kind, item_of}
 use Rattle.cs_types_kinds.specs.Scopes.{InSight, seen, created, with_name, with_names}
-use Rattle.cs_types_kinds.specs.Lookups.{type_of, method_of, declared_kind}
+use Rattle.cs_types_kinds.specs.Lookups.{type_number, method_number, declared_kind}
 use Rattle.cs_types_kinds.specs.Judging.{Part, wanted, or_first}
 
 -- a cost, and the names in sight behind it
@@ -68,7 +68,10 @@ is_value _ = false
 abbrev pub let_judged : Text → (InSight → Part) → Stated
 let_judged name value sight =
     if is_taken sight name then mistyped name.place
-    else (value sight).found >>= λ j. if is_value j.kind then Ok (j.cost, with_name sight.names name.bytes j.kind usage.Set) else mistyped (value sight).first
+    else (value sight).found >>= λ j.
+    if is_value j.kind
+    then Ok (j.cost, with_name sight.names name.bytes j.kind usage.Set)
+    else mistyped (value sight).first
 
 abbrev pub can_be_set : Use → Bool
 can_be_set usage.Set = true
@@ -80,30 +83,37 @@ set_seen (Some s) name value = if can_be_set s.usage then wanted s.kind value el
 
 -- a new value of the same kind
 abbrev pub set_judged : Text → (InSight → Part) → Stated
-set_judged name value sight = set_seen (seen name.bytes sight.names) name (value sight) >>= λ cost. Ok (cost, sight.names)
+set_judged name value sight =
+    set_seen (seen name.bytes sight.names) name (value sight) >>= λ cost. Ok (cost, sight.names)
 
 -- ---- blocks in statements
 
 -- a block behind a condition, of which the cost is told
-abbrev pub if_of : Told ℕ → Blocked → Stated
-if_of told block sight = told >>= λ cost. block sight >>= λ d. Ok (plus cost d, sight.names)
+abbrev pub if_told : Told ℕ → Blocked → Stated
+if_told told block sight = told >>= λ cost. block sight >>= λ d. Ok (plus cost d, sight.names)
 
 abbrev pub if_judged : (InSight → Part) → Blocked → Stated
-if_judged condition block sight = if_of (wanted bool (condition sight)) block sight
+if_judged condition block sight = if_told (wanted bool (condition sight)) block sight
 
 -- the dearer of two blocks counts
 abbrev pub if_else_judged : (InSight → Part) → Blocked → Blocked → Stated
 if_else_judged condition block other sight =
-    wanted bool (condition sight) >>= λ cost. block sight >>= λ d. other sight >>= λ e. Ok (plus cost (max d e), sight.names)
+    wanted bool (condition sight) >>= λ cost.
+    block sight >>= λ d.
+    other sight >>= λ e.
+    Ok (plus cost (max d e), sight.names)
 
 -- a loop over a list that is judged and begins there; it is counted with 64 items
-abbrev pub for_in_of : Text → Told Judged → ℕ → Blocked → Stated
-for_in_of name told first each sight =
+abbrev pub for_in_told : Text → Told Judged → ℕ → Blocked → Stated
+for_in_told name told first each sight =
     if is_taken sight name then mistyped name.place
-    else told >>= λ j. or_first first (item_of j.kind) >>= λ k. turn_judged name k each sight >>= λ d. Ok (plus j.cost (turns 64 d), sight.names)
+    else told >>= λ j.
+    or_first first (item_of j.kind) >>= λ k.
+    turn_judged name k each sight >>= λ d.
+    Ok (plus j.cost (turns 64 d), sight.names)
 
 abbrev pub for_in_judged : Text → (InSight → Part) → Blocked → Stated
-for_in_judged name list each sight = for_in_of name (list sight).found (list sight).first each sight
+for_in_judged name list each sight = for_in_told name (list sight).found (list sight).first each sight
 
 -- at most 1,024 turns
 abbrev pub for_to_judged : Text → ℕ → Blocked → ℕ → Stated
@@ -138,7 +148,7 @@ numbered_at (Some number) types = numbered number (slice_get types number)
 
 -- the type of this name
 abbrev pub named_type : List ℕ → List TypeDef → Option Numbered
-named_type name types = numbered_at (type_of name types) types
+named_type name types = numbered_at (type_number name types) types
 
 abbrev pub takes_object : Kind → ℕ → Bool
 takes_object k number = same_kind k (kind.Object number) || same_kind k (kind.Objects number)
@@ -154,19 +164,23 @@ unknown_in (Some s) slot object sight = unbound object.place
 -- an object of a declared type, in a slot
 abbrev pub known_in : Option Seen → Numbered → Text → Text → List Part → InSight → Told ℕ
 known_in None t slot object values sight = not_created sight slot
-known_in (Some s) t slot object values sight = if takes_object s.kind t.0 then fields_wanted t.1.fields values 0 else mistyped object.place
+known_in (Some s) t slot object values sight =
+    if takes_object s.kind t.0 then fields_wanted t.1.fields values 0 else mistyped object.place
 
 -- the number of fields is tested first, then the slot, the type and the values
-abbrev pub make_of : Option Numbered → Text → Text → List Part → ℕ → InSight → Told ℕ
-make_of None slot object values place sight = unknown_in (created slot.bytes sight.names) slot object sight
-make_of (Some t) slot object values place sight =
-    if length t.1.fields == length values then known_in (created slot.bytes sight.names) t slot object values sight else mistyped place
+abbrev pub make_told : Option Numbered → Text → Text → List Part → ℕ → InSight → Told ℕ
+make_told None slot object values place sight = unknown_in (created slot.bytes sight.names) slot object sight
+make_told (Some t) slot object values place sight =
+    if length t.1.fields == length values
+    then known_in (created slot.bytes sight.names) t slot object values sight
+    else mistyped place
 
 -- a new object in a created slot, in a procedure
 abbrev pub make_judged : Text → Text → (InSight → List Part) → ℕ → Stated
 make_judged slot object values place sight =
     if sight.in_check then mistyped place
-    else make_of (named_type object.bytes sight.contract.types) slot object (values sight) place sight >>= λ cost. Ok (cost, sight.names)
+    else make_told (named_type object.bytes sight.contract.types) slot object (values sight) place sight >>= λ cost.
+    Ok (cost, sight.names)
 
 -- ---- calls
 
@@ -192,7 +206,7 @@ callee_at (Some number) methods costs = callee (slice_get methods number) (proce
 
 -- the method of this name, where it stands above
 abbrev pub callee_of : InSight → Text → Option Callee
-callee_of sight name = callee_at (method_of name.bytes sight.contract.methods) sight.contract.methods sight.costs
+callee_of sight name = callee_at (method_number name.bytes sight.contract.methods) sight.contract.methods sight.costs
 
 abbrev pub is_starred : Slot → Bool
 is_starred slot = slot.many
@@ -226,31 +240,36 @@ bound (n ∷ ns) (f ∷ fs) names = one_bound n f names >>= λ more. bound ns fs
 abbrev pub call_unknown : List Text → Text → Stated
 call_unknown names method sight = all_fresh sight names >>= λ _. unbound method.place
 
-abbrev pub called : Callee → List Text → Text → List Part → Stated
-called c names method arguments sight =
+abbrev pub call_known : Callee → List Text → Text → List Part → Stated
+call_known c names method arguments sight =
     if takes_many c.0 then mistyped method.place
-    else fields_wanted c.0.takes arguments c.1 >>= λ cost. bound names c.0.returns sight.names >>= λ more. Ok (cost, more)
+    else fields_wanted c.0.takes arguments c.1 >>= λ cost.
+    bound names c.0.returns sight.names >>= λ more.
+    Ok (cost, more)
 
 abbrev pub has_counts : ℕ → ℕ → Method → Bool
 has_counts arguments names m = length m.takes == arguments && length m.returns == names
 
 -- the numbers of arguments and names are tested first, then the names, the method and the arguments
-abbrev pub call_of : Option Callee → List Text → Text → List Part → ℕ → Stated
-call_of None names method arguments place sight = call_unknown names method sight
-call_of (Some c) names method arguments place sight =
-    if has_counts (length arguments) (length names) c.0 then (all_fresh sight names >>= λ _. called c names method arguments sight) else mistyped place
+abbrev pub call_told : Option Callee → List Text → Text → List Part → ℕ → Stated
+call_told None names method arguments place sight = call_unknown names method sight
+call_told (Some c) names method arguments place sight =
+    if has_counts (length arguments) (length names) c.0
+    then (all_fresh sight names >>= λ _. call_known c names method arguments sight)
+    else mistyped place
 
 -- a call of a method above, in a procedure; neither takes any number of objects
 abbrev pub call_judged : List Text → Text → (InSight → List Part) → ℕ → Stated
 call_judged names method arguments place sight =
     if sight.in_check || sight.starred then mistyped place
-    else call_of (callee_of sight method) names method (arguments sight) place sight
+    else call_told (callee_of sight method) names method (arguments sight) place sight
 
 -- ---- answers
 
 -- the answer of a check
 abbrev pub answer_judged : (InSight → Part) → ℕ → Stated
-answer_judged value place sight = if sight.in_check then (wanted bool (value sight) >>= λ cost. Ok (cost, sight.names)) else mistyped place
+answer_judged value place sight =
+    if sight.in_check then (wanted bool (value sight) >>= λ cost. Ok (cost, sight.names)) else mistyped place
 
 -- a statement costs 1 more than its parts
 abbrev pub stated : Told Added → Told Added

@@ -12,6 +12,10 @@ pub record Stays (before behind : InSight) : Type 0 where
   pub more : List Entry
   pub is : behind ≡ with_names before (before.names ++ more)
 
+-- the contract and the costs of the methods above are the same
+abbrev pub SameAbove : InSight → InSight → Type 0
+SameAbove before behind = (behind.contract ≡ before.contract) × (behind.costs ≡ before.costs)
+
 -- a statement's cost is told, and the names in sight behind it
 abbrev pub Adds : Result ℕ TypeError → InSight → InSight → Told Added → Type 0
 Adds (Ok cost) before behind told = (told ≡ Ok (cost, behind.names)) × Stays before behind

@@ -5,13 +5,12 @@ ghost use Rattle.cs_types.specs.Accepted.{judged_costs, first_dear, IsAccepted, 
 
 use crate::declarations::check_types;
 use crate::methods::methods;
-use cs_lang::{Contract, Sequence};
+use cs_base::Sequence;
+use cs_lang::Contract;
+use cs_lang_token::MOST_COST;
 use cs_types_kinds::{Costs, TypeError};
 use std::alloc::Global;
 use std::marker::Model;
-
-/// The most that a procedure or a check may cost.
-pub const MOST_COST: u64 = 1_000_000;
 
 /// A contract that is well typed and whose bodies cost little enough, with the costs of its methods.
 #[derive(Drop)]

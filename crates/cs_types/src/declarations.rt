@@ -5,14 +5,9 @@ ghost use Rattle.cs_types.specs.Steps.{Passes, Binds};
 ghost use Rattle.cs_types.specs.Declaring.{is_field, field_told, fields_told, type_told, types_told, slot_kind, slot_told, is_nil, slots_told, name_told, names_told, use_of_created, use_of_returned, method_names};
 
 use cs_lang::{Field, Method, Slot, TypeDef};
-use cs_types_kinds::{Kind, Scope, TypeError, Use, declared_kind, type_of};
+use cs_lang_token::{MOST_FIELDS, MOST_TYPES};
+use cs_types_kinds::{Kind, Scope, TypeError, Use, declared_kind, type_number};
 use std::alloc::Global;
-
-/// The most fields of a type.
-const MOST_FIELDS: usize = 16;
-
-/// The most types of a contract.
-const MOST_TYPES: usize = 64;
 
 fn has_field(fields: &[Field], name: &[u8]) -> bool
     ensures { result ≡ list_any (is_field name.now) fields.now }
@@ -59,7 +54,7 @@ fn check_type(before: &[TypeDef], typedef: &TypeDef) -> Result<(), TypeError>
     ensures { Passes result (before.now ++ typedef.now ∷ []) (type_told before.now typedef.now) }
 {
     let full = before.len() >= MOST_TYPES;
-    if full || type_of(before, typedef.name.bytes.as_slice()).is_some() {
+    if full || type_number(before, typedef.name.bytes.as_slice()).is_some() {
         return Err(TypeError::Mistyped(typedef.name.place));
     }
     check_fields(typedef.fields.as_slice())
@@ -84,12 +79,13 @@ fn add_slot(
     usage: Use,
     last: bool,
 ) -> Result<(), TypeError>
-    ensures { Binds result scope.old scope.new (slot_told scope.old.contract.types usage slot.now last scope.old.names) }
+    ensures { Binds result scope.old scope.new
+        (slot_told scope.old.contract.types usage slot.now last scope.old.names) }
 {
     if scope.is_declared(slot.name.bytes.as_slice()) || slot.many && !last {
         return Err(TypeError::Mistyped(slot.name.place));
     }
-    match type_of(
+    match type_number(
         scope.contract().types.as_slice(),
         slot.object.bytes.as_slice(),
     ) {
@@ -117,7 +113,8 @@ fn add_slots(
     slots: &[Slot],
     usage: Use,
 ) -> Result<(), TypeError>
-    ensures { Binds result scope.old scope.new (slots_told scope.old.contract.types usage slots.now scope.old.names) }
+    ensures { Binds result scope.old scope.new
+        (slots_told scope.old.contract.types usage slots.now scope.old.names) }
 {
     for i in 0..slots.len() {
         let last = is_nil(slots.split_at(i + 1).1);
@@ -179,7 +176,8 @@ pub fn add_names(
     in_check: bool,
 ) -> Result<(), TypeError>
     requires { length scope.old.names ≡ 0 }
-    ensures { Binds result scope.old scope.new (method_names scope.old.contract.types in_check method.now) }
+    ensures { Binds result scope.old scope.new
+        (method_names scope.old.contract.types in_check method.now) }
 {
     add_slots(alloc, scope, method.consumes.as_slice(), Use::Read)?;
     add_slots(alloc, scope, method.reads.as_slice(), Use::Read)?;

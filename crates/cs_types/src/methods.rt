@@ -1,16 +1,17 @@
 //! Methods, and what their bodies cost.
-ghost use Rattle.std.specs.Prelude.{◌≡◌, OnOk};
+ghost use Rattle.std.specs.Prelude.{OnOk};
 ghost use Rattle.cs_types.specs.Answers.{AnswersTold};
+ghost use Rattle.cs_types.specs.Steps.{SameAbove};
 ghost use Rattle.cs_types.specs.Accepted.{body_told, method_costs, methods_told};
 
+use crate::calls::takes_many;
 use crate::declarations::add_names;
-use crate::statements::{block, takes_many};
-use cs_lang::{Block, Contract, Method, Sequence};
-use cs_types_kinds::{Costs, Scope, TypeError, method_of};
+use crate::statements::block;
+use cs_base::Sequence;
+use cs_lang::{Block, Contract, Method};
+use cs_lang_token::MOST_METHODS;
+use cs_types_kinds::{Costs, Scope, TypeError, method_number};
 use std::alloc::Global;
-
-/// The most methods of a contract.
-const MOST_METHODS: usize = 64;
 
 /// The cost of a procedure or a check.
 fn body(
@@ -20,8 +21,9 @@ fn body(
     in_check: bool,
     body: &Block,
 ) -> Result<u64, TypeError>
-    ensures told { AnswersTold result (body_told scope.old.contract scope.old.costs in_check method.now body.now) }
-    ensures rest { OnOk result ((scope.new.contract ≡ scope.old.contract) × (scope.new.costs ≡ scope.old.costs)) }
+    ensures told { AnswersTold result
+        (body_told scope.old.contract scope.old.costs in_check method.now body.now) }
+    ensures rest { OnOk result (SameAbove scope.old scope.new) }
 {
     scope.enter(takes_many(method), in_check);
     add_names(alloc, scope, method, in_check)?;
@@ -35,10 +37,11 @@ fn method(
     above: &[Method],
     method: &Method,
 ) -> Result<Costs, TypeError>
-    ensures told { AnswersTold result (method_costs scope.old.contract scope.old.costs above.now method.now) }
-    ensures rest { OnOk result ((scope.new.contract ≡ scope.old.contract) × (scope.new.costs ≡ scope.old.costs)) }
+    ensures told { AnswersTold result
+        (method_costs scope.old.contract scope.old.costs above.now method.now) }
+    ensures rest { OnOk result (SameAbove scope.old scope.new) }
 {
-    if above.len() >= MOST_METHODS || method_of(above, method.name.bytes.as_slice()).is_some() {
+    if above.len() >= MOST_METHODS || method_number(above, method.name.bytes.as_slice()).is_some() {
         return Err(TypeError::Mistyped(method.name.place));
     }
     let procedure = body(alloc, scope, method, false, &method.procedure)?;

@@ -10,7 +10,7 @@ use Rattle.cs_types_kinds.specs.declared.scope.Seen.{Seen}
 use Rattle.cs_types_kinds.specs.declared.scope.Entry.{Entry}
 use Rattle.cs_types_kinds.specs.Told.{Told}
 use Rattle.cs_types_kinds.specs.Scopes.{first_seen}
-use Rattle.cs_types_kinds.specs.Lookups.{is_field, named_field, declared_kind}
+use Rattle.cs_types_kinds.specs.Lookups.{is_named_field, named_field, declared_kind}
 
 pub opened : {X : Type 0} (xs : List X) (i : ℕ) (x : X) → i < length xs → x ≡ get_or xs i x → drop i xs ≡ x ∷ drop (i + 1) xs
 opened xs i x lt is = rw add-one (drop-cons xs i x lt ∙ ap (λ (y : _). y ∷ drop (suc i) xs) (sym is))
@@ -34,14 +34,14 @@ module _ (test : Entry → Bool) where
 
 module _ (name : Text) where
   field_next : (fs : List Field) (i : ℕ) (f : Field) (t : Told Kind) → i < length fs → f ≡ get_or fs i f → named_field name (drop i fs) ≡ t
-      → cond (is_field name f) (declared_kind name.place f.kind) (named_field name (drop (i + 1) fs)) ≡ t
+      → cond (is_named_field name f) (declared_kind name.place f.kind) (named_field name (drop (i + 1) fs)) ≡ t
   field_next fs i f t lt is h = sym (ap (named_field name) (opened fs i f lt is)) ∙ h
 
   pub field_none : (fs : List Field) (i : ℕ) (t : Told Kind) → length fs ≤ i → named_field name (drop i fs) ≡ t → Err (error.Unbound name.place) ≡ t
   field_none fs i t le h = sym (ap (named_field name) (drop_all i fs le)) ∙ h
 
-  pub field_found : (fs : List Field) (i : ℕ) (f : Field) (t : Told Kind) → i < length fs → f ≡ get_or fs i f → is_field name f ≡ true → named_field name (drop i fs) ≡ t → declared_kind name.place f.kind ≡ t
+  pub field_found : (fs : List Field) (i : ℕ) (f : Field) (t : Told Kind) → i < length fs → f ≡ get_or fs i f → is_named_field name f ≡ true → named_field name (drop i fs) ≡ t → declared_kind name.place f.kind ≡ t
   field_found fs i f t lt is pass h = sym (ap (λ (b : Bool). cond b (declared_kind name.place f.kind) (named_field name (drop (i + 1) fs))) pass) ∙ field_next fs i f t lt is h
 
-  pub field_step : (fs : List Field) (i : ℕ) (f : Field) (t : Told Kind) → i < length fs → f ≡ get_or fs i f → is_field name f ≡ false → named_field name (drop i fs) ≡ t → named_field name (drop (i + 1) fs) ≡ t
+  pub field_step : (fs : List Field) (i : ℕ) (f : Field) (t : Told Kind) → i < length fs → f ≡ get_or fs i f → is_named_field name f ≡ false → named_field name (drop i fs) ≡ t → named_field name (drop (i + 1) fs) ≡ t
   field_step fs i f t lt is pass h = sym (ap (λ (b : Bool). cond b (declared_kind name.place f.kind) (named_field name (drop (i + 1) fs))) pass) ∙ field_next fs i f t lt is h

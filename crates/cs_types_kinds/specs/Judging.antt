@@ -15,7 +15,7 @@ use Rattle.cs_types_kinds.specs.declared.expressions.Items.{Items}
 use Rattle.cs_types_kinds.specs.Told.{Told, mistyped, unbound, through, plus}
 use Rattle.cs_types_kinds.specs.Kinds.{int, bool, bytes, same_kind, list_of, item_of, is_list, joins, has_length, kind_of}
 use Rattle.cs_types_kinds.specs.Scopes.{InSight, seen}
-use Rattle.cs_types_kinds.specs.Lookups.{method_of, field_of}
+use Rattle.cs_types_kinds.specs.Lookups.{method_number, field_kind}
 
 -- an expression: the place of its first token, and what is told of it
 pub record Part : Type 0 where
@@ -55,7 +55,7 @@ method_judged place (Some number) = judged bool 1
 -- whether a dep called a method
 abbrev pub called_judged : InSight → Text → ℕ → Told Judged
 called_judged sight name place =
-    if sight.in_check then method_judged name.place (method_of name.bytes sight.contract.methods) else mistyped place
+    if sight.in_check then method_judged name.place (method_number name.bytes sight.contract.methods) else mistyped place
 
 -- a returned value of a dep
 abbrev pub depint_judged : InSight → ℕ → Told Judged
@@ -68,17 +68,22 @@ or_first first None = mistyped first
 or_first first (Some k) = Ok k
 
 -- the kind of a list, of which the first item stands there; objects are no values
-abbrev pub list_kind : Kind → ℕ → ℕ → Told Kind
-list_kind (kind.Value b lists) first place = or_first place (list_of (kind.Value b lists))
-list_kind k first place = mistyped first
+abbrev pub kind_of_list : Kind → ℕ → ℕ → Told Kind
+kind_of_list (kind.Value b lists) first place = or_first place (list_of (kind.Value b lists))
+kind_of_list k first place = mistyped first
 
 -- the first item of a list at a place
 abbrev pub first_item : ℕ → Part → Told Items
-first_item place part = part.found >>= λ j. list_kind j.kind part.first place >>= λ k. Ok (record { item = j.kind; list = k; sum = j.cost })
+first_item place part =
+    part.found >>= λ j.
+    kind_of_list j.kind part.first place >>= λ k.
+    Ok (record { item = j.kind; list = k; sum = j.cost })
 
 -- an item behind others is of their kind
 abbrev pub next_item : Items → Part → Told Items
-next_item items part = wanted items.item part >>= λ cost. Ok (record { item = items.item; list = items.list; sum = plus items.sum cost })
+next_item items part =
+    wanted items.item part >>= λ cost.
+    Ok (record { item = items.item; list = items.list; sum = plus items.sum cost })
 
 abbrev pub any_item : ℕ → Option Items → Part → Told (Option Items)
 any_item place None part = first_item place part >>= λ items. Ok (Some items)
@@ -87,13 +92,13 @@ any_item place (Some so_far) part = next_item so_far part >>= λ items. Ok (Some
 abbrev pub all_items : ℕ → List Part → Told (Option Items)
 all_items place parts = through (any_item place) None parts
 
-abbrev pub listed : ℕ → Option Items → Told Judged
-listed place None = mistyped place
-listed place (Some items) = judged items.list (plus items.sum 1)
+abbrev pub items_judged : ℕ → Option Items → Told Judged
+items_judged place None = mistyped place
+items_judged place (Some items) = judged items.list (plus items.sum 1)
 
 -- one to 64 items of one kind
 abbrev pub list_judged : List Part → ℕ → Told Judged
-list_judged parts place = if nat_lt 64 (length parts) then mistyped place else all_items place parts >>= listed place
+list_judged parts place = if nat_lt 64 (length parts) then mistyped place else all_items place parts >>= items_judged place
 
 -- ---- of one or two parts
 
@@ -104,11 +109,14 @@ abbrev pub sha256_judged : Part → Told Judged
 sha256_judged part = wanted bytes part >>= λ cost. judged bytes (plus cost 17)
 
 -- two that are joined, of which the first is judged and begins there
-abbrev pub joined : Judged → ℕ → Part → Told Judged
-joined j first back = if joins j.kind then (wanted j.kind back >>= λ cost. judged j.kind (plus (plus j.cost cost) 17)) else mistyped first
+abbrev pub concat_with : Judged → ℕ → Part → Told Judged
+concat_with j first back =
+    if joins j.kind
+    then (wanted j.kind back >>= λ cost. judged j.kind (plus (plus j.cost cost) 17))
+    else mistyped first
 
 abbrev pub concat_of : Told Judged → ℕ → Part → Told Judged
-concat_of told first back = told >>= λ j. joined j first back
+concat_of told first back = told >>= λ j. concat_with j first back
 
 abbrev pub concat_judged : Part → Part → Told Judged
 concat_judged front back = concat_of front.found front.first back
@@ -134,7 +142,10 @@ comparing_cost k = if same_kind k bytes then 17 else 1
 
 -- two that are compared, of which the first is judged and begins there
 abbrev pub compared_with : Comparison → Judged → ℕ → Part → Told Judged
-compared_with c j first right = if compares c j.kind then (wanted j.kind right >>= λ cost. judged bool (plus (plus j.cost cost) (comparing_cost j.kind))) else mistyped first
+compared_with c j first right =
+    if compares c j.kind
+    then (wanted j.kind right >>= λ cost. judged bool (plus (plus j.cost cost) (comparing_cost j.kind)))
+    else mistyped first
 
 abbrev pub compared_of : Comparison → Told Judged → ℕ → Part → Told Judged
 compared_of c told first right = told >>= λ j. compared_with c j first right
@@ -169,7 +180,7 @@ abbrev pub Stepped : Type 0
 Stepped = ℕ → Judged → Told Judged
 
 abbrev pub field_of_kind : InSight → Text → Kind → ℕ → Told Kind
-field_of_kind sight name (kind.Object number) first = field_of sight.contract number name
+field_of_kind sight name (kind.Object number) first = field_kind sight.contract number name
 field_of_kind sight name k first = mistyped first
 
 -- a field of an object
@@ -178,7 +189,8 @@ field_judged sight name first j = field_of_kind sight name j.kind first >>= λ k
 
 -- an item of a list, or one of several objects
 abbrev pub index_judged : Part → Stepped
-index_judged index first j = or_first first (item_of j.kind) >>= λ k. wanted int index >>= λ cost. judged k (plus (plus j.cost cost) 1)
+index_judged index first j =
+    or_first first (item_of j.kind) >>= λ k. wanted int index >>= λ cost. judged k (plus (plus j.cost cost) 1)
 
 abbrev pub step_taken : Judged → (Judged → Told Judged) → Told Judged
 step_taken j step = step j

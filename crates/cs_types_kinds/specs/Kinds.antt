@@ -53,12 +53,12 @@ abbrev pub has_length : Kind → Bool
 has_length (kind.Objects n) = true
 has_length k = joins k
 
-abbrev pub layer_kind : ValueKind-F (Option Kind) → Option Kind
-layer_kind ValueKind-F.Int = Some int
-layer_kind ValueKind-F.Bool = Some bool
-layer_kind ValueKind-F.Bytes = Some bytes
-layer_kind (ValueKind-F.List items) = option_and_then list_of items
+abbrev pub kind_from_parts : ValueKind-F (Option Kind) → Option Kind
+kind_from_parts ValueKind-F.Int = Some int
+kind_from_parts ValueKind-F.Bool = Some bool
+kind_from_parts ValueKind-F.Bytes = Some bytes
+kind_from_parts (ValueKind-F.List items) = option_and_then list_of items
 
 -- the kind that is spelled, or none where it nests too many lists
 unfoldable pub kind_of : ValueKind → Option Kind
-kind_of = fold-ValueKind (Option Kind) layer_kind
+kind_of = fold-ValueKind (Option Kind) kind_from_parts

@@ -18,12 +18,12 @@ abbrev pub is_method : List ℕ → Method → Bool
 is_method name m = bytes_eq m.name.bytes name
 
 -- the number of the type of this name
-abbrev pub type_of : List ℕ → List TypeDef → Option ℕ
-type_of name types = position (is_type name) types
+abbrev pub type_number : List ℕ → List TypeDef → Option ℕ
+type_number name types = position (is_type name) types
 
 -- the number of the method of this name
-abbrev pub method_of : List ℕ → List Method → Option ℕ
-method_of name methods = position (is_method name) methods
+abbrev pub method_number : List ℕ → List Method → Option ℕ
+method_number name methods = position (is_method name) methods
 
 abbrev pub or_mistyped : ℕ → Option Kind → Told Kind
 or_mistyped place None = mistyped place
@@ -33,18 +33,18 @@ or_mistyped place (Some k) = Ok k
 abbrev pub declared_kind : ℕ → ValueKind → Told Kind
 declared_kind place k = or_mistyped place (kind_of k)
 
-abbrev pub is_field : Text → Field → Bool
-is_field name f = bytes_eq f.name.bytes name.bytes
+abbrev pub is_named_field : Text → Field → Bool
+is_named_field name f = bytes_eq f.name.bytes name.bytes
 
 -- the kind of the field of this name
 abbrev pub named_field : Text → List Field → Told Kind
 named_field name [] = unbound name.place
-named_field name (f ∷ fs) = if is_field name f then declared_kind name.place f.kind else named_field name fs
+named_field name (f ∷ fs) = if is_named_field name f then declared_kind name.place f.kind else named_field name fs
 
 abbrev pub field_in : Text → Option TypeDef → Told Kind
 field_in name None = unbound name.place
 field_in name (Some t) = named_field name t.fields
 
 -- the kind of a field of the type with this number
-abbrev pub field_of : Contract → ℕ → Text → Told Kind
-field_of contract number name = field_in name (slice_get contract.types number)
+abbrev pub field_kind : Contract → ℕ → Text → Told Kind
+field_kind contract number name = field_in name (slice_get contract.types number)

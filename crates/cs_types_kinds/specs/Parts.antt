@@ -16,49 +16,57 @@ use Rattle.cs_types_kinds.specs.Judging.{Part, judged, Stepped, name_judged, lis
 abbrev pub Shaped : Type 0
 Shaped = ℕ → Told Judged
 
-abbrev pub layer_access : InSight → Access-F Stepped Shaped Part Part (Judged → Told Judged) → Stepped
-layer_access sight (Access-F.Field name) = field_judged sight name
-layer_access sight (Access-F.Index index) = index_judged index
+abbrev pub access_from_parts : InSight → Access-F Stepped Shaped Part Part (Judged → Told Judged) → Stepped
+access_from_parts sight (Access-F.Field name) = field_judged sight name
+access_from_parts sight (Access-F.Index index) = index_judged index
 
-abbrev pub layer_step : InSight → Step-F Stepped Shaped Part Part (Judged → Told Judged) → Judged → Told Judged
-layer_step sight step = step.access step.first
+abbrev pub step_from_parts : InSight → Step-F Stepped Shaped Part Part (Judged → Told Judged) → Judged → Told Judged
+step_from_parts sight step = step.access step.first
 
-abbrev pub layer_link : InSight → Link-F Stepped Shaped Part Part (Judged → Told Judged) → Part
-layer_link sight link = link.right
+abbrev pub link_from_parts : InSight → Link-F Stepped Shaped Part Part (Judged → Told Judged) → Part
+link_from_parts sight link = link.right
 
-abbrev pub layer_expr : InSight → Expr-F Stepped Shaped Part Part (Judged → Told Judged) → Part
-layer_expr sight e = record { first = e.first; found = e.shape e.place }
+abbrev pub expr_from_parts : InSight → Expr-F Stepped Shaped Part Part (Judged → Told Judged) → Part
+expr_from_parts sight e = record { first = e.first; found = e.shape e.place }
 
-abbrev pub layer_shape : InSight → Shape-F Stepped Shaped Part Part (Judged → Told Judged) → Shaped
-layer_shape sight (Shape-F.Number n) place = judged int 1
-layer_shape sight (Shape-F.Bytes b) place = judged bytes 1
-layer_shape sight (Shape-F.Truth b) place = judged bool 1
-layer_shape sight (Shape-F.Name name) place = name_judged sight name place
-layer_shape sight (Shape-F.List items) place = list_judged items place
-layer_shape sight (Shape-F.Empty k) place = empty_judged k place
-layer_shape sight (Shape-F.Len part) place = len_judged part
-layer_shape sight (Shape-F.Sha256 part) place = sha256_judged part
-layer_shape sight (Shape-F.Concat front back) place = concat_judged front back
-layer_shape sight (Shape-F.Called dep name) place = called_judged sight name place
-layer_shape sight (Shape-F.DepInt dep value) place = depint_judged sight place
-layer_shape sight (Shape-F.Path start steps) place = path_judged start steps
-layer_shape sight (Shape-F.Not part) place = not_judged part
-layer_shape sight (Shape-F.Negative part) place = negative_judged part
-layer_shape sight (Shape-F.Compared c left right) place = compared_judged c left right
-layer_shape sight (Shape-F.Chain r start rights) place = chain_judged r start rights
+abbrev pub shape_from_parts : InSight → Shape-F Stepped Shaped Part Part (Judged → Told Judged) → Shaped
+shape_from_parts sight (Shape-F.Number n) place = judged int 1
+shape_from_parts sight (Shape-F.Bytes b) place = judged bytes 1
+shape_from_parts sight (Shape-F.Truth b) place = judged bool 1
+shape_from_parts sight (Shape-F.Name name) place = name_judged sight name place
+shape_from_parts sight (Shape-F.List items) place = list_judged items place
+shape_from_parts sight (Shape-F.Empty k) place = empty_judged k place
+shape_from_parts sight (Shape-F.Len part) place = len_judged part
+shape_from_parts sight (Shape-F.Sha256 part) place = sha256_judged part
+shape_from_parts sight (Shape-F.Concat front back) place = concat_judged front back
+shape_from_parts sight (Shape-F.Called dep name) place = called_judged sight name place
+shape_from_parts sight (Shape-F.DepInt dep value) place = depint_judged sight place
+shape_from_parts sight (Shape-F.Path start steps) place = path_judged start steps
+shape_from_parts sight (Shape-F.Not part) place = not_judged part
+shape_from_parts sight (Shape-F.Negative part) place = negative_judged part
+shape_from_parts sight (Shape-F.Compared c left right) place = compared_judged c left right
+shape_from_parts sight (Shape-F.Chain r start rights) place = chain_judged r start rights
 
 -- what is told of an expression, where it stands
 unfoldable pub part_of : InSight → Expr → Part
-part_of sight = fold-Expr Stepped Shaped Part Part (Judged → Told Judged) (layer_access sight) (layer_shape sight) (layer_expr sight) (layer_link sight) (layer_step sight)
+part_of sight =
+    fold-Expr Stepped Shaped Part Part (Judged → Told Judged) (access_from_parts sight) (shape_from_parts sight)
+    (expr_from_parts sight) (link_from_parts sight) (step_from_parts sight)
 
 -- what is told of an expression of this shape
 unfoldable pub shape_part : InSight → Shape → Shaped
-shape_part sight = fold-Shape Stepped Shaped Part Part (Judged → Told Judged) (layer_access sight) (layer_shape sight) (layer_expr sight) (layer_link sight) (layer_step sight)
+shape_part sight =
+    fold-Shape Stepped Shaped Part Part (Judged → Told Judged) (access_from_parts sight) (shape_from_parts sight)
+    (expr_from_parts sight) (link_from_parts sight) (step_from_parts sight)
 
 -- what is told of an operator's right operand
 unfoldable pub link_part : InSight → Link → Part
-link_part sight = fold-Link Stepped Shaped Part Part (Judged → Told Judged) (layer_access sight) (layer_shape sight) (layer_expr sight) (layer_link sight) (layer_step sight)
+link_part sight =
+    fold-Link Stepped Shaped Part Part (Judged → Told Judged) (access_from_parts sight) (shape_from_parts sight)
+    (expr_from_parts sight) (link_from_parts sight) (step_from_parts sight)
 
 -- what a step makes of what stands before it
 unfoldable pub step_part : InSight → Step → Judged → Told Judged
-step_part sight = fold-Step Stepped Shaped Part Part (Judged → Told Judged) (layer_access sight) (layer_shape sight) (layer_expr sight) (layer_link sight) (layer_step sight)
+step_part sight =
+    fold-Step Stepped Shaped Part Part (Judged → Told Judged) (access_from_parts sight) (shape_from_parts sight)
+    (expr_from_parts sight) (link_from_parts sight) (step_from_parts sight)

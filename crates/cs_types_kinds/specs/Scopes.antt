@@ -18,6 +18,10 @@ pub record InSight : Type 0 where
   pub in_check : Bool
   pub names : List Entry
 
+-- above the first method
+abbrev pub at_top : Contract → InSight
+at_top contract = record { contract = contract; costs = []; starred = false; in_check = false; names = [] }
+
 -- a created slot of a procedure is out of sight
 abbrev pub in_sight : Use → Bool
 in_sight usage.Make = false
@@ -54,12 +58,33 @@ abbrev pub with_name : List Entry → List ℕ → Kind → Use → List Entry
 with_name names name k u = names ++ record { name = name; seen = record { kind = k; usage = u } } ∷ []
 
 abbrev pub with_names : InSight → List Entry → InSight
-with_names sight names = record { contract = sight.contract; costs = sight.costs; starred = sight.starred; in_check = sight.in_check; names = names }
+with_names sight names =
+    record {
+      contract = sight.contract;
+      costs = sight.costs;
+      starred = sight.starred;
+      in_check = sight.in_check;
+      names = names;
+    }
 
 -- at the beginning of a procedure or a check
 abbrev pub entered : InSight → Bool → Bool → InSight
-entered sight starred in_check = record { contract = sight.contract; costs = sight.costs; starred = starred; in_check = in_check; names = [] }
+entered sight starred in_check =
+    record {
+      contract = sight.contract;
+      costs = sight.costs;
+      starred = starred;
+      in_check = in_check;
+      names = [];
+    }
 
 -- below a method
-abbrev pub closed : InSight → Costs → InSight
-closed sight costs = record { contract = sight.contract; costs = sight.costs ++ costs ∷ []; starred = sight.starred; in_check = sight.in_check; names = sight.names }
+abbrev pub below_method : InSight → Costs → InSight
+below_method sight costs =
+    record {
+      contract = sight.contract;
+      costs = sight.costs ++ costs ∷ [];
+      starred = sight.starred;
+      in_check = sight.in_check;
+      names = sight.names;
+    }

@@ -1,14 +1,14 @@
 //! Looking up what a contract declares.
 ghost use Rattle.std.specs.Prelude.{◌≡◌};
-ghost use Rattle.cs_types_kinds.specs.Lookups.{type_of, method_of, declared_kind, is_field, named_field, field_of};
+ghost use Rattle.cs_types_kinds.specs.Lookups.{type_number, method_number, declared_kind, is_named_field, named_field, field_kind};
 
 use crate::fault::TypeError;
 use crate::kind::{Kind, kind_of};
 use cs_lang::{Contract, Field, Method, Text, TypeDef, ValueKind};
 
 /// The number of the type of this name.
-pub fn type_of(types: &[TypeDef], name: &[u8]) -> Option<usize>
-    ensures { result ≡ type_of name.now types.now }
+pub fn type_number(types: &[TypeDef], name: &[u8]) -> Option<usize>
+    ensures { result ≡ type_number name.now types.now }
 {
     types
         .iter()
@@ -16,8 +16,8 @@ pub fn type_of(types: &[TypeDef], name: &[u8]) -> Option<usize>
 }
 
 /// The number of the method of this name.
-pub fn method_of(methods: &[Method], name: &[u8]) -> Option<usize>
-    ensures { result ≡ method_of name.now methods.now }
+pub fn method_number(methods: &[Method], name: &[u8]) -> Option<usize>
+    ensures { result ≡ method_number name.now methods.now }
 {
     methods
         .iter()
@@ -35,8 +35,8 @@ pub fn declared_kind(kind: &ValueKind, place: usize) -> Result<Kind, TypeError>
 }
 
 /// Whether the field has this name.
-fn is_field(field: &Field, name: &Text) -> bool
-    ensures { result ≡ is_field name.now field.now }
+fn is_named_field(field: &Field, name: &Text) -> bool
+    ensures { result ≡ is_named_field name.now field.now }
 {
     field.name.bytes.as_slice() == name.bytes.as_slice()
 }
@@ -46,7 +46,7 @@ fn named_field(fields: &[Field], name: &Text) -> Result<Kind, TypeError>
     ensures { result ≡ named_field name.now fields.now }
 {
     for field in fields {
-        if is_field(field, name) {
+        if is_named_field(field, name) {
             return declared_kind(&field.kind, name.place);
         }
     }
@@ -54,8 +54,8 @@ fn named_field(fields: &[Field], name: &Text) -> Result<Kind, TypeError>
 }
 
 /// The kind of a field of the type with this number.
-pub fn field_of(contract: &Contract, number: usize, name: &Text) -> Result<Kind, TypeError>
-    ensures { result ≡ field_of contract.now number name.now }
+pub fn field_kind(contract: &Contract, number: usize, name: &Text) -> Result<Kind, TypeError>
+    ensures { result ≡ field_kind contract.now number name.now }
 {
     match contract.types.as_slice().get(number) {
         Some(typedef) => named_field(typedef.fields.as_slice(), name),

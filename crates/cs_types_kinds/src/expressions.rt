@@ -1,17 +1,18 @@
 //! Kinds and costs of expressions.
 ghost use Rattle.std.specs.Prelude.{◌≡◌, map};
 ghost use Rattle.cs_types_kinds.specs.Told.{through, plus};
-ghost use Rattle.cs_types_kinds.specs.Judging.{judged, wanted, name_judged, empty_judged, called_judged, depint_judged, list_kind, first_item, next_item, any_item, all_items, list_judged, len_judged, sha256_judged, concat_of, not_judged, negative_judged, is_equality, compares, comparing_cost, compared_of, kind_of_rank, link_added, chain_of, field_judged, index_judged, step_taken, path_of};
+ghost use Rattle.cs_types_kinds.specs.Judging.{judged, wanted, name_judged, empty_judged, called_judged, depint_judged, kind_of_list, first_item, next_item, any_item, all_items, list_judged, len_judged, sha256_judged, concat_of, not_judged, negative_judged, is_equality, compares, comparing_cost, compared_of, kind_of_rank, link_added, chain_of, field_judged, index_judged, step_taken, path_of};
 ghost use Rattle.cs_types_kinds.specs.Parts.{part_of, link_part, step_part};
 
-use crate::declared::{field_of, method_of};
+use crate::declared::{field_kind, method_number};
 use crate::fault::TypeError;
 use crate::kind::{BOOL, BYTES, INT, Kind, kind_of};
 use crate::scope::Scope;
 use cs_lang::{Access, Comparison, Expr, Link, Rank, Shape, Step, Text, ValueKind};
+use cs_lang_token::MOST_ITEMS;
 
-/// The most items of a list that is written out.
-const MOST_ITEMS: usize = 64;
+/// What a hash costs, and what joins two or compares bytes: 16 more than another step.
+const HASH_COST: u64 = 17;
 
 /// A kind, and what its expression costs.
 #[derive(Clone, Copy)]
@@ -35,7 +36,7 @@ pub fn plus(sum: u64, cost: u64) -> u64
     sum.saturating_add(cost)
 }
 
-fn kinded(kind: Kind, cost: u64) -> Result<Judged, TypeError>
+fn with_cost(kind: Kind, cost: u64) -> Result<Judged, TypeError>
     ensures { result ≡ judged kind cost }
 {
     Ok(Judged { kind, cost })
@@ -61,56 +62,56 @@ pub fn judge(scope: &Scope<'_>, expr: &Expr) -> Result<Judged, TypeError>
     ensures { result ≡ (part_of scope.now expr.now).found }
 {
     match &expr.shape {
-        Shape::Number(_) => kinded(INT, 1),
-        Shape::Bytes(_) => kinded(BYTES, 1),
-        Shape::Truth(_) => kinded(BOOL, 1),
-        Shape::Name(name) => named(scope, name.as_slice(), expr.place),
-        Shape::List(items) => list(scope, items.as_slice(), expr.place),
-        Shape::Empty(kind) => empty(kind, expr.place),
-        Shape::Len(inner) => length_of(scope, inner.get()),
-        Shape::Sha256(inner) => hash_of(scope, inner.get()),
+        Shape::Number(_) => with_cost(INT, 1),
+        Shape::Bytes(_) => with_cost(BYTES, 1),
+        Shape::Truth(_) => with_cost(BOOL, 1),
+        Shape::Name(name) => judge_name(scope, name.as_slice(), expr.place),
+        Shape::List(items) => judge_list(scope, items.as_slice(), expr.place),
+        Shape::Empty(kind) => judge_empty(kind, expr.place),
+        Shape::Len(inner) => judge_len(scope, inner.get()),
+        Shape::Sha256(inner) => judge_sha256(scope, inner.get()),
         Shape::Concat(front, back) => {
             let told = judge(scope, front.get());
-            concat(scope, told, front.get().first, back.get())
+            judge_concat(scope, told, front.get().first, back.get())
         }
-        Shape::Called(_, method) => called(scope, method, expr.place),
-        Shape::DepInt(_, _) => depint(scope, expr.place),
+        Shape::Called(_, method) => judge_called(scope, method, expr.place),
+        Shape::DepInt(_, _) => judge_depint(scope, expr.place),
         Shape::Path(start, steps) => {
             let told = judge(scope, start.get());
-            path(scope, told, steps.as_slice())
+            judge_path(scope, told, steps.as_slice())
         }
-        Shape::Not(inner) => negated(scope, inner.get()),
-        Shape::Negative(inner) => negative(scope, inner.get()),
+        Shape::Not(inner) => judge_not(scope, inner.get()),
+        Shape::Negative(inner) => judge_negative(scope, inner.get()),
         Shape::Compared(comparison, left, right) => {
             let told = judge(scope, left.get());
-            compared(scope, *comparison, told, left.get().first, right.get())
+            judge_compared(scope, *comparison, told, left.get().first, right.get())
         }
         Shape::Chain(rank, start, links) => {
             let kind = kind_of_rank(*rank);
             let told = expect(scope, start.get(), kind);
-            chain(scope, kind, told, links.as_slice())
+            judge_chain(scope, kind, told, links.as_slice())
         }
     }
 }
 
 /// A name in sight.
-fn named(scope: &Scope<'_>, name: &[u8], place: usize) -> Result<Judged, TypeError>
+fn judge_name(scope: &Scope<'_>, name: &[u8], place: usize) -> Result<Judged, TypeError>
     ensures { result ≡ name_judged scope.now name.now place }
 {
     match scope.find(name) {
-        Some(seen) => kinded(seen.kind, 1),
+        Some(seen) => with_cost(seen.kind, 1),
         None => Err(TypeError::Unbound(place)),
     }
 }
 
 /// The empty list of a kind.
-fn empty(kind: &ValueKind, place: usize) -> Result<Judged, TypeError>
+fn judge_empty(kind: &ValueKind, place: usize) -> Result<Judged, TypeError>
     ensures { result ≡ empty_judged kind.now place }
 {
     match kind_of(kind) {
         Some(kind) => {
             if kind.is_list() {
-                return kinded(kind, 1);
+                return with_cost(kind, 1);
             }
             Err(TypeError::Mistyped(place))
         }
@@ -119,31 +120,31 @@ fn empty(kind: &ValueKind, place: usize) -> Result<Judged, TypeError>
 }
 
 /// Whether a dep called a method.
-fn called(scope: &Scope<'_>, method: &Text, place: usize) -> Result<Judged, TypeError>
+fn judge_called(scope: &Scope<'_>, method: &Text, place: usize) -> Result<Judged, TypeError>
     ensures { result ≡ called_judged scope.now method.now place }
 {
     if !scope.in_check() {
         return Err(TypeError::Mistyped(place));
     }
-    match method_of(scope.contract().methods.as_slice(), method.bytes.as_slice()) {
-        Some(_) => kinded(BOOL, 1),
+    match method_number(scope.contract().methods.as_slice(), method.bytes.as_slice()) {
+        Some(_) => with_cost(BOOL, 1),
         None => Err(TypeError::Unbound(method.place)),
     }
 }
 
 /// A returned value of a dep.
-fn depint(scope: &Scope<'_>, place: usize) -> Result<Judged, TypeError>
+fn judge_depint(scope: &Scope<'_>, place: usize) -> Result<Judged, TypeError>
     ensures { result ≡ depint_judged scope.now place }
 {
     if !scope.in_check() {
         return Err(TypeError::Mistyped(place));
     }
-    kinded(INT, 1)
+    with_cost(INT, 1)
 }
 
 /// The kind of a list of such items.
-fn list_kind(kind: Kind, first: usize, place: usize) -> Result<Kind, TypeError>
-    ensures { result ≡ list_kind kind first place }
+fn kind_of_list(kind: Kind, first: usize, place: usize) -> Result<Kind, TypeError>
+    ensures { result ≡ kind_of_list kind first place }
 {
     match kind {
         Kind::Value(_, _) => match kind.list_of() {
@@ -161,7 +162,7 @@ fn first_item(scope: &Scope<'_>, item: &Expr, place: usize) -> Result<Items, Typ
     ensures { result ≡ first_item place (part_of scope.now item.now) }
 {
     let found = judge(scope, item)?;
-    match list_kind(found.kind, item.first, place) {
+    match kind_of_list(found.kind, item.first, place) {
         Ok(list) => Ok(Items {
             item: found.kind,
             list,
@@ -220,14 +221,14 @@ fn all_items(scope: &Scope<'_>, items: &[Expr], place: usize) -> Result<Option<I
 
 /// A list that is written out.
 #[cycle(judging)]
-fn list(scope: &Scope<'_>, items: &[Expr], place: usize) -> Result<Judged, TypeError>
+fn judge_list(scope: &Scope<'_>, items: &[Expr], place: usize) -> Result<Judged, TypeError>
     ensures { result ≡ list_judged (map (part_of scope.now) items.now) place }
 {
     if items.len() > MOST_ITEMS {
         return Err(TypeError::Mistyped(place));
     }
     match all_items(scope, items, place) {
-        Ok(Some(items)) => kinded(items.list, plus(items.sum, 1)),
+        Ok(Some(items)) => with_cost(items.list, plus(items.sum, 1)),
         Ok(None) => Err(TypeError::Mistyped(place)),
         Err(fault) => Err(fault),
     }
@@ -236,28 +237,28 @@ fn list(scope: &Scope<'_>, items: &[Expr], place: usize) -> Result<Judged, TypeE
 /// The length of bytes or of a list.
 #[cycle(judging)]
 #[tactic(auto, using(crate::proofs::Layers::part_first))]
-fn length_of(scope: &Scope<'_>, inner: &Expr) -> Result<Judged, TypeError>
+fn judge_len(scope: &Scope<'_>, inner: &Expr) -> Result<Judged, TypeError>
     ensures { result ≡ len_judged (part_of scope.now inner.now) }
 {
     let found = judge(scope, inner)?;
     if found.kind.has_length() {
-        return kinded(INT, plus(found.cost, 1));
+        return with_cost(INT, plus(found.cost, 1));
     }
     Err(TypeError::Mistyped(inner.first))
 }
 
 /// The hash of bytes.
 #[cycle(judging)]
-fn hash_of(scope: &Scope<'_>, inner: &Expr) -> Result<Judged, TypeError>
+fn judge_sha256(scope: &Scope<'_>, inner: &Expr) -> Result<Judged, TypeError>
     ensures { result ≡ sha256_judged (part_of scope.now inner.now) }
 {
     let cost = expect(scope, inner, BYTES)?;
-    kinded(BYTES, plus(cost, 17))
+    with_cost(BYTES, plus(cost, HASH_COST))
 }
 
 /// Two that are joined: what is told of the first, where it begins, and the second.
 #[cycle(judging)]
-fn concat(
+fn judge_concat(
     scope: &Scope<'_>,
     told: Result<Judged, TypeError>,
     first: usize,
@@ -270,23 +271,23 @@ fn concat(
         return Err(TypeError::Mistyped(first));
     }
     let cost = expect(scope, back, found.kind)?;
-    kinded(found.kind, plus(plus(found.cost, cost), 17))
+    with_cost(found.kind, plus(plus(found.cost, cost), HASH_COST))
 }
 
 #[cycle(judging)]
-fn negated(scope: &Scope<'_>, inner: &Expr) -> Result<Judged, TypeError>
+fn judge_not(scope: &Scope<'_>, inner: &Expr) -> Result<Judged, TypeError>
     ensures { result ≡ not_judged (part_of scope.now inner.now) }
 {
     let cost = expect(scope, inner, BOOL)?;
-    kinded(BOOL, plus(cost, 1))
+    with_cost(BOOL, plus(cost, 1))
 }
 
 #[cycle(judging)]
-fn negative(scope: &Scope<'_>, inner: &Expr) -> Result<Judged, TypeError>
+fn judge_negative(scope: &Scope<'_>, inner: &Expr) -> Result<Judged, TypeError>
     ensures { result ≡ negative_judged (part_of scope.now inner.now) }
 {
     let cost = expect(scope, inner, INT)?;
-    kinded(INT, plus(cost, 1))
+    with_cost(INT, plus(cost, 1))
 }
 
 fn is_equality(comparison: Comparison) -> bool
@@ -310,12 +311,12 @@ fn compares(comparison: Comparison, kind: Kind) -> bool
 fn comparing_cost(kind: Kind) -> u64
     ensures { result ≡ comparing_cost kind }
 {
-    if kind.same(BYTES) { 17 } else { 1 }
+    if kind.same(BYTES) { HASH_COST } else { 1 }
 }
 
 /// Two that are compared: what is told of the first, where it begins, and the second.
 #[cycle(judging)]
-fn compared(
+fn judge_compared(
     scope: &Scope<'_>,
     comparison: Comparison,
     told: Result<Judged, TypeError>,
@@ -330,7 +331,7 @@ fn compared(
     }
     let cost = expect(scope, right, found.kind)?;
     let own = comparing_cost(found.kind);
-    kinded(BOOL, plus(plus(found.cost, cost), own))
+    with_cost(BOOL, plus(plus(found.cost, cost), own))
 }
 
 /// The kind of both sides of an operator, and of what it makes of them.
@@ -352,7 +353,7 @@ fn rights(scope: &Scope<'_>, kind: Kind, start: u64, links: &[Link]) -> Result<u
 {
     let mut sum = start;
     for link in links {
-        sum = linked(scope, kind, sum, link)?;
+        sum = add_link(scope, kind, sum, link)?;
     }
     Ok(sum)
 }
@@ -360,7 +361,7 @@ fn rights(scope: &Scope<'_>, kind: Kind, start: u64, links: &[Link]) -> Result<u
 /// The sum with the costs of an operator and its right operand.
 #[cycle(judging)]
 #[tactic(auto, using(crate::proofs::Layers::link_is))]
-fn linked(scope: &Scope<'_>, kind: Kind, sum: u64, link: &Link) -> Result<u64, TypeError>
+fn add_link(scope: &Scope<'_>, kind: Kind, sum: u64, link: &Link) -> Result<u64, TypeError>
     ensures { result ≡ link_added kind sum (link_part scope.now link.now) }
 {
     let cost = expect(scope, &link.right, kind)?;
@@ -369,7 +370,7 @@ fn linked(scope: &Scope<'_>, kind: Kind, sum: u64, link: &Link) -> Result<u64, T
 
 /// Operands with operators between them: what is told of the first, and the others.
 #[cycle(judging)]
-fn chain(
+fn judge_chain(
     scope: &Scope<'_>,
     kind: Kind,
     told: Result<u64, TypeError>,
@@ -379,17 +380,22 @@ fn chain(
 {
     let start = told?;
     let sum = rights(scope, kind, start, links)?;
-    kinded(kind, sum)
+    with_cost(kind, sum)
 }
 
 /// A field of an object.
-fn field(scope: &Scope<'_>, name: &Text, first: usize, found: Judged) -> Result<Judged, TypeError>
+fn judge_field(
+    scope: &Scope<'_>,
+    name: &Text,
+    first: usize,
+    found: Judged,
+) -> Result<Judged, TypeError>
     ensures { result ≡ field_judged scope.now name.now first found }
 {
     match found.kind {
         Kind::Object(number) => {
-            let kind = field_of(scope.contract(), number, name)?;
-            kinded(kind, plus(found.cost, 1))
+            let kind = field_kind(scope.contract(), number, name)?;
+            with_cost(kind, plus(found.cost, 1))
         }
         _ => Err(TypeError::Mistyped(first)),
     }
@@ -397,13 +403,18 @@ fn field(scope: &Scope<'_>, name: &Text, first: usize, found: Judged) -> Result<
 
 /// An item of a list, or one of several objects.
 #[cycle(judging)]
-fn index(scope: &Scope<'_>, place: &Expr, first: usize, found: Judged) -> Result<Judged, TypeError>
+fn judge_index(
+    scope: &Scope<'_>,
+    place: &Expr,
+    first: usize,
+    found: Judged,
+) -> Result<Judged, TypeError>
     ensures { result ≡ index_judged (part_of scope.now place.now) first found }
 {
     match found.kind.item_of() {
         Some(kind) => {
             let cost = expect(scope, place, INT)?;
-            kinded(kind, plus(plus(found.cost, cost), 1))
+            with_cost(kind, plus(plus(found.cost, cost), 1))
         }
         None => Err(TypeError::Mistyped(first)),
     }
@@ -412,18 +423,18 @@ fn index(scope: &Scope<'_>, place: &Expr, first: usize, found: Judged) -> Result
 /// One step on.
 #[cycle(judging)]
 #[tactic(auto, using(crate::proofs::Layers::steps))]
-fn stepped(scope: &Scope<'_>, step: &Step, found: Judged) -> Result<Judged, TypeError>
+fn take_step(scope: &Scope<'_>, step: &Step, found: Judged) -> Result<Judged, TypeError>
     ensures { result ≡ step_part scope.now step.now found }
 {
     match &step.access {
-        Access::Field(name) => field(scope, name, step.first, found),
-        Access::Index(place) => index(scope, place, step.first, found),
+        Access::Field(name) => judge_field(scope, name, step.first, found),
+        Access::Index(place) => judge_index(scope, place, step.first, found),
     }
 }
 
 /// Steps into a value: what is told of it, and the steps.
 #[cycle(judging)]
-fn path(
+fn judge_path(
     scope: &Scope<'_>,
     told: Result<Judged, TypeError>,
     steps: &[Step],
@@ -441,7 +452,7 @@ fn all_steps(scope: &Scope<'_>, steps: &[Step], start: Judged) -> Result<Judged,
 {
     let mut found = start;
     for step in steps {
-        found = stepped(scope, step, found)?;
+        found = take_step(scope, step, found)?;
     }
     Ok(found)
 }

@@ -3,9 +3,7 @@ ghost use Rattle.std.specs.Prelude.{◌≡◌};
 ghost use Rattle.cs_types_kinds.specs.Kinds.{same_base, same_kind, list_of, item_of, is_list, joins, has_length, kind_of};
 
 use cs_lang::ValueKind;
-
-/// The most lists that a kind nests.
-const MOST_LISTS: u8 = 4;
+use cs_lang_token::MOST_LISTS;
 
 /// What a value is that is no list.
 #[derive(Clone, Copy)]

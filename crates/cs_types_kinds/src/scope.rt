@@ -1,10 +1,11 @@
 //! What is in sight at a place of a contract text.
-ghost use Rattle.std.specs.Prelude.{◌≡◌, false, [], take, length, OnOk, IfErr};
-ghost use Rattle.cs_types_kinds.specs.Scopes.{in_sight, is_seen, is_created, seen, created, is_declared, with_name, with_names, entered, closed};
+ghost use Rattle.std.specs.Prelude.{◌≡◌, take, length, OnOk, IfErr};
+ghost use Rattle.cs_types_kinds.specs.Scopes.{at_top, in_sight, is_seen, is_created, seen, created, is_declared, with_name, with_names, entered, below_method};
 
 use crate::fault::TypeError;
 use crate::kind::Kind;
-use cs_lang::{Contract, Sequence};
+use cs_base::Sequence;
+use cs_lang::Contract;
 use std::alloc::Global;
 use std::marker::Model;
 
@@ -117,7 +118,7 @@ impl<'a> Model for Scope<'a> {
 impl<'a> Scope<'a> {
     /// The scope above the first method.
     pub fn new(alloc: Global, contract: &'a Contract) -> Self
-        ensures { result ≡ record { contract = contract.now; costs = []; starred = false; in_check = false; names = [] } }
+        ensures { result ≡ at_top contract.now }
     {
         Scope {
             contract,
@@ -202,11 +203,12 @@ impl<'a> Scope<'a> {
         kind: Kind,
         usage: Use,
     ) -> Result<(), TypeError>
-        ensures ok { OnOk result (self.new ≡ with_names self.old (with_name self.old.names name.now kind usage)) }
+        ensures ok { OnOk result
+            (self.new ≡ with_names self.old (with_name self.old.names name.now kind usage)) }
         ensures err { IfErr result (λ e. e ≡ TypeError.Memory) }
     {
         self.names.push(Entry {
-            name: Sequence::from_slice(alloc, name)?,
+            name: Sequence::from_vec(Vec::from_slice(alloc, name)?),
             seen: Seen { kind, usage },
         })?;
         Ok(())
@@ -230,7 +232,7 @@ impl<'a> Scope<'a> {
 
     /// Goes on below the method, with what its bodies cost.
     pub fn close(&mut self, costs: Costs) -> Result<(), TypeError>
-        ensures ok { OnOk result (self.new ≡ closed self.old costs) }
+        ensures ok { OnOk result (self.new ≡ below_method self.old costs) }
         ensures err { IfErr result (λ e. e ≡ TypeError.Memory) }
     {
         self.costs.push(costs)?;

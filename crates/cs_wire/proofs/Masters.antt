@@ -20,23 +20,19 @@ use Rattle.cs_wire.specs.declared.keys.Keys.{Keys}
 use Rattle.cs_wire.specs.declared.opening.OpenError.{OpenError}
 use Rattle.cs_wire.specs.declared.opening.OpenError.TheVariants as errors
 use Rattle.cs_wire.specs.declared.view.MessageView.{MessageView}
-use Rattle.cs_wire.specs.Datagram.{text_of, sealed, is_kind, body_in}
+use Rattle.cs_wire.specs.Datagram.{text_of, sealed, is_kind, body_in, text_with, datagram_with}
 use Rattle.cs_wire.specs.Heads.{head_seen}
 use Rattle.cs_wire.specs.Keys.{row_in, row_of, has_name, row_between, row_expected, IsOfMaster}
 use Rattle.cs_wire.specs.Opens.{IsSealed, ShowsMessage, fault_of, head_fault, keyed_fault, HasNoBody, Opens, unless}
-use Rattle.cs_wire.specs.Opened.{Opened, opened, opened_body, said_by, unless_fault, text_with, datagram_with, nodes_below, names_of, rows_with, keys_of_master}
+use Rattle.cs_wire.specs.Opened.{Opened, opened, opened_body, said_by, unless_fault, nodes_below, names_of, rows_with, keys_of_master}
 use Rattle.cs_wire.proofs.Parts.{are_same, head_for}
 use Rattle.cs_wire.proofs.Rows.{member_more, shard_more, row_skipped}
 use Rattle.cs_wire.proofs.Unsealed.{is_clear}
 
 -- ---- sealing
 
-text_is : (from to : NodeId) (m : Message) → text_of from to m ≡ text_with from to (kind_of m) (body_of m)
-unfolding text_of text_with
-text_is from to m = refl
-
 pub sealed_is : (key : List ℕ) (from to : NodeId) (m : Message) → sealed key from to m ≡ datagram_with key from to (kind_of m) (body_of m)
-sealed_is key from to m = ap (λ (t : List ℕ). t ++ hmac key t) (text_is from to m)
+sealed_is key from to m = refl
 
 -- ---- reading
 

@@ -10,7 +10,7 @@ use Rattle.cs_base.proofs.Forms.{wide16, wide32, number_form, byte_form, bytes_f
 use Rattle.cs_wire_message.specs.declared.message.Message.{Message}
 use Rattle.cs_wire_message.specs.Message.{kind_of, body_of}
 use Rattle.cs_wire.specs.declared.head.Head.{Head}
-use Rattle.cs_wire.specs.Datagram.{name_encoding, text_of, text_in, tag_in, body_in}
+use Rattle.cs_wire.specs.Datagram.{name_encoding, text_with, text_of, text_in, tag_in, body_in}
 use Rattle.cs_wire.specs.Heads.{name_of, name_at, head_from, head_at, first, head_seen}
 use Rattle.cs_base.specs.NodeId.{same_name}
 use Rattle.cs_wire.specs.Opens.{IsName}
@@ -44,7 +44,7 @@ abbrev pub head_for : NodeId → NodeId → Message → Head
 head_for from to m = record { magic = codes "CSP1"; kind = kind_of m; from = from; to = to; size = length (body_of m) }
 
 pub text_parts : (from to : NodeId) (m : Message) → text_of from to m ≡ head_encoding (head_for from to m) ++ body_of m
-unfolding text_of
+unfolding text_with
 text_parts from to m = refl
 
 head_of_fields : (a : List ℕ) (b : ℕ) (c d : NodeId) (e : ℕ) (a2 : List ℕ) (b2 : ℕ) (c2 d2 : NodeId) (e2 : ℕ) → a ≡ a2 → b ≡ b2 → c ≡ c2 → d ≡ d2 → e ≡ e2

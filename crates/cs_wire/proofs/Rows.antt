@@ -4,6 +4,7 @@ use Rattle.std.specs.Prelude.{◌&&◌, ◌||◌, not, ◌==◌, nat_lt}
 use Rattle.std.proofs.Math.Seq.{take-suc}
 use Rattle.std.proofs.lemmas.Bool.{cases_lt, lt-ltb, le-ltb}
 use Rattle.std.proofs.lemmas.Bool.Decides.{eqb_tells}
+use Rattle.cs_base.specs.Options.{or_else}
 use Rattle.cs_base.specs.declared.node_id.NodeId.{NodeId}
 use Rattle.cs_wire.specs.declared.keys.Row.{Row}
 use Rattle.cs_wire.specs.Keys.{row_in, has_name, row_between, row_expected}
@@ -21,10 +22,6 @@ or_false false = refl
 pub has_more : (name last : NodeId) (names : List NodeId) → has_name name (names ++ last ∷ []) ≡ (has_name name names || same_name last name)
 has_more name last [] = or_false (same_name last name)
 has_more name last (other ∷ names) = ap (λ b. same_name other name || b) (has_more name last names) ∙ or_assoc (same_name other name) (has_name name names) (same_name last name)
-
-abbrev or_else : Option Row → Option Row → Option Row
-or_else (Some row) later = Some row
-or_else None later = later
 
 or_else_when : (test : Bool) (row : Row) (rest later : Option Row) → or_else (cond test (Some row) rest) later ≡ cond test (Some row) (or_else rest later)
 or_else_when true row rest later = refl

@@ -1,6 +1,7 @@
 -- Datagrams, byte by byte.
 use Rattle.std.specs.Prelude.{ℕ, ◌+◌, ◌-◌, Bool, ◌&&◌, ◌==◌, nat_le, bytes_eq, codes, List, ◌∷◌, ◌++◌, length, take, drop}
 use Rattle.std.specs.Int.{w16, w32, to_be_bytes}
+use Rattle.cs_base.specs.declared.limits.TheConstants.{LEAST_DATAGRAM, MOST_DATAGRAM}
 use Rattle.cs_base.specs.declared.node_id.NodeId.{NodeId}
 use Rattle.cs_hash.specs.Hash.{hmac}
 use Rattle.cs_wire_message.specs.declared.message.Message.{Message}
@@ -11,12 +12,20 @@ abbrev pub name_encoding : NodeId → List ℕ
 name_encoding name = to_be_bytes w16 name.shard ++ to_be_bytes w16 name.index
 
 -- what a tag is made of: `CSP1`, the kind, the sender, the receiver, the length of the body, the body
-unfoldable pub text_of : NodeId → NodeId → Message → List ℕ
-text_of from to m = codes "CSP1" ++ (kind_of m ∷ (name_encoding from ++ (name_encoding to ++ (to_be_bytes w32 (length (body_of m)) ++ body_of m))))
+unfoldable pub text_with : NodeId → NodeId → ℕ → List ℕ → List ℕ
+text_with from to kind body =
+    codes "CSP1" ++ (kind ∷ (name_encoding from ++ (name_encoding to ++ (to_be_bytes w32 (length body) ++ body))))
 
 -- the text, and its tag under the key from the sender to the receiver
+abbrev pub datagram_with : List ℕ → NodeId → NodeId → ℕ → List ℕ → List ℕ
+datagram_with key from to kind body = text_with from to kind body ++ hmac key (text_with from to kind body)
+
+-- the text of a message is that of its kind and its body, and so is its datagram
+abbrev pub text_of : NodeId → NodeId → Message → List ℕ
+text_of from to m = text_with from to (kind_of m) (body_of m)
+
 abbrev pub sealed : List ℕ → NodeId → NodeId → Message → List ℕ
-sealed key from to m = text_of from to m ++ hmac key (text_of from to m)
+sealed key from to m = datagram_with key from to (kind_of m) (body_of m)
 
 -- ---- tests of datagrams
 
@@ -25,7 +34,7 @@ is_kind kind = nat_le 1 kind && nat_le kind 14
 
 -- a body of this size stands between a head of 17 bytes and a tag of 32, and the datagram isn't too long
 abbrev pub is_sized : ℕ → List ℕ → Bool
-is_sized size bytes = length bytes == size + 49 && nat_le (length bytes) 32768
+is_sized size bytes = length bytes == size + LEAST_DATAGRAM && nat_le (length bytes) MOST_DATAGRAM
 
 -- what stands before the tag, and the tag
 abbrev pub text_in : List ℕ → List ℕ

@@ -16,7 +16,9 @@ head_from p = record { magic = p.0; kind = p.1.0; from = p.1.1.0; to = p.1.1.1.0
 
 -- magic, kind, sender, receiver, length of the body
 unfoldable pub head_at : List ℕ → Found Head
-head_at bytes = head_from <$> pair_at (bytes_at 4) (pair_at (number_at w8) (pair_at name_at (pair_at name_at (number_at w32)))) bytes
+head_at bytes =
+    head_from <$> pair_at (bytes_at 4) (pair_at (number_at w8) (pair_at name_at (pair_at name_at (number_at w32))))
+    bytes
 
 abbrev pub first : Found Head → Option Head
 first (Some found) = Some found.0

@@ -58,7 +58,8 @@ row_between master me peer = record { peer = peer; to = key_between master me pe
 
 -- what is shared with a name, where it is one, and not me
 abbrev pub row_expected : List ℕ → NodeId → Bool → NodeId → Option Row
-row_expected master me is_one peer = if is_one && not (same_name peer me) then Some (row_between master me peer) else None
+row_expected master me is_one peer =
+    if is_one && not (same_name peer me) then Some (row_between master me peer) else None
 
 abbrev pub has_name : NodeId → List NodeId → Bool
 has_name name names = list_any (λ other. same_name other name) names

@@ -1,10 +1,8 @@
 -- Opening as a function, and the keys of a master key as a value.
-use Rattle.std.specs.Prelude.{ℕ, zero, suc, ◌+◌, ◌*◌, List, [], ◌∷◌, ◌++◌, length, codes, Option, Some, None, Result, Ok, Err, if◌then◌else◌}
-use Rattle.std.specs.Int.{w32, to_be_bytes}
+use Rattle.std.specs.Prelude.{ℕ, zero, suc, ◌+◌, ◌*◌, List, [], ◌∷◌, ◌++◌, Option, Some, None, Result, Ok, Err, if◌then◌else◌}
 use Rattle.cs_base.specs.declared.config.Config.{Config}
 use Rattle.cs_base.specs.declared.node_id.NodeId.{NodeId}
 use Rattle.cs_base.specs.declared.node_id.TheConstants.{CLIENT_SHARD, CLIENTS}
-use Rattle.cs_hash.specs.Hash.{hmac}
 use Rattle.cs_wire_message.specs.declared.message.Message.{Message}
 use Rattle.cs_wire_message.specs.Body.{message_whole}
 use Rattle.cs_wire.specs.declared.head.Head.{Head}
@@ -12,7 +10,7 @@ use Rattle.cs_wire.specs.declared.keys.Row.{Row}
 use Rattle.cs_wire.specs.declared.keys.Keys.{Keys}
 use Rattle.cs_wire.specs.declared.opening.OpenError.{OpenError}
 use Rattle.cs_wire.specs.declared.opening.OpenError.TheVariants as errors
-use Rattle.cs_wire.specs.Datagram.{name_encoding, body_in}
+use Rattle.cs_wire.specs.Datagram.{body_in}
 use Rattle.cs_wire.specs.Heads.{head_seen}
 use Rattle.cs_wire.specs.Keys.{row_between}
 use Rattle.cs_base.specs.NodeId.{same_name, members_below}
@@ -39,15 +37,6 @@ unless_fault None later = later
 
 abbrev pub opened : Keys → List ℕ → Opened
 opened keys bytes = unless_fault (fault_of keys bytes) (opened_body bytes (head_seen bytes))
-
--- ---- a datagram of any kind and body
-
--- what its tag is made of
-unfoldable pub text_with : NodeId → NodeId → ℕ → List ℕ → List ℕ
-text_with from to kind body = codes "CSP1" ++ (kind ∷ (name_encoding from ++ (name_encoding to ++ (to_be_bytes w32 (length body) ++ body))))
-
-abbrev pub datagram_with : List ℕ → NodeId → NodeId → ℕ → List ℕ → List ℕ
-datagram_with key from to kind body = text_with from to kind body ++ hmac key (text_with from to kind body)
 
 -- ---- the keys of a master key
 

@@ -1,5 +1,6 @@
 -- What comes of a datagram at the one who is given it.
 use Rattle.std.specs.Prelude.{◌≡◌, ℕ, ◌<◌, ◌^◌, Bool, nat_lt, bytes_eq, codes, List, ◌++◌, length, Option, Some, None, Result, Ok, Err, if◌then◌else◌}
+use Rattle.cs_base.specs.declared.limits.TheConstants.{LEAST_DATAGRAM}
 use Rattle.cs_base.specs.declared.node_id.NodeId.{NodeId}
 use Rattle.cs_wire_message.specs.declared.message.Message.{Message}
 use Rattle.cs_wire_message.specs.Message.{MessageFits}
@@ -58,7 +59,8 @@ head_fault keys bytes (Some head) =
 
 -- the first test before that of the body which fails
 abbrev pub fault_of : Keys → List ℕ → Option OpenError
-fault_of keys bytes = if nat_lt (length bytes) 49 then Some errors.Short else head_fault keys bytes (head_seen bytes)
+fault_of keys bytes =
+    if nat_lt (length bytes) LEAST_DATAGRAM then Some errors.Short else head_fault keys bytes (head_seen bytes)
 
 -- the body is none of its kind
 abbrev pub HasNoBody : List ℕ → Option Head → Type 0

@@ -80,12 +80,7 @@ fn row_among(rows: &[Row], peer: NodeId) -> Option<&Row>
 fn is_among(list: &[(NodeId, Digest, Digest)], name: NodeId) -> bool
     ensures { result ≡ stands name list.now }
 {
-    for i in 0..list.len() {
-        if same_name(list[i].0, name) {
-            return true;
-        }
-    }
-    false
+    list.iter().any(|listed| same_name(listed.0, name))
 }
 
 impl Keys {

@@ -15,12 +15,18 @@ ghost use Rattle.cs_wire.specs.Opens.{IsName, Seals, IsSealed, Opens, OpensAs};
 /// of is opened as just these.
 #[tactic(auto, using(crate::proofs::Unsealed::opens_as))]
 pub fn sealed_datagrams_are_opened()
-    ensures { (keys : Keys) (bytes : List ℕ) (r : Result (NodeId × MessageView) OpenError) → Opens keys bytes r → (sender : NodeId) (m : Message) → IsSealed keys bytes sender m → OpensAs r sender m }
+    ensures { (keys : Keys) (bytes : List ℕ) (r : Result (NodeId × MessageView) OpenError)
+        → Opens keys bytes r
+        → (sender : NodeId) (m : Message) → IsSealed keys bytes sender m → OpensAs r sender m }
 {}
 
 /// What one name seals for another, under keys of one configuration and one master key, is at the
 /// other a datagram of the first with that message.
 #[tactic(auto, using(crate::proofs::Unsealed::sealed_for))]
 pub fn names_of_one_master_understand_each_other()
-    ensures { (config : Config) (master : List ℕ) (i j : NodeId) (a b : Keys) (m : Message) (bytes : List ℕ) → IsOfMaster config master i a → IsOfMaster config master j b → IsName i → IsName j → is_named config i ≡ true → same_name i j ≡ false → MessageFits m → Seals a j m [] bytes → IsSealed b bytes i m }
+    ensures { (config : Config) (master : List ℕ) (i j : NodeId) (a b : Keys)
+        (m : Message) (bytes : List ℕ)
+        → IsOfMaster config master i a → IsOfMaster config master j b
+        → IsName i → IsName j → is_named config i ≡ true → same_name i j ≡ false
+        → MessageFits m → Seals a j m [] bytes → IsSealed b bytes i m }
 {}

@@ -13,7 +13,9 @@ use std::alloc::Global;
 
 // Adds the names of so many members of a shard.
 fn add_members(names: &mut Sequence<NodeId>, shard: u16, count: u16) -> Result<(), Memory>
-    ensures { OnOk result ((name : NodeId) → has_name name names.new ≡ (has_name name names.old || ((shard == name.shard) && nat_lt name.index count))) }
+    ensures { OnOk result ((name : NodeId)
+        → has_name name names.new
+        ≡ (has_name name names.old || ((shard == name.shard) && nat_lt name.index count))) }
 {
     for index in 0..count {
         names.push(NodeId { shard, index })?;
@@ -22,7 +24,8 @@ fn add_members(names: &mut Sequence<NodeId>, shard: u16, count: u16) -> Result<(
 }
 
 fn nodes(alloc: Global, shards: u16, members: u16) -> Result<Sequence<NodeId>, Memory>
-    ensures { IfOk result (λ names. (name : NodeId) → has_name name names ≡ (nat_lt name.shard shards && nat_lt name.index members)) }
+    ensures { IfOk result (λ names. (name : NodeId)
+        → has_name name names ≡ (nat_lt name.shard shards && nat_lt name.index members)) }
 {
     let mut names = Sequence::new(alloc);
     for shard in 0..shards {
@@ -33,7 +36,8 @@ fn nodes(alloc: Global, shards: u16, members: u16) -> Result<Sequence<NodeId>, M
 
 /// The names of all nodes of a configuration, and of all clients.
 fn all_names(alloc: Global, config: &Config) -> Result<Sequence<NodeId>, Memory>
-    ensures { IfOk result (λ names. (name : NodeId) → has_name name names ≡ is_named config.now name) }
+    ensures { IfOk result (λ names. (name : NodeId)
+        → has_name name names ≡ is_named config.now name) }
 {
     let mut names = nodes(alloc, config.shards, 3 * config.f + 1)?;
     add_members(&mut names, CLIENT_SHARD, CLIENTS)?;
@@ -75,7 +79,10 @@ fn add_row(
     name: NodeId,
     rows: &mut Sequence<Row>,
 ) -> Result<(), Memory>
-    ensures { OnOk result ((peer : NodeId) (is_one : Bool) → row_in peer rows.old ≡ row_expected master.now me is_one peer → row_in peer rows.new ≡ row_expected master.now me (is_one || same_as name peer) peer) }
+    ensures { OnOk result ((peer : NodeId) (is_one : Bool)
+        → row_in peer rows.old ≡ row_expected master.now me is_one peer
+        → row_in peer rows.new
+        ≡ row_expected master.now me (is_one || same_as name peer) peer) }
 {
     if same_name(name, me) {
         return Ok(());
@@ -91,7 +98,8 @@ fn rows_for(
     me: NodeId,
     names: &[NodeId],
 ) -> Result<Sequence<Row>, Memory>
-    ensures { IfOk result (λ rows. (peer : NodeId) → row_in peer rows ≡ row_expected master.now me (has_name peer names.now) peer) }
+    ensures { IfOk result (λ rows. (peer : NodeId)
+        → row_in peer rows ≡ row_expected master.now me (has_name peer names.now) peer) }
 {
     let mut rows = Sequence::new(alloc);
     for i in 0..names.len() {
@@ -107,7 +115,8 @@ pub fn rows_of_master(
     master: &Digest,
     me: NodeId,
 ) -> Result<Sequence<Row>, Memory>
-    ensures { IfOk result (λ rows. (peer : NodeId) → row_in peer rows ≡ row_expected master.now me (is_named config.now peer) peer) }
+    ensures { IfOk result (λ rows. (peer : NodeId)
+        → row_in peer rows ≡ row_expected master.now me (is_named config.now peer) peer) }
 {
     let names = all_names(alloc, config)?;
     rows_for(alloc, master, me, names.as_slice())

@@ -1,5 +1,6 @@
 //! Opening datagrams.
 ghost use Rattle.std.specs.Prelude.{◌≡◌, ◌≤◌, length, IfOk};
+ghost use Rattle.cs_base.specs.declared.limits.TheConstants.{LEAST_DATAGRAM};
 ghost use Rattle.cs_wire.specs.Datagram.{has_tag as tagged_so, is_sized as sized_so, is_kind as kind_so, body_in};
 ghost use Rattle.cs_wire.specs.Opens.{fault_of, head_fault, Checks, Opens};
 ghost use Rattle.cs_wire.specs.Heads.{head_seen};
@@ -7,7 +8,7 @@ ghost use Rattle.cs_wire.specs.Heads.{head_seen};
 use crate::head::{Head, head_of};
 use crate::keys::{Keys, same_name};
 use crate::view::MessageView;
-use cs_base::NodeId;
+use cs_base::{LEAST_DATAGRAM, MOST_DATAGRAM, NodeId};
 use cs_hash::{TagKey, same};
 use cs_wire_message::has_form;
 
@@ -16,12 +17,6 @@ const HEAD: usize = 17;
 
 /// The bytes of a tag.
 const TAG: usize = 32;
-
-/// The bytes of a head and a tag.
-const LEAST: usize = 49;
-
-/// The most bytes of a datagram.
-const MOST: usize = 32768;
 
 /// The first test of a datagram that fails; the tests stand here in their order.
 #[derive(Clone, Copy, Debug, PartialEq, Eq)]
@@ -53,7 +48,7 @@ fn is_kind(kind: u8) -> bool
 fn is_sized(size: u32, bytes: &[u8]) -> bool
     ensures { result ≡ sized_so size bytes.now }
 {
-    bytes.len() == size as usize + LEAST && bytes.len() <= MOST
+    bytes.len() == size as usize + LEAST_DATAGRAM && bytes.len() <= MOST_DATAGRAM
 }
 
 // Whether the last 32 bytes are the tag of those before them.
@@ -67,12 +62,12 @@ fn has_tag(key: &TagKey, bytes: &[u8]) -> bool
     same(&read, &key.tag(text))
 }
 
-// The tests before that of the body.
-fn checked(keys: &Keys, bytes: &[u8]) -> Result<Head, OpenError>
-    ensures long { IfOk result (λ head. 49 ≤ length bytes.now) }
+// The head of a datagram that passes the tests before that of the body.
+fn tested_head(keys: &Keys, bytes: &[u8]) -> Result<Head, OpenError>
+    ensures long { IfOk result (λ head. LEAST_DATAGRAM ≤ length bytes.now) }
     ensures checks { Checks result (fault_of keys.now bytes.now) (head_seen bytes.now) }
 {
-    if bytes.len() < LEAST {
+    if bytes.len() < LEAST_DATAGRAM {
         return Err(OpenError::Short);
     }
     let Some(head) = head_of(bytes) else {
@@ -101,7 +96,7 @@ fn checked(keys: &Keys, bytes: &[u8]) -> Result<Head, OpenError>
 
 // What stands between the head and the tag.
 fn body_of(bytes: &[u8]) -> &[u8]
-    requires { 49 ≤ length bytes.now }
+    requires { LEAST_DATAGRAM ≤ length bytes.now }
     ensures { result.now ≡ body_in bytes.now }
 {
     let (text, _) = bytes.split_at(bytes.len() - TAG);
@@ -113,7 +108,7 @@ fn body_of(bytes: &[u8]) -> &[u8]
 pub fn open<'a>(keys: &Keys, bytes: &'a [u8]) -> Result<(NodeId, MessageView<'a>), OpenError>
     ensures { Opens keys.now bytes.now result }
 {
-    let head = checked(keys, bytes)?;
+    let head = tested_head(keys, bytes)?;
     let body = body_of(bytes);
     if !has_form(head.kind, body) {
         return Err(OpenError::Body);

@@ -1,11 +1,11 @@
 //! Sealing bytes of any kind, as liars do.
 ghost use Rattle.std.specs.Prelude.{◌≡◌, ◌≤◌, ◌↔◌, ℕ, List, None, length, IfOk, OnOk, OnErr, IsErrOf};
+ghost use Rattle.cs_base.specs.declared.limits.TheConstants.{MOST_BODY};
 ghost use Rattle.cs_base.specs.declared.node_id.NodeId.{NodeId as Name};
 ghost use Rattle.cs_wire_message.specs.declared.message.Message.{Message};
 ghost use Rattle.cs_wire_message.specs.Message.{kind_of, body_of};
-ghost use Rattle.cs_wire.specs.Datagram.{sealed};
+ghost use Rattle.cs_wire.specs.Datagram.{sealed, text_with, datagram_with};
 ghost use Rattle.cs_wire.specs.Keys.{row_of};
-ghost use Rattle.cs_wire.specs.Opened.{text_with, datagram_with};
 ghost use Rattle.cs_wire.specs.Raw.{SealsWith};
 ghost use Rattle.cs_wire.specs.declared.sealing.SealError.TheVariants.{NoKey};
 
@@ -17,15 +17,9 @@ use cs_hash::TagKey;
 use std::alloc::Global;
 
 // What stands before the tag.
-#[tactic(auto, unfolding(crate::specs::Opened::text_with))]
-fn raw_text(
-    alloc: Global,
-    from: NodeId,
-    to: NodeId,
-    kind: u8,
-    body: &[u8],
-) -> Result<Vec<u8>, Memory>
-    requires { length body.now ≤ 32719 }
+#[tactic(auto, unfolding(crate::specs::Datagram::text_with))]
+fn text(alloc: Global, from: NodeId, to: NodeId, kind: u8, body: &[u8]) -> Result<Vec<u8>, Memory>
+    requires { length body.now ≤ MOST_BODY }
     ensures { IfOk result (λ text. text.items ≡ text_with from to kind body.now) }
 {
     let mut out = Writer::new(alloc);
@@ -38,7 +32,8 @@ fn raw_text(
     Ok(out.into_bytes())
 }
 
-fn raw_datagram(
+/// The datagram of any kind and body under a key.
+pub fn datagram(
     alloc: Global,
     key: &TagKey,
     from: NodeId,
@@ -46,10 +41,10 @@ fn raw_datagram(
     kind: u8,
     body: &[u8],
 ) -> Result<Vec<u8>, Memory>
-    requires { length body.now ≤ 32719 }
+    requires { length body.now ≤ MOST_BODY }
     ensures { IfOk result (λ bytes. bytes.items ≡ datagram_with key.now from to kind body.now) }
 {
-    let mut bytes = raw_text(alloc, from, to, kind, body)?;
+    let mut bytes = text(alloc, from, to, kind, body)?;
     let tag = key.tag(&bytes);
     bytes.extend_from_slice(&tag)?;
     Ok(bytes)
@@ -65,7 +60,7 @@ pub fn seal_with(
     body: &[u8],
     out: &mut Vec<u8>,
 ) -> Result<(), SealError>
-    requires { length body.now ≤ 32719 }
+    requires { length body.now ≤ MOST_BODY }
     ensures ok { OnOk result (SealsWith keys.now to kind body.now out.old.items out.new.items) }
     ensures no_key { IsErrOf result NoKey ↔ (row_of to keys.now ≡ None) }
     ensures err { OnErr result (out.new.items ≡ out.old.items) }
@@ -73,7 +68,7 @@ pub fn seal_with(
     let Some(row) = keys.row(to) else {
         return Err(SealError::NoKey);
     };
-    let bytes = raw_datagram(alloc, &row.to, keys.me, to, kind, body)?;
+    let bytes = datagram(alloc, &row.to, keys.me, to, kind, body)?;
     out.extend_from_slice(&bytes)?;
     Ok(())
 }
@@ -81,5 +76,6 @@ pub fn seal_with(
 /// The datagram of a message is that of its kind and its body.
 #[tactic(auto, using(crate::proofs::Masters::sealed_is))]
 pub fn a_message_is_sealed_by_kind_and_body()
-    ensures { (key : List ℕ) (from to : Name) (m : Message) → sealed key from to m ≡ datagram_with key from to (kind_of m) (body_of m) }
+    ensures { (key : List ℕ) (from to : Name) (m : Message)
+        → sealed key from to m ≡ datagram_with key from to (kind_of m) (body_of m) }
 {}

@@ -35,5 +35,7 @@ pub fn read(
 /// any order.
 #[tactic(auto, using(crate::proofs::Masters::opened_alike))]
 pub fn keys_of_a_master_open_alike()
-    ensures { (config : Config) (master : List ℕ) (me : Name) (keys : AnyKeys) (bytes : List ℕ) → IsOfMaster config master me keys → opened keys bytes ≡ opened (keys_of_master config master me) bytes }
+    ensures { (config : Config) (master : List ℕ) (me : Name) (keys : AnyKeys) (bytes : List ℕ)
+        → IsOfMaster config master me keys
+        → opened keys bytes ≡ opened (keys_of_master config master me) bytes }
 {}

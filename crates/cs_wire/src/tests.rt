@@ -1,4 +1,5 @@
-//! Datagrams whose tags were computed elsewhere, and what comes of datagrams that were cut or changed.
+//! Datagrams whose tags were computed elsewhere, and what comes of datagrams that were cut or
+//! changed.
 use super::*;
 use cs_base::{Config, Key, NodeId, Sequence, print_bytes};
 use cs_tx_form::{Checkpoint, Effect, Entry, Leaf, Proof, Session, State, Trace, Tx, Vote};

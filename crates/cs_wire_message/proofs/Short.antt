@@ -3,6 +3,7 @@ use Rattle.std.proofs.Common.{◌≡◌, ℕ, ◌+◌, ◌*◌, ◌≤◌, ◌++
 use Rattle.std.specs.List.{AllByRecursion}
 use Rattle.std.specs.Int.{w16, w64, to_be_bytes}
 use Rattle.std.proofs.lemmas.List.{length-append}
+use Rattle.cs_base.specs.declared.limits.TheConstants.{MOST_BODY}
 use Rattle.cs_base.specs.declared.key.Key.{Key}
 use Rattle.cs_base.specs.declared.key.Key.TheVariants as key
 use Rattle.cs_base.specs.Fields.{each, counted}
@@ -18,9 +19,10 @@ use Rattle.cs_tx_form.specs.declared.leaf.Leaf.{Leaf}
 use Rattle.cs_tx_form.specs.declared.checkpoint.Checkpoint.{Checkpoint}
 use Rattle.cs_tx_form.specs.declared.proof.Proof.{Proof}
 use Rattle.cs_tx_form.specs.Session.{session_encoding, vote_encoding, entry_encoding}
-use Rattle.cs_tx_form.specs.Laws.{session_short, entry_short}
+use Rattle.cs_tx_form.specs.laws.Session.{session_short, entry_short}
 use Rattle.cs_tx_form.specs.State.{state_encoding, StateFits}
-use Rattle.cs_tx_form.specs.Sized.{sized, length_sized}
+use Rattle.cs_tx_form.specs.Sized.{sized}
+use Rattle.cs_tx_form.specs.laws.Sized.{length_sized}
 use Rattle.cs_tx_form.specs.Log.{effect_encoding, leaf_encoding, LeafFits, checkpoint_encoding, CheckpointFits, proof_encoding, ProofFits}
 use Rattle.cs_wire_message.specs.declared.change.Change.{Change}
 use Rattle.cs_wire_message.specs.declared.message.Message.{Message}
@@ -117,7 +119,7 @@ step_length : (slot view : ℕ) (rest : List ℕ) → length (to_be_bytes w64 sl
 step_length slot view rest = omega (arith, length-append (to_be_bytes w64 slot) (to_be_bytes w16 view ++ rest), length-append (to_be_bytes w16 view) rest)
 
 -- no body of a message that fits is longer than a datagram holds
-pub body_short : (m : Message) → MessageFits m → length (body_of m) ≤ 32719
+pub body_short : (m : Message) → MessageFits m → length (body_of m) ≤ MOST_BODY
 body_short (message.Submit x) fits = omega (arith, session_short x fits)
 body_short (message.Propose slot view entry) fits = omega (arith, entry_short entry fits.1.1, step_length slot view (entry_encoding entry))
 body_short (message.Echo slot view digest) fits = omega (arith, fits.1.1.0, step_length slot view digest)

@@ -15,7 +15,7 @@ use Rattle.cs_wire_message.specs.declared.message.Message.{Message}
 use Rattle.cs_wire_message.specs.declared.message.Message.TheVariants as message
 use Rattle.cs_wire_message.specs.Message.{kind_of, body_of, MessageFits}
 use Rattle.cs_wire_message.specs.Reading.{message_at}
-use Rattle.cs_wire_message.specs.Laws.{spelled, IsLong, message_takes, message_again}
+use Rattle.cs_wire_message.specs.laws.Message.{spelled, IsLong, message_takes, message_again}
 use Rattle.cs_wire_message.specs.Body.{Has, IsBody, is_bare, message_whole}
 
 heads : (x y : ℕ) (xs ys : List ℕ) → x ∷ xs ≡ y ∷ ys → x ≡ y

@@ -1,4 +1,4 @@
 pub mod Message
 pub mod Reading
-pub mod Laws
 pub mod Body
+pub mod laws

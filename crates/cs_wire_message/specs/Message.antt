@@ -4,6 +4,7 @@ use Rattle.std.specs.Ordering.{nat_cmp, is_lt}
 use Rattle.std.specs.Cmp.Lexicographic.{slice_cmp}
 use Rattle.std.specs.Int.{w16, w64, to_be_bytes}
 use Rattle.cs_base.specs.declared.key.Key.{Key}
+use Rattle.cs_base.specs.declared.limits.TheConstants.{LAST_VIEW, MOST_ECHOED}
 use Rattle.cs_base.specs.Fields.{counted}
 use Rattle.cs_tx_value.specs.Object.{DigestFits}
 use Rattle.cs_tx_value.specs.Key.{key_encoding, KeyFits}
@@ -61,11 +62,12 @@ is_above (Some last) digest = is_lt (slice_cmp nat_cmp last digest)
 -- digests that rise from the last one, with views below the one given
 abbrev pub Rise : ℕ → Option (List ℕ) → List (List ℕ × ℕ) → Type 0
 Rise view last [] = Unit {0}
-Rise view last (echo ∷ echoed) = ((DigestFits echo.0 × (is_above last echo.0 ≡ true)) × (echo.1 < view)) × Rise view (Some echo.0) echoed
+Rise view last (echo ∷ echoed) =
+    ((DigestFits echo.0 × (is_above last echo.0 ≡ true)) × (echo.1 < view)) × Rise view (Some echo.0) echoed
 
 pub record ChangeFits (view : ℕ) (c : Change) : Type 0 where
   pub prepared : PreparedFits view c.prepared
-  pub few : length c.echoed ≤ 16
+  pub few : length c.echoed ≤ MOST_ECHOED
   pub rise : Rise view None c.echoed
 
 -- ---- bodies
@@ -104,7 +106,7 @@ abbrev pub IsSlot : ℕ → Type 0
 IsSlot slot = slot < 2 ^ 62
 
 abbrev pub IsView : ℕ → Type 0
-IsView view = view ≤ 1023
+IsView view = view ≤ LAST_VIEW
 
 abbrev pub StepFits : ℕ → ℕ → List ℕ → Type 0
 StepFits slot view digest = IsSlot slot × (IsView view × DigestFits digest)

@@ -2,6 +2,7 @@
 use Rattle.std.specs.Prelude.{◌≡◌, ℕ, zero, suc, Bool, List, [], ◌∷◌, Option, Some, None, Result, Ok, Err, nat_le, nat_lt, if◌then◌else◌}
 use Rattle.std.specs.Int.{w8, w16}
 use Rattle.cs_base.specs.declared.key.Key.{Key}
+use Rattle.cs_base.specs.declared.limits.TheConstants.{LAST_VIEW, MOST_ECHOED}
 use Rattle.cs_base.specs.Fields.{Found, ◌>>=◌, ◌<$>◌, number_at, bytes_at, upto_at, pair_at, tested_at}
 use Rattle.cs_tx_value.specs.Kinds.{kinds_at}
 use Rattle.cs_tx_value.specs.Key.{key_at}
@@ -24,7 +25,7 @@ Gets (Ok x) rest found = found ≡ Some (x, rest)
 Gets (Err e) rest found = (e ≡ errors.BadForm) × (found ≡ None)
 
 abbrev pub view_at : List ℕ → Found ℕ
-view_at = tested_at (λ n. nat_le n 1023) (number_at w16)
+view_at = tested_at (λ n. nat_le n LAST_VIEW) (number_at w16)
 
 abbrev pub below_at : ℕ → List ℕ → Found ℕ
 below_at view = tested_at (λ n. nat_lt n view) (number_at w16)
@@ -49,7 +50,7 @@ rising_at view last (suc n) bytes = do
   Some (first.0 ∷ others.0, others.1)
 
 abbrev pub echoed_at : ℕ → List ℕ → Found (List (List ℕ × ℕ))
-echoed_at view = upto_at w8 16 (rising_at view None)
+echoed_at view = upto_at w8 MOST_ECHOED (rising_at view None)
 
 abbrev pub some_pair : ℕ × List ℕ → Option (ℕ × List ℕ)
 some_pair pair = Some pair
@@ -69,13 +70,15 @@ Claim = ℕ × Change
 abbrev pub claim_of : ℕ → Option (ℕ × List ℕ) × List (List ℕ × ℕ) → Claim
 claim_of view p = (view, record { prepared = p.0; echoed = p.1 })
 
--- what is claimed at a view: from 1 to 1,023
+-- what is claimed at a view: from 1 to the last one
 unfoldable pub claimed_at : ℕ → List ℕ → Found Claim
 claimed_at view bytes =
-    if nat_le 1 view then (if nat_le view 1023 then claim_of view <$> pair_at (prepared_at view) (echoed_at view) bytes else None) else None
+    if nat_le 1 view
+    then (if nat_le view LAST_VIEW then claim_of view <$> pair_at (prepared_at view) (echoed_at view) bytes else None)
+    else None
 
 unfoldable pub claim_at : List ℕ → Found (ℕ × Claim)
-claim_at = pair_at slot_at (upto_at w16 1023 claimed_at)
+claim_at = pair_at slot_at (upto_at w16 LAST_VIEW claimed_at)
 
 -- ---- bodies
 
@@ -138,7 +141,10 @@ message_at (suc (suc (suc (suc (suc (suc (suc (suc zero)))))))) bytes = message.
 message_at (suc (suc (suc (suc (suc (suc (suc (suc (suc zero))))))))) bytes = done_of <$> done_at bytes
 message_at (suc (suc (suc (suc (suc (suc (suc (suc (suc (suc zero)))))))))) bytes = asked_of <$> key_at bytes
 message_at (suc (suc (suc (suc (suc (suc (suc (suc (suc (suc (suc zero))))))))))) bytes = told_of <$> told_at bytes
-message_at (suc (suc (suc (suc (suc (suc (suc (suc (suc (suc (suc (suc zero)))))))))))) bytes = message.Head <$> checkpoint_at bytes
-message_at (suc (suc (suc (suc (suc (suc (suc (suc (suc (suc (suc (suc (suc zero))))))))))))) bytes = message.AskProof <$> slot_at bytes
-message_at (suc (suc (suc (suc (suc (suc (suc (suc (suc (suc (suc (suc (suc (suc zero)))))))))))))) bytes = message.Proof <$> proof_at bytes
+message_at (suc (suc (suc (suc (suc (suc (suc (suc (suc (suc (suc (suc zero)))))))))))) bytes =
+    message.Head <$> checkpoint_at bytes
+message_at (suc (suc (suc (suc (suc (suc (suc (suc (suc (suc (suc (suc (suc zero))))))))))))) bytes =
+    message.AskProof <$> slot_at bytes
+message_at (suc (suc (suc (suc (suc (suc (suc (suc (suc (suc (suc (suc (suc (suc zero)))))))))))))) bytes =
+    message.Proof <$> proof_at bytes
 message_at (suc (suc (suc (suc (suc (suc (suc (suc (suc (suc (suc (suc (suc (suc (suc kind))))))))))))))) bytes = None

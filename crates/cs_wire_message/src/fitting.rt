@@ -5,10 +5,8 @@ ghost use Rattle.cs_wire_message.specs.Message.{IsSlot, IsView, is_above, Rise, 
 
 use crate::change::Change;
 use crate::message::Message;
-use crate::rising::{MOST_ECHOED, comes_after};
-use crate::view::LAST_VIEW;
-use cs_base::Key;
-use cs_tx_form::LAST_SLOT;
+use crate::rising::comes_after;
+use cs_base::{Key, LAST_SLOT, LAST_VIEW, MOST_ECHOED};
 use cs_tx_value::{Digest, Encoded};
 
 fn is_slot(slot: u64) -> bool
@@ -25,7 +23,8 @@ fn is_view(view: u16) -> bool
 
 // Whether an echo in an earlier view may stand behind the last digest.
 fn may_stand(view: u16, last: &Option<Digest>, echo: &(Digest, u16)) -> bool
-    ensures { IsTrue result ↔ ((DigestFits echo.now.0 × (is_above last.now echo.now.0 ≡ true)) × (echo.now.1 < view)) }
+    ensures { IsTrue result ↔
+        ((DigestFits echo.now.0 × (is_above last.now echo.now.0 ≡ true)) × (echo.now.1 < view)) }
 {
     echo.0.fits() && comes_after(last, &echo.0) && echo.1 < view
 }
@@ -34,11 +33,11 @@ fn rise(view: u16, echoed: &[(Digest, u16)]) -> bool
     ensures { IsTrue result ↔ Rise view None echoed.now }
 {
     let mut last = None;
-    for i in 0..echoed.len() {
-        if !may_stand(view, &last, &echoed[i]) {
+    for echo in echoed {
+        if !may_stand(view, &last, echo) {
             return false;
         }
-        last = Some(echoed[i].0);
+        last = Some(echo.0);
     }
     true
 }

@@ -1,19 +1,16 @@
 //! What a member claims as it enters a view: digests that rise, with earlier views.
 ghost use Rattle.std.specs.Prelude.{◌≡◌, ◌≤◌, None};
 ghost use Rattle.cs_base.specs.Fields.{bytes_at};
+ghost use Rattle.cs_base.specs.declared.limits.TheConstants.{LAST_VIEW};
 ghost use Rattle.cs_tx_value.specs.Reading.{ReadsValue, Passes};
 ghost use Rattle.cs_wire_message.specs.Message.{is_above};
 ghost use Rattle.cs_wire_message.specs.Reading.{Gets, above_at, below_at, echo_at, rising_at, echoed_at, prepared_at, claimed_at, claim_at};
 
 use crate::change::Change;
-use crate::view::LAST_VIEW;
-use cs_base::{Cursor, Sequence};
+use cs_base::{Cursor, LAST_VIEW, MOST_ECHOED, Sequence};
 use cs_tx_form::{read_slot, skip_slot};
 use cs_tx_value::{Digest, FormError};
 use std::alloc::Global;
-
-/// The most digests that a member echoes in a slot.
-pub const MOST_ECHOED: u8 = 16;
 
 /// Whether the digest comes after the last one, where there is one.
 pub fn comes_after(last: &Option<Digest>, digest: &Digest) -> bool
@@ -162,7 +159,7 @@ fn read_claimed(
     cursor: &mut Cursor<'_>,
     view: u16,
 ) -> Result<(u16, Change), FormError>
-    requires { view ≤ 1023 }
+    requires { view ≤ LAST_VIEW }
     ensures { ReadsValue result cursor.new (claimed_at view cursor.old) }
 {
     if view < 1 {
@@ -175,7 +172,7 @@ fn read_claimed(
 
 #[tactic(auto, using(cs_base::proofs::Many::behind_map, cs_base::proofs::Many::behind_pair), unfolding(crate::specs::Reading::claimed_at))]
 fn skip_claimed(cursor: &mut Cursor<'_>, view: u16) -> Result<(), FormError>
-    requires { view ≤ 1023 }
+    requires { view ≤ LAST_VIEW }
     ensures { Passes result cursor.new (claimed_at view cursor.old) }
 {
     if view < 1 {

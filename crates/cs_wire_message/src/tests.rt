@@ -1,7 +1,6 @@
 //! Bodies that were written by hand, and messages at their limits.
 use super::*;
-use cs_base::{Memory, Sequence, Writer};
-use cs_tx_form::LAST_SLOT;
+use cs_base::{LAST_SLOT, Memory, Sequence, Writer};
 use cs_tx_value::Digest;
 use std::alloc::Global;
 use std::process::Abort;

@@ -3,11 +3,8 @@ ghost use Rattle.std.specs.Prelude.{◌≡◌};
 ghost use Rattle.cs_tx_value.specs.Reading.{ReadsValue, Passes};
 ghost use Rattle.cs_wire_message.specs.Reading.{view_at, flag_at};
 
-use cs_base::Cursor;
+use cs_base::{Cursor, LAST_VIEW};
 use cs_tx_value::FormError;
-
-/// The last view of a slot.
-pub const LAST_VIEW: u16 = 1023;
 
 /// The view at the cursor.
 #[tactic(auto, unfolding(cs_base::specs::Fields::tested_at))]

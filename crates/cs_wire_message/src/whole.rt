@@ -1,5 +1,6 @@
 //! Whole bodies.
 ghost use Rattle.std.specs.Prelude.{◌≡◌, ◌≤◌, ◌↔◌, length, Some, IsTrue, IfOk, is_some};
+ghost use Rattle.cs_base.specs.declared.limits.TheConstants.{MOST_BODY};
 ghost use Rattle.cs_base.specs.Fields.{whole_at};
 ghost use Rattle.cs_wire_message.specs.Reading.{message_at};
 ghost use Rattle.cs_tx_value.specs.Reading.{GivesAll, AnswersValue};
@@ -65,8 +66,8 @@ pub fn message_in(alloc: Global, kind: u8, body: &[u8]) -> Result<Message, FormE
     read_whole(alloc, kind, body)
 }
 
-/// A datagram has room for the body of each message that fits: 32,719 bytes.
+/// A datagram has room for the body of each message that fits.
 #[tactic(auto, using(crate::proofs::Short::body_short))]
 pub fn bodies_are_short()
-    ensures { (message : Message) → MessageFits message → length (body_of message) ≤ 32719 }
+    ensures { (message : Message) → MessageFits message → length (body_of message) ≤ MOST_BODY }
 {}

@@ -23,7 +23,7 @@ use Rattle.cs_tx_form.specs.declared.entry.Entry.{Entry}
 use Rattle.cs_tx_form.specs.Session.{SessionFits, entry_encoding, EntryFits}
 use Rattle.cs_tx.specs.Digest.{digest_of_tx}
 use Rattle.cs_tx_form.specs.Reading.{entry_at}
-use Rattle.cs_tx_form.specs.Laws.{entry_form}
+use Rattle.cs_tx_form.specs.laws.Session.{entry_form}
 use Rattle.cs_wire_message.specs.declared.message.Message.{Message}
 use Rattle.cs_wire_message.specs.declared.message.Message.TheVariants as message
 use Rattle.cs_wire_message.specs.Message.{kind_of, body_of, MessageFits}

@@ -12,6 +12,7 @@ use Rattle.cs_wire_message.specs.declared.message.Message.TheVariants as message
 use Rattle.cs_wire_message.specs.Message.{MessageFits}
 use Rattle.cs_order.specs.declared.proposed.Proposed.{Proposed}
 use Rattle.cs_order.specs.Lists as Order
+use Rattle.cs_order.specs.laws.Lists.{IsIn-right}
 use Rattle.cs_order.specs.Deeds.{Deed, Took_in, Advanced, Echoed, Proposing, Ticked, Resent, Replied, Member, sent_by}
 use Rattle.cs_order.specs.Runs.{Act, KeepsRules, IsKept, IsFor, HandedOut, Genuine, Run, deeds_of, entries_in, held_in, handed_in, EntriesToldApart, Follows as Next}
 use Rattle.cs_order.specs.Law.{IsLawful}
@@ -68,7 +69,7 @@ handed-is {M} site sound me to said (deed ∷ past) kept all (inl now) =
           inl (subst (λ z. IsFor z to (sent_by deed)) same now.1.0);
     }
 handed-is {M} site sound me to said (deed ∷ past) kept all (inr before) =
-    let o = handed-is site sound me to said past kept.1 (λ p i. all p (Order.IsIn-right p (entries_in site.machine deed) (held_in site.machine past) i)) before in
+    let o = handed-is site sound me to said past kept.1 (λ p i. all p (IsIn-right p (entries_in site.machine deed) (held_in site.machine past) i)) before in
     record { fits = o.fits; ordering = o.ordering; back = λ m reads. inr (o.back m reads) }
 
 -- ---- what was given stays given

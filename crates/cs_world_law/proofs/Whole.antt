@@ -58,6 +58,29 @@ pub record IsPlace {M : Type 0} (machine : Machine M) : Type 0 where
   pub small : config.f ≤ 5
   pub is_world : IsWorld (deployed config master liars genesis approves machine carrier) world
 
+-- the place of such a world
+abbrev pub place : {M : Type 0} (machine : Machine M) (law : Law machine) (holds : Holds machine) (event : (site : Site M) → EventIsMade site)
+    (carrier : Carrier M) (carries : Carries machine carrier)
+    (config : Config) (master : Bytes) (liars : List NodeId) (genesis : List Object) (approves : Tx → Bool) (world : List (Happening M))
+    (few : config.shards ≤ 16) (small : config.f ≤ 5) (is_world : IsWorld (deployed config master liars genesis approves machine carrier) world)
+    → IsPlace machine
+place {M} machine law holds event carrier carries config master liars genesis approves world few small is_world = record {
+  law = law;
+  holds = holds;
+  event = event;
+  carrier = carrier;
+  carries = carries;
+  config = config;
+  master = master;
+  liars = liars;
+  genesis = genesis;
+  approves = approves;
+  world = world;
+  few = few;
+  small = small;
+  is_world = is_world;
+}
+
 module _ {M : Type 0} (machine : Machine M) (p : IsPlace machine) where
   abbrev pub At : Site M
   At = deployed p.config p.master p.liars p.genesis p.approves machine p.carrier

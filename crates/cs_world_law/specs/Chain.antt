@@ -69,7 +69,8 @@ pub record HasSealed {M : Type 0} (site : Site M) (from to : NodeId) (bytes : By
 -- what a node works on as from an honest node, that node had sent
 abbrev pub IsBacked : {M : Type 0} → Site M → NodeId → List (Mark M) → List (Moment M) → Type 0
 IsBacked {M} site i t past =
-    (bytes : Bytes) (sender : NodeId) (said : Message) → current t ≡ Some (Datagram bytes) → site.net.opened i bytes ≡ Ok (sender, said) →
+    (bytes : Bytes) (sender : NodeId) (said : Message) →
+    current t ≡ Some (Datagram bytes) → site.net.opened i bytes ≡ Ok (sender, said) →
     is_honest site sender ≡ true → HasSealed site sender i bytes (signs_of (trail_at sender past))
 
 pub record Follows {M : Type 0} (site : Site M) (known : Known) (past : List (Moment M)) (m : Moment M) : Type 0 where
@@ -90,16 +91,20 @@ pub record IsSoundSite {M : Type 0} (site : Site M) : Type 0 where
   pub holds : Holds site.machine
   pub carries : Carries site.machine site.carrier
   pub serves : site.machine.serves site.setup.f ≡ true
-  pub few : (shard : ℕ) → shard < site.setup.shards → FewLiars site.setup.f (λ index. is_honest site (record { shard = shard; index = index }))
+  pub few : (shard : ℕ) → shard < site.setup.shards →
+      FewLiars site.setup.f (λ index. is_honest site (record { shard = shard; index = index }))
   -- honest nodes are nodes, and no clients
   pub shard : (name : NodeId) → is_honest site name ≡ true → name.shard < site.setup.shards
   pub index : (name : NodeId) → is_honest site name ≡ true → name.index < 3 * site.setup.f + 1
   pub apart : (name : NodeId) → is_honest site name ≡ true → is_client name ≡ false
   -- what opens is the message that was sealed
-  pub exact : (from to sender : NodeId) (m said : Message) → is_honest site from ≡ true → is_honest site to ≡ true → MessageFits m →
+  pub exact : (from to sender : NodeId) (m said : Message) →
+      is_honest site from ≡ true → is_honest site to ≡ true → MessageFits m →
       site.net.opened to (sealed site.net from to m) ≡ Ok (sender, said) → said ≡ m
-  pub wanted : (from to sender : NodeId) (slot : ℕ) (said : Message) → is_honest site from ≡ true → is_honest site to ≡ true →
-      site.net.opened to (sealed site.net from to (message.Want slot)) ≡ Ok (sender, said) → (other : ℕ) × (said ≡ message.Want other)
+  pub wanted : (from to sender : NodeId) (slot : ℕ) (said : Message) →
+      is_honest site from ≡ true → is_honest site to ≡ true →
+      site.net.opened to (sealed site.net from to (message.Want slot)) ≡ Ok (sender, said) →
+      (other : ℕ) × (said ≡ message.Want other)
   -- entries are proposed as they are written, and read back
   pub proposes : (entry : Entry) → site.proposed_of entry ≡ proposed_of entry
   pub reads : (entry : Entry) → EntryFits entry → site.entry_in (proposed_of entry) ≡ entry
@@ -108,14 +113,16 @@ pub record IsSoundSite {M : Type 0} (site : Site M) : Type 0 where
 -- no two known entries have one digest
 abbrev pub IsUnique : List Entry → Type 0
 IsUnique entries =
-    (a b : Entry) → IsIn a entries → IsIn b entries → (proposed_of a).digest ≡ (proposed_of b).digest → (proposed_of a).bytes ≡ (proposed_of b).bytes
+    (a b : Entry) → IsIn a entries → IsIn b entries →
+    (proposed_of a).digest ≡ (proposed_of b).digest → (proposed_of a).bytes ≡ (proposed_of b).bytes
 
 -- ---- what is read off a story
 
 -- the deeds of a shard
 abbrev pub acts_at : {M : Type 0} → ℕ → NodeId → Mark M → List (Act M) → List (Act M)
 acts_at {M} shard node (In input) acts = acts
-acts_at {M} shard node (Ordered deed) acts = if node.shard == shard then record { member = node.index; deed = deed } ∷ acts else acts
+acts_at {M} shard node (Ordered deed) acts =
+    if node.shard == shard then record { member = node.index; deed = deed } ∷ acts else acts
 acts_at {M} shard node (Plain sign) acts = acts
 
 abbrev pub shard_acts : {M : Type 0} → ℕ → List (Moment M) → List (Act M)

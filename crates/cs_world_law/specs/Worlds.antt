@@ -32,7 +32,8 @@ is_honest {M} site name = site.net.is_honest name
 -- A world: honest nodes keep the rules, and are given bytes of which none is forged. Few enough nodes of a shard lie.
 pub record IsWorld {M : Type 0} (site : Site M) (world : List (Happening M)) : Type 0 where
   pub serves : site.machine.serves site.setup.f ≡ true
-  pub few : (shard : ℕ) → shard < site.setup.shards → FewLiars site.setup.f (λ index. is_honest site (record { shard = shard; index = index }))
+  pub few : (shard : ℕ) → shard < site.setup.shards →
+      FewLiars site.setup.f (λ index. is_honest site (record { shard = shard; index = index }))
   pub honest : AreHonest site.net world
   pub life : IsLife site world
   pub bytes : AreBytes world
@@ -62,7 +63,8 @@ DecidesOnce {M} site world =
 -- Each session that an honest node executed stood in an input.
 abbrev pub ExecutesGiven : {M : Type 0} → Site M → List (Happening M) → Type 0
 ExecutesGiven {M} site world =
-    (i : NodeId) (entry : Entry) → Executed (signs_at i world) entry → IsIn (session_in entry) (known_sessions site world)
+    (i : NodeId) (entry : Entry) → Executed (signs_at i world) entry →
+    IsIn (session_in entry) (known_sessions site world)
 
 -- Each entry that an honest node executed has an encoding.
 abbrev pub ExecutesFit : {M : Type 0} → Site M → List (Happening M) → Type 0
@@ -75,20 +77,23 @@ TellsAccepted {M} site world =
     accepts_in site.setup (digest_of site.setup x) (signs_at i world) ≡ true →
     IsIn (site.setup.session_of x).transaction (history site world)
 
--- Once all concerned shards have voted commit on a session, its transaction is in the history, and no honest node decides abort on it, then or later.
+-- Once all concerned shards have voted commit on a session, its transaction is in the history, and no honest node
+-- decides abort on it, then or later.
 abbrev pub TellsCommitted : {M : Type 0} → Site M → List (Happening M) → Type 0
 TellsCommitted {M} site world =
     (later earlier : List (Happening M)) → world ≡ later ++ earlier →
     (x : Session) → IsIn x (known_sessions site world) → (shard : ℕ) → concerns site.setup x shard ≡ true →
     all_recorded site.setup (firsts_of earlier) x ≡ true →
     IsIn (site.setup.session_of x).transaction (history site earlier)
-    × ((i : NodeId) → is_honest site i ≡ true → aborts_in site.setup (digest_of site.setup x) (signs_at i world) ≡ true → ⊥)
+    × ((i : NodeId) → is_honest site i ≡ true →
+    aborts_in site.setup (digest_of site.setup x) (signs_at i world) ≡ true → ⊥)
 
 -- The node has executed every slot that its shard has.
 abbrev pub IsUpToDate : {M : Type 0} → NodeId → List (Happening M) → Type 0
 IsUpToDate {M} i world = length (log_in (signs_at i world)) ≡ slots_of i.shard (firsts_of world)
 
--- An object that is free in the table of an honest node that has executed all of its shard is in the ledger after the history.
+-- An object that is free in the table of an honest node that has executed all of its shard is in the ledger after the
+-- history.
 abbrev pub HoldsFree : {M : Type 0} → Site M → List (Happening M) → Type 0
 HoldsFree {M} site world =
     (i : NodeId) → is_honest site i ≡ true → IsUpToDate i world →
@@ -105,12 +110,15 @@ AllVoteFree {M} site world = (i : NodeId) → is_honest site i ≡ true → Vote
 
 -- A locked session is accepted at each honest node.
 abbrev pub AllAcceptLocked : {M : Type 0} → Site M → List (Happening M) → Type 0
-AllAcceptLocked {M} site world = (i : NodeId) → is_honest site i ≡ true → AcceptsLocked site.setup i.shard (signs_at i world)
+AllAcceptLocked {M} site world =
+    (i : NodeId) → is_honest site i ≡ true → AcceptsLocked site.setup i.shard (signs_at i world)
 
 -- ---- of all worlds
 
--- the site of a deployment under one master key, with these liars, whose order keeps these rules, and whose judge approves so
-abbrev pub deployed : {M : Type 0} → Config → Bytes → List NodeId → List Object → (Tx → Bool) → Machine M → Carrier M → Site M
+-- the site of a deployment under one master key, with these liars, whose order keeps these rules, and whose judge
+-- approves so
+abbrev pub deployed : {M : Type 0} → Config → Bytes → List NodeId → List Object → (Tx → Bool)
+    → Machine M → Carrier M → Site M
 deployed {M} config master liars genesis approves machine carrier =
     site_of (setup_of config genesis (session_of approves)) (net_of config master liars) machine carrier
 
@@ -118,15 +126,18 @@ deployed {M} config master liars genesis approves machine carrier =
 abbrev pub OfWorlds : {M : Type 0} → Machine M → (Site M → List (Happening M) → Type 0) → Type 0
 OfWorlds {M} machine Says =
     (carrier : Carrier M) → Carries machine carrier →
-    (config : Config) (master : Bytes) (liars : List NodeId) (genesis : List Object) (approves : Tx → Bool) (world : List (Happening M)) →
+    (config : Config) (master : Bytes) (liars : List NodeId) (genesis : List Object) (approves : Tx → Bool)
+    (world : List (Happening M)) →
     config.shards ≤ 16 → config.f ≤ 5 →
-    IsWorld (deployed config master liars genesis approves machine carrier) world → Says (deployed config master liars genesis approves machine carrier) world
+    IsWorld (deployed config master liars genesis approves machine carrier) world →
+    Says (deployed config master liars genesis approves machine carrier) world
 
 -- It is true of those in which, besides, no two hashed strings collide.
 abbrev pub OfWorldsApart : {M : Type 0} → Machine M → (Site M → List (Happening M) → Type 0) → Type 0
 OfWorldsApart {M} machine Says =
     (carrier : Carrier M) → Carries machine carrier →
-    (config : Config) (master : Bytes) (liars : List NodeId) (genesis : List Object) (approves : Tx → Bool) (world : List (Happening M)) →
+    (config : Config) (master : Bytes) (liars : List NodeId) (genesis : List Object) (approves : Tx → Bool)
+    (world : List (Happening M)) →
     config.shards ≤ 16 → config.f ≤ 5 →
     IsWorld (deployed config master liars genesis approves machine carrier) world →
     NoCollision (deployed config master liars genesis approves machine carrier) genesis world →

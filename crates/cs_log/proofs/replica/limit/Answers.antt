@@ -1,5 +1,5 @@
 use Rattle.std.proofs.Math.Nat.{min-le_right}
-use Rattle.cs_log.proofs.Seating.{limit_fits}
+use Rattle.cs_log.proofs.Acting.{limit_fits}
 use Rattle.cs_log.proofs.replica.limit.Goals as goal
 
 pub returns : goal.returns

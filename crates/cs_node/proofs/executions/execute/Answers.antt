@@ -12,21 +12,21 @@ use Rattle.cs_node.proofs.Executing.{execution-makes}
 use Rattle.cs_node.proofs.Noting.{effect-again}
 use Rattle.cs_node.proofs.executions.execute.Goals as goal
 
-pub returns-in_ok-executed-in-Some-clause-made : goal.returns-in_ok-executed-in-Some-clause-made
-returns-in_ok-executed-in-Some-clause-made c = λ genesis approves.
+pub returns-in_ok-note_execution-in-Some-clause-made : goal.returns-in_ok-note_execution-in-Some-clause-made
+returns-in_ok-note_execution-in-Some-clause-made c = λ approves genesis.
     let setup = deployed c.args.sbac.now.config genesis approves in
     let me = c.args.sbac.now.me in
     let old = bench_of c.args.sbac.now in
     let ran = c.in_ok-outcome-in-Some.ensures genesis approves in
     let read : entry_or_void (Some c.in-Some.entry) ≡ entry_or_void (entry_read c.args.proposed.now) = ap entry_or_void (sym c.in-Some.is ∙ c.in_ok-entry.ensures.found) in
-    let P : Entry → Type 0 = λ entry. Makes setup me (execution_signs setup me old c.args.slot entry) old (bench_of c.execute.new.self) c.args.draft.now c.executed.new.self in
+    let P : Entry → Type 0 = λ entry. Makes setup me (execution_signs setup me old c.args.slot entry) old (bench_of c.execute.new.self) c.args.draft.now c.note_execution.new.self in
     let S : List Sign → Type 0 = λ signs. Tells signs c.args.draft.now c.say_vote.new.draft in
     let said = subst S (λ i. vote_signs (deployed (ran.config_stays i) genesis approves) (ran.me_stays i) (c.session_in.ensures.session i) (ran.voted_is i)) (c.in_ok-say_vote-in-Some.ensures.tells genesis approves) in
-    subst P read (execution-makes setup me old (bench_of c.execute.new.self) c.args.slot c.in-Some.entry c.args.draft.now c.say_vote.new.draft c.executed.new.self ran.bench_is said
-    (c.in_ok-executed-in-Some.ensures.notes ∙ ap (λ effect. c.say_vote.new.draft.notes ++ Executed c.args.slot c.in-Some.entry effect ∷ []) (effect-again _ _ ran.effect_is)) c.in_ok-executed-in-Some.ensures.said)
+    subst P read (execution-makes setup me old (bench_of c.execute.new.self) c.args.slot c.in-Some.entry c.args.draft.now c.say_vote.new.draft c.note_execution.new.self ran.bench_is said
+    (c.in_ok-note_execution-in-Some.ensures.notes ∙ ap (λ effect. c.say_vote.new.draft.notes ++ Executed c.args.slot c.in-Some.entry effect ∷ []) (effect-again _ _ ran.effect_is)) c.in_ok-note_execution-in-Some.ensures.said)
 
-pub returns-in_ok-executed-in-Some-clause-config : goal.returns-in_ok-executed-in-Some-clause-config
-returns-in_ok-executed-in-Some-clause-config c = (c.in_ok-outcome-in-Some.ensures [] (λ tx. false)).config_stays
+pub returns-in_ok-note_execution-in-Some-clause-config : goal.returns-in_ok-note_execution-in-Some-clause-config
+returns-in_ok-note_execution-in-Some-clause-config c = (c.in_ok-outcome-in-Some.ensures [] (λ tx. false)).config_stays
 
-pub returns-in_ok-executed-in-Some-clause-me : goal.returns-in_ok-executed-in-Some-clause-me
-returns-in_ok-executed-in-Some-clause-me c = (c.in_ok-outcome-in-Some.ensures [] (λ tx. false)).me_stays
+pub returns-in_ok-note_execution-in-Some-clause-me : goal.returns-in_ok-note_execution-in-Some-clause-me
+returns-in_ok-note_execution-in-Some-clause-me c = (c.in_ok-outcome-in-Some.ensures [] (λ tx. false)).me_stays

@@ -1,7 +1,6 @@
 use Rattle.std.proofs.Common.{List, sym, subst}
 use Rattle.cs_node_rules.specs.Signs.{Sign}
 use Rattle.cs_node_rules.specs.Trail.{handed, out_signs}
-use Rattle.cs_node.specs.Carriers.{carrier}
 use Rattle.cs_node.specs.Cores.{site_at}
 use Rattle.cs_node.specs.Notes.{Tells}
 use Rattle.cs_node.proofs.Sums.{tells-more}
@@ -11,7 +10,7 @@ use Rattle.cs_node.proofs.handing.hand_out.Goals as goal
 pub loop-out-preserved : goal.loop-out-preserved
 loop-out-preserved g c = record {
   told = λ net genesis approves.
-      let site = site_at g.O.Order.rules (carrier g.O.Carried.written g.O.Carried.read_of) net c.args.sbac.now genesis approves in
+      let site = site_at g.O.Order.rules g.O.Carried.carrier net c.args.sbac.now genesis approves in
       let me = c.args.sbac.now.me in
       let out = c.in-Some.out in
       let P : List Sign → Type 0 = λ signs. Tells signs c.args.draft.now c.say_out.new.draft in

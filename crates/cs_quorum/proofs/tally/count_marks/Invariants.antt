@@ -3,5 +3,5 @@ use Rattle.cs_order.specs.Counts.{count_below}
 use Rattle.cs_quorum.specs.Marks.{is_marked}
 use Rattle.cs_quorum.proofs.tally.count_marks.Given as goal
 
-abbrev pub invariant-loop-member : goal.invariant-loop-member
-invariant-loop-member l = (l.count ≡ count_below l.member (is_marked l.marks)) × (l.count ≤ l.member)
+abbrev pub invariant-loop-mark : goal.invariant-loop-mark
+invariant-loop-mark l = (l.count ≡ count_below l.mark-index (is_marked l.marks)) × (l.count ≤ l.mark-index)

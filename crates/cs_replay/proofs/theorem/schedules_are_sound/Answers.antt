@@ -1,18 +1,18 @@
 use Rattle.std.proofs.Common.{◌≤◌, ◌==◌, Ok, ap, arith}
 use Rattle.cs_tx.specs.Sessions.{session_of}
 use Rattle.cs_tx.specs.Token.{is_token_approved}
-use Rattle.cs_node.specs.SoloCarried.{solo_carries}
+use Rattle.cs_node.specs.SoloCarried.{solo_carrier, solo_carries}
 use Rattle.cs_world_law.specs.Worlds.{IsWorld}
-use Rattle.cs_sched.specs.declared.reader.TheConstants.{LIMIT}
+use Rattle.cs_base.specs.declared.limits.TheConstants.{MOST_SCHEDULE}
 use Rattle.cs_sched.proofs.Played.{given_playable}
-use Rattle.cs_replay.specs.Site.{solo_carrier, site_of_schedule}
+use Rattle.cs_replay.specs.Site.{site_of_schedule}
 use Rattle.cs_replay.specs.Sound.{world_of}
 use Rattle.cs_replay.proofs.Deployed.{are-given, few-liars}
 use Rattle.cs_replay.proofs.theorem.schedules_are_sound.Goals as goal
 
 pub returns : goal.returns
 returns c = λ text schedule is traced.
-    let playable = given_playable (Ok schedule) LIMIT text is in
+    let playable = given_playable (Ok schedule) MOST_SCHEDULE text is in
     let config = schedule.config in
     let master = schedule.master in
     let liars = schedule.liars in

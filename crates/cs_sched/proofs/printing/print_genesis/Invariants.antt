@@ -1,7 +1,7 @@
 use Rattle.std.proofs.Common.{◌≡◌, ◌++◌, take}
 use Rattle.cs_base.specs.Fields.{each}
-use Rattle.cs_sched.specs.Printed.{line_text, object_line}
+use Rattle.cs_sched.specs.Printed.{line_text, object_words}
 use Rattle.cs_sched.proofs.printing.print_genesis.Given as goal
 
 abbrev pub invariant-loop-object : goal.invariant-loop-object
-invariant-loop-object l = l.out ≡ l.fn.out ++ each (λ object. line_text (object_line object)) (take l.object-index l.objects)
+invariant-loop-object l = l.out ≡ l.fn.out ++ each (λ object. line_text (object_words object)) (take l.object-index l.objects)

@@ -2,7 +2,7 @@ use Rattle.std.proofs.Common.{◌<◌, ◌≤◌, ◌↔◌, length, rules, arit
 use Rattle.std.specs.Int.{w64}
 use Rattle.std.specs.Int.RustNames.{FitsSigned}
 use Rattle.cs_base.specs.Fields.{IsBytes}
-use Rattle.cs_tx_value.specs.Layers.{int_fits, text_fits_iff, list_fits_iff}
+use Rattle.cs_tx_value.specs.laws.Layers.{int_fits, text_fits_iff, list_fits_iff}
 use Rattle.cs_tx_value.proofs.fitting.+fits.Goals as goal
 
 pub value_fits-returns-in-Int : goal.value_fits-returns-in-Int

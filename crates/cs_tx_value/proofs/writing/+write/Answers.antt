@@ -2,7 +2,7 @@ use Rattle.std.proofs.Common.{rules, ◌≤◌, length}
 use Rattle.cs_tx_value.specs.declared.value.Value.TheViews.{the_lemmas}
 use Rattle.cs_base.proofs.Written.{each_more}
 use Rattle.cs_tx_value.specs.Encoding.{value_encoding, AreBounded}
-use Rattle.cs_tx_value.specs.Layers.{text_short, items_few, items_bounded}
+use Rattle.cs_tx_value.specs.laws.Layers.{text_short, items_few, items_bounded}
 use Rattle.cs_tx_value.proofs.writing.+write.Goals as goal
 
 pub write_value-put_text-requires : goal.write_value-put_text-requires

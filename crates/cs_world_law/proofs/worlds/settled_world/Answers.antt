@@ -22,7 +22,7 @@ use Rattle.cs_world_law.proofs.Readiness.{prepare-fit, accepts-locked}
 use Rattle.cs_world_law.proofs.Sending.{world-tells}
 use Rattle.cs_world_law.proofs.Freedom.{votes-free, prepare-own}
 use Rattle.cs_world_law.proofs.Alone.{leads-alone}
-use Rattle.cs_world_law.proofs.Whole.{moments-append, IsPlace, At, Here, by-world, by-node, sound, story, made, within, executed, unique, names, whole, until, history-story, recorded-story}
+use Rattle.cs_world_law.proofs.Whole.{moments-append, place, At, Here, by-world, by-node, sound, story, made, within, executed, unique, names, whole, until, history-story, recorded-story}
 use Rattle.cs_world_law.proofs.worlds.settled_world.Goals as goal
 
 -- nothing was executed before the first event
@@ -33,22 +33,7 @@ none-executed {A} (other ∷ later) sign earlier e = absurd cc
 pub returns-clause-serial : goal.returns-clause-serial
 returns-clause-serial g c carrier carries config master liars genesis approves world few small is_world apart =
     let rules = g.O.Order.rules in
-    let p : IsPlace rules = record {
-      law = g.met.O.Order.law;
-      holds = g.met.O.Order.holds;
-      event = c.marks_are_made.ensures.made;
-      carrier = carrier;
-      carries = carries;
-      config = config;
-      master = master;
-      liars = liars;
-      genesis = genesis;
-      approves = approves;
-      world = world;
-      few = few;
-      small = small;
-      is_world = is_world;
-    } in
+    let p = place rules g.met.O.Order.law g.met.O.Order.holds c.marks_are_made.ensures.made carrier carries config master liars genesis approves world few small is_world in
     let site = At rules p in
     by-world rules p (λ z. IsSerial site z) tt
     (λ some.
@@ -58,22 +43,7 @@ returns-clause-serial g c carrier carries config master liars genesis approves w
 pub returns-clause-spent_once : goal.returns-clause-spent_once
 returns-clause-spent_once g c carrier carries config master liars genesis approves world few small is_world apart =
     let rules = g.O.Order.rules in
-    let p : IsPlace rules = record {
-      law = g.met.O.Order.law;
-      holds = g.met.O.Order.holds;
-      event = c.marks_are_made.ensures.made;
-      carrier = carrier;
-      carries = carries;
-      config = config;
-      master = master;
-      liars = liars;
-      genesis = genesis;
-      approves = approves;
-      world = world;
-      few = few;
-      small = small;
-      is_world = is_world;
-    } in
+    let p = place rules g.met.O.Order.law g.met.O.Order.holds c.marks_are_made.ensures.made carrier carries config master liars genesis approves world few small is_world in
     let site = At rules p in
     by-world rules p (λ z. SpendsOnce site z) (tt, λ tx i. absurd i)
     (λ some.
@@ -87,22 +57,7 @@ returns-clause-spent_once g c carrier carries config master liars genesis approv
 pub returns-clause-one_decision : goal.returns-clause-one_decision
 returns-clause-one_decision g c carrier carries config master liars genesis approves world few small is_world apart =
     let rules = g.O.Order.rules in
-    let p : IsPlace rules = record {
-      law = g.met.O.Order.law;
-      holds = g.met.O.Order.holds;
-      event = c.marks_are_made.ensures.made;
-      carrier = carrier;
-      carries = carries;
-      config = config;
-      master = master;
-      liars = liars;
-      genesis = genesis;
-      approves = approves;
-      world = world;
-      few = few;
-      small = small;
-      is_world = is_world;
-    } in
+    let p = place rules g.met.O.Order.law g.met.O.Order.holds c.marks_are_made.ensures.made carrier carries config master liars genesis approves world few small is_world in
     let site = At rules p in
     λ i j d hi hj accepts aborts.
     let some = by-node rules p i hi in
@@ -123,66 +78,21 @@ returns-clause-one_decision g c carrier carries config master liars genesis appr
 pub returns-clause-executed : goal.returns-clause-executed
 returns-clause-executed g c carrier carries config master liars genesis approves world few small is_world =
     let rules = g.O.Order.rules in
-    let p : IsPlace rules = record {
-      law = g.met.O.Order.law;
-      holds = g.met.O.Order.holds;
-      event = c.marks_are_made.ensures.made;
-      carrier = carrier;
-      carries = carries;
-      config = config;
-      master = master;
-      liars = liars;
-      genesis = genesis;
-      approves = approves;
-      world = world;
-      few = few;
-      small = small;
-      is_world = is_world;
-    } in
+    let p = place rules g.met.O.Order.law g.met.O.Order.holds c.marks_are_made.ensures.made carrier carries config master liars genesis approves world few small is_world in
     let site = At rules p in
     by-world rules p (λ z. ExecutesGiven site z) (λ i entry e. none-executed e.later _ e.earlier e.split) (λ some i entry e. (executed rules p some i entry e).session)
 
 pub returns-clause-executed_fit : goal.returns-clause-executed_fit
 returns-clause-executed_fit g c carrier carries config master liars genesis approves world few small is_world =
     let rules = g.O.Order.rules in
-    let p : IsPlace rules = record {
-      law = g.met.O.Order.law;
-      holds = g.met.O.Order.holds;
-      event = c.marks_are_made.ensures.made;
-      carrier = carrier;
-      carries = carries;
-      config = config;
-      master = master;
-      liars = liars;
-      genesis = genesis;
-      approves = approves;
-      world = world;
-      few = few;
-      small = small;
-      is_world = is_world;
-    } in
+    let p = place rules g.met.O.Order.law g.met.O.Order.holds c.marks_are_made.ensures.made carrier carries config master liars genesis approves world few small is_world in
     let site = At rules p in
     by-world rules p (λ z. ExecutesFit site z) (λ i entry e. none-executed e.later _ e.earlier e.split) (λ some i entry e. (executed rules p some i entry e).fits)
 
 pub returns-clause-accepted : goal.returns-clause-accepted
 returns-clause-accepted g c carrier carries config master liars genesis approves world few small is_world apart =
     let rules = g.O.Order.rules in
-    let p : IsPlace rules = record {
-      law = g.met.O.Order.law;
-      holds = g.met.O.Order.holds;
-      event = c.marks_are_made.ensures.made;
-      carrier = carrier;
-      carries = carries;
-      config = config;
-      master = master;
-      liars = liars;
-      genesis = genesis;
-      approves = approves;
-      world = world;
-      few = few;
-      small = small;
-      is_world = is_world;
-    } in
+    let p = place rules g.met.O.Order.law g.met.O.Order.holds c.marks_are_made.ensures.made carrier carries config master liars genesis approves world few small is_world in
     let site = At rules p in
     λ i x hi knows accepts.
     let some = by-node rules p i hi in
@@ -199,22 +109,7 @@ returns-clause-accepted g c carrier carries config master liars genesis approves
 pub returns-clause-committed : goal.returns-clause-committed
 returns-clause-committed g c carrier carries config master liars genesis approves world few small is_world apart =
     let rules = g.O.Order.rules in
-    let p : IsPlace rules = record {
-      law = g.met.O.Order.law;
-      holds = g.met.O.Order.holds;
-      event = c.marks_are_made.ensures.made;
-      carrier = carrier;
-      carries = carries;
-      config = config;
-      master = master;
-      liars = liars;
-      genesis = genesis;
-      approves = approves;
-      world = world;
-      few = few;
-      small = small;
-      is_world = is_world;
-    } in
+    let p = place rules g.met.O.Order.law g.met.O.Order.holds c.marks_are_made.ensures.made carrier carries config master liars genesis approves world few small is_world in
     let site = At rules p in
     by-world rules p (λ z. (TellsCommitted site z)) (λ later earlier split x knows. absurd knows)
     (λ some later earlier split x knows shard among all.
@@ -244,22 +139,7 @@ returns-clause-committed g c carrier carries config master liars genesis approve
 pub returns-clause-votes_free : goal.returns-clause-votes_free
 returns-clause-votes_free g c carrier carries config master liars genesis approves world few small is_world apart =
     let rules = g.O.Order.rules in
-    let p : IsPlace rules = record {
-      law = g.met.O.Order.law;
-      holds = g.met.O.Order.holds;
-      event = c.marks_are_made.ensures.made;
-      carrier = carrier;
-      carries = carries;
-      config = config;
-      master = master;
-      liars = liars;
-      genesis = genesis;
-      approves = approves;
-      world = world;
-      few = few;
-      small = small;
-      is_world = is_world;
-    } in
+    let p = place rules g.met.O.Order.law g.met.O.Order.holds c.marks_are_made.ensures.made carrier carries config master liars genesis approves world few small is_world in
     let site = At rules p in
     λ i hi.
     let some = by-node rules p i hi in
@@ -270,22 +150,7 @@ returns-clause-votes_free g c carrier carries config master liars genesis approv
 pub returns-clause-votes_free_alone : goal.returns-clause-votes_free_alone
 returns-clause-votes_free_alone g c carrier carries config master liars genesis approves world few small is_world =
     let rules = g.O.Order.rules in
-    let p : IsPlace rules = record {
-      law = g.met.O.Order.law;
-      holds = g.met.O.Order.holds;
-      event = c.marks_are_made.ensures.made;
-      carrier = carrier;
-      carries = carries;
-      config = config;
-      master = master;
-      liars = liars;
-      genesis = genesis;
-      approves = approves;
-      world = world;
-      few = few;
-      small = small;
-      is_world = is_world;
-    } in
+    let p = place rules g.met.O.Order.law g.met.O.Order.holds c.marks_are_made.ensures.made carrier carries config master liars genesis approves world few small is_world in
     let site = At rules p in
     λ trusted i hi.
     let some = by-node rules p i hi in
@@ -295,22 +160,7 @@ returns-clause-votes_free_alone g c carrier carries config master liars genesis 
 pub returns-clause-accepts_locked : goal.returns-clause-accepts_locked
 returns-clause-accepts_locked g c carrier carries config master liars genesis approves world few small is_world apart =
     let rules = g.O.Order.rules in
-    let p : IsPlace rules = record {
-      law = g.met.O.Order.law;
-      holds = g.met.O.Order.holds;
-      event = c.marks_are_made.ensures.made;
-      carrier = carrier;
-      carries = carries;
-      config = config;
-      master = master;
-      liars = liars;
-      genesis = genesis;
-      approves = approves;
-      world = world;
-      few = few;
-      small = small;
-      is_world = is_world;
-    } in
+    let p = place rules g.met.O.Order.law g.met.O.Order.holds c.marks_are_made.ensures.made carrier carries config master liars genesis approves world few small is_world in
     let site = At rules p in
     λ i hi.
     let some = by-node rules p i hi in
@@ -320,22 +170,7 @@ returns-clause-accepts_locked g c carrier carries config master liars genesis ap
 pub returns-clause-objects : goal.returns-clause-objects
 returns-clause-objects g c carrier carries config master liars genesis approves world few small is_world apart =
     let rules = g.O.Order.rules in
-    let p : IsPlace rules = record {
-      law = g.met.O.Order.law;
-      holds = g.met.O.Order.holds;
-      event = c.marks_are_made.ensures.made;
-      carrier = carrier;
-      carries = carries;
-      config = config;
-      master = master;
-      liars = liars;
-      genesis = genesis;
-      approves = approves;
-      world = world;
-      few = few;
-      small = small;
-      is_world = is_world;
-    } in
+    let p = place rules g.met.O.Order.law g.met.O.Order.holds c.marks_are_made.ensures.made carrier carries config master liars genesis approves world few small is_world in
     let site = At rules p in
     λ i hi all name object free.
     let some = by-node rules p i hi in
@@ -352,22 +187,7 @@ returns-clause-objects g c carrier carries config master liars genesis approves 
 pub returns-clause-alone : goal.returns-clause-alone
 returns-clause-alone g c carrier carries config master liars genesis approves world few small is_world =
     let rules = g.O.Order.rules in
-    let p : IsPlace rules = record {
-      law = g.met.O.Order.law;
-      holds = g.met.O.Order.holds;
-      event = c.marks_are_made.ensures.made;
-      carrier = carrier;
-      carries = carries;
-      config = config;
-      master = master;
-      liars = liars;
-      genesis = genesis;
-      approves = approves;
-      world = world;
-      few = few;
-      small = small;
-      is_world = is_world;
-    } in
+    let p = place rules g.met.O.Order.law g.met.O.Order.holds c.marks_are_made.ensures.made carrier carries config master liars genesis approves world few small is_world in
     let site = At rules p in
     λ trusted i hi.
     let some = by-node rules p i hi in

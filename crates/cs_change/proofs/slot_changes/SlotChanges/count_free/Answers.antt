@@ -1,6 +1,6 @@
 use Rattle.std.proofs.Common.{ap, ◌∙◌, arith}
 use Rattle.cs_order_rules.specs.Safe.{says_none}
-use Rattle.cs_order_rules.proofs.Searches.{count_none, count_add}
+use Rattle.cs_order.proofs.Searches.{count_none, count_add}
 use Rattle.cs_change.specs.Kept.{told_in}
 use Rattle.cs_change.proofs.slot_changes.SlotChanges.count_free.Goals as goal
 

@@ -1,7 +1,7 @@
 use Rattle.std.proofs.Common.{◌≡◌, ℕ, Bool, true, false, ◌||◌, List, sym, arith}
 use Rattle.cs_order.specs.Counts.{any_below}
 use Rattle.cs_order_rules.specs.Safe.{is_free, is_safe_from}
-use Rattle.cs_order_rules.proofs.Searches.{any_none, any_more, any_at}
+use Rattle.cs_order.proofs.Searches.{any_none, any_more, any_at}
 use Rattle.cs_change.specs.Kept.{KeptOfSlot, told_in}
 use Rattle.cs_change.proofs.slot_changes.SlotChanges.safe.Goals as goal
 

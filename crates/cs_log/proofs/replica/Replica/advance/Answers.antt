@@ -1,5 +1,5 @@
 use Rattle.cs_log.specs.Replicas.{kept}
-use Rattle.cs_log.proofs.Seating.{entering_later, entered_by, confirmed_by, quiet_by}
+use Rattle.cs_log.proofs.Acting.{entering_later, entered_by, confirmed_by, quiet_by}
 use Rattle.cs_log.proofs.replica.Replica.advance.Goals as goal
 
 pub enter-requires-clause-later : goal.enter-requires-clause-later

@@ -2,7 +2,7 @@ use Rattle.std.proofs.Common.{List, reverse, sym, subst}
 use Rattle.cs_order.specs.declared.proposed.Proposed.{Proposed}
 use Rattle.cs_log.specs.Replicas.{kept, Mirrors, chose}
 use Rattle.cs_log.proofs.Mirroring.{chooses}
-use Rattle.cs_log.proofs.Seating.{next_slot}
+use Rattle.cs_log.proofs.Acting.{next_slot}
 use Rattle.cs_log.proofs.replica.Replica.choose.Goals as goal
 
 pub returns : goal.returns

@@ -1,7 +1,7 @@
 use Rattle.std.proofs.lemmas.Result.{on_ok_weaker}
 use Rattle.cs_order_rules.specs.Facts.{open_slot}
 use Rattle.cs_log.specs.Replicas.{kept}
-use Rattle.cs_log.proofs.Seating.{echo_none, echoed}
+use Rattle.cs_log.proofs.Acting.{echo_none, echoed}
 use Rattle.cs_log.proofs.replica.Replica.echo.Goals as goal
 
 pub returns-in_default : goal.returns-in_default

@@ -1,7 +1,7 @@
 use Rattle.std.proofs.lemmas.Result.{on_ok_weaker}
 use Rattle.cs_order_rules.specs.Facts.{open_slot}
 use Rattle.cs_log.specs.Replicas.{kept}
-use Rattle.cs_log.proofs.Seating.{view_entered}
+use Rattle.cs_log.proofs.Acting.{view_entered}
 use Rattle.cs_log.proofs.replica.Replica.enter.Goals as goal
 
 pub returns : goal.returns

@@ -1,8 +1,8 @@
 use Rattle.std.proofs.Common.{◌≡◌, ◌+◌, nat_lt, Bool, true, ◌||◌, length, sym, ap₂, ◌∙◌, arith}
 use Rattle.std.proofs.lemmas.Result.{on_ok_weaker}
-use Rattle.cs_order_law.specs.SlotFacts.{or_left, or_right}
+use Rattle.cs_order_law.specs.laws.SlotFacts.{or_left, or_right}
 use Rattle.cs_log.specs.Replicas.{kept}
-use Rattle.cs_log.proofs.Seating.{tick_idle, tick_over, tick_counts}
+use Rattle.cs_log.proofs.Acting.{tick_idle, tick_over, tick_counts}
 use Rattle.cs_log.proofs.replica.Replica.tick.Goals.{else-not-due-via-then-not-due+else-not-has_echoed, else-not-due-via-else-not-due}
 use Rattle.cs_log.proofs.replica.Replica.tick.Goals as goal
 

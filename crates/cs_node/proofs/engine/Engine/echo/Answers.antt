@@ -1,7 +1,6 @@
 use Rattle.std.proofs.Common.{[], List, Option, sym, subst, ap, ◌∙◌, IfOk}
 use Rattle.cs_node_rules.specs.Site.{Mark}
 use Rattle.cs_node_pool.specs.Deployed.{deployed}
-use Rattle.cs_node.specs.Carriers.{carrier}
 use Rattle.cs_node.specs.Proposals.{admits_pending}
 use Rattle.cs_node.specs.Steps.{TurnDone}
 use Rattle.cs_node.specs.Cores.{KeepsView, site_at, view_at}
@@ -14,7 +13,7 @@ returns-then-branch-clause-done g c = λ net genesis h seated.
     let held = c.args.self.now.sbac in
     let approves = g.J.Judge.is_approved c.args.self.now.judge in
     let some = pending-there (deployed held.config [] approves) held.me.shard held.pool (g.O.Order.awaits c.args.self.now.order) (sym (c.in_ok-admits_pending.ensures.admitted []) ∙ c.if-branch.true) in
-    echoed-here g.O.Order.stands g.J.Judge.is_approved g.O.Order.rules (carrier g.O.Carried.written g.O.Carried.read_of) net c.args.self.now genesis h c.args.draft.now c.hand_out.new.draft seated c.echo.new.self c.new-outgoing.result.items c.echo.new.out.items c.new-outgoing.ensures.items
+    echoed-here g.O.Order.stands g.J.Judge.is_approved g.O.Order.rules g.O.Carried.carrier net c.args.self.now genesis h c.args.draft.now c.hand_out.new.draft seated c.echo.new.self c.new-outgoing.result.items c.echo.new.out.items c.new-outgoing.ensures.items
     (c.in_ok-hand_out.ensures.tells net genesis approves) (g.O.Order.rules.pending h)
     (ap (admits_pending (deployed held.config genesis approves) held.me.shard held.pool) (sym (c.in_ok-admits_pending.ensures.awaits h seated.stood)) ∙ sym (c.in_ok-admits_pending.ensures.admitted genesis) ∙ c.if-branch.true)
     (c.in_ok-echo.ensures.call some h seated.stood)
@@ -29,7 +28,7 @@ pub returns-clause-done : goal.returns-clause-done
 returns-clause-done g c = λ net genesis h seated.
     let held = c.args.self.now.sbac in
     let approves = g.J.Judge.is_approved c.args.self.now.judge in
-    let carried = carrier g.O.Carried.written g.O.Carried.read_of in
+    let carried = g.O.Carried.carrier in
     let setup = deployed held.config genesis approves in
     let site = site_at g.O.Order.rules carried net held genesis approves in
     let v = view_at held h in

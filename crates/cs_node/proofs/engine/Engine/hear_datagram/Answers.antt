@@ -3,7 +3,6 @@ use Rattle.cs_base.specs.declared.node_id.NodeId.{NodeId}
 use Rattle.cs_wire.specs.Opened.{Opened}
 use Rattle.cs_node_rules.specs.Trail.{opened_marks}
 use Rattle.cs_node_pool.specs.Deployed.{deployed}
-use Rattle.cs_node.specs.Carriers.{carrier}
 use Rattle.cs_node.specs.Steps.{Marks}
 use Rattle.cs_node.specs.Cores.{KeepsView, site_at, view_at}
 use Rattle.cs_node.proofs.engine.Engine.hear_datagram.Goals as goal
@@ -13,7 +12,7 @@ returns-in_ok-hear-in-Ok-clause-marks g c = λ same net genesis h seated speaks.
     let core = c.args.self.now in
     let bytes = c.args.bytes.now in
     let approves = g.J.Judge.is_approved core.judge in
-    let site = site_at g.O.Order.rules (carrier g.O.Carried.written g.O.Carried.read_of) net core.sbac genesis approves in
+    let site = site_at g.O.Order.rules g.O.Carried.carrier net core.sbac genesis approves in
     let v = view_at core.sbac h in
     let said : Opened = Ok (c.in-Ok.sender, c.in-Ok.message) in
     let opens : net.opened core.sbac.me bytes ≡ said = ap (λ (n : NodeId). net.opened n bytes) (sym same) ∙ sym (speaks.opens bytes) ∙ sym c.in_ok-sender.ensures.said ∙ c.in-Ok.is in

@@ -1,4 +1,3 @@
-use Rattle.cs_node.specs.Carriers.{carrier}
 use Rattle.cs_node.proofs.Settling.{settling-starts}
 use Rattle.cs_node.proofs.Standing.{keeps-still, loop-goes, loop-ends}
 use Rattle.cs_node.proofs.engine.Engine.settle.Goals as goal
@@ -11,12 +10,12 @@ loop-init g c = record {
 
 pub loop-preserved : goal.loop-preserved
 loop-preserved g c = record {
-  going = λ net genesis h seated. loop-goes g.O.Order.stands g.J.Judge.is_approved g.O.Order.rules (carrier g.O.Carried.written g.O.Carried.read_of) net _ _ _ _ _ _ _ _ _ (c.loop.invariant.going net genesis h seated) (λ genesis' h'. c.in_ok-turn.ensures.done net genesis' h') _ c.if-branch.true c.in_ok-turn.ensures.falls;
+  going = λ net genesis h seated. loop-goes g.O.Order.stands g.J.Judge.is_approved g.O.Order.rules g.O.Carried.carrier net _ _ _ _ _ _ _ _ _ (c.loop.invariant.going net genesis h seated) (λ genesis' h'. c.in_ok-turn.ensures.done net genesis' h') _ c.if-branch.true c.in_ok-turn.ensures.falls;
   fits = λ fits. c.in_ok-turn.ensures.fits (c.loop.invariant.fits fits);
 }
 
 pub returns : goal.returns
 returns g c = record {
-  marks = λ net genesis h seated. loop-ends g.O.Order.stands g.J.Judge.is_approved g.O.Order.rules (carrier g.O.Carried.written g.O.Carried.read_of) net _ _ _ _ _ _ _ _ _ (c.loop.invariant.going net genesis h seated) (λ genesis' h'. c.in_ok-turn.ensures.done net genesis' h') c.if-branch.false;
+  marks = λ net genesis h seated. loop-ends g.O.Order.stands g.J.Judge.is_approved g.O.Order.rules g.O.Carried.carrier net _ _ _ _ _ _ _ _ _ (c.loop.invariant.going net genesis h seated) (λ genesis' h'. c.in_ok-turn.ensures.done net genesis' h') c.if-branch.false;
   fits = λ fits. c.in_ok-turn.ensures.fits (c.loop.invariant.fits fits);
 }

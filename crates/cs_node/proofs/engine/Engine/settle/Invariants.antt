@@ -5,14 +5,13 @@ use Rattle.cs_node_rules.specs.Net.{Net}
 use Rattle.cs_node_pool.specs.Deployed.{deployed}
 use Rattle.cs_node.specs.Notes.{DraftFits}
 use Rattle.cs_node.specs.Steps.{Settling}
-use Rattle.cs_node.specs.Carriers.{carrier}
 use Rattle.cs_node.specs.Cores.{IsSeated, KeepsView, site_at, view_at}
 use Rattle.cs_node.proofs.engine.Engine.settle.Given as goal
 
 abbrev pub invariant-loop : goal.invariant-loop
 invariant-loop g l = record {
   going : (net : Net) (genesis : List Object) (h : Member g.row.O-Message.Denot) → IsSeated g.O.Order.stands l.initial.self h
-      → Settling (site_at g.O.Order.rules (carrier g.O.Carried.written g.O.Carried.read_of) net l.initial.self.sbac genesis (g.J.Judge.is_approved l.initial.self.judge)) (view_at l.initial.self.sbac h) l.initial.draft l.draft
+      → Settling (site_at g.O.Order.rules g.O.Carried.carrier net l.initial.self.sbac genesis (g.J.Judge.is_approved l.initial.self.judge)) (view_at l.initial.self.sbac h) l.initial.draft l.draft
       (KeepsView g.O.Order.stands g.J.Judge.is_approved (deployed l.initial.self.sbac.config genesis (g.J.Judge.is_approved l.initial.self.judge)) l.self) (g.O.Order.rest l.self.order);
   fits : DraftFits l.initial.draft → DraftFits l.draft;
 }

@@ -6,7 +6,6 @@ use Rattle.cs_node_rules.specs.Deployment.{site_of}
 use Rattle.cs_table.specs.Genesis.{twice, genesis_rules}
 use Rattle.cs_node_pool.specs.Deployed.{deployed}
 use Rattle.cs_sbac.specs.Held.{Held}
-use Rattle.cs_node.specs.Carriers.{carrier}
 use Rattle.cs_node.specs.Cores.{KeepsView}
 use Rattle.cs_node.specs.Speaking.{Speaks}
 use Rattle.cs_node.proofs.Starting.{all-fit, started}
@@ -18,7 +17,7 @@ genesis-requires g c = all-fit c.args.genesis.now c.requires.objects
 pub returns : goal.returns
 returns g c = λ objects named.
     let approves = g.J.Judge.is_approved in
-    let carried = carrier g.O.Carried.written g.O.Carried.read_of in
+    let carried = g.O.Carried.carrier in
     let me = c.args.keys.me in
     let setup = deployed c.args.config objects (approves c.args.judge) in
     let held : NodeId → Held = λ name. record { config = c.args.config; me = name; table = c.in-Ok.table; pool = [] } in

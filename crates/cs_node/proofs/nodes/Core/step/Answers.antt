@@ -1,4 +1,3 @@
-use Rattle.cs_node.specs.Carriers.{carrier}
 use Rattle.cs_node.specs.Speaking.{input_of}
 use Rattle.cs_node.proofs.Standing.{event-done, event-sealed, same-me}
 use Rattle.cs_node.proofs.nodes.Core.step.Goals as goal
@@ -8,7 +7,7 @@ returns-clause-event g c = λ setup net v is.
     let stands = g.O.Order.stands in
     let approves = g.J.Judge.is_approved in
     let rules = g.O.Order.rules in
-    let carried = carrier g.O.Carried.written g.O.Carried.read_of in
+    let carried = g.O.Carried.carrier in
     let core = c.args.self.now in
     event-sealed stands approves rules carried net core c.settle.new.self setup v (input_of c.args.input) c.settle.new.draft c.in_ok-made.made is
     (event-done stands approves rules carried net core.engine c.take_in.new.self c.settle.new.self setup v (input_of c.args.input) c.new-draft.result c.take_in.new.draft c.settle.new.draft is.keeps c.new-draft.ensures

@@ -8,7 +8,7 @@ pub loop-view-init : goal.loop-view-init
 loop-view-init c = below_none (is_reached (look_of c.args.self.now))
 
 pub loop-view-preserved : goal.loop-view-preserved
-loop-view-preserved c = below_more c.loop-view.view (is_reached (look_of c.args.self.now)) c.loop-view.last c.reached.result c.or-last.result c.loop-view.invariant c.reached.ensures c.or-last.ensures
+loop-view-preserved c = below_more c.loop-view.view (is_reached (look_of c.args.self.now)) c.loop-view.last c.view_if_reached.result c.or-last.result c.loop-view.invariant c.view_if_reached.ensures c.or-last.ensures
 
 pub returns : goal.returns
 returns c =

@@ -1,5 +1,4 @@
 use Rattle.std.proofs.Common.{List, length, sym, subst, ◌∙◌}
-use Rattle.cs_node.specs.Carriers.{carrier}
 use Rattle.cs_node.specs.declared.nodes.Core.{Core}
 use Rattle.cs_node_rules.specs.World.{view_of}
 use Rattle.cs_play.specs.Standing.{site_in, EachStands, HasNode}
@@ -9,7 +8,7 @@ use Rattle.cs_play.proofs.play.Replay.is_genuine.Goals as goal
 
 pub returns-in-Some : goal.returns-in-Some
 returns-in-Some g c = λ s p st has.
-    let site = site_in g.O.Order.rules (carrier g.O.Carried.written g.O.Carried.read_of) s in
+    let site = site_in g.O.Order.rules g.O.Carried.carrier s in
     let each = subst (λ (cores : List (Core g.row.O.Denot g.row.J.Denot g.row.O-Message.Denot)). EachStands g.O.Order.stands g.J.Judge.is_approved s.setup s.net cores (λ i. view_of site p.world (s.names i))) (sym c.as_slice.ensures.value) st.all.each in
     let node = subst (λ (cores : List (Core g.row.O.Denot g.row.J.Denot g.row.O-Message.Denot)). HasNode s.names (length cores) c.args.to) (sym c.as_slice.ensures.value) (subst (λ n. HasNode s.names n c.args.to) (sym st.count) has) in
     let opened = c.in_ok-sender.ensures s.setup s.net s.names (λ i. view_of site p.world (s.names i)) each (λ i. view-me site p.world (s.names i)) node in
@@ -17,7 +16,7 @@ returns-in-Some g c = λ s p st has.
 
 pub returns-in-None : goal.returns-in-None
 returns-in-None g c = λ s p st has.
-    let site = site_in g.O.Order.rules (carrier g.O.Carried.written g.O.Carried.read_of) s in
+    let site = site_in g.O.Order.rules g.O.Carried.carrier s in
     let each = subst (λ (cores : List (Core g.row.O.Denot g.row.J.Denot g.row.O-Message.Denot)). EachStands g.O.Order.stands g.J.Judge.is_approved s.setup s.net cores (λ i. view_of site p.world (s.names i))) (sym c.as_slice.ensures.value) st.all.each in
     let node = subst (λ (cores : List (Core g.row.O.Denot g.row.J.Denot g.row.O-Message.Denot)). HasNode s.names (length cores) c.args.to) (sym c.as_slice.ensures.value) (subst (λ n. HasNode s.names n c.args.to) (sym st.count) has) in
     let opened = c.in_ok-sender.ensures s.setup s.net s.names (λ i. view_of site p.world (s.names i)) each (λ i. view-me site p.world (s.names i)) node in

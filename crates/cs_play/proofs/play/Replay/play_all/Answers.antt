@@ -1,6 +1,5 @@
 use Rattle.std.proofs.Common.{ℕ, ◌+◌, drop, Err, sym, ap, subst, ◌∙◌}
 use Rattle.std.proofs.lemmas.Result.{err_from_is_err_and}
-use Rattle.cs_node.specs.Carriers.{carrier}
 use Rattle.cs_sched_types.specs.declared.schedule.Event.{Event}
 use Rattle.cs_node_rules.specs.Play.{Course, play, play_all}
 use Rattle.cs_play.specs.Standing.{site_in, IsToAnother}
@@ -10,7 +9,7 @@ use Rattle.cs_play.proofs.play.Replay.play_all.Goals as goal
 
 pub returns-in_err-play-clause-ends : goal.returns-in_err-play-clause-ends
 returns-in_err-play-clause-ends g c = λ s p st has.
-    let site = site_in g.O.Order.rules (carrier g.O.Carried.written g.O.Carried.read_of) s in
+    let site = site_in g.O.Order.rules g.O.Carried.carrier s in
     let events = c.args.events.now in
     let k = c.loop-line.line-index in
     let item = c.loop-line-item.result in
@@ -19,6 +18,6 @@ returns-in_err-play-clause-ends g c = λ s p st has.
     let for-it = all-at (λ (x : ℕ × Event). IsToAnother s x.1) events k item has c.loop-line-test.true c.loop-line-item.is in
     let e = err_from_is_err_and c.from_residual.result c.from_residual.ensures.1 in
     rw (e.1, e.2)
-    (subst (λ (course : Course g.row.O-Message.Denot). Ends g.O.Order.stands g.J.Judge.is_approved g.O.Order.rules (carrier g.O.Carried.written g.O.Carried.read_of) s course c.play.new.self (g.K.Sink.written c.play.new.output) (Err c.in_err-play.field-0.0)) (sym next)
-    (ends-then g.O.Order.stands g.J.Judge.is_approved g.O.Order.rules (carrier g.O.Carried.written g.O.Carried.read_of) s (play site s.traced item.0 item.1 q) (play_all site s.traced (drop (k + 1) events)) c.play.new.self (g.K.Sink.written c.play.new.output) c.in_err-play.field-0.0
+    (subst (λ (course : Course g.row.O-Message.Denot). Ends g.O.Order.stands g.J.Judge.is_approved g.O.Order.rules g.O.Carried.carrier s course c.play.new.self (g.K.Sink.written c.play.new.output) (Err c.in_err-play.field-0.0)) (sym next)
+    (ends-then g.O.Order.stands g.J.Judge.is_approved g.O.Order.rules g.O.Carried.carrier s (play site s.traced item.0 item.1 q) (play_all site s.traced (drop (k + 1) events)) c.play.new.self (g.K.Sink.written c.play.new.output) c.in_err-play.field-0.0
     (all-grows site s.traced (drop (k + 1) events)) (c.in_err-play.ensures.ends s q here for-it)))

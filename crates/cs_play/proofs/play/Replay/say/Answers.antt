@@ -1,6 +1,5 @@
 use Rattle.std.proofs.Common.{ℕ, List, subst, ◌∙◌}
 use Rattle.std.proofs.lemmas.Result.{err_from_is_err_and}
-use Rattle.cs_node.specs.Carriers.{carrier}
 use Rattle.cs_node_rules.specs.Site.{Datagram}
 use Rattle.cs_node_rules.specs.Play.{occurs}
 use Rattle.cs_play.specs.Standing.{site_in}
@@ -11,7 +10,7 @@ use Rattle.cs_play.proofs.play.Replay.say.Goals as goal
 
 pub returns-in_err-bytes-clause-ends : goal.returns-in_err-bytes-clause-ends
 returns-in_err-bytes-clause-ends g c = λ s p st has.
-    let (rest, grown) = occurs-grows (site_in g.O.Order.rules (carrier g.O.Carried.written g.O.Carried.read_of) s) s.traced c.args.line c.args.names.1 (Datagram (s.net.datagram c.args.names.0 c.args.names.1 c.args.kind c.args.body.now)) p in
+    let (rest, grown) = occurs-grows (site_in g.O.Order.rules g.O.Carried.carrier s) s.traced c.args.line c.args.names.1 (Datagram (s.net.datagram c.args.names.0 c.args.names.1 c.args.kind c.args.body.now)) p in
     let e = err_from_is_err_and c.from_residual.result c.from_residual.ensures.1 in
     rw (e.1, e.2) (p.text, rest, grown, st.printed)
 
@@ -20,6 +19,6 @@ returns-clause-ends g c = λ s p st has.
     let r = c.args.self.now in
     let bytes = said-bytes s r.history.config.shards r.voices c.args.names.0 c.args.names.1 c.args.kind c.args.body.now c.in_ok-bytes.bytes.items st.holds.rests has.0 has.1 c.in_ok-bytes.ensures.says in
     subst
-    (λ (bs : List ℕ). Ends g.O.Order.stands g.J.Judge.is_approved g.O.Order.rules (carrier g.O.Carried.written g.O.Carried.read_of) s (occurs (site_in g.O.Order.rules (carrier g.O.Carried.written g.O.Carried.read_of) s) s.traced c.args.line c.args.names.1 (Datagram bs) p) c.occur.new.self (g.K.Sink.written c.occur.new.output) c.occur.result)
+    (λ (bs : List ℕ). Ends g.O.Order.stands g.J.Judge.is_approved g.O.Order.rules g.O.Carried.carrier s (occurs (site_in g.O.Order.rules g.O.Carried.carrier s) s.traced c.args.line c.args.names.1 (Datagram bs) p) c.occur.new.self (g.K.Sink.written c.occur.new.output) c.occur.result)
     (c.deref.ensures.value ∙ bytes)
-    (c.occur.ensures.ends s p (same-voices g.O.Order.stands g.J.Judge.is_approved g.O.Order.rules (carrier g.O.Carried.written g.O.Carried.read_of) s r c.say.new.self _ p st c.in_ok-bytes.ensures.same) has.0)
+    (c.occur.ensures.ends s p (same-voices g.O.Order.stands g.J.Judge.is_approved g.O.Order.rules g.O.Carried.carrier s r c.say.new.self _ p st c.in_ok-bytes.ensures.same) has.0)

@@ -1,6 +1,5 @@
 use Rattle.std.proofs.Common.{◌<◌, ◌++◌, List, length, sym, ap, subst, ◌∙◌, arith}
 use Rattle.std.proofs.lemmas.Result.{err_from_is_err_and}
-use Rattle.cs_node.specs.Carriers.{carrier}
 use Rattle.cs_node_rules.specs.Play.{occurs, size_of, most_sent, most_events}
 use Rattle.cs_node_rules.specs.Lines.{Parcel}
 use Rattle.cs_node.specs.Speaking.{input_of}
@@ -17,17 +16,17 @@ returns-in_err-send_all-clause-takes g c = λ s p st has.
     let node : HasNode s.names (length r.cores.items) c.args.to = subst (λ n. HasNode s.names n c.args.to) (sym st.count) has in
     let d = c.in_ok-made.ensures.delivered s.setup s.net s.names p.world st.all node in
     let few : length p.world < most_events = omega (arith, c.if-self-ge-MOST_EVENTS.false, st.events) in
-    let whole = ap (λ os. r.post ++ parcels_from c.args.to os) c.as_slice.ensures ∙ sent-is g.O.Order.stands g.J.Judge.is_approved g.O.Order.rules (carrier g.O.Carried.written g.O.Carried.read_of) s r p c.args.line c.args.to input st has c.in_ok-made.made c.deliver.new.cores.items d in
+    let whole = ap (λ os. r.post ++ parcels_from c.args.to os) c.as_slice.ensures ∙ sent-is g.O.Order.stands g.J.Judge.is_approved g.O.Order.rules g.O.Carried.carrier s r p c.args.line c.args.to input st has c.in_ok-made.made c.deliver.new.cores.items d in
     let e = err_from_is_err_and c.from_residual-in_err-send_all.result c.from_residual-in_err-send_all.ensures.1 in
     rw (e.1, e.2)
-    (takes-sent g.O.Order.stands g.J.Judge.is_approved g.O.Order.rules (carrier g.O.Carried.written g.O.Carried.read_of) s (occurs (site_in g.O.Order.rules (carrier g.O.Carried.written g.O.Carried.read_of) s) s.traced c.args.line c.args.to input p) p (record { cores = c.deliver.new.cores; history = r.history; post = c.send_all.new.post; voices = r.voices; events = r.events; traced = r.traced }) c.args.line c.args.to c.as_slice.result.now r.post c.send_all.new.post c.in_err-send_all.field-0.0 c.in_err-send_all.ensures
-    (λ large. too-much (site_in g.O.Order.rules (carrier g.O.Carried.written g.O.Carried.read_of) s) s.traced c.args.line c.args.to input p few (subst (λ (parcels : List Parcel). most_sent < size_of parcels) whole large)))
+    (takes-sent g.O.Order.stands g.J.Judge.is_approved g.O.Order.rules g.O.Carried.carrier s (occurs (site_in g.O.Order.rules g.O.Carried.carrier s) s.traced c.args.line c.args.to input p) p (record { cores = c.deliver.new.cores; history = r.history; post = c.send_all.new.post; voices = r.voices; events = r.events; traced = r.traced }) c.args.line c.args.to c.as_slice.result.now r.post c.send_all.new.post c.in_err-send_all.field-0.0 c.in_err-send_all.ensures
+    (λ large. too-much (site_in g.O.Order.rules g.O.Carried.carrier s) s.traced c.args.line c.args.to input p few (subst (λ (parcels : List Parcel). most_sent < size_of parcels) whole large)))
 
 pub returns-clause-takes : goal.returns-clause-takes
 returns-clause-takes g c = λ s p st has.
     let r = c.args.self.now in
     let node : HasNode s.names (length r.cores.items) c.args.to = subst (λ n. HasNode s.names n c.args.to) (sym st.count) has in
-    taken-by g.O.Order.stands g.J.Judge.is_approved g.O.Order.rules (carrier g.O.Carried.written g.O.Carried.read_of) s r p c.args.line c.args.to (input_of c.args.input) st has
+    taken-by g.O.Order.stands g.J.Judge.is_approved g.O.Order.rules g.O.Carried.carrier s r p c.args.line c.args.to (input_of c.args.input) st has
     c.tell.new.self c.deliver.new.cores c.send_all.new.post c.in_ok-made.made _ c.len-number.result c.as_slice.result.now
     c.in_ok-text.ensures.rest
     (c.in_ok-made.ensures.delivered s.setup s.net s.names p.world st.all node)

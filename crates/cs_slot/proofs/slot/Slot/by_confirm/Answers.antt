@@ -2,7 +2,7 @@ use Rattle.std.proofs.Common.{◌≡◌, ℕ, Option, sym, ap, ◌∙◌, arith}
 use Rattle.cs_order.specs.declared.proposed.Proposed.{Proposed}
 use Rattle.cs_order.specs.Limits.{view_bound}
 use Rattle.cs_order_rules.specs.Slot.{entry_of, quorum}
-use Rattle.cs_order_rules.proofs.Searches.{first_none, first_at, first_more, first_ends}
+use Rattle.cs_order.proofs.Searches.{first_none, first_at, first_more, first_ends}
 use Rattle.cs_slot.specs.Kept.{KeptSlot, seen_in}
 use Rattle.cs_slot.proofs.Ends.{none_confirmed}
 use Rattle.cs_slot.proofs.slot.Slot.by_confirm.Goals as goal

@@ -1,7 +1,7 @@
 use Rattle.std.proofs.Common.{◌≡◌, ℕ, ◌+◌, ◌*◌, Option, sym, ap, arith}
 use Rattle.cs_order.specs.declared.proposed.Proposed.{Proposed}
 use Rattle.cs_order_rules.specs.Slot.{if_done}
-use Rattle.cs_order_rules.proofs.Searches.{first_none, first_at, first_more}
+use Rattle.cs_order.proofs.Searches.{first_none, first_at, first_more}
 use Rattle.cs_slot.specs.Kept.{KeptSlot, seen_in}
 use Rattle.cs_slot.proofs.slot.Slot.by_done.Goals as goal
 

@@ -1,7 +1,7 @@
 use Rattle.std.proofs.Common.{ℕ, Bool, List, arith}
 use Rattle.cs_order.specs.declared.proposed.Proposed.{Proposed}
 use Rattle.cs_order_rules.specs.Slot.{is_entry}
-use Rattle.cs_order_rules.proofs.Searches.{count_none, count_add}
+use Rattle.cs_order.proofs.Searches.{count_none, count_add}
 use Rattle.cs_slot.specs.Kept.{entry_in}
 use Rattle.cs_slot.proofs.slot.Slot.done_count.Goals as goal
 

@@ -1,7 +1,7 @@
 use Rattle.std.proofs.Common.{ℕ, ◌+◌, ◌*◌, List, Option, sym}
 use Rattle.cs_order.specs.declared.proposed.Proposed.{Proposed}
 use Rattle.cs_order_rules.specs.Slot.{with_digest}
-use Rattle.cs_order_rules.proofs.Searches.{first_none, first_at, first_more}
+use Rattle.cs_order.proofs.Searches.{first_none, first_at, first_more}
 use Rattle.cs_slot.specs.Kept.{entry_in}
 use Rattle.cs_slot.proofs.slot.Slot.done_with.Goals as goal
 

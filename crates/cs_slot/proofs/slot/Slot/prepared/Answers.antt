@@ -1,7 +1,7 @@
 use Rattle.std.proofs.Common.{◌≡◌, ℕ, List, Option, None, sym, ap, ◌∙◌, arith}
 use Rattle.cs_order.specs.Limits.{view_bound}
 use Rattle.cs_order_rules.specs.Slot.{in_view}
-use Rattle.cs_order_rules.proofs.Searches.{last_none, last_more, last_ends}
+use Rattle.cs_order.proofs.Searches.{last_none, last_more, last_ends}
 use Rattle.cs_slot.specs.Kept.{KeptSlot, seen_in}
 use Rattle.cs_slot.proofs.slot.Slot.prepared.Goals as goal
 

@@ -2,7 +2,7 @@ use Rattle.std.proofs.Common.{◌≡◌, ℕ, List, Option, sym, ap, ◌∙◌, 
 use Rattle.cs_order.specs.declared.proposed.Proposed.{Proposed}
 use Rattle.cs_order.specs.Limits.{view_bound}
 use Rattle.cs_order_rules.specs.Slot.{with_digest}
-use Rattle.cs_order_rules.proofs.Searches.{first_none, first_at, first_more, first_ends}
+use Rattle.cs_order.proofs.Searches.{first_none, first_at, first_more, first_ends}
 use Rattle.cs_slot.specs.Kept.{entry_in}
 use Rattle.cs_slot.proofs.slot.Slot.with_digest.Goals as goal
 

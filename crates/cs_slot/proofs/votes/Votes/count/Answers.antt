@@ -1,6 +1,6 @@
 use Rattle.std.proofs.Common.{arith}
 use Rattle.cs_order_rules.specs.Slot.{is_digest}
-use Rattle.cs_order_rules.proofs.Searches.{count_none, count_add}
+use Rattle.cs_order.proofs.Searches.{count_none, count_add}
 use Rattle.cs_slot.specs.Kept.{vote_in}
 use Rattle.cs_slot.proofs.votes.Votes.count.Goals as goal
 

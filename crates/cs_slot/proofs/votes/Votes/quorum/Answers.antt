@@ -1,6 +1,6 @@
 use Rattle.std.proofs.Common.{ℕ, ◌+◌, ◌*◌, Option, List, sym}
 use Rattle.cs_order_rules.specs.Slot.{if_enough}
-use Rattle.cs_order_rules.proofs.Searches.{first_none, first_at, first_more}
+use Rattle.cs_order.proofs.Searches.{first_none, first_at, first_more}
 use Rattle.cs_slot.specs.Kept.{vote_in}
 use Rattle.cs_slot.specs.declared.votes.Vote.{Vote}
 use Rattle.cs_slot.proofs.votes.Votes.quorum.Goals as goal

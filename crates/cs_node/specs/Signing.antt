@@ -1,0 +1,23 @@
+-- What calls of the table and the pool make, at the setup of any deployment that the node may be of.
+use Rattle.std.specs.Prelude.{Bool, List, Result, OnOk}
+use Rattle.cs_base.specs.declared.config.Config.{Config}
+use Rattle.cs_tx_value.specs.declared.object.Object.{Object}
+use Rattle.cs_tx_form.specs.declared.transaction.Tx.{Tx}
+use Rattle.cs_node_state.specs.Setup.{Setup}
+use Rattle.cs_node_state.specs.Bench.{Bench}
+use Rattle.cs_node_rules.specs.Signs.{Sign}
+use Rattle.cs_node_pool.specs.Deployed.{deployed}
+use Rattle.cs_sbac.specs.Held.{Held, bench_of}
+use Rattle.cs_node.specs.declared.draft.Draft.{Draft}
+use Rattle.cs_node.specs.Steps.{Makes}
+
+-- it holds at the setup of every deployment with this configuration, whatever its genesis and its judge
+abbrev pub AtEverySetup : Config → (Setup → Type 0) → Type 0
+AtEverySetup config Holds = (genesis : List Object) (approves : Tx → Bool) → Holds (deployed config genesis approves)
+
+-- A call with this outcome, unless memory ran out, made the signs that a node with such a judge makes of what it held.
+abbrev pub Does : {A E : Type 0} → (Tx → Bool) → Held → Held → Draft → Draft → Result A E
+    → (Setup → Bench → List Sign) → Type 0
+Does {A} {E} approves held held' draft draft' result signs =
+    (genesis : List Object) → OnOk result (Makes (deployed held.config genesis approves) held.me
+    (signs (deployed held.config genesis approves) (bench_of held)) (bench_of held) (bench_of held') draft draft')

@@ -1,0 +1,162 @@
+//! What is asked of the table and the pool of a node.
+ghost use Rattle.std.specs.Prelude.{◌≡◌, IfOk};
+ghost use Rattle.cs_tx_value.specs.Object.{DigestFits};
+ghost use Rattle.cs_tx_value.specs.Key.{KeyFits};
+ghost use Rattle.cs_tx_form.specs.State.{StateFits};
+ghost use Rattle.cs_tx_form.specs.Session.{SessionFits};
+ghost use Rattle.cs_node_state.specs.Setup.{concerns, concerned, is_fit};
+ghost use Rattle.cs_table.specs.Seen.{seen, HoldsFit};
+ghost use Rattle.cs_node_state.specs.Asked.{told_at, least_dummy, key_asked};
+ghost use Rattle.cs_node_state.specs.Bench.{decided, noted};
+ghost use Rattle.cs_node_pool.specs.Deployed.{AtAnySetup};
+ghost use Rattle.cs_sbac.specs.Calls.{accepted_by};
+
+use crate::sbac::Sbac;
+use crate::setting::{concerned_shards, is_fit};
+use cs_base::{Key, Memory};
+use cs_table::Standing;
+use cs_tx::{Digest, Encoded, Session, State, Vote};
+use std::alloc::Global;
+
+fn is_accepted(standing: Standing) -> Option<bool>
+    ensures { result ≡ accepted_by standing }
+{
+    match standing {
+        Standing::Accepted => Some(true),
+        Standing::Aborted => Some(false),
+        Standing::Open => None,
+    }
+}
+
+// Each digest and each key has an encoding.
+fn digest_fits(digest: Digest)
+    ensures { DigestFits digest }
+{}
+
+fn key_fits(key: Key)
+    ensures { KeyFits key }
+{
+    match key {
+        Key::Object(digest) => digest_fits(digest),
+        Key::Dummy(_, _) => {}
+    }
+}
+
+fn copy_state(alloc: Global, state: &State) -> Result<State, Memory>
+    requires { HoldsFit state.now }
+    ensures copied { IfOk result (λ copied. copied ≡ state.now) }
+    ensures fits { IfOk result StateFits }
+{
+    match state {
+        State::Unknown => Ok(State::Unknown),
+        State::Active(object) => Ok(State::Active(object.copy(alloc)?)),
+        State::Locked(object, by) => {
+            digest_fits(*by);
+            Ok(State::Locked(object.copy(alloc)?, *by))
+        }
+        State::Inactive(by) => {
+            digest_fits(*by);
+            Ok(State::Inactive(*by))
+        }
+    }
+}
+
+impl Sbac {
+    /// Whether a session is well formed and concerns the shard.
+    pub fn is_fit(&self, alloc: Global, session: &Session) -> Result<bool, Memory>
+        requires { SessionFits session.now }
+        ensures { AtAnySetup self.now.config (λ setup.
+            IfOk result (λ fit. fit ≡ is_fit setup self.now.me.shard session.now)) }
+    {
+        let fit = is_fit(alloc, &self.config, self.me.shard, session)?;
+        Ok(fit)
+    }
+
+    /// The shards that a session concerns, in rising order.
+    pub fn concerned(&self, alloc: Global, session: &Session) -> Result<Vec<u16>, Memory>
+        requires { SessionFits session.now }
+        ensures { AtAnySetup self.now.config (λ setup.
+            IfOk result (λ shards. shards.items ≡ concerned setup session.now)) }
+    {
+        concerned_shards(alloc, &self.config, session)
+    }
+
+    /// Whether a session concerns the shard.
+    pub fn concerns(&self, alloc: Global, session: &Session, shard: u16) -> Result<bool, Memory>
+        requires { SessionFits session.now }
+        ensures { AtAnySetup self.now.config (λ setup.
+            IfOk result (λ yes. yes ≡ concerns setup session.now shard)) }
+    {
+        let shards = concerned_shards(alloc, &self.config, session)?;
+        Ok(shards.as_slice().contains(&shard))
+    }
+
+    /// The vote that is on record on a session.
+    pub fn noted(&self, alloc: Global, session: &Session) -> Result<Option<Vote>, Memory>
+        requires { SessionFits session.now }
+        ensures { AtAnySetup self.now.config (λ setup. IfOk result (λ vote.
+            vote ≡ noted setup self.now.me.shard (seen self.now.table) session.now)) }
+    {
+        if !self.is_whole {
+            return Err(Memory);
+        }
+        let vote = self.table.recorded(alloc, session)?;
+        Ok(vote)
+    }
+
+    /// Whether a session was accepted, once it is decided here.
+    pub fn decided(&self, alloc: Global, session: &Session) -> Result<Option<bool>, Memory>
+        requires { SessionFits session.now }
+        ensures { AtAnySetup self.now.config (λ setup. IfOk result (λ answer.
+            answer ≡ decided setup self.now.me.shard (seen self.now.table) session.now)) }
+    {
+        if !self.is_whole {
+            return Err(Memory);
+        }
+        let standing = self.table.standing(alloc, session)?;
+        Ok(is_accepted(standing))
+    }
+
+    /// The state of a key.
+    pub fn told(&self, alloc: Global, key: &Key) -> Result<State, Memory>
+        ensures told { IfOk result (λ state. state ≡ told_at (seen self.now.table) key.now) }
+        ensures fits { IfOk result StateFits }
+    {
+        if !self.is_whole {
+            return Err(Memory);
+        }
+        match self.table.record(key) {
+            None => Ok(State::Unknown),
+            Some(row) => copy_state(alloc, &row.state),
+        }
+    }
+
+    /// The key that is asked for; where none is named, the active dummy of the least serial, or
+    /// the one that is made next.
+    pub fn asked(&self, key: Option<Key>) -> Result<Key, Memory>
+        ensures key { IfOk result (λ asked.
+            asked ≡ key_asked (seen self.now.table) self.now.me.shard key) }
+        ensures fits { IfOk result KeyFits }
+    {
+        match key {
+            Some(key) => {
+                key_fits(key);
+                Ok(key)
+            }
+            None => self.least_dummy(),
+        }
+    }
+
+    fn least_dummy(&self) -> Result<Key, Memory>
+        ensures key { IfOk result (λ key.
+            key ≡ least_dummy (seen self.now.table) self.now.me.shard) }
+        ensures fits { IfOk result KeyFits }
+    {
+        if !self.is_whole {
+            return Err(Memory);
+        }
+        let key = self.table.least_dummy();
+        key_fits(key);
+        Ok(key)
+    }
+}

@@ -1,0 +1,4 @@
+pub mod Session
+pub mod Record
+pub mod Log
+pub mod Sized

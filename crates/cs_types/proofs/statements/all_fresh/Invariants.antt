@@ -1,7 +1,0 @@
-use Rattle.std.proofs.Common.{◌≡◌, take, drop}
-use Rattle.cs_types_kinds.specs.Told.{through}
-use Rattle.cs_types.specs.Stating.{fresh, all_fresh}
-use Rattle.cs_types.proofs.statements.all_fresh.Given as goal
-
-abbrev pub invariant-loop-i : goal.invariant-loop-i
-invariant-loop-i l = through (fresh l.scope) (take l.i l.names) (drop l.i l.names) ≡ all_fresh l.scope l.names
