@@ -1,6 +1,7 @@
 #!/usr/bin/env bash
 # Prints how long a replay takes to read a schedule of 8 MiB, as a ratio to `wc -l` and to `sha256sum` on the same file,
-# and how the time grows from 2 MiB on. Most of the text is genesis objects; comments fill it up. Needs ./chainspace built.
+# and how the time grows from 2 MiB on. Most of the text is genesis objects; comments fill it up. Proves and builds
+# crates/chainspace first.
 . "$(dirname "${BASH_SOURCE[0]}")/common.sh"
 zeros=$(printf '0%.0s' {1..64})
 coin=3c469e9d6c5875d37a43f353d4f88e61fcf812c66eee3457465a40b0da4153e004636f696e0100
@@ -16,16 +17,14 @@ schedule() {
 }
 
 build_chainspace
-replay() { "$program" replay <"$1"; }
-count() { wc -l <"$1"; }
-hash() { sha256sum <"$1"; }
+for size in 2097152 4194304 8388608; do schedule "$size" >"$work/$size"; done
+two() { "$program" replay <"$work/2097152"; }
+four() { "$program" replay <"$work/4194304"; }
+eight() { "$program" replay <"$work/8388608"; }
+count() { wc -l <"$work/8388608"; }
+hash() { sha256sum <"$work/8388608"; }
 
-for size in 2097152 4194304 8388608; do
-  schedule "$size" >"$work/$size"
-  echo "read $size bytes in $(least_time R replay "$work/$size") s"
-done
-file=$work/8388608
-ratio() { awk -v a="$1" -v b="$2" 'BEGIN { printf "%.1f\n", a / (b > 0.001 ? b : 0.001) }'; }
-read=$(least_time R replay "$file")
-echo "ratio to wc -l: $(ratio "$read" "$(least_time R count "$file")")"
-echo "ratio to sha256sum: $(ratio "$read" "$(least_time R hash "$file")")"
+times=$(least_times two four eight count hash)
+awk "$shared"'{
+  printf "2, 4 and 8 MiB: %.2f, %.2f and %.2f s; 8 MiB take %.0f times wc -l and %.1f times sha256sum\n", $1, $2, $3, ratio($3, $4), ratio($3, $5)
+}' <<<"$times"

@@ -1,7 +1,8 @@
 #!/usr/bin/env bash
-# Prints how many events a second a replay of 3 shards of one node each makes, with 1,000 and with 10,000 sessions that each
-# concern all three, of which 10 or 4,000 wait for votes at once, and the growth of time and memory for ten times as many
-# sessions. Proves and builds crates/chainspace first. It takes python3, which writes the schedules.
+# Prints how many events a second of processor time a replay of 3 shards of one node each makes, with 1,000 and with 10,000
+# sessions that each concern all three, of which 10 or 4,000 wait for votes at once; the ratio of that time to the one in which a
+# plain Python program decides the same sessions, with the tags of all datagrams made and tested by its library; and the
+# growth of time and memory for ten times as many sessions. Proves and builds crates/chainspace first; it takes python3.
 . "$(dirname "${BASH_SOURCE[0]}")/common.sh"
 build_chainspace
 
@@ -38,42 +39,132 @@ for number, inputs in enumerate(zip(*(names[:sessions] for names in shards))):
 print("end")
 PYTHON
 
-# The least processor time of three runs in seconds, and the most memory in KiB.
+# The plain program. It reads the schedule, seals and opens each datagram that nodes send one another, and keeps the coins of
+# each shard and the votes on each session in dictionaries. It prints the number of sessions that were accepted.
+cat >"$work/plain.py" <<'PYTHON'
+import hashlib, hmac, sys
+
+COIN = 47
+
+
+def tagged(letter, text):
+    return hashlib.sha256(letter + text).digest()
+
+
+def name_of(shard):
+    return shard.to_bytes(2, "big") + b"\0\0"
+
+
+master, coins, place = bytes(32), [{}, {}, {}], 0
+keys = {(a, b): hmac.digest(master, b"key" + name_of(a) + name_of(b), "sha256") for a in [0, 1, 2, 0xFFFF] for b in range(3)}
+pools, accepted = [{}, {}, {}], 0
+
+
+def sealed(a, b, kind, body):
+    text = b"CSP1" + bytes([kind]) + name_of(a) + name_of(b) + len(body).to_bytes(4, "big") + body
+    return text + hmac.digest(keys[a, b], text, "sha256")
+
+
+def opened(a, b, datagram):
+    if not hmac.compare_digest(hmac.digest(keys[a, b], datagram[:-32], "sha256"), datagram[-32:]):
+        sys.exit("a wrong tag")
+    return datagram[17:-32]
+
+
+def inputs_of(session):
+    at = 1 + 32 + 9 + 1
+    return [(session[k:k + 32], session[k + 32:k + 32 + COIN]) for k in range(at, at + 3 * (32 + COIN), 32 + COIN)]
+
+
+def decide(shard, session, digest):
+    global accepted
+    for name, _ in inputs_of(session):
+        if int.from_bytes(name[28:], "big") % 3 == shard:
+            coins[shard][name] = None
+    key = tagged(b"O", tagged(b"T", session[:-9]) + bytes(4))
+    if int.from_bytes(key[28:], "big") % 3 == shard:
+        coins[shard][key] = session[-58:-11]
+    accepted += shard == 0
+
+
+# A node gets a session, with a vote or without: it votes on a new one, and decides one that has all votes.
+def take(shard, session, voters, waiting):
+    digest = tagged(b"S", session)
+    votes = pools[shard].setdefault(digest, set())
+    if shard not in votes:
+        for name, coin in inputs_of(session):
+            if int.from_bytes(name[28:], "big") % 3 == shard and coins[shard].get(name) != coin:
+                sys.exit("a coin that isn't free")
+        votes.add(shard)
+        for other in range(3):
+            if other != shard:
+                waiting.append((shard, other, sealed(shard, other, 6, b"\1\1" + session)))
+    before = len(votes)
+    votes |= voters
+    if before < 3 and len(votes) == 3:
+        decide(shard, session, digest)
+
+
+waiting = []
+for line in open(sys.argv[1]):
+    words = line.split()
+    if words[0] == "genesis":
+        coin = bytes.fromhex(words[1])
+        name = tagged(b"G", place.to_bytes(4, "big") + coin)
+        coins[int.from_bytes(name[28:], "big") % 3][name] = coin
+        place += 1
+    elif words[0] == "say":
+        shard = int(words[2].split(".")[0])
+        datagram = sealed(0xFFFF, shard, 1, bytes.fromhex(words[4]))
+        take(shard, opened(0xFFFF, shard, datagram), set(), waiting)
+    elif words[0] == "drain":
+        for a, b, datagram in waiting:
+            take(b, opened(a, b, datagram)[2:], {a}, waiting)
+        waiting = []
+print(accepted)
+PYTHON
+
+# The least processor time of three runs in seconds and the most memory in KiB, of the program and of the plain one, in turns.
 cat >"$work/measure.py" <<'PYTHON'
 import os, sys
 
-program, schedule = sys.argv[1:]
-times, sizes = [], []
-for _ in range(3):
+program, plain, schedule = sys.argv[1:]
+
+
+def measured(words):
     child = os.fork()
     if child == 0:
         os.dup2(os.open(schedule, os.O_RDONLY), 0)
         os.dup2(os.open(os.devnull, os.O_WRONLY), 1)
-        os.execv(program, [program, "replay"])
+        os.execvp(words[0], words)
     _, status, used = os.wait4(child, 0)
     if status != 0:
-        sys.exit("the replay ended with status %d" % os.waitstatus_to_exitcode(status))
-    times.append(used.ru_utime + used.ru_stime)
-    sizes.append(used.ru_maxrss)
-print(min(times), max(sizes))
+        sys.exit("%s ended with status %d" % (words[0], os.waitstatus_to_exitcode(status)))
+    return used.ru_utime + used.ru_stime, used.ru_maxrss
+
+
+runs = [(measured([program, "replay"]), measured(["python3", plain, schedule])) for _ in range(3)]
+print(min(ours[0] for ours, _ in runs), max(ours[1] for ours, _ in runs), min(other[0] for _, other in runs))
 PYTHON
 
 for at_once in 10 4000; do
   for sessions in 1000 10000; do
     python3 "$work/schedule.py" "$sessions" "$at_once" >"$work/schedule"
-    if [ "$("$program" replay <"$work/schedule" | grep -c '^tx ')" != "$sessions" ]; then
+    if [ "$("$program" replay <"$work/schedule" | grep -c '^tx ')" != "$sessions" ] ||
+      [ "$(python3 "$work/plain.py" "$work/schedule")" != "$sessions" ]; then
       echo "bench/shards.sh: not every session was accepted" >&2
       exit 1
     fi
-    read -r seconds size < <(python3 "$work/measure.py" "$program" "$work/schedule")
-    awk -v at_once="$at_once" -v sessions="$sessions" -v seconds="$seconds" -v size="$size" 'BEGIN {
-      printf "%d sessions, %d at once: %.2f s, %d events a second, %d MiB\n", sessions, at_once, seconds, 7 * sessions / seconds, size / 1024
-    }'
+    measured=$(python3 "$work/measure.py" "$program" "$work/plain.py" "$work/schedule")
+    read -r seconds size _ <<<"$measured"
+    awk -v at_once="$at_once" -v sessions="$sessions" "$shared"'{
+      printf "%d sessions, %d at once: %.2f s, %d events a second, %d MiB, %.1f times the time of the plain program\n", sessions, at_once, $1, 7 * sessions / least($1), $2 / 1024, ratio($1, $3)
+    }' <<<"$measured"
     if [ "$sessions" = 1000 ]; then
-      least_seconds=$seconds least_size=$size
+      first_seconds=$seconds first_size=$size
     else
-      awk -v at_once="$at_once" -v a="$least_seconds" -v b="$seconds" -v c="$least_size" -v d="$size" 'BEGIN {
-        printf "%d at once: ten times as many sessions take %.1f times the time and %.1f times the memory\n", at_once, b / (a > 0.001 ? a : 0.001), d / c
+      awk -v at_once="$at_once" -v a="$first_seconds" -v b="$seconds" -v c="$first_size" -v d="$size" "$shared"'BEGIN {
+        printf "%d at once: ten times as many sessions take %.1f times the time and %.1f times the memory\n", at_once, ratio(b, a), d / c
       }'
     fi
   done
