@@ -1,11 +1,13 @@
 -- The laws of an order.
-use Rattle.std.specs.Prelude.{◌≡◌, ℕ, Bool, true, List, [], ◌∷◌, ◌++◌, Some, ◌⊎◌, slice_get}
+use Rattle.std.specs.Prelude.{◌≡◌, ℕ, ◌<◌, ◌^◌, Bool, true, List, [], ◌∷◌, ◌++◌, Some, IsSome, ◌⊎◌, slice_get}
 use Rattle.cs_order.specs.declared.proposed.Proposed.{Proposed}
 use Rattle.cs_order.specs.declared.answers.Outgoing.{Outgoing}
-use Rattle.cs_order.specs.declared.answers.Step.TheVariants.{Chosen}
+use Rattle.cs_order.specs.declared.answers.Step.TheVariants.{Chosen, Quiet}
 use Rattle.cs_order.specs.declared.answers.May.TheVariants.{Only}
 use Rattle.cs_order.specs.Lists.{IsIn}
+use Rattle.cs_order.specs.Digests.{HaveDigests}
 use Rattle.cs_order.specs.Deeds.{Deed, Took_in, Advanced, Echoed, Proposing, Ticked, Resent, Replied, Member, Machine, did, sent_by, chosen_in}
+use Rattle.cs_order.specs.Calls.{Proposable}
 use Rattle.cs_order.specs.Runs.{Act, IsKept, IsFor, member_of, log_of, Run, FewLiars, held_in, handed_in, EntriesToldApart}
 
 -- a member admitted the entry: it proposed it, or echoed it while it was pending
@@ -45,7 +47,19 @@ pub record Undisturbed {M : Type 0} (m : Machine M) : Type 0 where
   pub by_reply : (h : Member M) (slot to : ℕ) (sent : List (Outgoing M))
       → m.step (did (Replied slot to sent) h) ≡ m.step h
 
--- Each entry that a member gives was handed in at it, and each message that it hands out is proper.
+-- A member that has done nothing has no step to take, and what a member has to do comes to an end: what it advances,
+-- echoes or proposes lowers a number.
+pub record ComesToRest {M : Type 0} (m : Machine M) (left : Member M → ℕ) : Type 0 where
+  pub start : (f me : ℕ) → m.step (record { f = f; me = me; deeds = [] }) ≡ Quiet
+  pub advanced : (h : Member M) → (m.step h ≡ Quiet → ⊥)
+      → left (did (Advanced (m.step h) (m.advancing h)) h) < left h
+  pub echoed : (h : Member M) → IsSome (m.pending h) → left (did (Echoed (m.echoing h)) h) < left h
+  pub proposed : (h : Member M) (entry : Proposed) → Proposable (m.may_propose h) entry
+      → left (did (Proposing entry (m.proposing h entry)) h) < left h
+  pub bounded : (h : Member M) → left h < 2 ^ 80
+
+-- Each entry that a member gives was handed in at it, and each message that it hands out is proper,
+-- where the entries that were handed in have digests.
 pub record Holds {M : Type 0} (m : Machine M) : Type 0 where
   pub chosen : (f me : ℕ) (deeds : List (Deed M)) → IsKept m f me deeds
       → (entry : Proposed) → m.step (record { f = f; me = me; deeds = deeds }) ≡ Chosen entry
@@ -63,6 +77,7 @@ pub record Holds {M : Type 0} (m : Machine M) : Type 0 where
       → (message : M) (to : ℕ) → IsFor message to (sent_by deed)
       → (entry : Proposed) → IsIn entry (m.carried message) → IsIn entry (held_in m (deed ∷ deeds))
   pub proper : (f me : ℕ) (deed : Deed M) (deeds : List (Deed M)) → IsKept m f me (deed ∷ deeds)
+      → HaveDigests (held_in m (deed ∷ deeds))
       → (message : M) (to : ℕ) → IsFor message to (sent_by deed) → m.proper message ≡ true
 
 -- the list is the beginning of the other

@@ -1,5 +1,6 @@
 pub mod Counts
 pub mod Lists
+pub mod Digests
 pub mod Limits
 pub mod Deeds
 pub mod Calls

@@ -67,3 +67,6 @@ solo_left (Some entry) = 2
 
 abbrev pub solo_rest : ℕ → Option Proposed → ℕ
 solo_rest slot waiting = rest_at slot 0 (solo_left waiting)
+
+abbrev pub solo_turns : {M : Type 0} → Member M → ℕ
+solo_turns {M} h = solo_rest (length (chosen_in h.deeds)) (waiting_of h.deeds)

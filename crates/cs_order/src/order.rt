@@ -1,10 +1,11 @@
 //! The trait of an order.
-ghost use Rattle.std.specs.Prelude.{◌≡◌, ◌≢◌, ℕ, ◌*◌, ◌≤◌, ◌<◌, ◌^◌, true, [], IfOk, OnOk, IsSome, length, slice_get, Option, option_copied};
+ghost use Rattle.std.specs.Prelude.{◌≡◌, ◌≢◌, ℕ, ◌*◌, ◌≤◌, ◌<◌, ◌^◌, true, [], IfOk, OnOk, OnErr, IsSome, length, slice_get, Option, option_copied};
 ghost use Rattle.cs_order.specs.declared.proposed.Proposed.{Proposed};
 ghost use Rattle.cs_order.specs.declared.answers.May.{May};
 ghost use Rattle.cs_order.specs.Deeds.{Member, Machine, chosen_in};
 ghost use Rattle.cs_order.specs.Calls.{Proposable, TakesIn, Advances, Echoes, Proposes, Ticks, Resends, Replies, Lowers};
-ghost use Rattle.cs_order.specs.Law.{Law, Undisturbed, Holds};
+ghost use Rattle.cs_order.specs.Limits.{last_slot};
+ghost use Rattle.cs_order.specs.Law.{Law, Undisturbed, ComesToRest, Holds, IsPrefix};
 
 use crate::answers::{May, Outgoing, Step, Took};
 use crate::proposed::Proposed;
@@ -14,7 +15,7 @@ use std::alloc::Global;
 /// The agreement of one shard, as one member sees it.
 ///
 /// What a call gives to `out` stands at its end, for the caller to send. After a want of memory
-/// the member makes no further call, and what stands in `out` is not sent.
+/// the member makes no further call, and what the call put to `out` is not sent.
 pub trait Order: Drop {
     type Message: Drop;
 
@@ -42,10 +43,14 @@ pub trait Order: Drop {
     /// How many more of a caller's turns there may be.
     ghost rest: { Self → ℕ };
 
+    /// The same, by what the member has done.
+    ghost left: { Member Self.Message → ℕ };
+
     /// The first slot that is not chosen.
     fn open_slot(&self) -> u64
-        ensures { (h : Member Self.Message) → stands self.now h →
-            result ≡ length (chosen_in h.deeds) };
+        ensures slot { (h : Member Self.Message) → stands self.now h →
+            result ≡ length (chosen_in h.deeds) }
+        ensures bound { result ≤ last_slot };
 
     /// The view that the member is in.
     fn view(&self) -> u16
@@ -109,8 +114,9 @@ pub trait Order: Drop {
 
     /// Sends the messages of the open slot and view again.
     fn resend(&self, alloc: Global, out: &mut Vec<Outgoing<Self::Message>>) -> Result<(), Memory>
-        ensures { (h : Member Self.Message) → stands self.now h →
-            OnOk result (Resends rules h out.old.items out.new.items (stands self.now)) };
+        ensures call { (h : Member Self.Message) → stands self.now h →
+            OnOk result (Resends rules h out.old.items out.new.items (stands self.now)) }
+        ensures begins { OnErr result (IsPrefix out.old.items out.new.items) };
 
     /// Counts a tick, at which the next view may be entered.
     /// An entry that is due makes the member wait.
@@ -132,16 +138,20 @@ pub trait Order: Drop {
         to: u16,
         out: &mut Vec<Outgoing<Self::Message>>,
     ) -> Result<bool, Memory>
-        ensures { (h : Member Self.Message) → stands self.now h →
+        ensures call { (h : Member Self.Message) → stands self.now h →
             to ≤ 3 * f self.now → to ≢ me self.now →
             IfOk result (λ answer. Replies rules h slot to answer out.old.items out.new.items
-            (stands self.now)) };
+            (stands self.now)) }
+        ensures begins { OnErr result (IsPrefix out.old.items out.new.items) };
 
     /// In every run of one shard with few enough liars, the law holds.
     ghost law: { Law rules };
 
     /// Messages sent again change no rule.
     ghost undisturbed: { Undisturbed rules };
+
+    /// What a member has to do comes to an end.
+    ghost comes_to_rest: { ComesToRest rules left };
 
     /// What a member gives was handed in, and the messages that it hands out are proper.
     ghost holds: { Holds rules };

@@ -1,8 +1,9 @@
 //! The order of a single member.
-ghost use Rattle.std.specs.Prelude.{◌≡◌, false, None, IfOk, length};
+ghost use Rattle.std.specs.Prelude.{◌≡◌, ◌≤◌, false, None, IfOk, length};
 ghost use Rattle.cs_order.specs.declared.answers.Took.{Took};
-ghost use Rattle.cs_order.specs.Solo.{solo, SoloStands, SoloStarts, solo_rest, may_at};
-ghost use Rattle.cs_order.specs.laws.SoloLaw.{solo_law, solo_undisturbed, solo_holds, solo_begins, solo_bounded};
+ghost use Rattle.cs_order.specs.Limits.{last_slot};
+ghost use Rattle.cs_order.specs.Solo.{solo, SoloStands, SoloStarts, solo_rest, solo_turns, may_at};
+ghost use Rattle.cs_order.specs.laws.SoloLaw.{solo_law, solo_undisturbed, solo_comes_to_rest, solo_holds, solo_begins, solo_bounded};
 
 use crate::answers::{May, Outgoing, Step, Took};
 use crate::order::Order;
@@ -19,6 +20,7 @@ pub struct NoMessage;
 pub struct Solo {
     log: Vec<Proposed>,
     waiting: Option<Proposed>,
+    ghost short: { length log.items ≤ last_slot },
 }
 
 impl Solo {
@@ -52,9 +54,13 @@ impl Order for Solo {
 
     ghost rest = { λ s. solo_rest (length s.log.items) s.waiting };
 
+    ghost left = { solo_turns };
+
     ghost law = { solo_law };
 
     ghost undisturbed = { solo_undisturbed };
+
+    ghost comes_to_rest = { solo_comes_to_rest };
 
     ghost holds = { solo_holds };
 

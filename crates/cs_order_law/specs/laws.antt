@@ -10,5 +10,7 @@ pub mod Rest
 pub mod Exact
 pub mod Sights
 pub mod Lines
+pub mod Digests
 pub mod Proper
 pub mod Held
+pub mod Starting

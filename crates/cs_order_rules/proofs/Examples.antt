@@ -1,5 +1,5 @@
 -- A view change after a confirm that was lost, and changes that make a digest safe, worked out by hand.
-use Rattle.std.proofs.Common.{◌≡◌, ℕ, Bool, true, false, List, [], ◌∷◌, ◌++◌, Option, Some, None, refl}
+use Rattle.std.proofs.Common.{◌≡◌, ℕ, Bool, true, false, List, [], ◌∷◌, ◌++◌, Option, Some, None, refl, if◌then◌else◌, replicate}
 use Rattle.cs_order.specs.Counts.{count_below, any_below, first_below, last_below, last_found}
 use Rattle.cs_order.specs.Limits.{view_bound}
 use Rattle.cs_order.specs.Deeds.{Deed, Member, chosen_in}
@@ -17,10 +17,10 @@ use Rattle.cs_order_rules.specs.Rules.{free, safe, verdict, to_all}
 use Rattle.cs_order_rules.specs.SlotMachine.{slot_machine, sight}
 
 abbrev d : List ℕ
-d = 7 ∷ []
+d = replicate 32 7
 
 abbrev other : List ℕ
-other = 8 ∷ []
+other = replicate 32 8
 
 abbrev x : Proposed
 x = record { digest = d; bytes = 1 ∷ [] }
@@ -51,7 +51,8 @@ proposed_by h e (Only []) = None
 proposed_by h e (Only (first ∷ rest)) = Some (deed.Proposing first (slot_machine.proposing h first))
 
 abbrev given : Member OrderMessage → Deed OrderMessage → Option (Deed OrderMessage)
-given h (deed.Took_in from m) = took_by (deed.Took_in from m) (slot_machine.taking h from m)
+given h (deed.Took_in from m) =
+    if slot_machine.proper m then took_by (deed.Took_in from m) (slot_machine.taking h from m) else None
 given h (deed.Advanced step sent) = Some (deed.Advanced (slot_machine.step h) (slot_machine.advancing h))
 given h (deed.Echoed sent) = echoed_by (deed.Echoed (slot_machine.echoing h)) (slot_machine.pending h)
 given h (deed.Proposing e sent) = proposed_by h e (slot_machine.may_propose h)

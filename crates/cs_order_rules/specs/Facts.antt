@@ -6,6 +6,7 @@ use Rattle.std.specs.Ordering.{nat_cmp, is_lt}
 use Rattle.cs_base.specs.declared.limits.TheConstants.{MOST_ECHOED}
 use Rattle.cs_order.specs.Counts.{when, count_below}
 use Rattle.cs_base.specs.Options.{or_else}
+use Rattle.cs_order.specs.Digests.{digest_fits}
 use Rattle.cs_order.specs.Limits.{last_slot, view_bound}
 use Rattle.cs_order.specs.declared.proposed.Proposed.{Proposed}
 use Rattle.cs_order_rules.specs.declared.message.Change.{Change}
@@ -141,21 +142,27 @@ abbrev pub rises : List (List ℕ × ℕ) → Bool
 rises [] = true
 rises (line ∷ lines) = list_all (λ (later : List ℕ × ℕ). is_lt (slice_cmp nat_cmp line.0 later.0)) lines && rises lines
 
+-- a digest at a view below
+abbrev pub is_below : ℕ → ℕ → List ℕ → Bool
+is_below bound view digest = nat_lt view bound && digest_fits digest
+
+-- what a change to a view tells: no pair, or one of an earlier view
 abbrev pub pair_below : ℕ → Option (ℕ × List ℕ) → Bool
 pair_below view None = true
-pair_below view (Some pair) = nat_lt pair.0 view
+pair_below view (Some pair) = is_below view pair.0 pair.1
 
--- what a change to a view lists: rising digests, as many as may be echoed in a slot, each at an earlier view
+-- and rising digests, as many as may be echoed in a slot, each at an earlier view
 abbrev pub lists_echoes : ℕ → List (List ℕ × ℕ) → Bool
 lists_echoes view lines =
-    (rises lines && nat_le (length lines) MOST_ECHOED) && list_all (λ (line : List ℕ × ℕ). nat_lt line.1 view) lines
+    (rises lines && nat_le (length lines) MOST_ECHOED)
+    && list_all (λ (line : List ℕ × ℕ). is_below view line.1 line.0) lines
 
 abbrev pub is_place : ℕ → ℕ → Bool
 is_place slot view = nat_le slot last_slot && nat_lt view view_bound
 
 abbrev pub proper : OrderMessage → Bool
 proper (message.Propose n w e) = is_place n w
-proper (message.Echo n w d) = is_place n w
-proper (message.Confirm n w d) = is_place n w
+proper (message.Echo n w d) = is_place n w && digest_fits d
+proper (message.Confirm n w d) = is_place n w && digest_fits d
 proper (message.Change n w c) = (is_place n w && (nat_lt 0 w && pair_below w c.prepared)) && lists_echoes w c.echoed
 proper (message.Done n e) = is_place n 0

@@ -1,5 +1,5 @@
 -- The law for a single member.
-use Rattle.std.proofs.Common.{◌≡◌, ℕ, ◌+◌, ◌*◌, ◌==◌, ◌<◌, ◌^◌, nat_lt, Bool, true, false, if◌then◌else◌, List, [], ◌∷◌, length, Option, Some, None, slice_get, ◌⊎◌, inl, inr, refl, sym, ◌∙◌, subst, arith}
+use Rattle.std.proofs.Common.{◌≡◌, ℕ, ◌+◌, ◌*◌, ◌==◌, ◌<◌, ◌^◌, nat_lt, Bool, true, false, if◌then◌else◌, List, [], ◌∷◌, ◌++◌, length, Option, Some, None, slice_get, ◌⊎◌, inl, inr, refl, sym, ◌∙◌, subst, arith, length-append, ltb-true}
 use Rattle.std.proofs.lemmas.Bool.Decides.{eqb_tells}
 use Rattle.cs_order.specs.declared.proposed.Proposed.{Proposed}
 use Rattle.cs_order.specs.declared.answers.Step.{Step}
@@ -8,11 +8,12 @@ use Rattle.cs_order.specs.declared.answers.May.TheVariants as may
 use Rattle.cs_order.specs.Lists.{IsIn}
 use Rattle.cs_order.specs.laws.Lists.{IsIn-right, slice_get-push}
 use Rattle.cs_order.specs.Limits.{last_slot}
-use Rattle.cs_order.specs.Deeds.{Deed, Member, Machine, sent_by, chosen_in}
+use Rattle.cs_order.specs.Deeds.{Deed, Member, Machine, sent_by, chosen_by, chosen_in}
 use Rattle.cs_order.specs.Deeds as deed
+use Rattle.cs_order.specs.Calls.{Proposable}
 use Rattle.cs_order.specs.Runs.{Act, KeepsRules, IsKept, IsFor, Run, deeds_of, member_of, entries_in, held_in}
-use Rattle.cs_order.specs.Law.{Law, Admits, Admitted, HasChosen, Undisturbed, Holds}
-use Rattle.cs_order.specs.Solo.{solo, SoloStands, SoloStarts, solo_rest, waiting_of, step_at, may_at}
+use Rattle.cs_order.specs.Law.{Law, Admits, Admitted, HasChosen, Undisturbed, ComesToRest, Holds}
+use Rattle.cs_order.specs.Solo.{solo, SoloStands, SoloStarts, solo_rest, solo_turns, waiting_of, step_at, may_at}
 
 -- whoever has chosen is an honest member
 pub is_member : {M : Type 0} (m : Machine M) (f : ℕ) (honest : ℕ → Bool) (past : List (Act M)) → Run m f honest past → (i slot : ℕ) (a : Proposed) → HasChosen i slot a past → (i < 3 * f + 1) × (honest i ≡ true)
@@ -162,7 +163,7 @@ solo_holds {M} =
       offered = λ f me deeds kept entries e k l. absurd (none_offered (waiting_of deeds) entries k);
       logged = λ f me deeds kept slot e k. logged_held f me deeds kept slot e k;
       sent = λ f me act deeds kept m to k e l. absurd l;
-      proper = λ f me act deeds kept m to k. absurd (none_handed_out (record { f = f; me = me; deeds = deeds }) act kept.0 m to k);
+      proper = λ f me act deeds kept have m to k. absurd (none_handed_out (record { f = f; me = me; deeds = deeds }) act kept.0 m to k);
     }
 
 pub solo_begins : {M : Type 0} (log : List Proposed) (waiting : Option Proposed) → SoloStarts log waiting → SoloStands {M = M} log waiting (record { f = 0; me = 0; deeds = [] })
@@ -171,3 +172,28 @@ solo_begins {M} log waiting start = record { f = refl; me = refl; log_is = sym s
 pub solo_bounded : (slot : ℕ) (waiting : Option Proposed) → solo_rest slot waiting < 2 ^ 80
 solo_bounded slot None = omega arith
 solo_bounded slot (Some entry) = omega arith
+
+-- one slot more, where an entry is chosen
+advance_lowers : (log : List Proposed) (waiting : Option Proposed) → (step_at (length log) waiting ≡ step.Quiet → ⊥) → solo_rest (length (chosen_by (step_at (length log) waiting) log)) None < solo_rest (length log) waiting
+advance_lowers log None moves = absurd (moves refl)
+advance_lowers log (Some e) moves = by_room (nat_lt (length log) last_slot) refl moves
+  where
+    by_room : (b : Bool) → nat_lt (length log) last_slot ≡ b → ((if b then step.Chosen e else step.Quiet) ≡ step.Quiet → ⊥) → solo_rest (length (chosen_by (if b then step.Chosen e else step.Quiet) log)) None < solo_rest (length log) (Some e)
+    by_room true room moves =
+        let longer : length (log ++ e ∷ []) ≡ length log + 1 = simp length-append refl in
+        let below = ltb-true (length log) last_slot room in
+        omega arith
+    by_room false room moves = absurd (moves refl)
+
+propose_lowers : (slot : ℕ) (waiting : Option Proposed) (e : Proposed) → Proposable (may_at waiting) e → solo_rest slot (Some e) < solo_rest slot waiting
+propose_lowers slot None e may = omega arith
+propose_lowers slot (Some x) e may = absurd may
+
+pub solo_comes_to_rest : {M : Type 0} → ComesToRest {M = M} solo solo_turns
+solo_comes_to_rest {M} = record {
+  start = λ f me. refl;
+  advanced = λ h moves. advance_lowers (chosen_in h.deeds) (waiting_of h.deeds) moves;
+  echoed = λ h some. absurd (let none = some in cc);
+  proposed = λ h e may. propose_lowers (length (chosen_in h.deeds)) (waiting_of h.deeds) e may;
+  bounded = λ h. solo_bounded (length (chosen_in h.deeds)) (waiting_of h.deeds);
+}

@@ -1,11 +1,12 @@
 -- The rules find what is there: a quorum is found, and where nothing is chosen nothing could be.
-use Rattle.std.proofs.Common.{◌≡◌, ℕ, zero, suc, ◌+◌, ◌*◌, ◌<◌, ◌≤◌, nat_le, nat_lt, Bool, true, false, not, List, Option, Some, None, is_some, ◌⊎◌, inl, inr, refl, sym, ap, subst, ◌∙◌, arith, le-leb, lt-ltb}
+use Rattle.std.proofs.Common.{◌≡◌, ℕ, zero, suc, ◌+◌, ◌*◌, ◌<◌, ◌≤◌, nat_le, nat_lt, Bool, true, false, not, List, Option, Some, None, is_some, ◌⊎◌, inl, inr, refl, sym, ap, subst, ◌∙◌, arith, le-leb, leb-true, lt-ltb}
 use Rattle.cs_order.specs.Counts.{when, count_below, first_below}
 use Rattle.cs_base.specs.Options.{or_else}
 use Rattle.cs_order.specs.Limits.{last_slot}
-use Rattle.cs_order_law.specs.laws.Quorum.{meet, count_all}
-use Rattle.cs_order_rules.specs.Slot.{Seen, is_digest, votes, if_enough, quorum, with_digest, proposal_of, entry_of, by_confirm, by_done, chosen, to_confirm}
-use Rattle.cs_order_law.specs.laws.RuleFacts.{is_digest_is, quorum_is}
+use Rattle.cs_order.specs.declared.proposed.Proposed.{Proposed}
+use Rattle.cs_order_law.specs.laws.Quorum.{meet, count_all, one_honest}
+use Rattle.cs_order_rules.specs.Slot.{Seen, is_digest, votes, if_enough, quorum, with_digest, proposal_of, entry_of, by_confirm, is_entry, dones, if_done, done_by, by_done, chosen, to_confirm}
+use Rattle.cs_order_law.specs.laws.RuleFacts.{is_digest_is, is_entry_is, quorum_is}
 
 -- what is there at some number is found at one
 found_is_some : {A : Type 0} (a b : Option A) → (a ≡ None → is_some b ≡ true) → is_some (or_else a b) ≡ true
@@ -77,17 +78,37 @@ when_none : {A : Type 0} (b : Bool) (o : Option A) → b ≡ true → when b o �
 when_none true o e h = h
 when_none false o e h = cc
 
+-- neither rule finds an entry
+neither_found : (s : Seen) → s.n < last_slot → chosen s ≡ None → (by_confirm s ≡ None) × (by_done s ≡ None)
+neither_found s room none = either_none (by_confirm s) (by_done s) (when_none (nat_lt s.n last_slot) (or_else (by_confirm s) (by_done s)) (lt-ltb s.n last_slot room) none)
+
 -- Where nothing is chosen, no digest that 2f+1 members confirmed has an entry.
 pub none_chosen : (s : Seen) → s.n < last_slot → chosen s ≡ None → (v : ℕ) (d : List ℕ) → v < s.views → 2 * s.f + 1 ≤ votes s.f (s.confirm v) d
     → ((w : ℕ) → w < s.views → with_digest d (s.proposal w) ≡ None) × ((m : ℕ) → m < 3 * s.f + 1 → with_digest d (s.done m) ≡ None)
 none_chosen s room none v d below enough =
-    let neither = either_none (by_confirm s) (by_done s) (when_none (nat_lt s.n last_slot) (or_else (by_confirm s) (by_done s)) (lt-ltb s.n last_slot room) none) in
+    let neither = neither_found s room none in
     let at = first_is_none s.views (λ view. entry_of s (quorum s.f (s.confirm view))) v neither.0 below in
     let here : entry_of s (Some d) ≡ None = (let found = quorum_exact s.f (s.confirm v) d enough in subst (λ o. entry_of s o ≡ None) found at) in
     let both = either_none (proposal_of s d) (first_below (3 * s.f + 1) (λ member. with_digest d (s.done member))) here in (
       λ w lt. first_is_none s.views (λ view. with_digest d (s.proposal view)) w both.0 lt,
       λ m lt. first_is_none (3 * s.f + 1) (λ member. with_digest d (s.done member)) m both.1 lt,
     )
+
+few_of : (f n : ℕ) → nat_le (f + 1) n ≡ false → n ≤ f
+few_of f n h = grind arith
+
+-- Where nothing is chosen, no f+1 members are done with one entry.
+pub none_done : (s : Seen) → s.n < last_slot → chosen s ≡ None → (e : Proposed) → dones s e ≤ s.f
+none_done s room none e = by_count (nat_le (s.f + 1) (dones s e)) refl
+  where
+    by_count : (b : Bool) → nat_le (s.f + 1) (dones s e) ≡ b → dones s e ≤ s.f
+    by_count false few = few_of s.f (dones s e) few
+    by_count true enough =
+        let no_liars = count_none (3 * s.f + 1) in
+        let m = one_honest s.f (λ k. is_entry e (s.done k)) (λ k. true) (omega arith) (leb-true (s.f + 1) (dones s e) enough) in
+        let here : done_by s m.0 ≡ Some e = ap (if_done s) (is_entry_is e (s.done m.0) m.2) ∙ ap (λ b. when b (Some e)) enough in
+        let gone = first_is_none (3 * s.f + 1) (done_by s) m.0 (neither_found s room none).1 m.1 in
+        absurd (let q : None ≡ Some e = sym gone ∙ here in cc)
 
 -- Where nothing is to be confirmed, the member has confirmed in the view, or no digest has 2f+1 echoes.
 pub none_to_confirm : (s : Seen) → to_confirm s ≡ None → (d : List ℕ) → 2 * s.f + 1 ≤ votes s.f (s.echo s.view) d → is_some (s.confirm s.view s.me) ≡ true

@@ -1,8 +1,8 @@
 -- What a member gives was handed in.
 use Rattle.std.proofs.Common.{◌≡◌, ℕ, ◌+◌, ◌*◌, ◌==◌, Bool, true, false, not, ◌||◌, if◌then◌else◌, is_some, List, [], ◌∷◌, Option, Some, None, slice_get, inl, inr, refl, sym, ap, ◌∙◌, subst, arith}
 use Rattle.cs_order.specs.Lists.{IsIn}
-use Rattle.cs_order.specs.laws.Lists.{IsIn-left, IsIn-right, slice_get-push}
-use Rattle.cs_order.specs.Deeds.{Deed, Member, did}
+use Rattle.cs_order.specs.laws.Lists.{IsIn-right, slice_get-push}
+use Rattle.cs_order.specs.Deeds.{Deed, Member}
 use Rattle.cs_order.specs.Runs.{IsKept, held_in, entries_in}
 use Rattle.cs_order.specs.Law.{Holds}
 use Rattle.cs_order.specs.declared.proposed.Proposed.{Proposed}
@@ -21,7 +21,7 @@ use Rattle.cs_order_law.specs.laws.SlotFacts.{pending_is, if_some}
 use Rattle.cs_order_law.specs.laws.RuleFacts.{proposal_of_is, Chooses, IsKnown, choice_is, said_done}
 use Rattle.cs_order_law.specs.laws.Sights.{sound, step_chooses}
 use Rattle.cs_order_law.specs.laws.Steps.{Vouches, step_of}
-use Rattle.cs_order_law.specs.laws.SlotLaw.{new_carried}
+use Rattle.cs_order_law.specs.laws.Digests.{facts_held}
 use Rattle.cs_order_law.specs.laws.Proper.{handed_out_proper}
 
 abbrev Deeds : Type 0
@@ -37,23 +37,9 @@ module _ (f me : ℕ) where
   abbrev IsHeld : Proposed → Deeds → Type 0
   IsHeld e deeds = IsIn e (held_in slot_machine deeds)
 
-  -- what stands in a message taken was handed in
-  facts_held : (deeds : Deeds) → Kept deeds → (k : ℕ) (m : OrderMessage) (e : Proposed) → IsIn (k, m) (sight (at deeds)).taken → IsIn e (carried m) → IsHeld e deeds
-  facts_held [] kept k m e h c = absurd h
-  facts_held (act ∷ past) kept k m e h c =
-      let one = (step_of (at past) act kept.0).0 in
-      elim (one.adds (k, m) h) [
-        | inl old ↦ IsIn-right e (entries_in slot_machine act) (held_in slot_machine past) (facts_held past kept.1 k m e old c)
-        | inr source ↦ IsIn-left e (entries_in slot_machine act) (held_in slot_machine past)
-            (elim source [
-              | inl foreign ↦ rw foreign.0 c
-              | inr own ↦ new_carried act (sight (at past)) (sight (did act (at past))) m e own.1 c
-            ])
-      ]
-
   known_held : (deeds : Deeds) → Kept deeds → (e : Proposed) → IsKnown (sight (at deeds)) (open_slot (sight (at deeds))) e → IsHeld e deeds
-  known_held deeds kept e (inl p) = facts_held deeds kept p.0 (message.Propose _ p.1 e) e p.2 (inl refl)
-  known_held deeds kept e (inr p) = facts_held deeds kept p.0 (message.Done _ e) e p.1 (inl refl)
+  known_held deeds kept e (inl p) = facts_held f me deeds kept p.0 (message.Propose _ p.1 e) e p.2 (inl refl)
+  known_held deeds kept e (inr p) = facts_held f me deeds kept p.0 (message.Done _ e) e p.1 (inl refl)
 
   chooses_held : (deeds : Deeds) → Kept deeds → (e : Proposed) → Chooses (sight (at deeds)) e → IsHeld e deeds
   chooses_held deeds kept e (inl confirmed) = known_held deeds kept e confirmed.2
@@ -82,7 +68,7 @@ module _ (f me : ℕ) where
       ]
 
   vouched_held : (deeds : Deeds) → Kept deeds → (m : OrderMessage) (e : Proposed) → Vouches (sight (at deeds)) m → IsIn e (carried m) → IsHeld e deeds
-  vouched_held deeds kept (message.Propose n w x) e v c = facts_held deeds kept me (message.Propose n w x) e v c
+  vouched_held deeds kept (message.Propose n w x) e v c = facts_held f me deeds kept me (message.Propose n w x) e v c
   vouched_held deeds kept (message.Echo n w x) e v c = absurd c
   vouched_held deeds kept (message.Confirm n w x) e v c = absurd c
   vouched_held deeds kept (message.Change n w x) e v c = absurd c
@@ -120,5 +106,5 @@ slot_holds =
       offered = λ f me deeds kept entries e h k. offered_held f me deeds kept entries e h k;
       logged = λ f me deeds kept n e h. log_held f me deeds kept n e h;
       sent = λ f me act deeds kept m to h e c. vouched_held f me (act ∷ deeds) kept m e ((step_of (record { f = f; me = me; deeds = deeds }) act kept.0).1 (sound f me deeds kept.1) m to h) c;
-      proper = λ f me act deeds kept m to h. handed_out_proper f me act deeds kept m to h;
+      proper = λ f me act deeds kept have m to h. handed_out_proper f me act deeds kept have m to h;
     }

@@ -35,7 +35,7 @@ less_is Less h = refl
 less_is Equal h = cc
 less_is Greater h = cc
 
-before_trans : (a b c : List ℕ) → is_before a b ≡ true → is_before b c ≡ true → is_before a c ≡ true
+pub before_trans : (a b c : List ℕ) → is_before a b ≡ true → is_before b c ≡ true → is_before a c ≡ true
 before_trans a b c h k = ap (λ o. is_lt o) (nat_list_cmp_total.trans a b c (less_is _ h) (less_is _ k))
 
 -- of two different digests one is before the other

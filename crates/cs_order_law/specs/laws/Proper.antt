@@ -6,10 +6,12 @@ use Rattle.std.proofs.lemmas.Bool.Decides.{eqb_tells}
 use Rattle.cs_base.specs.declared.limits.TheConstants.{MOST_ECHOED}
 use Rattle.cs_order.specs.Counts.{when}
 use Rattle.cs_order.specs.Lists.{IsIn}
+use Rattle.cs_order.specs.laws.Lists.{IsIn-right}
+use Rattle.cs_order.specs.Digests.{HaveDigests}
 use Rattle.cs_order.specs.Limits.{last_slot, view_bound}
 use Rattle.cs_order.specs.Deeds.{Deed, Member, did, sent_by, chosen_in}
 use Rattle.cs_order.specs.Deeds as deed
-use Rattle.cs_order.specs.Runs.{IsKept, IsFor}
+use Rattle.cs_order.specs.Runs.{IsKept, IsFor, held_in, entries_in}
 use Rattle.cs_order.specs.declared.proposed.Proposed.{Proposed}
 use Rattle.cs_order.specs.declared.answers.Outgoing.{Outgoing}
 use Rattle.cs_order.specs.declared.answers.Step.{Step}
@@ -17,7 +19,7 @@ use Rattle.cs_order.specs.declared.answers.Step.TheVariants as step
 use Rattle.cs_order_rules.specs.declared.message.OrderMessage.{OrderMessage}
 use Rattle.cs_order_rules.specs.declared.message.OrderMessage.TheVariants as message
 use Rattle.cs_order_rules.specs.Slot.{prepared, in_view}
-use Rattle.cs_order_rules.specs.Facts.{Facts, Sight, open_slot, slot_of, is_place, pair_below, proper, confirm_said, echo_in}
+use Rattle.cs_order_rules.specs.Facts.{Facts, Sight, open_slot, slot_of, is_place, is_below, pair_below, proper, confirm_said, echo_in}
 use Rattle.cs_order_rules.specs.Rules.{seen, choice, entering, confirming, step_by, sent_by as advance_by, pending, echo_sent, has_place, proposal, change_to, is_over, insert_line, with_line, echoed_in, change_told}
 use Rattle.cs_order_rules.specs.SlotMachine.{slot_machine, sight}
 use Rattle.cs_order_law.specs.laws.SafeFacts.{and_right}
@@ -26,10 +28,15 @@ use Rattle.cs_order_law.specs.laws.RuleFacts.{in_view_is, echoed_is}
 use Rattle.cs_order_law.specs.laws.Sound.{SlotAct, MayNew, Sound}
 use Rattle.cs_order_law.specs.laws.Steps.{Vouches, step_of}
 use Rattle.cs_order_law.specs.laws.Sights.{sound, log_short}
+use Rattle.cs_order_law.specs.laws.Digests.{SaysDigest, all_say}
 use Rattle.cs_order_law.specs.laws.Lines.{Line, all_by, echoed_rises, insert_length, insert_listed}
 
 abbrev Deeds : Type 0
 Deeds = List (Deed OrderMessage)
+
+-- all that was taken says digests
+abbrev AllSay : Sight → Type 0
+AllSay s = (k : ℕ) (m : OrderMessage) → IsIn (k, m) s.taken → SaysDigest m
 
 -- How many digests a member echoed in a slot.
 abbrev lines : Sight → List Line
@@ -131,53 +138,62 @@ both a b h k = rw h k
 place_is : (n w : ℕ) → n ≤ last_slot → w < view_bound → is_place n w ≡ true
 place_is n w short small = both (nat_le n last_slot) (nat_lt w view_bound) (le-leb n last_slot short) (lt-ltb w view_bound small)
 
--- whatever is confirmed was said in no later view
-prepared_below : (s : Sight) (w : ℕ) → Sound s → s.view < w → (o : Option (ℕ × List ℕ)) → prepared (seen s) ≡ o → pair_below w o ≡ true
-prepared_below s w sound above None h = refl
-prepared_below s w sound above (Some pair) h =
+-- whatever is confirmed was said in no later view, and is a digest
+prepared_below : (s : Sight) (w : ℕ) → Sound s → AllSay s → s.view < w → (o : Option (ℕ × List ℕ)) → prepared (seen s) ≡ o → pair_below w o ≡ true
+prepared_below s w sound say above None h = refl
+prepared_below s w sound say above (Some pair) h =
     let found = last_found_is s.views (λ view. in_view view ((seen s).confirm view s.me)) pair h in
     let p = in_view_is found.0 ((seen s).confirm found.0 s.me) pair found.2 in
     let q = first_of_is (confirm_said (open_slot s) found.0) s.taken s.me pair.1 p.1 in
     let said : IsIn (s.me, message.Confirm (open_slot s) found.0 pair.1) s.taken = rw (confirm_said_is (open_slot s) found.0 pair.1 q.0 q.2) at q.1 in
-    lt-ltb pair.0 w (elim (sound.within (message.Confirm (open_slot s) found.0 pair.1) said) [ inl below ↦ absurd (omega arith) | inr here ↦ (let le = here.1 in let e = p.0 in omega arith) ])
+    let below : nat_lt pair.0 w ≡ true = lt-ltb pair.0 w (elim (sound.within (message.Confirm (open_slot s) found.0 pair.1) said) [ inl below ↦ absurd (omega arith) | inr here ↦ (let le = here.1 in let e = p.0 in omega arith) ]) in
+    both _ _ below (say s.me (message.Confirm (open_slot s) found.0 pair.1) said)
 
-line_below : (s : Sight) (w : ℕ) → Sound s → s.view < w → (line : Line) → IsIn line (lines s) → nat_lt line.1 w ≡ true
-line_below s w sound above line h =
+line_below : (s : Sight) (w : ℕ) → Sound s → AllSay s → s.view < w → (line : Line) → IsIn line (lines s) → is_below w line.1 line.0 ≡ true
+line_below s w sound say above line h =
     let said = echoed_is s.me (open_slot s) s.taken line.0 line.1 h in
-    lt-ltb line.1 w (elim (sound.within (message.Echo (open_slot s) line.1 line.0) said) [ inl below ↦ absurd (omega arith) | inr here ↦ (let le = here.1 in omega arith) ])
+    let below : nat_lt line.1 w ≡ true = lt-ltb line.1 w (elim (sound.within (message.Echo (open_slot s) line.1 line.0) said) [ inl below ↦ absurd (omega arith) | inr here ↦ (let le = here.1 in omega arith) ]) in
+    both _ _ below (say s.me (message.Echo (open_slot s) line.1 line.0) said)
 
-change_proper : (s : Sight) (w : ℕ) → Sound s → IsShort s → open_slot s ≤ last_slot → s.view < w → w < view_bound → proper (message.Change (open_slot s) w (change_told s)) ≡ true
-change_proper s w sound short room above small =
+change_proper : (s : Sight) (w : ℕ) → Sound s → AllSay s → IsShort s → open_slot s ≤ last_slot → s.view < w → w < view_bound → proper (message.Change (open_slot s) w (change_told s)) ≡ true
+change_proper s w sound say short room above small =
     both _ _
-    (both _ _ (place_is (open_slot s) w room small) (both _ _ (lt-ltb 0 w (omega arith)) (prepared_below s w sound above (prepared (seen s)) refl)))
-    (both _ _ (both _ _ (echoed_rises s.me (open_slot s) s.taken) (le-leb (length (lines s)) MOST_ECHOED short)) (all_by (λ (line : Line). nat_lt line.1 w) (lines s) (line_below s w sound above)))
+    (both _ _ (place_is (open_slot s) w room small) (both _ _ (lt-ltb 0 w (omega arith)) (prepared_below s w sound say above (prepared (seen s)) refl)))
+    (both _ _ (both _ _ (echoed_rises s.me (open_slot s) s.taken) (le-leb (length (lines s)) MOST_ECHOED short)) (all_by (λ (line : Line). is_below w line.1 line.0) (lines s) (line_below s w sound say above)))
 
-new_proper : (act : SlotAct) (s t : Sight) (m : OrderMessage) → Sound s → IsShort s → open_slot s ≤ last_slot → t.view < view_bound → s.view < view_bound → MayNew act s t m → proper m ≡ true
-new_proper act s t (message.Propose n w e) sound short room here before new = rw (new.0, new.2) (place_is (open_slot s) t.view room here)
-new_proper act s t (message.Echo n w d) sound short room here before new = rw (new.0, new.2) (place_is (open_slot s) s.view room before)
-new_proper act s t (message.Confirm n w d) sound short room here before new = rw (new.0, new.2) (place_is (open_slot s) s.view room before)
-new_proper act s t (message.Change n w c) sound short room here before new = rw (new.0, new.4) (change_proper s w sound short room new.3 (let e = new.2 in omega arith))
-new_proper act s t (message.Done n e) sound short room here before new = absurd new
+new_proper : (act : SlotAct) (s t : Sight) (m : OrderMessage) → Sound s → AllSay s → IsShort s → open_slot s ≤ last_slot → t.view < view_bound → s.view < view_bound → MayNew act s t m → SaysDigest m → proper m ≡ true
+new_proper act s t (message.Propose n w e) sound say short room here before new says = rw (new.0, new.2) (place_is (open_slot s) t.view room here)
+new_proper act s t (message.Echo n w d) sound say short room here before new says = both _ _ (rw (new.0, new.2) (place_is (open_slot s) s.view room before)) says
+new_proper act s t (message.Confirm n w d) sound say short room here before new says = both _ _ (rw (new.0, new.2) (place_is (open_slot s) s.view room before)) says
+new_proper act s t (message.Change n w c) sound say short room here before new says = rw (new.0, new.4) (change_proper s w sound say short room new.3 (let e = new.2 in omega arith))
+new_proper act s t (message.Done n e) sound say short room here before new says = absurd new
 
 module _ (f me : ℕ) where
+  abbrev Have : Deeds → Type 0
+  Have deeds = HaveDigests (held_in slot_machine deeds)
+
+  have_before : (act : SlotAct) (past : Deeds) → Have (act ∷ past) → Have past
+  have_before act past have e i = have e (IsIn-right e (entries_in slot_machine act) (held_in slot_machine past) i)
+
   -- each message of its own is proper
-  own_proper : (deeds : Deeds) → Kept f me deeds → (m : OrderMessage) → IsIn (me, m) (sight (at f me deeds)).taken → proper m ≡ true
-  own_proper [] kept m h = absurd h
-  own_proper (act ∷ past) kept m h =
+  own_proper : (deeds : Deeds) → Kept f me deeds → Have deeds → (m : OrderMessage) → IsIn (me, m) (sight (at f me deeds)).taken → proper m ≡ true
+  own_proper [] kept have m h = absurd h
+  own_proper (act ∷ past) kept have m h =
+      let before = have_before act past have in
       elim ((step_of (at f me past) act kept.0).0.adds (me, m) h) [
-        | inl old ↦ own_proper past kept.1 m old
+        | inl old ↦ own_proper past kept.1 before m old
         | inr source ↦ elim source [
           | inl foreign ↦ absurd (foreign.1 refl)
-          | inr own ↦ new_proper act (sight (at f me past)) (sight (at f me (act ∷ past))) m (sound f me past kept.1) (lines_short f me past kept.1) (log_short f me past kept.1) (sound f me (act ∷ past) kept).small (sound f me past kept.1).small own.1
+          | inr own ↦ new_proper act (sight (at f me past)) (sight (at f me (act ∷ past))) m (sound f me past kept.1) (all_say f me past kept.1 before) (lines_short f me past kept.1) (log_short f me past kept.1) (sound f me (act ∷ past) kept).small (sound f me past kept.1).small own.1 (all_say f me (act ∷ past) kept have me m h)
         ]
       ]
 
-  vouched_proper : (deeds : Deeds) → Kept f me deeds → (m : OrderMessage) → Vouches (sight (at f me deeds)) m → proper m ≡ true
-  vouched_proper deeds kept (message.Propose n w e) v = own_proper deeds kept (message.Propose n w e) v
-  vouched_proper deeds kept (message.Echo n w d) v = own_proper deeds kept (message.Echo n w d) v
-  vouched_proper deeds kept (message.Confirm n w d) v = own_proper deeds kept (message.Confirm n w d) v
-  vouched_proper deeds kept (message.Change n w c) v = own_proper deeds kept (message.Change n w c) v
-  vouched_proper deeds kept (message.Done n e) v = place_is n 0 (let below = slice_get_within (chosen_in deeds) n e v in let short = log_short f me deeds kept in omega arith) (omega arith)
+  vouched_proper : (deeds : Deeds) → Kept f me deeds → Have deeds → (m : OrderMessage) → Vouches (sight (at f me deeds)) m → proper m ≡ true
+  vouched_proper deeds kept have (message.Propose n w e) v = own_proper deeds kept have (message.Propose n w e) v
+  vouched_proper deeds kept have (message.Echo n w d) v = own_proper deeds kept have (message.Echo n w d) v
+  vouched_proper deeds kept have (message.Confirm n w d) v = own_proper deeds kept have (message.Confirm n w d) v
+  vouched_proper deeds kept have (message.Change n w c) v = own_proper deeds kept have (message.Change n w c) v
+  vouched_proper deeds kept have (message.Done n e) v = place_is n 0 (let below = slice_get_within (chosen_in deeds) n e v in let short = log_short f me deeds kept in omega arith) (omega arith)
 
-  pub handed_out_proper : (act : SlotAct) (deeds : Deeds) → IsKept slot_machine f me (act ∷ deeds) → (m : OrderMessage) (to : ℕ) → IsFor m to (sent_by act) → proper m ≡ true
-  handed_out_proper act deeds kept m to h = vouched_proper (act ∷ deeds) kept m ((step_of (at f me deeds) act kept.0).1 (sound f me deeds kept.1) m to h)
+  pub handed_out_proper : (act : SlotAct) (deeds : Deeds) → IsKept slot_machine f me (act ∷ deeds) → Have (act ∷ deeds) → (m : OrderMessage) (to : ℕ) → IsFor m to (sent_by act) → proper m ≡ true
+  handed_out_proper act deeds kept have m to h = vouched_proper (act ∷ deeds) kept have m ((step_of (at f me deeds) act kept.0).1 (sound f me deeds kept.1) m to h)

@@ -29,7 +29,7 @@ pub is_digest_is : (d : List ℕ) (o : Option (List ℕ)) → is_digest d o ≡ 
 is_digest_is d None h = cc
 is_digest_is d (Some said) h = ap (λ (x : List ℕ). Some x) (same_bytes said d h)
 
-is_entry_is : (e : Proposed) (o : Option Proposed) → is_entry e o ≡ true → o ≡ Some e
+pub is_entry_is : (e : Proposed) (o : Option Proposed) → is_entry e o ≡ true → o ≡ Some e
 is_entry_is e None h = cc
 is_entry_is e (Some said) h = ap (λ (x : Proposed). Some x) (same_entry_is said e h)
 
