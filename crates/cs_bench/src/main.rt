@@ -4,15 +4,19 @@
 //! spends so many of them, each by a session that is prepared in so many rounds and decided once.
 //! `merkle LEAVES ROUNDS` makes so many leaves of 100 bytes and computes their root in so many rounds.
 //! `slots F COUNT` chooses so many entries among 3F+1 members, of 16 at most, with all messages delivered.
+//! `hostile VIEWS` lets five liars of 16 members fill so many views, at most 1,024, of the open slot and the 15 above,
+//! chooses 11 slots, and the same where the liars are silent, and prints one line of numbers: the liars' messages
+//! that were taken, and the nanoseconds for these, for the slots, and for those among silent liars.
 //! `seal BYTES COUNT` seals a message with so many bytes of text, at most 4,096, so many times, and
 //! `open BYTES COUNT` opens its datagram as often.
 //! `parse METHODS COUNT` reads a contract text of so many methods, at most 64, of 1,024 bytes each so
 //! many times, and `accept METHODS COUNT` also accepts it.
-//! It prints nothing; the status is 0, or 1 where not every entry was chosen, not every datagram sealed or
+//! Else it prints nothing; the status is 0, or 1 where not every entry was chosen, not every datagram sealed or
 //! opened or not every text read or accepted, or 2 for other words, or 8 for want of memory.
 #![tactic(auto)]
 
 mod datagrams;
+mod hostile;
 mod lang;
 mod merkle;
 mod slots;
@@ -39,7 +43,7 @@ fn main(rt: HostRuntime) -> ExitCode {
         Ok(words) => words,
         Err(_) => return ExitCode::from(OTHER_WORDS),
     };
-    match run(rt.alloc(), words.as_slice()) {
+    match run(&rt, words.as_slice()) {
         Ok(status) => ExitCode::from(status),
         Err(_) => ExitCode::from(8),
     }
@@ -54,14 +58,31 @@ fn read_words(rt: &HostRuntime) -> io::Result<Vec<String>> {
     Ok(words)
 }
 
-fn run(alloc: Global, words: &[String]) -> Result<u8, Memory> {
+fn run(rt: &HostRuntime, words: &[String]) -> Result<u8, Memory> {
+    let alloc = rt.alloc();
     match words {
+        [first, views] if first.as_str() == "hostile" => run_hostile(rt, number(views)),
         [first, objects, sessions, rounds] if first.as_str() == "table" => {
             run_table(alloc, number(objects), number(sessions), number(rounds))
         }
         [first, size, count] => run_sized(alloc, first.as_str(), number(size), number(count)),
         _ => Ok(OTHER_WORDS),
     }
+}
+
+fn run_hostile(rt: &HostRuntime, views: Option<u32>) -> Result<u8, Memory> {
+    let Some(views) = views else {
+        return Ok(OTHER_WORDS);
+    };
+    let views = u16::try_from(views).unwrap_or(u16::MAX);
+    let Some(times) = hostile::measure(rt, views)? else {
+        return Ok(NOT_ALL);
+    };
+    let printed = println!(rt;
+        "{} {} {} {}",
+        times.messages, times.filling, times.filled, times.silent
+    );
+    Ok(if printed.is_ok() { DONE } else { NOT_ALL })
 }
 
 fn run_table(

@@ -14,10 +14,12 @@ struct Letter {
     message: OrderMessage,
 }
 
+/// The members of a shard that say something, the first of it.
 #[derive(Drop)]
-struct Shard {
+pub struct Shard {
     orders: Vec<SlotOrder>,
     letters: Vec<Letter>,
+    members: u16,
 }
 
 /// Chooses so many entries of 100 bytes among 3f+1 members: how many the first of them has.
@@ -33,21 +35,34 @@ impl Shard {
     /// A shard of at most 16 members.
     fn new(alloc: Global, f: u32) -> Result<Shard, Memory> {
         let f = u16::try_from(f).unwrap_or(0).min(5);
+        Shard::with_speakers(alloc, f, 3 * f + 1)
+    }
+
+    /// A shard of 3f+1 members, f at most 5, of which the first so many say something.
+    pub fn with_speakers(alloc: Global, f: u16, speakers: u16) -> Result<Shard, Memory> {
+        let f = f.min(5);
         let mut orders = Vec::new(alloc);
-        for me in 0..3 * f + 1 {
+        for me in 0..speakers.min(3 * f + 1) {
             orders.push(SlotOrder::new(alloc, f, me)?)?;
         }
         Ok(Shard {
             orders,
             letters: Vec::new(alloc),
+            members: 3 * f + 1,
         })
     }
 
-    fn members(&self) -> u16 {
+    fn speakers(&self) -> u16 {
         u16::try_from(self.orders.len()).unwrap_or(1)
     }
 
-    fn chosen(&self) -> u32 {
+    /// The order of a member.
+    pub fn order(&mut self, me: u16) -> Option<&mut SlotOrder> {
+        self.orders.get_mut(usize::from(me))
+    }
+
+    /// How many slots the first member has.
+    pub fn chosen(&self) -> u32 {
         match self.orders.as_slice().first() {
             Some(order) => u32::try_from(order.open_slot()).unwrap_or(0),
             None => 0,
@@ -55,8 +70,8 @@ impl Shard {
     }
 
     /// The leader proposes the entry of a number, and all that follows comes about.
-    fn choose(&mut self, alloc: Global, number: u32) -> Result<(), Memory> {
-        let leader = number.checked_rem(u32::from(self.members())).unwrap_or(0);
+    pub fn choose(&mut self, alloc: Global, number: u32) -> Result<(), Memory> {
+        let leader = number.checked_rem(u32::from(self.members)).unwrap_or(0);
         let me = u16::try_from(leader).unwrap_or(0);
         let mut out = Vec::new(alloc);
         if let Some(order) = self.orders.get_mut(usize::from(me)) {
@@ -107,7 +122,7 @@ impl Shard {
         from: u16,
         outgoing: &Outgoing<OrderMessage>,
     ) -> Result<(), Memory> {
-        for to in 0..self.members() {
+        for to in 0..self.speakers() {
             if to != from {
                 let message = copy(alloc, &outgoing.message)?;
                 self.letters.push(Letter { from, to, message })?;
@@ -117,13 +132,18 @@ impl Shard {
     }
 }
 
-/// An entry of 100 bytes, the first of which tell its number, as its digest does.
+/// An entry whose digest tells its number.
 fn entry(alloc: Global, number: u32) -> Result<Proposed, Memory> {
     let mut digest = [0; 32];
-    let mut bytes = Vec::new(alloc);
     for (place, byte) in digest.iter_mut().zip(number.to_be_bytes()) {
         *place = byte;
     }
+    entry_of(alloc, digest)
+}
+
+/// An entry of 100 bytes, of which the first are its digest.
+pub fn entry_of(alloc: Global, digest: [u8; 32]) -> Result<Proposed, Memory> {
+    let mut bytes = Vec::new(alloc);
     bytes.extend_from_slice(&digest)?;
     bytes.extend_from_slice(&[0; 68])?;
     Ok(Proposed {
@@ -145,7 +165,7 @@ fn propose(
 }
 
 /// All that a member does at once.
-fn turn(
+pub fn turn(
     alloc: Global,
     order: &mut SlotOrder,
     out: &mut Vec<Outgoing<OrderMessage>>,

@@ -1,37 +1,56 @@
--- What the changes show with one more at the end.
-use Rattle.std.proofs.Common.{◌≡◌, ℕ, ◌+◌, ◌<◌, ◌==◌, nat_le, Bool, true, false, ◌&&◌, ◌||◌, List, [], ◌∷◌, ◌++◌, drop, length, get_or, Option, Some, if◌then◌else◌, refl, sym, ap, ap₂, ◌∙◌, arith, add-one}
+-- What the changes show with one more.
+use Rattle.std.proofs.Common.{◌≡◌, ℕ, ◌+◌, ◌≤◌, ◌<◌, ◌==◌, nat_le, Bool, true, false, cond, ◌&&◌, ◌||◌, List, Option, Some, None, is_some, option_copied, Bor, refl, sym, ap, ◌∙◌, subst, eqb-true, leb-true, le-leb, arith}
 use Rattle.std.proofs.lemmas.Bool.Decides.{nat_tests}
-use Rattle.std.proofs.Math.Seq.{drop-cons}
 use Rattle.std.proofs.Math.Path.{fun_ext}
+use Rattle.std.specs.Map.{lookup}
+use Rattle.std.specs.BTreeMap.{is_at}
+use Rattle.std.specs.Ordering.{nat_cmp}
+use Rattle.std.specs.Cmp.{both_tied, unsigned_ties}
 use Rattle.cs_order.specs.Counts.{when}
 use Rattle.cs_base.specs.Options.{or_else}
 use Rattle.cs_order_rules.specs.declared.message.Change.{Change}
-use Rattle.cs_change.specs.declared.slot_changes.Filed.{Filed}
-use Rattle.cs_change.specs.Kept.{told_in, with_told, with_change, reaches}
+use Rattle.cs_change.specs.Kept.{Filed, Furthest, place_cmp, told_in, with_told, with_change, is_upto, reaches}
 
-abbrev filed : ℕ → ℕ → Change → Filed
-filed view member change = record { view = view; member = member; change = change }
+or_none : {A : Type 0} (o : Option A) → or_else o None ≡ o
+or_none None = refl
+or_none (Some x) = refl
 
-or_else_first : {A : Type 0} (b : Bool) (x : A) (o p q : Option A) → q ≡ or_else o p → (if b then Some x else q) ≡ or_else (if b then Some x else o) p
-or_else_first true x o p q e = refl
-or_else_first false x o p q e = e
+pub none_copied : (o : Option (Bor Change)) (p : Option Change) → option_copied o ≡ p → false ≡ is_some o → p ≡ None
+none_copied None p is none = sym is
+none_copied (Some x) p is none = absurd (let h : false ≡ true = none in cc)
 
-told_at : (changes : List Filed) (last : Filed) (v m : ℕ) → told_in (changes ++ last ∷ []) v m ≡ or_else (told_in changes v m) (when ((last.view == v) && (last.member == m)) (Some last.change))
-told_at [] last v m = refl
-told_at (first ∷ changes) last v m = or_else_first ((first.view == v) && (first.member == m)) first.change (told_in changes v m) (when ((last.view == v) && (last.member == m)) (Some last.change)) (told_in (changes ++ last ∷ []) v m) (told_at changes last v m)
+-- what is put where there was nothing
+put : {A : Type 0} (b : Bool) (o : Option A) (x : A) → (b ≡ true → o ≡ None) → cond b (Some x) o ≡ or_else o (when b (Some x))
+put true o x none = rw (none refl) refl
+put false o x none = sym (or_none o)
 
-pub change_added : (changes new : List Filed) (view member : ℕ) (change : Change) → new ≡ changes ++ filed view member change ∷ [] → told_in new ≡ with_told true (told_in changes) view member change
-change_added changes new view member change e = ap told_in e ∙ fun_ext (λ v. fun_ext (λ m. told_at changes (filed view member change) v m))
+same_place : (view member v m : ℕ) → is_at (place_cmp (view, member)) (v, m) ≡ ((view == v) && (member == m))
+same_place view member v m = sym (both_tied _ _ (nat_cmp view v) (nat_cmp member m) (unsigned_ties view v) (unsigned_ties member m))
 
-or_swap : (a b c d : Bool) → d ≡ (b || c) → (a || d) ≡ (b || (a || c))
-or_swap true true c d e = refl
-or_swap true false c d e = refl
-or_swap false true c d e = e
-or_swap false false c d e = e
+and_left : (a b : Bool) → (a && b) ≡ true → a ≡ true
+and_left true b h = refl
+and_left false b h = h
 
-pub reach_added : (changes : List Filed) (last : Filed) (v m : ℕ) → reaches (changes ++ last ∷ []) v m ≡ (((last.member == m) && nat_le v last.view) || reaches changes v m)
-reach_added [] last v m = refl
-reach_added (first ∷ changes) last v m = or_swap ((first.member == m) && nat_le v first.view) ((last.member == m) && nat_le v last.view) (reaches changes v m) (reaches (changes ++ last ∷ []) v m) (reach_added changes last v m)
+and_right : (a b : Bool) → (a && b) ≡ true → b ≡ true
+and_right true b h = h
+and_right false b h = absurd (let no = h in cc)
+
+-- the map has the change under its view and member, and is else as it was
+abbrev pub FiledAt : ℕ → ℕ → Change → Filed → Filed → Type 0
+FiledAt view member change old new =
+    (p : ℕ × ℕ) → lookup (is_at (place_cmp p)) new ≡ cond (is_at (place_cmp (view, member)) p) (Some change) (lookup (is_at (place_cmp p)) old)
+
+pub change_added : (changes new : Filed) (view member : ℕ) (change : Change) → told_in changes view member ≡ None → FiledAt view member change changes new → told_in new ≡ with_told true (told_in changes) view member change
+change_added changes new view member change none filed =
+    fun_ext (λ v. fun_ext (λ m.
+    filed (v, m)
+    ∙ ap (λ b. cond b (Some change) (told_in changes v m)) (same_place view member v m)
+    ∙ put ((view == v) && (member == m)) (told_in changes v m) change (λ same. at v m same)))
+  where
+    at : (v m : ℕ) → ((view == v) && (member == m)) ≡ true → told_in changes v m ≡ None
+    at v m same =
+        subst (λ w. told_in changes w m ≡ None) (eqb-true view v (and_left (view == v) (member == m) same))
+        (subst (λ j. told_in changes view j ≡ None) (eqb-true member m (and_right (view == v) (member == m) same)) none)
 
 same_number : (n : ℕ) → (n == n) ≡ true
 same_number n = grind arith
@@ -41,18 +60,50 @@ one_view : (fresh : Bool) (before : ℕ → ℕ → Option Change) (view member 
 one_view true before view member change m = rw (same_number view) refl
 one_view false before view member change m = refl
 
-pub told_added : (fresh : Bool) (changes new : List Filed) (view member : ℕ) (change : Change) → told_in new ≡ with_told fresh (told_in changes) view member change → told_in new view ≡ with_change fresh (told_in changes view) member change
+pub told_added : (fresh : Bool) (changes new : Filed) (view member : ℕ) (change : Change) → told_in new ≡ with_told fresh (told_in changes) view member change → told_in new view ≡ with_change fresh (told_in changes view) member change
 told_added fresh changes new view member change e = ap (λ (found : ℕ → ℕ → Option Change). found view) e ∙ fun_ext (λ m. one_view fresh (told_in changes) view member change m)
 
-and_false : (a b : Bool) → ((a && false) || b) ≡ b
-and_false true b = refl
-and_false false b = refl
+-- A member that has reached a view has reached each earlier one.
+upto_less : (v w : ℕ) (last : Option ℕ) → v ≤ w → is_upto w last ≡ true → is_upto v last ≡ true
+upto_less v w None less is = is
+upto_less v w (Some last) less is = let few = leb-true w last is in le-leb v last (omega arith)
 
-skip_first : (first : Filed) (rest : List Filed) (view member : ℕ) → nat_le view first.view ≡ false → reaches (first ∷ rest) view member ≡ reaches rest view member
-skip_first first rest view member below = rw below (and_false (first.member == member) (reaches rest view member))
+pub reaches_less : (furthest : Furthest) (v w member : ℕ) → v ≤ w → reaches furthest w member ≡ true → reaches furthest v member ≡ true
+reaches_less furthest v w member less is = upto_less v w (lookup (is_at (nat_cmp member)) furthest) less is
 
--- a change to an earlier view says nothing of this one
-pub earlier_says_nothing : (changes : List Filed) (i : ℕ) (filed : Filed) (view member : ℕ) → i < length changes → filed ≡ get_or changes i filed → filed.view < view → reaches (drop (i + 1) changes) view member ≡ reaches (drop i changes) view member
-earlier_says_nothing changes i filed view member within is below =
-    let parts = drop-cons changes i filed within in
-    sym (ap (λ (xs : List Filed). reaches xs view member) (parts ∙ ap₂ (λ (x : Filed) (xs : List Filed). x ∷ xs) (sym is) (rw add-one refl)) ∙ skip_first filed (drop (i + 1) changes) view member (grind (arith, nat_tests)))
+or_true : (a b : Bool) → b ≡ true → (a || b) ≡ true
+or_true true b h = refl
+or_true false b h = h
+
+-- a change to a view that the member had reached
+pub reached_before : (furthest : Furthest) (view member : ℕ) → reaches furthest view member ≡ true → (v m : ℕ) → reaches furthest v m ≡ (((member == m) && nat_le v view) || reaches furthest v m)
+reached_before furthest view member is v m = by ((member == m) && nat_le v view) refl
+  where
+    by : (b : Bool) → ((member == m) && nat_le v view) ≡ b → reaches furthest v m ≡ (b || reaches furthest v m)
+    by true both =
+        let upto : v ≤ view = leb-true v view (and_right (member == m) (nat_le v view) both) in
+        subst (λ j. reaches furthest v j ≡ true) (eqb-true member m (and_left (member == m) (nat_le v view) both)) (reaches_less furthest v view member upto is)
+    by false both = refl
+
+-- a change to a view beyond those that the member had reached
+beyond : (v view : ℕ) (last : Option ℕ) → is_upto view last ≡ false → nat_le v view ≡ (nat_le v view || is_upto v last)
+beyond v view None fails = by (nat_le v view)
+  where
+    by : (b : Bool) → b ≡ (b || false)
+    by true = refl
+    by false = refl
+beyond v view (Some last) fails = grind (arith, nat_tests)
+
+-- the map has the view under the member, and is else as it was
+abbrev pub FurthestAt : ℕ → ℕ → Furthest → Furthest → Type 0
+FurthestAt view member old new =
+    (m : ℕ) → lookup (is_at (nat_cmp m)) new ≡ cond (is_at (nat_cmp member) m) (Some view) (lookup (is_at (nat_cmp m)) old)
+
+pub reached_beyond : (furthest new : Furthest) (view member : ℕ) → reaches furthest view member ≡ false → FurthestAt view member furthest new → (v m : ℕ) → reaches new v m ≡ (((member == m) && nat_le v view) || reaches furthest v m)
+reached_beyond furthest new view member fails put v m =
+    ap (is_upto v) (put m ∙ ap (λ b. cond b (Some view) (lookup (is_at (nat_cmp m)) furthest)) (sym (unsigned_ties member m)))
+    ∙ by (member == m) refl
+  where
+    by : (b : Bool) → (member == m) ≡ b → is_upto v (cond b (Some view) (lookup (is_at (nat_cmp m)) furthest)) ≡ ((b && nat_le v view) || reaches furthest v m)
+    by true same = beyond v view (lookup (is_at (nat_cmp m)) furthest) (subst (λ j. reaches furthest view j ≡ false) (eqb-true member m same) fails)
+    by false other = refl

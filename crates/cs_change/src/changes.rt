@@ -1,7 +1,7 @@
 //! Changes to one view.
-ghost use Rattle.std.specs.Prelude.{◌≡◌, ◌*◌, ◌≤◌, ◌<◌, not, is_some, IfOk};
+ghost use Rattle.std.specs.Prelude.{◌≡◌, ◌*◌, ◌≤◌, ◌<◌, ◌↔◌, IsTrue, not, is_some, IfOk};
 ghost use Rattle.cs_order.specs.Limits.{view_bound};
-ghost use Rattle.cs_order_rules.specs.Safe.{is_free, is_safe};
+ghost use Rattle.cs_order_rules.specs.Safe.{SafeAt, is_free, is_safe};
 ghost use Rattle.cs_order_rules.specs.Rules.{pair_of};
 ghost use Rattle.cs_change.specs.Kept.{told, with_change, none_told};
 
@@ -59,7 +59,9 @@ impl Changes {
     /// An entry with this digest may be proposed in the view,
     /// whatever was chosen in an earlier one.
     pub fn safe(&self, digest: &[u8; 32]) -> bool
-        ensures { result ≡ is_safe self.now.f (told self.now) self.now.view digest.now }
+        ensures test { result ≡ is_safe self.now.f (told self.now) self.now.view digest.now }
+        ensures readable { IsTrue result
+            ↔ SafeAt self.now.f (told self.now) self.now.view digest.now }
     {
         self.all.safe(self.view, digest)
     }

@@ -4,6 +4,7 @@
 
 mod changes;
 mod claims;
+mod reach;
 mod slot_changes;
 
 pub use changes::Changes;

@@ -1,52 +1,55 @@
 //! Changes to all views of a slot.
-ghost use Rattle.std.specs.Prelude.{◌≡◌, ℕ, ◌+◌, ◌*◌, ◌≤◌, ◌<◌, ◌==◌, false, nat_le, ◌&&◌, ◌||◌, [], not, is_some, IfOk, OnErr, option_copied};
-ghost use Rattle.cs_order.specs.Counts.{count_below};
+ghost use Rattle.std.specs.Prelude.{◌≡◌, ℕ, ◌+◌, ◌*◌, ◌≤◌, ◌<◌, ◌==◌, nat_le, ◌&&◌, ◌||◌, [], not, is_some, IfOk, option_copied};
+ghost use Rattle.cs_order.specs.Counts.{count_below, last_below};
 ghost use Rattle.cs_order.specs.Limits.{view_bound};
-ghost use Rattle.cs_order_rules.specs.Safe.{says_none, says_allowed, says_echoed, is_free, is_safe_from, is_safe};
+ghost use Rattle.cs_order_rules.specs.Safe.{says_none, says_allowed, says_echoed, is_free, is_safe};
 ghost use Rattle.cs_order_rules.specs.Rules.{pair_of};
-ghost use Rattle.cs_change.specs.Kept.{told_in, with_told, reaches};
+ghost use Rattle.cs_change.specs.Kept.{told_in, with_told, reaches, is_joined, is_echoed};
 
 use crate::claims;
-use cs_base::{Memory, VIEW_BOUND};
+use crate::reach::Reach;
+use cs_base::Memory;
 use cs_order_rules::Change;
 use std::alloc::{AllocError, Global};
+use std::collections::BTreeMap;
 use std::marker::Model;
 
-/// The change of a member to a view.
-#[derive(Drop)]
-pub struct Filed {
-    pub view: u16,
-    pub member: u16,
-    pub change: Change,
-}
-
 /// The changes of the members to the views of a slot, the first of each member to each view.
+///
+/// A call takes a number of steps that grows as the logarithm of the changes.
 #[derive(Drop)]
 pub struct SlotChanges {
     f: u16,
-    changes: Vec<Filed>,
+    /// By view and member.
+    changes: BTreeMap<(u16, u16), Change>,
+    reach: Reach,
 }
 
 impl Model for SlotChanges {
-    ghost use Rattle.std.specs.Prelude.{◌≤◌};
+    ghost use Rattle.std.specs.Prelude.{◌≡◌, ◌≤◌};
     ghost use Rattle.cs_change.specs.Kept.{KeptOfSlot};
 
     ghost Value = { KeptOfSlot };
 
-    ghost view = { λ s. record { f = s.f; changes = s.changes.items } };
+    ghost view = { λ s. record {
+      f = s.f;
+      changes = s.changes.entries;
+      furthest = s.reach.furthest;
+    } };
 
-    ghost invariant = { λ s. s.f ≤ 5 };
+    ghost invariant = { λ s. (s.f ≤ 5) × (s.reach.f ≡ s.f) };
 }
 
 impl SlotChanges {
     /// No changes.
     pub fn new(alloc: Global, f: u16) -> SlotChanges
         requires { f ≤ 5 }
-        ensures { (result.f ≡ f) × (result.changes ≡ []) }
+        ensures { (result.f ≡ f) × (result.changes ≡ []) × (result.furthest ≡ []) }
     {
         SlotChanges {
             f,
-            changes: Vec::new(alloc),
+            changes: BTreeMap::new(alloc),
+            reach: Reach::new(alloc, f),
         }
     }
 
@@ -65,18 +68,15 @@ impl SlotChanges {
             told_in self.new.changes
             ≡ with_told fresh (told_in self.old.changes) view member change) }
         ensures reached { IfOk result (λ fresh. (v m : ℕ) →
-            reaches self.new.changes v m
-            ≡ ((fresh && ((member == m) && nat_le v view)) || reaches self.old.changes v m)) }
+            reaches self.new.furthest v m
+            ≡ ((fresh && ((member == m) && nat_le v view)) || reaches self.old.furthest v m)) }
         ensures same { IfOk result (λ fresh. self.new.f ≡ self.old.f) }
     {
         if self.get(view, member).is_some() {
             return Ok(false);
         }
-        if let Err(refused) = self.changes.push(Filed {
-            view,
-            member,
-            change,
-        }) {
+        self.reach.add(view, member)?;
+        if let Err(refused) = self.changes.insert((view, member), change) {
             return Err(AllocError::from(refused).into());
         }
         Ok(true)
@@ -86,27 +86,14 @@ impl SlotChanges {
     pub fn get(&self, view: u16, member: u16) -> Option<&Change>
         ensures { option_copied result ≡ told_in self.now.changes view member }
     {
-        find(self.changes.as_slice(), view, member)
+        self.changes.get(&(view, member))
     }
 
-    /// How many members gave a change to this view or a later one.
-    pub fn count_reached(&self, view: u16) -> u16
-        ensures { result ≡ count_below (3 * self.now.f + 1) (reaches self.now.changes view) }
+    /// The greatest view that f+1 members have reached, by a change to it or to a later one.
+    pub fn last_reached(&self) -> Option<u16>
+        ensures { result ≡ last_below view_bound (is_joined self.now.f self.now.furthest) }
     {
-        let mut count = 0;
-        for member in 0..3 * self.f + 1 {
-            count += u16::from(has_reached(self.changes.as_slice(), view, member));
-        }
-        count
-    }
-
-    /// No member gave a change to this view or a later one, of the views that there are.
-    pub fn end(&self) -> u16
-        ensures bound { result ≤ view_bound }
-        ensures none { (view member : ℕ) → result ≤ view → view < view_bound →
-            reaches self.now.changes view member ≡ false }
-    {
-        end_of(self.changes.as_slice())
+        self.reach.last()
     }
 
     /// An entry with this digest may be proposed in the view,
@@ -117,12 +104,28 @@ impl SlotChanges {
         if self.free(view) {
             return true;
         }
-        for from in 0..view {
-            if self.safe_from(view, from, digest) {
-                return true;
+        match self.last_echoed(view, digest) {
+            Some(from) => self.count_allowed(view, from, digest) > 2 * self.f,
+            None => false,
+        }
+    }
+
+    /// The greatest view below from which on f+1 members echoed the digest.
+    fn last_echoed(&self, view: u16, digest: &[u8; 32]) -> Option<u16>
+        ensures { result ≡ last_below view
+            (is_echoed self.now.f (told_in self.now.changes view) view digest.now) }
+    {
+        let mut low = 0;
+        let mut high = view;
+        while low < high {
+            let middle = low + (high - low) / 2;
+            if self.is_echoed(view, middle, digest) {
+                low = middle + 1;
+            } else {
+                high = middle;
             }
         }
-        false
+        low.checked_sub(1)
     }
 
     /// 2f+1 members have no prepared pair, so any entry may be proposed in the view.
@@ -140,13 +143,12 @@ impl SlotChanges {
         change.prepared
     }
 
-    /// 2f+1 members allow the digest from a view on, and f+1 echoed it since then.
-    fn safe_from(&self, view: u16, from: u16, digest: &[u8; 32]) -> bool
+    /// f+1 members echoed the digest in a view from this one on.
+    fn is_echoed(&self, view: u16, from: u16, digest: &[u8; 32]) -> bool
         ensures { result
-            ≡ is_safe_from self.now.f (told_in self.now.changes view) view digest.now from }
+            ≡ is_echoed self.now.f (told_in self.now.changes view) view digest.now from }
     {
-        self.count_allowed(view, from, digest) > 2 * self.f
-            && self.count_echoed(view, from, digest) > self.f
+        self.count_echoed(view, from, digest) > self.f
     }
 
     fn count_free(&self, view: u16) -> u16
@@ -180,55 +182,5 @@ impl SlotChanges {
             count += u16::from(claims::lists_echo(self.get(view, member), from, view, digest));
         }
         count
-    }
-}
-
-fn find(changes: &[Filed], view: u16, member: u16) -> Option<&Change>
-    ensures { option_copied result ≡ told_in changes.now view member }
-{
-    for filed in changes {
-        if filed.view == view && filed.member == member {
-            return Some(&filed.change);
-        }
-    }
-    None
-}
-
-fn has_reached(changes: &[Filed], view: u16, member: u16) -> bool
-    ensures { result ≡ reaches changes.now view member }
-{
-    for filed in changes {
-        if filed.member == member && view <= filed.view {
-            return true;
-        }
-    }
-    false
-}
-
-fn end_of(changes: &[Filed]) -> u16
-    ensures bound { result ≤ view_bound }
-    ensures none { (view member : ℕ) → result ≤ view → view < view_bound →
-        reaches changes.now view member ≡ false }
-{
-    let mut end = 0;
-    for filed in changes {
-        end = end_with(end, filed.view);
-    }
-    end
-}
-
-/// The view after the last one to which a change was given, with one more.
-fn end_with(end: u16, view: u16) -> u16
-    requires { end ≤ view_bound }
-    ensures bound { result ≤ view_bound }
-    ensures kept { end ≤ result }
-    ensures above { (later : ℕ) → result ≤ later → later < view_bound → view < later }
-{
-    if view < end {
-        end
-    } else if view < VIEW_BOUND {
-        view + 1
-    } else {
-        VIEW_BOUND
     }
 }

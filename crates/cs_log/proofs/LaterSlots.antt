@@ -1,85 +1,112 @@
--- Messages of later slots.
-use Rattle.std.proofs.Common.{◌≡◌, ℕ, ◌<◌, ◌≤◌, ◌==◌, nat_lt, Bool, true, false, ◌&&◌, ◌||◌, if◌then◌else◌, [], ◌∷◌, ◌++◌, reverse, is_some, refl, sym, ap, ◌∙◌, ltb-true, ltb-false, lt-ltb, le-ltb, eqb-true, arith}
-use Rattle.std.proofs.lemmas.List.{reverse-append}
+-- Slots above the open one.
+use Rattle.std.specs.declared.result.Result.{Result}
+use Rattle.std.specs.declared.result.Result.TheVariants.{Ok, Err}
+use Rattle.std.specs.Prelude.{IfOk}
+use Rattle.std.proofs.Common.{◌≡◌, ℕ, zero, suc, ◌+◌, ◌≤◌, ◌<◌, Bool, true, false, List, [], ◌∷◌, ◌++◌, length, length-append, Option, Some, None, slice_get, slice_set, refl, sym, ◌∙◌, subst, ne_eqb, arith}
+use Rattle.cs_order.specs.Limits.{view_bound}
+use Rattle.cs_order.specs.declared.proposed.Proposed.{Proposed}
 use Rattle.cs_order_rules.specs.declared.message.OrderMessage.{OrderMessage}
-use Rattle.cs_order_rules.specs.declared.message.OrderMessage.TheVariants as message
-use Rattle.cs_order_rules.specs.Facts.{Facts, slot_of, is_like, took}
-use Rattle.cs_order_open.specs.Later.{above, at_slot}
-use Rattle.cs_order_open.specs.laws.Seeing.{like_proposal, like_echo, like_confirm, like_change, like_done}
-use Rattle.cs_order_open.specs.laws.Reopening.{no_proposal, no_echo, no_confirm, no_change, no_done, took_at}
+use Rattle.cs_order_rules.specs.Facts.{Facts, Sight, slot_of}
+use Rattle.cs_order_open.specs.Shows.{KeptOpenSlot, Shows, ShowsNext, TakesFirst, with_fact}
+use Rattle.cs_order_open.specs.Later.{at_slot}
+use Rattle.cs_order_open.specs.laws.Reopening.{of_facts, shows_all, shows_more}
+use Rattle.cs_log.specs.Later.{NoneFrom, ShowLater}
+use Rattle.cs_log.specs.Replicas.{if_fresh}
 
-pub above_here : (n from : ℕ) (m : OrderMessage) (facts : Facts) → slot_of m ≤ n → above n ((from, m) ∷ facts) ≡ above n facts
-above_here n from m facts h = rw (le-ltb n (slot_of m) h) refl
+-- a slot shows the same whatever else the member sees
+pub moved : (k : KeptOpenSlot) (s : Sight) (n v : ℕ) (log : List Proposed) (view wait : ℕ) → Shows k s n v → Shows k (record { f = s.f; me = s.me; taken = s.taken; log = log; view = view; wait = wait; views = s.views }) n v
+moved k s n v log view wait p = record { seen = p.seen; same_f = p.same_f; told = p.told; reached = p.reached; echoed = p.echoed; led_only = p.led_only }
 
-pub above_there : (n from : ℕ) (m : OrderMessage) (facts : Facts) → n < slot_of m → above n ((from, m) ∷ facts) ≡ (from, m) ∷ above n facts
-above_there n from m facts h = rw (lt-ltb n (slot_of m) h) refl
+pub moved_later : (later : List KeptOpenSlot) (s : Sight) (n : ℕ) (log : List Proposed) (view wait : ℕ) → ShowLater later s n → ShowLater later (record { f = s.f; me = s.me; taken = s.taken; log = log; view = view; wait = wait; views = s.views }) n
+moved_later [] s n log view wait show = show
+moved_later (k ∷ later) s n log view wait show = (moved k s n 0 log view wait show.0, moved_later later s (n + 1) log view wait show.1)
 
--- what is of a later slot is above an earlier one
-never : (n k slot : ℕ) → n < k → k ≤ slot → nat_lt n slot ≡ false → ⊥
-never n k slot less at_least h = (let le = ltb-false n slot h in omega arith)
+-- Nothing was taken of some slots.
+pub none_more : (n k : ℕ) (facts : Facts) → n ≤ k → NoneFrom n facts → NoneFrom k facts
+none_more n k [] upto none = none
+none_more n k (fact ∷ facts) upto none = ((let less = none.0 in omega arith), none_more n k facts upto none.1)
 
-at_above_by : (n k : ℕ) (fact : ℕ × OrderMessage) (facts : Facts) (b c : Bool) → nat_lt n (slot_of fact.1) ≡ b → (slot_of fact.1 == k) ≡ c → n < k → at_slot k (above n facts) ≡ at_slot k facts → at_slot k (if b then fact ∷ above n facts else above n facts) ≡ (if c then fact ∷ at_slot k facts else at_slot k facts)
-at_above_by n k fact facts true true p q less rest = rw q (ap (λ (xs : Facts). fact ∷ xs) rest)
-at_above_by n k fact facts true false p q less rest = rw q rest
-at_above_by n k fact facts false true p q less rest = absurd (never n k (slot_of fact.1) less (let e = eqb-true (slot_of fact.1) k q in omega arith) p)
-at_above_by n k fact facts false false p q less rest = rest
+none_at : (n : ℕ) (facts : Facts) → NoneFrom n facts → at_slot n facts ≡ []
+none_at n [] none = refl
+none_at n (fact ∷ facts) none = rw (ne_eqb (slot_of fact.1) n (λ e. (let less = none.0 in omega arith))) (none_at n facts none.1)
 
-pub at_above : (n k : ℕ) (facts : Facts) → n < k → at_slot k (above n facts) ≡ at_slot k facts
-at_above n k [] less = refl
-at_above n k (fact ∷ facts) less = at_above_by n k fact facts (nat_lt n (slot_of fact.1)) (slot_of fact.1 == k) refl refl less (at_above n k facts less)
+pub none_behind : (later : List KeptOpenSlot) (s : Sight) (n : ℕ) → ShowLater later s n → NoneFrom (n + length later) s.taken
+none_behind [] s n show = none_more n (n + length {A = KeptOpenSlot} []) s.taken (omega arith) show
+none_behind (k ∷ later) s n show = none_more (n + 1 + length later) (n + length (k ∷ later)) s.taken (omega arith) (none_behind later s (n + 1) show.1)
 
-above_above_by : (n k : ℕ) (fact : ℕ × OrderMessage) (facts : Facts) (b c : Bool) → nat_lt n (slot_of fact.1) ≡ b → nat_lt k (slot_of fact.1) ≡ c → n < k → above k (above n facts) ≡ above k facts → above k (if b then fact ∷ above n facts else above n facts) ≡ (if c then fact ∷ above k facts else above k facts)
-above_above_by n k fact facts true true p q less rest = rw q (ap (λ (xs : Facts). fact ∷ xs) rest)
-above_above_by n k fact facts true false p q less rest = rw q rest
-above_above_by n k fact facts false true p q less rest = absurd (never n k (slot_of fact.1) less (let e = ltb-true k (slot_of fact.1) q in omega arith) p)
-above_above_by n k fact facts false false p q less rest = rest
+-- A new slot shows one of which nothing was taken.
+pub new_shows : (k : KeptOpenSlot) (s : Sight) (n : ℕ) → ((t : Sight) → t.f ≡ s.f → t.me ≡ s.me → t.views ≡ view_bound → t.taken ≡ [] → Shows k t n 0) → s.views ≡ view_bound → NoneFrom n s.taken → Shows k s n 0
+new_shows k s n shows views none =
+    let p = shows_all k s n 0 s.taken (shows (of_facts s (at_slot n s.taken)) refl refl views (none_at n s.taken none)) in
+    record { seen = p.seen; same_f = p.same_f; told = p.told; reached = p.reached; echoed = p.echoed; led_only = p.led_only }
 
-pub above_above : (n k : ℕ) (facts : Facts) → n < k → above k (above n facts) ≡ above k facts
-above_above n k [] less = refl
-above_above n k (fact ∷ facts) less = above_above_by n k fact facts (nat_lt n (slot_of fact.1)) (nat_lt k (slot_of fact.1)) refl refl less (above_above n k facts less)
+pub one_more : (later : List KeptOpenSlot) (s : Sight) (n : ℕ) (new : KeptOpenSlot) → ShowLater later s n → Shows new s (n + length later) 0 → ShowLater (later ++ new ∷ []) s n
+one_more [] s n new show made =
+    let here : n + length {A = KeptOpenSlot} [] ≡ n = omega arith in
+    (subst (λ j. Shows new s j 0) here made, none_more n (n + 1) s.taken (omega arith) show)
+one_more (k ∷ later) s n new show made =
+    let there : n + length (k ∷ later) ≡ n + 1 + length later = omega arith in
+    (show.0, one_more later s (n + 1) new show.1 (subst (λ j. Shows new s j 0) there made))
 
--- a message of another slot is not alike
-unlike : (m x : OrderMessage) → (slot_of x == slot_of m) ≡ false → is_like m x ≡ false
-unlike (message.Propose n w e) x h = like_proposal n w e x ∙ ap is_some (no_proposal n w x h)
-unlike (message.Echo n w d) x h = like_echo n w d x ∙ ap is_some (no_echo n w x h)
-unlike (message.Confirm n w d) x h = like_confirm n w d x ∙ ap is_some (no_confirm n w x h)
-unlike (message.Change n w c) x h = like_change n w c x ∙ ap is_some (no_change n w x h)
-unlike (message.Done n e) x h = like_done n e x ∙ ap is_some (no_done n x h)
+-- A message of an earlier slot changes nothing.
+pub more_later : (later : List KeptOpenSlot) (s : Sight) (n from : ℕ) (m : OrderMessage) → slot_of m < n → ShowLater later s n → ShowLater later (with_fact s from m) n
+more_later [] s n from m less show = (less, show)
+more_later (k ∷ later) s n from m less show = (shows_more k s n 0 from m (ne_eqb (slot_of m) n (λ e. (omega arith))) show.0, more_later later s (n + 1) from m (omega arith) show.1)
 
--- whether a message is a repeat is seen among those of later slots
-pub took_above : (n : ℕ) (m : OrderMessage) (facts : Facts) (from : ℕ) → n < slot_of m → took (is_like m) (above n facts) from ≡ took (is_like m) facts from
-took_above n m facts from less =
-    let k = slot_of m in
-    sym (took_at k (is_like m) (unlike m) (above n facts) from)
-    ∙ ap (λ (xs : Facts). took (is_like m) xs from) (at_above n k facts less)
-    ∙ took_at k (is_like m) (unlike m) facts from
+-- The slot at a place.
+pub slot_at : (later : List KeptOpenSlot) (s : Sight) (n place : ℕ) (k : KeptOpenSlot) → ShowLater later s n → slice_get later place ≡ Some k → Shows k s (n + place) 0
+slot_at [] s n place k show at = absurd (let none : ◌≡◌ {A = Option KeptOpenSlot} None (Some k) = at in cc)
+slot_at (x ∷ later) s n zero k show at =
+    let some : Some x ≡ Some k = at in
+    let same : x ≡ k = cc in
+    let here : n ≡ n + 0 = omega arith in
+    subst (λ j. Shows k s j 0) here (subst (λ y. Shows y s n 0) same show.0)
+slot_at (x ∷ later) s n (suc place) k show at =
+    let there : n + 1 + place ≡ n + suc place = omega arith in
+    subst (λ j. Shows k s j 0) there (slot_at later s (n + 1) place k show.1 at)
 
--- the order in which messages were taken doesn't matter
-either_way : (a b : Bool) → (a || b) ≡ (b || a)
-either_way true true = refl
-either_way true false = refl
-either_way false true = refl
-either_way false false = refl
+taken_at : (later : List KeptOpenSlot) (s : Sight) (n place from : ℕ) (m : OrderMessage) (new : KeptOpenSlot) → ShowLater later s n → place < length later → slot_of m ≡ n + place → Shows new (with_fact s from m) (n + place) 0 → ShowLater (slice_set later place new) (with_fact s from m) n
+taken_at [] s n place from m new show within slot made = absurd (omega arith)
+taken_at (x ∷ later) s n zero from m new show within slot made =
+    let here : n + 0 ≡ n = omega arith in
+    (subst (λ j. Shows new (with_fact s from m) j 0) here made, more_later later s (n + 1) from m (omega arith) show.1)
+taken_at (x ∷ later) s n (suc place) from m new show within slot made =
+    let there : n + suc place ≡ n + 1 + place = omega arith in (
+      shows_more x s n 0 from m (ne_eqb (slot_of m) n (λ e. (omega arith))) show.0,
+      taken_at later s (n + 1) place from m new show.1 (omega arith) (slot ∙ there) (subst (λ j. Shows new (with_fact s from m) j 0) there made),
+    )
 
-or_assoc : (a b c : Bool) → (a || (b || c)) ≡ ((a || b) || c)
-or_assoc true b c = refl
-or_assoc false b c = refl
+kept_at : (later : List KeptOpenSlot) (s : Sight) (n place : ℕ) (new : KeptOpenSlot) → ShowLater later s n → place < length later → Shows new s (n + place) 0 → ShowLater (slice_set later place new) s n
+kept_at [] s n place new show within made = absurd (omega arith)
+kept_at (x ∷ later) s n zero new show within made =
+    let here : n + 0 ≡ n = omega arith in
+    (subst (λ j. Shows new s j 0) here made, show.1)
+kept_at (x ∷ later) s n (suc place) new show within made =
+    let there : n + suc place ≡ n + 1 + place = omega arith in
+    (show.0, kept_at later s (n + 1) place new show.1 (omega arith) (subst (λ j. Shows new s j 0) there made))
 
-pub took_append : (test : OrderMessage → Bool) (facts more : Facts) (from : ℕ) → took test (facts ++ more) from ≡ (took test facts from || took test more from)
-took_append test [] more from = refl
-took_append test (fact ∷ facts) more from = ap (λ (b : Bool). ((fact.0 == from) && test fact.1) || b) (took_append test facts more from) ∙ or_assoc ((fact.0 == from) && test fact.1) (took test facts from) (took test more from)
+pub takes_at : (later : List KeptOpenSlot) (s : Sight) (n place from : ℕ) (m : OrderMessage) (fresh : Bool) (new : KeptOpenSlot) → ShowLater later s n → place < length later → slot_of m ≡ n + place → ShowsNext fresh new s (n + place) 0 from m → ShowLater (slice_set later place new) (if_fresh fresh s from m) n
+takes_at later s n place from m true new show within slot made = taken_at later s n place from m new show within slot made
+takes_at later s n place from m false new show within slot made = kept_at later s n place new show within made
 
--- (the oldest first, or the newest first)
-pub took_reverse : (test : OrderMessage → Bool) (facts : Facts) (from : ℕ) → took test facts from ≡ took test (reverse facts) from
-took_reverse test [] from = refl
-took_reverse test (fact ∷ facts) from =
-    let whole : reverse (fact ∷ facts) ≡ reverse facts ++ fact ∷ [] = reverse-append (fact ∷ []) facts in
-    sym (ap (λ (xs : Facts). took test xs from) whole
-    ∙ took_append test (reverse facts) (fact ∷ []) from
-    ∙ ap (λ (b : Bool). b || took test (fact ∷ []) from) (sym (took_reverse test facts from))
-    ∙ either_way (took test facts from) (took test (fact ∷ []) from)
-    ∙ ap (λ (b : Bool). b || took test facts from) (or_false ((fact.0 == from) && test fact.1)))
-  where
-    or_false : (b : Bool) → (b || false) ≡ b
-    or_false true = refl
-    or_false false = refl
+-- There is one at each place.
+pub some_at : (later : List KeptOpenSlot) (place : ℕ) → place < length later → (x : KeptOpenSlot) × (slice_get later place ≡ Some x)
+some_at [] place within = absurd (omega arith)
+some_at (x ∷ later) zero within = (x, refl)
+some_at (x ∷ later) (suc place) within = some_at later place (omega arith)
+
+-- What a slot at a place took, however it is named.
+pub take_result : {E : Type 0} (r : Result Bool E) (k x new : KeptOpenSlot) (later : List KeptOpenSlot) (place from : ℕ) (m : OrderMessage) → k ≡ x → ((s : Sight) (n view : ℕ) → Shows x s n view → IfOk r (λ fresh. TakesFirst fresh new s n view from m)) → IfOk r (λ fresh. (y : KeptOpenSlot) × (slice_set later place new ≡ slice_set later place y) × ((s : Sight) (n view : ℕ) → Shows k s n view → TakesFirst fresh y s n view from m))
+take_result (Ok fresh) k x new later place from m same call = (new, refl, λ s n view shows. call s n view (subst (λ y. Shows y s n view) same shows))
+take_result (Err e) k x new later place from m same call = tt
+
+pub same_slot : (later : List KeptOpenSlot) (place : ℕ) (k x : KeptOpenSlot) → slice_get later place ≡ Some k → slice_get later place ≡ Some x → k ≡ x
+same_slot later place k x one other = (let same : Some k ≡ Some x = sym one ∙ other in cc)
+
+-- Behind no slot nothing was taken.
+pub none_yet : (later : List KeptOpenSlot) (s : Sight) (n : ℕ) → length later ≡ 0 → ShowLater later s n → NoneFrom n s.taken × ShowLater later s (n + 1)
+none_yet [] s n none show = (show, none_more n (n + 1) s.taken (omega arith) show)
+none_yet (k ∷ later) s n none show = absurd (omega arith)
+
+pub one_longer : (later : List KeptOpenSlot) (new : KeptOpenSlot) → length (later ++ new ∷ []) ≡ length later + 1
+one_longer later new = simp length-append refl

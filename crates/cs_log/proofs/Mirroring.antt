@@ -1,26 +1,22 @@
 -- What is kept mirrors what the member sees, after each call.
-use Rattle.std.proofs.Common.{◌≡◌, ◌≢◌, ℕ, ◌+◌, ◌*◌, ◌<◌, ◌≤◌, min, Bool, true, false, not, if◌then◌else◌, List, [], ◌∷◌, ◌++◌, length, length-append, Option, Some, None, is_some, inl, inr, refl, sym, ap, ◌∙◌, subst, ne_eqb, arith}
+use Rattle.std.proofs.Common.{◌≡◌, ◌≢◌, ℕ, ◌+◌, ◌*◌, ◌<◌, ◌≤◌, ◌==◌, min, Bool, true, false, not, if◌then◌else◌, List, [], ◌∷◌, ◌++◌, length, length-append, Option, Some, None, is_some, slice_get, slice_set, inl, inr, refl, sym, ap, ◌∙◌, subst, ne_eqb, arith}
 use Rattle.cs_order.specs.Limits.{last_slot, view_bound}
 use Rattle.cs_order.specs.Lists.{IsIn}
 use Rattle.cs_order.specs.declared.proposed.Proposed.{Proposed}
 use Rattle.cs_order_rules.specs.declared.message.Change.{Change}
 use Rattle.cs_order_rules.specs.declared.message.OrderMessage.{OrderMessage}
 use Rattle.cs_order_rules.specs.declared.message.OrderMessage.TheVariants as message
-use Rattle.cs_order_rules.specs.Facts.{Facts, Sight, open_slot, slot_of, view_of, is_like, took, first_of, proposal_said, echo_said, confirm_said, change_said}
+use Rattle.cs_order_rules.specs.Facts.{Sight, open_slot, slot_of, view_of, is_like, took, first_of, proposal_said, echo_said, confirm_said, change_said}
 use Rattle.cs_order_rules.specs.Slot.{Seen}
 use Rattle.cs_order_rules.specs.Rules.{own, change_told}
 use Rattle.cs_order_law.specs.laws.SlotFacts.{first_of_is, change_said_is}
 use Rattle.cs_order_law.specs.Terms.{Within}
 use Rattle.cs_order_open.specs.Shows.{KeptOpenSlot, Shows, TakesFirst, IsOf, with_fact, led}
-use Rattle.cs_order_open.specs.Later.{above, at_slot, AllTaken}
 use Rattle.cs_order_open.specs.laws.Seeing.{took_is_found, like_proposal, like_echo, like_confirm, like_change}
-use Rattle.cs_order_open.specs.laws.Reopening.{of_facts, shows_all, shows_more, all_above}
+use Rattle.cs_order_open.specs.laws.Reopening.{shows_more}
 use Rattle.cs_log.specs.Replicas.{KeptReplica, Mirrors, IsSeen, longest_wait, at_first, said, entered, chose, waited, if_fresh}
-use Rattle.cs_log.proofs.LaterSlots.{above_here, above_there, at_above, above_above, took_above}
-
--- an open slot shows the same whatever else the member sees
-pub moved : (k : KeptOpenSlot) (s : Sight) (n v : ℕ) (log : List Proposed) (view wait : ℕ) → Shows k s n v → Shows k (record { f = s.f; me = s.me; taken = s.taken; log = log; view = view; wait = wait; views = s.views }) n v
-moved k s n v log view wait p = record { seen = p.seen; same_f = p.same_f; told = p.told; reached = p.reached; echoed = p.echoed; led_only = p.led_only }
+use Rattle.cs_log.specs.Later.{ShowLater, MayTake}
+use Rattle.cs_log.proofs.LaterSlots.{moved, moved_later, more_later, slot_at, takes_at}
 
 -- whose open slot it is
 pub is_of : (k : KeptOpenSlot) (s : Sight) (n v : ℕ) → Shows k s n v → IsOf s.f n s.me v k
@@ -49,9 +45,6 @@ replica_short k p = rw p.1.log p.1.short
 pub replica_small : (k : KeptReplica) → IsSeen k → k.view < view_bound
 replica_small k p = rw p.1.view p.1.small
 
-pub replica_others : (k : KeptReplica) → IsSeen k → AllTaken k.f k.me k.later
-replica_others k p = rw (p.1.f, p.1.me, p.1.later) p.1.others
-
 -- A message of another member is none of one's own.
 within_other : (s : Sight) (from : ℕ) (m : OrderMessage) → from ≢ s.me → ((j : OrderMessage) → IsIn (s.me, j) s.taken → Within s j) → (j : OrderMessage) → IsIn (s.me, j) ((from, m) ∷ s.taken) → Within s j
 within_other s from m other old j (inl e) = absurd (other (ap (λ (x : ℕ × OrderMessage). x.0) (sym e)))
@@ -64,13 +57,12 @@ within_own s m slot view old j (inr h) = old j h
 abbrev pub with_round : KeptReplica → KeptOpenSlot → KeptReplica
 with_round k current = record { f = k.f; me = k.me; log = k.log; view = k.view; wait = k.wait; current = current; later = k.later }
 
-abbrev pub with_later : KeptReplica → Facts → KeptReplica
+abbrev pub with_later : KeptReplica → List KeptOpenSlot → KeptReplica
 with_later k later = record { f = k.f; me = k.me; log = k.log; view = k.view; wait = k.wait; current = k.current; later = later }
 
 -- a message of the open slot
 here : (k : KeptReplica) (s : Sight) (current : KeptOpenSlot) (from : ℕ) (m : OrderMessage) → Mirrors k s → slot_of m ≡ open_slot s → Shows current (with_fact s from m) (open_slot s) s.view → ((j : OrderMessage) → IsIn (s.me, j) ((from, m) ∷ s.taken) → Within s j) → Mirrors (with_round k current) (with_fact s from m)
 here k s current from m p slot shows within =
-    let same = above_here (open_slot s) from m s.taken (let e = slot in omega arith) in
     record {
       f = p.f;
       me = p.me;
@@ -83,26 +75,37 @@ here k s current from m p slot shows within =
       short = p.short;
       small = p.small;
       shows = shows;
-      later = p.later ∙ sym same;
-      others = subst (λ (xs : Facts). AllTaken s.f s.me xs) (sym same) p.others;
+      later = more_later k.later s (open_slot s + 1) from m (let e = slot in omega arith) p.later;
       within = within;
     }
 
 same_round : (k : KeptReplica) (s : Sight) (current : KeptOpenSlot) → Mirrors k s → Shows current s (open_slot s) s.view → Mirrors (with_round k current) s
 same_round k s current p shows =
-    record { f = p.f; me = p.me; log = p.log; view = p.view; wait = p.wait; views = p.views; few = p.few; member = p.member; short = p.short; small = p.small; shows = shows; later = p.later; others = p.others; within = p.within }
+    record { f = p.f; me = p.me; log = p.log; view = p.view; wait = p.wait; views = p.views; few = p.few; member = p.member; short = p.short; small = p.small; shows = shows; later = p.later; within = p.within }
 
 -- a message of another member that the open slot took, or not
 pub round_took : (k : KeptReplica) (s : Sight) (current : KeptOpenSlot) (from : ℕ) (m : OrderMessage) (fresh : Bool) → Mirrors k s → from ≢ k.me → slot_of m ≡ length k.log → TakesFirst fresh current s (open_slot s) s.view from m → (fresh ≡ not (took (is_like m) s.taken from)) × Mirrors (with_round k current) (if_fresh fresh s from m)
 round_took k s current from m true p other slot takes = (takes.0, here k s current from m p (slot ∙ ap length p.log) takes.1 (within_other s from m (rw (← p.me) other) p.within))
 round_took k s current from m false p other slot takes = (takes.0, same_round k s current p takes.1)
 
--- a message of another member that is put off, or not
-later_took_by : (k : KeptReplica) (s : Sight) (later : Facts) (from : ℕ) (m : OrderMessage) (fresh : Bool) → Mirrors k s → from ≤ 3 * s.f → from ≢ s.me → led s.f from m ≡ true → open_slot s < slot_of m → fresh ≡ not (took (is_like m) s.taken from) → later ≡ (if fresh then (from, m) ∷ k.later else k.later) → Mirrors (with_later k later) (if_fresh fresh s from m)
-later_took_by k s later from m true p member other leads later_slot fresh now =
-    let n = open_slot s in
-    let more = above_there n from m s.taken later_slot in
-    let none : took (is_like m) (above n s.taken) from ≡ false = took_above n m s.taken from later_slot ∙ not_taken (took (is_like m) s.taken from) fresh in
+-- a slot above the open one may take it
+pub may_take : (k : KeptReplica) (s : Sight) (later : List KeptOpenSlot) (place from : ℕ) (m : OrderMessage) → Mirrors k s → from ≤ 3 * k.f → from ≢ k.me → led k.f from m ≡ true → slot_of m ≡ length k.log + 1 + place → ShowLater later s (open_slot s + 1) → (x : KeptOpenSlot) → slice_get later place ≡ Some x → MayTake x from m
+may_take k s later place from m p member other leads slot show x at =
+    let of = is_of x s (open_slot s + 1 + place) 0 (slot_at later s (open_slot s + 1) place x show at) in
+    let same_f : k.f ≡ x.slot.f = p.f ∙ sym of.f_is in
+    let same_me : k.me ≡ x.slot.me = p.me ∙ sym of.me_is in
+    let same_log = ap length p.log in
+    let is_slot = of.n_is in
+    record {
+      member = subst (λ f. from ≤ 3 * f) same_f member;
+      other = subst (λ j. from ≢ j) same_me other;
+      slot = (omega arith);
+      leads = subst (λ f. led f from m ≡ true) same_f leads;
+    }
+
+-- a message of another member that a slot above the open one took, or not
+later_took_by : (k : KeptReplica) (s : Sight) (later : List KeptOpenSlot) (from : ℕ) (m : OrderMessage) (fresh : Bool) → Mirrors k s → from ≢ s.me → (slot_of m == open_slot s) ≡ false → ShowLater later (if_fresh fresh s from m) (open_slot s + 1) → Mirrors (with_later k later) (if_fresh fresh s from m)
+later_took_by k s later from m true p other apart show =
     record {
       f = p.f;
       me = p.me;
@@ -114,23 +117,20 @@ later_took_by k s later from m true p member other leads later_slot fresh now =
       member = p.member;
       short = p.short;
       small = p.small;
-      shows = shows_more k.current s n s.view from m (ne_eqb (slot_of m) n (λ e. (let lt = later_slot in omega arith))) p.shows;
-      later = now ∙ ap (λ (xs : Facts). (from, m) ∷ xs) p.later ∙ sym more;
-      others = subst (λ (xs : Facts). AllTaken s.f s.me xs) (sym more) (record { member = member; other = other; leads = leads; fresh = none }, p.others);
+      shows = shows_more k.current s (open_slot s) s.view from m apart p.shows;
+      later = show;
       within = within_other s from m other p.within;
     }
-  where
-    not_taken : (b : Bool) → true ≡ not b → b ≡ false
-    not_taken true e = cc
-    not_taken false e = refl
-later_took_by k s later from m false p member other leads later_slot fresh now =
-    record { f = p.f; me = p.me; log = p.log; view = p.view; wait = p.wait; views = p.views; few = p.few; member = p.member; short = p.short; small = p.small; shows = p.shows; later = now ∙ p.later; others = p.others; within = p.within }
+later_took_by k s later from m false p other apart show =
+    record { f = p.f; me = p.me; log = p.log; view = p.view; wait = p.wait; views = p.views; few = p.few; member = p.member; short = p.short; small = p.small; shows = p.shows; later = show; within = p.within }
 
-pub later_took : (k : KeptReplica) (s : Sight) (later : Facts) (from : ℕ) (m : OrderMessage) (fresh : Bool) → Mirrors k s → from ≤ 3 * k.f → from ≢ k.me → led k.f from m ≡ true → length k.log < slot_of m → fresh ≡ not (took (is_like m) k.later from) → later ≡ (if fresh then (from, m) ∷ k.later else k.later) → (fresh ≡ not (took (is_like m) s.taken from)) × Mirrors (with_later k later) (if_fresh fresh s from m)
-later_took k s later from m fresh p member other leads later_slot fresh_is now =
-    let less : open_slot s < slot_of m = (let e = ap length p.log in let lt = later_slot in omega arith) in
-    let all : fresh ≡ not (took (is_like m) s.taken from) = fresh_is ∙ ap (λ (xs : Facts). not (took (is_like m) xs from)) p.later ∙ ap not (took_above (open_slot s) m s.taken from less) in
-    (all, later_took_by k s later from m fresh p (rw (← p.f) member) (rw (← p.me) other) (rw (← p.f) leads) less all now)
+pub later_took : (k : KeptReplica) (s : Sight) (later now : List KeptOpenSlot) (place from : ℕ) (m : OrderMessage) (fresh : Bool) (new : KeptOpenSlot) → Mirrors k s → from ≢ k.me → slot_of m ≡ length k.log + 1 + place → ShowLater later s (open_slot s + 1) → place < length later → now ≡ slice_set later place new → TakesFirst fresh new s (open_slot s + 1 + place) 0 from m → (fresh ≡ not (took (is_like m) s.taken from)) × Mirrors (with_later k now) (if_fresh fresh s from m)
+later_took k s later now place from m fresh new p other slot show within is takes =
+    let same_log = ap length p.log in
+    let there : slot_of m ≡ open_slot s + 1 + place = omega arith in
+    let apart : (slot_of m == open_slot s) ≡ false = ne_eqb (slot_of m) (open_slot s) (λ e. (omega arith)) in
+    let shown = takes_at later s (open_slot s + 1) place from m fresh new show within there takes.1 in
+    (takes.0, later_took_by k s now from m fresh p (rw (← p.me) other) apart (subst (λ (xs : List KeptOpenSlot). ShowLater xs (if_fresh fresh s from m) (open_slot s + 1)) (sym is) shown))
 
 -- What a member says of its own is no repeat.
 said_shows : (fresh : Bool) (current : KeptOpenSlot) (s : Sight) (n v from : ℕ) (m : OrderMessage) → TakesFirst fresh current s n v from m → took (is_like m) s.taken from ≡ false → Shows current (with_fact s from m) n v
@@ -177,7 +177,6 @@ enters k s told current w change fresh p higher small made is enter =
     let n = open_slot s in
     let none = took_is_found (is_like m) (change_said n w) (like_change n w (change_told s)) s.taken s.me ∙ none_later s w (first_of (change_said n w) s.taken s.me) p.within higher refl in
     let before = said_shows fresh told s n s.view s.me m takes none in
-    let same = above_here n s.me m s.taken (let z : ℕ = 0 in omega arith) in
     record {
       f = p.f;
       me = p.me;
@@ -190,21 +189,15 @@ enters k s told current w change fresh p higher small made is enter =
       short = p.short;
       small = small;
       shows = moved current (with_fact s s.me m) n w s.log w 0 (enter (with_fact s s.me m) n s.view before);
-      later = p.later ∙ sym same;
-      others = subst (λ (xs : Facts). AllTaken s.f s.me xs) (sym same) p.others;
+      later = moved_later k.later (with_fact s s.me m) (n + 1) s.log w 0 (more_later k.later s (n + 1) s.me m (let z : ℕ = 0 in omega arith) p.later);
       within = within_entered s w higher p.within;
     }
 
 -- The next slot.
-pub chooses : (k : KeptReplica) (s : Sight) (e : Proposed) (current : KeptOpenSlot) (rest : Facts) (n : ℕ) → Mirrors k s → length k.log < last_slot → n ≡ length k.log + 1 → ((t : Sight) → t.f ≡ k.f → t.me ≡ k.me → t.views ≡ view_bound → t.taken ≡ at_slot n k.later → Shows current t n 0) → rest ≡ above n k.later → Mirrors (record { f = k.f; me = k.me; log = k.log ++ e ∷ []; view = 0; wait = 0; current = current; later = rest }) (chose s e)
-chooses k s e current rest n p room next shows kept =
-    let now = open_slot s in
-    let is_next : n ≡ now + 1 = (let a = ap length p.log in omega arith) in
-    let is_open : n ≡ open_slot (chose s e) = simp length-append is_next in
-    let less : now < n = omega arith in
-    let here_only : at_slot n k.later ≡ at_slot n s.taken = ap (at_slot n) p.later ∙ at_above now n s.taken less in
-    let later_only : above n k.later ≡ above n s.taken = ap (above n) p.later ∙ above_above now n s.taken less in
-    let shown : Shows current (chose s e) n 0 = shows_all current (chose s e) n 0 s.taken (shows (of_facts (chose s e) (at_slot n s.taken)) (sym p.f) (sym p.me) p.views (sym here_only)) in
+pub chooses : (k : KeptReplica) (s : Sight) (e : Proposed) (current : KeptOpenSlot) (rest : List KeptOpenSlot) → Mirrors k s → length k.log < last_slot → Shows current s (open_slot s + 1) 0 → ShowLater rest s (open_slot s + 1 + 1) → Mirrors (record { f = k.f; me = k.me; log = k.log ++ e ∷ []; view = 0; wait = 0; current = current; later = rest }) (chose s e)
+chooses k s e current rest p room shows kept =
+    let n = open_slot s + 1 in
+    let is_open : n ≡ open_slot (chose s e) = simp length-append refl in
     record {
       f = p.f;
       me = p.me;
@@ -216,9 +209,8 @@ chooses k s e current rest n p room next shows kept =
       member = p.member;
       short = (let a = is_open in let b = ap length p.log in omega arith);
       small = omega arith;
-      shows = subst (λ j. Shows current (chose s e) j 0) is_open shown;
-      later = kept ∙ later_only ∙ ap (λ j. above j s.taken) is_open;
-      others = subst (λ j. AllTaken s.f s.me (above j s.taken)) is_open (subst (λ (xs : Facts). AllTaken s.f s.me xs) (above_above now n s.taken less) (all_above s.f s.me n (above now s.taken) p.others));
+      shows = subst (λ j. Shows current (chose s e) j 0) is_open (moved current s n 0 (s.log ++ e ∷ []) 0 0 shows);
+      later = subst (λ j. ShowLater rest (chose s e) (j + 1)) is_open (moved_later rest s (n + 1) (s.log ++ e ∷ []) 0 0 kept);
       within = λ j h. inl (elim (p.within j h) [ inl below ↦ (let a = is_open in omega arith) | inr same ↦ (let b = same.0 in let a = is_open in omega arith) ]);
     }
 
@@ -237,8 +229,7 @@ waits_more k s wait p more =
       short = p.short;
       small = p.small;
       shows = moved k.current s (open_slot s) s.view s.log s.view (s.wait + 1) p.shows;
-      later = p.later;
-      others = p.others;
+      later = moved_later k.later s (open_slot s + 1) s.log s.view (s.wait + 1) p.later;
       within = p.within;
     }
 
@@ -257,7 +248,6 @@ begins f me k few member same_f same_me log view wait later shows =
       short = omega arith;
       small = omega arith;
       shows = shows;
-      later = later;
-      others = tt;
+      later = subst (λ (xs : List KeptOpenSlot). ShowLater xs (at_first f me) 1) (sym later) tt;
       within = λ m h. absurd h;
     }

@@ -1,4 +1,4 @@
-pub mod Alike
+pub mod Later
 pub mod Replicas
 pub mod Stands
 pub mod laws

@@ -1,5 +1,5 @@
 -- What a member keeps of its shard's order, and when that mirrors what it sees.
-use Rattle.std.specs.Prelude.{◌≡◌, ℕ, ◌+◌, ◌*◌, ◌≤◌, ◌<◌, min, Bool, true, false, if◌then◌else◌, List, [], ◌∷◌, ◌++◌, length, reverse, Option, Some, None}
+use Rattle.std.specs.Prelude.{◌≡◌, ℕ, ◌+◌, ◌*◌, ◌≤◌, ◌<◌, min, Bool, true, false, if◌then◌else◌, List, [], ◌∷◌, ◌++◌, length, Option, Some, None}
 use Rattle.cs_log.specs.declared.replica.TheConstants.{LONGEST_WAIT}
 use Rattle.cs_order.specs.Limits.{last_slot, view_bound, rest_at}
 use Rattle.cs_order.specs.Lists.{IsIn}
@@ -9,12 +9,12 @@ use Rattle.cs_order.specs.declared.answers.Took.{Took}
 use Rattle.cs_order.specs.declared.answers.Took.TheVariants.{Taken, Old, Far, Leader, Repeat}
 use Rattle.cs_order_rules.specs.declared.message.OrderMessage.{OrderMessage}
 use Rattle.cs_order_rules.specs.declared.message.OrderMessage.TheVariants as message
-use Rattle.cs_order_rules.specs.Facts.{Facts, Sight, open_slot}
+use Rattle.cs_order_rules.specs.Facts.{Sight, open_slot}
 use Rattle.cs_order_rules.specs.Rules.{change_told, is_over, waits}
 use Rattle.cs_order_law.specs.Terms.{Within}
 use Rattle.cs_order_open.specs.Shows.{KeptOpenSlot, Shows, with_fact}
 use Rattle.cs_order_open.specs.Look.{look_of, left_by}
-use Rattle.cs_order_open.specs.Later.{above, AllTaken}
+use Rattle.cs_log.specs.Later.{ShowLater}
 use Rattle.cs_log.specs.declared.replica.Replica.{Replica}
 
 pub record KeptReplica : Type 0 where
@@ -24,7 +24,7 @@ pub record KeptReplica : Type 0 where
   pub view : ℕ
   pub wait : ℕ
   pub current : KeptOpenSlot  -- the open slot
-  pub later : Facts  -- what was taken of later slots, the newest first
+  pub later : List KeptOpenSlot  -- the slots above it, as far as something of them was taken
 
 abbrev pub kept : Replica → KeptReplica
 kept replica = record {
@@ -34,7 +34,7 @@ kept replica = record {
   view = replica.view;
   wait = replica.wait;
   current = replica.current;
-  later = reverse replica.later.items;
+  later = replica.later.items;
 }
 
 -- a wait counts no further: no view waits for more ticks
@@ -54,8 +54,7 @@ pub record Mirrors (k : KeptReplica) (s : Sight) : Type 0 where
   pub short : open_slot s ≤ last_slot
   pub small : s.view < view_bound
   pub shows : Shows k.current s (open_slot s) s.view
-  pub later : k.later ≡ above (open_slot s) s.taken
-  pub others : AllTaken s.f s.me (above (open_slot s) s.taken)
+  pub later : ShowLater k.later s (open_slot s + 1)
   pub within : (m : OrderMessage) → IsIn (s.me, m) s.taken → Within s m
 
 -- at first nothing was done

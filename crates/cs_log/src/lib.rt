@@ -2,9 +2,9 @@
 #![tactic(auto)]
 
 mod later;
-mod likeness;
 mod replica;
 mod saying;
 mod slot_order;
 
+pub use cs_order_rules::OrderMessage;
 pub use slot_order::SlotOrder;

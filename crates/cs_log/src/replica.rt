@@ -1,7 +1,9 @@
 //! What a member keeps of its shard's order.
-ghost use Rattle.std.specs.Prelude.{◌≡◌, ◌≢◌, ◌+◌, ◌*◌, ◌^◌, ◌≤◌, ◌<◌, ◌==◌, ◌&&◌, nat_lt, min, not, true, Some, None, IfOk, OnOk, length, slice_get, option_copied, ◌++◌, if◌then◌else◌};
+ghost use Rattle.std.specs.Prelude.{◌≡◌, ◌≢◌, ◌+◌, ◌*◌, ◌^◌, ◌≤◌, ◌<◌, ◌==◌, ◌&&◌, nat_lt, min, not, true, Some, None, IfOk, OnOk, OnErr, length, slice_get, option_copied, ◌++◌, if◌then◌else◌};
+ghost use Rattle.cs_base.specs.declared.limits.TheConstants.{SLOTS_AHEAD};
 ghost use Rattle.cs_order.specs.Limits.{last_slot, view_bound};
 ghost use Rattle.cs_order.specs.Calls.{Proposable};
+ghost use Rattle.cs_order.specs.Law.{IsPrefix};
 ghost use Rattle.cs_order_rules.specs.declared.message.OrderMessage.TheVariants as message;
 ghost use Rattle.cs_order_rules.specs.Slot.{to_confirm};
 ghost use Rattle.cs_order_rules.specs.Facts.{Sight, open_slot, slot_of, is_like, took};
@@ -10,14 +12,13 @@ ghost use Rattle.cs_order_open.specs.Shows.{led};
 ghost use Rattle.cs_order_open.specs.Look.{look_of, pending_by, may_by, resend_by};
 ghost use Rattle.cs_log.specs.Replicas.{kept, longest_wait, Mirrors, IsSeen, at_first, after_taking, if_fresh, said, entered, chose, after_step, after_echo, after_tick, RepliedWith};
 
-use crate::later::put_off;
+use crate::later::{extend, open_first, take_at};
 use crate::saying::{change_again, confirm_again, echo_again, hand_out, propose_again, say};
 use cs_base::{Memory, SLOTS_AHEAD, VIEW_BOUND};
 use cs_order::{May, Outgoing, Proposed, Step, Took};
-use cs_order_open::{OpenSlot, reopen, slot_of};
+use cs_order_open::{OpenSlot, slot_of};
 use cs_order_rules::OrderMessage;
 use std::alloc::{AllocError, Global};
-use std::mem;
 
 /// A wait counts no further: no view waits for more ticks.
 const LONGEST_WAIT: u16 = 8192;
@@ -32,8 +33,8 @@ pub struct Replica {
     /// The ticks since the view was entered at which there was something to wait for.
     wait: u16,
     current: OpenSlot,
-    /// What was taken of later slots, the oldest first.
-    later: Vec<(u16, OrderMessage)>,
+    /// The slots above it, as far as messages of them were taken.
+    later: Vec<OpenSlot>,
 }
 
 impl Replica {
@@ -91,7 +92,7 @@ impl Replica {
     }
 
     /// Takes a message of another member.
-    pub fn take(&mut self, from: u16, message: OrderMessage) -> Result<Took, Memory>
+    pub fn take(&mut self, alloc: Global, from: u16, message: OrderMessage) -> Result<Took, Memory>
         requires seen { IsSeen (kept self.old) }
         requires member { from ≤ 3 * self.old.f }
         requires other { from ≢ self.old.me }
@@ -110,7 +111,7 @@ impl Replica {
         if !self.is_led(from, &message) {
             return Ok(Took::Leader);
         }
-        let fresh = self.take_led(from, message)?;
+        let fresh = self.take_led(alloc, from, message)?;
         Ok(if fresh { Took::Taken } else { Took::Repeat })
     }
 
@@ -133,22 +134,26 @@ impl Replica {
     }
 
     /// Takes a message of the open slot or a later one. It is false exactly for a repeat.
-    fn take_led(&mut self, from: u16, message: OrderMessage) -> Result<bool, Memory>
+    fn take_led(&mut self, alloc: Global, from: u16, message: OrderMessage) -> Result<bool, Memory>
         requires seen { IsSeen (kept self.old) }
         requires member { from ≤ 3 * self.old.f }
         requires other { from ≢ self.old.me }
         requires slot { length self.old.log.items ≤ slot_of message }
+        requires near { slot_of message ≤ length self.old.log.items + SLOTS_AHEAD }
         requires led { led self.old.f from message ≡ true }
         ensures { (s : Sight) → Mirrors (kept self.old) s →
             IfOk result (λ fresh. (fresh ≡ not (took (is_like message) s.taken from))
             × Mirrors (kept self.new) (if_fresh fresh s from message)) }
     {
-        if slot_of(&message) > self.open_slot() {
-            let fresh = put_off(&mut self.later, from, message)?;
+        let slot = slot_of(&message);
+        let open = self.open_slot();
+        if slot == open {
+            let fresh = self.current.take(from, message)?;
             return Ok(fresh);
         }
-        let fresh = self.current.take(from, message)?;
-        Ok(fresh)
+        let place = (slot - open - 1) as usize;
+        extend(alloc, &mut self.later, self.f, self.me, open + 1, place + 1)?;
+        take_at(&mut self.later, place, from, message)
     }
 
     /// Chooses an entry, enters a view or confirms, whichever applies first.
@@ -190,10 +195,9 @@ impl Replica {
         if let Err(refused) = self.log.push(entry) {
             return Err(AllocError::from(refused).into());
         }
-        let later = mem::replace(&mut self.later, Vec::new(alloc));
-        let (current, rest) = reopen(alloc, self.f, self.open_slot(), self.me, later)?;
+        let open = self.open_slot();
+        let current = open_first(alloc, &mut self.later, self.f, open, self.me)?;
         self.current = current;
-        self.later = rest;
         self.view = 0;
         self.wait = 0;
         Ok(())
@@ -308,8 +312,9 @@ impl Replica {
     /// Says the own messages of the open slot and the view again.
     pub fn resend(&self, alloc: Global, out: &mut Vec<Outgoing<OrderMessage>>) -> Result<(), Memory>
         requires { IsSeen (kept self.now) }
-        ensures { OnOk result (
+        ensures said { OnOk result (
             out.new.items ≡ out.old.items ++ resend_by (look_of self.now.current)) }
+        ensures begins { OnErr result (IsPrefix out.old.items out.new.items) }
     {
         let slot = self.open_slot();
         let current = &self.current;
@@ -361,9 +366,10 @@ impl Replica {
         to: u16,
         out: &mut Vec<Outgoing<OrderMessage>>,
     ) -> Result<bool, Memory>
-        ensures { IfOk result (λ answer.
+        ensures said { IfOk result (λ answer.
             RepliedWith (reply_with slot to (slice_get self.now.log.items slot)) answer
             out.old.items out.new.items) }
+        ensures same { OnErr result (out.new.items ≡ out.old.items) }
     {
         let Some(entry) = self.entry(slot) else {
             return Ok(false);

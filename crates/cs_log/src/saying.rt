@@ -1,5 +1,5 @@
 //! What a member hands out.
-ghost use Rattle.std.specs.Prelude.{◌≡◌, ◌++◌, ◌∷◌, [], IfOk, OnOk, Some, option_copied, Option};
+ghost use Rattle.std.specs.Prelude.{◌≡◌, ◌++◌, ◌∷◌, [], IfOk, OnOk, OnErr, Some, option_copied, Option};
 ghost use Rattle.cs_order_rules.specs.Rules.{to_all, again};
 ghost use Rattle.cs_order_rules.specs.declared.message.OrderMessage.TheVariants as message;
 
@@ -10,7 +10,8 @@ use std::alloc::{AllocError, Global};
 
 /// Hands a message out for all others.
 pub fn say(out: &mut Vec<Outgoing<OrderMessage>>, message: OrderMessage) -> Result<(), Memory>
-    ensures { OnOk result (out.new.items ≡ out.old.items ++ to_all message) }
+    ensures said { OnOk result (out.new.items ≡ out.old.items ++ to_all message) }
+    ensures same { OnErr result (out.new.items ≡ out.old.items) }
 {
     hand_out(out, None, message)
 }
@@ -21,8 +22,9 @@ pub fn hand_out(
     to: Option<u16>,
     message: OrderMessage,
 ) -> Result<(), Memory>
-    ensures { OnOk result (
+    ensures said { OnOk result (
         out.new.items ≡ out.old.items ++ record { to = to; message = message } ∷ []) }
+    ensures same { OnErr result (out.new.items ≡ out.old.items) }
 {
     if let Err(refused) = out.push(Outgoing { to, message }) {
         return Err(AllocError::from(refused).into());
@@ -38,8 +40,9 @@ pub fn propose_again(
     view: u16,
     own: Option<&Proposed>,
 ) -> Result<(), Memory>
-    ensures { OnOk result (out.new.items
+    ensures said { OnOk result (out.new.items
         ≡ out.old.items ++ again (message.Propose slot view) (option_copied own.entry)) }
+    ensures same { OnErr result (out.new.items ≡ out.old.items) }
 {
     let Some(entry) = own else {
         return Ok(());
@@ -55,7 +58,9 @@ pub fn echo_again(
     view: u16,
     own: Option<[u8; 32]>,
 ) -> Result<(), Memory>
-    ensures { OnOk result (out.new.items ≡ out.old.items ++ again (message.Echo slot view) own) }
+    ensures said { OnOk result (out.new.items
+        ≡ out.old.items ++ again (message.Echo slot view) own) }
+    ensures same { OnErr result (out.new.items ≡ out.old.items) }
 {
     let Some(digest) = own else {
         return Ok(());
@@ -70,8 +75,9 @@ pub fn confirm_again(
     view: u16,
     own: Option<[u8; 32]>,
 ) -> Result<(), Memory>
-    ensures { OnOk result (out.new.items
+    ensures said { OnOk result (out.new.items
         ≡ out.old.items ++ again (message.Confirm slot view) own) }
+    ensures same { OnErr result (out.new.items ≡ out.old.items) }
 {
     let Some(digest) = own else {
         return Ok(());
@@ -87,8 +93,9 @@ pub fn change_again(
     view: u16,
     own: Option<&Change>,
 ) -> Result<(), Memory>
-    ensures { OnOk result (out.new.items
+    ensures said { OnOk result (out.new.items
         ≡ out.old.items ++ again (message.Change slot view) (option_copied own.entry)) }
+    ensures same { OnErr result (out.new.items ≡ out.old.items) }
 {
     let Some(change) = own else {
         return Ok(());

@@ -1,7 +1,8 @@
 //! The order of a member among 3f+1.
 ghost use Rattle.std.specs.Prelude.{◌≡◌, ◌*◌, ◌≤◌, IfOk};
-ghost use Rattle.cs_order_rules.specs.SlotMachine.{slot_machine};
+ghost use Rattle.cs_order_rules.specs.SlotMachine.{slot_machine, slot_rest};
 ghost use Rattle.cs_order_law.specs.laws.SlotLaw.{slot_law, slot_undisturbed};
+ghost use Rattle.cs_order_law.specs.laws.Starting.{slot_comes_to_rest};
 ghost use Rattle.cs_order_law.specs.laws.Held.{slot_holds};
 ghost use Rattle.cs_log.specs.Stands.{ReplicaStands, ReplicaStarts, f_of, me_of, awaited, allowed, rest_left};
 ghost use Rattle.cs_log.specs.laws.Standing.{replica_begins, replica_belongs, rest_bounded};
@@ -67,9 +68,13 @@ impl Order for SlotOrder {
 
     ghost rest = { λ s. rest_left s };
 
+    ghost left = { slot_rest };
+
     ghost law = { slot_law };
 
     ghost undisturbed = { slot_undisturbed };
+
+    ghost comes_to_rest = { slot_comes_to_rest };
 
     ghost holds = { slot_holds };
 
@@ -93,7 +98,7 @@ impl Order for SlotOrder {
         }
     }
 
-    fn take(&mut self, _alloc: Global, from: u16, message: OrderMessage) -> Result<Took, Memory> {
+    fn take(&mut self, alloc: Global, from: u16, message: OrderMessage) -> Result<Took, Memory> {
         let Some(mut replica) = self.replica.take() else {
             return Err(Memory);
         };
@@ -101,7 +106,7 @@ impl Order for SlotOrder {
             self.replica = Some(replica);
             return Ok(Took::Leader);
         }
-        let took = replica.take(from, message)?;
+        let took = replica.take(alloc, from, message)?;
         self.replica = Some(replica);
         Ok(took)
     }

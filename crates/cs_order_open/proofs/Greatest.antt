@@ -1,46 +1,52 @@
--- The greatest number that passes a test, as a loop finds it.
-use Rattle.std.proofs.Common.{◌≡◌, ℕ, zero, suc, ◌+◌, ◌*◌, ◌≤◌, ◌<◌, nat_lt, nat_le, add-one, Bool, true, false, ◌&&◌, if◌then◌else◌, Option, Some, None, inl, inr, refl, sym, ap, ◌∙◌, arith}
-use Rattle.std.proofs.lemmas.Bool.Decides.{eqb_tells, nat_tests}
-use Rattle.std.specs.Option.{option_or}
-use Rattle.cs_order.specs.Counts.{count_below, last_below}
-use Rattle.cs_order_open.specs.Look.{Look, is_reached}
+-- The greatest number above another that passes a test.
+use Rattle.std.proofs.Common.{◌≡◌, ℕ, zero, suc, ◌+◌, ◌≤◌, ◌<◌, nat_lt, Bool, true, false, ◌&&◌, if◌then◌else◌, Option, Some, None, refl, sym, ap, ◌∙◌, lt-ltb, le-ltb, arith}
+use Rattle.std.proofs.lemmas.Bool.Decides.{nat_tests}
+use Rattle.cs_order.specs.Counts.{last_below}
+use Rattle.cs_order.specs.Limits.{view_bound}
+use Rattle.cs_change.specs.Kept.{is_joined}
+use Rattle.cs_order_open.specs.Shows.{KeptOpenSlot}
+use Rattle.cs_order_open.specs.Look.{look_of, entering_by}
 
-pub below_none : (test : ℕ → Bool) → None ≡ last_below 0 test
+-- the number, if it is above
+abbrev pub if_above : ℕ → Option ℕ → Option ℕ
+if_above least None = None
+if_above least (Some n) = if nat_lt least n then Some n else None
+
+-- there is none above, where the search goes no further than that
+none_above : (n least : ℕ) (test : ℕ → Bool) → n ≤ least + 1 → last_below n (λ v. nat_lt least v && test v) ≡ None
 unfolding last_below
-below_none test = refl
+none_above zero least test few = refl
+none_above (suc n) least test few = rw (not_above, none_above n least test (omega arith)) refl
+  where
+    not_above : nat_lt least n ≡ false
+    not_above = grind (arith, nat_tests)
 
-last_next : (n : ℕ) (test : ℕ → Bool) → last_below (n + 1) test ≡ (if test n then Some n else last_below n test)
+upto : (k m : ℕ) → nat_lt k m ≡ false → m ≤ k + 1
+upto k m fails = grind (arith, nat_tests)
+
+pub last_above : (n least : ℕ) (test : ℕ → Bool) → last_below n (λ v. nat_lt least v && test v) ≡ if_above least (last_below n test)
 unfolding last_below
-last_next n test = rw add-one refl
+last_above zero least test = refl
+last_above (suc n) least test = by (nat_lt least n) (test n) refl refl (last_above n least test)
+  where
+    by : (above passes : Bool) → nat_lt least n ≡ above → test n ≡ passes → last_below n (λ v. nat_lt least v && test v) ≡ if_above least (last_below n test) → (if above && passes then Some n else last_below n (λ v. nat_lt least v && test v)) ≡ if_above least (if passes then Some n else last_below n test)
+    by true true above passes rest = rw above refl
+    by true false above passes rest = rest
+    by false true above passes rest = none_above n least test (upto least n above) ∙ rw above refl
+    by false false above passes rest = rest
 
-or_if : (b : Bool) (n : ℕ) (last : Option ℕ) → option_or (if b then Some n else None) last ≡ (if b then Some n else last)
-or_if true n last = refl
-or_if false n last = refl
+-- The view that is entered is the greatest that f+1 members have reached, where that is later.
+abbrev last_of : KeptOpenSlot → Option ℕ
+last_of k = last_below view_bound (is_joined k.changes.f k.changes.furthest)
 
-pub below_more : (n : ℕ) (test : ℕ → Bool) (last here now : Option ℕ) → last ≡ last_below n test → here ≡ (if test n then Some n else None) → now ≡ option_or here last → now ≡ last_below (n + 1) test
-below_more n test last here now before is or = or ∙ ap (λ o. option_or o last) is ∙ or_if (test n) n last ∙ ap (λ o. if test n then Some n else o) before ∙ sym (last_next n test)
+entering_is : (k : KeptOpenSlot) → entering_by (look_of k) ≡ if_above k.slot.view (last_of k)
+entering_is k = last_above view_bound k.slot.view (is_joined k.changes.f k.changes.furthest)
 
--- where none passes from here on, the search may end
-pub below_ends : (all n : ℕ) (test : ℕ → Bool) → n ≤ all → ((k : ℕ) → n ≤ k → k < all → test k ≡ false) → last_below all test ≡ last_below n test
-unfolding last_below
-below_ends zero n test few none = let e : n ≡ 0 = omega arith in rw e refl
-below_ends (suc all) n test few none =
-    elim (eqb_tells n (suc all)) [
-      | inl same ↦ rw same.1 refl
-      | inr other ↦
-          let less : n ≤ all = (let e = other.1 in omega arith) in
-          rw (none all less (omega arith)) (below_ends all n test less (λ k a b. none k a (omega arith)))
-    ]
+pub entered : (k : KeptOpenSlot) (view : ℕ) → Some view ≡ last_below view_bound (is_joined k.changes.f k.changes.furthest) → k.slot.view < view → Some view ≡ entering_by (look_of k)
+entered k view last above = sym (entering_is k ∙ ap (if_above k.slot.view) (sym last) ∙ rw (lt-ltb k.slot.view view above) refl)
 
--- a view that no member has reached isn't entered
-none_counted : (n : ℕ) (test : ℕ → Bool) → ((m : ℕ) → test m ≡ false) → count_below n test ≡ 0
-unfolding count_below
-none_counted zero test none = refl
-none_counted (suc n) test none = rw (none n, none_counted n test none) refl
+pub stays : (k : KeptOpenSlot) (view : ℕ) → Some view ≡ last_below view_bound (is_joined k.changes.f k.changes.furthest) → view ≤ k.slot.view → None ≡ entering_by (look_of k)
+stays k view last upto = sym (entering_is k ∙ ap (if_above k.slot.view) (sym last) ∙ rw (le-ltb k.slot.view view upto) refl)
 
-never_below : (a : Bool) (n : ℕ) → (a && nat_le (n + 1) 0) ≡ false
-never_below true n = grind (arith, nat_tests)
-never_below false n = refl
-
-pub not_reached : (x : Look) (view : ℕ) → ((member : ℕ) → x.reached view member ≡ false) → is_reached x view ≡ false
-not_reached x view none = rw (none_counted (3 * x.f + 1) (x.reached view) none) (never_below (nat_lt x.seen.view view) x.f)
+pub none_reached : (k : KeptOpenSlot) → None ≡ last_below view_bound (is_joined k.changes.f k.changes.furthest) → None ≡ entering_by (look_of k)
+none_reached k none = sym (entering_is k ∙ ap (if_above k.slot.view) (sym none))

@@ -16,7 +16,7 @@ use Rattle.cs_order_open.specs.Shows.{KeptOpenSlot, Shows, ShowsNext, TakesFirst
 use Rattle.cs_order_open.specs.laws.Seeing.{took_is_found, like_proposal, like_echo, like_confirm, like_change, like_done, shows_proposal, shows_echo, shows_confirm, shows_change, shows_done}
 
 -- nothing changed
-still : (k new : KeptOpenSlot) (s : Sight) (n view : ℕ) → Shows k s n view → seen_in new.slot ≡ seen_in k.slot → told_in new.changes.changes ≡ told_in k.changes.changes → ((v m : ℕ) → reaches new.changes.changes v m ≡ reaches k.changes.changes v m) → new.changes.f ≡ k.changes.f → new.echoed ≡ k.echoed → Shows new s n view
+still : (k new : KeptOpenSlot) (s : Sight) (n view : ℕ) → Shows k s n view → seen_in new.slot ≡ seen_in k.slot → told_in new.changes.changes ≡ told_in k.changes.changes → ((v m : ℕ) → reaches new.changes.furthest v m ≡ reaches k.changes.furthest v m) → new.changes.f ≡ k.changes.f → new.echoed ≡ k.echoed → Shows new s n view
 still k new s n view shows slot told reached f echoed =
     record {
       seen = slot ∙ shows.seen;
@@ -114,7 +114,7 @@ takes_done k new s n view from slot e m fresh it slot_is shows is now changes ec
     let same : slot ≡ n = rw it at slot_is ∙ n_is in
     rw (it, same) (new_done k new s n view from e fresh shows is now changes echoed)
 
-pub new_change : (k new : KeptOpenSlot) (s : Sight) (n view from w : ℕ) (c : Change) (fresh : Bool) → Shows k s n view → fresh ≡ not (is_some (told_in k.changes.changes w from)) → new.slot ≡ k.slot → told_in new.changes.changes ≡ with_told fresh (told_in k.changes.changes) w from c → ((v member : ℕ) → reaches new.changes.changes v member ≡ ((fresh && ((from == member) && nat_le v w)) || reaches k.changes.changes v member)) → new.changes.f ≡ k.changes.f → new.echoed ≡ k.echoed → TakesFirst fresh new s n view from (message.Change n w c)
+pub new_change : (k new : KeptOpenSlot) (s : Sight) (n view from w : ℕ) (c : Change) (fresh : Bool) → Shows k s n view → fresh ≡ not (is_some (told_in k.changes.changes w from)) → new.slot ≡ k.slot → told_in new.changes.changes ≡ with_told fresh (told_in k.changes.changes) w from c → ((v member : ℕ) → reaches new.changes.furthest v member ≡ ((fresh && ((from == member) && nat_le v w)) || reaches k.changes.furthest v member)) → new.changes.f ≡ k.changes.f → new.echoed ≡ k.echoed → TakesFirst fresh new s n view from (message.Change n w c)
 new_change k new s n view from w c fresh shows is slot told reached f echoed = (answer, by_fresh fresh is told reached)
   where
     answer : fresh ≡ not (took (is_like (message.Change n w c)) s.taken from)
@@ -122,11 +122,11 @@ new_change k new s n view from w c fresh shows is slot told reached f echoed = (
         is ∙ ap (λ (o : Option Change). not (is_some o)) (shows.told w from)
         ∙ ap not (sym (took_is_found (is_like (message.Change n w c)) (change_said n w) (like_change n w c) s.taken from))
 
-    by_fresh : (b : Bool) → b ≡ not (is_some (told_in k.changes.changes w from)) → told_in new.changes.changes ≡ with_told b (told_in k.changes.changes) w from c → ((v member : ℕ) → reaches new.changes.changes v member ≡ ((b && ((from == member) && nat_le v w)) || reaches k.changes.changes v member)) → ShowsNext b new s n view from (message.Change n w c)
+    by_fresh : (b : Bool) → b ≡ not (is_some (told_in k.changes.changes w from)) → told_in new.changes.changes ≡ with_told b (told_in k.changes.changes) w from c → ((v member : ℕ) → reaches new.changes.furthest v member ≡ ((b && ((from == member) && nat_le v w)) || reaches k.changes.furthest v member)) → ShowsNext b new s n view from (message.Change n w c)
     by_fresh true first now also = shows_change k new s n view from w c shows first slot now also f echoed
     by_fresh false first now also = still k new s n view shows (ap seen_in slot) now also f echoed
 
-pub takes_change : (k new : KeptOpenSlot) (s : Sight) (n view from slot w : ℕ) (c : Change) (m : OrderMessage) (fresh : Bool) → m ≡ message.Change slot w c → slot_of m ≡ k.slot.n → Shows k s n view → fresh ≡ not (is_some (told_in k.changes.changes w from)) → new.slot ≡ k.slot → told_in new.changes.changes ≡ with_told fresh (told_in k.changes.changes) w from c → ((v member : ℕ) → reaches new.changes.changes v member ≡ ((fresh && ((from == member) && nat_le v w)) || reaches k.changes.changes v member)) → new.changes.f ≡ k.changes.f → new.echoed ≡ k.echoed → TakesFirst fresh new s n view from m
+pub takes_change : (k new : KeptOpenSlot) (s : Sight) (n view from slot w : ℕ) (c : Change) (m : OrderMessage) (fresh : Bool) → m ≡ message.Change slot w c → slot_of m ≡ k.slot.n → Shows k s n view → fresh ≡ not (is_some (told_in k.changes.changes w from)) → new.slot ≡ k.slot → told_in new.changes.changes ≡ with_told fresh (told_in k.changes.changes) w from c → ((v member : ℕ) → reaches new.changes.furthest v member ≡ ((fresh && ((from == member) && nat_le v w)) || reaches k.changes.furthest v member)) → new.changes.f ≡ k.changes.f → new.echoed ≡ k.echoed → TakesFirst fresh new s n view from m
 takes_change k new s n view from slot w c m fresh it slot_is shows is same_slot told reached f echoed =
     let n_is : k.slot.n ≡ n = ap (λ (x : Seen). x.n) shows.seen in
     let same : slot ≡ n = rw it at slot_is ∙ n_is in

@@ -31,7 +31,7 @@ look_of k = record {
   seen = seen_in k.slot;
   f = k.changes.f;
   told = told_in k.changes.changes;
-  reached = reaches k.changes.changes;
+  reached = reaches k.changes.furthest;
   echoed = k.echoed;
 }
 

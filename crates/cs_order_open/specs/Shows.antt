@@ -16,7 +16,7 @@ pub record Shows (k : KeptOpenSlot) (s : Sight) (n view : ℕ) : Type 0 where
   pub seen : seen_in k.slot ≡ seen_at s n view
   pub same_f : k.changes.f ≡ s.f
   pub told : (v member : ℕ) → told_in k.changes.changes v member ≡ first_of (change_said n v) s.taken member
-  pub reached : (v member : ℕ) → reaches k.changes.changes v member ≡ took (is_change_from n v) s.taken member
+  pub reached : (v member : ℕ) → reaches k.changes.furthest v member ≡ took (is_change_from n v) s.taken member
   pub echoed : k.echoed ≡ echoed_in s.me n s.taken
   -- only the leader of a view proposes in it
   pub led_only : (v member : ℕ) → (member == (n + v) % members s) ≡ false

@@ -1,11 +1,11 @@
 //! The open slot.
-ghost use Rattle.std.specs.Prelude.{◌≡◌, ◌≢◌, ℕ, ◌+◌, ◌*◌, ◌%◌, ◌≤◌, ◌<◌, ◌^◌, nat_lt, true, [], Some, None, if◌then◌else◌, length, IfOk, option_copied};
+ghost use Rattle.std.specs.Prelude.{◌≡◌, ◌≢◌, ℕ, ◌+◌, ◌*◌, ◌%◌, ◌≤◌, ◌<◌, ◌^◌, nat_lt, true, [], Some, None, length, IfOk, option_copied};
 ghost use Rattle.cs_order.specs.Limits.{view_bound};
 ghost use Rattle.cs_order_rules.specs.declared.message.OrderMessage.TheVariants as message;
 ghost use Rattle.cs_order_rules.specs.Slot.{chosen, to_confirm};
 ghost use Rattle.cs_order_rules.specs.Rules.{pairs_below};
 ghost use Rattle.cs_change.specs.Kept.{told_in};
-ghost use Rattle.cs_order_open.specs.Look.{look_of, is_reached, entering_by, change_by, has_place_by, may_echo_by, pending_by, leads_by, own_proposal, own_echo, own_confirm, own_change, candidate_by, candidates_by, may_by};
+ghost use Rattle.cs_order_open.specs.Look.{look_of, entering_by, change_by, has_place_by, may_echo_by, pending_by, leads_by, own_proposal, own_echo, own_confirm, own_change, candidate_by, candidates_by, may_by};
 ghost use Rattle.cs_order_rules.specs.Facts.{Sight, slot_of};
 ghost use Rattle.cs_slot.specs.Kept.{seen_in};
 ghost use Rattle.cs_order_open.specs.Shows.{Shows, TakesFirst, IsOf, led};
@@ -175,28 +175,10 @@ impl OpenSlot {
     pub fn entering(&self) -> Option<u16>
         ensures { result ≡ entering_by (look_of self.now) }
     {
-        let mut last = None;
-        for view in 0..self.changes.end() {
-            last = self.view_if_reached(view).or(last);
+        match self.changes.last_reached() {
+            Some(view) if view > self.slot.view() => Some(view),
+            _ => None,
         }
-        last
-    }
-
-    fn view_if_reached(&self, view: u16) -> Option<u16>
-        ensures { result ≡ (if is_reached (look_of self.now) view then Some view else None) }
-    {
-        if self.is_reached(view) {
-            Some(view)
-        } else {
-            None
-        }
-    }
-
-    /// It is a later view, and f+1 members have reached it.
-    fn is_reached(&self, view: u16) -> bool
-        ensures { result ≡ is_reached (look_of self.now) view }
-    {
-        view > self.slot.view() && self.changes.count_reached(view) > self.changes.f()
     }
 
     /// The digest to confirm.

@@ -1,28 +1,53 @@
--- What a list shows with one more vote or entry at its end.
-use Rattle.std.proofs.Common.{◌≡◌, ℕ, ◌==◌, Bool, true, false, List, [], ◌∷◌, ◌++◌, Option, Some, if◌then◌else◌, refl, ap, ◌∙◌}
+-- What is shown after one more vote or entry was put into a map.
+use Rattle.std.proofs.Common.{◌≡◌, ℕ, ◌==◌, Bool, true, false, cond, ◌&&◌, List, Option, Some, None, is_some, if◌then◌else◌, refl, sym, ap, ◌∙◌, eqb-true}
 use Rattle.std.proofs.Math.Path.{fun_ext}
+use Rattle.std.specs.Map.{lookup}
+use Rattle.std.specs.BTreeMap.{is_at}
+use Rattle.std.specs.Ordering.{nat_cmp}
+use Rattle.std.specs.Cmp.{unsigned_ties}
 use Rattle.cs_order.specs.declared.proposed.Proposed.{Proposed}
 use Rattle.cs_order.specs.Counts.{when}
 use Rattle.cs_base.specs.Options.{or_else}
-use Rattle.cs_slot.specs.declared.votes.Vote.{Vote}
-use Rattle.cs_slot.specs.Kept.{is_at, vote_in, with_vote, entry_in, with_entry}
+use Rattle.cs_slot.specs.Kept.{Row, Rows, said_in, said_if, vote_in, with_vote, entry_in, with_entry}
 
-or_else_first : {A : Type 0} (b : Bool) (x : A) (o p q : Option A) → q ≡ or_else o p → (if b then Some x else q) ≡ or_else (if b then Some x else o) p
-or_else_first true x o p q e = refl
-or_else_first false x o p q e = e
+pub or_none : {A : Type 0} (o : Option A) → or_else o None ≡ o
+or_none None = refl
+or_none (Some x) = refl
 
-vote_at : (votes : List Vote) (vote : Vote) (v m : ℕ) → vote_in (votes ++ vote ∷ []) v m ≡ or_else (vote_in votes v m) (when (is_at v m vote) (Some vote.digest))
-vote_at [] vote v m = refl
-vote_at (first ∷ votes) vote v m = or_else_first (is_at v m first) first.digest (vote_in votes v m) (when (is_at v m vote) (Some vote.digest)) (vote_in (votes ++ vote ∷ []) v m) (vote_at votes vote v m)
+pub none_if : {A : Type 0} (o : Option A) → is_some o ≡ false → o ≡ None
+none_if None h = refl
+none_if (Some x) h = absurd (let no = h in cc)
 
--- a vote at the end of the list is one more
-pub vote_added : (votes new : List Vote) (view member : ℕ) (digest : List ℕ) → new ≡ votes ++ record { view = view; member = member; digest = digest } ∷ [] → vote_in new ≡ with_vote true (vote_in votes) view member digest
-vote_added votes new view member digest e =
-    ap vote_in e ∙ fun_ext (λ v. fun_ext (λ m. vote_at votes (record { view = view; member = member; digest = digest }) v m))
+-- the map has x under the key, and is else as it was
+abbrev pub UpdatedAt : {X : Type 0} → ℕ → X → List (ℕ × X) → List (ℕ × X) → Type 0
+UpdatedAt key x old new =
+    (k : ℕ) → lookup (is_at (nat_cmp k)) new ≡ cond (is_at (nat_cmp key) k) (Some x) (lookup (is_at (nat_cmp k)) old)
 
-entry_at : (entries : List (ℕ × Proposed)) (last : ℕ × Proposed) (k : ℕ) → entry_in (entries ++ last ∷ []) k ≡ or_else (entry_in entries k) (when (last.0 == k) (Some last.1))
-entry_at [] last k = refl
-entry_at (first ∷ entries) last k = or_else_first (first.0 == k) first.1 (entry_in entries k) (when (last.0 == k) (Some last.1)) (entry_in (entries ++ last ∷ []) k) (entry_at entries last k)
+same_number : (a b : ℕ) → is_at (nat_cmp a) b ≡ (a == b)
+same_number a b = sym (unsigned_ties a b)
 
-pub entry_added : (entries new : List (ℕ × Proposed)) (key : ℕ) (entry : Proposed) → new ≡ entries ++ (key, entry) ∷ [] → entry_in new ≡ with_entry true (entry_in entries) key entry
-entry_added entries new key entry e = ap entry_in e ∙ fun_ext (λ k. entry_at entries (key, entry) k)
+-- what is put where there was nothing
+put : {A : Type 0} (b : Bool) (o : Option A) (x : A) → (b ≡ true → o ≡ None) → cond b (Some x) o ≡ or_else o (when b (Some x))
+put true o x none = rw (none refl) refl
+put false o x none = sym (or_none o)
+
+pub entry_added : (entries new : List (ℕ × Proposed)) (key : ℕ) (entry : Proposed) → entry_in entries key ≡ None → UpdatedAt key entry entries new → entry_in new ≡ with_entry true (entry_in entries) key entry
+entry_added entries new key entry none updated =
+    fun_ext (λ k.
+    updated k
+    ∙ ap (λ b. cond b (Some entry) (entry_in entries k)) (same_number key k)
+    ∙ put (key == k) (entry_in entries k) entry (λ same. ap (entry_in entries) (sym (eqb-true key k same)) ∙ none))
+
+pub vote_added : (rows new : Rows) (row : Row) (view member : ℕ) (digest : List ℕ) → vote_in rows view member ≡ None → ((m : ℕ) → said_in row m ≡ (if member == m then Some digest else vote_in rows view m)) → UpdatedAt view row rows new → vote_in new ≡ with_vote true (vote_in rows) view member digest
+vote_added rows new row view member digest none is updated =
+    fun_ext (λ v. fun_ext (λ m.
+    ap (λ o. said_if o m) (updated v)
+    ∙ ap (λ b. said_if (cond b (Some row) (lookup (is_at (nat_cmp v)) rows)) m) (same_number view v)
+    ∙ either (view == v) v m refl))
+  where
+    either : (b : Bool) (v m : ℕ) → (view == v) ≡ b → said_if (cond b (Some row) (lookup (is_at (nat_cmp v)) rows)) m ≡ or_else (vote_in rows v m) (when (b && (member == m)) (Some digest))
+    either true v m same =
+        is m
+        ∙ put (member == m) (vote_in rows view m) digest (λ mine. ap (vote_in rows view) (sym (eqb-true member m mine)) ∙ none)
+        ∙ ap (λ w. or_else (vote_in rows w m) (when (member == m) (Some digest))) (eqb-true view v same)
+    either false v m same = sym (or_none (vote_in rows v m))

@@ -1,12 +1,12 @@
--- The view from which on nothing is kept, after one more proposal or confirm.
-use Rattle.std.proofs.Common.{◌≡◌, ℕ, zero, suc, ◌+◌, ◌*◌, ◌==◌, ◌≤◌, ◌<◌, Bool, true, false, List, Option, None, inl, inr, refl, ap, ◌∙◌, arith}
+-- The view from which on nothing counts, after one more confirm.
+use Rattle.std.proofs.Common.{◌≡◌, ℕ, zero, suc, ◌+◌, ◌*◌, ◌==◌, ◌≤◌, ◌<◌, Bool, true, false, ◌&&◌, List, [], Option, None, inl, inr, refl, sym, ap, ◌∙◌, subst, arith}
+use Rattle.std.proofs.Math.Path.{fun_ext}
 use Rattle.std.proofs.lemmas.Bool.Decides.{eqb_tells}
-use Rattle.cs_order.specs.declared.proposed.Proposed.{Proposed}
-use Rattle.cs_order.specs.Counts.{first_below}
 use Rattle.cs_order.specs.Limits.{view_bound}
-use Rattle.cs_order_rules.specs.Slot.{Seen, if_enough, quorum, entry_of}
-use Rattle.cs_slot.specs.declared.votes.Vote.{Vote}
-use Rattle.cs_slot.specs.Kept.{vote_in, with_vote, entry_in, with_entry, NothingFrom}
+use Rattle.cs_order.specs.Counts.{first_below}
+use Rattle.cs_order_rules.specs.Slot.{if_enough, quorum}
+use Rattle.cs_slot.specs.Kept.{Rows, vote_in, with_vote, NothingFrom}
+use Rattle.cs_slot.proofs.Adding.{or_none}
 
 -- a view from the new end on is another one
 another : (view now v : ℕ) → (view < view_bound → view < now) → now ≤ v → v < view_bound → (view == v) ≡ false
@@ -16,29 +16,46 @@ another view now v above late few =
       | inr other ↦ other.0
     ]
 
-entry_none : (fresh : Bool) (said : ℕ → Option Proposed) (key : ℕ) (entry : Proposed) (k : ℕ) → said k ≡ None → (key == k) ≡ false → with_entry fresh said key entry k ≡ None
-entry_none true said key entry k none other = rw (none, other) refl
-entry_none false said key entry k none other = none
+same_vote : (fresh : Bool) (said : ℕ → ℕ → Option (List ℕ)) (view member : ℕ) (digest : List ℕ) (v m : ℕ) → (view == v) ≡ false → with_vote fresh said view member digest v m ≡ said v m
+same_vote true said view member digest v m other = rw other (or_none (said v m))
+same_vote false said view member digest v m other = refl
 
-vote_none : (fresh : Bool) (said : ℕ → ℕ → Option (List ℕ)) (view member : ℕ) (digest : List ℕ) (v m : ℕ) → said v m ≡ None → (view == v) ≡ false → with_vote fresh said view member digest v m ≡ None
-vote_none true said view member digest v m none other = rw (none, other) refl
-vote_none false said view member digest v m none other = none
+same_view : (confirms new : Rows) (fresh : Bool) (view member : ℕ) (digest : List ℕ) (v : ℕ) → vote_in new ≡ with_vote fresh (vote_in confirms) view member digest → (view == v) ≡ false → vote_in new v ≡ vote_in confirms v
+same_view confirms new fresh view member digest v e other =
+    ap (λ (found : ℕ → ℕ → Option (List ℕ)). found v) e ∙ fun_ext (λ m. same_vote fresh (vote_in confirms) view member digest v m other)
 
-pub proposed_end : (end now : ℕ) (proposals new : List (ℕ × Proposed)) (confirms : List Vote) (fresh : Bool) (view : ℕ) (entry : Proposed) → NothingFrom end proposals confirms → end ≤ now → (view < view_bound → view < now) → entry_in new ≡ with_entry fresh (entry_in proposals) view entry → NothingFrom now new confirms
-proposed_end end now proposals new confirms fresh view entry nothing kept above e v late few =
+pub confirmed_end : (end now f me : ℕ) (confirms new : Rows) (fresh : Bool) (view member : ℕ) (digest : List ℕ) → NothingFrom end f me confirms → end ≤ now → (view < view_bound → view < now) → vote_in new ≡ with_vote fresh (vote_in confirms) view member digest → NothingFrom now f me new
+confirmed_end end now f me confirms new fresh view member digest nothing kept above e v late few =
     let old = nothing v (omega arith) few in
-    (ap (λ (found : ℕ → Option Proposed). found v) e ∙ entry_none fresh (entry_in proposals) view entry v old.0 (another view now v above late few), old.1)
+    let same = same_view confirms new fresh view member digest v e (another view now v above late few) in
+    (ap (λ (said : ℕ → Option (List ℕ)). said me) same ∙ old.0, ap (quorum f) same ∙ old.1)
 
-pub confirmed_end : (end now : ℕ) (proposals : List (ℕ × Proposed)) (confirms new : List Vote) (fresh : Bool) (view member : ℕ) (digest : List ℕ) → NothingFrom end proposals confirms → end ≤ now → (view < view_bound → view < now) → vote_in new ≡ with_vote fresh (vote_in confirms) view member digest → NothingFrom now proposals new
-confirmed_end end now proposals confirms new fresh view member digest nothing kept above e v late few =
-    let old = nothing v (omega arith) few in
-    (old.0, λ m. ap (λ (found : ℕ → ℕ → Option (List ℕ)). found v m) e ∙ vote_none fresh (vote_in confirms) view member digest v m (old.1 m) (another view now v above late few))
+never : (a : Bool) → (a && false) ≡ false
+never true = refl
+never false = refl
 
--- where no member confirmed, there is no quorum
+not_own : (fresh : Bool) (said : ℕ → ℕ → Option (List ℕ)) (view member : ℕ) (digest : List ℕ) (v m : ℕ) → (member == m) ≡ false → said v m ≡ None → with_vote fresh said view member digest v m ≡ None
+not_own true said view member digest v m other none = rw (none, other, never (view == v)) refl
+not_own false said view member digest v m other none = none
+
+-- a confirm of another member, where no 2f+1 agree with it
+pub confirmed_less : (end f me : ℕ) (confirms new : Rows) (fresh : Bool) (view member : ℕ) (digest : List ℕ) → NothingFrom end f me confirms → (member == me) ≡ false → quorum f (vote_in new view) ≡ None → vote_in new ≡ with_vote fresh (vote_in confirms) view member digest → NothingFrom end f me new
+confirmed_less end f me confirms new fresh view member digest nothing other none e v late few =
+    let old = nothing v late few in
+    let own = ap (λ (found : ℕ → ℕ → Option (List ℕ)). found v me) e ∙ not_own fresh (vote_in confirms) view member digest v me other old.0 in
+    elim (eqb_tells view v) [
+      | inl same ↦ (own, subst (λ w. quorum f (vote_in new w) ≡ None) same.1 none)
+      | inr differ ↦ (own, ap (quorum f) (same_view confirms new fresh view member digest v e differ.0) ∙ old.1)
+    ]
+
+-- Where no member confirmed, no 2f+1 agree.
 none_agree : (n f : ℕ) (said : ℕ → Option (List ℕ)) → ((m : ℕ) → said m ≡ None) → first_below n (λ m. if_enough f said (said m)) ≡ None
 unfolding first_below
 none_agree zero f said none = refl
 none_agree (suc n) f said none = rw (none n, none_agree n f said none) refl
 
-pub none_confirmed : (s : Seen) (view : ℕ) → ((m : ℕ) → s.confirm view m ≡ None) → entry_of s (quorum s.f (s.confirm view)) ≡ None
-none_confirmed s view none = ap (entry_of s) (none_agree (3 * s.f + 1) s.f (s.confirm view) none)
+pub nothing_yet : (f me : ℕ) (confirms : Rows) → confirms ≡ [] → NothingFrom 0 f me confirms
+nothing_yet f me confirms none v late few = rw none (refl, none_agree (3 * f + 1) f (λ m. None) (λ m. refl))
+
+pub nobody_agrees : (f : ℕ) (said : ℕ → Option (List ℕ)) → ((m : ℕ) → said m ≡ None) → None ≡ quorum f said
+nobody_agrees f said none = sym (none_agree (3 * f + 1) f said none)

@@ -1,12 +1,22 @@
 -- What a slot keeps, and what that shows.
-use Rattle.std.specs.Prelude.{◌≡◌, ℕ, ◌==◌, ◌≤◌, ◌<◌, ◌&&◌, Bool, true, false, List, [], ◌∷◌, Option, Some, None, if◌then◌else◌}
+use Rattle.std.specs.Prelude.{◌≡◌, ℕ, ◌==◌, ◌≤◌, ◌<◌, nat_lt, ◌&&◌, Bool, true, false, List, Option, Some, None, IsSome, slice_index_or}
 use Rattle.std.specs.Map.{lookup}
+use Rattle.std.specs.BTreeMap.{is_at}
+use Rattle.std.specs.Ordering.{nat_cmp}
+use Rattle.std.specs.Cmp.Lexicographic.{slice_cmp}
 use Rattle.cs_order.specs.declared.proposed.Proposed.{Proposed}
 use Rattle.cs_order.specs.Counts.{when}
 use Rattle.cs_base.specs.Options.{or_else}
 use Rattle.cs_order.specs.Limits.{view_bound}
-use Rattle.cs_slot.specs.declared.votes.Vote.{Vote}
-use Rattle.cs_order_rules.specs.Slot.{Seen}
+use Rattle.cs_order_rules.specs.Slot.{Seen, quorum, with_digest}
+
+-- what each member said in a view
+abbrev pub Row : Type 0
+Row = List (Option (List ℕ))
+
+-- rows by view
+abbrev pub Rows : Type 0
+Rows = List (ℕ × Row)
 
 pub record KeptSlot : Type 0 where
   pub f : ℕ
@@ -14,21 +24,25 @@ pub record KeptSlot : Type 0 where
   pub me : ℕ
   pub view : ℕ
   pub proposals : List (ℕ × Proposed)  -- by view
-  pub echoes : List Vote
-  pub confirms : List Vote
+  pub echoes : Rows
+  pub confirms : Rows
   pub dones : List (ℕ × Proposed)  -- by member
 
--- what a member said in a view
-abbrev pub is_at : ℕ → ℕ → Vote → Bool
-is_at view member vote = (vote.view == view) && (vote.member == member)
+-- what a member said
+abbrev pub said_in : Row → ℕ → Option (List ℕ)
+said_in row member = slice_index_or row member None
 
-abbrev pub vote_in : List Vote → ℕ → ℕ → Option (List ℕ)
-vote_in [] view member = None
-vote_in (vote ∷ votes) view member = if is_at view member vote then Some vote.digest else vote_in votes view member
+abbrev pub said_if : Option Row → ℕ → Option (List ℕ)
+said_if None member = None
+said_if (Some row) member = said_in row member
+
+-- what a member said in a view
+abbrev pub vote_in : Rows → ℕ → ℕ → Option (List ℕ)
+vote_in rows view member = said_if (lookup (is_at (nat_cmp view)) rows) member
 
 -- the entry of a view, or of a member
 abbrev pub entry_in : List (ℕ × Proposed) → ℕ → Option Proposed
-entry_in entries key = lookup (λ other. other == key) entries
+entry_in entries key = lookup (is_at (nat_cmp key)) entries
 
 abbrev pub seen_in : KeptSlot → Seen
 seen_in k = record {
@@ -83,8 +97,31 @@ with_done fresh s member entry = record s { done = with_entry fresh s.done membe
 abbrev pub in_later : ℕ → Seen → Seen
 in_later view s = record s { view = view }
 
--- nothing was proposed or confirmed in this view or a later one
-abbrev pub NothingFrom : ℕ → List (ℕ × Proposed) → List Vote → Type 0
-NothingFrom view proposals confirms =
+-- from this view on the member itself confirmed nothing, and no 2f+1 members agree
+abbrev pub NothingFrom : ℕ → ℕ → ℕ → Rows → Type 0
+NothingFrom view f me confirms =
     (v : ℕ) → view ≤ v → v < view_bound
-    → (entry_in proposals v ≡ None) × ((member : ℕ) → vote_in confirms v member ≡ None)
+    → (vote_in confirms v me ≡ None) × (quorum f (vote_in confirms v) ≡ None)
+
+-- The views in which digests were proposed first.
+abbrev pub Firsts : Type 0
+Firsts = List (List ℕ × ℕ)
+
+abbrev pub first_in : Firsts → List ℕ → Option ℕ
+first_in firsts digest = lookup (is_at (slice_cmp nat_cmp digest)) firsts
+
+-- it is the least view in which the digest was proposed
+abbrev pub IsFirst : List ℕ → List (ℕ × Proposed) → Option ℕ → Type 0
+IsFirst digest proposals None =
+    (v : ℕ) → v < view_bound → with_digest digest (entry_in proposals v) ≡ None
+IsFirst digest proposals (Some first) =
+    (first < view_bound) × (IsSome (with_digest digest (entry_in proposals first)))
+    × ((v : ℕ) → v < first → with_digest digest (entry_in proposals v) ≡ None)
+
+abbrev pub AreFirsts : Firsts → List (ℕ × Proposed) → Type 0
+AreFirsts firsts proposals = (digest : List ℕ) → IsFirst digest proposals (first_in firsts digest)
+
+-- a view is before that of the digest, if there is one, and is one of those that there are
+abbrev pub comes_first : ℕ → Option ℕ → Bool
+comes_first view None = nat_lt view view_bound
+comes_first view (Some first) = nat_lt view first

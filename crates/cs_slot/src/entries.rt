@@ -6,12 +6,15 @@ ghost use Rattle.cs_slot.specs.Kept.{entry_in, with_entry};
 use cs_base::Memory;
 use cs_order::Proposed;
 use std::alloc::{AllocError, Global};
+use std::collections::BTreeMap;
 use std::marker::Model;
 
 /// Entries, of which there is one under each number.
+///
+/// A call takes a number of steps that grows as the logarithm of the entries.
 #[derive(Drop)]
 pub struct Entries {
-    entries: Vec<(u16, Proposed)>,
+    entries: BTreeMap<u16, Proposed>,
 }
 
 impl Model for Entries {
@@ -20,7 +23,7 @@ impl Model for Entries {
 
     ghost Value = { List (ℕ × Proposed) };
 
-    ghost view = { λ e. e.entries.items };
+    ghost view = { λ e. e.entries.entries };
 }
 
 impl Entries {
@@ -29,7 +32,7 @@ impl Entries {
         ensures { result ≡ [] }
     {
         Entries {
-            entries: Vec::new(alloc),
+            entries: BTreeMap::new(alloc),
         }
     }
 
@@ -37,7 +40,7 @@ impl Entries {
     pub fn get(&self, key: u16) -> Option<&Proposed>
         ensures { option_copied result ≡ entry_in self.now key }
     {
-        find(self.entries.as_slice(), key)
+        self.entries.get(&key)
     }
 
     /// Adds an entry, and says whether it is the first under the number.
@@ -50,10 +53,17 @@ impl Entries {
         if self.get(key).is_some() {
             return Ok(false);
         }
-        if let Err(refused) = self.entries.push((key, entry)) {
+        if let Err(refused) = self.entries.insert(key, entry) {
             return Err(AllocError::from(refused).into());
         }
         Ok(true)
+    }
+
+    /// Takes all entries out.
+    pub fn clear(&mut self)
+        ensures { self.new ≡ [] }
+    {
+        self.entries.clear();
     }
 
     /// The entry under a number, where it has the digest.
@@ -76,15 +86,4 @@ impl Entries {
             None => false,
         }
     }
-}
-
-fn find(entries: &[(u16, Proposed)], key: u16) -> Option<&Proposed>
-    ensures { option_copied result ≡ entry_in entries.now key }
-{
-    for entry in entries {
-        if entry.0 == key {
-            return Some(&entry.1);
-        }
-    }
-    None
 }

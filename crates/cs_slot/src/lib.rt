@@ -3,6 +3,8 @@
 #![tactic(auto)]
 
 mod entries;
+mod proposals;
+mod rows;
 mod slot;
 mod votes;
 

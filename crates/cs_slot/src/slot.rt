@@ -5,6 +5,7 @@ ghost use Rattle.cs_order_rules.specs.Slot.{proposal_of, done_with, confirmed_en
 ghost use Rattle.cs_slot.specs.Kept.{seen_in, none_seen, with_proposal, with_echo, with_confirm, with_done, in_later};
 
 use crate::entries::Entries;
+use crate::proposals::Proposals;
 use crate::votes::Votes;
 use cs_base::{LAST_SLOT, Memory, VIEW_BOUND};
 use cs_order::Proposed;
@@ -21,9 +22,9 @@ pub struct Slot {
     n: u64,
     me: u16,
     view: u16,
-    /// Nothing was proposed or confirmed in this view or a later one.
+    /// In this view or a later one the member itself confirmed nothing, and no 2f+1 members agree.
     end: u16,
-    proposals: Entries,
+    proposals: Proposals,
     echoes: Votes,
     confirms: Votes,
     dones: Entries,
@@ -48,7 +49,7 @@ impl Model for Slot {
     } };
 
     ghost invariant = { λ s. (s.f ≤ 5) × (s.me ≤ 3 * s.f)
-        × (s.end ≤ view_bound) × NothingFrom s.end s.proposals s.confirms };
+        × (s.end ≤ view_bound) × NothingFrom s.end s.f s.me s.confirms };
 }
 
 impl Slot {
@@ -64,7 +65,7 @@ impl Slot {
             me,
             view: 0,
             end: 0,
-            proposals: Entries::new(alloc),
+            proposals: Proposals::new(alloc),
             echoes: Votes::new(alloc),
             confirms: Votes::new(alloc),
             dones: Entries::new(alloc),
@@ -107,9 +108,7 @@ impl Slot {
         ensures now { IfOk result (λ fresh.
             seen_in self.new ≡ with_proposal fresh (seen_in self.old) view entry) }
     {
-        let fresh = self.proposals.add(view, entry)?;
-        self.end = end_with(self.end, view);
-        Ok(fresh)
+        self.proposals.add(view, entry)
     }
 
     /// Takes an echo of a member. It is false exactly for a repeat.
@@ -137,7 +136,9 @@ impl Slot {
             seen_in self.new ≡ with_confirm fresh (seen_in self.old) view member digest) }
     {
         let fresh = self.confirms.add(view, member, digest)?;
-        self.end = end_with(self.end, view);
+        if member == self.me || self.confirms.quorum(self.f, view).is_some() {
+            self.end = end_with(self.end, view);
+        }
         Ok(fresh)
     }
 
@@ -185,12 +186,7 @@ impl Slot {
     pub fn with_digest(&self, digest: &[u8; 32]) -> Option<&Proposed>
         ensures { option_copied result ≡ proposal_of (seen_in self.now) digest.now }
     {
-        for view in 0..self.end {
-            if let Some(entry) = self.proposals.with_digest(view, digest) {
-                return Some(entry);
-            }
-        }
-        None
+        self.proposals.with_digest(digest)
     }
 
     /// The greatest view in which the slot's own member confirmed, and the digest.
@@ -305,7 +301,7 @@ impl Slot {
     }
 }
 
-/// The view after the last one of which something is kept, with one more.
+/// The view after the last one that counts, with one more.
 fn end_with(end: u16, view: u16) -> u16
     requires { end ≤ view_bound }
     ensures bound { result ≤ view_bound }

@@ -1,33 +1,28 @@
 //! Digests that members said, by view and member.
-ghost use Rattle.std.specs.Prelude.{◌≡◌, ◌+◌, ◌*◌, ◌≤◌, not, is_some, IfOk, OnErr, []};
-ghost use Rattle.cs_order_rules.specs.Slot.{is_digest, votes, if_enough, quorum};
-ghost use Rattle.cs_slot.specs.Kept.{vote_in, with_vote};
+ghost use Rattle.std.specs.Prelude.{◌≡◌, ℕ, ◌≤◌, ◌<◌, not, is_some, IfOk, OnErr, []};
+ghost use Rattle.cs_order_rules.specs.Slot.{quorum};
+ghost use Rattle.cs_slot.specs.Kept.{said_in, vote_in, with_vote};
 
+use crate::rows::{Row, agreed, empty, said, with_said};
 use cs_base::Memory;
 use std::alloc::{AllocError, Global};
+use std::collections::BTreeMap;
 use std::marker::Model;
 
-/// A digest that a member said in a view.
-#[derive(Clone, Copy, Debug, PartialEq, Eq)]
-pub struct Vote {
-    pub view: u16,
-    pub member: u16,
-    pub digest: [u8; 32],
-}
-
 /// The votes of one kind, of which each member gives one in a view.
+///
+/// A call takes a number of steps that grows as the logarithm of the views in which there is a vote.
 #[derive(Drop)]
 pub struct Votes {
-    votes: Vec<Vote>,
+    rows: BTreeMap<u16, Row>,
 }
 
 impl Model for Votes {
-    ghost use Rattle.std.specs.Prelude.{List};
-    ghost use Rattle.cs_slot.specs.declared.votes.Vote.{Vote};
+    ghost use Rattle.cs_slot.specs.Kept.{Rows};
 
-    ghost Value = { List Vote };
+    ghost Value = { Rows };
 
-    ghost view = { λ v. v.votes.items };
+    ghost view = { λ v. v.rows.entries };
 }
 
 impl Votes {
@@ -36,7 +31,7 @@ impl Votes {
         ensures { result ≡ [] }
     {
         Votes {
-            votes: Vec::new(alloc),
+            rows: BTreeMap::new(alloc),
         }
     }
 
@@ -44,11 +39,15 @@ impl Votes {
     pub fn get(&self, view: u16, member: u16) -> Option<[u8; 32]>
         ensures { result ≡ vote_in self.now view member }
     {
-        find(self.votes.as_slice(), view, member)
+        match self.rows.get(&view) {
+            Some(row) => said(row, member),
+            None => None,
+        }
     }
 
     /// Adds a vote, and says whether it is the member's first in the view.
     pub fn add(&mut self, view: u16, member: u16, digest: [u8; 32]) -> Result<bool, Memory>
+        requires { member < 16 }
         ensures fresh { IfOk result (λ fresh.
             fresh ≡ not (is_some (vote_in self.old view member))) }
         ensures now { IfOk result (λ fresh.
@@ -58,14 +57,20 @@ impl Votes {
         if self.get(view, member).is_some() {
             return Ok(false);
         }
-        if let Err(refused) = self.votes.push(Vote {
-            view,
-            member,
-            digest,
-        }) {
+        let row = with_said(self.row(view), member, digest);
+        if let Err(refused) = self.rows.insert(view, row) {
             return Err(AllocError::from(refused).into());
         }
         Ok(true)
+    }
+
+    fn row(&self, view: u16) -> Row
+        ensures { (member : ℕ) → said_in result member ≡ vote_in self.now view member }
+    {
+        match self.rows.get(&view) {
+            Some(row) => *row,
+            None => empty(),
+        }
     }
 
     /// The digest that 2f+1 members said in a view.
@@ -73,56 +78,9 @@ impl Votes {
         requires { f ≤ 5 }
         ensures { result ≡ quorum f (vote_in self.now view) }
     {
-        for member in 0..3 * f + 1 {
-            if let Some(digest) = self.digest_if_enough(f, view, member) {
-                return Some(digest);
-            }
-        }
-        None
-    }
-
-    /// What a member said in a view, where 2f+1 members said it.
-    fn digest_if_enough(&self, f: u16, view: u16, member: u16) -> Option<[u8; 32]>
-        requires { f ≤ 5 }
-        ensures { result ≡ if_enough f (vote_in self.now view) (vote_in self.now view member) }
-    {
-        let digest = self.get(view, member)?;
-        if self.count(f, view, &digest) > 2 * f {
-            Some(digest)
-        } else {
-            None
+        match self.rows.get(&view) {
+            Some(row) => agreed(row, f),
+            None => None,
         }
     }
-
-    /// How many members said a digest in a view.
-    fn count(&self, f: u16, view: u16, digest: &[u8; 32]) -> u16
-        requires { f ≤ 5 }
-        ensures { result ≡ votes f (vote_in self.now view) digest.now }
-    {
-        let mut count = 0;
-        for member in 0..3 * f + 1 {
-            count += u16::from(self.says(view, member, digest));
-        }
-        count
-    }
-
-    fn says(&self, view: u16, member: u16, digest: &[u8; 32]) -> bool
-        ensures { result ≡ is_digest digest.now (vote_in self.now view member) }
-    {
-        match self.get(view, member) {
-            Some(said) => said == *digest,
-            None => false,
-        }
-    }
-}
-
-fn find(votes: &[Vote], view: u16, member: u16) -> Option<[u8; 32]>
-    ensures { result ≡ vote_in votes.now view member }
-{
-    for vote in votes {
-        if vote.view == view && vote.member == member {
-            return Some(vote.digest);
-        }
-    }
-    None
 }

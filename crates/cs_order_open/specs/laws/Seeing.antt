@@ -146,7 +146,7 @@ no_line false lines = refl
 kept_told : (k : KeptOpenSlot) (s : Sight) (n view from : ℕ) (m : OrderMessage) → Shows k s n view → ((v : ℕ) → change_said n v m ≡ None) → (v member : ℕ) → told_in k.changes.changes v member ≡ first_of (change_said n v) ((from, m) ∷ s.taken) member
 kept_told k s n view from m shows none v member = shows.told v member ∙ sym (passed (change_said n v) s.taken from m member (none v))
 
-kept_reached : (k : KeptOpenSlot) (s : Sight) (n view from : ℕ) (m : OrderMessage) → Shows k s n view → ((v : ℕ) → is_change_from n v m ≡ false) → (v member : ℕ) → reaches k.changes.changes v member ≡ took (is_change_from n v) ((from, m) ∷ s.taken) member
+kept_reached : (k : KeptOpenSlot) (s : Sight) (n view from : ℕ) (m : OrderMessage) → Shows k s n view → ((v : ℕ) → is_change_from n v m ≡ false) → (v member : ℕ) → reaches k.changes.furthest v member ≡ took (is_change_from n v) ((from, m) ∷ s.taken) member
 kept_reached k s n view from m shows none v member = shows.reached v member ∙ sym (passed_test (is_change_from n v) s.taken from m member (none v))
 
 kept_echoed : (k : KeptOpenSlot) (s : Sight) (n view from : ℕ) (m : OrderMessage) → Shows k s n view → echo_in n m ≡ None → k.echoed ≡ echoed_in s.me n ((from, m) ∷ s.taken)
@@ -254,7 +254,7 @@ shows_done k new s n view from e shows fresh slot changes echoed =
     }
 
 -- A change that is the first of its member and view.
-pub shows_change : (k new : KeptOpenSlot) (s : Sight) (n view from w : ℕ) (c : Change) → Shows k s n view → true ≡ not (is_some (told_in k.changes.changes w from)) → new.slot ≡ k.slot → told_in new.changes.changes ≡ with_told true (told_in k.changes.changes) w from c → ((v member : ℕ) → reaches new.changes.changes v member ≡ ((true && ((from == member) && nat_le v w)) || reaches k.changes.changes v member)) → new.changes.f ≡ k.changes.f → new.echoed ≡ k.echoed → Shows new (with_fact s from (message.Change n w c)) n view
+pub shows_change : (k new : KeptOpenSlot) (s : Sight) (n view from w : ℕ) (c : Change) → Shows k s n view → true ≡ not (is_some (told_in k.changes.changes w from)) → new.slot ≡ k.slot → told_in new.changes.changes ≡ with_told true (told_in k.changes.changes) w from c → ((v member : ℕ) → reaches new.changes.furthest v member ≡ ((true && ((from == member) && nat_le v w)) || reaches k.changes.furthest v member)) → new.changes.f ≡ k.changes.f → new.echoed ≡ k.echoed → Shows new (with_fact s from (message.Change n w c)) n view
 shows_change k new s n view from w c shows fresh slot told reached f echoed =
     let m : OrderMessage = message.Change n w c in
     let before : ℕ → ℕ → Option Change = λ v. first_of (change_said n v) s.taken in

@@ -8,4 +8,4 @@ pub returns-in_default : goal.returns-in_default
 returns-in_default c = λ s p. echo_none (kept c.args.self.now) s c.args.out.now.items p c.in_default.ensures
 
 pub returns : goal.returns
-returns c = λ s p. on_ok_weaker c.say.result (λ out. echoed (kept c.args.self.now) s c.echo_own.new.self c.in-Some.entry.now c.in_ok-echo_own.field-0 c.open_slot-slot.result c.args.out.now.items c.say.new.out.items p c.in-Some.ensures (c.in_ok-echo_own.ensures.call s (open_slot s) s.view p.shows) c.open_slot-slot.ensures out) c.say.ensures
+returns c = λ s p. on_ok_weaker c.say.result (λ out. echoed (kept c.args.self.now) s c.echo_own.new.self c.in-Some.entry.now c.in_ok-echo_own.field-0 c.open_slot-slot.result c.args.out.now.items c.say.new.out.items p c.in-Some.ensures (c.in_ok-echo_own.ensures.call s (open_slot s) s.view p.shows) c.open_slot-slot.ensures out) c.say.ensures.said

@@ -1,14 +1,16 @@
-use Rattle.std.proofs.Common.{◌≡◌, ℕ, Option, sym, ap, ◌∙◌, arith}
+use Rattle.std.proofs.Common.{◌≡◌, ℕ, Option, None, sym, ap, ◌∙◌, arith}
 use Rattle.cs_order.specs.declared.proposed.Proposed.{Proposed}
 use Rattle.cs_order.specs.Limits.{view_bound}
 use Rattle.cs_order_rules.specs.Slot.{entry_of, quorum}
 use Rattle.cs_order.proofs.Searches.{first_none, first_at, first_more, first_ends}
 use Rattle.cs_slot.specs.Kept.{KeptSlot, seen_in}
-use Rattle.cs_slot.proofs.Ends.{none_confirmed}
 use Rattle.cs_slot.proofs.slot.Slot.by_confirm.Goals as goal
 
 abbrev found : KeptSlot → ℕ → Option Proposed
 found k view = entry_of (seen_in k) (quorum k.f ((seen_in k).confirm view))
+
+unknown : (k : KeptSlot) (view : ℕ) → quorum k.f ((seen_in k).confirm view) ≡ None → found k view ≡ None
+unknown k view none = ap (entry_of (seen_in k)) none
 
 pub loop-view-init : goal.loop-view-init
 loop-view-init c = first_none (found c.args.self.now)
@@ -28,6 +30,5 @@ returns c =
     let last = c.loop-view.auto.view-end in
     let at_end : c.loop-view.view ≡ c.self.inside.end = omega arith in
     let none = rw at_end at c.loop-view.invariant in
-    let confirms = ap (λ (k : KeptSlot). k.confirms) c.self.view_is in
-    let all = first_ends view_bound c.self.inside.end (found c.args.self.now) c.self.invariant.2 (λ v a b. none_confirmed (seen_in c.args.self.now) v (rw (← confirms) ((c.self.invariant.3 v a b).1))) in
+    let all = first_ends view_bound c.self.inside.end (found c.args.self.now) c.self.invariant.2 (λ v a b. unknown c.args.self.now v (rw (← c.self.view_is) (c.self.invariant.3 v a b).1)) in
     sym (all ∙ none)

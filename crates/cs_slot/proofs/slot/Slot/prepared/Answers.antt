@@ -8,9 +8,6 @@ use Rattle.cs_slot.proofs.slot.Slot.prepared.Goals as goal
 abbrev found : KeptSlot → ℕ → Option (ℕ × List ℕ)
 found k view = in_view view ((seen_in k).confirm view k.me)
 
-none_found : (k : KeptSlot) (view : ℕ) → (seen_in k).confirm view k.me ≡ None → found k view ≡ None
-none_found k view none = ap (in_view view) none
-
 pub loop-view-init : goal.loop-view-init
 loop-view-init c = last_none (found c.args.self.now)
 
@@ -22,6 +19,5 @@ returns c =
     let late = c.loop-view-test.false in
     let last = c.loop-view.auto.view-end in
     let at_end : c.loop-view.view ≡ c.self.inside.end = omega arith in
-    let confirms = ap (λ (k : KeptSlot). k.confirms) c.self.view_is in
-    let all = last_ends view_bound c.self.inside.end (found c.args.self.now) c.self.invariant.2 (λ v a b. none_found c.args.self.now v (rw (← confirms) ((c.self.invariant.3 v a b).1 c.args.self.now.me))) in
+    let all = last_ends view_bound c.self.inside.end (found c.args.self.now) c.self.invariant.2 (λ v a b. rw (← c.self.view_is) (ap (in_view v) (c.self.invariant.3 v a b).0)) in
     rw at_end at c.loop-view.invariant ∙ sym all

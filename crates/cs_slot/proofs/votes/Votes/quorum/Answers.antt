@@ -1,18 +1,15 @@
-use Rattle.std.proofs.Common.{ℕ, ◌+◌, ◌*◌, Option, List, sym}
-use Rattle.cs_order_rules.specs.Slot.{if_enough}
-use Rattle.cs_order.proofs.Searches.{first_none, first_at, first_more}
-use Rattle.cs_slot.specs.Kept.{vote_in}
-use Rattle.cs_slot.specs.declared.votes.Vote.{Vote}
+use Rattle.std.proofs.Common.{sym, ap, ◌∙◌}
+use Rattle.cs_order_rules.specs.Slot.{quorum}
+use Rattle.cs_slot.specs.Kept.{Rows, said_if, vote_in}
+use Rattle.cs_slot.proofs.Ends.{nobody_agrees}
 use Rattle.cs_slot.proofs.votes.Votes.quorum.Goals as goal
 
-abbrev found : ℕ → List Vote → ℕ → ℕ → Option (List ℕ)
-found f votes view member = if_enough f (vote_in votes view) (vote_in votes view member)
-
-pub loop-member-init : goal.loop-member-init
-loop-member-init c = first_none (found c.args.f c.args.self.now c.args.view)
-
 pub returns-in-Some : goal.returns-in-Some
-returns-in-Some c = sym (first_at (3 * c.args.f + 1) c.loop-member.member (found c.args.f c.args.self.now c.args.view) c.in-Some.digest c.loop-member-test.true c.loop-member.invariant (sym c.in-Some.ensures))
+returns-in-Some c =
+    c.agreed.ensures ∙ ap (λ o. quorum c.args.f (λ m. said_if o m)) c.in-Some.ensures.value
+    ∙ ap (λ (rows : Rows). quorum c.args.f (vote_in rows c.args.view)) c.self.view_is
 
-pub loop-member-preserved : goal.loop-member-preserved
-loop-member-preserved c = first_more c.loop-member.member (found c.args.f c.args.self.now c.args.view) c.loop-member.invariant (sym c.in_default.ensures)
+pub returns-in-None : goal.returns-in-None
+returns-in-None c =
+    nobody_agrees c.args.f (vote_in c.self.inside.rows.entries c.args.view) (λ m. ap (λ o. said_if o m) (sym c.in-None.ensures.value))
+    ∙ ap (λ (rows : Rows). quorum c.args.f (vote_in rows c.args.view)) c.self.view_is
