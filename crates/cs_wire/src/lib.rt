@@ -14,6 +14,7 @@ mod sealing;
 mod tests;
 mod view;
 
+pub use cs_wire_message::Message;
 pub use input::{Input, Out};
 pub use keys::{Keys, KeysError};
 pub use laws::{names_of_one_master_understand_each_other, sealed_datagrams_are_opened};

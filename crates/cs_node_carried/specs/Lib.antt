@@ -1,0 +1,4 @@
+pub mod Proposals
+pub mod SoloCarried
+pub mod SlotCarried
+pub mod laws

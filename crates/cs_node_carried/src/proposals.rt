@@ -1,0 +1,61 @@
+//! Entries as an order carries them, and values that all of some bytes encode.
+ghost use Rattle.std.specs.Prelude.{◌≡◌, IfOk, IfSome};
+ghost use Rattle.cs_base.specs.Fields.{IsBytes, whole_at};
+ghost use Rattle.cs_tx_form.specs.declared.entry.Entry.TheVariants.{Prepare};
+ghost use Rattle.cs_tx_form.specs.Session.{EntryFits};
+ghost use Rattle.cs_node_rules.specs.Deployment.{proposed_of, no_session};
+ghost use Rattle.cs_node_carried.specs.Proposals.{entry_read, entry_spelled};
+
+use cs_base::{Memory, Sequence, Writer};
+use cs_order::Proposed;
+use cs_tx::{Encoded, Entry, FormError, Session, Tx, entry_digest};
+use std::alloc::Global;
+
+/// The value that all of the bytes encode, if they encode one.
+fn whole<T: Encoded>(alloc: Global, bytes: &[u8]) -> Result<Option<T>, Memory>
+    ensures found { IfOk result (λ found. found ≡ whole_at T.found_at bytes.now) }
+    ensures fits { IfOk result (λ found. IfSome found T.Fits) }
+    ensures bytes { IsBytes bytes.now }
+{
+    match T::decode(alloc, bytes) {
+        Ok(value) => Ok(Some(value)),
+        Err(FormError::Memory) => Err(Memory),
+        Err(FormError::TooLong) => Ok(None),
+        Err(FormError::BadForm) => Ok(None),
+    }
+}
+
+/// The entry that was proposed.
+pub fn read_entry(alloc: Global, proposed: &Proposed) -> Result<Option<Entry>, Memory>
+    ensures found { IfOk result (λ found. found ≡ entry_read proposed.now) }
+    ensures spelled { IfOk result (λ found. found ≡ entry_spelled proposed.now) }
+    ensures fits { IfOk result (λ found. IfSome found EntryFits) }
+{
+    whole(alloc, proposed.bytes.as_slice())
+}
+
+/// The entry that stands for bytes that are no entry.
+pub fn void_entry(alloc: Global) -> Entry
+    ensures { result ≡ Prepare no_session }
+{
+    Entry::Prepare(Session {
+        tx: Tx {
+            traces: Sequence::new(alloc),
+        },
+        number: 0,
+        dummies: Sequence::new(alloc),
+    })
+}
+
+/// An entry with its digest, to be proposed.
+pub fn propose_entry(alloc: Global, entry: &Entry) -> Result<Proposed, Memory>
+    requires { EntryFits entry.now }
+    ensures { IfOk result (λ proposed. proposed ≡ proposed_of entry.now) }
+{
+    let mut out = Writer::new(alloc);
+    entry.encode(&mut out)?;
+    Ok(Proposed {
+        digest: entry_digest(alloc, entry)?,
+        bytes: Sequence::from_vec(out.into_bytes()),
+    })
+}
