@@ -42,7 +42,7 @@ use Rattle.cs_node_law.proofs.NoIns.{inputs_in}
 use Rattle.cs_node_law.proofs.Pools.{heard-given, pool-sourced}
 use Rattle.cs_node_law.proofs.Due.{due-from}
 use Rattle.cs_node_law.proofs.Speaking.{opened-fits}
-use Rattle.cs_node_law.proofs.Spelled.{bytes-want, bytes-body}
+use Rattle.cs_wire_message.proofs.Spelled.{bytes-want, bytes-body}
 
 -- ---- what stands in messages
 

@@ -9,8 +9,8 @@ pub mod Due
 pub mod Inputs
 pub mod Dropping
 pub mod Sealing
-pub mod Spelled
 pub mod NoIns
 pub mod Speaking
 pub mod Fitting
 pub mod Played
+pub mod Resting

@@ -6,31 +6,8 @@ use Rattle.sha2.specs.Sha256.{digest_bytes, sha256}
 use Rattle.cs_base.specs.declared.node_id.NodeId.{NodeId}
 use Rattle.cs_base.specs.Fields.{IsBytes}
 use Rattle.cs_hash.specs.Hash.{key_block, masked, hmac}
+use Rattle.cs_wire_message.proofs.Bytes.{bytes-nil, bytes-cons, bytes-append, bytes-16, bytes-32}
 use Rattle.cs_wire.specs.Datagram.{name_encoding, text_with, datagram_with}
-
-pub bytes-nil : IsBytes []
-bytes-nil i = omega arith
-
-pub bytes-cons : (byte : ℕ) (bytes : List ℕ) → byte < 256 → IsBytes bytes → IsBytes (byte ∷ bytes)
-bytes-cons byte bytes small rest zero = small
-bytes-cons byte bytes small rest (suc i) = rest i
-
-pub bytes-append : (a b : List ℕ) → IsBytes a → IsBytes b → IsBytes (a ++ b)
-bytes-append [] b of_a of_b = of_b
-bytes-append (byte ∷ a) b of_a of_b = bytes-cons byte (a ++ b) (of_a zero) (bytes-append a b (λ i. of_a (suc i)) of_b)
-
--- numbers of 16 and of 32 bits, whatever the number is
-pub bytes-16 : (n : ℕ) → IsBytes (to_be_bytes w16 n)
-bytes-16 n zero = omega arith
-bytes-16 n (suc zero) = omega arith
-bytes-16 n (suc (suc i)) = omega arith
-
-pub bytes-32 : (n : ℕ) → IsBytes (to_be_bytes w32 n)
-bytes-32 n zero = omega arith
-bytes-32 n (suc zero) = omega arith
-bytes-32 n (suc (suc zero)) = omega arith
-bytes-32 n (suc (suc (suc zero))) = omega arith
-bytes-32 n (suc (suc (suc (suc i)))) = omega arith
 
 bytes-name : (name : NodeId) → IsBytes (name_encoding name)
 bytes-name name = bytes-append (to_be_bytes w16 name.shard) (to_be_bytes w16 name.index) (bytes-16 name.shard) (bytes-16 name.index)
@@ -40,7 +17,7 @@ unfolding digest_bytes
 bytes-digest words zero = bytes-nil
 bytes-digest words (suc n) = bytes-append (digest_bytes words n) (to_be_bytes w32 (slice_index words n)) (bytes-digest words n) (bytes-32 (slice_index words n))
 
-bytes-sha256 : (bytes : List ℕ) → IsBytes (sha256 bytes)
+pub bytes-sha256 : (bytes : List ℕ) → IsBytes (sha256 bytes)
 unfolding sha256
 bytes-sha256 bytes = bytes-digest _ 8
 

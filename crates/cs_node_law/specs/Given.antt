@@ -3,6 +3,7 @@ use Rattle.std.specs.Prelude.{◌≡◌, ℕ, ◌<◌, ◌≤◌, Bool, true, fa
 use Rattle.std.specs.List.{All}
 use Rattle.cs_base.specs.Fields.{IsBytes}
 use Rattle.cs_base.specs.declared.config.Config.{Config}
+use Rattle.cs_base.specs.declared.limits.TheConstants.{MOST_BODY}
 use Rattle.cs_base.specs.declared.node_id.NodeId.{NodeId}
 use Rattle.cs_base.specs.NodeId.{is_named}
 use Rattle.cs_tx_value.specs.declared.object.Object.{Object}
@@ -35,7 +36,7 @@ pub record IsSaid (config : Config) (net : Net) (from to : NodeId) (kind : ℕ) 
   pub lies : net.is_honest from ≡ false
   pub listener : net.is_honest to ≡ true
   pub kind_fits : kind < 256
-  pub short : length body ≤ 32719
+  pub short : length body ≤ MOST_BODY
   pub is_bytes : IsBytes body
 
 -- what the event gives is made of bytes, and is for an honest node

@@ -24,7 +24,7 @@ use Rattle.cs_node_state.specs.Bench.{is_locked, noted}
 use Rattle.cs_node_rules.specs.Signs.{Sign, Dropped, Took, Entered, Viewed, Did, Sent}
 use Rattle.cs_node_rules.specs.Site.{Input, Datagram, Tick, Mark, In, Ordered, Plain, Site, View, start_view, view_after, signs_of}
 use Rattle.cs_node_rules.specs.Trail.{admits_proposed, opened_marks, event_marks}
-use Rattle.cs_node_rules.specs.World.{prepares}
+use Rattle.cs_node_rules.specs.World.{Happening, view_of, IsLife, prepares}
 use Rattle.cs_node_rules.specs.Ready.{IsQuiet}
 use Rattle.cs_node_rules.specs.Collisions.{sessions_in, given}
 use Rattle.cs_node_rules.specs.Carrying.{is_ordering}
@@ -219,6 +219,11 @@ NotesAreGiven {M} site =
     (me : NodeId) (t : List (Mark M)) (x : Session) (vote : Said) → AllMade site me t →
     noted site.setup (view_at site me t).me.shard (view_at site me t).bench.table x ≡ Some vote →
     has_given site.setup (digest_of site.setup x) (vote_of vote) (signs_of t) ≡ true
+
+-- After any events no rule applies at any node.
+abbrev pub LivesAreQuiet : {M : Type 0} → Site M → Type 0
+LivesAreQuiet {M} site =
+    (world : List (Happening M)) → IsLife site world → (i : NodeId) → IsQuiet site (view_of site world i)
 
 -- Where no rule applies, a datagram that is dropped makes the mark of that alone, and the node stays as it is.
 abbrev pub DropChangesNothing : {M : Type 0} → Site M → Type 0

@@ -3,4 +3,6 @@
 
 mod rules;
 
-pub use rules::{a_dropped_datagram_changes_nothing, marks_are_made, schedules_play_worlds};
+pub use rules::{
+    a_dropped_datagram_changes_nothing, events_end_quiet, marks_are_made, schedules_play_worlds,
+};

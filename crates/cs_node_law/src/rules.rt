@@ -1,7 +1,8 @@
 // What holds of the marks of every node.
 
+ghost use Rattle.std.specs.Prelude.{◌≡◌};
 ghost use Rattle.cs_node_rules.specs.Site.{Site};
-ghost use Rattle.cs_node_law.specs.Made.{EventIsMade, LocksAreGiven, NotesAreGiven, DropChangesNothing};
+ghost use Rattle.cs_node_law.specs.Made.{EventIsMade, LocksAreGiven, NotesAreGiven, DropChangesNothing, LivesAreQuiet};
 ghost use Rattle.cs_node_law.specs.Given.{PlaysWorlds};
 
 use cs_order::Order;
@@ -25,6 +26,14 @@ pub fn marks_are_made<O: Order>()
 pub fn a_dropped_datagram_changes_nothing<O: Order>()
     // The event makes the mark that it was dropped, and no other; the node is as it was before.
     ensures { (site : Site O.Message) → DropChangesNothing site }
+{}
+
+/// What nodes have left to do after an event, over any order: nothing.
+///
+/// It does nothing: its contract is a theorem, which a caller has by calling it.
+pub fn events_end_quiet<O: Order>()
+    // After any events of nodes that keep the rules, no rule applies at any node.
+    ensures { (site : Site O.Message) → site.machine ≡ O.rules → LivesAreQuiet site }
 {}
 
 /// What the schedules play, over any order: worlds in which honest nodes keep the rules, and are

@@ -1,5 +1,6 @@
 -- A schedule played: the world that its events make, what was sent in it, and the text that is printed.
 use Rattle.std.specs.Prelude.{ℕ, zero, suc, ◌+◌, nat_le, nat_lt, Bool, true, List, [], ◌∷◌, ◌++◌, length, Option, Some, None, slice_get, slice_set, if◌then◌else◌}
+use Rattle.cs_base.specs.declared.limits.TheConstants.{MOST_EVENTS, MOST_SENT}
 use Rattle.cs_base.specs.declared.node_id.NodeId.{NodeId}
 use Rattle.cs_ledger.specs.Ledger.{Bytes}
 use Rattle.cs_sched_types.specs.declared.schedule.Event.{Event}
@@ -44,10 +45,10 @@ size_of [] = 0
 size_of (parcel ∷ parcels) = length parcel.bytes + size_of parcels
 
 abbrev pub most_events : ℕ
-most_events = 1000000
+most_events = MOST_EVENTS
 
 abbrev pub most_sent : ℕ
-most_sent = 268435456
+most_sent = MOST_SENT
 
 abbrev pub signs_of_last : {M : Type 0} → List (Happening M) → List Sign
 signs_of_last {M} [] = []

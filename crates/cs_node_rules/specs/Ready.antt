@@ -15,6 +15,7 @@ use Rattle.cs_node_state.specs.Bench.{Bench, start_bench, executed, is_locked}
 use Rattle.cs_node_rules.specs.Signs.{Sign, Did, Sent, bench_after}
 use Rattle.cs_node_rules.specs.Site.{Site, View}
 use Rattle.cs_node_rules.specs.Trail.{turn_marks}
+use Rattle.cs_node_rules.specs.World.{Happening, view_of}
 
 -- each key of the session here is Active with exactly the carried object; it isn't in the anchor's book, which has room
 pub record IsFree (setup : Setup) (shard : ℕ) (t : Shard.Table) (x : Session) : Type 0 where
@@ -66,3 +67,7 @@ AcceptsLocked setup shard signs =
 -- second phase: no rule applies that has not been applied
 abbrev pub IsQuiet : {M : Type 0} → Site M → View M → Type 0
 IsQuiet {M} site v = turn_marks site v ≡ None
+
+-- so it is at every honest node after these events
+abbrev pub AllQuiet : {M : Type 0} → Site M → List (Happening M) → Type 0
+AllQuiet {M} site world = (i : NodeId) → site.net.is_honest i ≡ true → IsQuiet site (view_of site world i)

@@ -13,10 +13,10 @@ use Rattle.cs_node_rules.specs.Signs.{Dropped, Took, Entered, Viewed, Did, Sent}
 use Rattle.cs_node_rules.specs.Site.{Mark, In, Ordered, Plain, Site, signs_of}
 use Rattle.cs_node_law.specs.Made.{log_in, AllMade}
 use Rattle.cs_world_law.specs.Worlds.{is_honest}
-use Rattle.cs_world_law.specs.Chain.{Moment, trail_at, Known, Story, IsSoundSite, IsUnique, shard_acts}
+use Rattle.cs_world_law.specs.Chain.{Moment, trail_at, Known, Story, IsSoundSite, shard_acts}
 use Rattle.cs_world_law.proofs.Deeds.{deeds_in, member-is}
 use Rattle.cs_world_law.proofs.Trails.{made-all, deeds-same}
-use Rattle.cs_world_law.proofs.Runs.{lawful}
+use Rattle.cs_world_law.proofs.Lawful.{AreLawful}
 use Rattle.cs_world_law.proofs.Older.{at_slot}
 
 -- what was chosen stays
@@ -59,12 +59,12 @@ chose {M} site i (Plain (Did n entry effect) ∷ t) slot a made e = go (slot == 
         let chosen = subst (λ (h : Member M). slice_get (chosen_in h.deeds) n ≡ Some made.0.proposed) (member-is site i t) made.0.chosen in
         record { proposed = made.0.proposed; chosen = subst (λ k. slice_get (chosen_in (deeds_in t)) k ≡ Some made.0.proposed) at chosen; reads = made.0.reads ∙ is }
 
-pub logs-agree : {M : Type 0} (site : Site M) (sound : IsSoundSite site) (known : Known) (story : List (Moment M)) (i j : NodeId) (slot : ℕ) (a b : Entry) → Story site known story → IsUnique known.entries → is_honest site i ≡ true → is_honest site j ≡ true → i.shard ≡ j.shard
+pub logs-agree : {M : Type 0} (site : Site M) (sound : IsSoundSite site) (known : Known) (story : List (Moment M)) (i j : NodeId) (slot : ℕ) (a b : Entry) → Story site known story → AreLawful site known → is_honest site i ≡ true → is_honest site j ≡ true → i.shard ≡ j.shard
     → at_slot (log_in (signs_of (trail_at i story))) slot ≡ Some a → at_slot (log_in (signs_of (trail_at j story))) slot ≡ Some b → a ≡ b
-logs-agree {M} site sound known story i j slot a b story_is unique hi hj same x y =
+logs-agree {M} site sound known story i j slot a b story_is lawful hi hj same x y =
     let u = chose site i (trail_at i story) slot a (made-all site known i story story_is) x in
     let v = chose site j (trail_at j story) slot b (made-all site known j story story_is) y in
-    let law = lawful site sound known story i.shard (sound.shard i hi) story_is unique in
+    let law = lawful story i.shard (sound.shard i hi) story_is in
     let of_j : deeds_of j.index (shard_acts i.shard story) ≡ deeds_in (trail_at j story) = subst (λ s. deeds_of j.index (shard_acts s story) ≡ deeds_in (trail_at j story)) (sym same) (deeds-same j.shard j.index story) in
     let one : u.proposed ≡ v.proposed = law.agree i.index j.index slot u.proposed v.proposed
     (subst (λ ds. slice_get (chosen_in ds) slot ≡ Some u.proposed) (sym (deeds-same i.shard i.index story)) u.chosen)

@@ -1,5 +1,5 @@
 -- The first executions are allowed steps of the shards together, of known sessions.
-use Rattle.std.proofs.Common.{◌≡◌, inl, inr, ℕ, ◌<◌, ◌==◌, nat_lt, true, List, [], ◌∷◌, Option, Some, None, map, sym, ◌∙◌, ap, subst, refl}
+use Rattle.std.proofs.Common.{◌≡◌, inl, inr, ℕ, ◌<◌, ◌==◌, nat_lt, true, List, [], ◌∷◌, ◌++◌, Option, Some, None, map, sym, ◌∙◌, ap, subst, refl}
 use Rattle.std.specs.Prelude.{slice_get}
 use Rattle.std.proofs.lemmas.Bool.{cond_both, and_parts, eqb-true}
 use Rattle.cs_base.specs.declared.node_id.NodeId.{NodeId}
@@ -32,11 +32,11 @@ use Rattle.cs_node_law.proofs.Silent.{voted-more}
 use Rattle.cs_node_law.proofs.Pools.{Place, IsSourced, found-in, pool-sourced}
 use Rattle.cs_node_law.proofs.Due.{IsDueFrom, due-from}
 use Rattle.cs_world_law.specs.Worlds.{is_honest}
-use Rattle.cs_world_law.specs.Chain.{Moment, trail_at, Known, Story, IsSoundSite, IsUnique, acts_at, shard_acts, firsts_at, story_firsts}
+use Rattle.cs_world_law.specs.Chain.{Moment, trail_at, Known, Story, IsSoundSite, acts_at, shard_acts, firsts_at, story_firsts}
 use Rattle.cs_world_law.proofs.Deeds.{member-is}
 use Rattle.cs_world_law.proofs.Trails.{at, trail-both, made-all, within-all, deeds-same}
 use Rattle.cs_world_law.proofs.Local.{did-done, due-read, local}
-use Rattle.cs_world_law.proofs.Runs.{lawful}
+use Rattle.cs_world_law.proofs.Lawful.{AreLawful}
 use Rattle.cs_world_law.proofs.Firsts.{given-voted}
 use Rattle.cs_world_law.proofs.Ballots.{IsGiver, giver-later, giver}
 use Rattle.cs_world_law.proofs.Counting.{any-in, all-in, in-concerned, concerned-in, among-item, item-among, votes-all, votes-one}
@@ -49,6 +49,15 @@ map-in f x (y ∷ xs) (inr i) = inr (map-in f x xs i)
 pub seen-session : (setup : Setup) (entry : Entry) → Shard.session_of (entry_of setup entry) ≡ setup.session_of (session_in entry)
 seen-session setup (Prepare x) = refl
 seen-session setup (Decide vote x) = refl
+
+-- allowed steps, of known sessions
+pub record AreFine {M : Type 0} (site : Site M) (known : Known) (firsts : List Execution) : Type 0 where
+  pub allowed : AllAllowed site.setup.rules (steps_of site.setup firsts)
+  pub within : (x : Seen.Session) → IsIn x (sessions (steps_of site.setup firsts)) → IsIn x (map site.setup.session_of known.sessions)
+
+pub fine-earlier : {M : Type 0} (site : Site M) (known : Known) (later earlier : List Execution) → AreFine site known (later ++ earlier) → AreFine site known earlier
+fine-earlier {M} site known [] earlier f = f
+fine-earlier {M} site known (e ∷ later) earlier f = fine-earlier site known later earlier (record { allowed = f.allowed.1; within = λ x i. f.within x (inr i) })
 
 module _ {M : Type 0} (site : Site M) (sound : IsSoundSite site) (known : Known) where
   -- what stands behind an entry that an honest node of a shard admitted
@@ -172,13 +181,13 @@ module _ {M : Type 0} (site : Site M) (sound : IsSoundSite site) (known : Known)
       let before = approved-before m past approved in
       behind-later m past shard (site.entry_in p) (admitted-step shard m.node m.mark past p story before (admitted-behind shard past p story.1 before) admitted)
 
-  module _ (unique : IsUnique known.entries) where
+  module _ (lawful : AreLawful site known) where
     -- ---- executions
 
     executed-behind : (node : NodeId) (slot : ℕ) (entry : Entry) (effect : Effect) (past : List (Moment M)) → Story site known (record { node = node; mark = Plain (Did slot entry effect) } ∷ past) → AllApproved past → IsBehind past node.shard entry
     executed-behind node slot entry effect past story approved =
         let made = story.0.made in
-        let law = lawful site sound known past node.shard (sound.shard node story.0.honest) story.1 unique in
+        let law = lawful past node.shard (sound.shard node story.0.honest) story.1 in
         let own = subst (λ (h : Member M). slice_get (chosen_in h.deeds) slot ≡ Some made.proposed) (member-is site node (trail_at node past)) made.chosen in
         let chosen = subst (λ ds. slice_get (chosen_in ds) slot ≡ Some made.proposed) (sym (deeds-same node.shard node.index past)) own in
         let admitted = law.admitted node.index slot made.proposed chosen in
@@ -218,14 +227,14 @@ module _ {M : Type 0} (site : Site M) (sound : IsSoundSite site) (known : Known)
               (λ item i.
               let t = site.setup.rules.shard_of item.name in
               let g = b.1 t (sound.bound item.name) (among-item site.setup.rules item items i) in
-              given-voted site sound known unique story (at t g.index) (digest_of site.setup x) Shard.Commit story_is g.honest g.given),
+              given-voted site sound known lawful story (at t g.index) (digest_of site.setup x) Shard.Commit story_is g.honest g.given),
         )
     behind-allowed story shard (Decide tx.Abort x) story_is b =
         let items = all_items (site.setup.session_of x).transaction in
         let t = b.1.0 in
         let g = b.1.2 in
         let item = item-among site.setup.rules t items b.1.1 in
-        let voted = given-voted site sound known unique story (at t g.index) (digest_of site.setup x) Shard.Abort story_is g.honest g.given in (
+        let voted = given-voted site sound known lawful story (at t g.index) (digest_of site.setup x) Shard.Abort story_is g.honest g.given in (
           b.0,
           votes-one site.setup.rules (Steps story) (site.setup.session_of x) Shard.Abort items item.0 item.1
               (subst (λ k. votes site.setup.rules (Steps story) k (site.setup.session_of x) Shard.Abort ≡ true) (sym item.2) voted),
@@ -236,15 +245,7 @@ module _ {M : Type 0} (site : Site M) (sound : IsSoundSite site) (known : Known)
         → IsAllowed site.setup.rules (Steps past) node.shard (entry_of site.setup entry)
     executed-allowed node slot entry effect past story = behind-allowed past node.shard entry story.1 (executed-behind node slot entry effect past story (all-approved past story.1))
 
-    abbrev IsIn_known : List Execution → Type 0
-    IsIn_known firsts = (x : Seen.Session) → IsIn x (sessions (steps_of site.setup firsts)) → IsIn x (map site.setup.session_of known.sessions)
-
-    -- allowed steps, of known sessions
-    pub record AreFine (firsts : List Execution) : Type 0 where
-      pub allowed : AllAllowed site.setup.rules (steps_of site.setup firsts)
-      pub within : IsIn_known firsts
-
-    fine-step : (node : NodeId) (mark : Mark M) (past : List (Moment M)) → Story site known (record { node = node; mark = mark } ∷ past) → AreFine (story_firsts past) → AreFine (firsts_at node mark (story_firsts past))
+    fine-step : (node : NodeId) (mark : Mark M) (past : List (Moment M)) → Story site known (record { node = node; mark = mark } ∷ past) → AreFine site known (story_firsts past) → AreFine site known (firsts_at node mark (story_firsts past))
     fine-step node (In input) past story f = f
     fine-step node (Ordered deed) past story f = f
     fine-step node (Plain (Dropped cause)) past story f = f
@@ -257,7 +258,7 @@ module _ {M : Type 0} (site : Site M) (sound : IsSoundSite site) (known : Known)
         let t = trail_at node past in
         let made = made-all site known node past story.1 in
         let d = did-done site sound known node t slot entry effect (story.0.made, made) (local site sound known node t made (within-all site known node past story.1)) in
-        cond_both (nat_lt slot (slots_of node.shard (story_firsts past))) (story_firsts past) (new ∷ story_firsts past) AreFine
+        cond_both (nat_lt slot (slots_of node.shard (story_firsts past))) (story_firsts past) (new ∷ story_firsts past) (λ firsts. AreFine site known firsts)
         (λ e. f)
         (λ e. record {
           allowed = (executed-allowed node slot entry effect past story, f.allowed);
@@ -267,6 +268,6 @@ module _ {M : Type 0} (site : Site M) (sound : IsSoundSite site) (known : Known)
           ];
         })
 
-    pub are-fine : (story : List (Moment M)) → Story site known story → AreFine (story_firsts story)
+    pub are-fine : (story : List (Moment M)) → Story site known story → AreFine site known (story_firsts story)
     are-fine [] story = record { allowed = tt; within = λ x i. absurd i }
     are-fine (m ∷ past) story = fine-step m.node m.mark past story (are-fine past story.1)

@@ -16,8 +16,9 @@ use Rattle.cs_node_law.specs.Made.{AllMade}
 use Rattle.cs_node_law.proofs.Views.{me-same}
 use Rattle.cs_node_law.proofs.Logs.{seen, seen_log, effect-is}
 use Rattle.cs_world_law.specs.Worlds.{is_honest}
-use Rattle.cs_world_law.specs.Chain.{Moment, trail_at, Known, Story, IsSoundSite, IsUnique, story_firsts, shard_log}
+use Rattle.cs_world_law.specs.Chain.{Moment, trail_at, Known, Story, IsSoundSite, story_firsts, shard_log}
 use Rattle.cs_world_law.proofs.Trails.{made-all}
+use Rattle.cs_world_law.proofs.Lawful.{AreLawful}
 use Rattle.cs_world_law.proofs.Older.{older-votes, older-decided}
 use Rattle.cs_world_law.proofs.Firsts.{own_log, log-seen, are-first}
 
@@ -45,12 +46,14 @@ aborted-by setup d (Prepare x) Aborted h = cc
 aborted-by setup d (Prepare x) Skipped h = cc
 aborted-by setup d (Prepare x) Void h = cc
 
-module _ {M : Type 0} (site : Site M) (me : NodeId) (d : Bytes) where
-  came : (t : List (Mark M)) (slot : ℕ) (entry : Entry) (effect : Effect) → AllMade site me (Plain (Did slot entry effect) ∷ t) → effect ≡ (exec site.setup.rules me.shard (table_of site.setup.rules me.shard (seen_log site t)) (entry_of site.setup entry)).effect
-  came t slot entry effect made =
-      effect-is site me t slot entry effect made
-      ∙ ap (λ (n : NodeId). (exec site.setup.rules n.shard (table_of site.setup.rules n.shard (seen_log site t)) (entry_of site.setup entry)).effect) (me-same site me t)
+-- what an execution on the table of the log came to
+pub came : {M : Type 0} (site : Site M) (me : NodeId) (t : List (Mark M)) (slot : ℕ) (entry : Entry) (effect : Effect) → AllMade site me (Plain (Did slot entry effect) ∷ t)
+    → effect ≡ (exec site.setup.rules me.shard (table_of site.setup.rules me.shard (seen_log site t)) (entry_of site.setup entry)).effect
+came {M} site me t slot entry effect made =
+    effect-is site me t slot entry effect made
+    ∙ ap (λ (n : NodeId). (exec site.setup.rules n.shard (table_of site.setup.rules n.shard (seen_log site t)) (entry_of site.setup entry)).effect) (me-same site me t)
 
+module _ {M : Type 0} (site : Site M) (me : NodeId) (d : Bytes) where
   accepts-log : (t : List (Mark M)) → AllMade site me t → accepts_in site.setup d (signs_of t) ≡ true → decided_in site.setup.rules me.shard d Accepted (seen_log site t) ≡ true
   accepts-log [] made h = cc
   accepts-log (In input ∷ t) made h = accepts-log t made.1 h
@@ -62,7 +65,7 @@ module _ {M : Type 0} (site : Site M) (me : NodeId) (d : Bytes) where
   accepts-log (Plain (Sent to message) ∷ t) made h = accepts-log t made.1 h
   accepts-log (Plain (Did slot entry effect) ∷ t) made h =
       elim (or_cases _ _ h) [
-        | inl now ↦ or_left _ _ (subst (λ (e : Effect). (is_decide_of d (entry_of site.setup entry) && is_effect Accepted e) ≡ true) (came t slot entry effect made) (accepted-by site.setup d entry effect now))
+        | inl now ↦ or_left _ _ (subst (λ (e : Effect). (is_decide_of d (entry_of site.setup entry) && is_effect Accepted e) ≡ true) (came site me t slot entry effect made) (accepted-by site.setup d entry effect now))
         | inr before ↦ or_right _ _ (accepts-log t made.1 before)
       ]
 
@@ -79,26 +82,26 @@ module _ {M : Type 0} (site : Site M) (me : NodeId) (d : Bytes) where
   aborts-log (Plain (Did slot entry effect) ∷ t) made h =
       elim (or_cases _ _ h) [
         | inl now ↦ elim (aborted-by site.setup d entry effect now) [
-          | inl a ↦ inl (or_left _ _ (subst (λ (e : Effect). (is_decide_of d (entry_of site.setup entry) && is_effect Aborted e) ≡ true) (came t slot entry effect made) a))
-          | inr v ↦ inr (or_left _ _ (subst (λ (e : Effect). (is_prepare_of d (entry_of site.setup entry) && is_vote Abort e) ≡ true) (came t slot entry effect made) v))
+          | inl a ↦ inl (or_left _ _ (subst (λ (e : Effect). (is_decide_of d (entry_of site.setup entry) && is_effect Aborted e) ≡ true) (came site me t slot entry effect made) a))
+          | inr v ↦ inr (or_left _ _ (subst (λ (e : Effect). (is_prepare_of d (entry_of site.setup entry) && is_vote Abort e) ≡ true) (came site me t slot entry effect made) v))
         ]
         | inr before ↦ elim (aborts-log t made.1 before) [ inl a ↦ inl (or_right _ _ a) | inr v ↦ inr (or_right _ _ v) ]
       ]
 
-module _ {M : Type 0} (site : Site M) (sound : IsSoundSite site) (known : Known) (unique : IsUnique known.entries) (story : List (Moment M)) (story_is : Story site known story) (i : NodeId) (honest : is_honest site i ≡ true) (d : Bytes) where
+module _ {M : Type 0} (site : Site M) (sound : IsSoundSite site) (known : Known) (lawful : AreLawful site known) (story : List (Moment M)) (story_is : Story site known story) (i : NodeId) (honest : is_honest site i ≡ true) (d : Bytes) where
   abbrev Log : List Shard.Entry
   Log = log i.shard (steps_of site.setup (story_firsts story))
 
   decided-there : (effect : Effect) → decided_in site.setup.rules i.shard d effect (seen_log site (trail_at i story)) ≡ true → decided_in site.setup.rules i.shard d effect Log ≡ true
   decided-there effect h =
-      let f = (are-first site sound known unique i.shard story story_is).older i honest refl in
+      let f = (are-first site sound known lawful i.shard story story_is).older i honest refl in
       let part = subst (λ l. decided_in site.setup.rules i.shard d effect (seen site.setup l) ≡ true) f.is h in
       ap (λ l. decided_in site.setup.rules i.shard d effect l) (log-seen site.setup i.shard (story_firsts story))
       ∙ older-decided site.setup site.setup.rules i.shard d effect (length (own_log i story)) (shard_log i.shard (story_firsts story)) part
 
   voted-there : (vote : Vote) → votes_in site.setup.rules i.shard d vote (seen_log site (trail_at i story)) ≡ true → votes_in site.setup.rules i.shard d vote Log ≡ true
   voted-there vote h =
-      let f = (are-first site sound known unique i.shard story story_is).older i honest refl in
+      let f = (are-first site sound known lawful i.shard story story_is).older i honest refl in
       let part = subst (λ l. votes_in site.setup.rules i.shard d vote (seen site.setup l) ≡ true) f.is h in
       ap (λ l. votes_in site.setup.rules i.shard d vote l) (log-seen site.setup i.shard (story_firsts story))
       ∙ older-votes site.setup site.setup.rules i.shard d vote (length (own_log i story)) (shard_log i.shard (story_firsts story)) part

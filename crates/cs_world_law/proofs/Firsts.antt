@@ -12,10 +12,11 @@ use Rattle.cs_node_rules.specs.Site.{Mark, In, Ordered, Plain, Site, signs_of}
 use Rattle.cs_node_rules.specs.World.{Execution, steps_of, slots_of}
 use Rattle.cs_node_law.specs.Made.{log_in, has_given}
 use Rattle.cs_world_law.specs.Worlds.{is_honest}
-use Rattle.cs_world_law.specs.Chain.{Moment, trail_at, Known, Story, IsSoundSite, IsUnique, firsts_at, story_firsts, shard_log}
+use Rattle.cs_world_law.specs.Chain.{Moment, trail_at, Known, Story, IsSoundSite, firsts_at, story_firsts, shard_log}
 use Rattle.cs_node_law.proofs.Views.{me-same}
 use Rattle.cs_node_law.proofs.Logs.{seen, seen_log, given-is}
 use Rattle.cs_world_law.proofs.Trails.{trail-both, trail-own, made-all}
+use Rattle.cs_world_law.proofs.Lawful.{AreLawful}
 use Rattle.cs_world_law.proofs.Agree.{logs-agree}
 use Rattle.cs_world_law.proofs.Older.{at_slot, lt-not, at-some, at-more, at-last, IsOlder, older-grow, older-old, older-new, older-votes}
 
@@ -46,7 +47,7 @@ record IsSilent {M : Type 0} (mark : Mark M) : Type 0 where
   pub log : (t : List (Mark M)) → log_in (signs_of (mark ∷ t)) ≡ log_in (signs_of t)
   pub firsts : (node : NodeId) (firsts : List Execution) → firsts_at node mark firsts ≡ firsts
 
-module _ {M : Type 0} (site : Site M) (sound : IsSoundSite site) (known : Known) (unique : IsUnique known.entries) where
+module _ {M : Type 0} (site : Site M) (sound : IsSoundSite site) (known : Known) (lawful : AreLawful site known) where
   -- an honest node of the shard executed the entry in the slot
   pub record IsSource (shard : ℕ) (story : List (Moment M)) (slot : ℕ) (entry : Entry) : Type 0 where
     pub node : NodeId
@@ -121,7 +122,7 @@ module _ {M : Type 0} (site : Site M) (sound : IsSoundSite site) (known : Known)
         let below : n < length l = subst (λ k. n < k) (slots-log node.shard (story_firsts past)) (ltb-true n (slots_of node.shard (story_firsts past)) less) in
         let a = at-some l n below in
         let s = k.from n a.0 a.1 in
-        let one : a.0 ≡ entry = logs-agree site sound known (Now ∷ past) s.node node n a.0 entry story unique s.honest story.0.honest s.here (raised s.node n a.0 s.has) own-entry in
+        let one : a.0 ≡ entry = logs-agree site sound known (Now ∷ past) s.node node n a.0 entry story lawful s.honest story.0.honest s.here (raised s.node n a.0 s.has) own-entry in
         let there : at_slot l n ≡ Some entry = a.1 ∙ ap (λ x. Some x) one in
         record {
           older = λ i honest here.

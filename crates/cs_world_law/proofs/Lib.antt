@@ -3,6 +3,7 @@ pub mod Trails
 pub mod Local
 pub mod Stories
 pub mod Runs
+pub mod Lawful
 pub mod Older
 pub mod Agree
 pub mod Firsts
@@ -12,10 +13,12 @@ pub mod Allowed
 pub mod Anchors
 pub mod Told
 pub mod Decided
+pub mod Parts
 pub mod Origins
 pub mod Acceptance
 pub mod Readiness
 pub mod Middle
+pub mod Before
 pub mod Deployed
 pub mod Whole
 pub mod Alone

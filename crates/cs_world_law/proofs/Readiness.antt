@@ -26,11 +26,12 @@ use Rattle.cs_node_law.specs.Made.{view_at, log_in, AllMade}
 use Rattle.cs_node_law.proofs.Views.{me-same}
 use Rattle.cs_node_law.proofs.Logs.{seen}
 use Rattle.cs_world_law.specs.Worlds.{is_honest}
-use Rattle.cs_world_law.specs.Chain.{Moment, trail_at, Known, Story, IsSoundSite, IsUnique, story_firsts, shard_log}
+use Rattle.cs_world_law.specs.Chain.{Moment, trail_at, Known, Story, IsSoundSite, story_firsts, shard_log}
 use Rattle.cs_world_law.proofs.Trails.{AllWithin, made-all, within-all}
+use Rattle.cs_world_law.proofs.Lawful.{AreLawful}
 use Rattle.cs_world_law.proofs.Older.{older, at_slot, IsOlder, older-drop, older-all, older-part, at-below}
 use Rattle.cs_world_law.proofs.Firsts.{log-seen, are-first}
-use Rattle.cs_world_law.proofs.Allowed.{AreFine, are-fine}
+use Rattle.cs_world_law.proofs.Allowed.{AreFine, fine-earlier, are-fine}
 use Rattle.cs_world_law.proofs.Acceptance.{voted-well, decides-so, used-gone, made-active}
 
 -- ---- the marks up to a sign
@@ -152,15 +153,11 @@ came {M} site known me t made within entry e =
     ∙ ap (λ (n : NodeId). (exec site.setup.rules n.shard (view_at site me c.before).bench.table (entry_of site.setup entry)).effect) (me-same site me c.before)
     ∙ ap (λ (u : Table). (exec site.setup.rules me.shard u (entry_of site.setup entry)).effect) (sym table)
 
-module _ {M : Type 0} (site : Site M) (sound : IsSoundSite site) (known : Known) (unique : IsUnique known.entries) (story : List (Moment M)) (story_is : Story site known story) (i : NodeId) (honest : is_honest site i ≡ true) where
-  fine-suffix : (later rest : List Execution) → AreFine site sound known unique (later ++ rest) → AreFine site sound known unique rest
-  fine-suffix [] rest f = f
-  fine-suffix (e ∷ later) rest f = fine-suffix later rest (record { allowed = f.allowed.1; within = λ x j. f.within x (inr j) })
-
+module _ {M : Type 0} (site : Site M) (sound : IsSoundSite site) (known : Known) (lawful : AreLawful site known) (story : List (Moment M)) (story_is : Story site known story) (i : NodeId) (honest : is_honest site i ≡ true) where
   module _ (entry : Entry) (e : Executed (signs_of (trail_at i story)) entry) where
     pub split : IsSplit i.shard (log_in e.earlier) entry (story_firsts story)
     split =
-        let own = (are-first site sound known unique i.shard story story_is).older i honest refl in
+        let own = (are-first site sound known lawful i.shard story story_is).older i honest refl in
         let is : log_in (signs_of (trail_at i story)) ≡ log_in e.later ++ entry ∷ log_in e.earlier = ap log_in e.split ∙ log-append e.later (Did e.slot entry e.effect ∷ e.earlier) in
         let next = older-part (log_in e.later) entry (log_in e.earlier) (shard_log i.shard (story_firsts story)) (subst (λ l. IsOlder l (shard_log i.shard (story_firsts story))) is own) in
         split-at i.shard (log_in e.earlier) entry (length (log_in e.earlier)) (story_firsts story) next.is next.there
@@ -168,8 +165,8 @@ module _ {M : Type 0} (site : Site M) (sound : IsSoundSite site) (known : Known)
     abbrev pub Before : List Step
     Before = steps_of site.setup split.earlier
 
-    fine : AreFine site sound known unique (split.first ∷ split.earlier)
-    fine = fine-suffix split.later (split.first ∷ split.earlier) (subst (λ f. AreFine site sound known unique f) split.is (are-fine site sound known unique story story_is))
+    fine : AreFine site known (split.first ∷ split.earlier)
+    fine = fine-earlier site known split.later (split.first ∷ split.earlier) (subst (λ f. AreFine site known f) split.is (are-fine site sound known lawful story story_is))
 
     pub allowed-at : IsAllowed site.setup.rules Before i.shard (entry_of site.setup entry)
     allowed-at =

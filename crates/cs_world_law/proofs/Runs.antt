@@ -2,6 +2,7 @@
 use Rattle.std.proofs.Common.{◌≡◌, ◌⊎◌, inl, inr, ℕ, ◌==◌, ◌<◌, Bool, true, false, if◌then◌else◌, List, [], ◌∷◌, Some, sym, ◌∙◌, ap, subst, refl}
 use Rattle.std.specs.Prelude.{Ok}
 use Rattle.std.proofs.lemmas.Bool.{cond_both, both_ways, or_right, eqb-true}
+use Rattle.sha2.proofs.Facts256.{length-sha256}
 use Rattle.cs_base.specs.declared.node_id.NodeId.{NodeId}
 use Rattle.cs_base.specs.NodeId.{is_client}
 use Rattle.cs_tx_form.specs.declared.session.Session.{Session}
@@ -13,9 +14,12 @@ use Rattle.cs_wire_message.specs.Message.{MessageFits}
 use Rattle.cs_order.specs.declared.proposed.Proposed.{Proposed}
 use Rattle.cs_order.specs.Lists as Order
 use Rattle.cs_order.specs.laws.Lists.{IsIn-right}
+use Rattle.cs_order.specs.laws.Digests.{digest-passes}
+use Rattle.cs_order.specs.Digests.{digest_fits}
 use Rattle.cs_order.specs.Deeds.{Deed, Took_in, Advanced, Echoed, Proposing, Ticked, Resent, Replied, Member, sent_by}
 use Rattle.cs_order.specs.Runs.{Act, KeepsRules, IsKept, IsFor, HandedOut, Genuine, Run, deeds_of, entries_in, held_in, handed_in, EntriesToldApart, Follows as Next}
 use Rattle.cs_order.specs.Law.{IsLawful}
+use Rattle.cs_tx.specs.Digest.{digest_of_entry}
 use Rattle.cs_ledger.specs.Ledger.{Bytes, IsIn}
 use Rattle.cs_ledger.specs.Table.{Vote}
 use Rattle.cs_node_state.specs.Setup.{Setup, digest_of, vote_of}
@@ -27,6 +31,7 @@ use Rattle.cs_node_rules.specs.Deployment.{proposed_of}
 use Rattle.cs_node_law.specs.Made.{view_at, has_given, IsHanded, IsHeard, SaidMade, SignMade, AllMade}
 use Rattle.cs_world_law.specs.Worlds.{is_honest}
 use Rattle.cs_world_law.specs.Chain.{Moment, trail_at, Known, HasSealed, Follows, Story, IsSoundSite, IsUnique, acts_at, shard_acts, honest_in}
+use Rattle.cs_node_law.proofs.Sealing.{bytes-sha256}
 use Rattle.cs_node_law.proofs.Views.{sessions_given, me-same}
 use Rattle.cs_world_law.proofs.Deeds.{deeds_in, member-is}
 use Rattle.cs_world_law.proofs.Trails.{at, AllWithin, made-all, within-all, deeds-same}
@@ -47,6 +52,10 @@ handed-of {M} from to m (act ∷ acts) h = go (act.member == from) refl (handed-
     go true e later (inr before) = inr (later before)
     go false e later before = inr (later before)
 
+-- an entry has a digest
+entry-digest : (p : Proposed) → IsEntry p → digest_fits p.digest ≡ true
+entry-digest p is = rw is.is (digest-passes (digest_of_entry is.entry) (length-sha256 _, bytes-sha256 _))
+
 -- a message of the order that one of these deeds handed out
 pub record IsOrdered {M : Type 0} (site : Site M) (to : ℕ) (said : Message) (deeds : List (Deed M)) : Type 0 where
   pub fits : MessageFits said
@@ -58,7 +67,7 @@ handed-is : {M : Type 0} (site : Site M) (sound : IsSoundSite site) (me to : ℕ
 handed-is {M} site sound me to said [] kept all h = absurd h
 handed-is {M} site sound me to said (deed ∷ past) kept all (inl now) =
     let m = now.0 in
-    let proper = sound.holds.proper site.setup.f me deed past kept m to now.1.0 in
+    let proper = sound.holds.proper site.setup.f me deed past kept (λ p i. entry-digest p (all p i)) m to now.1.0 in
     let entries = λ (p : Proposed) (i : Order.IsIn p (site.machine.carried m)). all p (sound.holds.sent site.setup.f me deed past kept m to now.1.0 p i) in
     record {
       fits = subst MessageFits now.1.1 (sound.carries.fits m);

@@ -18,8 +18,10 @@ use Rattle.cs_node_rules.specs.World.{Execution, steps_of, slots_of, prepares, r
 use Rattle.cs_node_law.proofs.Views.{me-same}
 use Rattle.cs_node_law.proofs.Logs.{seen, seen_log, effect-is, prepares-seen}
 use Rattle.cs_world_law.proofs.Counting.{all-in, all-from, in-concerned, concerned-in, among-item, item-among, votes-all}
-use Rattle.cs_world_law.specs.Chain.{Moment, trail_at, Known, Story, IsSoundSite, IsUnique, firsts_at, story_firsts, shard_log}
+use Rattle.cs_world_law.specs.Steps.{IsComputed, AllComputed}
+use Rattle.cs_world_law.specs.Chain.{Moment, trail_at, Known, Story, IsSoundSite, firsts_at, story_firsts, shard_log}
 use Rattle.cs_world_law.proofs.Trails.{made-all}
+use Rattle.cs_world_law.proofs.Lawful.{AreLawful}
 use Rattle.cs_world_law.proofs.Older.{lt-not, older-all}
 use Rattle.cs_world_law.proofs.Firsts.{own_log, slots-log, log-seen, are-first}
 use Rattle.cs_world_law.proofs.Anchors.{prepare-votes}
@@ -30,13 +32,7 @@ bools-same false true f g = g refl
 bools-same false false f g = refl
 
 module _ (setup : Setup) (bound : (name : Bytes) → setup.rules.shard_of name < setup.shards) where
-  -- each effect is that of executing the entry on the log before
-  abbrev pub AllComputed : List Execution → Type 0
-  AllComputed [] = Unit {0}
-  AllComputed (e ∷ earlier) =
-      (e.effect ≡ (exec setup.rules e.shard (table_of setup.rules e.shard (log e.shard (steps_of setup earlier))) (entry_of setup e.entry)).effect) × AllComputed earlier
-
-  pub recorded-is : (firsts : List Execution) (d : Bytes) (vote : Vote) (shard : ℕ) → AllComputed firsts → recorded setup firsts d vote shard ≡ votes_in setup.rules shard d vote (log shard (steps_of setup firsts))
+  pub recorded-is : (firsts : List Execution) (d : Bytes) (vote : Vote) (shard : ℕ) → AllComputed setup firsts → recorded setup firsts d vote shard ≡ votes_in setup.rules shard d vote (log shard (steps_of setup firsts))
   recorded-is [] d vote shard computed = refl
   recorded-is (e ∷ earlier) d vote shard computed = here (e.shard == shard) refl (recorded-is earlier d vote shard computed.1)
     where
@@ -46,11 +42,11 @@ module _ (setup : Setup) (bound : (name : Bytes) → setup.rules.shard_of name <
       here false other before = before
       here true same before =
           let came : e.effect ≡ (exec setup.rules shard (table_of setup.rules shard (log shard (steps_of setup earlier))) (entry_of setup e.entry)).effect =
-          computed.0 ∙ ap (λ k. (exec setup.rules k (table_of setup.rules k (log k (steps_of setup earlier))) (entry_of setup e.entry)).effect) (eqb-true e.shard shard same) in
+          computed.0.effect ∙ ap (λ k. (exec setup.rules k (table_of setup.rules k (log k (steps_of setup earlier))) (entry_of setup e.entry)).effect) (eqb-true e.shard shard same) in
           let now = prepares-seen setup d e.entry in
           λ i. (now i && is_vote vote (came i)) || before i
 
-  pub all-recorded-is : (firsts : List Execution) (x : Session) → AllComputed firsts → all_recorded setup firsts x ≡ all_commit setup.rules (steps_of setup firsts) (setup.session_of x)
+  pub all-recorded-is : (firsts : List Execution) (x : Session) → AllComputed setup firsts → all_recorded setup firsts x ≡ all_commit setup.rules (steps_of setup firsts) (setup.session_of x)
   all-recorded-is firsts x computed =
       let d = digest_of setup x in
       let items = all_items (setup.session_of x).transaction in
@@ -68,7 +64,7 @@ module _ (setup : Setup) (bound : (name : Bytes) → setup.rules.shard_of name <
       recorded-is firsts d Commit shard computed ∙ subst (λ k. votes setup.rules (steps_of setup firsts) k (setup.session_of x) Commit ≡ true) item.2 v))
 
   -- what is allowed gives a vote, so an execution tells what a step of the shards together does
-  pub told-is : (firsts : List Execution) → AllComputed firsts → AllAllowed setup.rules (steps_of setup firsts) → told setup firsts ≡ World.history setup.rules (steps_of setup firsts)
+  pub told-is : (firsts : List Execution) → AllComputed setup firsts → AllAllowed setup.rules (steps_of setup firsts) → told setup firsts ≡ World.history setup.rules (steps_of setup firsts)
   told-is [] computed allowed = refl
   told-is (e ∷ earlier) computed allowed = after e.entry refl (told-is earlier computed.1 allowed.1)
     where
@@ -82,13 +78,13 @@ module _ (setup : Setup) (bound : (name : Bytes) → setup.rules.shard_of name <
           let all = all_are x in
           let fine : IsAllowed setup.rules (steps_of setup earlier) e.shard (entry_of setup (Prepare x)) = subst (λ (z : Entry). IsAllowed setup.rules (steps_of setup earlier) e.shard (entry_of setup z)) is allowed.0 in
           let table = table_of setup.rules e.shard (log e.shard (steps_of setup earlier)) in
-          let came : e.effect ≡ (exec setup.rules e.shard table (entry_of setup (Prepare x))).effect = computed.0 ∙ ap (λ (z : Entry). (exec setup.rules e.shard table (entry_of setup z)).effect) is in
+          let came : e.effect ≡ (exec setup.rules e.shard table (entry_of setup (Prepare x))).effect = computed.0.effect ∙ ap (λ (z : Entry). (exec setup.rules e.shard table (entry_of setup z)).effect) is in
           let votes : is_voted e.effect ≡ true = ap is_voted came ∙ prepare-votes setup.rules e.shard table (setup.session_of x) fine.0 fine.1 in
           λ i. if votes i && (all i && not (is_listed (setup.session_of x).transaction (before i))) then before i ++ (setup.session_of x).transaction ∷ [] else before i
 
 -- the first executions are computed
-module _ {M : Type 0} (site : Site M) (sound : IsSoundSite site) (known : Known) (unique : IsUnique known.entries) where
-  computed-step : (node : NodeId) (mark : Mark M) (past : List (Moment M)) → Story site known (record { node = node; mark = mark } ∷ past) → AllComputed site.setup sound.bound (story_firsts past) → AllComputed site.setup sound.bound (firsts_at node mark (story_firsts past))
+module _ {M : Type 0} (site : Site M) (sound : IsSoundSite site) (known : Known) (lawful : AreLawful site known) where
+  computed-step : (node : NodeId) (mark : Mark M) (past : List (Moment M)) → Story site known (record { node = node; mark = mark } ∷ past) → AllComputed site.setup (story_firsts past) → AllComputed site.setup (firsts_at node mark (story_firsts past))
   computed-step node (In input) past story c = c
   computed-step node (Ordered deed) past story c = c
   computed-step node (Plain (Dropped cause)) past story c = c
@@ -98,23 +94,31 @@ module _ {M : Type 0} (site : Site M) (sound : IsSoundSite site) (known : Known)
   computed-step node (Plain (Sent to said)) past story c = c
   computed-step node (Plain (Did slot entry effect)) past story c =
       let new : Execution = record { shard = node.shard; slot = slot; entry = entry; effect = effect } in
-      cond_both (nat_lt slot (slots_of node.shard (story_firsts past))) (story_firsts past) (new ∷ story_firsts past) (λ f. AllComputed site.setup sound.bound f)
+      cond_both (nat_lt slot (slots_of node.shard (story_firsts past))) (story_firsts past) (new ∷ story_firsts past) (λ f. AllComputed site.setup f)
       (λ e. c)
       (λ e. (first e, c))
     where
-      first : nat_lt slot (slots_of node.shard (story_firsts past)) ≡ false → effect ≡ (exec site.setup.rules node.shard (table_of site.setup.rules node.shard (log node.shard (steps_of site.setup (story_firsts past)))) (entry_of site.setup entry)).effect
+      first : nat_lt slot (slots_of node.shard (story_firsts past)) ≡ false → IsComputed site.setup (story_firsts past) (record { shard = node.shard; slot = slot; entry = entry; effect = effect })
       first more =
           let t = trail_at node past in
           let l = shard_log node.shard (story_firsts past) in
-          let own = (are-first site sound known unique node.shard past story.1).older node story.0.honest refl in
-          let at_least : length l ≤ slot = subst (λ k. k ≤ slot) (slots-log node.shard (story_firsts past)) (lt-not slot (slots_of node.shard (story_firsts past)) more) in
+          let own = (are-first site sound known lawful node.shard past story.1).older node story.0.honest refl in
+          let slots = slots-log node.shard (story_firsts past) in
+          let at_least : length l ≤ slot = subst (λ k. k ≤ slot) slots (lt-not slot (slots_of node.shard (story_firsts past)) more) in
           let size : length l ≤ length (own_log node past) = subst (λ k. length l ≤ k) story.0.made.next at_least in
           let same : own_log node past ≡ l = own.is ∙ older-all (length (own_log node past)) l size in
           let logs : seen_log site t ≡ log node.shard (steps_of site.setup (story_firsts past)) = ap (λ z. seen site.setup z) same ∙ sym (log-seen site.setup node.shard (story_firsts past)) in
-          effect-is site node t slot entry effect (story.0.made, made-all site known node past story.1)
-          ∙ ap (λ (n : NodeId). (exec site.setup.rules n.shard (table_of site.setup.rules n.shard (seen_log site t)) (entry_of site.setup entry)).effect) (me-same site node t)
-          ∙ ap (λ z. (exec site.setup.rules node.shard (table_of site.setup.rules node.shard z) (entry_of site.setup entry)).effect) logs
+          record {
+            next = story.0.made.next ∙ ap length same ∙ sym slots;
+            effect = effect-is site node t slot entry effect (story.0.made, made-all site known node past story.1)
+                ∙ ap (λ (n : NodeId). (exec site.setup.rules n.shard (table_of site.setup.rules n.shard (seen_log site t)) (entry_of site.setup entry)).effect) (me-same site node t)
+                ∙ ap (λ z. (exec site.setup.rules node.shard (table_of site.setup.rules node.shard z) (entry_of site.setup entry)).effect) logs;
+          }
 
-  pub computed : (story : List (Moment M)) → Story site known story → AllComputed site.setup sound.bound (story_firsts story)
+  pub computed : (story : List (Moment M)) → Story site known story → AllComputed site.setup (story_firsts story)
   computed [] story = tt
   computed (m ∷ past) story = computed-step m.node m.mark past story (computed past story.1)
+
+pub computed-earlier : (setup : Setup) (later earlier : List Execution) → AllComputed setup (later ++ earlier) → AllComputed setup earlier
+computed-earlier setup [] earlier c = c
+computed-earlier setup (e ∷ later) earlier c = computed-earlier setup later earlier c.1

@@ -1,5 +1,5 @@
 -- A world of a deployment is a story, of which the theorem on the shards together speaks.
-use Rattle.std.proofs.Common.{◌≡◌, ◌<◌, ◌≤◌, Bool, true, List, [], ◌∷◌, ◌++◌, map, refl, sym, ap, ◌∙◌, subst, arith, append_assoc}
+use Rattle.std.proofs.Common.{◌≡◌, ◌⊎◌, ◌<◌, ◌≤◌, Bool, true, List, [], ◌∷◌, ◌++◌, map, refl, sym, ap, ◌∙◌, subst, arith}
 use Rattle.std.specs.Prelude.{not, ◌&&◌, nat_lt}
 use Rattle.std.specs.List.{list_any}
 use Rattle.std.proofs.lemmas.Bool.{and_parts, ltb-true}
@@ -8,31 +8,33 @@ use Rattle.cs_base.specs.declared.node_id.NodeId.{NodeId}
 use Rattle.cs_base.specs.NodeId.{is_node, same_name}
 use Rattle.cs_tx_value.specs.declared.object.Object.{Object}
 use Rattle.cs_tx_form.specs.declared.transaction.Tx.{Tx}
-use Rattle.cs_tx_form.specs.declared.session.Session.{Session}
 use Rattle.cs_tx_form.specs.declared.entry.Entry.{Entry}
 use Rattle.cs_order.specs.Deeds.{Machine}
 use Rattle.cs_order.specs.Law.{Law, Holds}
 use Rattle.cs_ledger.specs.Ledger.{Bytes}
+use Rattle.cs_ledger.specs.Table.{Abort, Accepted, Aborted}
 use Rattle.cs_ledger.specs.ShardWorld as World
 use Rattle.cs_node_rules.specs.Signs.{Did}
-use Rattle.cs_node_rules.specs.Site.{Carrier, Site}
-use Rattle.cs_node_rules.specs.World.{Happening, trail_of, AreHonest, firsts_of, told, history, all_recorded}
+use Rattle.cs_node_rules.specs.Site.{Carrier, Site, signs_of}
+use Rattle.cs_node_rules.specs.World.{Happening, Execution, trail_of, AreHonest, firsts_of, steps_of, accepts_in, aborts_in}
 use Rattle.cs_node_rules.specs.Ready.{Executed}
 use Rattle.cs_node_rules.specs.Collisions.{known_sessions, known_entries, NoCollision}
 use Rattle.cs_node_rules.specs.Carrying.{Carries}
 use Rattle.cs_node_law.specs.Made.{EventIsMade, AllMade}
 use Rattle.cs_world_law.specs.Worlds.{is_honest, IsWorld, deployed, signs_at}
-use Rattle.cs_world_law.specs.Chain.{at_node, moments, Known, Story, IsSoundSite, IsUnique, story_firsts}
+use Rattle.cs_world_law.specs.Steps.{AllComputed, StepsComputed, executions_of, executions_in, IsOlderPart, FollowsShard}
+use Rattle.cs_world_law.specs.Chain.{moments, trail_at, Known, Story, IsSoundSite}
 use Rattle.cs_world_law.proofs.Trails.{AllWithin, within-all}
 use Rattle.cs_world_law.proofs.Local.{IsDone, did-done, local}
 use Rattle.cs_world_law.proofs.Stories.{trail-same, firsts-same, IsSane, sane}
-use Rattle.cs_world_law.proofs.Middle.{IsMiddle, middle, story-earlier}
+use Rattle.cs_world_law.proofs.Lawful.{AreLawful, lawful-apart, lawful-alone}
+use Rattle.cs_world_law.proofs.Allowed.{AreFine, fine-earlier, are-fine}
+use Rattle.cs_world_law.proofs.Told.{computed, computed-earlier}
+use Rattle.cs_world_law.proofs.Decided.{accepts-decided, aborts-decided}
+use Rattle.cs_world_law.proofs.Parts.{follows}
+use Rattle.cs_world_law.proofs.Middle.{IsMiddle, middle}
 use Rattle.cs_world_law.proofs.Readiness.{part}
 use Rattle.cs_world_law.proofs.Deployed.{is-sound, opens-fit, are-apart, are-unique}
-
-pub moments-append : {M : Type 0} (later earlier : List (Happening M)) → moments (later ++ earlier) ≡ moments later ++ moments earlier
-moments-append {M} [] earlier = refl
-moments-append {M} (h ∷ later) earlier = ap (λ z. at_node h.node h.marks ++ z) (moments-append later earlier) ∙ sym (append_assoc (at_node h.node h.marks) (moments later) (moments earlier))
 
 -- what an event does is at a node of a shard
 pub shards-some : (config : Config) (liars : List NodeId) (name : NodeId) → (is_node config name && not (list_any (λ liar. same_name liar name) liars)) ≡ true → 0 < config.shards
@@ -123,27 +125,57 @@ module _ {M : Type 0} (machine : Machine M) (p : IsPlace machine) where
         let c = part At Here i (trail_of i p.world) e.later (Did e.slot entry e.effect) e.earlier (made i) (within i) e.split in
         did-done At sound Here i c.before e.slot entry e.effect c.made (local At sound Here i c.before c.made.1 c.within)
 
+    -- ---- where the order of each shard keeps its law
+
+    module _ (lawful : AreLawful At Here) where
+      pub fine : AreFine At Here (firsts_of p.world)
+      fine = subst (λ f. AreFine At Here f) (sym (firsts-same p.world)) (are-fine At sound Here lawful (moments p.world) story)
+
+      pub came : StepsComputed At p.world
+      came = subst (λ f. AllComputed At.setup f) (sym (firsts-same p.world)) (computed At sound Here lawful (moments p.world) story)
+
+      pub follow : FollowsShard At p.world
+      follow i honest =
+          subst (λ t. IsOlderPart (executions_in i.shard (signs_of t)) (executions_of i.shard (firsts_of p.world))) (trail-same i p.world)
+          (subst (λ f. IsOlderPart (executions_in i.shard (signs_of (trail_at i (moments p.world)))) (executions_of i.shard f)) (sym (firsts-same p.world))
+          (follows At sound Here lawful (moments p.world) story i honest))
+
+    -- so it does where no node may lie
+    pub lawful-trusted : At.setup.f ≡ 0 → AreLawful At Here
+    lawful-trusted trusted = lawful-alone At sound Here trusted
+
+    -- ---- and where no two hashed strings collide
+
     module _ (apart : NoCollision At p.genesis p.world) where
-      pub unique : IsUnique Here.entries
-      unique = are-unique p.config p.master p.liars p.genesis p.approves machine p.carrier p.world apart
+      pub lawful-here : AreLawful At Here
+      lawful-here = lawful-apart At sound Here (are-unique p.config p.master p.liars p.genesis p.approves machine p.carrier p.world apart)
 
       pub names : World.AreNamedApart At.setup.rules.genesis (map At.setup.session_of Here.sessions)
       names = are-apart p.config p.master p.liars p.genesis p.approves machine p.carrier p.world p.is_world.life p.is_world.bytes apart
 
-      pub whole : IsMiddle At sound Here unique (moments p.world)
-      whole = middle At sound Here unique names (moments p.world) story
+      -- each beginning of the first executions is one of which the theorem on the shards together speaks
+      pub until : (later earlier : List Execution) → firsts_of p.world ≡ later ++ earlier → IsMiddle At Here earlier
+      until later earlier split =
+          middle At sound Here names earlier
+          (fine-earlier At Here later earlier (subst (λ f. AreFine At Here f) split (fine lawful-here)))
+          (computed-earlier At.setup later earlier (subst (λ f. AllComputed At.setup f) split (came lawful-here)))
 
-      -- the same of earlier events
-      story-until : (later earlier : List (Happening M)) → p.world ≡ later ++ earlier → Story At Here (moments earlier)
-      story-until later earlier split = story-earlier At Here (moments later) (moments earlier) (subst (λ z. Story At Here z) (ap (λ z. moments z) split ∙ moments-append later earlier) story)
+      pub whole : IsMiddle At Here (firsts_of p.world)
+      whole = until [] (firsts_of p.world) refl
 
-      pub until : (later earlier : List (Happening M)) → p.world ≡ later ++ earlier → IsMiddle At sound Here unique (moments earlier)
-      until later earlier split = middle At sound Here unique names (moments earlier) (story-until later earlier split)
+      -- what an honest node decided is decided in the log of its shard
+      pub accepts-here : (i : NodeId) (d : Bytes) → is_honest At i ≡ true → accepts_in At.setup d (signs_at i p.world) ≡ true
+          → World.decided_in At.setup.rules i.shard d Accepted (World.log i.shard (steps_of At.setup (firsts_of p.world))) ≡ true
+      accepts-here i d honest accepts =
+          ap (λ f. World.decided_in At.setup.rules i.shard d Accepted (World.log i.shard (steps_of At.setup f))) (firsts-same p.world)
+          ∙ accepts-decided At sound Here lawful-here (moments p.world) story i honest d (subst (λ t. accepts_in At.setup d (signs_of t) ≡ true) (sym (trail-same i p.world)) accepts)
 
--- ---- the same words over events
+      abbrev pub HasAborted : NodeId → Bytes → List Execution → Type 0
+      HasAborted i d firsts =
+          (World.decided_in At.setup.rules i.shard d Aborted (World.log i.shard (steps_of At.setup firsts)) ≡ true)
+          ⊎ (World.votes_in At.setup.rules i.shard d Abort (World.log i.shard (steps_of At.setup firsts)) ≡ true)
 
-pub history-story : {M : Type 0} (site : Site M) (world : List (Happening M)) → history site world ≡ told site.setup (story_firsts (moments world))
-history-story {M} site world = ap (λ f. told site.setup f) (firsts-same world)
-
-pub recorded-story : {M : Type 0} (site : Site M) (world : List (Happening M)) (x : Session) → all_recorded site.setup (firsts_of world) x ≡ all_recorded site.setup (story_firsts (moments world)) x
-recorded-story {M} site world x = ap (λ f. all_recorded site.setup f x) (firsts-same world)
+      pub aborts-here : (i : NodeId) (d : Bytes) → is_honest At i ≡ true → aborts_in At.setup d (signs_at i p.world) ≡ true → HasAborted i d (firsts_of p.world)
+      aborts-here i d honest aborts =
+          subst (λ f. HasAborted i d f) (sym (firsts-same p.world))
+          (aborts-decided At sound Here lawful-here (moments p.world) story i honest d (subst (λ t. aborts_in At.setup d (signs_of t) ≡ true) (sym (trail-same i p.world)) aborts))

@@ -1,2 +1,4 @@
 pub mod Worlds
+pub mod Steps
 pub mod Chain
+pub mod laws

@@ -1,5 +1,5 @@
 -- Worlds of any number of shards, and what is said of them.
-use Rattle.std.specs.Prelude.{◌≡◌, ℕ, ◌<◌, ◌≤◌, Bool, true, List, ◌++◌, length, Some}
+use Rattle.std.specs.Prelude.{◌≡◌, ℕ, ◌<◌, ◌≤◌, Bool, true, List, length, Some}
 use Rattle.cs_base.specs.declared.config.Config.{Config}
 use Rattle.cs_base.specs.declared.node_id.NodeId.{NodeId}
 use Rattle.cs_tx_value.specs.declared.object.Object.{Object}
@@ -13,11 +13,11 @@ use Rattle.cs_order.specs.Runs.{FewLiars}
 use Rattle.cs_ledger.specs.Ledger.{Bytes, Transaction, IsIn, Serial, IsSpentOnce, genesis_ledger, ledger_of, uses_once}
 use Rattle.cs_ledger.specs.Session as Seen
 use Rattle.cs_ledger.specs.Table.{free_object}
-use Rattle.cs_node_state.specs.Setup.{digest_of, concerns, session_in}
+use Rattle.cs_node_state.specs.Setup.{digest_of, session_in}
 use Rattle.cs_node_rules.specs.Net.{net_of}
 use Rattle.cs_node_rules.specs.Signs.{Sign}
 use Rattle.cs_node_rules.specs.Site.{Carrier, Site, signs_of}
-use Rattle.cs_node_rules.specs.World.{Happening, trail_of, view_of, IsLife, AreHonest, NoForgery, firsts_of, slots_of, all_recorded, history, accepts_in, aborts_in}
+use Rattle.cs_node_rules.specs.World.{Happening, trail_of, view_of, IsLife, AreHonest, NoForgery, firsts_of, slots_of, history, accepts_in, aborts_in}
 use Rattle.cs_node_rules.specs.Ready.{Executed, VotesFree, AcceptsLocked}
 use Rattle.cs_node_rules.specs.Collisions.{known_sessions, NoCollision}
 use Rattle.cs_node_rules.specs.Carrying.{Carries}
@@ -77,17 +77,6 @@ TellsAccepted {M} site world =
     accepts_in site.setup (digest_of site.setup x) (signs_at i world) ≡ true →
     IsIn (site.setup.session_of x).transaction (history site world)
 
--- Once all concerned shards have voted commit on a session, its transaction is in the history, and no honest node
--- decides abort on it, then or later.
-abbrev pub TellsCommitted : {M : Type 0} → Site M → List (Happening M) → Type 0
-TellsCommitted {M} site world =
-    (later earlier : List (Happening M)) → world ≡ later ++ earlier →
-    (x : Session) → IsIn x (known_sessions site world) → (shard : ℕ) → concerns site.setup x shard ≡ true →
-    all_recorded site.setup (firsts_of earlier) x ≡ true →
-    IsIn (site.setup.session_of x).transaction (history site earlier)
-    × ((i : NodeId) → is_honest site i ≡ true →
-    aborts_in site.setup (digest_of site.setup x) (signs_at i world) ≡ true → ⊥)
-
 -- The node has executed every slot that its shard has.
 abbrev pub IsUpToDate : {M : Type 0} → NodeId → List (Happening M) → Type 0
 IsUpToDate {M} i world = length (log_in (signs_at i world)) ≡ slots_of i.shard (firsts_of world)
@@ -100,9 +89,9 @@ HoldsFree {M} site world =
     (name object : Bytes) → free_object ((view_of site world i).bench.table.at (Seen.Object name)).state ≡ Some object →
     (ledger_of (genesis_ledger site.setup.rules.genesis) (history site world)).active name ≡ Some object
 
--- The one node of a shard has executed all of it.
-abbrev pub LeadsAlone : {M : Type 0} → Site M → List (Happening M) → Type 0
-LeadsAlone {M} site world = site.setup.f ≡ 0 → (i : NodeId) → is_honest site i ≡ true → IsUpToDate i world
+-- Each honest node has executed every slot that its shard has.
+abbrev pub AllUpToDate : {M : Type 0} → Site M → List (Happening M) → Type 0
+AllUpToDate {M} site world = (i : NodeId) → is_honest site i ≡ true → IsUpToDate i world
 
 -- A free session is voted commit at each honest node, and the vote is sent.
 abbrev pub AllVoteFree : {M : Type 0} → Site M → List (Happening M) → Type 0
@@ -142,3 +131,7 @@ OfWorldsApart {M} machine Says =
     IsWorld (deployed config master liars genesis approves machine carrier) world →
     NoCollision (deployed config master liars genesis approves machine carrier) genesis world →
     Says (deployed config master liars genesis approves machine carrier) world
+
+-- It is true of those in which no node may lie.
+abbrev pub OfWorldsAlone : {M : Type 0} → Machine M → (Site M → List (Happening M) → Type 0) → Type 0
+OfWorldsAlone {M} machine Says = OfWorlds machine (λ site world. site.setup.f ≡ 0 → Says site world)

@@ -1,7 +1,7 @@
 // What holds of the worlds of deployments of several shards.
 
-ghost use Rattle.cs_world_law.specs.Worlds.{OfWorlds, OfWorldsApart, IsSerial, SpendsOnce, DecidesOnce, ExecutesGiven, ExecutesFit, TellsAccepted, TellsCommitted, HoldsFree, LeadsAlone, AllVoteFree, AllAcceptLocked};
-ghost use Rattle.std.specs.Prelude.{◌≡◌};
+ghost use Rattle.cs_world_law.specs.Worlds.{OfWorlds, OfWorldsApart, OfWorldsAlone, IsSerial, SpendsOnce, DecidesOnce, ExecutesGiven, ExecutesFit, TellsAccepted, HoldsFree, AllUpToDate, AllVoteFree, AllAcceptLocked};
+ghost use Rattle.cs_world_law.specs.Steps.{StepsAllowed, StepsComputed, FollowsShard, VotesOnce, TellsCommitted, TellsBefore};
 
 use cs_ledger::composition;
 use cs_node_law::marks_are_made;
@@ -26,18 +26,33 @@ pub fn settled_world<O: Order>()
     ensures executed { OfWorlds O.rules (λ site world. ExecutesGiven site world) }
     // Each executed entry has an encoding: no bytes are executed that are no entry.
     ensures executed_fit { OfWorlds O.rules (λ site world. ExecutesFit site world) }
+    // The first executions of the slots are steps that may be taken: what is prepared is well
+    // formed, of that shard and approved, and what is decided has the votes of the shards for it.
+    ensures allowed { OfWorldsApart O.rules (λ site world. StepsAllowed site world) }
+    // Where no node may lie, this needs no premise on hashes.
+    ensures allowed_alone { OfWorldsAlone O.rules (λ site world. StepsAllowed site world) }
+    // They are of the slots of each shard in order, and each result is what the entry comes to on
+    // the table of the shard's log before.
+    ensures computed { OfWorldsApart O.rules (λ site world. StepsComputed site world) }
+    ensures computed_alone { OfWorldsAlone O.rules (λ site world. StepsComputed site world) }
+    // The log of each honest node, with its results, is the older part of its shard's log.
+    ensures logs { OfWorldsApart O.rules (λ site world. FollowsShard site world) }
+    ensures logs_alone { OfWorldsAlone O.rules (λ site world. FollowsShard site world) }
+    // All Prepare of a session in the log of a shard that were voted on were given one vote.
+    ensures one_vote { OfWorldsApart O.rules (λ site world. VotesOnce site world) }
     // Each transaction that an honest node accepted is in the history.
     ensures accepted { OfWorldsApart O.rules (λ site world. TellsAccepted site world) }
-    // After an event at which all concerned shards have voted commit the transaction is in the
-    // history, and no honest node decides abort on the session at that event, before or after it.
+    // It was there before the decision was first executed.
+    ensures before { OfWorldsApart O.rules (λ site world. TellsBefore site world) }
+    // After the execution with which all concerned shards have voted commit the transaction is in
+    // the history, and no honest node decides abort on the session, before or after it.
     ensures committed { OfWorldsApart O.rules (λ site world. TellsCommitted site world) }
     // A Prepare of a session whose keys here are all active with the carried objects, on which no
     // vote is noted and whose anchor has room, is answered commit at each honest node, and the vote
     // goes to all other nodes of the concerned shards.
     ensures votes_free { OfWorldsApart O.rules (λ site world. AllVoteFree site world) }
     // Where no node may lie, this needs no premise on hashes.
-    ensures votes_free_alone { OfWorlds O.rules (λ site world.
-        site.setup.f ≡ 0 → AllVoteFree site world) }
+    ensures votes_free_alone { OfWorldsAlone O.rules (λ site world. AllVoteFree site world) }
     // A Decide commit of a session that has its anchor locked is accepted at each honest node:
     // afterwards its inputs and its dummy are inactive. Its outputs are active, since names that do
     // not collide were never there before.
@@ -46,7 +61,7 @@ pub fn settled_world<O: Order>()
     // in the ledger after the history.
     ensures objects { OfWorldsApart O.rules (λ site world. HoldsFree site world) }
     // Where no node may lie, the one node of a shard has executed all of it.
-    ensures alone { OfWorlds O.rules (λ site world. LeadsAlone site world) }
+    ensures alone { OfWorldsAlone O.rules (λ site world. AllUpToDate site world) }
 {
     composition();
     marks_are_made::<O>();

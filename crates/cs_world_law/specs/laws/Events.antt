@@ -1,0 +1,61 @@
+-- What is said of the first executions is so after each event.
+use Rattle.std.proofs.Common.{◌≡◌, ℕ, nat_lt, true, List, [], ◌∷◌, ◌++◌, refl, sym, ap, ◌∙◌, append_assoc}
+use Rattle.std.proofs.lemmas.Bool.{cond_both}
+use Rattle.cs_base.specs.declared.node_id.NodeId.{NodeId}
+use Rattle.cs_tx_form.specs.declared.session.Session.{Session}
+use Rattle.cs_ledger.specs.Ledger.{IsIn}
+use Rattle.cs_node_state.specs.Setup.{digest_of, concerns}
+use Rattle.cs_node_rules.specs.Signs.{Sign, Dropped, Took, Entered, Viewed, Did, Sent}
+use Rattle.cs_node_rules.specs.Site.{Site, signs_of}
+use Rattle.cs_node_rules.specs.World.{Happening, Execution, slots_of, first_of, firsts_after, firsts_of, all_recorded, history, aborts_in}
+use Rattle.cs_node_rules.specs.Collisions.{known_sessions}
+use Rattle.cs_world_law.specs.Worlds.{is_honest, signs_at}
+use Rattle.cs_world_law.specs.Steps.{IsOlderPart, TellsCommitted}
+
+-- ---- first executions come on top of those before
+
+first-grows : (shard : ℕ) (sign : Sign) (firsts : List Execution) → IsOlderPart firsts (first_of shard sign firsts)
+first-grows shard (Dropped cause) firsts = record { newer = []; is = refl }
+first-grows shard (Took sender vote x) firsts = record { newer = []; is = refl }
+first-grows shard (Entered x) firsts = record { newer = []; is = refl }
+first-grows shard (Viewed slot view) firsts = record { newer = []; is = refl }
+first-grows shard (Sent to message) firsts = record { newer = []; is = refl }
+first-grows shard (Did slot entry effect) firsts =
+    let new : Execution = record { shard = shard; slot = slot; entry = entry; effect = effect } in
+    cond_both (nat_lt slot (slots_of shard firsts)) firsts (new ∷ firsts) (λ all. IsOlderPart firsts all)
+    (λ e. record { newer = []; is = refl })
+    (λ e. record { newer = new ∷ []; is = refl })
+
+part-of-part : {A : Type 0} (a b c : List A) → IsOlderPart a b → IsOlderPart b c → IsOlderPart a c
+part-of-part {A} a b c p q = record {
+  newer = q.newer ++ p.newer;
+  is = q.is ∙ ap (λ l. q.newer ++ l) p.is ∙ sym (append_assoc q.newer p.newer a);
+}
+
+after-grows : (shard : ℕ) (firsts : List Execution) (signs : List Sign)
+    → IsOlderPart firsts (firsts_after shard firsts signs)
+after-grows shard firsts [] = record { newer = []; is = refl }
+after-grows shard firsts (sign ∷ past) =
+    part-of-part firsts (firsts_after shard firsts past) (first_of shard sign (firsts_after shard firsts past))
+    (after-grows shard firsts past) (first-grows shard sign (firsts_after shard firsts past))
+
+pub firsts-grow : {M : Type 0} (later earlier : List (Happening M))
+    → IsOlderPart (firsts_of earlier) (firsts_of (later ++ earlier))
+firsts-grow {M} [] earlier = record { newer = []; is = refl }
+firsts-grow {M} (h ∷ later) earlier =
+    let firsts = firsts_of (later ++ earlier) in
+    part-of-part (firsts_of earlier) firsts (firsts_after h.node.shard firsts (signs_of h.marks))
+    (firsts-grow later earlier) (after-grows h.node.shard firsts (signs_of h.marks))
+
+-- After an event at which all concerned shards have voted commit the transaction is in the history, and no honest node
+-- decides abort on the session at that event, before or after it.
+pub committed-at-events : {M : Type 0} (site : Site M) (world : List (Happening M)) → TellsCommitted site world →
+    (later earlier : List (Happening M)) → world ≡ later ++ earlier →
+    (x : Session) → IsIn x (known_sessions site world) → (shard : ℕ) → concerns site.setup x shard ≡ true →
+    all_recorded site.setup (firsts_of earlier) x ≡ true →
+    IsIn (site.setup.session_of x).transaction (history site earlier)
+    × ((i : NodeId) → is_honest site i ≡ true →
+    aborts_in site.setup (digest_of site.setup x) (signs_at i world) ≡ true → ⊥)
+committed-at-events {M} site world tells later earlier split =
+    let part = firsts-grow later earlier in
+    tells part.newer (firsts_of earlier) (ap (λ z. firsts_of z) split ∙ part.is)
