@@ -5,7 +5,6 @@ pub mod Standing
 pub mod Doing
 pub mod Heard
 pub mod Ticked
-pub mod Whole
 pub mod Candidates
 pub mod Executing
 pub mod Noting
@@ -19,3 +18,4 @@ pub mod Reached
 pub mod Starting
 pub mod Submitting
 pub mod Voting
+pub mod Dropped

@@ -17,19 +17,17 @@ use Rattle.cs_order.specs.declared.answers.Step.{Step}
 use Rattle.cs_order.specs.declared.answers.Step.TheVariants as step
 use Rattle.cs_order.specs.declared.answers.May.{May}
 use Rattle.cs_order.specs.declared.answers.May.TheVariants as may
-use Rattle.cs_order.specs.Deeds.{Deed, Advanced, Echoed, Proposing, Resent, Ticked, Replied, Member, Machine, did, sent_by, chosen_in}
+use Rattle.cs_order.specs.Deeds.{Deed, Advanced, Echoed, Proposing, Resent, Ticked, Replied, Member, did, sent_by, chosen_in}
 use Rattle.cs_wire.specs.declared.keys.Keys.{Keys}
 use Rattle.cs_wire.specs.Keys.{row_of}
 use Rattle.cs_wire.specs.Opened.{Opened}
 use Rattle.cs_node_rules.specs.declared.cause.Cause.TheVariants.{Role, NoProof}
 use Rattle.cs_node_state.specs.Setup.{Setup}
 use Rattle.cs_node_rules.specs.Members.{is_other_member, others}
-use Rattle.cs_node_rules.specs.Net.{Net}
 use Rattle.cs_node_state.specs.Admission.{due}
 use Rattle.cs_node_rules.specs.Signs.{Sign, Dropped, Took as Took_vote, Entered, Viewed, Did, Sent, guarded, sends, submit_signs, voted_signs, ask_signs, execution_signs, asked_again}
-use Rattle.cs_node_rules.specs.Site.{Carrier, Input, Datagram, Tick, Mark, In, Ordered, Site, View, view_after, plain, signs_of}
+use Rattle.cs_node_rules.specs.Site.{Input, Datagram, Tick, Mark, In, Ordered, Site, View, view_after, plain, signs_of}
 use Rattle.cs_node_rules.specs.Trail.{out_signs, handed, with_deed, entered_view, moving, admits_proposed, proposing, due_marks, candidate_marks, propose_marks, echo_marks, step_marks, turn_marks, continued, settled, taking_marks, member_marks, reply_marks, want_marks, message_marks, opened_marks, again_marks, waiting_marks, input_marks, event_marks}
-use Rattle.cs_node_rules.specs.Deployment.{site_of}
 use Rattle.cs_node.specs.declared.nodes.Core.{Core}
 use Rattle.cs_node.specs.Notes.{said_of, AllReached}
 use Rattle.cs_node.specs.Cores.{StandsFor}
@@ -248,11 +246,10 @@ reached-of keys (Viewed slot view ∷ past) all = reached-of keys past all
 reached-of keys (Did slot entry effect ∷ past) all = reached-of keys past all
 reached-of keys (Sent to message ∷ past) all = reached-append keys (said_of past) ((to, message) ∷ []) (reached-of keys past all.1) (all.0, tt)
 
-pub event-reached : {O J M : Type 0} (stands : O → Member M → Type 0) (approves : J → Tx → Bool) (rules : Machine M) (carried : Carrier M) (net : Net) (core : Core O J M) (setup : Setup) (v : View M) (input : Input) → StandsFor stands approves setup net core v
-    → AllReached core.keys (said_of (signs_of (event_marks (site_of setup net rules carried) v input)))
-event-reached {O} {J} {M} stands approves rules carried net core setup v input is =
+pub event-reached : {O J M : Type 0} (stands : O → Member M → Type 0) (approves : J → Tx → Bool) (site : Site M) (core : Core O J M) (v : View M) (input : Input) → StandsFor stands approves site core v
+    → AllReached core.keys (said_of (signs_of (event_marks site v input)))
+event-reached {O} {J} {M} stands approves site core v input is =
     let config : Config = core.engine.sbac.config in
-    let site : Site M = site_of setup net rules carried in
     let Peer : NodeId → Type 0 = λ to. IsSome (row_of to core.keys) in
     let names : core.engine.sbac.me ≡ v.me = ap (λ (u : View M). u.me) is.keeps.view_is in
     let node : is_node config v.me ≡ true = subst (λ (n : NodeId). is_node config n ≡ true) names is.keeps.seated.node in
@@ -262,4 +259,4 @@ event-reached {O} {J} {M} stands approves rules carried net core setup v input i
     (goes-event Peer config site (ap (λ (s : Setup). s.f) (sym is.keeps.setup_is)) (ap (λ (s : Setup). s.shards) (sym is.keeps.setup_is))
     (λ to client. reaches to (or_true (is_node config to) (is_client to) client) (apart config v.me to few node client))
     v (record { node = node; others_too = λ to is_one other. reaches to (ap (λ b. b || is_client to) is_one) other }) input
-    (λ bytes sender m opens. opener-held core.keys bytes sender m (is.speaks.opens bytes ∙ ap (λ (n : NodeId). net.opened n bytes) is.me_is ∙ opens)))
+    (λ bytes sender m opens. opener-held core.keys bytes sender m (is.speaks.opens bytes ∙ ap (λ (n : NodeId). site.net.opened n bytes) is.me_is ∙ opens)))

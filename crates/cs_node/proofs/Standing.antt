@@ -115,18 +115,18 @@ speaks-on config config' net keys same-shards same-f speaks = record {
 
 module _ {O J M : Type 0} (stands : O → Member M → Type 0) (approves : J → Tx → Bool) where
   -- the holder of the keys is the node of the engine
-  pub same-me : (setup : Setup) (net : Net) (core : Core O J M) (v : View M) → StandsFor stands approves setup net core v → core.keys.me ≡ core.engine.sbac.me
-  same-me setup net core v is = is.me_is ∙ sym (ap (λ (u : View M). u.me) is.keeps.view_is)
+  pub same-me : (site : Site M) (core : Core O J M) (v : View M) → StandsFor stands approves site core v → core.keys.me ≡ core.engine.sbac.me
+  same-me _ core v is = is.me_is ∙ sym (ap (λ (u : View M). u.me) is.keeps.view_is)
 
   -- what was drafted is sealed
-  pub event-sealed : (rules : Machine M) (carried : Carrier M) (net : Net) (core : Core O J M) (engine : Engine O J M) (setup : Setup) (v : View M) (input : Input) (draft : Draft) (made : Made) → StandsFor stands approves setup net core v
-      → Drafts (site_of setup net rules carried) v input draft (KeepsView stands approves setup engine) → made.notes ≡ draft.notes
-      → (AllReached core.keys (spoken draft.said) → made.outs ≡ outs_for net core.keys.me (spoken draft.said))
-      → Event (site_of setup net rules carried) v input made (StandsFor stands approves setup net (record { keys = core.keys; engine = engine }))
-  event-sealed rules carried net core engine setup v input draft made is drafts notes outs =
-      let site : Site M = site_of setup net rules carried in
+  pub event-sealed : (site : Site M) (core : Core O J M) (engine : Engine O J M) (v : View M) (input : Input) (draft : Draft) (made : Made) → StandsFor stands approves site core v
+      → Drafts site v input draft (KeepsView stands approves site.setup engine) → made.notes ≡ draft.notes
+      → (AllReached core.keys (spoken draft.said) → made.outs ≡ outs_for site.net core.keys.me (spoken draft.said))
+      → Event site v input made (StandsFor stands approves site (record { keys = core.keys; engine = engine }))
+  event-sealed site core engine v input draft made is drafts notes outs =
+      let net : Net = site.net in
       let marks : List (Mark M) = event_marks site v input in
-      let reached : AllReached core.keys (spoken draft.said) = subst (AllReached core.keys) (sym drafts.marks.tells.said) (event-reached stands approves rules carried net core setup v input is) in
+      let reached : AllReached core.keys (spoken draft.said) = subst (AllReached core.keys) (sym drafts.marks.tells.said) (event-reached stands approves site core v input is) in
       record {
         notes = notes ∙ drafts.marks.tells.notes;
         outs = outs reached ∙ ap (outs_for net core.keys.me) drafts.marks.tells.said ∙ outs-same net core.keys.me (signs_of marks) ∙ ap (λ (n : NodeId). outs_of net n (signs_of marks)) is.me_is;
@@ -135,6 +135,7 @@ module _ {O J M : Type 0} (stands : O → Member M → Type 0) (approves : J →
           me_is = is.me_is ∙ sym (me-after site marks v);
           speaks = speaks-on core.engine.sbac.config engine.sbac.config net core.keys
               (ap (λ (s : Setup). s.shards) (is.keeps.setup_is ∙ sym drafts.marks.after.setup_is)) (ap (λ (s : Setup). s.f) (is.keeps.setup_is ∙ sym drafts.marks.after.setup_is)) is.speaks;
+          quiet = drafts.quiet;
         };
         quiet = drafts.quiet;
       }

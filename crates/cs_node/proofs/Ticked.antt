@@ -1,7 +1,6 @@
 -- What a core did at a tick, at the view for which it stood.
-use Rattle.std.proofs.Common.{◌≡◌, ℕ, Bool, true, false, cond, List, [], ◌∷◌, ◌++◌, length, reverse, Option, Some, None, arith, refl, ap, sym, subst, ◌∙◌, append-nil}
+use Rattle.std.proofs.Common.{◌≡◌, ℕ, Bool, true, false, cond, List, [], ◌∷◌, ◌++◌, length, get_or, zero, suc, ◌<◌, Option, Some, None, arith, refl, ap, sym, subst, ◌∙◌, append-nil, append_assoc}
 use Rattle.std.specs.Prelude.{is_some}
-use Rattle.std.proofs.lemmas.List.{reverse-append, reverse-reverse}
 use Rattle.cs_tx_form.specs.Session.{SessionFits}
 use Rattle.cs_node_pool.specs.Fits.{AllFit}
 use Rattle.cs_base.specs.declared.node_id.NodeId.{NodeId}
@@ -32,7 +31,7 @@ use Rattle.cs_node.specs.declared.draft.Draft.{Draft}
 use Rattle.cs_node.specs.Notes.{Tells}
 use Rattle.cs_node.specs.Steps.{Marks}
 use Rattle.cs_node.specs.Cores.{IsSeated, KeepsView, view_at}
-use Rattle.cs_node.proofs.Sums.{tells-nothing, tells-more, bench-append, bench-sends, with_bench, view-plain, marks-more, marks-plain}
+use Rattle.cs_node.proofs.Sums.{tells-more, bench-append, bench-sends, with_bench, view-plain, marks-more, marks-plain}
 use Rattle.cs_node.proofs.Turns.{bench-handed, deed-done, moving-done, with_member}
 use Rattle.cs_node.proofs.Doing.{from-nothing}
 use Rattle.cs_node.proofs.Standing.{at-standing, keeps-on}
@@ -70,24 +69,20 @@ asked-locked setup me (e ∷ pool) = by_locked (asked-locked setup me pool) e.1.
     by_locked later true = ap (λ xs. xs ++ vote_signs setup me e.1.session (Some (Commit, true))) later
     by_locked later false = later ∙ sym (append-nil (asked_again setup me pool))
 
--- the last of what is left is the first
-pub next-fits : (all rest : List Session) (x : Session) → all ≡ rest ++ x ∷ [] → AllFit (reverse all) → SessionFits x × AllFit (reverse rest)
-next-fits all rest x is fits = subst AllFit (ap reverse is ∙ reverse-append rest (x ∷ [])) fits
+pub asked-push : (setup : Setup) (me : NodeId) (xs : List Session) (x : Session) → asked_of setup me (xs ++ x ∷ []) ≡ vote_signs setup me x (Some (Commit, true)) ++ asked_of setup me xs
+asked-push setup me [] x = sym (append-nil (vote_signs setup me x (Some (Commit, true))))
+asked-push setup me (y ∷ xs) x =
+    ap (λ signs. signs ++ vote_signs setup me y (Some (Commit, true))) (asked-push setup me xs x)
+    ∙ append_assoc (vote_signs setup me x (Some (Commit, true))) (asked_of setup me xs) (vote_signs setup me y (Some (Commit, true)))
 
-pub next-asked : (setup : Setup) (me : NodeId) (all rest : List Session) (x : Session) (old mid last : Draft) → all ≡ rest ++ x ∷ [] → Tells (vote_signs setup me x (Some (Commit, true))) old mid → Tells (asked_of setup me (reverse rest)) mid last
-    → Tells (asked_of setup me (reverse all)) old last
-next-asked setup me all rest x old mid last is first later =
-    let P : List Session → Type 0 = λ xs. Tells (asked_of setup me xs) old last in
-    subst P (sym (ap reverse is ∙ reverse-append rest (x ∷ []))) (tells-more (vote_signs setup me x (Some (Commit, true))) (asked_of setup me (reverse rest)) old mid last first later)
+-- each of sessions that fit does
+some-fits : (all : List Session) (k : ℕ) (x : Session) → k < length all → AllFit all → SessionFits (get_or all k x)
+some-fits [] k x less fits = absurd (omega (arith, less))
+some-fits (y ∷ all) zero x less fits = fits.0
+some-fits (y ∷ all) (suc k) x less fits = some-fits all k x (omega (arith, less)) fits.1
 
-pub last-asked : (setup : Setup) (me : NodeId) (all : List Session) (draft : Draft) → length all ≡ 0 → Tells (asked_of setup me (reverse all)) draft draft
-last-asked setup me [] draft none = tells-nothing draft
-last-asked setup me (x ∷ all) draft none = absurd (omega (arith, none))
-
-pub all-asked : (setup : Setup) (me : NodeId) (pool : Pool) (locked turned : List Session) (old last : Draft) → locked ≡ locked_in pool → turned ≡ reverse locked → Tells (asked_of setup me (reverse turned)) old last → Tells (asked_again setup me pool) old last
-all-asked setup me pool locked turned old last is back tells =
-    let P : List Sign → Type 0 = λ signs. Tells signs old last in
-    subst P (ap (λ xs. asked_of setup me (reverse xs)) back ∙ ap (asked_of setup me) (reverse-reverse locked ∙ is) ∙ asked-locked setup me pool) tells
+pub fits-at : (all : List Session) (k : ℕ) (x : Session) → k < length all → x ≡ get_or all k x → AllFit all → SessionFits x
+fits-at all k x less is fits = subst SessionFits (sym is) (some-fits all k x less fits)
 
 module _ {O J M : Type 0} (stands : O → Member M → Type 0) (approves : J → Tx → Bool) (rules : Machine M) (carried : Carrier M) (net : Net) (core : Engine O J M) (genesis : List Object) (h : Member M) (made : Draft) (seated : IsSeated stands core h) where
   abbrev setup : Setup

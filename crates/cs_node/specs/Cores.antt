@@ -8,6 +8,7 @@ use Rattle.cs_node_state.specs.Setup.{Setup}
 use Rattle.cs_node_rules.specs.Net.{Net}
 use Rattle.cs_node_rules.specs.Site.{Carrier, Mark, Site, View}
 use Rattle.cs_node_rules.specs.Deployment.{site_of}
+use Rattle.cs_node_rules.specs.Ready.{IsQuiet}
 use Rattle.cs_node_pool.specs.Deployed.{deployed}
 use Rattle.cs_sbac.specs.Held.{Held, bench_of}
 use Rattle.cs_node.specs.declared.draft.Draft.{Draft}
@@ -44,12 +45,14 @@ pub record KeepsView {O J M : Type 0} (stands : O → Member M → Type 0) (appr
   pub genesis : List Object
   pub setup_is : deployed engine.sbac.config genesis (approves engine.judge) ≡ setup
 
--- A core stands for a view under a setup and in a net: it keeps the view, and its keys are those of the node there.
+-- A core between events stands for a view at a site: it keeps the view, its keys are those of the node there, and no
+-- rule applies.
 pub record StandsFor {O J M : Type 0} (stands : O → Member M → Type 0) (approves : J → Tx → Bool)
-    (setup : Setup) (net : Net) (core : Core O J M) (v : View M) : Type 0 where
-  pub keeps : KeepsView stands approves setup core.engine v
+    (site : Site M) (core : Core O J M) (v : View M) : Type 0 where
+  pub keeps : KeepsView stands approves site.setup core.engine v
   pub me_is : core.keys.me ≡ v.me
-  pub speaks : Speaks core.engine.sbac.config net core.keys
+  pub speaks : Speaks core.engine.sbac.config site.net core.keys
+  pub quiet : IsQuiet site v
 
 -- Where a call of an engine leads, as it keeps the view of its member, at any genesis and in any net: what it says of the
 -- site and the view, and of what the view is after.

@@ -4,5 +4,4 @@ pub mod Speaking
 pub mod Proposals
 pub mod Steps
 pub mod Signing
-pub mod SoloCarried
 pub mod Cores

@@ -1,17 +1,12 @@
 -- Proposed entries, as a node reads them.
 use Rattle.std.specs.Prelude.{ℕ, Bool, false, if◌then◌else◌, List, [], ◌∷◌, Option, Some, None}
-use Rattle.cs_base.specs.Fields.{whole_at}
 use Rattle.cs_tx_form.specs.declared.entry.Entry.{Entry}
-use Rattle.cs_tx_form.specs.Reading.{entry_at}
 use Rattle.cs_order.specs.declared.proposed.Proposed.{Proposed}
 use Rattle.cs_node_state.specs.Setup.{Setup}
 use Rattle.cs_node_state.specs.Pool.{Pool}
 use Rattle.cs_node_state.specs.Admission.{admits}
 use Rattle.cs_node_rules.specs.Deployment.{entry_or_void}
-
--- the entry of which these bytes are the encoding
-abbrev pub entry_read : Proposed → Option Entry
-entry_read proposed = whole_at entry_at proposed.bytes
+use Rattle.cs_node_carried.specs.Proposals.{entry_read}
 
 -- of bytes that are no entry a fixed one, which is Void
 abbrev pub entry_in : Proposed → Entry

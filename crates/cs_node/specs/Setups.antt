@@ -21,7 +21,7 @@ AreObjects ((key.Object name, object) ∷ more) = ObjectFits object × AreObject
 AreObjects ((key.Dummy shard serial, object) ∷ more) = ⊥
 
 -- a start is refused exactly where a key stands twice, unless memory runs out
-abbrev pub Starts : {A : Type 0} → Option Key → Result A StartError → (A → Type 0) → Type 0
-Starts {A} twice (Ok core) Started = (twice ≡ None) × Started core
-Starts {A} twice (Err (Duplicate key)) Started = twice ≡ Some key
-Starts {A} twice (Err Memory) Started = Unit {0}
+abbrev pub Starts : {A : Type 0} → Option Key → Result A StartError → Type 0
+Starts {A} twice (Ok core) = twice ≡ None
+Starts {A} twice (Err (Duplicate key)) = twice ≡ Some key
+Starts {A} twice (Err Memory) = Unit {0}

@@ -1,12 +1,14 @@
 -- What the calls of a node make: marks, what these tell and say, and the view for which the node stands then.
-use Rattle.std.specs.Prelude.{◌≡◌, ℕ, ◌<◌, ◌^◌, Bool, true, false, List, ◌++◌, Option, Some, None}
+use Rattle.std.specs.Prelude.{◌≡◌, ℕ, ◌<◌, ◌^◌, Bool, true, false, List, [], ◌∷◌, ◌++◌, Option, Some, None}
 use Rattle.cs_base.specs.declared.node_id.NodeId.{NodeId}
 use Rattle.cs_order.specs.Deeds.{Member}
 use Rattle.cs_node_state.specs.Setup.{Setup}
 use Rattle.cs_node_state.specs.Bench.{Bench}
+use Rattle.cs_node_rules.specs.declared.cause.Cause.{Cause}
 use Rattle.cs_node_rules.specs.Signs.{Sign, bench_after}
-use Rattle.cs_node_rules.specs.Site.{Input, Mark, Site, View, view_after, signs_of}
-use Rattle.cs_node_rules.specs.Trail.{turn_marks, settled, event_marks}
+use Rattle.cs_node_rules.specs.Site.{Input, Mark, In, Site, View, view_after, signs_of}
+use Rattle.cs_node_rules.specs.Trail.{turn_marks, settled, drops, event_marks}
+use Rattle.cs_node.specs.declared.draft.Note.TheVariants as note
 use Rattle.cs_node.specs.declared.draft.Draft.{Draft}
 use Rattle.cs_node.specs.declared.outs.Made.{Made}
 use Rattle.cs_node.specs.Notes.{nothing, notes_of, outs_of, Tells}
@@ -59,3 +61,11 @@ pub record Event {M : Type 0} (site : Site M) (v : View M) (input : Input)
   pub outs : made.outs ≡ outs_of site.net v.me (signs_of (event_marks site v input))
   pub after : After (view_after site (event_marks site v input) v)
   pub quiet : turn_marks site (view_after site (event_marks site v input) v) ≡ None
+
+-- an input was dropped, and left no other trace: it is told why, nothing goes out, and the view is as it was
+pub record IsDropped {M : Type 0} (site : Site M) (v : View M) (input : Input) (cause : Cause)
+    (made : Made) (After : View M → Type 0) : Type 0 where
+  pub marks : event_marks site v input ≡ drops cause ++ In input ∷ []
+  pub notes : made.notes ≡ note.Dropped cause ∷ []
+  pub outs : made.outs ≡ []
+  pub after : After v

@@ -13,12 +13,11 @@ ghost use Rattle.cs_node.specs.Speaking.{Speaks, input_of};
 ghost use Rattle.cs_node.specs.Steps.{Marks, Settles};
 ghost use Rattle.cs_node.specs.Cores.{Leads, TurnsBy, site_at};
 
-use crate::carried::Carried;
 use crate::draft::Draft;
 use crate::executions::execute;
 use crate::handing::hand_out;
-use crate::proposals::{propose_entry, read_entry};
 use cs_base::{Memory, Sequence};
+use cs_node_carried::{Carried, propose_entry, read_entry};
 use cs_order::{May, Order, Outgoing, Proposed, Step};
 use cs_sbac::Sbac;
 use cs_tx::Judge;

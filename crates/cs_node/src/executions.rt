@@ -9,9 +9,9 @@ ghost use Rattle.cs_node.specs.Proposals.{entry_in};
 ghost use Rattle.cs_node.specs.Signing.{Does};
 
 use crate::draft::Draft;
-use crate::proposals::{read_entry, void_entry};
 use crate::sending::say_vote;
 use cs_base::Memory;
+use cs_node_carried::{read_entry, void_entry};
 use cs_order::Proposed;
 use cs_sbac::{Effect, Sbac};
 use cs_tx::{Entry, Session};

@@ -4,10 +4,10 @@ ghost use Rattle.cs_node_rules.specs.Trail.{out_signs, handed};
 ghost use Rattle.cs_node.specs.Notes.{Tells, DraftFits};
 ghost use Rattle.cs_node.specs.Cores.{AtEverySite};
 
-use crate::carried::Carried;
 use crate::draft::Draft;
 use crate::members::{is_other_member, others};
 use cs_base::{Memory, NodeId};
+use cs_node_carried::Carried;
 use cs_order::Outgoing;
 use cs_sbac::Sbac;
 use std::alloc::Global;
@@ -24,9 +24,8 @@ fn say_out<O: Carried>(
     ensures fits { DraftFits draft.old → OnOk result (DraftFits draft.new) }
 {
     let me = sbac.me();
-    let Outgoing { to, message } = out;
-    let message = O::write(alloc, message)?;
-    match to {
+    let message = O::write(alloc, &out.message)?;
+    match out.to {
         None => {
             let names = others(alloc, sbac.config(), me, &[me.shard])?;
             draft.say_to(names, message)

@@ -1,19 +1,15 @@
 //! What others say to a node.
-ghost use Rattle.std.specs.Prelude.{◌≡◌, ◌≢◌, ◌≤◌, ◌*◌, OnOk, List, true};
-ghost use Rattle.cs_tx_value.specs.declared.object.Object.{Object as AnyObject};
+ghost use Rattle.std.specs.Prelude.{◌≡◌, ◌≢◌, ◌≤◌, ◌*◌, OnOk, true};
 ghost use Rattle.cs_wire_message.specs.Message.{MessageFits};
-ghost use Rattle.cs_order.specs.Deeds.{Member};
 ghost use Rattle.cs_node_rules.specs.Site.{Datagram};
 ghost use Rattle.cs_node_rules.specs.declared.cause.Cause.TheVariants.{Role};
 ghost use Rattle.cs_node_rules.specs.Trail.{drops, taking_marks, member_marks, want_marks, message_marks, input_marks};
-ghost use Rattle.cs_node_pool.specs.Deployed.{deployed};
 ghost use Rattle.cs_node.specs.Notes.{DraftFits};
 ghost use Rattle.cs_node.specs.Speaking.{Speaks};
 ghost use Rattle.cs_node.specs.Steps.{Marks};
 ghost use Rattle.cs_node.specs.Cores.{Leads, LeadsBy};
 
 use crate::asks::{ask, ask_proof};
-use crate::carried::Carried;
 use crate::causes::cause_of;
 use crate::draft::Draft;
 use crate::engine::Engine;
@@ -22,6 +18,7 @@ use crate::members::is_other_member;
 use crate::submits::submit;
 use crate::votes::hear_vote;
 use cs_base::{Memory, NodeId};
+use cs_node_carried::Carried;
 use cs_node_rules::Cause;
 use cs_node_state::Ballot;
 use cs_order::Took;

@@ -2,7 +2,6 @@
 #![tactic(auto)]
 
 mod asks;
-mod carried;
 mod causes;
 mod draft;
 mod engine;
@@ -12,9 +11,7 @@ mod hearing;
 mod members;
 mod nodes;
 mod outs;
-mod proposals;
 mod sending;
-mod solo_carried;
 mod speaking;
 mod submits;
 #[cfg(test)]
@@ -22,7 +19,7 @@ mod tests;
 mod ticking;
 mod votes;
 
-pub use carried::Carried;
+pub use cs_node_carried::Carried;
 pub use cs_sbac::Effect;
 pub use cs_wire::{Input, Out};
 pub use draft::Note;

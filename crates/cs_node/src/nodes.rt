@@ -4,21 +4,23 @@ ghost use Rattle.cs_base.specs.NodeId.{is_node};
 ghost use Rattle.cs_tx_value.specs.declared.object.Object.{Object as AnyObject};
 ghost use Rattle.cs_node_state.specs.Setup.{Setup};
 ghost use Rattle.cs_node_rules.specs.Net.{Net};
-ghost use Rattle.cs_node_rules.specs.Site.{View, start_view};
+ghost use Rattle.cs_node_rules.specs.Site.{Site, View, start_view};
+ghost use Rattle.cs_node_rules.specs.declared.cause.Cause.{Cause as AnyCause};
+ghost use Rattle.cs_node_rules.specs.Trail.{drops, input_marks};
 ghost use Rattle.cs_node_rules.specs.Deployment.{site_of};
 ghost use Rattle.cs_node_pool.specs.Deployed.{deployed};
 ghost use Rattle.cs_table.specs.Genesis.{twice};
 ghost use Rattle.cs_node.specs.Notes.{NotesFit};
 ghost use Rattle.cs_node.specs.Setups.{keyed_from, AreObjects, Starts};
 ghost use Rattle.cs_node.specs.Speaking.{Speaks, input_of, sender_of};
-ghost use Rattle.cs_node.specs.Steps.{Event};
+ghost use Rattle.cs_node.specs.Steps.{Event, IsDropped};
 ghost use Rattle.cs_node.specs.Cores.{StandsFor};
 
-use crate::carried::Carried;
 use crate::draft::Draft;
 use crate::engine::Engine;
 use crate::outs::{Made, seal_draft};
 use cs_base::{Config, Key, Memory, NodeId};
+use cs_node_carried::Carried;
 use cs_order::Order;
 use cs_sbac::Sbac;
 use cs_table::{Table, TableError};
@@ -57,12 +59,13 @@ impl<O: Carried, J: Judge + Drop> Core<O, J> {
         requires start { O.at_start order }
         requires f { O.f order ≡ config.f }
         requires me { O.me order ≡ keys.me.index }
-        ensures { (objects : List AnyObject) → genesis.now ≡ keyed_from 0 objects →
-            let setup = deployed config objects (J.is_approved judge) in
-            Starts (twice config.shards keys.me.shard genesis.now) result (λ core.
+        ensures starts { Starts (twice config.shards keys.me.shard genesis.now) result }
+        ensures stands { (objects : List AnyObject) → genesis.now ≡ keyed_from 0 objects →
             (net : Net) → Speaks config net keys →
-            let v = start_view (site_of setup net O.rules O.carrier) keys.me in
-            StandsFor O.stands J.is_approved setup net core v) }
+            let setup = deployed config objects (J.is_approved judge) in
+            let site = site_of setup net O.rules O.carrier in
+            IfOk result (λ core.
+            StandsFor O.stands J.is_approved site core (start_view site keys.me)) }
     {
         let me = keys.me();
         let table = match Table::genesis(alloc, config, me.shard, genesis) {
@@ -75,35 +78,43 @@ impl<O: Carried, J: Judge + Drop> Core<O, J> {
         Ok(Core { keys, engine })
     }
 
-    /// One event: what comes of an input, and of the rules until none applies.
-    pub fn step(&mut self, alloc: Global, input: Input<'_>) -> Result<Made, Memory>
+    /// One event: the node after it, with what comes of an input, and of the rules until none
+    /// applies. After a want of memory there is no node.
+    pub fn step(mut self, alloc: Global, input: Input<'_>) -> Result<(Core<O, J>, Made), Memory>
         ensures event { (setup : Setup) (net : Net) (v : View O.Message) →
-            StandsFor O.stands J.is_approved setup net self.old v →
             let site = site_of setup net O.rules O.carrier in
-            let After = StandsFor O.stands J.is_approved setup net self.new in
-            IfOk result (λ made. Event site v (input_of input.entry) made After) }
-        ensures fits { IfOk result (λ made. NotesFit made.notes) }
+            StandsFor O.stands J.is_approved site self v →
+            IfOk result (λ stepped. Event site v (input_of input.entry) stepped.1
+            (StandsFor O.stands J.is_approved site stepped.0)) }
+        ensures dropped { (setup : Setup) (net : Net) (v : View O.Message) (cause : AnyCause) →
+            let site = site_of setup net O.rules O.carrier in
+            let given = input_of input.entry in
+            StandsFor O.stands J.is_approved site self v →
+            input_marks site v given ≡ drops cause →
+            IfOk result (λ stepped. IsDropped site v given cause stepped.1
+            (StandsFor O.stands J.is_approved site stepped.0)) }
+        ensures fits { IfOk result (λ stepped. NotesFit stepped.1.notes) }
     {
         let mut draft = Draft::new(alloc);
         self.engine.take_in(alloc, &self.keys, &mut draft, input)?;
         self.engine.settle(alloc, &mut draft)?;
         let made = seal_draft(alloc, &self.keys, draft)?;
-        Ok(made)
+        Ok((self, made))
     }
 
     /// The name of the node.
     pub fn me(&self) -> NodeId
-        ensures { (setup : Setup) (net : Net) (v : View O.Message) →
-            StandsFor O.stands J.is_approved setup net self.now v → result ≡ v.me }
+        ensures { (site : Site O.Message) (v : View O.Message) →
+            StandsFor O.stands J.is_approved site self.now v → result ≡ v.me }
     {
         self.keys.me()
     }
 
     /// As whom bytes open at this node, if they open.
     pub fn sender(&self, alloc: Global, bytes: &[u8]) -> Result<Option<NodeId>, Memory>
-        ensures { (setup : Setup) (net : Net) (v : View O.Message) →
-            StandsFor O.stands J.is_approved setup net self.now v →
-            IfOk result (λ sender. sender ≡ sender_of (net.opened v.me bytes.now)) }
+        ensures { (site : Site O.Message) (v : View O.Message) →
+            StandsFor O.stands J.is_approved site self.now v →
+            IfOk result (λ sender. sender ≡ sender_of (site.net.opened v.me bytes.now)) }
     {
         match read(alloc, &self.keys, bytes)? {
             Ok((sender, _)) => Ok(Some(sender)),

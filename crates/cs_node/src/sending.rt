@@ -86,9 +86,8 @@ pub fn ask_again(alloc: Global, sbac: &Sbac, draft: &mut Draft) -> Result<(), Me
         OnOk result (Tells (asked_again setup sbac.now.me sbac.now.pool) draft.old draft.new)) }
     ensures fits { DraftFits draft.old → OnOk result (DraftFits draft.new) }
 {
-    let mut sessions = sbac.locked(alloc)?;
-    sessions.reverse();
-    while let Some(session) = sessions.pop() {
+    let sessions = sbac.locked(alloc)?;
+    for session in sessions {
         ask_votes(alloc, sbac, draft, session)?;
     }
     Ok(())

@@ -160,12 +160,12 @@ fn is_active_dummy(message: &Message) -> bool {
 #[test]
 fn bytes_and_sessions_are_dropped(rt: HostRuntime) -> Result<(), Fail> {
     let alloc = rt.alloc();
-    let (mut core, name) = start(&rt, alloc)?;
+    let (core, name) = start(&rt, alloc)?;
     assert!(rt; core.me() == ME);
-    let made = core.step(alloc, Input::Datagram(&name))?;
+    let (core, made) = core.step(alloc, Input::Datagram(&name))?;
     assert!(rt; is_dropped(made.notes.as_slice(), Cause::Short) && made.outs.is_empty());
     let unequal = submitted(&rt, alloc, split(alloc, name, 7)?)?;
-    let made = core.step(alloc, Input::Datagram(&unequal))?;
+    let (_, made) = core.step(alloc, Input::Datagram(&unequal))?;
     assert!(rt; is_dropped(made.notes.as_slice(), Cause::Denied) && made.outs.is_empty());
     Ok(())
 }
@@ -173,11 +173,11 @@ fn bytes_and_sessions_are_dropped(rt: HostRuntime) -> Result<(), Fail> {
 #[test]
 fn a_coin_is_split_once(rt: HostRuntime) -> Result<(), Fail> {
     let alloc = rt.alloc();
-    let (mut core, name) = start(&rt, alloc)?;
+    let (core, name) = start(&rt, alloc)?;
     let session = submitted(&rt, alloc, split(alloc, name, 6)?)?;
-    let made = core.step(alloc, Input::Datagram(&session))?;
+    let (core, made) = core.step(alloc, Input::Datagram(&session))?;
     assert!(rt; is_split(made.notes.as_slice()) && made.outs.is_empty());
-    let made = core.step(alloc, Input::Datagram(&session))?;
+    let (_, made) = core.step(alloc, Input::Datagram(&session))?;
     assert!(rt; made.notes.is_empty());
     let message = answer(&rt, alloc, made.outs.as_slice())?;
     assert!(rt; is_accepted_answer(&message));
@@ -187,9 +187,9 @@ fn a_coin_is_split_once(rt: HostRuntime) -> Result<(), Fail> {
 #[test]
 fn a_client_is_told_of_a_key(rt: HostRuntime) -> Result<(), Fail> {
     let alloc = rt.alloc();
-    let (mut core, name) = start(&rt, alloc)?;
+    let (core, name) = start(&rt, alloc)?;
     let bytes = asked(&rt, alloc, Key::Object(name))?;
-    let made = core.step(alloc, Input::Datagram(&bytes))?;
+    let (_, made) = core.step(alloc, Input::Datagram(&bytes))?;
     let message = answer(&rt, alloc, made.outs.as_slice())?;
     assert!(rt; is_active_coin(&message, name));
     Ok(())
@@ -198,9 +198,9 @@ fn a_client_is_told_of_a_key(rt: HostRuntime) -> Result<(), Fail> {
 #[test]
 fn a_client_is_told_of_a_dummy(rt: HostRuntime) -> Result<(), Fail> {
     let alloc = rt.alloc();
-    let (mut core, _) = start(&rt, alloc)?;
+    let (core, _) = start(&rt, alloc)?;
     let bytes = asked_for_dummy(&rt, alloc)?;
-    let made = core.step(alloc, Input::Datagram(&bytes))?;
+    let (_, made) = core.step(alloc, Input::Datagram(&bytes))?;
     let message = answer(&rt, alloc, made.outs.as_slice())?;
     assert!(rt; is_active_dummy(&message));
     Ok(())
@@ -209,8 +209,8 @@ fn a_client_is_told_of_a_dummy(rt: HostRuntime) -> Result<(), Fail> {
 #[test]
 fn a_tick_makes_nothing(rt: HostRuntime) -> Result<(), Fail> {
     let alloc = rt.alloc();
-    let (mut core, _) = start(&rt, alloc)?;
-    let made = core.step(alloc, Input::Tick)?;
+    let (core, _) = start(&rt, alloc)?;
+    let (_, made) = core.step(alloc, Input::Tick)?;
     assert!(rt; made.notes.is_empty() && made.outs.is_empty());
     Ok(())
 }
@@ -281,16 +281,16 @@ fn is_decided(notes: &[Note]) -> bool {
 fn two_shards_accept_a_session(rt: HostRuntime) -> Result<(), Fail> {
     let alloc = rt.alloc();
     let other = NodeId { shard: 1, index: 0 };
-    let (mut first, name) = start_in(&rt, alloc, 0)?;
-    let (mut second, _) = start_in(&rt, alloc, 1)?;
+    let (first, name) = start_in(&rt, alloc, 0)?;
+    let (second, _) = start_in(&rt, alloc, 1)?;
     let session = submitted(&rt, alloc, split_in_two(&rt, alloc, name)?)?;
-    let made = first.step(alloc, Input::Datagram(&session))?;
+    let (first, made) = first.step(alloc, Input::Datagram(&session))?;
     let asks = said_to(&rt, alloc, &made, other)?;
     assert!(rt; second.sender(alloc, &asks)? == Some(ME));
-    let made = second.step(alloc, Input::Datagram(&asks))?;
+    let (_, made) = second.step(alloc, Input::Datagram(&asks))?;
     assert!(rt; is_split(made.notes.as_slice()));
     let vote = said_to(&rt, alloc, &made, ME)?;
-    let made = first.step(alloc, Input::Datagram(&vote))?;
+    let (_, made) = first.step(alloc, Input::Datagram(&vote))?;
     assert!(rt; is_decided(made.notes.as_slice()) && made.outs.is_empty());
     Ok(())
 }

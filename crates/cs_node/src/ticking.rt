@@ -1,18 +1,16 @@
 //! What a node does as time passes.
-ghost use Rattle.std.specs.Prelude.{◌≡◌, OnOk, IfOk, is_some, length};
-ghost use Rattle.cs_wire_message.specs.Message.{IsSlot};
-ghost use Rattle.cs_order.specs.Deeds.{Member, chosen_in};
+ghost use Rattle.std.specs.Prelude.{OnOk, is_some};
 ghost use Rattle.cs_node_state.specs.Admission.{due};
 ghost use Rattle.cs_node_rules.specs.Trail.{again_marks, waiting_marks, tick_marks};
 ghost use Rattle.cs_node.specs.Notes.{DraftFits};
 ghost use Rattle.cs_node.specs.Cores.{LeadsBy};
 
-use crate::carried::Carried;
 use crate::draft::Draft;
 use crate::engine::Engine;
 use crate::handing::hand_out;
 use crate::sending::{ask_again, want};
-use cs_base::{LAST_SLOT, Memory};
+use cs_base::Memory;
+use cs_node_carried::Carried;
 use cs_tx::Judge;
 use std::alloc::Global;
 
@@ -37,22 +35,9 @@ impl<O: Carried, J: Judge + Drop> Engine<O, J> {
         self.order.resend(alloc, &mut outgoing)?;
         hand_out::<O>(alloc, &self.sbac, draft, outgoing)?;
         ask_again(alloc, &self.sbac, draft)?;
-        let slot = self.open_slot()?;
+        let slot = self.order.open_slot();
         want(alloc, &self.sbac, draft, slot)?;
         Ok(())
-    }
-
-    // A log of more slots than messages can name is longer than any memory.
-    fn open_slot(&self) -> Result<u64, Memory>
-        ensures slot { (h : Member O.Message) → O.stands self.now.order h →
-            IfOk result (λ slot. slot ≡ length (chosen_in h.deeds)) }
-        ensures fits { IfOk result IsSlot }
-    {
-        let slot = self.order.open_slot();
-        if slot > LAST_SLOT {
-            return Err(Memory);
-        }
-        Ok(slot)
     }
 
     fn wait(&mut self, alloc: Global, draft: &mut Draft) -> Result<(), Memory>

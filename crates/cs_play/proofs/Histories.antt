@@ -16,10 +16,11 @@ use Rattle.cs_ledger.specs.Ledger.{Bytes, Transaction}
 use Rattle.cs_ledger.specs.Table as Shard
 use Rattle.cs_ledger.specs.ShardWorld.{is_vote, is_listed}
 use Rattle.cs_node_state.specs.Setup.{Setup, digest_of}
+use Rattle.cs_node_rules.specs.Aborts.{with_digest}
 use Rattle.cs_node_rules.specs.Signs.{Did}
 use Rattle.cs_node_rules.specs.World.{Execution, slots_of, first_of, recorded, all_recorded, is_voted, told}
 use Rattle.cs_play.specs.Digests.{digests_of}
-use Rattle.cs_play.specs.Kept.{KeptHistory, KeepsHistory, Deploys, IsBeforeFirst, is_commit, with_commit, with_told, all_commit, voted, told_next, entered_slot, executed, kept_after}
+use Rattle.cs_play.specs.Kept.{KeptHistory, KeepsHistory, Deploys, IsBeforeFirst, is_commit, with_commit, all_commit, voted, told_next, entered_slot, executed, kept_after}
 
 -- ---- before the first execution
 
@@ -110,14 +111,14 @@ listed tx [] = refl
 listed tx (other ∷ txs) = ap (λ b. bytes_eq tx.digest other.digest || b) (listed tx txs)
 
 told-after : (tx : Transaction) (d : Bytes) (txs : List Transaction) (digests : List Bytes) (all : Bool) → tx.digest ≡ d → digests ≡ digests_of txs
-    → cond all (with_told d digests) digests ≡ digests_of (cond (all && not (is_listed tx txs)) (txs ++ tx ∷ []) txs)
+    → cond all (with_digest d digests) digests ≡ digests_of (cond (all && not (is_listed tx txs)) (txs ++ tx ∷ []) txs)
 told-after tx d txs digests false named is = is
 told-after tx d txs digests true named is = by (is_listed tx txs) refl
   where
     found : list_any (bytes_eq d) digests ≡ is_listed tx txs
     found = rw (is, ← named) (sym (listed tx txs))
 
-    by : (b : Bool) → is_listed tx txs ≡ b → with_told d digests ≡ digests_of (cond (not (is_listed tx txs)) (txs ++ tx ∷ []) txs)
+    by : (b : Bool) → is_listed tx txs ≡ b → with_digest d digests ≡ digests_of (cond (not (is_listed tx txs)) (txs ++ tx ∷ []) txs)
     by true e = rw (found, e) is
     by false e = rw (found, e) (ap (λ ds. ds ++ d ∷ []) is ∙ ap (λ x. digests_of txs ++ x ∷ []) (sym named) ∙ sym (map-append (λ t. t.digest) txs (tx ∷ [])))
 
@@ -193,7 +194,7 @@ module _ (setup : Setup) (kept : KeptHistory) (firsts : List Execution) (shard s
       slots = slots (Prepare x) (Shard.Voted vote);
       commits = votes;
       told =
-          ap (λ b. cond b (with_told (digest_of_tx x.tx) kept.told) kept.told) all_votes
+          ap (λ b. cond b (with_digest (digest_of_tx x.tx) kept.told) kept.told) all_votes
           ∙ told-after (setup.session_of x).transaction (digest_of_tx x.tx) (told setup firsts) kept.told (all_recorded setup (here ∷ firsts) x) (k.deploys.transaction x) k.told;
     }
 
@@ -218,9 +219,18 @@ module _ (setup : Setup) (kept : KeptHistory) (firsts : List Execution) (shard s
       by true = k
       by false = new-slot entry effect
 
--- the outcome of a call that leaves what is kept after an execution
-pub keeps-on_ok : {T E : Type 0} (r : Result T E) (setup : Setup) (kept left : KeptHistory) (firsts : List Execution) (shard slot : ℕ) (entry : Entry) (effect : Shard.Effect) → KeepsHistory setup firsts kept → shard < kept.config.shards
-    → (shard < kept.config.shards → OnOk r (left ≡ kept_after kept shard slot entry effect)) → OnOk r (KeepsHistory setup (first_of shard (Did slot entry effect) firsts) left)
-keeps-on_ok (Ok x) setup kept left firsts shard slot entry effect k known is =
-    subst (λ (after : KeptHistory). KeepsHistory setup (first_of shard (Did slot entry effect) firsts) after) (sym (is known)) (keeps-after setup kept firsts shard slot k known entry effect)
-keeps-on_ok (Err e) setup kept left firsts shard slot entry effect k known is = tt
+-- aborts are nothing to the history
+keeps-aborted : (setup : Setup) (firsts : List Execution) (kept : KeptHistory) (aborted : List Bytes) → KeepsHistory setup firsts kept → KeepsHistory setup firsts (record kept { aborted = aborted })
+keeps-aborted setup firsts kept aborted k = record { deploys = k.deploys; each = k.each; slots = k.slots; commits = k.commits; told = k.told }
+
+-- the outcome of a call that leaves what is kept after an execution, and notes aborts
+module _ (setup : Setup) (kept entered left : KeptHistory) (aborted : List Bytes) (firsts : List Execution) (shard slot : ℕ) (entry : Entry) (effect : Shard.Effect) where
+  abbrev after : List Execution
+  after = first_of shard (Did slot entry effect) firsts
+
+  pub keeps-on_ok : {T E : Type 0} (r : Result T E) → KeepsHistory setup firsts kept → shard < kept.config.shards → (shard < kept.config.shards → entered ≡ kept_after kept shard slot entry effect)
+      → OnOk r (left ≡ record entered { aborted = aborted }) → OnOk r (KeepsHistory setup after left)
+  keeps-on_ok (Ok x) k known is rest =
+      let kept-there = subst (λ (h : KeptHistory). KeepsHistory setup after h) (sym (is known)) (keeps-after setup kept firsts shard slot k known entry effect) in
+      subst (λ (h : KeptHistory). KeepsHistory setup after h) (sym rest) (keeps-aborted setup after entered aborted kept-there)
+  keeps-on_ok (Err e) k known is rest = tt

@@ -1,22 +1,28 @@
 -- What notes tell is what the signs of an event say.
-use Rattle.std.proofs.Common.{◌≡◌, ℕ, zero, suc, ◌<◌, Bool, List, [], ◌∷◌, ◌++◌, length, get_or, refl, sym, ap, subst, ◌∙◌, append-nil, arith}
+use Rattle.std.proofs.Common.{◌≡◌, ℕ, zero, suc, ◌<◌, Bool, true, cond, bytes_eq, List, [], ◌∷◌, ◌++◌, length, get_or, refl, sym, ap, subst, ◌∙◌, append-nil, arith}
 use Rattle.std.proofs.lemmas.Grind.{flat_map-append}
+use Rattle.std.proofs.lemmas.Slice.Eq.{bytes_eq-Decides}
+use Rattle.cs_ledger.specs.Ledger.{Bytes}
 use Rattle.cs_base.specs.declared.config.Config.{Config}
 use Rattle.cs_base.specs.declared.node_id.NodeId.{NodeId}
 use Rattle.cs_ledger.specs.Table as Shard
-use Rattle.cs_node_state.specs.Setup.{Setup, session_in}
+use Rattle.cs_node_state.specs.Setup.{Setup, digest_of, session_in}
 use Rattle.cs_node_rules.specs.Net.{Net, sealed}
 use Rattle.cs_node_rules.specs.Signs.{Sign, Dropped, Took, Entered, Viewed, Did, Sent}
+use Rattle.cs_node_rules.specs.Aborts.{with_digest, aborted_after, aborted_by}
 use Rattle.cs_node_rules.specs.World.{Execution, first_of, firsts_after}
 use Rattle.cs_node_rules.specs.Lines.{parcels_of, slot_line, drop_line, view_line, if_traced, sign_lines}
 use Rattle.cs_tx.specs.Digest.{digest_of_session}
+use Rattle.cs_tx_form.specs.declared.entry.Entry.{Entry}
+use Rattle.cs_tx_form.specs.declared.entry.Entry.TheVariants.{Prepare, Decide}
+use Rattle.cs_tx_form.specs.declared.session.Session.{Session}
 use Rattle.cs_table.specs.Effects.{effect_of}
 use Rattle.cs_wire.specs.declared.input.Out.{Out}
 use Rattle.cs_node.specs.declared.draft.Note.{Note}
 use Rattle.cs_node.specs.declared.draft.Note.TheVariants as note
 use Rattle.cs_node.specs.Notes.{NoteFits, NotesFit, effect_from, notes_of, outs_of}
-use Rattle.cs_play.specs.Kept.{Deploys}
-use Rattle.cs_play.specs.Told.{note_text, notes_text, note_first, noted_firsts}
+use Rattle.cs_play.specs.Kept.{Deploys, with_abort}
+use Rattle.cs_play.specs.Told.{note_text, notes_text, note_first, noted_firsts, note_aborted, noted_aborted}
 use Rattle.cs_play.specs.Ends.{parcel_from, parcels_from}
 use Rattle.std.proofs.lemmas.List.{map-append}
 
@@ -47,6 +53,47 @@ firsts-noted shard firsts (Did slot entry effect ∷ past) =
     firsts-push shard (notes_of past) (note.Executed slot entry (effect_from effect)) firsts
     ∙ ap (λ e. first_of shard (Did slot entry e) (noted_firsts shard (notes_of past) firsts)) (effect-same effect)
     ∙ ap (λ earlier. first_of shard (Did slot entry effect) earlier) (firsts-noted shard firsts past)
+
+pub aborted-push : (notes : List Note) (n : Note) (aborted : List Bytes) → noted_aborted (notes ++ n ∷ []) aborted ≡ note_aborted n (noted_aborted notes aborted)
+aborted-push [] n aborted = refl
+aborted-push (m ∷ notes) n aborted = aborted-push notes n (note_aborted m aborted)
+
+bytes-same : (d : Bytes) → bytes_eq d d ≡ true
+bytes-same d = (bytes_eq-Decides d d).1 refl
+
+-- the sessions on which an abort was decided, after an event
+module _ (config : Config) (setup : Setup) (deploys : Deploys config setup) where
+  -- a decision abort on a session
+  abort-is : (x : Session) (aborted : List Bytes) → cond (bytes_eq (digest_of setup x) (digest_of setup x)) (with_digest (digest_of setup x) aborted) aborted ≡ with_digest (digest_of_session x) aborted
+  abort-is x aborted =
+      ap (λ b. cond b (with_digest (digest_of setup x) aborted) aborted) (bytes-same (digest_of setup x))
+      ∙ ap (λ d. with_digest d aborted) (deploys.session x)
+
+  abort-after : (entry : Entry) (effect : Shard.Effect) (aborted : List Bytes) → aborted_after setup entry effect aborted ≡ with_abort entry effect aborted
+  abort-after (Prepare x) (Shard.Voted Shard.Commit) aborted = refl
+  abort-after (Prepare x) (Shard.Voted Shard.Abort) aborted = abort-is x aborted
+  abort-after (Prepare x) Shard.Accepted aborted = refl
+  abort-after (Prepare x) Shard.Aborted aborted = refl
+  abort-after (Prepare x) Shard.Skipped aborted = refl
+  abort-after (Prepare x) Shard.Void aborted = refl
+  abort-after (Decide vote x) (Shard.Voted given) aborted = refl
+  abort-after (Decide vote x) Shard.Accepted aborted = refl
+  abort-after (Decide vote x) Shard.Aborted aborted = abort-is x aborted
+  abort-after (Decide vote x) Shard.Skipped aborted = refl
+  abort-after (Decide vote x) Shard.Void aborted = refl
+
+  pub aborted-noted : (aborted : List Bytes) (signs : List Sign) → noted_aborted (notes_of signs) aborted ≡ aborted_by setup signs aborted
+  aborted-noted aborted [] = refl
+  aborted-noted aborted (Dropped cause ∷ past) = aborted-push (notes_of past) (note.Dropped cause) aborted ∙ aborted-noted aborted past
+  aborted-noted aborted (Took sender vote x ∷ past) = aborted-noted aborted past
+  aborted-noted aborted (Entered x ∷ past) = aborted-noted aborted past
+  aborted-noted aborted (Sent to message ∷ past) = aborted-noted aborted past
+  aborted-noted aborted (Viewed slot view ∷ past) = aborted-push (notes_of past) (note.Viewed slot view) aborted ∙ aborted-noted aborted past
+  aborted-noted aborted (Did slot entry effect ∷ past) =
+      aborted-push (notes_of past) (note.Executed slot entry (effect_from effect)) aborted
+      ∙ ap (λ e. with_abort entry e (noted_aborted (notes_of past) aborted)) (effect-same effect)
+      ∙ ap (λ earlier. with_abort entry effect earlier) (aborted-noted aborted past)
+      ∙ sym (abort-after entry effect (aborted_by setup past aborted))
 
 -- the lines of an event
 module _ (config : Config) (setup : Setup) (deploys : Deploys config setup) (traced : Bool) (me : NodeId) where

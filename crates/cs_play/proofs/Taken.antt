@@ -7,7 +7,9 @@ use Rattle.cs_order.specs.Deeds.{Member, Machine}
 use Rattle.cs_node_rules.specs.Site.{Input, Datagram, Carrier, Site, signs_of}
 use Rattle.cs_node_rules.specs.Signs.{Sign}
 use Rattle.cs_node_rules.specs.Trail.{event_marks}
+use Rattle.cs_node_rules.specs.Aborts.{aborted_by}
 use Rattle.cs_node_rules.specs.World.{Execution, view_of, firsts_of}
+use Rattle.cs_node_rules.specs.Ready.{AllQuiet}
 use Rattle.cs_node_rules.specs.Lines.{Parcel, parcels_of, sign_lines, if_traced, at_line, sent_lines}
 use Rattle.cs_node_rules.specs.Play.{Played, Goes, Stops, size_of, most_events, most_sent, plays, within, occurs, arrived, with_arrived, comes}
 use Rattle.cs_node.specs.declared.outs.Made.{Made}
@@ -15,14 +17,14 @@ use Rattle.cs_node.specs.Notes.{notes_of}
 use Rattle.cs_node.specs.declared.nodes.Core.{Core}
 use Rattle.cs_play.specs.declared.play.Replay.{Replay}
 use Rattle.cs_play.specs.Kept.{KeptHistory, KeepsHistory}
-use Rattle.cs_play.specs.Told.{noted_firsts, told_text, IsTold}
+use Rattle.cs_play.specs.Told.{noted_firsts, noted_aborted, told_text, IsTold}
 use Rattle.cs_play.specs.Voicing.{Voicing}
 use Rattle.cs_play.specs.Standing.{Setting, site_in, AllStand, HasNode, Delivered, Rests, Stands}
 use Rattle.cs_play.specs.Ends.{parcels_from}
 use Rattle.cs_wire.specs.declared.input.Out.{Out}
 use Rattle.cs_play.proofs.Courses.{drop-front}
-use Rattle.cs_play.proofs.Views.{view-me}
-use Rattle.cs_play.proofs.Notes.{text-noted, firsts-noted, parcels-noted}
+use Rattle.cs_play.proofs.Views.{core-quiet, view-me}
+use Rattle.cs_play.proofs.Notes.{text-noted, firsts-noted, aborted-noted, parcels-noted}
 
 lt-true : (a b : ℕ) → a < b → nat_lt a b ≡ true
 lt-true a b h = grind arith
@@ -116,6 +118,11 @@ module _ {O J M : Type 0} (stands : O → Member M → Type 0) (approves : J →
               subst (λ (firsts : List Execution). KeepsHistory s.setup firsts r'.history)
               (ap (λ ns. noted_firsts to.shard ns (firsts_of p.world)) d.notes ∙ firsts-noted to.shard (firsts_of p.world) (signs here s.traced line to input p))
               (told.kept s.setup (firsts_of p.world) below st.kept);
+          aborted =
+              told.aborted
+              ∙ ap (λ ns. noted_aborted ns r.history.aborted) d.notes
+              ∙ aborted-noted r.history.config s.setup st.kept.deploys r.history.aborted (signs here s.traced line to input p)
+              ∙ ap (aborted_by s.setup (signs here s.traced line to input p)) st.aborted;
           parcels = sent;
           within = size;
           events = let same : length p.world + 1 ≡ length (plays here s.traced line to input p).world = omega arith in events ∙ ap (λ n. n + 1) st.events ∙ same;
@@ -164,6 +171,7 @@ module _ {O J M : Type 0} (stands : O → Member M → Type 0) (approves : J →
     count = ap (λ cs. length cs.items) cores ∙ st.count;
     all = subst (λ cs. AllStand stands approves (site_in rules carrier s) s.names cs.items p.world) (sym cores) st.all;
     kept = subst (λ (h : KeptHistory). KeepsHistory s.setup (firsts_of p.world) h) (sym history) st.kept;
+    aborted = ap (λ (h : KeptHistory). h.aborted) history ∙ st.aborted;
     parcels = post;
     within = subst (λ n. n ≤ most_sent) (sym size) st.within;
     events = events ∙ st.events;
@@ -202,3 +210,10 @@ size-arrived (first ∷ parcels) zero parcel is =
     let same : first ≡ parcel = let q : Some first ≡ Some parcel = is in cc in
     ap (λ p. length p.bytes + size_of parcels) (sym same)
 size-arrived (first ∷ parcels) (suc k) parcel is = ap (λ n. length first.bytes + n) (size-arrived parcels k parcel is)
+
+-- no rule applies at an honest node
+pub all-quiet : {O J M : Type 0} (stands : O → Member M → Type 0) (approves : J → Tx → Bool) (rules : Machine M) (carrier : Carrier M) (s : Setting) (r : Replay O J M) (p : Played M) → Stands stands approves rules carrier s r p
+    → AllQuiet (site_in rules carrier s) p.world
+all-quiet stands approves rules carrier s r p st = λ name honest.
+    core-quiet stands approves (site_in rules carrier s) s.names r.cores.items p.world name st.all
+    (subst (λ n. HasNode s.names n name) (sym st.count) ((st.rests.honest name).0 honest))

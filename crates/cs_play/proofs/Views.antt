@@ -1,16 +1,14 @@
 -- A core that took an input stands for the next view of its node, and the others stand as they did.
-use Rattle.std.proofs.Common.{◌≡◌, ℕ, zero, suc, ◌<◌, ◌==◌, Bool, true, false, ◌&&◌, cond, List, [], ◌∷◌, ◌++◌, length, get_or, slice_get, slice_set, Some, None, Result, Ok, Err, IfOk, ◌⊎◌, inl, inr, refl, ap, sym, subst, ◌∙◌, arith, rules}
-use Rattle.cs_base.specs.declared.memory.Memory.{Memory}
+use Rattle.std.specs.List.{insert, remove}
+use Rattle.std.proofs.Common.{◌≡◌, ℕ, zero, suc, ◌<◌, ◌==◌, Bool, true, false, ◌&&◌, cond, List, [], ◌∷◌, ◌++◌, length, get_or, slice_get, slice_set, Some, None, ◌⊎◌, inl, inr, refl, ap, sym, subst, ◌∙◌, arith}
 use Rattle.cs_base.specs.declared.node_id.NodeId.{NodeId}
 use Rattle.cs_tx_form.specs.declared.transaction.Tx.{Tx}
-use Rattle.cs_order.specs.Deeds.{Member, Machine}
-use Rattle.cs_node_state.specs.Setup.{Setup}
+use Rattle.cs_order.specs.Deeds.{Member}
 use Rattle.cs_base.specs.NodeId.{same_name}
-use Rattle.cs_node_rules.specs.Net.{Net}
-use Rattle.cs_node_rules.specs.Site.{Input, Mark, In, Ordered, Plain, Carrier, Site, View, start_view, mark_step, view_after, signs_of}
+use Rattle.cs_node_rules.specs.Site.{Input, Mark, In, Ordered, Plain, Site, View, start_view, mark_step, view_after, signs_of}
 use Rattle.cs_node_rules.specs.Trail.{event_marks}
 use Rattle.cs_node_rules.specs.World.{Happening, trail_of, view_of, happens}
-use Rattle.cs_node_rules.specs.Deployment.{site_of}
+use Rattle.cs_node_rules.specs.Ready.{IsQuiet}
 use Rattle.cs_node.specs.declared.nodes.Core.{Core}
 use Rattle.cs_node.specs.declared.outs.Made.{Made}
 use Rattle.cs_node.specs.Notes.{outs_of}
@@ -112,36 +110,52 @@ length-set {A} [] k y = refl
 length-set {A} (x ∷ xs) zero y = refl
 length-set {A} (x ∷ xs) (suc k) y = ap suc (length-set xs k y)
 
+-- what was removed is put back, and something else in its place
+pub put-back : {A : Type 0} (xs : List A) (k : ℕ) (y : A) → k < length xs → insert (remove xs k) k y ≡ slice_set xs k y
+put-back {A} [] k y h = absurd (omega arith)
+put-back {A} (x ∷ xs) zero y h = refl
+put-back {A} (x ∷ xs) (suc k) y h = ap (λ l. x ∷ l) (put-back xs k y (omega arith))
+
 -- an input was taken by the core of its node
-pub stepped : {O J M : Type 0} (stands : O → Member M → Type 0) (approves : J → Tx → Bool) (setup : Setup) (net : Net) (rules : Machine M) (carrier : Carrier M) (names : ℕ → NodeId) (world : List (Happening M)) (cores : List (Core O J M)) (place : ℕ) (core core' : Core O J M) (to : NodeId) (input : Input) (answer : Result Made Memory)
-    → AllStand stands approves (site_of setup net rules carrier) names cores world → slice_get cores place ≡ Some core → names place ≡ to
-    → ((setup' : Setup) (net' : Net) (v : View M) → StandsFor stands approves setup' net' core v → IfOk answer (λ made. Event (site_of setup' net' rules carrier) v input made (StandsFor stands approves setup' net' core')))
-    → IfOk answer (λ made. Delivered stands approves (site_of setup net rules carrier) names (slice_set cores place core') world to input made)
-stepped {O} {J} {M} stands approves setup net rules carrier names world cores place core core' to input (Err e) all at name takes = tt
-stepped {O} {J} {M} stands approves setup net rules carrier names world cores place core core' to input (Ok made) all at name takes =
-    let site : Site M = site_of setup net rules carrier in
-    let before : StandsFor stands approves setup net core (view_of site world to) = subst (λ (n : NodeId). StandsFor stands approves setup net core (view_of site world n)) name (all.each place core at) in
-    let event : Event site (view_of site world to) input made (StandsFor stands approves setup net core') = takes setup net (view_of site world to) before in
-    let here : StandsFor stands approves setup net core' (view_of site (happens site to input world) (names place)) =
-    subst (λ (n : NodeId). StandsFor stands approves setup net core' (view_of site (happens site to input world) n)) (sym name)
-    (subst (λ (v : View M). StandsFor stands approves setup net core' v) (sym (view-here site to input world)) event.after) in
+pub stepped : {O J M : Type 0} (stands : O → Member M → Type 0) (approves : J → Tx → Bool) (site : Site M) (names : ℕ → NodeId) (world : List (Happening M)) (cores cores' : List (Core O J M)) (place : ℕ) (core core' : Core O J M) (to : NodeId) (input : Input) (made : Made)
+    → AllStand stands approves site names cores world → slice_get cores place ≡ Some core → names place ≡ to → cores' ≡ slice_set cores place core'
+    → ((v : View M) → StandsFor stands approves site core v → Event site v input made (StandsFor stands approves site core'))
+    → Delivered stands approves site names cores' world to input made
+stepped {O} {J} {M} stands approves site names world cores cores' place core core' to input made all at name put takes =
+    let before : StandsFor stands approves site core (view_of site world to) = subst (λ (n : NodeId). StandsFor stands approves site core (view_of site world n)) name (all.each place core at) in
+    let event : Event site (view_of site world to) input made (StandsFor stands approves site core') = takes (view_of site world to) before in
+    let here : StandsFor stands approves site core' (view_of site (happens site to input world) (names place)) =
+    subst (λ (n : NodeId). StandsFor stands approves site core' (view_of site (happens site to input world) n)) (sym name)
+    (subst (λ (v : View M). StandsFor stands approves site core' v) (sym (view-here site to input world)) event.after) in
     record {
       notes = event.notes;
-      outs = event.outs ∙ ap (λ me. outs_of net me (signs_of (event_marks site (view_of site world to) input))) (view-me site world to);
-      all = record {
+      outs = event.outs ∙ ap (λ me. outs_of site.net me (signs_of (event_marks site (view_of site world to) input))) (view-me site world to);
+      all = subst (λ (cs : List (Core O J M)). AllStand stands approves site names cs (happens site to input world)) (sym put) (record {
         each = λ i c h.
             elim (get-set cores place i core' c h) [
               | inl p ↦
-                  subst (λ (k : ℕ). StandsFor stands approves setup net c (view_of site (happens site to input world) (names k))) (sym p.0)
-                  (subst (λ (x : Core O J M). StandsFor stands approves setup net x (view_of site (happens site to input world) (names place))) p.1 here)
+                  subst (λ (k : ℕ). StandsFor stands approves site c (view_of site (happens site to input world) (names k))) (sym p.0)
+                  (subst (λ (x : Core O J M). StandsFor stands approves site x (view_of site (happens site to input world) (names place))) p.1 here)
               | inr p ↦
-                  subst (λ (v : View M). StandsFor stands approves setup net c v)
+                  subst (λ (v : View M). StandsFor stands approves site c v)
                   (sym (view-there site to (names i) input world (λ same. p.0 (sym (all.apart place i (get-within cores place core at) (get-within cores i c p.1) (name ∙ same))))))
                   (all.each i c p.1)
             ];
         apart = λ i j x y. all.apart i j (subst (λ (n : ℕ). i < n) (length-set cores place core') x) (subst (λ (n : ℕ). j < n) (length-set cores place core') y);
-      };
+      });
     }
+
+some-at : {A : Type 0} (xs : List A) (k : ℕ) → k < length xs → (x : A) × (slice_get xs k ≡ Some x)
+some-at {A} [] k h = absurd (omega arith)
+some-at {A} (x ∷ xs) zero h = (x, refl)
+some-at {A} (x ∷ xs) (suc k) h = some-at xs k (omega arith)
+
+-- no rule applies at a node that has a core
+pub core-quiet : {O J M : Type 0} (stands : O → Member M → Type 0) (approves : J → Tx → Bool) (site : Site M) (names : ℕ → NodeId) (cores : List (Core O J M)) (world : List (Happening M)) (name : NodeId)
+    → AllStand stands approves site names cores world → HasNode names (length cores) name → IsQuiet site (view_of site world name)
+core-quiet {O} {J} {M} stands approves site names cores world name all has =
+    let core = some-at cores has.0 has.1 in
+    subst (λ (n : NodeId). IsQuiet site (view_of site world n)) has.2 (all.each has.0 core.0 core.1).quiet
 
 -- no core has the name, which one has
 pub named : {M : Type 0} (site : Site M) (world : List (Happening M)) (names : ℕ → NodeId) (count : ℕ) (name : NodeId) → HasNode names count name

@@ -9,16 +9,19 @@ use Rattle.cs_tx.specs.Digest.{digest_of_tx, digest_of_session}
 use Rattle.cs_ledger.specs.Ledger.{Bytes}
 use Rattle.cs_ledger.specs.Table as Shard
 use Rattle.cs_node_state.specs.Setup.{Setup, digest_of, concerned}
+use Rattle.cs_node_rules.specs.Aborts.{with_digest}
 use Rattle.cs_node_rules.specs.World.{Execution, slots_of, recorded, told}
 use Rattle.cs_play.specs.Digests.{digests_of}
 use Rattle.cs_tx.specs.Uses.{concerned_shards}
 
--- how many slots of each shard were executed, the commit votes by shard and session, and the transactions told
+-- how many slots of each shard were executed, the commit votes by shard and session, the transactions told, and the
+-- sessions on which an abort was decided
 pub record KeptHistory : Type 0 where
   pub config : Config
   pub slots : List ℕ
   pub commits : List (ℕ × Bytes)
   pub told : List Bytes
+  pub aborted : List Bytes
 
 -- a setup that names sessions and transactions by their digests, and concerns the shards of a configuration
 pub record Deploys (config : Config) (setup : Setup) : Type 0 where
@@ -47,9 +50,6 @@ IsBeforeFirst kept = (setup : Setup) → Deploys kept.config setup → KeepsHist
 abbrev pub with_commit : ℕ → Bytes → List (ℕ × Bytes) → List (ℕ × Bytes)
 with_commit shard d commits = if is_commit commits d shard then commits else commits ++ (shard, d) ∷ []
 
-abbrev pub with_told : Bytes → List Bytes → List Bytes
-with_told d told = if list_any (bytes_eq d) told then told else told ++ d ∷ []
-
 -- every concerned shard has voted commit
 abbrev pub all_commit : Config → List (ℕ × Bytes) → Session → Bool
 all_commit config commits x = list_all (is_commit commits (digest_of_session x)) (concerned_shards config x)
@@ -63,7 +63,7 @@ voted kept shard d Shard.Abort = kept
 abbrev pub told_next : KeptHistory → Session → KeptHistory
 told_next kept x =
     record kept {
-      told = if all_commit kept.config kept.commits x then with_told (digest_of_tx x.tx) kept.told else kept.told;
+      told = if all_commit kept.config kept.commits x then with_digest (digest_of_tx x.tx) kept.told else kept.told;
     }
 
 -- one more slot of the shard
@@ -86,3 +86,9 @@ executed kept shard (Decide vote x) effect = kept
 abbrev pub kept_after : KeptHistory → ℕ → ℕ → Entry → Shard.Effect → KeptHistory
 kept_after kept shard slot entry effect =
     if nat_lt slot (slice_index kept.slots shard) then kept else executed (entered_slot kept shard) shard entry effect
+
+-- with the session of an execution that decides abort on it
+abbrev pub with_abort : Entry → Shard.Effect → List Bytes → List Bytes
+with_abort (Prepare x) (Shard.Voted Shard.Abort) aborted = with_digest (digest_of_session x) aborted
+with_abort (Decide vote x) Shard.Aborted aborted = with_digest (digest_of_session x) aborted
+with_abort entry effect aborted = aborted

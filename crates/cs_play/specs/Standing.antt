@@ -15,6 +15,7 @@ use Rattle.cs_node_rules.specs.Net.{Net, net_of}
 use Rattle.cs_node_rules.specs.Site.{Input, Carrier, Site, View, signs_of}
 use Rattle.cs_node_rules.specs.Trail.{event_marks}
 use Rattle.cs_node_rules.specs.World.{Happening, view_of, happens, firsts_of}
+use Rattle.cs_node_rules.specs.Aborts.{aborted}
 use Rattle.cs_node_rules.specs.Play.{Played, size_of, most_sent}
 use Rattle.cs_node_rules.specs.Deployment.{site_of}
 use Rattle.cs_node.specs.declared.nodes.Core.{Core}
@@ -41,14 +42,14 @@ site_in {M} rules carrier s = site_of s.setup s.net rules carrier
 
 -- the cores stand for these views
 abbrev pub EachStands : {O J M : Type 0} → (O → Member M → Type 0) → (J → Tx → Bool)
-    → Setup → Net → List (Core O J M) → (ℕ → View M) → Type 0
-EachStands {O} {J} {M} stands approves setup net cores views =
-    (i : ℕ) (core : Core O J M) → slice_get cores i ≡ Some core → StandsFor stands approves setup net core (views i)
+    → Site M → List (Core O J M) → (ℕ → View M) → Type 0
+EachStands {O} {J} {M} stands approves site cores views =
+    (i : ℕ) (core : Core O J M) → slice_get cores i ≡ Some core → StandsFor stands approves site core (views i)
 
 -- the cores are those of different nodes, and stand for their views after these events
 pub record AllStand {O J M : Type 0} (stands : O → Member M → Type 0) (approves : J → Tx → Bool)
     (site : Site M) (names : ℕ → NodeId) (cores : List (Core O J M)) (world : List (Happening M)) : Type 0 where
-  pub each : EachStands stands approves site.setup site.net cores (λ i. view_of site world (names i))
+  pub each : EachStands stands approves site cores (λ i. view_of site world (names i))
   pub apart : (i j : ℕ) → i < length cores → j < length cores → names i ≡ names j → i ≡ j
 
 -- one of so many nodes has this name
@@ -80,6 +81,7 @@ pub record Stands {O J M : Type 0} (stands : O → Member M → Type 0) (approve
   pub count : length r.cores.items ≡ s.count
   pub all : AllStand stands approves (site_in rules carrier s) s.names r.cores.items p.world
   pub kept : KeepsHistory s.setup (firsts_of p.world) r.history
+  pub aborted : r.history.aborted ≡ aborted s.setup p.world
   pub parcels : r.post ≡ p.parcels
   pub within : size_of p.parcels ≤ most_sent
   pub events : r.events ≡ length p.world

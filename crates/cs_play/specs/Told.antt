@@ -11,7 +11,7 @@ use Rattle.cs_node_rules.specs.Lines.{Parcel, slot_line, drop_line, view_line, i
 use Rattle.cs_table.specs.Effects.{effect_of}
 use Rattle.cs_node.specs.declared.draft.Note.{Note}
 use Rattle.cs_node.specs.declared.draft.Note.TheVariants as note
-use Rattle.cs_play.specs.Kept.{KeptHistory, KeepsHistory}
+use Rattle.cs_play.specs.Kept.{KeptHistory, KeepsHistory, with_abort}
 
 -- the line of an execution, or, in a trace, of a dropped input or of a view that was entered
 abbrev pub note_text : Bool → NodeId → Note → Bytes
@@ -33,6 +33,16 @@ abbrev pub noted_firsts : ℕ → List Note → List Execution → List Executio
 noted_firsts shard [] firsts = firsts
 noted_firsts shard (told ∷ notes) firsts = noted_firsts shard notes (note_first shard told firsts)
 
+abbrev pub note_aborted : Note → List Bytes → List Bytes
+note_aborted (note.Dropped cause) aborted = aborted
+note_aborted (note.Viewed slot view) aborted = aborted
+note_aborted (note.Executed slot entry effect) aborted = with_abort entry (effect_of effect) aborted
+
+-- the sessions on which an abort was decided, after notes of a node
+abbrev pub noted_aborted : List Note → List Bytes → List Bytes
+noted_aborted [] aborted = aborted
+noted_aborted (told ∷ notes) aborted = noted_aborted notes (note_aborted told aborted)
+
 -- the lines of an event, by what the code has at hand
 abbrev pub told_text : Bool → ℕ → ℕ → NodeId → List Note → ℕ → List Parcel → Bytes
 told_text traced event line me notes number sent =
@@ -42,4 +52,5 @@ told_text traced event line me notes number sent =
 pub record IsTold (me : NodeId) (notes : List Note) (old new : KeptHistory) : Type 0 where
   pub kept : (setup : Setup) (firsts : List Execution) → me.shard < old.config.shards
       → KeepsHistory setup firsts old → KeepsHistory setup (noted_firsts me.shard notes firsts) new
+  pub aborted : new.aborted ≡ noted_aborted notes old.aborted
   pub config : new.config ≡ old.config

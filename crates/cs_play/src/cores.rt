@@ -1,9 +1,9 @@
 //! The nodes of a replay.
-ghost use Rattle.std.specs.Prelude.{◌≡◌, ◌≢◌, ℕ, ◌<◌, List, length, IfOk, IfSome, IfNone};
+ghost use Rattle.std.specs.Prelude.{◌≡◌, ◌≢◌, ℕ, ◌<◌, List, length, IfOk, OnOk, IfSome, IfNone};
 ghost use Rattle.cs_base.specs.declared.node_id.NodeId.{NodeId};
 ghost use Rattle.cs_node_state.specs.Setup.{Setup};
 ghost use Rattle.cs_node_rules.specs.Net.{Net};
-ghost use Rattle.cs_node_rules.specs.Site.{View};
+ghost use Rattle.cs_node_rules.specs.Site.{Site, View};
 ghost use Rattle.cs_node_rules.specs.World.{Happening};
 ghost use Rattle.cs_node_rules.specs.Deployment.{site_of};
 ghost use Rattle.cs_node.specs.Notes.{NotesFit};
@@ -19,11 +19,11 @@ use std::alloc::Global;
 /// The place of the core of a node.
 pub fn place_of<O: Carried, J: Judge + Drop>(cores: &[Core<O, J>], name: NodeId) -> Option<usize>
     ensures within { IfSome result (λ place. place < length cores.now) }
-    ensures named { (setup : Setup) (net : Net) (views : ℕ → View O.Message)
-        → EachStands O.stands J.is_approved setup net cores.now views
+    ensures named { (site : Site O.Message) (views : ℕ → View O.Message)
+        → EachStands O.stands J.is_approved site cores.now views
         → IfSome result (λ place. (views place).me ≡ name) }
-    ensures none { (setup : Setup) (net : Net) (views : ℕ → View O.Message)
-        → EachStands O.stands J.is_approved setup net cores.now views
+    ensures none { (site : Site O.Message) (views : ℕ → View O.Message)
+        → EachStands O.stands J.is_approved site cores.now views
         → IfNone result ((i : ℕ) → i < length cores.now → (views i).me ≢ name) }
 {
     for (place, core) in cores.iter().enumerate() {
@@ -41,10 +41,10 @@ pub fn sender_at<O: Carried, J: Judge + Drop>(
     to: NodeId,
     bytes: &[u8],
 ) -> Result<Option<NodeId>, Memory>
-    ensures { (setup : Setup) (net : Net) (names : ℕ → NodeId) (views : ℕ → View O.Message)
-        → EachStands O.stands J.is_approved setup net cores.now views
+    ensures { (site : Site O.Message) (names : ℕ → NodeId) (views : ℕ → View O.Message)
+        → EachStands O.stands J.is_approved site cores.now views
         → ((i : ℕ) → (views i).me ≡ names i) → HasNode names (length cores.now) to
-        → IfOk result (λ sender. sender ≡ sender_of (net.opened to bytes.now)) }
+        → IfOk result (λ sender. sender ≡ sender_of (site.net.opened to bytes.now)) }
 {
     match place_of(cores, to) {
         Some(place) => cores[place].sender(alloc, bytes),
@@ -52,7 +52,8 @@ pub fn sender_at<O: Carried, J: Judge + Drop>(
     }
 }
 
-/// Gives an input to a node. A name without a core takes nothing.
+/// Gives an input to a node. A name without a core takes nothing. After a want of memory the core
+/// of the node is gone.
 pub fn deliver<O: Carried, J: Judge + Drop>(
     alloc: Global,
     cores: &mut Vec<Core<O, J>>,
@@ -67,10 +68,15 @@ pub fn deliver<O: Carried, J: Judge + Drop>(
         → IfOk result (Delivered O.stands J.is_approved (site_of setup net O.rules O.carrier)
         names cores.new.items world to (input_of input.entry)) }
     ensures fits { IfOk result (λ made. NotesFit made.notes) }
-    ensures count { length cores.new.items ≡ length cores.old.items }
+    ensures count { OnOk result (length cores.new.items ≡ length cores.old.items) }
 {
     match place_of(cores, to) {
-        Some(place) => cores[place].step(alloc, input),
+        Some(place) => {
+            let core = cores.remove(place);
+            let (core, made) = core.step(alloc, input)?;
+            cores.insert(place, core)?;
+            Ok(made)
+        }
         None => Ok(Made {
             outs: Sequence::new(alloc),
             notes: Sequence::new(alloc),

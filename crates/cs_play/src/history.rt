@@ -1,15 +1,16 @@
 //! The history, kept from the executions as they come.
-ghost use Rattle.std.specs.Prelude.{◌≡◌, ◌<◌, ◌==◌, IfOk, OnOk, List, replicate};
+ghost use Rattle.std.specs.Prelude.{◌≡◌, ◌<◌, ◌==◌, [], IfOk, OnOk, List, replicate};
 ghost use Rattle.cs_tx_form.specs.Session.{SessionFits};
 ghost use Rattle.cs_node.specs.Notes.{ExecutedFits};
 ghost use Rattle.cs_node_state.specs.Setup.{Setup};
+ghost use Rattle.cs_node_rules.specs.Aborts.{with_digest};
 ghost use Rattle.cs_node_rules.specs.World.{Execution, first_of};
 ghost use Rattle.cs_node_rules.specs.Signs.{Did};
 ghost use Rattle.cs_table.specs.Effects.{effect_of};
 ghost use Rattle.cs_table.specs.Seen.{vote_of};
 ghost use Rattle.std.specs.List.{list_all};
 ghost use Rattle.cs_tx.specs.Digest.{digest_of_session};
-ghost use Rattle.cs_play.specs.Kept.{KeepsHistory, IsBeforeFirst, is_commit, all_commit, voted, told_next, executed, kept_after};
+ghost use Rattle.cs_play.specs.Kept.{KeepsHistory, IsBeforeFirst, is_commit, all_commit, voted, told_next, executed, kept_after, with_abort};
 
 use cs_base::{Config, Memory};
 use cs_node::Effect;
@@ -18,8 +19,8 @@ use indexmap::IndexSet;
 use std::alloc::Global;
 use std::marker::Model;
 
-/// What was executed so far, as far as the history needs it. Of the executions of a slot the
-/// first counts.
+/// What was executed so far, as far as the history and the count of aborts need it. For the history
+/// the first execution of a slot counts, for aborts each.
 #[derive(Drop)]
 pub struct History {
     config: Config,
@@ -29,6 +30,8 @@ pub struct History {
     commits: IndexSet<(u16, Digest)>,
     // The transactions on which every concerned shard has voted commit, in that order.
     told: IndexSet<Digest>,
+    // The sessions on which a node decided abort, in the order in which one first did.
+    aborted: IndexSet<Digest>,
 }
 
 impl Model for History {
@@ -42,6 +45,7 @@ impl Model for History {
       slots = h.slots.items;
       commits = h.commits.keys;
       told = h.told.keys;
+      aborted = h.aborted.keys;
     } };
 
     ghost invariant = { λ h. length h.slots.items ≡ h.config.shards };
@@ -51,6 +55,7 @@ impl History {
     /// Before the first execution.
     pub fn new(alloc: Global, config: Config) -> Result<History, Memory>
         ensures empty { IfOk result IsBeforeFirst }
+        ensures none { IfOk result (λ history. history.aborted ≡ []) }
         ensures config { IfOk result (λ history. history.config ≡ config) }
     {
         Ok(History {
@@ -58,6 +63,7 @@ impl History {
             slots: vec![in alloc; 0; config.shards as usize]?,
             commits: IndexSet::new(alloc),
             told: IndexSet::new(alloc),
+            aborted: IndexSet::new(alloc),
         })
     }
 
@@ -68,8 +74,16 @@ impl History {
         self.told.as_slice()
     }
 
-    /// Adds the execution of an entry at a node of the shard. Nothing is added of a shard that the
-    /// configuration doesn't have.
+    /// The digests of the sessions on which a node decided abort, in the order in which one first
+    /// did.
+    pub fn aborted(&self) -> &[Digest]
+        ensures { result.now ≡ self.now.aborted }
+    {
+        self.aborted.as_slice()
+    }
+
+    /// Adds the execution of an entry at a node of the shard. Nothing is added to the history of a
+    /// shard that the configuration doesn't have.
     pub fn execute(
         &mut self,
         alloc: Global,
@@ -83,9 +97,37 @@ impl History {
             → shard < self.old.config.shards → KeepsHistory setup firsts self.old
             → OnOk result (KeepsHistory setup
             (first_of shard (Did slot entry.now (effect_of effect)) firsts) self.new) }
+        ensures aborted { OnOk result (self.new.aborted
+            ≡ with_abort entry.now (effect_of effect) self.old.aborted) }
         ensures config { OnOk result (self.new.config ≡ self.old.config) }
     {
-        self.enter(alloc, shard, slot, entry, effect)
+        self.enter(alloc, shard, slot, entry, effect)?;
+        self.note_abort(alloc, entry, effect)
+    }
+
+    // The session of an execution that decides abort on it.
+    fn note_abort(&mut self, alloc: Global, entry: &Entry, effect: Effect) -> Result<(), Memory>
+        requires fits { ExecutedFits effect entry.now }
+        ensures { OnOk result (self.new ≡ record self.old {
+          aborted = with_abort entry.now (effect_of effect) self.old.aborted;
+        }) }
+    {
+        match (entry, effect) {
+            (Entry::Prepare(session), Effect::Voted(Vote::Abort)) => self.abort(alloc, session),
+            (Entry::Decide(_, session), Effect::Aborted) => self.abort(alloc, session),
+            _ => Ok(()),
+        }
+    }
+
+    fn abort(&mut self, alloc: Global, session: &Session) -> Result<(), Memory>
+        requires { SessionFits session.now }
+        ensures { OnOk result (self.new ≡ record self.old {
+          aborted = with_digest (digest_of_session session.now) self.old.aborted;
+        }) }
+    {
+        let digest = session_digest(alloc, session)?;
+        self.aborted.insert(digest)?;
+        Ok(())
     }
 
     fn enter(
@@ -99,6 +141,7 @@ impl History {
         requires fits { ExecutedFits effect entry.now }
         ensures kept { shard < self.old.config.shards
             → OnOk result (self.new ≡ kept_after self.old shard slot entry.now (effect_of effect)) }
+        ensures aborted { OnOk result (self.new.aborted ≡ self.old.aborted) }
         ensures config { OnOk result (self.new.config ≡ self.old.config) }
     {
         let place = shard as usize;

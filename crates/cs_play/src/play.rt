@@ -5,10 +5,11 @@ ghost use Rattle.cs_base.specs.declared.limits.TheConstants.{MOST_BODY};
 ghost use Rattle.cs_sched_types.specs.declared.schedule.Event.TheVariants.{Say};
 ghost use Rattle.cs_node_rules.specs.World.{is_genuine};
 ghost use Rattle.cs_node_rules.specs.Play.{occurs, injects, delivers, drained, play, play_all};
+ghost use Rattle.cs_node_rules.specs.Ready.{AllQuiet};
 ghost use Rattle.cs_node.specs.Notes.{NotesFit};
 ghost use Rattle.cs_node.specs.Speaking.{input_of};
 ghost use Rattle.cs_play.specs.Forging.{is_backed_by};
-ghost use Rattle.cs_play.specs.Standing.{HasNode, IsShort, AllShort, IsToAnother, AllToOthers};
+ghost use Rattle.cs_play.specs.Standing.{site_in, HasNode, IsShort, AllShort, IsToAnother, AllToOthers};
 ghost use Rattle.cs_play.specs.Told.{told_text, IsTold};
 ghost use Rattle.cs_play.specs.Ends.{Sends, Always, Plays, TakesIn, WhereStands};
 ghost use Rattle.cs_play.specs.declared.halt.Halt.TheVariants.{Failed as SinkFailed};
@@ -43,7 +44,8 @@ pub struct Replay<O: Carried, J: Judge + Drop> {
 
 impl<O: Carried, J: Judge + Drop> Replay<O, J> {
     /// Plays the events, each by the line of its number, and prints what comes of them. It stops
-    /// at the first that would pass a limit or inject what is forged.
+    /// at the first that would pass a limit or inject what is forged. Wherever it stands then, no
+    /// rule applies at an honest node.
     pub fn play_all<K: Sink>(
         &mut self,
         alloc: Global,
@@ -55,6 +57,8 @@ impl<O: Carried, J: Judge + Drop> Replay<O, J> {
             self.old (K.written output.old) self.new (K.written output.new) result
             (λ s. AllToOthers s events.now)
             (λ site traced. play_all site traced events.now) }
+        ensures quiet { WhereStands O.stands J.is_approved O.rules O.carrier self.new (λ s p.
+            AllQuiet (site_in O.rules O.carrier s) p.world) }
         ensures cause { HasCause (K.faults output.old) (K.faults output.new)
             (IsErrOf result SinkFailed) }
     {

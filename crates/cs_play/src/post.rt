@@ -76,6 +76,13 @@ impl Post {
         self.parcels.len()
     }
 
+    /// The bytes of all of them.
+    pub fn size(&self) -> u64
+        ensures { result ≡ size_of self.now }
+    {
+        self.size
+    }
+
     /// The datagram of this number.
     pub fn get(&self, number: u64) -> Option<&Parcel>
         ensures { option_copied result ≡ slice_get self.now number }

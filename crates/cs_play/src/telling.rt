@@ -5,7 +5,7 @@ ghost use Rattle.cs_node_rules.specs.World.{Execution};
 ghost use Rattle.cs_node_rules.specs.Lines.{if_traced, at_line, sent_lines};
 ghost use Rattle.cs_node.specs.Notes.{NoteFits, NotesFit};
 ghost use Rattle.cs_play.specs.Kept.{KeepsHistory};
-ghost use Rattle.cs_play.specs.Told.{note_text, notes_text, note_first, noted_firsts};
+ghost use Rattle.cs_play.specs.Told.{note_text, notes_text, note_first, noted_firsts, note_aborted, noted_aborted};
 
 use crate::history::History;
 use crate::lines::{at_line, drop_line, sent_line, slot_line, view_line};
@@ -28,6 +28,8 @@ pub fn tell(
     ensures kept { (setup : Setup) (firsts : List Execution)
         → me.shard < history.old.config.shards → KeepsHistory setup firsts history.old
         → OnOk result (KeepsHistory setup (noted_firsts me.shard notes.now firsts) history.new) }
+    ensures aborted { OnOk result (history.new.aborted
+        ≡ noted_aborted notes.now history.old.aborted) }
     ensures config { OnOk result (history.new.config ≡ history.old.config) }
 {
     let mut text = String::new(alloc);
@@ -50,6 +52,8 @@ fn tell_note(
     ensures kept { (setup : Setup) (firsts : List Execution)
         → me.shard < history.old.config.shards → KeepsHistory setup firsts history.old
         → OnOk result (KeepsHistory setup (note_first me.shard note.now firsts) history.new) }
+    ensures aborted { OnOk result (history.new.aborted
+        ≡ note_aborted note.now history.old.aborted) }
     ensures config { OnOk result (history.new.config ≡ history.old.config) }
 {
     match note {

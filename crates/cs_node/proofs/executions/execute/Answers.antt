@@ -6,7 +6,7 @@ use Rattle.cs_node_pool.specs.Deployed.{deployed}
 use Rattle.cs_sbac.specs.Held.{bench_of}
 use Rattle.cs_node.specs.declared.draft.Note.TheVariants.{Executed}
 use Rattle.cs_node.specs.Notes.{Tells}
-use Rattle.cs_node.specs.Proposals.{entry_read}
+use Rattle.cs_node_carried.specs.Proposals.{entry_read}
 use Rattle.cs_node.specs.Steps.{Makes}
 use Rattle.cs_node.proofs.Executing.{execution-makes}
 use Rattle.cs_node.proofs.Noting.{effect-again}

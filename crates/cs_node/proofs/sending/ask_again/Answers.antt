@@ -1,28 +1,41 @@
-use Rattle.std.proofs.Common.{reverse, arith, ap, sym, subst, ◌∙◌}
-use Rattle.std.proofs.lemmas.List.{reverse-reverse}
-use Rattle.cs_node_pool.specs.Fits.{AllFit}
+use Rattle.std.proofs.Common.{rules, true, Some, List, length, ap, sym, subst, ◌∙◌}
+use Rattle.std.proofs.lemmas.List.{map-id}
+use Rattle.std.proofs.lemmas.Iterator.Adapters.{YieldsList-from_vec}
+use Rattle.std.proofs.lemmas.Iterator.Consumers.{YieldsList-turn, YieldsList-end}
+use Rattle.cs_tx_form.specs.declared.vote.Vote.TheVariants.{Commit}
+use Rattle.cs_node_rules.specs.Signs.{Sign, vote_signs}
 use Rattle.cs_node_pool.specs.Deployed.{deployed}
-use Rattle.cs_node.proofs.Ticked.{all-asked, next-fits, next-asked, last-asked}
+use Rattle.cs_node.specs.Notes.{Tells}
+use Rattle.cs_node.proofs.Sums.{tells-more}
+use Rattle.cs_node.proofs.Ticked.{asked_of, asked-push, asked-locked, fits-at}
 use Rattle.cs_node.proofs.sending.ask_again.Goals as goal
 
-pub loop-session-init : goal.loop-session-init
-loop-session-init c = record {
-  left = subst AllFit (sym (ap reverse c.reverse.ensures.items ∙ reverse-reverse c.in_ok-sessions.sessions.items)) c.in_ok-sessions.ensures.fits;
-  goes_on = λ genesis approves last tells.
-      all-asked (deployed c.args.sbac.now.config genesis approves) c.args.sbac.now.me c.args.sbac.now.pool c.in_ok-sessions.sessions.items _ c.args.draft.now last c.in_ok-sessions.ensures.sessions c.reverse.ensures.items tells;
-  fits = λ fits. fits;
-}
+pub ask_votes-requires : goal.ask_votes-requires
+ask_votes-requires c =
+    let all = c.in_ok-sessions.sessions.items in
+    let road = YieldsList-from_vec {s = c.into_iter-session-iterator.result} all (search rules) (search rules) in
+    let t = YieldsList-turn road c.loop-session.yielded c.loop-session.session-iterator c.loop-session.yielded_by c.next.result c.next.new.self c.in-Some.session c.in-Some.is c.next.ensures.steps in
+    fits-at all (length c.loop-session.yielded) c.in-Some.session t.0 t.1 c.in_ok-sessions.ensures.fits
 
 pub loop-session-preserved : goal.loop-session-preserved
 loop-session-preserved c = record {
-  left = (next-fits c.loop-session.sessions.items c.pop.new.self.items c.in-Some.session c.in-Some.ensures.items c.loop-session.invariant.left).1;
-  goes_on = λ genesis approves last tells.
-      c.loop-session.invariant.goes_on genesis approves last
-      (next-asked (deployed c.args.sbac.now.config genesis approves) c.args.sbac.now.me c.loop-session.sessions.items c.pop.new.self.items c.in-Some.session c.loop-session.draft c.ask_votes.new.draft last c.in-Some.ensures.items (c.in_ok-ask_votes.ensures.tells genesis approves) tells);
+  told = λ genesis approves.
+      let setup = deployed c.args.sbac.now.config genesis approves in
+      let me = c.args.sbac.now.me in
+      let x = c.in-Some.session in
+      let P : List Sign → Type 0 = λ signs. Tells signs c.args.draft.now c.ask_votes.new.draft in
+      subst P (sym (asked-push setup me c.loop-session.yielded x))
+      (tells-more (asked_of setup me c.loop-session.yielded) (vote_signs setup me x (Some (Commit, true))) c.args.draft.now c.loop-session.draft c.ask_votes.new.draft (c.loop-session.invariant.told genesis approves) (c.in_ok-ask_votes.ensures.tells genesis approves));
   fits = λ fits. c.in_ok-ask_votes.ensures.fits (c.loop-session.invariant.fits fits);
 }
 
 pub returns-clause-tells : goal.returns-clause-tells
 returns-clause-tells c = λ genesis approves.
-    c.loop-session.invariant.goes_on genesis approves c.loop-session.draft
-    (last-asked (deployed c.args.sbac.now.config genesis approves) c.args.sbac.now.me c.loop-session.sessions.items c.loop-session.draft (let kept = c.loop-session.sessions.ok in let empty = c.in_default.ensures.cases.0 in omega arith))
+    let all = c.in_ok-sessions.sessions.items in
+    let road = YieldsList-from_vec {s = c.into_iter-session-iterator.result} all (search rules) (search rules) in
+    let t = YieldsList-end road c.loop-session.yielded c.loop-session.session-iterator c.loop-session.yielded_by c.next.result c.next.new.self c.in-None.is c.next.ensures.steps in
+    let setup = deployed c.args.sbac.now.config genesis approves in
+    let me = c.args.sbac.now.me in
+    let is = sym (map-id c.loop-session.yielded) ∙ t.0 ∙ c.in_ok-sessions.ensures.sessions in
+    let P : List Sign → Type 0 = λ signs. Tells signs c.args.draft.now c.loop-session.draft in
+    subst P (ap (asked_of setup me) is ∙ asked-locked setup me c.args.sbac.now.pool) (c.loop-session.invariant.told genesis approves)

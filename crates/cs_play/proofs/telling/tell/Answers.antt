@@ -3,9 +3,9 @@ use Rattle.std.proofs.lemmas.List.{take_more}
 use Rattle.cs_node_rules.specs.World.{Execution}
 use Rattle.cs_node.specs.declared.draft.Note.{Note}
 use Rattle.cs_play.specs.Kept.{KeepsHistory}
-use Rattle.cs_play.specs.Told.{notes_text, noted_firsts}
+use Rattle.cs_play.specs.Told.{notes_text, noted_firsts, note_aborted, noted_aborted}
 use Rattle.cs_base.specs.declared.config.Config.{Config}
-use Rattle.cs_play.proofs.Notes.{text-push, firsts-push, fits-at}
+use Rattle.cs_play.proofs.Notes.{text-push, firsts-push, aborted-push, fits-at}
 use Rattle.cs_play.proofs.telling.tell.Goals as goal
 
 pub loop-note-preserved : goal.loop-note-preserved
@@ -25,6 +25,10 @@ loop-note-preserved c =
           (subst (λ (fs : List Execution). KeepsHistory setup fs c.tell_note.new.history) (sym (firsts-push c.args.me.shard (take i notes) told firsts))
           (c.in_ok-line.ensures.kept setup (noted_firsts c.args.me.shard (take i notes) firsts) (subst (λ (config : Config). c.args.me.shard < config.shards) (sym inv.2) within) (inv.1 setup firsts within k))),
       c.in_ok-line.ensures.config ∙ inv.2,
+      c.in_ok-line.ensures.aborted
+          ∙ ap (note_aborted told) inv.3
+          ∙ sym (aborted-push (take i notes) told c.args.history.now.aborted)
+          ∙ ap (λ ns. noted_aborted ns c.args.history.now.aborted) (sym more),
     )
 
 pub tell_note-requires : goal.tell_note-requires

@@ -3,6 +3,7 @@ use Rattle.cs_base.specs.declared.node_id.NodeId.{NodeId}
 use Rattle.cs_ledger.specs.Table.{start as begun}
 use Rattle.cs_node_rules.specs.Site.{start_view}
 use Rattle.cs_node_rules.specs.Deployment.{site_of}
+use Rattle.cs_node_rules.proofs.Starting.{start-quiet}
 use Rattle.cs_table.specs.Genesis.{twice, genesis_rules}
 use Rattle.cs_node_pool.specs.Deployed.{deployed}
 use Rattle.cs_sbac.specs.Held.{Held}
@@ -14,24 +15,28 @@ use Rattle.cs_node.proofs.nodes.Core.start.Goals as goal
 pub genesis-requires : goal.genesis-requires
 genesis-requires g c = all-fit c.args.genesis.now c.requires.objects
 
-pub returns : goal.returns
-returns g c = λ objects named.
+pub returns-clause-starts : goal.returns-clause-starts
+returns-clause-starts g c =
+    subst (λ (name : NodeId). twice c.args.config.shards name.shard c.args.genesis.now ≡ None) c.me-me.ensures c.in-Ok.ensures.finds
+
+pub returns-clause-stands : goal.returns-clause-stands
+returns-clause-stands g c = λ objects named net speaks.
     let approves = g.J.Judge.is_approved in
+    let rules = g.O.Order.rules in
     let carried = g.O.Carried.carrier in
     let me = c.args.keys.me in
     let setup = deployed c.args.config objects (approves c.args.judge) in
+    let site = site_of setup net rules carried in
     let held : NodeId → Held = λ name. record { config = c.args.config; me = name; table = c.in-Ok.table; pool = [] } in
-    let sbac-is : c.new-sbac.result ≡ held me = c.new-sbac.ensures ∙ ap held c.me-me.ensures in (
-      subst (λ (name : NodeId). twice c.args.config.shards name.shard c.args.genesis.now ≡ None) c.me-me.ensures c.in-Ok.ensures.finds,
-      λ net speaks.
-          let P : Held → Type 0 = λ sbac. KeepsView g.O.Order.stands approves setup (record { order = c.args.order; judge = c.args.judge; sbac = sbac }) (start_view (site_of setup net g.O.Order.rules carried) me) in
-          let S : Held → Type 0 = λ sbac. Speaks sbac.config net c.args.keys in
-          record {
-            keeps = subst P (sym sbac-is)
-                (started g.O.Order.stands approves g.O.Order.rules carried net c.args.config me objects c.args.genesis.now c.args.order c.args.judge c.in-Ok.table (g.O.Order.f c.args.order) (g.O.Order.me c.args.order)
-                (g.met.O.Order.begins c.args.order c.requires.start) c.requires.f c.requires.me c.requires.node named
-                (c.in-Ok.ensures.table ∙ ap (λ (name : NodeId). begun (genesis_rules c.args.config c.args.genesis.now) name.shard) c.me-me.ensures));
-            me_is = refl;
-            speaks = subst S (sym sbac-is) speaks;
-          },
-    )
+    let sbac-is : c.new-sbac.result ≡ held me = c.new-sbac.ensures ∙ ap held c.me-me.ensures in
+    let P : Held → Type 0 = λ sbac. KeepsView g.O.Order.stands approves setup (record { order = c.args.order; judge = c.args.judge; sbac = sbac }) (start_view site me) in
+    let S : Held → Type 0 = λ sbac. Speaks sbac.config net c.args.keys in
+    record {
+      keeps = subst P (sym sbac-is)
+          (started g.O.Order.stands approves rules carried net c.args.config me objects c.args.genesis.now c.args.order c.args.judge c.in-Ok.table (g.O.Order.f c.args.order) (g.O.Order.me c.args.order)
+          (g.met.O.Order.begins c.args.order c.requires.start) c.requires.f c.requires.me c.requires.node named
+          (c.in-Ok.ensures.table ∙ ap (λ (name : NodeId). begun (genesis_rules c.args.config c.args.genesis.now) name.shard) c.me-me.ensures));
+      me_is = refl;
+      speaks = subst S (sym sbac-is) speaks;
+      quiet = start-quiet site me g.met.O.Order.holds g.O.Order.left g.met.O.Order.comes_to_rest;
+    }

@@ -22,8 +22,8 @@ returns-in-None-clause-ends g c = λ s p st any.
     let r = c.args.self.now in
     let site = site_in g.O.Order.rules g.O.Carried.carrier s in
     let parcel = c.in-Some.parcel.now in
-    let each = subst (λ (cores : List (Core g.row.O.Denot g.row.J.Denot g.row.O-Message.Denot)). EachStands g.O.Order.stands g.J.Judge.is_approved s.setup s.net cores (λ i. view_of site p.world (s.names i))) (sym c.as_slice.ensures.value) st.holds.all.each in
-    let none = subst (λ (cores : List (Core g.row.O.Denot g.row.J.Denot g.row.O-Message.Denot)). (i : ℕ) → i < length cores → (view_of site p.world (s.names i)).me ≡ c.to-to.result → ⊥) c.as_slice.ensures.value (c.in-None.ensures.none s.setup s.net (λ i. view_of site p.world (s.names i)) each) in
+    let each = subst (λ (cores : List (Core g.row.O.Denot g.row.J.Denot g.row.O-Message.Denot)). EachStands g.O.Order.stands g.J.Judge.is_approved site cores (λ i. view_of site p.world (s.names i))) (sym c.as_slice.ensures.value) st.holds.all.each in
+    let none = subst (λ (cores : List (Core g.row.O.Denot g.row.J.Denot g.row.O-Message.Denot)). (i : ℕ) → i < length cores → (view_of site p.world (s.names i)).me ≡ c.to-to.result → ⊥) c.as_slice.ensures.value (c.in-None.ensures.none site (λ i. view_of site p.world (s.names i)) each) in
     let other = no-node g.O.Order.stands g.J.Judge.is_approved g.O.Order.rules g.O.Carried.carrier s r p c.to-to.result st.holds none in (
       with_arrived c.args.number parcel p,
       not-given g.O.Order.stands g.J.Judge.is_approved g.O.Order.rules g.O.Carried.carrier s r _ p c.args.line c.args.number parcel c.arrive.new.self st c.in-Some.ensures c.arrive.ensures (subst (λ (n : NodeId). s.net.is_honest n ≡ false) c.to-to.ensures other),
@@ -35,9 +35,9 @@ returns-clause-ends g c = λ s p st any.
     let r = c.args.self.now in
     let site = site_in g.O.Order.rules g.O.Carried.carrier s in
     let parcel = c.in-Some.parcel.now in
-    let each = subst (λ (cores : List (Core g.row.O.Denot g.row.J.Denot g.row.O-Message.Denot)). EachStands g.O.Order.stands g.J.Judge.is_approved s.setup s.net cores (λ i. view_of site p.world (s.names i))) (sym c.as_slice.ensures.value) st.holds.all.each in
+    let each = subst (λ (cores : List (Core g.row.O.Denot g.row.J.Denot g.row.O-Message.Denot)). EachStands g.O.Order.stands g.J.Judge.is_approved site cores (λ i. view_of site p.world (s.names i))) (sym c.as_slice.ensures.value) st.holds.all.each in
     let within = subst (λ (cores : List (Core g.row.O.Denot g.row.J.Denot g.row.O-Message.Denot)). c.in-Some-place_of.field-0 < length cores) c.as_slice.ensures.value c.in-Some-place_of.ensures.within in
-    let has = a-node g.O.Order.stands g.J.Judge.is_approved g.O.Order.rules g.O.Carried.carrier s r p c.to-to.result c.in-Some-place_of.field-0 st.holds within (c.in-Some-place_of.ensures.named s.setup s.net (λ i. view_of site p.world (s.names i)) each) in
+    let has = a-node g.O.Order.stands g.J.Judge.is_approved g.O.Order.rules g.O.Carried.carrier s r p c.to-to.result c.in-Some-place_of.field-0 st.holds within (c.in-Some-place_of.ensures.named site (λ i. view_of site p.world (s.names i)) each) in
     let copied : c.in_ok-bytes.bytes.items ≡ c.bytes.result.now = search rules in
     let standing = arrived-standing g.O.Order.stands g.J.Judge.is_approved g.O.Order.rules g.O.Carried.carrier s r _ p c.args.line c.args.number parcel c.arrive.new.self st c.in-Some.ensures c.arrive.ensures in
     subst (λ (course : Course g.row.O-Message.Denot). Ends g.O.Order.stands g.J.Judge.is_approved g.O.Order.rules g.O.Carried.carrier s course c.occur.new.self (g.K.Sink.written c.occur.new.output) c.occur.result)

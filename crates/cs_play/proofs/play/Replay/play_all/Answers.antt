@@ -5,6 +5,7 @@ use Rattle.cs_node_rules.specs.Play.{Course, play, play_all}
 use Rattle.cs_play.specs.Standing.{site_in, IsToAnother}
 use Rattle.cs_play.specs.Ends.{Ends}
 use Rattle.cs_play.proofs.Courses.{drop-next, all-at, all-grows, ends-then}
+use Rattle.cs_play.proofs.Taken.{all-quiet}
 use Rattle.cs_play.proofs.play.Replay.play_all.Goals as goal
 
 pub returns-in_err-play-clause-ends : goal.returns-in_err-play-clause-ends
@@ -21,3 +22,11 @@ returns-in_err-play-clause-ends g c = λ s p st has.
     (subst (λ (course : Course g.row.O-Message.Denot). Ends g.O.Order.stands g.J.Judge.is_approved g.O.Order.rules g.O.Carried.carrier s course c.play.new.self (g.K.Sink.written c.play.new.output) (Err c.in_err-play.field-0.0)) (sym next)
     (ends-then g.O.Order.stands g.J.Judge.is_approved g.O.Order.rules g.O.Carried.carrier s (play site s.traced item.0 item.1 q) (play_all site s.traced (drop (k + 1) events)) c.play.new.self (g.K.Sink.written c.play.new.output) c.in_err-play.field-0.0
     (all-grows site s.traced (drop (k + 1) events)) (c.in_err-play.ensures.ends s q here for-it)))
+
+pub returns-in_err-play-clause-quiet : goal.returns-in_err-play-clause-quiet
+returns-in_err-play-clause-quiet g c = λ s p st.
+    all-quiet g.O.Order.stands g.J.Judge.is_approved g.O.Order.rules g.O.Carried.carrier s c.play.new.self p st
+
+pub returns-clause-quiet : goal.returns-clause-quiet
+returns-clause-quiet g c = λ s p st.
+    all-quiet g.O.Order.stands g.J.Judge.is_approved g.O.Order.rules g.O.Carried.carrier s c.loop-line.self p st
