@@ -76,7 +76,7 @@ module _ (shards shard : ℕ) where
   none-twice objects differ = none-second [] 0 objects differ (λ k d within. refl)
 
 -- so no start is refused for such a key
-pub never-refused : {A : Type 0} (found : Option Key) (start : Result A StartError) (error : StartError) (name : Key) (Started : A → Type 0) → found ≡ None → start ≡ Err error → error ≡ Duplicate name → Starts found start Started → ⊥
-never-refused found (Ok core) error name Started none is duplicate starts = cc
-never-refused found (Err (Duplicate key)) error name Started none is duplicate starts = let q : None ≡ Some key = sym none ∙ starts in cc
-never-refused found (Err Memory) error name Started none is duplicate starts = cc
+pub never-refused : {A : Type 0} (found : Option Key) (start : Result A StartError) (error : StartError) (name : Key) → found ≡ None → start ≡ Err error → error ≡ Duplicate name → Starts found start → ⊥
+never-refused found (Ok core) error name none is duplicate starts = cc
+never-refused found (Err (Duplicate key)) error name none is duplicate starts = let q : None ≡ Some key = sym none ∙ starts in cc
+never-refused found (Err Memory) error name none is duplicate starts = cc

@@ -24,7 +24,7 @@ use Rattle.cs_sched_types.specs.declared.schedule.Schedule.{Schedule}
 use Rattle.cs_sched_types.specs.declared.schedule.Event.{Event}
 use Rattle.cs_sched_types.specs.declared.schedule.Event.TheVariants.{Say, Inject, Deliver, Tick, Drain}
 use Rattle.cs_node_state.specs.Setup as Setup
-use Rattle.cs_node_rules.specs.Net.{Net, net_of}
+use Rattle.cs_node_rules.specs.Net.{net_of}
 use Rattle.cs_node_rules.specs.Site.{Site, View, start_view}
 use Rattle.cs_node_state.specs.Deployed.{rules_of, setup_of}
 use Rattle.cs_node.specs.declared.nodes.Core.{Core}
@@ -84,26 +84,26 @@ none-few : (honest : ℕ → Bool) → honest 0 ≡ true → FewLiars 0 honest
 unfolding count_below
 none-few honest is = rw is (omega arith)
 
-module _ {O J M : Type 0} (stands : O → Member M → Type 0) (approves : J → Tx → Bool) (setup : Setup.Setup) (net : Net) where
-  each-push : (cores : List (Core O J M)) (core : Core O J M) (views : ℕ → View M) → EachStands stands approves setup net cores views → StandsFor stands approves setup net core (views (length cores))
-      → EachStands stands approves setup net (cores ++ core ∷ []) views
+module _ {O J M : Type 0} (stands : O → Member M → Type 0) (approves : J → Tx → Bool) (site : Site M) where
+  each-push : (cores : List (Core O J M)) (core : Core O J M) (views : ℕ → View M) → EachStands stands approves site cores views → StandsFor stands approves site core (views (length cores))
+      → EachStands stands approves site (cores ++ core ∷ []) views
   each-push [] core views each is zero c h =
       let q : Some core ≡ Some c = h in
       let e : core ≡ c = cc in
-      subst (λ (x : Core O J M). StandsFor stands approves setup net x (views 0)) e is
+      subst (λ (x : Core O J M). StandsFor stands approves site x (views 0)) e is
   each-push [] core views each is (suc i) c h = let q : None ≡ Some c = h in absurd (cc)
   each-push (first ∷ cores) core views each is zero c h = each zero c h
   each-push (first ∷ cores) core views each is (suc i) c h = each-push cores core (λ j. views (suc j)) (λ j. each (suc j)) is i c h
 
   -- one core more
-  pub each-more : (cores cores' : List (Core O J M)) (core : Core O J M) (views : ℕ → View M) (count : ℕ) → cores' ≡ cores ++ core ∷ [] → length cores ≡ count → EachStands stands approves setup net cores views
-      → StandsFor stands approves setup net core (views count) → EachStands stands approves setup net cores' views
+  pub each-more : (cores cores' : List (Core O J M)) (core : Core O J M) (views : ℕ → View M) (count : ℕ) → cores' ≡ cores ++ core ∷ [] → length cores ≡ count → EachStands stands approves site cores views
+      → StandsFor stands approves site core (views count) → EachStands stands approves site cores' views
   each-more cores cores' core views count is at each stood =
-      subst (λ (cs : List (Core O J M)). EachStands stands approves setup net cs views) (sym is)
-      (each-push cores core views each (subst (λ n. StandsFor stands approves setup net core (views n)) (sym at) stood))
+      subst (λ (cs : List (Core O J M)). EachStands stands approves site cs views) (sym is)
+      (each-push cores core views each (subst (λ n. StandsFor stands approves site core (views n)) (sym at) stood))
 
 -- before the first input
-pub all-begin : {O J M : Type 0} (stands : O → Member M → Type 0) (approves : J → Tx → Bool) (site : Site M) (cores : List (Core O J M)) → EachStands stands approves site.setup site.net cores (λ i. start_view site (node_of_shard i))
+pub all-begin : {O J M : Type 0} (stands : O → Member M → Type 0) (approves : J → Tx → Bool) (site : Site M) (cores : List (Core O J M)) → EachStands stands approves site cores (λ i. start_view site (node_of_shard i))
     → AllStand stands approves site node_of_shard cores []
 all-begin stands approves site cores each = record { each = each; apart = λ i j x y same. ap (λ (n : NodeId). n.shard) same }
 
@@ -180,8 +180,8 @@ module _ (schedule : Schedule) (playable : IsPlayable schedule) where
       subst (λ f. FewLiars f (λ index. (net_of_schedule schedule).is_honest (record { shard = shard; index = index }))) (sym playable.no_liar)
       (none-few (λ index. (net_of_schedule schedule).is_honest (record { shard = shard; index = index })) (unless-liar (node_of_shard shard) (is-node config shard below)))
 
-  module _ (traced : Bool) (before : Option Bytes) where
-    for-setting : (event : Event) → IsPlayableEvent config schedule.liars event → IsToAnother (setting_of traced schedule before) event
+  module _ (approves : Tx → Bool) (traced : Bool) (before : Option Bytes) where
+    for-setting : (event : Event) → IsPlayableEvent config schedule.liars event → IsToAnother (setting_of approves traced schedule before) event
     for-setting (Say from to kind body) is = let node = named to is.listener in (node, apart from to is.speaker node)
     for-setting (Inject to bytes) is = named to is.node
     for-setting (Deliver number) is = tt
@@ -189,11 +189,11 @@ module _ (schedule : Schedule) (playable : IsPlayable schedule) where
     for-setting (Drain times) is = tt
 
     -- each event is for one of the nodes
-    pub are-for : All (λ numbered. IsToAnother (setting_of traced schedule before) numbered.1) schedule.events
+    pub are-for : All (λ numbered. IsToAnother (setting_of approves traced schedule before) numbered.1) schedule.events
     are-for = λ k d within. for-setting (get_or schedule.events k d).1 (playable.events k d within)
 
     -- the nodes are honest, and no other
-    pub rests : (config' : Config) (voicing : Voicing) → config' ≡ config → voicing.config ≡ config → voicing.master ≡ schedule.master → Rests (setting_of traced schedule before) config'.shards voicing
+    pub rests : (config' : Config) (voicing : Voicing) → config' ≡ config → voicing.config ≡ config → voicing.master ≡ schedule.master → Rests (setting_of approves traced schedule before) config'.shards voicing
     rests config' voicing same voiced master = record {
       honest = λ name. (
         λ is. node-is name (both (is_node config name) _ is).0,

@@ -1,24 +1,24 @@
 -- The lines of the events, and then the history, are the whole.
-use Rattle.std.proofs.Common.{◌≡◌, ℕ, suc, Bool, ◌++◌, List, [], ◌∷◌, length, Option, Result, Ok, Err, IfOk, OnOk, OnErr, refl, ap, sym, subst, ◌∙◌, append_assoc, append-nil}
+use Rattle.std.proofs.Common.{◌≡◌, ℕ, suc, Bool, ◌++◌, List, [], ◌∷◌, length, Option, Result, Ok, Err, IfOk, refl, ap, sym, subst, ◌∙◌, append_assoc, append-nil}
 use Rattle.std.specs.Prelude.{codes}
 use Rattle.std.specs.List.{flat_map}
 use Rattle.std.specs.Fmt.{decimal}
 use Rattle.std.specs.Io.KnownBytes.{Appends}
 use Rattle.std.proofs.KnownBytes.{Appends-trans}
-use Rattle.cs_base.specs.Answers.{AppendsFront}
+use Rattle.cs_base.specs.Answers.{Answer, Answers, AppendsFront}
 use Rattle.cs_base.specs.Codes.{bytes_text}
 use Rattle.cs_ledger.specs.Ledger.{Transaction}
 use Rattle.cs_sched_types.specs.declared.schedule.Event.{Event}
 use Rattle.cs_node_rules.specs.Site.{Site}
 use Rattle.cs_node_rules.specs.World.{told, firsts_of, history}
 use Rattle.cs_node_rules.specs.Lines.{transaction_lines, history_text, limit_line, forged_line}
-use Rattle.cs_node_rules.specs.Play.{Played, Course, Goes, Stops, Forges, played_by, closed, unplayed, play_all, lines}
+use Rattle.cs_node_rules.specs.Play.{Played, Course, Goes, Stops, Forges, played_by, size_of, closed, unplayed, play_all, lines}
 use Rattle.cs_play.specs.Digests.{digests_of, tx_line, history_lines}
-use Rattle.cs_base.specs.declared.printing.WriteError.{WriteError}
-use Rattle.cs_replay.specs.declared.schedule.Ending.{Ending}
-use Rattle.cs_replay.specs.Answers.{course_status}
-use Rattle.cs_replay.specs.declared.schedule.Ending.TheVariants.{Done, Limit, Forged}
-use Rattle.cs_replay.specs.Closing.{ending_status, IsLast, Closes}
+use Rattle.cs_replay.specs.declared.outcome.Summary.{Summary}
+use Rattle.cs_replay.specs.declared.outcome.ReplayError.{ReplayError}
+use Rattle.cs_replay.specs.declared.outcome.ReplayError.TheVariants.{Forged, Limit, WriteFault, Memory}
+use Rattle.cs_replay.specs.Answers.{course_status, replay_status, EndsAs}
+use Rattle.cs_replay.specs.Closing.{summary_of, sums_of, IsLast, IsCutShort, Closes}
 use Rattle.cs_play.specs.Kept.{KeptHistory, KeepsHistory}
 use Rattle.cs_tx_form.specs.declared.transaction.Tx.{Tx}
 use Rattle.cs_order.specs.Deeds.{Member, Machine}
@@ -26,7 +26,7 @@ use Rattle.cs_node_rules.specs.Site.{Carrier}
 use Rattle.cs_play.specs.declared.play.Replay.{Replay}
 use Rattle.cs_play.specs.declared.halt.Halt.{Halt}
 use Rattle.cs_play.specs.declared.halt.Halt.TheVariants as halt
-use Rattle.cs_play.specs.Standing.{Setting, site_in}
+use Rattle.cs_play.specs.Standing.{Setting, site_in, Stands}
 use Rattle.cs_play.specs.Ends.{Ends}
 
 transactions-printed : (txs : List Transaction) → flat_map tx_line (digests_of txs) ≡ transaction_lines txs
@@ -62,66 +62,104 @@ front-of-lines site (Stops p line) a b (front, rest, is, written) =
 front-of-lines site (Forges p line) a b (front, rest, is, written) =
     (front, rest ++ forged_line line, ap (λ text. text ++ forged_line line) is ∙ append_assoc front rest (forged_line line), written)
 
--- ---- a text in two parts
+-- ---- behind the lines of the events
 
-pub appended : {T E : Type 0} (r : Result T E) (a b c : Option (List ℕ)) (one two whole : List ℕ) → whole ≡ one ++ two → Appends a b one → OnOk r (Appends b c two) → OnOk r (Appends a c whole)
-appended (Ok x) a b c one two whole is first second = subst (λ (t : List ℕ). Appends a c t) (sym is) (Appends-trans a b c one two first second)
-appended (Err e) a b c one two whole is first second = tt
-
-pub appended-front : {T E : Type 0} (r : Result T E) (a b c : Option (List ℕ)) (one two whole : List ℕ) → whole ≡ one ++ two → Appends a b one → OnErr r (AppendsFront b c two) → OnErr r (AppendsFront a c whole)
-appended-front (Ok x) a b c one two whole is first second = tt
-appended-front (Err e) a b c one two whole is first (front, rest, parts, written) =
-    (one ++ front, rest, is ∙ ap (λ t. one ++ t) parts ∙ sym (append_assoc one front rest), Appends-trans a b c one front first written)
-
--- the last lines, behind those of the events
-pub closes-end : {M : Type 0} (before a b : Option (List ℕ)) (site : Site M) (course : Course M) (p : Played M) (text : List ℕ) (last : Ending) (r : Result Ending WriteError) → closed site course ≡ p.text ++ text → ending_status last ≡ course_status course
-    → Appends before a p.text → OnOk r (Appends a b text) → IfOk r (λ ending. ending ≡ last) → OnErr r (AppendsFront a b text) → Closes before b site course r
-closes-end before a b site course p text last (Ok ending) whole status first done is part =
-    (subst (λ (t : List ℕ). Appends before b t) (sym whole) (Appends-trans before a b p.text text first done), ap ending_status is ∙ status)
-closes-end before a b site course p text last (Err error) whole status first done is (front, rest, parts, written) =
-    (p.text ++ front, rest, whole ∙ ap (λ t. p.text ++ t) parts ∙ sym (append_assoc p.text front rest), Appends-trans before a b p.text front first written)
+-- a replay that was cut short has written a front
+cut : {M : Type 0} (before b : Option (List ℕ)) (site : Site M) (course : Course M) (error : ReplayError) → IsCutShort error → AppendsFront before b (closed site course) → Closes before b site course (Err error)
+cut before b site course (Forged line) never front = absurd never
+cut before b site course (Limit line) never front = absurd never
+cut before b site course WriteFault short front = front
+cut before b site course Memory short front = front
 
 module _ {O J M : Type 0} (stands : O → Member M → Type 0) (approves : J → Tx → Bool) (rules : Machine M) (carrier : Carrier M) (s : Setting) (course : Course M) (r : Replay O J M) (a : Option (List ℕ)) where
+  abbrev here : Site M
+  here = site_in rules carrier s
+
+  -- what is kept has the numbers of what was played
+  sums-are : (q : Played M) → Stands stands approves rules carrier s r q → sums_of r ≡ summary_of here q
+  sums-are q st =
+      let accepted : length r.history.told ≡ length (history here q.world) = ap length st.kept.told ∙ same-count (history here q.world) in
+      let aborts = ap length st.aborted in
+      let sent = ap size_of st.parcels in
+      λ i. record { accepted = accepted i; aborted = aborts i; events = st.events i; sent = sent i }
+
+  -- a text behind the lines of the events
+  behind : (b : Option (List ℕ)) (q : Played M) (text : List ℕ) → closed here course ≡ q.text ++ text → Appends s.before a q.text → Appends a b text → Appends s.before b (closed here course)
+  behind b q text whole first all = subst (λ (t : List ℕ). Appends s.before b t) (sym whole) (Appends-trans s.before a b q.text text first all)
+
+  behind-front : (b : Option (List ℕ)) (q : Played M) (text : List ℕ) → closed here course ≡ q.text ++ text → Appends s.before a q.text → AppendsFront a b text → AppendsFront s.before b (closed here course)
+  behind-front b q text whole first (front, rest, is, written) =
+      (q.text ++ front, rest, whole ∙ ap (λ t. q.text ++ t) is ∙ sym (append_assoc q.text front rest), Appends-trans s.before a b q.text front first written)
+
   -- the last lines, by how the events ended, are those of their course
-  pub closes-last : (b : Option (List ℕ)) (played : Result (Unit {0}) Halt) (text : List ℕ) (last : Ending) (result : Result Ending WriteError)
-      → Ends stands approves rules carrier s course r a played → IsLast r.history.told played text last
-      → OnOk result (Appends a b text) → IfOk result (λ ending. ending ≡ last) → OnErr result (AppendsFront a b text)
-      → Closes s.before b (site_in rules carrier s) course result
-  closes-last b (Ok done) text last result (q, goes, end) (is, ending) all same part =
-      closes-end s.before a b (site_in rules carrier s) course q text last result
-      (ap (closed (site_in rules carrier s)) goes ∙ history-end (site_in rules carrier s) q r.history end.holds.kept ∙ ap (λ t. q.text ++ t) (sym is))
-      (ap ending_status ending ∙ sym (ap course_status goes)) end.printed all same part
-  closes-last b (Err (halt.Limit line)) text last result (q, stops, printed) (is, ending) all same part =
-      closes-end s.before a b (site_in rules carrier s) course q text last result
-      (ap (closed (site_in rules carrier s)) stops ∙ ap (λ t. q.text ++ t) (sym is))
-      (ap ending_status ending ∙ sym (ap course_status stops)) printed all same part
-  closes-last b (Err (halt.Forged line)) text last result (q, stops, printed) (is, ending) all same part =
-      closes-end s.before a b (site_in rules carrier s) course q text last result
-      (ap (closed (site_in rules carrier s)) stops ∙ ap (λ t. q.text ++ t) (sym is))
-      (ap ending_status ending ∙ sym (ap course_status stops)) printed all same part
-  closes-last b (Err halt.Failed) text last result ends never all same part = absurd never
-  closes-last b (Err halt.Memory) text last result ends never all same part = absurd never
+  whole-done : (q : Played M) (text : List ℕ) → course ≡ Goes q → Stands stands approves rules carrier s r q → text ≡ history_lines r.history.told → closed here course ≡ q.text ++ text
+  whole-done q text goes st is = ap (closed here) goes ∙ history-end here q r.history st.kept ∙ ap (λ t. q.text ++ t) (sym is)
+
+  pub closes-last : (b : Option (List ℕ)) (played : Result (Unit {0}) Halt) (text : List ℕ) (answer : Result Summary ReplayError)
+      → Ends stands approves rules carrier s course r a played → IsLast r played text answer → Appends a b text → Closes s.before b here course answer
+  closes-last b (Ok done) text answer (q, goes, end) (is, answered) all =
+      subst (λ (x : Result Summary ReplayError). Closes s.before b here course x) (sym answered)
+      (q, goes, sums-are q end.holds, behind b q text (whole-done q text goes end.holds is) end.printed all)
+  closes-last b (Err (halt.Limit line)) text answer (q, stops, printed) (is, answered) all =
+      subst (λ (x : Result Summary ReplayError). Closes s.before b here course x) (sym answered)
+      (q, stops, behind b q text (ap (closed here) stops ∙ ap (λ t. q.text ++ t) (sym is)) printed all)
+  closes-last b (Err (halt.Forged line)) text answer (q, stops, printed) (is, answered) all =
+      subst (λ (x : Result Summary ReplayError). Closes s.before b here course x) (sym answered)
+      (q, stops, behind b q text (ap (closed here) stops ∙ ap (λ t. q.text ++ t) (sym is)) printed all)
+  closes-last b (Err halt.Failed) text answer ends never all = absurd never
+  closes-last b (Err halt.Memory) text answer ends never all = absurd never
+
+  -- or a front of them was written
+  front-last : (b : Option (List ℕ)) (played : Result (Unit {0}) Halt) (text : List ℕ) (answer : Result Summary ReplayError)
+      → Ends stands approves rules carrier s course r a played → IsLast r played text answer → AppendsFront a b text → AppendsFront s.before b (closed here course)
+  front-last b (Ok done) text answer (q, goes, end) (is, answered) front = behind-front b q text (whole-done q text goes end.holds is) end.printed front
+  front-last b (Err (halt.Limit line)) text answer (q, stops, printed) (is, answered) front = behind-front b q text (ap (closed here) stops ∙ ap (λ t. q.text ++ t) (sym is)) printed front
+  front-last b (Err (halt.Forged line)) text answer (q, stops, printed) (is, answered) front = behind-front b q text (ap (closed here) stops ∙ ap (λ t. q.text ++ t) (sym is)) printed front
+  front-last b (Err halt.Failed) text answer ends never front = absurd never
+  front-last b (Err halt.Memory) text answer ends never front = absurd never
+
+  pub closes-cut : (b : Option (List ℕ)) (played : Result (Unit {0}) Halt) (text : List ℕ) (answer : Result Summary ReplayError) (error : ReplayError)
+      → Ends stands approves rules carrier s course r a played → IsLast r played text answer → IsCutShort error → AppendsFront a b text → Closes s.before b here course (Err error)
+  closes-cut b played text answer error ends last short front = cut s.before b here course error short (front-last b played text answer ends last front)
 
   lines-so-far : (p : Played M) → played_by course ≡ p → Appends s.before a p.text → AppendsFront s.before a (played_by course).text
   lines-so-far p is written = (p.text, [], ap (λ (q : Played M). q.text) is ∙ sym (append-nil p.text), written)
 
-  -- and without them those of the events are a front
-  pub front-last : (played : Result (Unit {0}) Halt) → Ends stands approves rules carrier s course r a played → AppendsFront s.before a (closed (site_in rules carrier s) course)
-  front-last (Ok done) (q, goes, end) = front-of-lines (site_in rules carrier s) course s.before a (lines-so-far q (ap played_by goes) end.printed)
-  front-last (Err (halt.Limit line)) (q, stops, printed) = front-of-lines (site_in rules carrier s) course s.before a (lines-so-far q (ap played_by stops) printed)
-  front-last (Err (halt.Forged line)) (q, stops, printed) = front-of-lines (site_in rules carrier s) course s.before a (lines-so-far q (ap played_by stops) printed)
-  front-last (Err halt.Failed) part = front-of-lines (site_in rules carrier s) course s.before a part
-  front-last (Err halt.Memory) part = front-of-lines (site_in rules carrier s) course s.before a part
+  -- without them those of the events are a front
+  events-front : (played : Result (Unit {0}) Halt) → Ends stands approves rules carrier s course r a played → AppendsFront s.before a (played_by course).text
+  events-front (Ok done) (q, goes, end) = lines-so-far q (ap played_by goes) end.printed
+  events-front (Err (halt.Limit line)) (q, stops, printed) = lines-so-far q (ap played_by stops) printed
+  events-front (Err (halt.Forged line)) (q, stops, printed) = lines-so-far q (ap played_by stops) printed
+  events-front (Err halt.Failed) part = part
+  events-front (Err halt.Memory) part = part
 
--- what closes a schedule is all of its lines
-pub closes-done : {M : Type 0} (before b : Option (List ℕ)) (site : Site M) (traced : Bool) (events : List (ℕ × Event)) (r : Result Ending WriteError) → Closes before b site (play_all site traced events unplayed) r → OnOk r (Appends before b (lines site traced events))
-closes-done before b site traced events (Ok ending) closes = subst (λ (t : List ℕ). Appends before b t) (sym (lines-are site traced events)) closes.0
-closes-done before b site traced events (Err error) closes = tt
+  pub closes-early : (played : Result (Unit {0}) Halt) (error : ReplayError) → Ends stands approves rules carrier s course r a played → IsCutShort error → Closes s.before a here course (Err error)
+  closes-early played error ends short = cut s.before a here course error short (front-of-lines here course s.before a (events-front played ends))
 
-pub closes-ending : {M : Type 0} (before b : Option (List ℕ)) (site : Site M) (course : Course M) (r : Result Ending WriteError) → Closes before b site course r → IfOk r (λ ending. ending_status ending ≡ course_status course)
-closes-ending before b site course (Ok ending) closes = closes.1
-closes-ending before b site course (Err error) closes = tt
+-- ---- what closes a schedule
 
-pub closes-part : {M : Type 0} (before b : Option (List ℕ)) (site : Site M) (traced : Bool) (events : List (ℕ × Event)) (r : Result Ending WriteError) → Closes before b site (play_all site traced events unplayed) r → OnErr r (AppendsFront before b (lines site traced events))
-closes-part before b site traced events (Ok ending) closes = tt
-closes-part before b site traced events (Err error) closes = subst (λ (t : List ℕ). AppendsFront before b t) (sym (lines-are site traced events)) closes
+module _ {M : Type 0} (before b : Option (List ℕ)) (site : Site M) (course : Course M) where
+  pub closes-ends : (r : Result Summary ReplayError) → Closes before b site course r → EndsAs course r
+  closes-ends (Ok summary) (p, goes, is, all) = goes ∙ ap (λ q. Goes q) (sym (ap played_by goes))
+  closes-ends (Err (Limit line)) (p, stops, all) = stops ∙ ap (λ q. Stops q line) (sym (ap played_by stops))
+  closes-ends (Err (Forged line)) (p, stops, all) = stops ∙ ap (λ q. Forges q line) (sym (ap played_by stops))
+  closes-ends (Err WriteFault) front = tt
+  closes-ends (Err Memory) front = tt
+
+  -- each number is that of what was played
+  pub closes-number : (number : Summary → ℕ) (r : Result Summary ReplayError) → Closes before b site course r → IfOk r (λ summary. number summary ≡ number (summary_of site (played_by course)))
+  closes-number number (Ok summary) (p, goes, is, all) = ap number (is ∙ ap (summary_of site) (sym (ap played_by goes)))
+  closes-number number (Err error) closes = tt
+
+  -- the whole text was written, with the status of the course
+  whole-answer : (printed : List ℕ) (status : ℕ) → printed ≡ closed site course → status ≡ course_status course → Appends before b (closed site course) → Answers (record { status = course_status course; printed = printed }) before b status
+  whole-answer printed status is same all =
+      let whole = subst (λ (t : List ℕ). Appends before b t) (sym is) all in
+      record { verdict = λ x y. (same, whole); cut_short = λ ended. (printed, [], sym (append-nil printed), whole) }
+
+  pub closes-answers : (printed : List ℕ) (r : Result Summary ReplayError) → printed ≡ closed site course → Closes before b site course r → Answers (record { status = course_status course; printed = printed }) before b (replay_status r)
+  closes-answers printed (Ok summary) is (p, goes, sums, all) = whole-answer printed 0 is (sym (ap course_status goes)) all
+  closes-answers printed (Err (Limit line)) is (p, stops, all) = whole-answer printed 13 is (sym (ap course_status stops)) all
+  closes-answers printed (Err (Forged line)) is (p, stops, all) = whole-answer printed 4 is (sym (ap course_status stops)) all
+  closes-answers printed (Err WriteFault) is front = record { verdict = λ x y. absurd (x refl); cut_short = λ ended. subst (λ (t : List ℕ). AppendsFront before b t) (sym is) front }
+  closes-answers printed (Err Memory) is front = record { verdict = λ x y. absurd (y refl); cut_short = λ ended. subst (λ (t : List ℕ). AppendsFront before b t) (sym is) front }

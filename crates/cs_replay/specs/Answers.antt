@@ -1,4 +1,4 @@
--- What the program answers and prints.
+-- What a replay and the program answer and print.
 use Rattle.std.specs.Prelude.{◌≡◌, ◌≢◌, ◌⊎◌, ℕ, ◌+◌, Bool, List, take, codes, Option, IfSome, Result, Ok, Err}
 use Rattle.std.specs.Io.KnownBytes.{Appends}
 use Rattle.cs_base.specs.Answers.{Answer, Answers, IsText, IsTextOf}
@@ -8,19 +8,16 @@ use Rattle.cs_sched.specs.Text.{schedule_of}
 use Rattle.cs_sched.specs.Refusals.{refusal_status, refusal_text}
 use Rattle.cs_sched.specs.declared.cause.Refusal.{Refusal}
 use Rattle.cs_sched_types.specs.declared.schedule.Schedule.{Schedule}
-use Rattle.cs_order.specs.declared.solo.NoMessage.{NoMessage}
-use Rattle.cs_node_rules.specs.Play.{Course, Goes, Stops, Forges, unplayed, play_all, lines}
+use Rattle.cs_tx_form.specs.declared.transaction.Tx.{Tx}
+use Rattle.cs_tx.specs.Token.{is_token_approved}
+use Rattle.cs_node_rules.specs.Play.{Course, Goes, Stops, Forges, played_by, lines}
 use Rattle.cs_replay.specs.Site.{site_of_schedule}
+use Rattle.cs_replay.specs.Played.{course_of}
+use Rattle.cs_replay.specs.declared.outcome.Summary.{Summary}
+use Rattle.cs_replay.specs.declared.outcome.ReplayError.{ReplayError}
+use Rattle.cs_replay.specs.declared.outcome.ReplayError.TheVariants.{Forged, Limit, WriteFault, Memory}
 
-abbrev pub words_answer : Answer
-words_answer = record { status = 2; printed = codes "words\n" }
-
-abbrev pub read_fault_answer : Answer
-read_fault_answer = record { status = 5; printed = codes "read fault\n" }
-
--- the events of a schedule, played
-abbrev pub course_of : Bool → Schedule → Course NoMessage
-course_of traced schedule = play_all (site_of_schedule schedule) traced schedule.events unplayed
+-- ---- a replay
 
 -- it is done, or an event would have passed a limit, or a line injects what is forged
 abbrev pub course_status : {M : Type 0} → Course M → ℕ
@@ -29,12 +26,38 @@ course_status {M} (Stops p line) = 13
 course_status {M} (Forges p line) = 4
 
 -- the answer to a schedule: what its events print, and then the history, or the line of the event that was refused
-abbrev pub schedule_answer : Bool → Schedule → Answer
-schedule_answer traced schedule =
+abbrev pub schedule_answer : (Tx → Bool) → Bool → Schedule → Answer
+schedule_answer approves traced schedule =
     record {
-      status = course_status (course_of traced schedule);
-      printed = lines (site_of_schedule schedule) traced schedule.events;
+      status = course_status (course_of approves traced schedule);
+      printed = lines (site_of_schedule approves schedule) traced schedule.events;
     }
+
+abbrev pub error_status : ReplayError → ℕ
+error_status (Forged line) = 4
+error_status (Limit line) = 13
+error_status WriteFault = 6
+error_status Memory = 8
+
+abbrev pub replay_status : Result Summary ReplayError → ℕ
+replay_status (Ok summary) = 0
+replay_status (Err error) = error_status error
+
+-- all events were played, or those before the line that is answered; or the replay was cut short
+abbrev pub EndsAs : {M : Type 0} → Course M → Result Summary ReplayError → Type 0
+EndsAs {M} course (Ok summary) = course ≡ Goes (played_by course)
+EndsAs {M} course (Err (Limit line)) = course ≡ Stops (played_by course) line
+EndsAs {M} course (Err (Forged line)) = course ≡ Forges (played_by course) line
+EndsAs {M} course (Err WriteFault) = Unit {0}
+EndsAs {M} course (Err Memory) = Unit {0}
+
+-- ---- the program, whose judge knows the contract `token` alone
+
+abbrev pub words_answer : Answer
+words_answer = record { status = 2; printed = codes "words\n" }
+
+abbrev pub read_fault_answer : Answer
+read_fault_answer = record { status = 5; printed = codes "read fault\n" }
 
 -- the answer to a first bad line
 abbrev pub refusal_answer : Refusal → Answer
@@ -42,7 +65,7 @@ refusal_answer refusal =
     record { status = refusal_status refusal.cause; printed = refusal_text refusal.line refusal.cause }
 
 abbrev pub answer_to : Bool → Result Schedule Refusal → Answer
-answer_to traced (Ok schedule) = schedule_answer traced schedule
+answer_to traced (Ok schedule) = schedule_answer is_token_approved traced schedule
 answer_to traced (Err refusal) = refusal_answer refusal
 
 -- the answer to a text

@@ -1,6 +1,7 @@
 pub mod Words
 pub mod Site
 pub mod Settings
+pub mod Played
 pub mod Answers
 pub mod Closing
 pub mod Sound

@@ -1,42 +1,60 @@
--- What is true of every schedule that is read, as it is played.
-use Rattle.std.specs.Prelude.{◌≡◌, Bool, true, List}
-use Rattle.cs_base.specs.declared.node_id.NodeId.{NodeId}
+-- What is true of every schedule that can be played, whatever its judge approves of.
+use Rattle.std.specs.Prelude.{◌≡◌, Bool, List}
+use Rattle.cs_tx_form.specs.declared.transaction.Tx.{Tx}
 use Rattle.cs_order.specs.declared.solo.NoMessage.{NoMessage}
 use Rattle.cs_sched_types.specs.declared.schedule.Schedule.{Schedule}
 use Rattle.cs_node_rules.specs.Site.{Site}
 use Rattle.cs_node_rules.specs.World.{Happening}
-use Rattle.cs_node_rules.specs.Play.{played_by}
+use Rattle.cs_node_rules.specs.Ready.{AllQuiet}
 use Rattle.cs_node_rules.specs.Collisions.{NoCollision}
-use Rattle.cs_world_law.specs.Worlds.{is_honest, IsUpToDate, IsSerial, SpendsOnce, DecidesOnce, ExecutesGiven, TellsAccepted, TellsCommitted, HoldsFree, AllVoteFree, AllAcceptLocked}
+use Rattle.cs_world_law.specs.Worlds.{IsSerial, SpendsOnce, DecidesOnce, ExecutesGiven, ExecutesFit, TellsAccepted, HoldsFree, AllUpToDate, AllVoteFree, AllAcceptLocked}
+use Rattle.cs_world_law.specs.Steps.{StepsAllowed, StepsComputed, FollowsShard, VotesOnce, TellsCommitted, TellsBefore}
 use Rattle.cs_replay.specs.Site.{site_of_schedule}
-use Rattle.cs_replay.specs.Answers.{course_of}
+use Rattle.cs_replay.specs.Played.{world_of}
 
--- the events of a schedule, with all that they make
-abbrev pub world_of : Bool → Schedule → List (Happening NoMessage)
-world_of traced schedule = (played_by (course_of traced schedule)).world
-
--- The history is serial, and no object is consumed twice. No two honest nodes decide a session differently. The
--- accepted transactions are in the history, and so are those that all concerned shards have voted for. A locked session
--- is accepted. The node of a shard has executed all of it, and what is free in its table is in the ledger after the
+-- The first executions are allowed steps with the computed results, the log of each honest node is the older part of
+-- its shard's, and a shard votes once on a session. The history is serial, and no object is consumed twice. No two
+-- honest nodes decide a session differently. The accepted transactions are in the history, from before the decision is
+-- executed, and so are those that all concerned shards have voted for. A free session is voted commit, and a locked one
+-- is accepted. What is free in the table of a node that has executed all of its shard is in the ledger after the
 -- history.
 pub record IsOneHistory (site : Site NoMessage) (world : List (Happening NoMessage)) : Type 0 where
+  pub allowed : StepsAllowed site world
+  pub computed : StepsComputed site world
+  pub logs : FollowsShard site world
+  pub one_vote : VotesOnce site world
   pub serial : IsSerial site world
   pub spent_once : SpendsOnce site world
   pub one_decision : DecidesOnce site world
   pub accepted : TellsAccepted site world
+  pub before : TellsBefore site world
   pub committed : TellsCommitted site world
+  pub votes_free : AllVoteFree site world
   pub accepts_locked : AllAcceptLocked site world
-  pub up_to_date : (i : NodeId) → is_honest site i ≡ true → IsUpToDate i world
   pub objects : HoldsFree site world
 
--- Each executed session stood in an input, and a free one is voted commit. The rest is said where no two of the strings
--- that are hashed have one hash.
-pub record IsSoundWorld (schedule : Schedule) (world : List (Happening NoMessage)) : Type 0 where
-  pub executed : ExecutesGiven (site_of_schedule schedule) world
-  pub votes_free : AllVoteFree (site_of_schedule schedule) world
-  pub one_history : NoCollision (site_of_schedule schedule) schedule.genesis world
-      → IsOneHistory (site_of_schedule schedule) world
+-- What needs no premise on hashes where no node may lie: the first executions are allowed steps with the computed
+-- results, and the log of each honest node is all of its shard's. A free session is voted commit.
+pub record IsTrusted (site : Site NoMessage) (world : List (Happening NoMessage)) : Type 0 where
+  pub allowed : StepsAllowed site world
+  pub computed : StepsComputed site world
+  pub logs : FollowsShard site world
+  pub up_to_date : AllUpToDate site world
+  pub votes_free : AllVoteFree site world
+
+-- Each executed session stood in an input, each executed entry has an encoding, and when an event is over no rule
+-- applies at any honest node. The rest is said where no node may lie, or where no two of the strings that are hashed
+-- have one hash.
+pub record IsSoundWorld (approves : Tx → Bool) (schedule : Schedule) (world : List (Happening NoMessage))
+    : Type 0 where
+  pub executed : ExecutesGiven (site_of_schedule approves schedule) world
+  pub executed_fit : ExecutesFit (site_of_schedule approves schedule) world
+  pub quiet : AllQuiet (site_of_schedule approves schedule) world
+  pub trusted : schedule.config.f ≡ 0 → IsTrusted (site_of_schedule approves schedule) world
+  pub one_history : NoCollision (site_of_schedule approves schedule) schedule.genesis world
+      → IsOneHistory (site_of_schedule approves schedule) world
 
 -- so it is of the world whose lines are printed, traced or not
-abbrev pub IsSound : Schedule → Type 0
-IsSound schedule = (traced : Bool) → IsSoundWorld schedule (world_of traced schedule)
+abbrev pub IsSound : (Tx → Bool) → Schedule → Type 0
+IsSound approves schedule =
+    (traced : Bool) → IsSoundWorld approves schedule (world_of approves traced schedule)

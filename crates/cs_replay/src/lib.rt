@@ -4,6 +4,7 @@
 
 #[cfg(test)]
 mod attack_tests;
+mod outcome;
 mod program;
 mod schedule;
 mod starting;
@@ -14,7 +15,8 @@ mod theorem;
 mod trace_tests;
 mod words;
 
+pub use outcome::{ReplayError, Summary};
 pub use program::run;
-pub use schedule::{Ending, replay};
+pub use schedule::{Mode, replay};
 pub use theorem::schedules_are_sound;
 pub use words::{Command, WordsError, read_words, words_or_status};

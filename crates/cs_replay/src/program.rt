@@ -7,16 +7,18 @@ ghost use Rattle.cs_base.specs.declared.limits.TheConstants.{MOST_SCHEDULE};
 ghost use Rattle.cs_sched.specs.Playable.{IsPlayable};
 ghost use Rattle.cs_sched.specs.Text.{schedule_of};
 ghost use Rattle.cs_sched_types.specs.declared.schedule.Schedule.{Schedule};
+ghost use Rattle.cs_tx.specs.Token.{is_token_approved};
 ghost use Rattle.cs_replay.specs.Sound.{IsSound};
 ghost use Rattle.cs_replay.specs.Words.{command_of, texts_of};
 ghost use Rattle.cs_replay.specs.Answers.{Replays, Completes, closing_status, words_answer, replay_answer, refusal_answer, schedule_answer};
 ghost use Rattle.cs_replay.specs.declared.words.Command.TheVariants.{Replay};
 
-use crate::schedule::replay;
+use crate::schedule::{Mode, replay};
 use crate::theorem::schedules_are_sound;
 use crate::words::read_words;
 use cs_base::{MOST_SCHEDULE, ReadError, Sink, Source, WriteError, print, read_text};
 use cs_sched::{Refusal, Schedule, ScheduleError, parse, refusal_line};
+use cs_tx::TokenJudge;
 use std::alloc::Global;
 
 /// Does what the words call for, and answers the status that the process ends with: 0 where it is
@@ -53,7 +55,7 @@ pub fn run<S: Source, K: Sink>(alloc: Global, words: &[String], input: &mut S, o
     // is printed, and of the decisions of all nodes. A free session is voted commit and the vote is
     // sent; one that holds its lock is accepted when commit is decided.
     ensures sound { (text : List ℕ) (schedule : Schedule)
-        → schedule_of MOST_SCHEDULE text ≡ Ok schedule → IsSound schedule }
+        → schedule_of MOST_SCHEDULE text ≡ Ok schedule → IsSound is_token_approved schedule }
 
     // A fault is answered only where one of that object came about in this call.
     ensures read_fault { HasCause (S.faults input.old) (S.faults input.new) (result ≡ 5) }
@@ -103,15 +105,14 @@ fn answer<K: Sink>(alloc: Global, traced: bool, text: &[u8], output: &mut K) -> 
 
 fn play<K: Sink>(alloc: Global, traced: bool, schedule: &Schedule, output: &mut K) -> u8
     requires { IsPlayable schedule.now }
-    ensures answers { Answers (schedule_answer traced schedule.now)
+    ensures answers { Answers (schedule_answer is_token_approved traced schedule.now)
         (K.written output.old) (K.written output.new) result }
     ensures only { (result ≢ 2) × (result ≢ 5) }
     ensures write_fault { HasCause (K.faults output.old) (K.faults output.new) (result ≡ 6) }
 {
-    match replay(alloc, schedule, traced, output) {
-        Ok(ending) => ending.status(),
-        Err(WriteError::Failed) => 6,
-        Err(WriteError::Memory) => 8,
+    match replay(alloc, schedule, &TokenJudge, Mode { traced }, output) {
+        Ok(_) => 0,
+        Err(error) => error.status(),
     }
 }
 

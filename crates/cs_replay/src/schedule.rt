@@ -1,87 +1,83 @@
 //! A schedule replayed.
-ghost use Rattle.std.specs.Prelude.{◌≡◌, ℕ, List, Option, string_bytes, IfOk, OnOk, OnErr, IsErrOf};
-ghost use Rattle.std.specs.Io.KnownBytes.{Appends};
+ghost use Rattle.std.specs.Prelude.{◌≡◌, ℕ, List, Option, length, string_bytes, IfOk, IfErr, IsErrOf};
+ghost use Rattle.cs_base.specs.Answers.{Answers};
 ghost use Rattle.cs_base.specs.Outside.{HasCause};
-ghost use Rattle.cs_base.specs.Answers.{AppendsFront};
 ghost use Rattle.cs_order.specs.Solo.{solo};
-ghost use Rattle.cs_node_rules.specs.Play.{unplayed, play_all};
-ghost use Rattle.cs_node.specs.SoloCarried.{solo_carrier};
+ghost use Rattle.cs_node_rules.specs.Play.{unplayed, play_all, size_of};
+ghost use Rattle.cs_node_carried.specs.SoloCarried.{solo_carrier};
 ghost use Rattle.cs_sched.specs.Playable.{IsPlayable};
 ghost use Rattle.cs_play.specs.Standing.{Setting, site_in, Stands, AllShort, AllToOthers};
 ghost use Rattle.cs_replay.specs.Settings.{setting_of};
-ghost use Rattle.cs_replay.specs.Answers.{schedule_answer};
-ghost use Rattle.cs_replay.specs.Closing.{ending_status, IsLast, Closes};
+ghost use Rattle.cs_replay.specs.Played.{course_of, world_of, history_of, aborted_of, sent_of};
+ghost use Rattle.cs_replay.specs.Answers.{schedule_answer, replay_status, EndsAs};
+ghost use Rattle.cs_replay.specs.Closing.{sums_of, IsLast, IsCutShort, Closes};
 
+use crate::outcome::{ReplayError, Summary};
 use crate::starting::start_nodes;
 use cs_base::{Memory, Sink, WriteError, print};
 use cs_node::Carried;
 use cs_order::{Order, Solo};
 use cs_play::{Halt, History, Post, Replay, Voices, forged_line, history_text, limit_line};
 use cs_sched_types::Schedule;
-use cs_tx::{Judge, TokenJudge};
+use cs_tx::Judge;
 use std::alloc::Global;
 
-/// How a replay ended.
+/// What a replay prints.
 #[derive(Clone, Copy, Debug, PartialEq, Eq)]
-pub enum Ending {
-    /// All events were played.
-    Done,
-    /// An event would have passed a limit.
-    Limit,
-    /// A line injects what is forged.
-    Forged,
+pub struct Mode {
+    /// Each event and each datagram too, and not the executions alone.
+    pub traced: bool,
 }
 
-impl Ending {
-    /// The status of a program that ends so.
-    pub fn status(self) -> u8
-        ensures { result ≡ ending_status self }
-    {
-        match self {
-            Ending::Done => 0,
-            Ending::Limit => 13,
-            Ending::Forged => 4,
-        }
-    }
-}
-
-/// Plays the events of a schedule, and prints what its nodes do and then the history, or the line
-/// of the event that would have passed a limit or injects what is forged. Where it stops, what was
-/// written is a front of the whole.
-pub fn replay<K: Sink>(
+/// Plays the events of a schedule at nodes that ask this judge, and prints what they do and then
+/// the history, or the line of the event that would have passed a limit or injects what is forged.
+pub fn replay<J: Judge, K: Sink>(
     alloc: Global,
     schedule: &Schedule,
-    traced: bool,
+    judge: &J,
+    mode: Mode,
     output: &mut K,
-) -> Result<Ending, WriteError>
+) -> Result<Summary, ReplayError>
     requires { IsPlayable schedule.now }
-    ensures done { OnOk result (Appends (K.written output.old) (K.written output.new)
-        (schedule_answer traced schedule.now).printed) }
-    ensures ending { IfOk result (λ ending.
-        ending_status ending ≡ (schedule_answer traced schedule.now).status) }
-    ensures part { OnErr result (AppendsFront (K.written output.old) (K.written output.new)
-        (schedule_answer traced schedule.now).printed) }
+
+    // The schedule's lines are printed, or a front of them where the sink fails or memory runs out.
+    ensures answers { Answers (schedule_answer (J.is_approved judge.now) mode.traced schedule.now)
+        (K.written output.old) (K.written output.new) (replay_status result) }
+
+    // All events were played, or those before the line that is answered.
+    ensures ends { EndsAs (course_of (J.is_approved judge.now) mode.traced schedule.now) result }
+
+    ensures accepted { IfOk result (λ summary. summary.accepted
+        ≡ length (history_of (J.is_approved judge.now) mode.traced schedule.now)) }
+    ensures aborted { IfOk result (λ summary. summary.aborted
+        ≡ length (aborted_of (J.is_approved judge.now) mode.traced schedule.now)) }
+    ensures events { IfOk result (λ summary. summary.events
+        ≡ length (world_of (J.is_approved judge.now) mode.traced schedule.now)) }
+    ensures sent { IfOk result (λ summary. summary.sent
+        ≡ size_of (sent_of (J.is_approved judge.now) mode.traced schedule.now)) }
+
     ensures cause { HasCause (K.faults output.old) (K.faults output.new)
-        (IsErrOf result WriteError.Failed) }
+        (IsErrOf result ReplayError.WriteFault) }
 {
-    match begin(alloc, schedule, traced) {
+    match begin(alloc, schedule, judge, mode) {
         Ok(replay) => play_schedule(alloc, replay, schedule, output),
-        Err(_) => Err(WriteError::Memory),
+        Err(_) => Err(ReplayError::Memory),
     }
 }
 
 // A replay before the first event.
-fn begin(
+fn begin<J: Judge + Copy + Drop>(
     alloc: Global,
     schedule: &Schedule,
-    traced: bool,
-) -> Result<Replay<Solo, TokenJudge>, Memory>
+    judge: J,
+    mode: Mode,
+) -> Result<Replay<Solo, J>, Memory>
     requires { IsPlayable schedule.now }
     ensures { (before : Option (List ℕ)) → IfOk result (λ replay.
-        Stands ⟦<Solo as Order>⟧.stands ⟦<TokenJudge as Judge>⟧.is_approved solo solo_carrier
-        (setting_of traced schedule.now before) replay unplayed) }
+        Stands ⟦<Solo as Order>⟧.stands J.is_approved solo solo_carrier
+        (setting_of (J.is_approved judge) mode.traced schedule.now before) replay unplayed) }
 {
-    let cores = start_nodes(alloc, schedule)?;
+    let cores = start_nodes(alloc, schedule, judge)?;
     let history = History::new(alloc, schedule.config)?;
     let post = Post::new(alloc);
     let voices = Voices::new(alloc, schedule.config, schedule.master);
@@ -91,7 +87,7 @@ fn begin(
         post,
         voices,
         events: 0,
-        traced,
+        traced: mode.traced,
     })
 }
 
@@ -101,7 +97,7 @@ fn play_schedule<O: Carried, J: Judge + Drop, K: Sink>(
     mut replay: Replay<O, J>,
     schedule: &Schedule,
     output: &mut K,
-) -> Result<Ending, WriteError>
+) -> Result<Summary, ReplayError>
     requires { AllShort schedule.now.events }
     ensures closes { (s : Setting) → s.before ≡ K.written output.old
         → Stands O.stands J.is_approved O.rules O.carrier s replay unplayed
@@ -109,46 +105,62 @@ fn play_schedule<O: Carried, J: Judge + Drop, K: Sink>(
         → Closes s.before (K.written output.new) (site_in O.rules O.carrier s)
         (play_all (site_in O.rules O.carrier s) s.traced schedule.now.events unplayed) result }
     ensures cause { HasCause (K.faults output.old) (K.faults output.new)
-        (IsErrOf result WriteError.Failed) }
+        (IsErrOf result ReplayError.WriteFault) }
 {
     let played = replay.play_all(alloc, schedule.events.as_slice(), output);
-    match last_lines(alloc, &replay.history, played) {
-        Ok((text, ending)) => print_end(output, &text, ending),
-        Err(Halt::Failed) => Err(WriteError::Failed),
-        Err(_) => Err(WriteError::Memory),
+    let last = last_lines(alloc, &replay, played)?;
+    match print(output, last.text.as_bytes()) {
+        Ok(()) => last.answer,
+        Err(WriteError::Failed) => Err(ReplayError::WriteFault),
+        Err(WriteError::Memory) => Err(ReplayError::Memory),
     }
 }
 
-// What is printed behind the lines of the events, by how these ended: the history, or the line of
-// the event that was refused.
-fn last_lines(
+// What is printed behind the lines of the events, and what is answered then.
+#[derive(Drop)]
+struct Last {
+    text: String,
+    answer: Result<Summary, ReplayError>,
+}
+
+// By how the events ended: the history, or the line of the event that was refused.
+fn last_lines<O: Carried, J: Judge + Drop>(
     alloc: Global,
-    history: &History,
+    replay: &Replay<O, J>,
     played: Result<(), Halt>,
-) -> Result<(String, Ending), Halt>
+) -> Result<Last, ReplayError>
     ensures last { IfOk result (λ last.
-        IsLast history.now.told played (string_bytes last.0) last.1) }
-    ensures failed { IsErrOf result Halt.Failed → IsErrOf played Halt.Failed }
+        IsLast replay.now played (string_bytes last.text) last.answer) }
+    ensures answer { IfOk result (λ last. IsErrOf last.answer ReplayError.WriteFault → ⊥) }
+    ensures cut { IfErr result IsCutShort }
+    ensures failed { IsErrOf result ReplayError.WriteFault → IsErrOf played Halt.Failed }
 {
     match played {
-        Ok(()) => Ok((history_text(alloc, history.told())?, Ending::Done)),
-        Err(Halt::Limit(line)) => Ok((limit_line(alloc, line)?, Ending::Limit)),
-        Err(Halt::Forged(line)) => Ok((forged_line(alloc, line)?, Ending::Forged)),
-        Err(halt) => Err(halt),
+        Ok(()) => Ok(Last {
+            text: history_text(alloc, replay.history.told())?,
+            answer: Ok(summary_of(replay)),
+        }),
+        Err(Halt::Limit(line)) => Ok(Last {
+            text: limit_line(alloc, line)?,
+            answer: Err(ReplayError::Limit(line)),
+        }),
+        Err(Halt::Forged(line)) => Ok(Last {
+            text: forged_line(alloc, line)?,
+            answer: Err(ReplayError::Forged(line)),
+        }),
+        Err(Halt::Failed) => Err(ReplayError::WriteFault),
+        Err(Halt::Memory) => Err(ReplayError::Memory),
     }
 }
 
-// The last lines.
-fn print_end<K: Sink>(output: &mut K, text: &str, ending: Ending) -> Result<Ending, WriteError>
-    ensures done { OnOk result (Appends (K.written output.old) (K.written output.new) text.now) }
-    ensures ending { IfOk result (λ printed. printed ≡ ending) }
-    ensures part { OnErr result
-        (AppendsFront (K.written output.old) (K.written output.new) text.now) }
-    ensures cause { HasCause (K.faults output.old) (K.faults output.new)
-        (IsErrOf result WriteError.Failed) }
+// The numbers of what was played.
+fn summary_of<O: Carried, J: Judge + Drop>(replay: &Replay<O, J>) -> Summary
+    ensures { result ≡ sums_of replay.now }
 {
-    match print(output, text.as_bytes()) {
-        Ok(()) => Ok(ending),
-        Err(error) => Err(error),
+    Summary {
+        accepted: replay.history.told().len() as u64,
+        aborted: replay.history.aborted().len() as u64,
+        events: replay.events,
+        sent: replay.post.size(),
     }
 }

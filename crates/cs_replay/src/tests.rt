@@ -1,7 +1,11 @@
 //! Worked schedules, and what the program answers to them.
+use crate::outcome::{ReplayError, Summary};
 use crate::program::run;
+use crate::schedule::{Mode, replay};
 use crate::words::{WordsError, words_or_status};
-use cs_base::{MemSink, MemSource, print_bytes};
+use cs_base::{MemSink, MemSource, Memory, NullSink, print_bytes};
+use cs_sched::parse;
+use cs_tx::{Judge, TokenJudge, Tx};
 use sha2::{Digest, Sha256};
 use std::alloc::{AllocError, Global};
 use std::test::Fail;
@@ -190,6 +194,72 @@ fn sessions_on_one_coin(rt: HostRuntime) -> Result<(), Fail> {
         assert_eq!(rt; status, 0);
         assert_eq!(rt; printed.as_slice(), written.as_bytes());
     }
+    Ok(())
+}
+
+/// What a replay of a schedule of one coin answers, under a judge.
+fn summary<J: Judge>(
+    alloc: Global,
+    sessions: &[&str],
+    judge: &J,
+) -> Result<Result<Summary, ReplayError>, Fail> {
+    let text = schedule(alloc, sessions)?;
+    match parse(alloc, text.as_bytes()) {
+        Ok(schedule) => {
+            let mode = Mode { traced: false };
+            Ok(replay(alloc, &schedule, judge, mode, &mut NullSink))
+        }
+        Err(_) => Ok(Err(ReplayError::Memory)),
+    }
+}
+
+/// The transactions of the history, the sessions on which an abort was decided, the events, and the
+/// bytes sent: a session that was decided is answered by a datagram of 82 bytes.
+#[test]
+fn a_replay_answers_its_numbers(rt: HostRuntime) -> Result<(), Fail> {
+    let alloc = rt.alloc();
+    for (sessions, accepted, aborted, events, sent) in [
+        ([].as_slice(), 0, 0, 0, 0),
+        (&[SPLIT], 1, 0, 1, 0),
+        (&[SPLIT, SPLIT], 1, 0, 2, 82),
+        (&[SPEND, MOVE, SPEND, SPEND_AGAIN], 2, 1, 4, 82),
+        (&[SPEND, SPEND_AGAIN, SPEND], 0, 2, 3, 82),
+        (&[GROW], 0, 0, 1, 0),
+    ] {
+        let whole = Summary {
+            accepted,
+            aborted,
+            events,
+            sent,
+        };
+        assert_eq!(rt; summary(alloc, sessions, &TokenJudge)?, Ok(whole));
+    }
+    Ok(())
+}
+
+/// It approves of nothing.
+struct NoJudge;
+
+impl Judge for NoJudge {
+    ghost use Rattle.std.specs.Prelude.{false};
+
+    ghost is_approved = { λ _ _. false };
+
+    fn approves(&self, _alloc: Global, _tx: &Tx) -> Result<bool, Memory> {
+        Ok(false)
+    }
+}
+
+#[test]
+fn nodes_ask_the_judge(rt: HostRuntime) -> Result<(), Fail> {
+    let alloc = rt.alloc();
+    let nothing = Summary {
+        accepted: 0,
+        aborted: 0,
+        events: 1,
+        sent: 0,
+    };
+    assert_eq!(rt; summary(alloc, &[SPLIT], &NoJudge)?, Ok(nothing));
     Ok(())
 }
 

@@ -1,21 +1,22 @@
 //! What is true of every schedule.
-ghost use Rattle.std.specs.Prelude.{◌≡◌, ℕ, List, Ok};
-ghost use Rattle.cs_base.specs.declared.limits.TheConstants.{MOST_SCHEDULE};
+ghost use Rattle.std.specs.Prelude.{Bool};
+ghost use Rattle.cs_tx_form.specs.declared.transaction.Tx.{Tx};
 ghost use Rattle.cs_sched_types.specs.declared.schedule.Schedule.{Schedule};
-ghost use Rattle.cs_sched.specs.Text.{schedule_of};
+ghost use Rattle.cs_sched.specs.Playable.{IsPlayable};
 ghost use Rattle.cs_replay.specs.Sound.{IsSound};
 
-use cs_node_law::schedules_play_worlds;
+use cs_node_law::{events_end_quiet, schedules_play_worlds};
 use cs_order::Solo;
 use cs_world_law::settled_world;
 
-/// What is true of every schedule that is read.
+/// What is true of every schedule that can be played, whatever its judge approves of.
 ///
 /// It does nothing: its contract is a theorem, which a caller has by calling it.
 pub fn schedules_are_sound()
-    ensures { (text : List ℕ) (schedule : Schedule)
-        → schedule_of MOST_SCHEDULE text ≡ Ok schedule → IsSound schedule }
+    ensures { (approves : Tx → Bool) (schedule : Schedule)
+        → IsPlayable schedule → IsSound approves schedule }
 {
     schedules_play_worlds::<Solo>();
+    events_end_quiet::<Solo>();
     settled_world::<Solo>();
 }

@@ -10,7 +10,8 @@ abbrev pub numbered : ℕ → List (ℕ × Event) → List (ℕ × Event)
 numbered line [] = []
 numbered line (event ∷ events) = (line, event.1) ∷ numbered (line + 1) events
 
--- the number of the line of the first event: before it stand four lines, those of liars, contracts and objects, and `run`
+-- the number of the line of the first event: before it stand four lines, those of liars, contracts and objects,
+-- and `run`
 abbrev pub first_line : Schedule → ℕ
 first_line schedule = 6 + (length schedule.liars + (length schedule.contracts + length schedule.genesis))
 

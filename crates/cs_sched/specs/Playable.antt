@@ -24,7 +24,8 @@ pub record IsSpeaker (config : Config) (liars : List NodeId) (name : NodeId) : T
   pub speaks : (is_client name || is_liar liars name) ≡ true
 
 -- a client or a liar says something to an honest node
-pub record IsSaid (config : Config) (liars : List NodeId) (from to : NodeId) (number : ℕ) (bytes : List ℕ) : Type 0 where
+pub record IsSaid (config : Config) (liars : List NodeId) (from to : NodeId) (number : ℕ) (bytes : List ℕ)
+    : Type 0 where
   pub speaker : IsSpeaker config liars from
   pub listener : IsHonest config liars to
   pub kind : number ≤ 255
@@ -45,7 +46,8 @@ IsPlayableEvent config liars (Deliver number) = number < 2 ^ 64
 IsPlayableEvent config liars (Tick node) = IsHonest config liars node
 IsPlayableEvent config liars (Drain times) = times < 2 ^ 64
 
--- Up to 16 shards of one honest node each make up the deployment; its objects have encodings, and no two of them one key.
+-- Up to 16 shards of one honest node each make up the deployment; its objects have encodings, and no two of them one
+-- key.
 pub record IsPlayable (schedule : Schedule) : Type 0 where
   pub some_shard : 0 < schedule.config.shards
   pub few_shards : schedule.config.shards ≤ MOST_SHARDS

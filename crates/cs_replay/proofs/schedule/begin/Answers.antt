@@ -1,19 +1,20 @@
 use Rattle.std.proofs.Common.{refl, arith}
-use Rattle.cs_tx.specs.Token.{is_token_approved}
 use Rattle.cs_replay.specs.Site.{setup_of_schedule}
 use Rattle.cs_replay.proofs.Deployed.{deploys-setup, rests}
 use Rattle.cs_play.proofs.Histories.{kept-first}
 use Rattle.cs_replay.proofs.schedule.begin.Goals as goal
 
 pub returns : goal.returns
-returns c = λ before.
+returns g c = λ before.
     let schedule = c.args.schedule.now in
+    let approves = g.J.Judge.is_approved c.args.judge in
     record {
-      rests = rests schedule c.requires c.args.traced before c.in_ok-history.history.config c.new-voices.result c.in_ok-history.ensures.config c.new-voices.ensures.config c.new-voices.ensures.master;
+      rests = rests schedule c.requires approves c.args.mode.traced before c.in_ok-history.history.config c.new-voices.result c.in_ok-history.ensures.config c.new-voices.ensures.config c.new-voices.ensures.master;
       traced = refl;
       count = c.in_ok-cores.ensures.count;
       all = c.in_ok-cores.ensures.nodes;
-      kept = kept-first schedule.config (setup_of_schedule schedule) c.in_ok-history.history c.in_ok-history.ensures.config c.in_ok-history.ensures.empty (deploys-setup schedule.config schedule.genesis is_token_approved);
+      kept = kept-first schedule.config (setup_of_schedule approves schedule) c.in_ok-history.history c.in_ok-history.ensures.config c.in_ok-history.ensures.empty (deploys-setup schedule.config schedule.genesis approves);
+      aborted = c.in_ok-history.ensures.none;
       parcels = c.new-post.ensures;
       within = omega arith;
       events = refl;

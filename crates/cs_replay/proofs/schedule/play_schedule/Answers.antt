@@ -1,13 +1,27 @@
-use Rattle.std.proofs.Common.{ℕ, List, [], sym, subst}
+use Rattle.std.proofs.Common.{ℕ, List, [], Err, sym, ap, subst, arith}
 use Rattle.std.specs.Io.KnownBytes.{Appends}
 use Rattle.std.proofs.KnownBytes.{Appends-nil}
-use Rattle.cs_base.specs.Answers.{AppendsFront}
+use Rattle.std.proofs.lemmas.Result.{err_from_is_err_and}
 use Rattle.cs_sched_types.specs.declared.schedule.Event.{Event}
-use Rattle.cs_node_rules.specs.Play.{closed, unplayed, play_all}
+use Rattle.cs_node_rules.specs.Play.{unplayed, play_all}
 use Rattle.cs_play.specs.Standing.{site_in, AllToOthers, StandsPrinted}
+use Rattle.cs_replay.specs.declared.outcome.ReplayError.TheVariants.{WriteFault, Memory}
 use Rattle.cs_replay.specs.Closing.{IsLast, Closes}
-use Rattle.cs_replay.proofs.Whole.{closes-last, front-last}
+use Rattle.cs_replay.proofs.Whole.{closes-last, closes-cut, closes-early}
 use Rattle.cs_replay.proofs.schedule.play_schedule.Goals as goal
+
+pub returns-in_err-last-clause-closes : goal.returns-in_err-last-clause-closes
+returns-in_err-last-clause-closes g c = λ s is stands here.
+    let site = site_in g.O.Order.rules g.O.Carried.carrier s in
+    let st : StandsPrinted g.O.Order.stands g.J.Judge.is_approved g.O.Order.rules g.O.Carried.carrier s c.args.replay (g.K.Sink.written c.args.output.now) unplayed =
+    record { holds = stands; printed = subst (λ before. Appends before (g.K.Sink.written c.args.output.now) []) (sym is) (Appends-nil (g.K.Sink.written c.args.output.now)) } in
+    let has = subst (λ (es : List (ℕ × Event)). AllToOthers s es) (sym c.as_slice.ensures) here in
+    let ends = c.play_all-played.ensures.ends s unplayed st has in
+    let e = err_from_is_err_and c.from_residual.result c.from_residual.ensures.1 in
+    rw (e.1, e.2)
+    (subst (λ (es : List (ℕ × Event)). Closes s.before (g.K.Sink.written c.play_all-played.new.output) site (play_all site s.traced es unplayed) (Err c.in_err-last.field-0.0)) c.as_slice.ensures
+    (closes-early g.O.Order.stands g.J.Judge.is_approved g.O.Order.rules g.O.Carried.carrier s (play_all site s.traced c.as_slice.result.now unplayed) c.play_all-played.new.self (g.K.Sink.written c.play_all-played.new.output)
+    c.play_all-played.result c.in_err-last.field-0.0 ends c.in_err-last.ensures.cut))
 
 pub returns-in-Ok-clause-closes : goal.returns-in-Ok-clause-closes
 returns-in-Ok-clause-closes g c = λ s is stands here.
@@ -15,12 +29,11 @@ returns-in-Ok-clause-closes g c = λ s is stands here.
     let st : StandsPrinted g.O.Order.stands g.J.Judge.is_approved g.O.Order.rules g.O.Carried.carrier s c.args.replay (g.K.Sink.written c.args.output.now) unplayed =
     record { holds = stands; printed = subst (λ before. Appends before (g.K.Sink.written c.args.output.now) []) (sym is) (Appends-nil (g.K.Sink.written c.args.output.now)) } in
     let has = subst (λ (es : List (ℕ × Event)). AllToOthers s es) (sym c.as_slice.ensures) here in
-    let last = subst (λ (text : List ℕ). IsLast c.play_all-played.new.self.history.told c.play_all-played.result text c.in-Ok.ending) (sym c.deref.ensures) c.in-Ok.ensures.last in
-    subst (λ (es : List (ℕ × Event)). Closes s.before (g.K.Sink.written c.print_end.new.output) site (play_all site s.traced es unplayed) c.print_end.result) c.as_slice.ensures
+    let ends = c.play_all-played.ensures.ends s unplayed st has in
+    let last = subst (λ (text : List ℕ). IsLast c.play_all-played.new.self c.play_all-played.result text c.in_ok-last.last.answer) (sym c.as_bytes.ensures.value) c.in_ok-last.ensures.last in
+    subst (λ (es : List (ℕ × Event)). Closes s.before (g.K.Sink.written c.print.new.output) site (play_all site s.traced es unplayed) c.in_ok-last.last.answer) c.as_slice.ensures
     (closes-last g.O.Order.stands g.J.Judge.is_approved g.O.Order.rules g.O.Carried.carrier s (play_all site s.traced c.as_slice.result.now unplayed) c.play_all-played.new.self (g.K.Sink.written c.play_all-played.new.output)
-    _ c.play_all-played.result c.deref.result.now c.in-Ok.ending c.print_end.result
-    (c.play_all-played.ensures.ends s unplayed st has) last
-    c.print_end.ensures.done c.print_end.ensures.ending c.print_end.ensures.part)
+    _ c.play_all-played.result c.as_bytes.result.now c.in_ok-last.last.answer ends last c.in-Ok.ensures.done)
 
 pub returns-in-Err-Failed-clause-closes : goal.returns-in-Err-Failed-clause-closes
 returns-in-Err-Failed-clause-closes g c = λ s is stands here.
@@ -28,9 +41,11 @@ returns-in-Err-Failed-clause-closes g c = λ s is stands here.
     let st : StandsPrinted g.O.Order.stands g.J.Judge.is_approved g.O.Order.rules g.O.Carried.carrier s c.args.replay (g.K.Sink.written c.args.output.now) unplayed =
     record { holds = stands; printed = subst (λ before. Appends before (g.K.Sink.written c.args.output.now) []) (sym is) (Appends-nil (g.K.Sink.written c.args.output.now)) } in
     let has = subst (λ (es : List (ℕ × Event)). AllToOthers s es) (sym c.as_slice.ensures) here in
-    subst (λ (es : List (ℕ × Event)). AppendsFront s.before (g.K.Sink.written c.play_all-played.new.output) (closed site (play_all site s.traced es unplayed))) c.as_slice.ensures
-    (front-last g.O.Order.stands g.J.Judge.is_approved g.O.Order.rules g.O.Carried.carrier s (play_all site s.traced c.as_slice.result.now unplayed) c.play_all-played.new.self (g.K.Sink.written c.play_all-played.new.output)
-    c.play_all-played.result (c.play_all-played.ensures.ends s unplayed st has))
+    let ends = c.play_all-played.ensures.ends s unplayed st has in
+    let last = subst (λ (text : List ℕ). IsLast c.play_all-played.new.self c.play_all-played.result text c.in_ok-last.last.answer) (sym c.as_bytes.ensures.value) c.in_ok-last.ensures.last in
+    subst (λ (es : List (ℕ × Event)). Closes s.before (g.K.Sink.written c.print.new.output) site (play_all site s.traced es unplayed) (Err WriteFault)) c.as_slice.ensures
+    (closes-cut g.O.Order.stands g.J.Judge.is_approved g.O.Order.rules g.O.Carried.carrier s (play_all site s.traced c.as_slice.result.now unplayed) c.play_all-played.new.self (g.K.Sink.written c.play_all-played.new.output)
+    _ c.play_all-played.result c.as_bytes.result.now c.in_ok-last.last.answer WriteFault ends last tt c.in-Err-Failed.ensures.part)
 
 pub returns-clause-closes : goal.returns-clause-closes
 returns-clause-closes g c = λ s is stands here.
@@ -38,6 +53,29 @@ returns-clause-closes g c = λ s is stands here.
     let st : StandsPrinted g.O.Order.stands g.J.Judge.is_approved g.O.Order.rules g.O.Carried.carrier s c.args.replay (g.K.Sink.written c.args.output.now) unplayed =
     record { holds = stands; printed = subst (λ before. Appends before (g.K.Sink.written c.args.output.now) []) (sym is) (Appends-nil (g.K.Sink.written c.args.output.now)) } in
     let has = subst (λ (es : List (ℕ × Event)). AllToOthers s es) (sym c.as_slice.ensures) here in
-    subst (λ (es : List (ℕ × Event)). AppendsFront s.before (g.K.Sink.written c.play_all-played.new.output) (closed site (play_all site s.traced es unplayed))) c.as_slice.ensures
-    (front-last g.O.Order.stands g.J.Judge.is_approved g.O.Order.rules g.O.Carried.carrier s (play_all site s.traced c.as_slice.result.now unplayed) c.play_all-played.new.self (g.K.Sink.written c.play_all-played.new.output)
-    c.play_all-played.result (c.play_all-played.ensures.ends s unplayed st has))
+    let ends = c.play_all-played.ensures.ends s unplayed st has in
+    let last = subst (λ (text : List ℕ). IsLast c.play_all-played.new.self c.play_all-played.result text c.in_ok-last.last.answer) (sym c.as_bytes.ensures.value) c.in_ok-last.ensures.last in
+    subst (λ (es : List (ℕ × Event)). Closes s.before (g.K.Sink.written c.print.new.output) site (play_all site s.traced es unplayed) (Err Memory)) c.as_slice.ensures
+    (closes-cut g.O.Order.stands g.J.Judge.is_approved g.O.Order.rules g.O.Carried.carrier s (play_all site s.traced c.as_slice.result.now unplayed) c.play_all-played.new.self (g.K.Sink.written c.play_all-played.new.output)
+    _ c.play_all-played.result c.as_bytes.result.now c.in_ok-last.last.answer Memory ends last tt c.in-Err-Memory.ensures.part)
+
+-- the answer that is kept is no fault of the sink
+pub returns-in-Ok-clause-cause : goal.returns-in-Ok-clause-cause
+returns-in-Ok-clause-cause g c = record {
+  later = omega (arith, c.play_all-played.ensures.cause.later, c.print.ensures.cause.later);
+  cause = λ failed. absurd (c.in_ok-last.ensures.answer failed);
+}
+
+pub returns-in-Err-Failed-clause-cause : goal.returns-in-Err-Failed-clause-cause
+returns-in-Err-Failed-clause-cause g c =
+    let risen = c.in-Err-Failed.ensures.cause.cause (ap Err c.in-Err-Failed.field-0-is) in
+    record {
+      later = omega (arith, c.play_all-played.ensures.cause.later, risen);
+      cause = λ failed. omega (arith, c.play_all-played.ensures.cause.later, risen);
+    }
+
+pub returns-clause-cause : goal.returns-clause-cause
+returns-clause-cause g c = record {
+  later = omega (arith, c.play_all-played.ensures.cause.later, c.print.ensures.cause.later);
+  cause = λ failed. absurd (cc);
+}

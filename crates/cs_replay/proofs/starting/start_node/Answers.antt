@@ -8,34 +8,34 @@ use Rattle.cs_node_rules.specs.Site.{start_view}
 use Rattle.cs_node.specs.Cores.{StandsFor}
 use Rattle.cs_node.specs.Setups.{AreObjects}
 use Rattle.cs_order.specs.contracts.solo.SoloOrder.TheImpl as order
-use Rattle.cs_tx.specs.contracts.token.TokenJudgeJudge.TheImpl as judge
-use Rattle.cs_replay.specs.Site.{site_of_schedule, net_of_schedule, setup_of_schedule}
+use Rattle.cs_replay.specs.Site.{site_of_schedule, net_of_schedule}
 use Rattle.cs_replay.specs.Settings.{node_of_shard}
 use Rattle.cs_replay.proofs.Apart.{none-twice, never-refused}
 use Rattle.cs_replay.proofs.Deployed.{keyed-fit, is-node}
 use Rattle.cs_replay.proofs.starting.start_node.Goals as goal
 
 pub start-requires-clause-node : goal.start-requires-clause-node
-start-requires-clause-node c =
+start-requires-clause-node g c =
     subst (λ (name : NodeId). is_node c.args.schedule.now.config name ≡ true) (sym c.in_ok-keys.ensures.me) (is-node c.args.schedule.now.config c.args.shard c.requires.shard)
 
 pub start-requires-clause-objects : goal.start-requires-clause-objects
-start-requires-clause-objects c =
+start-requires-clause-objects g c =
     subst (λ (keyed : List (Key × Object)). AreObjects keyed) (sym c.requires.genesis) (keyed-fit 0 c.args.schedule.now.genesis c.requires.playable.objects)
 
 pub unreachable-requires : goal.unreachable-requires
-unreachable-requires c =
+unreachable-requires g c =
     let schedule = c.args.schedule.now in
     let shard = c.in_ok-keys.keys.me.shard in
     let none = ap (twice schedule.config.shards shard) c.requires.genesis ∙ none-twice schedule.config.shards shard schedule.genesis c.requires.playable.keys_differ in
-    never-refused (twice schedule.config.shards shard c.args.genesis.now) c.start.result c.in-Err-Duplicate.field-0 c.in-Err-Duplicate.field-0-0 _ none c.in-Err-Duplicate.is c.in-Err-Duplicate.field-0-is (c.start.ensures schedule.genesis c.requires.genesis)
+    never-refused (twice schedule.config.shards shard c.args.genesis.now) c.start.result c.in-Err-Duplicate.field-0 c.in-Err-Duplicate.field-0-0 none c.in-Err-Duplicate.is c.in-Err-Duplicate.field-0-is c.start.ensures.starts
 
 pub returns-in-Ok : goal.returns-in-Ok
-returns-in-Ok c =
+returns-in-Ok g c =
     let schedule = c.args.schedule.now in
-    let site = site_of_schedule schedule in
+    let approves = g.J.Judge.is_approved c.args.judge in
+    let site = site_of_schedule approves schedule in
     let keys = c.in_ok-keys.keys in
     let node = is-node schedule.config c.args.shard c.requires.shard in
     let speaks = c.keys_of_a_master_speak.ensures schedule.config schedule.master schedule.liars (node_of_shard c.args.shard) keys c.requires.playable.few_shards node c.in_ok-keys.ensures in
-    subst (λ (name : NodeId). StandsFor order.ghosts.stands judge.ghosts.is_approved (setup_of_schedule schedule) (net_of_schedule schedule) c.in-Ok.core (start_view site name)) c.in_ok-keys.ensures.me
-    ((c.in-Ok.ensures schedule.genesis c.requires.genesis).1 (net_of_schedule schedule) speaks)
+    subst (λ (name : NodeId). StandsFor order.ghosts.stands g.J.Judge.is_approved site c.in-Ok.core (start_view site name)) c.in_ok-keys.ensures.me
+    (c.in-Ok.ensures.stands schedule.genesis c.requires.genesis (net_of_schedule schedule) speaks)
