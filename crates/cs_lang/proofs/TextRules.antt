@@ -18,7 +18,7 @@ use Rattle.cs_lang.specs.declared.tree.Field.{Field}
 use Rattle.cs_lang.specs.declared.tree.TypeDef.{TypeDef}
 use Rattle.cs_lang.specs.declared.tree.Slot.{Slot}
 use Rattle.cs_lang.specs.declared.tree.Method.{Method}
-use Rattle.cs_lang.specs.declared.tree.Contract.{Contract}
+use Rattle.cs_lang.specs.declared.tree.ContractTree.{ContractTree}
 use Rattle.cs_lang.specs.Trees.{field_of, slot_of, starred, let_of, set_of, if_of, else_of, Range, items_of, numbers_of, for_of, inner, make_of, CallRest, Arguments, binds_of, names_of, call_of, answer_of, block_of, typedef_of, after_word, head_of, body_of, method_of, first_and_others, contract_of}
 use Rattle.cs_lang.specs.Rules.{word, kinds, in_parentheses, Part, Whole, expression, arguments, if_rule, range, for_rule, make_rule, call_rest, call_rule, statement_rule, braces, statements, field, slot, typedef, section, head, body, method, contract}
 use Rattle.cs_lang.specs.Readers.{word_at, commas_at, kind_level, inside_kind, in_parentheses_at, expression_at, inside_expr, inside_items, ranked, expression_kinds, statement_kinds, optional_at, arguments_at, let_at, set_at, if_at, range_at, for_at, make_at, names_at, call_rest_at, call_at, answer_at, statement_of, statement_at, braces_at, inside_optional, arguments_level, statements_at, inside_statements, block_level, let_level, set_level, if_level, for_level, make_level, call_level, answer_level, statement_level, statements_level, field_level, fields_level, slot_level, slots_level, optional_fields, typedef_level, section_at, slots_section, fields_section, head_level, body_level, method_level, typedefs_level, methods_level, contract_level}

@@ -2,3 +2,4 @@ pub mod Readers
 pub mod Rules
 pub mod Texts
 pub mod Trees
+pub mod Fits

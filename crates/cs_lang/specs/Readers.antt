@@ -24,7 +24,7 @@ use Rattle.cs_lang.specs.declared.tree.Field.{Field}
 use Rattle.cs_lang.specs.declared.tree.TypeDef.{TypeDef}
 use Rattle.cs_lang.specs.declared.tree.Slot.{Slot}
 use Rattle.cs_lang.specs.declared.tree.Method.{Method}
-use Rattle.cs_lang.specs.declared.tree.Contract.{Contract}
+use Rattle.cs_lang.specs.declared.tree.ContractTree.{ContractTree}
 use Rattle.cs_lang.specs.declared.methods.Head.{Head}
 use Rattle.cs_lang.specs.declared.methods.Body.{Body}
 use Rattle.cs_lang.specs.Trees.{with_link, with_step, field_step, index_step, number_expr, bytes_expr, name_expr, truth_expr, grouped, listed, empty_expr, len_expr, sha256_expr, concat_expr, called_expr, depint_expr, negative_expr, not_expr, operation, comparing, compared_expr, plain_kind, list_kind, field_of, slot_of, starred, let_of, set_of, if_of, else_of, Range, items_of, numbers_of, for_of, inner, make_of, CallRest, Arguments, binds_of, names_of, call_of, answer_of, block_of, typedef_of, after_word, head_of, body_of, method_of, first_and_others, contract_of}
@@ -584,5 +584,5 @@ methods_onward more = onward with_one (is (kind.Method ∷ [])) method_level mor
 unfoldable pub methods_turn : List Method → Reader (List Method)
 methods_turn = turn with_one method_level
 
-unfoldable pub contract_level : Reader Contract
+unfoldable pub contract_level : Reader ContractTree
 contract_level = mapped_at contract_of (pair_at typedefs_level methods_level)

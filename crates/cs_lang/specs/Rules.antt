@@ -21,7 +21,7 @@ use Rattle.cs_lang.specs.declared.tree.Field.{Field}
 use Rattle.cs_lang.specs.declared.tree.TypeDef.{TypeDef}
 use Rattle.cs_lang.specs.declared.tree.Slot.{Slot}
 use Rattle.cs_lang.specs.declared.tree.Method.{Method}
-use Rattle.cs_lang.specs.declared.tree.Contract.{Contract}
+use Rattle.cs_lang.specs.declared.tree.ContractTree.{ContractTree}
 use Rattle.cs_lang.specs.declared.methods.Head.{Head}
 use Rattle.cs_lang.specs.declared.methods.Body.{Body}
 use Rattle.cs_lang.specs.Trees.{with_link, with_step, field_step, index_step, number_expr, bytes_expr, name_expr, truth_expr, grouped, listed, empty_expr, len_expr, sha256_expr, concat_expr, called_expr, depint_expr, negative_expr, not_expr, operation, comparing, compared_expr, plain_kind, list_kind, field_of, slot_of, starred, let_of, set_of, if_of, else_of, Range, items_of, numbers_of, for_of, inner, make_of, CallRest, Arguments, binds_of, names_of, call_of, answer_of, block_of, typedef_of, after_word, head_of, body_of, method_of, first_and_others, contract_of}
@@ -291,7 +291,7 @@ method kinds block = mapped method_of (pair (word kind.Method) (pair name (pair 
 
 -- Contract texts by the depth to which they nest. 64 levels may be opened: the parentheses of a type and the braces
 -- of a method open the first, and the braces of a procedure or a check the second.
-abbrev pub contract : ℕ → Rule Contract
+abbrev pub contract : ℕ → Rule ContractTree
 contract n =
     let methods = method (kinds n 64) (braces (statements n 62) true) in
     mapped contract_of (pair (many (typedef (kinds n 63))) (mapped first_and_others (pair methods (many methods))))

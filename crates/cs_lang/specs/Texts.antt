@@ -1,24 +1,30 @@
 -- Which texts are contracts, and why one is none.
 use Rattle.std.specs.Prelude.{◌≡◌, ℕ, ◌<◌, ◌≤◌, List, length, Result, Ok, Err}
+use Rattle.cs_lang_token.specs.declared.limits.TheConstants.{MOST_TEXT}
 use Rattle.cs_lang_token.specs.declared.token.Token.{Token}
 use Rattle.cs_lang_token.specs.Tokens.{tokens_of}
 use Rattle.cs_lang_token.specs.Texts.{IsText, IsRefused}
 use Rattle.cs_lang_token.specs.Answers.{place_of}
-use Rattle.cs_lang.specs.declared.tree.Contract.{Contract}
+use Rattle.cs_lang.specs.declared.tree.ContractTree.{ContractTree}
 use Rattle.cs_lang.specs.declared.text.LangError.{LangError}
 use Rattle.cs_lang.specs.declared.text.LangError.TheVariants as error
 use Rattle.cs_lang.specs.Rules.{contract}
 
--- 65,536 bytes at most, with its blanks and comments
+-- with its blanks and comments
 abbrev pub IsShort : List ℕ → Type 0
-IsShort text = length text ≤ 65536
+IsShort text = length text ≤ MOST_TEXT
 
 -- The text is short, and its tokens spell the contract within the limits of the grammar.
-pub record IsContract (text : List ℕ) (c : Contract) : Type 0 where
+pub record IsContract (text : List ℕ) (c : ContractTree) : Type 0 where
   pub short : IsShort text
   pub tokens : List Token
   pub read : tokens_of text ≡ Ok tokens
   pub spells : IsText contract c tokens
+
+-- some text is this contract
+pub record HasText (c : ContractTree) : Type 0 where
+  pub text : List ℕ
+  pub is : IsContract text c
 
 -- The text is short and has tokens, and place is that of the first with which no contract text can go on,
 -- or the text's length.
@@ -37,12 +43,12 @@ StopsAt tokens end place = (bad : List Token) × IsRefused contract tokens bad �
 -- what holds of a refusal
 abbrev pub IsRefusal : List ℕ → LangError → Type 0
 IsRefusal text error.Memory = Unit {0}
-IsRefusal text error.TooLong = 65536 < length text
+IsRefusal text error.TooLong = MOST_TEXT < length text
 IsRefusal text (error.Lex place) = IsShort text × (tokens_of text ≡ Err place)
 IsRefusal text (error.Syntax place) = IsSyntax text place
 
 -- it is the answer, unless memory ran out
-abbrev pub AnswersTree : Result Contract LangError → Contract → Type 0
+abbrev pub AnswersTree : Result ContractTree LangError → ContractTree → Type 0
 AnswersTree (Ok x) c = x ≡ c
 AnswersTree (Err why) c = why ≡ error.Memory
 

@@ -25,7 +25,7 @@ use Rattle.cs_lang.specs.declared.tree.Field.{Field}
 use Rattle.cs_lang.specs.declared.tree.TypeDef.{TypeDef}
 use Rattle.cs_lang.specs.declared.tree.Slot.{Slot}
 use Rattle.cs_lang.specs.declared.tree.Method.{Method}
-use Rattle.cs_lang.specs.declared.tree.Contract.{Contract}
+use Rattle.cs_lang.specs.declared.tree.ContractTree.{ContractTree}
 use Rattle.cs_lang.specs.declared.methods.Head.{Head}
 use Rattle.cs_lang.specs.declared.methods.Body.{Body}
 
@@ -276,5 +276,5 @@ method_of p = let head = p.1.1.0 in let body = p.1.1.1 in
 abbrev pub first_and_others : {X : Type 0} → X × List X → List X
 first_and_others p = p.0 ∷ p.1
 
-abbrev pub contract_of : List TypeDef × List Method → Contract
+abbrev pub contract_of : List TypeDef × List Method → ContractTree
 contract_of p = record { types = p.0; methods = p.1 }

@@ -1,6 +1,7 @@
 //! The contract language: its trees, and their reader.
 #![tactic(auto)]
 
+mod contract;
 mod expressions;
 mod kinds;
 mod methods;
@@ -13,9 +14,10 @@ mod text;
 mod texts;
 mod tree;
 
+pub use contract::Contract;
 pub use cs_lang_token::{Boxed, Number, Text};
 pub use text::{LangError, parse};
 pub use tree::{
-    Access, Action, Block, Comparison, Contract, Expr, Field, Link, Method, Operator, Rank, Shape,
-    Slot, Statement, Step, TypeDef, ValueKind,
+    Access, Action, Block, Comparison, ContractTree, Expr, Field, Link, Method, Operator, Rank,
+    Shape, Slot, Statement, Step, TypeDef, ValueKind,
 };

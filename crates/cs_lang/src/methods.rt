@@ -5,7 +5,7 @@ ghost use Rattle.cs_lang.specs.Readers.{optional_fields, typedef_level, slots_se
 
 use crate::kinds::{fields, slots};
 use crate::statements::block;
-use crate::tree::{Block, Contract, Field, Method, Slot, TypeDef};
+use crate::tree::{Block, ContractTree, Field, Method, Slot, TypeDef};
 use cs_base::Sequence;
 use cs_lang_token::{Cursor, Kind, MOST_LEVELS, Stop};
 use std::alloc::Global;
@@ -233,10 +233,10 @@ fn other_method(
 
 /// A whole text.
 #[tactic(auto, unfolding(crate::specs::Readers::contract_level))]
-pub fn contract(alloc: Global, cursor: &mut Cursor<'_>) -> Result<Contract, Stop>
+pub fn contract(alloc: Global, cursor: &mut Cursor<'_>) -> Result<ContractTree, Stop>
     ensures { Gives result cursor.new (contract_level cursor.old) }
 {
     let types = typedefs(alloc, cursor)?;
     let methods = methods(alloc, cursor)?;
-    Ok(Contract { types, methods })
+    Ok(ContractTree { types, methods })
 }

@@ -100,7 +100,7 @@ fn trees_have_places(rt: HostRuntime) -> Result<(), Fail> {
     let Ok(contract) = parse(rt.alloc(), text) else {
         panic!(rt; "no contract");
     };
-    let [method] = contract.methods.as_slice() else {
+    let [method] = contract.tree().methods.as_slice() else {
         panic!(rt; "one method");
     };
     assert_eq!(rt; method.end, 55);
@@ -136,11 +136,11 @@ fn example_contract_is_read(rt: HostRuntime) -> Result<(), Fail> {
     let Ok(contract) = parse(rt.alloc(), EXAMPLE) else {
         panic!(rt; "no contract");
     };
-    let [coin] = contract.types.as_slice() else {
+    let [coin] = contract.tree().types.as_slice() else {
         panic!(rt; "one type");
     };
     assert_eq!(rt; coin.fields.len(), 2);
-    let [pay] = contract.methods.as_slice() else {
+    let [pay] = contract.tree().methods.as_slice() else {
         panic!(rt; "one method");
     };
     assert_eq!(rt; pay.name.bytes.as_slice(), b"pay".as_slice());

@@ -181,9 +181,9 @@ pub struct Method {
     pub end: usize,
 }
 
-/// A contract text's types and methods, in their order. It has one method at least.
+/// The types and methods of a contract, in the order of its text. It has one method at least.
 #[derive(Drop)]
-pub struct Contract {
+pub struct ContractTree {
     pub types: Sequence<TypeDef>,
     pub methods: Sequence<Method>,
 }

@@ -18,7 +18,8 @@ use Rattle.cs_lang.specs.declared.tree.Access.TheVariants.{rolls-Field, rolls-In
 use Rattle.cs_lang.specs.declared.tree.Access.TheOpen.{Access-F, Shape-F}
 use Rattle.cs_lang.specs.declared.tree.Access.TheFolds.{fold-roll-Access, fold-roll-Shape, fold_out-Expr, fold_out-Link, fold_out-Step}
 use Rattle.cs_lang.specs.Trees.{tree, shape_of, Opened, same_rank, shape_is_chain, is_chain, shape_is_path, is_path}
-use Rattle.cs_lang_print.proofs.Opened.{out_number, out_bytes, out_truth, out_name, out_list, out_empty, out_len, out_sha256, out_concat, out_called, out_depint, out_path, out_not, out_negative, out_compared, out_chain}
+use Rattle.cs_lang.proofs.Chains.{rolled}
+use Rattle.cs_lang.proofs.Opened.{out_number, out_bytes, out_truth, out_name, out_list, out_empty, out_len, out_sha256, out_concat, out_called, out_depint, out_path, out_not, out_negative, out_compared, out_chain}
 use Rattle.cs_lang_print.specs.Places.{bare_text, access_layer, shape_layer, expr_layer, link_layer, step_layer, bare, bare_shape, bare_link, bare_step, bare_access}
 
 pub bare_is : (e : Expr) → bare e ≡ tree 0 0 (bare_shape (shape_of e))
@@ -105,9 +106,6 @@ pub bare_chain : (r : Rank) (start : Expr) (links : List Link) → bare_shape (s
 unfolding bare bare_shape bare_link bare_step
 bare_chain r start links = ap bare_shape (sym (rolls-Chain r start links)) ∙ fold-roll-Shape Access Shape Expr Link Step access_layer shape_layer expr_layer link_layer step_layer (Shape-F.Chain r start links)
 
-pub rolled : (s : Shape) → roll-Shape (out-Shape s) ≡ s
-rolled s = search (rules, the_lemmas)
-
 chain_of_bare : (r : Rank) (o : Opened) → shape_is_chain r (out-Shape (bare_shape (roll-Shape o))) ≡ shape_is_chain r o
 chain_of_bare r' (Shape-F.Number n) = ap (λ (s : Shape). shape_is_chain r' (out-Shape s)) (ap bare_shape (rolls-Number n) ∙ bare_number n) ∙ ap (shape_is_chain r') (out_number n)
 chain_of_bare r' (Shape-F.Bytes text) = ap (λ (s : Shape). shape_is_chain r' (out-Shape s)) (ap bare_shape (rolls-Bytes text) ∙ bare_bytes text) ∙ ap (shape_is_chain r') (out_bytes text)
@@ -155,34 +153,3 @@ path_bare e =
     ap is_path (bare_is e)
     ∙ ap (λ (s : Shape). shape_is_path (out-Shape (bare_shape s))) (sym (rolled (shape_of e)))
     ∙ path_of_bare (out-Shape (shape_of e))
-
-rank_is : (r s : Rank) → same_rank r s ≡ true → r ≡ s
-rank_is rank.Or rank.Or e = refl
-rank_is rank.And rank.And e = refl
-rank_is rank.Sum rank.Sum e = refl
-rank_is rank.Product rank.Product e = refl
-rank_is rank.Or rank.And e = absurd cc
-rank_is rank.Or rank.Sum e = absurd cc
-rank_is rank.Or rank.Product e = absurd cc
-rank_is rank.And rank.Or e = absurd cc
-rank_is rank.And rank.Sum e = absurd cc
-rank_is rank.And rank.Product e = absurd cc
-rank_is rank.Sum rank.Or e = absurd cc
-rank_is rank.Sum rank.And e = absurd cc
-rank_is rank.Sum rank.Product e = absurd cc
-rank_is rank.Product rank.Or e = absurd cc
-rank_is rank.Product rank.And e = absurd cc
-rank_is rank.Product rank.Sum e = absurd cc
-
-pub same_ranks : (r s : Rank) → same_rank r s ≡ true → r ≡ s
-same_ranks = rank_is
-
-pub rank_itself : (r : Rank) → same_rank r r ≡ true
-rank_itself rank.Or = refl
-rank_itself rank.And = refl
-rank_itself rank.Sum = refl
-rank_itself rank.Product = refl
-
--- an expression from its parts
-pub tree_is : (e : Expr) → e ≡ tree (out-Expr e).first (out-Expr e).place (shape_of e)
-tree_is e = refl

@@ -15,12 +15,12 @@ use Rattle.cs_lang_print.specs.Words.{word, ending, each, behind_comma, with_com
 use Rattle.cs_lang_print.specs.Expressions.{expr_text}
 use Rattle.cs_lang_print.specs.Statements.{name_text, arguments_text, block_until, statements_text, statement_text}
 use Rattle.cs_lang_print.specs.Places.{bare_text, bare, bare_block, bare_statement}
-use Rattle.cs_lang_print.proofs.Lexed.{IsWord}
+use Rattle.cs_lang_token.proofs.Spans.{IsWord}
 use Rattle.cs_lang_print.proofs.Actions.{statement_is, statements_are, action_let, action_set, action_if, action_ifelse, action_forin, action_forto, action_make, action_call, action_answer}
 use Rattle.cs_lang_print.proofs.Says.{Says, both, no_place, unplaced, says_pair, says_mapped, says_left, says_right, says_nothing, says_same, says_text, says_then_nothing, says_many_none, says_many_more, says_word, says_sign, says_ending, says_name, says_number}
 use Rattle.cs_lang_print.proofs.Moves.{if_some}
 use Rattle.cs_lang_print.proofs.Acts.{out_statements, move_block, bare_let, move_let, move_set, bare_if, move_if, bare_range, bare_for, move_for, bare_make, move_make, bare_rest, move_names, bare_call, move_call, move_answer}
-use Rattle.cs_lang_print.proofs.Gives.{Gives, Every, gives_mapped, gives_pair, gives_either, gives_nothing, gives_many, gives_sign, gives_name, gives_number, gives_row, gives_weaker}
+use Rattle.cs_lang_token.proofs.Gives.{Gives, Every, gives_mapped, gives_pair, gives_either, gives_nothing, gives_many, gives_sign, gives_name, gives_number, gives_row, gives_weaker}
 use Rattle.cs_lang_print.proofs.Known.{levels_least}
 use Rattle.cs_lang_print.proofs.Exprs.{Good, room_one, says_open, says_close, says_comma, says_row, all_good, expressions_good}
 

@@ -27,10 +27,11 @@ use Rattle.cs_lang_print.specs.Places.{bare_text, bare}
 use Rattle.cs_lang_print.proofs.KindTexts.{kind_int, kind_bool, kind_bytes, kind_list}
 use Rattle.cs_lang_print.proofs.Layers.{tightness_number, tightness_bytes, tightness_truth, tightness_name, tightness_list, tightness_empty, tightness_len, tightness_sha256, tightness_concat, tightness_called, tightness_depint, tightness_not, tightness_negative, tightness_compared, text_number, text_bytes, text_truth, text_name, text_list, text_empty, text_len, text_sha256, text_concat, text_called, text_depint, text_not, text_negative, text_compared, access_field, access_index}
 use Rattle.cs_lang_print.proofs.Says.{Says, both, no_place, unplaced, says_pair, says_mapped, says_left, says_right, says_same, says_text, says_many_none, says_many_more, says_word, says_sign, says_name, says_number, says_bytes}
-use Rattle.cs_lang_print.proofs.Opened.{out_number, out_bytes, out_truth, out_name, out_list, out_empty, out_len, out_sha256, out_concat, out_called, out_depint, out_not, out_negative, out_compared}
-use Rattle.cs_lang_print.proofs.Moves.{Item, bare_item, bare_way, same_as, if_some, move_number, move_bytes, move_name, move_truth, move_listed, move_empty, move_len, move_sha256, move_concat, move_called, move_depint, move_negative, move_not, move_compared, move_field, move_index, move_all, move_link, move_step}
+use Rattle.cs_lang.proofs.Opened.{out_number, out_bytes, out_truth, out_name, out_list, out_empty, out_len, out_sha256, out_concat, out_called, out_depint, out_not, out_negative, out_compared}
+use Rattle.cs_lang_print.proofs.Moves.{bare_item, bare_way, same_as, if_some, move_number, move_bytes, move_name, move_truth, move_listed, move_empty, move_len, move_sha256, move_concat, move_called, move_depint, move_negative, move_not, move_compared, move_field, move_index, move_all, move_link, move_step}
+use Rattle.cs_lang.proofs.Chains.{Item}
 use Rattle.cs_lang_print.proofs.Rungs.{at8, at6, at2, at0, rule_at, bare_side}
-use Rattle.cs_lang_print.proofs.Gives.{Gives, Every, gives_mapped, gives_pair, gives_either, gives_nothing, gives_links, gives_sign, gives_name, gives_number, gives_bytes, gives_row, gives_weaker}
+use Rattle.cs_lang_token.proofs.Gives.{Gives, Every, gives_mapped, gives_pair, gives_either, gives_nothing, gives_links, gives_sign, gives_name, gives_number, gives_bytes, gives_row, gives_weaker}
 use Rattle.cs_lang_print.proofs.Known.{levels_within, spelt_at, opened, says_within, levels_most, levels_least, levels_tight, levels_down, IsItem, grown}
 use Rattle.cs_lang_print.proofs.Sorts.{chain_link, chain_text, ChainBuilt, chain_add, chain_new, chain_is, path_link, path_text, PathBuilt, path_add, path_new, path_is, Known, known_plain, known_chain, known_path, known_grouped}
 

@@ -12,7 +12,7 @@ use Rattle.cs_lang_print.specs.Places.{bare}
 use Rattle.cs_lang_print.proofs.Says.{Says, says_same, says_text}
 use Rattle.cs_lang_print.proofs.Rungs.{at8, rule_at, lift, says_around}
 use Rattle.cs_lang_print.proofs.Runs.{Part, Low, item_of, part_text, deep, below_deep, deep_more, deep_few, run_says}
-use Rattle.cs_lang_print.proofs.Gives.{Every}
+use Rattle.cs_lang_token.proofs.Gives.{Every}
 
 -- the levels that it opens where it has to hold together so tightly
 abbrev pub levels_within : ℕ → Expr → ℕ → ℕ

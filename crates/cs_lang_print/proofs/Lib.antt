@@ -1,3 +1,4 @@
+pub mod Begun
 pub mod KindTexts
 pub mod RunTexts
 pub mod Layers
@@ -5,17 +6,14 @@ pub mod Actions
 pub mod Puts
 pub mod Lexed
 pub mod Says
-pub mod Opened
 pub mod Bare
 pub mod Moves
 pub mod Rungs
 pub mod Runs
-pub mod Gives
 pub mod Known
 pub mod Sorts
 pub mod Exprs
 pub mod Acts
 pub mod Blocks
 pub mod Wholes
-pub mod Sources
 pub mod RoundTrip

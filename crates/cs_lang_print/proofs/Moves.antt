@@ -20,8 +20,9 @@ use Rattle.cs_lang.specs.declared.tree.Access.TheOpen.{Shape-F}
 use Rattle.cs_lang.specs.Trees.{tree, first_of, shape_of, Opened, shape_is_chain, is_chain, chain_begun, chain_extended, with_link, shape_is_path, is_path, path_begun, path_extended, with_step, field_step, index_step, number_expr, bytes_expr, name_expr, truth_expr, grouped, listed, empty_expr, len_expr, sha256_expr, concat_expr, called_expr, depint_expr, negative_expr, not_expr, compared_expr}
 use Rattle.cs_lang_print.specs.Places.{bare_text, bare, bare_shape, bare_link, bare_step, bare_access}
 use Rattle.cs_lang_print.proofs.Says.{both, no_place, unplaced}
-use Rattle.cs_lang_print.proofs.Opened.{out_path, out_chain}
-use Rattle.cs_lang_print.proofs.Bare.{bare_is, link_bare, step_bare, field_bare, index_bare, bare_number, bare_bytes, bare_truth, bare_name, bare_list, bare_empty, bare_len, bare_sha256, bare_concat, bare_called, bare_depint, bare_path, bare_not, bare_negative, bare_compared, bare_chain, rolled, chain_bare, path_bare, same_ranks, rank_itself}
+use Rattle.cs_lang.proofs.Opened.{out_path, out_chain}
+use Rattle.cs_lang_print.proofs.Bare.{bare_is, link_bare, step_bare, field_bare, index_bare, bare_number, bare_bytes, bare_truth, bare_name, bare_list, bare_empty, bare_len, bare_sha256, bare_concat, bare_called, bare_depint, bare_path, bare_not, bare_negative, bare_compared, bare_chain, chain_bare, path_bare}
+use Rattle.cs_lang.proofs.Chains.{chain_view, Item, link_of, link_joins, link_begins, path_view, step_of, step_joins, step_begins}
 
 abbrev pub same_as : {X : Type 0} → X → X
 same_as x = x
@@ -118,44 +119,8 @@ move_all B p = move_items B p.1 (p.0 ∷ [])
 
 -- ---- chains and paths
 
-chain_seen : (r : Rank) (o : Opened) → shape_is_chain r o ≡ true → (s : Expr) × (ls : List Link) × (roll-Shape o ≡ shape.Chain r s ls)
-chain_seen r (Shape-F.Chain old s ls) e = (s, ls, rolls-Chain old s ls ∙ ap (λ (q : Rank). shape.Chain q s ls) (same_ranks old r e))
-chain_seen r o e = absurd cc
-
-pub chain_view : (r : Rank) (e : Expr) → is_chain r e ≡ true → (s : Expr) × (ls : List Link) × (e ≡ tree (first_of e) (out-Expr e).place (shape.Chain r s ls))
-chain_view r e is =
-    let v = chain_seen r (out-Shape (shape_of e)) is in
-    (v.0, v.1, ap (tree (first_of e) (out-Expr e).place) (sym (rolled (shape_of e)) ∙ v.2))
-
-path_seen : (o : Opened) → shape_is_path o ≡ true → (s : Expr) × (ls : List Step) × (roll-Shape o ≡ shape.Path s ls)
-path_seen (Shape-F.Path s ls) e = (s, ls, rolls-Path s ls)
-path_seen o e = absurd cc
-
-pub path_view : (e : Expr) → is_path e ≡ true → (s : Expr) × (ls : List Step) × (e ≡ tree (first_of e) (out-Expr e).place (shape.Path s ls))
-path_view e is =
-    let v = path_seen (out-Shape (shape_of e)) is in
-    (v.0, v.1, ap (tree (first_of e) (out-Expr e).place) (sym (rolled (shape_of e)) ∙ v.2))
-
-abbrev pub Item : Type 0
-Item = (Operator × ℕ) × Expr
-
 abbrev pub bare_item : Item → Item
 bare_item = both (both same_as no_place) bare
-
-abbrev pub link_of : Expr → Item → Link
-link_of left p = roll-Link (record { operator = p.0.0; first = first_of left; place = p.0.1; right = p.1 })
-
--- behind a chain
-pub link_joins : (r : Rank) (f place : ℕ) (s : Expr) (ls : List Link) (p : Item) → with_link r (tree f place (shape.Chain r s ls)) p ≡ tree f p.0.1 (shape.Chain r s (ls ++ link_of (tree f place (shape.Chain r s ls)) p ∷ []))
-link_joins r f place s ls p =
-    let left = tree f place (shape.Chain r s ls) in
-    let test : is_chain r (tree f place (shape.Chain r s ls)) ≡ true = ap (shape_is_chain r) (out_chain r s ls) ∙ rank_itself r in
-    ap (λ (b : Bool). if b then chain_extended r left p.0.1 (link_of left p) (out-Shape (shape_of left)) else chain_begun r left p.0.1 (link_of left p)) test
-    ∙ ap (chain_extended r left p.0.1 (link_of left p)) (out_chain r s ls)
-
--- behind anything else
-pub link_begins : (r : Rank) (e : Expr) (p : Item) → is_chain r e ≡ false → with_link r e p ≡ tree (first_of e) p.0.1 (shape.Chain r e (link_of e p ∷ []))
-link_begins r e p test = ap (λ (b : Bool). if b then chain_extended r e p.0.1 (link_of e p) (out-Shape (shape_of e)) else chain_begun r e p.0.1 (link_of e p)) test
 
 bare_link_of : (e : Expr) (p : Item) → bare_link (link_of e p) ≡ link_of (bare e) (bare_item p)
 bare_link_of e p = link_bare (link_of e p) ∙ ap (λ (n : ℕ). roll-Link (record { operator = p.0.0; first = n; place = 0; right = bare p.1 })) (sym (first_bare e))
@@ -195,19 +160,6 @@ move_link r e p = elim (bool_cases (is_chain r e)) [
 
 abbrev pub bare_way : ℕ × Access → ℕ × Access
 bare_way = both no_place bare_access
-
-abbrev pub step_of : Expr → ℕ × Access → Step
-step_of left p = roll-Step (record { first = first_of left; place = p.0; access = p.1 })
-
-pub step_joins : (f place : ℕ) (s : Expr) (ls : List Step) (p : ℕ × Access) → with_step (tree f place (shape.Path s ls)) p ≡ tree f p.0 (shape.Path s (ls ++ step_of (tree f place (shape.Path s ls)) p ∷ []))
-step_joins f place s ls p =
-    let left = tree f place (shape.Path s ls) in
-    let test : is_path (tree f place (shape.Path s ls)) ≡ true = ap shape_is_path (out_path s ls) in
-    ap (λ (b : Bool). if b then path_extended left p.0 (step_of left p) (out-Shape (shape_of left)) else path_begun left p.0 (step_of left p)) test
-    ∙ ap (path_extended left p.0 (step_of left p)) (out_path s ls)
-
-pub step_begins : (e : Expr) (p : ℕ × Access) → is_path e ≡ false → with_step e p ≡ tree (first_of e) p.0 (shape.Path e (step_of e p ∷ []))
-step_begins e p test = ap (λ (b : Bool). if b then path_extended e p.0 (step_of e p) (out-Shape (shape_of e)) else path_begun e p.0 (step_of e p)) test
 
 bare_step_of : (e : Expr) (p : ℕ × Access) → bare_step (step_of e p) ≡ step_of (bare e) (bare_way p)
 bare_step_of e p = step_bare (step_of e p) ∙ ap (λ (n : ℕ). roll-Step (record { first = n; place = 0; access = bare_access p.1 })) (sym (first_bare e))

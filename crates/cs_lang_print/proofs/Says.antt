@@ -18,7 +18,8 @@ use Rattle.cs_lang_token.specs.declared.lexeme.Lexeme.{Lexeme}
 use Rattle.cs_lang_print.specs.Places.{bare_text}
 use Rattle.cs_lang_print.specs.Words.{word, ending, quoted, hex_text}
 use Rattle.cs_lang_print.proofs.Puts.{Puts, puts_none, puts_append, puts_one, piece_token}
-use Rattle.cs_lang_print.proofs.Lexed.{IsWord, space_ends, lexed_word, plain_word, some_word, is_decimal, lexed_number, plain_number, AllBytes, lexed_quoted}
+use Rattle.cs_lang_print.proofs.Lexed.{space_ends, lexed_word, plain_word, some_word, is_decimal, lexed_number, plain_number, lexed_quoted}
+use Rattle.cs_lang_token.proofs.Spans.{IsWord, AllBytes}
 
 -- all within the limits
 pub allowed : List Token → List Mark

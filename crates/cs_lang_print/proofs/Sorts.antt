@@ -17,9 +17,9 @@ use Rattle.cs_lang_print.specs.Expressions.{Linked, spelled, spelled_link, step_
 use Rattle.cs_lang_print.proofs.RunTexts.{runs_map}
 use Rattle.cs_lang_print.proofs.Layers.{spelled_is, link_is, step_is, shape_path, shape_chain}
 use Rattle.cs_lang_print.proofs.Says.{says_same, says_text}
-use Rattle.cs_lang_print.proofs.Opened.{out_path, out_chain}
-use Rattle.cs_lang_print.proofs.Bare.{same_ranks}
-use Rattle.cs_lang_print.proofs.Moves.{Item, bare_item, bare_way, link_of, step_of, link_joins, link_begins, step_joins, step_begins, move_link, move_step, grouped_bare}
+use Rattle.cs_lang.proofs.Opened.{out_path, out_chain}
+use Rattle.cs_lang.proofs.Chains.{same_ranks, Item, link_of, step_of, link_joins, link_begins, step_joins, step_begins}
+use Rattle.cs_lang_print.proofs.Moves.{bare_item, bare_way, move_link, move_step, grouped_bare}
 use Rattle.cs_lang_print.proofs.Rungs.{rule_at}
 use Rattle.cs_lang_print.proofs.Known.{Spelt, Run}
 

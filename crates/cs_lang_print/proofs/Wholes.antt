@@ -11,7 +11,7 @@ use Rattle.cs_lang.specs.declared.tree.Field.{Field}
 use Rattle.cs_lang.specs.declared.tree.TypeDef.{TypeDef}
 use Rattle.cs_lang.specs.declared.tree.Slot.{Slot}
 use Rattle.cs_lang.specs.declared.tree.Method.{Method}
-use Rattle.cs_lang.specs.declared.tree.Contract.{Contract}
+use Rattle.cs_lang.specs.declared.tree.ContractTree.{ContractTree}
 use Rattle.cs_lang.specs.declared.methods.Head.{Head}
 use Rattle.cs_lang.specs.declared.methods.Body.{Body}
 use Rattle.cs_lang.specs.Trees.{field_of, slot_of, starred, typedef_of, after_word, head_of, body_of, method_of, first_and_others, contract_of}
@@ -20,10 +20,10 @@ use Rattle.cs_lang_print.specs.Words.{word, ending, each, with_commas}
 use Rattle.cs_lang_print.specs.Statements.{block_text, statements_text}
 use Rattle.cs_lang_print.specs.Texts.{field_text, star_text, slot_text, section_text, type_text, method_text, contract_text}
 use Rattle.cs_lang_print.specs.Places.{bare_text, bare_block, bare_field, bare_slot, bare_type, bare_method, without_places}
-use Rattle.cs_lang_print.proofs.Lexed.{IsWord}
+use Rattle.cs_lang_token.proofs.Spans.{IsWord}
 use Rattle.cs_lang_print.proofs.Says.{Says, both, no_place, says_pair, says_mapped, says_left, says_right, says_nothing, says_same, says_many_none, says_many_more, says_word, says_sign, says_ending, says_name}
 use Rattle.cs_lang_print.proofs.Moves.{same_as}
-use Rattle.cs_lang_print.proofs.Gives.{Gives, Every, gives_mapped, gives_pair, gives_either, gives_nothing, gives_many, gives_sign, gives_name, gives_row, gives_weaker}
+use Rattle.cs_lang_token.proofs.Gives.{Gives, Every, gives_mapped, gives_pair, gives_either, gives_nothing, gives_many, gives_sign, gives_name, gives_row, gives_weaker}
 use Rattle.cs_lang_print.proofs.Exprs.{KindGood, kinds_good, says_open, says_close, says_row}
 use Rattle.cs_lang_print.proofs.Blocks.{says_semicolon, says_closed, braces_good, statements_good}
 
@@ -145,7 +145,7 @@ says_methods : (ms : List Method) → Every MethodGood ms → (n : ℕ) → 65 �
 says_methods [] g n le = says_many_none (map bare_method)
 says_methods (m ∷ ms) g n le = says_many_more (g.0 n le) (says_methods ms g.1 n le)
 
-abbrev pub ContractGood : Contract → Type 0
+abbrev pub ContractGood : ContractTree → Type 0
 ContractGood c = (n : ℕ) → 65 ≤ n → Says without_places (contract n) c (contract_text c)
 
 abbrev MethodsGood : List Method → Type 0

@@ -20,7 +20,7 @@ use Rattle.cs_lang.specs.declared.tree.Field.{Field}
 use Rattle.cs_lang.specs.declared.tree.Slot.{Slot}
 use Rattle.cs_lang.specs.declared.tree.TypeDef.{TypeDef}
 use Rattle.cs_lang.specs.declared.tree.Method.{Method}
-use Rattle.cs_lang.specs.declared.tree.Contract.{Contract}
+use Rattle.cs_lang.specs.declared.tree.ContractTree.{ContractTree}
 
 abbrev pub bare_text : Text → Text
 bare_text t = record { bytes = t.bytes; place = 0 }
@@ -122,5 +122,5 @@ bare_method m =
     }
 
 -- a contract without its places
-abbrev pub without_places : Contract → Contract
+abbrev pub without_places : ContractTree → ContractTree
 without_places c = record { types = map bare_type c.types; methods = map bare_method c.methods }

@@ -4,7 +4,7 @@ use Rattle.cs_lang.specs.declared.tree.Field.{Field}
 use Rattle.cs_lang.specs.declared.tree.Slot.{Slot}
 use Rattle.cs_lang.specs.declared.tree.TypeDef.{TypeDef}
 use Rattle.cs_lang.specs.declared.tree.Method.{Method}
-use Rattle.cs_lang.specs.declared.tree.Contract.{Contract}
+use Rattle.cs_lang.specs.declared.tree.ContractTree.{ContractTree}
 use Rattle.cs_lang_print.specs.Words.{word, ending, each, with_commas}
 use Rattle.cs_lang_print.specs.Expressions.{kind_text}
 use Rattle.cs_lang_print.specs.Statements.{name_text, block_text, statements_text}
@@ -43,5 +43,5 @@ abbrev pub method_text : Method → List ℕ
 method_text m = word (codes "method") ++ (name_text m.name ++ (head_text m ++ body_text m))
 
 -- the text of a contract
-unfoldable pub contract_text : Contract → List ℕ
+unfoldable pub contract_text : ContractTree → List ℕ
 contract_text c = each type_text c.types ++ each method_text c.methods

@@ -46,6 +46,11 @@ comparison_text comparison.GreaterOrEqual = codes ">="
 abbrev pub Appends : {A E Z : Type 0} → Result A E → Vec ℕ Z → Vec ℕ Z → List ℕ → Type 0
 Appends result old new text = OnOk result (new.items ≡ old.items ++ text)
 
+-- new goes on where old ends
+pub record Begins (new old : List ℕ) : Type 0 where
+  pub more : List ℕ
+  pub is : new ≡ old ++ more
+
 -- one text behind the other
 abbrev pub each : {X : Type 0} → (X → List ℕ) → List X → List ℕ
 each text [] = []

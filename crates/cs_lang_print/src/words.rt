@@ -1,7 +1,7 @@
 //! Tokens of a printed text.
-ghost use Rattle.std.specs.Prelude.{◌≡◌, ◌<◌};
+ghost use Rattle.std.specs.Prelude.{◌≡◌, ◌<◌, OnErr};
 ghost use Rattle.std.specs.Fmt.{decimal};
-ghost use Rattle.cs_lang_print.specs.Words.{word, ending, hex_digit, hex_text, quoted, operator_text, comparison_text, Appends};
+ghost use Rattle.cs_lang_print.specs.Words.{word, ending, hex_digit, hex_text, quoted, operator_text, comparison_text, Appends, Begins};
 
 use cs_lang::{Comparison, Operator};
 use std::alloc::{AllocError, Global};
@@ -9,7 +9,8 @@ use std::alloc::{AllocError, Global};
 /// A token on a line, and a space.
 #[tactic(auto, unfolding(crate::specs::Words::word))]
 pub fn put_word(token: &[u8], out: &mut Vec<u8>) -> Result<(), AllocError>
-    ensures { Appends result out.old out.new (word token.now) }
+    ensures text { Appends result out.old out.new (word token.now) }
+    ensures front { OnErr result (Begins out.new.items out.old.items) }
 {
     out.extend_from_slice(token)?;
     out.extend_from_slice(b" ")
@@ -18,7 +19,8 @@ pub fn put_word(token: &[u8], out: &mut Vec<u8>) -> Result<(), AllocError>
 /// The last token of a line, and a break.
 #[tactic(auto, unfolding(crate::specs::Words::ending))]
 pub fn put_ending(token: &[u8], out: &mut Vec<u8>) -> Result<(), AllocError>
-    ensures { Appends result out.old out.new (ending token.now) }
+    ensures text { Appends result out.old out.new (ending token.now) }
+    ensures front { OnErr result (Begins out.new.items out.old.items) }
 {
     out.extend_from_slice(token)?;
     out.extend_from_slice(b"\n")
@@ -38,7 +40,8 @@ fn hex_digit(number: u8) -> u8
 
 /// Two hex digits for each byte.
 fn put_hex(bytes: &[u8], out: &mut Vec<u8>) -> Result<(), AllocError>
-    ensures { Appends result out.old out.new (hex_text bytes.now) }
+    ensures text { Appends result out.old out.new (hex_text bytes.now) }
+    ensures front { OnErr result (Begins out.new.items out.old.items) }
 {
     for byte in bytes {
         let digits = [hex_digit(*byte / 16), hex_digit(*byte % 16)];
@@ -50,7 +53,8 @@ fn put_hex(bytes: &[u8], out: &mut Vec<u8>) -> Result<(), AllocError>
 /// A byte text on a line.
 #[tactic(auto, unfolding(crate::specs::Words::quoted))]
 pub fn put_quoted(bytes: &[u8], out: &mut Vec<u8>) -> Result<(), AllocError>
-    ensures { Appends result out.old out.new (quoted bytes.now) }
+    ensures text { Appends result out.old out.new (quoted bytes.now) }
+    ensures front { OnErr result (Begins out.new.items out.old.items) }
 {
     out.extend_from_slice(b"x\"")?;
     put_hex(bytes, out)?;
@@ -58,8 +62,10 @@ pub fn put_quoted(bytes: &[u8], out: &mut Vec<u8>) -> Result<(), AllocError>
 }
 
 /// A number on a line.
+#[tactic(auto, using(crate::proofs::Begun::unchanged))]
 pub fn put_number(alloc: Global, number: u64, out: &mut Vec<u8>) -> Result<(), AllocError>
-    ensures { Appends result out.old out.new (word (decimal number)) }
+    ensures text { Appends result out.old out.new (word (decimal number)) }
+    ensures front { OnErr result (Begins out.new.items out.old.items) }
 {
     let text = format!(in alloc; "{number}")?;
     put_word(text.as_bytes(), out)
@@ -67,7 +73,8 @@ pub fn put_number(alloc: Global, number: u64, out: &mut Vec<u8>) -> Result<(), A
 
 /// An operator on a line.
 pub fn put_operator(operator: Operator, out: &mut Vec<u8>) -> Result<(), AllocError>
-    ensures { Appends result out.old out.new (word (operator_text operator)) }
+    ensures text { Appends result out.old out.new (word (operator_text operator)) }
+    ensures front { OnErr result (Begins out.new.items out.old.items) }
 {
     match operator {
         Operator::Or => put_word(b"or", out),
@@ -82,7 +89,8 @@ pub fn put_operator(operator: Operator, out: &mut Vec<u8>) -> Result<(), AllocEr
 
 /// A comparison on a line.
 pub fn put_comparison(comparison: Comparison, out: &mut Vec<u8>) -> Result<(), AllocError>
-    ensures { Appends result out.old out.new (word (comparison_text comparison)) }
+    ensures text { Appends result out.old out.new (word (comparison_text comparison)) }
+    ensures front { OnErr result (Begins out.new.items out.old.items) }
 {
     match comparison {
         Comparison::Equal => put_word(b"==", out),

@@ -4,3 +4,6 @@ pub mod RuleLaws
 pub mod Lexed
 pub mod Runs
 pub mod TextLaws
+pub mod Spans
+pub mod Gives
+pub mod Sources

@@ -2,6 +2,7 @@
 use Rattle.std.specs.Prelude.{ℕ, Bool, true, false, nat_le, not, ◌&&◌, ◌||◌, List, [], ◌∷◌, ◌++◌, length, is_some, Option, None, Some, Ok, if◌then◌else◌}
 use Rattle.std.specs.List.{list_any}
 use Rattle.std.specs.Str.{bytes_eq}
+use Rattle.cs_lang_token.specs.declared.limits.TheConstants.{MOST_FIELDS, MOST_TYPES}
 use Rattle.cs_lang_token.specs.Grammar.{◌>>=◌}
 use Rattle.cs_lang.specs.declared.tree.Field.{Field}
 use Rattle.cs_lang.specs.declared.tree.Slot.{Slot}
@@ -21,19 +22,19 @@ use Rattle.cs_types_kinds.specs.Lookups.{type_number, declared_kind}
 abbrev pub is_field : List ℕ → Field → Bool
 is_field name f = bytes_eq f.name.bytes name
 
--- at most 16 fields, of distinct names
+-- so many fields at most, of distinct names
 abbrev pub field_told : List Field → Field → Told (List Field)
 field_told before f =
-    if nat_le 16 (length before) || list_any (is_field f.name.bytes) before then mistyped f.name.place
+    if nat_le MOST_FIELDS (length before) || list_any (is_field f.name.bytes) before then mistyped f.name.place
     else declared_kind f.name.place f.kind >>= λ k. Ok (before ++ f ∷ [])
 
 abbrev pub fields_told : List Field → Told (List Field)
 fields_told = through field_told []
 
--- at most 64 types, of distinct names
+-- so many types at most, of distinct names
 abbrev pub type_told : List TypeDef → TypeDef → Told (List TypeDef)
 type_told before t =
-    if nat_le 64 (length before) || is_some (type_number t.name.bytes before) then mistyped t.name.place
+    if nat_le MOST_TYPES (length before) || is_some (type_number t.name.bytes before) then mistyped t.name.place
     else fields_told t.fields >>= λ fields. Ok (before ++ t ∷ [])
 
 abbrev pub types_told : List TypeDef → Told (List TypeDef)

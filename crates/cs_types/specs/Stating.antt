@@ -2,6 +2,7 @@
 use Rattle.std.specs.Prelude.{ℕ, ◌*◌, min, max, Bool, true, false, nat_lt, ◌==◌, ◌&&◌, ◌||◌, List, [], ◌∷◌, ◌++◌, length, slice_get, is_some, Option, None, Some, Ok, if◌then◌else◌}
 use Rattle.std.specs.List.{list_any}
 use Rattle.std.specs.Str.{bytes_eq}
+use Rattle.cs_lang_token.specs.declared.limits.TheConstants.{LIST_TURNS, MOST_TURNS}
 use Rattle.cs_lang_token.specs.Grammar.{◌>>=◌}
 use Rattle.cs_lang_token.specs.declared.token.Text.{Text}
 use Rattle.cs_lang.specs.declared.tree.Field.{Field}
@@ -103,22 +104,22 @@ if_else_judged condition block other sight =
     other sight >>= λ e.
     Ok (plus cost (max d e), sight.names)
 
--- a loop over a list that is judged and begins there; it is counted with 64 items
+-- a loop over a list that is judged and begins there; it is counted with as many items as it may have
 abbrev pub for_in_told : Text → Told Judged → ℕ → Blocked → Stated
 for_in_told name told first each sight =
     if is_taken sight name then mistyped name.place
     else told >>= λ j.
     or_first first (item_of j.kind) >>= λ k.
     turn_judged name k each sight >>= λ d.
-    Ok (plus j.cost (turns 64 d), sight.names)
+    Ok (plus j.cost (turns LIST_TURNS d), sight.names)
 
 abbrev pub for_in_judged : Text → (InSight → Part) → Blocked → Stated
 for_in_judged name list each sight = for_in_told name (list sight).found (list sight).first each sight
 
--- at most 1,024 turns
+-- so many turns at most
 abbrev pub for_to_judged : Text → ℕ → Blocked → ℕ → Stated
 for_to_judged name count each place sight =
-    if nat_lt 1024 count then mistyped place
+    if nat_lt MOST_TURNS count then mistyped place
     else if is_taken sight name then mistyped name.place
     else turn_judged name int each sight >>= λ d. Ok (turns count d, sight.names)
 

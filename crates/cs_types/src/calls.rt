@@ -132,7 +132,7 @@ pub fn call_statement(
     ensures { Adds result scope.old scope.new
         (call_judged names.now method.now (parts arguments.now) place scope.old) }
 {
-    if scope.in_check() || scope.starred() {
+    if scope.in_check() || scope.is_starred() {
         return Err(TypeError::Mistyped(place));
     }
     let methods = scope.contract().methods.as_slice();

@@ -6,13 +6,14 @@ ghost use Rattle.cs_types.specs.Accepted.{judged_costs, first_dear, IsAccepted, 
 use crate::declarations::check_types;
 use crate::methods::methods;
 use cs_base::Sequence;
-use cs_lang::Contract;
+use cs_lang::{Contract, ContractTree};
 use cs_lang_token::MOST_COST;
 use cs_types_kinds::{Costs, TypeError};
 use std::alloc::Global;
 use std::marker::Model;
 
-/// A contract that is well typed and whose bodies cost little enough, with the costs of its methods.
+/// A contract that is well typed and whose bodies cost little enough, with the costs of its
+/// methods.
 #[derive(Drop)]
 pub struct Checked {
     contract: Contract,
@@ -69,7 +70,7 @@ fn first_dear(costs: &[Costs]) -> Option<u64>
 }
 
 /// The costs of the methods of a contract that is well typed.
-fn judged_costs(alloc: Global, contract: &Contract) -> Result<Sequence<Costs>, TypeError>
+fn judged_costs(alloc: Global, contract: &ContractTree) -> Result<Sequence<Costs>, TypeError>
     ensures { AnswersTold result (judged_costs contract.now) }
 {
     check_types(contract.types.as_slice())?;
@@ -82,7 +83,7 @@ fn judged_costs(alloc: Global, contract: &Contract) -> Result<Sequence<Costs>, T
 pub fn accept(alloc: Global, contract: Contract) -> Result<Checked, TypeError>
     ensures { Accepts contract result }
 {
-    let costs = judged_costs(alloc, &contract)?;
+    let costs = judged_costs(alloc, contract.tree())?;
     if let Some(cost) = first_dear(costs.as_slice()) {
         return Err(TypeError::Cost(cost));
     }

@@ -8,7 +8,7 @@ use crate::calls::takes_many;
 use crate::declarations::add_names;
 use crate::statements::block;
 use cs_base::Sequence;
-use cs_lang::{Block, Contract, Method};
+use cs_lang::{Block, ContractTree, Method};
 use cs_lang_token::MOST_METHODS;
 use cs_types_kinds::{Costs, Scope, TypeError, method_number};
 use std::alloc::Global;
@@ -50,7 +50,7 @@ fn method(
 }
 
 /// The costs of the methods of a contract.
-pub fn methods(alloc: Global, contract: &Contract) -> Result<Sequence<Costs>, TypeError>
+pub fn methods(alloc: Global, contract: &ContractTree) -> Result<Sequence<Costs>, TypeError>
     ensures { AnswersTold result (methods_told contract.now) }
 {
     let mut scope = Scope::new(alloc, contract);

@@ -1,5 +1,5 @@
-//! Texts that can be read, with what accepting them gives and the costs of each method's procedure and check, from an
-//! independent implementation.
+//! Texts that can be read, with what accepting them gives and the costs of each method's procedure
+//! and check, from an independent implementation.
 use crate::TypeError;
 
 /// A text, what accepting it gives, and the costs.

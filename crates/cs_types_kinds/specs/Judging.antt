@@ -1,5 +1,6 @@
 -- Kinds and costs of expressions, from those of their parts.
 use Rattle.std.specs.Prelude.{ℕ, Bool, true, false, nat_lt, ◌&&◌, ◌||◌, List, length, Option, None, Some, Ok, if◌then◌else◌}
+use Rattle.cs_lang_token.specs.declared.limits.TheConstants.{MOST_ITEMS}
 use Rattle.cs_lang_token.specs.Grammar.{◌>>=◌}
 use Rattle.cs_lang_token.specs.declared.token.Text.{Text}
 use Rattle.cs_lang.specs.declared.tree.ValueKind.{ValueKind}
@@ -55,7 +56,9 @@ method_judged place (Some number) = judged bool 1
 -- whether a dep called a method
 abbrev pub called_judged : InSight → Text → ℕ → Told Judged
 called_judged sight name place =
-    if sight.in_check then method_judged name.place (method_number name.bytes sight.contract.methods) else mistyped place
+    if sight.in_check
+    then method_judged name.place (method_number name.bytes sight.contract.methods)
+    else mistyped place
 
 -- a returned value of a dep
 abbrev pub depint_judged : InSight → ℕ → Told Judged
@@ -96,9 +99,12 @@ abbrev pub items_judged : ℕ → Option Items → Told Judged
 items_judged place None = mistyped place
 items_judged place (Some items) = judged items.list (plus items.sum 1)
 
--- one to 64 items of one kind
+-- items of one kind, of which there is one at least
 abbrev pub list_judged : List Part → ℕ → Told Judged
-list_judged parts place = if nat_lt 64 (length parts) then mistyped place else all_items place parts >>= items_judged place
+list_judged parts place =
+    if nat_lt MOST_ITEMS (length parts)
+    then mistyped place
+    else all_items place parts >>= items_judged place
 
 -- ---- of one or two parts
 

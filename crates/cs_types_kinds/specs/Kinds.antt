@@ -1,5 +1,6 @@
 -- Kinds of values.
 use Rattle.std.specs.Prelude.{◌+◌, ◌-◌, Bool, true, false, nat_lt, ◌==◌, ◌&&◌, ◌||◌, Option, None, Some, option_and_then, if◌then◌else◌}
+use Rattle.cs_lang_token.specs.declared.limits.TheConstants.{MOST_LISTS}
 use Rattle.cs_lang.specs.declared.tree.ValueKind.{ValueKind}
 use Rattle.cs_lang.specs.declared.tree.ValueKind.TheOpen.{ValueKind-F}
 use Rattle.cs_lang.specs.declared.tree.ValueKind.TheFolds.{fold-ValueKind}
@@ -29,9 +30,9 @@ same_kind (kind.Object n) (kind.Object m) = n == m
 same_kind (kind.Objects n) (kind.Objects m) = n == m
 same_kind _ _ = false
 
--- a list of such values; lists nest at most 4 deep, and objects are no values
+-- a list of such values, where lists nest no deeper than they may; objects are no values
 abbrev pub list_of : Kind → Option Kind
-list_of (kind.Value b lists) = if nat_lt lists 4 then Some (kind.Value b (lists + 1)) else None
+list_of (kind.Value b lists) = if nat_lt lists MOST_LISTS then Some (kind.Value b (lists + 1)) else None
 list_of _ = None
 
 -- an item of a list, or one of several objects

@@ -2,7 +2,7 @@
 use Rattle.std.specs.Prelude.{ℕ, Bool, List, [], ◌∷◌, position, slice_get, Option, None, Some, Ok, if◌then◌else◌}
 use Rattle.std.specs.Str.{bytes_eq}
 use Rattle.cs_lang_token.specs.declared.token.Text.{Text}
-use Rattle.cs_lang.specs.declared.tree.Contract.{Contract}
+use Rattle.cs_lang.specs.declared.tree.ContractTree.{ContractTree}
 use Rattle.cs_lang.specs.declared.tree.TypeDef.{TypeDef}
 use Rattle.cs_lang.specs.declared.tree.Method.{Method}
 use Rattle.cs_lang.specs.declared.tree.Field.{Field}
@@ -46,5 +46,5 @@ field_in name None = unbound name.place
 field_in name (Some t) = named_field name t.fields
 
 -- the kind of a field of the type with this number
-abbrev pub field_kind : Contract → ℕ → Text → Told Kind
+abbrev pub field_kind : ContractTree → ℕ → Text → Told Kind
 field_kind contract number name = field_in name (slice_get contract.types number)

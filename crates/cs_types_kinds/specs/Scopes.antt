@@ -2,7 +2,7 @@
 use Rattle.std.specs.Prelude.{ℕ, Bool, true, false, not, ◌&&◌, List, [], ◌∷◌, ◌++◌, Option, None, Some, if◌then◌else◌}
 use Rattle.std.specs.List.{list_any}
 use Rattle.std.specs.Str.{bytes_eq}
-use Rattle.cs_lang.specs.declared.tree.Contract.{Contract}
+use Rattle.cs_lang.specs.declared.tree.ContractTree.{ContractTree}
 use Rattle.cs_types_kinds.specs.declared.kind.Kind.{Kind}
 use Rattle.cs_types_kinds.specs.declared.scope.Use.{Use}
 use Rattle.cs_types_kinds.specs.declared.scope.Use.TheVariants as usage
@@ -12,14 +12,14 @@ use Rattle.cs_types_kinds.specs.declared.scope.Costs.{Costs}
 
 -- Where a part of a method stands.
 pub record InSight : Type 0 where
-  pub contract : Contract
+  pub contract : ContractTree
   pub costs : List Costs  -- of the methods above
   pub starred : Bool  -- the method consumes or reads any number of objects
   pub in_check : Bool
   pub names : List Entry
 
 -- above the first method
-abbrev pub at_top : Contract → InSight
+abbrev pub at_top : ContractTree → InSight
 at_top contract = record { contract = contract; costs = []; starred = false; in_check = false; names = [] }
 
 -- a created slot of a procedure is out of sight

@@ -4,7 +4,7 @@ ghost use Rattle.cs_types_kinds.specs.Lookups.{type_number, method_number, decla
 
 use crate::fault::TypeError;
 use crate::kind::{Kind, kind_of};
-use cs_lang::{Contract, Field, Method, Text, TypeDef, ValueKind};
+use cs_lang::{ContractTree, Field, Method, Text, TypeDef, ValueKind};
 
 /// The number of the type of this name.
 pub fn type_number(types: &[TypeDef], name: &[u8]) -> Option<usize>
@@ -54,7 +54,7 @@ fn named_field(fields: &[Field], name: &Text) -> Result<Kind, TypeError>
 }
 
 /// The kind of a field of the type with this number.
-pub fn field_kind(contract: &Contract, number: usize, name: &Text) -> Result<Kind, TypeError>
+pub fn field_kind(contract: &ContractTree, number: usize, name: &Text) -> Result<Kind, TypeError>
     ensures { result ≡ field_kind contract.now number name.now }
 {
     match contract.types.as_slice().get(number) {

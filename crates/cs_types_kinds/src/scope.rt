@@ -5,7 +5,7 @@ ghost use Rattle.cs_types_kinds.specs.Scopes.{at_top, in_sight, is_seen, is_crea
 use crate::fault::TypeError;
 use crate::kind::Kind;
 use cs_base::Sequence;
-use cs_lang::Contract;
+use cs_lang::ContractTree;
 use std::alloc::Global;
 use std::marker::Model;
 
@@ -94,7 +94,7 @@ fn created_in(entries: &[Entry], name: &[u8]) -> Option<Seen>
 /// What is in sight at a place of a contract, and what the methods above cost.
 #[derive(Drop)]
 pub struct Scope<'a> {
-    contract: &'a Contract,
+    contract: &'a ContractTree,
     costs: Vec<Costs>,
     starred: bool,
     in_check: bool,
@@ -117,7 +117,7 @@ impl<'a> Model for Scope<'a> {
 
 impl<'a> Scope<'a> {
     /// The scope above the first method.
-    pub fn new(alloc: Global, contract: &'a Contract) -> Self
+    pub fn new(alloc: Global, contract: &'a ContractTree) -> Self
         ensures { result ≡ at_top contract.now }
     {
         Scope {
@@ -130,7 +130,7 @@ impl<'a> Scope<'a> {
     }
 
     /// The contract.
-    pub fn contract(&self) -> &'a Contract
+    pub fn contract(&self) -> &'a ContractTree
         ensures { result.now ≡ self.now.contract }
     {
         self.contract
@@ -151,7 +151,7 @@ impl<'a> Scope<'a> {
     }
 
     /// Whether the method consumes or reads any number of objects.
-    pub fn starred(&self) -> bool
+    pub fn is_starred(&self) -> bool
         ensures { result ≡ self.now.starred }
     {
         self.starred

@@ -9,7 +9,7 @@ use Rattle.cs_lang_token.specs.declared.kind.Kind.TheVariants as kind
 use Rattle.cs_lang_token.specs.Kinds.{is}
 use Rattle.cs_lang_token.specs.Grammar.{Mark, Within, Rule, pair, mapped, either, nothing, many, links}
 use Rattle.cs_lang_token.specs.Rules.{sign, name, bytes, number, joined, with_item, all_of, commas}
-use Rattle.cs_lang_print.proofs.Lexed.{IsWord, AllBytes}
+use Rattle.cs_lang_token.proofs.Spans.{IsWord, AllBytes}
 
 -- what holds of each token of a text
 pub record IsToken (t : Token) : Type 0 where

@@ -13,8 +13,8 @@ use Rattle.cs_lang_token.specs.Kinds.{code, among, is}
 use Rattle.cs_lang_token.specs.Grammar.{Mark, plain, ◌>>=◌}
 use Rattle.cs_lang_token.specs.Tokens.{is_digit, is_letter, is_name_character, is_hex, run_length, kind_of_value_word, kind_of_logic_word, kind_of_statement_word, kind_of_word, word_at, number_from, number_at, hex_value, hex_bytes, is_first, quoted_at, byte_text_at, operator_sign, one_sign, two_sign, signed, sign_at, lexeme_at, blank_length, token_of, token_piece, piece_at, after_piece, tokens_from, tokens_of}
 use Rattle.cs_base.specs.Options.{or_else}
-use Rattle.cs_lang_print.proofs.Lexed.{IsWord, AllBytes, and_second, run_most, all_run, starts_run}
-use Rattle.cs_lang_print.proofs.Gives.{IsToken, Fine}
+use Rattle.cs_lang_token.proofs.Spans.{IsWord, AllBytes, and_second, run_most, all_run, starts_run}
+use Rattle.cs_lang_token.proofs.Gives.{IsToken, Fine}
 
 bool_cases : (b : Bool) → (b ≡ true) ⊎ (b ≡ false)
 bool_cases true = inl refl
