@@ -16,7 +16,8 @@ use std::marker::Model;
 
 /// The changes of the members to the views of a slot, the first of each member to each view.
 ///
-/// A call takes a number of steps that grows as the logarithm of the changes.
+/// Finding a change takes the logarithm of their number. `add` also goes over the views that the member newly reached,
+/// so over each at most once in the life of a slot; `safe` goes over the members once for each of about ten views.
 #[derive(Drop)]
 pub struct SlotChanges {
     f: u16,

@@ -3,8 +3,8 @@ ghost use Rattle.std.specs.Prelude.{◌≡◌, ◌↔◌, IsTrue};
 
 use crate::Digest;
 
-/// Whether two digests are equal. It looks at every byte, wherever they differ first, so that how
-/// long it takes tells nothing of a tag.
+/// Whether two digests are equal. It looks at every byte, wherever they differ first, lest the time it takes tell
+/// of a tag; what a compiler makes of that is not proved.
 pub fn same(a: &Digest, b: &Digest) -> bool
     ensures { IsTrue result ↔ (a.now ≡ b.now) }
 {

@@ -8,8 +8,8 @@ use Rattle.cs_order.specs.declared.proposed.Proposed.{Proposed}
 use Rattle.cs_order_rules.specs.declared.message.OrderMessage.{OrderMessage}
 use Rattle.cs_order_rules.specs.Facts.{Facts, Sight, slot_of}
 use Rattle.cs_order_open.specs.Shows.{KeptOpenSlot, Shows, ShowsNext, TakesFirst, with_fact}
-use Rattle.cs_order_open.specs.Later.{at_slot}
-use Rattle.cs_order_open.specs.laws.Reopening.{of_facts, shows_all, shows_more}
+use Rattle.cs_order_open.specs.OneSlot.{at_slot}
+use Rattle.cs_order_open.specs.laws.OneSlot.{of_facts, shows_all, shows_more}
 use Rattle.cs_log.specs.Later.{NoneFrom, ShowLater}
 use Rattle.cs_log.specs.Replicas.{if_fresh}
 

@@ -13,7 +13,7 @@ use Rattle.cs_order_law.specs.laws.SlotFacts.{first_of_is, change_said_is}
 use Rattle.cs_order_law.specs.Terms.{Within}
 use Rattle.cs_order_open.specs.Shows.{KeptOpenSlot, Shows, TakesFirst, IsOf, with_fact, led}
 use Rattle.cs_order_open.specs.laws.Seeing.{took_is_found, like_proposal, like_echo, like_confirm, like_change}
-use Rattle.cs_order_open.specs.laws.Reopening.{shows_more}
+use Rattle.cs_order_open.specs.laws.OneSlot.{shows_more}
 use Rattle.cs_log.specs.Replicas.{KeptReplica, Mirrors, IsSeen, longest_wait, at_first, said, entered, chose, waited, if_fresh}
 use Rattle.cs_log.specs.Later.{ShowLater, MayTake}
 use Rattle.cs_log.proofs.LaterSlots.{moved, moved_later, more_later, slot_at, takes_at}

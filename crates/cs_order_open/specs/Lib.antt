@@ -1,4 +1,4 @@
 pub mod Shows
 pub mod Look
-pub mod Later
+pub mod OneSlot
 pub mod laws

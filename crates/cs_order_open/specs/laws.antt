@@ -1,3 +1,3 @@
 pub mod Seeing
 pub mod Looking
-pub mod Reopening
+pub mod OneSlot

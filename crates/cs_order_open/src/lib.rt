@@ -3,11 +3,11 @@
 
 mod current;
 mod lines;
+mod message;
 mod pairs;
-mod reopening;
 
 pub use current::OpenSlot;
-pub use reopening::{reopen, slot_of};
+pub use message::slot_of;
 
 #[cfg(test)]
 mod tests;

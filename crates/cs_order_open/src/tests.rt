@@ -1,6 +1,5 @@
 //! What a member makes of one message.
 use crate::current::OpenSlot;
-use crate::reopening::reopen;
 use cs_base::{Memory, Sequence};
 use cs_order::{May, Proposed};
 use cs_order_rules::{Change, OrderMessage};
@@ -86,9 +85,8 @@ fn a_member_alone_proposes(rt: HostRuntime) -> Result<(), Fail> {
 
 #[test]
 fn a_slot_opens_with_nothing_taken(rt: HostRuntime) -> Result<(), Fail> {
-    let alloc = rt.alloc();
-    let (current, rest) = reopen(alloc, 1, 3, 0, Vec::new(alloc))?;
-    assert!(rt; rest.is_empty());
+    let current = OpenSlot::new(rt.alloc(), 1, 3, 0)?;
     assert!(rt; !current.has_echoed());
+    assert_eq!(rt; current.own_confirm(), None);
     Ok(())
 }

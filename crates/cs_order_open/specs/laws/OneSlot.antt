@@ -1,5 +1,5 @@
--- The messages of the next slot show what was taken of it.
-use Rattle.std.proofs.Common.{◌≡◌, ℕ, ◌+◌, ◌%◌, ◌==◌, nat_lt, Bool, true, false, ◌&&◌, ◌||◌, if◌then◌else◌, List, [], ◌∷◌, ◌++◌, Option, None, refl, sym, ap, ◌∙◌}
+-- The messages of a slot show what was taken of it.
+use Rattle.std.proofs.Common.{◌≡◌, ℕ, ◌+◌, ◌%◌, ◌==◌, Bool, true, false, ◌&&◌, ◌||◌, if◌then◌else◌, List, [], ◌∷◌, ◌++◌, Option, None, refl, sym, ap, ◌∙◌}
 use Rattle.std.proofs.Math.Path.{fun_ext}
 use Rattle.cs_order.specs.Counts.{when}
 use Rattle.cs_base.specs.Options.{or_else}
@@ -9,7 +9,7 @@ use Rattle.cs_order_rules.specs.Facts.{Facts, Sight, members, slot_of, proposal_
 use Rattle.cs_order_rules.specs.Rules.{seen_at, proposal_at, echoed_in, with_line}
 use Rattle.cs_order_open.specs.Shows.{KeptOpenSlot, Shows, with_fact}
 use Rattle.cs_order_open.specs.laws.Seeing.{passed, passed_test}
-use Rattle.cs_order_open.specs.Later.{above, at_slot, MayBeTaken, AllTaken}
+use Rattle.cs_order_open.specs.OneSlot.{at_slot}
 
 other_number : (a b : ℕ) → (a == b) ≡ false → (v w : ℕ) → ((a == b) && (w == v)) ≡ false
 other_number a b h v w = rw h refl
@@ -128,38 +128,3 @@ shows_all k s n view facts shows =
       echoed = shows.echoed ∙ listed_at s.me n facts;
       led_only = λ v m other. sym (found_at n (proposal_said n v) (no_proposal n v) facts m) ∙ shows.led_only v m other;
     }
-
--- what was not taken at all was not taken of a slot, nor of later ones
-or_left : (a b : Bool) → (a || b) ≡ false → a ≡ false
-or_left true b h = h
-or_left false b h = refl
-
-or_right : (a b : Bool) → (a || b) ≡ false → b ≡ false
-or_right true b h = absurd (let e = h in cc)
-or_right false b h = h
-
-fewer_by : (b : Bool) (test : OrderMessage → Bool) (fact : ℕ × OrderMessage) (part : Facts) (member : ℕ) → ((fact.0 == member) && test fact.1) ≡ false → took test part member ≡ false → took test (if b then fact ∷ part else part) member ≡ false
-fewer_by true test fact part member first rest = rw (first, rest) refl
-fewer_by false test fact part member first rest = rest
-
-pub fewer_at : (n : ℕ) (test : OrderMessage → Bool) (facts : Facts) (member : ℕ) → took test facts member ≡ false → took test (at_slot n facts) member ≡ false
-fewer_at n test [] member h = refl
-fewer_at n test (fact ∷ facts) member h = fewer_by (slot_of fact.1 == n) test fact (at_slot n facts) member (or_left ((fact.0 == member) && test fact.1) (took test facts member) h) (fewer_at n test facts member (or_right ((fact.0 == member) && test fact.1) (took test facts member) h))
-
-pub fewer_above : (n : ℕ) (test : OrderMessage → Bool) (facts : Facts) (member : ℕ) → took test facts member ≡ false → took test (above n facts) member ≡ false
-fewer_above n test [] member h = refl
-fewer_above n test (fact ∷ facts) member h = fewer_by (nat_lt n (slot_of fact.1)) test fact (above n facts) member (or_left ((fact.0 == member) && test fact.1) (took test facts member) h) (fewer_above n test facts member (or_right ((fact.0 == member) && test fact.1) (took test facts member) h))
-
-all_by : (b : Bool) (f me : ℕ) (fact : ℕ × OrderMessage) (facts part : Facts) → MayBeTaken f me fact.0 fact.1 facts → took (is_like fact.1) part fact.0 ≡ false → AllTaken f me part → AllTaken f me (if b then fact ∷ part else part)
-all_by true f me fact facts part may fresh all = (record { member = may.member; other = may.other; leads = may.leads; fresh = fresh }, all)
-all_by false f me fact facts part may fresh all = all
-
--- what is kept for later slots may still be taken
-pub all_above : (f me n : ℕ) (facts : Facts) → AllTaken f me facts → AllTaken f me (above n facts)
-all_above f me n [] all = all
-all_above f me n (fact ∷ facts) all = all_by (nat_lt n (slot_of fact.1)) f me fact facts (above n facts) all.0 (fewer_above n (is_like fact.1) facts fact.0 all.0.fresh) (all_above f me n facts all.1)
-
--- those that come after a front
-pub all_after : (f me : ℕ) (front facts : Facts) → AllTaken f me (front ++ facts) → AllTaken f me facts
-all_after f me [] facts all = all
-all_after f me (fact ∷ front) facts all = all_after f me front facts all.1
