@@ -1,5 +1,5 @@
 //! Writing fields one after the other.
-ghost use Rattle.std.specs.Prelude.{◌≡◌, ◌++◌, ◌∷◌, [], OnOk, OnErr};
+ghost use Rattle.std.specs.Prelude.{◌≡◌, ◌++◌, ◌∷◌, [], IfOk, OnOk, OnErr};
 ghost use Rattle.std.specs.Int.{w16, w32, w64, to_be_bytes};
 
 use crate::memory::Memory;
@@ -28,6 +28,14 @@ impl Writer {
         Writer {
             bytes: Vec::new(alloc),
         }
+    }
+
+    /// A writer with nothing written, which takes the room for so many bytes at once.
+    pub fn with_room(alloc: Global, room: usize) -> Result<Writer, Memory>
+        ensures { IfOk result (λ writer. writer ≡ []) }
+    {
+        let bytes = Vec::with_capacity(alloc, room)?;
+        Ok(Writer { bytes })
     }
 
     /// Appends a byte.

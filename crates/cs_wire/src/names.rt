@@ -11,6 +11,9 @@ use cs_hash::tag;
 use cs_tx_value::Digest;
 use std::alloc::Global;
 
+/// The bytes of the text of a pair.
+const PAIR: usize = 11;
+
 // Adds the names of so many members of a shard.
 fn add_members(names: &mut Sequence<NodeId>, shard: u16, count: u16) -> Result<(), Memory>
     ensures { OnOk result ((name : NodeId)
@@ -48,7 +51,7 @@ fn all_names(alloc: Global, config: &Config) -> Result<Sequence<NodeId>, Memory>
 fn text_of_pair(alloc: Global, from: NodeId, to: NodeId) -> Result<Vec<u8>, Memory>
     ensures { IfOk result (λ text. text.items ≡ pair_text from to) }
 {
-    let mut out = Writer::new(alloc);
+    let mut out = Writer::with_room(alloc, PAIR)?;
     out.take(b"key".as_slice())?;
     write_name(from, &mut out)?;
     write_name(to, &mut out)?;

@@ -12,17 +12,17 @@ ghost use Rattle.cs_wire.specs.declared.sealing.SealError.TheVariants.{NoKey};
 use crate::head::write_name;
 use crate::keys::Keys;
 use crate::sealing::SealError;
-use cs_base::{Memory, NodeId, Writer};
+use cs_base::{LEAST_DATAGRAM, Memory, NodeId, Writer};
 use cs_hash::TagKey;
 use std::alloc::Global;
 
-// What stands before the tag.
+// What stands before the tag, with room for the tag.
 #[tactic(auto, unfolding(crate::specs::Datagram::text_with))]
 fn text(alloc: Global, from: NodeId, to: NodeId, kind: u8, body: &[u8]) -> Result<Vec<u8>, Memory>
     requires { length body.now ≤ MOST_BODY }
     ensures { IfOk result (λ text. text.items ≡ text_with from to kind body.now) }
 {
-    let mut out = Writer::new(alloc);
+    let mut out = Writer::with_room(alloc, LEAST_DATAGRAM + body.len())?;
     out.take(b"CSP1".as_slice())?;
     out.u8(kind)?;
     write_name(from, &mut out)?;
@@ -51,7 +51,7 @@ pub fn datagram(
 }
 
 /// Appends the datagram of any kind and body to a peer: its head and its tag are right, and what it
-/// says may be no message. Where it is refused, nothing is appended.
+/// says may be no message. Where it is refused, nothing is appended. To nothing it is moved.
 pub fn seal_with(
     alloc: Global,
     keys: &Keys,
@@ -69,6 +69,10 @@ pub fn seal_with(
         return Err(SealError::NoKey);
     };
     let bytes = datagram(alloc, &row.to, keys.me, to, kind, body)?;
+    if out.is_empty() {
+        *out = bytes;
+        return Ok(());
+    }
     out.extend_from_slice(&bytes)?;
     Ok(())
 }

@@ -6,9 +6,9 @@ ghost use Rattle.cs_wire.specs.Opens.{Seals};
 ghost use Rattle.cs_wire.specs.declared.sealing.SealError.TheVariants.{NoKey};
 
 use crate::keys::Keys;
-use crate::raw::datagram;
-use cs_base::{Memory, NodeId, Writer};
-use cs_wire_message::{Message, write_body};
+use crate::raw::seal_with;
+use cs_base::{Memory, NodeId};
+use cs_wire_message::{Message, body_of};
 use std::alloc::{AllocError, Global};
 
 /// Why a message isn't sealed.
@@ -41,7 +41,6 @@ impl From<AllocError> for SealError {
 }
 
 /// Appends the datagram that says the message to a peer. Where it is refused, nothing is appended.
-#[tactic(auto, using(cs_wire_message::proofs::Short::body_short))]
 pub fn seal(
     alloc: Global,
     keys: &Keys,
@@ -54,13 +53,9 @@ pub fn seal(
     ensures no_key { IsErrOf result NoKey ↔ (row_of to keys.now ≡ None) }
     ensures err { OnErr result (out.new.items ≡ out.old.items) }
 {
-    let Some(row) = keys.row(to) else {
+    if keys.row(to).is_none() {
         return Err(SealError::NoKey);
-    };
-    let mut body = Writer::new(alloc);
-    write_body(message, &mut body)?;
-    let body = body.into_bytes();
-    let bytes = datagram(alloc, &row.to, keys.me, to, message.kind(), &body)?;
-    out.extend_from_slice(&bytes)?;
-    Ok(())
+    }
+    let body = body_of(alloc, message)?;
+    seal_with(alloc, keys, to, message.kind(), &body, out)
 }

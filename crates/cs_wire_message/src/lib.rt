@@ -7,6 +7,7 @@ mod message;
 mod passing;
 mod reading;
 mod rising;
+mod sizing;
 #[cfg(test)]
 mod tests;
 mod view;
@@ -16,4 +17,4 @@ mod writing;
 pub use change::Change;
 pub use message::Message;
 pub use whole::{bodies_are_short, has_form, message_in};
-pub use writing::write_body;
+pub use writing::{body_of, write_body};

@@ -1,6 +1,6 @@
 //! Bodies that were written by hand, and messages at their limits.
 use super::*;
-use cs_base::{LAST_SLOT, Memory, Sequence, Writer};
+use cs_base::{LAST_SLOT, Memory, Sequence};
 use cs_tx_value::Digest;
 use std::alloc::Global;
 use std::process::Abort;
@@ -75,10 +75,8 @@ fn joined(alloc: Global, parts: &[&[u8]]) -> Result<Vec<u8>, Memory> {
 }
 
 fn written(rt: &impl Abort, alloc: Global, message: &Message) -> Result<Vec<u8>, Fail> {
-    let mut out = Writer::new(alloc);
     assert!(rt; message.fits());
-    write_body(message, &mut out)?;
-    Ok(out.into_bytes())
+    Ok(body_of(alloc, message)?)
 }
 
 // Whether the message in a body has this kind and is written as it was read.

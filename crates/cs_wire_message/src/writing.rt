@@ -1,13 +1,15 @@
 //! Writing bodies.
-ghost use Rattle.std.specs.Prelude.{◌≡◌, ◌++◌, ◌<◌, ◌^◌, ◌∷◌, OnOk, OnErr};
+ghost use Rattle.std.specs.Prelude.{◌≡◌, ◌++◌, ◌<◌, ◌≤◌, ◌^◌, ◌∷◌, length, IfOk, OnOk, OnErr};
+ghost use Rattle.cs_base.specs.declared.limits.TheConstants.{MOST_BODY};
 ghost use Rattle.cs_tx_value.specs.Object.{DigestFits};
 ghost use Rattle.cs_tx_value.specs.Reading.{Begins};
 ghost use Rattle.cs_wire_message.specs.Message.{flag_encoding, step_encoding, prepared_encoding, PairFits, change_encoding, ChangeFits, asked_encoding, AskedFits, body_of, MessageFits};
 
 use crate::change::Change;
 use crate::message::Message;
-use cs_base::{Key, Memory, Writer};
+use cs_base::{Key, MOST_BODY, Memory, Writer};
 use cs_tx_value::{Digest, Encoded, write_counted};
+use std::alloc::Global;
 
 fn write_flag(flag: bool, out: &mut Writer) -> Result<(), Memory>
     ensures ok { OnOk result (out.new ≡ out.old ++ flag_encoding flag) }
@@ -109,4 +111,17 @@ pub fn write_body(message: &Message, out: &mut Writer) -> Result<(), Memory>
         Message::AskProof { slot } => slot.encode(out),
         Message::Proof(proof) => proof.encode(out),
     }
+}
+
+/// The body of a message. It takes its room at once.
+#[tactic(auto, using(crate::proofs::Short::body_short))]
+pub fn body_of(alloc: Global, message: &Message) -> Result<Vec<u8>, Memory>
+    requires { MessageFits message.now }
+    ensures is { IfOk result (λ body. body.items ≡ body_of message.now) }
+    ensures short { IfOk result (λ body. length body.items ≤ MOST_BODY) }
+{
+    let left = message.room(MOST_BODY).unwrap_or(0);
+    let mut out = Writer::with_room(alloc, MOST_BODY - left)?;
+    write_body(message, &mut out)?;
+    Ok(out.into_bytes())
 }
