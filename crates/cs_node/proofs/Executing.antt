@@ -1,14 +1,17 @@
 -- An execution with the node's own vote is what its signs say.
-use Rattle.std.proofs.Common.{◌≡◌, ℕ, Bool, true, false, cond, List, [], ◌∷◌, ◌++◌, Option, Some, None, bytes_eq, is_some, refl, ap, sym, ◌∙◌, arith, append_assoc, append-nil}
+use Rattle.std.proofs.Common.{◌≡◌, ℕ, Bool, true, false, cond, List, [], ◌∷◌, ◌++◌, Option, Some, None, bytes_eq, IsSome, is_some, refl, ap, sym, ◌∙◌, arith, append_assoc, append-nil}
 use Rattle.cs_base.specs.declared.node_id.NodeId.{NodeId}
 use Rattle.cs_tx_form.specs.declared.session.Session.{Session}
 use Rattle.cs_tx_form.specs.declared.vote.Vote.{Vote}
 use Rattle.cs_tx_form.specs.declared.entry.Entry.{Entry}
+use Rattle.cs_tx_form.specs.declared.entry.Entry.TheVariants.{Prepare, Decide}
 use Rattle.cs_ledger.specs.Ledger.{Bytes}
-use Rattle.cs_ledger.specs.Table.{Table, Effect, Voted, Accepted, Aborted, Skipped, Void}
+use Rattle.cs_ledger.specs.Session.{anchor}
+use Rattle.cs_ledger.specs.Table as Chosen
+use Rattle.cs_ledger.specs.Table.{Table, Effect, Voted, Accepted, Aborted, Skipped, Void, Outcome, act}
 use Rattle.cs_node_state.specs.declared.pooled.Pooled.{Pooled}
 use Rattle.cs_wire_message.specs.declared.message.Message.TheVariants as message
-use Rattle.cs_node_state.specs.Setup.{Setup, digest_of, concerned, session_in, vote_from}
+use Rattle.cs_node_state.specs.Setup.{Setup, digest_of, concerned, is_fit, session_in, vote_of, vote_from}
 use Rattle.cs_node_rules.specs.Members.{others}
 use Rattle.cs_node_state.specs.Pool.{Pool, found, is_pooled, changed, with_ballot, as_locked, entering, pushed, entered, entered_locked}
 use Rattle.cs_node_state.specs.Bench.{Bench, Ran, is_locked, pool_after, executed, told_by, told_of, own_pool, bench_executed}
@@ -149,3 +152,18 @@ execution-makes setup me b b' slot entry made mid made' is tells noted silent =
       bench_is = is ∙ sym (ap (λ all. bench_after setup me.shard all b) whole ∙ bench-append setup me.shard signs did b ∙ without-vote setup me x pooled told ran.bench
           ∙ told-bench setup me x ran.effect (is_locked setup me.shard ran.bench.table x) ran.bench.table b.pool pooled refl);
     }
+
+-- ---- a vote is given only on a fit session
+
+-- what is void gives none
+given : (f : Bool) (o void : Outcome) → void.effect ≡ Void → (asks : Outcome → Bool) → IsSome (told_by (cond f o void).effect (asks (cond f o void))) → f ≡ true
+given true o void is asks some = refl
+given false o void is asks some = let none : false ≡ true = sym (ap (λ effect. is_some (told_by effect (asks void))) is) ∙ some in absurd (let q : false ≡ true = none in cc)
+
+pub voted-fit : (setup : Setup) (shard : ℕ) (b : Bench) (entry : Entry) → IsSome (told_of setup shard (session_in entry) (executed setup shard b entry)) → is_fit setup shard (session_in entry) ≡ true
+voted-fit setup shard b (Prepare x) some =
+    given (is_fit setup shard x) (act setup.rules shard b.table (Chosen.Prepare (setup.session_of x)) (anchor setup.rules (setup.session_of x) shard))
+    (record { table = b.table; effect = Void }) refl (λ o. is_locked setup shard o.table x) some
+voted-fit setup shard b (Decide vote x) some =
+    given (is_fit setup shard x) (act setup.rules shard b.table (Chosen.Decide (setup.session_of x) (vote_of vote)) (anchor setup.rules (setup.session_of x) shard))
+    (record { table = b.table; effect = Void }) refl (λ o. is_locked setup shard o.table x) some

@@ -1,5 +1,5 @@
 -- Whoever is opened has a key.
-use Rattle.std.proofs.Common.{◌≡◌, ℕ, Bool, true, false, List, Option, Some, None, Ok, Err, IsSome, refl, ap, subst, nat_lt, bytes_eq, cond, length}
+use Rattle.std.proofs.Common.{◌≡◌, ℕ, ◌-◌, Bool, true, false, List, Option, Some, None, Ok, Err, IsSome, refl, ap, subst, nat_lt, bytes_eq, cond, length, take}
 use Rattle.std.specs.Prelude.{codes}
 use Rattle.cs_base.specs.declared.node_id.NodeId.{NodeId}
 use Rattle.cs_wire_message.specs.declared.message.Message.{Message}
@@ -13,8 +13,13 @@ use Rattle.cs_wire.specs.Datagram.{is_kind, body_in}
 use Rattle.cs_wire.specs.Heads.{head_seen}
 use Rattle.cs_wire.specs.Keys.{row_of}
 use Rattle.cs_base.specs.NodeId.{same_name}
+use Rattle.cs_base.specs.Fields.{IsBytes}
+use Rattle.cs_base.proofs.Forms.{IsBytes-drop, IsBytes-take}
 use Rattle.cs_wire.specs.Opened.{Opened, opened, opened_body, said_by, unless_fault}
-use Rattle.cs_wire.specs.Opens.{unless, keyed_fault, head_fault, fault_of}
+use Rattle.cs_wire.specs.Opens.{Opens, unless, keyed_fault, head_fault, fault_of}
+use Rattle.cs_wire.specs.declared.view.MessageView.{MessageView}
+use Rattle.cs_wire.proofs.Masters.{opened_ok, opened_err}
+use Rattle.cs_node.specs.Speaking.{sender_of}
 
 -- what follows where no test fails
 past-test : (test : Bool) (error : OpenError) (later : Option OpenError) → unless test error later ≡ None → later ≡ None
@@ -53,3 +58,12 @@ by-fault keys bytes sender m None at is = by-head keys bytes sender m (head_seen
 
 pub opener-held : (keys : Keys) (bytes : List ℕ) (sender : NodeId) (m : Message) → opened keys bytes ≡ Ok (sender, m) → IsSome (row_of sender keys)
 opener-held keys bytes sender m is = by-fault keys bytes sender m (fault_of keys bytes) refl is
+
+-- ---- as whom bytes open
+
+pub sender-found : (keys : Keys) (bytes : List ℕ) (found : NodeId × MessageView) → Opens keys bytes (Ok found) → Some found.0 ≡ sender_of (opened keys bytes)
+sender-found keys bytes found o = ap sender_of (opened_ok keys bytes found o.0 o o.2)
+
+pub sender-none : (keys : Keys) (bytes : List ℕ) (e : OpenError) → IsBytes bytes → Opens keys bytes (Err e) → None ≡ sender_of (opened keys bytes)
+sender-none keys bytes e byte o =
+    ap sender_of (opened_err keys bytes e (IsBytes-drop 17 (take (length bytes - 32) bytes) (IsBytes-take (length bytes - 32) bytes byte)) o)

@@ -8,9 +8,8 @@ use Rattle.cs_wire_message.specs.Message.{kind_of, body_of, MessageFits}
 use Rattle.cs_wire.specs.declared.input.Out.{Out}
 use Rattle.cs_wire.specs.declared.keys.Keys.{Keys}
 use Rattle.cs_wire.specs.Keys.{row_of}
-use Rattle.cs_wire.specs.Datagram.{sealed as datagram}
-use Rattle.cs_wire.specs.Opens.{Seals}
-use Rattle.cs_wire.proofs.Masters.{sealed_is}
+use Rattle.cs_wire.specs.Datagram.{datagram_with}
+use Rattle.cs_wire.specs.Raw.{SealsWith}
 use Rattle.cs_ledger.specs.Ledger.{Bytes}
 use Rattle.cs_node_rules.specs.Net.{Net, sealed}
 use Rattle.cs_node_rules.specs.Signs.{Sign, Dropped, Took, Entered, Viewed, Did, Sent}
@@ -19,9 +18,14 @@ use Rattle.cs_node.specs.Notes.{AllSaidFit, AllReached, said_of, to_each, spoken
 use Rattle.cs_node.specs.Speaking.{Speaks}
 
 -- what was sealed is the datagram of the net
-pub sealed-so : (config : Config) (net : Net) (keys : Keys) → Speaks config net keys → (to : NodeId) (m : Message) (old bytes : Bytes) → old ≡ [] → Seals keys to m old bytes → bytes ≡ sealed net keys.me to m
-sealed-so config net keys speaks to m old bytes none s =
-    s.is ∙ ap (λ (o : Bytes). o ++ datagram s.row.to keys.me to m) none ∙ sealed_is s.row.to keys.me to m ∙ speaks.seals to s.row s.held (kind_of m) (body_of m)
+pub sealed-so : (config : Config) (net : Net) (keys : Keys) → Speaks config net keys → (to : NodeId) (kind : ℕ) (body old bytes : Bytes) → old ≡ [] → SealsWith keys to kind body old bytes → bytes ≡ net.datagram keys.me to kind body
+sealed-so config net keys speaks to kind body old bytes none s =
+    s.is ∙ ap (λ (o : Bytes). o ++ datagram_with s.row.to keys.me to kind body) none ∙ speaks.seals to s.row s.held kind body
+
+-- and of a message's kind and body it is the message's
+pub written-so : (net : Net) (me to : NodeId) (m : Message) (kind : ℕ) (body : Bytes) → kind ≡ kind_of m → body ≡ body_of m → net.datagram me to kind body ≡ sealed net me to m
+written-so net me to m kind body is-kind is-body =
+    ap (λ (k : ℕ). net.datagram me to k body) is-kind ∙ ap (net.datagram me to (kind_of m)) is-body
 
 pub outs-more : (net : Net) (me : NodeId) (xs ys : List (NodeId × Message)) → outs_for net me (xs ++ ys) ≡ outs_for net me xs ++ outs_for net me ys
 outs-more net me [] ys = refl
@@ -72,6 +76,21 @@ names-sealed net me m outs outs' whole names i d lt grew so-far =
     ∙ append_assoc outs (out ∷ []) (outs_for net me (to_each (drop (i + 1) names) m))
     ∙ ap (λ (rest : List NodeId). outs ++ outs_for net me (to_each rest m)) (sym (drop_more names i d lt))
     ∙ so-far
+
+-- what was written once was sealed for one more, who has a key
+pub name-sealed : (net : Net) (keys : Keys) (m : Message) (kind : ℕ) (body : Bytes) (outs outs' whole : List Out) (names : List NodeId) (i : ℕ) (d : NodeId) → i < length names
+    → kind ≡ kind_of m → body ≡ body_of m
+    → (IsSome (row_of (get_or names i d) keys) → outs' ≡ outs ++ record { to = get_or names i d; bytes = net.datagram keys.me (get_or names i d) kind body } ∷ [])
+    → AllReached keys (to_each (drop i names) m) × (outs ++ outs_for net keys.me (to_each (drop i names) m) ≡ whole)
+    → AllReached keys (to_each (drop (i + 1) names) m) × (outs' ++ outs_for net keys.me (to_each (drop (i + 1) names) m) ≡ whole)
+name-sealed net keys m kind body outs outs' whole names i d lt is-kind is-body grew so-far =
+    let next : IsSome (row_of (get_or names i d) keys) × AllReached keys (to_each (drop (i + 1) names) m) = names-reached keys m names i d lt so-far.0 in
+    let grown : Bytes → List Out = λ bytes. outs ++ record { to = get_or names i d; bytes = bytes } ∷ [] in (
+      next.1,
+      names-sealed net keys.me m outs outs' whole names i d lt
+          (grew next.0 ∙ ap grown (written-so net keys.me (get_or names i d) m kind body is-kind is-body))
+          so-far.1,
+    )
 
 pub rest-sealed : (net : Net) (me : NodeId) (outs outs' whole : List Out) (all : List Said) (i : ℕ) (d : Said) → i < length all → d ≡ get_or all i d
     → outs' ≡ outs ++ outs_for net me (to_each d.to d.message)

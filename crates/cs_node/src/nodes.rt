@@ -25,7 +25,7 @@ use cs_order::Order;
 use cs_sbac::Sbac;
 use cs_table::{Table, TableError};
 use cs_tx::{Judge, Object};
-use cs_wire::{Input, Keys, read};
+use cs_wire::{Input, Keys, open};
 use std::alloc::Global;
 
 /// Why a node can't start.
@@ -110,15 +110,15 @@ impl<O: Carried, J: Judge + Drop> Core<O, J> {
         self.keys.me()
     }
 
-    /// As whom bytes open at this node, if they open.
-    pub fn sender(&self, alloc: Global, bytes: &[u8]) -> Result<Option<NodeId>, Memory>
+    /// As whom bytes open at this node, if they open. It takes no memory.
+    pub fn sender(&self, bytes: &[u8]) -> Option<NodeId>
         ensures { (site : Site O.Message) (v : View O.Message) →
             StandsFor O.stands J.is_approved site self.now v →
-            IfOk result (λ sender. sender ≡ sender_of (site.net.opened v.me bytes.now)) }
+            result ≡ sender_of (site.net.opened v.me bytes.now) }
     {
-        match read(alloc, &self.keys, bytes)? {
-            Ok((sender, _)) => Ok(Some(sender)),
-            Err(_) => Ok(None),
+        match open(&self.keys, bytes) {
+            Ok(found) => Some(found.0),
+            Err(_) => None,
         }
     }
 }

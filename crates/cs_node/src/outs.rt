@@ -1,16 +1,17 @@
 //! What an event has made, with the datagrams that go out.
-ghost use Rattle.std.specs.Prelude.{◌≡◌, ◌++◌, ◌∷◌, [], IfOk, OnOk, IsSome};
+ghost use Rattle.std.specs.Prelude.{◌≡◌, ◌≤◌, ◌++◌, ◌∷◌, [], length, IfOk, OnOk, IsSome};
+ghost use Rattle.cs_base.specs.declared.limits.TheConstants.{MOST_BODY};
 ghost use Rattle.cs_base.specs.declared.config.Config.{Config};
 ghost use Rattle.cs_wire_message.specs.Message.{MessageFits};
 ghost use Rattle.cs_wire.specs.Keys.{row_of};
-ghost use Rattle.cs_node_rules.specs.Net.{Net, sealed};
+ghost use Rattle.cs_node_rules.specs.Net.{Net};
 ghost use Rattle.cs_node.specs.Notes.{AllSaidFit, DraftFits, AllReached, to_each, spoken, outs_for};
 ghost use Rattle.cs_node.specs.Speaking.{Speaks};
 
 use crate::draft::{Draft, Note, Said};
 use cs_base::{Memory, NodeId, Sequence};
-use cs_wire::{Keys, Out, SealError, seal};
-use cs_wire_message::Message;
+use cs_wire::{Keys, Out, SealError, seal_with};
+use cs_wire_message::{Message, body_of};
 use std::alloc::Global;
 
 /// What an input made, the oldest first: what goes out, and what is told.
@@ -20,22 +21,23 @@ pub struct Made {
     pub notes: Sequence<Note>,
 }
 
-// Seals a message for one. A peer without a key gets nothing.
+// Seals a body for one. A peer without a key gets nothing.
 fn add_out(
     alloc: Global,
     keys: &Keys,
     to: NodeId,
-    message: &Message,
+    kind: u8,
+    body: &[u8],
     outs: &mut Sequence<Out>,
 ) -> Result<(), Memory>
-    requires { MessageFits message.now }
+    requires { length body.now ≤ MOST_BODY }
     ensures { (config : Config) (net : Net) →
         Speaks config net keys.now → IsSome (row_of to keys.now) →
-        OnOk result (outs.new ≡
-        outs.old ++ record { to = to; bytes = sealed net keys.now.me to message.now } ∷ []) }
+        let bytes = net.datagram keys.now.me to kind body.now in
+        OnOk result (outs.new ≡ outs.old ++ record { to = to; bytes = bytes } ∷ []) }
 {
     let mut bytes = Vec::new(alloc);
-    match seal(alloc, keys, to, message, &mut bytes) {
+    match seal_with(alloc, keys, to, kind, body, &mut bytes) {
         Ok(()) => {
             outs.push(Out {
                 to,
@@ -48,17 +50,23 @@ fn add_out(
     }
 }
 
-// Seals a message for each of those to whom it is said.
-fn add_outs(alloc: Global, keys: &Keys, said: &Said, outs: &mut Sequence<Out>) -> Result<(), Memory>
-    requires { MessageFits said.now.message }
+// Writes the body of a message once, and seals it for each of these.
+fn add_outs(
+    alloc: Global,
+    keys: &Keys,
+    to: &[NodeId],
+    message: &Message,
+    outs: &mut Sequence<Out>,
+) -> Result<(), Memory>
+    requires { MessageFits message.now }
     ensures { (config : Config) (net : Net) → Speaks config net keys.now →
-        let each = to_each said.now.to said.now.message in
+        let each = to_each to.now message.now in
         AllReached keys.now each →
         OnOk result (outs.new ≡ outs.old ++ outs_for net keys.now.me each) }
 {
-    let names = said.to.as_slice();
-    for i in 0..names.len() {
-        add_out(alloc, keys, names[i], &said.message, outs)?;
+    let body = body_of(alloc, message)?;
+    for i in 0..to.len() {
+        add_out(alloc, keys, to[i], message.kind(), &body, outs)?;
     }
     Ok(())
 }
@@ -71,7 +79,8 @@ fn seal_each(alloc: Global, keys: &Keys, said: &[Said]) -> Result<Sequence<Out>,
 {
     let mut outs = Sequence::new(alloc);
     for i in 0..said.len() {
-        add_outs(alloc, keys, &said[i], &mut outs)?;
+        let one = &said[i];
+        add_outs(alloc, keys, one.to.as_slice(), &one.message, &mut outs)?;
     }
     Ok(outs)
 }

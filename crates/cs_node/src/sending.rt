@@ -1,5 +1,5 @@
 //! What a node says of its own accord.
-ghost use Rattle.std.specs.Prelude.{◌≡◌, ◌∷◌, [], true, Some, IfOk, OnOk};
+ghost use Rattle.std.specs.Prelude.{◌≡◌, ◌∷◌, [], true, Some, IsSome, IfOk, OnOk};
 ghost use Rattle.cs_tx_form.specs.declared.vote.Vote.TheVariants.{Commit};
 ghost use Rattle.cs_tx_form.specs.Session.{SessionFits};
 ghost use Rattle.cs_wire_message.specs.declared.message.Message.TheVariants as message;
@@ -7,6 +7,7 @@ ghost use Rattle.cs_wire_message.specs.Message.{IsSlot};
 ghost use Rattle.cs_node_state.specs.Setup.{concerned};
 ghost use Rattle.cs_node_rules.specs.Members.{others};
 ghost use Rattle.cs_node_rules.specs.Signs.{sends, vote_signs, asked_again};
+ghost use Rattle.cs_sbac.specs.Held.{IsFit};
 ghost use Rattle.cs_node.specs.Notes.{Tells, DraftFits};
 ghost use Rattle.cs_node.specs.Signing.{AtEverySetup};
 
@@ -30,6 +31,18 @@ fn voters(alloc: Global, sbac: &Sbac, session: &Session) -> Result<Sequence<Node
     Ok(names)
 }
 
+// The same of a fit session, for which nothing is hashed.
+fn voters_of_fit(alloc: Global, sbac: &Sbac, session: &Session) -> Result<Sequence<NodeId>, Memory>
+    requires { IsFit sbac.now session.now }
+    ensures { AtEverySetup sbac.now.config (λ setup.
+        let all = others sbac.now.config.f sbac.now.me (concerned setup session.now) in
+        IfOk result (λ names. names ≡ all)) }
+{
+    let shards = sbac.concerned_of_fit(alloc, session)?;
+    let names = others(alloc, sbac.config(), sbac.me(), shards.as_slice())?;
+    Ok(names)
+}
+
 /// Says the vote that the node gave on a session, if it gave one, to all others whom it concerns.
 pub fn say_vote(
     alloc: Global,
@@ -38,7 +51,9 @@ pub fn say_vote(
     session: &Session,
     voted: Option<(Vote, bool)>,
 ) -> Result<(), Memory>
-    requires { SessionFits session.now }
+    requires fits { SessionFits session.now }
+    // Only on a fit session is a vote given.
+    requires fit { IsSome voted → IsFit sbac.now session.now }
     ensures tells { AtEverySetup sbac.now.config (λ setup.
         OnOk result (Tells (vote_signs setup sbac.now.me session.now voted) draft.old draft.new)) }
     ensures fits { DraftFits draft.old → OnOk result (DraftFits draft.new) }
@@ -46,7 +61,7 @@ pub fn say_vote(
     let Some((vote, asks)) = voted else {
         return Ok(());
     };
-    let names = voters(alloc, sbac, session)?;
+    let names = voters_of_fit(alloc, sbac, session)?;
     if names.is_empty() {
         return Ok(());
     }

@@ -1,6 +1,7 @@
 //! Sessions that clients submit.
 ghost use Rattle.std.specs.Prelude.{◌≡◌, OnOk};
 ghost use Rattle.cs_tx_form.specs.Session.{SessionFits};
+ghost use Rattle.cs_tx.specs.Digest.{digest_of_session};
 ghost use Rattle.cs_node_rules.specs.Signs.{entering_signs, submit_signs};
 ghost use Rattle.cs_node.specs.Notes.{DraftFits};
 ghost use Rattle.cs_node.specs.Signing.{Does};
@@ -9,7 +10,7 @@ use crate::draft::Draft;
 use cs_base::{Memory, NodeId};
 use cs_node_rules::Cause;
 use cs_sbac::{Entered, Sbac};
-use cs_tx::{Judge, Session, session_digest};
+use cs_tx::{Digest, Judge, Session, session_digest};
 use cs_wire_message::Message;
 use std::alloc::Global;
 
@@ -20,21 +21,23 @@ fn enter<J: Judge>(
     judge: &J,
     draft: &mut Draft,
     session: Session,
+    digest: Digest,
 ) -> Result<(), Memory>
-    requires { SessionFits session }
+    requires fits { SessionFits session }
+    requires named { digest ≡ digest_of_session session }
     ensures made { Does (J.is_approved judge.now) sbac.old sbac.new draft.old draft.new result
         (λ setup b. entering_signs setup b session) }
     ensures fits { DraftFits draft.old → OnOk result (DraftFits draft.new) }
     ensures config { OnOk result (sbac.new.config ≡ sbac.old.config) }
     ensures me { OnOk result (sbac.new.me ≡ sbac.old.me) }
 {
-    if sbac.pooled(alloc, &session)? {
+    if sbac.pooled(&digest)? {
         return draft.drop_it(Cause::Repeat);
     }
     if !judge.approves(alloc, &session.tx)? {
         return draft.drop_it(Cause::Denied);
     }
-    match sbac.enter(alloc, session)? {
+    match sbac.enter(alloc, session, digest)? {
         Entered::New => Ok(()),
         Entered::Full => draft.drop_it(Cause::Full),
     }
@@ -62,11 +65,12 @@ pub fn submit<J: Judge>(
     if !sbac.is_fit(alloc, &session)? {
         return draft.drop_it(Cause::Malformed);
     }
-    match sbac.decided(alloc, &session)? {
+    let digest = session_digest(alloc, &session)?;
+    match sbac.decided(alloc, &session, &digest)? {
         Some(accepted) => {
-            let session = session_digest(alloc, &session)?;
+            let session = digest;
             draft.say(alloc, sender, Message::Decided { session, accepted })
         }
-        None => enter(alloc, sbac, judge, draft, session),
+        None => enter(alloc, sbac, judge, draft, session, digest),
     }
 }

@@ -286,7 +286,7 @@ fn two_shards_accept_a_session(rt: HostRuntime) -> Result<(), Fail> {
     let session = submitted(&rt, alloc, split_in_two(&rt, alloc, name)?)?;
     let (first, made) = first.step(alloc, Input::Datagram(&session))?;
     let asks = said_to(&rt, alloc, &made, other)?;
-    assert!(rt; second.sender(alloc, &asks)? == Some(ME));
+    assert!(rt; second.sender(&asks) == Some(ME));
     let (_, made) = second.step(alloc, Input::Datagram(&asks))?;
     assert!(rt; is_split(made.notes.as_slice()));
     let vote = said_to(&rt, alloc, &made, ME)?;

@@ -15,7 +15,7 @@ use cs_base::Memory;
 use cs_node_rules::Cause;
 use cs_node_state::Ballot;
 use cs_sbac::{Counted, Entered, Sbac};
-use cs_tx::{Judge, Session};
+use cs_tx::{Digest, Judge, Session, session_digest};
 use cs_wire_message::Message;
 use std::alloc::Global;
 
@@ -27,8 +27,10 @@ fn enter_voted<J: Judge>(
     draft: &mut Draft,
     ballot: Ballot,
     session: Session,
+    digest: Digest,
 ) -> Result<(), Memory>
     requires fits { SessionFits session }
+    requires named { digest ≡ digest_of_session session }
     requires new { found (digest_of_session session) sbac.old.pool ≡ None }
     ensures made { Does (J.is_approved judge.now) sbac.old sbac.new draft.old draft.new result
         (λ setup b. let signs = Took ballot.sender ballot.vote session ∷ Enters session ∷ [] in
@@ -40,7 +42,7 @@ fn enter_voted<J: Judge>(
     if !judge.approves(alloc, &session.tx)? {
         return draft.drop_it(Cause::Denied);
     }
-    match sbac.enter_voted(alloc, ballot.sender, session, ballot.vote)? {
+    match sbac.enter_voted(alloc, ballot.sender, session, digest, ballot.vote)? {
         Entered::New => Ok(()),
         Entered::Full => draft.drop_it(Cause::Full),
     }
@@ -56,8 +58,10 @@ fn answer_vote<J: Judge>(
     ballot: Ballot,
     asks: bool,
     session: Session,
+    digest: Digest,
 ) -> Result<(), Memory>
     requires fits { SessionFits session }
+    requires named { digest ≡ digest_of_session session }
     requires new { found (digest_of_session session) sbac.old.pool ≡ None }
     ensures made { Does (J.is_approved judge.now) sbac.old sbac.new draft.old draft.new result
         (λ setup b. let on_record = noted setup sbac.old.me.shard b.table session in
@@ -69,7 +73,7 @@ fn answer_vote<J: Judge>(
     if !asks {
         return draft.drop_it(Cause::Unasked);
     }
-    match sbac.noted(alloc, &session)? {
+    match sbac.noted(alloc, &session, &digest)? {
         Some(vote) => {
             let answer = Message::Voted {
                 vote,
@@ -78,7 +82,7 @@ fn answer_vote<J: Judge>(
             };
             draft.say(alloc, ballot.sender, answer)
         }
-        None => enter_voted(alloc, sbac, judge, draft, ballot, session),
+        None => enter_voted(alloc, sbac, judge, draft, ballot, session, digest),
     }
 }
 
@@ -105,12 +109,15 @@ pub fn hear_vote<J: Judge>(
     if !sbac.is_fit(alloc, &session)? {
         return draft.drop_it(Cause::Malformed);
     }
-    if !sbac.concerns(alloc, &session, ballot.sender.shard)? {
+    if !sbac.concerns(&session, ballot.sender.shard) {
         return draft.drop_it(Cause::Role);
     }
-    match sbac.vote(alloc, ballot.sender, &session, ballot.vote)? {
+    let digest = session_digest(alloc, &session)?;
+    match sbac.vote(ballot.sender, &digest, ballot.vote)? {
         Counted::Counted => Ok(()),
         Counted::Repeat => draft.drop_it(Cause::Repeat),
-        Counted::NotPooled => answer_vote(alloc, sbac, judge, draft, ballot, asks, session),
+        Counted::NotPooled => {
+            answer_vote(alloc, sbac, judge, draft, ballot, asks, session, digest)
+        }
     }
 }

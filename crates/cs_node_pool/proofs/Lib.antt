@@ -3,5 +3,6 @@ pub mod Concerned
 pub mod Locking
 pub mod Turns
 pub mod Picking
+pub mod Seats
 pub mod Keeping
 pub mod Dues

@@ -35,7 +35,7 @@ flipped d e true h = ap (λ x. bytes_eq e x) (same-from d e h) ∙ same-bytes e
 flipped d e false h = apart-false d e h
 
 -- a choice whose first branch is something, and which is nothing
-second : {A : Type 0} (b : Bool) (x : A) (rest : Option A) → cond b (Some x) rest ≡ None → b ≡ false
+pub second : {A : Type 0} (b : Bool) (x : A) (rest : Option A) → cond b (Some x) rest ≡ None → b ≡ false
 second true x rest h = let q : Some x ≡ None = h in cc
 second false x rest h = refl
 

@@ -1,5 +1,5 @@
--- How a pool is kept: its sessions under numbers that rise with each that enters, and beside them the numbers of those
--- that wait, and of those on which a decision is due.
+-- How a pool is kept: its sessions under numbers that rise with each that enters, each with the shards that it
+-- concerns, and beside them the numbers of those that wait, and of those on which a decision is due.
 use Rattle.std.specs.Prelude.{◌≡◌, ℕ, ◌<◌, Bool, false, not, if◌then◌else◌, List, [], ◌∷◌, Option, Some, None, is_some, bytes_eq}
 use Rattle.std.specs.Map.{lookup, values_of}
 use Rattle.std.specs.Ordering.{nat_cmp}
@@ -15,6 +15,7 @@ use Rattle.cs_node_state.specs.Pool.{Pool, found}
 use Rattle.cs_node_state.specs.Admission.{due_vote}
 use Rattle.cs_node_pool.specs.Fits.{PoolFits}
 use Rattle.cs_node_pool.specs.declared.kept.Kept.{Kept}
+use Rattle.cs_node_pool.specs.declared.kept.Seat.{Seat}
 
 abbrev pub Turns : Type 0
 Turns = List (ℕ × (Bytes × Pooled))
@@ -42,13 +43,17 @@ abbrev pub AreBelow : ℕ → Turns → Type 0
 AreBelow n [] = Unit {0}
 AreBelow n (e ∷ turns) = (e.0 < n) × AreBelow n turns
 
+abbrev pub number_in : Option Seat → Option ℕ
+number_in None = None
+number_in (Some seat) = Some seat.number
+
 -- the sessions are kept so, and their numbers are found
 pub record Placed (kept : Kept) : Type 0 where
   pub apart : IsApart (pool_in kept)
   pub fits : PoolFits (pool_in kept)
   pub below : AreBelow kept.next kept.sessions.entries
   pub rising : IsOrdered nat_cmp kept.sessions
-  pub numbered : (d : Bytes) → lookup (bytes_eq d) kept.numbers.entries ≡ number_of d kept.sessions.entries
+  pub numbered : (d : Bytes) → number_in (lookup (bytes_eq d) kept.seats.entries) ≡ number_of d kept.sessions.entries
 
 -- what a test says of what stands at a number
 abbrev pub picks : (Pooled → Bool) → Option (Bytes × Pooled) → Bool
@@ -74,7 +79,18 @@ vote_due config p = due_vote config.f (concerned_shards config p.session) p
 abbrev pub is_due : Config → Pooled → Bool
 is_due config p = is_some (vote_due config p)
 
+-- the seat of a session has the shards that it concerns
+abbrev pub IsSeated : Config → Option Seat → Option Pooled → Type 0
+IsSeated config None pooled = Unit {0}
+IsSeated config (Some seat) None = Unit {0}
+IsSeated config (Some seat) (Some p) = seat.shards.items ≡ concerned_shards config p.session
+
+abbrev pub AreSeated : Config → Kept → Type 0
+AreSeated config kept =
+    (d : Bytes) → IsSeated config (lookup (bytes_eq d) kept.seats.entries) (found d (pool_in kept))
+
 pub record SoundTurns (config : Config) (kept : Kept) : Type 0 where
   pub placed : Placed kept
+  pub seated : AreSeated config kept
   pub waiting : IsPicked waits kept.waiting kept.sessions.entries
   pub ready : IsPicked (is_due config) kept.ready kept.sessions.entries

@@ -17,17 +17,24 @@ use crate::due::vote_due;
 use crate::votes::has_voted;
 use cs_base::{Config, Memory};
 use cs_node_state::{Ballot, Pooled};
-use cs_tx::{Digest, Encoded, Entry, Session};
+use cs_tx::{Digest, Encoded, Entry, Session, concerned};
 use indexmap::IndexMap;
 use std::alloc::Global;
 use std::collections::{BTreeMap, BTreeSet};
 
-/// Sessions under numbers, which rise with each that enters, and the number of each digest. Beside
+/// The number of a session, and the shards that it concerns, which take hashing to find.
+#[derive(Drop)]
+pub struct Seat {
+    pub number: u64,
+    pub shards: Vec<u16>,
+}
+
+/// Sessions under numbers, which rise with each that enters, and the seat of each digest. Beside
 /// them stand the numbers of the sessions that wait, and of those on which a decision is due.
 #[derive(Drop)]
 pub struct Kept {
     pub sessions: BTreeMap<u64, (Digest, Pooled)>,
-    pub numbers: IndexMap<Digest, u64>,
+    pub seats: IndexMap<Digest, Seat>,
     pub waiting: BTreeSet<u64>,
     pub ready: BTreeSet<u64>,
     pub next: u64,
@@ -67,7 +74,7 @@ impl Kept {
     {
         Kept {
             sessions: BTreeMap::new(alloc),
-            numbers: IndexMap::new(alloc),
+            seats: IndexMap::new(alloc),
             waiting: BTreeSet::new(alloc),
             ready: BTreeSet::new(alloc),
             next: 0,
@@ -79,10 +86,10 @@ impl Kept {
         requires { Placed self.now }
         ensures { option_copied result ≡ found digest.now (pool_in self.now) }
     {
-        let Some(number) = self.numbers.get(digest) else {
+        let Some(seat) = self.seats.get(digest) else {
             return None;
         };
-        match self.sessions.get(number) {
+        match self.sessions.get(&seat.number) {
             Some((_, pooled)) => Some(pooled),
             None => None,
         }
@@ -106,10 +113,11 @@ impl Kept {
         let Some(next) = number.checked_add(1) else {
             return Err(Memory);
         };
-        let vote = vote_due(alloc, config, &pooled)?;
+        let shards = concerned(alloc, &pooled.session, config)?;
+        let vote = vote_due(config, shards.as_slice(), &pooled);
         mark(&mut self.waiting, number, !pooled.locked)?;
         mark(&mut self.ready, number, vote.is_some())?;
-        self.numbers.insert(digest, number)?;
+        self.seats.insert(digest, Seat { number, shards })?;
         self.sessions.insert(number, (digest, pooled))?;
         self.next = next;
         Ok(())
@@ -121,7 +129,8 @@ impl Kept {
         ensures sound { SoundTurns config.now self.new }
         ensures pool { pool_in self.new ≡ without digest.now (pool_in self.old) }
     {
-        if let Some(number) = self.numbers.swap_remove(digest) {
+        if let Some(seat) = self.seats.swap_remove(digest) {
+            let number = seat.number;
             self.sessions.remove(&number);
             self.waiting.remove(&number);
             self.ready.remove(&number);
@@ -131,7 +140,6 @@ impl Kept {
     /// Takes a vote on a session.
     pub fn count(
         &mut self,
-        alloc: Global,
         config: &Config,
         digest: &Digest,
         ballot: Ballot,
@@ -143,10 +151,10 @@ impl Kept {
         ensures pool { OnOk result (pool_in self.new
             ≡ changed digest.now (with_ballot ballot) (pool_in self.old)) }
     {
-        let Some(number) = self.numbers.get(digest) else {
+        let Some(seat) = self.seats.get(digest) else {
             return Ok(Counted::NotPooled);
         };
-        let number = *number;
+        let number = seat.number;
         let Some(entry) = self.sessions.get_mut(&number) else {
             return Ok(Counted::NotPooled);
         };
@@ -154,27 +162,27 @@ impl Kept {
         if repeats {
             return Ok(Counted::Repeat);
         }
-        let vote = vote_due(alloc, config, &entry.1)?;
+        let vote = vote_due(config, seat.shards.as_slice(), &entry.1);
         mark(&mut self.ready, number, vote.is_some())?;
         Ok(Counted::Counted)
     }
 
     /// Marks a session as locked.
-    pub fn lock(&mut self, alloc: Global, config: &Config, digest: &Digest) -> Result<(), Memory>
+    pub fn lock(&mut self, config: &Config, digest: &Digest) -> Result<(), Memory>
         requires { SoundTurns config.now self.old }
         ensures sound { OnOk result (SoundTurns config.now self.new) }
         ensures pool { OnOk result (pool_in self.new
             ≡ changed digest.now as_locked (pool_in self.old)) }
     {
-        let Some(number) = self.numbers.get(digest) else {
+        let Some(seat) = self.seats.get(digest) else {
             return Ok(());
         };
-        let number = *number;
+        let number = seat.number;
         let Some(entry) = self.sessions.get_mut(&number) else {
             return Ok(());
         };
         entry.1.locked = true;
-        let vote = vote_due(alloc, config, &entry.1)?;
+        let vote = vote_due(config, seat.shards.as_slice(), &entry.1);
         mark(&mut self.ready, number, vote.is_some())?;
         mark(&mut self.waiting, number, false)?;
         Ok(())
@@ -214,14 +222,17 @@ impl Kept {
         let Some(number) = self.ready.first() else {
             return Ok(None);
         };
-        let Some((_, pooled)) = self.sessions.get(number) else {
+        let Some(entry) = self.sessions.get(number) else {
             return Ok(None);
         };
-        let vote = vote_due(alloc, config, pooled)?;
-        let Some(vote) = vote else {
+        let digest = entry.0;
+        let Some(seat) = self.seats.get(&digest) else {
             return Ok(None);
         };
-        let session = pooled.session.copy(alloc)?;
+        let Some(vote) = vote_due(config, seat.shards.as_slice(), &entry.1) else {
+            return Ok(None);
+        };
+        let session = entry.1.session.copy(alloc)?;
         Ok(Some(Entry::Decide(vote, session)))
     }
 

@@ -114,12 +114,7 @@ impl Pool {
     }
 
     /// Takes a vote on a session.
-    pub fn count(
-        &mut self,
-        alloc: Global,
-        digest: &Digest,
-        ballot: Ballot,
-    ) -> Result<Counted, Memory>
+    pub fn count(&mut self, digest: &Digest, ballot: Ballot) -> Result<Counted, Memory>
         ensures answer { IfOk result (λ answer.
             answer ≡ counted_in ballot.sender (found digest.now self.old.sessions)) }
         ensures sessions { OnOk result (self.new.sessions
@@ -130,13 +125,13 @@ impl Pool {
             return Err(Memory);
         }
         self.is_whole = false;
-        let answer = self.kept.count(alloc, &self.config, digest, ballot)?;
+        let answer = self.kept.count(&self.config, digest, ballot)?;
         self.is_whole = true;
         Ok(answer)
     }
 
     /// Marks a session as locked.
-    pub fn lock(&mut self, alloc: Global, digest: &Digest) -> Result<(), Memory>
+    pub fn lock(&mut self, digest: &Digest) -> Result<(), Memory>
         ensures sessions { OnOk result (self.new.sessions
             ≡ changed digest.now as_locked self.old.sessions) }
         ensures config { self.new.config ≡ self.old.config }
@@ -145,7 +140,7 @@ impl Pool {
             return Err(Memory);
         }
         self.is_whole = false;
-        self.kept.lock(alloc, &self.config, digest)?;
+        self.kept.lock(&self.config, digest)?;
         self.is_whole = true;
         Ok(())
     }

@@ -34,21 +34,20 @@ pub fn place_of<O: Carried, J: Judge + Drop>(cores: &[Core<O, J>], name: NodeId)
     None
 }
 
-/// As whom bytes open at a node. At a name without a core they don't open.
+/// As whom bytes open at a node. At a name without a core they don't open. It takes no memory.
 pub fn sender_at<O: Carried, J: Judge + Drop>(
-    alloc: Global,
     cores: &[Core<O, J>],
     to: NodeId,
     bytes: &[u8],
-) -> Result<Option<NodeId>, Memory>
+) -> Option<NodeId>
     ensures { (site : Site O.Message) (names : ℕ → NodeId) (views : ℕ → View O.Message)
         → EachStands O.stands J.is_approved site cores.now views
         → ((i : ℕ) → (views i).me ≡ names i) → HasNode names (length cores.now) to
-        → IfOk result (λ sender. sender ≡ sender_of (site.net.opened to bytes.now)) }
+        → result ≡ sender_of (site.net.opened to bytes.now) }
 {
     match place_of(cores, to) {
-        Some(place) => cores[place].sender(alloc, bytes),
-        None => Ok(None),
+        Some(place) => cores[place].sender(bytes),
+        None => None,
     }
 }
 

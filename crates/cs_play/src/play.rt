@@ -142,7 +142,7 @@ impl<O: Carried, J: Judge + Drop> Replay<O, J> {
         if self.events >= MOST_EVENTS {
             return Err(Halt::Limit(line));
         }
-        let genuine = self.is_genuine(alloc, to, bytes)?;
+        let genuine = self.is_genuine(to, bytes);
         if !genuine {
             return Err(Halt::Forged(line));
         }
@@ -150,15 +150,14 @@ impl<O: Carried, J: Judge + Drop> Replay<O, J> {
     }
 
     // Whether what opens at a node as from an honest node was sent by it.
-    fn is_genuine(&self, alloc: Global, to: NodeId, bytes: &[u8]) -> Result<bool, Memory>
+    fn is_genuine(&self, to: NodeId, bytes: &[u8]) -> bool
         ensures { WhereStands O.stands J.is_approved O.rules O.carrier self.now (λ s p.
-            HasNode s.names s.count to
-            → IfOk result (λ genuine. genuine ≡ is_genuine s.net to bytes.now p.parcels)) }
+            HasNode s.names s.count to → result ≡ is_genuine s.net to bytes.now p.parcels) }
     {
-        let sender = sender_at(alloc, self.cores.as_slice(), to, bytes)?;
+        let sender = sender_at(self.cores.as_slice(), to, bytes);
         match sender {
-            Some(from) => Ok(self.is_backed(from, to, bytes)),
-            None => Ok(true),
+            Some(from) => self.is_backed(from, to, bytes),
+            None => true,
         }
     }
 

@@ -1,17 +1,19 @@
 -- Whether a session is well formed and concerns the shard, as the calls on it and as the setup have it.
-use Rattle.std.proofs.Common.{◌≡◌, ◌↔◌, ℕ, Bool, true, false, ◌&&◌, List, Option, Some, None, is_none, is_some, IsNone, refl, ap, sym, ◌∙◌}
+use Rattle.std.proofs.Common.{◌≡◌, ◌↔◌, ℕ, suc, Bool, true, false, ◌&&◌, List, [], ◌∷◌, ◌++◌, Option, Some, None, is_none, is_some, IsNone, refl, ap, sym, ◌∙◌}
+use Rattle.std.specs.Prelude.{if◌then◌else◌}
+use Rattle.std.proofs.lemmas.Bool.{and_parts}
 use Rattle.cs_base.specs.declared.config.Config.{Config}
 use Rattle.cs_base.specs.declared.key.Key.{Key}
 use Rattle.cs_tx_value.specs.declared.object.Object.{Object}
 use Rattle.cs_tx_form.specs.declared.transaction.Tx.{Tx}
 use Rattle.cs_tx_form.specs.declared.session.Session.{Session}
 use Rattle.cs_tx.specs.Uses as Uses
-use Rattle.cs_tx.specs.WellFormed.{fault_of}
+use Rattle.cs_tx.specs.WellFormed.{IsWellFormed, fault_of}
 use Rattle.cs_tx.proofs.TestsSeen.{well_formed-session_of}
 use Rattle.cs_ledger.specs.Session as Seen
 use Rattle.cs_node_state.specs.Setup as Setup
 use Rattle.cs_node_state.specs.Deployed.{rules_of}
-use Rattle.cs_node_pool.specs.Deployed.{deployed}
+use Rattle.cs_node_pool.specs.Deployed.{deployed, AtAnySetup}
 use Rattle.cs_node_pool.proofs.Concerned.{concerns-session}
 
 pub some_anchor : (o : Option Key) (c : Bool) → IsNone o ↔ (c ≡ false) → is_some o ≡ c
@@ -25,3 +27,22 @@ module _ (config : Config) (genesis : List Object) (approves : Tx → Bool) (x :
       let setup : Setup.Setup = deployed config genesis approves in
       ap (λ b. b && Uses.concerns config x shard) (h ∙ sym (well_formed-session_of (rules_of config genesis) config (λ name. refl) approves x))
       ∙ ap (λ b. Seen.well_formed setup.rules (setup.session_of x) && b) (sym (concerns-session config genesis approves x shard))
+
+-- ---- a session that is well formed
+
+none_from : {A : Type 0} (o : Option A) → is_none o ≡ true → o ≡ None
+none_from None h = refl
+none_from (Some a) h = let q : false ≡ true = h in cc
+
+pub formed : (config : Config) (shard : ℕ) (x : Session) → AtAnySetup config (λ setup. Setup.is_fit setup shard x ≡ true) → IsWellFormed config x
+formed config shard x fits =
+    let setup : Setup.Setup = deployed config [] (λ tx. false) in
+    let both = and_parts (Seen.well_formed setup.rules (setup.session_of x)) (Setup.concerns setup x shard) (fits [] (λ tx. false)) in
+    none_from (fault_of config x) (sym (well_formed-session_of (rules_of config []) config (λ name. refl) (λ tx. false) x) ∙ both.0)
+
+-- whether it has an anchor in the next of the shards says whether that one is concerned
+pub one-more : (config : Config) (x : Session) (shard : ℕ) (found : Option Key) (has : Bool) (shards more : List ℕ) → IsNone found ↔ (Uses.concerns config x shard ≡ false) → is_some found ≡ has
+    → shards ≡ Uses.concerned_below config x shard → more ≡ shards ++ (if has then shard ∷ [] else []) → more ≡ Uses.concerned_below config x (suc shard)
+one-more config x shard found has shards more anchored is so_far grown =
+    let same : has ≡ Uses.concerns config x shard = sym is ∙ some_anchor found (Uses.concerns config x shard) anchored in
+    grown ∙ (λ i. so_far i ++ (if same i then shard ∷ [] else []))

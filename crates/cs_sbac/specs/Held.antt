@@ -6,6 +6,9 @@ use Rattle.cs_base.specs.NodeId.{is_node}
 use Rattle.cs_table.specs.Seen.{Stored, seen}
 use Rattle.cs_node_state.specs.Pool.{Pool}
 use Rattle.cs_node_state.specs.Bench.{Bench}
+use Rattle.cs_tx_form.specs.declared.session.Session.{Session}
+use Rattle.cs_node_state.specs.Setup.{is_fit}
+use Rattle.cs_node_pool.specs.Deployed.{AtAnySetup}
 use Rattle.cs_node_pool.specs.Gathered.{Gathered}
 
 pub record Held : Type 0 where
@@ -26,6 +29,10 @@ pub record IsSoundBench (is_whole : Bool) (config : Config) (me : NodeId)
   pub node : is_node config me ≡ true
   pub same : pool.config ≡ config
   pub placed : is_whole ≡ true → IsOfNode config me table
+
+-- the session is well formed, and concerns the shard, whatever the genesis and the checks say
+abbrev pub IsFit : Held → Session → Type 0
+IsFit held x = AtAnySetup held.config (λ setup. is_fit setup held.me.shard x ≡ true)
 
 abbrev pub bench_of : Held → Bench
 bench_of held = record { table = seen held.table; pool = held.pool }

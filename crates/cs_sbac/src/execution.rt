@@ -14,7 +14,7 @@ use crate::answers::Outcome;
 use cs_base::{Memory, NodeId, Sequence};
 use cs_node_pool::Pool;
 use cs_node_state::{Ballot, Pooled};
-use cs_table::{Effect, Table};
+use cs_table::{Effect, Preparation, Table};
 use cs_tx::{Digest, Encoded, Entry, Session, Vote, session_digest};
 use std::alloc::Global;
 
@@ -45,7 +45,7 @@ fn place(
     if !locked {
         pool.remove(digest)?;
     } else if pool.contains(digest)? {
-        pool.lock(alloc, digest)?;
+        pool.lock(digest)?;
     } else {
         let session = session.copy(alloc)?;
         pool.push(alloc, *digest, newcomer(alloc, session, true))?;
@@ -70,7 +70,7 @@ fn place_voted(
 {
     place(alloc, pool, digest, session, locked)?;
     if locked {
-        pool.count(alloc, digest, own)?;
+        pool.count(digest, own)?;
     }
     Ok(())
 }
@@ -91,8 +91,7 @@ fn prepare(
     ensures config { pool.new.config ≡ pool.old.config }
 {
     let digest = session_digest(alloc, session)?;
-    let vote = table.prepare(alloc, session)?;
-    let locked = table.locks(alloc, session)?;
+    let Preparation { vote, locked } = table.prepare(alloc, session, &digest)?;
     let own = Ballot { sender: me, vote };
     place_voted(alloc, pool, &digest, session, own, locked)?;
     Ok(Outcome {
@@ -129,7 +128,7 @@ fn decide(
     ensures config { pool.new.config ≡ pool.old.config }
 {
     let digest = session_digest(alloc, session)?;
-    let effect = table.decide(alloc, session, vote)?;
+    let effect = table.decide(alloc, session, &digest, vote)?;
     leave(pool, &digest, effect)?;
     Ok(Outcome {
         effect,

@@ -4,18 +4,20 @@ ghost use Rattle.cs_tx_value.specs.Object.{DigestFits};
 ghost use Rattle.cs_tx_value.specs.Key.{KeyFits};
 ghost use Rattle.cs_tx_form.specs.State.{StateFits};
 ghost use Rattle.cs_tx_form.specs.Session.{SessionFits};
+ghost use Rattle.cs_tx.specs.Digest.{digest_of_session};
 ghost use Rattle.cs_node_state.specs.Setup.{concerns, concerned, is_fit};
 ghost use Rattle.cs_table.specs.Seen.{seen, HoldsFit};
 ghost use Rattle.cs_node_state.specs.Asked.{told_at, least_dummy, key_asked};
 ghost use Rattle.cs_node_state.specs.Bench.{decided, noted};
 ghost use Rattle.cs_node_pool.specs.Deployed.{AtAnySetup};
+ghost use Rattle.cs_sbac.specs.Held.{IsFit};
 ghost use Rattle.cs_sbac.specs.Calls.{accepted_by};
 
 use crate::sbac::Sbac;
-use crate::setting::{concerned_shards, is_fit};
+use crate::setting::{concerned_shards, formed_shards, is_fit};
 use cs_base::{Key, Memory};
 use cs_table::Standing;
-use cs_tx::{Digest, Encoded, Session, State, Vote};
+use cs_tx::{Digest, Encoded, Session, State, Vote, anchor};
 use std::alloc::Global;
 
 fn is_accepted(standing: Standing) -> Option<bool>
@@ -81,39 +83,59 @@ impl Sbac {
         concerned_shards(alloc, &self.config, session)
     }
 
-    /// Whether a session concerns the shard.
-    pub fn concerns(&self, alloc: Global, session: &Session, shard: u16) -> Result<bool, Memory>
-        requires { SessionFits session.now }
+    /// The same of a fit session, for which nothing is hashed.
+    pub fn concerned_of_fit(&self, alloc: Global, session: &Session) -> Result<Vec<u16>, Memory>
+        requires { IsFit self.now session.now }
         ensures { AtAnySetup self.now.config (λ setup.
-            IfOk result (λ yes. yes ≡ concerns setup session.now shard)) }
+            IfOk result (λ shards. shards.items ≡ concerned setup session.now)) }
     {
-        let shards = concerned_shards(alloc, &self.config, session)?;
-        Ok(shards.as_slice().contains(&shard))
+        let shards = formed_shards(alloc, &self.config, session)?;
+        Ok(shards)
     }
 
-    /// The vote that is on record on a session.
-    pub fn noted(&self, alloc: Global, session: &Session) -> Result<Option<Vote>, Memory>
-        requires { SessionFits session.now }
+    /// Whether a fit session concerns a shard.
+    pub fn concerns(&self, session: &Session, shard: u16) -> bool
+        requires { IsFit self.now session.now }
+        ensures { AtAnySetup self.now.config (λ setup. result ≡ concerns setup session.now shard) }
+    {
+        anchor(session, &self.config, shard).is_some()
+    }
+
+    /// The vote that is on record on a session, whose digest is given.
+    pub fn noted(
+        &self,
+        alloc: Global,
+        session: &Session,
+        digest: &Digest,
+    ) -> Result<Option<Vote>, Memory>
+        requires fits { SessionFits session.now }
+        requires named { digest.now ≡ digest_of_session session.now }
         ensures { AtAnySetup self.now.config (λ setup. IfOk result (λ vote.
             vote ≡ noted setup self.now.me.shard (seen self.now.table) session.now)) }
     {
         if !self.is_whole {
             return Err(Memory);
         }
-        let vote = self.table.recorded(alloc, session)?;
+        let vote = self.table.recorded(alloc, session, digest)?;
         Ok(vote)
     }
 
-    /// Whether a session was accepted, once it is decided here.
-    pub fn decided(&self, alloc: Global, session: &Session) -> Result<Option<bool>, Memory>
-        requires { SessionFits session.now }
+    /// Whether a session, whose digest is given, was accepted, once it is decided here.
+    pub fn decided(
+        &self,
+        alloc: Global,
+        session: &Session,
+        digest: &Digest,
+    ) -> Result<Option<bool>, Memory>
+        requires fits { SessionFits session.now }
+        requires named { digest.now ≡ digest_of_session session.now }
         ensures { AtAnySetup self.now.config (λ setup. IfOk result (λ answer.
             answer ≡ decided setup self.now.me.shard (seen self.now.table) session.now)) }
     {
         if !self.is_whole {
             return Err(Memory);
         }
-        let standing = self.table.standing(alloc, session)?;
+        let standing = self.table.standing(alloc, session, digest)?;
         Ok(is_accepted(standing))
     }
 

@@ -16,7 +16,7 @@ use cs_base::{Config, MOST_WAITING, Memory, NodeId};
 use cs_node_pool::{Counted, Pool};
 use cs_node_state::Ballot;
 use cs_table::Table;
-use cs_tx::{Entry, Session, Vote, session_digest};
+use cs_tx::{Digest, Entry, Session, Vote};
 use std::alloc::Global;
 use std::marker::Model;
 
@@ -87,19 +87,22 @@ impl Sbac {
         &self.table
     }
 
-    /// Whether the session is in the pool.
-    pub fn pooled(&self, alloc: Global, session: &Session) -> Result<bool, Memory>
-        requires { SessionFits session.now }
-        ensures { IfOk result (λ pooled.
-            pooled ≡ is_pooled (digest_of_session session.now) self.now.pool) }
+    /// Whether the session of a digest is in the pool.
+    pub fn pooled(&self, digest: &Digest) -> Result<bool, Memory>
+        ensures { IfOk result (λ pooled. pooled ≡ is_pooled digest.now self.now.pool) }
     {
-        let digest = session_digest(alloc, session)?;
-        self.pool.contains(&digest)
+        self.pool.contains(digest)
     }
 
-    /// Brings a session into the pool, where it waits.
-    pub fn enter(&mut self, alloc: Global, session: Session) -> Result<Entered, Memory>
+    /// Brings a session, whose digest is given, into the pool, where it waits.
+    pub fn enter(
+        &mut self,
+        alloc: Global,
+        session: Session,
+        digest: Digest,
+    ) -> Result<Entered, Memory>
         requires fits { SessionFits session }
+        requires named { digest ≡ digest_of_session session }
         requires new { found (digest_of_session session) self.old.pool ≡ None }
         ensures answer { IfOk result (λ answer. answer ≡ entered_in self.old.pool) }
         ensures pool { OnOk result (self.new ≡ with_pool self.old
@@ -108,21 +111,23 @@ impl Sbac {
         if self.pool.waiting()? >= MOST_WAITING {
             return Ok(Entered::Full);
         }
-        let digest = session_digest(alloc, &session)?;
         self.pool
             .push(alloc, digest, newcomer(alloc, session, false))?;
         Ok(Entered::New)
     }
 
-    /// Brings a session into the pool, where it waits, with a first vote on it.
+    /// Brings a session, whose digest is given, into the pool, where it waits, with a first vote on
+    /// it.
     pub fn enter_voted(
         &mut self,
         alloc: Global,
         from: NodeId,
         session: Session,
+        digest: Digest,
         vote: Vote,
     ) -> Result<Entered, Memory>
         requires fits { SessionFits session }
+        requires named { digest ≡ digest_of_session session }
         requires new { found (digest_of_session session) self.old.pool ≡ None }
         ensures answer { IfOk result (λ answer. answer ≡ entered_in self.old.pool) }
         ensures pool { OnOk result (self.new ≡ with_pool self.old
@@ -132,32 +137,22 @@ impl Sbac {
         if self.pool.waiting()? >= MOST_WAITING {
             return Ok(Entered::Full);
         }
-        let digest = session_digest(alloc, &session)?;
         self.pool
             .push(alloc, digest, newcomer(alloc, session, false))?;
         let ballot = Ballot { sender: from, vote };
-        self.pool.count(alloc, &digest, ballot)?;
+        self.pool.count(&digest, ballot)?;
         Ok(Entered::New)
     }
 
-    /// Takes a vote on a session.
-    pub fn vote(
-        &mut self,
-        alloc: Global,
-        from: NodeId,
-        session: &Session,
-        vote: Vote,
-    ) -> Result<Counted, Memory>
-        requires { SessionFits session.now }
+    /// Takes a vote on the session of a digest.
+    pub fn vote(&mut self, from: NodeId, digest: &Digest, vote: Vote) -> Result<Counted, Memory>
         ensures answer { IfOk result (λ answer.
-            answer ≡ counted_in from (found (digest_of_session session.now) self.old.pool)) }
+            answer ≡ counted_in from (found digest.now self.old.pool)) }
         ensures pool { OnOk result (self.new ≡ with_pool self.old
-            (changed (digest_of_session session.now)
+            (changed digest.now
             (with_ballot (record { sender = from; vote = vote })) self.old.pool)) }
     {
-        let digest = session_digest(alloc, session)?;
-        self.pool
-            .count(alloc, &digest, Ballot { sender: from, vote })
+        self.pool.count(digest, Ballot { sender: from, vote })
     }
 
     /// The sessions that are locked, in the order of the pool.

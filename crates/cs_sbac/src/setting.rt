@@ -1,8 +1,8 @@
 //! What the setup of a deployment says of a session.
 ghost use Rattle.std.specs.Prelude.{◌≡◌, true, IfOk, is_none, is_some};
 ghost use Rattle.cs_tx_form.specs.Session.{SessionFits, EntryFits};
-ghost use Rattle.cs_tx.specs.Uses.{anchor_of};
-ghost use Rattle.cs_tx.specs.WellFormed.{fault_of};
+ghost use Rattle.cs_tx.specs.Uses.{anchor_of, concerned_shards};
+ghost use Rattle.cs_tx.specs.WellFormed.{IsWellFormed, fault_of};
 ghost use Rattle.cs_node_state.specs.Setup.{concerned, is_fit, session_in};
 ghost use Rattle.cs_node_pool.specs.Deployed.{AtAnySetup};
 
@@ -21,6 +21,21 @@ pub fn concerned_shards(
         IfOk result (λ shards. shards.items ≡ concerned setup session.now)) }
 {
     let shards = concerned(alloc, session, config)?;
+    Ok(shards)
+}
+
+/// The same of a session that is well formed: the shards of its inputs and dummies, so nothing is
+/// hashed.
+pub fn formed_shards(alloc: Global, config: &Config, session: &Session) -> Result<Vec<u16>, Memory>
+    requires { IsWellFormed config.now session.now }
+    ensures { IfOk result (λ shards. shards.items ≡ concerned_shards config.now session.now) }
+{
+    let mut shards = Vec::new(alloc);
+    for shard in 0..config.shards {
+        if anchor(session, config, shard).is_some() {
+            shards.push(shard)?;
+        }
+    }
     Ok(shards)
 }
 

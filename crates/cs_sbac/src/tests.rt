@@ -3,7 +3,7 @@ use super::*;
 use cs_base::{Config, Key, NodeId};
 use cs_table::Table;
 use cs_test_samples::{coin, spend};
-use cs_tx::{Encoded, Entry, Session, TokenJudge, Vote, genesis_key};
+use cs_tx::{Encoded, Entry, Session, TokenJudge, Vote, genesis_key, session_digest};
 use std::alloc::Global;
 use std::process::Abort;
 use std::test::Fail;
@@ -34,8 +34,9 @@ fn is_absent(
 ) -> Result<(), Fail> {
     assert!(rt; session.fits());
     assert!(rt; sbac.is_fit(alloc, session)?);
-    assert!(rt; sbac.decided(alloc, session)?.is_none());
-    assert!(rt; sbac.vote(alloc, sbac.me(), session, Vote::Commit)? == Counted::NotPooled);
+    let digest = session_digest(alloc, session)?;
+    assert!(rt; sbac.decided(alloc, session, &digest)?.is_none());
+    assert!(rt; sbac.vote(sbac.me(), &digest, Vote::Commit)? == Counted::NotPooled);
     assert!(rt; sbac.due(alloc)?.is_none());
     Ok(())
 }
@@ -43,9 +44,10 @@ fn is_absent(
 fn enters(rt: &impl Abort, alloc: Global, sbac: &mut Sbac, session: &Session) -> Result<(), Fail> {
     assert!(rt; session.fits());
     let copied = session.copy(alloc)?;
-    let pooled = sbac.pooled(alloc, session)?;
+    let digest = session_digest(alloc, session)?;
+    let pooled = sbac.pooled(&digest)?;
     assert!(rt; !pooled);
-    assert!(rt; sbac.enter(alloc, copied)? == Entered::New);
+    assert!(rt; sbac.enter(alloc, copied, digest)? == Entered::New);
     Ok(())
 }
 
@@ -70,7 +72,8 @@ fn is_voted_on(
     assert!(rt; outcome.effect == Effect::Voted(Vote::Commit));
     assert!(rt; outcome.voted == Some((Vote::Commit, true)));
     assert!(rt; session.fits());
-    assert!(rt; sbac.vote(alloc, sbac.me(), session, Vote::Abort)? == Counted::Repeat);
+    let digest = session_digest(alloc, session)?;
+    assert!(rt; sbac.vote(sbac.me(), &digest, Vote::Abort)? == Counted::Repeat);
     Ok(())
 }
 
@@ -84,7 +87,8 @@ fn is_accepted(
     assert!(rt; matches!(&entry, Entry::Decide(Vote::Commit, _)));
     assert!(rt; outcome.effect == Effect::Accepted && outcome.voted.is_none());
     assert!(rt; session.fits());
-    assert!(rt; sbac.decided(alloc, session)? == Some(true));
+    let digest = session_digest(alloc, session)?;
+    assert!(rt; sbac.decided(alloc, session, &digest)? == Some(true));
     assert!(rt; sbac.due(alloc)?.is_none());
     Ok(())
 }

@@ -1,16 +1,14 @@
 -- The least active dummy among the records, which rise by their keys.
-use Rattle.std.proofs.Common.{Less, Equal, Greater, ◌≡◌, ℕ, ◌+◌, ◌<◌, ◌≤◌, ◌-◌, ◌^◌, Bool, true, false, not, ◌&&◌, if◌then◌else◌, cond, List, [], ◌∷◌, Option, Some, None, refl, sym, ap, ◌∙◌, subst, arith, inl, inr}
-use Rattle.std.specs.Prelude.{◌==◌, nat_lt}
+use Rattle.std.proofs.Common.{Less, Greater, ◌≡◌, ℕ, ◌<◌, ◌-◌, ◌^◌, Bool, true, false, not, cond, List, [], ◌∷◌, Option, Some, None, refl, sym, ap, ◌∙◌, subst, arith, inl, inr}
+use Rattle.std.specs.Prelude.{◌==◌}
 use Rattle.std.specs.List.{filter, AllByRecursion}
 use Rattle.std.specs.List.Sorted.{IsStrictlySortedBy}
 use Rattle.std.specs.Map.{keys_of}
 use Rattle.std.specs.declared.cmp.Ordering.{Ordering}
 use Rattle.std.specs.Ordering.{nat_cmp, ordering_then, is_eq, is_le, is_lt}
-use Rattle.std.specs.Cmp.{nat_cmp_is}
-use Rattle.std.specs.BTreeMap.{is_at}
 use Rattle.std.specs.BTreeMap.Range.{range_contains, entries_between}
 use Rattle.std.specs.declared.ops.Bound.TheVariants.{Included}
-use Rattle.std.proofs.lemmas.Bool.{cases_Bool, cases_lt, both_ways, and_parts, cond_both, eqb-true}
+use Rattle.std.proofs.lemmas.Bool.{cases_Bool, cases_lt, both_ways, and_parts, eqb-true}
 use Rattle.cs_base.specs.declared.key.Key.{Key}
 use Rattle.cs_base.specs.declared.key.Key.TheVariants as key
 use Rattle.cs_tx_form.specs.declared.state.State.{State}
@@ -20,7 +18,7 @@ use Rattle.cs_ledger.proofs.Basics.{key_refl}
 use Rattle.cs_tx_form.specs.declared.record.Record.{Record}
 use Rattle.cs_table.specs.Seen.{Stored, is_under, row_in, seen_row, seen_state, seen}
 use Rattle.cs_tx.specs.Sessions.{key_seen}
-use Rattle.cs_ledger.specs.Table.{is_free, has_active_dummy}
+use Rattle.cs_ledger.specs.Table.{is_free}
 use Rattle.cs_table.specs.Dummies.{first_active, is_active, IsLeastDummy, Least, NoneActive}
 use Rattle.cs_table.proofs.Rows.{key_cmp, same_key}
 use Rattle.cs_base.proofs.KeyOrder.{nat_cmp-less, nat_cmp-equal, nat_cmp-greater}

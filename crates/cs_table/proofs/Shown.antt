@@ -1,8 +1,7 @@
 -- What the ledger sees of a session's keys in a shard.
-use Rattle.std.proofs.Common.{◌≡◌, ℕ, ◌+◌, ◌==◌, Bool, true, false, if◌then◌else◌, List, [], ◌∷◌, ◌++◌, map, refl, ap, sym, ◌∙◌}
+use Rattle.std.proofs.Common.{◌≡◌, ℕ, ◌==◌, Bool, true, false, if◌then◌else◌, List, [], ◌∷◌, ◌++◌, map, refl, ap, sym, ◌∙◌}
 use Rattle.cs_base.specs.declared.key.Key.TheVariants as key
 use Rattle.cs_base.specs.Key.{shard_of_key}
-use Rattle.cs_tx_value.specs.declared.object.Object.{Object}
 use Rattle.cs_tx_form.specs.declared.transaction.Tx.{Tx}
 use Rattle.cs_tx_form.specs.declared.session.Session.{Session}
 use Rattle.cs_tx_form.specs.Transaction.{Keyed}

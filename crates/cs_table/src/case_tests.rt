@@ -135,11 +135,11 @@ fn check_case(
     write_book(alloc, &mut table, book, digest)?;
     let anchored = table.has_anchor(alloc, session)?;
     assert!(rt; anchored);
-    let vote = table.prepare(alloc, session)?;
+    let vote = table.prepare(alloc, session, &digest)?.vote;
     assert!(rt; vote == vote_by_cases(keys[0], keys[1], keys[2], book));
     // A second Prepare answers the same.
     assert!(rt; table.has_anchor(alloc, session)?);
-    assert!(rt; table.prepare(alloc, session)? == vote);
+    assert!(rt; table.prepare(alloc, session, &digest)?.vote == vote);
     Ok(())
 }
 

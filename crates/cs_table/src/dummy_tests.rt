@@ -2,7 +2,7 @@
 use crate::table::Table;
 use cs_base::{Config, Key, Memory};
 use cs_test_samples::{coin, spend};
-use cs_tx::{Encoded, Session, State, Vote};
+use cs_tx::{Encoded, Session, State, Vote, session_digest};
 use cs_tx_form::Effect;
 use std::alloc::Global;
 use std::process::Abort;
@@ -30,7 +30,8 @@ fn prepared(
     assert!(rt; session.fits());
     let anchored = table.has_anchor(alloc, session)?;
     assert!(rt; anchored);
-    Ok(table.prepare(alloc, session)?)
+    let digest = session_digest(alloc, session)?;
+    Ok(table.prepare(alloc, session, &digest)?.vote)
 }
 
 fn decided(
@@ -43,7 +44,19 @@ fn decided(
     assert!(rt; session.fits());
     let anchored = table.has_anchor(alloc, session)?;
     assert!(rt; anchored);
-    Ok(table.decide(alloc, session, vote)?)
+    let digest = session_digest(alloc, session)?;
+    Ok(table.decide(alloc, session, &digest, vote)?)
+}
+
+fn recorded(
+    rt: &impl Abort,
+    alloc: Global,
+    table: &Table,
+    session: &Session,
+) -> Result<Option<Vote>, Fail> {
+    assert!(rt; session.fits());
+    let digest = session_digest(alloc, session)?;
+    Ok(table.recorded(alloc, session, &digest)?)
 }
 
 #[test]
@@ -58,7 +71,7 @@ fn a_used_dummy_is_followed_by_one(rt: HostRuntime) -> Result<(), Fail> {
     assert!(rt; table.least_dummy() == Key::Dummy(1, 1));
     let second = session(alloc, 2, 0)?;
     assert!(rt; prepared(&rt, alloc, &mut table, &second)? == Vote::Abort);
-    assert!(rt; second.fits() && table.recorded(alloc, &second)?.is_none());
+    assert!(rt; recorded(&rt, alloc, &table, &second)?.is_none());
     Ok(())
 }
 
@@ -68,7 +81,7 @@ fn a_dummy_is_not_made_yet(rt: HostRuntime) -> Result<(), Fail> {
     let mut table = dummies_alone(&rt, alloc, 1)?;
     let early = session(alloc, 3, 5)?;
     assert!(rt; prepared(&rt, alloc, &mut table, &early)? == Vote::Abort);
-    assert!(rt; early.fits() && table.recorded(alloc, &early)? == Some(Vote::Abort));
+    assert!(rt; recorded(&rt, alloc, &table, &early)? == Some(Vote::Abort));
     let row = table.record(&Key::Dummy(1, 5)).expect(&rt, "a record");
     assert!(rt; matches!(&row.state, State::Unknown) && row.book.len() == 1);
     assert!(rt; table.least_dummy() == Key::Dummy(1, 0));

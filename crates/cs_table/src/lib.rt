@@ -24,5 +24,5 @@ pub use cs_tx_form::{Effect, Record};
 pub use genesis::TableError;
 pub use listing::Records;
 pub use piece::Piece;
-pub use standing::Standing;
+pub use standing::{Preparation, Standing};
 pub use table::Table;

@@ -16,17 +16,16 @@ ghost use Rattle.cs_table.specs.declared.standing.Standing.{Standing};
 
 use crate::piece::Piece;
 use crate::pieces::{dummy_object, made_pieces, read_pieces, used_pieces};
-use crate::standing::Standing;
+use crate::standing::{Preparation, Standing};
 use crate::table::Table;
 use cs_base::{Key, Memory};
-use cs_tx::{Digest, Session, Vote, session_digest};
+use cs_tx::{Digest, Session, Vote};
 use cs_tx_form::Effect;
 use std::alloc::Global;
 
-/// What a session has in the shard: its digest, what it uses up, and what it only reads.
+/// What a session has in the shard: what it uses up, and what it only reads.
 #[derive(Drop)]
 struct Uses {
-    digest: Digest,
     used: Vec<Piece>,
     read: Vec<Piece>,
 }
@@ -47,7 +46,6 @@ fn has_dummy(shard: u16, dummies: &[(u16, u64)]) -> bool
 impl Table {
     fn uses(&self, alloc: Global, session: &Session) -> Result<Uses, Memory>
         requires { SessionFits session.now }
-        ensures digest { IfOk result (λ uses. uses.digest ≡ digest_of_session session.now) }
         ensures used { IfOk result (λ uses.
             uses.used.items ≡ used_in self.now.shards self.now.shard session.now) }
         ensures read { IfOk result (λ uses.
@@ -55,10 +53,9 @@ impl Table {
         ensures used_fit { IfOk result (λ uses. PiecesFit uses.used.items) }
         ensures read_fit { IfOk result (λ uses. PiecesFit uses.read.items) }
     {
-        let digest = session_digest(alloc, session)?;
         let used = used_pieces(alloc, self.config(), self.shard(), session)?;
         let read = read_pieces(alloc, self.config(), self.shard(), session)?;
-        Ok(Uses { digest, used, read })
+        Ok(Uses { used, read })
     }
 
     /// Whether a session has a key here, by which it can be held. A well formed one that concerns
@@ -73,32 +70,51 @@ impl Table {
         Ok(anchor.is_some())
     }
 
-    /// Votes on a session. Where the vote is commit its keys are locked by it; a new abort is noted
-    /// in the book of its anchor, where there is room. The session is well formed, and concerns the
-    /// shard.
-    pub fn prepare(&mut self, alloc: Global, session: &Session) -> Result<Vote, Memory>
+    /// Votes on a session, whose digest is given. Where the vote is commit its keys are locked by
+    /// it; a new abort is noted in the book of its anchor, where there is room. The session is well
+    /// formed, and concerns the shard.
+    pub fn prepare(
+        &mut self,
+        alloc: Global,
+        session: &Session,
+        digest: &Digest,
+    ) -> Result<Preparation, Memory>
         requires fits { SessionFits session.now }
+        requires named { digest.now ≡ digest_of_session session.now }
         requires anchored { IsSome (anchor_in self.old (session_of (λ tx. true) session.now)) }
-        ensures { (approves : Tx → Bool) → IfOk result (λ vote.
+        ensures vote { (approves : Tx → Bool) → IfOk result (λ answer.
             ComesTo (prepared self.old (session_of approves session.now))
-            self.old self.new (Voted (vote_of vote))) }
+            self.old self.new (Voted (vote_of answer.vote))) }
+        ensures locks { (approves : Tx → Bool) → IfOk result (λ answer.
+            answer.locked ≡ is_locked_in self.new (session_of approves session.now)) }
     {
         let uses = self.uses(alloc, session)?;
         let used = uses.used.as_slice();
         let read = uses.read.as_slice();
         match first_key(used) {
             Some(anchor) => {
-                let vote = self.vote_on(alloc, &uses.digest, &anchor, used, read)?;
-                Ok(vote)
+                let vote = self.vote_on(alloc, digest, &anchor, used, read)?;
+                let locked = self.is_locked(digest, &anchor);
+                Ok(Preparation { vote, locked })
             }
-            None => Ok(Vote::Abort),
+            None => Ok(Preparation {
+                vote: Vote::Abort,
+                locked: false,
+            }),
         }
     }
 
-    /// Carries the decision on a session out, where it holds its lock. The session is well formed,
-    /// and concerns the shard.
-    pub fn decide(&mut self, alloc: Global, session: &Session, vote: Vote) -> Result<Effect, Memory>
+    /// Carries the decision on a session out, whose digest is given, where it holds its lock. The
+    /// session is well formed, and concerns the shard.
+    pub fn decide(
+        &mut self,
+        alloc: Global,
+        session: &Session,
+        digest: &Digest,
+        vote: Vote,
+    ) -> Result<Effect, Memory>
         requires fits { SessionFits session.now }
+        requires named { digest.now ≡ digest_of_session session.now }
         requires anchored { IsSome (anchor_in self.old (session_of (λ tx. true) session.now)) }
         ensures { (approves : Tx → Bool) → IfOk result (λ effect.
             ComesTo (decided self.old (session_of approves session.now) (vote_of vote))
@@ -111,16 +127,16 @@ impl Table {
             Some(anchor) => anchor,
             None => return Ok(Effect::Skipped),
         };
-        if !self.is_locked(&uses.digest, &anchor) {
+        if !self.is_locked(digest, &anchor) {
             return Ok(Effect::Skipped);
         }
         match vote {
             Vote::Commit => {
-                self.accept(alloc, session, &uses.digest, used, read)?;
+                self.accept(alloc, session, digest, used, read)?;
                 Ok(Effect::Accepted)
             }
             Vote::Abort => {
-                self.undo(alloc, &uses.digest, &anchor, used, read)?;
+                self.undo(alloc, digest, &anchor, used, read)?;
                 Ok(Effect::Aborted)
             }
         }
@@ -179,41 +195,40 @@ impl Table {
         Ok(())
     }
 
-    /// Whether a session has locked its anchor. The session fits.
-    pub fn locks(&self, alloc: Global, session: &Session) -> Result<bool, Memory>
-        requires { SessionFits session.now }
-        ensures { (approves : Tx → Bool) → IfOk result (λ locks.
-            locks ≡ is_locked_in self.now (session_of approves session.now)) }
-    {
-        let uses = self.uses(alloc, session)?;
-        match first_key(uses.used.as_slice()) {
-            Some(anchor) => Ok(self.is_locked(&uses.digest, &anchor)),
-            None => Ok(false),
-        }
-    }
-
-    /// Whether a session was accepted or aborted here.
-    pub fn standing(&self, alloc: Global, session: &Session) -> Result<Standing, Memory>
-        requires { SessionFits session.now }
+    /// Whether a session, whose digest is given, was accepted or aborted here.
+    pub fn standing(
+        &self,
+        alloc: Global,
+        session: &Session,
+        digest: &Digest,
+    ) -> Result<Standing, Memory>
+        requires fits { SessionFits session.now }
+        requires named { digest.now ≡ digest_of_session session.now }
         ensures { (approves : Tx → Bool) → IfOk result (λ standing.
             standing ≡ standing_in self.now (session_of approves session.now)) }
     {
         let uses = self.uses(alloc, session)?;
         match first_key(uses.used.as_slice()) {
-            Some(anchor) => Ok(self.standing_under(&uses.digest, &anchor)),
+            Some(anchor) => Ok(self.standing_under(digest, &anchor)),
             None => Ok(Standing::Open),
         }
     }
 
-    /// The vote that is on record on a session, if there is one.
-    pub fn recorded(&self, alloc: Global, session: &Session) -> Result<Option<Vote>, Memory>
-        requires { SessionFits session.now }
+    /// The vote that is on record on a session, whose digest is given, if there is one.
+    pub fn recorded(
+        &self,
+        alloc: Global,
+        session: &Session,
+        digest: &Digest,
+    ) -> Result<Option<Vote>, Memory>
+        requires fits { SessionFits session.now }
+        requires named { digest.now ≡ digest_of_session session.now }
         ensures { (approves : Tx → Bool) → IfOk result (λ vote.
             option_map vote_of vote ≡ recorded_in self.now (session_of approves session.now)) }
     {
         let uses = self.uses(alloc, session)?;
         match first_key(uses.used.as_slice()) {
-            Some(anchor) => Ok(self.recorded_under(&uses.digest, &anchor)),
+            Some(anchor) => Ok(self.recorded_under(digest, &anchor)),
             None => Ok(None),
         }
     }

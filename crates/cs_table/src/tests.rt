@@ -4,7 +4,7 @@ use crate::standing::Standing;
 use crate::table::Table;
 use cs_base::{Config, Key, Memory};
 use cs_test_samples::{coin, spend};
-use cs_tx::{Encoded, Session, State, Vote, genesis_key, output_keys};
+use cs_tx::{Encoded, Session, State, Vote, genesis_key, output_keys, session_digest};
 use cs_tx_form::Effect;
 use std::alloc::Global;
 use std::process::Abort;
@@ -38,7 +38,10 @@ fn prepared(
     assert!(rt; session.fits());
     let anchored = table.has_anchor(alloc, session)?;
     assert!(rt; anchored);
-    Ok(table.prepare(alloc, session)?)
+    let digest = session_digest(alloc, session)?;
+    let answer = table.prepare(alloc, session, &digest)?;
+    assert!(rt; answer.locked == (answer.vote == Vote::Commit));
+    Ok(answer.vote)
 }
 
 fn decided(
@@ -51,7 +54,8 @@ fn decided(
     assert!(rt; session.fits());
     let anchored = table.has_anchor(alloc, session)?;
     assert!(rt; anchored);
-    Ok(table.decide(alloc, session, vote)?)
+    let digest = session_digest(alloc, session)?;
+    Ok(table.decide(alloc, session, &digest, vote)?)
 }
 
 fn standing(
@@ -61,7 +65,8 @@ fn standing(
     session: &Session,
 ) -> Result<Standing, Fail> {
     assert!(rt; session.fits());
-    Ok(table.standing(alloc, session)?)
+    let digest = session_digest(alloc, session)?;
+    Ok(table.standing(alloc, session, &digest)?)
 }
 
 fn name_of(rt: &impl Abort, key: Key) -> [u8; 32] {
@@ -80,10 +85,11 @@ fn a_coin_is_split(rt: HostRuntime) -> Result<(), Fail> {
         let vote = prepared(&rt, alloc, &mut table, &session)?;
         assert!(rt; vote == Vote::Commit);
     }
-    assert!(rt; session.fits() && table.locks(alloc, &session)?);
     assert!(rt; decided(&rt, alloc, &mut table, &session, Vote::Commit)? == Effect::Accepted);
     assert!(rt; standing(&rt, alloc, &table, &session)? == Standing::Accepted);
-    assert!(rt; table.recorded(alloc, &session)? == Some(Vote::Commit));
+    assert!(rt; session.fits());
+    let digest = session_digest(alloc, &session)?;
+    assert!(rt; table.recorded(alloc, &session, &digest)? == Some(Vote::Commit));
     let row = table.record(&key).expect(&rt, "a record");
     assert!(rt; matches!(&row.state, State::Inactive(_)) && row.book.is_empty());
     assert!(rt; table.record(&Key::Dummy(0, 1)).is_some());

@@ -71,7 +71,6 @@ fn enter(
 /// A node of one of two shards votes.
 fn vote(
     rt: &impl Abort,
-    alloc: Global,
     pool: &mut Pool,
     plain: &mut PlainPool,
     draws: &mut Draws,
@@ -86,7 +85,7 @@ fn vote(
     } else {
         Vote::Commit
     };
-    let answer = pool.count(alloc, &digest_of(number), Ballot { sender, vote })?;
+    let answer = pool.count(&digest_of(number), Ballot { sender, vote })?;
     assert!(rt; answer == plain.count(number, sender, vote)?);
     Ok(())
 }
@@ -136,10 +135,10 @@ fn step(
         1 | 2 => enter(rt, alloc, pool, plain, number, false)?,
         3 => leave(pool, plain, number)?,
         4 | 5 => {
-            pool.lock(alloc, &digest_of(number))?;
+            pool.lock(&digest_of(number))?;
             plain.lock(number);
         }
-        _ => vote(rt, alloc, pool, plain, draws, number)?,
+        _ => vote(rt, pool, plain, draws, number)?,
     }
     Ok(())
 }

@@ -7,7 +7,7 @@ use cs_base::{Config, Key, Memory};
 use cs_table::Table;
 use cs_test_draws::Draws;
 use cs_test_samples::{Transfer, coin};
-use cs_tx::{Digest, Effect, Encoded, Object, Session, State, Vote, genesis_key};
+use cs_tx::{Digest, Effect, Encoded, Object, Session, State, Vote, genesis_key, session_digest};
 use std::alloc::Global;
 use std::process::Abort;
 use std::test::Fail;
@@ -96,7 +96,8 @@ fn prepare(
 ) -> Result<(), Fail> {
     assert!(rt; session.fits());
     assert!(rt; table.has_anchor(alloc, session)?);
-    let vote = table.prepare(alloc, session)?;
+    let digest = session_digest(alloc, session)?;
+    let vote = table.prepare(alloc, session, &digest)?.vote;
     assert!(rt; vote == rows::prepare(rows, plan)?);
     Ok(())
 }
@@ -113,7 +114,8 @@ fn decide(
 ) -> Result<(), Fail> {
     assert!(rt; session.fits());
     assert!(rt; table.has_anchor(alloc, session)?);
-    let effect = table.decide(alloc, session, vote)?;
+    let digest = session_digest(alloc, session)?;
+    let effect = table.decide(alloc, session, &digest, vote)?;
     assert!(rt; effect == rows::decide(rows, plan, vote)?);
     Ok(())
 }

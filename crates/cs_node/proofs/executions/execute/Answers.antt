@@ -1,4 +1,4 @@
-use Rattle.std.proofs.Common.{◌≡◌, false, ◌++◌, ◌∷◌, [], List, Some, ap, sym, subst, ◌∙◌}
+use Rattle.std.proofs.Common.{◌≡◌, false, ◌++◌, ◌∷◌, [], List, Some, is_some, ap, sym, subst, ◌∙◌}
 use Rattle.cs_tx_form.specs.declared.entry.Entry.{Entry}
 use Rattle.cs_node_rules.specs.Deployment.{entry_or_void}
 use Rattle.cs_node_rules.specs.Signs.{Sign, vote_signs, execution_signs}
@@ -8,7 +8,8 @@ use Rattle.cs_node.specs.declared.draft.Note.TheVariants.{Executed}
 use Rattle.cs_node.specs.Notes.{Tells}
 use Rattle.cs_node_carried.specs.Proposals.{entry_read}
 use Rattle.cs_node.specs.Steps.{Makes}
-use Rattle.cs_node.proofs.Executing.{execution-makes}
+use Rattle.cs_node.proofs.Executing.{execution-makes, voted-fit}
+use Rattle.cs_node_state.specs.Setup.{is_fit}
 use Rattle.cs_node.proofs.Noting.{effect-again}
 use Rattle.cs_node.proofs.executions.execute.Goals as goal
 
@@ -30,3 +31,12 @@ returns-in_ok-note_execution-in-Some-clause-config c = (c.in_ok-outcome-in-Some.
 
 pub returns-in_ok-note_execution-in-Some-clause-me : goal.returns-in_ok-note_execution-in-Some-clause-me
 returns-in_ok-note_execution-in-Some-clause-me c = (c.in_ok-outcome-in-Some.ensures [] (λ tx. false)).me_stays
+
+pub say_vote-requires-clause-fit : goal.say_vote-requires-clause-fit
+say_vote-requires-clause-fit c = λ some genesis approves.
+    let setup = deployed c.args.sbac.now.config genesis approves in
+    let me = c.args.sbac.now.me in
+    let ran = c.in_ok-outcome-in-Some.ensures genesis approves in
+    let told = sym (ap is_some ran.voted_is) ∙ some in
+    let fit = voted-fit setup me.shard (bench_of c.args.sbac.now) c.in-Some.entry told in
+    (λ i. is_fit (deployed (ran.config_stays i) genesis approves) (ran.me_stays i).shard (c.session_in.ensures.session i)) ∙ fit

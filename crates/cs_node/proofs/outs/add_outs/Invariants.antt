@@ -6,6 +6,6 @@ use Rattle.cs_node.specs.Speaking.{Speaks}
 use Rattle.cs_node.proofs.outs.add_outs.Given as goal
 
 abbrev pub invariant-loop-i : goal.invariant-loop-i
-invariant-loop-i l = (config : Config) (net : Net) → Speaks config net l.keys → AllReached l.keys (to_each l.said.to l.said.message)
-    → AllReached l.keys (to_each (drop l.i l.said.to) l.said.message)
-    × (l.outs ++ outs_for net l.keys.me (to_each (drop l.i l.said.to) l.said.message) ≡ l.initial.outs ++ outs_for net l.keys.me (to_each l.said.to l.said.message))
+invariant-loop-i l = (config : Config) (net : Net) → Speaks config net l.keys → AllReached l.keys (to_each l.to l.message)
+    → AllReached l.keys (to_each (drop l.i l.to) l.message)
+    × (l.outs ++ outs_for net l.keys.me (to_each (drop l.i l.to) l.message) ≡ l.initial.outs ++ outs_for net l.keys.me (to_each l.to l.message))

@@ -1,4 +1,5 @@
-use Rattle.std.proofs.Common.{sym, ◌∙◌}
+use Rattle.std.proofs.Common.{ap, sym, ◌∙◌}
+use Rattle.cs_node_state.specs.Pool.{is_pooled}
 use Rattle.std.proofs.lemmas.Result.{on_ok_weaker}
 use Rattle.cs_node_rules.specs.declared.cause.Cause.TheVariants.{Repeat, Denied}
 use Rattle.cs_node_rules.specs.Signs.{entering_signs}
@@ -13,7 +14,7 @@ returns-then-branch-clause-made g c = λ genesis.
     let me = c.args.sbac.now.me in
     let bench = bench_of c.args.sbac.now in
     on_ok_weaker _ (dropped-makes setup me bench (entering_signs setup bench c.args.session) Repeat c.args.draft.now c.drop_it.new.self
-    (repeated setup me bench c.args.session (sym c.in_ok-pooled.ensures ∙ c.if-branch.true))) c.drop_it.ensures.tells
+    (repeated setup me bench c.args.session (ap (λ d. is_pooled d c.args.sbac.now.pool) (sym c.requires.named) ∙ sym c.in_ok-pooled.ensures ∙ c.if-branch.true))) c.drop_it.ensures.tells
 
 pub returns-then-not-branch-clause-made : goal.returns-then-not-branch-clause-made
 returns-then-not-branch-clause-made g c = λ genesis.
@@ -21,16 +22,16 @@ returns-then-not-branch-clause-made g c = λ genesis.
     let me = c.args.sbac.now.me in
     let bench = bench_of c.args.sbac.now in
     on_ok_weaker _ (dropped-makes setup me bench (entering_signs setup bench c.args.session) Denied c.args.draft.now c.drop_it-then-not-branch.new.self
-    (denied setup me bench c.args.session (sym c.in_ok-pooled.ensures ∙ c.if-branch.false) (sym c.in_ok-approves.ensures ∙ c.if-not-branch.true))) c.drop_it-then-not-branch.ensures.tells
+    (denied setup me bench c.args.session (ap (λ d. is_pooled d c.args.sbac.now.pool) (sym c.requires.named) ∙ sym c.in_ok-pooled.ensures ∙ c.if-branch.false) (sym c.in_ok-approves.ensures ∙ c.if-not-branch.true))) c.drop_it-then-not-branch.ensures.tells
 
 pub returns-in-New-clause-made : goal.returns-in-New-clause-made
 returns-in-New-clause-made g c = λ genesis.
     let approves = g.J.Judge.is_approved c.args.judge.now in
     new-makes (deployed c.args.sbac.now.config genesis approves) c.args.sbac.now.me c.args.sbac.now c.enter.new.self c.args.session _
-    (sym c.in_ok-pooled.ensures ∙ c.if-branch.false) (sym c.in_ok-approves.ensures ∙ c.if-not-branch.false) c.in_ok-enter.ensures.answer c.in_ok-enter.ensures.pool c.args.draft.now c.in-New.is
+    (ap (λ d. is_pooled d c.args.sbac.now.pool) (sym c.requires.named) ∙ sym c.in_ok-pooled.ensures ∙ c.if-branch.false) (sym c.in_ok-approves.ensures ∙ c.if-not-branch.false) c.in_ok-enter.ensures.answer c.in_ok-enter.ensures.pool c.args.draft.now c.in-New.is
 
 pub returns-in-Full-clause-made : goal.returns-in-Full-clause-made
 returns-in-Full-clause-made g c = λ genesis.
     let approves = g.J.Judge.is_approved c.args.judge.now in
     on_ok_weaker _ (full-makes (deployed c.args.sbac.now.config genesis approves) c.args.sbac.now.me c.args.sbac.now c.enter.new.self c.args.session _
-    (sym c.in_ok-pooled.ensures ∙ c.if-branch.false) (sym c.in_ok-approves.ensures ∙ c.if-not-branch.false) c.in_ok-enter.ensures.answer c.in_ok-enter.ensures.pool c.args.draft.now c.drop_it-in-Full.new.self c.in-Full.is) c.drop_it-in-Full.ensures.tells
+    (ap (λ d. is_pooled d c.args.sbac.now.pool) (sym c.requires.named) ∙ sym c.in_ok-pooled.ensures ∙ c.if-branch.false) (sym c.in_ok-approves.ensures ∙ c.if-not-branch.false) c.in_ok-enter.ensures.answer c.in_ok-enter.ensures.pool c.args.draft.now c.drop_it-in-Full.new.self c.in-Full.is) c.drop_it-in-Full.ensures.tells

@@ -1,9 +1,7 @@
 use Rattle.std.proofs.Common.{◌<◌, length, subst, arith}
-use Rattle.std.proofs.lemmas.Result.{err_from_is_err_and}
 use Rattle.cs_node_rules.specs.Play.{Course, most_events}
 use Rattle.cs_play.specs.Standing.{site_in}
 use Rattle.cs_play.specs.Ends.{Ends}
-use Rattle.cs_play.proofs.Courses.{injects-grows}
 use Rattle.cs_play.proofs.Forgeries.{no-more, is-forged, is-given}
 use Rattle.cs_play.proofs.play.Replay.inject.Goals as goal
 
@@ -12,22 +10,16 @@ returns-then-self-ge-MOST_EVENTS-clause-ends g c = λ s p st has.
     let site = site_in g.O.Order.rules g.O.Carried.carrier s in
     (p, no-more site s.traced c.args.line c.args.to c.args.bytes.now p (omega (arith, c.if-self-ge-MOST_EVENTS.true, st.holds.events)), st.printed)
 
-pub returns-in_err-genuine-clause-ends : goal.returns-in_err-genuine-clause-ends
-returns-in_err-genuine-clause-ends g c = λ s p st has.
-    let (rest, grown) = injects-grows (site_in g.O.Order.rules g.O.Carried.carrier s) s.traced c.args.line c.args.to c.args.bytes.now p in
-    let e = err_from_is_err_and c.from_residual.result c.from_residual.ensures.1 in
-    rw (e.1, e.2) (p.text, rest, grown, st.printed)
-
 pub returns-then-not-genuine-clause-ends : goal.returns-then-not-genuine-clause-ends
 returns-then-not-genuine-clause-ends g c = λ s p st has.
     let site = site_in g.O.Order.rules g.O.Carried.carrier s in
     let few : length p.world < most_events = omega (arith, c.if-self-ge-MOST_EVENTS.false, st.holds.events) in
-    (p, is-forged site s.traced c.args.line c.args.to c.args.bytes.now p _ few (c.in_ok-genuine.ensures s p st.holds has) c.if-not-genuine.true, st.printed)
+    (p, is-forged site s.traced c.args.line c.args.to c.args.bytes.now p _ few (c.is_genuine-genuine.ensures s p st.holds has) c.if-not-genuine.true, st.printed)
 
 pub returns-clause-ends : goal.returns-clause-ends
 returns-clause-ends g c = λ s p st has.
     let site = site_in g.O.Order.rules g.O.Carried.carrier s in
     let few : length p.world < most_events = omega (arith, c.if-self-ge-MOST_EVENTS.false, st.holds.events) in
     subst (λ (course : Course g.row.O-Message.Denot). Ends g.O.Order.stands g.J.Judge.is_approved g.O.Order.rules g.O.Carried.carrier s course c.occur.new.self (g.K.Sink.written c.occur.new.output) c.occur.result)
-    (is-given site s.traced c.args.line c.args.to c.args.bytes.now p _ few (c.in_ok-genuine.ensures s p st.holds has) c.if-not-genuine.false)
+    (is-given site s.traced c.args.line c.args.to c.args.bytes.now p _ few (c.is_genuine-genuine.ensures s p st.holds has) c.if-not-genuine.false)
     (c.occur.ensures.ends s p st has)

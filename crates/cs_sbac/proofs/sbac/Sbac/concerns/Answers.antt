@@ -1,15 +1,21 @@
-use Rattle.std.proofs.Common.{◌≡◌, ◌∙◌, ap, subst, nat_eq}
-use Rattle.std.specs.List.{list_any}
+use Rattle.std.proofs.Common.{◌≡◌, ◌∙◌, sym, subst}
 use Rattle.cs_node_state.specs.Setup.{concerns}
-use Rattle.cs_sbac.specs.Held.{Held}
+use Rattle.cs_tx.specs.Uses as Uses
+use Rattle.cs_sbac.specs.Held.{Held, IsFit}
 use Rattle.cs_node_pool.specs.Deployed.{deployed}
-use Rattle.cs_sbac.proofs.Concerned.{contains-any}
+use Rattle.cs_node_pool.proofs.Concerned.{concerns-session}
+use Rattle.cs_sbac.proofs.Settings.{formed, some_anchor}
 use Rattle.cs_sbac.proofs.sbac.Sbac.concerns.Goals as goal
+
+pub anchor-requires : goal.anchor-requires
+anchor-requires c =
+    let Fits : Held → Type 0 = λ held. IsFit held c.args.session.now in
+    formed c.self.inside.config c.self.inside.me.shard c.args.session.now (subst Fits (sym c.self.view_is) c.requires)
 
 pub returns : goal.returns
 returns c genesis approves =
-    let Says : Held → Type 0 = λ held. c.contains.result ≡ concerns (deployed held.config genesis approves) c.args.session.now c.args.shard in
+    let Says : Held → Type 0 = λ held. c.is_some.result ≡ concerns (deployed held.config genesis approves) c.args.session.now c.args.shard in
     subst Says c.self.view_is
-    (c.contains.ensures.value
-    ∙ ap (list_any (λ s. nat_eq s c.args.shard)) (c.as_slice.ensures.value ∙ c.in_ok-shards.ensures genesis approves)
-    ∙ contains-any c.self.inside.config genesis approves c.args.session.now c.args.shard)
+    (c.is_some.ensures
+    ∙ some_anchor c.anchor.result (Uses.concerns c.self.inside.config c.args.session.now c.args.shard) c.anchor.ensures.concerned
+    ∙ sym (concerns-session c.self.inside.config genesis approves c.args.session.now c.args.shard))

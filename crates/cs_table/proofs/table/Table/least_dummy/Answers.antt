@@ -1,5 +1,4 @@
-use Rattle.std.proofs.Common.{◌≡◌, Option, Some, None, refl, sym, ap, ◌∙◌, subst}
-use Rattle.cs_ledger.specs.Session as ledger
+use Rattle.std.proofs.Common.{None, subst}
 use Rattle.cs_table.specs.Seen.{seen}
 use Rattle.cs_tx.specs.Sessions.{key_seen}
 use Rattle.cs_table.specs.Dummies.{IsLeastDummy}
