@@ -33,7 +33,7 @@ use Rattle.cs_node_rules.specs.Signs.{Sign, Dropped, Took, Entered, Sent, guarde
 use Rattle.cs_node_rules.specs.Site.{Input, Datagram, Tick, Mark, In, Ordered, Plain, Site, View, view_after, plain, signs_of}
 use Rattle.cs_node_rules.specs.Trail.{with_deed, taking_marks, member_marks, reply_marks, want_marks, message_marks, opened_marks, again_marks, waiting_marks, tick_marks, input_marks, event_marks, settled}
 use Rattle.cs_node_rules.specs.Collisions.{sessions_in}
-use Rattle.cs_node_law.specs.Made.{view_at, has_given, IsKnown, SignMade, IsOffered, IsVoted, IsTaken, IsLevel, ReadsProper, InputFits, EventIsMade}
+use Rattle.cs_node_law.specs.Made.{view_at, has_given, IsKnown, StoodDecided, SignMade, IsOffered, IsVoted, IsTaken, IsLevel, ReadsProper, InputFits, EventIsMade}
 use Rattle.cs_node_law.proofs.Views.{view_after-append, me-same, member-is}
 use Rattle.cs_node_law.proofs.Silent.{sent-more, sent-over, AreSaid, said-append, said-sends, said-level, Handed, done-level, deed-level, moving-level}
 use Rattle.cs_node_law.proofs.Turns.{sign-level, settled-level}
@@ -76,9 +76,22 @@ module _ {M : Type 0} (site : Site M) (me : NodeId) (t : List (Mark M)) (bytes :
 
   -- sessions that are submitted
 
-  submitted : (sender : NodeId) (x : Session) (o : Option Bool) → Says sender (message.Submit x) → is_client sender ≡ true → is_fit site.setup Now.me.shard x ≡ true → Makes (submitted_signs site.setup Now.bench sender x o)
-  submitted sender x (Some accepted) e client fit = sent sender (message.Decided (digest_of site.setup x) accepted) (inr (client, refl))
-  submitted sender x None e client fit =
+  -- how a session stands now
+  stands : (sender : NodeId) (x : Session) (accepted : Bool) → Says sender (message.Submit x) → is_fit site.setup Now.me.shard x ≡ true → decided site.setup Now.me.shard Now.bench.table x ≡ Some accepted → StoodDecided site Now.me Given (digest_of site.setup x) accepted
+  stands sender x accepted e fit is = record {
+    session = x;
+    digest_is = refl;
+    known = heard-given site sessions_in me Given sender (message.Submit x) x (record { bytes = bytes; is_current = refl; reads = e }) (inl refl);
+    fit = fit;
+    later = In (Datagram bytes) ∷ [];
+    earlier = t;
+    split = refl;
+    stood = ap (λ (n : NodeId). decided site.setup Now.me.shard (view_at site n t).bench.table x) (me-same site me t) ∙ is;
+  }
+
+  submitted : (sender : NodeId) (x : Session) (o : Option Bool) → Says sender (message.Submit x) → is_client sender ≡ true → is_fit site.setup Now.me.shard x ≡ true → decided site.setup Now.me.shard Now.bench.table x ≡ o → Makes (submitted_signs site.setup Now.bench sender x o)
+  submitted sender x (Some accepted) e client fit is = sent sender (message.Decided (digest_of site.setup x) accepted) (inr (client, stands sender x accepted e fit is))
+  submitted sender x None e client fit is =
       tested (not (is_pooled (digest_of site.setup x) Now.bench.pool)) Repeat _
       (λ new. tested (is_approved site.setup x) Denied _
       (λ approved. tested (has_room Now.bench.pool) Full _
@@ -88,7 +101,7 @@ module _ {M : Type 0} (site : Site M) (me : NodeId) (t : List (Mark M)) (bytes :
   submits sender x e =
       tested (is_client sender) Role _
       (λ client. tested (is_fit site.setup Now.me.shard x) Malformed _
-      (λ fit. submitted sender x (decided site.setup Now.me.shard Now.bench.table x) e client fit))
+      (λ fit. submitted sender x (decided site.setup Now.me.shard Now.bench.table x) e client fit refl))
 
   told : (sender : NodeId) (key : Key) → is_client sender ≡ true → Makes (told_signs site.setup Now.me.shard Now.bench sender key)
   told sender key client = tested (shard_of_key site.setup.shards key == Now.me.shard) Mine _ (λ home. sent sender (message.Told key (told_at Now.bench.table key)) (inr (client, refl)))

@@ -41,17 +41,17 @@ of-made d (Some object) (Active held) h = cc
 of-made d (Some object) (Locked held by) h = cc
 of-made d (Some object) (Inactive by) h = h
 
-by-lock : (used read : Bool) (d by : Bytes) (s : State) → is_inactive_by d (lock_state used read by s) ≡ true → is_inactive_by d s ≡ true
+pub by-lock : (used read : Bool) (d by : Bytes) (s : State) → is_inactive_by d (lock_state used read by s) ≡ true → is_inactive_by d s ≡ true
 by-lock true read d by s h = of-locked d by s h
 by-lock false true d by s h = of-locked d by s h
 by-lock false false d by s h = h
 
-by-undo : (used read : Bool) (d : Bytes) (s : State) → is_inactive_by d (undo_state used read s) ≡ true → is_inactive_by d s ≡ true
+pub by-undo : (used read : Bool) (d : Bytes) (s : State) → is_inactive_by d (undo_state used read s) ≡ true → is_inactive_by d s ≡ true
 by-undo true read d s h = of-released d s h
 by-undo false true d s h = of-released d s h
 by-undo false false d s h = h
 
-by-accept : (used read : Bool) (d by : Bytes) (new : Option Bytes) (s : State) → is_inactive_by d (accept_state used read by new s) ≡ true → (is_inactive_by d s ≡ true) ⊎ (bytes_eq d by ≡ true)
+pub by-accept : (used read : Bool) (d by : Bytes) (new : Option Bytes) (s : State) → is_inactive_by d (accept_state used read by new s) ≡ true → (is_inactive_by d s ≡ true) ⊎ (bytes_eq d by ≡ true)
 by-accept true read d by new s h = inr h
 by-accept false true d by new s h = inl (of-released d s h)
 by-accept false false d by new s h = inl (of-made d new s h)
@@ -81,7 +81,7 @@ module _ (r : Rules) (shard : ℕ) (t : Table) (d : Bytes) (key : Key) where
 held-voted : (r : Rules) (shard : ℕ) (d by : Bytes) (at : Key) (log : List Entry) → bytes_eq d by ≡ true → is_locked_by by ((table_of r shard log).at at).state ≡ true → votes_in r shard d Commit log ≡ true
 held-voted r shard d by at log same held = subst (λ k. votes_in r shard k Commit log ≡ true) (sym (same_bytes d by same)) (lock-voted r shard by at log held)
 
-none-used : (r : Rules) (shard : ℕ) (d : Bytes) (key : Key) → is_inactive_by d ((table_of r shard []).at key).state ≡ true → ⊥
+pub none-used : (r : Rules) (shard : ℕ) (d : Bytes) (key : Key) → is_inactive_by d ((table_of r shard []).at key).state ≡ true → ⊥
 none-used r shard d (Object name) h = let q : false ≡ true = of-made d (object_under (objects_in r shard r.genesis) (Object name)) Unknown h in cc
 none-used r shard d (Dummy s serial) h = spare (s == shard && nat_lt serial r.dummies) h
   where
@@ -110,7 +110,7 @@ noted-in book by w d vote h = old (vote_in book d) refl (sym (vote_in-append boo
     old None e h = inr (new (bytes_eq d by) refl h)
     old (Some v) e h = inl (e ∙ h)
 
-noted-if : (b : Bool) (book : Book) (by : Bytes) (w : Vote) (d : Bytes) (vote : Vote) → vote_in (if b then book ++ (by, w) ∷ [] else book) d ≡ Some vote → (vote_in book d ≡ Some vote) ⊎ ((bytes_eq d by ≡ true) × (w ≡ vote))
+pub noted-if : (b : Bool) (book : Book) (by : Bytes) (w : Vote) (d : Bytes) (vote : Vote) → vote_in (if b then book ++ (by, w) ∷ [] else book) d ≡ Some vote → (vote_in book d ≡ Some vote) ⊎ ((bytes_eq d by ≡ true) × (w ≡ vote))
 noted-if true book by w d vote h = noted-in book by w d vote h
 noted-if false book by w d vote h = inl h
 
@@ -141,7 +141,7 @@ module _ (r : Rules) (shard : ℕ) (t : Table) (d : Bytes) (key : Key) (vote : V
         | inr new ↦ inr (inr (x.digest, k, new.0, held, new.1))
       ]
 
-noted-voted : (r : Rules) (shard : ℕ) (d : Bytes) (key : Key) (vote : Vote) (log : List Entry) → vote_in ((table_of r shard log).at key).book d ≡ Some vote → votes_in r shard d vote log ≡ true
+pub noted-voted : (r : Rules) (shard : ℕ) (d : Bytes) (key : Key) (vote : Vote) (log : List Entry) → vote_in ((table_of r shard log).at key).book d ≡ Some vote → votes_in r shard d vote log ≡ true
 noted-voted r shard d key vote [] h = cc
 noted-voted r shard d key vote (entry ∷ log) h =
     elim (noted-from r shard (table_of r shard log) d key vote entry (exec r shard (table_of r shard log) entry) (change r shard (table_of r shard log) entry) h) [

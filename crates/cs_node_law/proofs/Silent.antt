@@ -19,7 +19,7 @@ use Rattle.cs_node_rules.specs.Signs.{Sign, Dropped, Took, Entered, Viewed, Did,
 use Rattle.cs_node_rules.specs.Site.{Datagram, Tick, Mark, In, Ordered, Plain, Site, View, plain, signs_of}
 use Rattle.cs_node_rules.specs.Trail.{out_signs, handed, with_deed, entered_view, moving}
 use Rattle.cs_node_rules.specs.Collisions.{sessions_in, in_opened, given}
-use Rattle.cs_node_law.specs.Made.{view_at, log_in, HasVotedOn, has_given, IsKnown, SaidMade, SignMade, IsMade, AllMade, IsLevel}
+use Rattle.cs_node_law.specs.Made.{view_at, log_in, HasVotedOn, has_given, IsKnown, StoodDecided, SaidMade, SignMade, IsMade, AllMade, IsLevel}
 
 -- ---- what was done, given and voted stays so
 
@@ -49,6 +49,24 @@ session-more {M} site me x (In Tick) t i = i
 session-more {M} site me x (Ordered deed) t i = i
 session-more {M} site me x (Plain sign) t i = i
 
+-- how a session stood is so for good
+pub stood-by : {M : Type 0} (site : Site M) (me : NodeId) (digest : Bytes) (accepted : Bool) (mark : Mark M) (t : List (Mark M)) → StoodDecided site me t digest accepted → StoodDecided site me (mark ∷ t) digest accepted
+stood-by {M} site me digest accepted mark t h = record {
+  session = h.session;
+  digest_is = h.digest_is;
+  known = session-more site me h.session mark t h.known;
+  fit = h.fit;
+  later = mark ∷ h.later;
+  earlier = h.earlier;
+  split = ap (λ l. mark ∷ l) h.split;
+  stood = h.stood;
+}
+
+stood-more : {M : Type 0} (site : Site M) (me : NodeId) (digest : Bytes) (accepted : Bool) (mark : Mark M) (t : List (Mark M)) → StoodDecided site (view_at site me t).me t digest accepted → StoodDecided site (view_at site me (mark ∷ t)).me (mark ∷ t) digest accepted
+stood-more {M} site me digest accepted (In input) t h = stood-by site (view_at site me t).me digest accepted (In input) t h
+stood-more {M} site me digest accepted (Ordered deed) t h = stood-by site (view_at site me t).me digest accepted (Ordered deed) t h
+stood-more {M} site me digest accepted (Plain sign) t h = stood-by site (view_at site me t).me digest accepted (Plain sign) t h
+
 module _ {M : Type 0} (site : Site M) (me : NodeId) where
   abbrev At : List (Mark M) → View M
   At t = view_at site me t
@@ -67,7 +85,7 @@ module _ {M : Type 0} (site : Site M) (me : NodeId) where
   said-more mark t to (message.Echo slot view digest) h = h
   said-more mark t to (message.Confirm slot view digest) h = h
   said-more mark t to (message.Change slot view change) h = h
-  said-more mark t to (message.Decided digest accepted) h = h
+  said-more mark t to (message.Decided digest accepted) h = (h.0, stood-more site me digest accepted mark t h.1)
   said-more mark t to (message.Done slot entry) h = h
   said-more mark t to (message.Ask key) h = h
   said-more mark t to (message.Told key state) h = h

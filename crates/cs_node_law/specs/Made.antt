@@ -20,7 +20,7 @@ use Rattle.cs_ledger.specs.ShardWorld.{is_vote}
 use Rattle.cs_node_rules.specs.declared.cause.Cause.{Cause}
 use Rattle.cs_node_state.specs.Setup.{Setup, digest_of, concerns, is_fit, is_approved, vote_of, entry_of}
 use Rattle.cs_node_state.specs.Admission.{due}
-use Rattle.cs_node_state.specs.Bench.{is_locked, noted}
+use Rattle.cs_node_state.specs.Bench.{is_locked, noted, decided}
 use Rattle.cs_node_rules.specs.Signs.{Sign, Dropped, Took, Entered, Viewed, Did, Sent}
 use Rattle.cs_node_rules.specs.Site.{Input, Datagram, Tick, Mark, In, Ordered, Plain, Site, View, start_view, view_after, signs_of}
 use Rattle.cs_node_rules.specs.Trail.{admits_proposed, opened_marks, event_marks}
@@ -150,12 +150,27 @@ IsHanded {M} site to said (deed ∷ past) =
 abbrev pub IsKnown : {M : Type 0} → Site M → View M → List (Mark M) → Session → Type 0
 IsKnown {M} site v t x = IsIn x (given site sessions_in v.me t) ⊎ HasVotedOn x (signs_of t)
 
--- what the node says itself: of votes those that it gave, on sessions that it knows; what slot it wants;
--- and nothing else but to clients, of which nothing is for an order
+-- a session of this digest, which stood in an input of the node and concerns its shard, stood so in its table after
+-- some of these marks: accepted, or aborted
+pub record StoodDecided {M : Type 0} (site : Site M) (me : NodeId) (t : List (Mark M)) (digest : Bytes)
+    (accepted : Bool) : Type 0 where
+  pub session : Session
+  pub digest_is : digest ≡ digest_of site.setup session
+  pub known : IsIn session (given site sessions_in me t)
+  pub fit : is_fit site.setup me.shard session ≡ true
+  pub later : List (Mark M)
+  pub earlier : List (Mark M)
+  pub split : t ≡ later ++ earlier
+  pub stood : decided site.setup me.shard (view_at site me earlier).bench.table session ≡ Some accepted
+
+-- what the node says itself: of votes those that it gave, on sessions that it knows; what slot it wants; to clients how
+-- sessions stood; and nothing else but to clients, of which nothing is for an order
 abbrev pub SaidMade : {M : Type 0} → Site M → View M → List (Mark M) → NodeId → Message → Type 0
 SaidMade {M} site v t to (message.Voted vote asks x) =
     (has_given site.setup (digest_of site.setup x) (vote_of vote) (signs_of t) ≡ true) × IsKnown site v t x
 SaidMade {M} site v t to (message.Want slot) = Unit {0}
+SaidMade {M} site v t to (message.Decided digest accepted) =
+    (is_client to ≡ true) × StoodDecided site v.me t digest accepted
 SaidMade {M} site v t to said = (is_client to ≡ true) × (is_ordering said ≡ false)
 
 -- A vote that was taken is the node's own, which it gave, or was heard; a session that entered was offered, or voted

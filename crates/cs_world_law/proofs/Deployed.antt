@@ -1,7 +1,6 @@
 -- The site of a deployment is sound, and its hashed strings are those that the ledger asks of.
 use Rattle.std.proofs.Common.{◌≡◌, inl, inr, ℕ, zero, suc, ◌+◌, ◌*◌, ◌<◌, ◌≤◌, ◌^◌, nat_lt, nat_le, Bool, true, false, List, [], ◌∷◌, ◌++◌, map, Option, Some, None, refl, sym, ap, ◌∙◌, subst, arith, append_assoc}
-use Rattle.std.specs.Prelude.{Ok, Err, ◌==◌, ◌&&◌, not, codes, length, slice_get}
-use Rattle.std.specs.List.{list_any}
+use Rattle.std.specs.Prelude.{Ok, Err, ◌==◌, codes, length, slice_get}
 use Rattle.std.specs.Int.{w16, w32, w64, to_be_bytes}
 use Rattle.std.proofs.lemmas.Bool.{cases_Bool, and_parts, eqb-true, ltb-true}
 use Rattle.std.proofs.lemmas.Nat.{mod_below}
@@ -10,7 +9,7 @@ use Rattle.sha2.proofs.Facts256.{length-sha256}
 use Rattle.cs_base.specs.Fields.{IsBytes}
 use Rattle.cs_base.specs.declared.node_id.NodeId.{NodeId}
 use Rattle.cs_base.specs.declared.node_id.TheConstants.{CLIENT_SHARD, CLIENTS}
-use Rattle.cs_base.specs.NodeId.{is_node, is_client, same_name}
+use Rattle.cs_base.specs.NodeId.{is_node, is_client}
 use Rattle.cs_base.specs.declared.config.Config.{Config}
 use Rattle.cs_base.proofs.Forms.{whole-again, some_is}
 use Rattle.cs_hash.specs.Hash.{hmac}
@@ -35,9 +34,8 @@ use Rattle.cs_wire.specs.declared.opening.OpenError.{OpenError}
 use Rattle.cs_wire.specs.Datagram.{text_of, body_in}
 use Rattle.cs_wire.specs.Datagram as wire
 use Rattle.cs_wire.specs.Heads.{head_at, first, head_seen}
-use Rattle.cs_wire.specs.Keys.{key_between}
 use Rattle.cs_wire.specs.Opens.{IsName, fault_of}
-use Rattle.cs_wire.specs.Opened.{Opened, said_by, opened_body, unless_fault, opened, keys_of_master}
+use Rattle.cs_wire.specs.Opened.{Opened, said_by, opened_body, unless_fault, opened}
 use Rattle.cs_wire.proofs.Parts.{head_encoding, HeadFits, head_form, head_for, head_length, text_parts, split}
 use Rattle.cs_wire.proofs.Masters.{sealed_is}
 use Rattle.cs_tx.specs.Sessions.{outputs_written_at, outputs_written, written_of, session_of}
@@ -51,6 +49,7 @@ use Rattle.cs_ledger.specs.Strings as Strings
 use Rattle.cs_ledger.specs.Strings.{Origin, Output, WrittenSession, IsString, sessions_from}
 use Rattle.cs_ledger.proofs.Basics.{in_either}
 use Rattle.cs_ledger.proofs.Strings.{no_collision}
+use Rattle.cs_node_rules.specs.Net.{Net, sealed}
 use Rattle.cs_node_rules.specs.Site.{Input, Datagram, Tick, Mark, In, Ordered, Plain, Carrier, Site}
 use Rattle.cs_node_rules.specs.World.{Happening, view_of, IsLife}
 use Rattle.cs_node_rules.specs.Collisions.{sessions_in, in_opened, known_sessions, known_entries, IsHashed, OfGenesis, OfSession, OfTransaction, OfOutput, OfEntry, NoCollision}
@@ -63,7 +62,7 @@ use Rattle.cs_node_law.proofs.Views.{sessions_given}
 use Rattle.cs_node_law.proofs.NoIns.{event-shape}
 use Rattle.cs_node_law.proofs.Speaking.{opened-fits}
 use Rattle.cs_node_law.proofs.Fitting.{sessions-fit}
-use Rattle.cs_world_law.specs.Worlds.{is_honest, IsWorld, deployed}
+use Rattle.cs_world_law.specs.Worlds.{is_honest, IsWorld, IsNet, deployed}
 use Rattle.cs_world_law.specs.Chain.{IsSoundSite, IsUnique}
 use Rattle.cs_world_law.proofs.Stories.{InsFit, ins-fit}
 
@@ -150,10 +149,9 @@ want-of (message.Proof proof) e = absurd (omega (arith, e))
 -- ---- nodes
 
 -- honest nodes are nodes
-node-of : (config : Config) (liars : List NodeId) (name : NodeId) → (is_node config name && not (list_any (λ liar. same_name liar name) liars)) ≡ true → (name.shard < config.shards) × (name.index ≤ 3 * config.f)
-node-of config liars name e =
-    let n = (and_parts (is_node config name) (not (list_any (λ liar. same_name liar name) liars)) e).0 in
-    let p = and_parts (nat_lt name.shard config.shards) (nat_le name.index (3 * config.f)) n in
+node-of : (config : Config) (name : NodeId) → is_node config name ≡ true → (name.shard < config.shards) × (name.index ≤ 3 * config.f)
+node-of config name e =
+    let p = and_parts (nat_lt name.shard config.shards) (nat_le name.index (3 * config.f)) e in
     (ltb-true name.shard config.shards p.0, within name.index (3 * config.f) p.1)
   where
     within : (a b : ℕ) → nat_le a b ≡ true → a ≤ b
@@ -172,14 +170,14 @@ no-client name shards few less =
     far : (shard shards : ℕ) → shards ≤ 16 → shard < shards → shard ≡ CLIENT_SHARD → ⊥
     far shard shards few less is = omega arith
 
-module _ {M : Type 0} (config : Config) (master : Bytes) (liars : List NodeId) (genesis : List Object) (approves : Tx → Bool) (machine : Machine M) (carrier : Carrier M) where
+module _ {M : Type 0} (config : Config) (net : Net) (is_net : IsNet config net) (genesis : List Object) (approves : Tx → Bool) (machine : Machine M) (carrier : Carrier M) where
   abbrev pub At : Site M
-  At = deployed config master liars genesis approves machine carrier
+  At = deployed config net genesis approves machine carrier
 
   -- ---- what was given
 
   pub opens-fit : (me sender : NodeId) (bytes : Bytes) (said : Message) → IsBytes bytes → At.net.opened me bytes ≡ Ok (sender, said) → MessageFits said
-  opens-fit me sender bytes said fits reads = opened-fits (keys_of_master config master me) bytes (sender, said) fits reads
+  opens-fit me sender bytes said fits reads = opened-fits (is_net.keys me) bytes (sender, said) fits (sym (is_net.opens me bytes) ∙ reads)
 
   input-fits : (me : NodeId) (input : Input) → InputIsBytes input → InputFits At me input
   input-fits me (Datagram bytes) fits = λ sender said reads. opens-fit me sender bytes said fits reads
@@ -193,7 +191,7 @@ module _ {M : Type 0} (config : Config) (master : Bytes) (liars : List NodeId) (
         | inr later ↦ given-fits me marks x fit.1 later
       ]
     where
-      opens : (o : Opened) → (deployed config master liars genesis approves machine carrier).net.opened me bytes ≡ o → IsIn x (in_opened sessions_in o) → SessionFits x
+      opens : (o : Opened) → (deployed config net genesis approves machine carrier).net.opened me bytes ≡ o → IsIn x (in_opened sessions_in o) → SessionFits x
       opens (Ok said) is j = sessions-fit said.1 (fit.0 said.0 said.1 is) x j
       opens (Err error) is j = absurd j
   given-fits me (In Tick ∷ marks) x fit i = given-fits me marks x fit.1 i
@@ -212,9 +210,15 @@ module _ {M : Type 0} (config : Config) (master : Bytes) (liars : List NodeId) (
 
   -- ---- the site
 
+  -- what was sealed for a name, as its keys open it
+  opened-there : (from to sender : NodeId) (m said : Message) → At.net.opened to (sealed At.net from to m) ≡ Ok (sender, said) → opened (is_net.keys to) (wire.sealed (is_net.key from to) from to m) ≡ Ok (sender, said)
+  opened-there from to sender m said reads =
+      ap (opened (is_net.keys to)) (sealed_is (is_net.key from to) from to m ∙ sym (is_net.seals from to (kind_of m) (body_of m)))
+      ∙ sym (is_net.opens to (sealed At.net from to m)) ∙ reads
+
   pub is-sound : Law machine → Holds machine → Carries machine carrier → (world : List (Happening M)) → 0 < config.shards → config.shards ≤ 16 → config.f ≤ 5 → IsWorld At world → IsSoundSite At
   is-sound law holds carries world some few small w =
-      let nodes = λ (name : NodeId) (e : is_honest At name ≡ true). node-of config liars name e in
+      let nodes = λ (name : NodeId) (e : is_honest At name ≡ true). node-of config name (is_net.nodes name e) in
       let names = λ (name : NodeId) (e : is_honest At name ≡ true). small-name name config.shards config.f few small (nodes name e).0 (nodes name e).1 in
       record {
         law = law;
@@ -226,13 +230,11 @@ module _ {M : Type 0} (config : Config) (master : Bytes) (liars : List NodeId) (
         index = λ name e. (let n = (nodes name e).1 in omega arith);
         apart = λ name e. no-client name config.shards few (nodes name e).0;
         exact = λ from to sender m said hf ht fits reads.
-            let whole = opens-whole (keys_of_master config master to) (key_between master from to) from to sender m said (names from hf) (names to ht) (let s = body_short m fits in omega (arith, s))
-            (ap (opened (keys_of_master config master to)) (sealed_is (key_between master from to) from to m) ∙ reads) in
+            let whole = opens-whole (is_net.keys to) (is_net.key from to) from to sender m said (names from hf) (names to ht) (let s = body_short m fits in omega (arith, s)) (opened-there from to sender m said reads) in
             some_is said m (sym whole ∙ has_whole (kind_of m) (body_of m) m (record { kind = refl; body = refl; fits = fits }));
         wanted = λ from to sender slot said hf ht reads.
             let m = message.Want slot in
-            let whole = opens-whole (keys_of_master config master to) (key_between master from to) from to sender m said (names from hf) (names to ht) (omega arith)
-            (ap (opened (keys_of_master config master to)) (sealed_is (key_between master from to) from to m) ∙ reads) in
+            let whole = opens-whole (is_net.keys to) (is_net.key from to) from to sender m said (names from hf) (names to ht) (omega arith) (opened-there from to sender m said reads) in
             want-of said (whole_has 8 (to_be_bytes w64 slot) said (slot-bytes slot) whole).kind;
         proposes = λ entry. refl;
         reads = λ entry fits. ap entry_or_void (whole-again entry_encoding EntryFits entry_at entry_form entry fits);

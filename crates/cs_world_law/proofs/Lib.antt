@@ -24,3 +24,5 @@ pub mod Whole
 pub mod Alone
 pub mod Sending
 pub mod Freedom
+pub mod Standing
+pub mod Clients

@@ -62,7 +62,7 @@ pub record IsOrdered {M : Type 0} (site : Site M) (to : ℕ) (said : Message) (d
   pub ordering : is_ordering said ≡ true
   pub back : (m : M) → site.carrier.read said ≡ Some m → HandedBy m to deeds
 
-handed-is : {M : Type 0} (site : Site M) (sound : IsSoundSite site) (me to : ℕ) (said : Message) (deeds : List (Deed M)) → IsKept site.machine site.setup.f me deeds → ((p : Proposed) → Order.IsIn p (held_in site.machine deeds) → IsEntry p)
+pub handed-is : {M : Type 0} (site : Site M) (sound : IsSoundSite site) (me to : ℕ) (said : Message) (deeds : List (Deed M)) → IsKept site.machine site.setup.f me deeds → ((p : Proposed) → Order.IsIn p (held_in site.machine deeds) → IsEntry p)
     → IsHanded site to said deeds → IsOrdered site to said deeds
 handed-is {M} site sound me to said [] kept all h = absurd h
 handed-is {M} site sound me to said (deed ∷ past) kept all (inl now) =

@@ -1,11 +1,10 @@
 -- A world of a deployment is a story, of which the theorem on the shards together speaks.
 use Rattle.std.proofs.Common.{◌≡◌, ◌⊎◌, ◌<◌, ◌≤◌, Bool, true, List, [], ◌∷◌, ◌++◌, map, refl, sym, ap, ◌∙◌, subst, arith}
-use Rattle.std.specs.Prelude.{not, ◌&&◌, nat_lt}
-use Rattle.std.specs.List.{list_any}
+use Rattle.std.specs.Prelude.{nat_lt}
 use Rattle.std.proofs.lemmas.Bool.{and_parts, ltb-true}
 use Rattle.cs_base.specs.declared.config.Config.{Config}
 use Rattle.cs_base.specs.declared.node_id.NodeId.{NodeId}
-use Rattle.cs_base.specs.NodeId.{is_node, same_name}
+use Rattle.cs_base.specs.NodeId.{is_node}
 use Rattle.cs_tx_value.specs.declared.object.Object.{Object}
 use Rattle.cs_tx_form.specs.declared.transaction.Tx.{Tx}
 use Rattle.cs_tx_form.specs.declared.entry.Entry.{Entry}
@@ -21,7 +20,8 @@ use Rattle.cs_node_rules.specs.Ready.{Executed}
 use Rattle.cs_node_rules.specs.Collisions.{known_sessions, known_entries, NoCollision}
 use Rattle.cs_node_rules.specs.Carrying.{Carries}
 use Rattle.cs_node_law.specs.Made.{EventIsMade, AllMade}
-use Rattle.cs_world_law.specs.Worlds.{is_honest, IsWorld, deployed, signs_at}
+use Rattle.cs_node_rules.specs.Net.{Net}
+use Rattle.cs_world_law.specs.Worlds.{is_honest, IsWorld, IsNet, deployed, signs_at}
 use Rattle.cs_world_law.specs.Steps.{AllComputed, StepsComputed, executions_of, executions_in, IsOlderPart, FollowsShard}
 use Rattle.cs_world_law.specs.Chain.{moments, trail_at, Known, Story, IsSoundSite}
 use Rattle.cs_world_law.proofs.Trails.{AllWithin, within-all}
@@ -37,10 +37,9 @@ use Rattle.cs_world_law.proofs.Readiness.{part}
 use Rattle.cs_world_law.proofs.Deployed.{is-sound, opens-fit, are-apart, are-unique}
 
 -- what an event does is at a node of a shard
-pub shards-some : (config : Config) (liars : List NodeId) (name : NodeId) → (is_node config name && not (list_any (λ liar. same_name liar name) liars)) ≡ true → 0 < config.shards
-shards-some config liars name e =
-    let n = (and_parts (is_node config name) (not (list_any (λ liar. same_name liar name) liars)) e).0 in
-    let less = ltb-true name.shard config.shards (and_parts (nat_lt name.shard config.shards) _ n).0 in
+pub shards-some : (config : Config) (name : NodeId) → is_node config name ≡ true → 0 < config.shards
+shards-some config name e =
+    let less = ltb-true name.shard config.shards (and_parts (nat_lt name.shard config.shards) _ e).0 in
     omega arith
 
 -- a world of a deployment, with what is known of its order and of its nodes
@@ -51,64 +50,64 @@ pub record IsPlace {M : Type 0} (machine : Machine M) : Type 0 where
   pub carrier : Carrier M
   pub carries : Carries machine carrier
   pub config : Config
-  pub master : Bytes
-  pub liars : List NodeId
+  pub net : Net
   pub genesis : List Object
   pub approves : Tx → Bool
   pub world : List (Happening M)
   pub few : config.shards ≤ 16
   pub small : config.f ≤ 5
-  pub is_world : IsWorld (deployed config master liars genesis approves machine carrier) world
+  pub is_net : IsNet config net
+  pub is_world : IsWorld (deployed config net genesis approves machine carrier) world
 
 -- the place of such a world
 abbrev pub place : {M : Type 0} (machine : Machine M) (law : Law machine) (holds : Holds machine) (event : (site : Site M) → EventIsMade site)
     (carrier : Carrier M) (carries : Carries machine carrier)
-    (config : Config) (master : Bytes) (liars : List NodeId) (genesis : List Object) (approves : Tx → Bool) (world : List (Happening M))
-    (few : config.shards ≤ 16) (small : config.f ≤ 5) (is_world : IsWorld (deployed config master liars genesis approves machine carrier) world)
+    (config : Config) (net : Net) (genesis : List Object) (approves : Tx → Bool) (world : List (Happening M))
+    (few : config.shards ≤ 16) (small : config.f ≤ 5) (is_net : IsNet config net) (is_world : IsWorld (deployed config net genesis approves machine carrier) world)
     → IsPlace machine
-place {M} machine law holds event carrier carries config master liars genesis approves world few small is_world = record {
+place {M} machine law holds event carrier carries config net genesis approves world few small is_net is_world = record {
   law = law;
   holds = holds;
   event = event;
   carrier = carrier;
   carries = carries;
   config = config;
-  master = master;
-  liars = liars;
+  net = net;
   genesis = genesis;
   approves = approves;
   world = world;
   few = few;
   small = small;
+  is_net = is_net;
   is_world = is_world;
 }
 
 module _ {M : Type 0} (machine : Machine M) (p : IsPlace machine) where
   abbrev pub At : Site M
-  At = deployed p.config p.master p.liars p.genesis p.approves machine p.carrier
+  At = deployed p.config p.net p.genesis p.approves machine p.carrier
 
   -- what holds of no event, and of a deployment with a shard, holds
   pub by-world : (P : List (Happening M) → Type 0) → P [] → (0 < p.config.shards → P p.world) → P p.world
   by-world P none some = go p.world p.is_world.honest some
     where
-      go : (z : List (Happening M)) → AreHonest (deployed p.config p.master p.liars p.genesis p.approves machine p.carrier).net z → (0 < p.config.shards → P z) → P z
+      go : (z : List (Happening M)) → AreHonest (deployed p.config p.net p.genesis p.approves machine p.carrier).net z → (0 < p.config.shards → P z) → P z
       go [] honest some = none
-      go (h ∷ past) honest some = some (shards-some p.config p.liars h.node honest.0)
+      go (h ∷ past) honest some = some (shards-some p.config h.node (p.is_net.nodes h.node honest.0))
 
   pub by-node : (i : NodeId) → is_honest At i ≡ true → 0 < p.config.shards
-  by-node i honest = shards-some p.config p.liars i honest
+  by-node i honest = shards-some p.config i (p.is_net.nodes i honest)
 
   abbrev pub Here : Known
   Here = record { sessions = known_sessions At p.world; entries = known_entries At p.world }
 
   module _ (some : 0 < p.config.shards) where
     pub sound : IsSoundSite At
-    sound = is-sound p.config p.master p.liars p.genesis p.approves machine p.carrier p.law p.holds p.carries p.world some p.few p.small p.is_world
+    sound = is-sound p.config p.net p.is_net p.genesis p.approves machine p.carrier p.law p.holds p.carries p.world some p.few p.small p.is_world
 
     sane-here : IsSane At Here p.world
     sane-here =
         let w = p.is_world in
-        sane At Here p.world (p.event At) p.carries.proper (opens-fit p.config p.master p.liars p.genesis p.approves machine p.carrier) w.honest w.life w.bytes w.genuine (λ x i. i) (λ e i. i)
+        sane At Here p.world (p.event At) p.carries.proper (opens-fit p.config p.net p.is_net p.genesis p.approves machine p.carrier) w.honest w.life w.bytes w.genuine (λ x i. i) (λ e i. i)
 
     pub story : Story At Here (moments p.world)
     story = sane-here.story
@@ -148,10 +147,10 @@ module _ {M : Type 0} (machine : Machine M) (p : IsPlace machine) where
 
     module _ (apart : NoCollision At p.genesis p.world) where
       pub lawful-here : AreLawful At Here
-      lawful-here = lawful-apart At sound Here (are-unique p.config p.master p.liars p.genesis p.approves machine p.carrier p.world apart)
+      lawful-here = lawful-apart At sound Here (are-unique p.config p.net p.is_net p.genesis p.approves machine p.carrier p.world apart)
 
       pub names : World.AreNamedApart At.setup.rules.genesis (map At.setup.session_of Here.sessions)
-      names = are-apart p.config p.master p.liars p.genesis p.approves machine p.carrier p.world p.is_world.life p.is_world.bytes apart
+      names = are-apart p.config p.net p.is_net p.genesis p.approves machine p.carrier p.world p.is_world.life p.is_world.bytes apart
 
       -- each beginning of the first executions is one of which the theorem on the shards together speaks
       pub until : (later earlier : List Execution) → firsts_of p.world ≡ later ++ earlier → IsMiddle At Here earlier

@@ -1,4 +1,5 @@
 pub mod Worlds
 pub mod Steps
+pub mod Clients
 pub mod Chain
 pub mod laws

@@ -1,20 +1,27 @@
 -- Worlds of any number of shards, and what is said of them.
-use Rattle.std.specs.Prelude.{◌≡◌, ℕ, ◌<◌, ◌≤◌, Bool, true, List, length, Some}
+use Rattle.std.specs.Prelude.{◌≡◌, ℕ, ◌<◌, ◌≤◌, Bool, true, not, ◌&&◌, List, [], length, Option, Some, None}
+use Rattle.std.specs.List.{list_any}
 use Rattle.cs_base.specs.declared.config.Config.{Config}
 use Rattle.cs_base.specs.declared.node_id.NodeId.{NodeId}
+use Rattle.cs_base.specs.NodeId.{is_node, same_name}
 use Rattle.cs_tx_value.specs.declared.object.Object.{Object}
 use Rattle.cs_tx_form.specs.declared.transaction.Tx.{Tx}
 use Rattle.cs_tx_form.specs.declared.session.Session.{Session}
 use Rattle.cs_tx_form.specs.declared.entry.Entry.{Entry}
 use Rattle.cs_tx_form.specs.Session.{EntryFits}
 use Rattle.cs_tx.specs.Sessions.{session_of}
+use Rattle.cs_wire.specs.declared.keys.Row.{Row}
+use Rattle.cs_wire.specs.declared.keys.Keys.{Keys}
+use Rattle.cs_wire.specs.Keys.{row_of}
+use Rattle.cs_wire.specs.Opened.{opened}
+use Rattle.cs_wire.specs.Datagram.{datagram_with}
 use Rattle.cs_order.specs.Deeds.{Machine}
 use Rattle.cs_order.specs.Runs.{FewLiars}
 use Rattle.cs_ledger.specs.Ledger.{Bytes, Transaction, IsIn, Serial, IsSpentOnce, genesis_ledger, ledger_of, uses_once}
 use Rattle.cs_ledger.specs.Session as Seen
 use Rattle.cs_ledger.specs.Table.{free_object}
 use Rattle.cs_node_state.specs.Setup.{digest_of, session_in}
-use Rattle.cs_node_rules.specs.Net.{net_of}
+use Rattle.cs_node_rules.specs.Net.{Net}
 use Rattle.cs_node_rules.specs.Signs.{Sign}
 use Rattle.cs_node_rules.specs.Site.{Carrier, Site, signs_of}
 use Rattle.cs_node_rules.specs.World.{Happening, trail_of, view_of, IsLife, AreHonest, NoForgery, firsts_of, slots_of, history, accepts_in, aborts_in}
@@ -104,33 +111,52 @@ AllAcceptLocked {M} site world =
 
 -- ---- of all worlds
 
--- the site of a deployment under one master key, with these liars, whose order keeps these rules, and whose judge
--- approves so
-abbrev pub deployed : {M : Type 0} → Config → Bytes → List NodeId → List Object → (Tx → Bool)
-    → Machine M → Carrier M → Site M
-deployed {M} config master liars genesis approves machine carrier =
-    site_of (setup_of config genesis (session_of approves)) (net_of config master liars) machine carrier
+-- A net of a configuration: its honest names are nodes, each name opens under keys of its own, and what one seals for
+-- another is sealed under a key between them. Nothing is asked of the keys.
+pub record IsNet (config : Config) (net : Net) : Type 0 where
+  pub nodes : (name : NodeId) → net.is_honest name ≡ true → is_node config name ≡ true
+  pub keys : NodeId → Keys
+  pub opens : (me : NodeId) (bytes : Bytes) → net.opened me bytes ≡ opened (keys me) bytes
+  pub key : NodeId → NodeId → Bytes
+  pub seals : (from to : NodeId) (kind : ℕ) (body : Bytes) →
+      net.datagram from to kind body ≡ datagram_with (key from to) from to kind body
 
--- It is true of the worlds of every deployment of at most 16 shards under these rules.
+-- the key under which a name seals for another, by its row for it
+abbrev pub key_held : Option Row → Bytes
+key_held None = []
+key_held (Some row) = row.to
+
+-- the net of nodes and clients that each hold keys of their own, of which these nodes lie
+abbrev pub net_of_keys : Config → (NodeId → Keys) → List NodeId → Net
+net_of_keys config keys liars = record {
+  datagram = λ from to kind body. datagram_with (key_held (row_of to (keys from))) from to kind body;
+  opened = λ me bytes. opened (keys me) bytes;
+  is_honest = λ name. is_node config name && not (list_any (λ liar. same_name liar name) liars);
+}
+
+-- the site of a deployment over a net, whose order keeps these rules, and whose judge approves so
+abbrev pub deployed : {M : Type 0} → Config → Net → List Object → (Tx → Bool) → Machine M → Carrier M → Site M
+deployed {M} config net genesis approves machine carrier =
+    site_of (setup_of config genesis (session_of approves)) net machine carrier
+
+-- It is true of the worlds of every deployment of at most 16 shards under these rules, over any net.
 abbrev pub OfWorlds : {M : Type 0} → Machine M → (Site M → List (Happening M) → Type 0) → Type 0
 OfWorlds {M} machine Says =
     (carrier : Carrier M) → Carries machine carrier →
-    (config : Config) (master : Bytes) (liars : List NodeId) (genesis : List Object) (approves : Tx → Bool)
-    (world : List (Happening M)) →
-    config.shards ≤ 16 → config.f ≤ 5 →
-    IsWorld (deployed config master liars genesis approves machine carrier) world →
-    Says (deployed config master liars genesis approves machine carrier) world
+    (config : Config) (net : Net) (genesis : List Object) (approves : Tx → Bool) (world : List (Happening M)) →
+    config.shards ≤ 16 → config.f ≤ 5 → IsNet config net →
+    IsWorld (deployed config net genesis approves machine carrier) world →
+    Says (deployed config net genesis approves machine carrier) world
 
 -- It is true of those in which, besides, no two hashed strings collide.
 abbrev pub OfWorldsApart : {M : Type 0} → Machine M → (Site M → List (Happening M) → Type 0) → Type 0
 OfWorldsApart {M} machine Says =
     (carrier : Carrier M) → Carries machine carrier →
-    (config : Config) (master : Bytes) (liars : List NodeId) (genesis : List Object) (approves : Tx → Bool)
-    (world : List (Happening M)) →
-    config.shards ≤ 16 → config.f ≤ 5 →
-    IsWorld (deployed config master liars genesis approves machine carrier) world →
-    NoCollision (deployed config master liars genesis approves machine carrier) genesis world →
-    Says (deployed config master liars genesis approves machine carrier) world
+    (config : Config) (net : Net) (genesis : List Object) (approves : Tx → Bool) (world : List (Happening M)) →
+    config.shards ≤ 16 → config.f ≤ 5 → IsNet config net →
+    IsWorld (deployed config net genesis approves machine carrier) world →
+    NoCollision (deployed config net genesis approves machine carrier) genesis world →
+    Says (deployed config net genesis approves machine carrier) world
 
 -- It is true of those in which no node may lie.
 abbrev pub OfWorldsAlone : {M : Type 0} → Machine M → (Site M → List (Happening M) → Type 0) → Type 0

@@ -2,6 +2,7 @@
 
 ghost use Rattle.cs_world_law.specs.Worlds.{OfWorlds, OfWorldsApart, OfWorldsAlone, IsSerial, SpendsOnce, DecidesOnce, ExecutesGiven, ExecutesFit, TellsAccepted, HoldsFree, AllUpToDate, AllVoteFree, AllAcceptLocked};
 ghost use Rattle.cs_world_law.specs.Steps.{StepsAllowed, StepsComputed, FollowsShard, VotesOnce, TellsCommitted, TellsBefore};
+ghost use Rattle.cs_world_law.specs.Clients.{TellsClientsAccepted, TellsClientsAborted};
 
 use cs_ledger::composition;
 use cs_node_law::marks_are_made;
@@ -47,6 +48,10 @@ pub fn settled_world<O: Order>()
     // After the execution with which all concerned shards have voted commit the transaction is in
     // the history, and no honest node decides abort on the session, before or after it.
     ensures committed { OfWorldsApart O.rules (λ site world. TellsCommitted site world) }
+    // A client is told that a session was accepted only where its transaction is in the history.
+    ensures told_accepted { OfWorldsApart O.rules (λ site world. TellsClientsAccepted site world) }
+    // It is told that one was aborted only where no honest node accepts it, before or after.
+    ensures told_aborted { OfWorldsApart O.rules (λ site world. TellsClientsAborted site world) }
     // A Prepare of a session whose keys here are all active with the carried objects, on which no
     // vote is noted and whose anchor has room, is answered commit at each honest node, and the vote
     // goes to all other nodes of the concerned shards.

@@ -3,25 +3,30 @@ use Rattle.std.proofs.Common.{◌≡◌, inl, inr, true, false, List, [], ◌∷
 use Rattle.std.proofs.lemmas.Bool.{both_ways}
 use Rattle.cs_tx_form.specs.declared.session.Session.{Session}
 use Rattle.cs_tx_form.specs.declared.entry.Entry.TheVariants.{Prepare}
+use Rattle.cs_wire_message.specs.declared.message.Message.TheVariants as message
 use Rattle.cs_ledger.specs.Ledger.{IsIn, Serial, IsSpentOnce, genesis_ledger, ledger_of}
 use Rattle.cs_ledger.specs.Session as Seen
 use Rattle.cs_ledger.specs.Session.{Object as Named, all_items}
 use Rattle.cs_ledger.specs.Table.{Commit, Abort, Accepted, Aborted, Table, table_of, free_object}
-use Rattle.cs_ledger.specs.ShardWorld.{log, votes_in, decided_in, all_commit}
+use Rattle.cs_ledger.specs.Standing.{stands_aborted}
+use Rattle.cs_ledger.specs.ShardWorld.{log, sessions, sessions_of, votes_in, decided_in, all_commit}
 use Rattle.cs_ledger.specs.ShardWorld as World
-use Rattle.cs_ledger.proofs.Decisions.{all_concerned}
+use Rattle.cs_ledger.proofs.Decisions.{decided_behind, all_concerned}
 use Rattle.cs_node_state.specs.Setup.{digest_of, is_fit, session_in}
+use Rattle.cs_node_rules.specs.Signs.{Sent}
 use Rattle.cs_node_rules.specs.Site.{signs_of}
 use Rattle.cs_node_rules.specs.World.{firsts_of, steps_of, slots_of, trail_of}
 use Rattle.cs_node_rules.specs.Ready.{Executed, AcceptsLocked}
 use Rattle.cs_node_law.specs.Made.{view_at, log_in}
 use Rattle.cs_world_law.specs.Worlds.{IsSerial, SpendsOnce, ExecutesGiven, ExecutesFit}
 use Rattle.cs_world_law.specs.Steps.{StepsAllowed, AllComputed, StepsComputed, VotesOnce, TellsCommitted, TellsBefore}
-use Rattle.cs_world_law.specs.Chain.{moments}
+use Rattle.cs_world_law.specs.Chain.{moments, story_firsts}
 use Rattle.cs_world_law.proofs.Stories.{trail-same, firsts-same}
 use Rattle.cs_world_law.proofs.Told.{computed-earlier}
 use Rattle.cs_world_law.proofs.Middle.{decided-session, voted-session, known-there, commit-later, serial-once, whole-table}
 use Rattle.cs_world_law.proofs.Before.{settled-before}
+use Rattle.cs_world_law.proofs.Standing.{aborted-log}
+use Rattle.cs_world_law.proofs.Clients.{log-sessions, told, told-accepted, told-aborted}
 use Rattle.cs_world_law.proofs.Readiness.{prepare-fit, accepts-locked}
 use Rattle.cs_world_law.proofs.Sending.{world-tells}
 use Rattle.cs_world_law.proofs.Freedom.{votes-free, prepare-own}
@@ -35,9 +40,9 @@ no-split {A} [] x earlier e = absurd cc
 no-split {A} (other ∷ later) x earlier e = absurd cc
 
 pub returns-clause-serial : goal.returns-clause-serial
-returns-clause-serial g c carrier carries config master liars genesis approves world few small is_world apart =
+returns-clause-serial g c carrier carries config net genesis approves world few small is_net is_world apart =
     let rules = g.O.Order.rules in
-    let p = place rules g.met.O.Order.law g.met.O.Order.holds c.marks_are_made.ensures.made carrier carries config master liars genesis approves world few small is_world in
+    let p = place rules g.met.O.Order.law g.met.O.Order.holds c.marks_are_made.ensures.made carrier carries config net genesis approves world few small is_net is_world in
     let site = At rules p in
     by-world rules p (λ z. IsSerial site z) tt
     (λ some.
@@ -45,9 +50,9 @@ returns-clause-serial g c carrier carries config master liars genesis approves w
     subst (λ h. Serial (genesis_ledger site.setup.rules.genesis) h) (sym m.history_is) (c.composition.ensures.serial site.setup.rules (steps_of site.setup (firsts_of world)) m.world_is))
 
 pub returns-clause-spent_once : goal.returns-clause-spent_once
-returns-clause-spent_once g c carrier carries config master liars genesis approves world few small is_world apart =
+returns-clause-spent_once g c carrier carries config net genesis approves world few small is_net is_world apart =
     let rules = g.O.Order.rules in
-    let p = place rules g.met.O.Order.law g.met.O.Order.holds c.marks_are_made.ensures.made carrier carries config master liars genesis approves world few small is_world in
+    let p = place rules g.met.O.Order.law g.met.O.Order.holds c.marks_are_made.ensures.made carrier carries config net genesis approves world few small is_net is_world in
     let site = At rules p in
     by-world rules p (λ z. SpendsOnce site z) (tt, λ tx i. absurd i)
     (λ some.
@@ -58,9 +63,9 @@ returns-clause-spent_once g c carrier carries config master liars genesis approv
     ))
 
 pub returns-clause-one_decision : goal.returns-clause-one_decision
-returns-clause-one_decision g c carrier carries config master liars genesis approves world few small is_world apart =
+returns-clause-one_decision g c carrier carries config net genesis approves world few small is_net is_world apart =
     let rules = g.O.Order.rules in
-    let p = place rules g.met.O.Order.law g.met.O.Order.holds c.marks_are_made.ensures.made carrier carries config master liars genesis approves world few small is_world in
+    let p = place rules g.met.O.Order.law g.met.O.Order.holds c.marks_are_made.ensures.made carrier carries config net genesis approves world few small is_net is_world in
     let site = At rules p in
     λ i j d hi hj accepts aborts.
     let some = by-node rules p i hi in
@@ -75,65 +80,65 @@ returns-clause-one_decision g c carrier carries config master liars genesis appr
     ]
 
 pub returns-clause-executed : goal.returns-clause-executed
-returns-clause-executed g c carrier carries config master liars genesis approves world few small is_world =
+returns-clause-executed g c carrier carries config net genesis approves world few small is_net is_world =
     let rules = g.O.Order.rules in
-    let p = place rules g.met.O.Order.law g.met.O.Order.holds c.marks_are_made.ensures.made carrier carries config master liars genesis approves world few small is_world in
+    let p = place rules g.met.O.Order.law g.met.O.Order.holds c.marks_are_made.ensures.made carrier carries config net genesis approves world few small is_net is_world in
     let site = At rules p in
     by-world rules p (λ z. ExecutesGiven site z) (λ i entry e. no-split e.later _ e.earlier e.split) (λ some i entry e. (executed rules p some i entry e).session)
 
 pub returns-clause-executed_fit : goal.returns-clause-executed_fit
-returns-clause-executed_fit g c carrier carries config master liars genesis approves world few small is_world =
+returns-clause-executed_fit g c carrier carries config net genesis approves world few small is_net is_world =
     let rules = g.O.Order.rules in
-    let p = place rules g.met.O.Order.law g.met.O.Order.holds c.marks_are_made.ensures.made carrier carries config master liars genesis approves world few small is_world in
+    let p = place rules g.met.O.Order.law g.met.O.Order.holds c.marks_are_made.ensures.made carrier carries config net genesis approves world few small is_net is_world in
     let site = At rules p in
     by-world rules p (λ z. ExecutesFit site z) (λ i entry e. no-split e.later _ e.earlier e.split) (λ some i entry e. (executed rules p some i entry e).fits)
 
 pub returns-clause-allowed : goal.returns-clause-allowed
-returns-clause-allowed g c carrier carries config master liars genesis approves world few small is_world apart =
+returns-clause-allowed g c carrier carries config net genesis approves world few small is_net is_world apart =
     let rules = g.O.Order.rules in
-    let p = place rules g.met.O.Order.law g.met.O.Order.holds c.marks_are_made.ensures.made carrier carries config master liars genesis approves world few small is_world in
+    let p = place rules g.met.O.Order.law g.met.O.Order.holds c.marks_are_made.ensures.made carrier carries config net genesis approves world few small is_net is_world in
     let site = At rules p in
     by-world rules p (λ z. StepsAllowed site z) tt (λ some. (fine rules p some (lawful-here rules p some apart)).allowed)
 
 pub returns-clause-allowed_alone : goal.returns-clause-allowed_alone
-returns-clause-allowed_alone g c carrier carries config master liars genesis approves world few small is_world =
+returns-clause-allowed_alone g c carrier carries config net genesis approves world few small is_net is_world =
     let rules = g.O.Order.rules in
-    let p = place rules g.met.O.Order.law g.met.O.Order.holds c.marks_are_made.ensures.made carrier carries config master liars genesis approves world few small is_world in
+    let p = place rules g.met.O.Order.law g.met.O.Order.holds c.marks_are_made.ensures.made carrier carries config net genesis approves world few small is_net is_world in
     let site = At rules p in
     λ trusted. by-world rules p (λ z. StepsAllowed site z) tt (λ some. (fine rules p some (lawful-trusted rules p some trusted)).allowed)
 
 pub returns-clause-computed : goal.returns-clause-computed
-returns-clause-computed g c carrier carries config master liars genesis approves world few small is_world apart =
+returns-clause-computed g c carrier carries config net genesis approves world few small is_net is_world apart =
     let rules = g.O.Order.rules in
-    let p = place rules g.met.O.Order.law g.met.O.Order.holds c.marks_are_made.ensures.made carrier carries config master liars genesis approves world few small is_world in
+    let p = place rules g.met.O.Order.law g.met.O.Order.holds c.marks_are_made.ensures.made carrier carries config net genesis approves world few small is_net is_world in
     let site = At rules p in
     by-world rules p (λ z. StepsComputed site z) tt (λ some. came rules p some (lawful-here rules p some apart))
 
 pub returns-clause-computed_alone : goal.returns-clause-computed_alone
-returns-clause-computed_alone g c carrier carries config master liars genesis approves world few small is_world =
+returns-clause-computed_alone g c carrier carries config net genesis approves world few small is_net is_world =
     let rules = g.O.Order.rules in
-    let p = place rules g.met.O.Order.law g.met.O.Order.holds c.marks_are_made.ensures.made carrier carries config master liars genesis approves world few small is_world in
+    let p = place rules g.met.O.Order.law g.met.O.Order.holds c.marks_are_made.ensures.made carrier carries config net genesis approves world few small is_net is_world in
     let site = At rules p in
     λ trusted. by-world rules p (λ z. StepsComputed site z) tt (λ some. came rules p some (lawful-trusted rules p some trusted))
 
 pub returns-clause-logs : goal.returns-clause-logs
-returns-clause-logs g c carrier carries config master liars genesis approves world few small is_world apart =
+returns-clause-logs g c carrier carries config net genesis approves world few small is_net is_world apart =
     let rules = g.O.Order.rules in
-    let p = place rules g.met.O.Order.law g.met.O.Order.holds c.marks_are_made.ensures.made carrier carries config master liars genesis approves world few small is_world in
+    let p = place rules g.met.O.Order.law g.met.O.Order.holds c.marks_are_made.ensures.made carrier carries config net genesis approves world few small is_net is_world in
     let site = At rules p in
     λ i hi. let some = by-node rules p i hi in follow rules p some (lawful-here rules p some apart) i hi
 
 pub returns-clause-logs_alone : goal.returns-clause-logs_alone
-returns-clause-logs_alone g c carrier carries config master liars genesis approves world few small is_world =
+returns-clause-logs_alone g c carrier carries config net genesis approves world few small is_net is_world =
     let rules = g.O.Order.rules in
-    let p = place rules g.met.O.Order.law g.met.O.Order.holds c.marks_are_made.ensures.made carrier carries config master liars genesis approves world few small is_world in
+    let p = place rules g.met.O.Order.law g.met.O.Order.holds c.marks_are_made.ensures.made carrier carries config net genesis approves world few small is_net is_world in
     let site = At rules p in
     λ trusted i hi. let some = by-node rules p i hi in follow rules p some (lawful-trusted rules p some trusted) i hi
 
 pub returns-clause-one_vote : goal.returns-clause-one_vote
-returns-clause-one_vote g c carrier carries config master liars genesis approves world few small is_world apart =
+returns-clause-one_vote g c carrier carries config net genesis approves world few small is_net is_world apart =
     let rules = g.O.Order.rules in
-    let p = place rules g.met.O.Order.law g.met.O.Order.holds c.marks_are_made.ensures.made carrier carries config master liars genesis approves world few small is_world in
+    let p = place rules g.met.O.Order.law g.met.O.Order.holds c.marks_are_made.ensures.made carrier carries config net genesis approves world few small is_net is_world in
     let site = At rules p in
     by-world rules p (λ z. VotesOnce site z) (λ shard d v w first other. absurd (both_ways false refl first))
     (λ some shard d v w first other.
@@ -147,9 +152,9 @@ returns-clause-one_vote g c carrier carries config master liars genesis approves
     (subst (λ k. votes_in site.setup.rules shard k w (log shard steps) ≡ true) y.2 b))
 
 pub returns-clause-accepted : goal.returns-clause-accepted
-returns-clause-accepted g c carrier carries config master liars genesis approves world few small is_world apart =
+returns-clause-accepted g c carrier carries config net genesis approves world few small is_net is_world apart =
     let rules = g.O.Order.rules in
-    let p = place rules g.met.O.Order.law g.met.O.Order.holds c.marks_are_made.ensures.made carrier carries config master liars genesis approves world few small is_world in
+    let p = place rules g.met.O.Order.law g.met.O.Order.holds c.marks_are_made.ensures.made carrier carries config net genesis approves world few small is_net is_world in
     let site = At rules p in
     λ i x hi knows accepts.
     let some = by-node rules p i hi in
@@ -161,9 +166,9 @@ returns-clause-accepted g c carrier carries config master liars genesis approves
     subst (λ h. IsIn (site.setup.session_of x).transaction h) (sym m.history_is) (c.composition.ensures.accepted site.setup.rules steps m.world_is (site.setup.session_of x) there i.shard a)
 
 pub returns-clause-before : goal.returns-clause-before
-returns-clause-before g c carrier carries config master liars genesis approves world few small is_world apart =
+returns-clause-before g c carrier carries config net genesis approves world few small is_net is_world apart =
     let rules = g.O.Order.rules in
-    let p = place rules g.met.O.Order.law g.met.O.Order.holds c.marks_are_made.ensures.made carrier carries config master liars genesis approves world few small is_world in
+    let p = place rules g.met.O.Order.law g.met.O.Order.holds c.marks_are_made.ensures.made carrier carries config net genesis approves world few small is_net is_world in
     let site = At rules p in
     by-world rules p (λ z. TellsBefore site z) (λ later e earlier split. no-split later e earlier split)
     (λ some later e earlier split accepted.
@@ -176,9 +181,9 @@ returns-clause-before g c carrier carries config master liars genesis approves w
     (subst (λ (z : Seen.Session). IsIn z.transaction (World.history site.setup.rules (steps_of site.setup earlier))) (sym s.is) listed))
 
 pub returns-clause-committed : goal.returns-clause-committed
-returns-clause-committed g c carrier carries config master liars genesis approves world few small is_world apart =
+returns-clause-committed g c carrier carries config net genesis approves world few small is_net is_world apart =
     let rules = g.O.Order.rules in
-    let p = place rules g.met.O.Order.law g.met.O.Order.holds c.marks_are_made.ensures.made carrier carries config master liars genesis approves world few small is_world in
+    let p = place rules g.met.O.Order.law g.met.O.Order.holds c.marks_are_made.ensures.made carrier carries config net genesis approves world few small is_net is_world in
     let site = At rules p in
     by-world rules p (λ z. TellsCommitted site z) (λ later earlier split x knows. absurd knows)
     (λ some later earlier split x knows shard among all.
@@ -204,10 +209,54 @@ returns-clause-committed g c carrier carries config master liars genesis approve
           ],
     ))
 
-pub returns-clause-votes_free : goal.returns-clause-votes_free
-returns-clause-votes_free g c carrier carries config master liars genesis approves world few small is_world apart =
+pub returns-clause-told_accepted : goal.returns-clause-told_accepted
+returns-clause-told_accepted g c carrier carries config net genesis approves world few small is_net is_world apart =
     let rules = g.O.Order.rules in
-    let p = place rules g.met.O.Order.law g.met.O.Order.holds c.marks_are_made.ensures.made carrier carries config master liars genesis approves world few small is_world in
+    let p = place rules g.met.O.Order.law g.met.O.Order.holds c.marks_are_made.ensures.made carrier carries config net genesis approves world few small is_net is_world in
+    let site = At rules p in
+    λ i to d hi sent.
+    let some = by-node rules p i hi in
+    let m = whole rules p some apart in
+    let steps = steps_of site.setup (firsts_of world) in
+    let there_sent = subst (λ t. IsIn (Sent to (message.Decided d true)) (signs_of t)) (sym (trail-same i world)) sent in
+    let t = told site (sound rules p some) (Here rules p) (lawful-here rules p some apart) (moments world) (story rules p some) i hi to d true there_sent in
+    let x = t.session in
+    let a = ap (λ f. decided_in site.setup.rules i.shard (digest_of site.setup x) Accepted (log i.shard (steps_of site.setup f))) (firsts-same world)
+    ∙ told-accepted site (sound rules p some) (Here rules p) (lawful-here rules p some apart) (moments world) (story rules p some) i hi d t in
+    let there = known-there site (Here rules p) (firsts_of world) (names rules p some apart) m x t.known_is (decided-session site.setup.rules i.shard (digest_of site.setup x) Accepted steps a) in
+    let listed = subst (λ h. IsIn (site.setup.session_of x).transaction h) (sym m.history_is) (c.composition.ensures.accepted site.setup.rules steps m.world_is (site.setup.session_of x) there i.shard a) in
+    (x, t.digest_is, t.known_is, listed)
+
+pub returns-clause-told_aborted : goal.returns-clause-told_aborted
+returns-clause-told_aborted g c carrier carries config net genesis approves world few small is_net is_world apart =
+    let rules = g.O.Order.rules in
+    let p = place rules g.met.O.Order.law g.met.O.Order.holds c.marks_are_made.ensures.made carrier carries config net genesis approves world few small is_net is_world in
+    let site = At rules p in
+    λ i j to d hi hj sent accepts.
+    let some = by-node rules p i hi in
+    let m = whole rules p some apart in
+    let steps = steps_of site.setup (firsts_of world) in
+    let unique = m.world_is.1.session in
+    let there_sent = subst (λ t. IsIn (Sent to (message.Decided d false)) (signs_of t)) (sym (trail-same i world)) sent in
+    let t = told site (sound rules p some) (Here rules p) (lawful-here rules p some apart) (moments world) (story rules p some) i hi to d false there_sent in
+    let seen = site.setup.session_of t.session in
+    let a = subst (λ k. decided_in site.setup.rules j.shard k Accepted (log j.shard steps) ≡ true) t.digest_is (accepts-here rules p some apart j d hj accepts) in
+    let there = known-there site (Here rules p) (firsts_of world) (names rules p some apart) m t.session t.known_is (decided-session site.setup.rules j.shard seen.digest Accepted steps a) in
+    let behind = decided_behind site.setup.rules (sessions steps) unique seen there j.shard Accepted Commit refl steps m.world_is.0 (λ z k. k) a in
+    let commits = all_concerned site.setup.rules steps seen Commit i.shard (all_items seen.transaction) behind.1 t.concerned in
+    let within = λ (z : Seen.Session) (k : IsIn z (sessions_of (log i.shard steps))). log-sessions i.shard steps z k in
+    let stood = told-aborted site (sound rules p some) (Here rules p) (lawful-here rules p some apart) (moments world) (story rules p some) i hi d t (sessions steps) unique there
+    (subst (λ f. (z : Seen.Session) → IsIn z (sessions_of (log i.shard (steps_of site.setup f))) → IsIn z (sessions steps)) (firsts-same world) within) in
+    let stands = subst (λ f. stands_aborted ((table_of site.setup.rules i.shard (log i.shard (steps_of site.setup f))).at t.anchored.key) seen.digest ≡ true) (sym (firsts-same world)) stood in
+    elim (aborted-log site.setup.rules i.shard (sessions steps) unique seen there t.anchored.key t.anchored.is (log i.shard steps) within stands commits) as (λ z. ⊥) [
+      | inl aborted ↦ c.composition.ensures.one_decision site.setup.rules steps m.world_is seen there j.shard i.shard a aborted
+      | inr voted ↦ c.composition.ensures.no_late_abort site.setup.rules steps m.world_is seen there j.shard i.shard a voted
+    ]
+
+pub returns-clause-votes_free : goal.returns-clause-votes_free
+returns-clause-votes_free g c carrier carries config net genesis approves world few small is_net is_world apart =
+    let rules = g.O.Order.rules in
+    let p = place rules g.met.O.Order.law g.met.O.Order.holds c.marks_are_made.ensures.made carrier carries config net genesis approves world few small is_net is_world in
     let site = At rules p in
     λ i hi.
     let some = by-node rules p i hi in
@@ -216,9 +265,9 @@ returns-clause-votes_free g c carrier carries config master liars genesis approv
     (prepare-fit site (sound rules p some) (Here rules p) (lawful-here rules p some apart) (moments world) (story rules p some) i hi))
 
 pub returns-clause-votes_free_alone : goal.returns-clause-votes_free_alone
-returns-clause-votes_free_alone g c carrier carries config master liars genesis approves world few small is_world =
+returns-clause-votes_free_alone g c carrier carries config net genesis approves world few small is_net is_world =
     let rules = g.O.Order.rules in
-    let p = place rules g.met.O.Order.law g.met.O.Order.holds c.marks_are_made.ensures.made carrier carries config master liars genesis approves world few small is_world in
+    let p = place rules g.met.O.Order.law g.met.O.Order.holds c.marks_are_made.ensures.made carrier carries config net genesis approves world few small is_net is_world in
     let site = At rules p in
     λ trusted i hi.
     let some = by-node rules p i hi in
@@ -226,9 +275,9 @@ returns-clause-votes_free_alone g c carrier carries config master liars genesis 
     (prepare-own site (sound rules p some) (Here rules p) trusted i hi (trail_of i world) (made rules p some i) (within rules p some i))
 
 pub returns-clause-accepts_locked : goal.returns-clause-accepts_locked
-returns-clause-accepts_locked g c carrier carries config master liars genesis approves world few small is_world apart =
+returns-clause-accepts_locked g c carrier carries config net genesis approves world few small is_net is_world apart =
     let rules = g.O.Order.rules in
-    let p = place rules g.met.O.Order.law g.met.O.Order.holds c.marks_are_made.ensures.made carrier carries config master liars genesis approves world few small is_world in
+    let p = place rules g.met.O.Order.law g.met.O.Order.holds c.marks_are_made.ensures.made carrier carries config net genesis approves world few small is_net is_world in
     let site = At rules p in
     λ i hi.
     let some = by-node rules p i hi in
@@ -236,9 +285,9 @@ returns-clause-accepts_locked g c carrier carries config master liars genesis ap
     (accepts-locked site (sound rules p some) (Here rules p) (lawful-here rules p some apart) (moments world) (story rules p some) i hi (names rules p some apart))
 
 pub returns-clause-objects : goal.returns-clause-objects
-returns-clause-objects g c carrier carries config master liars genesis approves world few small is_world apart =
+returns-clause-objects g c carrier carries config net genesis approves world few small is_net is_world apart =
     let rules = g.O.Order.rules in
-    let p = place rules g.met.O.Order.law g.met.O.Order.holds c.marks_are_made.ensures.made carrier carries config master liars genesis approves world few small is_world in
+    let p = place rules g.met.O.Order.law g.met.O.Order.holds c.marks_are_made.ensures.made carrier carries config net genesis approves world few small is_net is_world in
     let site = At rules p in
     λ i hi all name object free.
     let some = by-node rules p i hi in
@@ -253,9 +302,9 @@ returns-clause-objects g c carrier carries config master liars genesis approves 
     (c.composition.ensures.objects site.setup.rules steps m.world_is i.shard name object here)
 
 pub returns-clause-alone : goal.returns-clause-alone
-returns-clause-alone g c carrier carries config master liars genesis approves world few small is_world =
+returns-clause-alone g c carrier carries config net genesis approves world few small is_net is_world =
     let rules = g.O.Order.rules in
-    let p = place rules g.met.O.Order.law g.met.O.Order.holds c.marks_are_made.ensures.made carrier carries config master liars genesis approves world few small is_world in
+    let p = place rules g.met.O.Order.law g.met.O.Order.holds c.marks_are_made.ensures.made carrier carries config net genesis approves world few small is_net is_world in
     let site = At rules p in
     λ trusted i hi.
     let some = by-node rules p i hi in

@@ -1,0 +1,2 @@
+pub mod OneEcho
+pub mod Resting
