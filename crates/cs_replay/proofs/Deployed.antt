@@ -1,8 +1,9 @@
--- The nodes of a schedule that can be played: one of each shard.
+-- The nodes of a schedule that can be played: those that don't lie.
 use Rattle.std.proofs.Common.{◌≡◌, ℕ, zero, suc, ◌+◌, ◌*◌, ◌<◌, ◌≤◌, nat_lt, nat_le, ◌==◌, true, false, not, ◌&&◌, ◌||◌, List, [], ◌∷◌, ◌++◌, length, take, get_or, Some, None, refl, ap, sym, subst, ◌∙◌, arith}
 use Rattle.std.specs.Prelude.{Bool, Option, if◌then◌else◌}
 use Rattle.std.specs.List.{All, list_any}
-use Rattle.std.proofs.lemmas.Bool.{eqb-true, ltb-true, leb-true, lt-ltb}
+use Rattle.std.proofs.lemmas.Bool.{eqb-true, ltb-true, leb-true, lt-ltb, le-leb}
+use Rattle.std.proofs.lemmas.Bool.Decides.{nat_tests}
 use Rattle.std.proofs.lemmas.List.{take_more, length-take}
 use Rattle.cs_base.specs.declared.config.Config.{Config}
 use Rattle.cs_base.specs.declared.key.Key.TheVariants as key
@@ -31,13 +32,15 @@ use Rattle.cs_node.specs.declared.nodes.Core.{Core}
 use Rattle.cs_node.specs.Cores.{StandsFor}
 use Rattle.cs_node.specs.Setups.{keyed_from, AreObjects}
 use Rattle.cs_node_law.specs.Given as Given
-use Rattle.cs_sched.specs.Naming.{is_liar}
+use Rattle.cs_sched.specs.Naming.{is_name, is_liar}
 use Rattle.cs_sched.specs.Playable.{IsHonest, IsSpeaker, IsPlayable, IsPlayableEvent}
 use Rattle.cs_play.specs.Kept.{Deploys}
 use Rattle.cs_play.specs.Voicing.{Voicing}
-use Rattle.cs_play.specs.Standing.{EachStands, AllStand, HasNode, Rests, IsShort, IsToAnother}
+use Rattle.cs_play.specs.Standing.{EachStands, AllStand, Rests, IsShort, IsToAnother}
 use Rattle.cs_replay.specs.Site.{net_of_schedule}
-use Rattle.cs_replay.specs.Settings.{node_of_shard, setting_of}
+use Rattle.cs_replay.specs.Settings.{honest_nodes, name_in, setting_of}
+use Rattle.cs_replay.proofs.Few.{count-same, count-listed}
+use Rattle.cs_replay.proofs.Honest.{Has, has-below, is-below, apart-below, ranks-within, shards-within}
 
 -- ---- objects under their keys
 
@@ -80,10 +83,6 @@ deploys-setup config genesis approves = record {
 
 -- ---- the nodes
 
-none-few : (honest : ℕ → Bool) → honest 0 ≡ true → FewLiars 0 honest
-unfolding count_below
-none-few honest is = rw is (omega arith)
-
 module _ {O J M : Type 0} (stands : O → Member M → Type 0) (approves : J → Tx → Bool) (site : Site M) where
   each-push : (cores : List (Core O J M)) (core : Core O J M) (views : ℕ → View M) → EachStands stands approves site cores views → StandsFor stands approves site core (views (length cores))
       → EachStands stands approves site (cores ++ core ∷ []) views
@@ -103,55 +102,112 @@ module _ {O J M : Type 0} (stands : O → Member M → Type 0) (approves : J →
       (each-push cores core views each (subst (λ n. StandsFor stands approves site core (views n)) (sym at) stood))
 
 -- before the first input
-pub all-begin : {O J M : Type 0} (stands : O → Member M → Type 0) (approves : J → Tx → Bool) (site : Site M) (cores : List (Core O J M)) → EachStands stands approves site cores (λ i. start_view site (node_of_shard i))
-    → AllStand stands approves site node_of_shard cores []
-all-begin stands approves site cores each = record { each = each; apart = λ i j x y same. ap (λ (n : NodeId). n.shard) same }
-
-zero-within : (n : ℕ) → nat_le 0 n ≡ true
-zero-within n = grind arith
-
--- the node of a shard
-pub is-node : (config : Config) (shard : ℕ) → shard < config.shards → is_node config (node_of_shard shard) ≡ true
-is-node config shard below = ap (λ b. b && nat_le 0 (3 * config.f)) (lt-ltb shard config.shards below) ∙ zero-within (3 * config.f)
+pub all-begin : {O J M : Type 0} (stands : O → Member M → Type 0) (approves : J → Tx → Bool) (site : Site M) (cores : List (Core O J M)) (schedule : Schedule) → length cores ≡ length (honest_nodes schedule)
+    → EachStands stands approves site cores (λ i. start_view site (name_in (honest_nodes schedule) i)) → AllStand stands approves site (name_in (honest_nodes schedule)) cores []
+all-begin stands approves site cores schedule count each =
+    let members = 3 * schedule.config.f + 1 in
+    let some : 0 < members = omega arith in
+    record {
+      each = each;
+      apart = λ i j first second same. apart-below members schedule.liars some (schedule.config.shards * members) i j (omega (arith, first, count)) (omega (arith, second, count)) same;
+    }
 
 both : (one other : Bool) → (one && other) ≡ true → (one ≡ true) × (other ≡ true)
 both true other all = (refl, all)
 both false other all = absurd (cc)
 
-either-none : (b : Bool) → (b || false) ≡ true → b ≡ true
-either-none true is = refl
-either-none false is = is
+number-same : (a b : ℕ) → (a == b) ≡ (b == a)
+number-same a b = grind (arith, nat_tests)
+
+-- a name is told apart from the liars in one way, whichever of both names stands first
+liars-same : (liars : List NodeId) (name : NodeId) → list_any (λ liar. same_name liar name) liars ≡ is_liar liars name
+liars-same [] name = refl
+liars-same (liar ∷ liars) name =
+    ap (λ b. (b && (liar.index == name.index)) || list_any (λ other. same_name other name) liars) (number-same liar.shard name.shard)
+    ∙ ap (λ b. ((name.shard == liar.shard) && b) || list_any (λ other. same_name other name) liars) (number-same liar.index name.index)
+    ∙ ap (λ b. is_name name liar || b) (liars-same liars name)
+
+same-names : (a b : NodeId) → same_name a b ≡ true → a ≡ b
+same-names a b is =
+    let (shard, index) = both (a.shard == b.shard) (a.index == b.index) is in
+    let shards = eqb-true a.shard b.shard shard in
+    let indexes = eqb-true a.index b.index index in
+    λ i. record { shard = shards i; index = indexes i }
+
+not-both : (b : Bool) → b ≡ true → b ≡ false → ⊥
+not-both true is other = cc
+not-both false is other = cc
 
 module _ (schedule : Schedule) (playable : IsPlayable schedule) where
   abbrev config : Config
   config = schedule.config
 
-  -- a node of the configuration is that of its shard
-  pub node-is : (name : NodeId) → is_node config name ≡ true → HasNode node_of_shard config.shards name
-  node-is name is =
+  abbrev members : ℕ
+  members = 3 * config.f + 1
+
+  abbrev nodes : ℕ
+  nodes = config.shards * members
+
+  some : 0 < members
+  some = omega arith
+
+  is-node : (name : NodeId) → name.shard < config.shards → name.index < members → is_node config name ≡ true
+  is-node name below member =
+      let least : name.index ≤ 3 * config.f = omega arith in
+      rw (lt-ltb name.shard config.shards below, le-leb name.index (3 * config.f) least) refl
+
+  -- an honest node has its place
+  pub has-place : (name : NodeId) → is_node config name ≡ true → is_liar schedule.liars name ≡ false → Has (honest_nodes schedule) name
+  has-place name is honest =
       let (in_shard, in_range) = both (nat_lt name.shard config.shards) (nat_le name.index (3 * config.f)) is in
       let below : name.shard < config.shards = ltb-true name.shard config.shards in_shard in
       let within : name.index ≤ 3 * config.f = leb-true name.index (3 * config.f) in_range in
-      let index : name.index ≡ 0 = omega (arith, playable.no_liar) in
-      (name.shard, below, λ i. record { shard = name.shard; index = sym index i })
+      let member : name.index < members = omega arith in
+      has-below members schedule.liars some nodes name (record { ranked = ranks-within members config.shards name below member; member = member; honest = honest })
 
-  named : (name : NodeId) → IsHonest config schedule.liars name → HasNode node_of_shard config.shards name
-  named name is = node-is name is.node
+  named : (name : NodeId) → IsHonest config schedule.liars name → Has (honest_nodes schedule) name
+  named name is = has-place name is.node is.honest
 
-  -- where no node lies
-  unless-liar : (name : NodeId) → is_node config name ≡ true → (net_of_schedule schedule).is_honest name ≡ true
-  unless-liar name node =
-      subst (λ (liars : List NodeId). (is_node config name && not (list_any (λ liar. same_name liar name) liars)) ≡ true) (sym playable.liars) (ap (λ b. b && true) node)
+  -- what has a place is an honest node
+  pub is-honest-node : (name : NodeId) → Has (honest_nodes schedule) name → IsHonest config schedule.liars name
+  is-honest-node name has =
+      let is = is-below members schedule.liars some nodes name has in
+      let below : name.shard < config.shards = shards-within members config.shards name is.ranked in
+      record { node = is-node name below is.member; honest = is.honest }
 
-  is-client : (name : NodeId) → IsSpeaker config schedule.liars name → is_client name ≡ true
-  is-client name speaker = either-none (is_client name) (subst (λ (liars : List NodeId). (is_client name || is_liar liars name) ≡ true) playable.liars speaker.speaks)
+  pub honest-shard : (name : NodeId) → Has (honest_nodes schedule) name → name.shard < config.shards
+  honest-shard name has = shards-within members config.shards name (is-below members schedule.liars some nodes name has).ranked
 
+  -- the name at a place is an honest node
+  pub node-at : (i : ℕ) → i < length (honest_nodes schedule) → is_node config (name_in (honest_nodes schedule) i) ≡ true
+  node-at i within = (is-honest-node (name_in (honest_nodes schedule) i) (i, within, refl)).node
+
+  -- who is honest
+  honest : (name : NodeId) → is_node config name ≡ true → is_liar schedule.liars name ≡ false → (net_of_schedule schedule).is_honest name ≡ true
+  honest name node is = rw (node, liars-same schedule.liars name, is) refl
+
+  lies : (name : NodeId) → is_liar schedule.liars name ≡ true → (net_of_schedule schedule).is_honest name ≡ false
+  lies name is = rw (liars-same schedule.liars name, is) (unless (is_node config name))
+    where
+      unless : (b : Bool) → (b && false) ≡ false
+      unless true = refl
+      unless false = refl
+
+  honest-name : (name : NodeId) → (net_of_schedule schedule).is_honest name ≡ true → IsHonest config schedule.liars name
+  honest-name name is =
+      let (node, other) = both (is_node config name) (not (list_any (λ liar. same_name liar name) schedule.liars)) is in
+      record { node = node; honest = sym (liars-same schedule.liars name) ∙ unnot (list_any (λ liar. same_name liar name) schedule.liars) other }
+    where
+      unnot : (b : Bool) → not b ≡ true → b ≡ false
+      unnot true is = absurd (cc)
+      unnot false is = refl
+
+  -- no client is a node
   client-shard : (name : NodeId) → is_client name ≡ true → name.shard ≡ 65535
   client-shard name client =
       let (shard, index) = both (name.shard == 65535) (nat_lt name.index 16) client in
       eqb-true name.shard 65535 shard
 
-  -- no client is a node
   client-other : (name : NodeId) → is_client name ≡ true → (net_of_schedule schedule).is_honest name ≡ false
   client-other name client = by (nat_lt name.shard config.shards) refl
     where
@@ -161,24 +217,38 @@ module _ (schedule : Schedule) (playable : IsPlayable schedule) where
           let less : name.shard < config.shards = ltb-true name.shard config.shards below in
           absurd (omega (arith, client-shard name client, playable.few_shards))
 
-  -- what is said to a node is said by another
-  apart : (from to : NodeId) → IsSpeaker config schedule.liars from → HasNode node_of_shard config.shards to → same_name to from ≡ false
-  apart from to speaker node = by (to.shard == from.shard) refl
+  -- who speaks isn't honest
+  speaker-other : (name : NodeId) → IsSpeaker config schedule.liars name → (net_of_schedule schedule).is_honest name ≡ false
+  speaker-other name speaker = by (is_client name) refl speaker.speaks
     where
-      shard : node.0 ≡ to.shard
-      shard = ap (λ (n : NodeId). n.shard) node.2
+      by : (client : Bool) → is_client name ≡ client → (client || is_liar schedule.liars name) ≡ true → (net_of_schedule schedule).is_honest name ≡ false
+      by true is speaks = client-other name is
+      by false is speaks = lies name speaks
 
-      by : (p : Bool) → (to.shard == from.shard) ≡ p → same_name to from ≡ false
-      by false other = ap (λ b. b && (to.index == from.index)) other
+  pub honest-place : (name : NodeId) → Has (honest_nodes schedule) name → (net_of_schedule schedule).is_honest name ≡ true
+  honest-place name has = let is = is-honest-node name has in honest name is.node is.honest
+
+  -- what is said to a node is said by another
+  apart : (from to : NodeId) → IsSpeaker config schedule.liars from → Has (honest_nodes schedule) to → same_name to from ≡ false
+  apart from to speaker node = by (same_name to from) refl
+    where
+      by : (p : Bool) → same_name to from ≡ p → same_name to from ≡ false
+      by false other = other
       by true same =
-          let equal : to.shard ≡ from.shard = eqb-true to.shard from.shard same in
-          absurd (omega (arith, client-shard from (is-client from speaker), equal, shard, node.1, playable.few_shards))
+          let at : (net_of_schedule schedule).is_honest from ≡ true = subst (λ (name : NodeId). (net_of_schedule schedule).is_honest name ≡ true) (same-names to from same) (honest-place to node) in
+          absurd (not-both ((net_of_schedule schedule).is_honest from) at (speaker-other from speaker))
 
-  -- each shard has few liars, that is none
+  -- each shard has few liars
   pub few-liars : (shard : ℕ) → shard < config.shards → FewLiars config.f (λ index. (net_of_schedule schedule).is_honest (record { shard = shard; index = index }))
   few-liars shard below =
-      subst (λ f. FewLiars f (λ index. (net_of_schedule schedule).is_honest (record { shard = shard; index = index }))) (sym playable.no_liar)
-      (none-few (λ index. (net_of_schedule schedule).is_honest (record { shard = shard; index = index })) (unless-liar (node_of_shard shard) (is-node config shard below)))
+      let same : count_below members (λ i. not ((net_of_schedule schedule).is_honest (record { shard = shard; index = i }))) ≡ count_below members (λ i. list_any (λ liar. same_name liar (record { shard = shard; index = i })) schedule.liars) =
+      count-same members (λ i. not ((net_of_schedule schedule).is_honest (record { shard = shard; index = i }))) (λ i. list_any (λ liar. same_name liar (record { shard = shard; index = i })) schedule.liars)
+      (λ i within. rw (is-node (record { shard = shard; index = i }) below within) (twice-not (list_any (λ liar. same_name liar (record { shard = shard; index = i })) schedule.liars))) in
+      omega (arith, same, count-listed members shard schedule.liars, playable.few_liars shard)
+    where
+      twice-not : (b : Bool) → not (not b) ≡ b
+      twice-not true = refl
+      twice-not false = refl
 
   module _ (approves : Tx → Bool) (traced : Bool) (before : Option Bytes) where
     for-setting : (event : Event) → IsPlayableEvent config schedule.liars event → IsToAnother (setting_of approves traced schedule before) event
@@ -195,11 +265,8 @@ module _ (schedule : Schedule) (playable : IsPlayable schedule) where
     -- the nodes are honest, and no other
     pub rests : (config' : Config) (voicing : Voicing) → config' ≡ config → voicing.config ≡ config → voicing.master ≡ schedule.master → Rests (setting_of approves traced schedule before) config'.shards voicing
     rests config' voicing same voiced master = record {
-      honest = λ name. (
-        λ is. node-is name (both (is_node config name) _ is).0,
-        λ node. subst (λ (n : NodeId). (net_of_schedule schedule).is_honest n ≡ true) node.2 (unless-liar (node_of_shard node.0) (is-node config node.0 node.1)),
-      );
-      shards = λ i within. subst (λ n. i < n) (sym (ap (λ (c : Config). c.shards) same)) within;
+      honest = λ name. (λ is. let found = honest-name name is in has-place name found.node found.honest, λ has. honest-place name has);
+      shards = λ i within. subst (λ n. (name_in (honest_nodes schedule) i).shard < n) (sym (ap (λ (c : Config). c.shards) same)) (honest-shard (name_in (honest_nodes schedule) i) (i, within, refl));
       liars = schedule.liars;
       speaks = ap (λ (c : Config). net_of c schedule.master schedule.liars) (sym voiced) ∙ ap (λ (m : Bytes). net_of voicing.config m schedule.liars) (sym master);
     }
@@ -218,15 +285,15 @@ module _ (schedule : Schedule) (playable : IsPlayable schedule) where
   given : (event : Event) → IsPlayableEvent config schedule.liars event → Given.IsGivable config (net_of_schedule schedule) event
   given (Say from to kind body) is = record {
     speaker = is.speaker.named;
-    lies = client-other from (is-client from is.speaker);
-    listener = unless-liar to is.listener.node;
+    lies = speaker-other from is.speaker;
+    listener = honest to is.listener.node is.listener.honest;
     kind_fits = omega (arith, is.kind);
     short = is.short;
     is_bytes = is.in_bytes;
   }
-  given (Inject to bytes) is = (unless-liar to is.node.node, is.in_bytes)
+  given (Inject to bytes) is = (honest to is.node.node is.node.honest, is.in_bytes)
   given (Deliver number) is = tt
-  given (Tick node) is = unless-liar node is.node
+  given (Tick node) is = honest node is.node is.honest
   given (Drain times) is = tt
 
   pub are-given : All (λ numbered. Given.IsGivable config (net_of_schedule schedule) numbered.1) schedule.events

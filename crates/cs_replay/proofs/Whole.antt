@@ -5,7 +5,7 @@ use Rattle.std.specs.List.{flat_map}
 use Rattle.std.specs.Fmt.{decimal}
 use Rattle.std.specs.Io.KnownBytes.{Appends}
 use Rattle.std.proofs.KnownBytes.{Appends-trans}
-use Rattle.cs_base.specs.Answers.{Answer, Answers, AppendsFront}
+use Rattle.cs_base.specs.Answers.{Answers, AppendsFront}
 use Rattle.cs_base.specs.Codes.{bytes_text}
 use Rattle.cs_ledger.specs.Ledger.{Transaction}
 use Rattle.cs_sched_types.specs.declared.schedule.Event.{Event}

@@ -2,7 +2,7 @@
 use Rattle.std.specs.Prelude.{Bool, List}
 use Rattle.cs_tx_form.specs.declared.transaction.Tx.{Tx}
 use Rattle.cs_ledger.specs.Ledger.{Bytes, Transaction}
-use Rattle.cs_order.specs.declared.solo.NoMessage.{NoMessage}
+use Rattle.cs_order_rules.specs.declared.message.OrderMessage.{OrderMessage}
 use Rattle.cs_sched_types.specs.declared.schedule.Schedule.{Schedule}
 use Rattle.cs_node_rules.specs.Aborts.{aborted}
 use Rattle.cs_node_rules.specs.Lines.{Parcel}
@@ -11,11 +11,11 @@ use Rattle.cs_node_rules.specs.World.{Happening, history}
 use Rattle.cs_replay.specs.Site.{setup_of_schedule, site_of_schedule}
 
 -- the events of a schedule, played at nodes whose judge approves so
-abbrev pub course_of : (Tx → Bool) → Bool → Schedule → Course NoMessage
+abbrev pub course_of : (Tx → Bool) → Bool → Schedule → Course OrderMessage
 course_of approves traced schedule = play_all (site_of_schedule approves schedule) traced schedule.events unplayed
 
 -- the events, with all that they make
-abbrev pub world_of : (Tx → Bool) → Bool → Schedule → List (Happening NoMessage)
+abbrev pub world_of : (Tx → Bool) → Bool → Schedule → List (Happening OrderMessage)
 world_of approves traced schedule = (played_by (course_of approves traced schedule)).world
 
 abbrev pub history_of : (Tx → Bool) → Bool → Schedule → List Transaction

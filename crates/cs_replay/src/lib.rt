@@ -4,6 +4,8 @@
 
 #[cfg(test)]
 mod attack_tests;
+#[cfg(test)]
+mod member_tests;
 mod outcome;
 mod program;
 mod schedule;
@@ -13,6 +15,8 @@ mod tests;
 mod theorem;
 #[cfg(test)]
 mod trace_tests;
+#[cfg(test)]
+mod trial_tests;
 mod words;
 
 pub use outcome::{ReplayError, Summary};

@@ -29,9 +29,8 @@ use std::alloc::Global;
 /// For every replayed schedule, with at most f liars per shard, no forged tag and no hash
 /// collision, the accepted transactions form one serial history that the ledger takes and every
 /// checker approves; no object is consumed twice; no two honest nodes decide a session differently;
-/// a session whose objects are free is voted commit, and the vote is sent; one that holds its lock
-/// is accepted when commit is decided; and the printed decisions are the core's. As yet schedules
-/// have f = 0.
+/// each phase of a session with free objects succeeds once its stated messages have arrived; and
+/// the printed decisions are the core's.
 pub fn run<S: Source, K: Sink>(alloc: Global, words: &[String], input: &mut S, output: &mut K) -> u8
     // Words outside the grammar are refused, and nothing is read.
     ensures words { command_of (texts_of words.now) ≡ None
@@ -51,9 +50,10 @@ pub fn run<S: Source, K: Sink>(alloc: Global, words: &[String], input: &mut S, o
         → Completes MOST_SCHEDULE traced
         (S.left input.old) (K.written output.old) (K.written output.new) result }
 
-    // What is true of every schedule that is read, as far as it is played: of its history, which
-    // is printed, and of the decisions of all nodes. A free session is voted commit and the vote is
-    // sent; one that holds its lock is accepted when commit is decided.
+    // What is true of every schedule that is read, as far as it is played, whichever few nodes lie
+    // in it: of its history, which is printed, and of the decisions of all honest nodes. A free
+    // session is voted commit and the vote is sent; what a node can echo, confirm or choose it has;
+    // a session that holds its lock is accepted when commit is decided.
     ensures sound { (text : List ℕ) (schedule : Schedule)
         → schedule_of MOST_SCHEDULE text ≡ Ok schedule → IsSound is_token_approved schedule }
 

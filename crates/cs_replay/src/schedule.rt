@@ -2,9 +2,9 @@
 ghost use Rattle.std.specs.Prelude.{◌≡◌, ℕ, List, Option, length, string_bytes, IfOk, IfErr, IsErrOf};
 ghost use Rattle.cs_base.specs.Answers.{Answers};
 ghost use Rattle.cs_base.specs.Outside.{HasCause};
-ghost use Rattle.cs_order.specs.Solo.{solo};
+ghost use Rattle.cs_order_rules.specs.SlotMachine.{slot_machine};
 ghost use Rattle.cs_node_rules.specs.Play.{unplayed, play_all, size_of};
-ghost use Rattle.cs_node_carried.specs.SoloCarried.{solo_carrier};
+ghost use Rattle.cs_node_carried.specs.SlotCarried.{slot_carrier};
 ghost use Rattle.cs_sched.specs.Playable.{IsPlayable};
 ghost use Rattle.cs_play.specs.Standing.{Setting, site_in, Stands, AllShort, AllToOthers};
 ghost use Rattle.cs_replay.specs.Settings.{setting_of};
@@ -15,8 +15,9 @@ ghost use Rattle.cs_replay.specs.Closing.{sums_of, IsLast, IsCutShort, Closes};
 use crate::outcome::{ReplayError, Summary};
 use crate::starting::start_nodes;
 use cs_base::{Memory, Sink, WriteError, print};
+use cs_log::SlotOrder;
 use cs_node::Carried;
-use cs_order::{Order, Solo};
+use cs_order::Order;
 use cs_play::{Halt, History, Post, Replay, Voices, forged_line, history_text, limit_line};
 use cs_sched_types::Schedule;
 use cs_tx::Judge;
@@ -71,10 +72,10 @@ fn begin<J: Judge + Copy + Drop>(
     schedule: &Schedule,
     judge: J,
     mode: Mode,
-) -> Result<Replay<Solo, J>, Memory>
+) -> Result<Replay<SlotOrder, J>, Memory>
     requires { IsPlayable schedule.now }
     ensures { (before : Option (List ℕ)) → IfOk result (λ replay.
-        Stands ⟦<Solo as Order>⟧.stands J.is_approved solo solo_carrier
+        Stands ⟦<SlotOrder as Order>⟧.stands J.is_approved slot_machine slot_carrier
         (setting_of (J.is_approved judge) mode.traced schedule.now before) replay unplayed) }
 {
     let cores = start_nodes(alloc, schedule, judge)?;

@@ -1,7 +1,8 @@
 //! The start of the nodes of a schedule.
-ghost use Rattle.std.specs.Prelude.{◌≡◌, ◌≤◌, ◌<◌, [], length, IfOk};
+ghost use Rattle.std.specs.Prelude.{◌≡◌, ◌≤◌, [], length, true, IfOk};
 ghost use Rattle.std.specs.List.{All};
 ghost use Rattle.cs_base.specs.declared.limits.TheConstants.{MOST_GENESIS};
+ghost use Rattle.cs_base.specs.NodeId.{is_node};
 ghost use Rattle.cs_tx_value.specs.Object.{ObjectFits};
 ghost use Rattle.cs_node_rules.specs.Site.{start_view};
 ghost use Rattle.cs_sched.specs.Playable.{IsPlayable};
@@ -9,58 +10,79 @@ ghost use Rattle.cs_node.specs.Setups.{keyed_from};
 ghost use Rattle.cs_node.specs.Cores.{StandsFor};
 ghost use Rattle.cs_play.specs.Standing.{AllStand};
 ghost use Rattle.cs_replay.specs.Site.{site_of_schedule};
-ghost use Rattle.cs_replay.specs.Settings.{node_of_shard};
+ghost use Rattle.cs_replay.specs.Settings.{honest_nodes, name_in};
 
 use cs_base::{Key, Memory, NodeId};
+use cs_log::SlotOrder;
 use cs_node::{Core, StartError, keys_of_a_master_speak};
-use cs_order::{Order, Solo};
+use cs_order::Order;
+use cs_sched::is_liar;
 use cs_sched_types::Schedule;
 use cs_tx::{Encoded, Judge, Object, genesis_key};
 use cs_wire::Keys;
 use std::alloc::Global;
 
-/// The nodes of a schedule before their first input: as yet one of each shard.
+/// The honest nodes of a schedule before their first input.
 pub fn start_nodes<J: Judge + Copy + Drop>(
     alloc: Global,
     schedule: &Schedule,
     judge: J,
-) -> Result<Vec<Core<Solo, J>>, Memory>
+) -> Result<Vec<Core<SlotOrder, J>>, Memory>
     requires { IsPlayable schedule.now }
     ensures nodes { IfOk result (λ cores.
-        AllStand ⟦<Solo as Order>⟧.stands J.is_approved
-        (site_of_schedule (J.is_approved judge) schedule.now) node_of_shard cores.items []) }
-    ensures count { IfOk result (λ cores. length cores.items ≡ schedule.now.config.shards) }
+        AllStand ⟦<SlotOrder as Order>⟧.stands J.is_approved
+        (site_of_schedule (J.is_approved judge) schedule.now)
+        (name_in (honest_nodes schedule.now)) cores.items []) }
+    ensures count { IfOk result (λ cores.
+        length cores.items ≡ length (honest_nodes schedule.now)) }
 {
     let genesis = keyed(alloc, schedule.genesis.as_slice())?;
+    let names = honest_nodes(alloc, schedule)?;
     let mut cores = Vec::new(alloc);
-    for shard in 0..schedule.config.shards {
-        let core = start_node(alloc, schedule, judge, genesis.as_slice(), shard)?;
+    for name in &names {
+        let core = start_node(alloc, schedule, judge, genesis.as_slice(), *name)?;
         cores.push(core)?;
     }
     Ok(cores)
 }
 
-// The node of a shard.
+// The nodes that don't lie, shard by shard.
+fn honest_nodes(alloc: Global, schedule: &Schedule) -> Result<Vec<NodeId>, Memory>
+    ensures { IfOk result (λ names. names.items ≡ honest_nodes schedule.now) }
+{
+    let members = 3 * schedule.config.f + 1;
+    let mut names = Vec::new(alloc);
+    for number in 0..schedule.config.shards * members {
+        let name = NodeId {
+            shard: number / members,
+            index: number % members,
+        };
+        if !is_liar(schedule.liars.as_slice(), name) {
+            names.push(name)?;
+        }
+    }
+    Ok(names)
+}
+
+// A node.
 fn start_node<J: Judge + Copy + Drop>(
     alloc: Global,
     schedule: &Schedule,
     judge: J,
     genesis: &[(Key, Object)],
-    shard: u16,
-) -> Result<Core<Solo, J>, Memory>
+    name: NodeId,
+) -> Result<Core<SlotOrder, J>, Memory>
     requires playable { IsPlayable schedule.now }
     requires genesis { genesis.now ≡ keyed_from 0 schedule.now.genesis }
-    requires shard { shard < schedule.now.config.shards }
+    requires node { is_node schedule.now.config name ≡ true }
     ensures { IfOk result (λ core.
-        StandsFor ⟦<Solo as Order>⟧.stands J.is_approved
+        StandsFor ⟦<SlotOrder as Order>⟧.stands J.is_approved
         (site_of_schedule (J.is_approved judge) schedule.now) core
-        (start_view (site_of_schedule (J.is_approved judge) schedule.now)
-        (node_of_shard shard))) }
+        (start_view (site_of_schedule (J.is_approved judge) schedule.now) name)) }
 {
-    let node = NodeId { shard, index: 0 };
     keys_of_a_master_speak();
-    let keys = Keys::from_master(alloc, &schedule.config, &schedule.master, node)?;
-    let order = Solo::new(alloc);
+    let keys = Keys::from_master(alloc, &schedule.config, &schedule.master, name)?;
+    let order = SlotOrder::new(alloc, schedule.config.f, name.index)?;
     match Core::start(alloc, schedule.config, keys, judge, genesis, order) {
         Ok(core) => Ok(core),
         // The keys of a schedule's objects differ.

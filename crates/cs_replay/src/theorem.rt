@@ -5,8 +5,9 @@ ghost use Rattle.cs_sched_types.specs.declared.schedule.Schedule.{Schedule};
 ghost use Rattle.cs_sched.specs.Playable.{IsPlayable};
 ghost use Rattle.cs_replay.specs.Sound.{IsSound};
 
+use cs_log::SlotOrder;
 use cs_node_law::{events_end_quiet, schedules_play_worlds};
-use cs_order::Solo;
+use cs_phase_law::second_phase;
 use cs_world_law::settled_world;
 
 /// What is true of every schedule that can be played, whatever its judge approves of.
@@ -16,7 +17,8 @@ pub fn schedules_are_sound()
     ensures { (approves : Tx → Bool) (schedule : Schedule)
         → IsPlayable schedule → IsSound approves schedule }
 {
-    schedules_play_worlds::<Solo>();
-    events_end_quiet::<Solo>();
-    settled_world::<Solo>();
+    schedules_play_worlds::<SlotOrder>();
+    events_end_quiet::<SlotOrder>();
+    second_phase();
+    settled_world::<SlotOrder>();
 }

@@ -1,11 +1,13 @@
 -- What is printed of a schedule is read as that schedule.
-use Rattle.std.specs.Prelude.{◌≡◌, ◌≢◌, ℕ, ◌+◌, ◌≤◌, false, List, [], ◌∷◌, ◌++◌, length, Ok, codes}
+use Rattle.std.specs.Prelude.{◌≡◌, ◌≢◌, ℕ, ◌+◌, ◌≤◌, true, false, List, [], ◌∷◌, ◌++◌, length, Ok, codes}
 use Rattle.std.specs.List.{All, AllByRecursion, AllPairs}
 use Rattle.std.specs.Str.Lines.{lines}
 use Rattle.std.proofs.Common.{◌∙◌, sym, ap, refl, subst, arith}
 use Rattle.std.proofs.lemmas.Bool.{le-leb}
 use Rattle.std.proofs.lemmas.List.Elements.{recursion_from_All}
+use Rattle.cs_base.specs.NodeId.{is_node}
 use Rattle.cs_base.specs.declared.config.Config.{Config}
+use Rattle.cs_base.specs.declared.node_id.NodeId.{NodeId}
 use Rattle.cs_base.specs.declared.limits.TheConstants.{MOST_SHARDS, MOST_LIARS, MOST_DUMMIES, MOST_GENESIS}
 use Rattle.cs_tx_value.specs.Object.{DigestFits}
 use Rattle.cs_tx_value.specs.declared.object.Object.{Object}
@@ -14,6 +16,7 @@ use Rattle.cs_sched_types.specs.declared.schedule.Event.TheVariants.{Say, Inject
 use Rattle.cs_sched_types.specs.declared.schedule.Schedule.{Schedule}
 use Rattle.cs_sched.specs.Drafts.{empty_draft}
 use Rattle.cs_sched.specs.Names.{genesis_names}
+use Rattle.cs_sched.specs.Naming.{liars_of}
 use Rattle.cs_sched.specs.Playable.{IsPlayableEvent}
 use Rattle.cs_sched.specs.Text.{read_lines, whole, schedule_of}
 use Rattle.cs_sched.specs.declared.draft.Draft.{Draft}
@@ -21,61 +24,69 @@ use Rattle.cs_sched.specs.declared.draft.Stage.TheVariants as stage
 use Rattle.cs_sched.proofs.Played.{schedule_sound}
 use Rattle.cs_sched.proofs.Sound.{IsSound}
 use Rattle.cs_sched.specs.Again.{numbered, renumbered, IsReadAgain}
-use Rattle.cs_sched.specs.Printed.{event_words, genesis_lines, event_lines, schedule_lines, schedule_text}
+use Rattle.cs_sched.specs.Printed.{event_words, liar_lines, genesis_lines, event_lines, schedule_lines, schedule_text}
 use Rattle.cs_sched.proofs.Plain.{IsLine, field-word, field-decimal, field-bytes, field-name}
-use Rattle.cs_sched.proofs.Back.{named_small, honest_small}
+use Rattle.cs_sched.proofs.Back.{node_small, named_small, honest_small}
 use Rattle.cs_sched.proofs.Rows.{lines_of-text, read_fields, read_lines-rows}
-use Rattle.cs_sched.proofs.Walk.{made, IsPrintable, reads_head, reads_objects, reads_events, run_step}
+use Rattle.cs_sched.proofs.Walk.{made, IsPrintable, reads_head, reads_liars, reads_objects, reads_events, run_step}
 
--- a schedule without liars and contracts
-abbrev bare : Config → List ℕ → List Object → List (ℕ × Event) → Schedule
-bare config master genesis events = record { config = config; master = master; liars = []; contracts = []; genesis = genesis; events = events }
+-- a schedule without contracts
+abbrev bare : Config → List ℕ → List NodeId → List Object → List (ℕ × Event) → Schedule
+bare config master liars genesis events = record { config = config; master = master; liars = liars; contracts = []; genesis = genesis; events = events }
 
 -- what is known of a schedule that was read
-record IsRead (config : Config) (master : List ℕ) (genesis : List Object) (events : List (ℕ × Event)) : Type 0 where
-  none : config.f ≡ 0
+record IsRead (config : Config) (master : List ℕ) (liars : List NodeId) (genesis : List Object) (events : List (ℕ × Event)) : Type 0 where
   digest : DigestFits master
+  nodes : AllByRecursion (λ name. is_node config name ≡ true) liars
+  few_liars : (shard : ℕ) → liars_of liars shard ≤ config.f
+  apart : AllPairs (λ a b. a ≢ b) liars
   objects : AllByRecursion IsPrintable genesis
   few : length genesis ≤ MOST_GENESIS
   differ : AllPairs (λ a b. a ≢ b) (genesis_names 0 genesis)
-  played : AllByRecursion (λ event. IsPlayableEvent config [] event.1) events
+  played : AllByRecursion (λ event. IsPlayableEvent config liars event.1) events
 
 -- each of its lines has a word, and fields that can be told apart
 
-event_is_line : (config : Config) (event : Event) → IsPlayableEvent config [] event → IsLine (event_words event)
-event_is_line config (Say from to kind body) fits =
+event_is_line : (config : Config) (liars : List NodeId) (event : Event) → IsPlayableEvent config liars event → IsLine (event_words event)
+event_is_line config liars (Say from to kind body) fits =
     let few = fits.kind in
     let speaker = named_small config from fits.speaker.named in
-    let listener = honest_small config [] to fits.listener in (
+    let listener = honest_small config liars to fits.listener in (
       field-word (codes "say") (omega arith) refl,
       (field-name from speaker.shard speaker.index, (field-name to listener.shard listener.index, (field-decimal kind (omega arith), (field-bytes body fits.in_bytes, tt)))),
     )
-event_is_line config (Inject to bytes) fits =
-    let node = honest_small config [] to fits.node in
+event_is_line config liars (Inject to bytes) fits =
+    let node = honest_small config liars to fits.node in
     (field-word (codes "inject") (omega arith) refl, (field-name to node.shard node.index, (field-bytes bytes fits.in_bytes, tt)))
-event_is_line config (Deliver number) fits = (field-word (codes "deliver") (omega arith) refl, (field-decimal number fits, tt))
-event_is_line config (Tick node) fits =
-    let small = honest_small config [] node fits in
+event_is_line config liars (Deliver number) fits = (field-word (codes "deliver") (omega arith) refl, (field-decimal number fits, tt))
+event_is_line config liars (Tick node) fits =
+    let small = honest_small config liars node fits in
     (field-word (codes "tick") (omega arith) refl, (field-name node small.shard small.index, tt))
-event_is_line config (Drain times) fits = (field-word (codes "drain") (omega arith) refl, (field-decimal times fits, tt))
+event_is_line config liars (Drain times) fits = (field-word (codes "drain") (omega arith) refl, (field-decimal times fits, tt))
 
-events_are_lines : (config : Config) (events : List (ℕ × Event)) (rest : List (List (List ℕ))) → AllByRecursion (λ event. IsPlayableEvent config [] event.1) events → AllByRecursion IsLine rest
+events_are_lines : (config : Config) (liars : List NodeId) (events : List (ℕ × Event)) (rest : List (List (List ℕ))) → AllByRecursion (λ event. IsPlayableEvent config liars event.1) events → AllByRecursion IsLine rest
     → AllByRecursion IsLine (event_lines events ++ rest)
-events_are_lines config [] rest fit more = more
-events_are_lines config (event ∷ events) rest fit more = (event_is_line config event.1 fit.0, events_are_lines config events rest fit.1 more)
+events_are_lines config liars [] rest fit more = more
+events_are_lines config liars (event ∷ events) rest fit more = (event_is_line config liars event.1 fit.0, events_are_lines config liars events rest fit.1 more)
 
 objects_are_lines : (objects : List Object) (rest : List (List (List ℕ))) → AllByRecursion IsPrintable objects → AllByRecursion IsLine rest → AllByRecursion IsLine (genesis_lines objects ++ rest)
 objects_are_lines [] rest fit more = more
 objects_are_lines (object ∷ objects) rest fit more = ((field-word (codes "genesis") (omega arith) refl, (field-bytes _ fit.0.1, tt)), objects_are_lines objects rest fit.1 more)
 
-module _ (config : Config) (master : List ℕ) (genesis : List Object) (events : List (ℕ × Event)) (known : IsRead config master genesis events) where
-  are_lines : AllByRecursion IsLine (schedule_lines (bare config master genesis events))
+liars_are_lines : (config : Config) (liars : List NodeId) (rest : List (List (List ℕ))) → AllByRecursion (λ name. is_node config name ≡ true) liars → AllByRecursion IsLine rest → AllByRecursion IsLine (liar_lines liars ++ rest)
+liars_are_lines config [] rest nodes more = more
+liars_are_lines config (name ∷ liars) rest nodes more =
+    let small = node_small config name nodes.0 in
+    ((field-word (codes "liar") (omega arith) refl, (field-name name small.shard small.index, tt)), liars_are_lines config liars rest nodes.1 more)
+
+module _ (config : Config) (master : List ℕ) (liars : List NodeId) (genesis : List Object) (events : List (ℕ × Event)) (known : IsRead config master liars genesis events) where
+  are_lines : AllByRecursion IsLine (schedule_lines (bare config master liars genesis events))
   are_lines =
       let few_shards : config.shards ≤ MOST_SHARDS = config.few_shards in
       let few_liars : config.f ≤ MOST_LIARS = config.few_liars in
       let few_dummies : config.dummies ≤ MOST_DUMMIES = config.few_dummies in
       let ended : AllByRecursion IsLine ((codes "end" ∷ []) ∷ []) = ((field-word (codes "end") (omega arith) refl, tt), tt) in
-      let played = events_are_lines config events ((codes "end" ∷ []) ∷ []) known.played ended in
+      let played = events_are_lines config liars events ((codes "end" ∷ []) ∷ []) known.played ended in
       let run : AllByRecursion IsLine ((codes "run" ∷ []) ∷ (event_lines events ++ (codes "end" ∷ []) ∷ [])) = ((field-word (codes "run") (omega arith) refl, tt), played) in (
         (field-word (codes "shards") (omega arith) refl, (field-decimal config.shards (omega arith), tt)),
         (
@@ -84,7 +95,8 @@ module _ (config : Config) (master : List ℕ) (genesis : List Object) (events :
             (field-word (codes "dummies") (omega arith) refl, (field-decimal config.dummies (omega arith), tt)),
             (
               (field-word (codes "master") (omega arith) refl, (field-bytes master known.digest.1, tt)),
-              objects_are_lines genesis ((codes "run" ∷ []) ∷ (event_lines events ++ (codes "end" ∷ []) ∷ [])) known.objects run,
+              liars_are_lines config liars (genesis_lines genesis ++ (codes "run" ∷ []) ∷ (event_lines events ++ (codes "end" ∷ []) ∷ [])) known.nodes
+                  (objects_are_lines genesis ((codes "run" ∷ []) ∷ (event_lines events ++ (codes "end" ∷ []) ∷ [])) known.objects run),
             ),
           ),
         ),
@@ -92,58 +104,64 @@ module _ (config : Config) (master : List ℕ) (genesis : List Object) (events :
 
   -- the draft that its lines give
   abbrev last : ℕ → Draft
-  last first = made stage.Ended config master genesis (numbered first events)
+  last first = made stage.Ended config master liars genesis (numbered first events)
 
-  reads_run : (first : ℕ) → read_fields (made stage.Events config master genesis []) first (event_lines events ++ (codes "end" ∷ []) ∷ []) ≡ Ok (last first)
-  reads_run first = reads_events config master genesis (last first) ((codes "end" ∷ []) ∷ []) events [] first known.played refl
+  reads_run : (first : ℕ) → read_fields (made stage.Events config master liars genesis []) first (event_lines events ++ (codes "end" ∷ []) ∷ []) ≡ Ok (last first)
+  reads_run first = reads_events config master liars genesis (last first) ((codes "end" ∷ []) ∷ []) events [] first known.played refl
 
-  reads_all : read_fields empty_draft 1 (schedule_lines (bare config master genesis events)) ≡ Ok (last (6 + (0 + (0 + length genesis))))
+  -- the number of the first event's line
+  abbrev events_from : ℕ
+  events_from = 6 + (length liars + (0 + length genesis))
+
+  reads_all : read_fields empty_draft 1 (schedule_lines (bare config master liars genesis events)) ≡ Ok (last events_from)
   reads_all =
-      let first : 5 + length genesis + 1 ≡ 6 + (0 + (0 + length genesis)) = omega arith in
+      let first : 5 + length liars + length genesis + 1 ≡ events_from = omega arith in
       let rest = (codes "run" ∷ []) ∷ (event_lines events ++ (codes "end" ∷ []) ∷ []) in
-      reads_head config master known.none known.digest (last (6 + (0 + (0 + length genesis)))) (genesis_lines genesis ++ rest)
-      (reads_objects config master genesis (last (6 + (0 + (0 + length genesis)))) rest known.few known.differ genesis [] false 5 refl known.objects
-      (λ any. rw (run_step config master any genesis (5 + length genesis)) (subst (λ n. read_fields (made stage.Events config master genesis []) n (event_lines events ++ (codes "end" ∷ []) ∷ []) ≡ Ok (last (6 + (0 + (0 + length genesis))))) (sym first) (reads_run (6 + (0 + (0 + length genesis)))))))
+      reads_head config master known.digest (last events_from) (liar_lines liars ++ (genesis_lines genesis ++ rest))
+      (reads_liars config master liars (last events_from) (genesis_lines genesis ++ rest) known.apart known.few_liars liars [] 5 refl known.nodes
+      (reads_objects config master liars genesis (last events_from) rest known.few known.differ genesis [] false (5 + length liars) refl known.objects
+      (λ any. rw (run_step config master liars any genesis (5 + length liars + length genesis)) (subst (λ n. read_fields (made stage.Events config master liars genesis []) n (event_lines events ++ (codes "end" ∷ []) ∷ []) ≡ Ok (last events_from)) (sym first) (reads_run events_from)))))
 
-  again_bare : (limit : ℕ) → length (schedule_text (bare config master genesis events)) ≤ limit
-      → schedule_of limit (schedule_text (bare config master genesis events)) ≡ Ok (renumbered (bare config master genesis events))
+  again_bare : (limit : ℕ) → length (schedule_text (bare config master liars genesis events)) ≤ limit
+      → schedule_of limit (schedule_text (bare config master liars genesis events)) ≡ Ok (renumbered (bare config master liars genesis events))
   unfolding schedule_of
   again_bare limit short =
-      let text = schedule_text (bare config master genesis events) in
-      let read : read_lines empty_draft 1 (lines text) ≡ Ok (last (6 + (0 + (0 + length genesis)))) =
-      ap (read_lines empty_draft 1) (lines_of-text (schedule_lines (bare config master genesis events)) are_lines)
-      ∙ read_lines-rows (schedule_lines (bare config master genesis events)) empty_draft 1 are_lines ∙ reads_all in
+      let text = schedule_text (bare config master liars genesis events) in
+      let read : read_lines empty_draft 1 (lines text) ≡ Ok (last events_from) =
+      ap (read_lines empty_draft 1) (lines_of-text (schedule_lines (bare config master liars genesis events)) are_lines)
+      ∙ read_lines-rows (schedule_lines (bare config master liars genesis events)) empty_draft 1 are_lines ∙ reads_all in
       rw (le-leb (length text) limit short) (ap (whole (length (lines text) + 1)) read)
 
 -- a draft's objects have encodings
 printable : (objects : List Object) → All IsPrintable objects → AllByRecursion IsPrintable objects
 printable objects all = recursion_from_All IsPrintable objects all
 
-known_of : (draft : Draft) → IsSound draft → IsRead draft.schedule.config draft.schedule.master draft.schedule.genesis draft.schedule.events
+known_of : (draft : Draft) → IsSound draft → IsRead draft.schedule.config draft.schedule.master draft.schedule.liars draft.schedule.genesis draft.schedule.events
 known_of draft sound = record {
-  none = sound.playable.no_liar;
   digest = sound.master;
+  nodes = recursion_from_All (λ name. is_node draft.schedule.config name ≡ true) draft.schedule.liars sound.playable.liars;
+  few_liars = sound.playable.few_liars;
+  apart = sound.playable.liars_differ;
   objects = printable draft.schedule.genesis (λ k d within. (sound.playable.objects k d within, sound.encodings k d within));
   few = sound.playable.few_objects;
   differ = sound.playable.keys_differ;
-  played = recursion_from_All (λ event. IsPlayableEvent draft.schedule.config [] event.1) draft.schedule.events
-      (subst (λ liars. All (λ event. IsPlayableEvent draft.schedule.config liars event.1) draft.schedule.events) sound.playable.liars sound.playable.events);
+  played = recursion_from_All (λ event. IsPlayableEvent draft.schedule.config draft.schedule.liars event.1) draft.schedule.events sound.playable.events;
 }
 
 again_sound : (limit : ℕ) (draft : Draft) → IsSound draft → length (schedule_text draft.schedule) ≤ limit → schedule_of limit (schedule_text draft.schedule) ≡ Ok (renumbered draft.schedule)
 again_sound limit draft sound =
     let schedule = draft.schedule in
-    let same : bare schedule.config schedule.master schedule.genesis schedule.events ≡ schedule =
+    let same : bare schedule.config schedule.master schedule.liars schedule.genesis schedule.events ≡ schedule =
     λ i. record {
       config = schedule.config;
       master = schedule.master;
-      liars = sym sound.playable.liars i;
+      liars = schedule.liars;
       contracts = sym sound.playable.contracts i;
       genesis = schedule.genesis;
       events = schedule.events;
     } in
     subst (λ (s : Schedule). length (schedule_text s) ≤ limit → schedule_of limit (schedule_text s) ≡ Ok (renumbered s)) same
-    (again_bare schedule.config schedule.master schedule.genesis schedule.events (known_of draft sound) limit)
+    (again_bare schedule.config schedule.master schedule.liars schedule.genesis schedule.events (known_of draft sound) limit)
 
 pub again : (limit : ℕ) → IsReadAgain limit
 again limit text schedule read short =

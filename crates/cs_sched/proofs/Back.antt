@@ -34,7 +34,7 @@ pub record IsSmall (name : NodeId) : Type 0 where
   pub shard : name.shard < 2 ^ 16
   pub index : name.index < 2 ^ 16
 
-node_small : (config : Config) (name : NodeId) → is_node config name ≡ true → IsSmall name
+pub node_small : (config : Config) (name : NodeId) → is_node config name ≡ true → IsSmall name
 node_small config name is =
     let (in_shard, in_range) = and_parts (nat_lt name.shard config.shards) (nat_le name.index (3 * config.f)) is in
     let below : name.shard < config.shards = ltb-true name.shard config.shards in_shard in
@@ -57,16 +57,16 @@ named_small config name is =
       | inr other ↦ let client : is_client name ≡ true = rw other at is in client_small name client
     ]
 
-named_back : (config : Config) (name : NodeId) → is_named config name ≡ true → named config (node_text name) ≡ Ok name
+pub named_back : (config : Config) (name : NodeId) → is_named config name ≡ true → named config (node_text name) ≡ Ok name
 named_back config name is =
     let small = named_small config name is in
     rw (node_of-node_text name small.shard small.index, is) refl
 
 -- a node is no client
-node_named : (config : Config) (name : NodeId) → is_node config name ≡ true → is_named config name ≡ true
+pub node_named : (config : Config) (name : NodeId) → is_node config name ≡ true → is_named config name ≡ true
 node_named config name is = rw is refl
 
-node_no_client : (config : Config) (name : NodeId) → is_node config name ≡ true → is_client name ≡ false
+pub node_no_client : (config : Config) (name : NodeId) → is_node config name ≡ true → is_client name ≡ false
 node_no_client config name is =
     let (in_shard, in_range) = and_parts (nat_lt name.shard config.shards) (nat_le name.index (3 * config.f)) is in
     let below : name.shard < config.shards = ltb-true name.shard config.shards in_shard in

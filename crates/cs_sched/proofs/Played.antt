@@ -23,35 +23,36 @@ use Rattle.cs_sched.specs.Text.{then_lines, read_lines, whole, cut_at, schedule_
 use Rattle.cs_sched.specs.Playable.{IsPlayable}
 use Rattle.cs_sched.specs.Reading.{GivesText}
 use Rattle.cs_sched.proofs.Steps.{step_ok, change_ok, ok_same, when_ok, unless_ok, either_ok}
-use Rattle.cs_sched.proofs.Sound.{IsSound, has_run, empty_sound, at_stage-sound, with_config-sound, with_master-sound, with_event-sound, with_genesis-sound}
-use Rattle.cs_sched.proofs.Said.{shards_numbers, faulty_numbers, dummies_numbers, liar_never, contract_never, master_said-ok, object_said-ok}
+use Rattle.cs_sched.proofs.Sound.{IsSound, has_run, has_master, empty_sound, at_stage-sound, with_config-sound, with_master-sound, with_event-sound, with_genesis-sound, with_liar-sound}
+use Rattle.cs_sched.proofs.Said.{contract_never, master_said-ok, object_said-ok}
+use Rattle.cs_sched.proofs.Liars.{liar_said-ok}
 use Rattle.cs_sched.proofs.Told.{event_said-ok}
 
 module _ (draft next : Draft) (fields : List (List ℕ)) (sound : IsSound draft) where
-  shards_sound : draft.schedule.events ≡ [] → shards_line draft fields ≡ Ok next → IsSound next
-  shards_sound none is =
+  shards_sound : draft.schedule.liars ≡ [] → draft.schedule.events ≡ [] → shards_line draft fields ≡ Ok next → IsSound next
+  shards_sound trusted none is =
       let (config, said, moved) = change_ok (shards_said draft.schedule.config fields) (λ config. with_config draft stage.Faulty config) next is in
-      subst IsSound moved (with_config-sound draft stage.Faulty config sound none (shards_numbers draft.schedule.config config fields sound.playable.no_liar said))
+      subst IsSound moved (with_config-sound draft stage.Faulty config sound trusted none)
 
-  faulty_sound : draft.schedule.events ≡ [] → faulty_line draft fields ≡ Ok next → IsSound next
-  faulty_sound none is =
+  faulty_sound : draft.schedule.liars ≡ [] → draft.schedule.events ≡ [] → faulty_line draft fields ≡ Ok next → IsSound next
+  faulty_sound trusted none is =
       let (config, said, moved) = change_ok (faulty_said draft.schedule.config fields) (λ config. with_config draft stage.Dummies config) next is in
-      subst IsSound moved (with_config-sound draft stage.Dummies config sound none (faulty_numbers draft.schedule.config config fields said))
+      subst IsSound moved (with_config-sound draft stage.Dummies config sound trusted none)
 
-  dummies_sound : draft.schedule.events ≡ [] → dummies_line draft fields ≡ Ok next → IsSound next
-  dummies_sound none is =
+  dummies_sound : draft.schedule.liars ≡ [] → draft.schedule.events ≡ [] → dummies_line draft fields ≡ Ok next → IsSound next
+  dummies_sound trusted none is =
       let (config, said, moved) = change_ok (dummies_said draft.schedule.config fields) (λ config. with_config draft stage.Master config) next is in
-      subst IsSound moved (with_config-sound draft stage.Master config sound none (dummies_numbers draft.schedule.config config fields sound.playable.no_liar said))
+      subst IsSound moved (with_config-sound draft stage.Master config sound trusted none)
 
   master_sound : draft.schedule.events ≡ [] → master_line draft fields ≡ Ok next → IsSound next
   master_sound none is =
       let (master, said, moved) = change_ok (master_said fields) (λ master. with_master draft master) next is in
       subst IsSound moved (with_master-sound draft master sound none (master_said-ok fields master said))
 
-  liar_sound : liar_line draft fields ≡ Ok next → IsSound next
-  liar_sound is =
+  liar_sound : has_master draft.stage ≡ true → draft.schedule.events ≡ [] → liar_line draft fields ≡ Ok next → IsSound next
+  liar_sound met none is =
       let (liar, said, moved) = change_ok (liar_said draft.schedule fields) (λ liar. with_liar draft liar) next is in
-      absurd (liar_never draft.schedule fields liar sound.playable.no_liar said)
+      subst IsSound moved (with_liar-sound draft liar sound met (liar_said-ok draft.schedule fields liar said) none)
 
   genesis_sound : draft.schedule.events ≡ [] → genesis_line draft fields ≡ Ok next → IsSound next
   genesis_sound none is =
@@ -83,10 +84,10 @@ module _ (draft next : Draft) (fields : List (List ℕ)) (sound : IsSound draft)
         | inr other ↦ run_sound (when_ok (bytes_eq word (codes "run")) (run_line draft fields) cause.Word next other).1
       ]
 
-  liars_place-sound : (word : List ℕ) → draft.schedule.events ≡ [] → liars_place draft word fields ≡ Ok next → IsSound next
-  liars_place-sound word none is =
+  liars_place-sound : (word : List ℕ) → has_master draft.stage ≡ true → draft.schedule.events ≡ [] → liars_place draft word fields ≡ Ok next → IsSound next
+  liars_place-sound word met none is =
       elim (either_ok (bytes_eq word (codes "liar")) (liar_line draft fields) (if bytes_eq word (codes "contract") then contract_line fields else genesis_place draft word fields) next is) [
-        | inl liar ↦ liar_sound liar
+        | inl liar ↦ liar_sound met none liar
         | inr other ↦ elim (either_ok (bytes_eq word (codes "contract")) (contract_line fields) (genesis_place draft word fields) next other) [
           | inl contract ↦ absurd (contract_never fields next contract)
           | inr genesis ↦ genesis_place-sound word none genesis
@@ -102,11 +103,11 @@ module _ (draft next : Draft) (fields : List (List ℕ)) (sound : IsSound draft)
 
   -- at its place in the schedule, before or behind the line `run`
   line_sound : (place : Stage) (line : ℕ) (word : List ℕ) → draft.stage ≡ place → line_at place line draft word fields ≡ Ok next → IsSound next
-  line_sound stage.Shards line word at is = shards_sound (sound.unplayed (ap has_run at)) (when_ok (bytes_eq word (codes "shards")) (shards_line draft fields) cause.Word next is).1
-  line_sound stage.Faulty line word at is = faulty_sound (sound.unplayed (ap has_run at)) (when_ok (bytes_eq word (codes "faulty")) (faulty_line draft fields) cause.Word next is).1
-  line_sound stage.Dummies line word at is = dummies_sound (sound.unplayed (ap has_run at)) (when_ok (bytes_eq word (codes "dummies")) (dummies_line draft fields) cause.Word next is).1
+  line_sound stage.Shards line word at is = shards_sound (sound.trusted (ap has_master at)) (sound.unplayed (ap has_run at)) (when_ok (bytes_eq word (codes "shards")) (shards_line draft fields) cause.Word next is).1
+  line_sound stage.Faulty line word at is = faulty_sound (sound.trusted (ap has_master at)) (sound.unplayed (ap has_run at)) (when_ok (bytes_eq word (codes "faulty")) (faulty_line draft fields) cause.Word next is).1
+  line_sound stage.Dummies line word at is = dummies_sound (sound.trusted (ap has_master at)) (sound.unplayed (ap has_run at)) (when_ok (bytes_eq word (codes "dummies")) (dummies_line draft fields) cause.Word next is).1
   line_sound stage.Master line word at is = master_sound (sound.unplayed (ap has_run at)) (when_ok (bytes_eq word (codes "master")) (master_line draft fields) cause.Word next is).1
-  line_sound stage.Liars line word at is = liars_place-sound word (sound.unplayed (ap has_run at)) is
+  line_sound stage.Liars line word at is = liars_place-sound word (ap has_master at) (sound.unplayed (ap has_run at)) is
   line_sound stage.Genesis line word at is = genesis_place-sound word (sound.unplayed (ap has_run at)) is
   line_sound stage.Events line word at is = events_place-sound line word (ap has_run at) is
   line_sound stage.Ended line word at is = absurd cc

@@ -1,4 +1,4 @@
--- What is known of the values of lines that are taken, where no node lies.
+-- What is known of the values of lines that are taken.
 use Rattle.std.specs.Prelude.{◌≡◌, ℕ, ◌<◌, ◌≤◌, ◌==◌, nat_lt, nat_le, List, [], ◌∷◌, length, Some, Result, Ok, Err, codes, if◌then◌else◌}
 use Rattle.std.specs.Option.{ok_or}
 use Rattle.std.specs.Result.{result_ok}
@@ -10,61 +10,16 @@ use Rattle.hex.specs.declared.error.FromHexError.{FromHexError}
 use Rattle.hex.proofs.HexLemmas.{decode_of-ok}
 use Rattle.cs_base.specs.Fields.{IsBytes}
 use Rattle.cs_base.specs.declared.limits.TheConstants.{MOST_GENESIS, MOST_OBJECT}
-use Rattle.cs_base.specs.Config.{configured}
-use Rattle.cs_base.specs.Codes.{number_of, bytes_of}
-use Rattle.cs_base.specs.NodeId.{is_client}
-use Rattle.cs_base.specs.declared.config.Config.{Config}
-use Rattle.cs_base.specs.declared.node_id.NodeId.{NodeId}
+use Rattle.cs_base.specs.Codes.{bytes_of}
 use Rattle.cs_tx_value.specs.declared.object.Object.{Object}
 use Rattle.cs_tx_value.specs.Object.{object_encoding, DigestFits, ObjectFits}
-use Rattle.cs_sched_types.specs.declared.schedule.Schedule.{Schedule}
 use Rattle.cs_sched.specs.declared.cause.Cause.TheVariants as cause
 use Rattle.cs_sched.specs.declared.draft.Draft.{Draft}
-use Rattle.cs_sched.specs.Values.{◌>>=◌, in_range, bytes_within, encoded_object, object_in}
-use Rattle.cs_sched.specs.Naming.{named, is_liar, liars_of, one_more_liar, liar_in}
-use Rattle.cs_sched.specs.Said.{shards_said, faulty_said, dummies_said, master_said, liar_said, object_said}
+use Rattle.cs_sched.specs.Values.{◌>>=◌, bytes_within, encoded_object, object_in}
+use Rattle.cs_sched.specs.Said.{master_said, object_said}
 use Rattle.cs_sched.specs.Lines.{contract_line}
 use Rattle.cs_sched.proofs.Steps.{step_ok, ok_same, when_ok, unless_ok, some_ok}
 use Rattle.cs_sched.proofs.Objects.{found_fits}
-use Rattle.cs_sched.proofs.Sound.{configured_sound}
-
-pub shards_numbers : (now next : Config) (fields : List (List ℕ)) → now.f ≡ 0 → shards_said now fields ≡ Ok next → next.f ≡ 0
-shards_numbers now next [] none is = absurd cc
-shards_numbers now next (field ∷ []) none is =
-    let (shards, number, ranged) = step_ok (ok_or (number_of field) cause.Number) (λ shards. in_range (configured shards now.f now.dummies)) next is in
-    configured_sound shards now.f now.dummies next none ranged
-shards_numbers now next (field ∷ another ∷ more) none is = absurd cc
-
-pub faulty_numbers : (now next : Config) (fields : List (List ℕ)) → faulty_said now fields ≡ Ok next → next.f ≡ 0
-faulty_numbers now next [] is = absurd cc
-faulty_numbers now next (field ∷ []) is =
-    let (faulty, number, after) = step_ok (ok_or (number_of field) cause.Number) (λ faulty. in_range (configured now.shards faulty now.dummies) >>= (λ config. if faulty == 0 then Ok config else Err cause.Later)) next is in
-    let (config, ranged, tested) = step_ok (in_range (configured now.shards faulty now.dummies)) (λ config. if faulty == 0 then Ok config else Err cause.Later) next after in
-    let (none, same) = when_ok (faulty == 0) (Ok config) cause.Later next tested in
-    configured_sound now.shards faulty now.dummies next (eqb-true faulty 0 none) (ranged ∙ same)
-faulty_numbers now next (field ∷ another ∷ more) is = absurd cc
-
-pub dummies_numbers : (now next : Config) (fields : List (List ℕ)) → now.f ≡ 0 → dummies_said now fields ≡ Ok next → next.f ≡ 0
-dummies_numbers now next [] none is = absurd cc
-dummies_numbers now next (field ∷ []) none is =
-    let (dummies, number, ranged) = step_ok (ok_or (number_of field) cause.Number) (λ dummies. in_range (configured now.shards now.f dummies)) next is in
-    configured_sound now.shards now.f dummies next none ranged
-dummies_numbers now next (field ∷ another ∷ more) none is = absurd cc
-
--- where no node may lie, none does
-one_more_never : (config : Config) (liars : List NodeId) (field : List ℕ) (liar : NodeId) → config.f ≡ 0 → liar_in config liars field ≡ Ok liar → ⊥
-one_more_never config liars field liar none is =
-    let (name, found, after) = step_ok (named config field) (λ name. if is_client name then Err cause.Role else one_more_liar config liars name) liar is in
-    let (node, more) = unless_ok (is_client name) (one_more_liar config liars name) cause.Role liar after in
-    let (new, room) = unless_ok (is_liar liars name) (if nat_lt (liars_of liars name.shard) config.f then Ok name else Err cause.Liars) cause.Liars liar more in
-    let (fewer, same) = when_ok (nat_lt (liars_of liars name.shard) config.f) (Ok name) cause.Liars liar room in
-    let below : liars_of liars name.shard < config.f = ltb-true (liars_of liars name.shard) config.f fewer in
-    omega arith
-
-pub liar_never : (schedule : Schedule) (fields : List (List ℕ)) (liar : NodeId) → schedule.config.f ≡ 0 → liar_said schedule fields ≡ Ok liar → ⊥
-liar_never schedule [] liar none is = cc
-liar_never schedule (field ∷ []) liar none is = one_more_never schedule.config schedule.liars field liar none is
-liar_never schedule (field ∷ another ∷ more) liar none is = cc
 
 pub contract_never : (fields : List (List ℕ)) (next : Draft) → contract_line fields ≡ Ok next → ⊥
 contract_never [] next is = cc

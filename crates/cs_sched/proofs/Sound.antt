@@ -1,16 +1,16 @@
 -- What is read line by line can be played.
-use Rattle.std.specs.Prelude.{◌≡◌, ◌≢◌, ℕ, ◌+◌, ◌<◌, Bool, true, false, List, [], ◌∷◌, ◌++◌, length, min, replicate, Option, Some, None, Ok}
+use Rattle.std.specs.Prelude.{◌≡◌, ◌≢◌, ℕ, ◌+◌, ◌<◌, ◌≤◌, Bool, true, false, List, [], ◌∷◌, ◌++◌, length, replicate}
 use Rattle.std.specs.List.{All, AllPairs}
 use Rattle.std.proofs.Common.{◌∙◌, sym, ap, subst, refl, arith, zero, suc}
 use Rattle.std.proofs.lemmas.Bool.{true≢false}
 use Rattle.std.proofs.lemmas.List.{length-append}
 use Rattle.std.proofs.lemmas.List.Elements.{All-push, All-nil}
 use Rattle.cs_base.specs.Fields.{IsBytes}
-use Rattle.cs_base.specs.Config.{configured, config_of, unless_out, first_out}
+use Rattle.cs_base.specs.Config.{config_of}
 use Rattle.cs_base.specs.declared.config.Config.{Config}
-use Rattle.cs_base.specs.declared.config.ConfigField.{ConfigField}
+use Rattle.cs_base.specs.NodeId.{is_node}
 use Rattle.cs_base.specs.declared.node_id.NodeId.{NodeId}
-use Rattle.cs_base.specs.declared.limits.TheConstants.{MOST_LIARS, MOST_GENESIS}
+use Rattle.cs_base.specs.declared.limits.TheConstants.{MOST_GENESIS}
 use Rattle.cs_tx_value.specs.declared.object.Object.{Object}
 use Rattle.cs_tx_value.specs.Object.{object_encoding, DigestFits, ObjectFits}
 use Rattle.cs_tx.specs.Digest.{name_of_genesis}
@@ -18,12 +18,12 @@ use Rattle.cs_sched_types.specs.declared.schedule.Event.{Event}
 use Rattle.cs_sched.specs.declared.draft.Draft.{Draft}
 use Rattle.cs_sched.specs.declared.draft.Stage.{Stage}
 use Rattle.cs_sched.specs.declared.draft.Stage.TheVariants as stage
-use Rattle.cs_sched.specs.Values.{in_range}
 use Rattle.cs_sched.specs.Names.{is_known, genesis_names}
+use Rattle.cs_sched.specs.Naming.{liars_of}
 use Rattle.cs_sched.specs.Drafts.{empty_draft}
-use Rattle.cs_sched.specs.Lines.{with_config, with_master, with_genesis, with_event, at_stage}
+use Rattle.cs_sched.specs.Lines.{with_config, with_master, with_liar, with_genesis, with_event, at_stage}
 use Rattle.cs_sched.specs.Playable.{IsPlayable, IsPlayableEvent}
-use Rattle.cs_sched.proofs.Steps.{ok_same}
+use Rattle.cs_sched.proofs.Liars.{IsNewLiar, one_more, liars_differ}
 use Rattle.cs_sched.proofs.Distinct.{names_differ, genesis_names-append}
 
 -- the line `run` was met
@@ -37,10 +37,22 @@ has_run stage.Genesis = false
 has_run stage.Events = true
 has_run stage.Ended = true
 
--- a draft whose schedule can be played, with the names of its objects, and without events before the line `run`; master and objects are made of bytes
+-- the master was met
+abbrev pub has_master : Stage → Bool
+has_master stage.Shards = false
+has_master stage.Faulty = false
+has_master stage.Dummies = false
+has_master stage.Master = false
+has_master stage.Liars = true
+has_master stage.Genesis = true
+has_master stage.Events = true
+has_master stage.Ended = true
+
+-- a draft whose schedule can be played, with the names of its objects, without liars before the master and without events before the line `run`; master and objects are made of bytes
 pub record IsSound (draft : Draft) : Type 0 where
   pub playable : IsPlayable draft.schedule
   pub names : draft.names ≡ genesis_names 0 draft.schedule.genesis
+  pub trusted : has_master draft.stage ≡ false → draft.schedule.liars ≡ []
   pub unplayed : has_run draft.stage ≡ false → draft.schedule.events ≡ []
   pub master : DigestFits draft.schedule.master
   pub encodings : All (λ object. IsBytes (object_encoding object)) draft.schedule.genesis
@@ -63,8 +75,10 @@ empty_sound = record {
   playable = record {
     some_shard = omega arith;
     few_shards = omega arith;
-    no_liar = refl;
-    liars = refl;
+    few_faulty = omega arith;
+    liars = All-nil (λ name. is_node (config_of 1 0 0) name ≡ true);
+    few_liars = λ shard. omega arith;
+    liars_differ = λ i j d before within. absurd (omega arith);
     contracts = refl;
     objects = All-nil ObjectFits;
     few_objects = omega arith;
@@ -72,32 +86,54 @@ empty_sound = record {
     events = unplayed_fits (config_of 1 0 0) [] [] refl;
   };
   names = refl;
+  trusted = λ before. refl;
   unplayed = λ before. refl;
   master = (refl, zeros_fit 32);
   encodings = All-nil (λ object. IsBytes (object_encoding object));
 }
 
+-- what holds before the master, where that was met
+master_before : (next : Stage) (liars : List NodeId) → has_master next ≡ true → has_master next ≡ false → liars ≡ []
+master_before next liars met before = absurd (true≢false (sym met ∙ before))
+
+-- the line `run` stands behind the master
+master_first : (next : Stage) → has_run next ≡ true → has_master next ≡ true
+master_first stage.Shards run = absurd (true≢false (sym run))
+master_first stage.Faulty run = absurd (true≢false (sym run))
+master_first stage.Dummies run = absurd (true≢false (sym run))
+master_first stage.Master run = absurd (true≢false (sym run))
+master_first stage.Liars run = refl
+master_first stage.Genesis run = refl
+master_first stage.Events run = refl
+master_first stage.Ended run = refl
+
 -- a stage behind `run` says nothing of the schedule
 pub at_stage-sound : (draft : Draft) (next : Stage) → IsSound draft → has_run next ≡ true → IsSound (at_stage draft next)
-at_stage-sound draft next sound run = record { playable = sound.playable; names = sound.names; unplayed = run_before next draft.schedule.events run; master = sound.master; encodings = sound.encodings }
+at_stage-sound draft next sound run = record {
+  playable = sound.playable;
+  names = sound.names;
+  trusted = master_before next draft.schedule.liars (master_first next run);
+  unplayed = run_before next draft.schedule.events run;
+  master = sound.master;
+  encodings = sound.encodings;
+}
 
-in_range_is : (config next : Config) (out : Option ConfigField) → in_range (unless_out config out) ≡ Ok next → config ≡ next
-in_range_is config next None is = ok_same config next is
-in_range_is config next (Some field) is = absurd cc
+-- where no liar is told
+no_liars : (config : Config) (liars : List NodeId) → liars ≡ [] → All (λ name. is_node config name ≡ true) liars
+no_liars config liars none = subst (All (λ name. is_node config name ≡ true)) (sym none) (All-nil (λ name. is_node config name ≡ true))
 
--- a configuration of no liar
-pub configured_sound : (shards f dummies : ℕ) (next : Config) → f ≡ 0 → in_range (configured shards f dummies) ≡ Ok next → next.f ≡ 0
-configured_sound shards f dummies next none is =
-    let next_f : min f MOST_LIARS ≡ next.f = ap (λ (config : Config). config.f) (in_range_is (config_of shards f dummies) next (first_out shards f dummies) is) in
-    omega arith
+none_few : (liars : List NodeId) (most shard : ℕ) → liars ≡ [] → liars_of liars shard ≤ most
+none_few liars most shard none = subst (λ those. liars_of those shard ≤ most) (sym none) (omega arith)
 
-pub with_config-sound : (draft : Draft) (next : Stage) (config : Config) → IsSound draft → draft.schedule.events ≡ [] → config.f ≡ 0 → IsSound (with_config draft next config)
-with_config-sound draft next config sound unplayed none = record {
+pub with_config-sound : (draft : Draft) (next : Stage) (config : Config) → IsSound draft → draft.schedule.liars ≡ [] → draft.schedule.events ≡ [] → IsSound (with_config draft next config)
+with_config-sound draft next config sound trusted unplayed = record {
   playable = record {
     some_shard = config.some_shard;
     few_shards = config.few_shards;
-    no_liar = none;
-    liars = sound.playable.liars;
+    few_faulty = config.few_liars;
+    liars = no_liars config draft.schedule.liars trusted;
+    few_liars = λ shard. none_few draft.schedule.liars config.f shard trusted;
+    liars_differ = sound.playable.liars_differ;
     contracts = sound.playable.contracts;
     objects = sound.playable.objects;
     few_objects = sound.playable.few_objects;
@@ -105,6 +141,7 @@ with_config-sound draft next config sound unplayed none = record {
     events = unplayed_fits config draft.schedule.liars draft.schedule.events unplayed;
   };
   names = sound.names;
+  trusted = λ before. trusted;
   unplayed = λ before. unplayed;
   master = sound.master;
   encodings = sound.encodings;
@@ -115,8 +152,10 @@ with_master-sound draft master sound none fits = record {
   playable = record {
     some_shard = sound.playable.some_shard;
     few_shards = sound.playable.few_shards;
-    no_liar = sound.playable.no_liar;
+    few_faulty = sound.playable.few_faulty;
     liars = sound.playable.liars;
+    few_liars = sound.playable.few_liars;
+    liars_differ = sound.playable.liars_differ;
     contracts = sound.playable.contracts;
     objects = sound.playable.objects;
     few_objects = sound.playable.few_objects;
@@ -124,6 +163,7 @@ with_master-sound draft master sound none fits = record {
     events = sound.playable.events;
   };
   names = sound.names;
+  trusted = λ before. absurd (true≢false before);
   unplayed = λ before. none;
   master = fits;
   encodings = sound.encodings;
@@ -134,8 +174,10 @@ with_event-sound draft line said sound run played = record {
   playable = record {
     some_shard = sound.playable.some_shard;
     few_shards = sound.playable.few_shards;
-    no_liar = sound.playable.no_liar;
+    few_faulty = sound.playable.few_faulty;
     liars = sound.playable.liars;
+    few_liars = sound.playable.few_liars;
+    liars_differ = sound.playable.liars_differ;
     contracts = sound.playable.contracts;
     objects = sound.playable.objects;
     few_objects = sound.playable.few_objects;
@@ -143,6 +185,7 @@ with_event-sound draft line said sound run played = record {
     events = All-push (λ numbered. IsPlayableEvent draft.schedule.config draft.schedule.liars numbered.1) draft.schedule.events (line, said) sound.playable.events played;
   };
   names = sound.names;
+  trusted = sound.trusted;
   unplayed = run_before draft.stage (draft.schedule.events ++ (line, said) ∷ []) run;
   master = sound.master;
   encodings = sound.encodings;
@@ -159,8 +202,10 @@ with_genesis-sound draft object sound none fits encoded few new =
       playable = record {
         some_shard = sound.playable.some_shard;
         few_shards = sound.playable.few_shards;
-        no_liar = sound.playable.no_liar;
+        few_faulty = sound.playable.few_faulty;
         liars = sound.playable.liars;
+        few_liars = sound.playable.few_liars;
+        liars_differ = sound.playable.liars_differ;
         contracts = sound.playable.contracts;
         objects = All-push ObjectFits draft.schedule.genesis object sound.playable.objects fits;
         few_objects = omega (arith, length-append draft.schedule.genesis (object ∷ []));
@@ -168,7 +213,32 @@ with_genesis-sound draft object sound none fits encoded few new =
         events = sound.playable.events;
       };
       names = ap (λ names. names ++ name ∷ []) sound.names ∙ sym appended;
+      trusted = λ before. absurd (true≢false before);
       unplayed = λ before. none;
       master = sound.master;
       encodings = All-push (λ object. IsBytes (object_encoding object)) draft.schedule.genesis object sound.encodings encoded;
     }
+
+-- one more liar, behind the master
+pub with_liar-sound : (draft : Draft) (liar : NodeId) → IsSound draft → has_master draft.stage ≡ true → IsNewLiar draft.schedule.config draft.schedule.liars liar → draft.schedule.events ≡ []
+    → IsSound (with_liar draft liar)
+with_liar-sound draft liar sound met new none = record {
+  playable = record {
+    some_shard = sound.playable.some_shard;
+    few_shards = sound.playable.few_shards;
+    few_faulty = sound.playable.few_faulty;
+    liars = All-push (λ name. is_node draft.schedule.config name ≡ true) draft.schedule.liars liar sound.playable.liars new.node;
+    few_liars = one_more draft.schedule.liars liar draft.schedule.config.f sound.playable.few_liars new.room;
+    liars_differ = liars_differ draft.schedule.liars liar sound.playable.liars_differ new.new;
+    contracts = sound.playable.contracts;
+    objects = sound.playable.objects;
+    few_objects = sound.playable.few_objects;
+    keys_differ = sound.playable.keys_differ;
+    events = unplayed_fits draft.schedule.config (draft.schedule.liars ++ liar ∷ []) draft.schedule.events none;
+  };
+  names = sound.names;
+  trusted = master_before draft.stage (draft.schedule.liars ++ liar ∷ []) met;
+  unplayed = sound.unplayed;
+  master = sound.master;
+  encodings = sound.encodings;
+}

@@ -48,7 +48,7 @@ number_said-ok (field ∷ another ∷ more) number is = absurd cc
 
 -- names
 
-left_of : (one other : Bool) → (one || other) ≡ true → other ≡ false → one ≡ true
+pub left_of : (one other : Bool) → (one || other) ≡ true → other ≡ false → one ≡ true
 left_of true other either not_other = refl
 left_of false other either not_other = absurd (true≢false (sym either ∙ not_other))
 
@@ -56,7 +56,7 @@ neither : (one other : Bool) → (one || other) ≡ false → (one ≡ false) ×
 neither true other none = absurd (true≢false none)
 neither false other none = (refl, none)
 
-named_ok : (config : Config) (field : List ℕ) (name : NodeId) → named config field ≡ Ok name → is_named config name ≡ true
+pub named_ok : (config : Config) (field : List ℕ) (name : NodeId) → named config field ≡ Ok name → is_named config name ≡ true
 named_ok config field name is =
     let (text, of_field, tested) = step_ok (ok_or (node_of field) cause.Node) (λ text. if is_named config text then Ok text else Err cause.Node) name is in
     let (has, same) = when_ok (is_named config text) (Ok text) cause.Node name tested in

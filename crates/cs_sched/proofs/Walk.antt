@@ -12,7 +12,9 @@ use Rattle.std.proofs.Math.Seq.{get_or-append_seam}
 use Rattle.cs_base.specs.Codes.{bytes_text}
 use Rattle.cs_base.specs.Config.{config_of, configured, first_out, unless_out}
 use Rattle.cs_base.specs.Fields.{IsBytes}
+use Rattle.cs_base.specs.NodeId.{is_node, node_text}
 use Rattle.cs_base.specs.declared.config.Config.{Config}
+use Rattle.cs_base.specs.declared.node_id.NodeId.{NodeId}
 use Rattle.cs_base.specs.declared.limits.TheConstants.{MOST_SHARDS, MOST_LIARS, MOST_DUMMIES, MOST_BODY, MOST_DATAGRAM, MOST_GENESIS, MOST_OBJECT}
 use Rattle.cs_base.proofs.Configs.{configured-config}
 use Rattle.cs_base.proofs.HexTexts.{bytes_of-bytes_text}
@@ -23,6 +25,7 @@ use Rattle.cs_sched_types.specs.declared.schedule.Event.{Event}
 use Rattle.cs_sched_types.specs.declared.schedule.Event.TheVariants.{Say, Inject, Deliver, Tick, Drain}
 use Rattle.cs_sched.specs.Drafts.{empty_draft}
 use Rattle.cs_sched.specs.Names.{is_known, genesis_names}
+use Rattle.cs_sched.specs.Naming.{is_liar, liars_of, liar_in}
 use Rattle.cs_sched.specs.Places.{line_step}
 use Rattle.cs_sched.specs.Playable.{IsPlayableEvent}
 use Rattle.cs_sched.specs.Said.{shards_said, faulty_said, dummies_said, master_said, object_said}
@@ -33,15 +36,16 @@ use Rattle.cs_sched.specs.declared.draft.Stage.TheVariants as stage
 use Rattle.cs_sched.proofs.Distinct.{genesis_names-append}
 use Rattle.cs_sched.proofs.Objects.{object_found}
 use Rattle.cs_sched.specs.Again.{numbered}
-use Rattle.cs_sched.specs.Printed.{number_words, bytes_words, object_words, event_words, genesis_lines, event_lines}
-use Rattle.cs_sched.proofs.Back.{number_back, within_back, bytes_back, speaker_back, honest_back}
+use Rattle.cs_sched.specs.Printed.{number_words, bytes_words, liar_words, object_words, event_words, liar_lines, genesis_lines, event_lines}
+use Rattle.cs_sched.proofs.Back.{number_back, within_back, bytes_back, named_back, node_named, node_no_client, speaker_back, honest_back}
+use Rattle.cs_sched.proofs.Liars.{new_liar, room_before}
 use Rattle.cs_sched.proofs.Rows.{read_fields, read-cons}
 
--- a draft without liars and contracts
-abbrev pub made : Stage → Config → List ℕ → List Object → List (ℕ × Event) → Draft
-made place config master genesis events = record {
+-- a draft without contracts
+abbrev pub made : Stage → Config → List ℕ → List NodeId → List Object → List (ℕ × Event) → Draft
+made place config master liars genesis events = record {
   stage = place;
-  schedule = record { config = config; master = master; liars = []; contracts = []; genesis = genesis; events = events };
+  schedule = record { config = config; master = master; liars = liars; contracts = []; genesis = genesis; events = events };
   names = genesis_names 0 genesis;
 }
 
@@ -50,10 +54,8 @@ made place config master genesis events = record {
 shards_back : (now next : Config) (shards : ℕ) → shards < 2 ^ 64 → in_range (configured shards now.f now.dummies) ≡ Ok next → shards_said now (decimal shards ∷ []) ≡ Ok next
 shards_back now next shards small ranged = rw (number_back shards small, ranged) refl
 
-faulty_back : (now next : Config) (faulty : ℕ) → faulty < 2 ^ 64 → faulty ≡ 0 → in_range (configured now.shards faulty now.dummies) ≡ Ok next → faulty_said now (decimal faulty ∷ []) ≡ Ok next
-faulty_back now next faulty small none ranged =
-    let test : (faulty == 0) ≡ true = rw none refl in
-    rw (number_back faulty small, ranged, test) refl
+faulty_back : (now next : Config) (faulty : ℕ) → faulty < 2 ^ 64 → in_range (configured now.shards faulty now.dummies) ≡ Ok next → faulty_said now (decimal faulty ∷ []) ≡ Ok next
+faulty_back now next faulty small ranged = rw (number_back faulty small, ranged) refl
 
 dummies_back : (now next : Config) (dummies : ℕ) → dummies < 2 ^ 64 → in_range (configured now.shards now.f dummies) ≡ Ok next → dummies_said now (decimal dummies ∷ []) ≡ Ok next
 dummies_back now next dummies small ranged = rw (number_back dummies small, ranged) refl
@@ -100,7 +102,36 @@ genesis_stage true = stage.Genesis
 abbrev pub IsPrintable : Object → Type 0
 IsPrintable object = ObjectFits object × IsBytes (object_encoding object)
 
+-- liars
+
+liar_back : (config : Config) (liars : List NodeId) (name : NodeId) → is_node config name ≡ true → is_liar liars name ≡ false → liars_of liars name.shard < config.f → liar_in config liars (node_text name) ≡ Ok name
+liar_back config liars name node new room =
+    rw (named_back config name (node_named config name node), node_no_client config name node, new, lt-ltb (liars_of liars name.shard) config.f room) refl
+
 module _ (config : Config) (master : List ℕ) where
+  liar_step : (before : List NodeId) (name : NodeId) (number : ℕ) → is_node config name ≡ true → is_liar before name ≡ false → liars_of before name.shard < config.f
+      → line_step number (made stage.Liars config master before [] []) (liar_words name) ≡ Ok (made stage.Liars config master (before ++ name ∷ []) [] [])
+  liar_step before name number node new room = rw (liar_back config before name node new room) refl
+
+  pub reads_liars : (liars : List NodeId) (last : Draft) (rest : List (List (List ℕ))) → AllPairs (λ a b. a ≢ b) liars → ((shard : ℕ) → liars_of liars shard ≤ config.f)
+      → (more before : List NodeId) (number : ℕ) → before ++ more ≡ liars → AllByRecursion (λ name. is_node config name ≡ true) more
+      → read_fields (made stage.Liars config master liars [] []) (number + length more) rest ≡ Ok last
+      → read_fields (made stage.Liars config master before [] []) number (liar_lines more ++ rest) ≡ Ok last
+  reads_liars liars last rest differ few [] before number is nodes after =
+      let none : number + 0 ≡ number = omega arith in
+      let at : read_fields (made stage.Liars config master before [] []) (number + 0) rest ≡ Ok last =
+      subst (λ all. read_fields (made stage.Liars config master all [] []) (number + 0) rest ≡ Ok last) (sym is ∙ append-nil before) after in
+      subst (λ n. read_fields (made stage.Liars config master before [] []) n rest ≡ Ok last) none at
+  reads_liars liars last rest differ few (name ∷ more) before number is nodes after =
+      let next : number + length (name ∷ more) ≡ number + 1 + length more = omega arith in
+      let new : is_liar before name ≡ false = new_liar before more name (subst (AllPairs (λ a b. a ≢ b)) (sym is) differ) in
+      let room : liars_of before name.shard < config.f = room_before before more name config.f (subst (λ those. liars_of those name.shard ≤ config.f) (sym is) (few name.shard)) in
+      read-cons (made stage.Liars config master before [] []) (made stage.Liars config master (before ++ name ∷ []) [] []) last number (liar_words name) (liar_lines more ++ rest)
+      (liar_step before name number nodes.0 new room)
+      (reads_liars liars last rest differ few more (before ++ name ∷ []) (number + 1) (append_assoc before (name ∷ []) more ∙ is) nodes.1
+      (subst (λ n. read_fields (made stage.Liars config master liars [] []) n rest ≡ Ok last) next after))
+
+module _ (config : Config) (master : List ℕ) (liars : List NodeId) where
   named : (before : List Object) (object : Object) → genesis_names 0 (before ++ object ∷ []) ≡ genesis_names 0 before ++ name_of_genesis (length before) object ∷ []
   named before object =
       let zero_first : 0 + length before ≡ length before = omega arith in
@@ -108,51 +139,51 @@ module _ (config : Config) (master : List ℕ) where
 
   object_step : (any : Bool) (before : List Object) (object : Object) (number : ℕ) → IsPrintable object → length before < MOST_GENESIS
       → is_known (name_of_genesis (length before) object) (genesis_names 0 before) ≡ false
-      → line_step number (made (genesis_stage any) config master before []) (object_words object) ≡ Ok (made stage.Genesis config master (before ++ object ∷ []) [])
+      → line_step number (made (genesis_stage any) config master liars before []) (object_words object) ≡ Ok (made stage.Genesis config master liars (before ++ object ∷ []) [])
   object_step false before object number fits few new = rw (object_back (length before) object few fits.0 fits.1, new, named before object) refl
   object_step true before object number fits few new = rw (object_back (length before) object few fits.0 fits.1, new, named before object) refl
 
-  pub run_step : (any : Bool) (genesis : List Object) (number : ℕ) → line_step number (made (genesis_stage any) config master genesis []) (codes "run" ∷ []) ≡ Ok (made stage.Events config master genesis [])
+  pub run_step : (any : Bool) (genesis : List Object) (number : ℕ) → line_step number (made (genesis_stage any) config master liars genesis []) (codes "run" ∷ []) ≡ Ok (made stage.Events config master liars genesis [])
   run_step false genesis number = refl
   run_step true genesis number = refl
 
-  event_step : (event : Event) (genesis : List Object) (before : List (ℕ × Event)) (number : ℕ) → IsPlayableEvent config [] event
-      → line_step number (made stage.Events config master genesis before) (event_words event) ≡ Ok (made stage.Events config master genesis (before ++ (number, event) ∷ []))
+  event_step : (event : Event) (genesis : List Object) (before : List (ℕ × Event)) (number : ℕ) → IsPlayableEvent config liars event
+      → line_step number (made stage.Events config master liars genesis before) (event_words event) ≡ Ok (made stage.Events config master liars genesis (before ++ (number, event) ∷ []))
   event_step (Say from to kind body) genesis before number fits =
       let few = fits.kind in
-      rw (speaker_back config [] from fits.speaker, honest_back config [] to fits.listener, within_back 255 kind few (omega arith), bytes_back MOST_BODY body fits.short fits.in_bytes) refl
-  event_step (Inject to bytes) genesis before number fits = rw (honest_back config [] to fits.node, bytes_back MOST_DATAGRAM bytes fits.short fits.in_bytes) refl
+      rw (speaker_back config liars from fits.speaker, honest_back config liars to fits.listener, within_back 255 kind few (omega arith), bytes_back MOST_BODY body fits.short fits.in_bytes) refl
+  event_step (Inject to bytes) genesis before number fits = rw (honest_back config liars to fits.node, bytes_back MOST_DATAGRAM bytes fits.short fits.in_bytes) refl
   event_step (Deliver count) genesis before number fits = rw (number_back count fits) refl
-  event_step (Tick node) genesis before number fits = rw (honest_back config [] node fits) refl
+  event_step (Tick node) genesis before number fits = rw (honest_back config liars node fits) refl
   event_step (Drain times) genesis before number fits = rw (number_back times fits) refl
 
   module _ (genesis : List Object) (last : Draft) (rest : List (List (List ℕ))) where
-    pub reads_events : (events before : List (ℕ × Event)) (number : ℕ) → AllByRecursion (λ event. IsPlayableEvent config [] event.1) events
-        → read_fields (made stage.Events config master genesis (before ++ numbered number events)) (number + length events) rest ≡ Ok last
-        → read_fields (made stage.Events config master genesis before) number (event_lines events ++ rest) ≡ Ok last
+    pub reads_events : (events before : List (ℕ × Event)) (number : ℕ) → AllByRecursion (λ event. IsPlayableEvent config liars event.1) events
+        → read_fields (made stage.Events config master liars genesis (before ++ numbered number events)) (number + length events) rest ≡ Ok last
+        → read_fields (made stage.Events config master liars genesis before) number (event_lines events ++ rest) ≡ Ok last
     reads_events [] before number fit more =
         let none : number + 0 ≡ number = omega arith in
-        let at : read_fields (made stage.Events config master genesis before) (number + 0) rest ≡ Ok last =
-        subst (λ all. read_fields (made stage.Events config master genesis all) (number + 0) rest ≡ Ok last) (append-nil before) more in
-        subst (λ n. read_fields (made stage.Events config master genesis before) n rest ≡ Ok last) none at
+        let at : read_fields (made stage.Events config master liars genesis before) (number + 0) rest ≡ Ok last =
+        subst (λ all. read_fields (made stage.Events config master liars genesis all) (number + 0) rest ≡ Ok last) (append-nil before) more in
+        subst (λ n. read_fields (made stage.Events config master liars genesis before) n rest ≡ Ok last) none at
     reads_events (event ∷ events) before number fit more =
         let next : number + length (event ∷ events) ≡ number + 1 + length events = omega arith in
         let all = sym (append_assoc before ((number, event.1) ∷ []) (numbered (number + 1) events)) in
-        read-cons (made stage.Events config master genesis before) (made stage.Events config master genesis (before ++ (number, event.1) ∷ [])) last number (event_words event.1) (event_lines events ++ rest)
+        read-cons (made stage.Events config master liars genesis before) (made stage.Events config master liars genesis (before ++ (number, event.1) ∷ [])) last number (event_words event.1) (event_lines events ++ rest)
         (event_step event.1 genesis before number fit.0)
         (reads_events events (before ++ (number, event.1) ∷ []) (number + 1) fit.1
-        (subst (λ n. read_fields (made stage.Events config master genesis ((before ++ (number, event.1) ∷ []) ++ numbered (number + 1) events)) n rest ≡ Ok last) next
-        (subst (λ found. read_fields (made stage.Events config master genesis found) (number + length (event ∷ events)) rest ≡ Ok last) all more)))
+        (subst (λ n. read_fields (made stage.Events config master liars genesis ((before ++ (number, event.1) ∷ []) ++ numbered (number + 1) events)) n rest ≡ Ok last) next
+        (subst (λ found. read_fields (made stage.Events config master liars genesis found) (number + length (event ∷ events)) rest ≡ Ok last) all more)))
 
     pub reads_objects : length genesis ≤ MOST_GENESIS → AllPairs (λ a b. a ≢ b) (genesis_names 0 genesis)
         → (objects before : List Object) (any : Bool) (number : ℕ) → before ++ objects ≡ genesis → AllByRecursion IsPrintable objects
-        → ((any : Bool) → read_fields (made (genesis_stage any) config master genesis []) (number + length objects) rest ≡ Ok last)
-        → read_fields (made (genesis_stage any) config master before []) number (genesis_lines objects ++ rest) ≡ Ok last
+        → ((any : Bool) → read_fields (made (genesis_stage any) config master liars genesis []) (number + length objects) rest ≡ Ok last)
+        → read_fields (made (genesis_stage any) config master liars before []) number (genesis_lines objects ++ rest) ≡ Ok last
     reads_objects few differ [] before any number is fit more =
         let none : number + 0 ≡ number = omega arith in
-        let at : read_fields (made (genesis_stage any) config master before []) (number + 0) rest ≡ Ok last =
-        subst (λ all. read_fields (made (genesis_stage any) config master all []) (number + 0) rest ≡ Ok last) (sym is ∙ append-nil before) (more any) in
-        subst (λ n. read_fields (made (genesis_stage any) config master before []) n rest ≡ Ok last) none at
+        let at : read_fields (made (genesis_stage any) config master liars before []) (number + 0) rest ≡ Ok last =
+        subst (λ all. read_fields (made (genesis_stage any) config master liars all []) (number + 0) rest ≡ Ok last) (sym is ∙ append-nil before) (more any) in
+        subst (λ n. read_fields (made (genesis_stage any) config master liars before []) n rest ≡ Ok last) none at
     reads_objects few differ (object ∷ objects) before any number is fit more =
         let next : number + length (object ∷ objects) ≡ number + 1 + length objects = omega arith in
         let total : length before + length (object ∷ objects) ≡ length genesis = sym (length-append before (object ∷ objects)) ∙ ap length is in
@@ -161,33 +192,37 @@ module _ (config : Config) (master : List ℕ) where
         subst (AllPairs (λ a b. a ≢ b)) (ap (genesis_names 0) (sym is) ∙ names-split 0 before object objects) differ in
         let fresh : is_known (name_of_genesis (0 + length before) object) (genesis_names 0 before) ≡ false = new_name (genesis_names 0 before) (genesis_names (0 + length before + 1) objects) (name_of_genesis (0 + length before) object) names in
         let new : is_known (name_of_genesis (length before) object) (genesis_names 0 before) ≡ false = subst (λ n. is_known (name_of_genesis n object) (genesis_names 0 before) ≡ false) zero_first fresh in
-        read-cons (made (genesis_stage any) config master before []) (made stage.Genesis config master (before ++ object ∷ []) []) last number (object_words object) (genesis_lines objects ++ rest)
+        read-cons (made (genesis_stage any) config master liars before []) (made stage.Genesis config master liars (before ++ object ∷ []) []) last number (object_words object) (genesis_lines objects ++ rest)
         (object_step any before object number fit.0 (omega arith) new)
         (reads_objects few differ objects (before ++ object ∷ []) true (number + 1) (append_assoc before (object ∷ []) objects ∙ is) fit.1
-        (λ any. subst (λ n. read_fields (made (genesis_stage any) config master genesis []) n rest ≡ Ok last) next (more any)))
+        (λ any. subst (λ n. read_fields (made (genesis_stage any) config master liars genesis []) n rest ≡ Ok last) next (more any)))
 
-  -- the four lines before liars
-  pub reads_head : config.f ≡ 0 → DigestFits master → (last : Draft) (rest : List (List (List ℕ))) → read_fields (made stage.Liars config master [] []) 5 rest ≡ Ok last
-      → read_fields empty_draft 1 (number_words (codes "shards") config.shards ∷ number_words (codes "faulty") config.f ∷ number_words (codes "dummies") config.dummies ∷ bytes_words (codes "master") master ∷ rest) ≡ Ok last
-  reads_head none fits last rest more =
-      let zeros = replicate 32 0 in
-      let least = config_of 1 0 0 in
-      let first = config_of config.shards 0 0 in
-      let some_shard : 0 < config.shards = config.some_shard in
-      let few_shards : config.shards ≤ MOST_SHARDS = config.few_shards in
-      let few_liars : config.f ≤ MOST_LIARS = config.few_liars in
-      let few_dummies : config.dummies ≤ MOST_DUMMIES = config.few_dummies in
-      let same : first.shards ≡ config.shards = omega arith in
-      let out : first_out config.shards 0 0 ≡ None = grind (arith, nat_tests) in
-      let sharded : in_range (configured config.shards 0 0) ≡ Ok first = ap (λ field. in_range (unless_out first field)) out in
-      let trusted : configured first.shards config.f 0 ≡ Ok first = ap (λ n. configured first.shards n 0) none ∙ configured-config first in
-      let whole : configured first.shards 0 config.dummies ≡ Ok config =
-      ap (λ n. configured n 0 config.dummies) same ∙ ap (λ n. configured config.shards n config.dummies) (sym none) ∙ configured-config config in
-      let shards : line_step 1 empty_draft (number_words (codes "shards") config.shards) ≡ Ok (made stage.Faulty first zeros [] []) =
-      rw (shards_back least first config.shards (omega arith) sharded) refl in
-      let faulty : line_step 2 (made stage.Faulty first zeros [] []) (number_words (codes "faulty") config.f) ≡ Ok (made stage.Dummies first zeros [] []) =
-      rw (faulty_back first first config.f (omega arith) none (ap in_range trusted)) refl in
-      let dummies : line_step 3 (made stage.Dummies first zeros [] []) (number_words (codes "dummies") config.dummies) ≡ Ok (made stage.Master config zeros [] []) =
-      rw (dummies_back first config config.dummies (omega arith) (ap in_range whole)) refl in
-      let mastered : line_step 4 (made stage.Master config zeros [] []) (bytes_words (codes "master") master) ≡ Ok (made stage.Liars config master [] []) = rw (master_back master fits) refl in
-      rw (shards, faulty, dummies, mastered) more
+-- the four lines before liars
+pub reads_head : (config : Config) (master : List ℕ) → DigestFits master → (last : Draft) (rest : List (List (List ℕ))) → read_fields (made stage.Liars config master [] [] []) 5 rest ≡ Ok last
+    → read_fields empty_draft 1 (number_words (codes "shards") config.shards ∷ number_words (codes "faulty") config.f ∷ number_words (codes "dummies") config.dummies ∷ bytes_words (codes "master") master ∷ rest) ≡ Ok last
+reads_head config master fits last rest more =
+    let zeros : List ℕ = replicate 32 0 in
+    let least = config_of 1 0 0 in
+    let first = config_of config.shards 0 0 in
+    let second = config_of config.shards config.f 0 in
+    let some_shard : 0 < config.shards = config.some_shard in
+    let few_shards : config.shards ≤ MOST_SHARDS = config.few_shards in
+    let few_liars : config.f ≤ MOST_LIARS = config.few_liars in
+    let few_dummies : config.dummies ≤ MOST_DUMMIES = config.few_dummies in
+    let same : first.shards ≡ config.shards = omega arith in
+    let same_f : second.f ≡ config.f = omega arith in
+    let out : first_out config.shards 0 0 ≡ None = grind (arith, nat_tests) in
+    let out_f : first_out config.shards config.f 0 ≡ None = grind (arith, nat_tests) in
+    let sharded : in_range (configured config.shards 0 0) ≡ Ok first = ap (λ field. in_range (unless_out first field)) out in
+    let trusted : in_range (configured first.shards config.f 0) ≡ Ok second =
+    ap (λ n. in_range (configured n config.f 0)) same ∙ ap (λ field. in_range (unless_out second field)) out_f in
+    let whole : in_range (configured second.shards second.f config.dummies) ≡ Ok config =
+    ap (λ n. in_range (configured n second.f config.dummies)) same ∙ ap (λ n. in_range (configured config.shards n config.dummies)) same_f ∙ ap in_range (configured-config config) in
+    let shards : line_step 1 empty_draft (number_words (codes "shards") config.shards) ≡ Ok (made stage.Faulty first zeros [] [] []) =
+    rw (shards_back least first config.shards (omega arith) sharded) refl in
+    let faulty : line_step 2 (made stage.Faulty first zeros [] [] []) (number_words (codes "faulty") config.f) ≡ Ok (made stage.Dummies second zeros [] [] []) =
+    rw (faulty_back first second config.f (omega arith) trusted) refl in
+    let dummies : line_step 3 (made stage.Dummies second zeros [] [] []) (number_words (codes "dummies") config.dummies) ≡ Ok (made stage.Master config zeros [] [] []) =
+    rw (dummies_back second config config.dummies (omega arith) whole) refl in
+    let mastered : line_step 4 (made stage.Master config zeros [] [] []) (bytes_words (codes "master") master) ≡ Ok (made stage.Liars config master [] [] []) = rw (master_back master fits) refl in
+    rw (shards, faulty, dummies, mastered) more

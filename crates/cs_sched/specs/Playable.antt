@@ -4,13 +4,13 @@ use Rattle.std.specs.List.{All, AllPairs}
 use Rattle.cs_base.specs.Fields.{IsBytes}
 use Rattle.cs_base.specs.NodeId.{is_node, is_named, is_client}
 use Rattle.cs_base.specs.declared.config.Config.{Config}
-use Rattle.cs_base.specs.declared.limits.TheConstants.{MOST_SHARDS, MOST_BODY, MOST_DATAGRAM, MOST_GENESIS}
+use Rattle.cs_base.specs.declared.limits.TheConstants.{MOST_SHARDS, MOST_LIARS, MOST_BODY, MOST_DATAGRAM, MOST_GENESIS}
 use Rattle.cs_base.specs.declared.node_id.NodeId.{NodeId}
 use Rattle.cs_tx_value.specs.Object.{ObjectFits}
 use Rattle.cs_sched_types.specs.declared.schedule.Schedule.{Schedule}
 use Rattle.cs_sched_types.specs.declared.schedule.Event.{Event}
 use Rattle.cs_sched_types.specs.declared.schedule.Event.TheVariants.{Say, Inject, Deliver, Tick, Drain}
-use Rattle.cs_sched.specs.Naming.{is_liar}
+use Rattle.cs_sched.specs.Naming.{is_liar, liars_of}
 use Rattle.cs_sched.specs.Names.{genesis_names}
 
 -- an honest node: one of the configuration that is none of the liars
@@ -46,13 +46,15 @@ IsPlayableEvent config liars (Deliver number) = number < 2 ^ 64
 IsPlayableEvent config liars (Tick node) = IsHonest config liars node
 IsPlayableEvent config liars (Drain times) = times < 2 ^ 64
 
--- Up to 16 shards of one honest node each make up the deployment; its objects have encodings, and no two of them one
--- key.
+-- Up to 16 shards of 3f+1 nodes each make up the deployment, with f up to 5. At most f nodes of a shard are liars, and
+-- none is one twice. The objects have encodings, and no two of them one key.
 pub record IsPlayable (schedule : Schedule) : Type 0 where
   pub some_shard : 0 < schedule.config.shards
   pub few_shards : schedule.config.shards ≤ MOST_SHARDS
-  pub no_liar : schedule.config.f ≡ 0
-  pub liars : schedule.liars ≡ []
+  pub few_faulty : schedule.config.f ≤ MOST_LIARS
+  pub liars : All (λ name. is_node schedule.config name ≡ true) schedule.liars
+  pub few_liars : (shard : ℕ) → liars_of schedule.liars shard ≤ schedule.config.f
+  pub liars_differ : AllPairs (λ a b. a ≢ b) schedule.liars
   pub contracts : schedule.contracts ≡ []
   pub objects : All ObjectFits schedule.genesis
   pub few_objects : length schedule.genesis ≤ MOST_GENESIS

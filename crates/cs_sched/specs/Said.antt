@@ -1,5 +1,5 @@
 -- What the fields of each line but an event's say, or why they are refused. Their count is tested first.
-use Rattle.std.specs.Prelude.{ℕ, ◌==◌, nat_lt, List, [], ◌∷◌, Result, Ok, Err, if◌then◌else◌}
+use Rattle.std.specs.Prelude.{ℕ, nat_lt, List, [], ◌∷◌, Result, Ok, Err, if◌then◌else◌}
 use Rattle.std.specs.Option.{ok_or}
 use Rattle.cs_base.specs.Codes.{number_of}
 use Rattle.cs_base.specs.Config.{configured}
@@ -35,12 +35,11 @@ shards_said config fields = do
   shards ← number_said fields
   in_range (configured shards config.f config.dummies)
 
--- the number of liars that a shard stands, of which none alone is built
+-- the number of liars that a shard stands
 abbrev pub faulty_said : Config → List (List ℕ) → Result Config Cause
 faulty_said config fields = do
   faulty ← number_said fields
-  next ← in_range (configured config.shards faulty config.dummies)
-  if faulty == 0 then Ok next else Err cause.Later
+  in_range (configured config.shards faulty config.dummies)
 
 -- the number of dummies of each shard
 abbrev pub dummies_said : Config → List (List ℕ) → Result Config Cause

@@ -23,5 +23,6 @@ pub use cause::{Cause, Refusal, refusal_line};
 pub use cs_sched_types::{Event, Schedule};
 pub use error::ScheduleError;
 pub use law::printed_schedules_are_read;
+pub use naming::is_liar;
 pub use printing::print;
 pub use reader::{parse, refusals_name_the_first_bad_line};

@@ -52,11 +52,7 @@ pub(crate) fn read_faulty(now: Config, fields: &[&[u8]]) -> Result<Config, Cause
     ensures { result ≡ faulty_said now (views fields.now) }
 {
     let faulty = only_number(fields)?;
-    let next = config(u64::from(now.shards), faulty, u64::from(now.dummies))?;
-    if faulty != 0 {
-        return Err(Cause::Later);
-    }
-    Ok(next)
+    config(u64::from(now.shards), faulty, u64::from(now.dummies))
 }
 
 pub(crate) fn read_dummies(now: Config, fields: &[&[u8]]) -> Result<Config, Cause>

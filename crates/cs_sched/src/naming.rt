@@ -15,7 +15,8 @@ pub(crate) fn read_name(config: &Config, field: &[u8]) -> Result<NodeId, Cause>
     Ok(name)
 }
 
-fn lies(liars: &[NodeId], name: NodeId) -> bool
+/// Whether a name is that of one of the liars.
+pub fn is_liar(liars: &[NodeId], name: NodeId) -> bool
     ensures { result ≡ is_liar liars.now name }
 {
     liars.iter().any(|liar| *liar == name)
@@ -35,7 +36,7 @@ pub(crate) fn read_liar(config: &Config, liars: &[NodeId], field: &[u8]) -> Resu
     if name.is_client() {
         return Err(Cause::Role);
     }
-    if lies(liars, name) {
+    if is_liar(liars, name) {
         return Err(Cause::Liars);
     }
     if count_liars(liars, name.shard) < usize::from(config.f) {
@@ -50,7 +51,7 @@ pub(crate) fn read_speaker(config: &Config, liars: &[NodeId], field: &[u8]) -> R
     ensures { result ≡ speaker_in config.now liars.now field.now }
 {
     let name = read_name(config, field)?;
-    if name.is_client() || lies(liars, name) {
+    if name.is_client() || is_liar(liars, name) {
         Ok(name)
     } else {
         Err(Cause::Role)
@@ -62,7 +63,7 @@ pub(crate) fn read_honest(config: &Config, liars: &[NodeId], field: &[u8]) -> Re
     ensures { result ≡ honest_in config.now liars.now field.now }
 {
     let name = read_name(config, field)?;
-    if name.is_client() || lies(liars, name) {
+    if name.is_client() || is_liar(liars, name) {
         Err(Cause::Role)
     } else {
         Ok(name)

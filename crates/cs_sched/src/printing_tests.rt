@@ -5,13 +5,13 @@ use cs_base::Writer;
 use std::alloc::Global;
 use std::test::Fail;
 
-/// A schedule with every word but `liar` and `contract`, as it is printed.
+/// A schedule with every word but `contract`, as it is printed.
 const EVERY_WORD: &str =
-    "shards 1\nfaulty 0\ndummies 64\nmaster 00000000000000000000000000000000000000000000000000000000000000ff\ngenesis 3c469e9d6c5875d37a43f353d4f88e61fcf812c66eee3457465a40b0da4153e004636f696e01000000000000000005\nrun\nsay c.15 0.0 255 00aaff\nsay c.0 0.0 0 -\ninject 0.0 -\ndeliver 18446744073709551615\ntick 0.0\ndrain 0\nend\n";
+    "shards 1\nfaulty 1\ndummies 64\nmaster 00000000000000000000000000000000000000000000000000000000000000ff\nliar 0.3\ngenesis 3c469e9d6c5875d37a43f353d4f88e61fcf812c66eee3457465a40b0da4153e004636f696e01000000000000000005\nrun\nsay c.15 0.0 255 00aaff\nsay 0.3 0.0 0 -\ninject 0.0 -\ndeliver 18446744073709551615\ntick 0.0\ndrain 0\nend\n";
 
 /// The same, written in another way.
 const OTHERWISE: &str =
-    "# c\n\n  shards  1 \r\nfaulty 0\ndummies 64\nmaster 00000000000000000000000000000000000000000000000000000000000000fF\ngenesis 3C469E9D6C5875D37A43F353D4F88E61FCF812C66EEE3457465A40B0DA4153E004636F696E01000000000000000005\nrun\n\nsay   c.15 0.0 255 00AaFf\nsay c.0 0.0 0 -\ninject 0.0 -\n# c\ndeliver 18446744073709551615\ntick 0.0\ndrain 0\nend";
+    "# c\n\n  shards  1 \r\nfaulty 1\ndummies 64\nmaster 00000000000000000000000000000000000000000000000000000000000000fF\nliar  0.3\ngenesis 3C469E9D6C5875D37A43F353D4F88E61FCF812C66EEE3457465A40B0DA4153E004636F696E01000000000000000005\nrun\n\nsay   c.15 0.0 255 00AaFf\nsay 0.3 0.0 0 -\ninject 0.0 -\n# c\ndeliver 18446744073709551615\ntick 0.0\ndrain 0\nend";
 
 /// Neither objects nor events.
 const EMPTY: &str =

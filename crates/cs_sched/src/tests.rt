@@ -65,7 +65,7 @@ fn whole_texts(rt: HostRuntime) -> Result<(), Fail> {
         (LONG, "shards 0", 1, Cause::Limit),
         (LONG, "shards 16", 2, Cause::End),
         (LONG, "shards 16\nfaulty 6", 2, Cause::Limit),
-        (LONG, "shards 16\nfaulty 1", 2, Cause::Later),
+        (LONG, "shards 16\nfaulty 5", 3, Cause::End),
         (LONG, "shards 1\nfaulty 0\ndummies 65", 3, Cause::Limit),
         (
             LONG,
@@ -82,7 +82,7 @@ fn whole_texts(rt: HostRuntime) -> Result<(), Fail> {
         (8, "shards 1\nfaulty 1\n", 1, Cause::Limit),
         (9, "shards 1\nfaulty 1\n", 2, Cause::Limit),
         (17, "shards 1\nfaulty 1\n", 2, Cause::Limit),
-        (18, "shards 1\nfaulty 1\nx", 2, Cause::Later),
+        (18, "shards 1\nfaulty 1\nx", 3, Cause::Limit),
         (9, "shards 0\nfaulty 1\n", 1, Cause::Limit),
     ] {
         let refusal = Some(Refusal { line, cause });
@@ -147,6 +147,38 @@ fn each_shard_has_one_node(rt: HostRuntime) -> Result<(), Fail> {
         ("liar 15.0", 5, Cause::Liars),
     ] {
         let text = joined(rt.alloc(), HEAD_OF_SHARDS, lines)?;
+        let refusal = Some(Refusal { line, cause });
+        assert_eq!(rt;
+            refusal_of(rt.alloc(), LONG, text.as_str()),
+            refusal,
+            "{lines}"
+        );
+    }
+    Ok(())
+}
+
+// The first lines of a schedule of two shards of seven nodes, of which two may lie.
+const HEAD_OF_SEVEN: &str =
+    "shards 2\nfaulty 2\ndummies 2\nmaster 0000000000000000000000000000000000000000000000000000000000000000\n";
+
+#[test]
+fn some_nodes_lie(rt: HostRuntime) -> Result<(), Fail> {
+    for (lines, line, cause) in [
+        ("liar 0.7", 5, Cause::Node),
+        ("liar c.1", 5, Cause::Role),
+        ("liar 0.6\nliar 0.6", 6, Cause::Liars),
+        ("liar 0.6\nliar 1.6\nliar 0.0\nliar 0.1", 8, Cause::Liars),
+        ("liar 0.6\nrun\ntick 0.6", 7, Cause::Role),
+        ("liar 0.6\nrun\ninject 0.6 -", 7, Cause::Role),
+        ("liar 0.6\nrun\nsay 0.6 0.6 3 -", 7, Cause::Role),
+        ("liar 0.6\nrun\nsay 0.5 0.1 3 -", 7, Cause::Role),
+        (
+            "liar 0.6\nliar 1.6\nliar 1.0\nrun\nsay 1.0 0.1 3 -\ntick 1.5",
+            11,
+            Cause::End,
+        ),
+    ] {
+        let text = joined(rt.alloc(), HEAD_OF_SEVEN, lines)?;
         let refusal = Some(Refusal { line, cause });
         assert_eq!(rt;
             refusal_of(rt.alloc(), LONG, text.as_str()),

@@ -7,16 +7,15 @@ use Rattle.cs_table.specs.Genesis.{twice}
 use Rattle.cs_node_rules.specs.Site.{start_view}
 use Rattle.cs_node.specs.Cores.{StandsFor}
 use Rattle.cs_node.specs.Setups.{AreObjects}
-use Rattle.cs_order.specs.contracts.solo.SoloOrder.TheImpl as order
+use Rattle.cs_log.specs.contracts.slot_order.SlotOrderOrder.TheImpl as order
 use Rattle.cs_replay.specs.Site.{site_of_schedule, net_of_schedule}
-use Rattle.cs_replay.specs.Settings.{node_of_shard}
 use Rattle.cs_replay.proofs.Apart.{none-twice, never-refused}
-use Rattle.cs_replay.proofs.Deployed.{keyed-fit, is-node}
+use Rattle.cs_replay.proofs.Deployed.{keyed-fit}
 use Rattle.cs_replay.proofs.starting.start_node.Goals as goal
 
 pub start-requires-clause-node : goal.start-requires-clause-node
 start-requires-clause-node g c =
-    subst (λ (name : NodeId). is_node c.args.schedule.now.config name ≡ true) (sym c.in_ok-keys.ensures.me) (is-node c.args.schedule.now.config c.args.shard c.requires.shard)
+    subst (λ (name : NodeId). is_node c.args.schedule.now.config name ≡ true) (sym c.in_ok-keys.ensures.me) c.requires.node
 
 pub start-requires-clause-objects : goal.start-requires-clause-objects
 start-requires-clause-objects g c =
@@ -35,7 +34,6 @@ returns-in-Ok g c =
     let approves = g.J.Judge.is_approved c.args.judge in
     let site = site_of_schedule approves schedule in
     let keys = c.in_ok-keys.keys in
-    let node = is-node schedule.config c.args.shard c.requires.shard in
-    let speaks = c.keys_of_a_master_speak.ensures schedule.config schedule.master schedule.liars (node_of_shard c.args.shard) keys c.requires.playable.few_shards node c.in_ok-keys.ensures in
+    let speaks = c.keys_of_a_master_speak.ensures schedule.config schedule.master schedule.liars c.args.name keys c.requires.playable.few_shards c.requires.node c.in_ok-keys.ensures in
     subst (λ (name : NodeId). StandsFor order.ghosts.stands g.J.Judge.is_approved site c.in-Ok.core (start_view site name)) c.in_ok-keys.ensures.me
     (c.in-Ok.ensures.stands schedule.genesis c.requires.genesis (net_of_schedule schedule) speaks)
