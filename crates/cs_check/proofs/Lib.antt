@@ -1,0 +1,4 @@
+pub mod Heads
+pub mod Parts
+pub mod Chains
+pub mod Covered

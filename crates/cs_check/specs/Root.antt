@@ -1,0 +1,24 @@
+-- The root over the records of a table.
+use Rattle.std.specs.Prelude.{ℕ, List, map}
+use Rattle.std.specs.List.{AllByRecursion}
+use Rattle.cs_base.specs.declared.key.Key.{Key}
+use Rattle.cs_tx_form.specs.declared.record.Record.{Record}
+use Rattle.cs_tx_form.specs.declared.stored.Stored.{Stored}
+use Rattle.cs_tx_form.specs.Record.{stored_encoding, StoredFits}
+use Rattle.cs_merkle.specs.Tree.{merkle_tree_hash}
+
+-- a record with its key
+abbrev pub stored_row : Key × Record → Stored
+stored_row row = record { key = row.0; value = row.1 }
+
+-- the encodings of all records, in the order of their keys
+abbrev pub record_leaves : List (Key × Record) → List (List ℕ)
+record_leaves rows = map (λ row. stored_encoding (stored_row row)) rows
+
+-- the Merkle tree hash over them
+abbrev pub table_root : List (Key × Record) → List ℕ
+table_root rows = merkle_tree_hash (record_leaves rows)
+
+-- each record is within all limits, so it has an encoding
+abbrev pub RowsFit : List (Key × Record) → Type 0
+RowsFit rows = AllByRecursion (λ row. StoredFits (stored_row row)) rows

@@ -1,0 +1,43 @@
+//! Leaves and their encodings.
+ghost use Rattle.std.specs.Prelude.{◌≡◌, ◌<◌, All, length, slice_get, IfOk};
+ghost use Rattle.cs_merkle.specs.Tree.{leaves_of};
+ghost use Rattle.cs_tx_form.specs.Log.{leaf_encoding, LeafFits};
+ghost use Rattle.cs_check.specs.Chain.{IsLeaf};
+
+use cs_base::{Memory, Writer};
+use cs_tx::{Encoded, Leaf};
+use std::alloc::Global;
+
+/// The encoding of a leaf, as a chain takes it.
+pub fn encode_leaf(alloc: Global, leaf: &Leaf) -> Result<Vec<u8>, Memory>
+    requires { LeafFits leaf.now }
+    ensures encoded { IfOk result (λ bytes. bytes.items ≡ leaf_encoding leaf.now) }
+    ensures leaf { IfOk result (λ bytes. IsLeaf bytes.items) }
+{
+    let mut out = Writer::new(alloc);
+    leaf.encode(&mut out)?;
+    Ok(out.into_bytes())
+}
+
+// Bytes that encode a leaf are refused for want of memory alone.
+fn decode_leaf(alloc: Global, bytes: &[u8]) -> Result<Leaf, Memory>
+    requires { IsLeaf bytes.now }
+    ensures { IfOk result (λ leaf. LeafFits leaf × (bytes.now ≡ leaf_encoding leaf)) }
+{
+    match Leaf::decode(alloc, bytes) {
+        Ok(leaf) => Ok(leaf),
+        Err(_) => Err(Memory),
+    }
+}
+
+/// The leaf of a slot.
+pub(crate) fn read_leaf(alloc: Global, leaves: &[Vec<u8>], slot: usize) -> Result<Leaf, Memory>
+    requires within { slot < length leaves.now }
+    requires leaves { All IsLeaf (leaves_of leaves.now) }
+    ensures fits { IfOk result LeafFits }
+    ensures leaf { IfOk result (λ leaf.
+        slice_get (leaves_of leaves.now) slot ≡ Some (leaf_encoding leaf)) }
+{
+    let leaf = decode_leaf(alloc, leaves[slot].as_slice())?;
+    Ok(leaf)
+}
