@@ -7,7 +7,7 @@ mod fault;
 mod kind;
 mod scope;
 
-pub use declared::{declared_kind, method_number, type_number};
+pub use declared::{declared_kind, field_kind, method_number, type_number};
 pub use expressions::{Judged, expect, judge, plus};
 pub use fault::TypeError;
 pub use kind::{BOOL, BYTES, Base, INT, Kind, kind_of};

@@ -1,0 +1,4 @@
+pub mod RunLaws
+pub mod Layers
+pub mod WorkLayers
+pub mod Turns

@@ -1,0 +1,29 @@
+-- The kind of an expression, from the kinds of names: what a step makes of a kind.
+use Rattle.std.specs.Prelude.{ℕ, List, [], ◌∷◌, Option, Some, None, Result, Ok, Err, option_and_then}
+use Rattle.cs_lang_token.specs.declared.token.Text.{Text}
+use Rattle.cs_lang.specs.declared.tree.ContractTree.{ContractTree}
+use Rattle.cs_types_kinds.specs.declared.kind.Kind.{Kind}
+use Rattle.cs_types_kinds.specs.declared.kind.Kind.TheVariants as kind
+use Rattle.cs_types_kinds.specs.Told.{Told}
+use Rattle.cs_types_kinds.specs.Kinds.{list_of}
+use Rattle.cs_types_kinds.specs.Lookups.{field_kind}
+use Rattle.cs_types_kinds.specs.Judging.{comparing_cost}
+
+abbrev pub told_kind : Told Kind → Option Kind
+told_kind (Ok k) = Some k
+told_kind (Err e) = None
+
+-- the kind of a field of an object
+abbrev pub field_of_kind : ContractTree → Text → Kind → Option Kind
+field_of_kind contract name (kind.Object number) = told_kind (field_kind contract number name)
+field_of_kind contract name k = None
+
+-- the kind of a list, from those of its items
+abbrev pub list_kind : List (Option Kind) → Option Kind
+list_kind [] = None
+list_kind (k ∷ ks) = option_and_then list_of k
+
+-- what it takes to compare two of a kind
+abbrev pub comparing : Option Kind → ℕ
+comparing None = 1
+comparing (Some k) = comparing_cost k

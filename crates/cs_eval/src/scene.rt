@@ -1,0 +1,12 @@
+//! Where expressions are evaluated.
+use cs_eval_values::LentView;
+use cs_lang::ContractTree;
+use std::alloc::Global;
+
+/// The contract whose check runs, and what it looks at.
+#[derive(Clone, Copy)]
+pub struct Scene<'a> {
+    pub alloc: Global,
+    pub contract: &'a ContractTree,
+    pub view: &'a LentView<'a>,
+}

@@ -1,0 +1,108 @@
+-- What names stand for and expressions give.
+use Rattle.std.specs.Prelude.{ℕ, ℤ, Bool, List, map, length, slice_get, Option, None, Some}
+use Rattle.cs_tx_value.specs.declared.object.Object.{Object}
+use Rattle.cs_tx_value.specs.declared.value.Value.{Value, out-Value}
+use Rattle.cs_tx_value.specs.declared.value.Value.TheOpen.{Value-F}
+
+-- a value, the object of a slot, or the objects of a slot for any number of them
+pub data Datum : Type 0 where
+  Plain : Value → Datum
+  One : Object → Datum
+  Many : List Object → Datum
+
+-- ---- parts of values
+
+abbrev pub int_in : Value-F Value → Option ℤ
+int_in (Value-F.Int n) = Some n
+int_in (Value-F.Bool b) = None
+int_in (Value-F.Bytes bytes) = None
+int_in (Value-F.List items) = None
+
+abbrev pub bool_in : Value-F Value → Option Bool
+bool_in (Value-F.Int n) = None
+bool_in (Value-F.Bool b) = Some b
+bool_in (Value-F.Bytes bytes) = None
+bool_in (Value-F.List items) = None
+
+abbrev pub bytes_in : Value-F Value → Option (List ℕ)
+bytes_in (Value-F.Int n) = None
+bytes_in (Value-F.Bool b) = None
+bytes_in (Value-F.Bytes bytes) = Some bytes
+bytes_in (Value-F.List items) = None
+
+abbrev pub length_in : Value-F Value → Option ℕ
+length_in (Value-F.Int n) = None
+length_in (Value-F.Bool b) = None
+length_in (Value-F.Bytes bytes) = Some (length bytes)
+length_in (Value-F.List items) = Some (length items)
+
+abbrev pub plain_item : Option Value → Option Datum
+plain_item None = None
+plain_item (Some v) = Some (Plain v)
+
+abbrev pub object_item : Option Object → Option Datum
+object_item None = None
+object_item (Some o) = Some (One o)
+
+abbrev pub item_in : Value-F Value → ℕ → Option Datum
+item_in (Value-F.Int n) place = None
+item_in (Value-F.Bool b) place = None
+item_in (Value-F.Bytes bytes) place = None
+item_in (Value-F.List items) place = plain_item (slice_get items place)
+
+-- ---- parts of what is held
+
+abbrev pub int_of : Datum → Option ℤ
+int_of (Plain v) = int_in (out-Value v)
+int_of (One o) = None
+int_of (Many os) = None
+
+abbrev pub bool_of : Datum → Option Bool
+bool_of (Plain v) = bool_in (out-Value v)
+bool_of (One o) = None
+bool_of (Many os) = None
+
+abbrev pub bytes_of : Datum → Option (List ℕ)
+bytes_of (Plain v) = bytes_in (out-Value v)
+bytes_of (One o) = None
+bytes_of (Many os) = None
+
+abbrev pub object_of : Datum → Option Object
+object_of (Plain v) = None
+object_of (One o) = Some o
+object_of (Many os) = None
+
+-- of bytes, a list or objects
+abbrev pub length_of : Datum → Option ℕ
+length_of (Plain v) = length_in (out-Value v)
+length_of (One o) = None
+length_of (Many os) = Some (length os)
+
+-- of a list or objects
+abbrev pub item_of : Datum → ℕ → Option Datum
+item_of (Plain v) place = item_in (out-Value v) place
+item_of (One o) place = None
+item_of (Many os) place = object_item (slice_get os place)
+
+abbrev pub plain_of : Datum → Option Value
+plain_of (Plain v) = Some v
+plain_of (One o) = None
+plain_of (Many os) = None
+
+-- ---- items
+
+abbrev pub values_in : Value-F Value → Option (List Value)
+values_in (Value-F.Int n) = None
+values_in (Value-F.Bool b) = None
+values_in (Value-F.Bytes bytes) = None
+values_in (Value-F.List items) = Some items
+
+abbrev pub plain_each : Option (List Value) → Option (List Datum)
+plain_each None = None
+plain_each (Some vs) = Some (map (λ v. Plain v) vs)
+
+-- the items of a list or objects
+abbrev pub items_of : Datum → Option (List Datum)
+items_of (Plain v) = plain_each (values_in (out-Value v))
+items_of (One o) = None
+items_of (Many os) = Some (map (λ o. One o) os)

@@ -1,0 +1,15 @@
+pub mod Runs
+pub mod Answers
+pub mod Ints
+pub mod Datums
+pub mod Coding
+pub mod Lending
+pub mod Placing
+pub mod ViewCode
+pub mod NamedCode
+pub mod Entries
+pub mod Inside
+pub mod Operators
+pub mod Views
+pub mod Namings
+pub mod Filling

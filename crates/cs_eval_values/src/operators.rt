@@ -1,0 +1,329 @@
+//! Operators on what is held.
+ghost use Rattle.std.specs.Prelude.{◌≡◌, OnOk};
+ghost use Rattle.std.specs.Str.{bytes_eq};
+ghost use Rattle.cs_tx_value.specs.declared.value.Value.{out-Value};
+ghost use Rattle.cs_eval_values.specs.Datums.{bool_of, bytes_of, int_of};
+ghost use Rattle.cs_eval_values.specs.Runs.{traps};
+ghost use Rattle.cs_eval_values.specs.Answers.{Ends};
+ghost use Rattle.cs_base.specs.Options.{or_else};
+ghost use Rattle.cs_eval_values.specs.Operators.{given_int, given_bool, given_value, list_of as list_run, with_item as item_run, number as number_run, unary, joined_bytes, joined_lists, joined_layers, joined, same_bool, equality, both, same_in, compared_in, compared, decides as decides_all, right_bool, arithmetic, linked, indexed, binary};
+
+use crate::arithmetic::{compare, compute, negate};
+use crate::held::Held;
+use crate::limits::MOST_VALUE;
+use crate::stop::{Cause, Stop};
+use crate::values::bytes_value;
+use cs_base::Sequence;
+use cs_lang::{Comparison, Operator};
+use cs_lang_token::{MOST_BYTES, MOST_ITEMS};
+use cs_tx_value::{Encoded, Value};
+use sha2::{Digest, Sha256};
+use std::alloc::Global;
+
+/// What is made of one part.
+#[derive(Clone, Copy)]
+pub enum Unary {
+    Len,
+    Sha256,
+    Not,
+    Negative,
+}
+
+/// What is made of two parts.
+#[derive(Clone, Copy)]
+pub enum Binary {
+    Concat,
+    Compared(Comparison),
+    Linked(Operator),
+    Index,
+}
+
+fn given_int(held: &Held<'_>, place: usize) -> Result<i64, Stop>
+    ensures { Ends result (given_int place held.now) }
+{
+    match held.as_int() {
+        Some(number) => Ok(number),
+        None => Err(Stop::Trap(Cause::Misfit, place)),
+    }
+}
+
+fn given_bool(held: &Held<'_>, place: usize) -> Result<bool, Stop>
+    ensures { Ends result (given_bool place held.now) }
+{
+    match held.as_bool() {
+        Some(truth) => Ok(truth),
+        None => Err(Stop::Trap(Cause::Misfit, place)),
+    }
+}
+
+fn given_value(alloc: Global, held: Held<'_>, place: usize) -> Result<Value, Stop>
+    ensures { Ends result (given_value place held.entry) }
+{
+    match held.value(alloc)? {
+        Some(value) => Ok(value),
+        None => Err(Stop::Trap(Cause::Misfit, place)),
+    }
+}
+
+/// The list of the items, where its encoding isn't too long.
+pub fn list_of<'a>(alloc: Global, items: Sequence<Value>, place: usize) -> Result<Held<'a>, Stop>
+    ensures { Ends result (list_run items place) }
+{
+    let list = Value::List(items);
+    if list.room(MOST_VALUE).is_none() {
+        return Err(Stop::Trap(Cause::Size, place));
+    }
+    Ok(Held::own(alloc, list)?)
+}
+
+/// Adds an item.
+pub fn with_item(
+    alloc: Global,
+    items: Sequence<Value>,
+    item: Held<'_>,
+    place: usize,
+) -> Result<Sequence<Value>, Stop>
+    ensures { Ends result (item_run place items item.entry) }
+{
+    let mut items = items;
+    items.push(given_value(alloc, item, place)?)?;
+    Ok(items)
+}
+
+/// A number, where it is an int.
+pub fn number<'a>(number: u64, place: usize) -> Result<Held<'a>, Stop>
+    ensures { Ends result (number_run number place) }
+{
+    match i64::try_from(number) {
+        Ok(number) => Ok(Held::int(number)),
+        Err(_) => Err(Stop::Trap(Cause::Range, place)),
+    }
+}
+
+/// The length of bytes, a list or objects.
+fn length<'a>(held: &Held<'a>, place: usize) -> Result<Held<'a>, Stop>
+    ensures { Ends result (unary Unary.Len place held.now) }
+{
+    match held.length() {
+        Some(length) => number(length as u64, place),
+        None => Err(Stop::Trap(Cause::Misfit, place)),
+    }
+}
+
+/// The hash of bytes.
+fn hash<'a>(alloc: Global, held: &Held<'a>, place: usize) -> Result<Held<'a>, Stop>
+    ensures { Ends result (unary Unary.Sha256 place held.now) }
+{
+    match held.as_bytes() {
+        Some(bytes) => Ok(Held::own(alloc, bytes_value(alloc, &Sha256::digest(bytes))?)?),
+        None => Err(Stop::Trap(Cause::Misfit, place)),
+    }
+}
+
+/// What is made of one part.
+pub fn apply_unary<'a>(
+    alloc: Global,
+    operation: Unary,
+    held: &Held<'a>,
+    place: usize,
+) -> Result<Held<'a>, Stop>
+    ensures { Ends result (unary operation place held.now) }
+{
+    match operation {
+        Unary::Len => length(held, place),
+        Unary::Sha256 => hash(alloc, held, place),
+        Unary::Not => Ok(Held::truth(!given_bool(held, place)?)),
+        Unary::Negative => Ok(Held::int(negate(given_int(held, place)?, place)?)),
+    }
+}
+
+/// Bytes one behind the other.
+fn join_bytes<'a>(
+    alloc: Global,
+    front: Sequence<u8>,
+    back: &[u8],
+    place: usize,
+) -> Result<Held<'a>, Stop>
+    ensures { Ends result (joined_bytes front back.now place) }
+{
+    if back.len() > MOST_BYTES || front.len() > MOST_BYTES - back.len() {
+        return Err(Stop::Trap(Cause::Length, place));
+    }
+    let mut bytes = front.into_vec();
+    bytes.extend_from_slice(back)?;
+    Ok(Held::own(alloc, Value::Bytes(Sequence::from_vec(bytes)))?)
+}
+
+/// Lists one behind the other.
+fn join_lists<'a>(
+    alloc: Global,
+    front: Sequence<Value>,
+    back: Sequence<Value>,
+    place: usize,
+) -> Result<Held<'a>, Stop>
+    ensures { Ends result (joined_lists front back place) }
+{
+    if back.len() > MOST_ITEMS || front.len() > MOST_ITEMS - back.len() {
+        return Err(Stop::Trap(Cause::Length, place));
+    }
+    let mut items = front.into_vec();
+    let mut back = back.into_vec();
+    items.append(&mut back)?;
+    list_of(alloc, Sequence::from_vec(items), place)
+}
+
+fn join_values<'a>(alloc: Global, front: Value, back: Value, place: usize) -> Result<Held<'a>, Stop>
+    ensures { Ends result (joined_layers (out-Value front) (out-Value back) place) }
+{
+    match (front, back) {
+        (Value::Bytes(front), Value::Bytes(back)) => {
+            join_bytes(alloc, front, back.as_slice(), place)
+        }
+        (Value::List(front), Value::List(back)) => join_lists(alloc, front, back, place),
+        _ => Err(Stop::Trap(Cause::Misfit, place)),
+    }
+}
+
+/// Bytes with bytes, or a list with a list.
+fn join<'a>(alloc: Global, front: Held<'a>, back: Held<'a>, place: usize) -> Result<Held<'a>, Stop>
+    ensures { Ends result (joined place front.entry back.entry) }
+{
+    let front = given_value(alloc, front, place)?;
+    let back = given_value(alloc, back, place)?;
+    join_values(alloc, front, back, place)
+}
+
+/// Whether two bytes are one.
+fn same_bytes(left: &Held<'_>, right: &Held<'_>) -> Option<bool>
+    ensures { result ≡ both bytes_eq (bytes_of left.now) (bytes_of right.now) }
+{
+    match (left.as_bytes(), right.as_bytes()) {
+        (Some(left), Some(right)) => Some(left == right),
+        _ => None,
+    }
+}
+
+/// Whether two bools or two bytes are one.
+fn same(left: &Held<'_>, right: &Held<'_>) -> Option<bool>
+    ensures { result ≡ same_in left.now right.now }
+{
+    match (left.as_bool(), right.as_bool()) {
+        (Some(left), Some(right)) => Some(left == right),
+        _ => same_bytes(left, right),
+    }
+}
+
+/// What an equality says of two that are one, or aren't.
+fn equal(comparison: Comparison, same: bool) -> Option<bool>
+    ensures { result ≡ equality comparison same }
+{
+    match comparison {
+        Comparison::Equal => Some(same),
+        Comparison::NotEqual => Some(!same),
+        _ => None,
+    }
+}
+
+/// Whether a comparison holds.
+fn holds(comparison: Comparison, left: &Held<'_>, right: &Held<'_>) -> Option<bool>
+    ensures { result ≡ compared_in comparison left.now right.now }
+{
+    match (left.as_int(), right.as_int()) {
+        (Some(x), Some(y)) => Some(compare(comparison, x, y)),
+        _ => equal(comparison, same(left, right)?),
+    }
+}
+
+fn comparison_of<'a>(
+    comparison: Comparison,
+    left: &Held<'a>,
+    right: &Held<'a>,
+    place: usize,
+) -> Result<Held<'a>, Stop>
+    ensures { Ends result (compared comparison place left.now right.now) }
+{
+    match holds(comparison, left, right) {
+        Some(truth) => Ok(Held::truth(truth)),
+        None => Err(Stop::Trap(Cause::Misfit, place)),
+    }
+}
+
+/// Whether the left side of an operator is all that counts.
+pub fn decides(operator: Operator, left: &Held<'_>) -> bool
+    ensures { result ≡ decides_all operator left.now }
+{
+    match operator {
+        Operator::Or => left.as_bool() == Some(true),
+        Operator::And => left.as_bool() == Some(false),
+        _ => false,
+    }
+}
+
+/// The right side, where the left one decided nothing.
+fn right_bool<'a>(left: &Held<'a>, right: &Held<'a>, place: usize) -> Result<Held<'a>, Stop>
+    ensures { Ends result (right_bool place left.now right.now) }
+{
+    given_bool(left, place)?;
+    Ok(Held::truth(given_bool(right, place)?))
+}
+
+fn arithmetic<'a>(
+    operator: Operator,
+    left: &Held<'a>,
+    right: &Held<'a>,
+    place: usize,
+) -> Result<Held<'a>, Stop>
+    ensures { Ends result (arithmetic operator place left.now right.now) }
+{
+    let x = given_int(left, place)?;
+    let y = given_int(right, place)?;
+    Ok(Held::int(compute(operator, x, y, place)?))
+}
+
+/// Both sides of an operator.
+fn link<'a>(
+    operator: Operator,
+    left: &Held<'a>,
+    right: &Held<'a>,
+    place: usize,
+) -> Result<Held<'a>, Stop>
+    ensures { Ends result (linked operator place left.now right.now) }
+{
+    match operator {
+        Operator::Or => right_bool(left, right, place),
+        Operator::And => right_bool(left, right, place),
+        _ => arithmetic(operator, left, right, place),
+    }
+}
+
+/// The item at a place.
+fn index<'a>(alloc: Global, held: &Held<'a>, at: &Held<'a>, place: usize) -> Result<Held<'a>, Stop>
+    ensures { Ends result (indexed place held.now at.now) }
+{
+    let at = given_int(at, place)?;
+    if at < 0 {
+        return Err(Stop::Trap(Cause::Place, place));
+    }
+    match held.item(alloc, at as usize)? {
+        Some(item) => Ok(item),
+        None => Err(Stop::Trap(Cause::Place, place)),
+    }
+}
+
+/// What is made of two parts.
+pub fn apply_binary<'a>(
+    alloc: Global,
+    operation: Binary,
+    left: Held<'a>,
+    right: Held<'a>,
+    place: usize,
+) -> Result<Held<'a>, Stop>
+    ensures { Ends result (binary operation place left.entry right.entry) }
+{
+    match operation {
+        Binary::Concat => join(alloc, left, right, place),
+        Binary::Compared(comparison) => comparison_of(comparison, &left, &right, place),
+        Binary::Linked(operator) => link(operator, &left, &right, place),
+        Binary::Index => index(alloc, &left, &right, place),
+    }
+}
