@@ -1,0 +1,4 @@
+mod Read
+mod Steps
+mod Tables
+mod Objects

@@ -1,0 +1,4 @@
+pub mod Named
+pub mod Peer
+pub mod Complete
+pub mod File

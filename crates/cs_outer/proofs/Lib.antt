@@ -1,0 +1,2 @@
+mod Filed
+mod Arrivals

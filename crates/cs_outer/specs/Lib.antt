@@ -1,0 +1,6 @@
+pub mod Told
+pub mod Store
+pub mod Files
+pub mod Link
+pub mod Spawner
+pub mod InMemory

@@ -1,0 +1,29 @@
+-- The children of a spawner, and what its calls do to them.
+use Rattle.std.specs.Prelude.{◌≡◌, ℕ, ◌+◌, List, [], ◌∷◌, ◌++◌, length, Option, IfSome}
+use Rattle.cs_outer.specs.Told.{Changes, Stays}
+use Rattle.cs_outer.specs.declared.spawner.Started.{Started}
+use Rattle.cs_outer.specs.declared.spawner.Started.TheVariants as started
+use Rattle.cs_outer.specs.declared.spawner.Waited.{Waited}
+use Rattle.cs_outer.specs.declared.spawner.Waited.TheVariants.{Ended, Failed}
+
+-- the words of each child, by its number
+abbrev pub Children : Type 0
+Children = List (List (List ℕ))
+
+-- a child of these words was started, with the number of its place; or none was
+abbrev pub Starts : Option Children → Option Children → List (List ℕ) → Started → Type 0
+Starts old new words (started.Started n) =
+    Changes (λ before now. (n ≡ length before) × (now ≡ before ++ words ∷ [])) old new
+Starts old new words started.Failed = Stays old new
+Starts old new words started.Memory = Stays old new
+
+-- how many children there are, one more or as many
+abbrev pub children_after : ℕ → Started → ℕ
+children_after before (started.Started n) = before + 1
+children_after before started.Failed = before
+children_after before started.Memory = before
+
+-- a wait gave the status of that child, or nothing
+abbrev pub Waits : Option (ℕ → ℕ) → ℕ → Waited → Type 0
+Waits statuses number (Ended status) = IfSome statuses (λ status_of. status ≡ status_of number)
+Waits statuses number Failed = Unit {0}
