@@ -11,10 +11,16 @@ say_where() {
   echo "bench/$(basename "$0"), $(date -u +%F), $(nproc) processors, load $(cut -d' ' -f1 /proc/loadavg)"
 }
 
-# Proves and builds crates/cs_bench, which is `program` then.
-build_bench() {
+# Proves and builds crates/cs_bench, which is `bench` then: its word `hash` takes the strings that a replay can't spare.
+prepare_bench() {
   (cd "$top/crates/cs_bench" && rt run -- table 10 2 3 >/dev/null 2>&1)
-  program=$top/crates/cs_bench/out/cs_bench
+  bench=$top/crates/cs_bench/out/cs_bench
+}
+
+# The same as `program`, for a script that measures parts of the ledger.
+build_bench() {
+  prepare_bench
+  program=$bench
   say_where
 }
 

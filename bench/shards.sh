@@ -1,9 +1,11 @@
 #!/usr/bin/env bash
 # Prints how many events a second of processor time a replay of 3 shards of one node each makes, with 1,000 and with 10,000
 # sessions that each concern all three, of which 10 or 4,000 wait for votes at once; the ratio of that time to the one in which a
-# plain Python program decides the same sessions, with the tags of all datagrams made and tested by its library; and the
-# growth of time and memory for ten times as many sessions. Proves and builds crates/chainspace first; it takes python3.
+# plain Python program decides the same sessions, with the tags of all datagrams made and tested by its library; the ratio to the
+# time of the hashes that can't be spared, by the same sha2; and the growth of time and memory for ten times as many sessions.
+# Proves and builds crates/chainspace and crates/cs_bench first; it takes python3.
 . "$(dirname "${BASH_SOURCE[0]}")/common.sh"
+prepare_bench
 build_chainspace
 
 # A session uses up a coin of each shard, so it needs no dummy, and makes one coin of them. It is said to one node, whose vote
@@ -124,11 +126,34 @@ for line in open(sys.argv[1]):
 print(accepted)
 PYTHON
 
-# The least processor time of three runs in seconds and the most memory in KiB, of the program and of the plain one, in turns.
+# The words by which cs_bench takes the hashes that a schedule of these sessions can't spare. Each session has as many bytes as the
+# first. It is submitted to one node, and each of the three nodes votes to two others, so there are 7 datagrams, each sealed and
+# opened: a tag has 17 bytes before the body, and a vote 2 before the session. The session's digest is taken once for each datagram;
+# the transaction's (the session without the 9 bytes at its end) and its output's, of 36 bytes, once for each node; and those of its
+# two entries, of 1 and 2 bytes before the session, once for each node.
+cat >"$work/hashes.py" <<'PYTHON'
+import sys
+
+sessions = int(sys.argv[1])
+length = next(len(line.split()[4]) // 2 for line in sys.stdin if line.startswith("say"))
+rows = [
+    ("tag", 17 + length, 2),
+    ("tag", 17 + 2 + length, 12),
+    ("digest", length, 7),
+    ("digest", length - 9, 3),
+    ("digest", 36, 3),
+    ("digest", 1 + length, 3),
+    ("digest", 2 + length, 3),
+]
+print(*("%s %d %d" % (kind, size, times * sessions) for kind, size, times in rows))
+PYTHON
+
+# The least processor time of three runs in seconds and the most memory in KiB of the program, and the least times of the plain
+# one and of the hashes alone, in turns.
 cat >"$work/measure.py" <<'PYTHON'
 import os, sys
 
-program, plain, schedule = sys.argv[1:]
+program, plain, schedule, bench, *strings = sys.argv[1:]
 
 
 def measured(words):
@@ -143,8 +168,10 @@ def measured(words):
     return used.ru_utime + used.ru_stime, used.ru_maxrss
 
 
-runs = [(measured([program, "replay"]), measured(["python3", plain, schedule])) for _ in range(3)]
-print(min(ours[0] for ours, _ in runs), max(ours[1] for ours, _ in runs), min(other[0] for _, other in runs))
+words = [[program, "replay"], ["python3", plain, schedule], [bench, "hash"] + strings]
+runs = [[measured(row) for row in words] for _ in range(3)]
+ours, other, hashes = zip(*runs)
+print(min(ours)[0], max(size for _, size in ours), min(other)[0], min(hashes)[0])
 PYTHON
 
 for at_once in 10 4000; do
@@ -155,10 +182,11 @@ for at_once in 10 4000; do
       echo "bench/shards.sh: not every session was accepted" >&2
       exit 1
     fi
-    measured=$(python3 "$work/measure.py" "$program" "$work/plain.py" "$work/schedule")
+    read -ra strings < <(python3 "$work/hashes.py" "$sessions" <"$work/schedule")
+    measured=$(python3 "$work/measure.py" "$program" "$work/plain.py" "$work/schedule" "$bench" "${strings[@]}")
     read -r seconds size _ <<<"$measured"
     awk -v at_once="$at_once" -v sessions="$sessions" "$shared"'{
-      printf "%d sessions, %d at once: %.2f s, %d events a second, %d MiB, %.1f times the time of the plain program\n", sessions, at_once, $1, 7 * sessions / least($1), $2 / 1024, ratio($1, $3)
+      printf "%d sessions, %d at once: %.2f s, %d events a second, %d MiB, %.1f times the time of the plain program, %.2f times that of the hashes that can\047t be spared\n", sessions, at_once, $1, 7 * sessions / least($1), $2 / 1024, ratio($1, $3), ratio($1, $4)
     }' <<<"$measured"
     if [ "$sessions" = 1000 ]; then
       first_seconds=$seconds first_size=$size

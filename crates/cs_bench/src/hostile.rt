@@ -16,7 +16,8 @@ const HONEST: u16 = 11;
 /// The slots that honest members lead in view 0, so that a slot is chosen with no view entered.
 const MOST_SLOTS: u32 = 11;
 
-/// What kinds of messages a liar sends in each view. Its proposals come where it leads.
+/// What kinds of messages a liar sends in each view. Its proposals come where it leads, but in view 0, where what it
+/// proposes might be chosen.
 const KINDS: u8 = 4;
 
 /// A shard in which the liars say nothing to one another, and keep silent but for what `fill` gives.
@@ -83,7 +84,7 @@ fn lie_of(
 ) -> Result<Option<OrderMessage>, Memory> {
     let digest = digest_of(slot, view, liar, kind);
     let message = match kind {
-        0 if leads(slot, view, liar) => OrderMessage::Propose {
+        0 if view > 0 && leads(slot, view, liar) => OrderMessage::Propose {
             slot,
             view,
             entry: entry_of(alloc, digest)?,

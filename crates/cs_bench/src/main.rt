@@ -9,6 +9,8 @@
 //! that were taken, and the nanoseconds for these, for the slots, and for those among silent liars.
 //! `seal BYTES COUNT` seals a message with so many bytes of text, at most 4,096, so many times, and
 //! `open BYTES COUNT` opens its datagram as often.
+//! `hash KIND LENGTH COUNT ..` hashes so many strings of that length, at most 65,536 bytes, for each three words, the
+//! kind being `tag` or `digest`, and prints a number that comes of all hashes.
 //! `parse METHODS COUNT` reads a contract text of so many methods, at most 64, of 1,024 bytes each so
 //! many times, and `accept METHODS COUNT` also accepts it.
 //! Else it prints nothing; the status is 0, or 1 where not every entry was chosen, not every datagram sealed or
@@ -16,6 +18,7 @@
 #![tactic(auto)]
 
 mod datagrams;
+mod hashes;
 mod hostile;
 mod lang;
 mod merkle;
@@ -24,6 +27,7 @@ mod table;
 
 use cs_base::Memory;
 use datagrams::{open_often, seal_often};
+use hashes::{Kind, Row, hash_row};
 use lang::{accept_often, read_often};
 use std::alloc::Global;
 use std::process::ExitCode;
@@ -62,6 +66,7 @@ fn run(rt: &HostRuntime, words: &[String]) -> Result<u8, Memory> {
     let alloc = rt.alloc();
     match words {
         [first, views] if first.as_str() == "hostile" => run_hostile(rt, number(views)),
+        [first, rows @ ..] if first.as_str() == "hash" => run_hashes(rt, rows),
         [first, objects, sessions, rounds] if first.as_str() == "table" => {
             run_table(alloc, number(objects), number(sessions), number(rounds))
         }
@@ -83,6 +88,35 @@ fn run_hostile(rt: &HostRuntime, views: Option<u32>) -> Result<u8, Memory> {
         times.messages, times.filling, times.filled, times.silent
     );
     Ok(if printed.is_ok() { DONE } else { NOT_ALL })
+}
+
+// A kind, a length and a count each.
+fn run_hashes(rt: &HostRuntime, words: &[String]) -> Result<u8, Memory> {
+    if words.len() % 3 != 0 {
+        return Ok(OTHER_WORDS);
+    }
+    let mut mixed = 0u8;
+    for at in 0..words.len() / 3 {
+        let Some(row) = row_of(&words[3 * at], &words[3 * at + 1], &words[3 * at + 2]) else {
+            return Ok(OTHER_WORDS);
+        };
+        mixed ^= hash_row(rt.alloc(), &row)?;
+    }
+    let printed = println!(rt; "{mixed}");
+    Ok(if printed.is_ok() { DONE } else { NOT_ALL })
+}
+
+fn row_of(kind: &str, length: &str, count: &str) -> Option<Row> {
+    let kind = match kind {
+        "tag" => Kind::Tag,
+        "digest" => Kind::Digest,
+        _ => return None,
+    };
+    Some(Row {
+        kind,
+        length: number(length)?,
+        count: number(count)?,
+    })
 }
 
 fn run_table(

@@ -5,7 +5,7 @@ ghost use Rattle.cs_tx_value.specs.Object.{ObjectFits};
 use cs_base::{Config, Key, Memory};
 use cs_table::{Table, TableError};
 use cs_test_samples::{Transfer, coin};
-use cs_tx::{Digest, Encoded, Object, Session, Vote, genesis_key};
+use cs_tx::{Digest, Encoded, Object, Session, Vote, genesis_key, session_digest};
 use std::alloc::Global;
 
 fn add_coin(alloc: Global, objects: &mut Vec<(Key, Object)>, place: u32) -> Result<(), Memory>
@@ -51,11 +51,13 @@ fn session(alloc: Global, name: Digest, object: &Object) -> Result<Session, Memo
 fn spend(alloc: Global, table: &mut Table, session: &Session, rounds: u32) -> Result<(), Memory> {
     for _ in 0..rounds {
         if session.fits() && table.has_anchor(alloc, session)? {
-            table.prepare(alloc, session)?;
+            let digest = session_digest(alloc, session)?;
+            table.prepare(alloc, session, &digest)?;
         }
     }
     if session.fits() && table.has_anchor(alloc, session)? {
-        table.decide(alloc, session, Vote::Commit)?;
+        let digest = session_digest(alloc, session)?;
+        table.decide(alloc, session, &digest, Vote::Commit)?;
     }
     Ok(())
 }
