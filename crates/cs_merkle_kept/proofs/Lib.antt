@@ -1,0 +1,12 @@
+pub mod Hashes
+pub mod Parents
+pub mod Heights
+pub mod Rejoined
+pub mod Stale
+pub mod Counted
+pub mod Keys
+pub mod Found
+pub mod Front
+pub mod Rest
+pub mod Whole
+pub mod Tops
