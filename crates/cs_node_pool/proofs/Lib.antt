@@ -1,8 +1,9 @@
-pub mod Fitting
 pub mod Concerned
-pub mod Locking
-pub mod Turns
+pub mod Places
 pub mod Picking
-pub mod Seats
-pub mod Keeping
+pub mod Closing
+pub mod Right
+pub mod Locking
 pub mod Dues
+pub mod Keeping
+pub mod Counting

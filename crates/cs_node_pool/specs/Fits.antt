@@ -3,17 +3,11 @@ use Rattle.std.specs.Prelude.{List, [], ◌∷◌, Option, Some, None}
 use Rattle.cs_tx_form.specs.declared.session.Session.{Session}
 use Rattle.cs_tx_form.specs.declared.entry.Entry.{Entry}
 use Rattle.cs_tx_form.specs.Session.{SessionFits, EntryFits}
-use Rattle.cs_node_state.specs.declared.pooled.Pooled.{Pooled}
 use Rattle.cs_node_state.specs.Pool.{Pool}
 
 abbrev pub PoolFits : Pool → Type 0
 PoolFits [] = Unit {0}
 PoolFits (e ∷ pool) = SessionFits e.1.session × PoolFits pool
-
--- a session that is found in it is
-abbrev pub FoundFits : Option Pooled → Type 0
-FoundFits None = Unit {0}
-FoundFits (Some p) = SessionFits p.session
 
 -- the sessions of a list are
 abbrev pub AllFit : List Session → Type 0

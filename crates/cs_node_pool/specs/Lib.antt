@@ -1,5 +1,6 @@
 pub mod Fits
 pub mod Deployed
 pub mod Calls
-pub mod Turns
+pub mod Votes
+pub mod Seats
 pub mod Gathered

@@ -1,83 +1,82 @@
 //! How a pool is kept, so that no call goes over all its sessions.
-ghost use Rattle.std.specs.Prelude.{◌≡◌, ◌++◌, ◌∷◌, [], OnOk, IfOk, None, option_copied};
+ghost use Rattle.std.specs.Prelude.{◌≡◌, ◌++◌, ◌∷◌, [], OnOk, IfOk, None, Some, is_some, option_copied, bytes_eq};
+ghost use Rattle.std.specs.Map.{lookup};
 ghost use Rattle.std.specs.Ordering.{nat_cmp};
 ghost use Rattle.std.specs.BTreeSet.{IsOrdered};
 ghost use Rattle.cs_base.specs.declared.config.Config.{Config};
+ghost use Rattle.cs_tx.specs.Uses.{concerned_shards};
 ghost use Rattle.cs_tx_form.specs.Session.{SessionFits};
-ghost use Rattle.cs_node_state.specs.Evidence.{has_voted};
 ghost use Rattle.cs_node_state.specs.Pool.{found, without, changed, as_locked, with_ballot, waiting_count};
 ghost use Rattle.cs_node_state.specs.Admission.{first_decided, first_waiting, due};
 ghost use Rattle.cs_node_pool.specs.Deployed.{AtAnySetup};
 ghost use Rattle.cs_node_pool.specs.Fits.{PoolFits, AllFit, DueFits};
 ghost use Rattle.cs_node_pool.specs.Calls.{counted_in, locked_in};
-ghost use Rattle.cs_node_pool.specs.Turns.{Placed, SoundTurns, IsPicked, IsMarked, waits, pool_in};
+ghost use Rattle.cs_node_pool.specs.Seats.{Placed, SoundSeats, AllRight, IsPicked, IsMarked, waits, is_due, place_at, closed, pool_in};
 
 use crate::answers::Counted;
-use crate::due::vote_due;
-use crate::votes::has_voted;
+use crate::seat::{Seat, is_due, lock, take_vote, waits};
 use cs_base::{Config, Memory};
 use cs_node_state::{Ballot, Pooled};
-use cs_tx::{Digest, Encoded, Entry, Session, concerned};
+use cs_tx::{Digest, Encoded, Entry, Session};
 use indexmap::IndexMap;
 use std::alloc::Global;
-use std::collections::{BTreeMap, BTreeSet};
+use std::collections::BTreeSet;
 
-/// The number of a session, and the shards that it concerns, which take hashing to find.
-#[derive(Drop)]
-pub struct Seat {
-    pub number: u64,
-    pub shards: Vec<u16>,
-}
-
-/// Sessions under numbers, which rise with each that enters, and the seat of each digest. Beside
-/// them stand the numbers of the sessions that wait, and of those on which a decision is due.
+/// The seats of sessions under their digests, each at a place, and places rise with each that
+/// enters. One that left leaves a gap, so that the others keep their places. Beside them stand how
+/// many sessions are there, and the places of those that wait, and of those on which a decision is
+/// due.
 #[derive(Drop)]
 pub struct Kept {
-    pub sessions: BTreeMap<u64, (Digest, Pooled)>,
-    pub seats: IndexMap<Digest, Seat>,
-    pub waiting: BTreeSet<u64>,
-    pub ready: BTreeSet<u64>,
-    pub next: u64,
+    pub seats: IndexMap<Digest, Option<Seat>>,
+    pub sessions: usize,
+    pub waiting: BTreeSet<usize>,
+    pub ready: BTreeSet<usize>,
 }
 
-/// Has a number in a set, or not.
-fn mark(chosen: &mut BTreeSet<u64>, number: u64, belongs: bool) -> Result<(), Memory>
-    ensures has { OnOk result (IsMarked number belongs chosen.old chosen.new) }
+/// Has a place in a set, or not.
+fn mark(chosen: &mut BTreeSet<usize>, place: usize, belongs: bool) -> Result<(), Memory>
+    ensures has { OnOk result (IsMarked place belongs chosen.old chosen.new) }
     ensures rising { IsOrdered nat_cmp chosen.new }
 {
     if belongs {
-        chosen.insert(number)?;
+        chosen.insert(place)?;
     } else {
-        chosen.remove(&number);
+        chosen.remove(&place);
     }
     Ok(())
 }
 
-/// Takes a vote, unless it repeats one of its node. Whether it does.
-fn take_vote(pooled: &mut Pooled, ballot: Ballot) -> Result<bool, Memory>
-    ensures repeats { IfOk result (λ repeats.
-        repeats ≡ has_voted ballot.sender pooled.old.ballots) }
-    ensures ballots { OnOk result (pooled.new ≡ with_ballot ballot pooled.old) }
+/// Finds the places of the sessions that wait, and of those on which a decision is due.
+fn pick(
+    seats: &IndexMap<Digest, Option<Seat>>,
+    waiting: &mut BTreeSet<usize>,
+    ready: &mut BTreeSet<usize>,
+) -> Result<(), Memory>
+    ensures waiting { OnOk result (IsPicked waits waiting.new seats.now.entries) }
+    ensures ready { OnOk result (IsPicked is_due ready.new seats.now.entries) }
 {
-    if has_voted(pooled.ballots.as_slice(), ballot.sender) {
-        return Ok(true);
+    waiting.clear();
+    ready.clear();
+    for index in 0..seats.len() {
+        let place = &seats[index];
+        mark(waiting, index, waits(place))?;
+        mark(ready, index, is_due(place))?;
     }
-    pooled.ballots.push(ballot)?;
-    Ok(false)
+    Ok(())
 }
 
 impl Kept {
     /// Nothing yet.
     pub fn new(alloc: Global) -> Self
-        ensures sound { (config : Config) → SoundTurns config result }
+        ensures sound { (config : Config) → SoundSeats config result }
         ensures empty { pool_in result ≡ [] }
     {
         Kept {
-            sessions: BTreeMap::new(alloc),
             seats: IndexMap::new(alloc),
+            sessions: 0,
             waiting: BTreeSet::new(alloc),
             ready: BTreeSet::new(alloc),
-            next: 0,
         }
     }
 
@@ -86,55 +85,137 @@ impl Kept {
         requires { Placed self.now }
         ensures { option_copied result ≡ found digest.now (pool_in self.now) }
     {
-        let Some(seat) = self.seats.get(digest) else {
+        let Some(place) = self.seats.get(digest) else {
             return None;
         };
-        match self.sessions.get(&seat.number) {
-            Some((_, pooled)) => Some(pooled),
+        match place {
+            Some(seat) => Some(&seat.pooled),
             None => None,
         }
     }
 
-    /// Adds a session at the end.
-    pub fn push(
-        &mut self,
-        alloc: Global,
-        config: &Config,
-        digest: Digest,
-        pooled: Pooled,
-    ) -> Result<(), Memory>
-        requires sound { SoundTurns config.now self.old }
-        requires new { found digest (pool_in self.old) ≡ None }
-        requires fits { SessionFits pooled.session }
-        ensures sound { OnOk result (SoundTurns config.now self.new) }
-        ensures pool { OnOk result (pool_in self.new ≡ pool_in self.old ++ (digest, pooled) ∷ []) }
+    /// The seat at a place.
+    fn seat_at(&self, index: usize) -> Option<&Seat>
+        ensures { option_copied result ≡ place_at index self.now.seats.entries }
     {
-        let number = self.next;
-        let Some(next) = number.checked_add(1) else {
-            return Err(Memory);
+        let Some((_, place)) = self.seats.get_index(index) else {
+            return None;
         };
-        let shards = concerned(alloc, &pooled.session, config)?;
-        let vote = vote_due(config, shards.as_slice(), &pooled);
-        mark(&mut self.waiting, number, !pooled.locked)?;
-        mark(&mut self.ready, number, vote.is_some())?;
-        self.seats.insert(digest, Seat { number, shards })?;
-        self.sessions.insert(number, (digest, pooled))?;
-        self.next = next;
+        match place {
+            Some(seat) => Some(seat),
+            None => None,
+        }
+    }
+
+    /// Closes the gaps: the sessions move up, in their order.
+    fn close(&mut self) -> Result<(), Memory>
+        requires { Placed self.old }
+        ensures placed { OnOk result (Placed self.new) }
+        ensures seats { OnOk result (self.new.seats.entries ≡ closed self.old.seats.entries) }
+    {
+        self.seats.retain(
+            |_digest: &Digest, place: &mut Option<Seat>| -> bool
+                ensures { (result ≡ is_some place.old) × (place.new ≡ place.old) }
+            { place.is_some() },
+        );
+        pick(&self.seats, &mut self.waiting, &mut self.ready)?;
         Ok(())
     }
 
-    /// Takes a session out. The others keep their order.
-    pub fn remove(&mut self, config: &Config, digest: &Digest)
-        requires { SoundTurns config.now self.old }
-        ensures sound { SoundTurns config.now self.new }
-        ensures pool { pool_in self.new ≡ without digest.now (pool_in self.old) }
+    /// Closes the gaps where one has this digest, since a key that is there keeps its place.
+    fn make_way(&mut self, digest: &Digest) -> Result<(), Memory>
+        requires placed { Placed self.old }
+        requires new { found digest.now (pool_in self.old) ≡ None }
+        ensures way { OnOk result (lookup (bytes_eq digest.now) self.new.seats.entries ≡ None) }
+        ensures placed { OnOk result (Placed self.new) }
+        ensures pool { OnOk result (pool_in self.new ≡ pool_in self.old) }
+        ensures right { (config : Config) → AllRight config self.old.seats.entries →
+            OnOk result (AllRight config self.new.seats.entries) }
     {
-        if let Some(seat) = self.seats.swap_remove(digest) {
-            let number = seat.number;
-            self.sessions.remove(&number);
-            self.waiting.remove(&number);
-            self.ready.remove(&number);
+        if !self.seats.contains_key(digest) {
+            return Ok(());
         }
+        self.close()?;
+        Ok(())
+    }
+
+    /// Gives a session the last place.
+    fn add(&mut self, digest: Digest, seat: Seat) -> Result<(), Memory>
+        requires placed { Placed self.old }
+        requires way { lookup (bytes_eq digest) self.old.seats.entries ≡ None }
+        ensures placed { OnOk result (Placed self.new) }
+        ensures seats { OnOk result (self.new.seats.entries
+            ≡ self.old.seats.entries ++ (digest, Some seat) ∷ []) }
+    {
+        let place = Some(seat);
+        let index = self.seats.len();
+        mark(&mut self.waiting, index, waits(&place))?;
+        mark(&mut self.ready, index, is_due(&place))?;
+        self.seats.insert(digest, place)?;
+        self.sessions += 1;
+        Ok(())
+    }
+
+    /// Adds a session at the end, which concerns these shards.
+    pub fn push(
+        &mut self,
+        config: &Config,
+        digest: Digest,
+        pooled: Pooled,
+        shards: Vec<u16>,
+    ) -> Result<(), Memory>
+        requires sound { SoundSeats config.now self.old }
+        requires new { found digest (pool_in self.old) ≡ None }
+        requires concerned { shards.items ≡ concerned_shards config.now pooled.session }
+        requires fits { SessionFits pooled.session }
+        ensures sound { OnOk result (SoundSeats config.now self.new) }
+        ensures pool { OnOk result (pool_in self.new ≡ pool_in self.old ++ (digest, pooled) ∷ []) }
+    {
+        let seat = Seat::new(config, pooled, shards);
+        self.make_way(&digest)?;
+        self.add(digest, seat)?;
+        Ok(())
+    }
+
+    /// Leaves a gap in place of a session.
+    fn leave(&mut self, digest: &Digest)
+        requires { Placed self.old }
+        ensures placed { Placed self.new }
+        ensures pool { pool_in self.new ≡ without digest.now (pool_in self.old) }
+        ensures right { (config : Config) → AllRight config self.old.seats.entries →
+            AllRight config self.new.seats.entries }
+    {
+        let Some(index) = self.seats.get_index_of(digest) else {
+            return;
+        };
+        let Some(place) = self.seats.get_index_mut(index) else {
+            return;
+        };
+        if place.is_none() {
+            return;
+        }
+        *place = None;
+        self.sessions -= 1;
+        self.waiting.remove(&index);
+        self.ready.remove(&index);
+    }
+
+    /// Takes a session out. The others keep their order. Where the gaps outnumber the sessions
+    /// they are closed.
+    pub fn remove(&mut self, digest: &Digest) -> Result<(), Memory>
+        requires { Placed self.old }
+        ensures placed { OnOk result (Placed self.new) }
+        ensures pool { OnOk result (pool_in self.new ≡ without digest.now (pool_in self.old)) }
+        ensures right { (config : Config) → AllRight config self.old.seats.entries →
+            OnOk result (AllRight config self.new.seats.entries) }
+    {
+        self.leave(digest);
+        let gaps = self.seats.len().saturating_sub(self.sessions);
+        if gaps <= self.sessions {
+            return Ok(());
+        }
+        self.close()?;
+        Ok(())
     }
 
     /// Takes a vote on a session.
@@ -144,54 +225,46 @@ impl Kept {
         digest: &Digest,
         ballot: Ballot,
     ) -> Result<Counted, Memory>
-        requires { SoundTurns config.now self.old }
+        requires { SoundSeats config.now self.old }
         ensures answer { IfOk result (λ answer.
             answer ≡ counted_in ballot.sender (found digest.now (pool_in self.old))) }
-        ensures sound { OnOk result (SoundTurns config.now self.new) }
+        ensures sound { OnOk result (SoundSeats config.now self.new) }
         ensures pool { OnOk result (pool_in self.new
             ≡ changed digest.now (with_ballot ballot) (pool_in self.old)) }
     {
-        let Some(seat) = self.seats.get(digest) else {
+        let Some(index) = self.seats.get_index_of(digest) else {
             return Ok(Counted::NotPooled);
         };
-        let number = seat.number;
-        let Some(entry) = self.sessions.get_mut(&number) else {
+        let Some(place) = self.seats.get_index_mut(index) else {
             return Ok(Counted::NotPooled);
         };
-        let repeats = take_vote(&mut entry.1, ballot)?;
-        if repeats {
-            return Ok(Counted::Repeat);
-        }
-        let vote = vote_due(config, seat.shards.as_slice(), &entry.1);
-        mark(&mut self.ready, number, vote.is_some())?;
-        Ok(Counted::Counted)
+        let answer = take_vote(config, place, ballot)?;
+        mark(&mut self.ready, index, is_due(place))?;
+        Ok(answer)
     }
 
     /// Marks a session as locked.
     pub fn lock(&mut self, config: &Config, digest: &Digest) -> Result<(), Memory>
-        requires { SoundTurns config.now self.old }
-        ensures sound { OnOk result (SoundTurns config.now self.new) }
+        requires { SoundSeats config.now self.old }
+        ensures sound { OnOk result (SoundSeats config.now self.new) }
         ensures pool { OnOk result (pool_in self.new
             ≡ changed digest.now as_locked (pool_in self.old)) }
     {
-        let Some(seat) = self.seats.get(digest) else {
+        let Some(index) = self.seats.get_index_of(digest) else {
             return Ok(());
         };
-        let number = seat.number;
-        let Some(entry) = self.sessions.get_mut(&number) else {
+        let Some(place) = self.seats.get_index_mut(index) else {
             return Ok(());
         };
-        entry.1.locked = true;
-        let vote = vote_due(config, seat.shards.as_slice(), &entry.1);
-        mark(&mut self.ready, number, vote.is_some())?;
-        mark(&mut self.waiting, number, false)?;
+        lock(config, place);
+        mark(&mut self.ready, index, is_due(place))?;
+        mark(&mut self.waiting, index, false)?;
         Ok(())
     }
 
     /// The number of waiting sessions.
     pub fn waiting(&self) -> usize
-        requires placed { Placed self.now }
-        requires waiting { IsPicked waits self.now.waiting self.now.sessions.entries }
+        requires { Placed self.now }
         ensures { result ≡ waiting_count (pool_in self.now) }
     {
         self.waiting.len()
@@ -204,63 +277,62 @@ impl Kept {
         ensures fits { IfOk result (λ sessions. AllFit sessions.items) }
     {
         let mut sessions = Vec::new(alloc);
-        for entry in self.sessions.values() {
-            if entry.1.locked {
-                let session = entry.1.session.copy(alloc)?;
-                sessions.push(session)?;
+        for (_, place) in &self.seats {
+            if let Some(seat) = place {
+                if seat.pooled.locked {
+                    let session = seat.pooled.session.copy(alloc)?;
+                    sessions.push(session)?;
+                }
             }
         }
         Ok(sessions)
     }
 
-    fn decide_due(&self, alloc: Global, config: &Config) -> Result<Option<Entry>, Memory>
-        requires { SoundTurns config.now self.now }
-        ensures entry { AtAnySetup config.now (λ setup.
+    fn decide_due(&self, alloc: Global) -> Result<Option<Entry>, Memory>
+        requires placed { Placed self.now }
+        ensures entry { (config : Config) → AllRight config self.now.seats.entries →
+            AtAnySetup config (λ setup.
             IfOk result (λ entry. entry ≡ first_decided setup (pool_in self.now))) }
-        ensures fits { IfOk result DueFits }
+        ensures fits { (config : Config) → AllRight config self.now.seats.entries →
+            IfOk result DueFits }
     {
-        let Some(number) = self.ready.first() else {
+        let Some(index) = self.ready.first() else {
             return Ok(None);
         };
-        let Some(entry) = self.sessions.get(number) else {
+        let Some(seat) = self.seat_at(*index) else {
             return Ok(None);
         };
-        let digest = entry.0;
-        let Some(seat) = self.seats.get(&digest) else {
+        let Some(vote) = seat.due else {
             return Ok(None);
         };
-        let Some(vote) = vote_due(config, seat.shards.as_slice(), &entry.1) else {
-            return Ok(None);
-        };
-        let session = entry.1.session.copy(alloc)?;
+        let session = seat.pooled.session.copy(alloc)?;
         Ok(Some(Entry::Decide(vote, session)))
     }
 
     fn prepare_due(&self, alloc: Global) -> Result<Option<Entry>, Memory>
-        requires placed { Placed self.now }
-        requires waiting { IsPicked waits self.now.waiting self.now.sessions.entries }
+        requires { Placed self.now }
         ensures entry { IfOk result (λ entry. entry ≡ first_waiting (pool_in self.now)) }
-        ensures fits { IfOk result DueFits }
+        ensures fits { PoolFits (pool_in self.now) → IfOk result DueFits }
     {
-        let Some(number) = self.waiting.first() else {
+        let Some(index) = self.waiting.first() else {
             return Ok(None);
         };
-        let Some((_, pooled)) = self.sessions.get(number) else {
+        let Some(seat) = self.seat_at(*index) else {
             return Ok(None);
         };
-        let session = pooled.session.copy(alloc)?;
+        let session = seat.pooled.session.copy(alloc)?;
         Ok(Some(Entry::Prepare(session)))
     }
 
     /// The entry that is due: the first decision of a locked session, in the order of the pool,
     /// or else a vote on the first session that waits.
     pub fn due(&self, alloc: Global, config: &Config) -> Result<Option<Entry>, Memory>
-        requires { SoundTurns config.now self.now }
+        requires { SoundSeats config.now self.now }
         ensures entry { AtAnySetup config.now (λ setup.
             IfOk result (λ entry. entry ≡ due setup (pool_in self.now))) }
         ensures fits { IfOk result DueFits }
     {
-        match self.decide_due(alloc, config)? {
+        match self.decide_due(alloc)? {
             Some(entry) => Ok(Some(entry)),
             None => self.prepare_due(alloc),
         }

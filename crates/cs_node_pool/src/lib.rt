@@ -2,9 +2,9 @@
 #![tactic(auto)]
 
 mod answers;
-mod due;
 mod kept;
 mod pool;
+mod seat;
 mod votes;
 
 pub use answers::Counted;

@@ -1,5 +1,6 @@
 //! The pool: sessions under their digests, in the order of entering.
 ghost use Rattle.std.specs.Prelude.{◌≡◌, ◌++◌, ◌∷◌, [], OnOk, IfOk, None, option_copied};
+ghost use Rattle.cs_tx.specs.Uses.{concerned_shards};
 ghost use Rattle.cs_tx_form.specs.Session.{SessionFits};
 ghost use Rattle.cs_node_state.specs.Pool.{found, is_pooled, without, changed, as_locked, with_ballot, waiting_count};
 ghost use Rattle.cs_node_state.specs.Admission.{due};
@@ -32,7 +33,7 @@ impl Model for Pool {
     ghost use Rattle.cs_tx_value.specs.contracts.value.Value as values;
     ghost use Rattle.cs_base.specs.contracts.config.Config as configs;
     ghost use Rattle.cs_node_pool.specs.Gathered.{Gathered};
-    ghost use Rattle.cs_node_pool.specs.Turns.{SoundTurns, pool_in};
+    ghost use Rattle.cs_node_pool.specs.Seats.{SoundSeats, pool_in};
 
     ghost Value = { Gathered };
 
@@ -40,7 +41,7 @@ impl Model for Pool {
 
     ghost view = { λ p. record { config = p.config; sessions = pool_in p.kept } };
 
-    ghost invariant = { λ p. p.is_whole ≡ true → SoundTurns p.config p.kept };
+    ghost invariant = { λ p. p.is_whole ≡ true → SoundSeats p.config p.kept };
 }
 
 impl Pool {
@@ -53,6 +54,13 @@ impl Pool {
             kept: Kept::new(alloc),
             is_whole: true,
         }
+    }
+
+    /// The configuration.
+    pub fn config(&self) -> &Config
+        ensures { result.now ≡ self.now.config }
+    {
+        &self.config
     }
 
     /// The session of a digest.
@@ -84,9 +92,10 @@ impl Pool {
         Ok(self.kept.waiting())
     }
 
-    /// Adds a session at the end.
-    pub fn push(&mut self, alloc: Global, digest: Digest, pooled: Pooled) -> Result<(), Memory>
+    /// Adds a session at the end, which concerns these shards.
+    pub fn push(&mut self, digest: Digest, pooled: Pooled, shards: Vec<u16>) -> Result<(), Memory>
         requires new { found digest self.old.sessions ≡ None }
+        requires concerned { shards.items ≡ concerned_shards self.old.config pooled.session }
         requires fits { SessionFits pooled.session }
         ensures sessions { OnOk result (self.new.sessions
             ≡ self.old.sessions ++ (digest, pooled) ∷ []) }
@@ -96,7 +105,7 @@ impl Pool {
             return Err(Memory);
         }
         self.is_whole = false;
-        self.kept.push(alloc, &self.config, digest, pooled)?;
+        self.kept.push(&self.config, digest, pooled, shards)?;
         self.is_whole = true;
         Ok(())
     }
@@ -109,7 +118,9 @@ impl Pool {
         if !self.is_whole {
             return Err(Memory);
         }
-        self.kept.remove(&self.config, digest);
+        self.is_whole = false;
+        self.kept.remove(digest)?;
+        self.is_whole = true;
         Ok(())
     }
 

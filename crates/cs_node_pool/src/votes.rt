@@ -1,10 +1,14 @@
 //! The votes on one session.
-ghost use Rattle.std.specs.Prelude.{◌≡◌, ◌≤◌};
+ghost use Rattle.std.specs.Prelude.{◌≡◌, ◌+◌, ◌*◌, ◌≤◌, ◌<◌, ℕ};
 ghost use Rattle.cs_node_state.specs.Evidence.{has_voted, has_ballot, has_support, is_decided, decided_vote};
+ghost use Rattle.cs_node_state.specs.Admission.{due_vote};
 ghost use Rattle.cs_tx_form.specs.declared.vote.Vote.TheVariants.{Commit, Abort};
+ghost use Rattle.cs_quorum.specs.Marks.{members_of, is_marked};
+ghost use Rattle.cs_node_pool.specs.Votes.{is_of};
 
 use cs_base::NodeId;
-use cs_node_state::Ballot;
+use cs_node_state::{Ballot, Pooled};
+use cs_quorum::Tally;
 use cs_tx::Vote;
 
 /// Whether a vote of the node was taken.
@@ -14,25 +18,37 @@ pub fn has_voted(ballots: &[Ballot], node: NodeId) -> bool
     ballots.iter().any(|ballot| ballot.sender == node)
 }
 
-fn has_ballot(ballots: &[Ballot], shard: u16, index: u16, vote: Vote) -> bool
-    ensures { result ≡ has_ballot shard index vote ballots.now }
+/// Whether it is a vote of this kind, of a member of the shard.
+fn is_of(ballot: &Ballot, shard: u16, members: u16, vote: Vote) -> bool
+    ensures { result ≡ is_of shard members vote ballot.now }
 {
-    ballots.iter().any(|ballot| ballot.sender == NodeId { shard, index } && ballot.vote == vote)
+    let sender = ballot.sender;
+    sender.shard == shard && sender.index < members && ballot.vote == vote
+}
+
+/// The members of the shard that gave the vote.
+fn supporters(f: u16, ballots: &[Ballot], vote: Vote, shard: u16) -> Tally
+    requires { f ≤ 5 }
+    ensures members { members_of result ≡ 3 * f + 1 }
+    ensures marked { (index : ℕ) → index < 3 * f + 1 →
+        is_marked result index ≡ has_ballot shard index vote ballots.now }
+{
+    let members = 3 * f + 1;
+    let mut tally = Tally::new(members);
+    for ballot in ballots {
+        if is_of(ballot, shard, members, vote) {
+            tally.mark(ballot.sender.index);
+        }
+    }
+    tally
 }
 
 /// Whether f + 1 nodes of the shard gave the vote.
-#[tactic(auto, unfolding(cs_order::specs::Counts::count_below))]
 fn has_support(f: u16, ballots: &[Ballot], vote: Vote, shard: u16) -> bool
     requires { f ≤ 5 }
     ensures { result ≡ has_support f ballots.now vote shard }
 {
-    let mut count = 0;
-    for index in 0..3 * f + 1 {
-        if has_ballot(ballots, shard, index, vote) {
-            count += 1;
-        }
-    }
-    f < count
+    f < supporters(f, ballots, vote, shard).count()
 }
 
 fn is_committed(f: u16, shards: &[u16], ballots: &[Ballot]) -> bool
@@ -65,7 +81,7 @@ pub fn is_decided(f: u16, shards: &[u16], vote: Vote, ballots: &[Ballot]) -> boo
 }
 
 /// The vote that is decided, commit before abort.
-pub fn decision(f: u16, shards: &[u16], ballots: &[Ballot]) -> Option<Vote>
+fn decision(f: u16, shards: &[u16], ballots: &[Ballot]) -> Option<Vote>
     requires { f ≤ 5 }
     ensures { result ≡ decided_vote f shards.now ballots.now }
 {
@@ -76,4 +92,16 @@ pub fn decision(f: u16, shards: &[u16], ballots: &[Ballot]) -> Option<Vote>
     } else {
         None
     }
+}
+
+/// The decision that is due for a session of the pool, which concerns these shards. Nothing is due
+/// while it waits.
+pub fn vote_due(f: u16, shards: &[u16], pooled: &Pooled) -> Option<Vote>
+    requires { f ≤ 5 }
+    ensures { result ≡ due_vote f shards.now pooled.now }
+{
+    if !pooled.locked {
+        return None;
+    }
+    decision(f, shards, pooled.ballots.as_slice())
 }

@@ -3,6 +3,7 @@ ghost use Rattle.std.specs.Prelude.{◌≡◌, Bool, true, Some, IsSome, OnOk, I
 ghost use Rattle.cs_tx_form.specs.declared.transaction.Tx.{Tx};
 ghost use Rattle.cs_tx_form.specs.Session.{SessionFits, EntryFits};
 ghost use Rattle.cs_tx.specs.Sessions.{session_of};
+ghost use Rattle.cs_tx.specs.WellFormed.{IsWellFormed};
 ghost use Rattle.cs_table.specs.Seen.{vote_of};
 ghost use Rattle.cs_table.specs.Calls.{anchor_in, prepared, decided};
 ghost use Rattle.cs_node_state.specs.Setup.{session_in};
@@ -11,6 +12,7 @@ ghost use Rattle.cs_node_state.specs.Bench.{own_pool};
 ghost use Rattle.cs_sbac.specs.Calls.{placed, left, Runs, RunsEntry};
 
 use crate::answers::Outcome;
+use crate::setting::formed_shards;
 use cs_base::{Memory, NodeId, Sequence};
 use cs_node_pool::Pool;
 use cs_node_state::{Ballot, Pooled};
@@ -37,7 +39,8 @@ fn place(
     session: &Session,
     locked: bool,
 ) -> Result<(), Memory>
-    requires { SessionFits session.now }
+    requires fits { SessionFits session.now }
+    requires formed { IsWellFormed pool.old.config session.now }
     ensures sessions { OnOk result (pool.new.sessions
         ≡ placed locked digest.now session.now pool.old.sessions) }
     ensures config { pool.new.config ≡ pool.old.config }
@@ -47,8 +50,9 @@ fn place(
     } else if pool.contains(digest)? {
         pool.lock(digest)?;
     } else {
+        let shards = formed_shards(alloc, pool.config(), session)?;
         let session = session.copy(alloc)?;
-        pool.push(alloc, *digest, newcomer(alloc, session, true))?;
+        pool.push(*digest, newcomer(alloc, session, true), shards)?;
     }
     Ok(())
 }
@@ -62,7 +66,8 @@ fn place_voted(
     own: Ballot,
     locked: bool,
 ) -> Result<(), Memory>
-    requires { SessionFits session.now }
+    requires fits { SessionFits session.now }
+    requires formed { IsWellFormed pool.old.config session.now }
     ensures sessions { OnOk result (pool.new.sessions
         ≡ own_pool own.sender digest.now (Some (own.vote, locked))
         (placed locked digest.now session.now pool.old.sessions)) }
@@ -83,6 +88,7 @@ fn prepare(
     session: &Session,
 ) -> Result<Outcome, Memory>
     requires fits { SessionFits session.now }
+    requires formed { IsWellFormed pool.old.config session.now }
     requires anchored { IsSome (anchor_in table.old (session_of (λ tx. true) session.now)) }
     ensures runs { (approves : Tx → Bool) → IfOk result (λ answer.
         let x = session_of approves session.now in
@@ -136,7 +142,7 @@ fn decide(
     })
 }
 
-/// Executes an entry whose session has an anchor in the table.
+/// Executes an entry whose session is well formed and has an anchor in the table.
 pub fn run(
     alloc: Global,
     me: NodeId,
@@ -145,6 +151,7 @@ pub fn run(
     entry: &Entry,
 ) -> Result<Outcome, Memory>
     requires fits { EntryFits entry.now }
+    requires formed { IsWellFormed pool.old.config (session_in entry.now) }
     requires anchored { IsSome
         (anchor_in table.old (session_of (λ tx. true) (session_in entry.now))) }
     ensures runs { (approves : Tx → Bool) → IfOk result (λ answer.

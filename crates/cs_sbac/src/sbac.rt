@@ -16,7 +16,7 @@ use cs_base::{Config, MOST_WAITING, Memory, NodeId};
 use cs_node_pool::{Counted, Pool};
 use cs_node_state::Ballot;
 use cs_table::Table;
-use cs_tx::{Digest, Entry, Session, Vote};
+use cs_tx::{Digest, Entry, Session, Vote, concerned};
 use std::alloc::Global;
 use std::marker::Model;
 
@@ -111,8 +111,9 @@ impl Sbac {
         if self.pool.waiting()? >= MOST_WAITING {
             return Ok(Entered::Full);
         }
+        let shards = concerned(alloc, &session, &self.config)?;
         self.pool
-            .push(alloc, digest, newcomer(alloc, session, false))?;
+            .push(digest, newcomer(alloc, session, false), shards)?;
         Ok(Entered::New)
     }
 
@@ -137,8 +138,9 @@ impl Sbac {
         if self.pool.waiting()? >= MOST_WAITING {
             return Ok(Entered::Full);
         }
+        let shards = concerned(alloc, &session, &self.config)?;
         self.pool
-            .push(alloc, digest, newcomer(alloc, session, false))?;
+            .push(digest, newcomer(alloc, session, false), shards)?;
         let ballot = Ballot { sender: from, vote };
         self.pool.count(&digest, ballot)?;
         Ok(Entered::New)

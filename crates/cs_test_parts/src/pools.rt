@@ -5,7 +5,7 @@ use cs_node_pool::Pool;
 use cs_node_state::{Ballot, Pooled};
 use cs_test_draws::Draws;
 use cs_test_samples::{Transfer, coin};
-use cs_tx::{Digest, Encoded, Entry, Session, Vote};
+use cs_tx::{Digest, Encoded, Entry, Session, Vote, concerned};
 use std::alloc::Global;
 use std::process::Abort;
 use std::test::Fail;
@@ -57,13 +57,14 @@ fn enter(
     }
     let session = session(alloc, number)?;
     assert!(rt; session.fits());
+    let shards = concerned(alloc, &session, pool.config())?;
     let ballots = Sequence::new(alloc);
     let pooled = Pooled {
         session,
         locked,
         ballots,
     };
-    pool.push(alloc, digest, pooled)?;
+    pool.push(digest, pooled, shards)?;
     plain.push(alloc, number, locked)?;
     Ok(())
 }

@@ -1,8 +1,11 @@
 use Rattle.std.proofs.Common.{◌≡◌, ◌∙◌, sym, subst, true, rules}
+use Rattle.cs_tx_form.specs.declared.session.Session.{Session}
+use Rattle.cs_tx.specs.WellFormed.{IsWellFormed}
 use Rattle.cs_node_state.specs.Setup.{session_in}
 use Rattle.cs_sbac.specs.Held.{Held}
 use Rattle.cs_node_pool.specs.Deployed.{deployed}
 use Rattle.cs_sbac.specs.Calls.{Executes}
+use Rattle.cs_sbac.proofs.Settings.{formed}
 use Rattle.cs_sbac.proofs.Running.{stays, anchored, executes}
 use Rattle.cs_sbac.proofs.sbac.Sbac.execute.Goals as goal
 
@@ -11,6 +14,13 @@ run-requires-clause-anchored c =
     let whole : c.self.inside.is_whole ≡ true = search rules in
     let fit : c.in_ok-fit.fit ≡ true = search rules in
     anchored c.self.inside.config c.self.inside.me c.self.inside.table (c.self.invariant.placed whole) (λ tx. true) (session_in c.args.entry.now) (c.in_ok-fit.ensures.anchored fit)
+
+pub run-requires-clause-formed : goal.run-requires-clause-formed
+run-requires-clause-formed c =
+    let fit : c.in_ok-fit.fit ≡ true = search rules in
+    let x : Session = session_in c.args.entry.now in
+    subst (λ config. IsWellFormed config x) (sym c.self.invariant.same)
+    (formed c.self.inside.config c.self.inside.me.shard x (λ genesis approves. sym (c.in_ok-fit.ensures.fit genesis approves) ∙ fit))
 
 pub invariant_of-self-2 : goal.invariant_of-self-2
 invariant_of-self-2 c =

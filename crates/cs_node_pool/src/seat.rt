@@ -1,0 +1,91 @@
+//! The seat of a session, and what is done at its place.
+ghost use Rattle.std.specs.Prelude.{◌≡◌, OnOk, IfOk};
+ghost use Rattle.cs_tx.specs.Uses.{concerned_shards};
+ghost use Rattle.cs_tx_form.specs.Session.{SessionFits};
+ghost use Rattle.cs_node_state.specs.Pool.{as_locked, with_ballot};
+ghost use Rattle.cs_node_pool.specs.Calls.{counted_in};
+ghost use Rattle.cs_node_pool.specs.Seats.{IsRight, IsRightIn, pooled_in, passes, waits, is_due, reseated};
+
+use crate::answers::Counted;
+use crate::votes::{has_voted, vote_due};
+use cs_base::{Config, Memory};
+use cs_node_state::{Ballot, Pooled};
+use cs_tx::Vote;
+
+/// A session of the pool, the shards that it concerns, which take hashing to find, and the
+/// decision that is due on it.
+#[derive(Drop)]
+pub struct Seat {
+    pub pooled: Pooled,
+    pub shards: Vec<u16>,
+    pub due: Option<Vote>,
+}
+
+impl Seat {
+    /// The seat of a session that concerns these shards.
+    pub fn new(config: &Config, pooled: Pooled, shards: Vec<u16>) -> Seat
+        requires concerned { shards.items ≡ concerned_shards config.now pooled.session }
+        requires fits { SessionFits pooled.session }
+        ensures pooled { result.pooled ≡ pooled }
+        ensures right { IsRight config.now result }
+    {
+        let due = vote_due(config.f, shards.as_slice(), &pooled);
+        Seat {
+            pooled,
+            shards,
+            due,
+        }
+    }
+}
+
+/// Takes a vote on the session of a place, unless it repeats one of its node.
+pub fn take_vote(
+    config: &Config,
+    place: &mut Option<Seat>,
+    ballot: Ballot,
+) -> Result<Counted, Memory>
+    requires { IsRightIn config.now place.old }
+    ensures answer { IfOk result (λ answer.
+        answer ≡ counted_in ballot.sender (pooled_in place.old)) }
+    ensures place { OnOk result (place.new ≡ reseated config.now.f (with_ballot ballot) place.old) }
+{
+    let Some(seat) = place else {
+        return Ok(Counted::NotPooled);
+    };
+    if has_voted(seat.pooled.ballots.as_slice(), ballot.sender) {
+        return Ok(Counted::Repeat);
+    }
+    seat.pooled.ballots.push(ballot)?;
+    seat.due = vote_due(config.f, seat.shards.as_slice(), &seat.pooled);
+    Ok(Counted::Counted)
+}
+
+/// Marks the session of a place as locked.
+pub fn lock(config: &Config, place: &mut Option<Seat>)
+    ensures { place.new ≡ reseated config.now.f as_locked place.old }
+{
+    if let Some(seat) = place {
+        seat.pooled.locked = true;
+        seat.due = vote_due(config.f, seat.shards.as_slice(), &seat.pooled);
+    }
+}
+
+/// Whether a session waits at a place.
+pub fn waits(place: &Option<Seat>) -> bool
+    ensures { result ≡ passes waits place.now }
+{
+    match place {
+        Some(seat) => !seat.pooled.locked,
+        None => false,
+    }
+}
+
+/// Whether a decision is due at a place.
+pub fn is_due(place: &Option<Seat>) -> bool
+    ensures { result ≡ passes is_due place.now }
+{
+    match place {
+        Some(seat) => seat.due.is_some(),
+        None => false,
+    }
+}
