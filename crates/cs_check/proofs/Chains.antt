@@ -7,7 +7,7 @@ use Rattle.cs_merkle.specs.Tree.{merkle_tree_hash}
 use Rattle.std.proofs.lemmas.List.{drop-append-le, take-append-le, get_or_append_left, get_or_push, length_push, map_push, length-map}
 use Rattle.std.proofs.lemmas.Option.{slice_get-get_or, get_or_from_slice_get, slice_get_within}
 use Rattle.cs_tx_form.specs.declared.checkpoint.Checkpoint.{Checkpoint}
-use Rattle.cs_check.specs.Chain.{Log, head_of, checkpoint_behind, head_before, checkpoint_of, last_head, head_after, log_of, made_last, IsLeaf, IsChain}
+use Rattle.cs_checkpoint.specs.Chain.{Log, head_of, checkpoint_behind, head_before, checkpoint_of, last_head, head_after, log_of, made_last, IsLeaf, IsChain}
 
 covered_stays : (number : ℕ) (leaves more : List (List ℕ)) → 16 * number + 16 ≤ length leaves →
     take 16 (drop (16 * number) (leaves ++ more)) ≡ take 16 (drop (16 * number) leaves)

@@ -1,10 +1,9 @@
 -- The root over the records of a table.
 use Rattle.std.specs.Prelude.{ℕ, List, map}
-use Rattle.std.specs.List.{AllByRecursion}
 use Rattle.cs_base.specs.declared.key.Key.{Key}
 use Rattle.cs_tx_form.specs.declared.record.Record.{Record}
 use Rattle.cs_tx_form.specs.declared.stored.Stored.{Stored}
-use Rattle.cs_tx_form.specs.Record.{stored_encoding, StoredFits}
+use Rattle.cs_tx_form.specs.Record.{stored_encoding}
 use Rattle.cs_merkle.specs.Tree.{merkle_tree_hash}
 
 -- a record with its key
@@ -18,7 +17,3 @@ record_leaves rows = map (λ row. stored_encoding (stored_row row)) rows
 -- the Merkle tree hash over them
 abbrev pub table_root : List (Key × Record) → List ℕ
 table_root rows = merkle_tree_hash (record_leaves rows)
-
--- each record is within all limits, so it has an encoding
-abbrev pub RowsFit : List (Key × Record) → Type 0
-RowsFit rows = AllByRecursion (λ row. StoredFits (stored_row row)) rows

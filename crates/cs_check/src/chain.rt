@@ -2,17 +2,16 @@
 ghost use Rattle.std.specs.Prelude.{◌≡◌, ◌+◌, ◌*◌, ◌≤◌, ◌<◌, ◌↔◌, ◌/◌, ◌%◌, length, take, drop, slice_get, IfOk, OnOk, IsErrOf};
 ghost use Rattle.cs_merkle.specs.Tree.{leaves_of, merkle_tree_hash};
 ghost use Rattle.cs_merkle.specs.Path.{audit_path};
-ghost use Rattle.cs_check.specs.Root.{RowsFit, table_root as root_of};
-ghost use Rattle.cs_check.specs.Chain.{empty_log, with_slot, made_last, chain_head, last_head, head_of, checkpoint_of, IsLeaf, IsProofOf};
-ghost use Rattle.cs_check.specs.Shown.{Shows};
+ghost use Rattle.cs_check.specs.Root.{table_root as root_of};
+ghost use Rattle.cs_checkpoint.specs.Chain.{empty_log, with_slot, made_last, chain_head, last_head, head_of, checkpoint_of, IsLeaf, IsProofOf};
+ghost use Rattle.cs_checkpoint.specs.Shown.{Shows};
 
-use crate::head::checkpoint_head;
 use crate::leaf::read_leaf;
 use crate::root::table_root;
 use cs_base::{Memory, Sequence};
+use cs_checkpoint::{Checkpoint, Digest, Proof, checkpoint_head};
 use cs_merkle::{path, root};
 use cs_table::Table;
-use cs_tx::{Checkpoint, Digest, Proof};
 use std::alloc::Global;
 use std::marker::Model;
 
@@ -50,7 +49,7 @@ pub struct Chain {
 
 impl Model for Chain {
     ghost use Rattle.cs_merkle.specs.Tree.{leaves_of};
-    ghost use Rattle.cs_check.specs.Chain.{Log, log_of, IsChain};
+    ghost use Rattle.cs_checkpoint.specs.Chain.{Log, log_of, IsChain};
 
     ghost Value = { Log };
 
@@ -133,8 +132,7 @@ impl Chain {
         leaf: Vec<u8>,
         table: &Table,
     ) -> Result<Option<Checkpoint>, Memory>
-        requires leaf { IsLeaf leaf.items }
-        requires table { RowsFit table.now.rows }
+        requires { IsLeaf leaf.items }
         ensures log { OnOk result
             (self.new ≡ with_slot leaf.items (root_of table.now.rows) self.old) }
         ensures made { IfOk result (λ made. made ≡ made_last self.new) }

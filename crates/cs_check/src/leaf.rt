@@ -1,23 +1,12 @@
-//! Leaves and their encodings.
+//! Leaves, read again.
 ghost use Rattle.std.specs.Prelude.{◌≡◌, ◌<◌, All, length, slice_get, IfOk};
 ghost use Rattle.cs_merkle.specs.Tree.{leaves_of};
 ghost use Rattle.cs_tx_form.specs.Log.{leaf_encoding, LeafFits};
-ghost use Rattle.cs_check.specs.Chain.{IsLeaf};
+ghost use Rattle.cs_checkpoint.specs.Chain.{IsLeaf};
 
-use cs_base::{Memory, Writer};
+use cs_base::Memory;
 use cs_tx::{Encoded, Leaf};
 use std::alloc::Global;
-
-/// The encoding of a leaf, as a chain takes it.
-pub fn encode_leaf(alloc: Global, leaf: &Leaf) -> Result<Vec<u8>, Memory>
-    requires { LeafFits leaf.now }
-    ensures encoded { IfOk result (λ bytes. bytes.items ≡ leaf_encoding leaf.now) }
-    ensures leaf { IfOk result (λ bytes. IsLeaf bytes.items) }
-{
-    let mut out = Writer::new(alloc);
-    leaf.encode(&mut out)?;
-    Ok(out.into_bytes())
-}
 
 // Bytes that encode a leaf are refused for want of memory alone.
 fn decode_leaf(alloc: Global, bytes: &[u8]) -> Result<Leaf, Memory>

@@ -1,9 +1,11 @@
 //! The root over the records of a table.
-ghost use Rattle.std.specs.Prelude.{◌≡◌, ◌↔◌, IsTrue, IfOk};
-ghost use Rattle.cs_tx_form.specs.Record.{stored_encoding, StoredFits};
+ghost use Rattle.std.specs.Prelude.{◌≡◌, IfOk};
+ghost use Rattle.cs_tx_form.specs.Record.{stored_encoding};
 ghost use Rattle.cs_merkle.specs.Tree.{leaves_of};
-ghost use Rattle.cs_check.specs.Root.{record_leaves, RowsFit, table_root as root_of};
+ghost use Rattle.cs_table.specs.Seen.{IsStored, AllStored};
+ghost use Rattle.cs_check.specs.Root.{record_leaves, table_root as root_of};
 
+use crate::fitting::stored_fits;
 use cs_base::{Key, Memory, Writer};
 use cs_merkle::root;
 use cs_table::{Record, Records, Table};
@@ -12,10 +14,11 @@ use std::alloc::Global;
 
 // The encoding of a record behind that of its key.
 fn record_leaf(alloc: Global, key: &Key, row: &Record) -> Result<Vec<u8>, Memory>
-    requires { StoredFits (record { key = key.now; value = row.now }) }
+    requires { IsStored row.now }
     ensures { IfOk result (λ leaf.
         leaf.items ≡ stored_encoding (record { key = key.now; value = row.now })) }
 {
+    stored_fits(key, row);
     let mut out = Writer::new(alloc);
     key.encode(&mut out)?;
     row.encode(&mut out)?;
@@ -23,7 +26,7 @@ fn record_leaf(alloc: Global, key: &Key, row: &Record) -> Result<Vec<u8>, Memory
 }
 
 fn record_leaves(alloc: Global, rows: Records<'_>) -> Result<Vec<Vec<u8>>, Memory>
-    requires { RowsFit rows }
+    requires { AllStored rows }
     ensures { IfOk result (λ leaves. leaves_of leaves.items ≡ record_leaves rows.entry) }
 {
     let mut leaves = Vec::new(alloc);
@@ -33,28 +36,9 @@ fn record_leaves(alloc: Global, rows: Records<'_>) -> Result<Vec<Vec<u8>>, Memor
     Ok(leaves)
 }
 
-/// Whether each record is within all limits.
-pub fn records_fit(table: &Table) -> bool
-    ensures { IsTrue result ↔ RowsFit table.now.rows }
-{
-    rows_fit(table.records())
-}
-
-fn rows_fit(rows: Records<'_>) -> bool
-    ensures { IsTrue result ↔ RowsFit rows.entry }
-{
-    for (key, row) in rows {
-        if !key.fits() || !row.fits() {
-            return false;
-        }
-    }
-    true
-}
-
 /// The Merkle tree hash over the encodings of all records, in the order of their encoded keys. It
 /// takes memory and time in proportion to these.
 pub fn table_root(alloc: Global, table: &Table) -> Result<Digest, Memory>
-    requires { RowsFit table.now.rows }
     ensures { IfOk result (λ root. root ≡ root_of table.now.rows) }
 {
     let leaves = record_leaves(alloc, table.records())?;

@@ -4,9 +4,10 @@ ghost use Rattle.cs_tx_value.specs.Object.{ObjectFits};
 
 use super::*;
 use cs_base::{Config, Key, Memory, Sequence, Writer, print_bytes};
+use cs_checkpoint::{Checkpoint, Digest, Leaf, Proof, checkpoint_head, encode_leaf, shows};
 use cs_table::Table;
 use cs_test_samples::{coin, spend};
-use cs_tx::{Effect, Encoded, Entry, Object, Session, Vote, genesis_key};
+use cs_tx::{Effect, Encoded, Entry, Object, Session, Vote, genesis_key, session_digest};
 use std::alloc::Global;
 use std::process::Abort;
 use std::test::Fail;
@@ -73,7 +74,6 @@ fn push(
     leaf: Leaf,
 ) -> Result<Option<Checkpoint>, Fail> {
     assert!(rt; leaf.fits());
-    assert!(rt; records_fit(table));
     let bytes = encode_leaf(alloc, &leaf)?;
     Ok(chain.push(alloc, bytes, table)?)
 }
@@ -90,7 +90,8 @@ fn execute(
 ) -> Result<Option<Checkpoint>, Fail> {
     assert!(rt; session.fits());
     assert!(rt; table.has_anchor(alloc, &session)?);
-    let vote = table.prepare(alloc, &session)?;
+    let digest = session_digest(alloc, &session)?;
+    let vote = table.prepare(alloc, &session, &digest)?.vote;
     let prepare = Leaf {
         slot,
         entry: Entry::Prepare(session.copy(alloc)?),
@@ -98,7 +99,7 @@ fn execute(
     };
     assert!(rt; push(rt, alloc, chain, table, prepare)?.is_none());
     assert!(rt; table.has_anchor(alloc, &session)?);
-    let result = table.decide(alloc, &session, Vote::Commit)?;
+    let result = table.decide(alloc, &session, &digest, Vote::Commit)?;
     let decide = Leaf {
         slot: slot.saturating_add(1),
         entry: Entry::Decide(Vote::Commit, session),

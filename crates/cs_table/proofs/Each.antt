@@ -5,6 +5,7 @@ use Rattle.cs_ledger.specs.Session.{Key, Piece, key_eq, has_key, object_under}
 use Rattle.cs_ledger.specs.Table as ledger
 use Rattle.cs_ledger.specs.Table.{Record, Table, State, Vote, Unknown, Active, Locked, Inactive}
 use Rattle.cs_ledger.proofs.Basics as basics
+use Rattle.cs_table.specs.declared.change.Change.{Change}
 use Rattle.cs_table.specs.declared.change.Change.TheVariants.{Lock, Release, UseUp}
 use Rattle.cs_table.specs.Changes.{with_state, changed, changed_record, appeared_record, noted_record, changed_each, appeared_each}
 use Rattle.cs_table.specs.Effects.{accepted}
@@ -47,6 +48,16 @@ lock_twice d r = in_state _ _ (locked_twice d) r
 
 release_twice : (r : Record) → changed_record Release (changed_record Release r) ≡ changed_record Release r
 release_twice r = in_state _ _ released_twice r
+
+-- changes of states keep the books
+if_book : (b : Bool) (change : Change) (r : Record) → (if b then changed_record change r else r).book ≡ r.book
+if_book true change r = refl
+if_book false change r = refl
+
+pub books_kept : (change : Change) (ps : List Piece) (t : Table) (k : Key) → ((changed_each (changed_record change) ps t).at k).book ≡ (t.at k).book
+books_kept change [] t k = refl
+books_kept change (p ∷ ps) t k =
+    books_kept change ps (changed (changed_record change) p.key t) k ∙ if_book (key_eq k p.key) change (t.at k)
 
 -- two lists of keys, one after the other
 both_is : (change : Record → Record) → ((r : Record) → change (change r) ≡ change r) → (used read : List Piece) (t : Table) → changed_each change read (changed_each change used t) ≡ all_changed change read (all_changed change used t)

@@ -8,7 +8,7 @@ use Rattle.cs_table.specs.declared.change.Change.TheVariants.{Lock, Release, Use
 use Rattle.cs_table.specs.Seen.{Stored, seen}
 use Rattle.cs_table.specs.Changes.{Becomes, changed, changed_record, noted_record, changed_each, appeared_each}
 use Rattle.cs_table.specs.Effects.{settled_vote, or_lost, ComesTo, accepted}
-use Rattle.cs_table.proofs.Each.{locks, aborts_noted, aborts_full, accepts}
+use Rattle.cs_table.proofs.Each.{locks, aborts_noted, aborts_full, accepts, books_kept}
 
 pub becomes_self : (a : Stored) → Becomes a a (seen a)
 becomes_self a = record { shows = refl; shards = refl; shard = refl }
@@ -25,6 +25,13 @@ locked a b c d used read one two = becomes_same a c _ _ (locks d used read (seen
 
 abbrev released_all : List Piece → Table → Table
 released_all ps t = changed_each (changed_record Release) ps t
+
+-- a book has a place as before
+pub still_place : (a b c : Stored) (used read : List Piece) (k : Key) → Becomes a b (released_all used (seen a)) → Becomes b c (released_all read (seen b)) → ledger.has_place ((seen a).at k).book ≡ true → ledger.has_place ((seen c).at k).book ≡ true
+still_place a b c used read k one two room =
+    ap (λ (t : Table). ledger.has_place (t.at k).book) two.shows ∙ ap ledger.has_place (books_kept Release read (seen b) k)
+    ∙ ap (λ (t : Table). ledger.has_place (t.at k).book) one.shows ∙ ap ledger.has_place (books_kept Release used (seen a) k)
+    ∙ room
 
 pub aborted_full : (a b c : Stored) (d : Bytes) (anchor : Key) (used read : List Piece) → ledger.has_place ((seen a).at anchor).book ≡ false → Becomes a b (released_all used (seen a)) → Becomes b c (released_all read (seen b)) → Becomes a c (ledger.with_aborted (seen a) d anchor used read)
 aborted_full a b c d anchor used read full one two = becomes_same a c _ _ (aborts_full d anchor used read (seen a) full) (after a b c (released_all used) (released_all read) one two)

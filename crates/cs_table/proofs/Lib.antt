@@ -10,3 +10,4 @@ pub mod Shown
 pub mod Calls
 pub mod Beginning
 pub mod Filled
+pub mod Known

@@ -14,9 +14,9 @@ use Rattle.cs_base.specs.declared.key.Key.TheVariants as key
 use Rattle.cs_tx_form.specs.declared.state.State.{State}
 use Rattle.cs_tx_form.specs.declared.state.State.TheVariants as state
 use Rattle.cs_ledger.specs.Session as ledger
-use Rattle.cs_ledger.proofs.Basics.{key_refl}
+use Rattle.cs_ledger.proofs.Basics.{key_refl, same_key as same_key_of}
 use Rattle.cs_tx_form.specs.declared.record.Record.{Record}
-use Rattle.cs_table.specs.Seen.{Stored, is_under, row_in, seen_row, seen_state, seen}
+use Rattle.cs_table.specs.Seen.{Stored, is_under, row_in, seen_row, seen_state, seen, AllStored, RowFits, RowsFit}
 use Rattle.cs_tx.specs.Sessions.{key_seen}
 use Rattle.cs_ledger.specs.Table.{is_free}
 use Rattle.cs_table.specs.Dummies.{first_active, is_active, IsLeastDummy, Least, NoneActive}
@@ -253,3 +253,19 @@ scanned s shard rows range low high found own held first last between sorted sca
     ∙ ap (λ (k : Key). entries_between key_cmp (Included (key.Dummy shard 0)) (Included k) rows) last in
     least_dummy s (subst (λ (r : Rows). IsStrictlySortedBy key_cmp (keys_of r)) held sorted) found
     (ap (λ (n : ℕ). first_active (dummies_among n s.rows)) (sym own) ∙ ap (λ (r : Rows). first_active (dummies_among shard r)) (sym held) ∙ sym (ap first_active (between ∙ ends)) ∙ sym scan)
+
+-- ---- all rows
+
+-- each row is the one that is found under its key
+pub all_stored : (rows : Rows) → IsStrictlySortedBy key_cmp (keys_of rows) → RowsFit rows → AllStored rows
+unfolding IsStrictlySortedBy
+all_stored [] sorted fits = tt
+all_stored (e ∷ rows) sorted fits = (
+  subst (λ test. RowFits (cond test (Some e.1) (row_in rows (key_seen e.0)))) (key_refl (key_seen e.0)) (fits (key_seen e.0)),
+  all_stored rows sorted.1 (λ name. elim (cases_Bool (is_under name e.0)) [
+    | inl under ↦
+        let same : key_seen e.0 ≡ name = sym (same_key_of name (key_seen e.0) under) in
+        subst RowFits (sym (subst (λ (other : ledger.Key). row_in rows other ≡ None) same (absent_own e.0 rows sorted.0))) tt
+    | inr other ↦ subst (λ test. RowFits (cond test (Some e.1) (row_in rows name))) other (fits name)
+  ]),
+)

@@ -112,4 +112,6 @@ gone a b k left = ap (λ t. t.at k) left.shows ∙ unknown_there k (seen a)
 -- what is found fits
 pub found_fits : (rows : Rows) (k : Key) → RowsFit rows → (found : Option (Bor Record)) → option_copied found ≡ lookup (is_at (key_cmp k)) rows → IfSome found (λ row. HoldsFit row.now.state)
 found_fits rows k fits None is = tt
-found_fits rows k fits (Some row) is = subst (λ found. RowFits found) (sym (is ∙ find_row rows k)) (fits (key_seen k))
+found_fits rows k fits (Some row) is =
+    let stored : RowFits (Some row.now) = subst (λ found. RowFits found) (sym (is ∙ find_row rows k)) (fits (key_seen k)) in
+    stored.kept.holds

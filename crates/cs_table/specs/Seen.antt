@@ -1,6 +1,8 @@
 -- What a table shows of its shard: the records of the definitions, under every key.
-use Rattle.std.specs.Prelude.{ℕ, Bool, List, [], map, Option, Some, None}
+use Rattle.std.specs.Prelude.{◌≡◌, ℕ, ◌≤◌, Bool, List, [], length, map, Option, Some, None}
+use Rattle.std.specs.List.{AllByRecursion}
 use Rattle.std.specs.Map.{lookup}
+use Rattle.cs_base.specs.declared.limits.TheConstants.{MOST_PLACES}
 use Rattle.cs_base.specs.declared.key.Key.{Key}
 use Rattle.cs_base.specs.declared.key.Key.TheVariants as key
 use Rattle.cs_tx_value.specs.Object.{object_encoding, ObjectFits}
@@ -69,9 +71,23 @@ HoldsFit (state.Active object) = ObjectFits object
 HoldsFit (state.Locked object by) = ObjectFits object
 HoldsFit (state.Inactive by) = Unit {0}
 
+-- its object is within all limits, and its book has no more places than there may be
+pub record IsKept (r : Record) : Type 0 where
+  pub holds : HoldsFit r.state
+  pub places : length r.book ≤ MOST_PLACES
+
+-- a record that is stored: something is known of its key
+pub record IsStored (r : Record) : Type 0 where
+  pub kept : IsKept r
+  pub known : seen_record r ≡ unknown_record → ⊥
+
 abbrev pub RowFits : Option Record → Type 0
 RowFits None = Unit {0}
-RowFits (Some r) = HoldsFit r.state
+RowFits (Some r) = IsStored r
 
 abbrev pub RowsFit : List (Key × Record) → Type 0
 RowsFit rows = (name : ledger.Key) → RowFits (row_in rows name)
+
+-- each of these records is one that is stored
+abbrev pub AllStored : List (Key × Record) → Type 0
+AllStored rows = AllByRecursion (λ row. IsStored row.1) rows

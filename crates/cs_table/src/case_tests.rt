@@ -91,15 +91,23 @@ fn put(
     Ok(())
 }
 
-fn write_book(alloc: Global, table: &mut Table, book: Book, digest: Digest) -> Result<(), Memory> {
+/// Writes a vote into the book of the anchor, which has a place for 1,025.
+fn write_vote(alloc: Global, table: &mut Table, digest: Digest, vote: Vote) -> Result<(), Memory> {
     let anchor = Key::Object(ANCHOR);
+    if table.has_place(&anchor) {
+        table.note(alloc, &anchor, digest, vote)?;
+    }
+    Ok(())
+}
+
+fn write_book(alloc: Global, table: &mut Table, book: Book, digest: Digest) -> Result<(), Memory> {
     match book {
         Book::Empty => {}
-        Book::ItsAbort => table.note(alloc, &anchor, digest, Vote::Abort)?,
-        Book::ItsCommit => table.note(alloc, &anchor, digest, Vote::Commit)?,
+        Book::ItsAbort => write_vote(alloc, table, digest, Vote::Abort)?,
+        Book::ItsCommit => write_vote(alloc, table, digest, Vote::Commit)?,
         Book::Worn => {
             for _ in 0..1024 {
-                table.note(alloc, &anchor, ANOTHER, Vote::Abort)?;
+                write_vote(alloc, table, ANOTHER, Vote::Abort)?;
             }
         }
     }

@@ -68,7 +68,7 @@ impl Table {
     }
 
     /// Whether a vote that is carried out still has a place in the book.
-    fn has_place(&self, anchor: &Key) -> bool
+    pub(crate) fn has_place(&self, anchor: &Key) -> bool
         ensures { result ≡ has_place (shown_at self.now anchor.now).book }
     {
         match self.record(anchor) {

@@ -3,7 +3,7 @@ ghost use Rattle.std.specs.Prelude.{◌≡◌};
 ghost use Rattle.std.specs.Map.{keys_of};
 ghost use Rattle.std.specs.List.Sorted.{IsStrictlySortedBy};
 ghost use Rattle.cs_base.specs.declared.key.Key.{Key};
-ghost use Rattle.cs_table.specs.Seen.{seen};
+ghost use Rattle.cs_table.specs.Seen.{seen, AllStored};
 ghost use Rattle.cs_tx.specs.Sessions.{key_seen};
 ghost use Rattle.cs_table.specs.Dummies.{IsLeastDummy, is_active, first_active};
 
@@ -31,6 +31,7 @@ impl Table {
     pub fn records(&self) -> Records<'_>
         ensures rows { result ≡ self.now.rows }
         ensures rising { IsStrictlySortedBy ⟦<Key as Ord>⟧.cmp (keys_of self.now.rows) }
+        ensures stored { AllStored self.now.rows }
     {
         self.rows().iter()
     }

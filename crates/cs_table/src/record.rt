@@ -1,5 +1,5 @@
 //! What becomes of the record of a key.
-ghost use Rattle.std.specs.Prelude.{◌≡◌, [], IsTrue, OnOk};
+ghost use Rattle.std.specs.Prelude.{◌≡◌, ◌↔◌, ◌+◌, [], length, IsTrue, OnOk};
 ghost use Rattle.cs_tx_value.specs.Object.{object_encoding, ObjectFits};
 ghost use Rattle.cs_table.specs.Changes.{changed_record, appeared_record, noted_record};
 ghost use Rattle.cs_table.specs.Seen.{seen_record, seen_state, vote_of, unknown_record, HoldsFit};
@@ -25,7 +25,7 @@ pub(crate) fn unknown(alloc: Global) -> Record
 
 /// Whether nothing is known of the key.
 pub(crate) fn is_unknown(row: &Record) -> bool
-    ensures { IsTrue result → seen_record row.now ≡ unknown_record }
+    ensures { IsTrue result ↔ (seen_record row.now ≡ unknown_record) }
 {
     match &row.state {
         State::Unknown => row.book.is_empty(),
@@ -37,6 +37,7 @@ pub(crate) fn is_unknown(row: &Record) -> bool
 pub(crate) fn change(row: &mut Record, change: Change)
     ensures now { seen_record row.new ≡ changed_record change (seen_record row.old) }
     ensures fits { HoldsFit row.old.state → HoldsFit row.new.state }
+    ensures book { row.new.book ≡ row.old.book }
 {
     let state = mem::replace(&mut row.state, State::Unknown);
     row.state = match change {
@@ -51,6 +52,7 @@ pub(crate) fn appear(row: &mut Record, object: Object)
     ensures now { seen_record row.new
         ≡ appeared_record (object_encoding object) (seen_record row.old) }
     ensures fits { ObjectFits object → HoldsFit row.old.state → HoldsFit row.new.state }
+    ensures book { row.new.book ≡ row.old.book }
 {
     if let State::Unknown = row.state {
         row.state = State::Active(object);
@@ -62,6 +64,7 @@ pub(crate) fn note(row: &mut Record, session: Digest, vote: Vote) -> Result<(), 
     ensures now { OnOk result (seen_record row.new
         ≡ noted_record session (vote_of vote) (seen_record row.old)) }
     ensures fits { OnOk result (row.new.state ≡ row.old.state) }
+    ensures longer { OnOk result (length row.new.book ≡ length row.old.book + 1) }
 {
     row.book.push((session, vote))?;
     Ok(())

@@ -1,8 +1,8 @@
 //! The table of a shard.
-ghost use Rattle.std.specs.Prelude.{◌≡◌, [], ◌+◌, ◌-◌, ◌<◌, ◌^◌, IfSome, OnOk, option_copied};
+ghost use Rattle.std.specs.Prelude.{◌≡◌, [], ◌+◌, ◌-◌, ◌<◌, ◌^◌, true, IfSome, OnOk, option_copied};
 ghost use Rattle.cs_tx_value.specs.Object.{object_encoding, ObjectFits};
-ghost use Rattle.cs_ledger.specs.Table.{is_active_with};
-ghost use Rattle.cs_table.specs.Seen.{seen, shown_at, row_in, vote_of, seen_record, seen_row, unknown_record, HoldsFit, RowFits};
+ghost use Rattle.cs_ledger.specs.Table.{is_active_with, has_place};
+ghost use Rattle.cs_table.specs.Seen.{seen, shown_at, row_in, vote_of, seen_record, seen_row, unknown_record, HoldsFit, IsKept, RowFits, RowsFit};
 ghost use Rattle.cs_tx.specs.Sessions.{key_seen};
 ghost use Rattle.cs_table.specs.Changes.{with_next, changed, changed_record, appeared_record, noted_record, Becomes};
 
@@ -77,7 +77,8 @@ impl Table {
     }
 
     pub(crate) fn rows(&self) -> &BTreeMap<Key, Record>
-        ensures { result.now.entries ≡ self.now.rows }
+        ensures rows { result.now.entries ≡ self.now.rows }
+        ensures fit { RowsFit result.now.entries }
     {
         &self.rows
     }
@@ -120,7 +121,7 @@ impl Table {
     /// Takes the record of a key out.
     fn take(&mut self, alloc: Global, key: &Key) -> Record
         ensures row { seen_record result ≡ shown_at self.old key.now }
-        ensures fits { HoldsFit result.state }
+        ensures fits { IsKept result }
         ensures left { Becomes self.old self.new
             (changed (λ r. unknown_record) (key_seen key.now) (seen self.old)) }
     {
@@ -131,7 +132,7 @@ impl Table {
     /// Puts the record of a key. One of which nothing is known is not stored.
     fn put(&mut self, key: Key, row: Record) -> Result<(), Memory>
         requires gone { shown_at self.old key ≡ unknown_record }
-        requires fits { HoldsFit row.state }
+        requires fits { IsKept row }
         ensures { OnOk result (Becomes self.old self.new
             (changed (λ r. seen_record row) (key_seen key) (seen self.old))) }
     {
@@ -168,7 +169,7 @@ impl Table {
         Ok(())
     }
 
-    /// Adds a vote to the book of a key.
+    /// Adds a vote to the book of a key, which has a place for it.
     pub(crate) fn note(
         &mut self,
         alloc: Global,
@@ -176,6 +177,7 @@ impl Table {
         session: Digest,
         vote: Vote,
     ) -> Result<(), Memory>
+        requires { has_place (shown_at self.old key.now).book ≡ true }
         ensures { OnOk result (Becomes self.old self.new
             (changed (noted_record session (vote_of vote)) (key_seen key.now) (seen self.old))) }
     {
@@ -188,7 +190,7 @@ impl Table {
 
 fn row_or_unknown(alloc: Global, row: Option<Record>) -> Record
     ensures now { seen_record result ≡ seen_row row }
-    ensures fits { RowFits row → HoldsFit result.state }
+    ensures fits { RowFits row → IsKept result }
 {
     match row {
         Some(row) => row,

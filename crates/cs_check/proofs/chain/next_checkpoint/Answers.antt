@@ -1,6 +1,6 @@
 use Rattle.std.proofs.Common.{◌≡◌, ◌*◌, length, take, drop, refl, ap, ◌∙◌}
 use Rattle.cs_merkle.specs.Tree.{leaves_of, merkle_tree_hash}
-use Rattle.cs_check.specs.Chain.{last_head, head_after}
+use Rattle.cs_checkpoint.specs.Chain.{last_head, head_after}
 use Rattle.cs_check.proofs.Parts.{part_is}
 use Rattle.cs_check.proofs.chain.next_checkpoint.Goals.{in-Some, in-None}
 use Rattle.cs_check.proofs.chain.next_checkpoint.Goals as goal

@@ -3,7 +3,7 @@ use Rattle.std.specs.Prelude.{Some}
 use Rattle.std.proofs.lemmas.List.{length-map}
 use Rattle.std.proofs.lemmas.Option.{slice_get-get_or}
 use Rattle.cs_merkle.specs.Tree.{leaves_of}
-use Rattle.cs_check.specs.Chain.{IsLeaf}
+use Rattle.cs_checkpoint.specs.Chain.{IsLeaf}
 use Rattle.cs_check.proofs.Parts.{leaf_is}
 use Rattle.cs_check.proofs.leaf.read_leaf.Goals as goal
 

@@ -3,9 +3,9 @@ use Rattle.std.specs.Prelude.{slice_get}
 use Rattle.std.proofs.lemmas.List.{length-map}
 use Rattle.cs_tx_form.specs.declared.checkpoint.Checkpoint.{Checkpoint}
 use Rattle.cs_merkle.specs.Tree.{leaves_of}
-use Rattle.cs_check.specs.Chain.{Log, log_of, IsProofOf}
+use Rattle.cs_checkpoint.specs.Chain.{Log, log_of, IsProofOf}
 use Rattle.cs_check.proofs.Chains.{covers}
-use Rattle.cs_check.proofs.Covered.{chain_shows}
+use Rattle.cs_checkpoint.proofs.Covered.{chain_shows}
 use Rattle.cs_check.proofs.chain.Chain.prove.Goals as goal
 
 pub read_leaf-requires-clause-within : goal.read_leaf-requires-clause-within

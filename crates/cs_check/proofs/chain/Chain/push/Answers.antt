@@ -1,7 +1,7 @@
 use Rattle.std.proofs.Common.{◌≡◌, ℕ, ◌+◌, ◌*◌, ◌%◌, ◌≤◌, List, [], ◌∷◌, ◌++◌, length, take, drop, refl, sym, ap, ◌∙◌, subst, arith}
 use Rattle.std.proofs.lemmas.List.{map_push, length-map, length_push}
 use Rattle.cs_merkle.specs.Tree.{leaves_of, merkle_tree_hash}
-use Rattle.cs_check.specs.Chain.{log_of, last_head, IsChain}
+use Rattle.cs_checkpoint.specs.Chain.{log_of, last_head, IsChain}
 use Rattle.cs_check.proofs.Chains.{kept_chain, next_chain, last_made}
 use Rattle.cs_check.proofs.chain.Chain.push.Goals as goal
 
@@ -14,7 +14,7 @@ invariant_of-self-then-len-ne0 c =
     subst (λ (leaves : List (List ℕ)). IsChain (log_of c.self.inside.shard leaves made) made)
     (sym leaves_is)
     (kept_chain c.self.inside.shard (leaves_of old) made c.args.leaf.items c.self.invariant
-    c.requires.leaf)
+    c.requires)
 
 pub invariant_of-self-in_err-table_root : goal.invariant_of-self-in_err-table_root
 invariant_of-self-in_err-table_root c =
@@ -25,7 +25,7 @@ invariant_of-self-in_err-table_root c =
     subst (λ (leaves : List (List ℕ)). IsChain (log_of c.self.inside.shard leaves made) made)
     (sym leaves_is)
     (kept_chain c.self.inside.shard (leaves_of old) made c.args.leaf.items c.self.invariant
-    c.requires.leaf)
+    c.requires)
 
 pub invariant_of-self-in_err-push-2 : goal.invariant_of-self-in_err-push-2
 invariant_of-self-in_err-push-2 c =
@@ -35,7 +35,7 @@ invariant_of-self-in_err-push-2 c =
     let made = c.self.inside.made.items in
     rw (c.in_err-push-2.ensures.items, leaves_is)
     (kept_chain c.self.inside.shard (leaves_of old) made c.args.leaf.items c.self.invariant
-    c.requires.leaf)
+    c.requires)
 
 pub invariant_of-self-2 : goal.invariant_of-self-2
 invariant_of-self-2 c =
@@ -67,7 +67,7 @@ invariant_of-self-2 c =
     let enough : 16 * length made + 16 ≤ length longer =
     omega (arith, whole, c.self.invariant.enough, length_push (leaves_of old) leaf) in
     rw (c.in_ok-push-2.ensures.items, leaves_is)
-    (next_chain shard (leaves_of old) made leaf c.self.invariant c.requires.leaf next
+    (next_chain shard (leaves_of old) made leaf c.self.invariant c.requires next
     c.in_ok-table_root.table_root is enough)
 
 pub returns-clause-made : goal.returns-clause-made
@@ -98,5 +98,5 @@ returns-clause-made c =
     ) in
     let whole : length longer % 16 ≡ 0 = subst (λ (n : ℕ). n % 16 ≡ 0) count c.if-len-ne0.false in
     rw (c.in_ok-push-2.ensures.items, leaves_is)
-    (last_made shard (leaves_of old) made leaf c.self.invariant c.requires.leaf next
+    (last_made shard (leaves_of old) made leaf c.self.invariant c.requires next
     c.in_ok-table_root.table_root is whole)

@@ -1,4 +1,6 @@
-use Rattle.std.proofs.Common.{◌∙◌, ap}
+use Rattle.std.proofs.Common.{◌≤◌, List, length, sym, ap, ◌∙◌, subst}
+use Rattle.cs_base.specs.declared.limits.TheConstants.{MOST_PLACES}
+use Rattle.cs_tx_form.specs.Record.{Place}
 use Rattle.cs_table.specs.Seen.{seen_record}
 use Rattle.cs_tx.specs.Sessions.{key_seen}
 use Rattle.cs_table.specs.Changes.{changed_record}
@@ -10,3 +12,9 @@ put-requires-clause-gone c = gone c.args.self.now c.take-row.new.self (key_seen 
 
 pub returns : goal.returns
 returns c = becomes_again c.args.self.now c.take-row.new.self c.put.new.self (changed_record c.args.change) (key_seen c.args.key.now) (seen_record c.change.new.row) c.take-row.ensures.left c.in_ok-put.ensures (c.change.ensures.now ∙ ap (changed_record c.args.change) c.take-row.ensures.row)
+
+pub put-requires-clause-fits : goal.put-requires-clause-fits
+put-requires-clause-fits c = record {
+  holds = c.change.ensures.fits c.take-row.ensures.fits.holds;
+  places = subst (λ (book : List Place). length book ≤ MOST_PLACES) (sym c.change.ensures.book) c.take-row.ensures.fits.places;
+}

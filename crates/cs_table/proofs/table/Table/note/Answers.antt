@@ -1,5 +1,6 @@
-use Rattle.std.proofs.Common.{◌∙◌, ap}
-use Rattle.cs_table.specs.Seen.{vote_of, seen_record}
+use Rattle.std.proofs.Common.{length, sym, ap, ◌∙◌, subst}
+use Rattle.cs_table.specs.Seen.{vote_of, seen_record, shown_at, HoldsFit}
+use Rattle.cs_table.proofs.Known.{one_more}
 use Rattle.cs_tx.specs.Sessions.{key_seen}
 use Rattle.cs_table.specs.Changes.{noted_record}
 use Rattle.cs_table.proofs.Rows.{becomes_again, gone}
@@ -10,3 +11,9 @@ put-requires-clause-gone c = gone c.args.self.now c.take-row.new.self (key_seen 
 
 pub returns : goal.returns
 returns c = becomes_again c.args.self.now c.take-row.new.self c.put.new.self (noted_record c.args.session (vote_of c.args.vote)) (key_seen c.args.key.now) (seen_record c.note.new.row) c.take-row.ensures.left c.in_ok-put.ensures (c.in_ok-note.ensures.now ∙ ap (noted_record c.args.session (vote_of c.args.vote)) c.take-row.ensures.row)
+
+pub put-requires-clause-fits : goal.put-requires-clause-fits
+put-requires-clause-fits c = record {
+  holds = subst HoldsFit (sym c.in_ok-note.ensures.fits) c.take-row.ensures.fits.holds;
+  places = one_more c.take-row.result (length c.note.new.row.book) (shown_at c.args.self.now c.args.key.now) c.take-row.ensures.row c.requires c.in_ok-note.ensures.longer;
+}

@@ -16,8 +16,8 @@ use Rattle.cs_merkle.specs.Path.{ShowsLeaf, audit_path}
 use Rattle.cs_merkle.specs.Collisions.{strings_in, strings_by, NoTreeCollision}
 use Rattle.cs_merkle.proofs.Roots.{path_shows}
 use Rattle.cs_merkle.proofs.Shown.{shown_is_there}
-use Rattle.cs_check.specs.Chain.{Log, covered_leaves, head_of, checkpoint_of, IsProofOf}
-use Rattle.cs_check.specs.Shown.{Shows, IsOver, head_string, NoProofCollision, IsOf}
+use Rattle.cs_checkpoint.specs.Chain.{Log, covered_leaves, head_of, checkpoint_of, IsProofOf}
+use Rattle.cs_checkpoint.specs.Shown.{Shows, IsOver, head_string, NoProofCollision, IsOf}
 
 first_there : (x : List ℕ) (xs : List (List ℕ)) → Contains (x ∷ xs) x
 first_there x xs = (0, omega arith, refl)

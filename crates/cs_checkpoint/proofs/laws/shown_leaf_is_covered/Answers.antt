@@ -1,5 +1,5 @@
-use Rattle.cs_check.proofs.Covered.{covered, covered_leaf}
-use Rattle.cs_check.proofs.laws.shown_leaf_is_covered.Goals as goal
+use Rattle.cs_checkpoint.proofs.Covered.{covered, covered_leaf}
+use Rattle.cs_checkpoint.proofs.laws.shown_leaf_is_covered.Goals as goal
 
 pub returns-clause-bytes : goal.returns-clause-bytes
 returns-clause-bytes c = covered

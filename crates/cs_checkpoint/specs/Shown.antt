@@ -7,7 +7,7 @@ use Rattle.cs_tx_form.specs.Log.{leaf_encoding, checkpoint_encoding, CheckpointF
 use Rattle.cs_merkle.specs.Tree.{tree_of, merkle_tree_hash}
 use Rattle.cs_merkle.specs.Path.{ShowsLeaf, audit_path}
 use Rattle.cs_merkle.specs.Collisions.{strings_in, strings_by}
-use Rattle.cs_check.specs.Chain.{head_of}
+use Rattle.cs_checkpoint.specs.Chain.{head_of}
 
 -- The checkpoint has this head, the path leads from the leaf to the root over its 16, and the leaf is of the slot at
 -- that place.

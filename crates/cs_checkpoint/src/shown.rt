@@ -1,7 +1,7 @@
 //! The test of a proof.
 ghost use Rattle.std.specs.Prelude.{◌≡◌, ◌+◌, ◌*◌, ◌↔◌, IsTrue, IfOk};
 ghost use Rattle.cs_tx_form.specs.Log.{LeafFits};
-ghost use Rattle.cs_check.specs.Shown.{Shows};
+ghost use Rattle.cs_checkpoint.specs.Shown.{Shows};
 
 use crate::head::checkpoint_head;
 use crate::leaf::encode_leaf;

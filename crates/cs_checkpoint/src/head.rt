@@ -2,7 +2,7 @@
 ghost use Rattle.std.specs.Prelude.{◌≡◌, ◌∷◌, ◌++◌};
 ghost use Rattle.std.specs.Int.{w16, w64, to_be_bytes};
 ghost use Rattle.sha2.specs.Hashers.{Holds256};
-ghost use Rattle.cs_check.specs.Chain.{head_of};
+ghost use Rattle.cs_checkpoint.specs.Chain.{head_of};
 
 use cs_tx::{Checkpoint, Digest};
 use sha2::{Digest as Hasher, Sha256};

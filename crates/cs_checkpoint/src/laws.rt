@@ -4,8 +4,8 @@ ghost use Rattle.cs_tx_form.specs.declared.checkpoint.Checkpoint.{Checkpoint};
 ghost use Rattle.cs_tx_form.specs.declared.leaf.Leaf.{Leaf};
 ghost use Rattle.cs_tx_form.specs.declared.proof.Proof.{Proof};
 ghost use Rattle.cs_tx_form.specs.Log.{leaf_encoding, LeafFits, ProofFits};
-ghost use Rattle.cs_check.specs.Chain.{head_of};
-ghost use Rattle.cs_check.specs.Shown.{Shows, IsOver, IsOf, NoProofCollision};
+ghost use Rattle.cs_checkpoint.specs.Chain.{head_of};
+ghost use Rattle.cs_checkpoint.specs.Shown.{Shows, IsOver, IsOf, NoProofCollision};
 
 /// Where the strings hashed for a checkpoint and for a proof don't collide, a proof that shows its
 /// leaf under the checkpoint's head is of that shard and number, and its leaf is the one that the

@@ -1,0 +1,62 @@
+//! What a table stores has an encoding: what the table doesn't tell of its limits, the types do.
+ghost use Rattle.std.specs.List.{AllByRecursion};
+ghost use Rattle.cs_tx_value.specs.Object.{DigestFits};
+ghost use Rattle.cs_tx_value.specs.Key.{KeyFits};
+ghost use Rattle.cs_tx_form.specs.State.{StateFits};
+ghost use Rattle.cs_tx_form.specs.Record.{PlaceFits, StoredFits};
+ghost use Rattle.cs_table.specs.Seen.{HoldsFit, IsStored};
+
+use cs_base::Key;
+use cs_table::Record;
+use cs_tx::{Digest, State, Vote};
+
+fn digest_fits(digest: &Digest)
+    ensures { DigestFits digest.now }
+{
+    let _bytes = digest.as_slice();
+}
+
+fn key_fits(key: &Key)
+    ensures { KeyFits key.now }
+{
+    match key {
+        Key::Object(digest) => digest_fits(digest),
+        Key::Dummy(shard, serial) => {
+            let _numbers = (*shard, *serial);
+        }
+    }
+}
+
+fn state_fits(state: &State)
+    requires { HoldsFit state.now }
+    ensures { StateFits state.now }
+{
+    match state {
+        State::Locked(_, by) | State::Inactive(by) => digest_fits(by),
+        State::Unknown | State::Active(_) => {}
+    }
+}
+
+fn place_fits(place: &(Digest, Vote))
+    ensures { PlaceFits place.now }
+{
+    digest_fits(&place.0);
+}
+
+fn places_fit(book: &[(Digest, Vote)])
+    ensures { AllByRecursion PlaceFits book.now }
+{
+    for place in book {
+        place_fits(place);
+    }
+}
+
+/// A stored record is within all limits.
+pub(crate) fn stored_fits(key: &Key, row: &Record)
+    requires { IsStored row.now }
+    ensures { StoredFits (record { key = key.now; value = row.now }) }
+{
+    key_fits(key);
+    state_fits(&row.state);
+    places_fit(row.book.as_slice());
+}

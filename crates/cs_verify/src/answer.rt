@@ -1,0 +1,81 @@
+//! What is printed.
+ghost use Rattle.std.specs.Prelude.{◌≡◌, Some, IfOk, string_bytes};
+ghost use Rattle.cs_base.specs.Codes.{bytes_text};
+ghost use Rattle.cs_tx.specs.Digest.{digest_of_session};
+ghost use Rattle.cs_tx_form.specs.Session.{SessionFits, EntryFits};
+ghost use Rattle.cs_tx_form.specs.Log.{ProofFits};
+ghost use Rattle.cs_verify.specs.Verdicts.{VerdictFits, entry_words, result_word, session_in, shown_line as line_of, verdict_text as text_of};
+
+use crate::judging::Verdict;
+use cs_base::{Memory, print_bytes};
+use cs_checkpoint::Proof;
+use cs_sched::refusal_line;
+use cs_tx::{Effect, Entry, Session, Vote, session_digest};
+use std::alloc::Global;
+
+/// The line of a verdict, with its LF.
+pub fn verdict_text(alloc: Global, verdict: &Verdict) -> Result<String, Memory>
+    requires { VerdictFits verdict.now }
+    ensures { IfOk result (λ text. string_bytes text ≡ text_of verdict.now) }
+{
+    match verdict {
+        Verdict::Shown(proof) => shown_line(alloc, proof),
+        Verdict::NotShown => Ok(String::from_str(alloc, "not shown\n")?),
+        Verdict::Refused(refusal) => Ok(refusal_line(alloc, *refusal)?),
+    }
+}
+
+fn shown_line(alloc: Global, proof: &Proof) -> Result<String, Memory>
+    requires { ProofFits proof.now }
+    ensures { let p = proof.now in IfOk result (λ text. string_bytes text
+        ≡ line_of p.checkpoint.shard p.leaf.slot p.leaf.entry p.leaf.result) }
+{
+    let shard = proof.checkpoint.shard;
+    let slot = proof.leaf.slot;
+    let entry = entry_words(&proof.leaf.entry);
+    let digest = digest_text(alloc, &proof.leaf.entry)?;
+    let result = result_word(proof.leaf.result);
+    Ok(format!(in alloc; "shown {shard} {slot} {entry} {digest} {result}\n")?)
+}
+
+fn digest_text(alloc: Global, entry: &Entry) -> Result<String, Memory>
+    requires { EntryFits entry.now }
+    ensures { IfOk result (λ text.
+        string_bytes text ≡ bytes_text (digest_of_session (session_in entry.now))) }
+{
+    let digest = session_digest(alloc, session_in(entry))?;
+    print_bytes(alloc, digest.as_slice())
+}
+
+fn session_in(entry: &Entry) -> &Session
+    ensures is { result.now ≡ session_in entry.now }
+    ensures fits { EntryFits entry.now → SessionFits result.now }
+{
+    match entry {
+        Entry::Prepare(session) => session,
+        Entry::Decide(_, session) => session,
+    }
+}
+
+fn entry_words(entry: &Entry) -> &'static str
+    ensures { result.now ≡ entry_words entry.now }
+{
+    match entry {
+        Entry::Prepare(_) => "prepare",
+        Entry::Decide(Vote::Commit, _) => "decide commit",
+        Entry::Decide(Vote::Abort, _) => "decide abort",
+    }
+}
+
+fn result_word(effect: Effect) -> &'static str
+    ensures { result.now ≡ result_word effect }
+{
+    match effect {
+        Effect::Voted(Vote::Commit) => "commit",
+        Effect::Voted(Vote::Abort) => "abort",
+        Effect::Accepted => "accepted",
+        Effect::Aborted => "aborted",
+        Effect::Skipped => "skipped",
+        Effect::Void => "void",
+    }
+}

@@ -1,0 +1,17 @@
+//! What a proof shows to someone who ran nothing: the lines in which it is handed in, their reader,
+//! and what is answered.
+#![tactic(auto)]
+
+mod answer;
+mod claim;
+mod datagram;
+mod judging;
+mod lines;
+mod reader;
+#[cfg(test)]
+mod tests;
+mod values;
+
+pub use answer::verdict_text;
+pub use claim::Claim;
+pub use judging::{Verdict, judge};
