@@ -38,7 +38,7 @@ fn name<'a>(names: &Names<'a>, name: &[u8], place: usize) -> Result<Held<'a>, St
 }
 
 /// The empty list.
-fn empty_list<'a>(scene: &Scene<'a>) -> Result<Held<'a>, Stop>
+fn empty_list<'a>(scene: &Scene<'_, 'a>) -> Result<Held<'a>, Stop>
     ensures { Ends result (gives (Plain (value.List []))) }
 {
     let empty = Value::List(Sequence::new(scene.alloc));
@@ -137,7 +137,7 @@ fn open_path<'a>(
 /// On with the items of a list, behind those whose values are there.
 #[tactic(auto, using(crate::proofs::Turns::items_first, crate::proofs::Turns::items_end))]
 fn on_items<'a>(
-    scene: &Scene<'a>,
+    scene: &Scene<'_, 'a>,
     frames: &mut Stack<Frame<'a>>,
     items: &'a [Expr],
     values: Sequence<Value>,
@@ -161,7 +161,7 @@ fn on_items<'a>(
 /// Begins an expression, of which the own units are spent.
 #[tactic(auto, using(crate::proofs::Layers::bodies, crate::proofs::WorkLayers::works))]
 fn open<'a>(
-    scene: &Scene<'a>,
+    scene: &Scene<'_, 'a>,
     names: &Names<'a>,
     frames: &mut Stack<Frame<'a>>,
     expr: &'a Expr,
@@ -209,7 +209,7 @@ fn open<'a>(
 
 /// What an expression counts without its parts.
 #[tactic(auto, using(crate::proofs::Layers::own_units))]
-fn own_units(scene: &Scene<'_>, names: &Names<'_>, expr: &Expr) -> u64
+fn own_units(scene: &Scene<'_, '_>, names: &Names<'_>, expr: &Expr) -> u64
     ensures { result ≡ (expr_meant (seen_from scene.now names.now) expr.now).units }
 {
     match &expr.shape {
@@ -235,7 +235,7 @@ fn own_units(scene: &Scene<'_>, names: &Names<'_>, expr: &Expr) -> u64
 /// Spends what an expression counts by itself, and begins it.
 #[tactic(auto, using(crate::proofs::Turns::moves_spent))]
 fn begin<'a, L: Ledger>(
-    scene: &Scene<'a>,
+    scene: &Scene<'_, 'a>,
     names: &Names<'a>,
     frames: &mut Stack<Frame<'a>>,
     expr: &'a Expr,
@@ -297,7 +297,7 @@ fn on_chain<'a>(
 /// On with a step into something.
 #[tactic(auto, using(crate::proofs::Layers::stepping, crate::proofs::WorkLayers::step_left))]
 fn on_step<'a>(
-    scene: &Scene<'a>,
+    scene: &Scene<'_, 'a>,
     frames: &mut Stack<Frame<'a>>,
     step: &'a Step,
     held: Held<'a>,
@@ -322,7 +322,7 @@ fn on_step<'a>(
 /// On with what steps lead into.
 #[tactic(auto, using(crate::proofs::Turns::steps_first))]
 fn on_path<'a>(
-    scene: &Scene<'a>,
+    scene: &Scene<'_, 'a>,
     frames: &mut Stack<Frame<'a>>,
     steps: &'a [Step],
     held: Held<'a>,
@@ -346,7 +346,7 @@ fn on_path<'a>(
 /// On with the value of an item of a list.
 #[tactic(auto, using(crate::proofs::Turns::item_added))]
 fn on_item<'a>(
-    scene: &Scene<'a>,
+    scene: &Scene<'_, 'a>,
     frames: &mut Stack<Frame<'a>>,
     rest: &'a [Expr],
     items: Sequence<Value>,
@@ -365,7 +365,7 @@ fn on_item<'a>(
 
 /// Hands a value on to what is left to do with it.
 fn resume<'a>(
-    scene: &Scene<'a>,
+    scene: &Scene<'_, 'a>,
     frames: &mut Stack<Frame<'a>>,
     frame: Frame<'a>,
     held: Held<'a>,
@@ -394,7 +394,7 @@ fn resume<'a>(
 
 /// The value of an expression, with nothing left to do.
 pub fn evaluate<'a, L: Ledger>(
-    scene: &Scene<'a>,
+    scene: &Scene<'_, 'a>,
     names: &Names<'a>,
     frames: &mut Stack<Frame<'a>>,
     expr: &'a Expr,

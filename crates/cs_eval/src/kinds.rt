@@ -36,7 +36,7 @@ fn rank_kind(rank: Rank) -> Kind
 
 /// The kind of what a step leads to.
 #[tactic(auto, using(crate::proofs::Layers::stepping))]
-fn step_kind(scene: &Scene<'_>, found: Option<Kind>, step: &Step) -> Option<Kind>
+fn step_kind(scene: &Scene<'_, '_>, found: Option<Kind>, step: &Step) -> Option<Kind>
     ensures { (names : List Named) → result
         ≡ kind_stepped found (step_meant (seen_from scene.now names) step.now) }
 {
@@ -51,7 +51,7 @@ fn step_kind(scene: &Scene<'_>, found: Option<Kind>, step: &Step) -> Option<Kind
 }
 
 /// The kind of what steps lead to.
-fn steps_kind(scene: &Scene<'_>, start: Option<Kind>, steps: &[Step]) -> Option<Kind>
+fn steps_kind(scene: &Scene<'_, '_>, start: Option<Kind>, steps: &[Step]) -> Option<Kind>
     ensures { (names : List Named) → result
         ≡ kinds_stepped start (map (step_meant (seen_from scene.now names)) steps.now) }
 {
@@ -71,7 +71,7 @@ fn listed(first: Option<Kind>) -> Option<Kind>
 
 /// The kind of an expression.
 #[tactic(auto, using(crate::proofs::Layers::own_kinds))]
-pub fn kind_given(scene: &Scene<'_>, names: &Names<'_>, expr: &Expr) -> Option<Kind>
+pub fn kind_given(scene: &Scene<'_, '_>, names: &Names<'_>, expr: &Expr) -> Option<Kind>
     ensures { result ≡ kind_meant (seen_from scene.now names.now) expr.now }
 {
     match &expr.shape {

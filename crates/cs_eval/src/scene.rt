@@ -5,8 +5,8 @@ use std::alloc::Global;
 
 /// The contract whose check runs, and what it looks at.
 #[derive(Clone, Copy)]
-pub struct Scene<'a> {
+pub struct Scene<'s, 'a> {
     pub alloc: Global,
     pub contract: &'a ContractTree,
-    pub view: &'a LentView<'a>,
+    pub view: &'s LentView<'a>,
 }

@@ -240,7 +240,7 @@ pub fn fill<'a>(
     alloc: Global,
     contract: &'a ContractTree,
     method: &'a Method,
-    view: &'a LentView<'a>,
+    view: &LentView<'a>,
 ) -> Result<Option<Names<'a>>, Memory>
     ensures { IfOk result (λ names. names ≡ filled contract.now method.now view.now) }
 {

@@ -20,8 +20,8 @@ pub enum Cause {
     Size,
     /// A dep isn't there, or has no such int.
     Dep,
-    /// A value is of a wrong kind, or a name stands for nothing. That no check of an accepted
-    /// contract comes to this isn't proved.
+    /// A value is of a wrong kind, or a name stands for nothing. No check of an accepted contract
+    /// comes to this.
     Misfit,
 }
 

@@ -1,4 +1,5 @@
-use crate::{Binary, Cause, Held, Stop, Unary, apply_binary, apply_unary};
+use crate::{Binary, Cause, Held, Stop, Unary, apply_binary, apply_unary, list_of, with_item};
+use cs_base::Sequence;
 use cs_lang::{Comparison, Operator};
 use std::test::Fail;
 
@@ -9,8 +10,13 @@ fn made(rt: &HostRuntime, operator: Operator, x: i64, y: i64) -> Result<i64, Sto
     made.as_int().ok_or(Stop::Memory)
 }
 
+fn negated(rt: &HostRuntime, x: i64) -> Result<i64, Stop> {
+    let made = apply_unary(rt.alloc(), Unary::Negative, &Held::int(x), 7)?;
+    made.as_int().ok_or(Stop::Memory)
+}
+
 #[test]
-fn ints_at_the_ends(rt: HostRuntime) {
+fn ints_at_the_ends(rt: HostRuntime) -> Result<(), Fail> {
     let least = i64::MIN;
     let most = i64::MAX;
     let range = Err(Stop::Trap(Cause::Range, 7));
@@ -34,6 +40,17 @@ fn ints_at_the_ends(rt: HostRuntime) {
     assert_eq!(rt; made(&rt, Operator::Remainder, 1, 0), divisor);
     assert_eq!(rt; made(&rt, Operator::Divide, least, -1), range);
     assert_eq!(rt; made(&rt, Operator::Remainder, least, -1), range);
+    assert_eq!(rt; negated(&rt, least + 1), Ok(most));
+    assert_eq!(rt; negated(&rt, least), range);
+    let less = apply_binary(
+        rt.alloc(),
+        Binary::Compared(Comparison::LessOrEqual),
+        Held::int(-1),
+        Held::int(-1),
+        0,
+    )?;
+    assert_eq!(rt; less.as_bool(), Some(true));
+    Ok(())
 }
 
 #[test]
@@ -59,20 +76,18 @@ fn bytes_are_joined_up_to_256(rt: HostRuntime) -> Result<(), Fail> {
     Ok(())
 }
 
+/// What stands at a place of a list of one int.
+fn at(rt: &HostRuntime, place: i64) -> Result<i64, Stop> {
+    let items = with_item(rt.alloc(), Sequence::new(rt.alloc()), Held::int(9), 5)?;
+    let list = list_of(rt.alloc(), items, 5)?;
+    let item = apply_binary(rt.alloc(), Binary::Index, list, Held::int(place), 5)?;
+    item.as_int().ok_or(Stop::Memory)
+}
+
 #[test]
-fn a_place_equal_to_the_length_traps(rt: HostRuntime) -> Result<(), Fail> {
-    let hash = apply_unary(rt.alloc(), Unary::Sha256, &Held::text(b"".as_slice()), 0)?;
-    let stop = apply_binary(rt.alloc(), Binary::Index, hash, Held::int(0), 5);
-    assert!(rt; matches!(stop, Err(Stop::Trap(Cause::Place, 5))));
-    let least = apply_unary(rt.alloc(), Unary::Negative, &Held::int(i64::MIN), 6);
-    assert!(rt; matches!(least, Err(Stop::Trap(Cause::Range, 6))));
-    let less = apply_binary(
-        rt.alloc(),
-        Binary::Compared(Comparison::LessOrEqual),
-        Held::int(-1),
-        Held::int(-1),
-        0,
-    )?;
-    assert_eq!(rt; less.as_bool(), Some(true));
-    Ok(())
+fn a_place_equal_to_the_length_traps(rt: HostRuntime) {
+    let stop = Err(Stop::Trap(Cause::Place, 5));
+    assert_eq!(rt; at(&rt, 0), Ok(9));
+    assert_eq!(rt; at(&rt, 1), stop);
+    assert_eq!(rt; at(&rt, -1), stop);
 }

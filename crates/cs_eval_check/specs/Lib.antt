@@ -1,0 +1,4 @@
+pub mod Acting
+pub mod Checks
+pub mod Tasks
+pub mod TaskWork

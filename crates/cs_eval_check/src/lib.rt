@@ -1,0 +1,11 @@
+//! The checks of contracts: what one says of a view, and what that spends.
+#![tactic(auto)]
+
+mod checks;
+mod running;
+mod statements;
+mod task;
+#[cfg(test)]
+mod tests;
+
+pub use checks::{check, check_lent};
