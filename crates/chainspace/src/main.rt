@@ -1,9 +1,7 @@
 //! The program: its words, standard input and standard output, handed to the library.
 #![tactic(auto)]
 
-mod adapters;
-
-use adapters::{StandardInput, StandardOutput};
+use cs_outside::{StandardInput, StandardOutput};
 use cs_replay::{WordsError, words_or_status};
 use std::env;
 use std::process::ExitCode;

@@ -1,4 +1,5 @@
 mod Read
 mod Steps
-mod Tables
+pub mod Tables
 mod Objects
+mod Configs

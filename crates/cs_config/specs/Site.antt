@@ -1,19 +1,14 @@
 -- A site file: the deployment, its port, its contracts' files and its genesis.
-use Rattle.std.specs.Prelude.{◌^◌, ◌-◌, ℕ, ℤ, pos, negsuc, nat_le, List, Result, Ok, Err, if◌then◌else◌}
-use Rattle.cs_base.specs.Config.{configured}
+use Rattle.std.specs.Prelude.{ℕ, ℤ, List, Result, Ok}
+use Rattle.cs_base.specs.Config.{config_of}
 use Rattle.cs_base.specs.declared.config.Config.{Config}
-use Rattle.cs_base.specs.declared.config.OutOfRange.{OutOfRange}
-use Rattle.cs_base.specs.declared.config.ConfigField.{ConfigField}
-use Rattle.cs_base.specs.declared.config.ConfigField.TheVariants as number
-use Rattle.cs_base.specs.declared.limits.TheConstants.{MOST_GENESIS}
+use Rattle.cs_base.specs.declared.limits.TheConstants.{MOST_SHARDS, MOST_LIARS, MOST_DUMMIES, MOST_GENESIS}
 use Rattle.toml.specs.Data.{Members, as_integer, as_str}
 use Rattle.cs_config.specs.Reading.{◌>>=◌, table_of, one_of, each_of, number_within, few_of}
 use Rattle.cs_config.specs.Items.{object_of}
 use Rattle.cs_config.specs.declared.limits.TheConstants.{LEAST_BASE_PORT, MOST_BASE_PORT, MOST_CONTRACTS}
-use Rattle.cs_config.specs.declared.error.FileField.{FileField}
 use Rattle.cs_config.specs.declared.error.FileField.TheVariants as field
 use Rattle.cs_config.specs.declared.error.ConfigError.{ConfigError}
-use Rattle.cs_config.specs.declared.error.ConfigError.TheVariants.{Limit}
 use Rattle.cs_config.specs.declared.site.Site.{Site}
 use Rattle.cs_config.specs.declared.site.SiteDraft.{SiteDraft}
 
@@ -35,25 +30,18 @@ site_draft_of members = do
     genesis = genesis;
   })
 
--- a number that 16 bits hold; any other stands for the greatest, which is out of every range
-abbrev pub small : ℤ → ℕ
-small (pos n) = if nat_le n (2 ^ 16 - 1) then n else 2 ^ 16 - 1
-small (negsuc n) = 2 ^ 16 - 1
-
--- the field of a site in which a number of the configuration stands
-abbrev pub field_of : ConfigField → FileField
-field_of number.Shards = field.Shards
-field_of number.F = field.Faulty
-field_of number.Dummies = field.Dummies
-
-abbrev pub in_range : Result Config OutOfRange → Result Config ConfigError
-in_range (Ok config) = Ok config
-in_range (Err out) = Err (Limit (field_of out.0))
+-- the configuration of these numbers, each in its range
+abbrev pub config_within : ℤ → ℤ → ℤ → Result Config ConfigError
+config_within given_shards given_faulty given_dummies = do
+  shards ← number_within field.Shards 1 MOST_SHARDS given_shards
+  faulty ← number_within field.Faulty 0 MOST_LIARS given_faulty
+  dummies ← number_within field.Dummies 0 MOST_DUMMIES given_dummies
+  Ok (config_of shards faulty dummies)
 
 -- the fields, each in its range
 abbrev pub site_within : SiteDraft → Result Site ConfigError
 site_within draft = do
-  config ← in_range (configured (small draft.shards) (small draft.faulty) (small draft.dummies))
+  config ← config_within draft.shards draft.faulty draft.dummies
   base_port ← number_within field.BasePort LEAST_BASE_PORT MOST_BASE_PORT draft.base_port
   contracts ← few_of field.Contracts MOST_CONTRACTS draft.contracts
   genesis ← few_of field.Genesis MOST_GENESIS draft.genesis

@@ -3,7 +3,7 @@ ghost use Rattle.std.specs.Prelude.{◌≡◌};
 ghost use Rattle.cs_config.specs.Names.{name_of};
 ghost use Rattle.cs_config.specs.declared.error.ConfigError.TheVariants.{Memory as NoMemory};
 
-use std::alloc::{AllocError, AllocFailed};
+use cs_base::Memory;
 
 /// A field of a file.
 #[derive(Clone, Copy, Debug, PartialEq, Eq)]
@@ -70,26 +70,10 @@ impl FileField {
     }
 }
 
-impl From<cs_base::Memory> for ConfigError {
+impl From<Memory> for ConfigError {
     ghost from_gives = { λ _ e. e ≡ NoMemory };
 
-    fn from(_: cs_base::Memory) -> ConfigError {
-        ConfigError::Memory
-    }
-}
-
-impl From<AllocError> for ConfigError {
-    ghost from_gives = { λ _ e. e ≡ NoMemory };
-
-    fn from(_: AllocError) -> ConfigError {
-        ConfigError::Memory
-    }
-}
-
-impl<T: Drop> From<AllocFailed<T>> for ConfigError {
-    ghost from_gives = { λ _ e. e ≡ NoMemory };
-
-    fn from(_: AllocFailed<T>) -> ConfigError {
+    fn from(_: Memory) -> ConfigError {
         ConfigError::Memory
     }
 }

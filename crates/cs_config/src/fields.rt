@@ -12,11 +12,18 @@ use cs_base::Sequence;
 use std::alloc::Global;
 use toml::{Table, Value};
 
+/// What a table holds under a key.
+pub fn held_under<'a>(table: &'a Table, key: &str) -> Option<&'a Value>
+    ensures { option_map (λ v. view v.now) result ≡ get_member key.now (table_view table.now) }
+{
+    table.get(key)
+}
+
 fn value_at(table: &Table, field: FileField) -> Option<&Value>
     ensures { option_map (λ v. view v.now) result
         ≡ get_member (name_of field) (table_view table.now) }
 {
-    table.get(field.name())
+    held_under(table, field.name())
 }
 
 /// What the field says.

@@ -18,8 +18,7 @@ mod tests;
 pub use call::{CallFile, read_call};
 pub use document::read_table;
 pub use error::{ConfigError, FileField};
-pub use fields::{each_at, one_at};
-pub use hex_values::read_digest;
+pub use fields::{each_at, held_under, one_at};
 pub use limits::{
     LAST_NUMBER, LEAST_BASE_PORT, MOST_BASE_PORT, MOST_CALLS, MOST_CONTRACTS, MOST_TURNS,
 };

@@ -4,15 +4,14 @@ ghost use Rattle.std.specs.List.{AllByRecursion};
 ghost use Rattle.toml.specs.View.{table_view};
 ghost use Rattle.cs_tx_value.specs.Object.{ObjectFits};
 ghost use Rattle.cs_config.specs.Reading.{Gives};
-ghost use Rattle.cs_config.specs.Site.{site_of, site_draft_of, site_within, small, in_range};
-ghost use Rattle.cs_base.specs.Config.{configured};
+ghost use Rattle.cs_config.specs.Site.{site_of, site_draft_of, site_within, config_within};
 
 use crate::document::read_table;
 use crate::error::{ConfigError, FileField};
 use crate::fields::{each_at, one_at};
 use crate::limits::{LEAST_BASE_PORT, MOST_BASE_PORT, MOST_CONTRACTS};
 use crate::numbers::{few, within};
-use cs_base::{Config, ConfigField, MOST_GENESIS, OutOfRange, Sequence};
+use cs_base::{Config, MOST_DUMMIES, MOST_GENESIS, MOST_LIARS, MOST_SHARDS, Sequence};
 use cs_outer::Text;
 use cs_tx_value::Object;
 use std::alloc::Global;
@@ -75,7 +74,7 @@ fn site_within(draft: SiteDraft) -> Result<Site, ConfigError>
     ensures given { result ≡ site_within draft }
     ensures same { IfOk result (λ site. site.genesis ≡ draft.genesis) }
 {
-    let config = config_of(draft.shards, draft.faulty, draft.dummies)?;
+    let config = config_within(draft.shards, draft.faulty, draft.dummies)?;
     let base_port = within(
         FileField::BasePort,
         draft.base_port,
@@ -92,20 +91,15 @@ fn site_within(draft: SiteDraft) -> Result<Site, ConfigError>
     })
 }
 
-// A number that 16 bits hold; any other stands for the greatest, which is out of every range.
-fn small(number: i64) -> u16
-    ensures { result ≡ small number }
+#[tactic(auto, using(crate::proofs::Configs::configured_within))]
+fn config_within(shards: i64, faulty: i64, dummies: i64) -> Result<Config, ConfigError>
+    ensures { result ≡ config_within shards faulty dummies }
 {
-    u16::try_from(number).unwrap_or(u16::MAX)
-}
-
-fn config_of(shards: i64, faulty: i64, dummies: i64) -> Result<Config, ConfigError>
-    ensures { result ≡ in_range (configured (small shards) (small faulty) (small dummies)) }
-{
-    match Config::new(small(shards), small(faulty), small(dummies)) {
+    let shards = within(FileField::Shards, shards, 1, u64::from(MOST_SHARDS))?;
+    let faulty = within(FileField::Faulty, faulty, 0, u64::from(MOST_LIARS))?;
+    let dummies = within(FileField::Dummies, dummies, 0, u64::from(MOST_DUMMIES))?;
+    match Config::new(shards as u16, faulty as u16, dummies as u16) {
         Ok(config) => Ok(config),
-        Err(OutOfRange(ConfigField::Shards)) => Err(ConfigError::Limit(FileField::Shards)),
-        Err(OutOfRange(ConfigField::F)) => Err(ConfigError::Limit(FileField::Faulty)),
-        Err(OutOfRange(ConfigField::Dummies)) => Err(ConfigError::Limit(FileField::Dummies)),
+        Err(_) => unreachable!(),
     }
 }

@@ -1,1 +1,5 @@
 mod Counting
+mod Names
+mod Listed
+mod Tables
+mod Back

@@ -1,4 +1,5 @@
 pub mod Named
 pub mod Peer
+pub mod Printed
 pub mod Complete
 pub mod File

@@ -1,9 +1,10 @@
 //! Which lists of peers a node or client of a configuration may have.
 ghost use Rattle.std.specs.Prelude.{◌≡◌};
 ghost use Rattle.std.specs.List.{list_all};
-ghost use Rattle.cs_base.specs.NodeId.{is_named, same_name as alike};
+ghost use Rattle.cs_base.specs.NodeId.{is_named, members_below};
 ghost use Rattle.cs_wire.specs.Keys.{stands};
-ghost use Rattle.cs_config_keys.specs.Complete.{is_held, members_held, nodes_held, is_complete};
+ghost use Rattle.cs_wire.specs.Opened.{nodes_below};
+ghost use Rattle.cs_config_keys.specs.Complete.{is_held, is_complete};
 
 use cs_base::{Config, NodeId};
 use cs_tx_value::Digest;
@@ -12,44 +13,38 @@ use cs_tx_value::Digest;
 fn stands(list: &[(NodeId, Digest, Digest)], node: NodeId) -> bool
     ensures { result ≡ stands node list.now }
 {
-    list.iter().any(|peer| same_name(peer.0, node))
+    list.iter().any(|peer| peer.0 == node)
 }
 
 // Whether the node stands in the list, or is me.
 fn is_held(me: NodeId, list: &[(NodeId, Digest, Digest)], node: NodeId) -> bool
     ensures { result ≡ is_held me list.now node }
 {
-    same_name(node, me) || stands(list, node)
-}
-
-fn same_name(a: NodeId, b: NodeId) -> bool
-    ensures { result ≡ alike a b }
-{
-    a.shard == b.shard && a.index == b.index
+    node == me || stands(list, node)
 }
 
 // Whether so many members of a shard are held.
-#[tactic(auto, using(crate::proofs::Counting::members_step))]
 fn members_held(me: NodeId, list: &[(NodeId, Digest, Digest)], shard: u16, count: u16) -> bool
-    ensures { result ≡ members_held me list.now shard count }
+    ensures { result ≡ list_all (is_held me list.now) (members_below shard count) }
 {
-    if count == 0 {
-        return true;
+    for index in 0..count {
+        if !is_held(me, list, NodeId { shard, index }) {
+            return false;
+        }
     }
-    let index = count - 1;
-    is_held(me, list, NodeId { shard, index }) && members_held(me, list, shard, index)
+    true
 }
 
-// Whether the members of so many shards are held.
-#[tactic(auto, using(crate::proofs::Counting::nodes_step))]
+// Whether so many members of so many shards are held.
 fn nodes_held(me: NodeId, list: &[(NodeId, Digest, Digest)], members: u16, shards: u16) -> bool
-    ensures { result ≡ nodes_held me list.now members shards }
+    ensures { result ≡ list_all (is_held me list.now) (nodes_below members shards) }
 {
-    if shards == 0 {
-        return true;
+    for shard in 0..shards {
+        if !members_held(me, list, shard, members) {
+            return false;
+        }
     }
-    let last = shards - 1;
-    members_held(me, list, last, members) && nodes_held(me, list, members, last)
+    true
 }
 
 fn are_named(config: &Config, list: &[(NodeId, Digest, Digest)]) -> bool

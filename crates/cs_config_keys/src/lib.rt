@@ -2,9 +2,12 @@
 #![tactic(auto)]
 
 mod complete;
+mod listing;
 mod peer;
+mod printing;
 mod reading;
 #[cfg(test)]
 mod tests;
 
+pub use printing::print_keys;
 pub use reading::read_keys;

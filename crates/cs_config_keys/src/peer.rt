@@ -1,13 +1,12 @@
 //! Names in a key file, and what is shared with a peer.
-ghost use Rattle.std.specs.Prelude.{◌≡◌, codes, IfOk, option_map};
-ghost use Rattle.toml.specs.Data.{get_member};
+ghost use Rattle.std.specs.Prelude.{◌≡◌, codes, IfOk};
 ghost use Rattle.toml.specs.View.{view, table_view};
 ghost use Rattle.cs_config.specs.Items.{digest_of};
 ghost use Rattle.cs_config_keys.specs.Named.{node_in, held_at};
 ghost use Rattle.cs_config_keys.specs.Peer.{peer_at, name_in, peer_in};
 
 use cs_base::{Memory, NodeId, read_node};
-use cs_config::Readable;
+use cs_config::{Readable, held_under};
 use cs_tx_value::Digest;
 use std::alloc::Global;
 use toml::{Table, Value};
@@ -27,12 +26,6 @@ fn node_in(value: &Value) -> Option<NodeId>
         Some(text) => read_node(text.as_bytes()),
         None => None,
     }
-}
-
-fn held_under<'a>(table: &'a Table, key: &str) -> Option<&'a Value>
-    ensures { option_map (λ v. view v.now) result ≡ get_member key.now (table_view table.now) }
-{
-    table.get(key)
 }
 
 fn name_at(table: &Table) -> Option<NodeId>

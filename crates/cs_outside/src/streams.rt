@@ -1,4 +1,4 @@
-//! Standard input and output, which tell no content, with a count of their faults.
+//! Standard input and output.
 ghost use Rattle.std.specs.Prelude.{◌≡◌, None};
 
 use cs_base::{Got, Put, Sink, Source};

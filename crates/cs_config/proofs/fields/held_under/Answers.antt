@@ -1,5 +1,5 @@
 use Rattle.toml.proofs.Views.{table_get}
-use Rattle.cs_config_keys.proofs.peer.held_under.Goals as goal
+use Rattle.cs_config.proofs.fields.held_under.Goals as goal
 
 pub returns : goal.returns
 returns c = table_get c.get.result c.args.key.now c.args.table.now.entries c.get.ensures.value

@@ -1,0 +1,5 @@
+mod Outers
+mod Trails
+mod Noted
+mod Answered
+mod Turns

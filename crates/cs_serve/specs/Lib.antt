@@ -1,0 +1,5 @@
+pub mod Receiving
+pub mod Offering
+pub mod Telling
+pub mod Outer
+pub mod Serving

@@ -1,0 +1,41 @@
+-- What the link and the sink of a node tell.
+use Rattle.std.specs.Prelude.{◌≡◌, ℕ, List, ◌++◌, map, reverse, Option}
+use Rattle.std.specs.Io.KnownBytes.{Appends}
+use Rattle.cs_base.specs.Answers.{AppendsFront}
+use Rattle.cs_ledger.specs.Ledger.{Bytes}
+use Rattle.cs_node_rules.specs.Site.{Input, Datagram, Tick}
+use Rattle.cs_outer.specs.Told.{Changes}
+use Rattle.cs_outer.specs.Link.{Offers}
+use Rattle.cs_outer.specs.declared.link.MemInput.{MemInput}
+use Rattle.cs_outer.specs.declared.link.MemInput.TheVariants as came
+use Rattle.cs_serve.specs.Offering.{Adds, AddsFront}
+
+pub record Outer : Type 0 where
+  pub left : Option (List MemInput)  -- the inputs that are left
+  pub offered : Option Offers
+  pub missed : ℕ  -- receives in a row that failed
+  pub written : Option Bytes
+
+abbrev pub outer : Option (List MemInput) → Option Offers → ℕ → Option Bytes → Outer
+outer left offered missed written = record { left = left; offered = offered; missed = missed; written = written }
+
+-- what comes by a link, as a node is given it
+abbrev pub given_of : MemInput → Input
+given_of (came.Datagram bytes) = Datagram bytes
+given_of came.Tick = Tick
+
+-- the first inputs that were left are gone, and are these, the newest first
+abbrev pub Takes : List Input → Outer → Outer → Type 0
+Takes inputs old new =
+    Changes (λ before now. (taken : List MemInput)
+    × (before ≡ taken ++ now) × (inputs ≡ reverse (map given_of taken))) old.left new.left
+
+-- these were offered, and these lines written, and no more
+pub record Gives (offers : Offers) (lines : Bytes) (old new : Outer) : Type 0 where
+  pub offered : Adds offers old.offered new.offered
+  pub written : Appends old.written new.written lines
+
+-- a front of each
+pub record GivesFront (offers : Offers) (lines : Bytes) (old new : Outer) : Type 0 where
+  pub offered : AddsFront offers old.offered new.offered
+  pub written : AppendsFront old.written new.written lines

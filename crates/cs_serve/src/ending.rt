@@ -1,0 +1,16 @@
+//! How serving ends.
+
+/// Why a node is served no longer.
+#[derive(Clone, Copy, Debug, PartialEq, Eq)]
+pub enum End {
+    /// It took as many inputs as it was to take.
+    Turns,
+    /// The link has nothing left.
+    Ended,
+    /// Too many receives in a row failed.
+    LinkFault,
+    /// A line could not be written.
+    WriteFault,
+    /// There was not enough memory.
+    Memory,
+}

@@ -1,0 +1,29 @@
+//! Offering to a link what a node sends.
+ghost use Rattle.std.specs.Prelude.{◌≡◌, ◌≤◌, OnOk, OnErr};
+ghost use Rattle.cs_outer.specs.Told.{Stays};
+ghost use Rattle.cs_serve.specs.Offering.{Adds, AddsFront, offers_in};
+
+use cs_base::Memory;
+use cs_outer::{Link, Sent};
+use cs_wire::Out;
+
+/// Offers these datagrams, one after the other. One whose sending fails is lost.
+pub fn offer<L: Link>(link: &mut L, outs: &[Out]) -> Result<(), Memory>
+    ensures all { OnOk result
+        (Adds (offers_in outs.now) (L.offered link.old) (L.offered link.new)) }
+    ensures front { OnErr result
+        (AddsFront (offers_in outs.now) (L.offered link.old) (L.offered link.new)) }
+    ensures left { Stays (L.left link.old) (L.left link.new) }
+    ensures bound { Stays (L.bound link.old) (L.bound link.new) }
+    ensures missed { L.missed link.new ≡ L.missed link.old }
+    ensures faults { L.faults link.old ≤ L.faults link.new }
+{
+    for out in outs {
+        match link.send(out.to, out.bytes.as_slice()) {
+            Sent::Done => {}
+            Sent::Failed => {}
+            Sent::Memory => return Err(Memory),
+        }
+    }
+    Ok(())
+}

@@ -1,0 +1,163 @@
+//! Serving a node.
+ghost use Rattle.std.specs.Prelude.{◌≡◌, ◌≢◌, ◌⊎◌, ◌+◌, ◌≤◌, length, IsSome, IfErr, IsErrOf, OnOk, OnErr};
+ghost use Rattle.cs_base.specs.Outside.{HasCause};
+ghost use Rattle.cs_base.specs.declared.limits.TheConstants.{MOST_DATAGRAM};
+ghost use Rattle.cs_outer.specs.Told.{Stays};
+ghost use Rattle.cs_node_state.specs.Setup.{Setup};
+ghost use Rattle.cs_node_rules.specs.Net.{Net};
+ghost use Rattle.cs_node_rules.specs.Site.{View};
+ghost use Rattle.cs_node_rules.specs.Deployment.{site_of};
+ghost use Rattle.cs_node.specs.Notes.{NotesFit};
+ghost use Rattle.cs_node.specs.Cores.{StandsFor};
+ghost use Rattle.cs_node.specs.Speaking.{input_of};
+ghost use Rattle.cs_serve.specs.Offering.{offers_in};
+ghost use Rattle.cs_serve.specs.Outer.{outer, Gives, GivesFront};
+ghost use Rattle.cs_serve.specs.Telling.{notes_text};
+ghost use Rattle.cs_serve.specs.Serving.{Answers, Serves, served};
+
+use crate::ending::End;
+use crate::offering::offer;
+use crate::receiving::receive;
+use crate::telling::tell;
+use cs_base::{MOST_DATAGRAM, Memory, NodeId, Sink, WriteError};
+use cs_node::{Carried, Core, Input, Made};
+use cs_outer::{Arrived, Link};
+use cs_tx::Judge;
+use std::alloc::Global;
+
+/// Gives a node so many inputs of the link, offers what it sends, and prints the lines of what it
+/// executes. It ends before if the link has nothing left or fails too often in a row, if a line
+/// can't be written, or for want of memory; at that alone the node may be gone.
+pub fn serve<O: Carried, J: Judge + Drop, L: Link, K: Sink>(
+    alloc: Global,
+    core: Core<O, J>,
+    link: &mut L,
+    out: &mut K,
+    turns: u64,
+) -> (End, Option<Core<O, J>>)
+    ensures serves { (setup : Setup) (net : Net) (v : View O.Message) →
+        let site = site_of setup net O.rules O.carrier in
+        let stands = StandsFor O.stands J.is_approved site in
+        stands core v → Serves stands site v turns
+        (outer (L.left link.old) (L.offered link.old) (L.missed link.old) (K.written out.old))
+        (outer (L.left link.new) (L.offered link.new) (L.missed link.new) (K.written out.new))
+        result }
+    ensures kept { result.0 ≢ End.Memory → IsSome result.1 }
+    ensures bound { Stays (L.bound link.old) (L.bound link.new) }
+    ensures link { HasCause (L.faults link.old) (L.faults link.new) (result.0 ≡ End.LinkFault) }
+    ensures sink { HasCause (K.faults out.old) (K.faults out.new) (result.0 ≡ End.WriteFault) }
+{
+    let Ok(mut room) = vec![in alloc; 0u8; MOST_DATAGRAM + 1] else {
+        return (End::Memory, Some(core));
+    };
+    let buf = room.as_mut_slice();
+    let mut core = core;
+    for _turn in 0..turns {
+        match take_turn(alloc, core, link, out, buf) {
+            Ok(next) => core = next,
+            Err(ended) => return ended,
+        }
+    }
+    (End::Turns, Some(core))
+}
+
+// Takes an input and answers it: the node after it, or how the serving ends.
+fn take_turn<O: Carried, J: Judge + Drop, L: Link, K: Sink>(
+    alloc: Global,
+    core: Core<O, J>,
+    link: &mut L,
+    out: &mut K,
+    buf: &mut [u8],
+) -> Result<Core<O, J>, (End, Option<Core<O, J>>)>
+    requires { length buf.old ≡ MOST_DATAGRAM + 1 }
+    ensures serves { (setup : Setup) (net : Net) (v : View O.Message) →
+        let site = site_of setup net O.rules O.carrier in
+        let stands = StandsFor O.stands J.is_approved site in
+        stands core v → Serves stands site v 1
+        (outer (L.left link.old) (L.offered link.old) (L.missed link.old) (K.written out.old))
+        (outer (L.left link.new) (L.offered link.new) (L.missed link.new) (K.written out.new))
+        (served result) }
+    ensures ended { IfErr result (λ ended. ended.0 ≢ End.Turns) }
+    ensures kept { IfErr result (λ ended. ended.0 ≢ End.Memory → IsSome ended.1) }
+    ensures bound { Stays (L.bound link.old) (L.bound link.new) }
+    ensures link { HasCause (L.faults link.old) (L.faults link.new)
+        ((served result).0 ≡ End.LinkFault) }
+    ensures sink { HasCause (K.faults out.old) (K.faults out.new)
+        ((served result).0 ≡ End.WriteFault) }
+{
+    match receive(link, buf) {
+        Arrived::Datagram(count) => {
+            let (bytes, _) = buf.split_at(count);
+            answer(alloc, core, Input::Datagram(bytes), link, out)
+        }
+        Arrived::Tick => answer(alloc, core, Input::Tick, link, out),
+        Arrived::End => Err((End::Ended, Some(core))),
+        Arrived::Failed => Err((End::LinkFault, Some(core))),
+    }
+}
+
+// Gives the node an input, and gives out what it makes of it.
+fn answer<O: Carried, J: Judge + Drop, L: Link, K: Sink>(
+    alloc: Global,
+    core: Core<O, J>,
+    input: Input<'_>,
+    link: &mut L,
+    out: &mut K,
+) -> Result<Core<O, J>, (End, Option<Core<O, J>>)>
+    ensures answers { (setup : Setup) (net : Net) (v : View O.Message) →
+        let site = site_of setup net O.rules O.carrier in
+        let stands = StandsFor O.stands J.is_approved site in
+        stands core v → Answers stands site v (input_of input.entry)
+        (outer (L.left link.old) (L.offered link.old) (L.missed link.old) (K.written out.old))
+        (outer (L.left link.new) (L.offered link.new) (L.missed link.new) (K.written out.new))
+        (served result) }
+    ensures ended { IfErr result (λ ended.
+        (ended.0 ≡ End.WriteFault) ⊎ (ended.0 ≡ End.Memory)) }
+    ensures kept { IfErr result (λ ended. ended.0 ≢ End.Memory → IsSome ended.1) }
+    ensures left { Stays (L.left link.old) (L.left link.new) }
+    ensures bound { Stays (L.bound link.old) (L.bound link.new) }
+    ensures missed { L.missed link.new ≡ L.missed link.old }
+    ensures link { L.faults link.old ≤ L.faults link.new }
+    ensures sink { HasCause (K.faults out.old) (K.faults out.new)
+        ((served result).0 ≡ End.WriteFault) }
+{
+    let me = core.me();
+    let Ok((core, made)) = core.step(alloc, input) else {
+        return Err((End::Memory, None));
+    };
+    match give_out(alloc, me, &made, link, out) {
+        Ok(()) => Ok(core),
+        Err(WriteError::Failed) => Err((End::WriteFault, Some(core))),
+        Err(WriteError::Memory) => Err((End::Memory, Some(core))),
+    }
+}
+
+// Offers what a node sends, and prints its lines.
+fn give_out<L: Link, K: Sink>(
+    alloc: Global,
+    me: NodeId,
+    made: &Made,
+    link: &mut L,
+    out: &mut K,
+) -> Result<(), WriteError>
+    requires { NotesFit made.now.notes }
+    ensures all { OnOk result (Gives
+        (offers_in made.now.outs) (notes_text me made.now.notes)
+        (outer (L.left link.old) (L.offered link.old) (L.missed link.old) (K.written out.old))
+        (outer (L.left link.new) (L.offered link.new) (L.missed link.new) (K.written out.new))) }
+    ensures front { OnErr result (GivesFront
+        (offers_in made.now.outs) (notes_text me made.now.notes)
+        (outer (L.left link.old) (L.offered link.old) (L.missed link.old) (K.written out.old))
+        (outer (L.left link.new) (L.offered link.new) (L.missed link.new) (K.written out.new))) }
+    ensures left { Stays (L.left link.old) (L.left link.new) }
+    ensures bound { Stays (L.bound link.old) (L.bound link.new) }
+    ensures missed { L.missed link.new ≡ L.missed link.old }
+    ensures link { L.faults link.old ≤ L.faults link.new }
+    ensures sink { HasCause (K.faults out.old) (K.faults out.new)
+        (IsErrOf result WriteError.Failed) }
+{
+    let Ok(()) = offer(link, made.outs.as_slice()) else {
+        return Err(WriteError::Memory);
+    };
+    tell(alloc, out, me, made.notes.as_slice())
+}
