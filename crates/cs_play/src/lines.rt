@@ -1,94 +1,14 @@
 //! The lines that are printed.
-ghost use Rattle.std.specs.Prelude.{◌≡◌, ◌++◌, codes, Some, IfOk, string_bytes};
-ghost use Rattle.cs_tx_form.specs.Session.{SessionFits, EntryFits};
-ghost use Rattle.cs_tx.specs.Digest.{digest_of_session};
-ghost use Rattle.cs_base.specs.Codes.{bytes_text};
-ghost use Rattle.cs_node_state.specs.Setup.{session_in};
-ghost use Rattle.cs_node_rules.specs.Lines.{slot_line, effect_text, cause_text, drop_line, at_line, kind_in, sent_line, limit_line, forged_line, view_line};
-ghost use Rattle.cs_table.specs.Effects.{effect_of};
-ghost use Rattle.cs_table.specs.Seen.{vote_of};
-ghost use Rattle.cs_ledger.specs.Table.{Voted};
-ghost use Rattle.cs_node.specs.Notes.{ExecutedFits};
+ghost use Rattle.std.specs.Prelude.{◌≡◌, Some, IfOk, string_bytes};
+ghost use Rattle.cs_node_rules.specs.Lines.{cause_text, drop_line, at_line, kind_in, sent_line, limit_line, forged_line, view_line};
 ghost use Rattle.cs_play.specs.Digests.{history_lines, sent_text};
 
 use crate::parcel::Parcel;
 use cs_base::{Memory, NodeId, print_bytes};
-use cs_node::Effect;
 use cs_node_rules::Cause;
-use cs_tx::{Digest, Entry, Session, Vote, session_digest};
+use cs_tx::Digest;
 use std::alloc::Global;
 use std::fmt;
-
-/// The line of an execution of an entry.
-pub fn slot_line(
-    alloc: Global,
-    me: NodeId,
-    slot: u64,
-    entry: &Entry,
-    effect: Effect,
-) -> Result<String, Memory>
-    requires { ExecutedFits effect entry.now }
-    ensures { IfOk result (λ text. string_bytes text
-        ≡ slot_line me slot (digest_of_session (session_in entry.now)) (effect_of effect)) }
-{
-    let effect = effect_text(alloc, entry, effect)?;
-    Ok(format!(in alloc; "node {me} slot {slot} {effect}\n")?)
-}
-
-// What an execution came to. What is void may have no digest.
-fn effect_text(alloc: Global, entry: &Entry, effect: Effect) -> Result<String, Memory>
-    requires { ExecutedFits effect entry.now }
-    ensures { IfOk result (λ text. string_bytes text
-        ≡ effect_text (digest_of_session (session_in entry.now)) (effect_of effect)) }
-{
-    match effect {
-        Effect::Voted(vote) => vote_text(alloc, entry, vote),
-        Effect::Accepted => {
-            let digest = digest_text(alloc, entry)?;
-            Ok(format!(in alloc; "decide {digest} accepted")?)
-        }
-        Effect::Aborted => {
-            let digest = digest_text(alloc, entry)?;
-            Ok(format!(in alloc; "decide {digest} aborted")?)
-        }
-        Effect::Skipped => {
-            let digest = digest_text(alloc, entry)?;
-            Ok(format!(in alloc; "decide {digest} skipped")?)
-        }
-        Effect::Void => Ok(String::from_str(alloc, "void")?),
-    }
-}
-
-fn vote_text(alloc: Global, entry: &Entry, vote: Vote) -> Result<String, Memory>
-    requires { EntryFits entry.now }
-    ensures { IfOk result (λ text. string_bytes text
-        ≡ effect_text (digest_of_session (session_in entry.now)) (Voted (vote_of vote))) }
-{
-    let digest = digest_text(alloc, entry)?;
-    Ok(match vote {
-        Vote::Commit => format!(in alloc; "prepare {digest} commit")?,
-        Vote::Abort => format!(in alloc; "prepare {digest} abort")?,
-    })
-}
-
-fn digest_text(alloc: Global, entry: &Entry) -> Result<String, Memory>
-    requires { EntryFits entry.now }
-    ensures { IfOk result (λ text.
-        string_bytes text ≡ bytes_text (digest_of_session (session_in entry.now))) }
-{
-    let digest = session_digest(alloc, session_in(entry))?;
-    print_bytes(alloc, digest.as_slice())
-}
-
-fn session_in(entry: &Entry) -> &Session
-    ensures is { result.now ≡ session_in entry.now }
-    ensures fits { EntryFits entry.now → SessionFits result.now }
-{
-    match entry {
-        Entry::Prepare(session) => session,
-        Entry::Decide(_, session) => session,
-    }
-}
 
 /// The word of a cause.
 #[derive(Clone, Copy)]

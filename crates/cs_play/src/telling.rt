@@ -8,10 +8,11 @@ ghost use Rattle.cs_play.specs.Kept.{KeepsHistory};
 ghost use Rattle.cs_play.specs.Told.{note_text, notes_text, note_first, noted_firsts, note_aborted, noted_aborted};
 
 use crate::history::History;
-use crate::lines::{at_line, drop_line, sent_line, slot_line, view_line};
+use crate::lines::{at_line, drop_line, sent_line, view_line};
 use crate::parcel::Parcel;
 use cs_base::{Memory, NodeId};
 use cs_node::Note;
+use cs_node_lines::slot_line;
 use std::alloc::Global;
 
 /// The lines of the notes of a node; those of dropped datagrams and of views in a trace alone. The

@@ -1,6 +1,6 @@
 //! How serving ends.
 
-/// Why a node is served no longer.
+/// How the serving of a node ends.
 #[derive(Clone, Copy, Debug, PartialEq, Eq)]
 pub enum End {
     /// It took as many inputs as it was to take.

@@ -2,7 +2,6 @@
 #![tactic(auto)]
 
 mod ending;
-mod lines;
 mod offering;
 mod receiving;
 mod serving;

@@ -6,9 +6,9 @@ ghost use Rattle.cs_base.specs.Answers.{AppendsFront};
 ghost use Rattle.cs_node.specs.Notes.{NoteFits, NotesFit};
 ghost use Rattle.cs_serve.specs.Telling.{note_text, notes_text};
 
-use crate::lines::slot_line;
 use cs_base::{Memory, NodeId, Sink, WriteError, print};
 use cs_node::Note;
+use cs_node_lines::slot_line;
 use std::alloc::Global;
 
 /// Prints the lines of what a node notes.
