@@ -117,6 +117,8 @@ link_goes_on sight l left is =
     ap (λ (k : Linking). link_run left k) (link_is sight l)
     ∙ ap (λ b. cond b (gives left) (of_right (two.Linked (out-Link l).operator) (out-Link l).place left (meaning sight (out-Link l).right))) is
 
+pub ruleset linking = (link_decided, link_goes_on)
+
 -- nothing was left to do
 pub whole : (m : Run Datum) → m ≡ spend 0 (m >>= gives)
 whole (Gave d n) = ap (λ (k : ℕ). Gave d k) (omega arith)

@@ -253,7 +253,7 @@ fn begin<'a, L: Ledger>(
 }
 
 /// On with an operator behind what stands left of it.
-#[tactic(auto, using(crate::proofs::Turns::link_decided, crate::proofs::Turns::link_goes_on, crate::proofs::WorkLayers::link_left))]
+#[tactic(auto, using(crate::proofs::Turns::linking, crate::proofs::WorkLayers::link_left))]
 fn on_link<'a>(
     frames: &mut Stack<Frame<'a>>,
     link: &'a Link,

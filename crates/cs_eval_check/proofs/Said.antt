@@ -7,9 +7,9 @@ use Rattle.cs_eval_values.specs.Namings.{Named}
 use Rattle.cs_eval.specs.declared.scene.Scene.{Scene}
 use Rattle.cs_eval_check.specs.declared.task.Task.{Task}
 use Rattle.cs_eval_check.specs.declared.task.Task.TheVariants as task
-use Rattle.cs_eval_check.specs.Acting.{all_run, block_run, statement_run}
+use Rattle.cs_eval_law.specs.Acting.{all_run, block_run, statement_run}
 use Rattle.cs_eval_check.specs.Tasks.{left_to}
-use Rattle.cs_eval_check.specs.Checks.{yes_of}
+use Rattle.cs_eval_law.specs.Checks.{yes_of}
 use Rattle.cs_eval_check.proofs.Actions.{block_is}
 
 -- what was given doesn't count

@@ -17,11 +17,11 @@ use Rattle.cs_eval_values.specs.declared.stop.Cause.TheVariants as cause
 use Rattle.cs_eval_values.specs.declared.view.View.{View}
 use Rattle.cs_eval_values.specs.Answers.{Stops}
 use Rattle.cs_eval_values.specs.Runs.{Run, Gave, Answered, Trapped, gives, answers, spend, ◌>>=◌, through, or_trap}
-use Rattle.cs_tx_value.specs.declared.object.Object.{Object}
 use Rattle.cs_tx_value.specs.declared.value.Value.{Value, out-Value}
 use Rattle.cs_tx_value.specs.declared.value.Value.TheOpen.{Value-F}
-use Rattle.cs_eval_values.specs.Datums.{Datum, Plain, One, Many, plain_item, object_item, item_in, values_in, plain_each, items_of, item_of, bool_of}
+use Rattle.cs_eval_values.specs.Datums.{Datum, Plain, One, Many, item_in, values_in, plain_each, items_of, item_of, bool_of}
 use Rattle.cs_eval_values.specs.Operators.{int, given_bool}
+use Rattle.cs_eval_values.proofs.Items.{plain_at, object_at}
 use Rattle.cs_eval_values.specs.Namings.{Named, named, with_named, with_datum}
 use Rattle.cs_eval.specs.declared.scene.Scene.{Scene}
 use Rattle.cs_eval.proofs.RunLaws.{spend_none, spend_spend, spend_bind, bind_bind, gives_bind, under}
@@ -32,7 +32,7 @@ use Rattle.cs_eval_check.specs.declared.task.Loop.{Loop}
 use Rattle.cs_eval_check.specs.declared.task.Task.{Task}
 use Rattle.cs_eval_check.specs.declared.task.Task.TheVariants as task
 use Rattle.cs_eval_check.specs.declared.running.Running.{Running}
-use Rattle.cs_eval_check.specs.Acting.{numbers, value_run, value_kind, let_run, set_run, condition, if_run, answer_run, turn_run, turns_run, for_in_run, for_to_run, one_run, all_run, block_run, statement_run, action_run}
+use Rattle.cs_eval_law.specs.Acting.{numbers, value_run, value_kind, let_run, set_run, condition, if_run, answer_run, turn_run, turns_run, for_in_run, for_to_run, one_run, all_run, block_run, statement_run, action_run}
 use Rattle.cs_eval_check.specs.Tasks.{left_of, left_in, first_of, loop_run, finished, other_run, choice_run, left_to, then_left, Acts}
 use Rattle.cs_eval.specs.Work.{all_work}
 use Rattle.cs_eval_check.specs.TaskWork.{turns_work, most_turns, loop_work, tasks_work, work_of_block, work_of_statement, work_of_action}
@@ -279,16 +279,6 @@ past_left [] zero (suc most) le = refl
 past_left [] (suc at) (suc most) le = refl
 past_left (x ∷ xs) zero (suc most) le = absurd (omega arith)
 past_left (x ∷ xs) (suc at) (suc most) le = past_left xs at most (omega arith)
-
-plain_at : (vs : List Value) (at : ℕ) → slice_get (map (λ v. Plain v) vs) at ≡ plain_item (slice_get vs at)
-plain_at [] at = refl
-plain_at (v ∷ vs) zero = refl
-plain_at (v ∷ vs) (suc at) = plain_at vs at
-
-object_at : (os : List Object) (at : ℕ) → slice_get (map (λ o. One o) os) at ≡ object_item (slice_get os at)
-object_at [] at = refl
-object_at (o ∷ os) zero = refl
-object_at (o ∷ os) (suc at) = object_at os at
 
 layer_item : (v : Value-F Value) (at : ℕ) → at < MOST_ITEMS → first_of (left_of at (plain_each (values_in v))) ≡ item_in v at
 layer_item (Value-F.Int n) at lt = refl

@@ -1,4 +1,2 @@
-pub mod Acting
-pub mod Checks
 pub mod Tasks
 pub mod TaskWork

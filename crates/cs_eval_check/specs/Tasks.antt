@@ -19,7 +19,7 @@ use Rattle.cs_eval_check.specs.declared.task.Loop.{Loop}
 use Rattle.cs_eval_check.specs.declared.task.Task.{Task}
 use Rattle.cs_eval_check.specs.declared.task.Task.TheVariants as task
 use Rattle.cs_eval_check.specs.declared.running.Running.{Running}
-use Rattle.cs_eval_check.specs.Acting.{numbers, if_run, turns_run, all_run, block_run, statement_run}
+use Rattle.cs_eval_law.specs.Acting.{numbers, if_run, turns_run, all_run, block_run, statement_run}
 
 -- ---- loops
 

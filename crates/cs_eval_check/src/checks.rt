@@ -1,8 +1,8 @@
 //! Checks.
 ghost use Rattle.std.specs.Prelude.{◌≡◌, ◌+◌, ◌≤◌, OnOk, IfOk};
 ghost use Rattle.cs_eval_values.specs.Runs.{spent};
-ghost use Rattle.cs_eval_check.specs.Acting.{block_run};
-ghost use Rattle.cs_eval_check.specs.Checks.{yes_of, says, spends, check_cost, check_run, IsKinded};
+ghost use Rattle.cs_eval_law.specs.Acting.{block_run};
+ghost use Rattle.cs_eval_law.specs.Checks.{yes_of, says, spends, check_cost, check_run, IsKinded};
 
 use crate::running::Running;
 use crate::statements::run;
@@ -75,7 +75,7 @@ fn check_in<'a, L: Ledger>(
 }
 
 /// `check` of a view that is lent.
-#[tactic(auto, using(crate::proofs::Bounds::spends_within, crate::proofs::Kept::check_kinded))]
+#[tactic(auto, using(cs_eval_law::proofs::Kept::lawful))]
 pub fn check_lent<'a, L: Ledger>(
     alloc: Global,
     checked: &'a Checked,
@@ -96,7 +96,7 @@ pub fn check_lent<'a, L: Ledger>(
 
 /// Whether the check of a method says yes to a view. One that isn't there, or that the view doesn't
 /// fit, says no and spends nothing; one that traps or ends without an answer says no.
-#[tactic(auto, using(crate::proofs::Bounds::spends_within, crate::proofs::Kept::check_kinded))]
+#[tactic(auto, using(cs_eval_law::proofs::Kept::lawful))]
 pub fn check<'a, L: Ledger>(
     alloc: Global,
     checked: &'a Checked,

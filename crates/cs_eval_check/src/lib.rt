@@ -9,3 +9,5 @@ mod task;
 mod tests;
 
 pub use checks::{check, check_lent};
+pub use statements::item;
+pub use task::{Loop, Source, Task};

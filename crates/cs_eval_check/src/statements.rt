@@ -6,7 +6,7 @@ ghost use Rattle.cs_eval_values.specs.Answers.{Stops};
 ghost use Rattle.cs_eval.specs.declared.scene.Scene.{Scene as Seeing};
 ghost use Rattle.cs_eval.specs.Work.{all_work};
 ghost use Rattle.cs_eval_check.specs.declared.task.Task.TheVariants as task_is;
-ghost use Rattle.cs_eval_check.specs.Acting.{let_run, set_run, condition as condition_run, for_in_run, for_to_run, answer_run, block_run, all_run, statement_run, action_run};
+ghost use Rattle.cs_eval_law.specs.Acting.{let_run, set_run, condition as condition_run, for_in_run, for_to_run, answer_run, block_run, all_run, statement_run, action_run};
 ghost use Rattle.cs_eval_check.specs.Tasks.{left_in, first_of, choice_run, left_to, then_left, Decides, Acts, Ran};
 ghost use Rattle.cs_eval_check.specs.TaskWork.{most_turns, turns_work, work_of_block, work_of_other, work_of_statement, work_of_action, task_work, loop_work, tasks_work};
 
@@ -22,7 +22,11 @@ use std::sync::ledger::Ledger;
 
 /// What a loop goes over at a place, if there is more.
 #[tactic(auto, using(crate::proofs::Turns::items_left))]
-fn item<'a>(scene: &Scene<'_, 'a>, source: &Source<'a>, at: u16) -> Result<Option<Held<'a>>, Memory>
+pub fn item<'a>(
+    scene: &Scene<'_, 'a>,
+    source: &Source<'a>,
+    at: u16,
+) -> Result<Option<Held<'a>>, Memory>
     ensures found { IfOk result (λ found. found ≡ first_of (left_in source.now at)) }
     ensures more { IfOk result (λ found. IfSome found (λ _. at < most_turns source.now)) }
     ensures few { IfOk result (λ found. IfSome found (λ _. at < 65535)) }

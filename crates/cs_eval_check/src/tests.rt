@@ -4,16 +4,13 @@ use crate::check;
 use cs_base::{Memory, Sequence};
 use cs_eval_values::{Steps, View};
 use cs_lang::parse;
-use cs_tx_value::{Digest, Name, Object, Value};
+use cs_tx_value::Digest;
 use cs_types::{Checked, accept};
 use std::alloc::Global;
 use std::marker::Brand;
 use std::sync::ledger::{Blank, Ledger};
-use std::test::Fail;
 
 const THIS: Digest = [7; 32];
-
-const OTHER: Digest = [8; 32];
 
 fn accepted(alloc: Global, text: &[u8]) -> Result<Checked, Memory> {
     let contract = parse(alloc, text).map_err(|_| Memory)?;
@@ -89,61 +86,4 @@ fn checks_say_no(rt: HostRuntime) {
     for statements in NO.as_slice() {
         assert_eq!(rt; says(rt.alloc(), *statements), Ok(false));
     }
-}
-
-/// A method that pays an amount out of a coin.
-const PAY: &[u8] = b"type Coin(value: int, owner: bytes);
-method m consumes c: Coin takes amount: int creates a: Coin, b: Coin {
-  procedure { make a = Coin(amount, c.owner); make b = Coin(c.value - amount, c.owner); }
-  check { answer a.value == amount and a.value >= 0 and b.value >= 0
-          and a.value + b.value == c.value and a.owner == c.owner and b.owner == c.owner; }
-}";
-
-fn coin(alloc: Global, contract: Digest, value: i64) -> Result<Object, Memory> {
-    let mut values = Sequence::new(alloc);
-    values.push(Value::Int(value))?;
-    let owner = Vec::from_slice(alloc, b"me")?;
-    values.push(Value::Bytes(Sequence::from_vec(owner)))?;
-    Ok(Object {
-        contract,
-        type_name: Name::from_vec(Vec::from_slice(alloc, b"Coin")?),
-        values,
-    })
-}
-
-/// What the check says where a coin of 5 pays an amount, and these are made.
-fn pays(alloc: Global, amount: i64, first: Object, second: Object) -> Result<bool, Memory> {
-    let mut view = empty_view(alloc);
-    view.inputs.push(coin(alloc, THIS, 5)?)?;
-    view.params.push(Value::Int(amount))?;
-    view.outputs.push(first)?;
-    view.outputs.push(second)?;
-    let checked = accepted(alloc, PAY)?;
-    counted::<Brand>(alloc, &checked, &view, Blank::new(1))
-}
-
-#[test]
-fn a_coin_pays_an_amount(rt: HostRuntime) -> Result<(), Fail> {
-    let alloc = rt.alloc();
-    assert_eq!(rt;
-        pays(alloc, 2, coin(alloc, THIS, 2)?, coin(alloc, THIS, 3)?),
-        Ok(true)
-    );
-    assert_eq!(rt;
-        pays(alloc, 3, coin(alloc, THIS, 2)?, coin(alloc, THIS, 3)?),
-        Ok(false)
-    );
-    assert_eq!(rt;
-        pays(alloc, 2, coin(alloc, THIS, 2)?, coin(alloc, THIS, 4)?),
-        Ok(false)
-    );
-    assert_eq!(rt;
-        pays(alloc, 6, coin(alloc, THIS, 6)?, coin(alloc, THIS, -1)?),
-        Ok(false)
-    );
-    assert_eq!(rt;
-        pays(alloc, 2, coin(alloc, OTHER, 2)?, coin(alloc, THIS, 3)?),
-        Ok(false)
-    );
-    Ok(())
 }

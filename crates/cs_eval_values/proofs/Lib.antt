@@ -2,3 +2,4 @@ pub mod Ranges
 pub mod Naming
 pub mod Uneven
 pub mod Going
+pub mod Items

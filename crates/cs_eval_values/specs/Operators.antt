@@ -1,5 +1,5 @@
 -- What operators make of what is held.
-use Rattle.std.specs.Prelude.{ℕ, ◌+◌, ℤ, pos, negsuc, Bool, true, false, not, ◌==◌, nat_le, List, [], ◌∷◌, ◌++◌, length, Option, None, Some, if◌then◌else◌, option_and_then}
+use Rattle.std.specs.Prelude.{ℕ, ◌+◌, ℤ, pos, negsuc, Bool, true, false, not, ◌==◌, nat_le, List, [], ◌∷◌, ◌++◌, length, slice_get, Option, None, Some, if◌then◌else◌, option_and_then}
 use Rattle.std.specs.Str.{bytes_eq}
 use Rattle.cs_base.specs.Options.{or_else}
 use Rattle.cs_lang_token.specs.declared.limits.TheConstants.{MOST_BYTES, MOST_ITEMS}
@@ -20,7 +20,7 @@ use Rattle.cs_eval_values.specs.declared.operators.Binary.{Binary}
 use Rattle.cs_eval_values.specs.declared.operators.Binary.TheVariants as binary_op
 use Rattle.cs_eval_values.specs.Runs.{Run, gives, traps, or_trap, ◌>>=◌}
 use Rattle.cs_eval_values.specs.Ints.{ranged, computed, negated, compared_ints}
-use Rattle.cs_eval_values.specs.Datums.{Datum, Plain, int_of, bool_of, bytes_of, length_of, item_of, plain_of}
+use Rattle.cs_eval_values.specs.Datums.{Datum, Plain, int_of, bool_of, bytes_of, length_of, plain_of, items_of}
 
 abbrev pub int : ℤ → Datum
 int n = Plain (value.Int n)
@@ -44,6 +44,9 @@ given_bytes place d = or_trap cause.Misfit place (bytes_of d)
 
 abbrev pub given_value : ℕ → Datum → Run Value
 given_value place d = or_trap cause.Misfit place (plain_of d)
+
+abbrev pub given_items : ℕ → Datum → Run (List Datum)
+given_items place d = or_trap cause.Misfit place (items_of d)
 
 -- ---- lists
 
@@ -139,14 +142,15 @@ linked operator.Or place left right = right_bool place left right
 linked operator.And place left right = right_bool place left right
 linked op place left right = arithmetic op place left right
 
--- the place of an item, which isn't negative
-abbrev pub item_at : Datum → ℤ → Option Datum
-item_at d (pos n) = item_of d n
-item_at d (negsuc n) = None
+-- a place isn't negative, and is below the length
+abbrev pub item_at : List Datum → ℤ → Option Datum
+item_at items (pos n) = slice_get items n
+item_at items (negsuc n) = None
 
--- the item at a place, which is below the length
+-- the item at a place of a list or objects
 abbrev pub indexed : ℕ → Datum → Datum → Run Datum
-indexed place d at = given_int place at >>= λ z. or_trap cause.Place place (item_at d z)
+indexed place d at =
+    given_items place d >>= λ items. given_int place at >>= λ z. or_trap cause.Place place (item_at items z)
 
 abbrev pub binary : Binary → ℕ → Datum → Datum → Run Datum
 binary binary_op.Concat place a b = joined place a b

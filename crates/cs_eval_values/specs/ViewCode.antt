@@ -14,11 +14,18 @@ Front = List ℕ × (List Object × (List Object × List Value))
 abbrev Back : Type 0
 Back = List Object × (List Value × List Dep)
 
+abbrev Trace : Type 0
+Trace = List ℕ × (List ℕ × List Value)
+
+abbrev trace_code : Coded Trace
+trace_code = coded× (coded_list coded_ℕ) (coded× (coded_list coded_ℕ) (coded_list values.the_row.coded))
+
 abbrev dep_code : Coded Dep
 dep_code =
-    code_by (List ℕ × (List ℕ × List Value))
-    (coded× (coded_list coded_ℕ) (coded× (coded_list coded_ℕ) (coded_list values.the_row.coded)))
-    (λ d. (d.contract, (d.method, d.returns))) (λ p. record { contract = p.0; method = p.1.0; returns = p.1.1 }) (λ _. refl)
+    code_by Trace trace_code
+    (λ d. (d.contract, (d.method, d.returns)))
+    (λ p. record { contract = p.0; method = p.1.0; returns = p.1.1 })
+    (λ _. refl)
 
 abbrev front_code : Coded Front
 front_code =

@@ -54,7 +54,8 @@ fn is_of(base: Base, lists: u8, value: &Value) -> bool
     }
 }
 
-fn has_kind(kind: Option<Kind>, value: &Value) -> bool
+/// Whether it is a value of the kind.
+pub fn has_kind(kind: Option<Kind>, value: &Value) -> bool
     ensures { result ≡ has_kind kind value.now }
 {
     match kind {
@@ -156,7 +157,7 @@ fn fill_one<'a>(
 }
 
 /// Fills a slot, and answers how many objects it takes.
-fn fill_slot<'a>(
+pub fn fill_slot<'a>(
     contract: &Digest,
     types: &[TypeDef],
     slot: &'a Slot,

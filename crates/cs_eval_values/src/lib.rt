@@ -19,7 +19,7 @@ mod values;
 mod view;
 
 pub use fields::{field_of, is_called, returned_int};
-pub use fitting::fill;
+pub use fitting::{fill, fill_slot, has_kind};
 pub use held::Held;
 pub use limits::MOST_VALUE;
 pub use names::Names;

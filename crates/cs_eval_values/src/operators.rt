@@ -297,9 +297,13 @@ fn link<'a>(
 }
 
 /// The item at a place.
+#[tactic(auto, using(crate::proofs::Items::item_among))]
 fn index<'a>(alloc: Global, held: &Held<'a>, at: &Held<'a>, place: usize) -> Result<Held<'a>, Stop>
     ensures { Ends result (indexed place held.now at.now) }
 {
+    if !held.has_items() {
+        return Err(Stop::Trap(Cause::Misfit, place));
+    }
     let at = given_int(at, place)?;
     if at < 0 {
         return Err(Stop::Trap(Cause::Place, place));

@@ -1,7 +1,7 @@
 use Rattle.std.proofs.Common.{◌≡◌, ◌∙◌, subst}
 use Rattle.std.specs.Prelude.{IfOk}
 use Rattle.cs_lang.specs.declared.tree.ContractTree.{ContractTree}
-use Rattle.cs_eval_check.specs.Checks.{says}
+use Rattle.cs_eval_law.specs.Checks.{says}
 use Rattle.cs_eval_check.proofs.checks.check_lent.Goals as goal
 
 pub returns-clause-says : goal.returns-clause-says

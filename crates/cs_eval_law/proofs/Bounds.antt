@@ -15,11 +15,11 @@ use Rattle.cs_eval_values.specs.declared.view.View.{View}
 use Rattle.cs_eval_values.specs.Runs.{spent}
 use Rattle.cs_eval_values.specs.Namings.{Named}
 use Rattle.cs_eval_values.specs.Filling.{filled}
-use Rattle.cs_eval_check.specs.Acting.{block_run}
-use Rattle.cs_eval_check.specs.Checks.{method_at, fitted_run, method_run, spends, check_cost_in, check_cost_at, check_cost}
-use Rattle.cs_eval_check.proofs.ExprFits.{told_bind}
-use Rattle.cs_eval_check.proofs.MethodFits.{filled_alike, CheckTold, accepted_check}
-use Rattle.cs_eval_check.proofs.BlockFits.{block_costs}
+use Rattle.cs_eval_law.specs.Acting.{block_run}
+use Rattle.cs_eval_law.specs.Checks.{method_at, fitted_run, method_run, spends, check_cost_in, check_cost_at, check_cost}
+use Rattle.cs_eval_law.proofs.ExprFits.{told_bind}
+use Rattle.cs_eval_law.proofs.MethodFits.{filled_alike, CheckTold, accepted_check}
+use Rattle.cs_eval_law.proofs.BlockFits.{block_costs}
 
 -- a check within its cost, whatever its names stand for
 told_within : (contract : ContractTree) (m : Method) (view : View) (names : List Named) (c : ℕ) → c ≤ MOST_COST → CheckTold contract m c → filled contract m view ≡ Some names

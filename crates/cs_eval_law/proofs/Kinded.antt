@@ -34,13 +34,13 @@ use Rattle.cs_eval_values.specs.declared.stop.Cause.TheVariants as cause
 use Rattle.cs_eval_values.specs.declared.operators.Unary.TheVariants as one
 use Rattle.cs_eval_values.specs.declared.operators.Binary.TheVariants as two
 use Rattle.cs_eval_values.specs.Runs.{Run, gives, traps, ◌>>=◌, or_trap}
-use Rattle.cs_eval_values.specs.Datums.{Datum, Plain, One, Many, int_in, bool_in, bytes_in, length_in, values_in, plain_item, object_item, item_in, plain_each, int_of, bool_of, bytes_of, length_of, plain_of, item_of, items_of}
+use Rattle.cs_eval_values.specs.Datums.{Datum, Plain, One, Many, int_in, bool_in, bytes_in, length_in, values_in, plain_each, int_of, bool_of, bytes_of, length_of, plain_of, items_of}
 use Rattle.cs_eval_values.specs.Ints.{in_range, ranged, divided, remainder, computed, negated, compared_ints}
 use Rattle.cs_eval_values.specs.Operators.{int, truth, text, given_int, given_bool, given_bytes, given_value, list_of, with_item, number, unary, joined_bytes, joined_lists, joined_layers, joined, same_bool, equality, both, same_in, compared_in, compared, right_bool, arithmetic, linked, item_at, indexed, binary}
 use Rattle.cs_eval_values.specs.Filling.{is_of_base, items_pass, is_of, values_fit}
 use Rattle.cs_eval_values.specs.Views.{type_named}
-use Rattle.cs_eval_check.proofs.Within.{some_is}
-use Rattle.cs_eval_check.proofs.Sound.{Sound, sound_spend, sound_bind, sound_there, sound_other, sound_cond}
+use Rattle.cs_eval_law.proofs.Within.{some_is}
+use Rattle.cs_eval_law.proofs.Sound.{Sound, sound_spend, sound_bind, sound_there, sound_other, sound_cond}
 
 -- ---- objects and values of kinds
 
@@ -379,59 +379,6 @@ module _ (types : List TypeDef) where
   linked_sound rank.Product operator.Plus place a b of h g = absurd cc
   linked_sound rank.Product operator.Minus place a b of h g = absurd cc
 
-  -- ---- items
-
-  pub all_at : (p : Value → Bool) (vs : List Value) (n : ℕ) (v : Value) → list_all p vs ≡ true → slice_get vs n ≡ Some v → p v ≡ true
-  all_at p [] n v all at = absurd cc
-  all_at p (w ∷ vs) zero v all at = let P : Value → Type 0 = λ x. p x ≡ true in subst P (some_is w v at) (true_and (p w) (list_all p vs) all).0
-  all_at p (w ∷ vs) (suc n) v all at = all_at p vs n v (true_and (p w) (list_all p vs) all).1 at
-
-  object_at : (n : ℕ) (os : List Object) (i : ℕ) (o : Object) → AreObjects types n os → slice_get os i ≡ Some o → IsObject types n o
-  object_at n [] i o all at = absurd cc
-  object_at n (p ∷ os) zero o all at = let P : Object → Type 0 = λ x. IsObject types n x in subst P (some_is p o at) all.0
-  object_at n (p ∷ os) (suc i) o all at = object_at n os i o all.1 at
-
-  if_some : {A : Type 0} (b : Bool) (o : Option A) (x : A) → cond b o None ≡ Some x → o ≡ Some x
-  if_some true o x is = is
-  if_some false o x is = absurd cc
-
-  value_item : (b : Base) (lists : ℕ) (o : Option Value) (d : Datum) → ((v : Value) → o ≡ Some v → is_of b lists v ≡ true) → plain_item o ≡ Some d → HasKind types (kind.Value b lists) d
-  value_item b lists None d h is = absurd cc
-  value_item b lists (Some v) d h is = let P : Datum → Type 0 = λ x. HasKind types (kind.Value b lists) x in subst P (some_is (Plain v) d is) (h v refl)
-
-  one_item : (n : ℕ) (o : Option Object) (d : Datum) → ((x : Object) → o ≡ Some x → IsObject types n x) → object_item o ≡ Some d → HasKind types (kind.Object n) d
-  one_item n None d h is = absurd cc
-  one_item n (Some x) d h is = let P : Datum → Type 0 = λ y. HasKind types (kind.Object n) y in subst P (some_is (One x) d is) (h x refl)
-
-  less_one : (b : Base) (lists : ℕ) (d : Datum) → HasKind types (kind.Value b lists) d → HasKind types (kind.Value b (suc lists - 1)) d
-  less_one b lists d h = let e : lists ≡ suc lists - 1 = omega arith in let P : ℕ → Type 0 = λ n. HasKind types (kind.Value b n) d in subst P e h
-
-  pub item_has : (k i : Kind) (d x : Datum) (n : ℕ) → item_kind k ≡ Some i → HasKind types k d → item_of d n ≡ Some x → HasKind types i x
-  item_has (kind.Value b zero) i d x n is h at = absurd cc
-  item_has (kind.Value b (suc lists)) i (Plain v) x n is h at =
-      let all = list_there b lists (out-Value v) h in
-      let P : Kind → Type 0 = λ j. HasKind types j x in
-      subst P (some_is (kind.Value b (suc lists - 1)) i (if_some (nat_lt 0 (suc lists)) (Some (kind.Value b (suc lists - 1))) i is))
-      (less_one b lists x (value_item b lists (slice_get all.0 n) x (λ w there. all_at (is_of b lists) all.0 n w all.2 there) (sym (ap (λ (y : Value-F Value). item_in y n) all.1) ∙ at)))
-  item_has (kind.Value b (suc lists)) i (One o) x n is h at = absurd h
-  item_has (kind.Value b (suc lists)) i (Many os) x n is h at = absurd h
-  item_has (kind.Object m) i d x n is h at = absurd cc
-  item_has (kind.Objects m) i (Plain v) x n is h at = absurd h
-  item_has (kind.Objects m) i (One o) x n is h at = absurd h
-  item_has (kind.Objects m) i (Many os) x n is h at =
-      let P : Kind → Type 0 = λ j. HasKind types j x in
-      subst P (some_is (kind.Object m) i is) (one_item m (slice_get os n) x (λ o there. object_at m os n o h there) at)
-
-  pub indexed_sound : (k i : Kind) (place : ℕ) (d at : Datum) → item_kind k ≡ Some i → HasKind types k d → HasKind types int_kind at → Sound (HasKind types i) (binary two.Index place d at)
-  indexed_sound k i place d at is h g =
-      let z = int_given at g in
-      sound_there (HasKind types i) cause.Misfit place (int_of at) z.0 (λ n. or_trap cause.Place place (item_at d n)) z.1
-      (sound_other (HasKind types i) cause.Place place (item_at d z.0) (λ same. cc) (λ x there. at_int z.0 x there))
-    where
-      at_int : (z : ℤ) (x : Datum) → item_at d z ≡ Some x → HasKind types i x
-      at_int (pos n) x there = item_has k i d x n is h there
-      at_int (negsuc n) x there = absurd cc
-
   -- ---- lists that are made
 
   pub with_item_sound : (b : Base) (lists place : ℕ) (vs : List Value) (d : Datum) → list_all (is_of b lists) vs ≡ true → HasKind types (kind.Value b lists) d
@@ -452,11 +399,16 @@ module _ (types : List TypeDef) where
   empty_has b zero is = absurd cc
   empty_has b (suc lists) is = list_has b lists [] refl
 
-  -- ---- what loops go over
+  -- ---- items
 
   abbrev pub AllHave : Kind → List Datum → Type 0
   AllHave k [] = Unit {0}
   AllHave k (d ∷ ds) = HasKind types k d × AllHave k ds
+
+  have_at : (k : Kind) (ds : List Datum) (n : ℕ) (x : Datum) → AllHave k ds → slice_get ds n ≡ Some x → HasKind types k x
+  have_at k [] n x all at = absurd cc
+  have_at k (d ∷ ds) zero x all at = let P : Datum → Type 0 = λ y. HasKind types k y in subst P (some_is d x at) all.0
+  have_at k (d ∷ ds) (suc n) x all at = have_at k ds n x all.1 at
 
   plain_have : (b : Base) (lists : ℕ) (vs : List Value) → list_all (is_of b lists) vs ≡ true → AllHave (kind.Value b lists) (map (λ v. Plain v) vs)
   plain_have b lists [] all = tt
@@ -470,6 +422,10 @@ module _ (types : List TypeDef) where
   take_have k zero ds all = tt
   take_have k (suc n) [] all = tt
   take_have k (suc n) (d ∷ ds) all = (all.0, take_have k n ds all.1)
+
+  if_some : {A : Type 0} (b : Bool) (o : Option A) (x : A) → cond b o None ≡ Some x → o ≡ Some x
+  if_some true o x is = is
+  if_some false o x is = absurd cc
 
   pub items_there : (k i : Kind) (d : Datum) → item_kind k ≡ Some i → HasKind types k d → (ds : List Datum) × (items_of d ≡ Some ds) × AllHave i ds
   items_there (kind.Value b zero) i d is h = absurd cc
@@ -490,3 +446,15 @@ module _ (types : List TypeDef) where
   items_there (kind.Objects m) i (Many os) is h =
       let P : Kind → Type 0 = λ j. AllHave j (map (λ o. One o) os) in
       (map (λ o. One o) os, refl, subst P (some_is (kind.Object m) i is) (objects_have m os h))
+
+  at_place : (k : Kind) (ds : List Datum) (z : ℤ) (x : Datum) → AllHave k ds → item_at ds z ≡ Some x → HasKind types k x
+  at_place k ds (pos n) x all at = have_at k ds n x all at
+  at_place k ds (negsuc n) x all at = absurd cc
+
+  pub indexed_sound : (k i : Kind) (place : ℕ) (d at : Datum) → item_kind k ≡ Some i → HasKind types k d → HasKind types int_kind at → Sound (HasKind types i) (binary two.Index place d at)
+  indexed_sound k i place d at is h g =
+      let items = items_there k i d is h in
+      let z = int_given at g in
+      sound_there (HasKind types i) cause.Misfit place (items_of d) items.0 (λ ds. given_int place at >>= λ n. or_trap cause.Place place (item_at ds n)) items.1
+      (sound_there (HasKind types i) cause.Misfit place (int_of at) z.0 (λ n. or_trap cause.Place place (item_at items.0 n)) z.1
+      (sound_other (HasKind types i) cause.Place place (item_at items.0 z.0) (λ same. cc) (λ x there. at_place i items.0 z.0 x items.2 there)))

@@ -30,9 +30,9 @@ use Rattle.cs_eval_values.specs.declared.view.View.{View}
 use Rattle.cs_eval_values.specs.Datums.{Datum, Plain, One, Many}
 use Rattle.cs_eval_values.specs.Namings.{Named, with_named}
 use Rattle.cs_eval_values.specs.Filling.{has_kind, object_fits, Filled, many_filled, one_filled, slot_filled, each_filled, all_taken, slots_filled, field_filled, fields_filled, filled}
-use Rattle.cs_eval_check.proofs.Within.{ok_is, some_is}
-use Rattle.cs_eval_check.proofs.ExprFits.{told_bind}
-use Rattle.cs_eval_check.proofs.Alike.{Alike, alike_more}
+use Rattle.cs_eval_law.proofs.Within.{ok_is, some_is}
+use Rattle.cs_eval_law.proofs.ExprFits.{told_bind}
+use Rattle.cs_eval_law.proofs.Alike.{Alike, alike_more}
 
 pub some_bind : {A B : Type 0} (o : Option A) (f : A → Option B) (b : B) → (o >? f) ≡ Some b → (a : A) × (o ≡ Some a) × (f a ≡ Some b)
 some_bind (Some a) f b is = (a, refl, is)

@@ -40,10 +40,10 @@ use Rattle.cs_eval_values.specs.Views.{is_field, place_of, value_at, type_named,
 use Rattle.cs_eval_values.specs.Namings.{Named, is_named, find_named, datum_in, kind_in, datum_named, kind_named}
 use Rattle.cs_eval.specs.Kinds.{field_of_kind as field_kind_given, list_kind, comparing}
 use Rattle.cs_eval.specs.Meaning.{Meant, Linking, Stepping, run_of, meant, kind_of_meant, named_run, of_one, of_right, of_two, item_run, items_run, link_run, links_run, chain_run, steps_run, path_run, steps_kind}
-use Rattle.cs_eval_check.proofs.Within.{ok_is, some_is}
-use Rattle.cs_eval_check.proofs.ExprFits.{told_bind}
-use Rattle.cs_eval_check.proofs.Sound.{Sound, sound_spend, sound_bind, sound_there, sound_other, sound_cond}
-use Rattle.cs_eval_check.proofs.Kinded.{IsObject, HasKind, same_kind_is, int_given, int_has, bool_has, bytes_has, number_sound, len_sound, hash_sound, not_sound, negative_sound, concat_sound, compared_sound, linked_sound, indexed_sound, with_item_sound, listed_sound, empty_has}
+use Rattle.cs_eval_law.proofs.Within.{ok_is, some_is}
+use Rattle.cs_eval_law.proofs.ExprFits.{told_bind}
+use Rattle.cs_eval_law.proofs.Sound.{Sound, sound_spend, sound_bind, sound_there, sound_other, sound_cond}
+use Rattle.cs_eval_law.proofs.Kinded.{IsObject, HasKind, same_kind_is, int_given, int_has, bool_has, bytes_has, number_sound, len_sound, hash_sound, not_sound, negative_sound, concat_sound, compared_sound, linked_sound, indexed_sound, with_item_sound, listed_sound, empty_has}
 
 -- each name stands for something of its kind
 abbrev pub AreKinded : List TypeDef → List Named → Type 0

@@ -25,14 +25,14 @@ use Rattle.cs_eval_values.specs.Datums.{Datum, items_of, bool_of}
 use Rattle.cs_eval_values.specs.Operators.{int, given_bool}
 use Rattle.cs_eval_values.specs.Namings.{Named, named, is_named, find_named, kind_in, kind_named, with_named, with_datum}
 use Rattle.cs_eval.specs.Meaning.{Meant, run_of, expr_meant}
-use Rattle.cs_eval_check.specs.Acting.{Naming, numbers, seen_with, value_run, value_kind, let_run, set_run, condition, if_run, answer_run, turn_run, turns_run, for_in_run, for_to_run, one_run, all_run}
-use Rattle.cs_eval_check.proofs.Within.{ok_is, some_is}
-use Rattle.cs_eval_check.proofs.ExprFits.{told_bind}
-use Rattle.cs_eval_check.proofs.Alike.{Alike, Extends, alike_length, alike_more, alike_cut, alike_set, alike_seen}
-use Rattle.cs_eval_check.proofs.ActFits.{Keeps, AllOnes, all_kept}
-use Rattle.cs_eval_check.proofs.Sound.{Sound, sound_spend, sound_bind, sound_there, sound_cond}
-use Rattle.cs_eval_check.proofs.Kinded.{HasKind, AllHave, bool_given, int_has, items_there, take_have}
-use Rattle.cs_eval_check.proofs.ExprSound.{AreKinded, Yields, yields_wanted}
+use Rattle.cs_eval_law.specs.Acting.{Naming, numbers, seen_with, value_run, value_kind, let_run, set_run, condition, if_run, answer_run, turn_run, turns_run, for_in_run, for_to_run, one_run, all_run}
+use Rattle.cs_eval_law.proofs.Within.{ok_is, some_is}
+use Rattle.cs_eval_law.proofs.ExprFits.{told_bind}
+use Rattle.cs_eval_law.proofs.Alike.{Alike, Extends, alike_length, alike_more, alike_cut, alike_set, alike_seen}
+use Rattle.cs_eval_law.proofs.ActFits.{Keeps, AllOnes, all_kept}
+use Rattle.cs_eval_law.proofs.Sound.{Sound, sound_spend, sound_bind, sound_there, sound_cond}
+use Rattle.cs_eval_law.proofs.Kinded.{HasKind, AllHave, bool_given, int_has, items_there, take_have}
+use Rattle.cs_eval_law.proofs.ExprSound.{AreKinded, Yields, yields_wanted}
 
 -- the names are those in sight, and each stands for something of its kind
 abbrev pub Good : List TypeDef → List Entry → List Named → Type 0

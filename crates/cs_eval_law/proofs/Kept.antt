@@ -13,15 +13,16 @@ use Rattle.cs_eval_values.specs.declared.view.View.{View}
 use Rattle.cs_eval_values.specs.Runs.{Run, Gave, Answered, Trapped}
 use Rattle.cs_eval_values.specs.Namings.{Named}
 use Rattle.cs_eval_values.specs.Filling.{filled}
-use Rattle.cs_eval_check.specs.Acting.{block_run}
-use Rattle.cs_eval_check.specs.Checks.{method_at, fitted_run, method_run, check_run, IsKinded}
-use Rattle.cs_eval_check.proofs.Within.{some_is}
-use Rattle.cs_eval_check.proofs.ExprFits.{told_bind}
-use Rattle.cs_eval_check.proofs.MethodFits.{filled_alike, CheckTold, accepted_check}
-use Rattle.cs_eval_check.proofs.MethodSound.{filled_kinded}
-use Rattle.cs_eval_check.proofs.Sound.{Sound}
-use Rattle.cs_eval_check.proofs.Kinded.{true_and}
-use Rattle.cs_eval_check.proofs.BlockSound.{block_yields}
+use Rattle.cs_eval_law.specs.Acting.{block_run}
+use Rattle.cs_eval_law.specs.Checks.{method_at, fitted_run, method_run, check_run, IsKinded}
+use Rattle.cs_eval_law.proofs.Within.{some_is}
+use Rattle.cs_eval_law.proofs.ExprFits.{told_bind}
+use Rattle.cs_eval_law.proofs.MethodFits.{filled_alike, CheckTold, accepted_check}
+use Rattle.cs_eval_law.proofs.MethodSound.{filled_kinded}
+use Rattle.cs_eval_law.proofs.Sound.{Sound}
+use Rattle.cs_eval_law.proofs.Kinded.{true_and}
+use Rattle.cs_eval_law.proofs.BlockSound.{block_yields}
+use Rattle.cs_eval_law.proofs.Bounds.{spends_within}
 
 sound_kinded : {X : Type 0} (P : X → Type 0) (r : Run X) → Sound P r → IsKinded r
 sound_kinded P (Gave x n) h = tt
@@ -62,3 +63,5 @@ module _ (a : Accepted) (is : IsAccepted a) (view : View) where
 
   pub check_kinded : (method : List ℕ) → IsKinded (check_run a.contract method view)
   check_kinded method = number_kinded (method_number method a.contract.methods)
+
+pub ruleset lawful = (spends_within, check_kinded)

@@ -10,7 +10,7 @@ use Rattle.cs_eval_values.specs.declared.view.View.{View}
 use Rattle.cs_eval_values.specs.Runs.{Run, Gave, Answered, Trapped, gives, spent}
 use Rattle.cs_eval_values.specs.Namings.{Named}
 use Rattle.cs_eval_values.specs.Filling.{filled}
-use Rattle.cs_eval_check.specs.Acting.{block_run}
+use Rattle.cs_eval_law.specs.Acting.{block_run}
 
 abbrev pub method_at : List Method → Option ℕ → Option Method
 method_at methods None = None

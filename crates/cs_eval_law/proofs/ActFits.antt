@@ -27,10 +27,10 @@ use Rattle.cs_eval_values.specs.Datums.{Datum, items_of, bool_of}
 use Rattle.cs_eval_values.specs.Operators.{given_bool}
 use Rattle.cs_eval_values.specs.Namings.{Named, with_named, with_datum}
 use Rattle.cs_eval.specs.Meaning.{Sight, Meant, run_of, expr_meant}
-use Rattle.cs_eval_check.specs.Acting.{Naming, numbers, value_run, value_kind, let_run, set_run, condition, if_run, answer_run, turn_run, turns_run, for_in_run, for_to_run, one_run, all_run}
-use Rattle.cs_eval_check.proofs.Within.{Within, within_less, within_plus, within_left, within_right, spent_spend, spent_bind, within_bind, free_or, ok_is, After, after_spend, after_bind, after_any, within_after, within_then, some_is}
-use Rattle.cs_eval_check.proofs.ExprFits.{Fits, told_bind, fits_wanted}
-use Rattle.cs_eval_check.proofs.Alike.{Alike, Extends, extends_none, extends_on, alike_length, alike_more, alike_cut, alike_set}
+use Rattle.cs_eval_law.specs.Acting.{Naming, numbers, value_run, value_kind, let_run, set_run, condition, if_run, answer_run, turn_run, turns_run, for_in_run, for_to_run, one_run, all_run}
+use Rattle.cs_eval_law.proofs.Within.{Within, within_less, within_plus, within_left, within_right, spent_spend, spent_bind, within_bind, free_or, ok_is, After, after_spend, after_bind, after_any, within_after, within_then, some_is}
+use Rattle.cs_eval_law.proofs.ExprFits.{Fits, told_bind, fits_wanted}
+use Rattle.cs_eval_law.proofs.Alike.{Alike, Extends, extends_none, extends_on, alike_length, alike_more, alike_cut, alike_set}
 
 -- what is spent is within the cost, and the names behind it are these
 abbrev pub Costs : List Entry → ℕ → Run (List Named) → Type 0

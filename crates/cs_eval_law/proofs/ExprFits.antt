@@ -33,8 +33,8 @@ use Rattle.cs_eval_values.specs.Views.{field_of, is_called, returned_int}
 use Rattle.cs_eval_values.specs.Namings.{Named, datum_named, kind_named}
 use Rattle.cs_eval.specs.Kinds.{told_kind, field_of_kind as field_kind_given, list_kind, comparing}
 use Rattle.cs_eval.specs.Meaning.{Sight, Meant, Linking, Stepping, run_of, meant, kind_of_meant, named_run, of_one, of_right, of_two, item_run, items_run, link_run, links_run, chain_run, step_run, steps_run, path_run, steps_kind}
-use Rattle.cs_eval_check.proofs.Within.{Within, within_less, within_plus, spent_spend, spent_bind, within_bind, free_or, ok_is}
-use Rattle.cs_eval_check.proofs.Free.{free_unary, free_binary, free_item, free_list, free_field, free_returned, free_leaf}
+use Rattle.cs_eval_law.proofs.Within.{Within, within_less, within_plus, spent_spend, spent_bind, within_bind, free_or, ok_is}
+use Rattle.cs_eval_law.proofs.Free.{free_unary, free_binary, free_item, free_list, free_field, free_returned, free_leaf}
 
 abbrev zero_int : Datum
 zero_int = Plain (value.Int (pos 0))

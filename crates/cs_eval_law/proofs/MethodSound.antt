@@ -22,11 +22,11 @@ use Rattle.cs_eval_values.specs.Datums.{Datum, Plain, One, Many}
 use Rattle.cs_eval_values.specs.Namings.{Named, with_named}
 use Rattle.cs_eval_values.specs.Views.{type_named}
 use Rattle.cs_eval_values.specs.Filling.{has_kind, fields_fit, object_fits, Filled, many_filled, one_filled, slot_filled, each_filled, all_taken, slots_filled, field_filled, fields_filled, filled}
-use Rattle.cs_eval_check.proofs.Within.{some_is}
-use Rattle.cs_eval_check.proofs.MethodFits.{some_bind, if_some}
-use Rattle.cs_eval_check.proofs.Kinded.{IsObject, AreObjects, HasKind, true_and}
-use Rattle.cs_eval_check.proofs.ExprSound.{AreKinded, value_kinded}
-use Rattle.cs_eval_check.proofs.ActSound.{kinded_more}
+use Rattle.cs_eval_law.proofs.Within.{some_is}
+use Rattle.cs_eval_law.proofs.MethodFits.{some_bind, if_some}
+use Rattle.cs_eval_law.proofs.Kinded.{IsObject, AreObjects, HasKind, true_and}
+use Rattle.cs_eval_law.proofs.ExprSound.{AreKinded, value_kinded}
+use Rattle.cs_eval_law.proofs.ActSound.{kinded_more}
 
 -- ---- objects
 

@@ -20,11 +20,11 @@ use Rattle.cs_eval_values.specs.declared.operators.Binary.{Binary}
 use Rattle.cs_eval_values.specs.declared.operators.Binary.TheVariants as two
 use Rattle.cs_eval_values.specs.declared.view.View.{View}
 use Rattle.cs_eval_values.specs.Runs.{Run, gives, traps, ◌>>=◌, or_trap, spent}
-use Rattle.cs_eval_values.specs.Datums.{Datum, Plain, int_of, bool_of, bytes_of, length_of, plain_of, object_of}
+use Rattle.cs_eval_values.specs.Datums.{Datum, Plain, int_of, bool_of, bytes_of, length_of, plain_of, items_of, object_of}
 use Rattle.cs_eval_values.specs.Ints.{in_range, ranged, divided, computed, negated}
-use Rattle.cs_eval_values.specs.Operators.{int, truth, text, given_int, given_bool, given_bytes, given_value, list_of, with_item, number, unary, joined_bytes, joined_lists, joined_layers, joined, compared_in, compared, right_bool, arithmetic, linked, item_at, indexed, binary}
+use Rattle.cs_eval_values.specs.Operators.{int, truth, text, given_int, given_bool, given_bytes, given_value, given_items, list_of, with_item, number, unary, joined_bytes, joined_lists, joined_layers, joined, compared_in, compared, right_bool, arithmetic, linked, item_at, indexed, binary}
 use Rattle.cs_eval_values.specs.Views.{field_in, field_of, int_of_value, returned, returned_int}
-use Rattle.cs_eval_check.proofs.Within.{free_bind, free_or, free_cond}
+use Rattle.cs_eval_law.proofs.Within.{free_bind, free_or, free_cond}
 
 free_ranged : (z : ℤ) (place : ℕ) → spent (ranged z place) ≡ 0
 free_ranged z place = free_or cause.Range place (in_range z)
@@ -102,7 +102,8 @@ free_binary two.Concat place a b =
 free_binary (two.Compared c) place a b = free_bind (or_trap cause.Misfit place (compared_in c a b)) (λ holds. gives (truth holds)) (free_or cause.Misfit place (compared_in c a b)) (λ holds. refl)
 free_binary (two.Linked op) place a b = free_linked op place a b
 free_binary two.Index place a b =
-    free_bind (given_int place b) (λ z. or_trap cause.Place place (item_at a z)) (free_or cause.Misfit place (int_of b)) (λ z. free_or cause.Place place (item_at a z))
+    free_bind (given_items place a) (λ items. given_int place b >>= λ z. or_trap cause.Place place (item_at items z)) (free_or cause.Misfit place (items_of a))
+    (λ items. free_bind (given_int place b) (λ z. or_trap cause.Place place (item_at items z)) (free_or cause.Misfit place (int_of b)) (λ z. free_or cause.Place place (item_at items z)))
 
 pub free_item : (place : ℕ) (items : List Value) (d : Datum) → spent (with_item place items d) ≡ 0
 free_item place items d = free_bind (given_value place d) (λ v. gives (items ++ v ∷ [])) (free_or cause.Misfit place (plain_of d)) (λ v. refl)
