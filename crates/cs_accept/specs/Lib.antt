@@ -1,0 +1,4 @@
+pub mod Positions
+pub mod Faults
+pub mod Judging
+pub mod Accepting

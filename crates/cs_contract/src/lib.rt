@@ -1,0 +1,8 @@
+//! What is told of a contract text to who writes it.
+#![tactic(auto)]
+
+mod report;
+#[cfg(test)]
+mod tests;
+
+pub use report::{Report, report_on};
