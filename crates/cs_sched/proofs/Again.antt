@@ -17,29 +17,32 @@ use Rattle.cs_sched_types.specs.declared.schedule.Schedule.{Schedule}
 use Rattle.cs_sched.specs.Drafts.{empty_draft}
 use Rattle.cs_sched.specs.Names.{genesis_names}
 use Rattle.cs_sched.specs.Naming.{liars_of}
-use Rattle.cs_sched.specs.Playable.{IsPlayableEvent}
+use Rattle.cs_sched.specs.declared.limits.TheConstants.{MOST_CONTRACTS}
+use Rattle.cs_sched.specs.Playable.{IsPlayableEvent, IsContractText}
 use Rattle.cs_sched.specs.Text.{read_lines, whole, schedule_of}
 use Rattle.cs_sched.specs.declared.draft.Draft.{Draft}
 use Rattle.cs_sched.specs.declared.draft.Stage.TheVariants as stage
 use Rattle.cs_sched.proofs.Played.{schedule_sound}
 use Rattle.cs_sched.proofs.Sound.{IsSound}
 use Rattle.cs_sched.specs.Again.{numbered, renumbered, IsReadAgain}
-use Rattle.cs_sched.specs.Printed.{event_words, liar_lines, genesis_lines, event_lines, schedule_lines, schedule_text}
+use Rattle.cs_sched.specs.Printed.{event_words, liar_lines, contract_lines, genesis_lines, event_lines, schedule_lines, schedule_text}
 use Rattle.cs_sched.proofs.Plain.{IsLine, field-word, field-decimal, field-bytes, field-name}
 use Rattle.cs_sched.proofs.Back.{node_small, named_small, honest_small}
 use Rattle.cs_sched.proofs.Rows.{lines_of-text, read_fields, read_lines-rows}
-use Rattle.cs_sched.proofs.Walk.{made, IsPrintable, reads_head, reads_liars, reads_objects, reads_events, run_step}
+use Rattle.cs_sched.proofs.Walk.{made, IsPrintable, reads_head, reads_liars, reads_contracts, reads_objects, reads_events, run_step}
 
--- a schedule without contracts
-abbrev bare : Config → List ℕ → List NodeId → List Object → List (ℕ × Event) → Schedule
-bare config master liars genesis events = record { config = config; master = master; liars = liars; contracts = []; genesis = genesis; events = events }
+abbrev whole_of : Config → List ℕ → List NodeId → List (List ℕ) → List Object → List (ℕ × Event) → Schedule
+whole_of config master liars contracts genesis events =
+    record { config = config; master = master; liars = liars; contracts = contracts; genesis = genesis; events = events }
 
 -- what is known of a schedule that was read
-record IsRead (config : Config) (master : List ℕ) (liars : List NodeId) (genesis : List Object) (events : List (ℕ × Event)) : Type 0 where
+record IsRead (config : Config) (master : List ℕ) (liars : List NodeId) (contracts : List (List ℕ)) (genesis : List Object) (events : List (ℕ × Event)) : Type 0 where
   digest : DigestFits master
   nodes : AllByRecursion (λ name. is_node config name ≡ true) liars
   few_liars : (shard : ℕ) → liars_of liars shard ≤ config.f
   apart : AllPairs (λ a b. a ≢ b) liars
+  contracts_fit : AllByRecursion IsContractText contracts
+  few_contracts : length contracts ≤ MOST_CONTRACTS
   objects : AllByRecursion IsPrintable genesis
   few : length genesis ≤ MOST_GENESIS
   differ : AllPairs (λ a b. a ≢ b) (genesis_names 0 genesis)
@@ -73,14 +76,21 @@ objects_are_lines : (objects : List Object) (rest : List (List (List ℕ))) → 
 objects_are_lines [] rest fit more = more
 objects_are_lines (object ∷ objects) rest fit more = ((field-word (codes "genesis") (omega arith) refl, (field-bytes _ fit.0.1, tt)), objects_are_lines objects rest fit.1 more)
 
+contracts_are_lines : (contracts : List (List ℕ)) (rest : List (List (List ℕ))) → AllByRecursion IsContractText contracts → AllByRecursion IsLine rest → AllByRecursion IsLine (contract_lines contracts ++ rest)
+contracts_are_lines [] rest fit more = more
+contracts_are_lines (text ∷ contracts) rest fit more = ((field-word (codes "contract") (omega arith) refl, (field-bytes text fit.0.in_bytes, tt)), contracts_are_lines contracts rest fit.1 more)
+
 liars_are_lines : (config : Config) (liars : List NodeId) (rest : List (List (List ℕ))) → AllByRecursion (λ name. is_node config name ≡ true) liars → AllByRecursion IsLine rest → AllByRecursion IsLine (liar_lines liars ++ rest)
 liars_are_lines config [] rest nodes more = more
 liars_are_lines config (name ∷ liars) rest nodes more =
     let small = node_small config name nodes.0 in
     ((field-word (codes "liar") (omega arith) refl, (field-name name small.shard small.index, tt)), liars_are_lines config liars rest nodes.1 more)
 
-module _ (config : Config) (master : List ℕ) (liars : List NodeId) (genesis : List Object) (events : List (ℕ × Event)) (known : IsRead config master liars genesis events) where
-  are_lines : AllByRecursion IsLine (schedule_lines (bare config master liars genesis events))
+module _ (config : Config) (master : List ℕ) (liars : List NodeId) (contracts : List (List ℕ)) (genesis : List Object) (events : List (ℕ × Event)) (known : IsRead config master liars contracts genesis events) where
+  abbrev schedule : Schedule
+  schedule = whole_of config master liars contracts genesis events
+
+  are_lines : AllByRecursion IsLine (schedule_lines schedule)
   are_lines =
       let few_shards : config.shards ≤ MOST_SHARDS = config.few_shards in
       let few_liars : config.f ≤ MOST_LIARS = config.few_liars in
@@ -95,8 +105,9 @@ module _ (config : Config) (master : List ℕ) (liars : List NodeId) (genesis : 
             (field-word (codes "dummies") (omega arith) refl, (field-decimal config.dummies (omega arith), tt)),
             (
               (field-word (codes "master") (omega arith) refl, (field-bytes master known.digest.1, tt)),
-              liars_are_lines config liars (genesis_lines genesis ++ (codes "run" ∷ []) ∷ (event_lines events ++ (codes "end" ∷ []) ∷ [])) known.nodes
-                  (objects_are_lines genesis ((codes "run" ∷ []) ∷ (event_lines events ++ (codes "end" ∷ []) ∷ [])) known.objects run),
+              liars_are_lines config liars (contract_lines contracts ++ (genesis_lines genesis ++ (codes "run" ∷ []) ∷ (event_lines events ++ (codes "end" ∷ []) ∷ []))) known.nodes
+                  (contracts_are_lines contracts (genesis_lines genesis ++ (codes "run" ∷ []) ∷ (event_lines events ++ (codes "end" ∷ []) ∷ [])) known.contracts_fit
+                  (objects_are_lines genesis ((codes "run" ∷ []) ∷ (event_lines events ++ (codes "end" ∷ []) ∷ [])) known.objects run)),
             ),
           ),
         ),
@@ -104,44 +115,49 @@ module _ (config : Config) (master : List ℕ) (liars : List NodeId) (genesis : 
 
   -- the draft that its lines give
   abbrev last : ℕ → Draft
-  last first = made stage.Ended config master liars genesis (numbered first events)
+  last first = made stage.Ended config master liars contracts genesis (numbered first events)
 
-  reads_run : (first : ℕ) → read_fields (made stage.Events config master liars genesis []) first (event_lines events ++ (codes "end" ∷ []) ∷ []) ≡ Ok (last first)
-  reads_run first = reads_events config master liars genesis (last first) ((codes "end" ∷ []) ∷ []) events [] first known.played refl
+  reads_run : (first : ℕ) → read_fields (made stage.Events config master liars contracts genesis []) first (event_lines events ++ (codes "end" ∷ []) ∷ []) ≡ Ok (last first)
+  reads_run first = reads_events config master liars contracts genesis (last first) ((codes "end" ∷ []) ∷ []) events [] first known.played refl
 
   -- the number of the first event's line
   abbrev events_from : ℕ
-  events_from = 6 + (length liars + (0 + length genesis))
+  events_from = 6 + (length liars + (length contracts + length genesis))
 
-  reads_all : read_fields empty_draft 1 (schedule_lines (bare config master liars genesis events)) ≡ Ok (last events_from)
+  reads_all : read_fields empty_draft 1 (schedule_lines schedule) ≡ Ok (last events_from)
   reads_all =
-      let first : 5 + length liars + length genesis + 1 ≡ events_from = omega arith in
+      let first : 5 + length liars + length contracts + length genesis + 1 ≡ events_from = omega arith in
       let rest = (codes "run" ∷ []) ∷ (event_lines events ++ (codes "end" ∷ []) ∷ []) in
-      reads_head config master known.digest (last events_from) (liar_lines liars ++ (genesis_lines genesis ++ rest))
-      (reads_liars config master liars (last events_from) (genesis_lines genesis ++ rest) known.apart known.few_liars liars [] 5 refl known.nodes
-      (reads_objects config master liars genesis (last events_from) rest known.few known.differ genesis [] false (5 + length liars) refl known.objects
-      (λ any. rw (run_step config master liars any genesis (5 + length liars + length genesis)) (subst (λ n. read_fields (made stage.Events config master liars genesis []) n (event_lines events ++ (codes "end" ∷ []) ∷ []) ≡ Ok (last events_from)) (sym first) (reads_run events_from)))))
+      reads_head config master known.digest (last events_from) (liar_lines liars ++ (contract_lines contracts ++ (genesis_lines genesis ++ rest)))
+      (reads_liars config master liars (last events_from) (contract_lines contracts ++ (genesis_lines genesis ++ rest)) known.apart known.few_liars liars [] 5 refl known.nodes
+      (reads_contracts config master liars contracts (last events_from) (genesis_lines genesis ++ rest) known.few_contracts contracts [] false (5 + length liars) refl known.contracts_fit
+      (λ told. reads_objects config master liars contracts genesis (last events_from) rest known.few known.differ genesis [] told false (5 + length liars + length contracts) refl known.objects
+      (λ any. rw (run_step config master liars contracts told any genesis (5 + length liars + length contracts + length genesis))
+      (subst (λ n. read_fields (made stage.Events config master liars contracts genesis []) n (event_lines events ++ (codes "end" ∷ []) ∷ []) ≡ Ok (last events_from)) (sym first) (reads_run events_from))))))
 
-  again_bare : (limit : ℕ) → length (schedule_text (bare config master liars genesis events)) ≤ limit
-      → schedule_of limit (schedule_text (bare config master liars genesis events)) ≡ Ok (renumbered (bare config master liars genesis events))
+  again_whole : (limit : ℕ) → length (schedule_text schedule) ≤ limit
+      → schedule_of limit (schedule_text schedule) ≡ Ok (renumbered schedule)
   unfolding schedule_of
-  again_bare limit short =
-      let text = schedule_text (bare config master liars genesis events) in
+  again_whole limit short =
+      let text = schedule_text schedule in
       let read : read_lines empty_draft 1 (lines text) ≡ Ok (last events_from) =
-      ap (read_lines empty_draft 1) (lines_of-text (schedule_lines (bare config master liars genesis events)) are_lines)
-      ∙ read_lines-rows (schedule_lines (bare config master liars genesis events)) empty_draft 1 are_lines ∙ reads_all in
+      ap (read_lines empty_draft 1) (lines_of-text (schedule_lines schedule) are_lines)
+      ∙ read_lines-rows (schedule_lines schedule) empty_draft 1 are_lines ∙ reads_all in
       rw (le-leb (length text) limit short) (ap (whole (length (lines text) + 1)) read)
 
 -- a draft's objects have encodings
 printable : (objects : List Object) → All IsPrintable objects → AllByRecursion IsPrintable objects
 printable objects all = recursion_from_All IsPrintable objects all
 
-known_of : (draft : Draft) → IsSound draft → IsRead draft.schedule.config draft.schedule.master draft.schedule.liars draft.schedule.genesis draft.schedule.events
+known_of : (draft : Draft) → IsSound draft
+    → IsRead draft.schedule.config draft.schedule.master draft.schedule.liars draft.schedule.contracts draft.schedule.genesis draft.schedule.events
 known_of draft sound = record {
   digest = sound.master;
   nodes = recursion_from_All (λ name. is_node draft.schedule.config name ≡ true) draft.schedule.liars sound.playable.liars;
   few_liars = sound.playable.few_liars;
   apart = sound.playable.liars_differ;
+  contracts_fit = recursion_from_All IsContractText draft.schedule.contracts sound.playable.contracts;
+  few_contracts = sound.playable.few_contracts;
   objects = printable draft.schedule.genesis (λ k d within. (sound.playable.objects k d within, sound.encodings k d within));
   few = sound.playable.few_objects;
   differ = sound.playable.keys_differ;
@@ -150,18 +166,8 @@ known_of draft sound = record {
 
 again_sound : (limit : ℕ) (draft : Draft) → IsSound draft → length (schedule_text draft.schedule) ≤ limit → schedule_of limit (schedule_text draft.schedule) ≡ Ok (renumbered draft.schedule)
 again_sound limit draft sound =
-    let schedule = draft.schedule in
-    let same : bare schedule.config schedule.master schedule.liars schedule.genesis schedule.events ≡ schedule =
-    λ i. record {
-      config = schedule.config;
-      master = schedule.master;
-      liars = schedule.liars;
-      contracts = sym sound.playable.contracts i;
-      genesis = schedule.genesis;
-      events = schedule.events;
-    } in
-    subst (λ (s : Schedule). length (schedule_text s) ≤ limit → schedule_of limit (schedule_text s) ≡ Ok (renumbered s)) same
-    (again_bare schedule.config schedule.master schedule.liars schedule.genesis schedule.events (known_of draft sound) limit)
+    let s = draft.schedule in
+    again_whole s.config s.master s.liars s.contracts s.genesis s.events (known_of draft sound) limit
 
 pub again : (limit : ℕ) → IsReadAgain limit
 again limit text schedule read short =

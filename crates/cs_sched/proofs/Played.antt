@@ -15,16 +15,16 @@ use Rattle.cs_sched.specs.declared.draft.Stage.TheVariants as stage
 use Rattle.cs_sched.specs.declared.error.ScheduleError.{ScheduleError}
 use Rattle.cs_sched.specs.Names.{is_known}
 use Rattle.cs_sched.specs.Drafts.{empty_draft, has_ended}
-use Rattle.cs_sched.specs.Said.{no_field, shards_said, faulty_said, dummies_said, master_said, liar_said, object_said}
+use Rattle.cs_sched.specs.Said.{no_field, shards_said, faulty_said, dummies_said, master_said, liar_said, contract_said, object_said}
 use Rattle.cs_sched.specs.Events.{event_said}
-use Rattle.cs_sched.specs.Lines.{with_config, with_master, with_liar, with_genesis, with_event, at_stage, shards_line, faulty_line, dummies_line, master_line, liar_line, named_object, genesis_line, run_line, event_line, end_line, contract_line}
-use Rattle.cs_sched.specs.Places.{genesis_place, liars_place, events_place, line_at, line_step}
+use Rattle.cs_sched.specs.Lines.{with_config, with_master, with_liar, with_contract, with_genesis, with_event, at_stage, shards_line, faulty_line, dummies_line, master_line, liar_line, named_object, genesis_line, run_line, event_line, end_line, contract_line}
+use Rattle.cs_sched.specs.Places.{genesis_place, contracts_place, liars_place, events_place, line_at, line_step}
 use Rattle.cs_sched.specs.Text.{then_lines, read_lines, whole, cut_at, schedule_of}
 use Rattle.cs_sched.specs.Playable.{IsPlayable}
 use Rattle.cs_sched.specs.Reading.{GivesText}
 use Rattle.cs_sched.proofs.Steps.{step_ok, change_ok, ok_same, when_ok, unless_ok, either_ok}
-use Rattle.cs_sched.proofs.Sound.{IsSound, has_run, has_master, empty_sound, at_stage-sound, with_config-sound, with_master-sound, with_event-sound, with_genesis-sound, with_liar-sound}
-use Rattle.cs_sched.proofs.Said.{contract_never, master_said-ok, object_said-ok}
+use Rattle.cs_sched.proofs.Sound.{IsSound, has_run, has_master, empty_sound, at_stage-sound, with_config-sound, with_master-sound, with_event-sound, with_contract-sound, with_genesis-sound, with_liar-sound}
+use Rattle.cs_sched.proofs.Said.{master_said-ok, contract_said-ok, object_said-ok}
 use Rattle.cs_sched.proofs.Liars.{liar_said-ok}
 use Rattle.cs_sched.proofs.Told.{event_said-ok}
 
@@ -53,6 +53,13 @@ module _ (draft next : Draft) (fields : List (List ℕ)) (sound : IsSound draft)
   liar_sound met none is =
       let (liar, said, moved) = change_ok (liar_said draft.schedule fields) (λ liar. with_liar draft liar) next is in
       subst IsSound moved (with_liar-sound draft liar sound met (liar_said-ok draft.schedule fields liar said) none)
+
+  contract_sound : draft.schedule.events ≡ [] → contract_line draft fields ≡ Ok next → IsSound next
+  contract_sound none is =
+      let place = length draft.schedule.contracts in
+      let (text, said, moved) = change_ok (contract_said place fields) (λ text. with_contract draft text) next is in
+      let (few, fits) = contract_said-ok place fields text said in
+      subst IsSound moved (with_contract-sound draft text sound none fits few)
 
   genesis_sound : draft.schedule.events ≡ [] → genesis_line draft fields ≡ Ok next → IsSound next
   genesis_sound none is =
@@ -84,14 +91,18 @@ module _ (draft next : Draft) (fields : List (List ℕ)) (sound : IsSound draft)
         | inr other ↦ run_sound (when_ok (bytes_eq word (codes "run")) (run_line draft fields) cause.Word next other).1
       ]
 
+  contracts_place-sound : (word : List ℕ) → draft.schedule.events ≡ [] → contracts_place draft word fields ≡ Ok next → IsSound next
+  contracts_place-sound word none is =
+      elim (either_ok (bytes_eq word (codes "contract")) (contract_line draft fields) (genesis_place draft word fields) next is) [
+        | inl contract ↦ contract_sound none contract
+        | inr genesis ↦ genesis_place-sound word none genesis
+      ]
+
   liars_place-sound : (word : List ℕ) → has_master draft.stage ≡ true → draft.schedule.events ≡ [] → liars_place draft word fields ≡ Ok next → IsSound next
   liars_place-sound word met none is =
-      elim (either_ok (bytes_eq word (codes "liar")) (liar_line draft fields) (if bytes_eq word (codes "contract") then contract_line fields else genesis_place draft word fields) next is) [
+      elim (either_ok (bytes_eq word (codes "liar")) (liar_line draft fields) (contracts_place draft word fields) next is) [
         | inl liar ↦ liar_sound met none liar
-        | inr other ↦ elim (either_ok (bytes_eq word (codes "contract")) (contract_line fields) (genesis_place draft word fields) next other) [
-          | inl contract ↦ absurd (contract_never fields next contract)
-          | inr genesis ↦ genesis_place-sound word none genesis
-        ]
+        | inr other ↦ contracts_place-sound word none other
       ]
 
   events_place-sound : (line : ℕ) (word : List ℕ) → has_run draft.stage ≡ true → events_place line draft word fields ≡ Ok next → IsSound next
@@ -108,6 +119,7 @@ module _ (draft next : Draft) (fields : List (List ℕ)) (sound : IsSound draft)
   line_sound stage.Dummies line word at is = dummies_sound (sound.trusted (ap has_master at)) (sound.unplayed (ap has_run at)) (when_ok (bytes_eq word (codes "dummies")) (dummies_line draft fields) cause.Word next is).1
   line_sound stage.Master line word at is = master_sound (sound.unplayed (ap has_run at)) (when_ok (bytes_eq word (codes "master")) (master_line draft fields) cause.Word next is).1
   line_sound stage.Liars line word at is = liars_place-sound word (ap has_master at) (sound.unplayed (ap has_run at)) is
+  line_sound stage.Contracts line word at is = contracts_place-sound word (sound.unplayed (ap has_run at)) is
   line_sound stage.Genesis line word at is = genesis_place-sound word (sound.unplayed (ap has_run at)) is
   line_sound stage.Events line word at is = events_place-sound line word (ap has_run at) is
   line_sound stage.Ended line word at is = absurd cc

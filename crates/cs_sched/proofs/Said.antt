@@ -11,20 +11,17 @@ use Rattle.hex.proofs.HexLemmas.{decode_of-ok}
 use Rattle.cs_base.specs.Fields.{IsBytes}
 use Rattle.cs_base.specs.declared.limits.TheConstants.{MOST_GENESIS, MOST_OBJECT}
 use Rattle.cs_base.specs.Codes.{bytes_of}
+use Rattle.cs_lang_token.specs.declared.limits.TheConstants.{MOST_TEXT}
+use Rattle.cs_accept.specs.Accepting.{is_refused}
 use Rattle.cs_tx_value.specs.declared.object.Object.{Object}
 use Rattle.cs_tx_value.specs.Object.{object_encoding, DigestFits, ObjectFits}
 use Rattle.cs_sched.specs.declared.cause.Cause.TheVariants as cause
-use Rattle.cs_sched.specs.declared.draft.Draft.{Draft}
-use Rattle.cs_sched.specs.Values.{◌>>=◌, bytes_within, encoded_object, object_in}
-use Rattle.cs_sched.specs.Said.{master_said, object_said}
-use Rattle.cs_sched.specs.Lines.{contract_line}
+use Rattle.cs_sched.specs.Values.{◌>>=◌, bytes_within, contract_in, encoded_object, object_in}
+use Rattle.cs_sched.specs.declared.limits.TheConstants.{MOST_CONTRACTS}
+use Rattle.cs_sched.specs.Playable.{IsContractText}
+use Rattle.cs_sched.specs.Said.{master_said, contract_said, object_said}
 use Rattle.cs_sched.proofs.Steps.{step_ok, ok_same, when_ok, unless_ok, some_ok}
 use Rattle.cs_sched.proofs.Objects.{found_fits}
-
-pub contract_never : (fields : List (List ℕ)) (next : Draft) → contract_line fields ≡ Ok next → ⊥
-contract_never [] next is = cc
-contract_never (field ∷ []) next is = cc
-contract_never (field ∷ another ∷ more) next is = cc
 
 -- bytes in hex
 
@@ -59,6 +56,16 @@ master_said-ok (field ∷ []) master is =
     let same : bytes ≡ master = ok_same bytes master done in
     subst DigestFits same (eqb-true (length bytes) 32 long, bytes_fit field bytes (some_ok (bytes_of field) cause.Hex bytes hex))
 master_said-ok (field ∷ another ∷ more) master is = absurd cc
+
+pub contract_said-ok : (place : ℕ) (fields : List (List ℕ)) (text : List ℕ) → contract_said place fields ≡ Ok text → (place < MOST_CONTRACTS) × IsContractText text
+contract_said-ok place [] text is = absurd cc
+contract_said-ok place (field ∷ []) text is =
+    let (few, read) = when_ok (nat_lt place MOST_CONTRACTS) (contract_in field) cause.Limit text is in
+    let (bytes, within, after) = step_ok (bytes_within MOST_TEXT field) (λ bytes. if is_refused bytes then Err cause.Contract else Ok bytes) text read in
+    let (taken, done) = unless_ok (is_refused bytes) (Ok bytes) cause.Contract text after in
+    let (short, fits) = bytes_within-ok MOST_TEXT field bytes within in
+    (ltb-true place MOST_CONTRACTS few, subst IsContractText (ok_same bytes text done) (record { in_bytes = fits; short = short; accepted = taken }))
+contract_said-ok place (field ∷ another ∷ more) text is = absurd cc
 
 pub object_said-ok : (place : ℕ) (fields : List (List ℕ)) (object : Object) → object_said place fields ≡ Ok object → (place < MOST_GENESIS) × (ObjectFits object × IsBytes (object_encoding object))
 object_said-ok place [] object is = absurd cc

@@ -21,8 +21,9 @@ use Rattle.cs_sched.specs.declared.draft.Stage.TheVariants as stage
 use Rattle.cs_sched.specs.Names.{is_known, genesis_names}
 use Rattle.cs_sched.specs.Naming.{liars_of}
 use Rattle.cs_sched.specs.Drafts.{empty_draft}
-use Rattle.cs_sched.specs.Lines.{with_config, with_master, with_liar, with_genesis, with_event, at_stage}
-use Rattle.cs_sched.specs.Playable.{IsPlayable, IsPlayableEvent}
+use Rattle.cs_sched.specs.Lines.{with_config, with_master, with_liar, with_contract, with_genesis, with_event, at_stage}
+use Rattle.cs_sched.specs.declared.limits.TheConstants.{MOST_CONTRACTS}
+use Rattle.cs_sched.specs.Playable.{IsPlayable, IsPlayableEvent, IsContractText}
 use Rattle.cs_sched.proofs.Liars.{IsNewLiar, one_more, liars_differ}
 use Rattle.cs_sched.proofs.Distinct.{names_differ, genesis_names-append}
 
@@ -33,6 +34,7 @@ has_run stage.Faulty = false
 has_run stage.Dummies = false
 has_run stage.Master = false
 has_run stage.Liars = false
+has_run stage.Contracts = false
 has_run stage.Genesis = false
 has_run stage.Events = true
 has_run stage.Ended = true
@@ -44,6 +46,7 @@ has_master stage.Faulty = false
 has_master stage.Dummies = false
 has_master stage.Master = false
 has_master stage.Liars = true
+has_master stage.Contracts = true
 has_master stage.Genesis = true
 has_master stage.Events = true
 has_master stage.Ended = true
@@ -79,7 +82,8 @@ empty_sound = record {
     liars = All-nil (λ name. is_node (config_of 1 0 0) name ≡ true);
     few_liars = λ shard. omega arith;
     liars_differ = λ i j d before within. absurd (omega arith);
-    contracts = refl;
+    contracts = All-nil IsContractText;
+    few_contracts = omega arith;
     objects = All-nil ObjectFits;
     few_objects = omega arith;
     keys_differ = λ i j d before within. absurd (omega arith);
@@ -103,6 +107,7 @@ master_first stage.Faulty run = absurd (true≢false (sym run))
 master_first stage.Dummies run = absurd (true≢false (sym run))
 master_first stage.Master run = absurd (true≢false (sym run))
 master_first stage.Liars run = refl
+master_first stage.Contracts run = refl
 master_first stage.Genesis run = refl
 master_first stage.Events run = refl
 master_first stage.Ended run = refl
@@ -135,6 +140,7 @@ with_config-sound draft next config sound trusted unplayed = record {
     few_liars = λ shard. none_few draft.schedule.liars config.f shard trusted;
     liars_differ = sound.playable.liars_differ;
     contracts = sound.playable.contracts;
+    few_contracts = sound.playable.few_contracts;
     objects = sound.playable.objects;
     few_objects = sound.playable.few_objects;
     keys_differ = sound.playable.keys_differ;
@@ -157,6 +163,7 @@ with_master-sound draft master sound none fits = record {
     few_liars = sound.playable.few_liars;
     liars_differ = sound.playable.liars_differ;
     contracts = sound.playable.contracts;
+    few_contracts = sound.playable.few_contracts;
     objects = sound.playable.objects;
     few_objects = sound.playable.few_objects;
     keys_differ = sound.playable.keys_differ;
@@ -179,6 +186,7 @@ with_event-sound draft line said sound run played = record {
     few_liars = sound.playable.few_liars;
     liars_differ = sound.playable.liars_differ;
     contracts = sound.playable.contracts;
+    few_contracts = sound.playable.few_contracts;
     objects = sound.playable.objects;
     few_objects = sound.playable.few_objects;
     keys_differ = sound.playable.keys_differ;
@@ -187,6 +195,29 @@ with_event-sound draft line said sound run played = record {
   names = sound.names;
   trusted = sound.trusted;
   unplayed = run_before draft.stage (draft.schedule.events ++ (line, said) ∷ []) run;
+  master = sound.master;
+  encodings = sound.encodings;
+}
+
+pub with_contract-sound : (draft : Draft) (text : List ℕ) → IsSound draft → draft.schedule.events ≡ [] → IsContractText text → length draft.schedule.contracts < MOST_CONTRACTS → IsSound (with_contract draft text)
+with_contract-sound draft text sound none fits few = record {
+  playable = record {
+    some_shard = sound.playable.some_shard;
+    few_shards = sound.playable.few_shards;
+    few_faulty = sound.playable.few_faulty;
+    liars = sound.playable.liars;
+    few_liars = sound.playable.few_liars;
+    liars_differ = sound.playable.liars_differ;
+    contracts = All-push IsContractText draft.schedule.contracts text sound.playable.contracts fits;
+    few_contracts = omega (arith, length-append draft.schedule.contracts (text ∷ []));
+    objects = sound.playable.objects;
+    few_objects = sound.playable.few_objects;
+    keys_differ = sound.playable.keys_differ;
+    events = sound.playable.events;
+  };
+  names = sound.names;
+  trusted = λ before. absurd (true≢false before);
+  unplayed = λ before. none;
   master = sound.master;
   encodings = sound.encodings;
 }
@@ -207,6 +238,7 @@ with_genesis-sound draft object sound none fits encoded few new =
         few_liars = sound.playable.few_liars;
         liars_differ = sound.playable.liars_differ;
         contracts = sound.playable.contracts;
+        few_contracts = sound.playable.few_contracts;
         objects = All-push ObjectFits draft.schedule.genesis object sound.playable.objects fits;
         few_objects = omega (arith, length-append draft.schedule.genesis (object ∷ []));
         keys_differ = subst (λ names. AllPairs (λ a b. a ≢ b) names) (sym appended) (names_differ (genesis_names 0 draft.schedule.genesis) name sound.playable.keys_differ fresh);
@@ -231,6 +263,7 @@ with_liar-sound draft liar sound met new none = record {
     few_liars = one_more draft.schedule.liars liar draft.schedule.config.f sound.playable.few_liars new.room;
     liars_differ = liars_differ draft.schedule.liars liar sound.playable.liars_differ new.new;
     contracts = sound.playable.contracts;
+    few_contracts = sound.playable.few_contracts;
     objects = sound.playable.objects;
     few_objects = sound.playable.few_objects;
     keys_differ = sound.playable.keys_differ;

@@ -16,6 +16,7 @@ use Rattle.cs_base.specs.NodeId.{is_node, node_text}
 use Rattle.cs_base.specs.declared.config.Config.{Config}
 use Rattle.cs_base.specs.declared.node_id.NodeId.{NodeId}
 use Rattle.cs_base.specs.declared.limits.TheConstants.{MOST_SHARDS, MOST_LIARS, MOST_DUMMIES, MOST_BODY, MOST_DATAGRAM, MOST_GENESIS, MOST_OBJECT}
+use Rattle.cs_lang_token.specs.declared.limits.TheConstants.{MOST_TEXT}
 use Rattle.cs_base.proofs.Configs.{configured-config}
 use Rattle.cs_base.proofs.HexTexts.{bytes_of-bytes_text}
 use Rattle.cs_tx_value.specs.Object.{object_encoding, DigestFits, ObjectFits}
@@ -27,8 +28,9 @@ use Rattle.cs_sched.specs.Drafts.{empty_draft}
 use Rattle.cs_sched.specs.Names.{is_known, genesis_names}
 use Rattle.cs_sched.specs.Naming.{is_liar, liars_of, liar_in}
 use Rattle.cs_sched.specs.Places.{line_step}
-use Rattle.cs_sched.specs.Playable.{IsPlayableEvent}
-use Rattle.cs_sched.specs.Said.{shards_said, faulty_said, dummies_said, master_said, object_said}
+use Rattle.cs_sched.specs.declared.limits.TheConstants.{MOST_CONTRACTS}
+use Rattle.cs_sched.specs.Playable.{IsPlayableEvent, IsContractText}
+use Rattle.cs_sched.specs.Said.{shards_said, faulty_said, dummies_said, master_said, contract_said, object_said}
 use Rattle.cs_sched.specs.Values.{in_range}
 use Rattle.cs_sched.specs.declared.draft.Draft.{Draft}
 use Rattle.cs_sched.specs.declared.draft.Stage.{Stage}
@@ -36,16 +38,16 @@ use Rattle.cs_sched.specs.declared.draft.Stage.TheVariants as stage
 use Rattle.cs_sched.proofs.Distinct.{genesis_names-append}
 use Rattle.cs_sched.proofs.Objects.{object_found}
 use Rattle.cs_sched.specs.Again.{numbered}
-use Rattle.cs_sched.specs.Printed.{number_words, bytes_words, liar_words, object_words, event_words, liar_lines, genesis_lines, event_lines}
+use Rattle.cs_sched.specs.Printed.{number_words, bytes_words, liar_words, contract_words, object_words, event_words, liar_lines, contract_lines, genesis_lines, event_lines}
 use Rattle.cs_sched.proofs.Back.{number_back, within_back, bytes_back, named_back, node_named, node_no_client, speaker_back, honest_back}
 use Rattle.cs_sched.proofs.Liars.{new_liar, room_before}
 use Rattle.cs_sched.proofs.Rows.{read_fields, read-cons}
 
--- a draft without contracts
-abbrev pub made : Stage → Config → List ℕ → List NodeId → List Object → List (ℕ × Event) → Draft
-made place config master liars genesis events = record {
+-- a draft, whose names are those of its objects
+abbrev pub made : Stage → Config → List ℕ → List NodeId → List (List ℕ) → List Object → List (ℕ × Event) → Draft
+made place config master liars contracts genesis events = record {
   stage = place;
-  schedule = record { config = config; master = master; liars = liars; contracts = []; genesis = genesis; events = events };
+  schedule = record { config = config; master = master; liars = liars; contracts = contracts; genesis = genesis; events = events };
   names = genesis_names 0 genesis;
 }
 
@@ -64,6 +66,12 @@ master_back : (master : List ℕ) → DigestFits master → master_said (bytes_t
 master_back master fits =
     let test : (length master == 32) ≡ true = rw (fits.0) refl in
     rw (bytes_of-bytes_text master fits.1, test) refl
+
+-- contracts
+
+contract_back : (place : ℕ) (text : List ℕ) → place < MOST_CONTRACTS → IsContractText text → contract_said place (bytes_text text ∷ []) ≡ Ok text
+contract_back place text few fits =
+    rw (lt-ltb place MOST_CONTRACTS few, bytes_back MOST_TEXT text fits.short fits.in_bytes, fits.accepted) refl
 
 -- objects
 
@@ -93,10 +101,15 @@ names-split place (first ∷ before) object after =
     let same : place + 1 + length before ≡ place + length (first ∷ before) = omega arith in
     ap (λ names. name_of_genesis place first ∷ names) (names-split (place + 1) before object after ∙ rw same refl)
 
+-- the places at which a contract can stand: before the first one, and behind it
+abbrev pub contract_stage : Bool → Stage
+contract_stage false = stage.Liars
+contract_stage true = stage.Contracts
+
 -- the places at which an object can stand: before the first one, and behind it
-abbrev pub genesis_stage : Bool → Stage
-genesis_stage false = stage.Liars
-genesis_stage true = stage.Genesis
+abbrev pub genesis_stage : Bool → Bool → Stage
+genesis_stage told false = contract_stage told
+genesis_stage told true = stage.Genesis
 
 -- an object with its encoding
 abbrev pub IsPrintable : Object → Type 0
@@ -110,45 +123,70 @@ liar_back config liars name node new room =
 
 module _ (config : Config) (master : List ℕ) where
   liar_step : (before : List NodeId) (name : NodeId) (number : ℕ) → is_node config name ≡ true → is_liar before name ≡ false → liars_of before name.shard < config.f
-      → line_step number (made stage.Liars config master before [] []) (liar_words name) ≡ Ok (made stage.Liars config master (before ++ name ∷ []) [] [])
+      → line_step number (made stage.Liars config master before [] [] []) (liar_words name) ≡ Ok (made stage.Liars config master (before ++ name ∷ []) [] [] [])
   liar_step before name number node new room = rw (liar_back config before name node new room) refl
 
   pub reads_liars : (liars : List NodeId) (last : Draft) (rest : List (List (List ℕ))) → AllPairs (λ a b. a ≢ b) liars → ((shard : ℕ) → liars_of liars shard ≤ config.f)
       → (more before : List NodeId) (number : ℕ) → before ++ more ≡ liars → AllByRecursion (λ name. is_node config name ≡ true) more
-      → read_fields (made stage.Liars config master liars [] []) (number + length more) rest ≡ Ok last
-      → read_fields (made stage.Liars config master before [] []) number (liar_lines more ++ rest) ≡ Ok last
+      → read_fields (made stage.Liars config master liars [] [] []) (number + length more) rest ≡ Ok last
+      → read_fields (made stage.Liars config master before [] [] []) number (liar_lines more ++ rest) ≡ Ok last
   reads_liars liars last rest differ few [] before number is nodes after =
       let none : number + 0 ≡ number = omega arith in
-      let at : read_fields (made stage.Liars config master before [] []) (number + 0) rest ≡ Ok last =
-      subst (λ all. read_fields (made stage.Liars config master all [] []) (number + 0) rest ≡ Ok last) (sym is ∙ append-nil before) after in
-      subst (λ n. read_fields (made stage.Liars config master before [] []) n rest ≡ Ok last) none at
+      let at : read_fields (made stage.Liars config master before [] [] []) (number + 0) rest ≡ Ok last =
+      subst (λ all. read_fields (made stage.Liars config master all [] [] []) (number + 0) rest ≡ Ok last) (sym is ∙ append-nil before) after in
+      subst (λ n. read_fields (made stage.Liars config master before [] [] []) n rest ≡ Ok last) none at
   reads_liars liars last rest differ few (name ∷ more) before number is nodes after =
       let next : number + length (name ∷ more) ≡ number + 1 + length more = omega arith in
       let new : is_liar before name ≡ false = new_liar before more name (subst (AllPairs (λ a b. a ≢ b)) (sym is) differ) in
       let room : liars_of before name.shard < config.f = room_before before more name config.f (subst (λ those. liars_of those name.shard ≤ config.f) (sym is) (few name.shard)) in
-      read-cons (made stage.Liars config master before [] []) (made stage.Liars config master (before ++ name ∷ []) [] []) last number (liar_words name) (liar_lines more ++ rest)
+      read-cons (made stage.Liars config master before [] [] []) (made stage.Liars config master (before ++ name ∷ []) [] [] []) last number (liar_words name) (liar_lines more ++ rest)
       (liar_step before name number nodes.0 new room)
       (reads_liars liars last rest differ few more (before ++ name ∷ []) (number + 1) (append_assoc before (name ∷ []) more ∙ is) nodes.1
-      (subst (λ n. read_fields (made stage.Liars config master liars [] []) n rest ≡ Ok last) next after))
+      (subst (λ n. read_fields (made stage.Liars config master liars [] [] []) n rest ≡ Ok last) next after))
 
 module _ (config : Config) (master : List ℕ) (liars : List NodeId) where
+  contract_step : (told : Bool) (before : List (List ℕ)) (text : List ℕ) (number : ℕ) → IsContractText text → length before < MOST_CONTRACTS
+      → line_step number (made (contract_stage told) config master liars before [] []) (contract_words text) ≡ Ok (made stage.Contracts config master liars (before ++ text ∷ []) [] [])
+  contract_step false before text number fits few = rw (contract_back (length before) text few fits) refl
+  contract_step true before text number fits few = rw (contract_back (length before) text few fits) refl
+
+  module _ (contracts : List (List ℕ)) (last : Draft) (rest : List (List (List ℕ))) where
+    pub reads_contracts : length contracts ≤ MOST_CONTRACTS → (texts before : List (List ℕ)) (told : Bool) (number : ℕ) → before ++ texts ≡ contracts → AllByRecursion IsContractText texts
+        → ((told : Bool) → read_fields (made (contract_stage told) config master liars contracts [] []) (number + length texts) rest ≡ Ok last)
+        → read_fields (made (contract_stage told) config master liars before [] []) number (contract_lines texts ++ rest) ≡ Ok last
+    reads_contracts few [] before told number is fit more =
+        let none : number + 0 ≡ number = omega arith in
+        let at : read_fields (made (contract_stage told) config master liars before [] []) (number + 0) rest ≡ Ok last =
+        subst (λ all. read_fields (made (contract_stage told) config master liars all [] []) (number + 0) rest ≡ Ok last) (sym is ∙ append-nil before) (more told) in
+        subst (λ n. read_fields (made (contract_stage told) config master liars before [] []) n rest ≡ Ok last) none at
+    reads_contracts few (text ∷ texts) before told number is fit more =
+        let next : number + length (text ∷ texts) ≡ number + 1 + length texts = omega arith in
+        let total : length before + length (text ∷ texts) ≡ length contracts = sym (length-append before (text ∷ texts)) ∙ ap length is in
+        read-cons (made (contract_stage told) config master liars before [] []) (made stage.Contracts config master liars (before ++ text ∷ []) [] []) last number (contract_words text) (contract_lines texts ++ rest)
+        (contract_step told before text number fit.0 (omega arith))
+        (reads_contracts few texts (before ++ text ∷ []) true (number + 1) (append_assoc before (text ∷ []) texts ∙ is) fit.1
+        (λ told. subst (λ n. read_fields (made (contract_stage told) config master liars contracts [] []) n rest ≡ Ok last) next (more told)))
+
+module _ (config : Config) (master : List ℕ) (liars : List NodeId) (contracts : List (List ℕ)) where
   named : (before : List Object) (object : Object) → genesis_names 0 (before ++ object ∷ []) ≡ genesis_names 0 before ++ name_of_genesis (length before) object ∷ []
   named before object =
       let zero_first : 0 + length before ≡ length before = omega arith in
       genesis_names-append 0 before object ∙ rw zero_first refl
 
-  object_step : (any : Bool) (before : List Object) (object : Object) (number : ℕ) → IsPrintable object → length before < MOST_GENESIS
+  object_step : (told any : Bool) (before : List Object) (object : Object) (number : ℕ) → IsPrintable object → length before < MOST_GENESIS
       → is_known (name_of_genesis (length before) object) (genesis_names 0 before) ≡ false
-      → line_step number (made (genesis_stage any) config master liars before []) (object_words object) ≡ Ok (made stage.Genesis config master liars (before ++ object ∷ []) [])
-  object_step false before object number fits few new = rw (object_back (length before) object few fits.0 fits.1, new, named before object) refl
-  object_step true before object number fits few new = rw (object_back (length before) object few fits.0 fits.1, new, named before object) refl
+      → line_step number (made (genesis_stage told any) config master liars contracts before []) (object_words object) ≡ Ok (made stage.Genesis config master liars contracts (before ++ object ∷ []) [])
+  object_step false false before object number fits few new = rw (object_back (length before) object few fits.0 fits.1, new, named before object) refl
+  object_step true false before object number fits few new = rw (object_back (length before) object few fits.0 fits.1, new, named before object) refl
+  object_step told true before object number fits few new = rw (object_back (length before) object few fits.0 fits.1, new, named before object) refl
 
-  pub run_step : (any : Bool) (genesis : List Object) (number : ℕ) → line_step number (made (genesis_stage any) config master liars genesis []) (codes "run" ∷ []) ≡ Ok (made stage.Events config master liars genesis [])
-  run_step false genesis number = refl
-  run_step true genesis number = refl
+  pub run_step : (told any : Bool) (genesis : List Object) (number : ℕ) → line_step number (made (genesis_stage told any) config master liars contracts genesis []) (codes "run" ∷ []) ≡ Ok (made stage.Events config master liars contracts genesis [])
+  run_step false false genesis number = refl
+  run_step true false genesis number = refl
+  run_step told true genesis number = refl
 
   event_step : (event : Event) (genesis : List Object) (before : List (ℕ × Event)) (number : ℕ) → IsPlayableEvent config liars event
-      → line_step number (made stage.Events config master liars genesis before) (event_words event) ≡ Ok (made stage.Events config master liars genesis (before ++ (number, event) ∷ []))
+      → line_step number (made stage.Events config master liars contracts genesis before) (event_words event) ≡ Ok (made stage.Events config master liars contracts genesis (before ++ (number, event) ∷ []))
   event_step (Say from to kind body) genesis before number fits =
       let few = fits.kind in
       rw (speaker_back config liars from fits.speaker, honest_back config liars to fits.listener, within_back 255 kind few (omega arith), bytes_back MOST_BODY body fits.short fits.in_bytes) refl
@@ -159,32 +197,32 @@ module _ (config : Config) (master : List ℕ) (liars : List NodeId) where
 
   module _ (genesis : List Object) (last : Draft) (rest : List (List (List ℕ))) where
     pub reads_events : (events before : List (ℕ × Event)) (number : ℕ) → AllByRecursion (λ event. IsPlayableEvent config liars event.1) events
-        → read_fields (made stage.Events config master liars genesis (before ++ numbered number events)) (number + length events) rest ≡ Ok last
-        → read_fields (made stage.Events config master liars genesis before) number (event_lines events ++ rest) ≡ Ok last
+        → read_fields (made stage.Events config master liars contracts genesis (before ++ numbered number events)) (number + length events) rest ≡ Ok last
+        → read_fields (made stage.Events config master liars contracts genesis before) number (event_lines events ++ rest) ≡ Ok last
     reads_events [] before number fit more =
         let none : number + 0 ≡ number = omega arith in
-        let at : read_fields (made stage.Events config master liars genesis before) (number + 0) rest ≡ Ok last =
-        subst (λ all. read_fields (made stage.Events config master liars genesis all) (number + 0) rest ≡ Ok last) (append-nil before) more in
-        subst (λ n. read_fields (made stage.Events config master liars genesis before) n rest ≡ Ok last) none at
+        let at : read_fields (made stage.Events config master liars contracts genesis before) (number + 0) rest ≡ Ok last =
+        subst (λ all. read_fields (made stage.Events config master liars contracts genesis all) (number + 0) rest ≡ Ok last) (append-nil before) more in
+        subst (λ n. read_fields (made stage.Events config master liars contracts genesis before) n rest ≡ Ok last) none at
     reads_events (event ∷ events) before number fit more =
         let next : number + length (event ∷ events) ≡ number + 1 + length events = omega arith in
         let all = sym (append_assoc before ((number, event.1) ∷ []) (numbered (number + 1) events)) in
-        read-cons (made stage.Events config master liars genesis before) (made stage.Events config master liars genesis (before ++ (number, event.1) ∷ [])) last number (event_words event.1) (event_lines events ++ rest)
+        read-cons (made stage.Events config master liars contracts genesis before) (made stage.Events config master liars contracts genesis (before ++ (number, event.1) ∷ [])) last number (event_words event.1) (event_lines events ++ rest)
         (event_step event.1 genesis before number fit.0)
         (reads_events events (before ++ (number, event.1) ∷ []) (number + 1) fit.1
-        (subst (λ n. read_fields (made stage.Events config master liars genesis ((before ++ (number, event.1) ∷ []) ++ numbered (number + 1) events)) n rest ≡ Ok last) next
-        (subst (λ found. read_fields (made stage.Events config master liars genesis found) (number + length (event ∷ events)) rest ≡ Ok last) all more)))
+        (subst (λ n. read_fields (made stage.Events config master liars contracts genesis ((before ++ (number, event.1) ∷ []) ++ numbered (number + 1) events)) n rest ≡ Ok last) next
+        (subst (λ found. read_fields (made stage.Events config master liars contracts genesis found) (number + length (event ∷ events)) rest ≡ Ok last) all more)))
 
     pub reads_objects : length genesis ≤ MOST_GENESIS → AllPairs (λ a b. a ≢ b) (genesis_names 0 genesis)
-        → (objects before : List Object) (any : Bool) (number : ℕ) → before ++ objects ≡ genesis → AllByRecursion IsPrintable objects
-        → ((any : Bool) → read_fields (made (genesis_stage any) config master liars genesis []) (number + length objects) rest ≡ Ok last)
-        → read_fields (made (genesis_stage any) config master liars before []) number (genesis_lines objects ++ rest) ≡ Ok last
-    reads_objects few differ [] before any number is fit more =
+        → (objects before : List Object) (told any : Bool) (number : ℕ) → before ++ objects ≡ genesis → AllByRecursion IsPrintable objects
+        → ((any : Bool) → read_fields (made (genesis_stage told any) config master liars contracts genesis []) (number + length objects) rest ≡ Ok last)
+        → read_fields (made (genesis_stage told any) config master liars contracts before []) number (genesis_lines objects ++ rest) ≡ Ok last
+    reads_objects few differ [] before told any number is fit more =
         let none : number + 0 ≡ number = omega arith in
-        let at : read_fields (made (genesis_stage any) config master liars before []) (number + 0) rest ≡ Ok last =
-        subst (λ all. read_fields (made (genesis_stage any) config master liars all []) (number + 0) rest ≡ Ok last) (sym is ∙ append-nil before) (more any) in
-        subst (λ n. read_fields (made (genesis_stage any) config master liars before []) n rest ≡ Ok last) none at
-    reads_objects few differ (object ∷ objects) before any number is fit more =
+        let at : read_fields (made (genesis_stage told any) config master liars contracts before []) (number + 0) rest ≡ Ok last =
+        subst (λ all. read_fields (made (genesis_stage told any) config master liars contracts all []) (number + 0) rest ≡ Ok last) (sym is ∙ append-nil before) (more any) in
+        subst (λ n. read_fields (made (genesis_stage told any) config master liars contracts before []) n rest ≡ Ok last) none at
+    reads_objects few differ (object ∷ objects) before told any number is fit more =
         let next : number + length (object ∷ objects) ≡ number + 1 + length objects = omega arith in
         let total : length before + length (object ∷ objects) ≡ length genesis = sym (length-append before (object ∷ objects)) ∙ ap length is in
         let zero_first : 0 + length before ≡ length before = omega arith in
@@ -192,13 +230,13 @@ module _ (config : Config) (master : List ℕ) (liars : List NodeId) where
         subst (AllPairs (λ a b. a ≢ b)) (ap (genesis_names 0) (sym is) ∙ names-split 0 before object objects) differ in
         let fresh : is_known (name_of_genesis (0 + length before) object) (genesis_names 0 before) ≡ false = new_name (genesis_names 0 before) (genesis_names (0 + length before + 1) objects) (name_of_genesis (0 + length before) object) names in
         let new : is_known (name_of_genesis (length before) object) (genesis_names 0 before) ≡ false = subst (λ n. is_known (name_of_genesis n object) (genesis_names 0 before) ≡ false) zero_first fresh in
-        read-cons (made (genesis_stage any) config master liars before []) (made stage.Genesis config master liars (before ++ object ∷ []) []) last number (object_words object) (genesis_lines objects ++ rest)
-        (object_step any before object number fit.0 (omega arith) new)
-        (reads_objects few differ objects (before ++ object ∷ []) true (number + 1) (append_assoc before (object ∷ []) objects ∙ is) fit.1
-        (λ any. subst (λ n. read_fields (made (genesis_stage any) config master liars genesis []) n rest ≡ Ok last) next (more any)))
+        read-cons (made (genesis_stage told any) config master liars contracts before []) (made stage.Genesis config master liars contracts (before ++ object ∷ []) []) last number (object_words object) (genesis_lines objects ++ rest)
+        (object_step told any before object number fit.0 (omega arith) new)
+        (reads_objects few differ objects (before ++ object ∷ []) told true (number + 1) (append_assoc before (object ∷ []) objects ∙ is) fit.1
+        (λ any. subst (λ n. read_fields (made (genesis_stage told any) config master liars contracts genesis []) n rest ≡ Ok last) next (more any)))
 
 -- the four lines before liars
-pub reads_head : (config : Config) (master : List ℕ) → DigestFits master → (last : Draft) (rest : List (List (List ℕ))) → read_fields (made stage.Liars config master [] [] []) 5 rest ≡ Ok last
+pub reads_head : (config : Config) (master : List ℕ) → DigestFits master → (last : Draft) (rest : List (List (List ℕ))) → read_fields (made stage.Liars config master [] [] [] []) 5 rest ≡ Ok last
     → read_fields empty_draft 1 (number_words (codes "shards") config.shards ∷ number_words (codes "faulty") config.f ∷ number_words (codes "dummies") config.dummies ∷ bytes_words (codes "master") master ∷ rest) ≡ Ok last
 reads_head config master fits last rest more =
     let zeros : List ℕ = replicate 32 0 in
@@ -218,11 +256,11 @@ reads_head config master fits last rest more =
     ap (λ n. in_range (configured n config.f 0)) same ∙ ap (λ field. in_range (unless_out second field)) out_f in
     let whole : in_range (configured second.shards second.f config.dummies) ≡ Ok config =
     ap (λ n. in_range (configured n second.f config.dummies)) same ∙ ap (λ n. in_range (configured config.shards n config.dummies)) same_f ∙ ap in_range (configured-config config) in
-    let shards : line_step 1 empty_draft (number_words (codes "shards") config.shards) ≡ Ok (made stage.Faulty first zeros [] [] []) =
+    let shards : line_step 1 empty_draft (number_words (codes "shards") config.shards) ≡ Ok (made stage.Faulty first zeros [] [] [] []) =
     rw (shards_back least first config.shards (omega arith) sharded) refl in
-    let faulty : line_step 2 (made stage.Faulty first zeros [] [] []) (number_words (codes "faulty") config.f) ≡ Ok (made stage.Dummies second zeros [] [] []) =
+    let faulty : line_step 2 (made stage.Faulty first zeros [] [] [] []) (number_words (codes "faulty") config.f) ≡ Ok (made stage.Dummies second zeros [] [] [] []) =
     rw (faulty_back first second config.f (omega arith) trusted) refl in
-    let dummies : line_step 3 (made stage.Dummies second zeros [] [] []) (number_words (codes "dummies") config.dummies) ≡ Ok (made stage.Master config zeros [] [] []) =
+    let dummies : line_step 3 (made stage.Dummies second zeros [] [] [] []) (number_words (codes "dummies") config.dummies) ≡ Ok (made stage.Master config zeros [] [] [] []) =
     rw (dummies_back second config config.dummies (omega arith) whole) refl in
-    let mastered : line_step 4 (made stage.Master config zeros [] [] []) (bytes_words (codes "master") master) ≡ Ok (made stage.Liars config master [] [] []) = rw (master_back master fits) refl in
+    let mastered : line_step 4 (made stage.Master config zeros [] [] [] []) (bytes_words (codes "master") master) ≡ Ok (made stage.Liars config master [] [] [] []) = rw (master_back master fits) refl in
     rw (shards, faulty, dummies, mastered) more

@@ -28,6 +28,7 @@ has_ended stage.Faulty = false
 has_ended stage.Dummies = false
 has_ended stage.Master = false
 has_ended stage.Liars = false
+has_ended stage.Contracts = false
 has_ended stage.Genesis = false
 has_ended stage.Events = false
 has_ended stage.Ended = true

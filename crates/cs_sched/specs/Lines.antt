@@ -7,7 +7,7 @@ use Rattle.cs_tx.specs.Digest.{name_of_genesis}
 use Rattle.cs_sched_types.specs.declared.schedule.Event.{Event}
 use Rattle.cs_sched.specs.Values.{◌>>=◌}
 use Rattle.cs_sched.specs.Names.{is_known}
-use Rattle.cs_sched.specs.Said.{only_field, no_field, shards_said, faulty_said, dummies_said, master_said, liar_said, object_said}
+use Rattle.cs_sched.specs.Said.{no_field, shards_said, faulty_said, dummies_said, master_said, liar_said, contract_said, object_said}
 use Rattle.cs_sched.specs.Events.{event_said}
 use Rattle.cs_sched.specs.declared.cause.Cause.{Cause}
 use Rattle.cs_sched.specs.declared.cause.Cause.TheVariants as cause
@@ -31,7 +31,14 @@ with_liar draft liar = record draft {
   schedule = record draft.schedule { liars = draft.schedule.liars ++ liar ∷ [] };
 }
 
--- one more object and its name, behind which no liar can stand
+-- one more contract, behind which no liar can stand
+abbrev pub with_contract : Draft → List ℕ → Draft
+with_contract draft text = record draft {
+  stage = stage.Contracts;
+  schedule = record draft.schedule { contracts = draft.schedule.contracts ++ text ∷ [] };
+}
+
+-- one more object and its name, behind which no liar and no contract can stand
 abbrev pub with_genesis : Draft → Object → List ℕ → Draft
 with_genesis draft object name = record draft {
   stage = stage.Genesis;
@@ -76,11 +83,10 @@ liar_line draft fields = do
   liar ← liar_said draft.schedule fields
   Ok (with_liar draft liar)
 
--- contracts aren't built
-abbrev pub contract_line : List (List ℕ) → Result Draft Cause
-contract_line fields = do
-  field ← only_field fields
-  Err cause.Later
+abbrev pub contract_line : Draft → List (List ℕ) → Result Draft Cause
+contract_line draft fields = do
+  text ← contract_said (length draft.schedule.contracts) fields
+  Ok (with_contract draft text)
 
 -- an object, whose name is its key, unless an earlier one has that key
 abbrev pub named_object : Draft → Object → List ℕ → Result Draft Cause

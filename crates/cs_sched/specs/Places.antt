@@ -15,12 +15,17 @@ genesis_place draft word fields =
     else if bytes_eq word (codes "run") then run_line draft fields
     else Err cause.Word
 
--- liars, then contracts, and then objects
+-- contracts, and then objects
+abbrev pub contracts_place : Draft → List ℕ → List (List ℕ) → Result Draft Cause
+contracts_place draft word fields =
+    if bytes_eq word (codes "contract") then contract_line draft fields
+    else genesis_place draft word fields
+
+-- liars, and then contracts
 abbrev pub liars_place : Draft → List ℕ → List (List ℕ) → Result Draft Cause
 liars_place draft word fields =
     if bytes_eq word (codes "liar") then liar_line draft fields
-    else if bytes_eq word (codes "contract") then contract_line fields
-    else genesis_place draft word fields
+    else contracts_place draft word fields
 
 -- events, and then the end
 abbrev pub events_place : ℕ → Draft → List ℕ → List (List ℕ) → Result Draft Cause
@@ -39,6 +44,7 @@ line_at stage.Dummies line draft word fields =
 line_at stage.Master line draft word fields =
     if bytes_eq word (codes "master") then master_line draft fields else Err cause.Word
 line_at stage.Liars line draft word fields = liars_place draft word fields
+line_at stage.Contracts line draft word fields = contracts_place draft word fields
 line_at stage.Genesis line draft word fields = genesis_place draft word fields
 line_at stage.Events line draft word fields = events_place line draft word fields
 line_at stage.Ended line draft word fields = Err cause.After

@@ -1,5 +1,5 @@
 -- What every schedule meets that is read.
-use Rattle.std.specs.Prelude.{◌≡◌, ◌≢◌, ℕ, ◌<◌, ◌≤◌, ◌^◌, true, false, ◌||◌, List, [], length}
+use Rattle.std.specs.Prelude.{◌≡◌, ◌≢◌, ℕ, ◌<◌, ◌≤◌, ◌^◌, true, false, ◌||◌, List, length}
 use Rattle.std.specs.List.{All, AllPairs}
 use Rattle.cs_base.specs.Fields.{IsBytes}
 use Rattle.cs_base.specs.NodeId.{is_node, is_named, is_client}
@@ -7,9 +7,12 @@ use Rattle.cs_base.specs.declared.config.Config.{Config}
 use Rattle.cs_base.specs.declared.limits.TheConstants.{MOST_SHARDS, MOST_LIARS, MOST_BODY, MOST_DATAGRAM, MOST_GENESIS}
 use Rattle.cs_base.specs.declared.node_id.NodeId.{NodeId}
 use Rattle.cs_tx_value.specs.Object.{ObjectFits}
+use Rattle.cs_lang_token.specs.declared.limits.TheConstants.{MOST_TEXT}
+use Rattle.cs_accept.specs.Accepting.{is_refused}
 use Rattle.cs_sched_types.specs.declared.schedule.Schedule.{Schedule}
 use Rattle.cs_sched_types.specs.declared.schedule.Event.{Event}
 use Rattle.cs_sched_types.specs.declared.schedule.Event.TheVariants.{Say, Inject, Deliver, Tick, Drain}
+use Rattle.cs_sched.specs.declared.limits.TheConstants.{MOST_CONTRACTS}
 use Rattle.cs_sched.specs.Naming.{is_liar, liars_of}
 use Rattle.cs_sched.specs.Names.{genesis_names}
 
@@ -46,8 +49,14 @@ IsPlayableEvent config liars (Deliver number) = number < 2 ^ 64
 IsPlayableEvent config liars (Tick node) = IsHonest config liars node
 IsPlayableEvent config liars (Drain times) = times < 2 ^ 64
 
+-- a text of bytes that is a contract, and is accepted
+pub record IsContractText (text : List ℕ) : Type 0 where
+  pub in_bytes : IsBytes text
+  pub short : length text ≤ MOST_TEXT
+  pub accepted : is_refused text ≡ false
+
 -- Up to 16 shards of 3f+1 nodes each make up the deployment, with f up to 5. At most f nodes of a shard are liars, and
--- none is one twice. The objects have encodings, and no two of them one key.
+-- none is one twice. The contracts are accepted. The objects have encodings, and no two of them one key.
 pub record IsPlayable (schedule : Schedule) : Type 0 where
   pub some_shard : 0 < schedule.config.shards
   pub few_shards : schedule.config.shards ≤ MOST_SHARDS
@@ -55,7 +64,8 @@ pub record IsPlayable (schedule : Schedule) : Type 0 where
   pub liars : All (λ name. is_node schedule.config name ≡ true) schedule.liars
   pub few_liars : (shard : ℕ) → liars_of schedule.liars shard ≤ schedule.config.f
   pub liars_differ : AllPairs (λ a b. a ≢ b) schedule.liars
-  pub contracts : schedule.contracts ≡ []
+  pub contracts : All IsContractText schedule.contracts
+  pub few_contracts : length schedule.contracts ≤ MOST_CONTRACTS
   pub objects : All ObjectFits schedule.genesis
   pub few_objects : length schedule.genesis ≤ MOST_GENESIS
   pub keys_differ : AllPairs (λ a b. a ≢ b) (genesis_names 0 schedule.genesis)

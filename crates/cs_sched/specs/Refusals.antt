@@ -2,11 +2,10 @@
 use Rattle.std.specs.Prelude.{ℕ, List, [], ◌∷◌, ◌++◌, codes}
 use Rattle.std.specs.Fmt.{decimal}
 use Rattle.cs_sched.specs.declared.cause.Cause.{Cause}
-use Rattle.cs_sched.specs.declared.cause.Cause.TheVariants.{Later, Word, Count, Number, Limit, Node, Role, Liars, Hex, Object, Contract, Key, End, After}
+use Rattle.cs_sched.specs.declared.cause.Cause.TheVariants.{Word, Count, Number, Limit, Node, Role, Liars, Hex, Object, Contract, Key, End, After}
 
 -- the word of a cause
 abbrev pub word_of : Cause → List ℕ
-word_of Later = codes "later"
 word_of Word = codes "word"
 word_of Count = codes "count"
 word_of Number = codes "number"

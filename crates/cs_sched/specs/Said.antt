@@ -8,7 +8,8 @@ use Rattle.cs_base.specs.declared.config.Config.{Config}
 use Rattle.cs_base.specs.declared.node_id.NodeId.{NodeId}
 use Rattle.cs_tx_value.specs.declared.object.Object.{Object}
 use Rattle.cs_sched_types.specs.declared.schedule.Schedule.{Schedule}
-use Rattle.cs_sched.specs.Values.{◌>>=◌, in_range, master_in, object_in}
+use Rattle.cs_sched.specs.declared.limits.TheConstants.{MOST_CONTRACTS}
+use Rattle.cs_sched.specs.Values.{◌>>=◌, in_range, master_in, contract_in, object_in}
 use Rattle.cs_sched.specs.Naming.{liar_in}
 use Rattle.cs_sched.specs.declared.cause.Cause.{Cause}
 use Rattle.cs_sched.specs.declared.cause.Cause.TheVariants as cause
@@ -58,6 +59,12 @@ abbrev pub liar_said : Schedule → List (List ℕ) → Result NodeId Cause
 liar_said schedule fields = do
   field ← only_field fields
   liar_in schedule.config schedule.liars field
+
+-- the text of the next contract, where so many stand before it, which are to be few
+abbrev pub contract_said : ℕ → List (List ℕ) → Result (List ℕ) Cause
+contract_said place fields = do
+  field ← only_field fields
+  if nat_lt place MOST_CONTRACTS then contract_in field else Err cause.Limit
 
 -- the next object, where so many stand before it, which are to be few
 abbrev pub object_said : ℕ → List (List ℕ) → Result Object Cause

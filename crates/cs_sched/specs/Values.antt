@@ -8,6 +8,8 @@ use Rattle.cs_base.specs.declared.config.OutOfRange.{OutOfRange}
 use Rattle.cs_tx_value.specs.declared.object.Object.{Object}
 use Rattle.cs_tx_value.specs.Object.{object_at}
 use Rattle.cs_base.specs.Codes.{number_of, bytes_of}
+use Rattle.cs_lang_token.specs.declared.limits.TheConstants.{MOST_TEXT}
+use Rattle.cs_accept.specs.Accepting.{is_refused}
 use Rattle.cs_sched.specs.declared.cause.Cause.{Cause}
 use Rattle.cs_sched.specs.declared.cause.Cause.TheVariants as cause
 
@@ -39,6 +41,12 @@ abbrev pub master_in : List ℕ → Result (List ℕ) Cause
 master_in field = do
   bytes ← ok_or (bytes_of field) cause.Hex
   if length bytes == 32 then Ok bytes else Err cause.Hex
+
+-- the text of a contract in hex, which is accepted
+abbrev pub contract_in : List ℕ → Result (List ℕ) Cause
+contract_in field = do
+  text ← bytes_within MOST_TEXT field
+  if is_refused text then Err cause.Contract else Ok text
 
 -- the object of which these bytes are the encoding
 abbrev pub encoded_object : List ℕ → Option Object

@@ -8,8 +8,6 @@ use std::fmt;
 /// Why a line is refused.
 #[derive(Clone, Copy, Debug, PartialEq, Eq)]
 pub enum Cause {
-    /// A form that isn't built yet.
-    Later,
     /// The line's word is unknown, or can't stand at this place.
     Word,
     /// Another number of fields than the line has.
@@ -50,7 +48,6 @@ impl fmt::Display for Cause {
 
     fn fmt<W: fmt::Write>(&self, f: &mut fmt::Formatter<W>) -> fmt::Result {
         f.write_str(match self {
-            Cause::Later => "later",
             Cause::Word => "word",
             Cause::Count => "count",
             Cause::Number => "number",

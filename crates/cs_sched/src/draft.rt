@@ -6,14 +6,14 @@ ghost use Rattle.cs_tx_value.specs.Object.{ObjectFits};
 ghost use Rattle.cs_tx.specs.Digest.{name_of_genesis};
 ghost use Rattle.cs_sched.specs.Reading.{Moves};
 ghost use Rattle.cs_sched.specs.Drafts.{empty_draft};
-ghost use Rattle.cs_sched.specs.Lines.{shards_line, faulty_line, dummies_line, master_line, liar_line, genesis_line, run_line, event_line, end_line};
+ghost use Rattle.cs_sched.specs.Lines.{shards_line, faulty_line, dummies_line, master_line, liar_line, contract_line, genesis_line, run_line, event_line, end_line};
 
 use crate::cause::Cause;
 use crate::error::LineError;
 use crate::events::read_event;
 use crate::lines::{
-    no_field, read_dummies, read_faulty, read_liar_line, read_master_line, read_object_line,
-    read_shards,
+    no_field, read_contract_line, read_dummies, read_faulty, read_liar_line, read_master_line,
+    read_object_line, read_shards,
 };
 use crate::name_set::NameSet;
 use cs_base::{Config, Key, Memory, Sequence};
@@ -29,6 +29,7 @@ pub(crate) enum Stage {
     Dummies,
     Master,
     Liars,
+    Contracts,
     Genesis,
     Events,
     Ended,
@@ -120,6 +121,15 @@ impl Draft {
     {
         let liar = read_liar_line(&self.schedule, fields)?;
         self.schedule.liars.push(liar)?;
+        Ok(())
+    }
+
+    pub(crate) fn take_contract(&mut self, alloc: Global, fields: &[&[u8]]) -> Result<(), LineError>
+        ensures { Moves result self.new (contract_line self.old (views fields.now)) }
+    {
+        let text = read_contract_line(alloc, self.schedule.contracts.len(), fields)?;
+        self.schedule.contracts.push(text)?;
+        self.stage = Stage::Contracts;
         Ok(())
     }
 

@@ -1,17 +1,17 @@
 //! What each line says.
-ghost use Rattle.std.specs.Prelude.{◌≡◌, ◌<◌, Err, IfOk, length};
+ghost use Rattle.std.specs.Prelude.{◌≡◌, ◌<◌, IfOk, length};
 ghost use Rattle.cs_base.specs.Lines.{views};
 ghost use Rattle.cs_base.specs.declared.limits.TheConstants.{MOST_GENESIS};
 ghost use Rattle.cs_tx_value.specs.Object.{ObjectFits};
 ghost use Rattle.cs_sched.specs.Reading.{GivesStep, Lends};
-ghost use Rattle.cs_sched.specs.Said.{only_field, no_field, number_said, shards_said, faulty_said, dummies_said, master_said, liar_said, object_said};
-ghost use Rattle.cs_sched.specs.Lines.{contract_line};
+ghost use Rattle.cs_sched.specs.Said.{only_field, no_field, number_said, shards_said, faulty_said, dummies_said, master_said, liar_said, contract_said, object_said};
 
 use crate::cause::Cause;
 use crate::error::LineError;
+use crate::limits::MOST_CONTRACTS;
 use crate::naming::read_liar;
-use crate::values::{config, number, read_master, read_object};
-use cs_base::{Config, MOST_GENESIS, NodeId};
+use crate::values::{config, number, read_contract, read_master, read_object};
+use cs_base::{Config, MOST_GENESIS, NodeId, Sequence};
 use cs_sched_types::Schedule;
 use cs_tx::{Digest, Object};
 use std::alloc::Global;
@@ -76,14 +76,19 @@ pub(crate) fn read_liar_line(schedule: &Schedule, fields: &[&[u8]]) -> Result<No
     read_liar(&schedule.config, schedule.liars.as_slice(), field)
 }
 
-// Contracts aren't built.
-pub(crate) fn refuse_contract(fields: &[&[u8]]) -> Cause
-    ensures { contract_line (views fields.now) ≡ Err result }
+// The text of a contract, where so many stand before it.
+pub(crate) fn read_contract_line(
+    alloc: Global,
+    place: usize,
+    fields: &[&[u8]],
+) -> Result<Sequence<u8>, LineError>
+    ensures { GivesStep result (contract_said place (views fields.now)) }
 {
-    match only_field(fields) {
-        Ok(_) => Cause::Later,
-        Err(cause) => cause,
+    let field = only_field(fields)?;
+    if place >= MOST_CONTRACTS {
+        return Err(LineError::Bad(Cause::Limit));
     }
+    read_contract(alloc, field)
 }
 
 // An object, where so many stand before it.

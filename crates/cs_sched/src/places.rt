@@ -2,12 +2,11 @@
 ghost use Rattle.std.specs.Prelude.{◌≡◌};
 ghost use Rattle.cs_base.specs.Lines.{views, fields_of};
 ghost use Rattle.cs_sched.specs.Reading.{Moves};
-ghost use Rattle.cs_sched.specs.Places.{genesis_place, liars_place, events_place, line_at, line_step};
+ghost use Rattle.cs_sched.specs.Places.{genesis_place, contracts_place, liars_place, events_place, line_at, line_step};
 
 use crate::cause::Cause;
 use crate::draft::{Draft, Stage};
 use crate::error::LineError;
-use crate::lines::refuse_contract;
 use cs_base::fields;
 use std::alloc::Global;
 
@@ -48,6 +47,7 @@ impl Draft {
                 Err(LineError::Bad(Cause::Word))
             }
             Stage::Liars => self.take_at_liars(alloc, word, fields),
+            Stage::Contracts => self.take_at_contracts(alloc, word, fields),
             Stage::Genesis => self.take_at_genesis(alloc, word, fields),
             Stage::Events => self.take_at_events(alloc, line, word, fields),
             Stage::Ended => Err(LineError::Bad(Cause::After)),
@@ -64,8 +64,21 @@ impl Draft {
     {
         if word == b"liar".as_slice() {
             self.take_liar(fields)
-        } else if word == b"contract".as_slice() {
-            Err(LineError::Bad(refuse_contract(fields)))
+        } else {
+            self.take_at_contracts(alloc, word, fields)
+        }
+    }
+
+    fn take_at_contracts(
+        &mut self,
+        alloc: Global,
+        word: &[u8],
+        fields: &[&[u8]],
+    ) -> Result<(), LineError>
+        ensures { Moves result self.new (contracts_place self.old word.now (views fields.now)) }
+    {
+        if word == b"contract".as_slice() {
+            self.take_contract(alloc, fields)
         } else {
             self.take_at_genesis(alloc, word, fields)
         }

@@ -114,8 +114,6 @@ fn lines_behind_the_head(rt: HostRuntime) -> Result<(), Fail> {
         ("liar 0.00", 5, Cause::Node),
         ("liar 0.0", 5, Cause::Liars),
         ("liar 0.0 0.0", 5, Cause::Count),
-        ("contract", 5, Cause::Count),
-        ("contract -", 5, Cause::Later),
         ("genesis 0", 5, Cause::Hex),
         ("genesis -", 5, Cause::Object),
         ("genesis", 5, Cause::Count),

@@ -4,13 +4,15 @@ ghost use Rattle.std.specs.Option.{ok_or};
 ghost use Rattle.cs_base.specs.Config.{configured};
 ghost use Rattle.cs_base.specs.Codes.{number_of};
 ghost use Rattle.cs_sched.specs.Reading.{GivesStep};
-ghost use Rattle.cs_sched.specs.Values.{number_within, in_range, bytes_within, master_in, encoded_object, object_in};
+ghost use Rattle.cs_sched.specs.Values.{number_within, in_range, bytes_within, master_in, contract_in, encoded_object, object_in};
 ghost use Rattle.cs_tx_value.specs.Object.{ObjectFits};
 ghost use Rattle.cs_sched.specs.declared.cause.Cause.TheVariants as cause;
 
 use crate::cause::Cause;
 use crate::error::LineError;
+use cs_accept::{Unjudged, judged};
 use cs_base::{Config, MOST_OBJECT, Sequence, read_bytes, read_number};
+use cs_lang_token::MOST_TEXT;
 use cs_tx::{Digest, Encoded, FormError, Object};
 use std::alloc::Global;
 
@@ -78,6 +80,17 @@ pub(crate) fn read_master(alloc: Global, field: &[u8]) -> Result<Digest, LineErr
     let mut master = [0; 32];
     master.copy_from_slice(bytes.as_slice());
     Ok(master)
+}
+
+pub(crate) fn read_contract(alloc: Global, field: &[u8]) -> Result<Sequence<u8>, LineError>
+    ensures { GivesStep result (contract_in field.now) }
+{
+    let text = read_bytes_within(alloc, field, MOST_TEXT)?;
+    match judged(alloc, text.as_slice()) {
+        Ok(_) => Ok(text),
+        Err(Unjudged::Memory) => Err(LineError::Memory),
+        Err(Unjudged::Faulty(_)) => Err(LineError::Bad(Cause::Contract)),
+    }
 }
 
 pub(crate) fn read_object(alloc: Global, field: &[u8]) -> Result<Object, LineError>

@@ -1,0 +1,4 @@
+pub mod Books
+pub mod Refusing
+pub mod Seen
+pub mod Approval
