@@ -1,8 +1,8 @@
 //! The program: its words, standard input and standard output, handed to the library.
 #![tactic(auto)]
 
+use cs_cli::{WordsError, words_or_status};
 use cs_outside::{StandardInput, StandardOutput};
-use cs_replay::{WordsError, words_or_status};
 use std::env;
 use std::process::ExitCode;
 
@@ -13,7 +13,7 @@ fn main(rt: HostRuntime) -> ExitCode {
     };
     let mut input = StandardInput::new(rt.stdin());
     let mut output = StandardOutput::new(rt.stdout());
-    ExitCode::from(cs_replay::run(rt.alloc(), &words, &mut input, &mut output))
+    ExitCode::from(cs_cli::run(rt.alloc(), &words, &mut input, &mut output))
 }
 
 // The words behind the program's name.

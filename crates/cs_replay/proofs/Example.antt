@@ -12,7 +12,7 @@ use Rattle.cs_sched_types.specs.declared.schedule.Event.TheVariants.{Say, Tick, 
 use Rattle.cs_tx_value.specs.Object.{ObjectFits}
 use Rattle.cs_tx.specs.Token.{is_token_approved}
 use Rattle.cs_sched.specs.Naming.{liars_of}
-use Rattle.cs_sched.specs.Playable.{IsHonest, IsSaid, IsPlayableEvent, IsPlayable}
+use Rattle.cs_sched.specs.Playable.{IsHonest, IsSaid, IsPlayableEvent, IsContractText, IsPlayable}
 use Rattle.cs_replay.specs.Sound.{IsSound}
 
 abbrev node : ℕ → NodeId
@@ -75,7 +75,8 @@ playable = record {
   liars = more (λ name. is_node lying_member.config name ≡ true) (node 3) [] refl (none (λ name. is_node lying_member.config name ≡ true));
   few_liars = few;
   liars_differ = λ i j d below within. absurd (omega arith);
-  contracts = refl;
+  contracts = none IsContractText;
+  few_contracts = omega arith;
   objects = none ObjectFits;
   few_objects = omega arith;
   keys_differ = λ i j d below within. absurd (omega arith);

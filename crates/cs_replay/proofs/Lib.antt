@@ -1,9 +1,8 @@
-pub mod Answered
 pub mod Apart
+pub mod Books
 pub mod Deployed
 pub mod Earlier
 pub mod Example
 pub mod Few
 pub mod Honest
-pub mod Outcomes
 pub mod Whole

@@ -1,4 +1,3 @@
-pub mod Words
 pub mod Site
 pub mod Settings
 pub mod Played

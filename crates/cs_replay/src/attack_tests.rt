@@ -79,73 +79,73 @@ fn spelled(alloc: Global, text: &str) -> Result<String, AllocError> {
 #[test]
 fn attacks(rt: HostRuntime) -> Result<(), Fail> {
     let alloc = rt.alloc();
-    for (words, schedule, status, written) in [
+    for (traced, schedule, status, written) in [
         // two-shards-one-dummy
         (
-            ["replay"].as_slice(),
+            false,
             "shards 2\nfaulty 0\ndummies 1\nmaster $ZEROS\ngenesis $COIN03\nrun\nsay c.0 0.0 1 $PAY\nsay c.0 1.0 1 $PAY\ndrain 10\nend\n",
             0,
             "node 0.0 slot 0 prepare #PAY commit\nnode 1.0 slot 0 prepare #PAY commit\nnode 1.0 slot 1 decide #PAY accepted\nnode 0.0 slot 1 decide #PAY accepted\nhistory 1\ntx #TX\n",
         ),
         // old-vote-at-output-shard
         (
-            &["replay", "--trace"],
+            true,
             "shards 2\nfaulty 0\ndummies 1\nmaster $ZEROS\ngenesis $COIN03\nrun\nsay c.0 0.0 1 $PAY\nsay c.0 1.0 1 $PAY\ndrain 10\ndeliver 0\ndeliver 2\nend\n",
             0,
             "at 0 7\nnode 0.0 slot 0 prepare #PAY commit\nsent 0 0.0 1.0 6 43535031060000000000010000000000f20101$PAY40c2f1cc95614faa4125f8fb85a81ed9f98e2d6613521389e45ce428f67ae71e\nat 1 8\nnode 1.0 slot 0 prepare #PAY commit\nsent 1 1.0 0.0 6 43535031060001000000000000000000f20101$PAYea4e641582461994356563276c5af463f4f117a442a93665652844c89d1aeda8\nat 2 9\nnode 1.0 slot 1 decide #PAY accepted\nat 3 9\nnode 0.0 slot 1 decide #PAY accepted\nat 4 10\nsent 2 1.0 0.0 6 43535031060001000000000000000000f20100$PAYc80c8152fed6658753f727dc0e1828c303cb8823ea52a4db7ff0ff9ef93a0ae1\nat 5 11\ndrop 0.0 unasked\nhistory 1\ntx #TX\n",
         ),
         // vote-of-another-session
         (
-            &["replay"],
+            false,
             "shards 2\nfaulty 0\ndummies 2\nmaster $ZEROS\ngenesis $COIN03\nrun\nsay c.0 1.0 1 $SECOND\nsay c.0 0.0 1 $PAY\ndeliver 1\ndeliver 2\ndeliver 0\ndeliver 3\nend\n",
             0,
             "node 1.0 slot 0 prepare #SECOND commit\nnode 0.0 slot 0 prepare #PAY commit\nnode 1.0 slot 1 prepare #PAY commit\nnode 1.0 slot 2 decide #PAY accepted\nnode 0.0 slot 1 decide #PAY accepted\nnode 0.0 slot 2 prepare #SECOND abort\nnode 1.0 slot 3 decide #SECOND aborted\nhistory 1\ntx #TX\n",
         ),
         // forged-vote
         (
-            &["replay"],
+            false,
             "shards 2\nfaulty 0\ndummies 0\nmaster $ZEROS\nrun\ninject 1.0 43535031060000000000010000000000f20101$PAY40c2f1cc95614faa4125f8fb85a81ed9f98e2d6613521389e45ce428f67ae71e\nend\n",
             4,
             "forged 6\n",
         ),
         // reflected-datagram
         (
-            &["replay", "--trace"],
+            true,
             "shards 2\nfaulty 0\ndummies 1\nmaster $ZEROS\ngenesis $COIN03\nrun\nsay c.0 0.0 1 $PAY\ninject 0.0 43535031060000000000010000000000f20101$PAY40c2f1cc95614faa4125f8fb85a81ed9f98e2d6613521389e45ce428f67ae71e\nend\n",
             0,
             "at 0 7\nnode 0.0 slot 0 prepare #PAY commit\nsent 0 0.0 1.0 6 43535031060000000000010000000000f20101$PAY40c2f1cc95614faa4125f8fb85a81ed9f98e2d6613521389e45ce428f67ae71e\nat 1 8\ndrop 0.0 mine\nhistory 0\n",
         ),
         // used-dummy
         (
-            &["replay"],
+            false,
             "shards 2\nfaulty 0\ndummies 1\nmaster $ZEROS\ngenesis $COIN03\ngenesis $COIN03\nrun\nsay c.0 0.0 1 $PAY\nsay c.0 1.0 1 $PAY\ndrain 10\nsay c.0 0.0 1 $SPEND\ndrain 10\nend\n",
             0,
             "node 0.0 slot 0 prepare #PAY commit\nnode 1.0 slot 0 prepare #PAY commit\nnode 1.0 slot 1 decide #PAY accepted\nnode 0.0 slot 1 decide #PAY accepted\nnode 0.0 slot 2 prepare #SPEND commit\nnode 1.0 slot 2 prepare #SPEND abort\nnode 0.0 slot 3 decide #SPEND aborted\nhistory 1\ntx #TX\n",
         ),
         // dummy-not-made-yet
         (
-            &["replay", "--trace"],
+            true,
             "shards 2\nfaulty 0\ndummies 1\nmaster $ZEROS\ngenesis $COIN03\nrun\nsay c.0 1.0 1 $EARLY\ndrain 10\nend\n",
             0,
             "at 0 7\nnode 1.0 slot 0 prepare #EARLY abort\nsent 0 1.0 0.0 6 43535031060001000000000000000000f20000$EARLY152b584063859c08fa555fdcea205a5ea811c941f4445f2c66e7ff08bd8c62d1\nat 1 8\ndrop 0.0 unasked\nhistory 0\n",
         ),
         // vote-twice
         (
-            &["replay", "--trace"],
+            true,
             "shards 3\nfaulty 0\ndummies 2\nmaster $ZEROS\ngenesis $COIN06\nrun\nsay c.0 1.0 1 $THREE\nsay c.0 0.0 1 $THREE\ndeliver 0\ndeliver 0\nend\n",
             0,
             "at 0 7\nnode 1.0 slot 0 prepare #THREE commit\nsent 0 1.0 0.0 6 43535031060001000000000000000000fc0101$THREE884620e897ddb30cfb2d4793f1749e445b0a7891263f0a8fd8f2092e80f57ef4\nsent 1 1.0 2.0 6 43535031060001000000020000000000fc0101$THREE086eb071635e8281b7622f15b1fb48939acb065d5fb72a2e5ef83a71a92e7f53\nat 1 8\nnode 0.0 slot 0 prepare #THREE commit\nsent 2 0.0 1.0 6 43535031060000000000010000000000fc0101$THREE822297246e02842a88e261362b258e7680b2437ea11650146238096f175fd098\nsent 3 0.0 2.0 6 43535031060000000000020000000000fc0101$THREE0075feb2eb07206545c6a53aa502f0fd0e342f3d664cdad8e7a068338084de8a\nat 2 9\nat 3 10\ndrop 0.0 repeat\nhistory 0\n",
         ),
         // another-deployment
         (
-            &["replay", "--trace"],
+            true,
             "shards 1\nfaulty 0\ndummies 1\nmaster $ZEROS\nrun\ninject 0.0 435350310affff00000000000000000000e87e45290ceaf43467356e17b5f96f2b541e5c0d0b0397ea297cdda26adf064a\nend\n",
             0,
             "at 0 6\ndrop 0.0 tag\nhistory 0\n",
         ),
     ] {
         let text = spelled(alloc, schedule)?;
-        let (found, printed) = answer(alloc, words, text.as_bytes(), &[], &[])?;
+        let (found, printed) = answer(alloc, traced, text.as_bytes(), &[], &[])?;
         let whole = spelled(alloc, written)?;
         assert_eq!(rt; found, status, "of {schedule}");
         assert_eq!(rt; printed.as_slice(), whole.as_bytes(), "of {schedule}");

@@ -5,10 +5,12 @@
 #[cfg(test)]
 mod attack_tests;
 #[cfg(test)]
+mod contract_tests;
+#[cfg(test)]
 mod member_tests;
 mod outcome;
-mod program;
 mod schedule;
+mod source;
 mod starting;
 #[cfg(test)]
 mod tests;
@@ -17,10 +19,8 @@ mod theorem;
 mod trace_tests;
 #[cfg(test)]
 mod trial_tests;
-mod words;
 
 pub use outcome::{ReplayError, Summary};
-pub use program::run;
 pub use schedule::{Mode, replay};
+pub use source::replay_source;
 pub use theorem::schedules_are_sound;
-pub use words::{Command, WordsError, read_words, words_or_status};

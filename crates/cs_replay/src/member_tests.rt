@@ -34,12 +34,12 @@ const COME_LATER: [u32; 36] = [
 /// The status, and what is printed.
 fn played(
     alloc: Global,
-    words: &[&str],
+    traced: bool,
     head: &str,
     events: &str,
 ) -> Result<(u8, Vec<u8>), AllocError> {
     let text = format!(in alloc; "{head}run\n{events}end\n")?;
-    answer(alloc, words, text.as_bytes(), &[], &[])
+    answer(alloc, traced, text.as_bytes(), &[], &[])
 }
 
 /// The leader 0.0 proposes one session to 0.1 and 0.2, and another to 0.3. Nothing is chosen, unless
@@ -56,7 +56,7 @@ fn a_leader_with_two_faces(rt: HostRuntime) -> Result<(), Fail> {
     }
     let (status, printed) = played(
         alloc,
-        &["replay"],
+        false,
         &head,
         &format!(in alloc; "{events}drain 1000\n")?,
     )?;
@@ -65,7 +65,7 @@ fn a_leader_with_two_faces(rt: HostRuntime) -> Result<(), Fail> {
         events.push_str(&format!(in alloc; "say 0.0 0.{to} 3 00000000000000000000{ENTRY}\n")?)?;
     }
     events.push_str("drain 1000\ntick 0.3\ndrain 1000\n")?;
-    let (status, printed) = played(alloc, &["replay"], &head, &events)?;
+    let (status, printed) = played(alloc, false, &head, &events)?;
     let mut whole = String::new(alloc);
     for node in 1..4u32 {
         whole.push_str(&format!(in alloc; "node 0.{node} slot 0 prepare {MOVED} commit\n")?)?;
@@ -105,7 +105,7 @@ fn a_view_changes_after_a_lost_confirm(rt: HostRuntime) -> Result<(), Fail> {
     for number in COME_LATER {
         events.push_str(&format!(in alloc; "deliver {number}\n")?)?;
     }
-    let (status, printed) = played(alloc, &["replay"], &head, &events)?;
+    let (status, printed) = played(alloc, false, &head, &events)?;
     let mut whole = String::new(alloc);
     for node in 0..4u32 {
         whole.push_str(&format!(in alloc; "node 0.{node} slot 0 prepare {MOVED} commit\n")?)?;
@@ -123,7 +123,7 @@ fn an_echo_is_forged(rt: HostRuntime) -> Result<(), Fail> {
     let head = format!(in alloc; "shards 1\nfaulty 1\ndummies 0\n{MASTER}")?;
     let echo =
         "inject 0.1 435350310300000000000000010000002a000000000000000000006464646464646464646464646464646464646464646464646464646464646464216d35ec8eaa46ec3374c36d7a68638d2d57e01f9acd354a16e257ead0d65cf2\n";
-    let (status, printed) = played(alloc, &["replay"], &head, echo)?;
+    let (status, printed) = played(alloc, false, &head, echo)?;
     assert!(rt; status == 4 && printed.as_slice() == b"forged 6\n".as_slice());
     Ok(())
 }
@@ -146,7 +146,7 @@ fn shards_of_each_size(rt: HostRuntime) -> Result<(), Fail> {
             head.push_str(COIN)?;
             let mut events = said_to_all(alloc, honest)?;
             events.push_str("drain 100000\n")?;
-            let (status, printed) = played(alloc, &["replay"], &head, &events)?;
+            let (status, printed) = played(alloc, false, &head, &events)?;
             assert_eq!(rt; status, 0);
             assert_eq!(rt;
                 lines_in(&printed),

@@ -1,8 +1,7 @@
 //! Worked schedules, and what the program answers to them.
 use crate::outcome::{ReplayError, Summary};
-use crate::program::run;
 use crate::schedule::{Mode, replay};
-use crate::words::{WordsError, words_or_status};
+use crate::source::replay_source;
 use cs_base::{MemSink, MemSource, Memory, NullSink, print_bytes};
 use cs_sched::parse;
 use cs_tx::{Judge, TokenJudge, Tx};
@@ -77,18 +76,14 @@ const SPENT: &str =
 /// The status, and what was written. The source's and the sink's calls of these numbers fail.
 pub(crate) fn answer(
     alloc: Global,
-    words: &[&str],
+    traced: bool,
     text: &[u8],
     read_fails: &[u32],
     write_fails: &[u32],
 ) -> Result<(u8, Vec<u8>), AllocError> {
-    let mut owned = Vec::new(alloc);
-    for word in words {
-        owned.push(String::from_str(alloc, word)?)?;
-    }
     let mut input = MemSource::new(text.to_vec(alloc)?, read_fails.to_vec(alloc)?);
     let mut output = MemSink::new(alloc, write_fails.to_vec(alloc)?);
-    let status = run(alloc, &owned, &mut input, &mut output);
+    let status = replay_source(alloc, traced, &mut input, &mut output);
     Ok((status, output.bytes().to_vec(alloc)?))
 }
 
@@ -121,35 +116,6 @@ fn digest_text(alloc: Global, bytes: &[u8]) -> Result<String, Fail> {
 }
 
 #[test]
-fn words(rt: HostRuntime) -> Result<(), Fail> {
-    let alloc = rt.alloc();
-    let text = format!(in alloc; "{HEAD}run\nend\n")?;
-    for (words, status, written) in [
-        (["replay"].as_slice(), 0, "history 0\n"),
-        (&["replay", "--"], 2, "words\n"),
-        (&["replay", "--trace", "--trace"], 2, "words\n"),
-        (&["replays"], 2, "words\n"),
-        (&[], 2, "words\n"),
-    ] {
-        let (found, printed) = answer(alloc, words, text.as_bytes(), &[], &[])?;
-        assert_eq!(rt; found, status);
-        assert_eq!(rt; printed.as_slice(), written.as_bytes());
-    }
-    Ok(())
-}
-
-/// Words that are no text become no words, which are outside the grammar.
-#[test]
-fn words_that_are_not_read(rt: HostRuntime) -> Result<(), Fail> {
-    let alloc = rt.alloc();
-    let not_text = words_or_status(alloc, Err(WordsError::NotText));
-    assert_eq!(rt; not_text.map(|words| words.len()), Ok(0));
-    let no_memory = words_or_status(alloc, Err(WordsError::Memory));
-    assert_eq!(rt; no_memory.map(|words| words.len()), Err(8));
-    Ok(())
-}
-
-#[test]
 fn each_cause_of_a_refusal(rt: HostRuntime) -> Result<(), Fail> {
     let alloc = rt.alloc();
     for (lines, status, written) in [
@@ -163,16 +129,16 @@ fn each_cause_of_a_refusal(rt: HostRuntime) -> Result<(), Fail> {
         ("liar 0.0", 3, "refused 5 liars\n"),
         ("genesis 0", 3, "refused 5 hex\n"),
         ("genesis -", 3, "refused 5 object\n"),
-        ("contract 00", 3, "refused 5 later\n"),
+        ("contract 40", 3, "refused 5 contract\n"),
         ("run\n", 3, "refused 6 end\n"),
         ("run\nend\nrun\n", 3, "refused 7 after\n"),
     ] {
         let text = format!(in alloc; "{HEAD}{lines}")?;
-        let (found, printed) = answer(alloc, &["replay"], text.as_bytes(), &[], &[])?;
+        let (found, printed) = answer(alloc, false, text.as_bytes(), &[], &[])?;
         assert_eq!(rt; found, status, "of {lines}");
         assert_eq!(rt; printed.as_slice(), written.as_bytes(), "of {lines}");
     }
-    let (found, printed) = answer(alloc, &["replay"], &[], &[], &[])?;
+    let (found, printed) = answer(alloc, false, &[], &[], &[])?;
     assert!(rt; found == 3 && printed.as_slice() == b"refused 1 end\n".as_slice());
     Ok(())
 }
@@ -190,7 +156,7 @@ fn sessions_on_one_coin(rt: HostRuntime) -> Result<(), Fail> {
         (&[GROW], "history 0\n"),
     ] {
         let text = schedule(alloc, sessions)?;
-        let (status, printed) = answer(alloc, &["replay"], text.as_bytes(), &[], &[])?;
+        let (status, printed) = answer(alloc, false, text.as_bytes(), &[], &[])?;
         assert_eq!(rt; status, 0);
         assert_eq!(rt; printed.as_slice(), written.as_bytes());
     }
@@ -273,7 +239,7 @@ fn a_full_book_takes_no_session(rt: HostRuntime) -> Result<(), Fail> {
         digest.as_str(),
         "94204f6eaf5c61a50b405828ac79266f755aad1dc98d0364b976000faa4e5df4"
     );
-    let (status, printed) = answer(alloc, &["replay"], text.as_bytes(), &[], &[])?;
+    let (status, printed) = answer(alloc, false, text.as_bytes(), &[], &[])?;
     let digest = digest_text(alloc, &printed)?;
     assert_eq!(rt; status, 0);
     assert_eq!(rt;
@@ -294,12 +260,12 @@ fn each_read_and_each_write_fails(rt: HostRuntime) -> Result<(), Fail> {
         (1, 5, "read fault\n"),
         (2, 0, whole.as_str()),
     ] {
-        let (found, printed) = answer(alloc, &["replay"], text.as_bytes(), &[number], &[])?;
+        let (found, printed) = answer(alloc, false, text.as_bytes(), &[number], &[])?;
         assert_eq!(rt; found, status, "at read {number}");
         assert_eq!(rt; printed.as_slice(), written.as_bytes());
     }
     for (number, status, written) in [(0, 6, ""), (1, 6, SLOTS), (2, 0, whole.as_str())] {
-        let (found, printed) = answer(alloc, &["replay"], text.as_bytes(), &[], &[number])?;
+        let (found, printed) = answer(alloc, false, text.as_bytes(), &[], &[number])?;
         assert_eq!(rt; found, status, "at write {number}");
         assert_eq!(rt; printed.as_slice(), written.as_bytes());
     }
@@ -316,7 +282,7 @@ fn the_longest_text_is_read(rt: HostRuntime) -> Result<(), Fail> {
     ] {
         let mut text = short.as_bytes().to_vec(alloc)?;
         text.resize(length, b'#')?;
-        let (found, printed) = answer(alloc, &["replay"], &text, &[], &[])?;
+        let (found, printed) = answer(alloc, false, &text, &[], &[])?;
         assert_eq!(rt; found, status, "of {length} bytes");
         assert_eq!(rt; printed.as_slice(), written.as_bytes());
     }

@@ -27,7 +27,7 @@ const DECIDED: &str =
 /// What the schedule of these events prints in a trace.
 fn trace(alloc: Global, head: &str, events: &str) -> Result<(u8, Vec<u8>), AllocError> {
     let text = format!(in alloc; "{head}run\n{events}end\n")?;
-    answer(alloc, &["replay", "--trace"], text.as_bytes(), &[], &[])
+    answer(alloc, true, text.as_bytes(), &[], &[])
 }
 
 #[test]
@@ -88,7 +88,7 @@ fn no_trace_is_printed_unasked(rt: HostRuntime) -> Result<(), Fail> {
     let text = format!(in alloc;
         "{HEAD_OF_ONE_DUMMY}run\nsay c.0 0.0 10 -\nsay c.0 0.0 0 -\nend\n"
     )?;
-    let (status, printed) = answer(alloc, &["replay"], text.as_bytes(), &[], &[])?;
+    let (status, printed) = answer(alloc, false, text.as_bytes(), &[], &[])?;
     assert_eq!(rt; status, 0);
     assert_eq!(rt; printed.as_slice(), b"history 0\n".as_slice());
     Ok(())
@@ -184,7 +184,7 @@ fn too_many_events(rt: HostRuntime) -> Result<(), Fail> {
         text.push_str("tick 0.0\n")?;
     }
     text.push_str("end\n")?;
-    let (status, printed) = answer(alloc, &["replay"], text.as_bytes(), &[], &[])?;
+    let (status, printed) = answer(alloc, false, text.as_bytes(), &[], &[])?;
     assert_eq!(rt; status, 13);
     assert_eq!(rt; printed.as_slice(), b"limit 1000006\n".as_slice());
     Ok(())

@@ -135,7 +135,7 @@ fn liars_split_no_shard(rt: HostRuntime) -> Result<(), Fail> {
     let mut decided = 0u32;
     for number in 0..10u32 {
         let text = trial(alloc, &mut draws, 60)?;
-        let (status, printed) = answer(alloc, &["replay"], text.as_bytes(), &[], &[])?;
+        let (status, printed) = answer(alloc, false, text.as_bytes(), &[], &[])?;
         assert_eq!(rt; status, 0);
         let told = told(alloc, &printed)?;
         for one in &told {

@@ -1,10 +1,9 @@
 //! The words of the command line: their grammar, and what stands for words that were not read.
-ghost use Rattle.std.specs.Prelude.{◌≡◌, ◌↔◌, [], option_map, IfOk, IsOkAnd};
+ghost use Rattle.std.specs.Prelude.{◌≡◌, ◌↔◌, [], IfOk, IsOkAnd};
 ghost use Rattle.std.specs.IoError.{error_kind};
 ghost use Rattle.std.specs.declared.io.ErrorKind.TheVariants.{InvalidData};
-ghost use Rattle.cs_replay.specs.Words.{command_of, replay_of, texts_of};
-ghost use Rattle.cs_replay.specs.declared.words.Command.TheVariants.{Replay};
-ghost use Rattle.cs_replay.specs.declared.words.WordsError.TheVariants.{NotText, Memory};
+ghost use Rattle.cs_cli.specs.Words.{called, command_of, flagged, plain, texts_of};
+ghost use Rattle.cs_cli.specs.declared.words.WordsError.TheVariants.{NotText, Memory};
 
 use std::alloc::{AllocFailed, Global};
 use std::io;
@@ -16,17 +15,11 @@ pub enum Command {
     /// Reads a schedule from the input, plays it, and prints its lines; those of a trace too where
     /// it is traced.
     Replay { traced: bool },
-}
-
-impl Command {
-    /// Whether a trace is called for.
-    pub fn is_traced(self) -> bool
-        ensures { Replay result ≡ self }
-    {
-        match self {
-            Command::Replay { traced } => traced,
-        }
-    }
+    /// Reads a contract from the input, and tells what it is, or what its first fault is; where it
+    /// is accepted and to be printed, its text as the printer gives it instead.
+    Contract { printing: bool },
+    /// Reads a head and a proof from the input, and says what the proof shows to who trusts the head.
+    Verify,
 }
 
 /// Why the words of the command line were not read.
@@ -83,21 +76,46 @@ pub fn read_words(words: &[String]) -> Option<Command>
     ensures { result ≡ command_of (texts_of words.now) }
 {
     let (word, options) = words.split_first()?;
-    if word.as_str() != "replay" {
-        return None;
-    }
-    let traced = read_options(options)?;
-    Some(Command::Replay { traced })
+    read_command(word.as_str(), options)
 }
 
-// Whether the words behind `replay` call for a trace.
-fn read_options(options: &[String]) -> Option<bool>
-    ensures { option_map Replay result ≡ replay_of (texts_of options.now) }
+// The command of a word and the words behind it.
+fn read_command(word: &str, options: &[String]) -> Option<Command>
+    ensures { result ≡ called word.now (texts_of options.now) }
+{
+    match word {
+        "replay" => {
+            let traced = read_flag(options, "--trace")?;
+            Some(Command::Replay { traced })
+        }
+        "contract" => {
+            let printing = read_flag(options, "--print")?;
+            Some(Command::Contract { printing })
+        }
+        "verify" => read_plain(Command::Verify, options),
+        _ => None,
+    }
+}
+
+// A command that has no option.
+fn read_plain(command: Command, options: &[String]) -> Option<Command>
+    ensures { result ≡ plain command (texts_of options.now) }
+{
+    if options.is_empty() {
+        Some(command)
+    } else {
+        None
+    }
+}
+
+// Whether the words behind a command are its one option; none where they are others.
+fn read_flag(options: &[String], flag: &str) -> Option<bool>
+    ensures { result ≡ flagged flag.now (texts_of options.now) }
 {
     match options.split_first() {
         None => Some(false),
         Some((option, others)) => {
-            if option.as_str() == "--trace" && others.is_empty() {
+            if option.as_str() == flag && others.is_empty() {
                 Some(true)
             } else {
                 None

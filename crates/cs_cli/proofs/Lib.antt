@@ -1,0 +1,4 @@
+pub mod Outcomes
+pub mod Reported
+pub mod Sources
+pub mod Told

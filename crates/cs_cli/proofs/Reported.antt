@@ -1,0 +1,47 @@
+-- What is printed of a report, and which statuses it has.
+use Rattle.std.specs.Prelude.{◌≡◌, ◌≢◌, ℕ, Bool, List, Option, Result, Err, OnOk, OnErr}
+use Rattle.std.specs.Io.KnownBytes.{Appends}
+use Rattle.std.proofs.Common.{inl, inr, ap, sym, subst, ◌∙◌}
+use Rattle.cs_base.specs.Answers.{Answer, Answers, AppendsFront}
+use Rattle.cs_base.specs.declared.printing.WriteError.{WriteError}
+use Rattle.cs_base.specs.declared.printing.WriteError.TheVariants as write
+use Rattle.cs_command.specs.Answers.{closing_status}
+use Rattle.cs_command.proofs.Closings.{closed, closing-other, closing-failed}
+use Rattle.cs_accept.specs.declared.fault.Fault.{Fault}
+use Rattle.cs_accept.specs.declared.fault.Fault.TheVariants.{TooLong, Lex, Syntax, Mistyped, Unbound, Cost}
+use Rattle.cs_contract.specs.declared.report.Report.{Report}
+use Rattle.cs_accept.specs.Faults.{fault_status}
+use Rattle.cs_contract.specs.Reports.{IsReport, told}
+
+fault-other : (fault : Fault) (n : ℕ) → 3 ≢ n → 13 ≢ n → fault_status fault ≢ n
+fault-other TooLong n three thirteen = thirteen
+fault-other (Lex place) n three thirteen = three
+fault-other (Syntax place) n three thirteen = three
+fault-other (Mistyped place) n three thirteen = three
+fault-other (Unbound place) n three thirteen = three
+fault-other (Cost cost) n three thirteen = three
+
+-- it is 0, 3 or 13
+report-other : (printing : Bool) (text : List ℕ) (answer : Answer) (n : ℕ) → IsReport printing text answer → 0 ≢ n → 3 ≢ n → 13 ≢ n → answer.status ≢ n
+report-other printing text answer n (inl accepting) zero three thirteen =
+    λ is. zero (sym (ap (λ (a : Answer). a.status) accepting.told) ∙ is)
+report-other printing text answer n (inr refusing) zero three thirteen =
+    λ is. fault-other refusing.fault n three thirteen (sym (ap (λ (a : Answer). a.status) refusing.told) ∙ is)
+
+module _ (printing : Bool) (text : List ℕ) (report : Report) (r : Result (Unit {0}) WriteError) (status : ℕ) (ends : status ≡ closing_status r report.status) where
+  -- what was printed last is what the report prints
+  pub told-answers : (shown : List ℕ) (written written' : Option (List ℕ)) → shown ≡ report.printed.items → OnOk r (Appends written written' shown) → OnErr r (AppendsFront written written' shown)
+      → Answers (told report) written written' status
+  told-answers shown written written' is all part =
+      subst (λ (s : ℕ). Answers (told report) written written' s) (sym ends)
+      (closed (told report) r written written' (subst (λ (printed : List ℕ). OnOk r (Appends written written' printed)) is all)
+      (subst (λ (printed : List ℕ). OnErr r (AppendsFront written written' printed)) is part))
+
+  pub reported-other : (n : ℕ) → IsReport printing text (told report) → 0 ≢ n → 3 ≢ n → 13 ≢ n → 6 ≢ n → 8 ≢ n → status ≢ n
+  reported-other n reports zero three thirteen six eight =
+      λ is. closing-other r report.status n (report-other printing text (told report) n reports zero three thirteen) six eight (sym ends ∙ is)
+
+  -- it is 6 only where the sink failed
+  pub reported-failed : IsReport printing text (told report) → status ≡ 6 → r ≡ Err write.Failed
+  reported-failed reports six =
+      closing-failed r report.status (report-other printing text (told report) 6 reports (λ is. absurd (cc)) (λ is. absurd (cc)) (λ is. absurd (cc))) (sym ends ∙ six)

@@ -1,0 +1,34 @@
+-- The words of the command line.
+use Rattle.std.specs.Prelude.{ℕ, Bool, true, false, List, [], ◌∷◌, Option, Some, None, codes, if◌then◌else◌, map, option_map, String, string_bytes}
+use Rattle.std.specs.declared.alloc.Global.{Global}
+use Rattle.std.specs.Str.{bytes_eq}
+use Rattle.cs_cli.specs.declared.words.Command.{Command}
+use Rattle.cs_cli.specs.declared.words.Command.TheVariants.{Replay, Contract, Verify}
+
+-- what the words say, each as its bytes
+abbrev pub texts_of : List (String Global) → List (List ℕ)
+texts_of words = map string_bytes words
+
+-- a command has one option, at most once
+abbrev pub flagged : List ℕ → List (List ℕ) → Option Bool
+flagged flag [] = Some false
+flagged flag (option ∷ []) = if bytes_eq option flag then Some true else None
+flagged flag (option ∷ other ∷ options) = None
+
+-- a command without options
+abbrev pub plain : Command → List (List ℕ) → Option Command
+plain command [] = Some command
+plain command (option ∷ options) = None
+
+-- the command of a word and the words behind it
+abbrev pub called : List ℕ → List (List ℕ) → Option Command
+called word options =
+    if bytes_eq word (codes "replay") then option_map Replay (flagged (codes "--trace") options)
+    else if bytes_eq word (codes "contract") then option_map Contract (flagged (codes "--print") options)
+    else if bytes_eq word (codes "verify") then plain Verify options
+    else None
+
+-- the command that the words call for, or none where they are outside the grammar
+abbrev pub command_of : List (List ℕ) → Option Command
+command_of [] = None
+command_of (word ∷ options) = called word options

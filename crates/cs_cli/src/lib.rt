@@ -1,0 +1,13 @@
+//! The words of the command line, and what the program does for each.
+#![tactic(auto)]
+
+mod claims;
+mod program;
+mod telling;
+#[cfg(test)]
+mod tests;
+mod verifying;
+mod words;
+
+pub use program::run;
+pub use words::{Command, WordsError, read_words, words_or_status};
