@@ -5,6 +5,8 @@ use Rattle.cs_tx_form.specs.declared.record.Record.{Record}
 use Rattle.cs_tx_form.specs.declared.stored.Stored.{Stored}
 use Rattle.cs_tx_form.specs.Record.{stored_encoding}
 use Rattle.cs_merkle.specs.Tree.{merkle_tree_hash}
+use Rattle.cs_tx.specs.Sessions.{key_seen}
+use Rattle.cs_ledger.specs.Session as ledger
 
 -- a record with its key
 abbrev pub stored_row : Key × Record → Stored
@@ -17,3 +19,7 @@ record_leaves rows = map (λ row. stored_encoding (stored_row row)) rows
 -- the Merkle tree hash over them
 abbrev pub table_root : List (Key × Record) → List ℕ
 table_root rows = merkle_tree_hash (record_leaves rows)
+
+-- the keys under which something is stored, as the ledger sees them
+abbrev pub keys_in : List (Key × Record) → List ledger.Key
+keys_in rows = map (λ row. key_seen row.0) rows

@@ -124,6 +124,13 @@ impl Chain {
         }
     }
 
+    /// How many slots it has.
+    pub fn slots(&self) -> u64
+        ensures { result ≡ length self.now.leaves }
+    {
+        self.leaves.len() as u64
+    }
+
     /// Takes the leaf of the next slot, whose entry was executed on the table last. Every 16th leaf
     /// makes a checkpoint.
     pub fn push(

@@ -9,4 +9,4 @@ mod root;
 mod tests;
 
 pub use chain::{Chain, ProveError};
-pub use root::table_root;
+pub use root::{root_is_shown, table_root};

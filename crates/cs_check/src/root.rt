@@ -2,8 +2,10 @@
 ghost use Rattle.std.specs.Prelude.{◌≡◌, IfOk};
 ghost use Rattle.cs_tx_form.specs.Record.{stored_encoding};
 ghost use Rattle.cs_merkle.specs.Tree.{leaves_of};
-ghost use Rattle.cs_table.specs.Seen.{IsStored, AllStored};
-ghost use Rattle.cs_check.specs.Root.{record_leaves, table_root as root_of};
+ghost use Rattle.cs_table.specs.Seen.{IsStored, AllStored, seen};
+ghost use Rattle.cs_check_rules.specs.Keys.{AreKnown};
+ghost use Rattle.cs_check_rules.specs.Root.{root_under};
+ghost use Rattle.cs_check.specs.Root.{record_leaves, keys_in, table_root as root_of};
 
 use crate::fitting::stored_fits;
 use cs_base::{Key, Memory, Writer};
@@ -34,6 +36,15 @@ fn record_leaves(alloc: Global, rows: Records<'_>) -> Result<Vec<Vec<u8>>, Memor
         leaves.push(record_leaf(alloc, key, row)?)?;
     }
     Ok(leaves)
+}
+
+/// What is stored is what the table knows something of, and the root over it is the one over what
+/// the table shows.
+pub fn root_is_shown(table: &Table)
+    ensures keys { AreKnown (keys_in table.now.rows) (seen table.now) }
+    ensures root { root_of table.now.rows ≡ root_under (keys_in table.now.rows) (seen table.now) }
+{
+    let _records = table.records();
 }
 
 /// The Merkle tree hash over the encodings of all records, in the order of their encoded keys. It

@@ -1,0 +1,3 @@
+pub mod Covered
+pub mod Placed
+pub mod Told

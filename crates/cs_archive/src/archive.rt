@@ -1,0 +1,134 @@
+//! The slots that a node executed, and the checkpoints that other members told it.
+ghost use Rattle.std.specs.Prelude.{◌≡◌, [], ◌==◌, ◌<◌, ◌^◌, length, position, OnOk, IfOk, IfSome};
+ghost use Rattle.cs_tx_form.specs.Log.{LeafFits, leaf_encoding, ProofFits};
+ghost use Rattle.cs_table.specs.Seen.{seen};
+ghost use Rattle.cs_checkpoint.specs.Chain.{empty_log, with_slot, made_last};
+ghost use Rattle.cs_check.specs.Root.{keys_in};
+ghost use Rattle.cs_check_rules.specs.Root.{root_under};
+ghost use Rattle.cs_check_rules.specs.Proofs.{proof_of};
+ghost use Rattle.cs_check_rules.specs.Heads.{is_news};
+ghost use Rattle.cs_archive.specs.Archives.{with_log, with_news};
+
+use crate::fitting::{checkpoint_fits, digests_fit};
+use cs_base::Memory;
+use cs_check::{Chain, ProveError, root_is_shown};
+use cs_checkpoint::{Checkpoint, Leaf, Proof, encode_leaf};
+use cs_table::Table;
+use std::alloc::Global;
+use std::marker::Model;
+
+/// The chain of a node's checkpoints, and the last checkpoint of each other member that told one,
+/// under its index. A shard has 16 members at most, so these are looked up one after the other.
+/// Where memory ran out in the midst of a slot, no slot is taken or proved again.
+#[derive(Drop)]
+pub struct Archive {
+    chain: Chain,
+    heads: Vec<(u16, Checkpoint)>,
+    is_whole: bool,
+}
+
+impl Model for Archive {
+    ghost use Rattle.std.specs.Prelude.{◌≡◌, true};
+    ghost use Rattle.cs_archive.specs.Archives.{Archived, AreInPlace};
+
+    ghost Value = { Archived };
+
+    ghost view = { λ a. record { log = a.chain; heads = a.heads.items } };
+
+    ghost invariant = { λ a. a.is_whole ≡ true → AreInPlace a.chain.leaves };
+}
+
+impl Archive {
+    /// Nothing was executed, and nothing told.
+    pub fn new(alloc: Global, shard: u16) -> Archive
+        ensures { result ≡ record { log = empty_log shard; heads = [] } }
+    {
+        Archive {
+            chain: Chain::new(alloc, shard),
+            heads: Vec::new(alloc),
+            is_whole: true,
+        }
+    }
+
+    /// How many slots were executed.
+    pub fn slots(&self) -> u64
+        ensures { result ≡ length self.now.log.leaves }
+    {
+        self.chain.slots()
+    }
+
+    /// Takes the leaf of the next slot, whose execution left this table, and tells the checkpoint
+    /// that it made, if it made one.
+    pub fn push(
+        &mut self,
+        alloc: Global,
+        leaf: &Leaf,
+        table: &Table,
+    ) -> Result<Option<Checkpoint>, Memory>
+        requires fits { LeafFits leaf.now }
+        requires next { leaf.now.slot ≡ length self.old.log.leaves }
+        ensures log { let root = root_under (keys_in table.now.rows) (seen table.now) in
+            OnOk result (self.new
+            ≡ with_log (with_slot (leaf_encoding leaf.now) root self.old.log) self.old) }
+        ensures made { IfOk result (λ made. made ≡ made_last self.new.log) }
+    {
+        if !self.is_whole {
+            return Err(Memory);
+        }
+        root_is_shown(table);
+        let bytes = encode_leaf(alloc, leaf)?;
+        self.is_whole = false;
+        let made = self.chain.push(alloc, bytes, table)?;
+        self.is_whole = true;
+        Ok(made)
+    }
+
+    /// The proof of a slot, where a checkpoint covers it.
+    pub fn prove(&self, alloc: Global, slot: u64) -> Result<Option<Proof>, Memory>
+        ensures proof { IfOk result (λ found. found ≡ proof_of self.now.log slot) }
+        ensures fits { slot < 2 ^ 62 → IfOk result (λ found. IfSome found ProofFits) }
+    {
+        if !self.is_whole {
+            return Err(Memory);
+        }
+        match self.chain.prove(alloc, slot) {
+            Ok(proof) => {
+                checkpoint_fits(&proof.checkpoint);
+                digests_fit(proof.path.as_slice());
+                Ok(Some(proof))
+            }
+            Err(ProveError::NotYet) => Ok(None),
+            Err(ProveError::Memory) => Err(Memory),
+        }
+    }
+
+    // Where the checkpoint of a member stands.
+    fn place_of(&self, index: u16) -> Option<usize>
+        ensures { result ≡ position (λ told. told.0 == index) self.now.heads }
+    {
+        self.heads.iter().position(|told| told.0 == index)
+    }
+
+    /// Keeps a checkpoint that a member told, where its number is above that of the last one, and
+    /// answers whether it is.
+    pub fn keep(&mut self, index: u16, checkpoint: Checkpoint) -> Result<bool, Memory>
+        ensures news { IfOk result (λ news. news ≡ is_news index checkpoint self.old.heads) }
+        ensures kept { IfOk result
+            (λ news. self.new ≡ with_news news index checkpoint self.old) }
+    {
+        match self.place_of(index) {
+            Some(place) => {
+                let last = &mut self.heads[place];
+                if checkpoint.number <= last.1.number {
+                    return Ok(false);
+                }
+                last.1 = checkpoint;
+                Ok(true)
+            }
+            None => {
+                self.heads.push((index, checkpoint))?;
+                Ok(true)
+            }
+        }
+    }
+}

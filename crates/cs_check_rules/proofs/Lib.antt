@@ -1,0 +1,4 @@
+pub mod Ordered
+pub mod Named
+pub mod Same
+pub mod Known

@@ -1,0 +1,4 @@
+pub mod Keys
+pub mod Root
+pub mod Proofs
+pub mod Heads

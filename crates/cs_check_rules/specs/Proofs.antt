@@ -1,0 +1,28 @@
+-- The proof of a slot, as a function of the log.
+use Rattle.std.specs.Prelude.{ℕ, ◌/◌, ◌%◌, nat_lt, if◌then◌else◌, length, slice_get, Option, None, option_and_then, option_map}
+use Rattle.cs_base.specs.Fields.{whole_at}
+use Rattle.cs_tx_form.specs.declared.leaf.Leaf.{Leaf}
+use Rattle.cs_tx_form.specs.declared.proof.Proof.{Proof}
+use Rattle.cs_tx_form.specs.Log.{leaf_at}
+use Rattle.cs_merkle.specs.Path.{audit_path}
+use Rattle.cs_checkpoint.specs.Chain.{Log, covered_leaves, checkpoint_of}
+
+-- the leaf of a slot, read of its bytes
+abbrev pub leaf_in : Log → ℕ → Option Leaf
+leaf_in log slot = option_and_then (whole_at leaf_at) (slice_get log.leaves slot)
+
+-- with the checkpoint that covers it
+abbrev pub proof_with : Log → ℕ → Leaf → Proof
+proof_with log slot leaf = record {
+  checkpoint = checkpoint_of log (slot / 16);
+  place = slot % 16;
+  leaf = leaf;
+  path = audit_path (covered_leaves log (slot / 16)) (slot % 16);
+}
+
+-- none where no checkpoint covers the slot yet
+abbrev pub proof_of : Log → ℕ → Option Proof
+proof_of log slot =
+    if nat_lt (slot / 16) (length log.table_roots)
+    then option_map (proof_with log slot) (leaf_in log slot)
+    else None
