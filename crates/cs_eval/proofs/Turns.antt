@@ -19,7 +19,7 @@ use Rattle.cs_eval_values.specs.Datums.{Datum}
 use Rattle.cs_eval_values.specs.Operators.{unary, binary, decides, list_of, with_item}
 use Rattle.cs_eval.specs.declared.frame.Frame.{Frame}
 use Rattle.cs_eval.specs.declared.frame.Next.{Next}
-use Rattle.cs_eval.specs.Meaning.{Sight, Meant, Linking, Stepping, of_one, of_right, of_two, item_run, items_run, link_run, links_run, step_run, steps_run, run_of, expr_meant, meaning, link_meant}
+use Rattle.cs_eval.specs.Meaning.{Sight, Meant, Linking, Stepping, of_one, of_right, of_two, item_run, items_run, link_run, links_run, chain_run, step_run, steps_run, path_run, run_of, expr_meant, meaning, link_meant}
 use Rattle.cs_eval.specs.Machine.{Moves, continued, resumed, then_resumed}
 use Rattle.cs_eval.proofs.RunLaws.{spend_none, spend_spend, spend_bind, bind_bind, gives_bind, under}
 use Rattle.cs_eval.proofs.Layers.{link_is}
@@ -69,6 +69,19 @@ module _ (g : Datum → Run Datum) where
 
   pub then_first : (m : Run Datum) (f : Datum → Run Datum) → (m >>= f >>= g) ≡ spend 0 (m >>= λ d. f d >>= g)
   then_first m f = bind_bind m f g ∙ sym (spend_none (m >>= λ d. f d >>= g))
+
+  none_behind : (m : Run Datum) (f : Datum → Run Datum) → ((d : Datum) → f d ≡ gives d) → (m >>= f >>= g) ≡ spend 0 (m >>= g)
+  none_behind m f none =
+      bind_bind m f g
+      ∙ under m (λ d. f d >>= g) g (λ d. ap (λ x. x >>= g) (none d) ∙ spend_none (g d))
+      ∙ sym (spend_none (m >>= g))
+
+  -- nothing stands behind it
+  pub chain_none : (m : Run Datum) → (chain_run m [] >>= g) ≡ spend 0 (m >>= g)
+  chain_none m = none_behind m (links_run []) (λ d. refl)
+
+  pub path_none : (m : Run Datum) → (path_run m [] >>= g) ≡ spend 0 (m >>= g)
+  path_none m = none_behind m (steps_run []) (λ d. refl)
 
   -- ---- items
 
@@ -129,10 +142,6 @@ whole (Trapped why place n) = ap (λ (k : ℕ). Trapped why place k) (omega arit
 
 pub moves_err : (sight : Sight) (answer : Result Next Stop) (e : Stop) (n : ℕ) (r : Run Datum) (fs : List Frame) → answer ≡ Err e → Stops e n r → Moves sight answer n r fs
 moves_err sight answer e n r fs is h = let P : Result Next Stop → Type 0 = λ a. Moves sight a n r fs in subst P (sym is) h
-
-pub smaller_is : (answer : Result Next Stop) (fs : List Frame) (a b : ℕ) → IfOk answer (λ n. left_work n fs ≡ a) → a < b → IfOk answer (λ n. left_work n fs < b)
-smaller_is (Ok n) fs a b is lt = omega (arith, is, lt)
-smaller_is (Err e) fs a b is lt = tt
 
 -- the frame of the right part is on top
 pub right_on_top : (sight : Sight) (op : Binary) (place : ℕ) (a : Datum) (right : Expr) (fs more : List Frame) → more ≡ frame.Second op a place ∷ fs

@@ -1,4 +1,6 @@
 pub mod Kinds
 pub mod Meaning
+pub mod Stacked
 pub mod Work
+pub mod Room
 pub mod Machine

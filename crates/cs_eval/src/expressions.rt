@@ -1,6 +1,6 @@
 //! Evaluating expressions. Nothing goes down a tree by calls of functions: what is left to do
 //! stands on a stack.
-ghost use Rattle.std.specs.Prelude.{◌≡◌, ◌+◌, ◌-◌, ◌<◌, ◌≤◌, ◌∷◌, [], List, map, IfOk};
+ghost use Rattle.std.specs.Prelude.{◌≡◌, ◌+◌, ◌-◌, ◌<◌, ◌≤◌, ◌∷◌, [], List, map, max, Ok, IfOk};
 ghost use Rattle.cs_eval_values.specs.Answers.{Ends};
 ghost use Rattle.cs_tx_value.specs.declared.value.Value.TheVariants as value;
 ghost use Rattle.cs_eval_values.specs.Datums.{Plain};
@@ -8,7 +8,9 @@ ghost use Rattle.cs_eval_values.specs.Runs.{gives};
 ghost use Rattle.cs_eval_values.specs.Operators.{with_item as item_added};
 ghost use Rattle.cs_eval_values.specs.Namings.{Named};
 ghost use Rattle.cs_eval.specs.Meaning.{Sight, named_run, of_one, of_right, of_two, items_run, link_run, links_run, steps_run, chain_run, path_run, expr_meant, link_meant, step_meant, meaning};
+ghost use Rattle.cs_places.specs.Places.{in_turn, in_front, places, places_of_link, places_of_step};
 ghost use Rattle.cs_eval.specs.Work.{all_work, work, work_of_link, work_of_step, frame_work, frames_work, left_work};
+ghost use Rattle.cs_eval.specs.Room.{frame_places, HasRoomFor, HasRoom};
 ghost use Rattle.cs_eval.specs.Machine.{seen_from, resumed, then_resumed, items_resumed, Moves, Evaluates};
 
 use crate::frame::{Frame, Next};
@@ -52,15 +54,18 @@ fn open_one<'a>(
     operation: Unary,
     part: &'a Expr,
     place: usize,
-) -> Result<Next<'a>, Stop>
-    ensures moves { (sight : Sight) → Moves sight result 0
-        (then_resumed sight frames.old
-        (of_one operation place (meaning sight part.now))) frames.new }
-    ensures smaller { IfOk result (λ n. left_work n frames.new
-        ≡ work part.now + 1 + frames_work frames.old) }
+) -> Next<'a>
+    requires { HasRoomFor (places part.now + 1) frames.old }
+    ensures moves { (sight : Sight) → Moves sight (Ok result) 0
+        (then_resumed sight frames.old.items
+        (of_one operation place (meaning sight part.now))) frames.new.items }
+    ensures smaller { left_work result frames.new.items
+        ≡ work part.now + 1 + frames_work frames.old.items }
+    ensures room { HasRoom result frames.new }
+    ensures most { frames.new.most ≡ frames.old.most }
 {
-    frames.push(Frame::Unary(operation, place))?;
-    Ok(Next::Eval(part))
+    frames.push(Frame::Unary(operation, place));
+    Next::Eval(part)
 }
 
 /// Two parts are evaluated, the left one first, and then something is made of them.
@@ -71,15 +76,19 @@ fn open_two<'a>(
     left: &'a Expr,
     right: &'a Expr,
     place: usize,
-) -> Result<Next<'a>, Stop>
-    ensures moves { (sight : Sight) → Moves sight result 0
-        (then_resumed sight frames.old
-        (of_two operation place (meaning sight left.now) (meaning sight right.now))) frames.new }
-    ensures smaller { IfOk result (λ n. left_work n frames.new
-        ≡ work left.now + work right.now + 2 + frames_work frames.old) }
+) -> Next<'a>
+    requires { HasRoomFor (max (places left.now) (places right.now) + 1) frames.old }
+    ensures moves { (sight : Sight) → Moves sight (Ok result) 0
+        (then_resumed sight frames.old.items
+        (of_two operation place (meaning sight left.now) (meaning sight right.now)))
+        frames.new.items }
+    ensures smaller { left_work result frames.new.items
+        ≡ work left.now + work right.now + 2 + frames_work frames.old.items }
+    ensures room { HasRoom result frames.new }
+    ensures most { frames.new.most ≡ frames.old.most }
 {
-    frames.push(Frame::First(operation, right, place))?;
-    Ok(Next::Eval(left))
+    frames.push(Frame::First(operation, right, place));
+    Next::Eval(left)
 }
 
 /// The right one of two parts is evaluated, and then something is made of them.
@@ -89,49 +98,62 @@ fn open_right<'a>(
     left: Held<'a>,
     right: &'a Expr,
     place: usize,
-) -> Result<Next<'a>, Stop>
-    ensures moves { (sight : Sight) → Moves sight result 0
-        (then_resumed sight frames.old
-        (of_right operation place left.entry (meaning sight right.now))) frames.new }
-    ensures smaller { IfOk result (λ n. left_work n frames.new
-        ≡ work right.now + 1 + frames_work frames.old) }
+) -> Next<'a>
+    requires { HasRoomFor (places right.now + 1) frames.old }
+    ensures moves { (sight : Sight) → Moves sight (Ok result) 0
+        (then_resumed sight frames.old.items
+        (of_right operation place left.entry (meaning sight right.now))) frames.new.items }
+    ensures smaller { left_work result frames.new.items
+        ≡ work right.now + 1 + frames_work frames.old.items }
+    ensures room { HasRoom result frames.new }
+    ensures most { frames.new.most ≡ frames.old.most }
 {
-    frames.push(Frame::Second(operation, left, place))?;
-    Ok(Next::Eval(right))
+    frames.push(Frame::Second(operation, left, place));
+    Next::Eval(right)
 }
 
 /// The leftmost operand of operators is evaluated first.
-#[tactic(auto, using(crate::proofs::Turns::then_first))]
-fn open_chain<'a>(
-    frames: &mut Stack<Frame<'a>>,
-    start: &'a Expr,
-    links: &'a [Link],
-) -> Result<Next<'a>, Stop>
-    ensures moves { (sight : Sight) → Moves sight result 0
-        (then_resumed sight frames.old
-        (chain_run (meaning sight start.now) (map (link_meant sight) links.now))) frames.new }
-    ensures smaller { IfOk result (λ n. left_work n frames.new
-        ≡ work start.now + all_work (map work_of_link links.now) + frames_work frames.old) }
+#[tactic(auto, using(crate::proofs::Turns::then_first, crate::proofs::Turns::chain_none, cs_places::proofs::Layers::chain_front))]
+fn open_chain<'a>(frames: &mut Stack<Frame<'a>>, start: &'a Expr, links: &'a [Link]) -> Next<'a>
+    requires { HasRoomFor
+        (in_front (places start.now) (map places_of_link links.now)) frames.old }
+    ensures moves { (sight : Sight) → Moves sight (Ok result) 0
+        (then_resumed sight frames.old.items
+        (chain_run (meaning sight start.now) (map (link_meant sight) links.now))) frames.new.items }
+    ensures smaller { left_work result frames.new.items
+        ≤ work start.now + all_work (map work_of_link links.now) + frames_work frames.old.items }
+    ensures room { HasRoom result frames.new }
+    ensures most { frames.new.most ≡ frames.old.most }
 {
-    frames.push(Frame::Chain(links))?;
-    Ok(Next::Eval(start))
+    match links {
+        [] => Next::Eval(start),
+        [_, ..] => {
+            frames.push(Frame::Chain(links));
+            Next::Eval(start)
+        }
+    }
 }
 
 /// What steps lead into is evaluated first.
-#[tactic(auto, using(crate::proofs::Turns::then_first))]
-fn open_path<'a>(
-    frames: &mut Stack<Frame<'a>>,
-    start: &'a Expr,
-    steps: &'a [Step],
-) -> Result<Next<'a>, Stop>
-    ensures moves { (sight : Sight) → Moves sight result 0
-        (then_resumed sight frames.old
-        (path_run (meaning sight start.now) (map (step_meant sight) steps.now))) frames.new }
-    ensures smaller { IfOk result (λ n. left_work n frames.new
-        ≡ work start.now + all_work (map work_of_step steps.now) + frames_work frames.old) }
+#[tactic(auto, using(crate::proofs::Turns::then_first, crate::proofs::Turns::path_none, cs_places::proofs::Layers::path_front))]
+fn open_path<'a>(frames: &mut Stack<Frame<'a>>, start: &'a Expr, steps: &'a [Step]) -> Next<'a>
+    requires { HasRoomFor
+        (in_front (places start.now) (map places_of_step steps.now)) frames.old }
+    ensures moves { (sight : Sight) → Moves sight (Ok result) 0
+        (then_resumed sight frames.old.items
+        (path_run (meaning sight start.now) (map (step_meant sight) steps.now))) frames.new.items }
+    ensures smaller { left_work result frames.new.items
+        ≤ work start.now + all_work (map work_of_step steps.now) + frames_work frames.old.items }
+    ensures room { HasRoom result frames.new }
+    ensures most { frames.new.most ≡ frames.old.most }
 {
-    frames.push(Frame::Path(steps))?;
-    Ok(Next::Eval(start))
+    match steps {
+        [] => Next::Eval(start),
+        [_, ..] => {
+            frames.push(Frame::Path(steps));
+            Next::Eval(start)
+        }
+    }
 }
 
 /// On with the items of a list, behind those whose values are there.
@@ -143,15 +165,18 @@ fn on_items<'a>(
     values: Sequence<Value>,
     place: usize,
 ) -> Result<Next<'a>, Stop>
+    requires { HasRoomFor (in_turn (map places items.now)) frames.old }
     ensures moves { (sight : Sight) → Moves sight result 0
-        (then_resumed sight frames.old
-        (items_run place values (map (meaning sight) items.now))) frames.new }
-    ensures smaller { IfOk result (λ n. left_work n frames.new
-        < all_work (map work items.now) + frames_work frames.old) }
+        (then_resumed sight frames.old.items
+        (items_run place values (map (meaning sight) items.now))) frames.new.items }
+    ensures smaller { IfOk result (λ n. left_work n frames.new.items
+        < all_work (map work items.now) + frames_work frames.old.items) }
+    ensures room { IfOk result (λ n. HasRoom n frames.new) }
+    ensures most { frames.new.most ≡ frames.old.most }
 {
     match items {
         [first, rest @ ..] => {
-            frames.push(Frame::Items(rest, values, place))?;
+            frames.push(Frame::Items(rest, values, place));
             Ok(Next::Eval(first))
         }
         [] => Ok(Next::Give(list_of(scene.alloc, values, place)?)),
@@ -159,18 +184,21 @@ fn on_items<'a>(
 }
 
 /// Begins an expression, of which the own units are spent.
-#[tactic(auto, using(crate::proofs::Layers::bodies, crate::proofs::WorkLayers::works))]
+#[tactic(auto, using(crate::proofs::Layers::bodies, crate::proofs::WorkLayers::works, cs_places::proofs::Layers::shapes))]
 fn open<'a>(
     scene: &Scene<'_, 'a>,
     names: &Names<'a>,
     frames: &mut Stack<Frame<'a>>,
     expr: &'a Expr,
 ) -> Result<Next<'a>, Stop>
+    requires { HasRoomFor (places expr.now) frames.old }
     ensures moves { let sight = seen_from scene.now names.now in Moves sight result 0
-        (then_resumed sight frames.old
-        ((expr_meant sight expr.now).body)) frames.new }
-    ensures smaller { IfOk result (λ n. left_work n frames.new
-        < work expr.now + frames_work frames.old) }
+        (then_resumed sight frames.old.items
+        ((expr_meant sight expr.now).body)) frames.new.items }
+    ensures smaller { IfOk result (λ n. left_work n frames.new.items
+        < work expr.now + frames_work frames.old.items) }
+    ensures room { IfOk result (λ n. HasRoom n frames.new) }
+    ensures most { frames.new.most ≡ frames.old.most }
 {
     let place = expr.place;
     match &expr.shape {
@@ -183,17 +211,17 @@ fn open<'a>(
             on_items(scene, frames, items.as_slice(), none, place)
         }
         Shape::Empty(_) => Ok(Next::Give(empty_list(scene)?)),
-        Shape::Len(part) => open_one(frames, Unary::Len, part.get(), place),
-        Shape::Sha256(part) => open_one(frames, Unary::Sha256, part.get(), place),
-        Shape::Not(part) => open_one(frames, Unary::Not, part.get(), place),
-        Shape::Negative(part) => { open_one(frames, Unary::Negative, part.get(), place) }
+        Shape::Len(part) => Ok(open_one(frames, Unary::Len, part.get(), place)),
+        Shape::Sha256(part) => Ok(open_one(frames, Unary::Sha256, part.get(), place)),
+        Shape::Not(part) => Ok(open_one(frames, Unary::Not, part.get(), place)),
+        Shape::Negative(part) => Ok(open_one(frames, Unary::Negative, part.get(), place)),
         Shape::Concat(front, back) => {
             let operation = Binary::Concat;
-            open_two(frames, operation, front.get(), back.get(), place)
+            Ok(open_two(frames, operation, front.get(), back.get(), place))
         }
         Shape::Compared(comparison, left, right) => {
             let operation = Binary::Compared(*comparison);
-            open_two(frames, operation, left.get(), right.get(), place)
+            Ok(open_two(frames, operation, left.get(), right.get(), place))
         }
         Shape::Called(dep, method) => {
             let called = is_called(scene.view, *dep, method.bytes.as_slice());
@@ -202,8 +230,8 @@ fn open<'a>(
         Shape::DepInt(dep, value) => {
             Ok(Next::Give(returned_int(scene.view, *dep, *value, place)?))
         }
-        Shape::Path(start, steps) => { open_path(frames, start.get(), steps.as_slice()) }
-        Shape::Chain(_, start, links) => { open_chain(frames, start.get(), links.as_slice()) }
+        Shape::Path(start, steps) => Ok(open_path(frames, start.get(), steps.as_slice())),
+        Shape::Chain(_, start, links) => Ok(open_chain(frames, start.get(), links.as_slice())),
     }
 }
 
@@ -241,35 +269,41 @@ fn begin<'a, L: Ledger>(
     expr: &'a Expr,
     steps: &mut Steps<L>,
 ) -> Result<Next<'a>, Stop>
+    requires { HasRoomFor (places expr.now) frames.old }
     ensures moves { let sight = seen_from scene.now names.now in
         Moves sight result (steps.new - steps.old)
-        (then_resumed sight frames.old (meaning sight expr.now)) frames.new }
-    ensures smaller { IfOk result (λ n. left_work n frames.new
-        < work expr.now + frames_work frames.old) }
+        (then_resumed sight frames.old.items (meaning sight expr.now)) frames.new.items }
+    ensures smaller { IfOk result (λ n. left_work n frames.new.items
+        < work expr.now + frames_work frames.old.items) }
     ensures counted { steps.old ≤ steps.new }
+    ensures room { IfOk result (λ n. HasRoom n frames.new) }
+    ensures most { frames.new.most ≡ frames.old.most }
 {
     steps.spend(own_units(scene, names, expr));
     open(scene, names, frames, expr)
 }
 
 /// On with an operator behind what stands left of it.
-#[tactic(auto, using(crate::proofs::Turns::linking, crate::proofs::WorkLayers::link_left))]
+#[tactic(auto, using(crate::proofs::Turns::linking, crate::proofs::WorkLayers::link_left, cs_places::proofs::Layers::link_is))]
 fn on_link<'a>(
     frames: &mut Stack<Frame<'a>>,
     link: &'a Link,
     left: Held<'a>,
 ) -> Result<Next<'a>, Stop>
+    requires { HasRoomFor (places_of_link link.now) frames.old }
     ensures moves { (sight : Sight) → Moves sight result 0
-        (then_resumed sight frames.old
-        (link_run left.entry (link_meant sight link.now))) frames.new }
-    ensures smaller { IfOk result (λ n. left_work n frames.new
-        < work_of_link link.now + 1 + frames_work frames.old) }
+        (then_resumed sight frames.old.items
+        (link_run left.entry (link_meant sight link.now))) frames.new.items }
+    ensures smaller { IfOk result (λ n. left_work n frames.new.items
+        < work_of_link link.now + 1 + frames_work frames.old.items) }
+    ensures room { IfOk result (λ n. HasRoom n frames.new) }
+    ensures most { frames.new.most ≡ frames.old.most }
 {
     if decides(link.operator, &left) {
         return Ok(Next::Give(left));
     }
     let operation = Binary::Linked(link.operator);
-    open_right(frames, operation, left, &link.right, link.place)
+    Ok(open_right(frames, operation, left, &link.right, link.place))
 }
 
 /// On with what stands left of operators.
@@ -279,15 +313,18 @@ fn on_chain<'a>(
     links: &'a [Link],
     left: Held<'a>,
 ) -> Result<Next<'a>, Stop>
+    requires { HasRoomFor (in_turn (map places_of_link links.now)) frames.old }
     ensures moves { (sight : Sight) → Moves sight result 0
-        (then_resumed sight frames.old
-        (links_run (map (link_meant sight) links.now) left.entry)) frames.new }
-    ensures smaller { IfOk result (λ n. left_work n frames.new
-        < all_work (map work_of_link links.now) + frames_work frames.old) }
+        (then_resumed sight frames.old.items
+        (links_run (map (link_meant sight) links.now) left.entry)) frames.new.items }
+    ensures smaller { IfOk result (λ n. left_work n frames.new.items
+        < all_work (map work_of_link links.now) + frames_work frames.old.items) }
+    ensures room { IfOk result (λ n. HasRoom n frames.new) }
+    ensures most { frames.new.most ≡ frames.old.most }
 {
     match links {
         [link, rest @ ..] => {
-            frames.push(Frame::Chain(rest))?;
+            frames.push(Frame::Chain(rest));
             on_link(frames, link, left)
         }
         [] => Ok(Next::Give(left)),
@@ -295,19 +332,22 @@ fn on_chain<'a>(
 }
 
 /// On with a step into something.
-#[tactic(auto, using(crate::proofs::Layers::stepping, crate::proofs::WorkLayers::step_left))]
+#[tactic(auto, using(crate::proofs::Layers::stepping, crate::proofs::WorkLayers::step_left, cs_places::proofs::Layers::steps))]
 fn on_step<'a>(
     scene: &Scene<'_, 'a>,
     frames: &mut Stack<Frame<'a>>,
     step: &'a Step,
     held: Held<'a>,
 ) -> Result<Next<'a>, Stop>
+    requires { HasRoomFor (places_of_step step.now) frames.old }
     ensures moves { (names : List Named) → let sight = seen_from scene.now names in
         Moves sight result 0
-        (then_resumed sight frames.old
-        ((step_meant sight step.now).run held.entry)) frames.new }
-    ensures smaller { IfOk result (λ n. left_work n frames.new
-        < work_of_step step.now + 1 + frames_work frames.old) }
+        (then_resumed sight frames.old.items
+        ((step_meant sight step.now).run held.entry)) frames.new.items }
+    ensures smaller { IfOk result (λ n. left_work n frames.new.items
+        < work_of_step step.now + 1 + frames_work frames.old.items) }
+    ensures room { IfOk result (λ n. HasRoom n frames.new) }
+    ensures most { frames.new.most ≡ frames.old.most }
 {
     match &step.access {
         Access::Field(name) => {
@@ -315,7 +355,7 @@ fn on_step<'a>(
             let field = field_of(types, name.bytes.as_slice(), &held, step.place)?;
             Ok(Next::Give(field))
         }
-        Access::Index(index) => open_right(frames, Binary::Index, held, index, step.place),
+        Access::Index(index) => { Ok(open_right(frames, Binary::Index, held, index, step.place)) }
     }
 }
 
@@ -327,16 +367,19 @@ fn on_path<'a>(
     steps: &'a [Step],
     held: Held<'a>,
 ) -> Result<Next<'a>, Stop>
+    requires { HasRoomFor (in_turn (map places_of_step steps.now)) frames.old }
     ensures moves { (names : List Named) → let sight = seen_from scene.now names in
         Moves sight result 0
-        (then_resumed sight frames.old
-        (steps_run (map (step_meant sight) steps.now) held.entry)) frames.new }
-    ensures smaller { IfOk result (λ n. left_work n frames.new
-        < all_work (map work_of_step steps.now) + frames_work frames.old) }
+        (then_resumed sight frames.old.items
+        (steps_run (map (step_meant sight) steps.now) held.entry)) frames.new.items }
+    ensures smaller { IfOk result (λ n. left_work n frames.new.items
+        < all_work (map work_of_step steps.now) + frames_work frames.old.items) }
+    ensures room { IfOk result (λ n. HasRoom n frames.new) }
+    ensures most { frames.new.most ≡ frames.old.most }
 {
     match steps {
         [step, rest @ ..] => {
-            frames.push(Frame::Path(rest))?;
+            frames.push(Frame::Path(rest));
             on_step(scene, frames, step, held)
         }
         [] => Ok(Next::Give(held)),
@@ -353,11 +396,14 @@ fn on_item<'a>(
     item: Held<'a>,
     place: usize,
 ) -> Result<Next<'a>, Stop>
+    requires { HasRoomFor (in_turn (map places rest.now)) frames.old }
     ensures moves { (sight : Sight) → Moves sight result 0
-        (items_resumed sight frames.old place (map (meaning sight) rest.now)
-        (item_added place items item.entry)) frames.new }
-    ensures smaller { IfOk result (λ n. left_work n frames.new
-        < all_work (map work rest.now) + frames_work frames.old) }
+        (items_resumed sight frames.old.items place (map (meaning sight) rest.now)
+        (item_added place items item.entry)) frames.new.items }
+    ensures smaller { IfOk result (λ n. left_work n frames.new.items
+        < all_work (map work rest.now) + frames_work frames.old.items) }
+    ensures room { IfOk result (λ n. HasRoom n frames.new) }
+    ensures most { frames.new.most ≡ frames.old.most }
 {
     let items = with_item(scene.alloc, items, item, place)?;
     on_items(scene, frames, rest, items, place)
@@ -370,18 +416,21 @@ fn resume<'a>(
     frame: Frame<'a>,
     held: Held<'a>,
 ) -> Result<Next<'a>, Stop>
+    requires { HasRoomFor (frame_places frame) frames.old }
     ensures moves { (names : List Named) → let sight = seen_from scene.now names in
         Moves sight result 0
-        (resumed sight (frame.entry ∷ frames.old) held.entry) frames.new }
-    ensures smaller { IfOk result (λ n. left_work n frames.new
-        < frame_work frame.entry + frames_work frames.old) }
+        (resumed sight (frame.entry ∷ frames.old.items) held.entry) frames.new.items }
+    ensures smaller { IfOk result (λ n. left_work n frames.new.items
+        < frame_work frame.entry + frames_work frames.old.items) }
+    ensures room { IfOk result (λ n. HasRoom n frames.new) }
+    ensures most { frames.new.most ≡ frames.old.most }
 {
     match frame {
         Frame::Unary(operation, place) => {
             Ok(Next::Give(apply_unary(scene.alloc, operation, &held, place)?))
         }
         Frame::First(operation, right, place) => {
-            open_right(frames, operation, held, right, place)
+            Ok(open_right(frames, operation, held, right, place))
         }
         Frame::Second(operation, left, place) => {
             Ok(Next::Give(apply_binary(scene.alloc, operation, left, held, place)?))
@@ -400,10 +449,12 @@ pub fn evaluate<'a, L: Ledger>(
     expr: &'a Expr,
     steps: &mut Steps<L>,
 ) -> Result<Held<'a>, Stop>
-    requires { frames.old ≡ [] }
+    requires empty { frames.old.items ≡ [] }
+    requires room { places expr.now ≤ frames.old.most }
     ensures value { let sight = seen_from scene.now names.now in
-        Evaluates result (steps.new - steps.old) (meaning sight expr.now) frames.new }
+        Evaluates result (steps.new - steps.old) (meaning sight expr.now) frames.new.items }
     ensures counted { steps.old ≤ steps.new }
+    ensures most { frames.new.most ≡ frames.old.most }
 {
     let mut next = Next::Eval(expr);
     loop {

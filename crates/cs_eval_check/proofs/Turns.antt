@@ -1,6 +1,6 @@
 -- Turns of the machine: what a part of a run gives goes on with what was left to do.
 use Rattle.std.proofs.Common.{◌≡◌, ℕ, zero, suc, ◌+◌, ◌-◌, ◌<◌, ◌≤◌, ◌*◌, pos, min, Bool, true, false, cond, List, [], ◌∷◌, ◌++◌, map, take, drop, length, get_or, Option, None, Some, Result, Ok, Err, Bor, refl, sym, ap, ◌∙◌, subst, arith, add-zero, add-one, length-append}
-use Rattle.std.specs.Prelude.{OnOk, IfErr, is_some, slice_get, unwrap_or, option_and_then}
+use Rattle.std.specs.Prelude.{OnOk, is_some, slice_get, unwrap_or, option_and_then}
 use Rattle.std.proofs.lemmas.List.{take_all}
 use Rattle.std.proofs.Math.Nat.{suc-mul}
 use Rattle.cs_lang_token.specs.declared.limits.TheConstants.{MOST_ITEMS, MOST_TURNS}
@@ -59,8 +59,8 @@ module _ (scene : Scene) where
   -- so much is spent before
   pub acts_spent : (answer : Result Unit Stop) (k m n : ℕ) (r s : Run (List Named)) (after : Running) → n ≡ k + m → r ≡ spend k s → Acts scene answer m s after → Acts scene answer n r after
   acts_spent (Ok done) k m n r s after more is h = (
-    is ∙ ap (spend k) h.0 ∙ spend_spend k m (left_to scene after.tasks after.names)
-        ∙ ap (λ (j : ℕ). spend j (left_to scene after.tasks after.names)) (sym more),
+    is ∙ ap (spend k) h.0 ∙ spend_spend k m (left_to scene after.tasks.items after.names)
+        ∙ ap (λ (j : ℕ). spend j (left_to scene after.tasks.items after.names)) (sym more),
     h.1,
   )
   acts_spent (Err (stop.Answer b)) k m n r s after more is h = is ∙ ap (spend k) h ∙ ap (λ (j : ℕ). Answered b j) (sym more)
@@ -438,91 +438,86 @@ pub ruleset items_left = (item_left, no_item)
 
 module _ (scene : Scene) where
   -- a block is done next
-  pub block_acts : (answer : Result Unit Stop) (b : Block) (ss : Bor (List Statement)) (n : ℕ) (before after : Running) → before.frames ≡ [] → ss.now ≡ (out-Block b).statements → n ≡ length before.names
-      → OnOk answer (after.tasks ≡ task.Statements ss ∷ task.Leave n ∷ before.tasks) → OnOk answer (after.names ≡ before.names) → OnOk answer (after.frames ≡ before.frames) → IfErr answer (λ e. e ≡ stop.Memory)
-      → Acts scene answer 0 (then_left scene before.tasks (block_run scene.contract.now scene.view.now b before.names)) after
-  block_acts (Ok done) b ss n before after idle opened count tasks names frames memory = (
-    entered scene.contract.now scene.view.now b ss before.names before.tasks opened
-        ∙ ap (λ (i : ℕ). finished scene.contract.now scene.view.now (task.Statements ss ∷ task.Leave i ∷ before.tasks) before.names) (sym count)
+  pub block_acts : (done : Unit) (b : Block) (ss : Bor (List Statement)) (n : ℕ) (before after : Running) → before.frames.items ≡ [] → ss.now ≡ (out-Block b).statements → n ≡ length before.names
+      → after.tasks.items ≡ task.Statements ss ∷ task.Leave n ∷ before.tasks.items → after.names ≡ before.names → after.frames.items ≡ before.frames.items
+      → Acts scene (Ok done) 0 (then_left scene before.tasks.items (block_run scene.contract.now scene.view.now b before.names)) after
+  block_acts done b ss n before after idle opened count tasks names frames = (
+    entered scene.contract.now scene.view.now b ss before.names before.tasks.items opened
+        ∙ ap (λ (i : ℕ). finished scene.contract.now scene.view.now (task.Statements ss ∷ task.Leave i ∷ before.tasks.items) before.names) (sym count)
         ∙ ap (λ (ts : List Task). finished scene.contract.now scene.view.now ts before.names) (sym tasks)
-        ∙ ap (λ (ns : List Named). finished scene.contract.now scene.view.now after.tasks ns) (sym names)
-        ∙ sym (spend_none (left_to scene after.tasks after.names)),
+        ∙ ap (λ (ns : List Named). finished scene.contract.now scene.view.now after.tasks.items ns) (sym names)
+        ∙ sym (spend_none (left_to scene after.tasks.items after.names)),
     frames ∙ idle,
   )
-  block_acts (Err e) b ss n before after idle opened count tasks names frames memory =
-      let P : Stop → Type 0 = λ s. Stops s 0 (then_left scene before.tasks (block_run scene.contract.now scene.view.now b before.names)) in subst P (sym memory) tt
 
   -- one of two blocks is done next
   pub one_chosen : (answer : Result Unit Stop) (e : Expr) (b : Block) (other : Option (Bor Block)) (place n : ℕ) (before mid after : Running)
-      → condition scene.contract.now scene.view.now e place before.names ≡ Gave true n → mid.names ≡ before.names → mid.tasks ≡ before.tasks
-      → Acts scene answer 0 (then_left scene mid.tasks (block_run scene.contract.now scene.view.now b mid.names)) after
-      → Acts scene answer n (then_left scene before.tasks (choice_run scene.contract.now scene.view.now e b other place before.names)) after
+      → condition scene.contract.now scene.view.now e place before.names ≡ Gave true n → mid.names ≡ before.names → mid.tasks.items ≡ before.tasks.items
+      → Acts scene answer 0 (then_left scene mid.tasks.items (block_run scene.contract.now scene.view.now b mid.names)) after
+      → Acts scene answer n (then_left scene before.tasks.items (choice_run scene.contract.now scene.view.now e b other place before.names)) after
   one_chosen answer e b other place n before mid after holds names tasks h =
-      acts_spent scene answer n 0 n _ (then_left scene mid.tasks (block_run scene.contract.now scene.view.now b mid.names)) after (omega arith)
-      (choice_one scene.contract.now scene.view.now e b other place before.names before.tasks n holds
+      acts_spent scene answer n 0 n _ (then_left scene mid.tasks.items (block_run scene.contract.now scene.view.now b mid.names)) after (omega arith)
+      (choice_one scene.contract.now scene.view.now e b other place before.names before.tasks.items n holds
       ∙ ap (λ (ts : List Task). spend n (block_run scene.contract.now scene.view.now b before.names >>= finished scene.contract.now scene.view.now ts)) (sym tasks)
-      ∙ ap (λ (ns : List Named). spend n (block_run scene.contract.now scene.view.now b ns >>= finished scene.contract.now scene.view.now mid.tasks)) (sym names)) h
+      ∙ ap (λ (ns : List Named). spend n (block_run scene.contract.now scene.view.now b ns >>= finished scene.contract.now scene.view.now mid.tasks.items)) (sym names)) h
 
   pub other_chosen : (answer : Result Unit Stop) (e : Expr) (b : Block) (o : Bor Block) (other : Option (Bor Block)) (place n : ℕ) (before mid after : Running)
-      → other ≡ Some o → condition scene.contract.now scene.view.now e place before.names ≡ Gave false n → mid.names ≡ before.names → mid.tasks ≡ before.tasks
-      → Acts scene answer 0 (then_left scene mid.tasks (block_run scene.contract.now scene.view.now o.now mid.names)) after
-      → Acts scene answer n (then_left scene before.tasks (choice_run scene.contract.now scene.view.now e b other place before.names)) after
+      → other ≡ Some o → condition scene.contract.now scene.view.now e place before.names ≡ Gave false n → mid.names ≡ before.names → mid.tasks.items ≡ before.tasks.items
+      → Acts scene answer 0 (then_left scene mid.tasks.items (block_run scene.contract.now scene.view.now o.now mid.names)) after
+      → Acts scene answer n (then_left scene before.tasks.items (choice_run scene.contract.now scene.view.now e b other place before.names)) after
   other_chosen answer e b o other place n before mid after is holds names tasks h =
-      acts_spent scene answer n 0 n _ (then_left scene mid.tasks (block_run scene.contract.now scene.view.now o.now mid.names)) after (omega arith)
-      (choice_other scene.contract.now scene.view.now e b o other place before.names before.tasks n is holds
+      acts_spent scene answer n 0 n _ (then_left scene mid.tasks.items (block_run scene.contract.now scene.view.now o.now mid.names)) after (omega arith)
+      (choice_other scene.contract.now scene.view.now e b o other place before.names before.tasks.items n is holds
       ∙ ap (λ (ts : List Task). spend n (block_run scene.contract.now scene.view.now o.now before.names >>= finished scene.contract.now scene.view.now ts)) (sym tasks)
-      ∙ ap (λ (ns : List Named). spend n (block_run scene.contract.now scene.view.now o.now ns >>= finished scene.contract.now scene.view.now mid.tasks)) (sym names)) h
+      ∙ ap (λ (ns : List Named). spend n (block_run scene.contract.now scene.view.now o.now ns >>= finished scene.contract.now scene.view.now mid.tasks.items)) (sym names)) h
 
   pub none_chosen : (e : Expr) (b : Block) (other : Option (Bor Block)) (place n : ℕ) (before after : Running)
-      → other ≡ None → condition scene.contract.now scene.view.now e place before.names ≡ Gave false n → after.names ≡ before.names → after.tasks ≡ before.tasks
-      → then_left scene before.tasks (choice_run scene.contract.now scene.view.now e b other place before.names) ≡ spend n (left_to scene after.tasks after.names)
+      → other ≡ None → condition scene.contract.now scene.view.now e place before.names ≡ Gave false n → after.names ≡ before.names → after.tasks.items ≡ before.tasks.items
+      → then_left scene before.tasks.items (choice_run scene.contract.now scene.view.now e b other place before.names) ≡ spend n (left_to scene after.tasks.items after.names)
   none_chosen e b other place n before after is holds names tasks =
-      choice_none scene.contract.now scene.view.now e b other place before.names before.tasks n is holds
+      choice_none scene.contract.now scene.view.now e b other place before.names before.tasks.items n is holds
       ∙ ap (λ (ts : List Task). spend n (finished scene.contract.now scene.view.now ts before.names)) (sym tasks)
-      ∙ ap (λ (ns : List Named). spend n (finished scene.contract.now scene.view.now after.tasks ns)) (sym names)
+      ∙ ap (λ (ns : List Named). spend n (finished scene.contract.now scene.view.now after.tasks.items ns)) (sym names)
 
   -- the next of statements begins
   pub statement_acts : (answer : Result Unit Stop) (ss : List Statement) (s : Statement) (rest : Bor (List Statement)) (m n : ℕ) (before mid after : Running)
-      → 1 ≤ length ss → s ≡ get_or ss 0 s → rest.now ≡ take (length ss - 1) (drop 1 ss) → n ≡ 1 + m → mid.tasks ≡ task.Statements rest ∷ before.tasks → mid.names ≡ before.names
-      → Acts scene answer m (then_left scene mid.tasks (action_run scene.contract.now scene.view.now (out-Statement s).action (out-Statement s).place mid.names)) after
-      → Acts scene answer n (then_left scene before.tasks (all_run scene.contract.now scene.view.now (map (statement_run scene.contract.now scene.view.now) ss) before.names)) after
+      → 1 ≤ length ss → s ≡ get_or ss 0 s → rest.now ≡ take (length ss - 1) (drop 1 ss) → n ≡ 1 + m → mid.tasks.items ≡ task.Statements rest ∷ before.tasks.items → mid.names ≡ before.names
+      → Acts scene answer m (then_left scene mid.tasks.items (action_run scene.contract.now scene.view.now (out-Statement s).action (out-Statement s).place mid.names)) after
+      → Acts scene answer n (then_left scene before.tasks.items (all_run scene.contract.now scene.view.now (map (statement_run scene.contract.now scene.view.now) ss) before.names)) after
   statement_acts answer ss s rest m n before mid after some first behind_it more tasks names h =
-      acts_spent scene answer 1 m n _ (then_left scene mid.tasks (action_run scene.contract.now scene.view.now (out-Statement s).action (out-Statement s).place mid.names)) after more
-      (next_statement scene.contract.now scene.view.now ss s rest before.names before.tasks some first behind_it
+      acts_spent scene answer 1 m n _ (then_left scene mid.tasks.items (action_run scene.contract.now scene.view.now (out-Statement s).action (out-Statement s).place mid.names)) after more
+      (next_statement scene.contract.now scene.view.now ss s rest before.names before.tasks.items some first behind_it
       ∙ ap (λ (ts : List Task). spend 1 (action_run scene.contract.now scene.view.now (out-Statement s).action (out-Statement s).place before.names >>= finished scene.contract.now scene.view.now ts)) (sym tasks)
-      ∙ ap (λ (ns : List Named). spend 1 (action_run scene.contract.now scene.view.now (out-Statement s).action (out-Statement s).place ns >>= finished scene.contract.now scene.view.now mid.tasks)) (sym names)) h
+      ∙ ap (λ (ns : List Named). spend 1 (action_run scene.contract.now scene.view.now (out-Statement s).action (out-Statement s).place ns >>= finished scene.contract.now scene.view.now mid.tasks.items)) (sym names)) h
 
   -- a turn begins
-  pub turn_acts : (answer : Result Unit Stop) (l next : Loop) (ss : Bor (List Statement)) (d : Datum) (count n : ℕ) (before mid after : Running)
+  pub turn_acts : (done : Unit) (l next : Loop) (ss : Bor (List Statement)) (d : Datum) (count n : ℕ) (before mid after : Running)
       → Some d ≡ first_of (left_in l.source l.at) → next ≡ record l { at = l.at + 1 } → ss.now ≡ (out-Block l.each.now).statements → count ≡ length before.names → n ≡ 1
-      → mid.tasks ≡ task.Loop next ∷ before.tasks → mid.names ≡ with_named before.names l.name.now l.kind d → mid.frames ≡ []
-      → OnOk answer (after.tasks ≡ task.Statements ss ∷ task.Leave count ∷ mid.tasks) → OnOk answer (after.names ≡ mid.names) → OnOk answer (after.frames ≡ mid.frames) → IfErr answer (λ e. e ≡ stop.Memory)
-      → Acts scene answer n (left_to scene (task.Loop l ∷ before.tasks) before.names) after
-  turn_acts (Ok done) l next ss d count n before mid after is behind_it opened counted one tasks names idle tasks2 names2 frames2 memory = (
-    loop_turn scene.contract.now scene.view.now l next ss d before.names before.tasks is behind_it opened
-        ∙ ap (λ (i : ℕ). spend 1 (finished scene.contract.now scene.view.now (task.Statements ss ∷ task.Leave i ∷ task.Loop next ∷ before.tasks) (with_named before.names l.name.now l.kind d))) (sym counted)
+      → mid.tasks.items ≡ task.Loop next ∷ before.tasks.items → mid.names ≡ with_named before.names l.name.now l.kind d → mid.frames.items ≡ []
+      → after.tasks.items ≡ task.Statements ss ∷ task.Leave count ∷ mid.tasks.items → after.names ≡ mid.names → after.frames.items ≡ mid.frames.items
+      → Acts scene (Ok done) n (left_to scene (task.Loop l ∷ before.tasks.items) before.names) after
+  turn_acts done l next ss d count n before mid after is behind_it opened counted one tasks names idle tasks2 names2 frames2 = (
+    loop_turn scene.contract.now scene.view.now l next ss d before.names before.tasks.items is behind_it opened
+        ∙ ap (λ (i : ℕ). spend 1 (finished scene.contract.now scene.view.now (task.Statements ss ∷ task.Leave i ∷ task.Loop next ∷ before.tasks.items) (with_named before.names l.name.now l.kind d))) (sym counted)
         ∙ ap (λ (ts : List Task). spend 1 (finished scene.contract.now scene.view.now (task.Statements ss ∷ task.Leave count ∷ ts) (with_named before.names l.name.now l.kind d))) (sym tasks)
         ∙ ap (λ (ts : List Task). spend 1 (finished scene.contract.now scene.view.now ts (with_named before.names l.name.now l.kind d))) (sym tasks2)
-        ∙ ap (λ (ns : List Named). spend 1 (finished scene.contract.now scene.view.now after.tasks ns)) (sym (names2 ∙ names))
-        ∙ ap (λ (i : ℕ). spend i (left_to scene after.tasks after.names)) (sym one),
+        ∙ ap (λ (ns : List Named). spend 1 (finished scene.contract.now scene.view.now after.tasks.items ns)) (sym (names2 ∙ names))
+        ∙ ap (λ (i : ℕ). spend i (left_to scene after.tasks.items after.names)) (sym one),
     frames2 ∙ idle,
   )
-  turn_acts (Err e) l next ss d count n before mid after is behind_it opened counted one tasks names idle tasks2 names2 frames2 memory =
-      let P : Stop → Type 0 = λ s. Stops s n (left_to scene (task.Loop l ∷ before.tasks) before.names) in subst P (sym memory) tt
 
 -- ---- what is left to do
 
-pub block_smaller : (answer : Result Unit Stop) (b : Block) (ss : Bor (List Statement)) (n : ℕ) (before after : List Task) → ss.now ≡ (out-Block b).statements
-    → OnOk answer (after ≡ task.Statements ss ∷ task.Leave n ∷ before) → OnOk answer (tasks_work after ≡ work_of_block b + tasks_work before)
-block_smaller (Ok done) b ss n before after opened tasks =
+pub block_smaller : (b : Block) (ss : Bor (List Statement)) (n : ℕ) (before after : List Task) → ss.now ≡ (out-Block b).statements
+    → after ≡ task.Statements ss ∷ task.Leave n ∷ before → tasks_work after ≡ work_of_block b + tasks_work before
+block_smaller b ss n before after opened tasks =
     let e : tasks_work after ≡ all_work (map work_of_statement ss.now) + (1 + tasks_work before) = ap tasks_work tasks in
     let f : all_work (map work_of_statement ss.now) ≡ all_work (map work_of_statement (out-Block b).statements) = ap (λ (xs : List Statement). all_work (map work_of_statement xs)) opened in
     omega (arith, e, f, block_left b)
-block_smaller (Err e) b ss n before after opened tasks = tt
 
-pub turn_smaller : (answer : Result Unit Stop) (l next : Loop) (ss : Bor (List Statement)) (n : ℕ) (before mid after : List Task) → l.at < most_turns l.source → next ≡ record l { at = l.at + 1 }
-    → ss.now ≡ (out-Block l.each.now).statements → mid ≡ task.Loop next ∷ before → OnOk answer (after ≡ task.Statements ss ∷ task.Leave n ∷ mid) → OnOk answer (tasks_work after < loop_work l + tasks_work before)
-turn_smaller (Ok done) l next ss n before mid after more behind_it opened tasks tasks2 =
+pub turn_smaller : (l next : Loop) (ss : Bor (List Statement)) (n : ℕ) (before mid after : List Task) → l.at < most_turns l.source → next ≡ record l { at = l.at + 1 }
+    → ss.now ≡ (out-Block l.each.now).statements → mid ≡ task.Loop next ∷ before → after ≡ task.Statements ss ∷ task.Leave n ∷ mid → tasks_work after < loop_work l + tasks_work before
+turn_smaller l next ss n before mid after more behind_it opened tasks tasks2 =
     let w : ℕ = work_of_block l.each.now in
     let e : tasks_work after ≡ all_work (map work_of_statement ss.now) + (1 + tasks_work mid) = ap tasks_work tasks2 in
     let f : all_work (map work_of_statement ss.now) ≡ all_work (map work_of_statement (out-Block l.each.now).statements) = ap (λ (xs : List Statement). all_work (map work_of_statement xs)) opened in
@@ -530,7 +525,6 @@ turn_smaller (Ok done) l next ss n before mid after more behind_it opened tasks 
     let h : most_turns l.source - l.at ≡ suc (most_turns l.source - (l.at + 1)) = omega (arith, more) in
     let i : (most_turns l.source - l.at) * (w + 1) ≡ (most_turns l.source - (l.at + 1)) * (w + 1) + (w + 1) = ap (λ (n : ℕ). n * (w + 1)) h ∙ suc-mul (most_turns l.source - (l.at + 1)) (w + 1) in
     omega (arith, e, f, g, i, block_left l.each.now)
-turn_smaller (Err e) l next ss n before mid after more behind_it opened tasks tasks2 = tt
 
 pub statement_smaller : (answer : Result Unit Stop) (ss : List Statement) (s : Statement) (rest : Bor (List Statement)) (before mid after : List Task)
     → 1 ≤ length ss → s ≡ get_or ss 0 s → rest.now ≡ take (length ss - 1) (drop 1 ss) → mid ≡ task.Statements rest ∷ before → OnOk answer (tasks_work after < work_of_action (out-Statement s).action + tasks_work mid)

@@ -74,7 +74,7 @@ Decides (Err e) units run fs = Stops e units run
 
 -- so much was spent, and the rest is what the tasks make of the names
 abbrev pub Acts : Scene → Result Unit Stop → ℕ → Run (List Named) → Running → Type 0
-Acts scene (Ok done) units run r = (run ≡ spend units (left_to scene r.tasks r.names)) × (r.frames ≡ [])
+Acts scene (Ok done) units run r = (run ≡ spend units (left_to scene r.tasks.items r.names)) × (r.frames.items ≡ [])
 Acts scene (Err e) units run r = Stops e units run
 
 -- all is done

@@ -1,8 +1,8 @@
 //! Checks.
-ghost use Rattle.std.specs.Prelude.{◌≡◌, ◌+◌, ◌≤◌, OnOk, IfOk};
+ghost use Rattle.std.specs.Prelude.{◌≡◌, ◌+◌, ◌*◌, ◌≤◌, OnOk, IfOk};
 ghost use Rattle.cs_eval_values.specs.Runs.{spent};
 ghost use Rattle.cs_eval_law.specs.Acting.{block_run};
-ghost use Rattle.cs_eval_law.specs.Checks.{yes_of, says, spends, check_cost, check_run, IsKinded};
+ghost use Rattle.cs_eval_law.specs.Checks.{yes_of, says, spends, check_cost, check_places, check_run, IsKinded};
 
 use crate::running::Running;
 use crate::statements::run;
@@ -11,12 +11,14 @@ use cs_base::Memory;
 use cs_eval::{Scene, Stack};
 use cs_eval_values::{LentView, Names, Steps, Stop, View, fill};
 use cs_lang::{ContractTree, Method};
+use cs_places::block_places;
 use cs_types::Checked;
 use cs_types_kinds::method_number;
 use std::alloc::Global;
 use std::sync::ledger::Ledger;
 
-/// What the check of a method answers where its names stand for these.
+/// What the check of a method answers where its names stand for these. Both of its stacks are taken
+/// here, with as many places as it fills at most.
 fn answer<'a, L: Ledger>(
     scene: &Scene<'_, 'a>,
     method: &'a Method,
@@ -28,13 +30,14 @@ fn answer<'a, L: Ledger>(
     ensures counts { OnOk result (steps.new ≡ steps.old + spent
         (block_run scene.now.contract.now scene.now.view.now method.now.check names.entry)) }
 {
+    let most = block_places(&method.check)?;
     let mut running = Running {
         names,
-        tasks: Stack::with_capacity(scene.alloc, 0)?,
-        frames: Stack::with_capacity(scene.alloc, 0)?,
+        tasks: Stack::with_capacity(scene.alloc, most)?,
+        frames: Stack::with_capacity(scene.alloc, most)?,
     };
     let statements = method.check.statements.as_slice();
-    running.tasks.push(Task::Statements(statements))?;
+    running.tasks.push(Task::Statements(statements));
     match run(scene, &mut running, steps) {
         Err(Stop::Answer(answer)) => Ok(answer),
         Err(Stop::Trap(_, _)) => Ok(false),
@@ -89,13 +92,16 @@ pub fn check_lent<'a, L: Ledger>(
     ensures bounded { spends checked.now.contract method.now view.now
         ≤ check_cost checked.now method.now }
     ensures kinded { IsKinded (check_run checked.now.contract method.now view.now) }
+    ensures roomy { check_places checked.now.contract method.now
+        ≤ 2 * check_cost checked.now method.now + 2 }
 {
     let contract = checked.contract().tree();
     check_in(alloc, contract, method, view, steps)
 }
 
 /// Whether the check of a method says yes to a view. One that isn't there, or that the view doesn't
-/// fit, says no and spends nothing; one that traps or ends without an answer says no.
+/// fit, says no and spends nothing; one that traps or ends without an answer says no. Its two stacks
+/// are taken at its start, and no push wants memory.
 #[tactic(auto, using(cs_eval_law::proofs::Kept::lawful))]
 pub fn check<'a, L: Ledger>(
     alloc: Global,
@@ -110,6 +116,8 @@ pub fn check<'a, L: Ledger>(
     ensures bounded { spends checked.now.contract method.now view.now
         ≤ check_cost checked.now method.now }
     ensures kinded { IsKinded (check_run checked.now.contract method.now view.now) }
+    ensures roomy { check_places checked.now.contract method.now
+        ≤ 2 * check_cost checked.now method.now + 2 }
 {
     let contract = checked.contract().tree();
     let lent = view.lend(alloc)?;

@@ -5,8 +5,6 @@ mod checks;
 mod running;
 mod statements;
 mod task;
-#[cfg(test)]
-mod tests;
 
 pub use checks::{check, check_lent};
 pub use statements::item;

@@ -1,13 +1,15 @@
 //! Running the statements of a check. Nothing goes down a tree by calls of functions: what is left
 //! to do stands on a stack.
-ghost use Rattle.std.specs.Prelude.{◌≡◌, ◌+◌, ◌-◌, ◌<◌, ◌≤◌, ◌∷◌, [], map, min, IfOk, OnOk, IfErr, IfSome};
-ghost use Rattle.cs_eval_values.specs.declared.stop.Stop.TheVariants as stop;
+ghost use Rattle.std.specs.Prelude.{◌≡◌, ◌+◌, ◌-◌, ◌<◌, ◌≤◌, ◌∷◌, [], map, min, max, Ok, IfOk, OnOk, IfSome};
 ghost use Rattle.cs_eval_values.specs.Answers.{Stops};
 ghost use Rattle.cs_eval.specs.declared.scene.Scene.{Scene as Seeing};
 ghost use Rattle.cs_eval.specs.Work.{all_work};
 ghost use Rattle.cs_eval_check.specs.declared.task.Task.TheVariants as task_is;
 ghost use Rattle.cs_eval_law.specs.Acting.{let_run, set_run, condition as condition_run, for_in_run, for_to_run, answer_run, block_run, all_run, statement_run, action_run};
 ghost use Rattle.cs_eval_check.specs.Tasks.{left_in, first_of, choice_run, left_to, then_left, Decides, Acts, Ran};
+ghost use Rattle.cs_places.specs.Places.{places};
+ghost use Rattle.cs_places.specs.Blocks.{one_by_one, turns_places, places_of_action, places_of_block, places_of_statement};
+ghost use Rattle.cs_eval_check.specs.TaskRoom.{loop_places, places_of_other, task_places, HasRoomFor};
 ghost use Rattle.cs_eval_check.specs.TaskWork.{most_turns, turns_work, work_of_block, work_of_other, work_of_statement, work_of_action, task_work, loop_work, tasks_work};
 
 use crate::running::Running;
@@ -48,33 +50,33 @@ pub fn item<'a>(
 }
 
 /// Statements are done next, and then all but so many names end.
-fn enter<'a>(
-    running: &mut Running<'a>,
-    statements: &'a [Statement],
-    names: usize,
-) -> Result<(), Stop>
-    ensures tasks { OnOk result (running.new.tasks
-        ≡ task_is.Statements statements.entry ∷ task_is.Leave names ∷ running.old.tasks) }
-    ensures names { OnOk result (running.new.names ≡ running.old.names) }
-    ensures frames { OnOk result (running.new.frames ≡ running.old.frames) }
-    ensures memory { IfErr result (λ e. e ≡ stop.Memory) }
+#[tactic(auto, using(cs_places::proofs::Actions::one_at_least))]
+fn enter<'a>(running: &mut Running<'a>, statements: &'a [Statement], names: usize)
+    requires { HasRoomFor (one_by_one (map places_of_statement statements.now) + 1) running.old }
+    ensures tasks { running.new.tasks.items
+        ≡ task_is.Statements statements.entry ∷ task_is.Leave names ∷ running.old.tasks.items }
+    ensures names { running.new.names ≡ running.old.names }
+    ensures frames { running.new.frames ≡ running.old.frames }
+    ensures room { HasRoomFor 0 running.new }
 {
-    running.tasks.push(Task::Leave(names))?;
-    running.tasks.push(Task::Statements(statements))?;
-    Ok(())
+    running.tasks.push(Task::Leave(names));
+    running.tasks.push(Task::Statements(statements));
 }
 
 /// A block is done next.
-fn enter_block<'a>(running: &mut Running<'a>, block: &'a Block) -> Result<(), Stop>
-    requires { running.old.frames ≡ [] }
-    ensures acts { (scene : Seeing) → Acts scene result 0
-        (then_left scene running.old.tasks
+#[tactic(auto, using(cs_places::proofs::Actions::block_is))]
+fn enter_block<'a>(running: &mut Running<'a>, block: &'a Block)
+    requires idle { running.old.frames.items ≡ [] }
+    requires room { HasRoomFor (places_of_block block.now) running.old }
+    ensures acts { (scene : Seeing) → Acts scene (Ok result) 0
+        (then_left scene running.old.tasks.items
         (block_run scene.contract.now scene.view.now block.now running.old.names)) running.new }
-    ensures smaller { OnOk result (tasks_work running.new.tasks
-        ≡ work_of_block block.now + tasks_work running.old.tasks) }
+    ensures smaller { tasks_work running.new.tasks.items
+        ≡ work_of_block block.now + tasks_work running.old.tasks.items }
+    ensures room { HasRoomFor 0 running.new }
 {
     let names = running.names.len();
-    enter(running, block.statements.as_slice(), names)
+    enter(running, block.statements.as_slice(), names);
 }
 
 /// A value under a new name.
@@ -85,13 +87,15 @@ fn let_name<'a, L: Ledger>(
     value: &'a Expr,
     steps: &mut Steps<L>,
 ) -> Result<(), Stop>
-    requires { running.old.frames ≡ [] }
+    requires idle { running.old.frames.items ≡ [] }
+    requires room { HasRoomFor (places value.now) running.old }
     ensures acts { Acts scene.now result (steps.new - steps.old)
-        (then_left scene.now running.old.tasks
+        (then_left scene.now running.old.tasks.items
         (let_run scene.now.contract.now scene.now.view.now
         name.now value.now running.old.names)) running.new }
     ensures counted { steps.old ≤ steps.new }
-    ensures tasks { running.new.tasks ≡ running.old.tasks }
+    ensures tasks { running.new.tasks.items ≡ running.old.tasks.items }
+    ensures room { OnOk result (HasRoomFor 0 running.new) }
 {
     let Some(kind) = kind_given(scene, &running.names, value) else {
         return Err(Stop::Trap(Cause::Misfit, name.place));
@@ -109,13 +113,15 @@ fn set_name<'a, L: Ledger>(
     value: &'a Expr,
     steps: &mut Steps<L>,
 ) -> Result<(), Stop>
-    requires { running.old.frames ≡ [] }
+    requires idle { running.old.frames.items ≡ [] }
+    requires room { HasRoomFor (places value.now) running.old }
     ensures acts { Acts scene.now result (steps.new - steps.old)
-        (then_left scene.now running.old.tasks
+        (then_left scene.now running.old.tasks.items
         (set_run scene.now.contract.now scene.now.view.now
         name.now value.now running.old.names)) running.new }
     ensures counted { steps.old ≤ steps.new }
-    ensures tasks { running.new.tasks ≡ running.old.tasks }
+    ensures tasks { running.new.tasks.items ≡ running.old.tasks.items }
+    ensures room { OnOk result (HasRoomFor 0 running.new) }
 {
     let held = evaluate(scene, &running.names, &mut running.frames, value, steps)?;
     running.names.set(name.bytes.as_slice(), held);
@@ -130,13 +136,16 @@ fn holds<'a, L: Ledger>(
     place: usize,
     steps: &mut Steps<L>,
 ) -> Result<bool, Stop>
-    requires { running.old.frames ≡ [] }
+    requires idle { running.old.frames.items ≡ [] }
+    requires room { HasRoomFor (places condition.now) running.old }
     ensures decides { Decides result (steps.new - steps.old)
         (condition_run scene.now.contract.now scene.now.view.now
-        condition.now place running.old.names) running.new.frames }
+        condition.now place running.old.names) running.new.frames.items }
     ensures counted { steps.old ≤ steps.new }
     ensures names { running.new.names ≡ running.old.names }
-    ensures tasks { running.new.tasks ≡ running.old.tasks }
+    ensures tasks { running.new.tasks.items ≡ running.old.tasks.items }
+    ensures most { running.new.frames.most ≡ running.old.frames.most }
+    ensures places { running.new.tasks.most ≡ running.old.tasks.most }
 {
     let held = evaluate(scene, &running.names, &mut running.frames, condition, steps)?;
     match held.as_bool() {
@@ -146,6 +155,7 @@ fn holds<'a, L: Ledger>(
 }
 
 /// A loop over a list or objects.
+#[tactic(auto, using(crate::proofs::Rooms::turns_some))]
 fn for_in<'a, L: Ledger>(
     scene: &Scene<'_, 'a>,
     running: &mut Running<'a>,
@@ -154,15 +164,17 @@ fn for_in<'a, L: Ledger>(
     each: &'a Block,
     steps: &mut Steps<L>,
 ) -> Result<(), Stop>
-    requires { running.old.frames ≡ [] }
+    requires idle { running.old.frames.items ≡ [] }
+    requires room { HasRoomFor (max (places list.now) (places_of_block each.now + 1)) running.old }
     ensures acts { Acts scene.now result (steps.new - steps.old)
-        (then_left scene.now running.old.tasks
+        (then_left scene.now running.old.tasks.items
         (for_in_run scene.now.contract.now scene.now.view.now name.now list.now
         (block_run scene.now.contract.now scene.now.view.now each.now)
         running.old.names)) running.new }
     ensures counted { steps.old ≤ steps.new }
-    ensures smaller { OnOk result (tasks_work running.new.tasks
-        ≡ turns_work MOST_ITEMS (work_of_block each.now) + tasks_work running.old.tasks) }
+    ensures smaller { OnOk result (tasks_work running.new.tasks.items
+        ≡ turns_work MOST_ITEMS (work_of_block each.now) + tasks_work running.old.tasks.items) }
+    ensures room { OnOk result (HasRoomFor 0 running.new) }
 {
     let kind = match kind_given(scene, &running.names, list) {
         Some(kind) => kind.item_of(),
@@ -181,24 +193,27 @@ fn for_in<'a, L: Ledger>(
         each,
         source: Source::Items(held),
         at: 0,
-    }))?;
+    }));
     Ok(())
 }
 
 /// A turn of a loop, where there is one more.
+#[tactic(auto, using(crate::proofs::Rooms::turns_some, cs_places::proofs::Actions::block_is))]
 fn turn<'a, L: Ledger>(
     scene: &Scene<'_, 'a>,
     running: &mut Running<'a>,
     looping: Loop<'a>,
     steps: &mut Steps<L>,
 ) -> Result<(), Stop>
-    requires { running.old.frames ≡ [] }
+    requires idle { running.old.frames.items ≡ [] }
+    requires room { HasRoomFor (loop_places looping) running.old }
     ensures acts { Acts scene.now result (steps.new - steps.old)
-        (left_to scene.now (task_is.Loop looping.entry ∷ running.old.tasks) running.old.names)
+        (left_to scene.now (task_is.Loop looping.entry ∷ running.old.tasks.items) running.old.names)
         running.new }
     ensures counted { steps.old ≤ steps.new }
-    ensures smaller { OnOk result (tasks_work running.new.tasks
-        < loop_work looping.entry + tasks_work running.old.tasks) }
+    ensures smaller { OnOk result (tasks_work running.new.tasks.items
+        < loop_work looping.entry + tasks_work running.old.tasks.items) }
+    ensures room { OnOk result (HasRoomFor 0 running.new) }
 {
     let Some(held) = item(scene, &looping.source, looping.at)? else {
         return Ok(());
@@ -218,9 +233,10 @@ fn turn<'a, L: Ledger>(
         each,
         source,
         at: at + 1,
-    }))?;
+    }));
     running.names.add(name, kind, held)?;
-    enter(running, each.statements.as_slice(), names)
+    enter(running, each.statements.as_slice(), names);
+    Ok(())
 }
 
 /// One block where a condition holds, and the other one, if there is one, where it doesn't.
@@ -233,40 +249,45 @@ fn choose<'a, L: Ledger>(
     other: Option<&'a Block>,
     steps: &mut Steps<L>,
 ) -> Result<(), Stop>
-    requires { running.old.frames ≡ [] }
+    requires idle { running.old.frames.items ≡ [] }
+    requires room { HasRoomFor (max (places condition.now)
+        (max (places_of_block block.now) (places_of_other other))) running.old }
     ensures acts { Acts scene.now result (steps.new - steps.old)
-        (then_left scene.now running.old.tasks
+        (then_left scene.now running.old.tasks.items
         (choice_run scene.now.contract.now scene.now.view.now
         condition.now block.now other.entry place running.old.names)) running.new }
     ensures counted { steps.old ≤ steps.new }
-    ensures smaller { OnOk result (tasks_work running.new.tasks
-        ≤ work_of_block block.now + work_of_other other.entry + tasks_work running.old.tasks) }
+    ensures smaller { OnOk result (tasks_work running.new.tasks.items
+        ≤ work_of_block block.now + work_of_other other.entry + tasks_work running.old.tasks.items) }
+    ensures room { OnOk result (HasRoomFor 0 running.new) }
 {
     if holds(scene, running, condition, place, steps)? {
-        return enter_block(running, block);
+        enter_block(running, block);
+        return Ok(());
     }
     match other {
-        Some(other) => enter_block(running, other),
+        Some(other) => {
+            enter_block(running, other);
+            Ok(())
+        }
         None => Ok(()),
     }
 }
 
 /// A loop over numbers.
-fn for_to<'a>(
-    running: &mut Running<'a>,
-    name: &'a Text,
-    count: u64,
-    each: &'a Block,
-) -> Result<(), Stop>
-    requires { running.old.frames ≡ [] }
-    ensures acts { (scene : Seeing) → Acts scene result 0
-        (then_left scene running.old.tasks
+#[tactic(auto, using(crate::proofs::Rooms::turns_fewer))]
+fn for_to<'a>(running: &mut Running<'a>, name: &'a Text, count: u64, each: &'a Block)
+    requires idle { running.old.frames.items ≡ [] }
+    requires room { HasRoomFor (turns_places count (places_of_block each.now)) running.old }
+    ensures acts { (scene : Seeing) → Acts scene (Ok result) 0
+        (then_left scene running.old.tasks.items
         (for_to_run scene.contract.now scene.view.now name.now count
         (block_run scene.contract.now scene.view.now each.now)
         running.old.names)) running.new }
-    ensures smaller { OnOk result (tasks_work running.new.tasks
+    ensures smaller { tasks_work running.new.tasks.items
         ≡ turns_work (min count MOST_TURNS) (work_of_block each.now)
-        + tasks_work running.old.tasks) }
+        + tasks_work running.old.tasks.items }
+    ensures room { HasRoomFor 0 running.new }
 {
     running.tasks.push(Task::Loop(Loop {
         name: name.bytes.as_slice(),
@@ -274,8 +295,7 @@ fn for_to<'a>(
         each,
         source: Source::Numbers(count.min(MOST_TURNS) as u16),
         at: 0,
-    }))?;
-    Ok(())
+    }));
 }
 
 /// The answer of the check.
@@ -286,7 +306,8 @@ fn answer<'a, L: Ledger>(
     place: usize,
     steps: &mut Steps<L>,
 ) -> Stop
-    requires { running.old.frames ≡ [] }
+    requires idle { running.old.frames.items ≡ [] }
+    requires room { HasRoomFor (places value.now) running.old }
     ensures stops { Stops result (steps.new - steps.old)
         (answer_run scene.now.contract.now scene.now.view.now
         value.now place running.old.names) }
@@ -299,7 +320,7 @@ fn answer<'a, L: Ledger>(
 }
 
 /// Begins what a statement does.
-#[tactic(auto, using(crate::proofs::Actions::actions, crate::proofs::ActionWork::works))]
+#[tactic(auto, using(crate::proofs::Actions::actions, crate::proofs::ActionWork::works, cs_places::proofs::Actions::actions))]
 fn act<'a, L: Ledger>(
     scene: &Scene<'_, 'a>,
     running: &mut Running<'a>,
@@ -307,14 +328,16 @@ fn act<'a, L: Ledger>(
     place: usize,
     steps: &mut Steps<L>,
 ) -> Result<(), Stop>
-    requires { running.old.frames ≡ [] }
+    requires idle { running.old.frames.items ≡ [] }
+    requires room { HasRoomFor (places_of_action action.now) running.old }
     ensures acts { Acts scene.now result (steps.new - steps.old)
-        (then_left scene.now running.old.tasks
+        (then_left scene.now running.old.tasks.items
         (action_run scene.now.contract.now scene.now.view.now
         action.now place running.old.names)) running.new }
     ensures counted { steps.old ≤ steps.new }
-    ensures smaller { OnOk result (tasks_work running.new.tasks
-        < work_of_action action.now + tasks_work running.old.tasks) }
+    ensures smaller { OnOk result (tasks_work running.new.tasks.items
+        < work_of_action action.now + tasks_work running.old.tasks.items) }
+    ensures room { OnOk result (HasRoomFor 0 running.new) }
 {
     match action {
         Action::Let(name, value) => let_name(scene, running, name, value, steps),
@@ -326,7 +349,10 @@ fn act<'a, L: Ledger>(
             choose(scene, running, condition, place, block, Some(other), steps)
         }
         Action::ForIn(name, list, each) => for_in(scene, running, name, list, each, steps),
-        Action::ForTo(name, count, each) => for_to(running, name, *count, each),
+        Action::ForTo(name, count, each) => {
+            for_to(running, name, *count, each);
+            Ok(())
+        }
         Action::Make(_, _, _) => Err(Stop::Trap(Cause::Misfit, place)),
         Action::Call(_, _, _) => Err(Stop::Trap(Cause::Misfit, place)),
         Action::Answer(value) => Err(answer(scene, running, value, place, steps)),
@@ -334,25 +360,28 @@ fn act<'a, L: Ledger>(
 }
 
 /// The next of statements.
+#[tactic(auto, using(cs_places::proofs::Actions::one_at_least, cs_places::proofs::Actions::statement_is))]
 fn on_statements<'a, L: Ledger>(
     scene: &Scene<'_, 'a>,
     running: &mut Running<'a>,
     statements: &'a [Statement],
     steps: &mut Steps<L>,
 ) -> Result<(), Stop>
-    requires { running.old.frames ≡ [] }
+    requires idle { running.old.frames.items ≡ [] }
+    requires room { HasRoomFor (one_by_one (map places_of_statement statements.now)) running.old }
     ensures acts { Acts scene.now result (steps.new - steps.old)
-        (then_left scene.now running.old.tasks
+        (then_left scene.now running.old.tasks.items
         (all_run scene.now.contract.now scene.now.view.now
         (map (statement_run scene.now.contract.now scene.now.view.now) statements.now)
         running.old.names)) running.new }
     ensures counted { steps.old ≤ steps.new }
-    ensures smaller { OnOk result (tasks_work running.new.tasks
-        < all_work (map work_of_statement statements.now) + tasks_work running.old.tasks) }
+    ensures smaller { OnOk result (tasks_work running.new.tasks.items
+        < all_work (map work_of_statement statements.now) + tasks_work running.old.tasks.items) }
+    ensures room { OnOk result (HasRoomFor 0 running.new) }
 {
     match statements {
         [statement, rest @ ..] => {
-            running.tasks.push(Task::Statements(rest))?;
+            running.tasks.push(Task::Statements(rest));
             steps.spend(1);
             act(scene, running, &statement.action, statement.place, steps)
         }
@@ -367,12 +396,14 @@ fn go_on<'a, L: Ledger>(
     task: Task<'a>,
     steps: &mut Steps<L>,
 ) -> Result<(), Stop>
-    requires { running.old.frames ≡ [] }
+    requires idle { running.old.frames.items ≡ [] }
+    requires room { HasRoomFor (task_places task) running.old }
     ensures acts { Acts scene.now result (steps.new - steps.old)
-        (left_to scene.now (task.entry ∷ running.old.tasks) running.old.names) running.new }
+        (left_to scene.now (task.entry ∷ running.old.tasks.items) running.old.names) running.new }
     ensures counted { steps.old ≤ steps.new }
-    ensures smaller { OnOk result (tasks_work running.new.tasks
-        < task_work task.entry + tasks_work running.old.tasks) }
+    ensures smaller { OnOk result (tasks_work running.new.tasks.items
+        < task_work task.entry + tasks_work running.old.tasks.items) }
+    ensures room { OnOk result (HasRoomFor 0 running.new) }
 {
     match task {
         Task::Statements(statements) => on_statements(scene, running, statements, steps),
@@ -390,9 +421,10 @@ pub fn run<'a, L: Ledger>(
     running: &mut Running<'a>,
     steps: &mut Steps<L>,
 ) -> Result<(), Stop>
-    requires { running.old.frames ≡ [] }
+    requires idle { running.old.frames.items ≡ [] }
+    requires room { HasRoomFor 0 running.old }
     ensures ran { Ran result (steps.new - steps.old)
-        (left_to scene.now running.old.tasks running.old.names) running.new }
+        (left_to scene.now running.old.tasks.items running.old.names) running.new }
     ensures counted { steps.old ≤ steps.new }
 {
     while let Some(task) = running.tasks.pop() {

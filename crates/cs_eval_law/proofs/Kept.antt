@@ -23,6 +23,7 @@ use Rattle.cs_eval_law.proofs.Sound.{Sound}
 use Rattle.cs_eval_law.proofs.Kinded.{true_and}
 use Rattle.cs_eval_law.proofs.BlockSound.{block_yields}
 use Rattle.cs_eval_law.proofs.Bounds.{spends_within}
+use Rattle.cs_eval_law.proofs.Roomy.{places_within}
 
 sound_kinded : {X : Type 0} (P : X → Type 0) (r : Run X) → Sound P r → IsKinded r
 sound_kinded P (Gave x n) h = tt
@@ -64,4 +65,4 @@ module _ (a : Accepted) (is : IsAccepted a) (view : View) where
   pub check_kinded : (method : List ℕ) → IsKinded (check_run a.contract method view)
   check_kinded method = number_kinded (method_number method a.contract.methods)
 
-pub ruleset lawful = (spends_within, check_kinded)
+pub ruleset lawful = (spends_within, check_kinded, places_within)

@@ -16,4 +16,7 @@ pub mod TreeSound
 pub mod ActSound
 pub mod BlockSound
 pub mod MethodSound
+pub mod ExprRoom
+pub mod BlockRoom
+pub mod Roomy
 pub mod Kept

@@ -2,6 +2,7 @@
 use Rattle.std.specs.Prelude.{◌≢◌, ℕ, Bool, false, List, [], slice_get, Option, Some, None}
 use Rattle.cs_lang.specs.declared.tree.ContractTree.{ContractTree}
 use Rattle.cs_lang.specs.declared.tree.Method.{Method}
+use Rattle.cs_places.specs.Blocks.{places_of_block}
 use Rattle.cs_types_kinds.specs.declared.scope.Costs.{Costs}
 use Rattle.cs_types_kinds.specs.Lookups.{method_number}
 use Rattle.cs_types.specs.Accepted.{Accepted}
@@ -65,3 +66,13 @@ check_cost_at costs (Some number) = check_cost_in (slice_get costs number)
 -- what the check of a method may cost, as it was accepted
 abbrev pub check_cost : Accepted → List ℕ → ℕ
 check_cost a method = check_cost_at a.costs (method_number method a.contract.methods)
+
+-- ---- how many places each of its stacks takes
+
+abbrev pub places_in : Option Method → ℕ
+places_in None = 0
+places_in (Some m) = places_of_block m.check
+
+-- of the check of a method
+abbrev pub check_places : ContractTree → List ℕ → ℕ
+check_places contract method = places_in (method_named contract.methods method)

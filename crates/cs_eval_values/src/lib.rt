@@ -13,8 +13,6 @@ mod operators;
 mod shared;
 mod steps;
 mod stop;
-#[cfg(test)]
-mod tests;
 mod values;
 mod view;
 

@@ -11,10 +11,10 @@ returns-clause-acts g c =
     turn_acts c.args.scene.now c.enter.result c.args.looping next c.as_slice.result c.in-Some.held c.len-names.result (c.spend.new.self - c.args.steps.now)
     c.args.running.now mid c.enter.new.running
     (sym c.in-Some.is ∙ c.in_ok-held.ensures.found) refl (search rules) (search rules) (omega (arith, c.spend.ensures))
-    (search rules) (search rules) c.requires c.enter.ensures.tasks c.enter.ensures.names c.enter.ensures.frames c.enter.ensures.memory
+    (search rules) (search rules) c.requires.idle c.enter.ensures.tasks c.enter.ensures.names (search rules)
 
 pub returns-clause-smaller : goal.returns-clause-smaller
 returns-clause-smaller g c =
     let next : Loop = record c.args.looping { at = c.args.looping.at + 1 } in
-    turn_smaller c.enter.result c.args.looping next c.as_slice.result c.len-names.result c.args.running.now.tasks c.push.new.self c.enter.new.running.tasks
+    turn_smaller c.args.looping next c.as_slice.result c.len-names.result c.args.running.now.tasks.items c.push.new.self.items c.enter.new.running.tasks.items
     (search rules) refl (search rules) (search rules) c.enter.ensures.tasks
