@@ -1,0 +1,2 @@
+pub mod Approving
+pub mod Reaching

@@ -1,0 +1,68 @@
+-- What a procedure comes to, and what it spends.
+use Rattle.std.specs.Prelude.{◌≡◌, ℕ, ◌+◌, List, [], ◌∷◌, Option, Some, None, Result, Ok, Err}
+use Rattle.cs_eval_values.specs.declared.stop.Cause.TheVariants as cause
+use Rattle.cs_eval_values.specs.Runs.{Run, Gave, Answered, Trapped}
+use Rattle.cs_proc_parts.specs.declared.ending.Ending.{Ending}
+use Rattle.cs_proc_parts.specs.declared.ending.Ending.TheVariants as ending
+use Rattle.cs_proc_parts.specs.declared.ending.Halt.{Halt}
+use Rattle.cs_proc_parts.specs.declared.ending.Halt.TheVariants as halt
+
+-- It goes through and gives something, or ends before; and so much was spent.
+pub data Course (X : Type 0) : Type 0 where
+  Went : X → ℕ → Course X
+  Ended : Ending → ℕ → Course X
+
+abbrev pub goes : {X : Type 0} → X → Course X
+goes x = Went x 0
+
+abbrev pub ends : {X : Type 0} → Ending → Course X
+ends why = Ended why 0
+
+-- so much is spent first
+abbrev pub spending : {X : Type 0} → ℕ → Course X → Course X
+spending n (Went x m) = Went x (n + m)
+spending n (Ended why m) = Ended why (n + m)
+
+-- one thing, and then another with what it gave
+infixl 10 ◌>>=◌
+abbrev pub ◌>>=◌ : {A B : Type 0} → Course A → (A → Course B) → Course B
+(Went x n) >>= f = spending n (f x)
+(Ended why n) >>= f = Ended why n
+
+-- one after the other
+abbrev pub through : {A X : Type 0} → (A → X → Course A) → A → List X → Course A
+through step a [] = goes a
+through step a (x ∷ xs) = step a x >>= λ b. through step b xs
+
+-- what there is, or an end
+abbrev pub or_ends : {X : Type 0} → Ending → Option X → Course X
+or_ends why None = ends why
+or_ends why (Some x) = goes x
+
+-- what the evaluation of an expression is to a procedure; it answers nothing
+abbrev pub evaluated : {X : Type 0} → Run X → Course X
+evaluated (Gave x n) = Went x n
+evaluated (Answered b n) = Ended (ending.Trap cause.Misfit 0) n
+evaluated (Trapped why place n) = Ended (ending.Trap why place) n
+
+-- what was spent
+abbrev pub spent : {X : Type 0} → Course X → ℕ
+spent (Went x n) = n
+spent (Ended why n) = n
+
+-- ---- what a call answers that is a part of a procedure
+
+-- it ended as this course does; memory may run out
+abbrev pub Halts : {X : Type 0} → Halt → ℕ → Course X → Type 0
+Halts (halt.End why) n course = course ≡ Ended why n
+Halts halt.Memory n course = Unit {0}
+
+-- so much was spent, and this is what the course comes to
+abbrev pub Comes : {X : Type 0} → Result X Halt → ℕ → Course X → Type 0
+Comes (Ok x) n course = course ≡ Went x n
+Comes (Err e) n course = Halts e n course
+
+-- so much was spent, and this is what there is behind it
+abbrev pub Makes : {X : Type 0} → Result Unit Halt → ℕ → Course X → X → Type 0
+Makes (Ok done) n course x = course ≡ Went x n
+Makes (Err e) n course x = Halts e n course

@@ -1,0 +1,4 @@
+pub mod Acting
+pub mod Methods
+pub mod Tasks
+pub mod laws
