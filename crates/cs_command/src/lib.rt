@@ -1,8 +1,9 @@
-//! What commands share that answer the text of a source: how they end, and what they say of it.
+//! What commands share: numbers among their words, how they end, and what those that answer the
+//! text of a source say of it.
 #![tactic(auto)]
 
 mod ending;
-#[cfg(test)]
-mod tests;
+mod numbers;
 
 pub use ending::closing;
+pub use numbers::read_short_number;

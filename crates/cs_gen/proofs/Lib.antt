@@ -1,0 +1,10 @@
+pub mod States
+pub mod Fitting
+pub mod Shards
+pub mod Counted
+pub mod Worths
+pub mod Masters
+pub mod Lines
+pub mod Rounded
+pub mod Whole
+pub mod Playing

@@ -1,0 +1,5 @@
+pub mod Draws
+pub mod Coins
+pub mod Rounds
+pub mod Schedules
+pub mod Sound
