@@ -57,6 +57,13 @@ impl Archive {
         self.chain.slots()
     }
 
+    /// The chain of its slots.
+    pub fn chain(&self) -> &Chain
+        ensures { result.now ≡ self.now.log }
+    {
+        &self.chain
+    }
+
     /// Takes the leaf of the next slot, whose execution left this table, and tells the checkpoint
     /// that it made, if it made one.
     pub fn push(

@@ -4,7 +4,5 @@
 
 mod archive;
 mod fitting;
-#[cfg(test)]
-mod tests;
 
 pub use archive::Archive;

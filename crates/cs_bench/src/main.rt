@@ -3,6 +3,7 @@
 //! Words: `table OBJECTS SESSIONS ROUNDS` makes a shard of so many coins, at most 1,000,000, and then
 //! spends so many of them, each by a session that is prepared in so many rounds and decided once.
 //! `merkle LEAVES ROUNDS` makes so many leaves of 100 bytes and computes their root in so many rounds.
+//! `root OBJECTS ROUNDS` makes a shard of so many coins and computes the root over its records in so many rounds.
 //! `slots F COUNT` chooses so many entries among 3F+1 members, of 16 at most, with all messages delivered.
 //! `hostile VIEWS` lets five liars of 16 members fill so many views, at most 1,024, of the open slot and the 15 above,
 //! chooses 11 slots, and the same where the liars are silent, and prints one line of numbers: the liars' messages
@@ -145,6 +146,10 @@ fn run_sized(
     match word {
         "merkle" => {
             merkle::run(alloc, size, count)?;
+            Ok(DONE)
+        }
+        "root" => {
+            table::root_often(alloc, size, count)?;
             Ok(DONE)
         }
         "slots" => Ok(status(slots::run(alloc, size, count)?, count)),

@@ -3,6 +3,7 @@ ghost use Rattle.std.specs.Prelude.{All, IfOk, OnOk};
 ghost use Rattle.cs_tx_value.specs.Object.{ObjectFits};
 
 use cs_base::{Config, Key, Memory};
+use cs_check::table_root;
 use cs_table::{Table, TableError};
 use cs_test_samples::{Transfer, coin};
 use cs_tx::{Digest, Encoded, Object, Session, Vote, genesis_key, session_digest};
@@ -75,17 +76,38 @@ fn spend_coin(
     Ok(())
 }
 
+/// The table of a shard of these coins.
+fn shard(alloc: Global, objects: &[(Key, Object)]) -> Result<Option<Table>, Memory>
+    requires { All (λ item. ObjectFits item.1) objects.now }
+{
+    let config = match Config::new(1, 0, 0) {
+        Ok(config) => config,
+        Err(_) => return Ok(None),
+    };
+    match Table::genesis(alloc, config, 0, objects) {
+        Ok(table) => Ok(Some(table)),
+        Err(TableError::Duplicate(_)) => Ok(None),
+        Err(TableError::Memory) => Err(Memory),
+    }
+}
+
+/// Makes the shard, and so many times the root over its records, as each checkpoint does.
+pub fn root_often(alloc: Global, count: u32, rounds: u32) -> Result<(), Memory> {
+    let objects = coins(alloc, count)?;
+    let Some(table) = shard(alloc, &objects)? else {
+        return Ok(());
+    };
+    for _ in 0..rounds {
+        table_root(alloc, &table)?;
+    }
+    Ok(())
+}
+
 /// Makes the shard, and spends coins that lie at equal distances.
 pub fn run(alloc: Global, count: u32, sessions: u32, rounds: u32) -> Result<(), Memory> {
     let objects = coins(alloc, count)?;
-    let config = match Config::new(1, 0, 0) {
-        Ok(config) => config,
-        Err(_) => return Ok(()),
-    };
-    let mut table = match Table::genesis(alloc, config, 0, &objects) {
-        Ok(table) => table,
-        Err(TableError::Duplicate(_)) => return Ok(()),
-        Err(TableError::Memory) => return Err(Memory),
+    let Some(mut table) = shard(alloc, &objects)? else {
+        return Ok(());
     };
     let step = (objects.len() / (sessions as usize).max(1)).max(1);
     for (place, item) in objects.iter().enumerate() {

@@ -131,6 +131,20 @@ impl Chain {
         self.leaves.len() as u64
     }
 
+    /// The leaf of each of its slots, as encoded.
+    pub fn leaves(&self) -> &[Vec<u8>]
+        ensures { leaves_of result.now ≡ self.now.leaves }
+    {
+        self.leaves.as_slice()
+    }
+
+    /// How many checkpoints are made.
+    pub fn checkpoints(&self) -> u64
+        ensures { result ≡ length self.now.table_roots }
+    {
+        self.made.len() as u64
+    }
+
     /// Takes the leaf of the next slot, whose entry was executed on the table last. Every 16th leaf
     /// makes a checkpoint.
     pub fn push(

@@ -5,8 +5,6 @@ mod chain;
 mod fitting;
 mod leaf;
 mod root;
-#[cfg(test)]
-mod tests;
 
 pub use chain::{Chain, ProveError};
 pub use root::{root_is_shown, table_root};

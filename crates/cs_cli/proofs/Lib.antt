@@ -1,4 +1,5 @@
 pub mod Outcomes
+pub mod Simulations
 pub mod Reported
 pub mod Sources
 pub mod Told

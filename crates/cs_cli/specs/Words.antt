@@ -1,13 +1,37 @@
 -- The words of the command line.
-use Rattle.std.specs.Prelude.{ℕ, Bool, true, false, List, [], ◌∷◌, Option, Some, None, codes, if◌then◌else◌, map, option_map, String, string_bytes}
+use Rattle.std.specs.Prelude.{ℕ, Bool, true, false, not, ◌&&◌, List, [], ◌∷◌, Option, Some, None, codes, if◌then◌else◌, map, option_map, String, string_bytes}
 use Rattle.std.specs.declared.alloc.Global.{Global}
 use Rattle.std.specs.Str.{bytes_eq}
+use Rattle.cs_replay.specs.declared.schedule.Mode.{Mode}
 use Rattle.cs_cli.specs.declared.words.Command.{Command}
-use Rattle.cs_cli.specs.declared.words.Command.TheVariants.{Replay, Contract, Verify}
+use Rattle.cs_cli.specs.declared.words.Command.TheVariants.{Replay, Contract, Verify, Simulate}
+use Rattle.cs_cli.specs.Numbers.{simulated}
 
 -- what the words say, each as its bytes
 abbrev pub texts_of : List (String Global) → List (List ℕ)
 texts_of words = map string_bytes words
+
+-- ---- a replay has two options, in any order, each at most once
+
+abbrev pub plain_mode : Mode
+plain_mode = record { traced = false; dumps = false }
+
+-- one option more
+abbrev pub with_option : Mode → List ℕ → Option Mode
+with_option mode option =
+    if bytes_eq option (codes "--trace") && not mode.traced then Some (record mode { traced = true })
+    else if bytes_eq option (codes "--dumps") && not mode.dumps then Some (record mode { dumps = true })
+    else None
+
+abbrev pub then_options : Option Mode → (Mode → Option Mode) → Option Mode
+then_options None next = None
+then_options (Some mode) next = next mode
+
+abbrev pub mode_from : Mode → List (List ℕ) → Option Mode
+mode_from mode [] = Some mode
+mode_from mode (option ∷ options) = then_options (with_option mode option) (λ m. mode_from m options)
+
+-- ---- other commands
 
 -- a command has one option, at most once
 abbrev pub flagged : List ℕ → List (List ℕ) → Option Bool
@@ -23,9 +47,10 @@ plain command (option ∷ options) = None
 -- the command of a word and the words behind it
 abbrev pub called : List ℕ → List (List ℕ) → Option Command
 called word options =
-    if bytes_eq word (codes "replay") then option_map Replay (flagged (codes "--trace") options)
+    if bytes_eq word (codes "replay") then option_map Replay (mode_from plain_mode options)
     else if bytes_eq word (codes "contract") then option_map Contract (flagged (codes "--print") options)
     else if bytes_eq word (codes "verify") then plain Verify options
+    else if bytes_eq word (codes "simulate") then option_map (λ said. Simulate said.0 said.1) (simulated options)
     else None
 
 -- the command that the words call for, or none where they are outside the grammar

@@ -2,10 +2,9 @@
 #![tactic(auto)]
 
 mod claims;
+mod numbers;
 mod program;
 mod telling;
-#[cfg(test)]
-mod tests;
 mod verifying;
 mod words;
 

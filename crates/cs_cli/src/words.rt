@@ -2,9 +2,11 @@
 ghost use Rattle.std.specs.Prelude.{◌≡◌, ◌↔◌, [], IfOk, IsOkAnd};
 ghost use Rattle.std.specs.IoError.{error_kind};
 ghost use Rattle.std.specs.declared.io.ErrorKind.TheVariants.{InvalidData};
-ghost use Rattle.cs_cli.specs.Words.{called, command_of, flagged, plain, texts_of};
+ghost use Rattle.cs_cli.specs.Words.{called, command_of, flagged, plain, plain_mode, mode_from, with_option, texts_of};
 ghost use Rattle.cs_cli.specs.declared.words.WordsError.TheVariants.{NotText, Memory};
 
+use crate::numbers::read_simulation;
+use cs_replay::Mode;
 use std::alloc::{AllocFailed, Global};
 use std::io;
 use std::io::ErrorKind;
@@ -12,14 +14,16 @@ use std::io::ErrorKind;
 /// What the words call for.
 #[derive(Clone, Copy, Debug, PartialEq, Eq)]
 pub enum Command {
-    /// Reads a schedule from the input, plays it, and prints its lines; those of a trace too where
-    /// it is traced.
-    Replay { traced: bool },
+    /// Reads a schedule from the input, plays it, and prints its lines; those of a trace and a dump
+    /// too where the mode asks for them.
+    Replay(Mode),
     /// Reads a contract from the input, and tells what it is, or what its first fault is; where it
     /// is accepted and to be printed, its text as the printer gives it instead.
     Contract { printing: bool },
     /// Reads a head and a proof from the input, and says what the proof shows to who trusts the head.
     Verify,
+    /// Plays the schedule of a number and a size, and prints the numbers of what was played.
+    Simulate { number: u64, size: u32 },
 }
 
 /// Why the words of the command line were not read.
@@ -85,14 +89,49 @@ fn read_command(word: &str, options: &[String]) -> Option<Command>
 {
     match word {
         "replay" => {
-            let traced = read_flag(options, "--trace")?;
-            Some(Command::Replay { traced })
+            let mode = read_mode(options)?;
+            Some(Command::Replay(mode))
         }
         "contract" => {
             let printing = read_flag(options, "--print")?;
             Some(Command::Contract { printing })
         }
         "verify" => read_plain(Command::Verify, options),
+        "simulate" => {
+            let (number, size) = read_simulation(options)?;
+            Some(Command::Simulate { number, size })
+        }
+        _ => None,
+    }
+}
+
+// What a replay prints, by its options, each of which stands once at most.
+fn read_mode(options: &[String]) -> Option<Mode>
+    ensures { result ≡ mode_from plain_mode (texts_of options.now) }
+{
+    let mut mode = Mode {
+        traced: false,
+        dumps: false,
+    };
+    for option in options {
+        mode = with_option(mode, option.as_str())?;
+    }
+    Some(mode)
+}
+
+// One option more.
+fn with_option(mode: Mode, option: &str) -> Option<Mode>
+    ensures { result ≡ with_option mode option.now }
+{
+    match option {
+        "--trace" if !mode.traced => Some(Mode {
+            traced: true,
+            ..mode
+        }),
+        "--dumps" if !mode.dumps => Some(Mode {
+            dumps: true,
+            ..mode
+        }),
         _ => None,
     }
 }

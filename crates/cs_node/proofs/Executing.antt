@@ -1,5 +1,5 @@
 -- An execution with the node's own vote is what its signs say.
-use Rattle.std.proofs.Common.{◌≡◌, ℕ, Bool, true, false, cond, List, [], ◌∷◌, ◌++◌, Option, Some, None, bytes_eq, IsSome, is_some, refl, ap, sym, ◌∙◌, arith, append_assoc, append-nil}
+use Rattle.std.proofs.Common.{◌≡◌, ℕ, Bool, true, false, cond, List, [], ◌∷◌, ◌++◌, Option, Some, None, bytes_eq, IsSome, is_some, refl, ap, sym, subst, ◌∙◌, arith, append_assoc, append-nil}
 use Rattle.cs_base.specs.declared.node_id.NodeId.{NodeId}
 use Rattle.cs_tx_form.specs.declared.session.Session.{Session}
 use Rattle.cs_tx_form.specs.declared.vote.Vote.{Vote}
@@ -8,19 +8,21 @@ use Rattle.cs_tx_form.specs.declared.entry.Entry.TheVariants.{Prepare, Decide}
 use Rattle.cs_ledger.specs.Ledger.{Bytes}
 use Rattle.cs_ledger.specs.Session.{anchor}
 use Rattle.cs_ledger.specs.Table as Chosen
-use Rattle.cs_ledger.specs.Table.{Table, Effect, Voted, Accepted, Aborted, Skipped, Void, Outcome, act}
+use Rattle.cs_ledger.specs.Table.{Effect, Voted, Accepted, Aborted, Skipped, Void, Outcome, act}
 use Rattle.cs_node_state.specs.declared.pooled.Pooled.{Pooled}
 use Rattle.cs_wire_message.specs.declared.message.Message.TheVariants as message
 use Rattle.cs_node_state.specs.Setup.{Setup, digest_of, concerned, is_fit, session_in, vote_of, vote_from}
 use Rattle.cs_node_rules.specs.Members.{others}
 use Rattle.cs_node_state.specs.Pool.{Pool, found, is_pooled, changed, with_ballot, as_locked, entering, pushed, entered, entered_locked}
-use Rattle.cs_node_state.specs.Bench.{Bench, Ran, is_locked, pool_after, executed, told_by, told_of, own_pool, bench_executed}
-use Rattle.cs_node_rules.specs.Signs.{Sign, Did, bench_after, own_signs, vote_signs, entered_signs, execution_signs}
+use Rattle.cs_tx_form.specs.declared.checkpoint.Checkpoint.{Checkpoint}
+use Rattle.cs_checkpoint.specs.Chain.{head_of, made_last}
+use Rattle.cs_node_state.specs.Bench.{Bench, Ran, is_locked, pool_after, executed, effect_from, next_leaf, with_leaf, slot_executed, told_by, told_of, own_pool, bench_executed}
+use Rattle.cs_node_rules.specs.Signs.{Sign, Did, Headed, bench_after, sends, own_signs, vote_signs, entered_signs, ran_signs, headed_signs, execution_signs}
 use Rattle.cs_node.specs.declared.draft.Note.TheVariants.{Executed}
 use Rattle.cs_node.specs.declared.draft.Draft.{Draft}
-use Rattle.cs_node.specs.Notes.{effect_from, notes_of, said_of, spoken, Tells}
+use Rattle.cs_node.specs.Notes.{notes_of, said_of, spoken, Tells}
 use Rattle.cs_node.specs.Steps.{Makes}
-use Rattle.cs_node.proofs.Sums.{notes-append, said-append, notes-sends, bench-append}
+use Rattle.cs_node.proofs.Sums.{notes-append, said-append, notes-sends, bench-append, bench-sends, tells-more}
 use Rattle.cs_node.proofs.Ticked.{bench-voted}
 
 same-bytes : (d : Bytes) → bytes_eq d d ≡ true
@@ -66,23 +68,23 @@ module _ (setup : Setup) (me : NodeId) (x : Session) where
       ∙ bench-voted setup me.shard me x told (bench_after setup me.shard (entered_signs x pooled told) b))
 
   -- the own vote on a session that is locked
-  locked-bench : (vote : Vote) (table : Table) (pool : Pool) (pooled : Bool) → is_pooled d pool ≡ pooled
-      → bench_after setup me.shard (own_signs me x (Some (vote, true))) (bench_after setup me.shard (entered_signs x pooled (Some (vote, true))) (record { table = table; pool = entered_locked d x pool }))
-      ≡ record { table = table; pool = own_pool me d (Some (vote, true)) (entered_locked d x pool) }
-  locked-bench vote table pool true e = refl
-  locked-bench vote table pool false e =
-      ap (λ (p : Pool). record { table = table; pool = changed d (with_ballot (record { sender = me; vote = vote })) p }) (entered-again d x pool e)
+  locked-bench : (vote : Vote) (b : Bench) (pool : Pool) (pooled : Bool) → is_pooled d pool ≡ pooled
+      → bench_after setup me.shard (own_signs me x (Some (vote, true))) (bench_after setup me.shard (entered_signs x pooled (Some (vote, true))) (record b { pool = entered_locked d x pool }))
+      ≡ record b { pool = own_pool me d (Some (vote, true)) (entered_locked d x pool) }
+  locked-bench vote b pool true e = refl
+  locked-bench vote b pool false e =
+      ap (λ (p : Pool). record b { pool = changed d (with_ballot (record { sender = me; vote = vote })) p }) (entered-again d x pool e)
 
   -- what the own vote leaves of what an execution left
-  told-bench : (effect : Effect) (locked : Bool) (table : Table) (pool : Pool) (pooled : Bool) → is_pooled d pool ≡ pooled
-      → bench_after setup me.shard (own_signs me x (told_by effect locked)) (bench_after setup me.shard (entered_signs x pooled (told_by effect locked)) (record { table = table; pool = pool_after effect locked d x pool }))
-      ≡ record { table = table; pool = own_pool me d (told_by effect locked) (pool_after effect locked d x pool) }
-  told-bench (Voted vote) true table pool pooled e = locked-bench (vote_from vote) table pool pooled e
-  told-bench (Voted vote) false table pool pooled e = refl
-  told-bench Accepted locked table pool pooled e = refl
-  told-bench Aborted locked table pool pooled e = refl
-  told-bench Skipped locked table pool pooled e = refl
-  told-bench Void locked table pool pooled e = refl
+  told-bench : (effect : Effect) (locked : Bool) (b : Bench) (pool : Pool) (pooled : Bool) → is_pooled d pool ≡ pooled
+      → bench_after setup me.shard (own_signs me x (told_by effect locked)) (bench_after setup me.shard (entered_signs x pooled (told_by effect locked)) (record b { pool = pool_after effect locked d x pool }))
+      ≡ record b { pool = own_pool me d (told_by effect locked) (pool_after effect locked d x pool) }
+  told-bench (Voted vote) true b pool pooled e = locked-bench (vote_from vote) b pool pooled e
+  told-bench (Voted vote) false b pool pooled e = refl
+  told-bench Accepted locked b pool pooled e = refl
+  told-bench Aborted locked b pool pooled e = refl
+  told-bench Skipped locked b pool pooled e = refl
+  told-bench Void locked b pool pooled e = refl
 
   -- entering and the own vote tell nothing, and say nothing
   own-notes : (told : Option (Vote × Bool)) → notes_of (own_signs me x told) ≡ []
@@ -126,10 +128,16 @@ module _ (setup : Setup) (me : NodeId) (x : Session) where
   voted-notes None = refl
   voted-notes (Some told) = notes-sends (others setup.f me (concerned setup x)) (message.Voted told.0 told.1 x)
 
-pub execution-makes : (setup : Setup) (me : NodeId) (b b' : Bench) (slot : ℕ) (entry : Entry) (made mid made' : Draft) → b' ≡ bench_executed setup me b entry
+-- what is kept of a slot, with the node's own vote
+abbrev pub bench_closed : Setup → NodeId → Bench → Entry → Bench
+bench_closed setup me b entry =
+    with_leaf (next_leaf b entry (executed setup me.shard b entry).effect) (bench_executed setup me b entry)
+
+ran-makes : (setup : Setup) (me : NodeId) (b b' : Bench) (slot : ℕ) (entry : Entry) (made mid made' : Draft) → b' ≡ bench_closed setup me b entry
     → Tells (vote_signs setup me (session_in entry) (told_of setup me.shard (session_in entry) (executed setup me.shard b entry))) made mid
-    → made'.notes ≡ mid.notes ++ Executed slot entry (effect_from (executed setup me.shard b entry).effect) ∷ [] → made'.said ≡ mid.said → Makes setup me (execution_signs setup me b slot entry) b b' made made'
-execution-makes setup me b b' slot entry made mid made' is tells noted silent =
+    → made'.notes ≡ mid.notes ++ Executed slot entry (effect_from (executed setup me.shard b entry).effect) ∷ [] → made'.said ≡ mid.said
+    → Makes setup me (ran_signs setup me b slot entry (session_in entry) (executed setup me.shard b entry)) b b' made made'
+ran-makes setup me b b' slot entry made mid made' is tells noted silent =
     let x : Session = session_in entry in
     let ran : Ran = executed setup me.shard b entry in
     let told : Option (Vote × Bool) = told_of setup me.shard x ran in
@@ -139,18 +147,44 @@ execution-makes setup me b b' slot entry made mid made' is tells noted silent =
     let vote : List Sign = vote_signs setup me x told in
     let enters : List Sign = entered_signs x pooled told in
     let signs : List Sign = own ++ (vote ++ enters) in
-    let whole : execution_signs setup me b slot entry ≡ signs ++ did = ap (λ xs. own ++ xs) (sym (append_assoc vote enters did)) ∙ sym (append_assoc own (vote ++ enters) did) in
+    let all : List Sign = ran_signs setup me b slot entry x ran in
+    let left : Bench = slot_executed setup me.shard b entry in
+    let whole : all ≡ signs ++ did = ap (λ xs. own ++ xs) (sym (append_assoc vote enters did)) ∙ sym (append_assoc own (vote ++ enters) did) in
     let quiet : notes_of vote ≡ [] = voted-notes setup me x told in
-    let told-is : notes_of (execution_signs setup me b slot entry) ≡ notes_of did = ap notes_of whole ∙ notes-append signs did ∙ ap (λ xs. notes_of did ++ xs) (after-notes setup me x pooled told ∙ quiet) in
-    let said-is : said_of (execution_signs setup me b slot entry) ≡ said_of vote = ap said_of whole ∙ said-append signs did ∙ after-said setup me x pooled told in
+    let told-is : notes_of all ≡ notes_of did = ap notes_of whole ∙ notes-append signs did ∙ ap (λ xs. notes_of did ++ xs) (after-notes setup me x pooled told ∙ quiet) in
+    let said-is : said_of all ≡ said_of vote = ap said_of whole ∙ said-append signs did ∙ after-said setup me x pooled told in
     let unchanged : mid.notes ≡ made.notes = tells.notes ∙ ap (λ xs. made.notes ++ xs) quiet ∙ append-nil made.notes in
     record {
       tells = record {
         notes = noted ∙ ap (λ xs. xs ++ notes_of did) unchanged ∙ ap (λ xs. made.notes ++ xs) (sym told-is);
         said = ap spoken silent ∙ tells.said ∙ ap (λ xs. spoken made.said ++ xs) (sym said-is);
       };
-      bench_is = is ∙ sym (ap (λ all. bench_after setup me.shard all b) whole ∙ bench-append setup me.shard signs did b ∙ without-vote setup me x pooled told ran.bench
-          ∙ told-bench setup me x ran.effect (is_locked setup me.shard ran.bench.table x) ran.bench.table b.pool pooled refl);
+      bench_is = is ∙ sym (ap (λ every. bench_after setup me.shard every b) whole ∙ bench-append setup me.shard signs did b ∙ without-vote setup me x pooled told left
+          ∙ told-bench setup me x ran.effect (is_locked setup me.shard ran.bench.table x) left b.pool pooled refl);
+    }
+
+-- what is told of a checkpoint changes nothing
+bench-headed : (setup : Setup) (me : NodeId) (made : Option Checkpoint) (b : Bench) → bench_after setup me.shard (headed_signs setup me made) b ≡ b
+bench-headed setup me None b = refl
+bench-headed setup me (Some c) b =
+    let names = others setup.f me (me.shard ∷ []) in
+    bench-append setup me.shard (sends names (message.Head c)) (Headed c.number (head_of c) ∷ []) b
+    ∙ bench-sends setup me.shard names (message.Head c) b
+
+pub execution-makes : (setup : Setup) (me : NodeId) (b b' : Bench) (slot : ℕ) (entry : Entry) (made mid made' made'' : Draft) → b' ≡ bench_closed setup me b entry
+    → Tells (vote_signs setup me (session_in entry) (told_of setup me.shard (session_in entry) (executed setup me.shard b entry))) made mid
+    → made'.notes ≡ mid.notes ++ Executed slot entry (effect_from (executed setup me.shard b entry).effect) ∷ [] → made'.said ≡ mid.said
+    → Tells (headed_signs setup me (made_last b'.log)) made' made'' → Makes setup me (execution_signs setup me b slot entry) b b' made made''
+execution-makes setup me b b' slot entry made mid made' made'' is tells noted silent headed =
+    let log_is : made_last b'.log ≡ made_last (slot_executed setup me.shard b entry).log = ap (λ (c : Bench). made_last c.log) is in
+    let heads : List Sign = headed_signs setup me (made_last (slot_executed setup me.shard b entry).log) in
+    let ran : List Sign = ran_signs setup me b slot entry (session_in entry) (executed setup me.shard b entry) in
+    let first = ran-makes setup me b b' slot entry made mid made' is tells noted silent in
+    let P : Option Checkpoint → Type 0 = λ o. Tells (headed_signs setup me o) made' made'' in
+    record {
+      tells = tells-more ran heads made made' made'' first.tells (subst P log_is headed);
+      bench_is = first.bench_is
+          ∙ sym (bench-append setup me.shard heads ran b ∙ bench-headed setup me (made_last (slot_executed setup me.shard b entry).log) (bench_after setup me.shard ran b));
     }
 
 -- ---- a vote is given only on a fit session

@@ -1,10 +1,11 @@
 -- What a core did as others spoke to it, at the view for which it stood.
 use Rattle.std.proofs.lemmas.Bool.Decides.{nat_tests}
 use Rattle.cs_base.specs.declared.config.Config.{Config}
-use Rattle.std.proofs.Common.{◌≡◌, ◌≢◌, arith, ℕ, ◌*◌, ◌≤◌, Bool, true, false, List, [], ◌∷◌, ◌++◌, Option, Some, None, refl, ap, sym, subst, ◌∙◌}
+use Rattle.std.proofs.Common.{◌≡◌, ◌≢◌, arith, ℕ, ◌*◌, ◌≤◌, Bool, true, false, List, [], ◌∷◌, ◌++◌, Option, Some, None, Result, refl, ap, sym, subst, ◌∙◌}
 use Rattle.cs_base.specs.declared.node_id.NodeId.{NodeId}
 use Rattle.cs_tx_value.specs.declared.object.Object.{Object}
 use Rattle.cs_tx_form.specs.declared.transaction.Tx.{Tx}
+use Rattle.cs_wire_message.specs.declared.message.Message.{Message}
 use Rattle.cs_order.specs.declared.answers.Outgoing.{Outgoing}
 use Rattle.cs_order.specs.declared.answers.Took.{Took}
 use Rattle.cs_order.specs.declared.answers.Took.TheVariants.{Taken}
@@ -17,7 +18,7 @@ use Rattle.cs_node_rules.specs.Members.{is_other_member}
 use Rattle.cs_node_rules.specs.Net.{Net}
 use Rattle.cs_node_rules.specs.Signs.{Sign, Dropped}
 use Rattle.cs_node_rules.specs.Site.{Carrier, Mark, Site, View, plain}
-use Rattle.cs_node_rules.specs.Trail.{handed, drops, taking_marks, member_marks, reply_marks, want_marks}
+use Rattle.cs_node_rules.specs.Trail.{handed, drops, taking_marks, member_marks, reply_marks, want_marks, message_marks}
 use Rattle.cs_node_rules.specs.Deployment.{site_of}
 use Rattle.cs_node_pool.specs.Deployed.{deployed}
 use Rattle.cs_sbac.specs.Held.{Held, bench_of}
@@ -25,7 +26,7 @@ use Rattle.cs_node.specs.declared.engine.Engine.{Engine}
 use Rattle.cs_node.specs.declared.draft.Draft.{Draft}
 use Rattle.cs_node.specs.Notes.{Tells}
 use Rattle.cs_node.specs.Steps.{Makes, Marks}
-use Rattle.cs_node.specs.Cores.{IsSeated, KeepsView, view_at}
+use Rattle.cs_node.specs.Cores.{IsSeated, KeepsView, view_at, LeadsBy}
 use Rattle.cs_node.proofs.Sums.{tells-nothing, plain-marks}
 use Rattle.cs_node.proofs.Turns.{deed-done}
 use Rattle.cs_node.proofs.Doing.{from-nothing}
@@ -141,3 +142,12 @@ module _ {O J M : Type 0} (stands : O → Member M → Type 0) (approves : J →
         subst (λ (ms : List (Mark M)). Marks site ms v made made' (After core)) (sym which)
         (deed-done site v made made' (After core) (Replied slot sender.index (r.out ∷ [])) (subst S (from-nothing old new (r.out ∷ []) empty r.grown) says)
         (keeps-on stands approves genesis core h core.order core.sbac (did (Replied slot sender.index (r.out ∷ [])) h) seated r.stood refl refl refl refl))
+
+-- what a message led to is what its variant led to
+pub as-said : {O J M A E : Type 0} (stands : O → Member M → Type 0) (approves : J → Tx → Bool) (rules : Machine M) (carrier : Carrier M) (engine engine' : Engine O J M) (draft draft' : Draft) (result : Result A E)
+    (sender : NodeId) (m said : Message) → m ≡ said
+    → LeadsBy stands approves rules carrier engine engine' draft draft' result (λ site v. message_marks site v sender said)
+    → LeadsBy stands approves rules carrier engine engine' draft draft' result (λ site v. message_marks site v sender m)
+as-said {O} {J} {M} stands approves rules carrier engine engine' draft draft' result sender m said is led =
+    let Leads : Message → Type 0 = λ given. LeadsBy stands approves rules carrier engine engine' draft draft' result (λ site v. message_marks site v sender given) in
+    subst Leads (sym is) led

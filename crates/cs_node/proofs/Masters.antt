@@ -1,7 +1,6 @@
 -- Keys that a master key gave speak in its net.
-use Rattle.std.proofs.Common.{◌≡◌, ℕ, ◌≤◌, Bool, true, false, List, Some, IsSome, refl, ap, sym, subst, ◌∙◌, arith}
+use Rattle.std.proofs.Common.{◌≡◌, ℕ, ◌≤◌, true, false, List, Some, IsSome, refl, ap, sym, subst, ◌∙◌}
 use Rattle.std.specs.Prelude.{◌&&◌, ◌||◌, not}
-use Rattle.std.proofs.lemmas.Bool.Decides.{nat_tests}
 use Rattle.cs_base.specs.declared.config.Config.{Config}
 use Rattle.cs_base.specs.declared.node_id.NodeId.{NodeId}
 use Rattle.cs_base.specs.NodeId.{is_node, is_client, is_named, same_name}
@@ -11,25 +10,9 @@ use Rattle.cs_wire.specs.declared.keys.Keys.{Keys}
 use Rattle.cs_wire.specs.Keys.{row_of, key_between, row_between, IsOfMaster}
 use Rattle.cs_wire.specs.Opened.{opened, keys_of_master}
 use Rattle.cs_wire.specs.Datagram.{datagram_with}
-use Rattle.cs_wire.proofs.Parts.{are_same}
 use Rattle.cs_wire.proofs.Masters.{opened_alike}
 use Rattle.cs_node_rules.specs.Net.{net_of}
 use Rattle.cs_node.specs.Speaking.{Speaks}
-
--- a node is no client
-pub apart : (config : Config) (me to : NodeId) → config.shards ≤ 16 → is_node config me ≡ true → is_client to ≡ true → same_name to me ≡ false
-apart config me to few node client = by_same (same_name to me) refl
-  where
-    by_same : (same : Bool) → same_name to me ≡ same → same ≡ false
-    by_same false is = refl
-    by_same true is = absurd (no_both (subst (λ (n : NodeId). is_client n ≡ true) (are_same to me is) client))
-      where
-        no_both : is_client me ≡ true → ⊥
-        no_both also = grind (arith, nat_tests)
-
-pub or_true : (a b : Bool) → b ≡ true → (a || b) ≡ true
-or_true true b e = refl
-or_true false b e = e
 
 module _ (config : Config) (master : List ℕ) (liars : List NodeId) (me : NodeId) (keys : Keys) (few : config.shards ≤ 16) (node : is_node config me ≡ true) (of : IsOfMaster config master me keys) where
   row_is : (to : NodeId) (row : Row) → row_of to keys ≡ Some row → row_between master me to ≡ row
@@ -45,5 +28,5 @@ module _ (config : Config) (master : List ℕ) (liars : List NodeId) (me : NodeI
     opens = λ bytes. opened_alike config master me keys bytes of ∙ ap (λ (n : NodeId). opened (keys_of_master config master n) bytes) (sym of.me);
     seals = λ to row held kind body.
         ap (λ (r : Row). datagram_with r.to keys.me to kind body) (sym (row_is to row held)) ∙ ap (λ (n : NodeId). datagram_with (key_between master n to) keys.me to kind body) (sym of.me);
-    reaches = λ to named other. subst IsSome (sym (reached to named (ap (same_name to) (sym of.me) ∙ other))) refl;
+    reaches = λ to is_one other. subst IsSome (sym (reached to (ap (λ b. b || is_client to) is_one) (ap (same_name to) (sym of.me) ∙ other))) refl;
   }

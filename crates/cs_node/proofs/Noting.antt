@@ -4,14 +4,13 @@ use Rattle.cs_ledger.specs.Table as Shard
 use Rattle.cs_tx_form.specs.declared.effect.Effect.{Effect}
 use Rattle.cs_tx_form.specs.declared.effect.Effect.TheVariants.{Voted, Accepted, Aborted, Skipped, Void}
 use Rattle.cs_table.specs.Effects.{effect_of}
-use Rattle.cs_tx_form.specs.declared.entry.Entry.{Entry}
 use Rattle.cs_tx_form.specs.declared.vote.Vote.TheVariants.{Commit, Abort}
-use Rattle.cs_tx_form.specs.Session.{EntryFits}
 use Rattle.cs_wire_message.specs.Message.{MessageFits}
 use Rattle.cs_node.specs.declared.draft.Note.{Note}
 use Rattle.cs_node.specs.declared.draft.Said.{Said}
 use Rattle.cs_node.specs.declared.draft.Draft.{Draft}
-use Rattle.cs_node.specs.Notes.{effect_from, NoteFits, NotesFit, AllSaidFit, DraftFits, ExecutedFits}
+use Rattle.cs_node_state.specs.Bench.{effect_from}
+use Rattle.cs_node.specs.Notes.{NoteFits, NotesFit, AllSaidFit, DraftFits}
 
 pub effect-again : (effect : Effect) (seen : Shard.Effect) → effect_of effect ≡ seen → effect ≡ effect_from seen
 effect-again effect seen is = let P : Shard.Effect → Type 0 = λ e. effect ≡ effect_from e in subst P is (back effect)
@@ -23,13 +22,6 @@ effect-again effect seen is = let P : Shard.Effect → Type 0 = λ e. effect ≡
     back Aborted = refl
     back Skipped = refl
     back Void = refl
-
-pub executed-fits : (effect : Effect) (entry : Entry) → EntryFits entry → ExecutedFits effect entry
-executed-fits (Voted vote) entry fits = fits
-executed-fits Accepted entry fits = fits
-executed-fits Aborted entry fits = fits
-executed-fits Skipped entry fits = fits
-executed-fits Void entry fits = tt
 
 notes-push : (notes : List Note) (note : Note) → NotesFit notes → NoteFits note → NotesFit (notes ++ note ∷ [])
 notes-push [] note fits fit = (fit, tt)

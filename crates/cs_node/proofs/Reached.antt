@@ -1,10 +1,10 @@
 -- What an event sends is for those to whom the node has keys.
-use Rattle.std.proofs.Common.{◌≡◌, ℕ, zero, suc, ◌<◌, ◌≤◌, ◌^◌, nat_lt, Bool, true, false, cond, List, [], ◌∷◌, ◌++◌, length, Option, Some, None, Ok, Err, IsSome, refl, ap, sym, subst, ◌∙◌, arith}
+use Rattle.std.proofs.Common.{◌≡◌, ℕ, zero, suc, ◌<◌, ◌^◌, nat_lt, Bool, true, false, cond, List, [], ◌∷◌, ◌++◌, length, Option, Some, None, Ok, Err, IsSome, refl, ap, sym, subst, ◌∙◌, arith}
 use Rattle.std.proofs.lemmas.Bool.Decides.{nat_tests}
-use Rattle.std.specs.Prelude.{is_some, ◌||◌}
+use Rattle.std.specs.Prelude.{is_some}
 use Rattle.cs_base.specs.declared.config.Config.{Config}
 use Rattle.cs_base.specs.declared.node_id.NodeId.{NodeId}
-use Rattle.cs_base.specs.NodeId.{is_node, is_client, is_named, same_name}
+use Rattle.cs_base.specs.NodeId.{is_node, same_name}
 use Rattle.cs_tx_form.specs.declared.transaction.Tx.{Tx}
 use Rattle.cs_tx_form.specs.declared.entry.Entry.{Entry}
 use Rattle.cs_wire_message.specs.declared.message.Message.{Message}
@@ -21,11 +21,10 @@ use Rattle.cs_order.specs.Deeds.{Deed, Advanced, Echoed, Proposing, Resent, Tick
 use Rattle.cs_wire.specs.declared.keys.Keys.{Keys}
 use Rattle.cs_wire.specs.Keys.{row_of}
 use Rattle.cs_wire.specs.Opened.{Opened}
-use Rattle.cs_node_rules.specs.declared.cause.Cause.TheVariants.{Role, NoProof}
 use Rattle.cs_node_state.specs.Setup.{Setup}
 use Rattle.cs_node_rules.specs.Members.{is_other_member, others}
 use Rattle.cs_node_state.specs.Admission.{due}
-use Rattle.cs_node_rules.specs.Signs.{Sign, Dropped, Took as Took_vote, Entered, Viewed, Did, Sent, guarded, sends, submit_signs, voted_signs, ask_signs, execution_signs, asked_again}
+use Rattle.cs_node_rules.specs.Signs.{Sign, Dropped, Took as Took_vote, Entered, Viewed, Did, Headed, Kept, Sent, sends, submit_signs, voted_signs, ask_signs, ask_proof_signs, head_signs, execution_signs, asked_again}
 use Rattle.cs_node_rules.specs.Site.{Input, Datagram, Tick, Mark, In, Ordered, Site, View, view_after, plain, signs_of}
 use Rattle.cs_node_rules.specs.Trail.{out_signs, handed, with_deed, entered_view, moving, admits_proposed, proposing, due_marks, candidate_marks, propose_marks, echo_marks, step_marks, turn_marks, continued, settled, taking_marks, member_marks, reply_marks, want_marks, message_marks, opened_marks, again_marks, waiting_marks, input_marks, event_marks}
 use Rattle.cs_node.specs.declared.nodes.Core.{Core}
@@ -33,11 +32,10 @@ use Rattle.cs_node.specs.Notes.{said_of, AllReached}
 use Rattle.cs_node.specs.Cores.{StandsFor}
 use Rattle.cs_node.proofs.Names.{me-after}
 use Rattle.cs_node.proofs.Sums.{signs-append, signs-plain}
-use Rattle.cs_node.proofs.Masters.{apart, or_true}
 use Rattle.cs_node.proofs.Openers.{opener-held}
-use Rattle.cs_node.proofs.Receivers.{AllTo, to-append, to-guarded, to-all, to-submit, to-ask, to-voted, to-execution, to-asked}
+use Rattle.cs_node.proofs.Receivers.{AllTo, to-append, to-all, to-submit, to-ask, to-voted, to-execution, to-asked, to-head, to-ask_proof}
 
-module _ {M : Type 0} (Peer : NodeId → Type 0) (config : Config) (site : Site M) (same_f : site.setup.f ≡ config.f) (same_shards : site.setup.shards ≡ config.shards) (clients : (to : NodeId) → is_client to ≡ true → Peer to) where
+module _ {M : Type 0} (Peer : NodeId → Type 0) (config : Config) (site : Site M) (same_f : site.setup.f ≡ config.f) (same_shards : site.setup.shards ≡ config.shards) where
   -- a node of the deployment, whose peers are all others
   pub record IsHome (me : NodeId) : Type 0 where
     pub node : is_node config me ≡ true
@@ -62,6 +60,8 @@ module _ {M : Type 0} (Peer : NodeId → Type 0) (config : Config) (site : Site 
   goes-alone (Took_vote sender vote x ∷ past) all = goes-alone past all
   goes-alone (Entered x ∷ past) all = goes-alone past all
   goes-alone (Viewed slot view ∷ past) all = goes-alone past all
+  goes-alone (Headed number head ∷ past) all = goes-alone past all
+  goes-alone (Kept index checkpoint ∷ past) all = goes-alone past all
   goes-alone (Did slot entry effect ∷ past) all = goes-alone past all
   goes-alone (Sent to message ∷ past) all = (all.0, goes-alone past all.1)
 
@@ -70,7 +70,7 @@ module _ {M : Type 0} (Peer : NodeId → Type 0) (config : Config) (site : Site 
     in-range = let h : is_node config v.me ≡ true = home.node in grind (arith, nat_tests)
 
     to-shard : (m : Message) → AllTo Peer (sends (others site.setup.f v.me (v.me.shard ∷ [])) m)
-    to-shard m = to-all Peer config v.me home.others_too clients site.setup same_f same_shards (v.me.shard ∷ []) m (in-range, tt)
+    to-shard m = to-all Peer config v.me home.others_too site.setup same_f same_shards (v.me.shard ∷ []) m (in-range, tt)
 
     other-peer : (to : NodeId) → is_other_member config.f v.me to ≡ true → Peer to
     other-peer to other =
@@ -145,7 +145,7 @@ module _ {M : Type 0} (Peer : NodeId → Type 0) (config : Config) (site : Site 
     goes-step (step.Chosen proposed) =
         let signs : List Sign = execution_signs site.setup v.me v.bench (length (chosen_in v.member.deeds)) (site.entry_in proposed) in
         let deed : Deed M = Advanced (step.Chosen proposed) (site.machine.advancing v.member) in
-        goes-plain signs (with_deed site v deed) (to-execution Peer config v.me home.others_too clients site.setup same_f same_shards v.bench (length (chosen_in v.member.deeds)) (site.entry_in proposed)) (goes-deed deed)
+        goes-plain signs (with_deed site v deed) (to-execution Peer config v.me home.others_too site.setup same_f same_shards in-range v.bench (length (chosen_in v.member.deeds)) (site.entry_in proposed)) (goes-deed deed)
     goes-step step.Moved = goes-moving (Advanced step.Moved (site.machine.advancing v.member))
     goes-step step.Quiet = goes-echo (site.machine.pending v.member)
 
@@ -178,19 +178,19 @@ module _ {M : Type 0} (Peer : NodeId → Type 0) (config : Config) (site : Site 
         by_test false = tt
 
     goes-message : (sender : NodeId) (said : Message) → Peer sender → Goes (message_marks site v sender said)
-    goes-message sender (message.Submit x) peer = goes-alone (submit_signs site.setup v.me.shard v.bench sender x) (to-submit Peer config v.me home.others_too clients site.setup same_f same_shards v.me.shard v.bench sender x)
+    goes-message sender (message.Submit x) peer = goes-alone (submit_signs site.setup v.me.shard v.bench sender x) (to-submit Peer config v.me home.others_too site.setup same_f same_shards v.me.shard v.bench sender x peer)
     goes-message sender (message.Propose slot view entry) peer = goes-member sender (site.carrier.read (message.Propose slot view entry))
     goes-message sender (message.Echo slot view digest) peer = goes-member sender (site.carrier.read (message.Echo slot view digest))
     goes-message sender (message.Confirm slot view digest) peer = goes-member sender (site.carrier.read (message.Confirm slot view digest))
     goes-message sender (message.Change slot view change) peer = goes-member sender (site.carrier.read (message.Change slot view change))
-    goes-message sender (message.Voted vote asks x) peer = goes-alone (voted_signs site.setup v.me.shard v.bench sender vote asks x) (to-voted Peer config v.me home.others_too clients site.setup same_f same_shards v.me.shard v.bench sender vote asks x peer)
+    goes-message sender (message.Voted vote asks x) peer = goes-alone (voted_signs site.setup v.me.shard v.bench sender vote asks x) (to-voted Peer config v.me home.others_too site.setup same_f same_shards v.me.shard v.bench sender vote asks x peer)
     goes-message sender (message.Decided digest accepted) peer = tt
     goes-message sender (message.Want slot) peer = goes-want sender slot
     goes-message sender (message.Done slot entry) peer = goes-member sender (site.carrier.read (message.Done slot entry))
-    goes-message sender (message.Ask asked) peer = goes-alone (ask_signs site.setup v.me.shard v.bench sender asked) (to-ask Peer config v.me home.others_too clients site.setup same_f same_shards v.me.shard v.bench sender asked)
+    goes-message sender (message.Ask asked) peer = goes-alone (ask_signs site.setup v.me.shard v.bench sender asked) (to-ask Peer config v.me home.others_too site.setup same_f same_shards v.me.shard v.bench sender asked peer)
     goes-message sender (message.Told key state) peer = tt
-    goes-message sender (message.Head checkpoint) peer = tt
-    goes-message sender (message.AskProof slot) peer = goes-alone (guarded (is_client sender) Role (Dropped NoProof ∷ [])) (to-guarded Peer (is_client sender) Role (Dropped NoProof ∷ []) (λ client. tt))
+    goes-message sender (message.Head checkpoint) peer = goes-alone (head_signs site.setup v.me v.bench sender checkpoint) (to-head Peer site.setup v.me v.bench sender checkpoint)
+    goes-message sender (message.AskProof slot) peer = goes-alone (ask_proof_signs v.bench sender slot) (to-ask_proof Peer v.bench sender slot peer)
     goes-message sender (message.Proof proof) peer = tt
 
     goes-opened : (said : Opened) → ((sender : NodeId) (m : Message) → said ≡ Ok (sender, m) → Peer sender) → Goes (opened_marks site v said)
@@ -201,7 +201,7 @@ module _ {M : Type 0} (Peer : NodeId → Type 0) (config : Config) (site : Site 
     goes-again =
         let wants : List Sign = sends (others site.setup.f v.me (v.me.shard ∷ [])) (message.Want (length (chosen_in v.member.deeds))) in
         goes-plain (wants ++ asked_again site.setup v.me v.bench.pool) (with_deed site v (Resent (site.machine.resending v.member)))
-        (to-append Peer wants (asked_again site.setup v.me v.bench.pool) (to-shard (message.Want (length (chosen_in v.member.deeds)))) (to-asked Peer config v.me home.others_too clients site.setup same_f same_shards v.bench.pool))
+        (to-append Peer wants (asked_again site.setup v.me v.bench.pool) (to-shard (message.Want (length (chosen_in v.member.deeds)))) (to-asked Peer config v.me home.others_too site.setup same_f same_shards v.bench.pool))
         (goes-deed (Resent (site.machine.resending v.member)))
 
   abbrev home-after : (marks : List (Mark M)) (v : View M) → IsHome v.me → IsHome (view_after site marks v).me
@@ -243,6 +243,8 @@ reached-of keys (Dropped cause ∷ past) all = reached-of keys past all
 reached-of keys (Took_vote sender vote x ∷ past) all = reached-of keys past all
 reached-of keys (Entered x ∷ past) all = reached-of keys past all
 reached-of keys (Viewed slot view ∷ past) all = reached-of keys past all
+reached-of keys (Headed number head ∷ past) all = reached-of keys past all
+reached-of keys (Kept index checkpoint ∷ past) all = reached-of keys past all
 reached-of keys (Did slot entry effect ∷ past) all = reached-of keys past all
 reached-of keys (Sent to message ∷ past) all = reached-append keys (said_of past) ((to, message) ∷ []) (reached-of keys past all.1) (all.0, tt)
 
@@ -253,10 +255,8 @@ event-reached {O} {J} {M} stands approves site core v input is =
     let Peer : NodeId → Type 0 = λ to. IsSome (row_of to core.keys) in
     let names : core.engine.sbac.me ≡ v.me = ap (λ (u : View M). u.me) is.keeps.view_is in
     let node : is_node config v.me ≡ true = subst (λ (n : NodeId). is_node config n ≡ true) names is.keeps.seated.node in
-    let reaches : (to : NodeId) → is_named config to ≡ true → same_name to v.me ≡ false → Peer to = λ to named other. is.speaks.reaches to named (ap (same_name to) is.me_is ∙ other) in
-    let few : config.shards ≤ 16 = config.few_shards in
+    let reaches : (to : NodeId) → is_node config to ≡ true → same_name to v.me ≡ false → Peer to = λ to is_one other. is.speaks.reaches to is_one (ap (same_name to) is.me_is ∙ other) in
     reached-of core.keys (signs_of (event_marks site v input))
     (goes-event Peer config site (ap (λ (s : Setup). s.f) (sym is.keeps.setup_is)) (ap (λ (s : Setup). s.shards) (sym is.keeps.setup_is))
-    (λ to client. reaches to (or_true (is_node config to) (is_client to) client) (apart config v.me to few node client))
-    v (record { node = node; others_too = λ to is_one other. reaches to (ap (λ b. b || is_client to) is_one) other }) input
+    v (record { node = node; others_too = reaches }) input
     (λ bytes sender m opens. opener-held core.keys bytes sender m (is.speaks.opens bytes ∙ ap (λ (n : NodeId). site.net.opened n bytes) is.me_is ∙ opens)))

@@ -17,11 +17,16 @@ use Rattle.cs_node_rules.specs.declared.cause.Cause.{Cause}
 use Rattle.cs_node_state.specs.declared.pooled.Pooled.{Pooled}
 use Rattle.cs_node_state.specs.Setup.{Setup, digest_of, concerns, concerned, concerned_below, is_fit, is_approved, session_in}
 use Rattle.cs_node_state.specs.Evidence.{has_voted}
-use Rattle.cs_node_rules.specs.Members.{members, except, others}
+use Rattle.cs_node_rules.specs.Members.{is_other_member, members, except, others}
 use Rattle.cs_node_state.specs.Pool.{Pool, found, is_pooled, has_room}
-use Rattle.cs_node_state.specs.Bench.{Bench, Ran, executed, decided, noted, told_of}
+use Rattle.cs_node_state.specs.Bench.{Bench, Ran, executed, slot_executed, decided, noted, told_of}
+use Rattle.cs_tx_form.specs.declared.checkpoint.Checkpoint.{Checkpoint}
+use Rattle.cs_tx_form.specs.declared.proof.Proof.{Proof}
+use Rattle.cs_checkpoint.specs.Chain.{head_of, made_last}
+use Rattle.cs_check_rules.specs.Heads.{is_news}
+use Rattle.cs_check_rules.specs.Proofs.{proof_of}
 use Rattle.cs_node_state.specs.Asked.{key_asked}
-use Rattle.cs_node_rules.specs.Signs.{Sign, Dropped, Took, Entered, Viewed, Did, Sent, guarded, entering_signs, submitted_signs, submit_signs, ask_signs, asking_signs, ballot_signs, voted_signs, sends, vote_signs, own_signs, entered_signs, execution_signs, asked_again}
+use Rattle.cs_node_rules.specs.Signs.{Sign, Dropped, Took, Entered, Viewed, Did, Headed, Kept, Sent, guarded, entering_signs, submitted_signs, submit_signs, ask_signs, asking_signs, ballot_signs, voted_signs, sends, vote_signs, own_signs, entered_signs, ran_signs, headed_signs, execution_signs, proof_signs, ask_proof_signs, head_signs, asked_again}
 
 module _ (Peer : NodeId → Type 0) where
   -- all that is sent goes to a peer
@@ -31,6 +36,8 @@ module _ (Peer : NodeId → Type 0) where
   AllTo (Took sender vote x ∷ past) = AllTo past
   AllTo (Entered x ∷ past) = AllTo past
   AllTo (Viewed slot view ∷ past) = AllTo past
+  AllTo (Headed number head ∷ past) = AllTo past
+  AllTo (Kept index checkpoint ∷ past) = AllTo past
   AllTo (Did slot entry effect ∷ past) = AllTo past
   AllTo (Sent to message ∷ past) = Peer to × AllTo past
 
@@ -44,6 +51,8 @@ module _ (Peer : NodeId → Type 0) where
   to-append (Took sender vote x ∷ new) old a b = to-append new old a b
   to-append (Entered x ∷ new) old a b = to-append new old a b
   to-append (Viewed slot view ∷ new) old a b = to-append new old a b
+  to-append (Headed number head ∷ new) old a b = to-append new old a b
+  to-append (Kept index checkpoint ∷ new) old a b = to-append new old a b
   to-append (Did slot entry effect ∷ new) old a b = to-append new old a b
   to-append (Sent to message ∷ new) old a b = (a.0, to-append new old a.1 b)
 
@@ -55,9 +64,19 @@ module _ (Peer : NodeId → Type 0) where
   to-guarded true cause signs all = all refl
   to-guarded false cause signs all = tt
 
+  pub to-head : (setup : Setup) (me : NodeId) (b : Bench) (sender : NodeId) (c : Checkpoint) → AllTo (head_signs setup me b sender c)
+  to-head setup me b sender c = to-guarded (is_other_member setup.f me sender) _ _ (λ h. to-guarded (is_news sender.index c b.heads) _ _ (λ k. tt))
+
+  pub to-ask_proof : (b : Bench) (sender : NodeId) (slot : ℕ) → Peer sender → AllTo (ask_proof_signs b sender slot)
+  to-ask_proof b sender slot peer = to-guarded (is_client sender) _ _ (λ client. by_found (proof_of b.log slot))
+    where
+      by_found : (found : Option Proof) → AllTo (proof_signs sender found)
+      by_found None = tt
+      by_found (Some proof) = (peer, tt)
+
   -- ---- the nodes of some shards
 
-  module _ (config : Config) (me : NodeId) (others_too : (to : NodeId) → is_node config to ≡ true → same_name to me ≡ false → Peer to) (clients : (to : NodeId) → is_client to ≡ true → Peer to) where
+  module _ (config : Config) (me : NodeId) (others_too : (to : NodeId) → is_node config to ≡ true → same_name to me ≡ false → Peer to) where
     abbrev AreNodes : List NodeId → Type 0
     AreNodes [] = Unit {0}
     AreNodes (name ∷ names) = (is_node config name ≡ true) × AreNodes names
@@ -121,16 +140,16 @@ module _ (Peer : NodeId → Type 0) where
       to-entering : (b : Bench) (x : Session) → AllTo (entering_signs setup b x)
       to-entering b x = to-guarded (not (is_pooled (digest_of setup x) b.pool)) _ _ (λ h. to-guarded (is_approved setup x) _ _ (λ k. to-guarded (has_room b.pool) _ _ (λ r. tt)))
 
-      pub to-submit : (shard : ℕ) (b : Bench) (sender : NodeId) (x : Session) → AllTo (submit_signs setup shard b sender x)
-      to-submit shard b sender x = to-guarded (is_client sender) _ _ (λ client. to-guarded (is_fit setup shard x) _ _ (λ fit. by_standing (clients sender client) (decided setup shard b.table x)))
+      pub to-submit : (shard : ℕ) (b : Bench) (sender : NodeId) (x : Session) → Peer sender → AllTo (submit_signs setup shard b sender x)
+      to-submit shard b sender x peer = to-guarded (is_client sender) _ _ (λ client. to-guarded (is_fit setup shard x) _ _ (λ fit. by_standing (decided setup shard b.table x)))
         where
-          by_standing : Peer sender → (stands : Option Bool) → AllTo (submitted_signs setup b sender x stands)
-          by_standing peer (Some accepted) = (peer, tt)
-          by_standing peer None = to-entering b x
+          by_standing : (stands : Option Bool) → AllTo (submitted_signs setup b sender x stands)
+          by_standing (Some accepted) = (peer, tt)
+          by_standing None = to-entering b x
 
-      pub to-ask : (shard : ℕ) (b : Bench) (sender : NodeId) (asked : Option Key) → AllTo (ask_signs setup shard b sender asked)
-      to-ask shard b sender asked =
-          to-guarded (is_client sender) _ _ (λ client. to-guarded (shard_of_key setup.shards (key_asked b.table shard asked) == shard) _ _ (λ here. (clients sender client, tt)))
+      pub to-ask : (shard : ℕ) (b : Bench) (sender : NodeId) (asked : Option Key) → Peer sender → AllTo (ask_signs setup shard b sender asked)
+      to-ask shard b sender asked peer =
+          to-guarded (is_client sender) _ _ (λ client. to-guarded (shard_of_key setup.shards (key_asked b.table shard asked) == shard) _ _ (λ here. (peer, tt)))
 
       pub to-voted : (shard : ℕ) (b : Bench) (sender : NodeId) (vote : Vote) (asks : Bool) (x : Session) → Peer sender → AllTo (voted_signs setup shard b sender vote asks x)
       to-voted shard b sender vote asks x peer =
@@ -146,8 +165,14 @@ module _ (Peer : NodeId → Type 0) where
 
       -- ---- executions and ticks
 
-      pub to-execution : (b : Bench) (slot : ℕ) (entry : Entry) → AllTo (execution_signs setup me b slot entry)
-      to-execution b slot entry =
+      to-headed : me.shard < config.shards → (made : Option Checkpoint) → AllTo (headed_signs setup me made)
+      to-headed low None = tt
+      to-headed low (Some c) =
+          to-append (sends (others setup.f me (me.shard ∷ [])) (message.Head c)) (Headed c.number (head_of c) ∷ [])
+          (to-all (me.shard ∷ []) (message.Head c) (low, tt)) tt
+
+      to-ran : (b : Bench) (slot : ℕ) (entry : Entry) → AllTo (ran_signs setup me b slot entry (session_in entry) (executed setup me.shard b entry))
+      to-ran b slot entry =
           let x : Session = session_in entry in
           let ran : Ran = executed setup me.shard b entry in
           let told : Option (Vote × Bool) = told_of setup me.shard x ran in
@@ -165,6 +190,12 @@ module _ (Peer : NodeId → Type 0) where
           by_entered x pooled (Some (vote, false)) = tt
           by_entered x true (Some (vote, true)) = tt
           by_entered x false (Some (vote, true)) = tt
+
+      pub to-execution : me.shard < config.shards → (b : Bench) (slot : ℕ) (entry : Entry) → AllTo (execution_signs setup me b slot entry)
+      to-execution low b slot entry =
+          to-append (headed_signs setup me (made_last (slot_executed setup me.shard b entry).log))
+          (ran_signs setup me b slot entry (session_in entry) (executed setup me.shard b entry))
+          (to-headed low (made_last (slot_executed setup me.shard b entry).log)) (to-ran b slot entry)
 
       pub to-asked : (pool : Pool) → AllTo (asked_again setup me pool)
       to-asked [] = tt

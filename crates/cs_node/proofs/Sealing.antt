@@ -12,7 +12,7 @@ use Rattle.cs_wire.specs.Datagram.{datagram_with}
 use Rattle.cs_wire.specs.Raw.{SealsWith}
 use Rattle.cs_ledger.specs.Ledger.{Bytes}
 use Rattle.cs_node_rules.specs.Net.{Net, sealed}
-use Rattle.cs_node_rules.specs.Signs.{Sign, Dropped, Took, Entered, Viewed, Did, Sent}
+use Rattle.cs_node_rules.specs.Signs.{Sign, Dropped, Took, Entered, Viewed, Did, Headed, Kept, Sent}
 use Rattle.cs_node.specs.declared.draft.Said.{Said}
 use Rattle.cs_node.specs.Notes.{AllSaidFit, AllReached, said_of, to_each, spoken, outs_of, outs_for}
 use Rattle.cs_node.specs.Speaking.{Speaks}
@@ -37,6 +37,8 @@ outs-same net me (Dropped cause ∷ past) = outs-same net me past
 outs-same net me (Took sender vote x ∷ past) = outs-same net me past
 outs-same net me (Entered x ∷ past) = outs-same net me past
 outs-same net me (Viewed slot view ∷ past) = outs-same net me past
+outs-same net me (Headed number head ∷ past) = outs-same net me past
+outs-same net me (Kept index checkpoint ∷ past) = outs-same net me past
 outs-same net me (Did slot entry effect ∷ past) = outs-same net me past
 outs-same net me (Sent to message ∷ past) =
     outs-more net me (said_of past) ((to, message) ∷ [])

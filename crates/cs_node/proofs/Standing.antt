@@ -1,9 +1,9 @@
 -- What a call says at the view for which a core stands.
-use Rattle.std.specs.Prelude.{◌&&◌, ◌||◌}
+use Rattle.std.specs.Prelude.{◌&&◌}
 use Rattle.std.proofs.Common.{◌≡◌, ℕ, ◌*◌, nat_lt, nat_le, ◌<◌, Bool, true, false, List, ◌∷◌, ◌++◌, [], refl, ap, sym, subst, ◌∙◌}
 use Rattle.cs_base.specs.declared.config.Config.{Config}
 use Rattle.cs_base.specs.declared.node_id.NodeId.{NodeId}
-use Rattle.cs_base.specs.NodeId.{is_node, is_client}
+use Rattle.cs_base.specs.NodeId.{is_node}
 use Rattle.cs_tx_value.specs.declared.object.Object.{Object}
 use Rattle.cs_tx_form.specs.declared.transaction.Tx.{Tx}
 use Rattle.cs_order.specs.Deeds.{Member, Machine}
@@ -109,8 +109,8 @@ speaks-on : (config config' : Config) (net : Net) (keys : Keys) → config.shard
 speaks-on config config' net keys same-shards same-f speaks = record {
   opens = speaks.opens;
   seals = speaks.seals;
-  reaches = λ to named other.
-      speaks.reaches to ((λ i. (nat_lt to.shard (same-shards i) && nat_le to.index (3 * same-f i)) || is_client to) ∙ named) other;
+  reaches = λ to node other.
+      speaks.reaches to ((λ i. nat_lt to.shard (same-shards i) && nat_le to.index (3 * same-f i)) ∙ node) other;
 }
 
 module _ {O J M : Type 0} (stands : O → Member M → Type 0) (approves : J → Tx → Bool) where

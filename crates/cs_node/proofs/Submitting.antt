@@ -67,15 +67,15 @@ module _ (setup : Setup) (me : NodeId) (b : Bench) (x : Session) where
   full pooled approved room = rw (pooled, approved, room) refl
 
   pub entered-makes : (pool : Pool) (old : Draft) → is_pooled (digest_of setup x) b.pool ≡ false → is_approved setup x ≡ true → has_room b.pool ≡ true → pool ≡ pushed (digest_of setup x) x false b.pool
-      → Makes setup me signs b (record { table = b.table; pool = pool }) old old
+      → Makes setup me signs b (record b { pool = pool }) old old
   entered-makes pool old pooled approved room is =
-      let P : List Sign → Type 0 = λ made. Makes setup me made b (record { table = b.table; pool = pool }) old old in
+      let P : List Sign → Type 0 = λ made. Makes setup me made b (record b { pool = pool }) old old in
       let enters : signs ≡ Enters x ∷ [] = rw (pooled, approved, room) refl in
       let there : entered (digest_of setup x) x b.pool ≡ pushed (digest_of setup x) x false b.pool = rw pooled refl in
       let silent : Tells (Enters x ∷ []) old old = record { notes = (tells-nothing old).notes; said = (tells-nothing old).said } in
       subst P (sym enters) (record {
         tells = silent;
-        bench_is = ap (λ (p : Pool). record { table = b.table; pool = p }) (is ∙ sym there);
+        bench_is = ap (λ (p : Pool). record b { pool = p }) (is ∙ sym there);
       })
 
 -- the last test is that of the pool itself

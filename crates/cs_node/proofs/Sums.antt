@@ -4,12 +4,13 @@ use Rattle.cs_base.specs.declared.node_id.NodeId.{NodeId}
 use Rattle.cs_wire_message.specs.declared.message.Message.{Message}
 use Rattle.cs_node_state.specs.Setup.{Setup}
 use Rattle.cs_node_state.specs.Bench.{Bench}
-use Rattle.cs_node_rules.specs.Signs.{Sign, Dropped, Took, Entered, Viewed, Did, Sent, bench_step, bench_after, sends}
+use Rattle.cs_node_rules.specs.Signs.{Sign, Dropped, Took, Entered, Viewed, Did, Headed, Kept, Sent, bench_step, bench_after, sends}
 use Rattle.cs_node_rules.specs.Site.{Mark, In, Ordered, Plain, Site, View, mark_step, view_after, plain, signs_of}
 use Rattle.cs_node.specs.declared.draft.Note.TheVariants as note
 use Rattle.cs_node.specs.declared.draft.Said.{Said}
 use Rattle.cs_node.specs.declared.draft.Draft.{Draft}
-use Rattle.cs_node.specs.Notes.{effect_from, notes_of, said_of, to_each, spoken, Tells}
+use Rattle.cs_node_state.specs.Bench.{effect_from}
+use Rattle.cs_node.specs.Notes.{notes_of, said_of, to_each, spoken, Tells}
 use Rattle.cs_node.specs.Steps.{Makes, Marks, TurnDone}
 
 pub notes-append : (new old : List Sign) → notes_of (new ++ old) ≡ notes_of old ++ notes_of new
@@ -18,6 +19,8 @@ notes-append (Dropped cause ∷ new) old = ap (λ xs. xs ++ note.Dropped cause �
 notes-append (Took sender vote x ∷ new) old = notes-append new old
 notes-append (Entered x ∷ new) old = notes-append new old
 notes-append (Viewed slot view ∷ new) old = ap (λ xs. xs ++ note.Viewed slot view ∷ []) (notes-append new old) ∙ append_assoc (notes_of old) (notes_of new) (note.Viewed slot view ∷ [])
+notes-append (Headed number head ∷ new) old = ap (λ xs. xs ++ note.Headed number head ∷ []) (notes-append new old) ∙ append_assoc (notes_of old) (notes_of new) (note.Headed number head ∷ [])
+notes-append (Kept index checkpoint ∷ new) old = notes-append new old
 notes-append (Did slot entry effect ∷ new) old = ap (λ xs. xs ++ note.Executed slot entry (effect_from effect) ∷ []) (notes-append new old) ∙ append_assoc (notes_of old) (notes_of new) (note.Executed slot entry (effect_from effect) ∷ [])
 notes-append (Sent to message ∷ new) old = notes-append new old
 
@@ -27,6 +30,8 @@ said-append (Dropped cause ∷ new) old = said-append new old
 said-append (Took sender vote x ∷ new) old = said-append new old
 said-append (Entered x ∷ new) old = said-append new old
 said-append (Viewed slot view ∷ new) old = said-append new old
+said-append (Headed number head ∷ new) old = said-append new old
+said-append (Kept index checkpoint ∷ new) old = said-append new old
 said-append (Did slot entry effect ∷ new) old = said-append new old
 said-append (Sent to message ∷ new) old = ap (λ xs. xs ++ (to, message) ∷ []) (said-append new old) ∙ append_assoc (said_of old) (said_of new) ((to, message) ∷ [])
 

@@ -159,7 +159,7 @@ module _ (setup : Setup) (me : NodeId) (held held' : Held) (ballot : Ballot) (x 
       let takes : signs ≡ Took ballot.sender ballot.vote x ∷ Entered x ∷ [] = rw (approved, room) refl in
       subst P (sym takes) (record {
         tells = record { notes = (tells-nothing draft).notes; said = (tells-nothing draft).said };
-        bench_is = ap bench_of left ∙ ap (λ (p : Pool). record { table = (bench_of held).table; pool = p }) (grown ∙ ap (changed d (with_ballot ballot)) (sym there));
+        bench_is = ap bench_of left ∙ ap (λ (p : Pool). record (bench_of held) { pool = p }) (grown ∙ ap (changed d (with_ballot ballot)) (sym there));
       })
 
   pub full-voted : (old new : Draft) → answer ≡ enter.Full → Tells (Dropped Full ∷ []) old new → Makes setup me signs (bench_of held) (bench_of held') old new

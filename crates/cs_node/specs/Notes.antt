@@ -2,29 +2,18 @@
 use Rattle.std.specs.Prelude.{◌≡◌, List, [], ◌∷◌, ◌++◌, IsSome}
 use Rattle.cs_base.specs.declared.node_id.NodeId.{NodeId}
 use Rattle.cs_tx_form.specs.Session.{EntryFits}
-use Rattle.cs_tx_form.specs.declared.entry.Entry.{Entry}
-use Rattle.cs_tx_form.specs.declared.effect.Effect.{Effect}
-use Rattle.cs_tx_form.specs.declared.effect.Effect.TheVariants.{Voted, Accepted, Aborted, Skipped, Void}
 use Rattle.cs_wire_message.specs.declared.message.Message.{Message}
 use Rattle.cs_wire_message.specs.Message.{MessageFits}
 use Rattle.cs_wire.specs.declared.input.Out.{Out}
 use Rattle.cs_wire.specs.declared.keys.Keys.{Keys}
 use Rattle.cs_wire.specs.Keys.{row_of}
-use Rattle.cs_ledger.specs.Table as Shard
-use Rattle.cs_node_state.specs.Setup.{vote_from}
+use Rattle.cs_node_state.specs.Bench.{effect_from}
 use Rattle.cs_node_rules.specs.Net.{Net, sealed}
-use Rattle.cs_node_rules.specs.Signs.{Sign, Dropped, Took, Entered, Viewed, Did, Sent}
+use Rattle.cs_node_rules.specs.Signs.{Sign, Dropped, Took, Entered, Viewed, Did, Headed, Kept, Sent}
 use Rattle.cs_node.specs.declared.draft.Note.{Note}
 use Rattle.cs_node.specs.declared.draft.Note.TheVariants as note
 use Rattle.cs_node.specs.declared.draft.Said.{Said}
 use Rattle.cs_node.specs.declared.draft.Draft.{Draft}
-
-abbrev pub effect_from : Shard.Effect → Effect
-effect_from (Shard.Voted vote) = Voted (vote_from vote)
-effect_from Shard.Accepted = Accepted
-effect_from Shard.Aborted = Aborted
-effect_from Shard.Skipped = Skipped
-effect_from Shard.Void = Void
 
 -- what signs tell, the oldest first; lists of signs are newest first
 abbrev pub notes_of : List Sign → List Note
@@ -34,6 +23,8 @@ notes_of (Took sender vote x ∷ past) = notes_of past
 notes_of (Entered x ∷ past) = notes_of past
 notes_of (Viewed slot view ∷ past) = notes_of past ++ note.Viewed slot view ∷ []
 notes_of (Did slot entry effect ∷ past) = notes_of past ++ note.Executed slot entry (effect_from effect) ∷ []
+notes_of (Headed number head ∷ past) = notes_of past ++ note.Headed number head ∷ []
+notes_of (Kept index checkpoint ∷ past) = notes_of past
 notes_of (Sent to message ∷ past) = notes_of past
 
 -- the datagrams that signs send, the oldest first
@@ -44,6 +35,8 @@ outs_of net me (Took sender vote x ∷ past) = outs_of net me past
 outs_of net me (Entered x ∷ past) = outs_of net me past
 outs_of net me (Viewed slot view ∷ past) = outs_of net me past
 outs_of net me (Did slot entry effect ∷ past) = outs_of net me past
+outs_of net me (Headed number head ∷ past) = outs_of net me past
+outs_of net me (Kept index checkpoint ∷ past) = outs_of net me past
 outs_of net me (Sent to message ∷ past) =
     outs_of net me past ++ record { to = to; bytes = sealed net me to message } ∷ []
 
@@ -57,6 +50,8 @@ said_of (Took sender vote x ∷ past) = said_of past
 said_of (Entered x ∷ past) = said_of past
 said_of (Viewed slot view ∷ past) = said_of past
 said_of (Did slot entry effect ∷ past) = said_of past
+said_of (Headed number head ∷ past) = said_of past
+said_of (Kept index checkpoint ∷ past) = said_of past
 said_of (Sent to message ∷ past) = said_of past ++ (to, message) ∷ []
 
 -- each of these is told it
@@ -86,18 +81,11 @@ pub record Tells (signs : List Sign) (old new : Draft) : Type 0 where
   pub notes : new.notes ≡ old.notes ++ notes_of signs
   pub said : spoken new.said ≡ spoken old.said ++ said_of signs
 
--- an executed entry has an encoding, but where the bytes were no entry
-abbrev pub ExecutedFits : Effect → Entry → Type 0
-ExecutedFits (Voted vote) entry = EntryFits entry
-ExecutedFits Accepted entry = EntryFits entry
-ExecutedFits Aborted entry = EntryFits entry
-ExecutedFits Skipped entry = EntryFits entry
-ExecutedFits Void entry = Unit {0}
-
 abbrev pub NoteFits : Note → Type 0
 NoteFits (note.Dropped cause) = Unit {0}
 NoteFits (note.Viewed slot view) = Unit {0}
-NoteFits (note.Executed slot entry effect) = ExecutedFits effect entry
+NoteFits (note.Executed slot entry effect) = EntryFits entry  -- an executed entry has an encoding
+NoteFits (note.Headed number head) = Unit {0}
 
 abbrev pub NotesFit : List Note → Type 0
 NotesFit [] = Unit {0}

@@ -1,11 +1,9 @@
 //! What clients ask.
-ghost use Rattle.std.specs.Prelude.{◌∷◌, [], OnOk, Bool};
-ghost use Rattle.cs_base.specs.NodeId.{is_client};
+ghost use Rattle.std.specs.Prelude.{OnOk, Bool};
 ghost use Rattle.cs_tx_form.specs.declared.transaction.Tx.{Tx};
-ghost use Rattle.cs_wire_message.specs.Message.{AskedFits};
-ghost use Rattle.cs_node_rules.specs.declared.cause.Cause.TheVariants.{Role, NoProof};
-ghost use Rattle.cs_node_rules.specs.Signs.{Dropped, guarded, ask_signs};
-ghost use Rattle.cs_node.specs.Notes.{Tells, DraftFits};
+ghost use Rattle.cs_wire_message.specs.Message.{AskedFits, IsSlot};
+ghost use Rattle.cs_node_rules.specs.Signs.{ask_signs, ask_proof_signs};
+ghost use Rattle.cs_node.specs.Notes.{DraftFits};
 ghost use Rattle.cs_node.specs.Signing.{Does};
 
 use crate::draft::Draft;
@@ -40,14 +38,25 @@ pub fn ask(
     draft.say(alloc, sender, Message::Told { key, state })
 }
 
-/// A client asks for the proof of a slot. No checkpoint covers one, as none is made.
-pub fn ask_proof(draft: &mut Draft, sender: NodeId) -> Result<(), Memory>
-    ensures tells { let signs = guarded (is_client sender) Role (Dropped NoProof ∷ []) in
-        OnOk result (Tells signs draft.old draft.new) }
+/// A client asks for the proof of a slot.
+pub fn ask_proof(
+    alloc: Global,
+    sbac: &Sbac,
+    draft: &mut Draft,
+    sender: NodeId,
+    slot: u64,
+) -> Result<(), Memory>
+    requires { IsSlot slot }
+    ensures made { (approves : Tx → Bool) →
+        Does approves sbac.now sbac.now draft.old draft.new result
+        (λ setup b. ask_proof_signs b sender slot) }
     ensures fits { DraftFits draft.old → OnOk result (DraftFits draft.new) }
 {
     if !sender.is_client() {
         return draft.drop_it(Cause::Role);
     }
-    draft.drop_it(Cause::NoProof)
+    match sbac.prove(alloc, slot)? {
+        Some(proof) => draft.say(alloc, sender, Message::Proof(proof)),
+        None => draft.drop_it(Cause::NoProof),
+    }
 }

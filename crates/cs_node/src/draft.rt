@@ -1,13 +1,14 @@
 //! What an event has made so far.
 ghost use Rattle.std.specs.Prelude.{◌≡◌, ◌∷◌, ◌++◌, [], OnOk};
+ghost use Rattle.cs_tx_form.specs.Session.{EntryFits};
 ghost use Rattle.cs_wire_message.specs.Message.{MessageFits};
-ghost use Rattle.cs_node.specs.Notes.{nothing, Tells, ExecutedFits, DraftFits};
-ghost use Rattle.cs_node_rules.specs.Signs.{Dropped, Viewed, Sent, sends};
+ghost use Rattle.cs_node.specs.Notes.{nothing, Tells, DraftFits};
+ghost use Rattle.cs_node_rules.specs.Signs.{Dropped, Viewed, Headed, Sent, sends};
 
 use cs_base::{Memory, NodeId, Sequence};
 use cs_node_rules::Cause;
 use cs_sbac::Effect;
-use cs_tx::Entry;
+use cs_tx::{Digest, Entry};
 use cs_wire_message::Message;
 use std::alloc::Global;
 
@@ -26,6 +27,11 @@ pub enum Note {
         slot: u64,
         entry: Entry,
         effect: Effect,
+    },
+    /// A checkpoint was made.
+    Headed {
+        number: u64,
+        head: Digest,
     },
 }
 
@@ -68,7 +74,7 @@ impl Draft {
         ensures notes { let note = Note.Executed slot entry effect in
             OnOk result (self.new.notes ≡ self.old.notes ++ note ∷ []) }
         ensures said { OnOk result (self.new.said ≡ self.old.said) }
-        ensures fits { ExecutedFits effect entry → DraftFits self.old →
+        ensures fits { EntryFits entry → DraftFits self.old →
             OnOk result (DraftFits self.new) }
     {
         self.notes.push(Note::Executed {
@@ -85,6 +91,15 @@ impl Draft {
         ensures fits { DraftFits self.old → OnOk result (DraftFits self.new) }
     {
         self.notes.push(Note::Viewed { slot, view })?;
+        Ok(())
+    }
+
+    /// Notes a checkpoint that was made.
+    pub fn note_head(&mut self, number: u64, head: Digest) -> Result<(), Memory>
+        ensures tells { OnOk result (Tells (Headed number head ∷ []) self.old self.new) }
+        ensures fits { DraftFits self.old → OnOk result (DraftFits self.new) }
+    {
+        self.notes.push(Note::Headed { number, head })?;
         Ok(())
     }
 

@@ -24,7 +24,7 @@ use cs_tx::Judge;
 use cs_wire::{Input, Keys};
 use std::alloc::Global;
 
-/// What applies the rules of a node: its order, its table and its pool.
+/// What applies the rules of a node: its order, its table, its pool and its archive.
 #[derive(Drop)]
 pub struct Engine<O: Order, J: Judge + Drop> {
     pub(crate) order: O,

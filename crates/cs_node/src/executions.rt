@@ -1,5 +1,5 @@
 //! Execution of what was chosen.
-ghost use Rattle.std.specs.Prelude.{◌≡◌, OnOk, Bool};
+ghost use Rattle.std.specs.Prelude.{◌≡◌, IfOk, OnOk, Bool};
 ghost use Rattle.cs_tx_form.specs.declared.transaction.Tx.{Tx};
 ghost use Rattle.cs_tx_form.specs.Session.{SessionFits, EntryFits};
 ghost use Rattle.cs_node_state.specs.Setup.{session_in};
@@ -9,11 +9,12 @@ ghost use Rattle.cs_node.specs.Proposals.{entry_in};
 ghost use Rattle.cs_node.specs.Signing.{Does};
 
 use crate::draft::Draft;
-use crate::sending::say_vote;
+use crate::sending::{say_made, say_vote};
 use cs_base::Memory;
+use cs_checkpoint::Leaf;
 use cs_node_carried::{read_entry, void_entry};
 use cs_order::Proposed;
-use cs_sbac::{Effect, Sbac};
+use cs_sbac::Sbac;
 use cs_tx::{Entry, Session};
 use std::alloc::Global;
 
@@ -29,8 +30,19 @@ fn session_in(entry: &Entry) -> &Session
     }
 }
 
+/// What was chosen, as an entry. Bytes that are none stand for one that changes nothing.
+fn chosen(alloc: Global, proposed: &Proposed) -> Result<Entry, Memory>
+    ensures entry { IfOk result (λ entry. entry ≡ entry_in proposed.now) }
+    ensures fits { IfOk result EntryFits }
+{
+    match read_entry(alloc, proposed)? {
+        Some(entry) => Ok(entry),
+        None => void_entry(alloc),
+    }
+}
+
 /// Executes what was chosen in a slot, notes what that came to, and says the node's vote to all
-/// whom it concerns. Bytes that are no entry change nothing.
+/// whom it concerns. Every 16th slot makes a checkpoint, which is told to the other members.
 pub fn execute(
     alloc: Global,
     sbac: &mut Sbac,
@@ -45,16 +57,15 @@ pub fn execute(
     ensures config { OnOk result (sbac.new.config ≡ sbac.old.config) }
     ensures me { OnOk result (sbac.new.me ≡ sbac.old.me) }
 {
-    match read_entry(alloc, proposed)? {
-        Some(entry) => {
-            let outcome = sbac.execute(alloc, &entry)?;
-            say_vote(alloc, sbac, draft, session_in(&entry), outcome.voted)?;
-            draft.note_execution(slot, entry, outcome.effect)?;
-            Ok(())
-        }
-        None => {
-            draft.note_execution(slot, void_entry(alloc), Effect::Void)?;
-            Ok(())
-        }
-    }
+    let entry = chosen(alloc, proposed)?;
+    let outcome = sbac.execute(alloc, &entry)?;
+    say_vote(alloc, sbac, draft, session_in(&entry), outcome.voted)?;
+    let leaf = Leaf {
+        slot: sbac.slots(),
+        entry,
+        result: outcome.effect,
+    };
+    let made = sbac.close(alloc, &leaf)?;
+    draft.note_execution(slot, leaf.entry, leaf.result)?;
+    say_made(alloc, sbac, draft, made)
 }

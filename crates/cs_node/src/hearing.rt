@@ -14,6 +14,7 @@ use crate::causes::cause_of;
 use crate::draft::Draft;
 use crate::engine::Engine;
 use crate::handing::hand_out;
+use crate::heads::hear_head;
 use crate::members::is_other_member;
 use crate::submits::submit;
 use crate::votes::hear_vote;
@@ -90,8 +91,8 @@ impl<O: Carried, J: Judge + Drop> Engine<O, J> {
                 ask(alloc, &self.sbac, draft, sender, key)?;
                 Ok(())
             }
-            Message::AskProof { .. } => {
-                ask_proof(draft, sender)?;
+            Message::AskProof { slot } => {
+                ask_proof(alloc, &self.sbac, draft, sender, slot)?;
                 Ok(())
             }
             Message::Propose { slot, view, entry } => {
@@ -116,7 +117,10 @@ impl<O: Carried, J: Judge + Drop> Engine<O, J> {
             }
             Message::Decided { .. } => self.refuse(draft),
             Message::Told { .. } => self.refuse(draft),
-            Message::Head(_) => self.refuse(draft),
+            Message::Head(checkpoint) => {
+                hear_head(&mut self.sbac, draft, sender, checkpoint)?;
+                Ok(())
+            }
             Message::Proof(_) => self.refuse(draft),
         }
     }

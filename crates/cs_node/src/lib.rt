@@ -7,6 +7,7 @@ mod draft;
 mod engine;
 mod executions;
 mod handing;
+mod heads;
 mod hearing;
 mod members;
 mod nodes;
@@ -14,8 +15,6 @@ mod outs;
 mod sending;
 mod speaking;
 mod submits;
-#[cfg(test)]
-mod tests;
 mod ticking;
 mod votes;
 

@@ -20,6 +20,7 @@ use crate::draft::Draft;
 use crate::engine::Engine;
 use crate::outs::{Made, seal_draft};
 use cs_base::{Config, Key, Memory, NodeId};
+use cs_check::{Chain, root_is_shown};
 use cs_node_carried::Carried;
 use cs_order::Order;
 use cs_sbac::Sbac;
@@ -36,7 +37,7 @@ pub enum StartError {
     Memory,
 }
 
-/// One node: its keys, its order, its table and its pool.
+/// One node: its keys, its order, its table, its pool, and what it keeps for checkpoints.
 #[derive(Drop)]
 pub struct Core<O: Order, J: Judge + Drop> {
     keys: Keys,
@@ -73,6 +74,7 @@ impl<O: Carried, J: Judge + Drop> Core<O, J> {
             Err(TableError::Duplicate(key)) => return Err(StartError::Duplicate(key)),
             Err(TableError::Memory) => return Err(StartError::Memory),
         };
+        root_is_shown(&table);
         let sbac = Sbac::new(alloc, config, me, table);
         let engine = Engine { order, judge, sbac };
         Ok(Core { keys, engine })
@@ -108,6 +110,14 @@ impl<O: Carried, J: Judge + Drop> Core<O, J> {
             StandsFor O.stands J.is_approved site self.now v → result ≡ v.me }
     {
         self.keys.me()
+    }
+
+    /// The chain of its checkpoints.
+    pub fn chain(&self) -> &Chain
+        ensures { (site : Site O.Message) (v : View O.Message) →
+            StandsFor O.stands J.is_approved site self.now v → result.now ≡ v.bench.log }
+    {
+        self.engine.sbac.chain()
     }
 
     /// As whom bytes open at this node, if they open. It takes no memory.

@@ -1,1 +1,2 @@
+pub mod Void
 pub mod Whole

@@ -5,8 +5,6 @@ mod carried;
 mod proposals;
 mod slot_carried;
 mod solo_carried;
-#[cfg(test)]
-mod tests;
 
 pub use carried::Carried;
 pub use proposals::{propose_entry, read_entry, void_entry};

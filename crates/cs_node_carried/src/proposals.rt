@@ -3,12 +3,12 @@ ghost use Rattle.std.specs.Prelude.{◌≡◌, IfOk, IfSome};
 ghost use Rattle.cs_base.specs.Fields.{IsBytes, whole_at};
 ghost use Rattle.cs_tx_form.specs.declared.entry.Entry.TheVariants.{Prepare};
 ghost use Rattle.cs_tx_form.specs.Session.{EntryFits};
-ghost use Rattle.cs_node_rules.specs.Deployment.{proposed_of, no_session};
+ghost use Rattle.cs_node_rules.specs.Deployment.{proposed_of, bare_trace, no_session};
 ghost use Rattle.cs_node_carried.specs.Proposals.{entry_read, entry_spelled};
 
 use cs_base::{Memory, Sequence, Writer};
 use cs_order::Proposed;
-use cs_tx::{Encoded, Entry, FormError, Session, Tx, entry_digest};
+use cs_tx::{Encoded, Entry, FormError, Name, Session, Trace, Tx, entry_digest};
 use std::alloc::Global;
 
 /// The value that all of the bytes encode, if they encode one.
@@ -34,17 +34,34 @@ pub fn read_entry(alloc: Global, proposed: &Proposed) -> Result<Option<Entry>, M
     whole(alloc, proposed.bytes.as_slice())
 }
 
-/// The entry that stands for bytes that are no entry.
-pub fn void_entry(alloc: Global) -> Entry
-    ensures { result ≡ Prepare no_session }
+// A trace that uses and makes nothing.
+fn bare_trace(alloc: Global) -> Result<Trace, Memory>
+    ensures { IfOk result (λ trace. trace ≡ bare_trace) }
 {
-    Entry::Prepare(Session {
-        tx: Tx {
-            traces: Sequence::new(alloc),
-        },
+    Ok(Trace {
+        contract: [0; 32],
+        method: Name::from_vec(Vec::from_slice(alloc, b"void")?),
+        inputs: Sequence::new(alloc),
+        references: Sequence::new(alloc),
+        parameters: Sequence::new(alloc),
+        outputs: Sequence::new(alloc),
+        returns: Sequence::new(alloc),
+        deps: Sequence::new(alloc),
+    })
+}
+
+/// The entry that stands for bytes that are no entry.
+pub fn void_entry(alloc: Global) -> Result<Entry, Memory>
+    ensures entry { IfOk result (λ entry. entry ≡ Prepare no_session) }
+    ensures fits { IfOk result EntryFits }
+{
+    let mut traces = Sequence::new(alloc);
+    traces.push(bare_trace(alloc)?)?;
+    Ok(Entry::Prepare(Session {
+        tx: Tx { traces },
         number: 0,
         dummies: Sequence::new(alloc),
-    })
+    }))
 }
 
 /// An entry with its digest, to be proposed.

@@ -29,13 +29,13 @@ use Rattle.cs_ledger.specs.Session as Seen
 use Rattle.cs_ledger.proofs.Basics.{in_either}
 use Rattle.cs_node_state.specs.Setup.{session_in}
 use Rattle.cs_node_rules.specs.Net.{net_of}
-use Rattle.cs_node_rules.specs.Signs.{Dropped, Took, Entered, Viewed, Did, Sent}
+use Rattle.cs_node_rules.specs.Signs.{Dropped, Took, Entered, Viewed, Did, Headed, Kept, Sent}
 use Rattle.cs_node_rules.specs.Site.{Input, Datagram, Tick, Mark, In, Ordered, Plain, Carrier, Site, signs_of}
 use Rattle.cs_node_rules.specs.Collisions.{sessions_in, entries_in, in_opened, given}
 use Rattle.cs_node_rules.specs.Carrying.{IsEntry, Carries}
 use Rattle.cs_node_rules.specs.Deployment.{proposed_of, entry_or_void, site_of}
 use Rattle.cs_node_state.specs.Deployed.{setup_of}
-use Rattle.cs_node_law.specs.Made.{view_at, HasVotedOn, IsTaken, IsDue, IsCandidate, Executes, IsHanded, SaidMade, AllMade, ReadsProper, InputFits}
+use Rattle.cs_node_law.specs.Made.{view_at, HasVotedOn, IsTaken, IsDue, IsCandidate, Executes, HasDigests, IsHanded, SaidMade, AllMade, ReadsProper, InputFits}
 use Rattle.cs_node_law.specs.Given.{InputIsBytes}
 use Rattle.cs_node_law.proofs.Views.{member-is}
 use Rattle.cs_node_law.proofs.NoIns.{inputs_in}
@@ -43,6 +43,8 @@ use Rattle.cs_node_law.proofs.Pools.{heard-given, pool-sourced}
 use Rattle.cs_node_law.proofs.Due.{due-from}
 use Rattle.cs_node_law.proofs.Speaking.{opened-fits}
 use Rattle.cs_wire_message.proofs.Spelled.{bytes-want, bytes-body}
+use Rattle.cs_tx_form.specs.declared.checkpoint.Checkpoint.{Checkpoint}
+use Rattle.cs_node_law.proofs.Heads.{bytes-head, length-head}
 
 -- ---- what stands in messages
 
@@ -232,6 +234,8 @@ module _ {M : Type 0} (machine : Machine M) (carrier : Carrier M) (config : Conf
       all-fit (Plain (Took sender vote x) ∷ t) made bytes = let f = all-fit t made.1 bytes in record { held = f.held; voted = f.voted }
       all-fit (Plain (Entered x) ∷ t) made bytes = let f = all-fit t made.1 bytes in record { held = f.held; voted = f.voted }
       all-fit (Plain (Viewed slot view) ∷ t) made bytes = let f = all-fit t made.1 bytes in record { held = f.held; voted = f.voted }
+      all-fit (Plain (Headed number head) ∷ t) made bytes = let f = all-fit t made.1 bytes in record { held = f.held; voted = f.voted }
+      all-fit (Plain (Kept index checkpoint) ∷ t) made bytes = let f = all-fit t made.1 bytes in record { held = f.held; voted = f.voted }
       all-fit (Plain (Sent to said) ∷ t) made bytes = let f = all-fit t made.1 bytes in record { held = f.held; voted = f.voted }
       all-fit (Plain (Did slot entry effect) ∷ t) made bytes =
           let f = all-fit t made.1 bytes in
@@ -250,9 +254,11 @@ module _ {M : Type 0} (machine : Machine M) (carrier : Carrier M) (config : Conf
       handed-fits said to (deed ∷ deeds) (inl h) = subst MessageFits h.1.1 (carries.fits h.0)
       handed-fits said to (deed ∷ deeds) (inr h) = handed-fits said to deeds h
 
-      -- it is within the limits, or asks for a slot
+      -- it is within the limits, or asks for a slot, or tells a checkpoint
       abbrev pub IsSpoken : Message → Type 0
-      IsSpoken said = MessageFits said ⊎ ((slot : ℕ) × (said ≡ message.Want slot))
+      IsSpoken said =
+          MessageFits said
+          ⊎ (((slot : ℕ) × (said ≡ message.Want slot)) ⊎ ((c : Checkpoint) × (said ≡ message.Head c) × HasDigests c))
 
       no-client : (to : NodeId) → is_client to ≡ false → is_client to ≡ true → ⊥
       no-client to node client = let q : false ≡ true = sym node ∙ client in cc
@@ -260,7 +266,7 @@ module _ {M : Type 0} (machine : Machine M) (carrier : Carrier M) (config : Conf
       module _ (t : List (Mark M)) (bytes : AllBytes t) (to : NodeId) (node : is_client to ≡ false) where
         said-fits : AllMade At me t → (said : Message) → SaidMade At (view_at At me t) t to said → IsSpoken said
         said-fits made (message.Voted vote asks x) h = inl (known-fits t made bytes (all-fit t made bytes) x h.1)
-        said-fits made (message.Want slot) h = inr (slot, refl)
+        said-fits made (message.Want slot) h = inr (inl (slot, refl))
         said-fits made (message.Submit x) h = absurd (no-client to node h.0)
         said-fits made (message.Propose slot view entry) h = absurd (no-client to node h.0)
         said-fits made (message.Echo slot view digest) h = absurd (no-client to node h.0)
@@ -270,7 +276,7 @@ module _ {M : Type 0} (machine : Machine M) (carrier : Carrier M) (config : Conf
         said-fits made (message.Done slot entry) h = absurd (no-client to node h.0)
         said-fits made (message.Ask asked) h = absurd (no-client to node h.0)
         said-fits made (message.Told key state) h = absurd (no-client to node h.0)
-        said-fits made (message.Head checkpoint) h = absurd (no-client to node h.0)
+        said-fits made (message.Head checkpoint) h = inr (inr (checkpoint, refl, h))
         said-fits made (message.AskProof slot) h = absurd (no-client to node h.0)
         said-fits made (message.Proof proof) h = absurd (no-client to node h.0)
 
@@ -282,10 +288,15 @@ module _ {M : Type 0} (machine : Machine M) (carrier : Carrier M) (config : Conf
             ]
 
 -- what is spoken so is made of bytes, and short
-pub spoken-bytes : (said : Message) → MessageFits said ⊎ ((slot : ℕ) × (said ≡ message.Want slot)) → IsBytes (body_of said) × (length (body_of said) < 2 ^ 32)
+pub spoken-bytes : (said : Message)
+    → MessageFits said ⊎ (((slot : ℕ) × (said ≡ message.Want slot)) ⊎ ((c : Checkpoint) × (said ≡ message.Head c) × HasDigests c))
+    → IsBytes (body_of said) × (length (body_of said) < 2 ^ 32)
 spoken-bytes said (inl fits) = (bytes-body said fits, short (length (body_of said)) (body_short said fits))
   where
     short : (n : ℕ) → n ≤ 32719 → n < 2 ^ 32
     short n a = omega arith
-spoken-bytes said (inr want) =
+spoken-bytes said (inr (inl want)) =
     subst (λ (m : Message). IsBytes (body_of m) × (length (body_of m) < 2 ^ 32)) (sym want.1) (bytes-want want.0, omega arith)
+spoken-bytes said (inr (inr head)) =
+    subst (λ (m : Message). IsBytes (body_of m) × (length (body_of m) < 2 ^ 32)) (sym head.1)
+    (bytes-head head.0 head.2, omega (arith, length-head head.0 head.2))

@@ -29,7 +29,10 @@ use Rattle.cs_node_rules.specs.Net.{cause_of}
 use Rattle.cs_node_state.specs.Pool.{Pool, found, is_pooled, has_room}
 use Rattle.cs_node_state.specs.Asked.{told_at, key_asked}
 use Rattle.cs_node_state.specs.Bench.{decided, noted}
-use Rattle.cs_node_rules.specs.Signs.{Sign, Dropped, Took, Entered, Sent, guarded, submitted_signs, submit_signs, told_signs, ask_signs, asking_signs, ballot_signs, voted_signs, sends, vote_signs, asked_again}
+use Rattle.cs_tx_form.specs.declared.proof.Proof.{Proof}
+use Rattle.cs_check_rules.specs.Heads.{is_news}
+use Rattle.cs_check_rules.specs.Proofs.{proof_of}
+use Rattle.cs_node_rules.specs.Signs.{Sign, Dropped, Took, Entered, Kept, Sent, guarded, proof_signs, submitted_signs, submit_signs, told_signs, ask_signs, asking_signs, ballot_signs, voted_signs, sends, vote_signs, asked_again}
 use Rattle.cs_node_rules.specs.Site.{Input, Datagram, Tick, Mark, In, Ordered, Plain, Site, View, view_after, plain, signs_of}
 use Rattle.cs_node_rules.specs.Trail.{with_deed, taking_marks, member_marks, reply_marks, want_marks, message_marks, opened_marks, again_marks, waiting_marks, tick_marks, input_marks, event_marks, settled}
 use Rattle.cs_node_rules.specs.Collisions.{sessions_in}
@@ -108,6 +111,10 @@ module _ {M : Type 0} (site : Site M) (me : NodeId) (t : List (Mark M)) (bytes :
 
   asks : (sender : NodeId) (asked : Option Key) → Makes (ask_signs site.setup Now.me.shard Now.bench sender asked)
   asks sender asked = tested (is_client sender) Role _ (λ client. told sender (key_asked Now.bench.table Now.me.shard asked) client)
+
+  proved : (sender : NodeId) → is_client sender ≡ true → (o : Option Proof) → Makes (proof_signs sender o)
+  proved sender client None = dropped NoProof
+  proved sender client (Some proof) = sent sender (message.Proof proof) (inr (client, refl))
 
   -- votes of other nodes
 
@@ -202,7 +209,7 @@ module _ {M : Type 0} (site : Site M) (me : NodeId) (t : List (Mark M)) (bytes :
     message-level : (sender : NodeId) (said : Message) → Says sender said → Marks (message_marks site Now sender said)
     message-level sender (message.Submit x) e = submits sender x e
     message-level sender (message.Ask asked) e = asks sender asked
-    message-level sender (message.AskProof slot) e = tested (is_client sender) Role _ (λ client. dropped NoProof)
+    message-level sender (message.AskProof slot) e = tested (is_client sender) Role _ (λ client. proved sender client (proof_of Now.bench.log slot))
     message-level sender (message.Propose slot view entry) e = member sender (message.Propose slot view entry) _ e refl
     message-level sender (message.Echo slot view digest) e = member sender (message.Echo slot view digest) _ e refl
     message-level sender (message.Confirm slot view digest) e = member sender (message.Confirm slot view digest) _ e refl
@@ -212,7 +219,10 @@ module _ {M : Type 0} (site : Site M) (me : NodeId) (t : List (Mark M)) (bytes :
     message-level sender (message.Want slot) e = wants sender slot
     message-level sender (message.Done slot entry) e = member sender (message.Done slot entry) _ e refl
     message-level sender (message.Told key state) e = dropped Role
-    message-level sender (message.Head checkpoint) e = dropped Role
+    message-level sender (message.Head checkpoint) e =
+        tested (is_other_member site.setup.f Now.me sender) Role _
+        (λ other. tested (is_news sender.index checkpoint Now.bench.heads) Repeat _
+        (λ new. sign-level site me Given (Kept sender.index checkpoint) (λ past. refl) given tt))
     message-level sender (message.Proof proof) e = dropped Role
 
     opened-level : (o : Opened) → site.net.opened Now.me bytes ≡ o → Marks (opened_marks site Now o)

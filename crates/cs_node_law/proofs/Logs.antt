@@ -8,7 +8,7 @@ use Rattle.cs_ledger.specs.Table.{Vote, Effect, Table, exec, table_of}
 use Rattle.cs_ledger.specs.Table as Shard
 use Rattle.cs_ledger.specs.ShardWorld.{votes_in, is_prepare_of, is_vote}
 use Rattle.cs_node_state.specs.Setup.{Setup, entry_of}
-use Rattle.cs_node_rules.specs.Signs.{Dropped, Took, Entered, Viewed, Did, Sent}
+use Rattle.cs_node_rules.specs.Signs.{Dropped, Took, Entered, Viewed, Did, Headed, Kept, Sent}
 use Rattle.cs_node_rules.specs.Site.{Mark, In, Ordered, Plain, Site, signs_of}
 use Rattle.cs_node_rules.specs.World.{prepares}
 use Rattle.cs_node_law.specs.Made.{view_at, log_in, has_given, AllMade}
@@ -29,6 +29,8 @@ table-is {M} site me (Plain (Dropped cause) ∷ t) = table-is site me t
 table-is {M} site me (Plain (Took sender vote x) ∷ t) = table-is site me t
 table-is {M} site me (Plain (Entered x) ∷ t) = table-is site me t
 table-is {M} site me (Plain (Viewed slot view) ∷ t) = table-is site me t
+table-is {M} site me (Plain (Headed number head) ∷ t) = table-is site me t
+table-is {M} site me (Plain (Kept index checkpoint) ∷ t) = table-is site me t
 table-is {M} site me (Plain (Sent to message) ∷ t) = table-is site me t
 table-is {M} site me (Plain (Did slot entry effect) ∷ t) =
     ap (λ (u : Table). (exec site.setup.rules (view_at site me t).me.shard u (entry_of site.setup entry)).table) (table-is site me t)
@@ -52,6 +54,8 @@ given-is {M} site me d vote (Plain (Dropped cause) ∷ t) made = given-is site m
 given-is {M} site me d vote (Plain (Took sender other x) ∷ t) made = given-is site me d vote t made.1
 given-is {M} site me d vote (Plain (Entered x) ∷ t) made = given-is site me d vote t made.1
 given-is {M} site me d vote (Plain (Viewed slot view) ∷ t) made = given-is site me d vote t made.1
+given-is {M} site me d vote (Plain (Headed number head) ∷ t) made = given-is site me d vote t made.1
+given-is {M} site me d vote (Plain (Kept index checkpoint) ∷ t) made = given-is site me d vote t made.1
 given-is {M} site me d vote (Plain (Sent to message) ∷ t) made = given-is site me d vote t made.1
 given-is {M} site me d vote (Plain (Did slot entry effect) ∷ t) made =
     let before = given-is site me d vote t made.1 in

@@ -3,7 +3,6 @@ use Rattle.std.proofs.Common.{◌≡◌, ℕ, zero, suc, ◌^◌, List, [], ◌�
 use Rattle.std.specs.Prelude.{Ok, Err}
 use Rattle.std.proofs.lemmas.Bool.{cond_both}
 use Rattle.cs_base.specs.declared.node_id.NodeId.{NodeId}
-use Rattle.cs_base.specs.NodeId.{is_client}
 use Rattle.cs_tx_form.specs.declared.entry.Entry.{Entry}
 use Rattle.cs_wire_message.specs.declared.message.Message.{Message}
 use Rattle.cs_wire_message.specs.declared.message.Message.TheVariants as message
@@ -17,10 +16,9 @@ use Rattle.cs_order.specs.declared.answers.May.{May}
 use Rattle.cs_order.specs.declared.answers.May.TheVariants.{No, Free, Only}
 use Rattle.cs_order.specs.Deeds.{Deed, Advanced, Echoed, Proposing, Ticked, Resent, Replied, did, sent_by, chosen_in}
 use Rattle.cs_wire.specs.Opened.{Opened}
-use Rattle.cs_node_rules.specs.declared.cause.Cause.TheVariants.{Role, NoProof}
 use Rattle.cs_node_state.specs.Admission.{due}
 use Rattle.cs_node_rules.specs.Members.{is_other_member, others}
-use Rattle.cs_node_rules.specs.Signs.{Sign, Dropped, guarded, submit_signs, voted_signs, ask_signs, sends, execution_signs, asked_again}
+use Rattle.cs_node_rules.specs.Signs.{Sign, submit_signs, voted_signs, ask_signs, ask_proof_signs, head_signs, sends, execution_signs, asked_again}
 use Rattle.cs_node_rules.specs.Site.{Input, Datagram, Tick, Mark, In, Ordered, Plain, Site, View, view_after, plain}
 use Rattle.cs_node_rules.specs.Trail.{handed, with_deed, entered_view, moving, admits_proposed, due_marks, candidate_marks, propose_marks, echo_marks, step_marks, turn_marks, continued, settled, taking_marks, member_marks, reply_marks, want_marks, message_marks, opened_marks, again_marks, waiting_marks, tick_marks, input_marks, event_marks}
 
@@ -125,8 +123,8 @@ module _ {M : Type 0} (site : Site M) where
     no-message sender (message.Done slot entry) = no-member sender (site.carrier.read (message.Done slot entry))
     no-message sender (message.Ask asked) = no-plain (ask_signs site.setup v.me.shard v.bench sender asked)
     no-message sender (message.Told key state) = tt
-    no-message sender (message.Head checkpoint) = tt
-    no-message sender (message.AskProof slot) = no-plain (guarded (is_client sender) Role (Dropped NoProof ∷ []))
+    no-message sender (message.Head checkpoint) = no-plain (head_signs site.setup v.me v.bench sender checkpoint)
+    no-message sender (message.AskProof slot) = no-plain (ask_proof_signs v.bench sender slot)
     no-message sender (message.Proof proof) = tt
 
     no-opened : (o : Opened) → NoIn (opened_marks site v o)

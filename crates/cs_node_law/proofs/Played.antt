@@ -23,7 +23,7 @@ use Rattle.cs_wire.specs.Opened.{Opened, keys_of_master}
 use Rattle.cs_ledger.specs.Ledger.{Bytes, IsIn}
 use Rattle.cs_ledger.specs.Session as Seen
 use Rattle.cs_ledger.proofs.Basics.{in_either, bytes_refl}
-use Rattle.cs_node_rules.specs.Signs.{Dropped, Took, Entered, Viewed, Did, Sent}
+use Rattle.cs_node_rules.specs.Signs.{Dropped, Took, Entered, Viewed, Did, Headed, Kept, Sent}
 use Rattle.cs_node_rules.specs.Site.{Input, Datagram, Tick, Mark, In, Ordered, Plain, Carrier, Site, signs_of}
 use Rattle.cs_node_rules.specs.Trail.{event_marks}
 use Rattle.cs_node_rules.specs.World.{Happening, trail_of, view_of, happens, IsLife, sent_in, was_sent, is_backed, is_genuine, is_genuine_input}
@@ -207,6 +207,8 @@ module _ {M : Type 0} (machine : Machine M) (holds : Holds machine) (carrier : C
   sent-fair me (Plain (Took sender vote x) ∷ a) t honest bytes made p i = sent-fair me a t honest bytes made.1 p i
   sent-fair me (Plain (Entered x) ∷ a) t honest bytes made p i = sent-fair me a t honest bytes made.1 p i
   sent-fair me (Plain (Viewed slot view) ∷ a) t honest bytes made p i = sent-fair me a t honest bytes made.1 p i
+  sent-fair me (Plain (Headed number head) ∷ a) t honest bytes made p i = sent-fair me a t honest bytes made.1 p i
+  sent-fair me (Plain (Kept index checkpoint) ∷ a) t honest bytes made p i = sent-fair me a t honest bytes made.1 p i
   sent-fair me (Plain (Did slot entry effect) ∷ a) t honest bytes made p i = sent-fair me a t honest bytes made.1 p i
   sent-fair me (Plain (Sent to said) ∷ a) t honest bytes made p i =
       fair-append net (parcels_of net me (signs_of a)) _ (sent-fair me a t honest bytes made.1) last p i

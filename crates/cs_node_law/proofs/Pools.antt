@@ -21,7 +21,7 @@ use Rattle.cs_node_state.specs.Setup.{Setup, digest_of, is_fit, is_approved, ses
 use Rattle.cs_node_state.specs.Evidence.{has_voted}
 use Rattle.cs_node_state.specs.Pool.{Pool, found, is_pooled, without, changed_at, changed, with_ballot, as_locked, entering, pushed}
 use Rattle.cs_node_state.specs.Bench.{is_locked, pool_after, told_by}
-use Rattle.cs_node_rules.specs.Signs.{Sign, Dropped, Took, Entered, Viewed, Did, Sent}
+use Rattle.cs_node_rules.specs.Signs.{Sign, Dropped, Took, Entered, Viewed, Did, Headed, Kept, Sent}
 use Rattle.cs_node_rules.specs.Site.{Datagram, Tick, Mark, In, Ordered, Plain, Site, signs_of}
 use Rattle.cs_node_rules.specs.Collisions.{sessions_in, in_opened, given}
 use Rattle.cs_node_law.specs.Made.{view_at, HasVotedOn, has_given, current, IsHeard, AllMade}
@@ -102,6 +102,8 @@ HasTaken setup d who vote (Did slot entry effect ∷ past) = HasTaken setup d wh
 HasTaken setup d who vote (Dropped cause ∷ past) = HasTaken setup d who vote past
 HasTaken setup d who vote (Entered x ∷ past) = HasTaken setup d who vote past
 HasTaken setup d who vote (Viewed slot view ∷ past) = HasTaken setup d who vote past
+HasTaken setup d who vote (Headed number head ∷ past) = HasTaken setup d who vote past
+HasTaken setup d who vote (Kept index checkpoint ∷ past) = HasTaken setup d who vote past
 HasTaken setup d who vote (Sent to message ∷ past) = HasTaken setup d who vote past
 
 -- a place of the pool: the session stood in an input and is approved, or was voted on; each vote was taken; what is locked was voted commit
@@ -119,6 +121,8 @@ taken-more {M} setup d who vote (Plain (Dropped cause)) t h = h
 taken-more {M} setup d who vote (Plain (Took sender other x)) t h = inr h
 taken-more {M} setup d who vote (Plain (Entered x)) t h = h
 taken-more {M} setup d who vote (Plain (Viewed slot view)) t h = h
+taken-more {M} setup d who vote (Plain (Headed number head)) t h = h
+taken-more {M} setup d who vote (Plain (Kept index checkpoint)) t h = h
 taken-more {M} setup d who vote (Plain (Sent to message)) t h = h
 taken-more {M} setup d who vote (Plain (Did slot entry effect)) t h = h
 
@@ -165,6 +169,8 @@ voted-fit {M} site me x (Plain (Dropped cause) ∷ t) made h = voted-fit site me
 voted-fit {M} site me x (Plain (Took sender vote y) ∷ t) made h = voted-fit site me x t made.1 h
 voted-fit {M} site me x (Plain (Entered y) ∷ t) made h = voted-fit site me x t made.1 h
 voted-fit {M} site me x (Plain (Viewed slot view) ∷ t) made h = voted-fit site me x t made.1 h
+voted-fit {M} site me x (Plain (Headed number head) ∷ t) made h = voted-fit site me x t made.1 h
+voted-fit {M} site me x (Plain (Kept index checkpoint) ∷ t) made h = voted-fit site me x t made.1 h
 voted-fit {M} site me x (Plain (Sent to message) ∷ t) made h = voted-fit site me x t made.1 h
 voted-fit {M} site me x (Plain (Did slot entry effect) ∷ t) made (inr h) = voted-fit site me x t made.1 h
 voted-fit {M} site me x (Plain (Did slot entry effect) ∷ t) made (inl now) =
@@ -238,6 +244,8 @@ pool-sourced {M} site me (In input ∷ t) made = λ e i. sourced-more site _ (In
 pool-sourced {M} site me (Ordered deed ∷ t) made = λ e i. sourced-more site _ (Ordered deed) t e (pool-sourced site me t made.1 e i)
 pool-sourced {M} site me (Plain (Dropped cause) ∷ t) made = λ e i. sourced-more site _ (Plain (Dropped cause)) t e (pool-sourced site me t made.1 e i)
 pool-sourced {M} site me (Plain (Viewed slot view) ∷ t) made = λ e i. sourced-more site _ (Plain (Viewed slot view)) t e (pool-sourced site me t made.1 e i)
+pool-sourced {M} site me (Plain (Headed number head) ∷ t) made = λ e i. sourced-more site _ (Plain (Headed number head)) t e (pool-sourced site me t made.1 e i)
+pool-sourced {M} site me (Plain (Kept index checkpoint) ∷ t) made = λ e i. sourced-more site _ (Plain (Kept index checkpoint)) t e (pool-sourced site me t made.1 e i)
 pool-sourced {M} site me (Plain (Sent to message) ∷ t) made = λ e i. sourced-more site _ (Plain (Sent to message)) t e (pool-sourced site me t made.1 e i)
 pool-sourced {M} site me (Plain (Took sender vote x) ∷ t) made =
     let v = view_at site me t in

@@ -9,13 +9,14 @@ use Rattle.cs_wire_message.specs.declared.message.Message.TheVariants as message
 use Rattle.cs_order.specs.declared.answers.Outgoing.{Outgoing}
 use Rattle.cs_order.specs.Deeds.{Deed, sent_by, chosen_in}
 use Rattle.cs_order.specs.Runs.{IsFor}
+use Rattle.cs_checkpoint.specs.Chain.{chain_head}
 use Rattle.cs_ledger.specs.Ledger.{Bytes, IsIn}
 use Rattle.cs_ledger.specs.Table.{Vote}
 use Rattle.cs_ledger.proofs.Basics.{in_right, in_either}
 use Rattle.cs_node_state.specs.Setup.{Setup, digest_of, vote_of}
 use Rattle.cs_base.specs.NodeId.{same_name, members_below}
 use Rattle.cs_node_rules.specs.Members.{is_other_member, members, except, others}
-use Rattle.cs_node_rules.specs.Signs.{Sign, Dropped, Took, Entered, Viewed, Did, Sent, sends}
+use Rattle.cs_node_rules.specs.Signs.{Sign, Dropped, Took, Entered, Viewed, Did, Headed, Kept, Sent, sends}
 use Rattle.cs_node_rules.specs.Site.{Datagram, Tick, Mark, In, Ordered, Plain, Site, View, plain, signs_of}
 use Rattle.cs_node_rules.specs.Trail.{out_signs, handed, with_deed, entered_view, moving}
 use Rattle.cs_node_rules.specs.Collisions.{sessions_in, in_opened, given}
@@ -30,6 +31,8 @@ given-more {M} setup d vote (Plain (Dropped cause)) t h = h
 given-more {M} setup d vote (Plain (Took sender other x)) t h = h
 given-more {M} setup d vote (Plain (Entered x)) t h = h
 given-more {M} setup d vote (Plain (Viewed slot view)) t h = h
+given-more {M} setup d vote (Plain (Headed number head)) t h = h
+given-more {M} setup d vote (Plain (Kept index checkpoint)) t h = h
 given-more {M} setup d vote (Plain (Sent to said)) t h = h
 given-more {M} setup d vote (Plain (Did slot entry effect)) t h = or_right _ _ h
 
@@ -40,6 +43,8 @@ voted-more {M} x (Plain (Dropped cause)) t h = h
 voted-more {M} x (Plain (Took sender other y)) t h = h
 voted-more {M} x (Plain (Entered y)) t h = h
 voted-more {M} x (Plain (Viewed slot view)) t h = h
+voted-more {M} x (Plain (Headed number head)) t h = h
+voted-more {M} x (Plain (Kept index checkpoint)) t h = h
 voted-more {M} x (Plain (Sent to said)) t h = h
 voted-more {M} x (Plain (Did slot entry effect)) t h = inr h
 
@@ -114,23 +119,27 @@ module _ {M : Type 0} (site : Site M) (me : NodeId) where
 
   -- ---- signs that only tell
 
-  -- what was sent, each message made after t, and the views of which it is told
+  -- what was sent, each message made after t, and the views and the heads of which it is told
   abbrev pub AreSaid : List (Mark M) → List Sign → Type 0
   AreSaid t [] = Unit {0}
   AreSaid t (Sent to said ∷ signs) = SignMade site (At t) t (Sent to said) × AreSaid t signs
   AreSaid t (Viewed slot view ∷ signs) = AreSaid t signs
+  AreSaid t (Headed number head ∷ signs) = (chain_head (At t).bench.log number ≡ Some head) × AreSaid t signs
   AreSaid t (Dropped cause ∷ signs) = AreSaid t signs
   AreSaid t (Took sender vote x ∷ signs) = ⊥
   AreSaid t (Entered x ∷ signs) = ⊥
+  AreSaid t (Kept index checkpoint ∷ signs) = ⊥
   AreSaid t (Did slot entry effect ∷ signs) = ⊥
 
   pub said-append : (t : List (Mark M)) (a b : List Sign) → AreSaid t a → AreSaid t b → AreSaid t (a ++ b)
   said-append t [] b of_a of_b = of_b
   said-append t (Sent to said ∷ a) b of_a of_b = (of_a.0, said-append t a b of_a.1 of_b)
   said-append t (Viewed slot view ∷ a) b of_a of_b = said-append t a b of_a of_b
+  said-append t (Headed number head ∷ a) b of_a of_b = (of_a.0, said-append t a b of_a.1 of_b)
   said-append t (Dropped cause ∷ a) b of_a of_b = said-append t a b of_a of_b
   said-append t (Took sender vote x ∷ a) b of_a of_b = absurd of_a
   said-append t (Entered x ∷ a) b of_a of_b = absurd of_a
+  said-append t (Kept index checkpoint ∷ a) b of_a of_b = absurd of_a
   said-append t (Did slot entry effect ∷ a) b of_a of_b = absurd of_a
 
   pub said-sends : (t : List (Mark M)) (names : List NodeId) (said : Message) → ((to : NodeId) → IsIn to names → SignMade site (At t) t (Sent to said)) → AreSaid t (sends names said)
@@ -149,9 +158,14 @@ module _ {M : Type 0} (site : Site M) (me : NodeId) where
       let r = said-adds signs t made h.1 in
       record { made = (sent-over signs t to said h.0, r.made); view = r.view; log = r.log }
   said-adds (Viewed slot view ∷ signs) t made h = let r = said-adds signs t made h in record { made = (tt, r.made); view = r.view; log = r.log }
+  said-adds (Headed number head ∷ signs) t made h =
+      let r = said-adds signs t made h.1 in
+      let noted = subst (λ (v : View M). chain_head v.bench.log number ≡ Some head) (sym r.view) h.0 in
+      record { made = (noted, r.made); view = r.view; log = r.log }
   said-adds (Dropped cause ∷ signs) t made h = let r = said-adds signs t made h in record { made = (tt, r.made); view = r.view; log = r.log }
   said-adds (Took sender vote x ∷ signs) t made h = absurd h
   said-adds (Entered x ∷ signs) t made h = absurd h
+  said-adds (Kept index checkpoint ∷ signs) t made h = absurd h
   said-adds (Did slot entry effect ∷ signs) t made h = absurd h
 
   pub adds-level : (t u : List (Mark M)) → IsLevel site me t → Adds t u → IsLevel site me u

@@ -2,6 +2,8 @@
 use Rattle.std.specs.Prelude.{◌≡◌, ◌⊎◌, ℕ, Bool, true, false, ◌&&◌, ◌||◌, List, [], ◌∷◌, ◌++◌, length, Option, Some, None, Ok, slice_get}
 use Rattle.cs_base.specs.declared.node_id.NodeId.{NodeId}
 use Rattle.cs_base.specs.NodeId.{is_client}
+use Rattle.cs_tx_value.specs.Object.{DigestFits}
+use Rattle.cs_tx_form.specs.declared.checkpoint.Checkpoint.{Checkpoint}
 use Rattle.cs_tx_form.specs.declared.session.Session.{Session}
 use Rattle.cs_tx_form.specs.declared.vote.Vote.{Vote as Said}
 use Rattle.cs_tx_form.specs.declared.entry.Entry.{Entry}
@@ -9,6 +11,7 @@ use Rattle.cs_tx_form.specs.declared.entry.Entry.TheVariants.{Prepare}
 use Rattle.cs_wire_message.specs.declared.message.Message.{Message}
 use Rattle.cs_wire_message.specs.declared.message.Message.TheVariants as message
 use Rattle.cs_wire_message.specs.Message.{MessageFits}
+use Rattle.cs_checkpoint.specs.Chain.{chain_head}
 use Rattle.cs_order.specs.declared.proposed.Proposed.{Proposed}
 use Rattle.cs_order.specs.declared.answers.May.TheVariants.{Only}
 use Rattle.cs_order.specs.Lists as Order
@@ -21,7 +24,7 @@ use Rattle.cs_node_rules.specs.declared.cause.Cause.{Cause}
 use Rattle.cs_node_state.specs.Setup.{Setup, digest_of, concerns, is_fit, is_approved, vote_of, entry_of}
 use Rattle.cs_node_state.specs.Admission.{due}
 use Rattle.cs_node_state.specs.Bench.{is_locked, noted, decided}
-use Rattle.cs_node_rules.specs.Signs.{Sign, Dropped, Took, Entered, Viewed, Did, Sent}
+use Rattle.cs_node_rules.specs.Signs.{Sign, Dropped, Took, Entered, Viewed, Did, Headed, Kept, Sent}
 use Rattle.cs_node_rules.specs.Site.{Input, Datagram, Tick, Mark, In, Ordered, Plain, Site, View, start_view, view_after, signs_of}
 use Rattle.cs_node_rules.specs.Trail.{admits_proposed, opened_marks, event_marks}
 use Rattle.cs_node_rules.specs.World.{Happening, view_of, IsLife, prepares}
@@ -41,6 +44,8 @@ log_in (Dropped cause ∷ past) = log_in past
 log_in (Took sender vote x ∷ past) = log_in past
 log_in (Entered x ∷ past) = log_in past
 log_in (Viewed slot view ∷ past) = log_in past
+log_in (Headed number head ∷ past) = log_in past
+log_in (Kept index checkpoint ∷ past) = log_in past
 log_in (Sent to message ∷ past) = log_in past
 
 -- a Prepare of exactly this session was executed, and gave a vote
@@ -52,6 +57,8 @@ HasVotedOn x (Dropped cause ∷ past) = HasVotedOn x past
 HasVotedOn x (Took sender vote y ∷ past) = HasVotedOn x past
 HasVotedOn x (Entered y ∷ past) = HasVotedOn x past
 HasVotedOn x (Viewed slot view ∷ past) = HasVotedOn x past
+HasVotedOn x (Headed number head ∷ past) = HasVotedOn x past
+HasVotedOn x (Kept index checkpoint ∷ past) = HasVotedOn x past
 HasVotedOn x (Sent to message ∷ past) = HasVotedOn x past
 
 -- a Prepare of a session of this digest was executed, with this vote
@@ -63,6 +70,8 @@ has_given setup d vote (Dropped cause ∷ past) = has_given setup d vote past
 has_given setup d vote (Took sender other x ∷ past) = has_given setup d vote past
 has_given setup d vote (Entered x ∷ past) = has_given setup d vote past
 has_given setup d vote (Viewed slot view ∷ past) = has_given setup d vote past
+has_given setup d vote (Headed number head ∷ past) = has_given setup d vote past
+has_given setup d vote (Kept index checkpoint ∷ past) = has_given setup d vote past
 has_given setup d vote (Sent to message ∷ past) = has_given setup d vote past
 
 -- the input that the node is at work on
@@ -163,18 +172,27 @@ pub record StoodDecided {M : Type 0} (site : Site M) (me : NodeId) (t : List (Ma
   pub split : t ≡ later ++ earlier
   pub stood : decided site.setup me.shard (view_at site me earlier).bench.table session ≡ Some accepted
 
--- what the node says itself: of votes those that it gave, on sessions that it knows; what slot it wants; to clients how
--- sessions stood; and nothing else but to clients, of which nothing is for an order
+-- its hashes are digests
+pub record HasDigests (c : Checkpoint) : Type 0 where
+  pub previous : DigestFits c.previous
+  pub leaf_root : DigestFits c.leaf_root
+  pub table_root : DigestFits c.table_root
+
+-- what the node says itself: of votes those that it gave, on sessions that it knows; what slot it wants; a checkpoint, of
+-- which the hashes are digests; to clients how sessions stood; and nothing else but to clients, of which nothing is for
+-- an order
 abbrev pub SaidMade : {M : Type 0} → Site M → View M → List (Mark M) → NodeId → Message → Type 0
 SaidMade {M} site v t to (message.Voted vote asks x) =
     (has_given site.setup (digest_of site.setup x) (vote_of vote) (signs_of t) ≡ true) × IsKnown site v t x
 SaidMade {M} site v t to (message.Want slot) = Unit {0}
+SaidMade {M} site v t to (message.Head checkpoint) = HasDigests checkpoint
 SaidMade {M} site v t to (message.Decided digest accepted) =
     (is_client to ≡ true) × StoodDecided site v.me t digest accepted
 SaidMade {M} site v t to said = (is_client to ≡ true) × (is_ordering said ≡ false)
 
 -- A vote that was taken is the node's own, which it gave, or was heard; a session that entered was offered, or voted
--- on; what was sent was handed out by the order for a member of the shard, or is the node's own word.
+-- on; a head that it noted is that of its own checkpoint of that number; what was sent was handed out by the order for
+-- a member of the shard, or is the node's own word.
 abbrev pub SignMade : {M : Type 0} → Site M → View M → List (Mark M) → Sign → Type 0
 SignMade {M} site v t (Dropped cause) = Unit {0}
 SignMade {M} site v t (Took sender vote x) =
@@ -182,6 +200,8 @@ SignMade {M} site v t (Took sender vote x) =
     ⊎ IsVoted site v t sender vote x
 SignMade {M} site v t (Entered x) = IsOffered site v t x ⊎ HasVotedOn x (signs_of t)
 SignMade {M} site v t (Viewed slot view) = Unit {0}
+SignMade {M} site v t (Headed number head) = chain_head v.bench.log number ≡ Some head
+SignMade {M} site v t (Kept index checkpoint) = Unit {0}
 SignMade {M} site v t (Did slot entry effect) = Executes site v (signs_of t) slot entry effect
 SignMade {M} site v t (Sent to said) =
     ((to.shard ≡ v.me.shard) × IsHanded site to.index said v.member.deeds) ⊎ SaidMade site v t to said

@@ -1,4 +1,4 @@
-//! The lines of what a node executes.
+//! The lines of what a node executes, and of its checkpoints.
 #![tactic(auto)]
 
 ghost use Rattle.std.specs.Prelude.{◌≡◌, IfOk, string_bytes};
@@ -6,15 +6,14 @@ ghost use Rattle.cs_tx_form.specs.Session.{SessionFits, EntryFits};
 ghost use Rattle.cs_tx.specs.Digest.{digest_of_session};
 ghost use Rattle.cs_base.specs.Codes.{bytes_text};
 ghost use Rattle.cs_node_state.specs.Setup.{session_in};
-ghost use Rattle.cs_node_rules.specs.Lines.{slot_line, effect_text};
+ghost use Rattle.cs_node_rules.specs.Lines.{slot_line, effect_text, head_line};
 ghost use Rattle.cs_table.specs.Effects.{effect_of};
 ghost use Rattle.cs_table.specs.Seen.{vote_of};
 ghost use Rattle.cs_ledger.specs.Table.{Voted};
-ghost use Rattle.cs_node.specs.Notes.{ExecutedFits};
 
 use cs_base::{Memory, NodeId, print_bytes};
 use cs_node::Effect;
-use cs_tx::{Entry, Session, Vote, session_digest};
+use cs_tx::{Digest, Entry, Session, Vote, session_digest};
 use std::alloc::Global;
 
 /// The line of an execution of an entry.
@@ -25,7 +24,7 @@ pub fn slot_line(
     entry: &Entry,
     effect: Effect,
 ) -> Result<String, Memory>
-    requires { ExecutedFits effect entry.now }
+    requires { EntryFits entry.now }
     ensures { IfOk result (λ text. string_bytes text
         ≡ slot_line me slot (digest_of_session (session_in entry.now)) (effect_of effect)) }
 {
@@ -33,9 +32,17 @@ pub fn slot_line(
     Ok(format!(in alloc; "node {me} slot {slot} {effect}\n")?)
 }
 
-// What an execution came to. What is void may have no digest.
+/// The line of a checkpoint that a node made.
+pub fn head_line(alloc: Global, me: NodeId, number: u64, head: &Digest) -> Result<String, Memory>
+    ensures { IfOk result (λ text. string_bytes text ≡ head_line me number head.now) }
+{
+    let head = print_bytes(alloc, head.as_slice())?;
+    Ok(format!(in alloc; "node {me} head {number} {head}\n")?)
+}
+
+// What an execution came to.
 fn effect_text(alloc: Global, entry: &Entry, effect: Effect) -> Result<String, Memory>
-    requires { ExecutedFits effect entry.now }
+    requires { EntryFits entry.now }
     ensures { IfOk result (λ text. string_bytes text
         ≡ effect_text (digest_of_session (session_in entry.now)) (effect_of effect)) }
 {

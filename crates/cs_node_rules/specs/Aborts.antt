@@ -5,7 +5,7 @@ use Rattle.cs_tx_form.specs.declared.entry.Entry.{Entry}
 use Rattle.cs_ledger.specs.Ledger.{Bytes}
 use Rattle.cs_ledger.specs.Table.{Effect}
 use Rattle.cs_node_state.specs.Setup.{Setup, digest_of, session_in}
-use Rattle.cs_node_rules.specs.Signs.{Sign, Dropped, Took, Entered, Viewed, Did, Sent}
+use Rattle.cs_node_rules.specs.Signs.{Sign, Did}
 use Rattle.cs_node_rules.specs.Site.{signs_of}
 use Rattle.cs_node_rules.specs.World.{Happening, aborts_by}
 

@@ -1,6 +1,7 @@
 -- The site of a deployment: its setup, its net, the order of its shards, and how entries are written.
-use Rattle.std.specs.Prelude.{[], Option, Some, None}
+use Rattle.std.specs.Prelude.{[], ◌∷◌, codes, replicate, Option, Some, None}
 use Rattle.cs_base.specs.Fields.{whole_at}
+use Rattle.cs_tx_form.specs.declared.trace.Trace.{Trace}
 use Rattle.cs_tx_form.specs.declared.session.Session.{Session}
 use Rattle.cs_tx_form.specs.declared.entry.Entry.{Entry}
 use Rattle.cs_tx_form.specs.declared.entry.Entry.TheVariants.{Prepare}
@@ -16,9 +17,21 @@ use Rattle.cs_node_rules.specs.Site.{Carrier, Site}
 abbrev pub proposed_of : Entry → Proposed
 proposed_of entry = record { digest = digest_of_entry entry; bytes = entry_encoding entry }
 
--- a session without an input, which is not well formed
+-- a session without an input, which is not well formed; it has an encoding
+abbrev pub bare_trace : Trace
+bare_trace = record {
+  contract = replicate 32 0;
+  method = codes "void";
+  inputs = [];
+  references = [];
+  parameters = [];
+  outputs = [];
+  returns = [];
+  deps = [];
+}
+
 abbrev pub no_session : Session
-no_session = record { tx = record { traces = [] }; number = 0; dummies = [] }
+no_session = record { tx = record { traces = bare_trace ∷ [] }; number = 0; dummies = [] }
 
 abbrev pub entry_or_void : Option Entry → Entry
 entry_or_void (Some entry) = entry

@@ -11,3 +11,4 @@ pub mod Ready
 pub mod Collisions
 pub mod Deployment
 pub mod Carrying
+pub mod Dumps

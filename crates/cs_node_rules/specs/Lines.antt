@@ -10,7 +10,7 @@ use Rattle.cs_node_rules.specs.declared.cause.Cause.{Cause}
 use Rattle.cs_node_rules.specs.declared.cause.Cause.TheVariants as cause
 use Rattle.cs_node_state.specs.Setup.{Setup, digest_of, session_in}
 use Rattle.cs_node_rules.specs.Net.{Net, sealed}
-use Rattle.cs_node_rules.specs.Signs.{Sign, Dropped, Took, Entered, Viewed, Did, Sent}
+use Rattle.cs_node_rules.specs.Signs.{Sign, Dropped, Took, Entered, Viewed, Did, Headed, Kept, Sent}
 
 -- ---- what a node did
 
@@ -56,6 +56,12 @@ abbrev pub view_line : NodeId → ℕ → ℕ → Bytes
 view_line me slot view =
     codes "view " ++ (node_text me ++ (codes " slot " ++ (decimal slot ++ (codes " " ++ (decimal view ++ codes "\n")))))
 
+-- the node made a checkpoint
+abbrev pub head_line : NodeId → ℕ → Bytes → Bytes
+head_line me number head =
+    codes "node " ++ (node_text me ++ (codes " head " ++ (decimal number
+    ++ (codes " " ++ (bytes_text head ++ codes "\n")))))
+
 -- what is printed in a trace alone
 abbrev pub if_traced : Bool → Bytes → Bytes
 if_traced traced text = if traced then text else []
@@ -65,8 +71,10 @@ abbrev pub sign_line : Setup → Bool → NodeId → Sign → Bytes
 sign_line setup traced me (Did slot entry effect) = slot_line me slot (digest_of setup (session_in entry)) effect
 sign_line setup traced me (Dropped cause) = if_traced traced (drop_line me cause)
 sign_line setup traced me (Viewed slot view) = if_traced traced (view_line me slot view)
+sign_line setup traced me (Headed number head) = head_line me number head
 sign_line setup traced me (Took sender vote x) = []
 sign_line setup traced me (Entered x) = []
+sign_line setup traced me (Kept index checkpoint) = []
 sign_line setup traced me (Sent to message) = []
 
 -- the lines of an event's signs, in the order in which they came about
@@ -93,6 +101,8 @@ parcels_of net me (Took sender vote x ∷ past) = parcels_of net me past
 parcels_of net me (Entered x ∷ past) = parcels_of net me past
 parcels_of net me (Viewed slot view ∷ past) = parcels_of net me past
 parcels_of net me (Did slot entry effect ∷ past) = parcels_of net me past
+parcels_of net me (Headed number head ∷ past) = parcels_of net me past
+parcels_of net me (Kept index checkpoint ∷ past) = parcels_of net me past
 
 -- the kind stands behind `CSP1`
 abbrev pub kind_or_none : Option ℕ → ℕ

@@ -9,17 +9,23 @@ use Rattle.cs_tx_form.specs.declared.session.Session.{Session}
 use Rattle.cs_tx_form.specs.declared.vote.Vote.{Vote}
 use Rattle.cs_tx_form.specs.declared.vote.Vote.TheVariants.{Commit}
 use Rattle.cs_tx_form.specs.declared.entry.Entry.{Entry}
+use Rattle.cs_tx_form.specs.declared.checkpoint.Checkpoint.{Checkpoint}
+use Rattle.cs_tx_form.specs.declared.proof.Proof.{Proof}
+use Rattle.cs_checkpoint.specs.Chain.{head_of, made_last}
 use Rattle.cs_wire_message.specs.declared.message.Message.{Message}
 use Rattle.cs_wire_message.specs.declared.message.Message.TheVariants as message
+use Rattle.cs_ledger.specs.Ledger.{Bytes}
 use Rattle.cs_ledger.specs.Table.{Effect}
 use Rattle.cs_node_rules.specs.declared.cause.Cause.{Cause}
-use Rattle.cs_node_rules.specs.declared.cause.Cause.TheVariants.{Mine, Role, Malformed, Repeat, Unasked, Denied, Full}
+use Rattle.cs_node_rules.specs.declared.cause.Cause.TheVariants.{Mine, Role, Malformed, Repeat, Unasked, Denied, Full, NoProof}
 use Rattle.cs_node_state.specs.declared.pooled.Pooled.{Pooled}
 use Rattle.cs_node_state.specs.Setup.{Setup, digest_of, concerns, concerned, is_fit, is_approved, session_in}
 use Rattle.cs_node_state.specs.Evidence.{has_voted}
-use Rattle.cs_node_rules.specs.Members.{others}
+use Rattle.cs_node_rules.specs.Members.{is_other_member, others}
 use Rattle.cs_node_state.specs.Pool.{Pool, found, is_pooled, changed, with_ballot, entered, has_room}
-use Rattle.cs_node_state.specs.Bench.{Bench, Ran, executed, decided, noted, told_of}
+use Rattle.cs_node_state.specs.Bench.{Bench, Ran, executed, slot_executed, decided, noted, told_of}
+use Rattle.cs_check_rules.specs.Proofs.{proof_of}
+use Rattle.cs_check_rules.specs.Heads.{is_news, with_head}
 use Rattle.cs_node_state.specs.Asked.{told_at, key_asked}
 
 pub data Sign : Type 0 where
@@ -28,19 +34,20 @@ pub data Sign : Type 0 where
   Entered : (x : Session) → Sign
   Viewed : (slot view : ℕ) → Sign
   Did : (slot : ℕ) → (entry : Entry) → (effect : Effect) → Sign
+  Headed : (number : ℕ) → (head : Bytes) → Sign
+  Kept : (index : ℕ) → (checkpoint : Checkpoint) → Sign
   Sent : (to : NodeId) → (message : Message) → Sign
 
--- what one sign makes of table and pool
+-- what one sign makes of what the node works on
 abbrev pub bench_step : Setup → ℕ → Sign → Bench → Bench
 bench_step setup shard (Dropped cause) b = b
 bench_step setup shard (Took sender vote x) b =
-    record {
-      table = b.table;
-      pool = changed (digest_of setup x) (with_ballot (record { sender = sender; vote = vote })) b.pool;
-    }
-bench_step setup shard (Entered x) b = record { table = b.table; pool = entered (digest_of setup x) x b.pool }
+    record b { pool = changed (digest_of setup x) (with_ballot (record { sender = sender; vote = vote })) b.pool }
+bench_step setup shard (Entered x) b = record b { pool = entered (digest_of setup x) x b.pool }
 bench_step setup shard (Viewed slot view) b = b
-bench_step setup shard (Did slot entry effect) b = (executed setup shard b entry).bench
+bench_step setup shard (Did slot entry effect) b = slot_executed setup shard b entry
+bench_step setup shard (Headed number head) b = b
+bench_step setup shard (Kept index checkpoint) b = record b { heads = with_head index checkpoint b.heads }
 bench_step setup shard (Sent to message) b = b
 
 abbrev pub bench_after : Setup → ℕ → List Sign → Bench → Bench
@@ -134,10 +141,33 @@ ran_signs setup me b slot entry x ran =
     ++ (entered_signs x (is_pooled (digest_of setup x) b.pool) (told_of setup me.shard x ran)
     ++ Did slot entry ran.effect ∷ []))
 
--- the entry of a slot is executed
+-- a checkpoint was made: its head is told to all other members
+abbrev pub headed_signs : Setup → NodeId → Option Checkpoint → List Sign
+headed_signs setup me None = []
+headed_signs setup me (Some c) =
+    sends (others setup.f me (me.shard ∷ [])) (message.Head c) ++ Headed c.number (head_of c) ∷ []
+
+-- the entry of a slot is executed, and after every 16th slot a checkpoint is made
 abbrev pub execution_signs : Setup → NodeId → Bench → ℕ → Entry → List Sign
 execution_signs setup me b slot entry =
-    ran_signs setup me b slot entry (session_in entry) (executed setup me.shard b entry)
+    headed_signs setup me (made_last (slot_executed setup me.shard b entry).log)
+    ++ ran_signs setup me b slot entry (session_in entry) (executed setup me.shard b entry)
+
+-- ---- checkpoints
+
+abbrev pub proof_signs : NodeId → Option Proof → List Sign
+proof_signs sender None = Dropped NoProof ∷ []
+proof_signs sender (Some proof) = Sent sender (message.Proof proof) ∷ []
+
+-- a client asks for the proof of a slot
+abbrev pub ask_proof_signs : Bench → NodeId → ℕ → List Sign
+ask_proof_signs b sender slot = guarded (is_client sender) Role (proof_signs sender (proof_of b.log slot))
+
+-- another member tells a checkpoint: of each the last one is kept
+abbrev pub head_signs : Setup → NodeId → Bench → NodeId → Checkpoint → List Sign
+head_signs setup me b sender checkpoint =
+    guarded (is_other_member setup.f me sender) Role
+    (guarded (is_news sender.index checkpoint b.heads) Repeat (Kept sender.index checkpoint ∷ []))
 
 -- ---- ticks
 

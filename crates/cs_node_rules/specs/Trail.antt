@@ -1,7 +1,6 @@
 -- The rules of a node: the marks that each input makes.
 use Rattle.std.specs.Prelude.{ℕ, zero, suc, ◌^◌, nat_lt, Bool, if◌then◌else◌, List, [], ◌∷◌, ◌++◌, length, Option, Some, None, is_some, Ok, Err}
 use Rattle.cs_base.specs.declared.node_id.NodeId.{NodeId}
-use Rattle.cs_base.specs.NodeId.{is_client}
 use Rattle.cs_tx_form.specs.declared.entry.Entry.{Entry}
 use Rattle.cs_wire_message.specs.declared.message.Message.{Message}
 use Rattle.cs_wire_message.specs.declared.message.Message.TheVariants as message
@@ -16,11 +15,11 @@ use Rattle.cs_order.specs.declared.answers.May.TheVariants.{No, Free, Only}
 use Rattle.cs_order.specs.Deeds.{Deed, Took_in, Advanced, Echoed, Proposing, Ticked, Resent, Replied, did, sent_by, chosen_in}
 use Rattle.cs_wire.specs.Opened.{Opened}
 use Rattle.cs_node_rules.specs.declared.cause.Cause.{Cause}
-use Rattle.cs_node_rules.specs.declared.cause.Cause.TheVariants.{Role, Old, Far, Leader, Repeat, NoProof}
+use Rattle.cs_node_rules.specs.declared.cause.Cause.TheVariants.{Role, Old, Far, Leader, Repeat}
 use Rattle.cs_node_state.specs.Admission.{admits, due}
 use Rattle.cs_node_rules.specs.Members.{is_other_member, others}
 use Rattle.cs_node_rules.specs.Net.{cause_of}
-use Rattle.cs_node_rules.specs.Signs.{Sign, Dropped, Viewed, Sent, guarded, sends, submit_signs, voted_signs, ask_signs, execution_signs, asked_again}
+use Rattle.cs_node_rules.specs.Signs.{Sign, Dropped, Viewed, Sent, sends, submit_signs, voted_signs, ask_signs, ask_proof_signs, head_signs, execution_signs, asked_again}
 use Rattle.cs_node_rules.specs.Site.{Input, Datagram, Tick, Mark, In, Ordered, Plain, Site, View, view_after, plain}
 
 -- what an order hands out goes to another member, or to all other members
@@ -134,7 +133,7 @@ want_marks {M} site v sender slot =
     then reply_marks site v slot sender.index (site.machine.replying v.member slot sender.index)
     else drops Role
 
--- What is said to a node. No checkpoint is made.
+-- what is said to a node
 abbrev pub message_marks : {M : Type 0} → Site M → View M → NodeId → Message → List (Mark M)
 message_marks {M} site v sender (message.Submit x) = plain (submit_signs site.setup v.me.shard v.bench sender x)
 message_marks {M} site v sender (message.Propose slot view entry) =
@@ -153,8 +152,9 @@ message_marks {M} site v sender (message.Done slot entry) =
     member_marks site v sender (site.carrier.read (message.Done slot entry))
 message_marks {M} site v sender (message.Ask asked) = plain (ask_signs site.setup v.me.shard v.bench sender asked)
 message_marks {M} site v sender (message.Told key state) = drops Role
-message_marks {M} site v sender (message.Head checkpoint) = drops Role
-message_marks {M} site v sender (message.AskProof slot) = plain (guarded (is_client sender) Role (Dropped NoProof ∷ []))
+message_marks {M} site v sender (message.Head checkpoint) =
+    plain (head_signs site.setup v.me v.bench sender checkpoint)
+message_marks {M} site v sender (message.AskProof slot) = plain (ask_proof_signs v.bench sender slot)
 message_marks {M} site v sender (message.Proof proof) = drops Role
 
 -- what a datagram says, or the first test that it fails

@@ -14,7 +14,7 @@ use Rattle.cs_node_state.specs.Setup.{Setup, digest_of, concerned, entry_of}
 use Rattle.cs_base.specs.NodeId.{same_name}
 use Rattle.cs_node_rules.specs.Net.{Net}
 use Rattle.cs_node_rules.specs.Lines.{Parcel, parcels_of}
-use Rattle.cs_node_rules.specs.Signs.{Sign, Dropped, Took, Entered, Viewed, Did, Sent}
+use Rattle.cs_node_rules.specs.Signs.{Sign, Dropped, Took, Entered, Viewed, Did, Headed, Kept, Sent}
 use Rattle.cs_node_rules.specs.Site.{Input, Datagram, Tick, Mark, Site, View, start_view, view_after, signs_of}
 use Rattle.cs_node_rules.specs.Trail.{event_marks}
 
@@ -105,6 +105,8 @@ first_of shard (Dropped cause) firsts = firsts
 first_of shard (Took sender vote x) firsts = firsts
 first_of shard (Entered x) firsts = firsts
 first_of shard (Viewed slot view) firsts = firsts
+first_of shard (Headed number head) firsts = firsts
+first_of shard (Kept index checkpoint) firsts = firsts
 first_of shard (Sent to message) firsts = firsts
 
 abbrev pub firsts_after : ℕ → List Execution → List Sign → List Execution

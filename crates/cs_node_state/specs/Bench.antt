@@ -1,9 +1,18 @@
--- The table and the pool of a node, and what the execution of an entry makes of them.
-use Rattle.std.specs.Prelude.{ℕ, Bool, true, false, if◌then◌else◌, [], Option, Some, None}
+-- What a node works on: its table, its pool, and what it keeps for checkpoints; and what the execution of an entry makes
+-- of these.
+use Rattle.std.specs.Prelude.{ℕ, Bool, true, false, if◌then◌else◌, List, [], length, Option, Some, None}
 use Rattle.cs_base.specs.declared.node_id.NodeId.{NodeId}
 use Rattle.cs_tx_form.specs.declared.session.Session.{Session}
 use Rattle.cs_tx_form.specs.declared.vote.Vote.{Vote}
 use Rattle.cs_tx_form.specs.declared.entry.Entry.{Entry}
+use Rattle.cs_tx_form.specs.declared.leaf.Leaf.{Leaf}
+use Rattle.cs_tx_form.specs.declared.effect.Effect.{Effect as Result}
+use Rattle.cs_tx_form.specs.declared.effect.Effect.TheVariants as result
+use Rattle.cs_tx_form.specs.Log.{leaf_encoding}
+use Rattle.cs_checkpoint.specs.Chain.{Log, empty_log, with_slot}
+use Rattle.cs_check_rules.specs.Keys.{start_keys, keys_after}
+use Rattle.cs_check_rules.specs.Root.{root_under}
+use Rattle.cs_check_rules.specs.Heads.{Heads}
 use Rattle.cs_ledger.specs.Ledger.{Bytes}
 use Rattle.cs_ledger.specs.Session.{Key, anchor}
 use Rattle.cs_ledger.specs.Table as Shard
@@ -14,11 +23,20 @@ use Rattle.cs_node_state.specs.Pool.{Pool, changed, with_ballot, without, entere
 
 pub record Bench : Type 0 where
   pub table : Table
+  pub keys : List Key  -- those of which the table knows something
   pub pool : Pool
+  pub log : Log  -- what its checkpoints are made of
+  pub heads : Heads  -- the last checkpoint of each other member that told one
 
 -- before the first input
 abbrev pub start_bench : Setup → ℕ → Bench
-start_bench setup shard = record { table = start setup.rules shard; pool = [] }
+start_bench setup shard = record {
+  table = start setup.rules shard;
+  keys = start_keys setup.rules shard;
+  pool = [];
+  log = empty_log shard;
+  heads = [];
+}
 
 abbrev pub locked_at : Table → Bytes → Option Key → Bool
 locked_at t d None = false
@@ -65,18 +83,45 @@ pub record Ran : Type 0 where
   pub effect : Effect
   pub bench : Bench
 
-abbrev pub ran_of : Setup → ℕ → Pool → Session → Outcome → Ran
-ran_of setup shard pool x outcome = record {
+abbrev pub ran_of : Setup → ℕ → Bench → List Key → Session → Outcome → Ran
+ran_of setup shard b keys x outcome = record {
   effect = outcome.effect;
-  bench = record {
+  bench = record b {
     table = outcome.table;
-    pool = pool_after outcome.effect (is_locked setup shard outcome.table x) (digest_of setup x) x pool;
+    keys = keys;
+    pool = pool_after outcome.effect (is_locked setup shard outcome.table x) (digest_of setup x) x b.pool;
   };
 }
 
 abbrev pub executed : Setup → ℕ → Bench → Entry → Ran
 executed setup shard b entry =
-    ran_of setup shard b.pool (session_in entry) (exec setup.rules shard b.table (entry_of setup entry))
+    ran_of setup shard b (keys_after setup.rules shard b.table (entry_of setup entry) b.keys) (session_in entry)
+    (exec setup.rules shard b.table (entry_of setup entry))
+
+-- ---- the log
+
+abbrev pub effect_from : Effect → Result
+effect_from (Voted vote) = result.Voted (vote_from vote)
+effect_from Accepted = result.Accepted
+effect_from Aborted = result.Aborted
+effect_from Skipped = result.Skipped
+effect_from Void = result.Void
+
+-- what was executed in the next slot, and what that came to
+abbrev pub next_leaf : Bench → Entry → Effect → Leaf
+next_leaf b entry effect = record { slot = length b.log.leaves; entry = entry; result = effect_from effect }
+
+-- it stands in the log
+abbrev pub with_leaf : Leaf → Bench → Bench
+with_leaf leaf b = record b { log = with_slot (leaf_encoding leaf) (root_under b.keys b.table) b.log }
+
+-- what is kept after the entry of a slot was executed
+abbrev pub slot_executed : Setup → ℕ → Bench → Entry → Bench
+slot_executed setup shard b entry =
+    let ran = executed setup shard b entry in
+    with_leaf (next_leaf b entry ran.effect) ran.bench
+
+-- ---- votes
 
 -- the vote that an execution gave, with the mark that the node asks for the others' votes
 abbrev pub told_by : Effect → Bool → Option (Vote × Bool)
@@ -97,12 +142,11 @@ own_pool me d (Some told) pool =
     then changed d (with_ballot (record { sender = me; vote = told.0 })) pool
     else pool
 
--- table and pool after an execution, with the node's own vote
+-- what an execution leaves, with the node's own vote
 abbrev pub bench_executed : Setup → NodeId → Bench → Entry → Bench
 bench_executed setup me b entry =
     let ran = executed setup me.shard b entry in
-    record {
-      table = ran.bench.table;
+    record ran.bench {
       pool = own_pool me
           (digest_of setup (session_in entry)) (told_of setup me.shard (session_in entry) ran) ran.bench.pool;
     }

@@ -2,9 +2,11 @@ pub mod Courses
 pub mod Deliveries
 pub mod Forgeries
 pub mod Histories
+pub mod Longer
 pub mod Notes
 pub mod Outcomes
 pub mod Posted
+pub mod Printed
 pub mod Taken
 pub mod Views
 pub mod Voiced

@@ -8,10 +8,10 @@ use Rattle.cs_base.specs.declared.node_id.NodeId.{NodeId}
 use Rattle.cs_ledger.specs.Table as Shard
 use Rattle.cs_node_state.specs.Setup.{Setup, digest_of, session_in}
 use Rattle.cs_node_rules.specs.Net.{Net, sealed}
-use Rattle.cs_node_rules.specs.Signs.{Sign, Dropped, Took, Entered, Viewed, Did, Sent}
+use Rattle.cs_node_rules.specs.Signs.{Sign, Dropped, Took, Entered, Viewed, Did, Headed, Kept, Sent}
 use Rattle.cs_node_rules.specs.Aborts.{with_digest, aborted_after, aborted_by}
 use Rattle.cs_node_rules.specs.World.{Execution, first_of, firsts_after}
-use Rattle.cs_node_rules.specs.Lines.{parcels_of, slot_line, drop_line, view_line, if_traced, sign_lines}
+use Rattle.cs_node_rules.specs.Lines.{parcels_of, slot_line, drop_line, view_line, head_line, if_traced, sign_lines}
 use Rattle.cs_tx.specs.Digest.{digest_of_session}
 use Rattle.cs_tx_form.specs.declared.entry.Entry.{Entry}
 use Rattle.cs_tx_form.specs.declared.entry.Entry.TheVariants.{Prepare, Decide}
@@ -20,7 +20,8 @@ use Rattle.cs_table.specs.Effects.{effect_of}
 use Rattle.cs_wire.specs.declared.input.Out.{Out}
 use Rattle.cs_node.specs.declared.draft.Note.{Note}
 use Rattle.cs_node.specs.declared.draft.Note.TheVariants as note
-use Rattle.cs_node.specs.Notes.{NoteFits, NotesFit, effect_from, notes_of, outs_of}
+use Rattle.cs_node_state.specs.Bench.{effect_from}
+use Rattle.cs_node.specs.Notes.{NoteFits, NotesFit, notes_of, outs_of}
 use Rattle.cs_play.specs.Kept.{Deploys, with_abort}
 use Rattle.cs_play.specs.Told.{note_text, notes_text, note_first, noted_firsts, note_aborted, noted_aborted}
 use Rattle.cs_play.specs.Ends.{parcel_from, parcels_from}
@@ -49,6 +50,8 @@ firsts-noted shard firsts (Took sender vote x ∷ past) = firsts-noted shard fir
 firsts-noted shard firsts (Entered x ∷ past) = firsts-noted shard firsts past
 firsts-noted shard firsts (Sent to message ∷ past) = firsts-noted shard firsts past
 firsts-noted shard firsts (Viewed slot view ∷ past) = firsts-push shard (notes_of past) (note.Viewed slot view) firsts ∙ firsts-noted shard firsts past
+firsts-noted shard firsts (Headed number head ∷ past) = firsts-push shard (notes_of past) (note.Headed number head) firsts ∙ firsts-noted shard firsts past
+firsts-noted shard firsts (Kept index checkpoint ∷ past) = firsts-noted shard firsts past
 firsts-noted shard firsts (Did slot entry effect ∷ past) =
     firsts-push shard (notes_of past) (note.Executed slot entry (effect_from effect)) firsts
     ∙ ap (λ e. first_of shard (Did slot entry e) (noted_firsts shard (notes_of past) firsts)) (effect-same effect)
@@ -89,6 +92,8 @@ module _ (config : Config) (setup : Setup) (deploys : Deploys config setup) wher
   aborted-noted aborted (Entered x ∷ past) = aborted-noted aborted past
   aborted-noted aborted (Sent to message ∷ past) = aborted-noted aborted past
   aborted-noted aborted (Viewed slot view ∷ past) = aborted-push (notes_of past) (note.Viewed slot view) aborted ∙ aborted-noted aborted past
+  aborted-noted aborted (Headed number head ∷ past) = aborted-push (notes_of past) (note.Headed number head) aborted ∙ aborted-noted aborted past
+  aborted-noted aborted (Kept index checkpoint ∷ past) = aborted-noted aborted past
   aborted-noted aborted (Did slot entry effect ∷ past) =
       aborted-push (notes_of past) (note.Executed slot entry (effect_from effect)) aborted
       ∙ ap (λ e. with_abort entry e (noted_aborted (notes_of past) aborted)) (effect-same effect)
@@ -103,6 +108,9 @@ module _ (config : Config) (setup : Setup) (deploys : Deploys config setup) (tra
       text-push traced me (notes_of past) (note.Dropped cause) ∙ ap (λ bytes. bytes ++ if_traced traced (drop_line me cause)) (text-noted past)
   text-noted (Viewed slot view ∷ past) =
       text-push traced me (notes_of past) (note.Viewed slot view) ∙ ap (λ bytes. bytes ++ if_traced traced (view_line me slot view)) (text-noted past)
+  text-noted (Headed number head ∷ past) =
+      text-push traced me (notes_of past) (note.Headed number head) ∙ ap (λ bytes. bytes ++ head_line me number head) (text-noted past)
+  text-noted (Kept index checkpoint ∷ past) = text-noted past ∙ sym (append-nil (sign_lines setup traced me past))
   text-noted (Took sender vote x ∷ past) = text-noted past ∙ sym (append-nil (sign_lines setup traced me past))
   text-noted (Entered x ∷ past) = text-noted past ∙ sym (append-nil (sign_lines setup traced me past))
   text-noted (Sent to message ∷ past) = text-noted past ∙ sym (append-nil (sign_lines setup traced me past))
@@ -119,6 +127,8 @@ parcels-noted net me (Dropped cause ∷ past) = parcels-noted net me past
 parcels-noted net me (Took sender vote x ∷ past) = parcels-noted net me past
 parcels-noted net me (Entered x ∷ past) = parcels-noted net me past
 parcels-noted net me (Viewed slot view ∷ past) = parcels-noted net me past
+parcels-noted net me (Headed number head ∷ past) = parcels-noted net me past
+parcels-noted net me (Kept index checkpoint ∷ past) = parcels-noted net me past
 parcels-noted net me (Did slot entry effect ∷ past) = parcels-noted net me past
 parcels-noted net me (Sent to message ∷ past) =
     let out : Out = record { to = to; bytes = sealed net me to message } in

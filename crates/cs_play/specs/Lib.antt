@@ -6,3 +6,4 @@ pub mod Standing
 pub mod Ends
 pub mod Forging
 pub mod Post
+pub mod Longest

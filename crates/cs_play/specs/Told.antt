@@ -7,7 +7,7 @@ use Rattle.cs_ledger.specs.Ledger.{Bytes}
 use Rattle.cs_node_state.specs.Setup.{Setup, session_in}
 use Rattle.cs_node_rules.specs.Signs.{Did}
 use Rattle.cs_node_rules.specs.World.{Execution, first_of}
-use Rattle.cs_node_rules.specs.Lines.{Parcel, slot_line, drop_line, view_line, if_traced, at_line, sent_lines}
+use Rattle.cs_node_rules.specs.Lines.{Parcel, slot_line, drop_line, view_line, head_line, if_traced, at_line, sent_lines}
 use Rattle.cs_table.specs.Effects.{effect_of}
 use Rattle.cs_node.specs.declared.draft.Note.{Note}
 use Rattle.cs_node.specs.declared.draft.Note.TheVariants as note
@@ -17,6 +17,7 @@ use Rattle.cs_play.specs.Kept.{KeptHistory, KeepsHistory, with_abort}
 abbrev pub note_text : Bool → NodeId → Note → Bytes
 note_text traced me (note.Dropped cause) = if_traced traced (drop_line me cause)
 note_text traced me (note.Viewed slot view) = if_traced traced (view_line me slot view)
+note_text traced me (note.Headed number head) = head_line me number head
 note_text traced me (note.Executed slot entry effect) =
     slot_line me slot (digest_of_session (session_in entry)) (effect_of effect)
 
@@ -26,6 +27,7 @@ notes_text traced me notes = flat_map (note_text traced me) notes
 abbrev pub note_first : ℕ → Note → List Execution → List Execution
 note_first shard (note.Dropped cause) firsts = firsts
 note_first shard (note.Viewed slot view) firsts = firsts
+note_first shard (note.Headed number head) firsts = firsts
 note_first shard (note.Executed slot entry effect) firsts = first_of shard (Did slot entry (effect_of effect)) firsts
 
 -- the first executions, after notes of a node of the shard
@@ -36,6 +38,7 @@ noted_firsts shard (told ∷ notes) firsts = noted_firsts shard notes (note_firs
 abbrev pub note_aborted : Note → List Bytes → List Bytes
 note_aborted (note.Dropped cause) aborted = aborted
 note_aborted (note.Viewed slot view) aborted = aborted
+note_aborted (note.Headed number head) aborted = aborted
 note_aborted (note.Executed slot entry effect) aborted = with_abort entry (effect_of effect) aborted
 
 -- the sessions on which an abort was decided, after notes of a node

@@ -1,7 +1,6 @@
 //! The history, kept from the executions as they come.
 ghost use Rattle.std.specs.Prelude.{◌≡◌, ◌<◌, ◌==◌, [], IfOk, OnOk, List, replicate};
-ghost use Rattle.cs_tx_form.specs.Session.{SessionFits};
-ghost use Rattle.cs_node.specs.Notes.{ExecutedFits};
+ghost use Rattle.cs_tx_form.specs.Session.{SessionFits, EntryFits};
 ghost use Rattle.cs_node_state.specs.Setup.{Setup};
 ghost use Rattle.cs_node_rules.specs.Aborts.{with_digest};
 ghost use Rattle.cs_node_rules.specs.World.{Execution, first_of};
@@ -92,7 +91,7 @@ impl History {
         entry: &Entry,
         effect: Effect,
     ) -> Result<(), Memory>
-        requires fits { ExecutedFits effect entry.now }
+        requires fits { EntryFits entry.now }
         ensures kept { (setup : Setup) (firsts : List Execution)
             → shard < self.old.config.shards → KeepsHistory setup firsts self.old
             → OnOk result (KeepsHistory setup
@@ -107,7 +106,7 @@ impl History {
 
     // The session of an execution that decides abort on it.
     fn note_abort(&mut self, alloc: Global, entry: &Entry, effect: Effect) -> Result<(), Memory>
-        requires fits { ExecutedFits effect entry.now }
+        requires fits { EntryFits entry.now }
         ensures { OnOk result (self.new ≡ record self.old {
           aborted = with_abort entry.now (effect_of effect) self.old.aborted;
         }) }
@@ -138,7 +137,7 @@ impl History {
         entry: &Entry,
         effect: Effect,
     ) -> Result<(), Memory>
-        requires fits { ExecutedFits effect entry.now }
+        requires fits { EntryFits entry.now }
         ensures kept { shard < self.old.config.shards
             → OnOk result (self.new ≡ kept_after self.old shard slot entry.now (effect_of effect)) }
         ensures aborted { OnOk result (self.new.aborted ≡ self.old.aborted) }
@@ -164,7 +163,7 @@ impl History {
         entry: &Entry,
         effect: Effect,
     ) -> Result<(), Memory>
-        requires fits { ExecutedFits effect entry.now }
+        requires fits { EntryFits entry.now }
         ensures { OnOk result (self.new ≡ executed self.old shard entry.now (effect_of effect)) }
     {
         match (entry, effect) {

@@ -6,11 +6,10 @@ mod cores;
 mod halt;
 mod history;
 mod lines;
+mod logs;
 mod parcel;
 mod play;
 mod post;
-#[cfg(test)]
-mod post_tests;
 mod telling;
 mod voices;
 

@@ -12,7 +12,7 @@ use crate::lines::{at_line, drop_line, sent_line, view_line};
 use crate::parcel::Parcel;
 use cs_base::{Memory, NodeId};
 use cs_node::Note;
-use cs_node_lines::slot_line;
+use cs_node_lines::{head_line, slot_line};
 use std::alloc::Global;
 
 /// The lines of the notes of a node; those of dropped datagrams and of views in a trace alone. The
@@ -80,6 +80,7 @@ fn tell_note(
             history.execute(alloc, me.shard, *slot, entry, *effect)?;
             slot_line(alloc, me, *slot, entry, *effect)
         }
+        Note::Headed { number, head } => head_line(alloc, me, *number, head),
     }
 }
 

@@ -1,5 +1,5 @@
 -- What a replay answers and prints.
-use Rattle.std.specs.Prelude.{◌≡◌, ℕ, Bool, List, Option, Result, Ok, Err}
+use Rattle.std.specs.Prelude.{◌≡◌, ℕ, Bool, if◌then◌else◌, List, [], ◌++◌, Option, Result, Ok, Err}
 use Rattle.cs_base.specs.Answers.{Answer}
 use Rattle.cs_command.specs.Answers.{Gives, GivesWhole}
 use Rattle.cs_sched.specs.Text.{schedule_of}
@@ -8,9 +8,14 @@ use Rattle.cs_sched.specs.declared.cause.Refusal.{Refusal}
 use Rattle.cs_sched_types.specs.declared.schedule.Schedule.{Schedule}
 use Rattle.cs_tx_form.specs.declared.transaction.Tx.{Tx}
 use Rattle.cs_approve.specs.Approval.{is_approved_by}
+use Rattle.cs_ledger.specs.Ledger.{Bytes}
+use Rattle.cs_node_rules.specs.Dumps.{dump_text}
 use Rattle.cs_node_rules.specs.Play.{Course, Goes, Stops, Forges, played_by, lines}
+use Rattle.cs_node_rules.specs.Site.{Site}
+use Rattle.cs_node_rules.specs.World.{Happening}
 use Rattle.cs_replay.specs.Site.{site_of_schedule}
 use Rattle.cs_replay.specs.Played.{course_of}
+use Rattle.cs_replay.specs.declared.schedule.Mode.{Mode}
 use Rattle.cs_replay.specs.declared.outcome.Summary.{Summary}
 use Rattle.cs_replay.specs.declared.outcome.ReplayError.{ReplayError}
 use Rattle.cs_replay.specs.declared.outcome.ReplayError.TheVariants.{Forged, Limit, WriteFault, Memory}
@@ -23,12 +28,25 @@ course_status {M} (Goes p) = 0
 course_status {M} (Stops p line) = 13
 course_status {M} (Forges p line) = 4
 
--- the answer to a schedule: what its events print, and then the history, or the line of the event that was refused
-abbrev pub schedule_answer : (Tx → Bool) → Bool → Schedule → Answer
-schedule_answer approves traced schedule =
+-- the dump, where it is wanted
+abbrev pub dump_if : {M : Type 0} → Bool → Site M → List Bytes → List (Happening M) → Bytes
+dump_if {M} dumps site contracts world = if dumps then dump_text site contracts world else []
+
+-- it stands behind the lines of all events
+abbrev pub dump_behind : {M : Type 0} → Bool → Site M → List Bytes → Course M → Bytes
+dump_behind {M} dumps site contracts (Goes p) = dump_if dumps site contracts p.world
+dump_behind {M} dumps site contracts (Stops p line) = []
+dump_behind {M} dumps site contracts (Forges p line) = []
+
+-- the answer to a schedule: what its events print, and then the history, and the dump where it is wanted; or the line of
+-- the event that was refused
+abbrev pub schedule_answer : (Tx → Bool) → Mode → Schedule → Answer
+schedule_answer approves mode schedule =
+    let site = site_of_schedule approves schedule in
+    let course = course_of approves mode.traced schedule in
     record {
-      status = course_status (course_of approves traced schedule);
-      printed = lines (site_of_schedule approves schedule) traced schedule.events;
+      status = course_status course;
+      printed = lines site mode.traced schedule.events ++ dump_behind mode.dumps site schedule.contracts course;
     }
 
 abbrev pub error_status : ReplayError → ℕ
@@ -56,19 +74,19 @@ abbrev pub refusal_answer : Refusal → Answer
 refusal_answer refusal =
     record { status = refusal_status refusal.cause; printed = refusal_text refusal.line refusal.cause }
 
-abbrev pub answer_to : Bool → Result Schedule Refusal → Answer
-answer_to traced (Ok schedule) = schedule_answer (is_approved_by schedule.contracts) traced schedule
-answer_to traced (Err refusal) = refusal_answer refusal
+abbrev pub answer_to : Mode → Result Schedule Refusal → Answer
+answer_to mode (Ok schedule) = schedule_answer (is_approved_by schedule.contracts) mode schedule
+answer_to mode (Err refusal) = refusal_answer refusal
 
 -- the answer to a text
-abbrev pub replay_answer : ℕ → Bool → List ℕ → Answer
-replay_answer limit traced text = answer_to traced (schedule_of limit text)
+abbrev pub replay_answer : ℕ → Mode → List ℕ → Answer
+replay_answer limit mode text = answer_to mode (schedule_of limit text)
 
 -- the source has failed, or its text is answered so
-abbrev pub Replays : ℕ → Bool → Option (List ℕ) → Option (List ℕ) → Option (List ℕ) → Option (List ℕ)
+abbrev pub Replays : ℕ → Mode → Option (List ℕ) → Option (List ℕ) → Option (List ℕ) → Option (List ℕ)
     → Type 0 → ℕ → Type 0
-Replays limit traced = Gives limit (replay_answer limit traced)
+Replays limit mode = Gives limit (replay_answer limit mode)
 
 -- where no fault came about, the answer to the text is given and all of it printed, unless memory ran out
-abbrev pub Completes : ℕ → Bool → Option (List ℕ) → Option (List ℕ) → Option (List ℕ) → ℕ → Type 0
-Completes limit traced = GivesWhole limit (replay_answer limit traced)
+abbrev pub Completes : ℕ → Mode → Option (List ℕ) → Option (List ℕ) → Option (List ℕ) → ℕ → Type 0
+Completes limit mode = GivesWhole limit (replay_answer limit mode)

@@ -1,17 +1,23 @@
 -- How a replay ends.
-use Rattle.std.specs.Prelude.{◌≡◌, length, Option, Result, Ok, Err}
+use Rattle.std.specs.Prelude.{◌≡◌, Bool, List, ◌++◌, length, Option, Result, Ok, Err}
 use Rattle.std.specs.Io.KnownBytes.{Appends}
 use Rattle.cs_base.specs.Answers.{AppendsFront}
+use Rattle.cs_tx_form.specs.declared.transaction.Tx.{Tx}
 use Rattle.cs_ledger.specs.Ledger.{Bytes}
+use Rattle.cs_order.specs.Deeds.{Member, Machine}
+use Rattle.cs_sched_types.specs.declared.schedule.Schedule.{Schedule}
 use Rattle.cs_node_rules.specs.Aborts.{aborted}
-use Rattle.cs_node_rules.specs.Site.{Site}
-use Rattle.cs_node_rules.specs.World.{history}
-use Rattle.cs_node_rules.specs.Lines.{limit_line, forged_line}
+use Rattle.cs_node_rules.specs.Site.{Carrier, Site}
+use Rattle.cs_node_rules.specs.World.{Happening, history}
+use Rattle.cs_node_rules.specs.Lines.{history_text, limit_line, forged_line}
 use Rattle.cs_node_rules.specs.Play.{Played, Course, Goes, Stops, Forges, size_of, closed}
-use Rattle.cs_play.specs.Digests.{history_lines}
 use Rattle.cs_play.specs.declared.halt.Halt.{Halt}
 use Rattle.cs_play.specs.declared.halt.Halt.TheVariants as halt
 use Rattle.cs_play.specs.declared.play.Replay.{Replay}
+use Rattle.cs_play.specs.Standing.{site_in}
+use Rattle.cs_play.specs.Ends.{WhereStands}
+use Rattle.cs_dump.specs.Settled.{IsSetupOf}
+use Rattle.cs_replay.specs.Answers.{dump_if, dump_behind}
 use Rattle.cs_replay.specs.declared.outcome.Summary.{Summary}
 use Rattle.cs_replay.specs.declared.outcome.ReplayError.{ReplayError}
 use Rattle.cs_replay.specs.declared.outcome.ReplayError.TheVariants.{Forged, Limit, WriteFault, Memory}
@@ -34,15 +40,30 @@ sums_of {O} {J} {M} r = record {
   sent = size_of r.post;
 }
 
--- what stands behind the lines of the events, and what is answered, by how these ended: the history, or the line of the
--- event that was refused
-abbrev pub IsLast : {O J M : Type 0} → Replay O J M → Result (Unit {0}) Halt
-    → Bytes → Result Summary ReplayError → Type 0
-IsLast {O} {J} {M} r (Ok done) text answer = (text ≡ history_lines r.history.told) × (answer ≡ Ok (sums_of r))
-IsLast {O} {J} {M} r (Err (halt.Limit line)) text answer = (text ≡ limit_line line) × (answer ≡ Err (Limit line))
-IsLast {O} {J} {M} r (Err (halt.Forged line)) text answer = (text ≡ forged_line line) × (answer ≡ Err (Forged line))
-IsLast {O} {J} {M} r (Err halt.Failed) text answer = ⊥
-IsLast {O} {J} {M} r (Err halt.Memory) text answer = ⊥
+-- the history, and where it is wanted the dump
+abbrev pub end_text : {M : Type 0} → Bool → Site M → List Bytes → List (Happening M) → Bytes
+end_text {M} dumps site contracts world =
+    history_text (history site world) ++ dump_if dumps site contracts world
+
+-- a text is that of what a replay of the schedule stands for
+abbrev pub EndsWith : {O J M : Type 0} → (O → Member M → Type 0) → (J → Tx → Bool) → Machine M → Carrier M
+    → Replay O J M → Schedule → Bool → Bytes → Type 0
+EndsWith {O} {J} {M} stands approves rules carrier r schedule dumps text =
+    WhereStands stands approves rules carrier r
+    (λ s p. IsSetupOf schedule s.setup → text ≡ end_text dumps (site_in rules carrier s) schedule.contracts p.world)
+
+-- what stands behind the lines of the events, and what is answered, by how these ended: the history, and the dump where
+-- it is wanted, or the line of the event that was refused
+abbrev pub IsLast : {O J M : Type 0} → (O → Member M → Type 0) → (J → Tx → Bool) → Machine M → Carrier M
+    → Replay O J M → Schedule → Bool → Result (Unit {0}) Halt → Bytes → Result Summary ReplayError → Type 0
+IsLast {O} {J} {M} stands approves rules carrier r schedule dumps (Ok done) text answer =
+    EndsWith stands approves rules carrier r schedule dumps text × (answer ≡ Ok (sums_of r))
+IsLast {O} {J} {M} stands approves rules carrier r schedule dumps (Err (halt.Limit line)) text answer =
+    (text ≡ limit_line line) × (answer ≡ Err (Limit line))
+IsLast {O} {J} {M} stands approves rules carrier r schedule dumps (Err (halt.Forged line)) text answer =
+    (text ≡ forged_line line) × (answer ≡ Err (Forged line))
+IsLast {O} {J} {M} stands approves rules carrier r schedule dumps (Err halt.Failed) text answer = ⊥
+IsLast {O} {J} {M} stands approves rules carrier r schedule dumps (Err halt.Memory) text answer = ⊥
 
 -- the sink failed, or memory ran out
 abbrev pub IsCutShort : ReplayError → Type 0
@@ -51,14 +72,21 @@ IsCutShort (Limit line) = ⊥
 IsCutShort WriteFault = Unit {0}
 IsCutShort Memory = Unit {0}
 
--- all lines of a course were written, and how it ended is answered; or a front of them was
-abbrev pub Closes : {M : Type 0} → Option Bytes → Option Bytes → Site M → Course M
+-- all lines of a course, and the dump behind them
+abbrev pub whole : {M : Type 0} → Site M → Bool → List Bytes → Course M → Bytes
+whole {M} site dumps contracts course = closed site course ++ dump_behind dumps site contracts course
+
+-- they were all written, and how it ended is answered; or a front of them was
+abbrev pub Closes : {M : Type 0} → Option Bytes → Option Bytes → Site M → Bool → List Bytes → Course M
     → Result Summary ReplayError → Type 0
-Closes {M} before written site course (Ok summary) =
-    (p : Played M) × (course ≡ Goes p) × (summary ≡ summary_of site p) × Appends before written (closed site course)
-Closes {M} before written site course (Err (Limit line)) =
-    (p : Played M) × (course ≡ Stops p line) × Appends before written (closed site course)
-Closes {M} before written site course (Err (Forged line)) =
-    (p : Played M) × (course ≡ Forges p line) × Appends before written (closed site course)
-Closes {M} before written site course (Err WriteFault) = AppendsFront before written (closed site course)
-Closes {M} before written site course (Err Memory) = AppendsFront before written (closed site course)
+Closes {M} before written site dumps contracts course (Ok summary) =
+    (p : Played M) × (course ≡ Goes p) × (summary ≡ summary_of site p)
+    × Appends before written (whole site dumps contracts course)
+Closes {M} before written site dumps contracts course (Err (Limit line)) =
+    (p : Played M) × (course ≡ Stops p line) × Appends before written (whole site dumps contracts course)
+Closes {M} before written site dumps contracts course (Err (Forged line)) =
+    (p : Played M) × (course ≡ Forges p line) × Appends before written (whole site dumps contracts course)
+Closes {M} before written site dumps contracts course (Err WriteFault) =
+    AppendsFront before written (whole site dumps contracts course)
+Closes {M} before written site dumps contracts course (Err Memory) =
+    AppendsFront before written (whole site dumps contracts course)

@@ -2,23 +2,11 @@
 //! execute and the history.
 #![tactic(auto)]
 
-#[cfg(test)]
-mod attack_tests;
-#[cfg(test)]
-mod contract_tests;
-#[cfg(test)]
-mod member_tests;
 mod outcome;
 mod schedule;
 mod source;
 mod starting;
-#[cfg(test)]
-mod tests;
 mod theorem;
-#[cfg(test)]
-mod trace_tests;
-#[cfg(test)]
-mod trial_tests;
 
 pub use outcome::{ReplayError, Summary};
 pub use schedule::{Mode, replay};

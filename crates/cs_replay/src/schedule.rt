@@ -1,20 +1,25 @@
 //! A schedule replayed.
 ghost use Rattle.std.specs.Prelude.{◌≡◌, ℕ, List, Option, length, string_bytes, IfOk, IfErr, IsErrOf};
+ghost use Rattle.std.specs.List.{All};
 ghost use Rattle.cs_base.specs.Answers.{Answers};
 ghost use Rattle.cs_base.specs.Outside.{HasCause};
+ghost use Rattle.cs_tx_value.specs.Object.{ObjectFits};
 ghost use Rattle.cs_order_rules.specs.SlotMachine.{slot_machine};
 ghost use Rattle.cs_node_rules.specs.Play.{unplayed, play_all, size_of};
 ghost use Rattle.cs_node_carried.specs.SlotCarried.{slot_carrier};
 ghost use Rattle.cs_sched.specs.Playable.{IsPlayable};
 ghost use Rattle.cs_play.specs.Standing.{Setting, site_in, Stands, AllShort, AllToOthers};
+ghost use Rattle.cs_dump.specs.Settled.{IsSetupOf};
 ghost use Rattle.cs_replay.specs.Settings.{setting_of};
 ghost use Rattle.cs_replay.specs.Played.{course_of, world_of, history_of, aborted_of, sent_of};
-ghost use Rattle.cs_replay.specs.Answers.{schedule_answer, replay_status, EndsAs};
-ghost use Rattle.cs_replay.specs.Closing.{sums_of, IsLast, IsCutShort, Closes};
+ghost use Rattle.cs_play.specs.Ends.{WhereStands};
+ghost use Rattle.cs_replay.specs.Answers.{dump_if, schedule_answer, replay_status, EndsAs};
+ghost use Rattle.cs_replay.specs.Closing.{sums_of, EndsWith, IsLast, IsCutShort, Closes};
 
 use crate::outcome::{ReplayError, Summary};
 use crate::starting::start_nodes;
 use cs_base::{Memory, Sink, WriteError, print};
+use cs_dump::dump_text;
 use cs_log::SlotOrder;
 use cs_node::Carried;
 use cs_order::Order;
@@ -28,10 +33,13 @@ use std::alloc::Global;
 pub struct Mode {
     /// Each event and each datagram too, and not the executions alone.
     pub traced: bool,
+    /// Behind the history a dump, for an auditor.
+    pub dumps: bool,
 }
 
 /// Plays the events of a schedule at nodes that ask this judge, and prints what they do and then
-/// the history, or the line of the event that would have passed a limit or injects what is forged.
+/// the history, and a dump where one is wanted, or the line of the event that would have passed a
+/// limit or injects what is forged.
 pub fn replay<J: Judge, K: Sink>(
     alloc: Global,
     schedule: &Schedule,
@@ -42,7 +50,7 @@ pub fn replay<J: Judge, K: Sink>(
     requires { IsPlayable schedule.now }
 
     // The schedule's lines are printed, or a front of them where the sink fails or memory runs out.
-    ensures answers { Answers (schedule_answer (J.is_approved judge.now) mode.traced schedule.now)
+    ensures answers { Answers (schedule_answer (J.is_approved judge.now) mode schedule.now)
         (K.written output.old) (K.written output.new) (replay_status result) }
 
     // All events were played, or those before the line that is answered.
@@ -61,7 +69,7 @@ pub fn replay<J: Judge, K: Sink>(
         (IsErrOf result ReplayError.WriteFault) }
 {
     match begin(alloc, schedule, judge, mode) {
-        Ok(replay) => play_schedule(alloc, replay, schedule, output),
+        Ok(replay) => play_schedule(alloc, replay, schedule, mode.dumps, output),
         Err(_) => Err(ReplayError::Memory),
     }
 }
@@ -97,19 +105,22 @@ fn play_schedule<O: Carried, J: Judge + Drop, K: Sink>(
     alloc: Global,
     mut replay: Replay<O, J>,
     schedule: &Schedule,
+    dumps: bool,
     output: &mut K,
 ) -> Result<Summary, ReplayError>
-    requires { AllShort schedule.now.events }
+    requires short { AllShort schedule.now.events }
+    requires objects { All ObjectFits schedule.now.genesis }
     ensures closes { (s : Setting) → s.before ≡ K.written output.old
         → Stands O.stands J.is_approved O.rules O.carrier s replay unplayed
-        → AllToOthers s schedule.now.events
+        → IsSetupOf schedule.now s.setup → AllToOthers s schedule.now.events
         → Closes s.before (K.written output.new) (site_in O.rules O.carrier s)
+        dumps schedule.now.contracts
         (play_all (site_in O.rules O.carrier s) s.traced schedule.now.events unplayed) result }
     ensures cause { HasCause (K.faults output.old) (K.faults output.new)
         (IsErrOf result ReplayError.WriteFault) }
 {
     let played = replay.play_all(alloc, schedule.events.as_slice(), output);
-    let last = last_lines(alloc, &replay, played)?;
+    let last = last_lines(alloc, &replay, schedule, dumps, played)?;
     match print(output, last.text.as_bytes()) {
         Ok(()) => last.answer,
         Err(WriteError::Failed) => Err(ReplayError::WriteFault),
@@ -124,21 +135,26 @@ struct Last {
     answer: Result<Summary, ReplayError>,
 }
 
-// By how the events ended: the history, or the line of the event that was refused.
+// By how the events ended: the history, and the dump where it is wanted, or the line of the event
+// that was refused.
 fn last_lines<O: Carried, J: Judge + Drop>(
     alloc: Global,
     replay: &Replay<O, J>,
+    schedule: &Schedule,
+    dumps: bool,
     played: Result<(), Halt>,
 ) -> Result<Last, ReplayError>
+    requires { All ObjectFits schedule.now.genesis }
     ensures last { IfOk result (λ last.
-        IsLast replay.now played (string_bytes last.text) last.answer) }
+        IsLast O.stands J.is_approved O.rules O.carrier replay.now schedule.now dumps
+        played (string_bytes last.text) last.answer) }
     ensures answer { IfOk result (λ last. IsErrOf last.answer ReplayError.WriteFault → ⊥) }
     ensures cut { IfErr result IsCutShort }
     ensures failed { IsErrOf result ReplayError.WriteFault → IsErrOf played Halt.Failed }
 {
     match played {
         Ok(()) => Ok(Last {
-            text: history_text(alloc, replay.history.told())?,
+            text: end_text(alloc, replay, schedule, dumps)?,
             answer: Ok(summary_of(replay)),
         }),
         Err(Halt::Limit(line)) => Ok(Last {
@@ -151,6 +167,42 @@ fn last_lines<O: Carried, J: Judge + Drop>(
         }),
         Err(Halt::Failed) => Err(ReplayError::WriteFault),
         Err(Halt::Memory) => Err(ReplayError::Memory),
+    }
+}
+
+// The history, and where it is wanted the dump.
+fn end_text<O: Carried, J: Judge + Drop>(
+    alloc: Global,
+    replay: &Replay<O, J>,
+    schedule: &Schedule,
+    dumps: bool,
+) -> Result<String, Memory>
+    requires { All ObjectFits schedule.now.genesis }
+    ensures { IfOk result (λ text. EndsWith O.stands J.is_approved O.rules O.carrier
+        replay.now schedule.now dumps (string_bytes text)) }
+{
+    let mut text = history_text(alloc, replay.history.told())?;
+    let dump = dump_if(alloc, replay, schedule, dumps)?;
+    text.push_str(&dump)?;
+    Ok(text)
+}
+
+// The dump, where it is wanted.
+fn dump_if<O: Carried, J: Judge + Drop>(
+    alloc: Global,
+    replay: &Replay<O, J>,
+    schedule: &Schedule,
+    dumps: bool,
+) -> Result<String, Memory>
+    requires { All ObjectFits schedule.now.genesis }
+    ensures { WhereStands O.stands J.is_approved O.rules O.carrier replay.now (λ s p.
+        IsSetupOf schedule.now s.setup → IfOk result (λ text. string_bytes text
+        ≡ dump_if dumps (site_in O.rules O.carrier s) schedule.now.contracts p.world)) }
+{
+    if dumps {
+        dump_text(alloc, replay, schedule)
+    } else {
+        Ok(String::new(alloc))
     }
 }
 

@@ -20,53 +20,53 @@ use std::alloc::Global;
 /// source fails and 6 where the sink does, 8 for want of memory.
 pub fn replay_source<S: Source, K: Sink>(
     alloc: Global,
-    traced: bool,
+    mode: Mode,
     input: &mut S,
     output: &mut K,
 ) -> u8
-    ensures replay { Replays MOST_SCHEDULE traced
+    ensures replay { Replays MOST_SCHEDULE mode
         (S.left input.old) (S.left input.new) (K.written output.old) (K.written output.new)
         (Rose (S.faults input.old) (S.faults input.new)) result }
     ensures complete { (Rose (S.faults input.old) (S.faults input.new) → ⊥)
         → (Rose (K.faults output.old) (K.faults output.new) → ⊥)
-        → Completes MOST_SCHEDULE traced
+        → Completes MOST_SCHEDULE mode
         (S.left input.old) (K.written output.old) (K.written output.new) result }
     ensures only { result ≢ 2 }
     ensures read_fault { HasCause (S.faults input.old) (S.faults input.new) (result ≡ 5) }
     ensures write_fault { HasCause (K.faults output.old) (K.faults output.new) (result ≡ 6) }
 {
     match read_text(alloc, MOST_SCHEDULE, input) {
-        Ok(text) => answer(alloc, traced, &text, output),
+        Ok(text) => answer(alloc, mode, &text, output),
         Err(ReadError::Failed) => closing(print(output, b"read fault\n"), 5),
         Err(ReadError::Memory) => 8,
     }
 }
 
 // Replays a text.
-fn answer<K: Sink>(alloc: Global, traced: bool, text: &[u8], output: &mut K) -> u8
-    ensures answers { Answers (replay_answer MOST_SCHEDULE traced text.now)
+fn answer<K: Sink>(alloc: Global, mode: Mode, text: &[u8], output: &mut K) -> u8
+    ensures answers { Answers (replay_answer MOST_SCHEDULE mode text.now)
         (K.written output.old) (K.written output.new) result }
     ensures only { (result ≢ 2) × (result ≢ 5) }
     ensures write_fault { HasCause (K.faults output.old) (K.faults output.new) (result ≡ 6) }
 {
     match parse(alloc, text) {
-        Ok(schedule) => play(alloc, traced, &schedule, output),
+        Ok(schedule) => play(alloc, mode, &schedule, output),
         Err(ScheduleError::Line(refusal)) => refuse(alloc, refusal, output),
         Err(ScheduleError::Memory) => 8,
     }
 }
 
 // Plays a schedule at nodes that ask the book of its contracts.
-fn play<K: Sink>(alloc: Global, traced: bool, schedule: &Schedule, output: &mut K) -> u8
+fn play<K: Sink>(alloc: Global, mode: Mode, schedule: &Schedule, output: &mut K) -> u8
     requires { IsPlayable schedule.now }
     ensures answers { Answers
-        (schedule_answer (is_approved_by schedule.now.contracts) traced schedule.now)
+        (schedule_answer (is_approved_by schedule.now.contracts) mode schedule.now)
         (K.written output.old) (K.written output.new) result }
     ensures only { (result ≢ 2) × (result ≢ 5) }
     ensures write_fault { HasCause (K.faults output.old) (K.faults output.new) (result ≡ 6) }
 {
     match Book::new(alloc, schedule.contracts.as_slice()) {
-        Ok(book) => play_by(alloc, traced, schedule, &book, output),
+        Ok(book) => play_by(alloc, mode, schedule, &book, output),
         Err(BookError::Memory) => 8,
         // The contracts of a schedule are accepted.
         Err(BookError::Refused(..)) => unreachable!(),
@@ -75,18 +75,18 @@ fn play<K: Sink>(alloc: Global, traced: bool, schedule: &Schedule, output: &mut 
 
 fn play_by<K: Sink>(
     alloc: Global,
-    traced: bool,
+    mode: Mode,
     schedule: &Schedule,
     book: &Book,
     output: &mut K,
 ) -> u8
     requires { IsPlayable schedule.now }
-    ensures answers { Answers (schedule_answer (is_approved book.now) traced schedule.now)
+    ensures answers { Answers (schedule_answer (is_approved book.now) mode schedule.now)
         (K.written output.old) (K.written output.new) result }
     ensures only { (result ≢ 2) × (result ≢ 5) }
     ensures write_fault { HasCause (K.faults output.old) (K.faults output.new) (result ≡ 6) }
 {
-    match replay(alloc, schedule, book, Mode { traced }, output) {
+    match replay(alloc, schedule, book, mode, output) {
         Ok(_) => 0,
         Err(error) => error.status(),
     }

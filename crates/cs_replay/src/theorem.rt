@@ -8,7 +8,7 @@ ghost use Rattle.cs_replay.specs.Sound.{IsSound};
 use cs_log::SlotOrder;
 use cs_node_law::{events_end_quiet, schedules_play_worlds};
 use cs_phase_law::second_phase;
-use cs_world_law::settled_world;
+use cs_world_law::{heads_show_executions, settled_world};
 
 /// What is true of every schedule that can be played, whatever its judge approves of.
 ///
@@ -21,4 +21,5 @@ pub fn schedules_are_sound()
     events_end_quiet::<SlotOrder>();
     second_phase();
     settled_world::<SlotOrder>();
+    heads_show_executions::<SlotOrder>();
 }

@@ -28,10 +28,15 @@ use Rattle.cs_ledger.specs.Standing.{stands_accepted, stands_aborted}
 use Rattle.cs_table.specs.Calls.{anchor_in, prepared, decided, standing_at, recorded_at, locked_at as holds_at}
 use Rattle.cs_node_state.specs.Setup as Setup
 use Rattle.cs_node_state.specs.Pool.{Pool}
-use Rattle.cs_node_state.specs.Bench.{told_by, own_pool, pool_after, locked_at, decided_at, decided as standing, vote_read, noted_at, noted as on_record}
+use Rattle.cs_node_state.specs.Bench.{told_by, own_pool, pool_after, is_locked, locked_at, decided_at, decided as standing, vote_read, noted_at, noted as on_record}
 use Rattle.cs_node_state.specs.Deployed.{genesis_from}
 use Rattle.cs_sbac.specs.declared.answers.Outcome.{Outcome}
-use Rattle.cs_sbac.specs.Held.{IsOfNode}
+use Rattle.cs_check_rules.specs.Keys.{AreKnown, keys_after}
+use Rattle.cs_check_rules.proofs.Same.{one_list}
+use Rattle.cs_check_rules.proofs.Known.{exec_known}
+use Rattle.cs_check.specs.Root.{keys_in}
+use Rattle.cs_archive.specs.Archives.{Archived}
+use Rattle.cs_sbac.specs.Held.{Held, IsOfNode}
 use Rattle.cs_node_pool.specs.Deployed.{deployed}
 use Rattle.cs_sbac.specs.Calls.{placed, left, accepted_by, Runs, RunsEntry, Executes}
 use Rattle.cs_sbac.proofs.RulesAlike.{acts, anchors}
@@ -152,32 +157,90 @@ module _ (config : Config) (me : NodeId) (told : Stored) (of : IsOfNode config m
         let P : Shard.Outcome × Option Seen.Key → Type 0 = λ q. Runs me x (session_of approves x).digest q.0 q.1 told tnew pold pnew answer in
         subst P (λ i. (e i, same-anchor (session_of approves x) i)) r
 
-    pub executes : (entry : Entry) (tnew : Stored) (pold pnew : Pool) (answer : Outcome) → Setup.is_fit setup me.shard (Setup.session_in entry) ≡ true
-        → RunsEntry approves me entry told tnew pold pnew answer
-        → Executes setup entry (record { config = config; me = me; table = told; pool = pold }) (record { config = config; me = me; table = tnew; pool = pnew }) answer
-    executes (Prepare x) tnew pold pnew answer fit r =
-        let y : Seen.Session = session_of approves x in
-        let s : Runs me x y.digest (Shard.exec setup.rules me.shard (seen told) (Shard.Prepare y)) (Seen.anchor setup.rules y me.shard) told tnew pold pnew answer =
-        moved x (prepared told y) (Shard.exec setup.rules me.shard (seen told) (Shard.Prepare y)) tnew pold pnew answer (same-outcome (Shard.Prepare y) fit) r in
-        record {
-          effect_is = s.effect_is;
-          voted_is = s.voted_is;
-          bench_is = λ i. record { table = s.table_is.shows i; pool = s.pool_is i };
-          config_stays = refl;
-          me_stays = refl;
-        }
-    executes (Decide vote x) tnew pold pnew answer fit r =
-        let y : Seen.Session = session_of approves x in
-        let s : Runs me x y.digest (Shard.exec setup.rules me.shard (seen told) (Shard.Decide y (Setup.vote_of vote))) (Seen.anchor setup.rules y me.shard) told tnew pold pnew answer =
-        moved x (decided told y (vote_of vote)) (Shard.exec setup.rules me.shard (seen told) (Shard.Decide y (Setup.vote_of vote))) tnew pold pnew answer
-        (ap (decided told y) (same-vote vote) ∙ same-outcome (Shard.Decide y (Setup.vote_of vote)) fit) r in
-        record {
-          effect_is = s.effect_is;
-          voted_is = s.voted_is;
-          bench_is = λ i. record { table = s.table_is.shows i; pool = s.pool_is i };
-          config_stays = refl;
-          me_stays = refl;
-        }
+    module _ (old_known : AreKnown (keys_in told.rows) (seen told)) where
+      -- what is known after an entry is what the table knows then
+      known-after : (e : Shard.Entry) (tnew : Stored) → AreKnown (keys_in tnew.rows) (seen tnew)
+          → seen tnew ≡ (Shard.exec setup.rules me.shard (seen told) e).table
+          → keys_in tnew.rows ≡ keys_after setup.rules me.shard (seen told) e (keys_in told.rows)
+      known-after e tnew new_known shows =
+          let after : List Seen.Key = keys_after setup.rules me.shard (seen told) e (keys_in told.rows) in
+          one_list (seen tnew) (keys_in tnew.rows) after new_known
+          (subst (λ (t : Shard.Table). AreKnown after t) (sym shows)
+          (exec_known setup.rules me.shard (seen told) (keys_in told.rows) e old_known))
+
+      module _ (archived : Archived) where
+        abbrev held_with : Stored → Pool → Held
+        held_with table pool = record { config = config; me = me; table = table; pool = pool; archived = archived }
+
+        pub executes : (entry : Entry) (tnew : Stored) (pold pnew : Pool) (answer : Outcome)
+            → Setup.is_fit setup me.shard (Setup.session_in entry) ≡ true → AreKnown (keys_in tnew.rows) (seen tnew)
+            → RunsEntry approves me entry told tnew pold pnew answer
+            → Executes setup entry (held_with told pold) (held_with tnew pnew) answer
+        executes (Prepare x) tnew pold pnew answer fit known r =
+            let y : Seen.Session = session_of approves x in
+            let e : Shard.Entry = Shard.Prepare y in
+            let s : Runs me x y.digest (Shard.exec setup.rules me.shard (seen told) e) (Seen.anchor setup.rules y me.shard) told tnew pold pnew answer =
+            moved x (prepared told y) (Shard.exec setup.rules me.shard (seen told) e) tnew pold pnew answer (same-outcome e fit) r in
+            let keys = known-after e tnew known s.table_is.shows in
+            record {
+              effect_is = s.effect_is;
+              voted_is = s.voted_is;
+              bench_is = λ i. record { table = s.table_is.shows i; keys = keys i; pool = s.pool_is i; log = archived.log; heads = archived.heads };
+              config_stays = refl;
+              me_stays = refl;
+              archived_stays = refl;
+            }
+        executes (Decide vote x) tnew pold pnew answer fit known r =
+            let y : Seen.Session = session_of approves x in
+            let e : Shard.Entry = Shard.Decide y (Setup.vote_of vote) in
+            let s : Runs me x y.digest (Shard.exec setup.rules me.shard (seen told) e) (Seen.anchor setup.rules y me.shard) told tnew pold pnew answer =
+            moved x (decided told y (vote_of vote)) (Shard.exec setup.rules me.shard (seen told) e) tnew pold pnew answer
+            (ap (decided told y) (same-vote vote) ∙ same-outcome e fit) r in
+            let keys = known-after e tnew known s.table_is.shows in
+            record {
+              effect_is = s.effect_is;
+              voted_is = s.voted_is;
+              bench_is = λ i. record { table = s.table_is.shows i; keys = keys i; pool = s.pool_is i; log = archived.log; heads = archived.heads };
+              config_stays = refl;
+              me_stays = refl;
+              archived_stays = refl;
+            }
+
+        -- an entry that isn't fit changes nothing
+        abbrev Nothing : Entry → Pool → Type 0
+        Nothing entry pool = Executes setup entry (held_with told pool) (held_with told pool) (record { effect = Void; voted = None })
+
+        nothing-by : (entry : Entry) (pool : Pool)
+            → Shard.exec setup.rules me.shard (seen told) (Setup.entry_of setup entry) ≡ record { table = seen told; effect = Shard.Void }
+            → Nothing entry pool
+        nothing-by entry pool e =
+            let x : Session = Setup.session_in entry in
+            let d : Bytes = Setup.digest_of setup x in
+            let o = sym e in
+            let keys = known-after (Setup.entry_of setup entry) told old_known (ap (λ (out : Shard.Outcome). out.table) o) in
+            record {
+              effect_is = ap (λ (out : Shard.Outcome). out.effect) o;
+              voted_is = ap (λ (out : Shard.Outcome). told_by out.effect (is_locked setup me.shard out.table x)) o;
+              bench_is = λ i. record {
+                table = (o i).table;
+                keys = keys i;
+                pool = own_pool me d (told_by (o i).effect (is_locked setup me.shard (o i).table x))
+                    (pool_after (o i).effect (is_locked setup me.shard (o i).table x) d x pool);
+                log = archived.log;
+                heads = archived.heads;
+              };
+              config_stays = refl;
+              me_stays = refl;
+              archived_stays = refl;
+            }
+
+        unfit : (t : Shard.Table) (b : Bool) (o : Shard.Outcome) → b ≡ false → (if b then o else record { table = t; effect = Shard.Void }) ≡ record { table = t; effect = Shard.Void }
+        unfit t true o h = let q : true ≡ false = h in cc
+        unfit t false o h = refl
+
+        pub executes-nothing : (entry : Entry) (pool : Pool) → Setup.is_fit setup me.shard (Setup.session_in entry) ≡ false → Nothing entry pool
+        executes-nothing (Prepare x) pool misfit = nothing-by (Prepare x) pool (unfit (seen told) _ _ misfit)
+        executes-nothing (Decide vote x) pool misfit = nothing-by (Decide vote x) pool (unfit (seen told) _ _ misfit)
 
     pub stands : (x : Session) → accepted_by (standing_at (seen told) (session_of approves x).digest (anchor_in told (session_of approves x))) ≡ standing setup me.shard (seen told) x
     stands x =

@@ -58,6 +58,7 @@ pub record Executes (setup : Setup) (entry : Entry) (old new : Held) (answer : O
   pub bench_is : bench_of new ≡ bench_executed setup old.me (bench_of old) entry
   pub config_stays : new.config ≡ old.config
   pub me_stays : new.me ≡ old.me
+  pub archived_stays : new.archived ≡ old.archived
 
 -- one on which a decision took effect leaves
 abbrev pub left : Effect → Bytes → Pool → Pool

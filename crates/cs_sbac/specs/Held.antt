@@ -1,9 +1,11 @@
--- What a contract sees of the table and the pool of a node.
+-- What a contract sees of the table, the pool and the archive of a node.
 use Rattle.std.specs.Prelude.{◌≡◌, Bool, true}
 use Rattle.cs_base.specs.declared.config.Config.{Config}
 use Rattle.cs_base.specs.declared.node_id.NodeId.{NodeId}
 use Rattle.cs_base.specs.NodeId.{is_node}
 use Rattle.cs_table.specs.Seen.{Stored, seen}
+use Rattle.cs_check.specs.Root.{keys_in}
+use Rattle.cs_archive.specs.Archives.{Archived}
 use Rattle.cs_node_state.specs.Pool.{Pool}
 use Rattle.cs_node_state.specs.Bench.{Bench}
 use Rattle.cs_tx_form.specs.declared.session.Session.{Session}
@@ -16,6 +18,7 @@ pub record Held : Type 0 where
   pub me : NodeId
   pub table : Stored
   pub pool : Pool
+  pub archived : Archived
 
 -- a node of the configuration, and a table of its shard
 pub record IsOfNode (config : Config) (me : NodeId) (table : Stored) : Type 0 where
@@ -35,7 +38,16 @@ abbrev pub IsFit : Held → Session → Type 0
 IsFit held x = AtAnySetup held.config (λ setup. is_fit setup held.me.shard x ≡ true)
 
 abbrev pub bench_of : Held → Bench
-bench_of held = record { table = seen held.table; pool = held.pool }
+bench_of held = record {
+  table = seen held.table;
+  keys = keys_in held.table.rows;
+  pool = held.pool;
+  log = held.archived.log;
+  heads = held.archived.heads;
+}
 
 abbrev pub with_pool : Held → Pool → Held
-with_pool held pool = record { config = held.config; me = held.me; table = held.table; pool = pool }
+with_pool held pool = record held { pool = pool }
+
+abbrev pub with_archived : Held → Archived → Held
+with_archived held archived = record held { archived = archived }

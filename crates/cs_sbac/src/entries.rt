@@ -11,6 +11,7 @@ use crate::execution::run;
 use crate::sbac::Sbac;
 use crate::setting::{concerned_shards, is_fit, is_fit_entry};
 use cs_base::Memory;
+use cs_check::root_is_shown;
 use cs_node_pool::is_decided;
 use cs_table::Effect;
 use cs_tx::{Entry, Judge, Session, Vote, session_digest};
@@ -83,6 +84,7 @@ impl Sbac {
         if !self.is_whole {
             return Err(Memory);
         }
+        root_is_shown(&self.table);
         let fit = is_fit_entry(alloc, &self.config, self.me.shard, entry)?;
         if !fit {
             return Ok(Outcome {
@@ -92,6 +94,7 @@ impl Sbac {
         }
         self.is_whole = false;
         let outcome = run(alloc, self.me, &mut self.table, &mut self.pool, entry)?;
+        root_is_shown(&self.table);
         self.is_whole = true;
         Ok(outcome)
     }

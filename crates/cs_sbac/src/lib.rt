@@ -1,14 +1,14 @@
-//! The table of a node and its pool: what is admitted and due, and the execution of an entry.
+//! The table of a node, its pool and its archive: what is admitted and due, the execution of an
+//! entry, and the checkpoints of what was executed.
 #![tactic(auto)]
 
 mod answers;
 mod entries;
 mod execution;
+mod points;
 mod queries;
 mod sbac;
 mod setting;
-#[cfg(test)]
-mod tests;
 
 pub use answers::{Entered, Outcome};
 pub use cs_node_pool::Counted;

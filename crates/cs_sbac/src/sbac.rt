@@ -1,4 +1,4 @@
-//! The table of a node and its pool.
+//! The table of a node, its pool, and what it keeps for checkpoints.
 ghost use Rattle.std.specs.Prelude.{◌≡◌, [], None, OnOk, IfOk};
 ghost use Rattle.cs_tx_form.specs.Session.{SessionFits};
 ghost use Rattle.cs_tx.specs.Digest.{digest_of_session};
@@ -7,11 +7,13 @@ ghost use Rattle.cs_node_state.specs.Admission.{due};
 ghost use Rattle.cs_node_pool.specs.Deployed.{AtAnySetup};
 ghost use Rattle.cs_node_pool.specs.Fits.{DueFits, AllFit};
 ghost use Rattle.cs_node_pool.specs.Calls.{counted_in, locked_in};
+ghost use Rattle.cs_checkpoint.specs.Chain.{empty_log};
 ghost use Rattle.cs_sbac.specs.Held.{with_pool, IsOfNode};
 ghost use Rattle.cs_sbac.specs.Calls.{entered_in, pool_entered, pool_entered_with};
 
 use crate::answers::Entered;
 use crate::execution::newcomer;
+use cs_archive::Archive;
 use cs_base::{Config, MOST_WAITING, Memory, NodeId};
 use cs_node_pool::{Counted, Pool};
 use cs_node_state::Ballot;
@@ -20,14 +22,15 @@ use cs_tx::{Digest, Entry, Session, Vote, concerned};
 use std::alloc::Global;
 use std::marker::Model;
 
-/// The table of a node and its pool. Where memory ran out in the midst of an execution nothing is
-/// known of either: no entry is executed on them again.
+/// The table of a node, its pool and its archive. Where memory ran out in the midst of an execution
+/// nothing is known of table and pool: no entry is executed on them again.
 #[derive(Drop)]
 pub struct Sbac {
     pub(crate) config: Config,
     pub(crate) me: NodeId,
     pub(crate) table: Table,
     pub(crate) pool: Pool,
+    pub(crate) archive: Archive,
     pub(crate) is_whole: bool,
 }
 
@@ -46,22 +49,30 @@ impl Model for Sbac {
       me = s.me;
       table = s.table;
       pool = s.pool.sessions;
+      archived = s.archive;
     } };
 
     ghost invariant = { λ s. IsSoundBench s.is_whole s.config s.me s.table s.pool };
 }
 
 impl Sbac {
-    /// A node's table, and an empty pool.
+    /// A node's table, with an empty pool and an empty archive.
     pub fn new(alloc: Global, config: Config, me: NodeId, table: Table) -> Self
         requires { IsOfNode config me table }
-        ensures { result ≡ record { config = config; me = me; table = table; pool = [] } }
+        ensures { result ≡ record {
+          config = config;
+          me = me;
+          table = table;
+          pool = [];
+          archived = record { log = empty_log me.shard; heads = [] };
+        } }
     {
         Sbac {
             config,
             me,
             table,
             pool: Pool::new(alloc, config),
+            archive: Archive::new(alloc, me.shard),
             is_whole: true,
         }
     }

@@ -29,7 +29,7 @@ result_some : (decoded : Result (List ℕ) FromHexError) (bytes : List ℕ) → 
 result_some (Ok read) bytes is = cc
 result_some (Err error) bytes is = absurd cc
 
-bytes_fit : (field bytes : List ℕ) → bytes_of field ≡ Some bytes → IsBytes bytes
+pub bytes_fit : (field bytes : List ℕ) → bytes_of field ≡ Some bytes → IsBytes bytes
 bytes_fit field bytes is =
     elim (cases_Bool (bytes_eq field (codes "-"))) [
       | inl dash ↦ let none : Some [] ≡ Some bytes = rw dash at is in subst IsBytes (some_same none) (λ i. omega arith)

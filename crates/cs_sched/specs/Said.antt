@@ -9,7 +9,7 @@ use Rattle.cs_base.specs.declared.node_id.NodeId.{NodeId}
 use Rattle.cs_tx_value.specs.declared.object.Object.{Object}
 use Rattle.cs_sched_types.specs.declared.schedule.Schedule.{Schedule}
 use Rattle.cs_sched.specs.declared.limits.TheConstants.{MOST_CONTRACTS}
-use Rattle.cs_sched.specs.Values.{◌>>=◌, in_range, master_in, contract_in, object_in}
+use Rattle.cs_sched.specs.Values.{◌>>=◌, in_range, digest_in, contract_in, object_in}
 use Rattle.cs_sched.specs.Naming.{liar_in}
 use Rattle.cs_sched.specs.declared.cause.Cause.{Cause}
 use Rattle.cs_sched.specs.declared.cause.Cause.TheVariants as cause
@@ -52,7 +52,7 @@ dummies_said config fields = do
 abbrev pub master_said : List (List ℕ) → Result (List ℕ) Cause
 master_said fields = do
   field ← only_field fields
-  master_in field
+  digest_in field
 
 -- one more liar
 abbrev pub liar_said : Schedule → List (List ℕ) → Result NodeId Cause

@@ -37,8 +37,8 @@ bytes_within most field = do
   if nat_le (length bytes) most then Ok bytes else Err cause.Limit
 
 -- 32 bytes in hex
-abbrev pub master_in : List ℕ → Result (List ℕ) Cause
-master_in field = do
+abbrev pub digest_in : List ℕ → Result (List ℕ) Cause
+digest_in field = do
   bytes ← ok_or (bytes_of field) cause.Hex
   if length bytes == 32 then Ok bytes else Err cause.Hex
 

@@ -43,8 +43,8 @@ pub(crate) struct Draft {
     pub(crate) names: NameSet,
 }
 
-// The name that is the key of a genesis object.
-fn genesis_name(alloc: Global, place: u32, object: &Object) -> Result<Digest, Memory>
+/// The name that is the key of a genesis object.
+pub fn genesis_name(alloc: Global, place: u32, object: &Object) -> Result<Digest, Memory>
     requires { ObjectFits object.now }
     ensures { IfOk result (λ name. name ≡ name_of_genesis place object.now) }
 {
@@ -54,8 +54,8 @@ fn genesis_name(alloc: Global, place: u32, object: &Object) -> Result<Digest, Me
     }
 }
 
-// The configuration before its lines are read.
-fn least_config() -> Config
+/// The configuration before its lines are read.
+pub fn least_config() -> Config
     ensures { result ≡ config_of 1 0 0 }
 {
     Config {

@@ -14,10 +14,12 @@ pub enum ScheduleError {
     Line(Refusal),
 }
 
-// Why a line gave nothing.
+/// Why a line gave nothing.
 #[derive(Clone, Copy, Debug, PartialEq, Eq)]
-pub(crate) enum LineError {
+pub enum LineError {
+    /// There was not enough memory.
     Memory,
+    /// It is bad.
     Bad(Cause),
 }
 

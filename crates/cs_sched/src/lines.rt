@@ -10,13 +10,14 @@ use crate::cause::Cause;
 use crate::error::LineError;
 use crate::limits::MOST_CONTRACTS;
 use crate::naming::read_liar;
-use crate::values::{config, number, read_contract, read_master, read_object};
+use crate::values::{config, read_contract, read_digest, read_field_number, read_object};
 use cs_base::{Config, MOST_GENESIS, NodeId, Sequence};
 use cs_sched_types::Schedule;
 use cs_tx::{Digest, Object};
 use std::alloc::Global;
 
-pub(crate) fn only_field<'a>(fields: &[&'a [u8]]) -> Result<&'a [u8], Cause>
+/// The field of a line that has one.
+pub fn only_field<'a>(fields: &[&'a [u8]]) -> Result<&'a [u8], Cause>
     ensures { Lends result (only_field (views fields.now)) }
 {
     match fields {
@@ -25,7 +26,8 @@ pub(crate) fn only_field<'a>(fields: &[&'a [u8]]) -> Result<&'a [u8], Cause>
     }
 }
 
-pub(crate) fn no_field(fields: &[&[u8]]) -> Result<(), Cause>
+/// Whether a line has its word alone.
+pub fn no_field(fields: &[&[u8]]) -> Result<(), Cause>
     ensures { result ≡ no_field (views fields.now) }
 {
     match fields {
@@ -34,28 +36,32 @@ pub(crate) fn no_field(fields: &[&[u8]]) -> Result<(), Cause>
     }
 }
 
-pub(crate) fn only_number(fields: &[&[u8]]) -> Result<u64, Cause>
+/// The number of a line that has one.
+pub fn only_number(fields: &[&[u8]]) -> Result<u64, Cause>
     ensures { result ≡ number_said (views fields.now) }
 {
     let field = only_field(fields)?;
-    number(field)
+    read_field_number(field)
 }
 
-pub(crate) fn read_shards(now: Config, fields: &[&[u8]]) -> Result<Config, Cause>
+/// The configuration, with the number of shards of a line.
+pub fn read_shards(now: Config, fields: &[&[u8]]) -> Result<Config, Cause>
     ensures { result ≡ shards_said now (views fields.now) }
 {
     let shards = only_number(fields)?;
     config(shards, u64::from(now.f), u64::from(now.dummies))
 }
 
-pub(crate) fn read_faulty(now: Config, fields: &[&[u8]]) -> Result<Config, Cause>
+/// The configuration, with the number of liars of a shard.
+pub fn read_faulty(now: Config, fields: &[&[u8]]) -> Result<Config, Cause>
     ensures { result ≡ faulty_said now (views fields.now) }
 {
     let faulty = only_number(fields)?;
     config(u64::from(now.shards), faulty, u64::from(now.dummies))
 }
 
-pub(crate) fn read_dummies(now: Config, fields: &[&[u8]]) -> Result<Config, Cause>
+/// The configuration, with the number of dummies of a shard.
+pub fn read_dummies(now: Config, fields: &[&[u8]]) -> Result<Config, Cause>
     ensures { result ≡ dummies_said now (views fields.now) }
 {
     let dummies = only_number(fields)?;
@@ -66,7 +72,7 @@ pub(crate) fn read_master_line(alloc: Global, fields: &[&[u8]]) -> Result<Digest
     ensures { GivesStep result (master_said (views fields.now)) }
 {
     let field = only_field(fields)?;
-    read_master(alloc, field)
+    read_digest(alloc, field)
 }
 
 pub(crate) fn read_liar_line(schedule: &Schedule, fields: &[&[u8]]) -> Result<NodeId, Cause>
@@ -76,8 +82,8 @@ pub(crate) fn read_liar_line(schedule: &Schedule, fields: &[&[u8]]) -> Result<No
     read_liar(&schedule.config, schedule.liars.as_slice(), field)
 }
 
-// The text of a contract, where so many stand before it.
-pub(crate) fn read_contract_line(
+/// The text of a contract, where so many stand before it.
+pub fn read_contract_line(
     alloc: Global,
     place: usize,
     fields: &[&[u8]],
@@ -91,12 +97,8 @@ pub(crate) fn read_contract_line(
     read_contract(alloc, field)
 }
 
-// An object, where so many stand before it.
-pub(crate) fn read_object_line(
-    alloc: Global,
-    place: usize,
-    fields: &[&[u8]],
-) -> Result<Object, LineError>
+/// An object, where so many stand before it.
+pub fn read_object_line(alloc: Global, place: usize, fields: &[&[u8]]) -> Result<Object, LineError>
     ensures value { GivesStep result (object_said place (views fields.now)) }
     ensures fits { IfOk result ObjectFits }
     ensures place { IfOk result (λ _. place < MOST_GENESIS) }

@@ -8,9 +8,9 @@ use indexmap::IndexSet;
 use std::alloc::Global;
 use std::marker::Model;
 
-// A list of names in which each stands once, that is searched without going through it.
+/// A list of names in which each stands once, that is searched without going through it.
 #[derive(Drop)]
-pub(crate) struct NameSet {
+pub struct NameSet {
     names: IndexSet<Digest>,
 }
 
@@ -23,7 +23,8 @@ impl Model for NameSet {
 }
 
 impl NameSet {
-    pub(crate) fn new(alloc: Global) -> NameSet
+    /// No name.
+    pub fn new(alloc: Global) -> NameSet
         ensures { result ≡ [] }
     {
         NameSet {
@@ -31,8 +32,8 @@ impl NameSet {
         }
     }
 
-    // Adds a name at the end, or answers false where it is there already.
-    pub(crate) fn insert(&mut self, name: Digest) -> Result<bool, Memory>
+    /// Adds a name at the end, or answers false where it is there already.
+    pub fn insert(&mut self, name: Digest) -> Result<bool, Memory>
         ensures added { IfOk result (λ added. added ≡ not (is_known name self.old)) }
         ensures names { IfOk result (λ added.
             self.new ≡ (if added then self.old ++ name ∷ [] else self.old)) }

@@ -4,7 +4,7 @@ ghost use Rattle.std.specs.Option.{ok_or};
 ghost use Rattle.cs_base.specs.Config.{configured};
 ghost use Rattle.cs_base.specs.Codes.{number_of};
 ghost use Rattle.cs_sched.specs.Reading.{GivesStep};
-ghost use Rattle.cs_sched.specs.Values.{number_within, in_range, bytes_within, master_in, contract_in, encoded_object, object_in};
+ghost use Rattle.cs_sched.specs.Values.{number_within, in_range, bytes_within, digest_in, contract_in, encoded_object, object_in};
 ghost use Rattle.cs_tx_value.specs.Object.{ObjectFits};
 ghost use Rattle.cs_sched.specs.declared.cause.Cause.TheVariants as cause;
 
@@ -16,7 +16,8 @@ use cs_lang_token::MOST_TEXT;
 use cs_tx::{Digest, Encoded, FormError, Object};
 use std::alloc::Global;
 
-pub(crate) fn number(field: &[u8]) -> Result<u64, Cause>
+/// The number in a field.
+pub fn read_field_number(field: &[u8]) -> Result<u64, Cause>
     ensures { result ≡ ok_or (number_of field.now) cause.Number }
 {
     read_number(field).ok_or(Cause::Number)
@@ -26,7 +27,7 @@ pub(crate) fn read_number_within(field: &[u8], most: u64) -> Result<u64, Cause>
     ensures value { result ≡ number_within most field.now }
     ensures within { IfOk result (λ number. number ≤ most) }
 {
-    let number = number(field)?;
+    let number = read_field_number(field)?;
     if number > most {
         return Err(Cause::Limit);
     }
@@ -68,8 +69,9 @@ pub(crate) fn read_bytes_within(
     Ok(bytes)
 }
 
-pub(crate) fn read_master(alloc: Global, field: &[u8]) -> Result<Digest, LineError>
-    ensures { GivesStep result (master_in field.now) }
+/// The 32 bytes that a field has in hex.
+pub fn read_digest(alloc: Global, field: &[u8]) -> Result<Digest, LineError>
+    ensures { GivesStep result (digest_in field.now) }
 {
     let Some(bytes) = read_bytes(alloc, field)? else {
         return Err(LineError::Bad(Cause::Hex));
@@ -77,9 +79,9 @@ pub(crate) fn read_master(alloc: Global, field: &[u8]) -> Result<Digest, LineErr
     if bytes.len() != 32 {
         return Err(LineError::Bad(Cause::Hex));
     }
-    let mut master = [0; 32];
-    master.copy_from_slice(bytes.as_slice());
-    Ok(master)
+    let mut digest = [0; 32];
+    digest.copy_from_slice(bytes.as_slice());
+    Ok(digest)
 }
 
 pub(crate) fn read_contract(alloc: Global, field: &[u8]) -> Result<Sequence<u8>, LineError>

@@ -8,14 +8,15 @@ use Rattle.cs_tx_form.specs.declared.session.Session.{Session}
 use Rattle.cs_ledger.specs.Table as Shard
 use Rattle.cs_node_state.specs.Setup.{Setup, digest_of, session_in}
 use Rattle.cs_node_rules.specs.Net.{Net, sealed}
-use Rattle.cs_node_rules.specs.Signs.{Sign, Dropped, Took, Entered, Viewed, Did, Sent}
-use Rattle.cs_node_rules.specs.Lines.{Parcel, parcels_of, slot_line, sign_lines}
+use Rattle.cs_node_rules.specs.Signs.{Sign, Dropped, Took, Entered, Viewed, Did, Headed, Kept, Sent}
+use Rattle.cs_node_rules.specs.Lines.{Parcel, parcels_of, slot_line, head_line, sign_lines}
 use Rattle.cs_table.specs.Effects.{effect_of}
 use Rattle.cs_wire.specs.declared.input.Out.{Out}
 use Rattle.cs_outer.specs.Link.{Offers}
 use Rattle.cs_node.specs.declared.draft.Note.{Note}
 use Rattle.cs_node.specs.declared.draft.Note.TheVariants as note
-use Rattle.cs_node.specs.Notes.{NoteFits, NotesFit, effect_from, notes_of, outs_of}
+use Rattle.cs_node.specs.Notes.{NoteFits, NotesFit, notes_of, outs_of}
+use Rattle.cs_node_state.specs.Bench.{effect_from}
 use Rattle.cs_serve.specs.Telling.{note_text, notes_text}
 use Rattle.cs_serve.specs.Offering.{offers_in}
 
@@ -26,6 +27,8 @@ outs-noted net me (Dropped cause ∷ past) = outs-noted net me past
 outs-noted net me (Took sender vote x ∷ past) = outs-noted net me past
 outs-noted net me (Entered x ∷ past) = outs-noted net me past
 outs-noted net me (Viewed slot view ∷ past) = outs-noted net me past
+outs-noted net me (Headed number head ∷ past) = outs-noted net me past
+outs-noted net me (Kept index checkpoint ∷ past) = outs-noted net me past
 outs-noted net me (Did slot entry effect ∷ past) = outs-noted net me past
 outs-noted net me (Sent to message ∷ past) =
     let bytes = sealed net me to message in
@@ -61,6 +64,9 @@ module _ (setup : Setup) (digests : (x : Session) → digest_of setup x ≡ dige
   lines-noted [] = refl
   lines-noted (Dropped cause ∷ past) = text-push me (notes_of past) (note.Dropped cause) ∙ ap (λ bytes. bytes ++ []) (lines-noted past)
   lines-noted (Viewed slot view ∷ past) = text-push me (notes_of past) (note.Viewed slot view) ∙ ap (λ bytes. bytes ++ []) (lines-noted past)
+  lines-noted (Headed number head ∷ past) =
+      text-push me (notes_of past) (note.Headed number head) ∙ ap (λ bytes. bytes ++ head_line me number head) (lines-noted past)
+  lines-noted (Kept index checkpoint ∷ past) = plain past (lines-noted past)
   lines-noted (Took sender vote x ∷ past) = plain past (lines-noted past)
   lines-noted (Entered x ∷ past) = plain past (lines-noted past)
   lines-noted (Sent to message ∷ past) = plain past (lines-noted past)

@@ -4,7 +4,7 @@ use Rattle.std.proofs.lemmas.List.{map-append}
 use Rattle.cs_base.specs.declared.node_id.NodeId.{NodeId}
 use Rattle.cs_node_state.specs.Setup.{Setup}
 use Rattle.cs_node_rules.specs.Net.{Net, sealed}
-use Rattle.cs_node_rules.specs.Signs.{Sign, Dropped, Took, Entered, Viewed, Did, Sent}
+use Rattle.cs_node_rules.specs.Signs.{Sign, Dropped, Took, Entered, Viewed, Did, Headed, Kept, Sent}
 use Rattle.cs_node_rules.specs.Lines.{Parcel, parcels_of, sign_line, sign_lines}
 use Rattle.cs_node_rules.specs.Site.{Input, Mark, In, Ordered, Plain, Site, View, mark_step, view_after, signs_of}
 use Rattle.cs_node_rules.specs.Trail.{event_marks}
@@ -20,6 +20,8 @@ parcels-append net me (Dropped cause ∷ new) old = parcels-append net me new ol
 parcels-append net me (Took sender vote x ∷ new) old = parcels-append net me new old
 parcels-append net me (Entered x ∷ new) old = parcels-append net me new old
 parcels-append net me (Viewed slot view ∷ new) old = parcels-append net me new old
+parcels-append net me (Headed number head ∷ new) old = parcels-append net me new old
+parcels-append net me (Kept index checkpoint ∷ new) old = parcels-append net me new old
 parcels-append net me (Did slot entry effect ∷ new) old = parcels-append net me new old
 parcels-append net me (Sent to message ∷ new) old =
     let last : Parcel = record { from = me; to = to; bytes = sealed net me to message; arrived = false } in

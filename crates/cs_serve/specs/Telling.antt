@@ -5,15 +5,16 @@ use Rattle.cs_base.specs.declared.node_id.NodeId.{NodeId}
 use Rattle.cs_tx.specs.Digest.{digest_of_session}
 use Rattle.cs_ledger.specs.Ledger.{Bytes}
 use Rattle.cs_node_state.specs.Setup.{session_in}
-use Rattle.cs_node_rules.specs.Lines.{slot_line}
+use Rattle.cs_node_rules.specs.Lines.{slot_line, head_line}
 use Rattle.cs_table.specs.Effects.{effect_of}
 use Rattle.cs_node.specs.declared.draft.Note.{Note}
 use Rattle.cs_node.specs.declared.draft.Note.TheVariants as note
 
--- the line of an execution; none of a dropped input or of a view that was entered
+-- the line of an execution or of a checkpoint; none of a dropped input or of a view that was entered
 abbrev pub note_text : NodeId → Note → Bytes
 note_text me (note.Dropped cause) = []
 note_text me (note.Viewed slot view) = []
+note_text me (note.Headed number head) = head_line me number head
 note_text me (note.Executed slot entry effect) =
     slot_line me slot (digest_of_session (session_in entry)) (effect_of effect)
 

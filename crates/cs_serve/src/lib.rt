@@ -6,8 +6,6 @@ mod offering;
 mod receiving;
 mod serving;
 mod telling;
-#[cfg(test)]
-mod tests;
 
 pub use ending::End;
 pub use offering::offer;

@@ -8,7 +8,7 @@ ghost use Rattle.cs_serve.specs.Telling.{note_text, notes_text};
 
 use cs_base::{Memory, NodeId, Sink, WriteError, print};
 use cs_node::Note;
-use cs_node_lines::slot_line;
+use cs_node_lines::{head_line, slot_line};
 use std::alloc::Global;
 
 /// Prints the lines of what a node notes.
@@ -58,5 +58,6 @@ fn note_text(alloc: Global, me: NodeId, note: &Note) -> Result<String, Memory>
             entry,
             effect,
         } => slot_line(alloc, me, *slot, entry, *effect),
+        Note::Headed { number, head } => head_line(alloc, me, *number, head),
     }
 }

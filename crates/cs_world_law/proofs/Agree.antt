@@ -9,7 +9,7 @@ use Rattle.cs_order.specs.declared.answers.Step.TheVariants.{Chosen, Moved, Quie
 use Rattle.cs_order.specs.laws.Lists.{slice_get-left}
 use Rattle.cs_order.specs.Deeds.{Deed, Took_in, Advanced, Echoed, Proposing, Ticked, Resent, Replied, Member, chosen_in}
 use Rattle.cs_order.specs.Runs.{deeds_of}
-use Rattle.cs_node_rules.specs.Signs.{Dropped, Took, Entered, Viewed, Did, Sent}
+use Rattle.cs_node_rules.specs.Signs.{Dropped, Took, Entered, Viewed, Did, Headed, Kept, Sent}
 use Rattle.cs_node_rules.specs.Site.{Mark, In, Ordered, Plain, Site, signs_of}
 use Rattle.cs_node_law.specs.Made.{log_in, AllMade}
 use Rattle.cs_world_law.specs.Worlds.{is_honest}
@@ -47,6 +47,8 @@ chose {M} site i (Plain (Dropped cause) ∷ t) slot a made e = chose site i t sl
 chose {M} site i (Plain (Took sender vote x) ∷ t) slot a made e = chose site i t slot a made.1 e
 chose {M} site i (Plain (Entered x) ∷ t) slot a made e = chose site i t slot a made.1 e
 chose {M} site i (Plain (Viewed n view) ∷ t) slot a made e = chose site i t slot a made.1 e
+chose {M} site i (Plain (Headed number head) ∷ t) slot a made e = chose site i t slot a made.1 e
+chose {M} site i (Plain (Kept index checkpoint) ∷ t) slot a made e = chose site i t slot a made.1 e
 chose {M} site i (Plain (Sent to said) ∷ t) slot a made e = chose site i t slot a made.1 e
 chose {M} site i (Plain (Did n entry effect) ∷ t) slot a made e = go (slot == length (log_in (signs_of t))) refl (chose site i t slot a made.1) e
   where

@@ -23,7 +23,7 @@ use Rattle.cs_node_state.specs.Setup.{Setup, digest_of, concerns, concerned, is_
 use Rattle.cs_node_state.specs.Evidence.{has_support, is_decided}
 use Rattle.cs_node_state.specs.Pool.{found}
 use Rattle.cs_node_state.specs.Admission.{admits, is_decided_in}
-use Rattle.cs_node_rules.specs.Signs.{Dropped, Took, Entered, Viewed, Did, Sent}
+use Rattle.cs_node_rules.specs.Signs.{Dropped, Took, Entered, Viewed, Did, Headed, Kept, Sent}
 use Rattle.cs_node_rules.specs.Site.{Mark, In, Ordered, Plain, Site, signs_of}
 use Rattle.cs_node_rules.specs.World.{Execution, steps_of, slots_of}
 use Rattle.cs_node_law.specs.Made.{view_at, HasVotedOn, DeedMade}
@@ -201,6 +201,8 @@ module _ {M : Type 0} (site : Site M) (sound : IsSoundSite site) (known : Known)
     approved-step node (Plain (Took sender vote y)) past i x story all honest h = all i x honest h
     approved-step node (Plain (Entered y)) past i x story all honest h = all i x honest h
     approved-step node (Plain (Viewed slot view)) past i x story all honest h = all i x honest h
+    approved-step node (Plain (Headed number head)) past i x story all honest h = all i x honest h
+    approved-step node (Plain (Kept index checkpoint)) past i x story all honest h = all i x honest h
     approved-step node (Plain (Sent to said)) past i x story all honest h = all i x honest h
     approved-step node (Plain (Did slot entry effect)) past i x story all honest (inr before) = all i x honest before
     approved-step node (Plain (Did slot entry effect)) past i x story all honest (inl now) =
@@ -252,6 +254,8 @@ module _ {M : Type 0} (site : Site M) (sound : IsSoundSite site) (known : Known)
     fine-step node (Plain (Took sender vote x)) past story f = f
     fine-step node (Plain (Entered x)) past story f = f
     fine-step node (Plain (Viewed slot view)) past story f = f
+    fine-step node (Plain (Headed number head)) past story f = f
+    fine-step node (Plain (Kept index checkpoint)) past story f = f
     fine-step node (Plain (Sent to said)) past story f = f
     fine-step node (Plain (Did slot entry effect)) past story f =
         let new : Execution = record { shard = node.shard; slot = slot; entry = entry; effect = effect } in

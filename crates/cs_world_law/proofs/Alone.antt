@@ -4,7 +4,7 @@ use Rattle.std.proofs.lemmas.Bool.{cond_both, both_ways, eqb-true, eq-eqb}
 use Rattle.cs_base.specs.declared.node_id.NodeId.{NodeId}
 use Rattle.cs_tx_form.specs.declared.entry.Entry.{Entry}
 use Rattle.cs_ledger.specs.Table.{Effect}
-use Rattle.cs_node_rules.specs.Signs.{Dropped, Took, Entered, Viewed, Did, Sent}
+use Rattle.cs_node_rules.specs.Signs.{Dropped, Took, Entered, Viewed, Did, Headed, Kept, Sent}
 use Rattle.cs_node_rules.specs.Site.{Mark, In, Ordered, Plain, Site, signs_of}
 use Rattle.cs_node_rules.specs.World.{Execution, slots_of}
 use Rattle.cs_node_law.specs.Made.{log_in}
@@ -87,6 +87,8 @@ module _ {M : Type 0} (site : Site M) (sound : IsSoundSite site) (known : Known)
   whole-step node (Plain (Took sender vote x)) past story w = silent-whole node (Plain (Took sender vote x)) past (λ t. refl) refl w
   whole-step node (Plain (Entered x)) past story w = silent-whole node (Plain (Entered x)) past (λ t. refl) refl w
   whole-step node (Plain (Viewed slot view)) past story w = silent-whole node (Plain (Viewed slot view)) past (λ t. refl) refl w
+  whole-step node (Plain (Headed number head)) past story w = silent-whole node (Plain (Headed number head)) past (λ t. refl) refl w
+  whole-step node (Plain (Kept index checkpoint)) past story w = silent-whole node (Plain (Kept index checkpoint)) past (λ t. refl) refl w
   whole-step node (Plain (Sent to said)) past story w = silent-whole node (Plain (Sent to said)) past (λ t. refl) refl w
 
   pub leads-alone : (story : List (Moment M)) → Story site known story → IsWhole story

@@ -13,7 +13,7 @@ use Rattle.cs_node_state.specs.declared.ballot.Ballot.{Ballot}
 use Rattle.cs_node_state.specs.Setup.{Setup, digest_of, vote_of}
 use Rattle.cs_node_state.specs.Evidence.{vote_eq, has_ballot, has_support}
 use Rattle.cs_base.specs.NodeId.{same_name}
-use Rattle.cs_node_rules.specs.Signs.{Dropped, Took, Entered, Viewed, Did, Sent}
+use Rattle.cs_node_rules.specs.Signs.{Dropped, Took, Entered, Viewed, Did, Headed, Kept, Sent}
 use Rattle.cs_node_rules.specs.Site.{Mark, In, Ordered, Plain, Site, signs_of}
 use Rattle.cs_node_law.specs.Made.{view_at, has_given, IsVoted, IsMade}
 use Rattle.cs_node_law.proofs.Views.{me-same}
@@ -49,7 +49,10 @@ module _ {M : Type 0} (site : Site M) (sound : IsSoundSite site) (known : Known)
               ap (λ z. has_given site.setup (digest_of site.setup z) (vote_of vote) (signs_of (trail_at sender past))) same
               ∙ ap (λ z. has_given site.setup (digest_of site.setup c.x) (vote_of z) (signs_of (trail_at sender past))) same_vote
               ∙ c.given
-          | inr want ↦ absurd (let e = want.1 in cc)
+          | inr other ↦ elim other as (λ z. has_given site.setup (digest_of site.setup x) (vote_of vote) (signs_of (trail_at sender past)) ≡ true) [
+            | inl want ↦ absurd (let e = want.1 in cc)
+            | inr head ↦ absurd (let e = head.1 in cc)
+          ]
         ]
       ]
 
@@ -61,6 +64,8 @@ module _ {M : Type 0} (site : Site M) (sound : IsSoundSite site) (known : Known)
   mark-given j who d vote (Plain (Dropped cause)) past story backed here there made later h = later h
   mark-given j who d vote (Plain (Entered x)) past story backed here there made later h = later h
   mark-given j who d vote (Plain (Viewed slot view)) past story backed here there made later h = later h
+  mark-given j who d vote (Plain (Headed number head)) past story backed here there made later h = later h
+  mark-given j who d vote (Plain (Kept index checkpoint)) past story backed here there made later h = later h
   mark-given j who d vote (Plain (Did slot entry effect)) past story backed here there made later h = later h
   mark-given j who d vote (Plain (Sent to said)) past story backed here there made later h = later h
   mark-given j who d vote (Plain (Took sender other x)) past story backed here there made later (inr before) = later before

@@ -21,7 +21,7 @@ use Rattle.cs_ledger.proofs.Votes.{log_at}
 use Rattle.cs_node_state.specs.Setup.{Setup, digest_of, concerns, entry_of}
 use Rattle.cs_node_state.specs.Bench.{decided, decided_by, decided_at}
 use Rattle.cs_node_rules.specs.Carrying.{IsEntry}
-use Rattle.cs_node_rules.specs.Signs.{Dropped, Took, Entered, Viewed, Did, Sent}
+use Rattle.cs_node_rules.specs.Signs.{Dropped, Took, Entered, Viewed, Did, Headed, Kept, Sent}
 use Rattle.cs_node_rules.specs.Site.{Mark, In, Ordered, Plain, Site, signs_of}
 use Rattle.cs_node_rules.specs.World.{steps_of}
 use Rattle.cs_node_law.specs.Made.{view_at, IsHanded, StoodDecided, SignMade, AllMade}
@@ -101,6 +101,8 @@ log-front {M} site (Plain (Dropped cause) ∷ later) earlier = log-front site la
 log-front {M} site (Plain (Took sender vote x) ∷ later) earlier = log-front site later earlier
 log-front {M} site (Plain (Entered x) ∷ later) earlier = log-front site later earlier
 log-front {M} site (Plain (Viewed slot view) ∷ later) earlier = log-front site later earlier
+log-front {M} site (Plain (Headed number head) ∷ later) earlier = log-front site later earlier
+log-front {M} site (Plain (Kept index checkpoint) ∷ later) earlier = log-front site later earlier
 log-front {M} site (Plain (Sent other said) ∷ later) earlier = log-front site later earlier
 log-front {M} site (Plain (Did slot entry effect) ∷ later) earlier =
     let f = log-front site later earlier in

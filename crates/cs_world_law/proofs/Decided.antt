@@ -9,7 +9,7 @@ use Rattle.cs_ledger.specs.Table as Shard
 use Rattle.cs_ledger.specs.Table.{Vote, Commit, Abort, Effect, Voted, Accepted, Aborted, Skipped, Void, exec, table_of}
 use Rattle.cs_ledger.specs.ShardWorld.{log, votes_in, decided_in, is_vote, is_effect, is_prepare_of, is_decide_of}
 use Rattle.cs_node_state.specs.Setup.{Setup, entry_of}
-use Rattle.cs_node_rules.specs.Signs.{Dropped, Took, Entered, Viewed, Did, Sent}
+use Rattle.cs_node_rules.specs.Signs.{Dropped, Took, Entered, Viewed, Did, Headed, Kept, Sent}
 use Rattle.cs_node_rules.specs.Site.{Mark, In, Ordered, Plain, Site, signs_of}
 use Rattle.cs_node_rules.specs.World.{steps_of, accepts_by, aborts_by, accepts_in, aborts_in}
 use Rattle.cs_node_law.specs.Made.{AllMade}
@@ -62,6 +62,8 @@ module _ {M : Type 0} (site : Site M) (me : NodeId) (d : Bytes) where
   accepts-log (Plain (Took sender vote x) ∷ t) made h = accepts-log t made.1 h
   accepts-log (Plain (Entered x) ∷ t) made h = accepts-log t made.1 h
   accepts-log (Plain (Viewed slot view) ∷ t) made h = accepts-log t made.1 h
+  accepts-log (Plain (Headed number head) ∷ t) made h = accepts-log t made.1 h
+  accepts-log (Plain (Kept index checkpoint) ∷ t) made h = accepts-log t made.1 h
   accepts-log (Plain (Sent to message) ∷ t) made h = accepts-log t made.1 h
   accepts-log (Plain (Did slot entry effect) ∷ t) made h =
       elim (or_cases _ _ h) [
@@ -78,6 +80,8 @@ module _ {M : Type 0} (site : Site M) (me : NodeId) (d : Bytes) where
   aborts-log (Plain (Took sender vote x) ∷ t) made h = aborts-log t made.1 h
   aborts-log (Plain (Entered x) ∷ t) made h = aborts-log t made.1 h
   aborts-log (Plain (Viewed slot view) ∷ t) made h = aborts-log t made.1 h
+  aborts-log (Plain (Headed number head) ∷ t) made h = aborts-log t made.1 h
+  aborts-log (Plain (Kept index checkpoint) ∷ t) made h = aborts-log t made.1 h
   aborts-log (Plain (Sent to message) ∷ t) made h = aborts-log t made.1 h
   aborts-log (Plain (Did slot entry effect) ∷ t) made h =
       elim (or_cases _ _ h) [

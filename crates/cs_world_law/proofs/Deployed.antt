@@ -15,6 +15,7 @@ use Rattle.cs_base.proofs.Forms.{whole-again, some_is}
 use Rattle.cs_hash.specs.Hash.{hmac}
 use Rattle.cs_tx_value.specs.declared.object.Object.{Object}
 use Rattle.cs_tx_value.specs.Object.{object_encoding}
+use Rattle.cs_tx_form.specs.declared.checkpoint.Checkpoint.{Checkpoint}
 use Rattle.cs_tx_form.specs.declared.trace.Trace.{Trace}
 use Rattle.cs_tx_form.specs.declared.transaction.Tx.{Tx}
 use Rattle.cs_tx_form.specs.declared.session.Session.{Session}
@@ -29,6 +30,7 @@ use Rattle.cs_wire_message.specs.Message.{kind_of, body_of, MessageFits}
 use Rattle.cs_wire_message.specs.Body.{message_whole}
 use Rattle.cs_wire_message.proofs.Wholes.{whole_has, has_whole}
 use Rattle.cs_wire_message.proofs.Short.{body_short}
+use Rattle.cs_wire_message.proofs.Spelled.{bytes-want}
 use Rattle.cs_wire.specs.declared.keys.Keys.{Keys}
 use Rattle.cs_wire.specs.declared.opening.OpenError.{OpenError}
 use Rattle.cs_wire.specs.Datagram.{text_of, body_in}
@@ -62,6 +64,7 @@ use Rattle.cs_node_law.proofs.Views.{sessions_given}
 use Rattle.cs_node_law.proofs.NoIns.{event-shape}
 use Rattle.cs_node_law.proofs.Speaking.{opened-fits}
 use Rattle.cs_node_law.proofs.Fitting.{sessions-fit}
+use Rattle.cs_node_law.proofs.Heads.{bytes-head, length-head}
 use Rattle.cs_world_law.specs.Worlds.{is_honest, IsWorld, IsNet, deployed}
 use Rattle.cs_world_law.specs.Chain.{IsSoundSite, IsUnique}
 use Rattle.cs_world_law.proofs.Stories.{InsFit, ins-fit}
@@ -90,17 +93,6 @@ magic-bytes (suc zero) = omega arith
 magic-bytes (suc (suc zero)) = omega arith
 magic-bytes (suc (suc (suc zero))) = omega arith
 magic-bytes (suc (suc (suc (suc i)))) = omega arith
-
-slot-bytes : (n : ℕ) → IsBytes (to_be_bytes w64 n)
-slot-bytes n zero = omega arith
-slot-bytes n (suc zero) = omega arith
-slot-bytes n (suc (suc zero)) = omega arith
-slot-bytes n (suc (suc (suc zero))) = omega arith
-slot-bytes n (suc (suc (suc (suc zero)))) = omega arith
-slot-bytes n (suc (suc (suc (suc (suc zero))))) = omega arith
-slot-bytes n (suc (suc (suc (suc (suc (suc zero)))))) = omega arith
-slot-bytes n (suc (suc (suc (suc (suc (suc (suc zero))))))) = omega arith
-slot-bytes n (suc (suc (suc (suc (suc (suc (suc (suc i)))))))) = omega arith
 
 -- what a head and a body say
 said-whole : (from sender : NodeId) (said : Message) (o : Option Message) → said_by from o ≡ Ok (sender, said) → o ≡ Some said
@@ -145,6 +137,22 @@ want-of (message.Told key state) e = absurd (omega (arith, e))
 want-of (message.Head checkpoint) e = absurd (omega (arith, e))
 want-of (message.AskProof slot) e = absurd (omega (arith, e))
 want-of (message.Proof proof) e = absurd (omega (arith, e))
+
+head-of : (m : Message) → kind_of m ≡ 12 → (c : Checkpoint) × (m ≡ message.Head c)
+head-of (message.Head checkpoint) e = (checkpoint, refl)
+head-of (message.Submit x) e = absurd (omega (arith, e))
+head-of (message.Propose slot view entry) e = absurd (omega (arith, e))
+head-of (message.Echo slot view digest) e = absurd (omega (arith, e))
+head-of (message.Confirm slot view digest) e = absurd (omega (arith, e))
+head-of (message.Change slot view change) e = absurd (omega (arith, e))
+head-of (message.Voted vote asks x) e = absurd (omega (arith, e))
+head-of (message.Decided digest accepted) e = absurd (omega (arith, e))
+head-of (message.Want slot) e = absurd (omega (arith, e))
+head-of (message.Done slot entry) e = absurd (omega (arith, e))
+head-of (message.Ask key) e = absurd (omega (arith, e))
+head-of (message.Told key state) e = absurd (omega (arith, e))
+head-of (message.AskProof slot) e = absurd (omega (arith, e))
+head-of (message.Proof proof) e = absurd (omega (arith, e))
 
 -- ---- nodes
 
@@ -235,7 +243,12 @@ module _ {M : Type 0} (config : Config) (net : Net) (is_net : IsNet config net) 
         wanted = λ from to sender slot said hf ht reads.
             let m = message.Want slot in
             let whole = opens-whole (is_net.keys to) (is_net.key from to) from to sender m said (names from hf) (names to ht) (omega arith) (opened-there from to sender m said reads) in
-            want-of said (whole_has 8 (to_be_bytes w64 slot) said (slot-bytes slot) whole).kind;
+            want-of said (whole_has 8 (to_be_bytes w64 slot) said (bytes-want slot) whole).kind;
+        headed = λ from to sender c said hf ht digests reads.
+            let m = message.Head c in
+            let short : length (body_of m) < 2 ^ 32 = (let all = length-head c digests in omega (arith, all)) in
+            let whole = opens-whole (is_net.keys to) (is_net.key from to) from to sender m said (names from hf) (names to ht) short (opened-there from to sender m said reads) in
+            head-of said (whole_has 12 (body_of m) said (bytes-head c digests) whole).kind;
         proposes = λ entry. refl;
         reads = λ entry fits. ap entry_or_void (whole-again entry_encoding EntryFits entry_at entry_form entry fits);
         bound = λ name. mod_below _ config.shards some;

@@ -7,7 +7,7 @@ use Rattle.cs_ledger.specs.Ledger.{Bytes}
 use Rattle.cs_ledger.specs.Table.{Vote, Effect}
 use Rattle.cs_ledger.specs.ShardWorld.{log, votes_in}
 use Rattle.cs_node_state.specs.Setup.{Setup, entry_of}
-use Rattle.cs_node_rules.specs.Signs.{Dropped, Took, Entered, Viewed, Did, Sent}
+use Rattle.cs_node_rules.specs.Signs.{Dropped, Took, Entered, Viewed, Did, Headed, Kept, Sent}
 use Rattle.cs_node_rules.specs.Site.{Mark, In, Ordered, Plain, Site, signs_of}
 use Rattle.cs_node_rules.specs.World.{Execution, steps_of, slots_of}
 use Rattle.cs_node_law.specs.Made.{log_in, has_given}
@@ -184,6 +184,8 @@ module _ {M : Type 0} (site : Site M) (sound : IsSoundSite site) (known : Known)
   first-step shard node (Plain (Took sender vote x)) past story k = first-silent shard node (Plain (Took sender vote x)) past (record { log = λ t. refl; firsts = λ i f. refl }) k
   first-step shard node (Plain (Entered x)) past story k = first-silent shard node (Plain (Entered x)) past (record { log = λ t. refl; firsts = λ i f. refl }) k
   first-step shard node (Plain (Viewed n view)) past story k = first-silent shard node (Plain (Viewed n view)) past (record { log = λ t. refl; firsts = λ i f. refl }) k
+  first-step shard node (Plain (Headed number head)) past story k = first-silent shard node (Plain (Headed number head)) past (record { log = λ t. refl; firsts = λ i f. refl }) k
+  first-step shard node (Plain (Kept index checkpoint)) past story k = first-silent shard node (Plain (Kept index checkpoint)) past (record { log = λ t. refl; firsts = λ i f. refl }) k
   first-step shard node (Plain (Sent to said)) past story k = first-silent shard node (Plain (Sent to said)) past (record { log = λ t. refl; firsts = λ i f. refl }) k
 
   pub are-first : (shard : ℕ) (story : List (Moment M)) → Story site known story → AreFirst shard story

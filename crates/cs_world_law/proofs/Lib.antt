@@ -25,4 +25,7 @@ pub mod Alone
 pub mod Sending
 pub mod Freedom
 pub mod Standing
+pub mod Logged
+pub mod Headed
+pub mod SameHeads
 pub mod Clients

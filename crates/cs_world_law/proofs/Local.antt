@@ -16,7 +16,7 @@ use Rattle.cs_ledger.specs.Ledger.{Bytes, IsIn}
 use Rattle.cs_ledger.specs.Table.{Effect}
 use Rattle.cs_ledger.proofs.Basics.{in_either}
 use Rattle.cs_node_state.specs.Setup.{session_in}
-use Rattle.cs_node_rules.specs.Signs.{Dropped, Took, Entered, Viewed, Did, Sent}
+use Rattle.cs_node_rules.specs.Signs.{Dropped, Took, Entered, Viewed, Did, Headed, Kept, Sent}
 use Rattle.cs_node_rules.specs.Site.{Datagram, Tick, Mark, In, Ordered, Plain, Site, signs_of}
 use Rattle.cs_node_rules.specs.Collisions.{sessions_in, entries_in, in_opened}
 use Rattle.cs_node_rules.specs.Deployment.{proposed_of}
@@ -192,6 +192,8 @@ module _ {M : Type 0} (site : Site M) (sound : IsSoundSite site) (known : Known)
   local (Plain (Took sender vote x) ∷ t) made within = let l = local t made.1 within.1 in record { held = l.held; voted = l.voted }
   local (Plain (Entered x) ∷ t) made within = let l = local t made.1 within.1 in record { held = l.held; voted = l.voted }
   local (Plain (Viewed slot view) ∷ t) made within = let l = local t made.1 within.1 in record { held = l.held; voted = l.voted }
+  local (Plain (Headed number head) ∷ t) made within = let l = local t made.1 within.1 in record { held = l.held; voted = l.voted }
+  local (Plain (Kept index checkpoint) ∷ t) made within = let l = local t made.1 within.1 in record { held = l.held; voted = l.voted }
   local (Plain (Sent to said) ∷ t) made within = let l = local t made.1 within.1 in record { held = l.held; voted = l.voted }
   local (Plain (Did slot entry effect) ∷ t) made within =
       let l = local t made.1 within.1 in

@@ -5,7 +5,7 @@ use Rattle.cs_base.specs.declared.node_id.NodeId.{NodeId}
 use Rattle.cs_tx_form.specs.declared.entry.Entry.{Entry}
 use Rattle.cs_ledger.specs.Table.{exec, table_of}
 use Rattle.cs_node_state.specs.Setup.{Setup, entry_of}
-use Rattle.cs_node_rules.specs.Signs.{Dropped, Took, Entered, Viewed, Did, Sent}
+use Rattle.cs_node_rules.specs.Signs.{Dropped, Took, Entered, Viewed, Did, Headed, Kept, Sent}
 use Rattle.cs_node_rules.specs.Site.{Mark, In, Ordered, Plain, Site, signs_of}
 use Rattle.cs_node_rules.specs.World.{Execution, slots_of}
 use Rattle.cs_node_law.specs.Made.{log_in, AllMade}
@@ -72,6 +72,8 @@ own-made {M} site me (Plain (Dropped cause) ∷ t) made = own-made site me t mad
 own-made {M} site me (Plain (Took sender vote x) ∷ t) made = own-made site me t made.1
 own-made {M} site me (Plain (Entered x) ∷ t) made = own-made site me t made.1
 own-made {M} site me (Plain (Viewed slot view) ∷ t) made = own-made site me t made.1
+own-made {M} site me (Plain (Headed number head) ∷ t) made = own-made site me t made.1
+own-made {M} site me (Plain (Kept index checkpoint) ∷ t) made = own-made site me t made.1
 own-made {M} site me (Plain (Sent to said) ∷ t) made = own-made site me t made.1
 own-made {M} site me (Plain (Did slot entry effect) ∷ t) made =
     let next = made.0.next in

@@ -18,7 +18,7 @@ use Rattle.cs_ledger.proofs.Votes.{among_some, commits_in}
 use Rattle.cs_ledger.proofs.Decisions.{all_concerned}
 use Rattle.cs_node_state.specs.Setup.{Setup, digest_of, entry_of, is_fit}
 use Rattle.cs_node_state.specs.Bench.{Bench, start_bench, locked_at, executed}
-use Rattle.cs_node_rules.specs.Signs.{Sign, Dropped, Took, Entered, Viewed, Did, Sent, bench_step, bench_after}
+use Rattle.cs_node_rules.specs.Signs.{Sign, Dropped, Took, Entered, Viewed, Did, Headed, Kept, Sent, bench_step, bench_after}
 use Rattle.cs_node_rules.specs.Site.{Mark, In, Ordered, Plain, Site, signs_of}
 use Rattle.cs_node_rules.specs.World.{Execution, steps_of}
 use Rattle.cs_node_rules.specs.Ready.{IsDone, bench_at, Executed, AcceptsLocked}
@@ -70,6 +70,8 @@ table-signs setup shard (Dropped cause ∷ past) = table-signs setup shard past
 table-signs setup shard (Took sender vote x ∷ past) = table-signs setup shard past
 table-signs setup shard (Entered x ∷ past) = table-signs setup shard past
 table-signs setup shard (Viewed slot view ∷ past) = table-signs setup shard past
+table-signs setup shard (Headed number head ∷ past) = table-signs setup shard past
+table-signs setup shard (Kept index checkpoint ∷ past) = table-signs setup shard past
 table-signs setup shard (Sent to said ∷ past) = table-signs setup shard past
 table-signs setup shard (Did slot entry effect ∷ past) = ap (λ (u : Table). (exec setup.rules shard u (entry_of setup entry)).table) (table-signs setup shard past)
 
@@ -79,6 +81,8 @@ log-append (Dropped cause ∷ a) b = log-append a b
 log-append (Took sender vote x ∷ a) b = log-append a b
 log-append (Entered x ∷ a) b = log-append a b
 log-append (Viewed slot view ∷ a) b = log-append a b
+log-append (Headed number head ∷ a) b = log-append a b
+log-append (Kept index checkpoint ∷ a) b = log-append a b
 log-append (Sent to said ∷ a) b = log-append a b
 log-append (Did slot entry effect ∷ a) b = ap (λ l. entry ∷ l) (log-append a b)
 

@@ -5,6 +5,7 @@ use Rattle.std.proofs.lemmas.Bool.{cond_both, both_ways, or_right, eqb-true}
 use Rattle.sha2.proofs.Facts256.{length-sha256}
 use Rattle.cs_base.specs.declared.node_id.NodeId.{NodeId}
 use Rattle.cs_base.specs.NodeId.{is_client}
+use Rattle.cs_tx_form.specs.declared.checkpoint.Checkpoint.{Checkpoint}
 use Rattle.cs_tx_form.specs.declared.session.Session.{Session}
 use Rattle.cs_tx_form.specs.declared.vote.Vote as Tx
 use Rattle.cs_tx_form.specs.Session.{SessionFits}
@@ -24,11 +25,11 @@ use Rattle.cs_ledger.specs.Ledger.{Bytes, IsIn}
 use Rattle.cs_ledger.specs.Table.{Vote}
 use Rattle.cs_node_state.specs.Setup.{Setup, digest_of, vote_of}
 use Rattle.cs_node_rules.specs.Net.{sealed}
-use Rattle.cs_node_rules.specs.Signs.{Sign, Dropped, Took, Entered, Viewed, Did, Sent}
+use Rattle.cs_node_rules.specs.Signs.{Sign, Dropped, Took, Entered, Viewed, Did, Headed, Kept, Sent}
 use Rattle.cs_node_rules.specs.Site.{Mark, In, Ordered, Plain, Site, signs_of}
 use Rattle.cs_node_rules.specs.Carrying.{is_ordering, IsEntry}
 use Rattle.cs_node_rules.specs.Deployment.{proposed_of}
-use Rattle.cs_node_law.specs.Made.{view_at, has_given, IsHanded, IsHeard, SaidMade, SignMade, AllMade}
+use Rattle.cs_node_law.specs.Made.{view_at, has_given, HasDigests, IsHanded, IsHeard, SaidMade, SignMade, AllMade}
 use Rattle.cs_world_law.specs.Worlds.{is_honest}
 use Rattle.cs_world_law.specs.Chain.{Moment, trail_at, Known, HasSealed, Follows, Story, IsSoundSite, IsUnique, acts_at, shard_acts, honest_in}
 use Rattle.cs_node_law.proofs.Sealing.{bytes-sha256}
@@ -89,6 +90,8 @@ given-sign setup d vote (Dropped cause) past h = h
 given-sign setup d vote (Took sender other x) past h = h
 given-sign setup d vote (Entered x) past h = h
 given-sign setup d vote (Viewed slot view) past h = h
+given-sign setup d vote (Headed number head) past h = h
+given-sign setup d vote (Kept index checkpoint) past h = h
 given-sign setup d vote (Sent to said) past h = h
 
 -- ---- what a node says
@@ -102,8 +105,17 @@ pub record IsCast {M : Type 0} (site : Site M) (signs : List Sign) (said : Messa
   pub given : has_given site.setup (digest_of site.setup x) (vote_of vote) signs ≡ true
   pub fits : SessionFits x
 
+-- it asks for a slot
+abbrev pub IsWant : Message → Type 0
+IsWant said = (slot : ℕ) × (said ≡ message.Want slot)
+
+-- it tells a checkpoint
+abbrev pub IsHead : Message → Type 0
+IsHead said = (c : Checkpoint) × (said ≡ message.Head c)
+
 abbrev IsWord : {M : Type 0} → Site M → List Sign → NodeId → Message → Type 0
-IsWord {M} site signs to said = IsCast site signs said ⊎ (((slot : ℕ) × (said ≡ message.Want slot)) ⊎ (is_client to ≡ true))
+IsWord {M} site signs to said =
+    IsCast site signs said ⊎ (IsWant said ⊎ (((head : IsHead said) × HasDigests head.0) ⊎ (is_client to ≡ true)))
 
 word-more : {M : Type 0} (site : Site M) (sign : Sign) (signs : List Sign) (to : NodeId) (said : Message) → IsWord site signs to said → IsWord site (sign ∷ signs) to said
 word-more {M} site sign signs to said (inl c) =
@@ -125,18 +137,18 @@ module _ {M : Type 0} (site : Site M) (sound : IsSoundSite site) (known : Known)
         ];
       })
   word-of me t to (message.Want slot) made within h = inr (inl (slot, refl))
-  word-of me t to (message.Submit x) made within h = inr (inr h.0)
-  word-of me t to (message.Propose slot view entry) made within h = inr (inr h.0)
-  word-of me t to (message.Echo slot view digest) made within h = inr (inr h.0)
-  word-of me t to (message.Confirm slot view digest) made within h = inr (inr h.0)
-  word-of me t to (message.Change slot view change) made within h = inr (inr h.0)
-  word-of me t to (message.Decided digest accepted) made within h = inr (inr h.0)
-  word-of me t to (message.Done slot entry) made within h = inr (inr h.0)
-  word-of me t to (message.Ask asked) made within h = inr (inr h.0)
-  word-of me t to (message.Told key state) made within h = inr (inr h.0)
-  word-of me t to (message.Head checkpoint) made within h = inr (inr h.0)
-  word-of me t to (message.AskProof slot) made within h = inr (inr h.0)
-  word-of me t to (message.Proof proof) made within h = inr (inr h.0)
+  word-of me t to (message.Submit x) made within h = inr (inr (inr h.0))
+  word-of me t to (message.Propose slot view entry) made within h = inr (inr (inr h.0))
+  word-of me t to (message.Echo slot view digest) made within h = inr (inr (inr h.0))
+  word-of me t to (message.Confirm slot view digest) made within h = inr (inr (inr h.0))
+  word-of me t to (message.Change slot view change) made within h = inr (inr (inr h.0))
+  word-of me t to (message.Decided digest accepted) made within h = inr (inr (inr h.0))
+  word-of me t to (message.Done slot entry) made within h = inr (inr (inr h.0))
+  word-of me t to (message.Ask asked) made within h = inr (inr (inr h.0))
+  word-of me t to (message.Told key state) made within h = inr (inr (inr h.0))
+  word-of me t to (message.Head checkpoint) made within h = inr (inr (inl ((checkpoint, refl), h)))
+  word-of me t to (message.AskProof slot) made within h = inr (inr (inr h.0))
+  word-of me t to (message.Proof proof) made within h = inr (inr (inr h.0))
 
   -- what was sent was handed out for a member of the shard, or is the node's own word
   abbrev IsSaid : NodeId → List (Mark M) → NodeId → Message → Type 0
@@ -155,11 +167,12 @@ module _ {M : Type 0} (site : Site M) (sound : IsSoundSite site) (known : Known)
         | inr w ↦ inr (word-more site sign (signs_of t) to said (word-of me t to said made.1 within.1 w))
       ]
 
-  -- what an honest node works on as from another one: that one's order handed it out, or it cast that vote, or wants a slot
+  -- what an honest node works on as from another one: that one's order handed it out, or it cast that vote, or asks for a
+  -- slot, or tells a checkpoint
   abbrev pub IsTold : NodeId → NodeId → List (Moment M) → Message → Type 0
   IsTold i sender past said =
       ((i.shard ≡ sender.shard) × IsOrdered site i.index said (deeds_in (trail_at sender past)))
-      ⊎ (IsCast site (signs_of (trail_at sender past)) said ⊎ ((slot : ℕ) × (said ≡ message.Want slot)))
+      ⊎ (IsCast site (signs_of (trail_at sender past)) said ⊎ (IsWant said ⊎ IsHead said))
 
   pub told-by : (i sender : NodeId) (bytes : Bytes) (said : Message) (past : List (Moment M)) → Story site known past → is_honest site i ≡ true → is_honest site sender ≡ true
       → HasSealed site sender i bytes (signs_of (trail_at sender past)) → site.net.opened i bytes ≡ Ok (sender, said) → IsTold i sender past said
@@ -167,7 +180,8 @@ module _ {M : Type 0} (site : Site M) (sound : IsSoundSite site) (known : Known)
       let t = trail_at sender past in
       let made = made-all site known sender past story in
       let within = within-all site known sender past story in
-      let opens : site.net.opened i (sealed site.net sender i s.said) ≡ Ok (sender, said) = ap (site.net.opened i) (sym s.is) ∙ reads in
+      let Opens : Message → Type 0 = λ z. site.net.opened i (sealed site.net sender i z) ≡ Ok (sender, said) in
+      let opens : Opens s.said = ap (site.net.opened i) (sym s.is) ∙ reads in
       elim (said-of sender t i s.said made within s.sent) as (λ z. IsTold i sender past said) [
         | inl h ↦
             let l = local site sound known sender t made within in
@@ -180,8 +194,11 @@ module _ {M : Type 0} (site : Site M) (sound : IsSoundSite site) (known : Known)
               let same = sound.exact sender i sender s.said said there here (subst MessageFits (sym c.is) c.fits) opens in
               inr (inl (record { vote = c.vote; asks = c.asks; x = c.x; is = same ∙ c.is; given = c.given; fits = c.fits }))
           | inr other ↦ elim other as (λ z. IsTold i sender past said) [
-            | inl want ↦ inr (inr (sound.wanted sender i sender want.0 said there here (subst (λ z. site.net.opened i (sealed site.net sender i z) ≡ Ok (sender, said)) want.1 opens)))
-            | inr client ↦ absurd (both_ways (is_client i) (sound.apart i here) client)
+            | inl want ↦ inr (inr (inl (sound.wanted sender i sender want.0 said there here (subst Opens want.1 opens))))
+            | inr rest ↦ elim rest as (λ z. IsTold i sender past said) [
+              | inl head ↦ inr (inr (inr (sound.headed sender i sender head.0.0 said there here head.1 (subst Opens head.0.1 opens))))
+              | inr client ↦ absurd (both_ways (is_client i) (sound.apart i here) client)
+            ]
           ]
         ]
       ]
@@ -204,7 +221,10 @@ module _ {M : Type 0} (site : Site M) (sound : IsSoundSite site) (known : Known)
         | inl o ↦ handed-of from node.index m (shard_acts node.shard past) (subst (λ ds. HandedBy m node.index ds) (sym (deeds-same node.shard from past)) (o.1.back m k.reads))
         | inr w ↦ elim w as (λ z. HandedOut from m node.index (shard_acts node.shard past)) [
           | inl c ↦ absurd (both_ways false refl (subst (λ z. is_ordering z ≡ true) c.is ordering))
-          | inr want ↦ absurd (both_ways false refl (subst (λ z. is_ordering z ≡ true) want.1 ordering))
+          | inr other ↦ elim other as (λ z. HandedOut from m node.index (shard_acts node.shard past)) [
+            | inl want ↦ absurd (both_ways false refl (subst (λ z. is_ordering z ≡ true) want.1 ordering))
+            | inr head ↦ absurd (both_ways false refl (subst (λ z. is_ordering z ≡ true) head.1 ordering))
+          ]
         ]
       ]
 

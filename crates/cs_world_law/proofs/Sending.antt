@@ -9,7 +9,9 @@ use Rattle.cs_base.specs.Key.{shard_of_key}
 use Rattle.cs_tx_form.specs.declared.session.Session.{Session}
 use Rattle.cs_tx_form.specs.declared.vote.Vote.{Vote}
 use Rattle.cs_tx_form.specs.declared.vote.Vote.TheVariants.{Commit}
+use Rattle.cs_tx_form.specs.declared.checkpoint.Checkpoint.{Checkpoint}
 use Rattle.cs_tx_form.specs.declared.entry.Entry.{Entry}
+use Rattle.cs_tx_form.specs.declared.proof.Proof.{Proof}
 use Rattle.cs_wire_message.specs.declared.message.Message.{Message}
 use Rattle.cs_wire_message.specs.declared.message.Message.TheVariants as message
 use Rattle.cs_order.specs.declared.proposed.Proposed.{Proposed}
@@ -27,15 +29,18 @@ use Rattle.cs_ledger.specs.Table.{Effect}
 use Rattle.cs_ledger.proofs.Basics.{in_left, in_right}
 use Rattle.cs_node_rules.specs.declared.cause.Cause.{Cause}
 use Rattle.cs_node_rules.specs.declared.cause.Cause.TheVariants.{Mine, Role, Malformed, Repeat, Unasked, Denied, Full}
+use Rattle.cs_checkpoint.specs.Chain.{head_of, made_last}
+use Rattle.cs_check_rules.specs.Heads.{is_news}
+use Rattle.cs_check_rules.specs.Proofs.{proof_of}
 use Rattle.cs_node_state.specs.declared.pooled.Pooled.{Pooled}
 use Rattle.cs_node_state.specs.Setup.{Setup, digest_of, concerns, concerned, is_fit, is_approved, session_in}
 use Rattle.cs_node_state.specs.Evidence.{has_voted}
 use Rattle.cs_node_state.specs.Admission.{due}
 use Rattle.cs_node_rules.specs.Members.{is_other_member, others}
 use Rattle.cs_node_state.specs.Pool.{Pool, found, is_pooled, has_room}
-use Rattle.cs_node_state.specs.Bench.{Bench, executed, decided, noted, told_of}
+use Rattle.cs_node_state.specs.Bench.{Bench, executed, slot_executed, decided, noted, told_of}
 use Rattle.cs_node_state.specs.Asked.{told_at, key_asked}
-use Rattle.cs_node_rules.specs.Signs.{Sign, Dropped, Took, Entered, Viewed, Did, Sent, guarded, entering_signs, submitted_signs, submit_signs, ask_signs, asking_signs, ballot_signs, voted_signs, sends, vote_signs, own_signs, entered_signs, execution_signs, asked_again}
+use Rattle.cs_node_rules.specs.Signs.{Sign, Dropped, Took, Entered, Viewed, Did, Headed, Kept, Sent, guarded, entering_signs, submitted_signs, submit_signs, ask_signs, proof_signs, ask_proof_signs, head_signs, asking_signs, ballot_signs, voted_signs, sends, vote_signs, own_signs, entered_signs, ran_signs, headed_signs, execution_signs, asked_again}
 use Rattle.cs_node_rules.specs.Site.{Input, Datagram, Tick, Mark, In, Ordered, Site, View, view_after, plain, signs_of}
 use Rattle.cs_node_rules.specs.Trail.{out_signs, handed, with_deed, moving, entered_view, admits_proposed, due_marks, candidate_marks, propose_marks, echo_marks, step_marks, turn_marks, continued, settled, taking_marks, member_marks, reply_marks, message_marks, opened_marks, again_marks, waiting_marks, input_marks, event_marks}
 use Rattle.cs_node_rules.specs.World.{Happening, trail_of, view_of, IsLife}
@@ -63,6 +68,8 @@ NoDid (Dropped cause ∷ signs) = NoDid signs
 NoDid (Took sender vote x ∷ signs) = NoDid signs
 NoDid (Entered x ∷ signs) = NoDid signs
 NoDid (Viewed slot view ∷ signs) = NoDid signs
+NoDid (Headed number head ∷ signs) = NoDid signs
+NoDid (Kept index checkpoint ∷ signs) = NoDid signs
 NoDid (Did slot entry effect ∷ signs) = ⊥
 NoDid (Sent to said ∷ signs) = NoDid signs
 
@@ -71,6 +78,8 @@ no-tail (Dropped cause) signs h = h
 no-tail (Took sender vote x) signs h = h
 no-tail (Entered x) signs h = h
 no-tail (Viewed slot view) signs h = h
+no-tail (Headed number head) signs h = h
+no-tail (Kept index checkpoint) signs h = h
 no-tail (Did slot entry effect) signs h = absurd h
 no-tail (Sent to said) signs h = h
 
@@ -80,6 +89,8 @@ no-append (Dropped cause ∷ a) b p q = no-append a b p q
 no-append (Took sender vote x ∷ a) b p q = no-append a b p q
 no-append (Entered x ∷ a) b p q = no-append a b p q
 no-append (Viewed slot view ∷ a) b p q = no-append a b p q
+no-append (Headed number head ∷ a) b p q = no-append a b p q
+no-append (Kept index checkpoint ∷ a) b p q = no-append a b p q
 no-append (Did slot entry effect ∷ a) b p q = absurd p
 no-append (Sent to said ∷ a) b p q = no-append a b p q
 
@@ -112,6 +123,12 @@ no-asked setup me (e ∷ pool) =
 no-view : (slot before after : ℕ) → NoDid (entered_view slot before after)
 no-view slot before after = cond_both (nat_lt before after) (Viewed slot after ∷ []) [] NoDid (λ e. tt) (λ e. tt)
 
+no-headed : (setup : Setup) (me : NodeId) (made : Option Checkpoint) → NoDid (headed_signs setup me made)
+no-headed setup me None = tt
+no-headed setup me (Some c) =
+    let names = others setup.f me (me.shard ∷ []) in
+    no-append (sends names (message.Head c)) (Headed c.number (head_of c) ∷ []) (no-sends names (message.Head c)) tt
+
 -- ---- signs of inputs
 
 module _ (setup : Setup) (shard : ℕ) (b : Bench) (sender : NodeId) where
@@ -139,6 +156,21 @@ module _ (setup : Setup) (shard : ℕ) (b : Bench) (sender : NodeId) where
       let mine = shard_of_key setup.shards key == shard in
       let tells : List Sign = Sent sender (message.Told key (told_at b.table key)) ∷ [] in
       no-guard (is_client sender) Role (guarded mine Mine tells) (no-guard mine Mine tells tt)
+
+  no-proof : (o : Option Proof) → NoDid (proof_signs sender o)
+  no-proof None = tt
+  no-proof (Some proof) = tt
+
+  no-ask-proof : (slot : ℕ) → NoDid (ask_proof_signs b sender slot)
+  no-ask-proof slot =
+      let o = proof_of b.log slot in
+      no-guard (is_client sender) Role (proof_signs sender o) (no-proof o)
+
+  no-head : (me : NodeId) (checkpoint : Checkpoint) → NoDid (head_signs setup me b sender checkpoint)
+  no-head me checkpoint =
+      let news = is_news sender.index checkpoint b.heads in
+      let keeps : List Sign = Kept sender.index checkpoint ∷ [] in
+      no-guard (is_other_member setup.f me sender) Role (guarded news Repeat keeps) (no-guard news Repeat keeps tt)
 
   no-asking : (vote : Vote) (asks : Bool) (x : Session) (o : Option Vote) → NoDid (asking_signs setup b sender vote asks x o)
   no-asking vote asks x (Some noted) = no-guard asks Unasked (Sent sender (message.Voted noted false x) ∷ []) tt
@@ -170,6 +202,8 @@ OnlySends (Dropped cause ∷ signs) = ⊥
 OnlySends (Took sender vote x ∷ signs) = ⊥
 OnlySends (Entered x ∷ signs) = ⊥
 OnlySends (Viewed slot view ∷ signs) = ⊥
+OnlySends (Headed number head ∷ signs) = ⊥
+OnlySends (Kept index checkpoint ∷ signs) = ⊥
 OnlySends (Did slot entry effect ∷ signs) = ⊥
 
 only-append : (a b : List Sign) → OnlySends a → OnlySends b → OnlySends (a ++ b)
@@ -179,6 +213,8 @@ only-append (Dropped cause ∷ a) b p q = absurd p
 only-append (Took sender vote x ∷ a) b p q = absurd p
 only-append (Entered x ∷ a) b p q = absurd p
 only-append (Viewed slot view ∷ a) b p q = absurd p
+only-append (Headed number head ∷ a) b p q = absurd p
+only-append (Kept index checkpoint ∷ a) b p q = absurd p
 only-append (Did slot entry effect ∷ a) b p q = absurd p
 
 only-no : (a : List Sign) → OnlySends a → NoDid a
@@ -188,6 +224,8 @@ only-no (Dropped cause ∷ a) p = absurd p
 only-no (Took sender vote x ∷ a) p = absurd p
 only-no (Entered x ∷ a) p = absurd p
 only-no (Viewed slot view ∷ a) p = absurd p
+only-no (Headed number head ∷ a) p = absurd p
+only-no (Kept index checkpoint ∷ a) p = absurd p
 only-no (Did slot entry effect ∷ a) p = absurd p
 
 only-sends : (names : List NodeId) (said : Message) → OnlySends (sends names said)
@@ -201,6 +239,8 @@ only-bench setup shard (Dropped cause ∷ a) past p = absurd p
 only-bench setup shard (Took sender vote x ∷ a) past p = absurd p
 only-bench setup shard (Entered x ∷ a) past p = absurd p
 only-bench setup shard (Viewed slot view ∷ a) past p = absurd p
+only-bench setup shard (Headed number head ∷ a) past p = absurd p
+only-bench setup shard (Kept index checkpoint ∷ a) past p = absurd p
 only-bench setup shard (Did slot entry effect ∷ a) past p = absurd p
 
 only-out : {M : Type 0} (site : Site M) (me : NodeId) (to : Option ℕ) (m : M) → OnlySends (out_signs site me to m)
@@ -262,8 +302,9 @@ rejoin a b c d past =
     ∙ sym (append_assoc a (b ++ c) (d ∷ past) ∙ ap (λ l. a ++ l) (append_assoc b c (d ∷ past)))
 
 -- an execution tells
-tell-execution : (setup : Setup) (me : NodeId) (b : Bench) (slot : ℕ) (entry : Entry) (past : List Sign) → bench_at setup me.shard past ≡ b → IsTelling setup me past → IsTelling setup me (execution_signs setup me b slot entry ++ past)
-tell-execution setup me b slot entry past is tells =
+tell-ran : (setup : Setup) (me : NodeId) (b : Bench) (slot : ℕ) (entry : Entry) (past : List Sign) → bench_at setup me.shard past ≡ b → IsTelling setup me past
+    → IsTelling setup me (ran_signs setup me b slot entry (session_in entry) (executed setup me.shard b entry) ++ past)
+tell-ran setup me b slot entry past is tells =
     let x = session_in entry in
     let ran = executed setup me.shard b entry in
     let told = told_of setup me.shard x ran in
@@ -275,6 +316,15 @@ tell-execution setup me b slot entry past is tells =
     subst (λ l. IsTelling setup me l) (sym (rejoin own votes enters (Did slot entry ran.effect) past))
     (tell-front setup me front past slot entry ran.effect none tells
     (λ s i. in_right s own (votes ++ enters) (in_left s votes enters (subst (λ z. IsIn s (votes_by setup me z entry)) is i))))
+
+-- with the checkpoint that it makes
+tell-execution : (setup : Setup) (me : NodeId) (b : Bench) (slot : ℕ) (entry : Entry) (past : List Sign) → bench_at setup me.shard past ≡ b → IsTelling setup me past → IsTelling setup me (execution_signs setup me b slot entry ++ past)
+tell-execution setup me b slot entry past is tells =
+    let made = made_last (slot_executed setup me.shard b entry).log in
+    let headed = headed_signs setup me made in
+    let ran = ran_signs setup me b slot entry (session_in entry) (executed setup me.shard b entry) in
+    subst (λ l. IsTelling setup me l) (sym (append_assoc headed ran past))
+    (tell-over setup me headed (ran ++ past) (no-headed setup me made) (tell-ran setup me b slot entry past is tells))
 
 -- ---- the rules of a node
 
@@ -416,8 +466,8 @@ module _ {M : Type 0} (site : Site M) (v : View M) where
   idle-message sender (message.Done slot entry) = idle-member sender (site.carrier.read (message.Done slot entry))
   idle-message sender (message.Ask asked) = idle-plain (ask_signs site.setup v.me.shard v.bench sender asked) (no-ask site.setup v.me.shard v.bench sender asked)
   idle-message sender (message.Told key state) = tt
-  idle-message sender (message.Head checkpoint) = tt
-  idle-message sender (message.AskProof slot) = cond_both (is_client sender) _ _ (λ l. Idle (plain l)) (λ e. tt) (λ e. tt)
+  idle-message sender (message.Head checkpoint) = idle-plain (head_signs site.setup v.me v.bench sender checkpoint) (no-head site.setup v.me.shard v.bench sender v.me checkpoint)
+  idle-message sender (message.AskProof slot) = idle-plain (ask_proof_signs v.bench sender slot) (no-ask-proof site.setup v.me.shard v.bench sender slot)
   idle-message sender (message.Proof proof) = tt
 
   idle-opened : (o : Opened) → Idle (opened_marks site v o)

@@ -14,7 +14,7 @@ use Rattle.cs_ledger.specs.Ledger.{Bytes, IsIn}
 use Rattle.cs_ledger.proofs.Basics.{same_bytes, in_left, in_right}
 use Rattle.cs_base.specs.NodeId.{same_name}
 use Rattle.cs_node_rules.specs.Net.{sealed}
-use Rattle.cs_node_rules.specs.Signs.{Sign, Dropped, Took, Entered, Viewed, Did, Sent}
+use Rattle.cs_node_rules.specs.Signs.{Sign, Dropped, Took, Entered, Viewed, Did, Headed, Kept, Sent}
 use Rattle.cs_node_rules.specs.Site.{Input, Datagram, Tick, Mark, In, Ordered, Plain, Site, signs_of}
 use Rattle.cs_node_rules.specs.Trail.{event_marks}
 use Rattle.cs_node_rules.specs.Lines.{Parcel, parcels_of}
@@ -102,6 +102,8 @@ parcel-sent {M} site from to bytes node signs h = go signs h
     go (Took sender vote x ∷ past) e = more (Took sender vote x) past (go past e)
     go (Entered x ∷ past) e = more (Entered x) past (go past e)
     go (Viewed slot view ∷ past) e = more (Viewed slot view) past (go past e)
+    go (Headed number head ∷ past) e = more (Headed number head) past (go past e)
+    go (Kept index checkpoint ∷ past) e = more (Kept index checkpoint) past (go past e)
     go (Did slot entry effect ∷ past) e = more (Did slot entry effect) past (go past e)
 
 any-either : (test : Parcel → Bool) (a b : List Parcel) → list_any test (a ++ b) ≡ true → (list_any test a ≡ true) ⊎ (list_any test b ≡ true)

@@ -12,7 +12,7 @@ use Rattle.cs_ledger.specs.ShardWorld.{Step, log, votes, votes_in, is_vote, is_l
 use Rattle.cs_ledger.specs.ShardWorld as World
 use Rattle.cs_ledger.proofs.Votes.{all_at}
 use Rattle.cs_node_state.specs.Setup.{Setup, digest_of, concerned, entry_of}
-use Rattle.cs_node_rules.specs.Signs.{Dropped, Took, Entered, Viewed, Did, Sent}
+use Rattle.cs_node_rules.specs.Signs.{Dropped, Took, Entered, Viewed, Did, Headed, Kept, Sent}
 use Rattle.cs_node_rules.specs.Site.{Mark, In, Ordered, Plain, Site}
 use Rattle.cs_node_rules.specs.World.{Execution, steps_of, slots_of, prepares, recorded, all_recorded, is_voted, told, told_after}
 use Rattle.cs_node_law.proofs.Views.{me-same}
@@ -91,6 +91,8 @@ module _ {M : Type 0} (site : Site M) (sound : IsSoundSite site) (known : Known)
   computed-step node (Plain (Took sender vote x)) past story c = c
   computed-step node (Plain (Entered x)) past story c = c
   computed-step node (Plain (Viewed slot view)) past story c = c
+  computed-step node (Plain (Headed number head)) past story c = c
+  computed-step node (Plain (Kept index checkpoint)) past story c = c
   computed-step node (Plain (Sent to said)) past story c = c
   computed-step node (Plain (Did slot entry effect)) past story c =
       let new : Execution = record { shard = node.shard; slot = slot; entry = entry; effect = effect } in

@@ -2,6 +2,7 @@
 use Rattle.std.specs.Prelude.{◌≡◌, ℕ, ◌+◌, ◌*◌, ◌<◌, ◌==◌, Bool, true, false, if◌then◌else◌, List, [], ◌∷◌, ◌++◌, Some, Ok}
 use Rattle.cs_base.specs.declared.node_id.NodeId.{NodeId}
 use Rattle.cs_base.specs.NodeId.{is_client, same_name}
+use Rattle.cs_tx_form.specs.declared.checkpoint.Checkpoint.{Checkpoint}
 use Rattle.cs_tx_form.specs.declared.session.Session.{Session}
 use Rattle.cs_tx_form.specs.declared.entry.Entry.{Entry}
 use Rattle.cs_tx_form.specs.Session.{EntryFits}
@@ -18,7 +19,7 @@ use Rattle.cs_node_rules.specs.World.{Happening, Execution, first_of}
 use Rattle.cs_node_rules.specs.Collisions.{sessions_in, entries_in, entries_of}
 use Rattle.cs_node_rules.specs.Carrying.{Carries}
 use Rattle.cs_node_rules.specs.Deployment.{proposed_of}
-use Rattle.cs_node_law.specs.Made.{current, IsMade}
+use Rattle.cs_node_law.specs.Made.{current, HasDigests, IsMade}
 use Rattle.cs_world_law.specs.Worlds.{is_honest}
 
 -- a mark of a node
@@ -97,7 +98,7 @@ pub record IsSoundSite {M : Type 0} (site : Site M) : Type 0 where
   pub shard : (name : NodeId) → is_honest site name ≡ true → name.shard < site.setup.shards
   pub index : (name : NodeId) → is_honest site name ≡ true → name.index < 3 * site.setup.f + 1
   pub apart : (name : NodeId) → is_honest site name ≡ true → is_client name ≡ false
-  -- what opens is the message that was sealed
+  -- what opens is the message that was sealed; of a slot that is asked for and of a checkpoint the numbers may be cut
   pub exact : (from to sender : NodeId) (m said : Message) →
       is_honest site from ≡ true → is_honest site to ≡ true → MessageFits m →
       site.net.opened to (sealed site.net from to m) ≡ Ok (sender, said) → said ≡ m
@@ -105,6 +106,10 @@ pub record IsSoundSite {M : Type 0} (site : Site M) : Type 0 where
       is_honest site from ≡ true → is_honest site to ≡ true →
       site.net.opened to (sealed site.net from to (message.Want slot)) ≡ Ok (sender, said) →
       (other : ℕ) × (said ≡ message.Want other)
+  pub headed : (from to sender : NodeId) (c : Checkpoint) (said : Message) →
+      is_honest site from ≡ true → is_honest site to ≡ true → HasDigests c →
+      site.net.opened to (sealed site.net from to (message.Head c)) ≡ Ok (sender, said) →
+      (other : Checkpoint) × (said ≡ message.Head other)
   -- entries are proposed as they are written, and read back
   pub proposes : (entry : Entry) → site.proposed_of entry ≡ proposed_of entry
   pub reads : (entry : Entry) → EntryFits entry → site.entry_in (proposed_of entry) ≡ entry

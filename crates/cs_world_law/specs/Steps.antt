@@ -7,7 +7,7 @@ use Rattle.cs_ledger.specs.Ledger.{Bytes, IsIn}
 use Rattle.cs_ledger.specs.Table.{Vote, Effect, Accepted, table_of, exec}
 use Rattle.cs_ledger.specs.ShardWorld.{log, AllAllowed}
 use Rattle.cs_node_state.specs.Setup.{Setup, digest_of, concerns, entry_of, session_in}
-use Rattle.cs_node_rules.specs.Signs.{Sign, Dropped, Took, Entered, Viewed, Did, Sent}
+use Rattle.cs_node_rules.specs.Signs.{Sign, Dropped, Took, Entered, Viewed, Did, Headed, Kept, Sent}
 use Rattle.cs_node_rules.specs.Site.{Site}
 use Rattle.cs_node_rules.specs.World.{Happening, Execution, firsts_of, steps_of, slots_of, recorded, all_recorded, told, aborts_in}
 use Rattle.cs_node_rules.specs.Collisions.{known_sessions}
@@ -55,6 +55,8 @@ executions_in shard (Dropped cause ∷ past) = executions_in shard past
 executions_in shard (Took sender vote x ∷ past) = executions_in shard past
 executions_in shard (Entered x ∷ past) = executions_in shard past
 executions_in shard (Viewed slot view ∷ past) = executions_in shard past
+executions_in shard (Headed number head ∷ past) = executions_in shard past
+executions_in shard (Kept index checkpoint ∷ past) = executions_in shard past
 executions_in shard (Sent to message ∷ past) = executions_in shard past
 
 -- the older part of a list that has the newest first

@@ -5,7 +5,7 @@ use Rattle.cs_base.specs.declared.node_id.NodeId.{NodeId}
 use Rattle.cs_tx_form.specs.declared.session.Session.{Session}
 use Rattle.cs_ledger.specs.Ledger.{IsIn}
 use Rattle.cs_node_state.specs.Setup.{digest_of, concerns}
-use Rattle.cs_node_rules.specs.Signs.{Sign, Dropped, Took, Entered, Viewed, Did, Sent}
+use Rattle.cs_node_rules.specs.Signs.{Sign, Dropped, Took, Entered, Viewed, Did, Headed, Kept, Sent}
 use Rattle.cs_node_rules.specs.Site.{Site, signs_of}
 use Rattle.cs_node_rules.specs.World.{Happening, Execution, slots_of, first_of, firsts_after, firsts_of, all_recorded, history, aborts_in}
 use Rattle.cs_node_rules.specs.Collisions.{known_sessions}
@@ -19,6 +19,8 @@ first-grows shard (Dropped cause) firsts = record { newer = []; is = refl }
 first-grows shard (Took sender vote x) firsts = record { newer = []; is = refl }
 first-grows shard (Entered x) firsts = record { newer = []; is = refl }
 first-grows shard (Viewed slot view) firsts = record { newer = []; is = refl }
+first-grows shard (Headed number head) firsts = record { newer = []; is = refl }
+first-grows shard (Kept index checkpoint) firsts = record { newer = []; is = refl }
 first-grows shard (Sent to message) firsts = record { newer = []; is = refl }
 first-grows shard (Did slot entry effect) firsts =
     let new : Execution = record { shard = shard; slot = slot; entry = entry; effect = effect } in

@@ -1,42 +1,60 @@
-use Rattle.std.proofs.Common.{◌≡◌, false, ◌++◌, ◌∷◌, [], List, Some, is_some, ap, sym, subst, ◌∙◌}
+use Rattle.std.proofs.Common.{◌≡◌, false, ◌++◌, ◌∷◌, [], List, length, is_some, ap, sym, subst, ◌∙◌}
+use Rattle.std.proofs.lemmas.Result.{on_ok_weaker}
 use Rattle.cs_tx_form.specs.declared.entry.Entry.{Entry}
-use Rattle.cs_node_rules.specs.Deployment.{entry_or_void}
-use Rattle.cs_node_rules.specs.Signs.{Sign, vote_signs, execution_signs}
+use Rattle.cs_archive.specs.Archives.{Archived}
+use Rattle.cs_node_state.specs.Setup.{is_fit}
+use Rattle.cs_node_state.specs.Bench.{Bench, with_leaf}
+use Rattle.cs_node_rules.specs.Signs.{Sign, vote_signs, headed_signs, execution_signs}
 use Rattle.cs_node_pool.specs.Deployed.{deployed}
 use Rattle.cs_sbac.specs.Held.{bench_of}
 use Rattle.cs_node.specs.declared.draft.Note.TheVariants.{Executed}
 use Rattle.cs_node.specs.Notes.{Tells}
-use Rattle.cs_node_carried.specs.Proposals.{entry_read}
 use Rattle.cs_node.specs.Steps.{Makes}
-use Rattle.cs_node.proofs.Executing.{execution-makes, voted-fit}
-use Rattle.cs_node_state.specs.Setup.{is_fit}
+use Rattle.cs_node.proofs.Executing.{bench_closed, execution-makes, voted-fit}
 use Rattle.cs_node.proofs.Noting.{effect-again}
 use Rattle.cs_node.proofs.executions.execute.Goals as goal
 
-pub returns-in_ok-note_execution-in-Some-clause-made : goal.returns-in_ok-note_execution-in-Some-clause-made
-returns-in_ok-note_execution-in-Some-clause-made c = λ approves genesis.
-    let setup = deployed c.args.sbac.now.config genesis approves in
-    let me = c.args.sbac.now.me in
-    let old = bench_of c.args.sbac.now in
-    let ran = c.in_ok-outcome-in-Some.ensures genesis approves in
-    let read : entry_or_void (Some c.in-Some.entry) ≡ entry_or_void (entry_read c.args.proposed.now) = ap entry_or_void (sym c.in-Some.is ∙ c.in_ok-entry.ensures.found) in
-    let P : Entry → Type 0 = λ entry. Makes setup me (execution_signs setup me old c.args.slot entry) old (bench_of c.execute.new.self) c.args.draft.now c.note_execution.new.self in
+pub returns-clause-made : goal.returns-clause-made
+returns-clause-made c = λ approves genesis.
+    let held = c.args.sbac.now in
+    let setup = deployed held.config genesis approves in
+    let me = held.me in
+    let old : Bench = bench_of held in
+    let entry = c.in_ok-entry.entry in
+    let new : Bench = bench_of c.close.new.self in
+    let ran = c.in_ok-outcome.ensures genesis approves in
+    let slot_is = c.slots.ensures ∙ ap (λ (a : Archived). length a.log.leaves) ran.archived_stays in
+    let result_is = effect-again _ _ ran.effect_is in
+    let closed : new ≡ bench_closed setup me old entry =
+    c.in_ok-made.ensures.bench ∙ (λ i. with_leaf (record { slot = slot_is i; entry = entry; result = result_is i }) (ran.bench_is i)) in
+    let config_is = c.in_ok-made.ensures.config ∙ ran.config_stays in
+    let me_is = c.in_ok-made.ensures.me ∙ ran.me_stays in
     let S : List Sign → Type 0 = λ signs. Tells signs c.args.draft.now c.say_vote.new.draft in
-    let said = subst S (λ i. vote_signs (deployed (ran.config_stays i) genesis approves) (ran.me_stays i) (c.session_in.ensures.session i) (ran.voted_is i)) (c.in_ok-say_vote-in-Some.ensures.tells genesis approves) in
-    subst P read (execution-makes setup me old (bench_of c.execute.new.self) c.args.slot c.in-Some.entry c.args.draft.now c.say_vote.new.draft c.note_execution.new.self ran.bench_is said
-    (c.in_ok-note_execution-in-Some.ensures.notes ∙ ap (λ effect. c.say_vote.new.draft.notes ++ Executed c.args.slot c.in-Some.entry effect ∷ []) (effect-again _ _ ran.effect_is)) c.in_ok-note_execution-in-Some.ensures.said)
+    let said = subst S (λ i. vote_signs (deployed (ran.config_stays i) genesis approves) (ran.me_stays i) (c.session_in.ensures.session i) (ran.voted_is i)) (c.in_ok-say_vote.ensures.tells genesis approves) in
+    let noted = c.in_ok-note_execution.ensures.notes ∙ ap (λ effect. c.say_vote.new.draft.notes ++ Executed c.args.slot entry effect ∷ []) result_is in
+    let H : List Sign → Type 0 = λ signs. Tells signs c.note_execution.new.self c.say_made.new.draft in
+    let P : Entry → Type 0 = λ e. Makes setup me (execution_signs setup me old c.args.slot e) old new c.args.draft.now c.say_made.new.draft in
+    on_ok_weaker _
+    (λ heads. subst P c.in_ok-entry.ensures.entry
+    (execution-makes setup me old new c.args.slot entry c.args.draft.now c.say_vote.new.draft c.note_execution.new.self c.say_made.new.draft closed said noted c.in_ok-note_execution.ensures.said
+    (subst H (λ i. headed_signs (deployed (config_is i) genesis approves) (me_is i) (c.in_ok-made.ensures.made i)) heads)))
+    (c.say_made.ensures.tells genesis approves)
 
-pub returns-in_ok-note_execution-in-Some-clause-config : goal.returns-in_ok-note_execution-in-Some-clause-config
-returns-in_ok-note_execution-in-Some-clause-config c = (c.in_ok-outcome-in-Some.ensures [] (λ tx. false)).config_stays
+pub returns-clause-config : goal.returns-clause-config
+returns-clause-config c =
+    let is = c.in_ok-made.ensures.config ∙ (c.in_ok-outcome.ensures [] (λ tx. false)).config_stays in
+    on_ok_weaker _ (λ said. is) (c.say_made.ensures.tells [] (λ tx. false))
 
-pub returns-in_ok-note_execution-in-Some-clause-me : goal.returns-in_ok-note_execution-in-Some-clause-me
-returns-in_ok-note_execution-in-Some-clause-me c = (c.in_ok-outcome-in-Some.ensures [] (λ tx. false)).me_stays
+pub returns-clause-me : goal.returns-clause-me
+returns-clause-me c =
+    let is = c.in_ok-made.ensures.me ∙ (c.in_ok-outcome.ensures [] (λ tx. false)).me_stays in
+    on_ok_weaker _ (λ said. is) (c.say_made.ensures.tells [] (λ tx. false))
 
 pub say_vote-requires-clause-fit : goal.say_vote-requires-clause-fit
 say_vote-requires-clause-fit c = λ some genesis approves.
     let setup = deployed c.args.sbac.now.config genesis approves in
     let me = c.args.sbac.now.me in
-    let ran = c.in_ok-outcome-in-Some.ensures genesis approves in
+    let ran = c.in_ok-outcome.ensures genesis approves in
     let told = sym (ap is_some ran.voted_is) ∙ some in
-    let fit = voted-fit setup me.shard (bench_of c.args.sbac.now) c.in-Some.entry told in
+    let fit = voted-fit setup me.shard (bench_of c.args.sbac.now) c.in_ok-entry.entry told in
     (λ i. is_fit (deployed (ran.config_stays i) genesis approves) (ran.me_stays i).shard (c.session_in.ensures.session i)) ∙ fit

@@ -17,5 +17,5 @@ unreachable-requires g c =
 pub returns-in-Ok-clause-answers : goal.returns-in-Ok-clause-answers
 returns-in-Ok-clause-answers g c =
     subst
-    (λ (contracts : Contracts). Answers (schedule_answer (is_approved contracts) c.args.traced c.args.schedule.now) (g.K.Sink.written c.args.output.now) (g.K.Sink.written c.play_by.new.output) c.play_by.result)
+    (λ (contracts : Contracts). Answers (schedule_answer (is_approved contracts) c.args.mode c.args.schedule.now) (g.K.Sink.written c.args.output.now) (g.K.Sink.written c.play_by.new.output) c.play_by.result)
     (c.in-Ok.ensures.made ∙ ap contracts_of c.as_slice.ensures) c.play_by.ensures.answers

@@ -9,8 +9,8 @@ use Rattle.cs_replay.proofs.source.replay_source.Goals as goal
 
 pub returns-in-Ok-clause-replay : goal.returns-in-Ok-clause-replay
 returns-in-Ok-clause-replay g c =
-    gives-text MOST_SCHEDULE (replay_answer MOST_SCHEDULE c.args.traced) _ _ _ _ _ c.in-Ok.text.items c.answer.result c.in-Ok.ensures.text
-    (subst (λ (text : List ℕ). Answers (replay_answer MOST_SCHEDULE c.args.traced text) (g.K.Sink.written c.args.output.now) (g.K.Sink.written c.answer.new.output) c.answer.result) c.deref.ensures.value c.answer.ensures.answers)
+    gives-text MOST_SCHEDULE (replay_answer MOST_SCHEDULE c.args.mode) _ _ _ _ _ c.in-Ok.text.items c.answer.result c.in-Ok.ensures.text
+    (subst (λ (text : List ℕ). Answers (replay_answer MOST_SCHEDULE c.args.mode text) (g.K.Sink.written c.args.output.now) (g.K.Sink.written c.answer.new.output) c.answer.result) c.deref.ensures.value c.answer.ensures.answers)
 
 pub returns-in-Err-Failed-clause-replay : goal.returns-in-Err-Failed-clause-replay
 returns-in-Err-Failed-clause-replay g c =
@@ -21,11 +21,11 @@ returns-in-Err-Failed-clause-replay g c =
     )
 
 pub returns-in-Err-Memory-clause-replay : goal.returns-in-Err-Memory-clause-replay
-returns-in-Err-Memory-clause-replay g c = not-given MOST_SCHEDULE (replay_answer MOST_SCHEDULE c.args.traced) _ _ _ _
+returns-in-Err-Memory-clause-replay g c = not-given MOST_SCHEDULE (replay_answer MOST_SCHEDULE c.args.mode) _ _ _ _
 
 pub returns-in-Ok-clause-complete : goal.returns-in-Ok-clause-complete
 returns-in-Ok-clause-complete g c = λ reads writes.
-    gives-whole MOST_SCHEDULE (replay_answer MOST_SCHEDULE c.args.traced) _ _ _ _ _ c.answer.result (returns-in-Ok-clause-replay g c) reads (λ six. writes (c.answer.ensures.write_fault.cause six))
+    gives-whole MOST_SCHEDULE (replay_answer MOST_SCHEDULE c.args.mode) _ _ _ _ _ c.answer.result (returns-in-Ok-clause-replay g c) reads (λ six. writes (c.answer.ensures.write_fault.cause six))
 
 pub returns-in-Err-Failed-clause-complete : goal.returns-in-Err-Failed-clause-complete
 returns-in-Err-Failed-clause-complete g c = λ reads writes. absurd (reads (c.in-Err-Failed.ensures.cause.cause (ap Err c.in-Err-Failed.field-0-is)))

@@ -35,6 +35,7 @@ returns c = λ approves schedule playable traced.
       genuine = played.genuine;
     } in
     let told = c.settled_world.ensures in
+    let heads = c.heads_show_executions.ensures in
     let site = site_of_schedule approves schedule in
     let until = λ (later earlier : List (Happening OrderMessage)) (split : world ≡ later ++ earlier). earlier_world site later earlier (subst (λ w. IsWorld site w) split settled) in
     let quiet : AfterEach (AllQuiet site) world = λ later earlier split. λ i honest. c.events_end_quiet.ensures site refl earlier (until later earlier split).life i in
@@ -43,6 +44,8 @@ returns c = λ approves schedule playable traced.
       executed_fit = told.executed_fit slot_carrier slot_carries config net genesis approves world playable.few_shards few is_net settled;
       quiet = quiet;
       agreement = λ later earlier split. c.second_phase.ensures slot_carrier slot_carries config net genesis approves earlier playable.few_shards few is_net (until later earlier split) (quiet later earlier split);
+      checkpoints = heads.kept slot_carrier slot_carries config net genesis approves world playable.few_shards few is_net settled;
+      shown = heads.shown slot_carrier slot_carries config net genesis approves world playable.few_shards few is_net settled;
       trusted = λ alone. record {
         allowed = told.allowed_alone slot_carrier slot_carries config net genesis approves world playable.few_shards few is_net settled alone;
         computed = told.computed_alone slot_carrier slot_carries config net genesis approves world playable.few_shards few is_net settled alone;
@@ -66,5 +69,6 @@ returns c = λ approves schedule playable traced.
         votes_free = told.votes_free slot_carrier slot_carries config net genesis approves world playable.few_shards few is_net settled apart;
         accepts_locked = told.accepts_locked slot_carrier slot_carries config net genesis approves world playable.few_shards few is_net settled apart;
         objects = told.objects slot_carrier slot_carries config net genesis approves world playable.few_shards few is_net settled apart;
+        same_heads = heads.agreed slot_carrier slot_carries config net genesis approves world playable.few_shards few is_net settled apart;
       };
     }

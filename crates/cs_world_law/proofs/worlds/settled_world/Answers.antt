@@ -20,7 +20,7 @@ use Rattle.cs_node_rules.specs.Ready.{Executed, AcceptsLocked}
 use Rattle.cs_node_law.specs.Made.{view_at, log_in}
 use Rattle.cs_world_law.specs.Worlds.{IsSerial, SpendsOnce, ExecutesGiven, ExecutesFit}
 use Rattle.cs_world_law.specs.Steps.{StepsAllowed, AllComputed, StepsComputed, VotesOnce, TellsCommitted, TellsBefore}
-use Rattle.cs_world_law.specs.Chain.{moments, story_firsts}
+use Rattle.cs_world_law.specs.Chain.{moments}
 use Rattle.cs_world_law.proofs.Stories.{trail-same, firsts-same}
 use Rattle.cs_world_law.proofs.Told.{computed-earlier}
 use Rattle.cs_world_law.proofs.Middle.{decided-session, voted-session, known-there, commit-later, serial-once, whole-table}

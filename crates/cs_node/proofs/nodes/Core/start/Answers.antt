@@ -1,4 +1,4 @@
-use Rattle.std.proofs.Common.{◌≡◌, [], None, sym, subst, ap, refl, ◌∙◌}
+use Rattle.std.proofs.Common.{◌≡◌, None, sym, subst, ap, refl, ◌∙◌}
 use Rattle.cs_base.specs.declared.node_id.NodeId.{NodeId}
 use Rattle.cs_ledger.specs.Table.{start as begun}
 use Rattle.cs_node_rules.specs.Site.{start_view}
@@ -9,7 +9,7 @@ use Rattle.cs_node_pool.specs.Deployed.{deployed}
 use Rattle.cs_sbac.specs.Held.{Held}
 use Rattle.cs_node.specs.Cores.{KeepsView}
 use Rattle.cs_node.specs.Speaking.{Speaks}
-use Rattle.cs_node.proofs.Starting.{all-fit, started}
+use Rattle.cs_node.proofs.Starting.{all-fit, begun_with, started}
 use Rattle.cs_node.proofs.nodes.Core.start.Goals as goal
 
 pub genesis-requires : goal.genesis-requires
@@ -27,7 +27,7 @@ returns-clause-stands g c = λ objects named net speaks.
     let me = c.args.keys.me in
     let setup = deployed c.args.config objects (approves c.args.judge) in
     let site = site_of setup net rules carried in
-    let held : NodeId → Held = λ name. record { config = c.args.config; me = name; table = c.in-Ok.table; pool = [] } in
+    let held : NodeId → Held = begun_with c.args.config c.in-Ok.table in
     let sbac-is : c.new-sbac.result ≡ held me = c.new-sbac.ensures ∙ ap held c.me-me.ensures in
     let P : Held → Type 0 = λ sbac. KeepsView g.O.Order.stands approves setup (record { order = c.args.order; judge = c.args.judge; sbac = sbac }) (start_view site me) in
     let S : Held → Type 0 = λ sbac. Speaks sbac.config net c.args.keys in
@@ -35,7 +35,8 @@ returns-clause-stands g c = λ objects named net speaks.
       keeps = subst P (sym sbac-is)
           (started g.O.Order.stands approves rules carried net c.args.config me objects c.args.genesis.now c.args.order c.args.judge c.in-Ok.table (g.O.Order.f c.args.order) (g.O.Order.me c.args.order)
           (g.met.O.Order.begins c.args.order c.requires.start) c.requires.f c.requires.me c.requires.node named
-          (c.in-Ok.ensures.table ∙ ap (λ (name : NodeId). begun (genesis_rules c.args.config c.args.genesis.now) name.shard) c.me-me.ensures));
+          (c.in-Ok.ensures.table ∙ ap (λ (name : NodeId). begun (genesis_rules c.args.config c.args.genesis.now) name.shard) c.me-me.ensures)
+          c.root_is_shown.ensures.keys);
       me_is = refl;
       speaks = subst S (sym sbac-is) speaks;
       quiet = start-quiet site me g.met.O.Order.holds g.O.Order.left g.met.O.Order.comes_to_rest;

@@ -1,4 +1,4 @@
-use Rattle.std.proofs.Common.{◌≡◌, ◌∙◌, sym, subst, true, rules}
+use Rattle.std.proofs.Common.{◌≡◌, ◌∙◌, sym, subst, true, false, None, rules}
 use Rattle.cs_tx_form.specs.declared.session.Session.{Session}
 use Rattle.cs_tx.specs.WellFormed.{IsWellFormed}
 use Rattle.cs_node_state.specs.Setup.{session_in}
@@ -6,7 +6,8 @@ use Rattle.cs_sbac.specs.Held.{Held}
 use Rattle.cs_node_pool.specs.Deployed.{deployed}
 use Rattle.cs_sbac.specs.Calls.{Executes}
 use Rattle.cs_sbac.proofs.Settings.{formed}
-use Rattle.cs_sbac.proofs.Running.{stays, anchored, executes}
+use Rattle.cs_sbac.proofs.Running.{stays, anchored, executes, executes-nothing}
+use Rattle.cs_tx_form.specs.declared.effect.Effect.TheVariants.{Void}
 use Rattle.cs_sbac.proofs.sbac.Sbac.execute.Goals as goal
 
 pub run-requires-clause-anchored : goal.run-requires-clause-anchored
@@ -32,12 +33,21 @@ invariant_of-self-2 c =
           (c.self.invariant.placed whole) (c.in_ok-outcome.ensures.runs (λ tx. true));
     }
 
+pub returns-then-not-fit : goal.returns-then-not-fit
+returns-then-not-fit c genesis approves =
+    let whole : c.self.inside.is_whole ≡ true = search rules in
+    let unfit : c.in_ok-fit.fit ≡ false = search rules in
+    let Does : Held → Type 0 = λ held. Executes (deployed held.config genesis approves) c.args.entry.now held held (record { effect = Void; voted = None }) in
+    subst Does c.self.view_is
+    (executes-nothing c.self.inside.config c.self.inside.me c.self.inside.table (c.self.invariant.placed whole) genesis approves c.root_is_shown.ensures.keys c.self.inside.archive c.args.entry.now c.self.inside.pool.sessions
+    (sym (c.in_ok-fit.ensures.fit genesis approves) ∙ unfit))
+
 pub returns : goal.returns
 returns c genesis approves =
     let whole : c.self.inside.is_whole ≡ true = search rules in
     let fit : c.in_ok-fit.fit ≡ true = search rules in
-    let after : Held = record { config = c.self.inside.config; me = c.self.inside.me; table = c.run.new.table; pool = c.run.new.pool.sessions } in
+    let after : Held = record { config = c.self.inside.config; me = c.self.inside.me; table = c.run.new.table; pool = c.run.new.pool.sessions; archived = c.self.inside.archive } in
     let Does : Held → Type 0 = λ held. Executes (deployed held.config genesis approves) c.args.entry.now held after c.in_ok-outcome.outcome in
     subst Does c.self.view_is
-    (executes c.self.inside.config c.self.inside.me c.self.inside.table (c.self.invariant.placed whole) genesis approves c.args.entry.now c.run.new.table c.self.inside.pool.sessions c.run.new.pool.sessions c.in_ok-outcome.outcome
-    (sym (c.in_ok-fit.ensures.fit genesis approves) ∙ fit) (c.in_ok-outcome.ensures.runs approves))
+    (executes c.self.inside.config c.self.inside.me c.self.inside.table (c.self.invariant.placed whole) genesis approves c.root_is_shown.ensures.keys c.self.inside.archive c.args.entry.now c.run.new.table c.self.inside.pool.sessions c.run.new.pool.sessions c.in_ok-outcome.outcome
+    (sym (c.in_ok-fit.ensures.fit genesis approves) ∙ fit) c.root_is_shown-2.ensures.keys (c.in_ok-outcome.ensures.runs approves))

@@ -1,0 +1,34 @@
+use Rattle.std.proofs.Common.{◌≡◌, ℕ, ◌<◌, true, false, List, Some, None, cond, length, sym, ap, subst, ◌∙◌}
+use Rattle.cs_node.specs.declared.nodes.Core.{Core}
+use Rattle.cs_node.specs.Cores.{StandsFor}
+use Rattle.cs_node_rules.specs.World.{view_of}
+use Rattle.cs_play.specs.Standing.{site_in, EachStands}
+use Rattle.cs_play.proofs.Taken.{no-node, a-node}
+use Rattle.cs_play.proofs.Views.{view-me, get-read}
+use Rattle.cs_play.proofs.play.Replay.node_chain.Goals as goal
+
+pub returns-in-Some : goal.returns-in-Some
+returns-in-Some g c = λ s p st.
+    let r = c.args.self.now in
+    let site = site_in g.O.Order.rules g.O.Carried.carrier s in
+    let place = c.in-Some.place in
+    let each = subst (λ (cores : List (Core g.row.O.Denot g.row.J.Denot g.row.O-Message.Denot)). EachStands g.O.Order.stands g.J.Judge.is_approved site cores (λ i. view_of site p.world (s.names i))) (sym c.as_slice.ensures.value) st.all.each in
+    let within : place < length r.cores.items = subst (λ (cores : List (Core g.row.O.Denot g.row.J.Denot g.row.O-Message.Denot)). place < length cores) c.as_slice.ensures.value c.in-Some.ensures.within in
+    let named : (view_of site p.world (s.names place)).me ≡ c.args.name = c.in-Some.ensures.named site (λ i. view_of site p.world (s.names i)) each in
+    let has = a-node g.O.Order.stands g.J.Judge.is_approved g.O.Order.rules g.O.Carried.carrier s r p c.args.name place st within named in
+    let name : s.names place ≡ c.args.name = sym (view-me site p.world (s.names place)) ∙ named in
+    let stood : StandsFor g.O.Order.stands g.J.Judge.is_approved site c.index.result.now (view_of site p.world (s.names place)) =
+    st.all.each place c.index.result.now (get-read r.cores.items place c.index.result.now within c.index.ensures) in
+    let log = c.chain.ensures site (view_of site p.world (s.names place)) stood in
+    let honest : s.net.is_honest c.args.name ≡ true = (st.rests.honest c.args.name).1 has in
+    ap Some (log ∙ ap (λ n. (view_of site p.world n).bench.log) name)
+    ∙ sym (ap (λ b. cond b (Some (view_of site p.world c.args.name).bench.log) None) honest)
+
+pub returns-in-None : goal.returns-in-None
+returns-in-None g c = λ s p st.
+    let r = c.args.self.now in
+    let site = site_in g.O.Order.rules g.O.Carried.carrier s in
+    let each = subst (λ (cores : List (Core g.row.O.Denot g.row.J.Denot g.row.O-Message.Denot)). EachStands g.O.Order.stands g.J.Judge.is_approved site cores (λ i. view_of site p.world (s.names i))) (sym c.as_slice.ensures.value) st.all.each in
+    let none = subst (λ (cores : List (Core g.row.O.Denot g.row.J.Denot g.row.O-Message.Denot)). (i : ℕ) → i < length cores → (view_of site p.world (s.names i)).me ≡ c.args.name → ⊥) c.as_slice.ensures.value (c.in-None.ensures.none site (λ i. view_of site p.world (s.names i)) each) in
+    let other : s.net.is_honest c.args.name ≡ false = no-node g.O.Order.stands g.J.Judge.is_approved g.O.Order.rules g.O.Carried.carrier s r p c.args.name st none in
+    sym (ap (λ b. cond b (Some (view_of site p.world c.args.name).bench.log) None) other)

@@ -1,0 +1,62 @@
+//! What a node keeps for checkpoints: the slots that it executed, and the checkpoints of others.
+ghost use Rattle.std.specs.Prelude.{◌≡◌, ◌<◌, ◌^◌, length, IfOk, IfSome, OnOk};
+ghost use Rattle.cs_tx_form.specs.Log.{LeafFits, ProofFits};
+ghost use Rattle.cs_checkpoint.specs.Chain.{made_last};
+ghost use Rattle.cs_check_rules.specs.Heads.{is_news};
+ghost use Rattle.cs_check_rules.specs.Proofs.{proof_of};
+ghost use Rattle.cs_archive.specs.Archives.{with_news};
+ghost use Rattle.cs_node_state.specs.Bench.{with_leaf};
+ghost use Rattle.cs_sbac.specs.Held.{bench_of, with_archived};
+
+use crate::sbac::Sbac;
+use cs_base::Memory;
+use cs_check::Chain;
+use cs_checkpoint::{Checkpoint, Leaf, Proof};
+use std::alloc::Global;
+
+impl Sbac {
+    /// How many slots were executed.
+    pub fn slots(&self) -> u64
+        ensures { result ≡ length self.now.archived.log.leaves }
+    {
+        self.archive.slots()
+    }
+
+    /// The chain of the node's checkpoints.
+    pub fn chain(&self) -> &Chain
+        ensures { result.now ≡ self.now.archived.log }
+    {
+        self.archive.chain()
+    }
+
+    /// Takes the leaf of the slot that was executed last, and tells the checkpoint that it made, if
+    /// it made one.
+    pub fn close(&mut self, alloc: Global, leaf: &Leaf) -> Result<Option<Checkpoint>, Memory>
+        requires fits { LeafFits leaf.now }
+        requires next { leaf.now.slot ≡ length self.old.archived.log.leaves }
+        ensures bench { OnOk result (bench_of self.new ≡ with_leaf leaf.now (bench_of self.old)) }
+        ensures made { IfOk result (λ made. made ≡ made_last self.new.archived.log) }
+        ensures config { OnOk result (self.new.config ≡ self.old.config) }
+        ensures me { OnOk result (self.new.me ≡ self.old.me) }
+    {
+        self.archive.push(alloc, leaf, &self.table)
+    }
+
+    /// The proof of a slot, where a checkpoint covers it.
+    pub fn prove(&self, alloc: Global, slot: u64) -> Result<Option<Proof>, Memory>
+        ensures proof { IfOk result (λ found. found ≡ proof_of self.now.archived.log slot) }
+        ensures fits { slot < 2 ^ 62 → IfOk result (λ found. IfSome found ProofFits) }
+    {
+        self.archive.prove(alloc, slot)
+    }
+
+    /// Keeps a checkpoint that another member told, if it is news, and answers whether it is.
+    pub fn keep(&mut self, index: u16, checkpoint: Checkpoint) -> Result<bool, Memory>
+        ensures news { IfOk result
+            (λ news. news ≡ is_news index checkpoint self.old.archived.heads) }
+        ensures kept { IfOk result (λ news. self.new
+            ≡ with_archived self.old (with_news news index checkpoint self.old.archived)) }
+    {
+        self.archive.keep(index, checkpoint)
+    }
+}

@@ -1,0 +1,4 @@
+pub mod Repeats
+pub mod Courses
+pub mod Generated
+pub mod Ended

@@ -1,0 +1,4 @@
+pub mod Keys
+pub mod Unforged
+pub mod Simulated
+pub mod Reports
