@@ -3,8 +3,6 @@
 
 mod book;
 mod judging;
-#[cfg(test)]
-mod tests;
 mod token;
 mod views;
 

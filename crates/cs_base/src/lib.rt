@@ -19,8 +19,6 @@ mod outside;
 mod printing;
 mod reading;
 mod sequence;
-#[cfg(test)]
-mod tests;
 mod writer;
 
 pub use config::{Config, ConfigField, OutOfRange};

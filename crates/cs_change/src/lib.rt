@@ -10,6 +10,3 @@ mod slot_changes;
 pub use changes::Changes;
 pub use cs_order_rules::Change;
 pub use slot_changes::SlotChanges;
-
-#[cfg(test)]
-mod tests;

@@ -12,8 +12,6 @@ mod numbers;
 mod plan;
 mod readable;
 mod site;
-#[cfg(test)]
-mod tests;
 
 pub use call::{CallFile, read_call};
 pub use document::read_table;

@@ -6,8 +6,6 @@ mod listing;
 mod peer;
 mod printing;
 mod reading;
-#[cfg(test)]
-mod tests;
 
 pub use printing::print_keys;
 pub use reading::read_keys;

@@ -5,8 +5,6 @@ mod equal;
 mod letter;
 mod mac;
 mod tag_key;
-#[cfg(test)]
-mod tests;
 
 pub use equal::same;
 pub use letter::tagged;

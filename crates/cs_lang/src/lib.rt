@@ -7,11 +7,7 @@ mod kinds;
 mod methods;
 mod nodes;
 mod statements;
-#[cfg(test)]
-mod tests;
 mod text;
-#[cfg(test)]
-mod texts;
 mod tree;
 
 pub use contract::Contract;

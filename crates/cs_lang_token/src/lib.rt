@@ -6,8 +6,6 @@ mod cursor;
 mod kind;
 mod lexeme;
 mod limits;
-#[cfg(test)]
-mod tests;
 mod token;
 mod tokens;
 

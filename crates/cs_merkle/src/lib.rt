@@ -4,8 +4,6 @@
 mod hashing;
 mod laws;
 mod proof;
-#[cfg(test)]
-mod tests;
 mod tree;
 
 pub use cs_hash::Digest;

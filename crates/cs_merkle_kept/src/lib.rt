@@ -8,8 +8,6 @@ mod level;
 mod levels;
 mod places;
 mod steps;
-#[cfg(test)]
-mod tests;
 
 pub use cs_hash::Digest;
 pub use incremental::Incremental;

@@ -8,6 +8,3 @@ mod pairs;
 
 pub use current::OpenSlot;
 pub use message::slot_of;
-
-#[cfg(test)]
-mod tests;

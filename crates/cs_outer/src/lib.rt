@@ -8,8 +8,6 @@ mod mem_spawner;
 mod mem_store;
 mod spawner;
 mod store;
-#[cfg(test)]
-mod tests;
 mod text;
 
 pub use link::{Arrived, Bound, Link, MemInput, Sent};

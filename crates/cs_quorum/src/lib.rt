@@ -4,6 +4,3 @@
 mod tally;
 
 pub use tally::Tally;
-
-#[cfg(test)]
-mod tests;

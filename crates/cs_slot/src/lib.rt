@@ -9,6 +9,3 @@ mod slot;
 mod votes;
 
 pub use slot::Slot;
-
-#[cfg(test)]
-mod tests;

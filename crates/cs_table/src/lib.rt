@@ -4,8 +4,6 @@
 #[cfg(test)]
 mod case_tests;
 mod change;
-#[cfg(test)]
-mod dummy_tests;
 mod execution;
 mod genesis;
 mod listing;
@@ -16,8 +14,6 @@ mod sessions;
 mod several;
 mod standing;
 mod table;
-#[cfg(test)]
-mod tests;
 mod verdict;
 
 pub use cs_tx_form::{Effect, Record};

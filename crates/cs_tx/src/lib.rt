@@ -20,6 +20,3 @@ pub use judge::Judge;
 pub use malformed::Malformed;
 pub use token::TokenJudge;
 pub use uses::{anchor, concerned};
-
-#[cfg(test)]
-mod tests;

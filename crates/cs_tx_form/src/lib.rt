@@ -32,6 +32,3 @@ pub use stored::Stored;
 pub use trace::Trace;
 pub use transaction::Tx;
 pub use vote::Vote;
-
-#[cfg(test)]
-mod tests;

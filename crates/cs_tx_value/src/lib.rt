@@ -29,6 +29,3 @@ pub use lists::{
 pub use name::Name;
 pub use object::Object;
 pub use value::Value;
-
-#[cfg(test)]
-mod tests;

@@ -8,8 +8,6 @@ mod datagram;
 mod judging;
 mod lines;
 mod reader;
-#[cfg(test)]
-mod tests;
 mod values;
 
 pub use answer::verdict_text;

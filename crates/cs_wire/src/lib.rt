@@ -10,8 +10,6 @@ mod opening;
 mod raw;
 mod reading;
 mod sealing;
-#[cfg(test)]
-mod tests;
 mod view;
 
 pub use cs_wire_message::Message;

@@ -8,8 +8,6 @@ mod passing;
 mod reading;
 mod rising;
 mod sizing;
-#[cfg(test)]
-mod tests;
 mod view;
 mod whole;
 mod writing;
