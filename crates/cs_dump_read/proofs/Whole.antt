@@ -1,0 +1,255 @@
+-- Every dump that is read is formed.
+use Rattle.std.specs.Prelude.{◌≡◌, ◌⊎◌, ℕ, ◌+◌, ◌<◌, ◌≤◌, ◌==◌, nat_lt, nat_le, Bool, true, false, ◌||◌, List, [], ◌∷◌, length, take, slice_index, Result, Ok, Err, IfOk, codes, if◌then◌else◌}
+use Rattle.std.specs.Option.{ok_or}
+use Rattle.std.specs.Str.{bytes_eq}
+use Rattle.std.specs.Str.Lines.{lines}
+use Rattle.std.proofs.Common.{◌∙◌, ap, refl, subst, inl, inr, arith}
+use Rattle.std.proofs.lemmas.Bool.{ltb-true, ltb-false}
+use Rattle.cs_base.specs.Codes.{bytes_of}
+use Rattle.cs_base.specs.Fields.{whole_at}
+use Rattle.cs_base.specs.Lines.{fields_of, ended_lines}
+use Rattle.cs_tx_form.specs.declared.leaf.Leaf.{Leaf}
+use Rattle.cs_tx_form.specs.Log.{LeafFits, leaf_at}
+use Rattle.cs_tx.specs.Digest.{name_of_genesis}
+use Rattle.cs_sched.specs.Names.{is_known}
+use Rattle.cs_sched.specs.Reading.{GivesText}
+use Rattle.cs_sched.specs.Said.{no_field, number_said, shards_said, faulty_said, dummies_said, contract_said, object_said}
+use Rattle.cs_sched.specs.declared.cause.Cause.{Cause}
+use Rattle.cs_sched.specs.declared.cause.Cause.TheVariants as cause
+use Rattle.cs_sched.specs.declared.cause.Refusal.{Refusal}
+use Rattle.cs_sched.specs.declared.error.ScheduleError.{ScheduleError}
+use Rattle.cs_sched.proofs.Steps.{step_ok, change_ok, ok_same, when_ok, unless_ok, either_ok, some_ok}
+use Rattle.cs_sched.proofs.Said.{contract_said-ok, object_said-ok, bytes_fit}
+use Rattle.cs_dump_read.specs.Said.{log_said, leaf_said, encoded_leaf, digest_said}
+use Rattle.cs_dump_read.specs.Drafts.{empty_draft, has_ended, is_open}
+use Rattle.cs_dump_read.specs.Lines.{with_config, with_contract, with_genesis, with_log, with_leaf, with_head, with_history, with_tx, at_stage, shards_line, faulty_line, dummies_line, contract_line, named_object, genesis_line, log_line, leaf_line, head_line, history_line, tx_line, end_line}
+use Rattle.cs_dump_read.specs.Places.{next_place, logs_place, genesis_place, contracts_place, history_place, before_place, line_at, line_step}
+use Rattle.cs_dump_read.specs.Text.{then_lines, read_lines, whole, cut_at, dump_of}
+use Rattle.cs_dump_read.specs.Formed.{IsFormed}
+use Rattle.cs_dump_read.specs.declared.draft.Draft.{Draft}
+use Rattle.cs_dump_read.specs.declared.draft.Stage.{Stage}
+use Rattle.cs_dump_read.specs.declared.draft.Stage.TheVariants as stage
+use Rattle.cs_dump_read.specs.declared.dump.Dump.{Dump}
+use Rattle.cs_dump_read.proofs.Leaves.{found_fits}
+use Rattle.cs_dump_read.proofs.Kept.{HasNoLog, HasSome, HasAll, IsPlaced, IsKept, IsMidLog, empty_kept, with_config-kept, at_stage-kept, with_contract-kept, with_genesis-kept, with_log-kept, with_leaf-kept, with_head-kept, with_history-kept, with_tx-kept}
+
+-- what a test chose
+either_way : {B E : Type 0} (test : Bool) (one other : Result B E) (b : B) → (if test then one else other) ≡ Ok b → ((test ≡ true) × (one ≡ Ok b)) ⊎ ((test ≡ false) × (other ≡ Ok b))
+either_way true one other b is = inl (refl, is)
+either_way false one other b is = inr (refl, is)
+
+leaf_said-ok : (fields : List (List ℕ)) (leaf : Leaf) → leaf_said fields ≡ Ok leaf → LeafFits leaf
+leaf_said-ok [] leaf is = absurd cc
+leaf_said-ok (field ∷ []) leaf is =
+    let (bytes, hex, encoded) = step_ok (ok_or (bytes_of field) cause.Hex) encoded_leaf leaf is in
+    (found_fits bytes leaf (bytes_fit field bytes (some_ok (bytes_of field) cause.Hex bytes hex)) (some_ok (whole_at leaf_at bytes) cause.Object leaf encoded)).0
+leaf_said-ok (field ∷ another ∷ more) leaf is = absurd cc
+
+no_log-shut : (draft : Draft) → HasNoLog draft → length draft.dump.logs ≤ draft.dump.config.shards
+no_log-shut draft none = let no : length draft.dump.logs ≡ 0 = ap length none.0 in omega arith
+
+module _ (draft next : Draft) (fields : List (List ℕ)) (kept : IsKept draft) where
+  shards_kept : HasNoLog draft → shards_line draft fields ≡ Ok next → IsKept next
+  shards_kept none is =
+      let (config, said, moved) = change_ok (shards_said draft.dump.config fields) (λ config. with_config draft stage.Faulty config) next is in
+      subst IsKept moved (with_config-kept draft stage.Faulty config kept none)
+
+  faulty_kept : HasNoLog draft → faulty_line draft fields ≡ Ok next → IsKept next
+  faulty_kept none is =
+      let (config, said, moved) = change_ok (faulty_said draft.dump.config fields) (λ config. with_config draft stage.Dummies config) next is in
+      subst IsKept moved (with_config-kept draft stage.Dummies config kept none)
+
+  dummies_kept : HasNoLog draft → dummies_line draft fields ≡ Ok next → IsKept next
+  dummies_kept none is =
+      let (config, said, moved) = change_ok (dummies_said draft.dump.config fields) (λ config. with_config draft stage.Contracts config) next is in
+      subst IsKept moved (with_config-kept draft stage.Contracts config kept none)
+
+  contract_kept : draft.stage ≡ stage.Contracts → contract_line draft fields ≡ Ok next → IsKept next
+  contract_kept at is =
+      let place = length draft.dump.contracts in
+      let (text, said, moved) = change_ok (contract_said place fields) (λ text. with_contract draft text) next is in
+      let (few, fits) = contract_said-ok place fields text said in
+      subst IsKept moved (with_contract-kept draft text kept at fits few)
+
+  genesis_kept : HasNoLog draft → genesis_line draft fields ≡ Ok next → IsKept next
+  genesis_kept none is =
+      let place = length draft.dump.genesis in
+      let (object, said, named) = step_ok (object_said place fields) (λ object. named_object draft object (name_of_genesis place object)) next is in
+      let (few, (fits, encoded)) = object_said-ok place fields object said in
+      let (new, done) = unless_ok (is_known (name_of_genesis place object) draft.names) (Ok (with_genesis draft object (name_of_genesis place object))) cause.Key next named in
+      subst IsKept (ok_same (with_genesis draft object (name_of_genesis place object)) next done) (with_genesis-kept draft object kept none fits few new)
+
+  log_kept : is_open draft ≡ false → length draft.dump.logs < draft.dump.config.shards → log_line draft fields ≡ Ok next → IsKept next
+  log_kept shut room is =
+      let (slots, said, moved) = change_ok (log_said (length draft.dump.logs) fields) (λ slots. with_log draft slots) next is in
+      subst IsKept moved (with_log-kept draft slots kept shut room)
+
+  leaf_kept : IsMidLog draft → 0 < draft.leaves_left → leaf_line draft fields ≡ Ok next → IsKept next
+  leaf_kept mid some is =
+      let (leaf, said, moved) = change_ok (leaf_said fields) (λ leaf. with_leaf draft leaf) next is in
+      subst IsKept moved (with_leaf-kept draft leaf kept mid some (leaf_said-ok fields leaf said))
+
+  head_kept : IsMidLog draft → 0 < draft.heads_left → head_line draft fields ≡ Ok next → IsKept next
+  head_kept mid some is =
+      let (head, said, moved) = change_ok (digest_said fields) (λ head. with_head draft head) next is in
+      subst IsKept moved (with_head-kept draft head kept mid some)
+
+  history_kept : HasAll draft → history_line draft fields ≡ Ok next → IsKept next
+  history_kept all is =
+      let (txs, said, moved) = change_ok (number_said fields) (λ txs. with_history draft txs) next is in
+      subst IsKept moved (with_history-kept draft txs kept all)
+
+  tx_kept : draft.stage ≡ stage.History → tx_line draft fields ≡ Ok next → IsKept next
+  tx_kept at is =
+      let (tx, said, moved) = change_ok (digest_said fields) (λ tx. with_tx draft tx) next is in
+      subst IsKept moved (with_tx-kept draft tx kept at)
+
+  end_kept : HasAll draft → end_line draft fields ≡ Ok next → IsKept next
+  end_kept all is =
+      let (nothing, said, moved) = change_ok (no_field fields) (λ nothing. at_stage draft stage.Ended) next is in
+      subst IsKept moved (at_stage-kept draft stage.Ended kept all)
+
+  next_place-kept : (word : List ℕ) → is_open draft ≡ false → length draft.dump.logs ≤ draft.dump.config.shards → next_place draft word fields ≡ Ok next → IsKept next
+  next_place-kept word shut within is =
+      let logs = if bytes_eq word (codes "log") then log_line draft fields else Err cause.Word in
+      let history = if bytes_eq word (codes "history") then history_line draft fields else Err cause.Word in
+      elim (either_way (nat_lt (length draft.dump.logs) draft.dump.config.shards) logs history next is) [
+        | inl more ↦ log_kept shut (ltb-true (length draft.dump.logs) draft.dump.config.shards more.0) (when_ok (bytes_eq word (codes "log")) (log_line draft fields) cause.Word next more.1).1
+        | inr done ↦
+            let least = ltb-false (length draft.dump.logs) draft.dump.config.shards done.0 in
+            let all : HasAll draft = omega arith in
+            history_kept all (when_ok (bytes_eq word (codes "history")) (history_line draft fields) cause.Word next done.1).1
+      ]
+
+  logs_place-kept : (word : List ℕ) → draft.stage ≡ stage.Logs → logs_place draft word fields ≡ Ok next → IsKept next
+  logs_place-kept word at is =
+      let some : HasSome draft = subst (λ s. IsPlaced s draft) at kept.placed in
+      let leaf = if bytes_eq word (codes "leaf") then leaf_line draft fields else Err cause.Word in
+      let head = if bytes_eq word (codes "head") then head_line draft fields else Err cause.Word in
+      let later = if nat_lt 0 draft.heads_left then head else next_place draft word fields in
+      elim (either_way (nat_lt 0 draft.leaves_left) leaf later next is) [
+        | inl more ↦
+            leaf_kept (record { at = at; left = ap (λ test. test || nat_lt 0 draft.heads_left) more.0 }) (ltb-true 0 draft.leaves_left more.0)
+            (when_ok (bytes_eq word (codes "leaf")) (leaf_line draft fields) cause.Word next more.1).1
+        | inr done ↦ elim (either_way (nat_lt 0 draft.heads_left) head (next_place draft word fields) next done.1) [
+          | inl more ↦
+              let left : is_open draft ≡ true = ap (λ test. test || nat_lt 0 draft.heads_left) done.0 ∙ more.0 in
+              head_kept (record { at = at; left = left }) (ltb-true 0 draft.heads_left more.0)
+              (when_ok (bytes_eq word (codes "head")) (head_line draft fields) cause.Word next more.1).1
+          | inr none ↦
+              let shut : is_open draft ≡ false = ap (λ test. test || nat_lt 0 draft.heads_left) done.0 ∙ none.0 in
+              next_place-kept word shut some.0 none.1
+        ]
+      ]
+
+  genesis_place-kept : (word : List ℕ) → HasNoLog draft → genesis_place draft word fields ≡ Ok next → IsKept next
+  genesis_place-kept word none is =
+      elim (either_ok (bytes_eq word (codes "genesis")) (genesis_line draft fields) (next_place draft word fields) next is) [
+        | inl genesis ↦ genesis_kept none genesis
+        | inr other ↦ next_place-kept word none.1 (no_log-shut draft none) other
+      ]
+
+  contracts_place-kept : (word : List ℕ) → draft.stage ≡ stage.Contracts → HasNoLog draft → contracts_place draft word fields ≡ Ok next → IsKept next
+  contracts_place-kept word at none is =
+      elim (either_ok (bytes_eq word (codes "contract")) (contract_line draft fields) (genesis_place draft word fields) next is) [
+        | inl contract ↦ contract_kept at contract
+        | inr other ↦ genesis_place-kept word none other
+      ]
+
+  history_place-kept : (word : List ℕ) → draft.stage ≡ stage.History → HasAll draft → history_place draft word fields ≡ Ok next → IsKept next
+  history_place-kept word at all is =
+      let tx = if bytes_eq word (codes "tx") then tx_line draft fields else Err cause.Word in
+      let ends = if bytes_eq word (codes "end") then end_line draft fields else Err cause.Word in
+      elim (either_way (nat_lt 0 draft.txs_left) tx ends next is) [
+        | inl more ↦ tx_kept at (when_ok (bytes_eq word (codes "tx")) (tx_line draft fields) cause.Word next more.1).1
+        | inr done ↦ end_kept all (when_ok (bytes_eq word (codes "end")) (end_line draft fields) cause.Word next done.1).1
+      ]
+
+  -- at its place in the dump
+  line_kept : (place : Stage) (word : List ℕ) → draft.stage ≡ place → IsPlaced place draft → line_at place draft word fields ≡ Ok next → IsKept next
+  line_kept stage.Before word at none is = subst IsKept (ok_same (before_place draft word fields) next is) (begun fields)
+    where
+      begins : (test : Bool) → IsKept (if test then at_stage draft stage.Shards else draft)
+      begins true = at_stage-kept draft stage.Shards kept none
+      begins false = kept
+
+      begun : (those : List (List ℕ)) → IsKept (before_place draft word those)
+      begun [] = begins (bytes_eq word (codes "dump"))
+      begun (field ∷ more) = kept
+  line_kept stage.Shards word at none is = shards_kept none (when_ok (bytes_eq word (codes "shards")) (shards_line draft fields) cause.Word next is).1
+  line_kept stage.Faulty word at none is = faulty_kept none (when_ok (bytes_eq word (codes "faulty")) (faulty_line draft fields) cause.Word next is).1
+  line_kept stage.Dummies word at none is = dummies_kept none (when_ok (bytes_eq word (codes "dummies")) (dummies_line draft fields) cause.Word next is).1
+  line_kept stage.Contracts word at none is = contracts_place-kept word at none is
+  line_kept stage.Genesis word at none is = genesis_place-kept word none is
+  line_kept stage.Logs word at some is = logs_place-kept word at is
+  line_kept stage.History word at all is = history_place-kept word at all is
+  line_kept stage.Ended word at all is = absurd cc
+
+step_kept : (draft next : Draft) (fields : List (List ℕ)) → IsKept draft → line_step draft fields ≡ Ok next → IsKept next
+step_kept draft next [] kept is = subst IsKept (ok_same draft next is) kept
+step_kept draft next (word ∷ fields) kept is =
+    elim (either_ok (slice_index word 0 == 35) (Ok draft) (line_at draft.stage draft word fields) next is) [
+      | inl comment ↦ subst IsKept (ok_same draft next comment) kept
+      | inr here ↦ line_kept draft next fields kept draft.stage word refl kept.placed here
+    ]
+
+then_lines-ok : (number : ℕ) (step : Result Draft Cause) (more : Draft → Result Draft Refusal) (last : Draft) → then_lines number step more ≡ Ok last
+    → (next : Draft) × (step ≡ Ok next) × (more next ≡ Ok last)
+then_lines-ok number (Ok next) more last is = (next, refl, is)
+then_lines-ok number (Err cause) more last is = absurd cc
+
+lines_kept : (text : List (List ℕ)) (number : ℕ) (draft last : Draft) → IsKept draft → read_lines draft number text ≡ Ok last → IsKept last
+lines_kept [] number draft last kept is = subst IsKept (ok_same draft last is) kept
+lines_kept (line ∷ more) number draft last kept is =
+    let (next, step, rest) = then_lines-ok number (line_step draft (fields_of line)) (λ next. read_lines next (number + 1) more) last is in
+    lines_kept more (number + 1) next last (step_kept draft next (fields_of line) kept step) rest
+
+-- at the end each shard has its log
+ended_formed : (draft : Draft) → IsKept draft → has_ended draft.stage ≡ true → IsFormed draft.dump
+ended_formed draft kept ended = record {
+  contracts = kept.given.accepted;
+  few_contracts = kept.given.few_contracts;
+  objects = kept.given.objects;
+  few_objects = kept.given.few_objects;
+  keys_differ = kept.given.differ;
+  shards = by draft.stage ended kept.placed;
+  logs = kept.logs;
+}
+  where
+    by : (at : Stage) → has_ended at ≡ true → IsPlaced at draft → HasAll draft
+    by stage.Before is placed = absurd cc
+    by stage.Shards is placed = absurd cc
+    by stage.Faulty is placed = absurd cc
+    by stage.Dummies is placed = absurd cc
+    by stage.Contracts is placed = absurd cc
+    by stage.Genesis is placed = absurd cc
+    by stage.Logs is placed = absurd cc
+    by stage.History is placed = absurd cc
+    by stage.Ended is placed = placed
+
+whole-formed : (number : ℕ) (text : List (List ℕ)) (dump : Dump) → whole number (read_lines empty_draft 1 text) ≡ Ok dump → IsFormed dump
+whole-formed number text dump is = by (read_lines empty_draft 1 text) refl is
+  where
+    by : (read : Result Draft Refusal) → read_lines empty_draft 1 text ≡ read → whole number read ≡ Ok dump → IsFormed dump
+    by (Ok draft) read done =
+        let (ended, same) = when_ok (has_ended draft.stage) (Ok draft.dump) (record { line = number; cause = cause.End }) dump done in
+        subst IsFormed (ok_same draft.dump dump same) (ended_formed draft (lines_kept text 1 empty_draft draft empty_kept read) ended)
+    by (Err refusal) read done = absurd cc
+
+cut_at-never : (number : ℕ) (read : Result Draft Refusal) (dump : Dump) → cut_at number read ≡ Ok dump → ⊥
+cut_at-never number (Ok draft) dump is = cc
+cut_at-never number (Err refusal) dump is = cc
+
+dump_formed : (limit : ℕ) (text : List ℕ) (dump : Dump) → dump_of limit text ≡ Ok dump → IsFormed dump
+unfolding dump_of
+dump_formed limit text dump is =
+    let long = cut_at (length (ended_lines (take limit text)) + 1) (read_lines empty_draft 1 (ended_lines (take limit text))) in
+    elim (either_ok (nat_le (length text) limit) (whole (length (lines text) + 1) (read_lines empty_draft 1 (lines text))) long dump is) [
+      | inl within ↦ whole-formed (length (lines text) + 1) (lines text) dump within
+      | inr beyond ↦ absurd (cut_at-never (length (ended_lines (take limit text)) + 1) (read_lines empty_draft 1 (ended_lines (take limit text))) dump beyond)
+    ]
+
+-- what is read of a text is formed
+pub given_formed : (given : Result Dump ScheduleError) (limit : ℕ) (text : List ℕ) → GivesText given (dump_of limit text) → IfOk given IsFormed
+given_formed (Ok dump) limit text gives = dump_formed limit text dump gives
+given_formed (Err error) limit text gives = tt

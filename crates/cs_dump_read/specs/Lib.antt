@@ -1,0 +1,6 @@
+pub mod Drafts
+pub mod Formed
+pub mod Lines
+pub mod Places
+pub mod Said
+pub mod Text

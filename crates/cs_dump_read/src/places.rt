@@ -1,0 +1,136 @@
+//! Which lines can stand at each place.
+ghost use Rattle.std.specs.Prelude.{◌≡◌};
+ghost use Rattle.cs_base.specs.Lines.{views, fields_of};
+ghost use Rattle.cs_sched.specs.Reading.{Moves};
+ghost use Rattle.cs_dump_read.specs.Places.{before_place, contracts_place, genesis_place, logs_place, next_place, history_place, line_at, line_step};
+
+use crate::draft::{Draft, Stage};
+use cs_base::fields;
+use cs_sched::{Cause, LineError};
+use std::alloc::Global;
+
+impl Draft {
+    // The draft after a line.
+    pub(crate) fn take_line(&mut self, alloc: Global, line: &[u8]) -> Result<(), LineError>
+        ensures { Moves result self.new (line_step self.old (fields_of line.now)) }
+    {
+        let fields = fields(alloc, line)?;
+        match fields.as_slice() {
+            [] => Ok(()),
+            [[b'#', ..], ..] => Ok(()),
+            [word, rest @ ..] => self.take_words(alloc, word, rest),
+        }
+    }
+
+    fn take_words(&mut self, alloc: Global, word: &[u8], fields: &[&[u8]]) -> Result<(), LineError>
+        ensures { Moves result self.new
+            (line_at self.old.stage self.old word.now (views fields.now)) }
+    {
+        match self.stage {
+            Stage::Before => {
+                self.take_before(word, fields);
+                Ok(())
+            }
+            Stage::Shards if word == b"shards".as_slice() => self.take_shards(fields),
+            Stage::Faulty if word == b"faulty".as_slice() => self.take_faulty(fields),
+            Stage::Dummies if word == b"dummies".as_slice() => self.take_dummies(fields),
+            Stage::Shards | Stage::Faulty | Stage::Dummies => Err(LineError::Bad(Cause::Word)),
+            Stage::Contracts => self.take_at_contracts(alloc, word, fields),
+            Stage::Genesis => self.take_at_genesis(alloc, word, fields),
+            Stage::Logs => self.take_at_logs(alloc, word, fields),
+            Stage::History => self.take_at_history(alloc, word, fields),
+            Stage::Ended => Err(LineError::Bad(Cause::After)),
+        }
+    }
+
+    fn take_before(&mut self, word: &[u8], fields: &[&[u8]])
+        ensures { self.new ≡ before_place self.old word.now (views fields.now) }
+    {
+        if fields.is_empty() && word == b"dump".as_slice() {
+            self.stage = Stage::Shards;
+        }
+    }
+
+    fn take_at_contracts(
+        &mut self,
+        alloc: Global,
+        word: &[u8],
+        fields: &[&[u8]],
+    ) -> Result<(), LineError>
+        ensures { Moves result self.new (contracts_place self.old word.now (views fields.now)) }
+    {
+        if word == b"contract".as_slice() {
+            self.take_contract(alloc, fields)
+        } else {
+            self.take_at_genesis(alloc, word, fields)
+        }
+    }
+
+    fn take_at_genesis(
+        &mut self,
+        alloc: Global,
+        word: &[u8],
+        fields: &[&[u8]],
+    ) -> Result<(), LineError>
+        ensures { Moves result self.new (genesis_place self.old word.now (views fields.now)) }
+    {
+        if word == b"genesis".as_slice() {
+            self.take_genesis(alloc, fields)
+        } else {
+            self.take_next(alloc, word, fields)
+        }
+    }
+
+    fn take_next(&mut self, alloc: Global, word: &[u8], fields: &[&[u8]]) -> Result<(), LineError>
+        ensures { Moves result self.new (next_place self.old word.now (views fields.now)) }
+    {
+        if self.dump.logs.len() < self.dump.config.shards as usize {
+            if word == b"log".as_slice() {
+                return self.take_log(alloc, fields);
+            }
+        } else if word == b"history".as_slice() {
+            return self.take_history(fields);
+        }
+        Err(LineError::Bad(Cause::Word))
+    }
+
+    fn take_at_logs(
+        &mut self,
+        alloc: Global,
+        word: &[u8],
+        fields: &[&[u8]],
+    ) -> Result<(), LineError>
+        ensures { Moves result self.new (logs_place self.old word.now (views fields.now)) }
+    {
+        if self.leaves_left > 0 {
+            if word == b"leaf".as_slice() {
+                return self.take_leaf(alloc, fields);
+            }
+        } else if self.heads_left > 0 {
+            if word == b"head".as_slice() {
+                return self.take_head(alloc, fields);
+            }
+        } else {
+            return self.take_next(alloc, word, fields);
+        }
+        Err(LineError::Bad(Cause::Word))
+    }
+
+    fn take_at_history(
+        &mut self,
+        alloc: Global,
+        word: &[u8],
+        fields: &[&[u8]],
+    ) -> Result<(), LineError>
+        ensures { Moves result self.new (history_place self.old word.now (views fields.now)) }
+    {
+        if self.txs_left > 0 {
+            if word == b"tx".as_slice() {
+                return self.take_tx(alloc, fields);
+            }
+        } else if word == b"end".as_slice() {
+            return self.take_end(fields);
+        }
+        Err(LineError::Bad(Cause::Word))
+    }
+}
