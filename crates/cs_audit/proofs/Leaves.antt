@@ -1,0 +1,121 @@
+-- The rules of a leaf, one after the other, and the shard behind it.
+use Rattle.std.proofs.Common.{◌≡◌, Bool, true, false, not, ◌==◌, List, length, Option, Some, None, refl, ap, sym, ◌∙◌}
+use Rattle.std.specs.Prelude.{if◌then◌else◌}
+use Rattle.cs_tx_form.specs.declared.checkpoint.Checkpoint.{Checkpoint}
+use Rattle.cs_tx_form.specs.declared.effect.Effect.{Effect}
+use Rattle.cs_tx_form.specs.declared.effect.Effect.TheVariants as effect
+use Rattle.cs_tx_form.specs.declared.vote.Vote.TheVariants as vote
+use Rattle.cs_tx_form.specs.declared.leaf.Leaf.{Leaf}
+use Rattle.cs_ledger.specs.Ledger.{Bytes}
+use Rattle.cs_checkpoint.specs.Chain.{made_last}
+use Rattle.cs_check.specs.Root.{keys_in}
+use Rattle.cs_table.specs.Effects.{effect_of}
+use Rattle.cs_table.specs.Seen.{seen}
+use Rattle.cs_node_state.specs.Setup.{Setup, is_fit, session_in}
+use Rattle.cs_audit_rules.specs.declared.verdict.Rule.{Rule}
+use Rattle.cs_audit_rules.specs.declared.verdict.Rule.TheVariants as rule
+use Rattle.cs_audit_rules.specs.Slots.{is_judged, same_effect, is_result, is_head, broken_by}
+use Rattle.cs_audit_rules.specs.Stands as rules
+use Rattle.cs_audit.specs.declared.stand.Stand.{Stand}
+use Rattle.cs_audit.specs.Standing.{stand_of, Executes, Follows}
+
+-- ---- effects
+
+pub same : (a : Effect) → same_effect (effect_of a) (effect_of a) ≡ true
+same (effect.Voted vote.Commit) = refl
+same (effect.Voted vote.Abort) = refl
+same effect.Accepted = refl
+same effect.Aborted = refl
+same effect.Skipped = refl
+same effect.Void = refl
+
+pub differ : (a b : Effect) → (a ≡ b → ⊥) → same_effect (effect_of a) (effect_of b) ≡ false
+differ (effect.Voted vote.Commit) (effect.Voted vote.Commit) ne = absurd (ne refl)
+differ (effect.Voted vote.Abort) (effect.Voted vote.Abort) ne = absurd (ne refl)
+differ effect.Accepted effect.Accepted ne = absurd (ne refl)
+differ effect.Aborted effect.Aborted ne = absurd (ne refl)
+differ effect.Skipped effect.Skipped ne = absurd (ne refl)
+differ effect.Void effect.Void ne = absurd (ne refl)
+differ _ _ ne = refl
+
+-- ---- the tests
+
+abbrev first_of : (slot form judge result head : Bool) → Option Rule
+first_of slot form judge result head =
+    if not slot then Some rule.Slot
+    else if not form then Some rule.Form
+    else if not judge then Some rule.Judge
+    else if not result then Some rule.Result
+    else if not head then Some rule.Head
+    else None
+
+module _ (setup : Setup) (heads : List Bytes) (leaf : Leaf) (s : Stand) where
+  abbrev slot : Bool
+  slot = leaf.slot == length s.chain.leaves
+
+  abbrev form : Bool
+  form = is_fit setup s.shard (session_in leaf.entry)
+
+  abbrev judge : Bool
+  judge = is_judged setup leaf.entry
+
+  abbrev result : Bool
+  result = is_result setup s.shard (stand_of s) leaf
+
+  abbrev head : Bool
+  head = is_head heads (made_last (rules.after_leaf setup s.shard (stand_of s) leaf).log)
+
+  abbrev broken : Option Rule
+  broken = broken_by setup s.shard heads (stand_of s) leaf
+
+  pub at_slot : slot ≡ false → broken ≡ Some rule.Slot
+  at_slot a = ap (λ x. first_of x form judge result head) a
+
+  pub at_form : slot ≡ true → form ≡ false → broken ≡ Some rule.Form
+  at_form a b = λ i. first_of (a i) (b i) judge result head
+
+  pub at_judge : slot ≡ true → form ≡ true → judge ≡ false → broken ≡ Some rule.Judge
+  at_judge a b c = λ i. first_of (a i) (b i) (c i) result head
+
+  pub at_result : slot ≡ true → form ≡ true → judge ≡ true → result ≡ false → broken ≡ Some rule.Result
+  at_result a b c d = λ i. first_of (a i) (b i) (c i) (d i) head
+
+  pub at_head : slot ≡ true → form ≡ true → judge ≡ true → result ≡ true → head ≡ false → broken ≡ Some rule.Head
+  at_head a b c d e = λ i. first_of (a i) (b i) (c i) (d i) (e i)
+
+  pub at_none : slot ≡ true → form ≡ true → judge ≡ true → result ≡ true → head ≡ true → broken ≡ None
+  at_none a b c d e = λ i. first_of (a i) (b i) (c i) (d i) (e i)
+
+  -- ---- what was executed
+
+  module _ (mid : Stand) (effect : Effect) (ran : Executes setup leaf.entry s mid effect) where
+    pub result_is : leaf.result ≡ effect → result ≡ true
+    result_is e =
+        ap (λ told. same_effect (effect_of told) (rules.outcome_of setup s.shard (stand_of s).table leaf).effect) e
+        ∙ ap (same_effect (effect_of effect)) (sym ran.effect_is) ∙ same effect
+
+    pub result_differs : (leaf.result ≡ effect → ⊥) → result ≡ false
+    result_differs ne =
+        ap (same_effect (effect_of leaf.result)) (sym ran.effect_is) ∙ differ leaf.result effect ne
+
+    module _ (new : Stand) (table : new.table ≡ mid.table) (config : new.config ≡ mid.config) (shard : new.shard ≡ mid.shard)
+        (chain : new.chain ≡ rules.told leaf (keys_in mid.table.rows) (seen mid.table) mid.chain) where
+      stand : stand_of new ≡ rules.after_leaf setup s.shard (stand_of s) leaf
+      stand =
+          (λ i. record { table = seen (table i); keys = keys_in (table i).rows; log = chain i })
+          ∙ (λ i. record { table = ran.table_is i; keys = ran.keys_are i; log = rules.told leaf (ran.keys_are i) (ran.table_is i) (ran.chain_stays i) })
+
+      pub follows : Follows setup leaf s new
+      follows = record {
+        stand_is = stand;
+        config_stays = config ∙ ran.config_stays;
+        shard_stays = shard ∙ ran.shard_stays;
+        placed = record {
+          shards = ap (λ t. t.shards) table ∙ ran.placed.shards ∙ ap (λ c. c.shards) (sym config);
+          shard = ap (λ t. t.shard) table ∙ ran.placed.shard ∙ sym shard;
+        };
+      }
+
+      -- the checkpoint that the slot made
+      pub head_is : (made : Option Checkpoint) → made ≡ made_last new.chain → head ≡ is_head heads made
+      head_is made is = ap (λ log. is_head heads (made_last log)) (sym (ap (λ (x : rules.Stand). x.log) stand)) ∙ ap (is_head heads) (sym is)

@@ -1,0 +1,11 @@
+pub mod Executing
+pub mod Leaves
+pub mod Starting
+pub mod Voting
+pub mod Going
+pub mod Supporting
+pub mod Shown
+pub mod Taking
+pub mod Telling
+pub mod Collecting
+pub mod Untold

@@ -1,0 +1,7 @@
+pub mod Committed
+pub mod Genesis
+pub mod Kept
+pub mod Ledgers
+pub mod Printed
+pub mod Standing
+pub mod Votes

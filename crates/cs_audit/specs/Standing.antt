@@ -1,0 +1,72 @@
+-- A shard whose log is executed anew, and what its calls come to.
+use Rattle.std.specs.Prelude.{◌≡◌, Bool, List, Option, Some, None}
+use Rattle.cs_tx_form.specs.declared.effect.Effect.{Effect}
+use Rattle.cs_tx_form.specs.declared.entry.Entry.{Entry}
+use Rattle.cs_tx_form.specs.declared.entry.Entry.TheVariants.{Prepare, Decide}
+use Rattle.cs_tx_form.specs.declared.leaf.Leaf.{Leaf}
+use Rattle.cs_tx_form.specs.declared.transaction.Tx.{Tx}
+use Rattle.cs_tx.specs.Sessions as seen
+use Rattle.cs_ledger.specs.Ledger.{Bytes}
+use Rattle.cs_ledger.specs.Table as ledger
+use Rattle.cs_table.specs.Calls.{anchor_in}
+use Rattle.cs_table.specs.Effects.{effect_of}
+use Rattle.cs_table.specs.Pieces.{rules_in}
+use Rattle.cs_table.specs.Seen.{Stored, seen as shown}
+use Rattle.cs_check.specs.Root.{keys_in}
+use Rattle.cs_check_rules.specs.Keys.{keys_after}
+use Rattle.cs_node_state.specs.Setup.{Setup, vote_of, entry_of}
+use Rattle.cs_audit_rules.specs.declared.verdict.Rule.{Rule}
+use Rattle.cs_audit_rules.specs.Slots.{broken_by}
+use Rattle.cs_audit_rules.specs.Stands as rules
+use Rattle.cs_audit.specs.declared.stand.Stand.{Stand}
+
+-- what the shard shows
+abbrev pub stand_of : Stand → rules.Stand
+stand_of s = record { table = shown s.table; keys = keys_in s.table.rows; log = s.chain }
+
+-- its table is that of the shard
+pub record IsPlaced (s : Stand) : Type 0 where
+  pub shards : s.table.shards ≡ s.config.shards
+  pub shard : s.table.shard ≡ s.shard
+
+-- ---- an entry
+
+-- as the ledger sees it, where these transactions are approved
+abbrev pub entry_seen : (Tx → Bool) → Entry → ledger.Entry
+entry_seen approves (Prepare x) = ledger.Prepare (seen.session_of approves x)
+entry_seen approves (Decide vote x) = ledger.Decide (seen.session_of approves x) (vote_of vote)
+
+-- what the table makes of it
+abbrev pub acted : Stored → ledger.Entry → ledger.Outcome
+acted table entry =
+    ledger.act (rules_in table.shards) table.shard (shown table) entry (anchor_in table (ledger.session_of entry))
+
+-- what executing it comes to
+abbrev pub executed : Setup → Stand → Entry → ledger.Outcome
+executed setup s entry = ledger.exec setup.rules s.shard (shown s.table) (entry_of setup entry)
+
+-- it was executed, and its effect was this
+pub record Executes (setup : Setup) (entry : Entry) (old new : Stand) (effect : Effect) : Type 0 where
+  pub effect_is : effect_of effect ≡ (executed setup old entry).effect
+  pub table_is : shown new.table ≡ (executed setup old entry).table
+  pub keys_are : keys_in new.table.rows
+      ≡ keys_after setup.rules old.shard (shown old.table) (entry_of setup entry) (keys_in old.table.rows)
+  pub chain_stays : new.chain ≡ old.chain
+  pub config_stays : new.config ≡ old.config
+  pub shard_stays : new.shard ≡ old.shard
+  pub placed : IsPlaced new
+
+-- ---- a leaf
+
+-- the shard went on behind it
+pub record Follows (setup : Setup) (leaf : Leaf) (old new : Stand) : Type 0 where
+  pub stand_is : stand_of new ≡ rules.after_leaf setup old.shard (stand_of old) leaf
+  pub config_stays : new.config ≡ old.config
+  pub shard_stays : new.shard ≡ old.shard
+  pub placed : IsPlaced new
+
+-- it broke no rule, and the shard went on behind it; or this is the first rule that it breaks
+abbrev pub TellsLeaf : Setup → List Bytes → Leaf → Stand → Stand → Option Rule → Type 0
+TellsLeaf setup heads leaf old new None =
+    (broken_by setup old.shard heads (stand_of old) leaf ≡ None) × Follows setup leaf old new
+TellsLeaf setup heads leaf old new (Some rule) = broken_by setup old.shard heads (stand_of old) leaf ≡ Some rule

@@ -1,0 +1,200 @@
+//! A shard as its log makes it, slot by slot.
+ghost use Rattle.std.specs.Prelude.{◌≡◌, List, Bool, true, IfOk, OnOk, IsSome, None, is_some};
+ghost use Rattle.std.specs.List.{All};
+ghost use Rattle.cs_base.specs.declared.config.Config.{Config as AnyConfig};
+ghost use Rattle.cs_tx_form.specs.declared.transaction.Tx.{Tx as AnyTx};
+ghost use Rattle.cs_tx_form.specs.Log.{LeafFits};
+ghost use Rattle.cs_tx_form.specs.Session.{SessionFits, EntryFits};
+ghost use Rattle.cs_tx_value.specs.declared.object.Object.{Object as AnyObject};
+ghost use Rattle.cs_tx_value.specs.Object.{ObjectFits};
+ghost use Rattle.cs_tx.specs.Digest.{digest_of_session};
+ghost use Rattle.cs_tx.specs.Sessions.{session_of};
+ghost use Rattle.cs_tx.specs.Uses.{anchor_of};
+ghost use Rattle.cs_check.specs.Root.{keys_in};
+ghost use Rattle.cs_checkpoint.specs.Chain.{empty_log, made_last};
+ghost use Rattle.cs_table.specs.Seen.{seen};
+ghost use Rattle.cs_table.specs.Calls.{anchor_in};
+ghost use Rattle.cs_table.specs.Effects.{effect_of, ComesTo};
+ghost use Rattle.cs_table.specs.Genesis.{twice};
+ghost use Rattle.cs_node_state.specs.Setup.{session_in, is_fit as fits_in};
+ghost use Rattle.cs_node_pool.specs.Deployed.{AtAnyGenesis, AtAnySetup, deployed};
+ghost use Rattle.cs_audit_rules.specs.Stands.{start_stand, told};
+ghost use Rattle.cs_audit_rules.specs.Slots.{is_judged as judged_in, is_head};
+ghost use Rattle.cs_audit.specs.Genesis.{keyed_from};
+ghost use Rattle.cs_audit.specs.Standing.{IsPlaced, stand_of, entry_seen, acted, Executes, TellsLeaf};
+
+use crate::setting::is_fit;
+use cs_audit_rules::Rule;
+use cs_base::{Config, Key, Memory};
+use cs_check::{Chain, root_is_shown};
+use cs_checkpoint::{Checkpoint, checkpoint_head, encode_leaf};
+use cs_table::{Table, TableError};
+use cs_tx::{Digest, Effect, Entry, Judge, Leaf, Object, Session};
+use std::alloc::Global;
+
+/// What the slots of a shard came to so far, by the same table and chain that nodes use.
+#[derive(Drop)]
+pub(crate) struct Stand {
+    config: Config,
+    shard: u16,
+    table: Table,
+    chain: Chain,
+}
+
+/// The session of an entry.
+pub(crate) fn session_in(entry: &Entry) -> &Session
+    ensures is { result.now ≡ session_in entry.now }
+    ensures fits { EntryFits entry.now → SessionFits result.now }
+{
+    match entry {
+        Entry::Prepare(session) => session,
+        Entry::Decide(_, session) => session,
+    }
+}
+
+// A vote is given on an approved transaction alone.
+fn is_judged<J: Judge>(alloc: Global, judge: &J, entry: &Entry) -> Result<bool, Memory>
+    requires { EntryFits entry.now }
+    ensures { (config : AnyConfig) → AtAnyGenesis config (J.is_approved judge.now) (λ setup.
+        IfOk result (λ judged. judged ≡ judged_in setup entry.now)) }
+{
+    match entry {
+        Entry::Prepare(session) => judge.approves(alloc, &session.tx),
+        Entry::Decide(..) => Ok(true),
+    }
+}
+
+// The checkpoint that a slot made has the head that is told under its number.
+fn is_head(heads: &[Digest], made: Option<Checkpoint>) -> bool
+    ensures { result ≡ is_head heads.now made }
+{
+    match made {
+        Some(checkpoint) => match heads.get(checkpoint.number as usize) {
+            Some(head) => checkpoint_head(&checkpoint) == *head,
+            None => false,
+        },
+        None => true,
+    }
+}
+
+// Carries out an entry on a table in which its session, of this digest, has an anchor.
+fn act(alloc: Global, table: &mut Table, entry: &Entry, digest: &Digest) -> Result<Effect, Memory>
+    requires fits { EntryFits entry.now }
+    requires named { digest.now ≡ digest_of_session (session_in entry.now) }
+    requires anchored { IsSome
+        (anchor_in table.old (session_of (λ tx. true) (session_in entry.now))) }
+    ensures { (approves : AnyTx → Bool) → IfOk result (λ effect.
+        ComesTo (acted table.old (entry_seen approves entry.now))
+        table.old table.new (effect_of effect)) }
+{
+    match entry {
+        Entry::Prepare(session) => {
+            let answer = table.prepare(alloc, session, digest)?;
+            Ok(Effect::Voted(answer.vote))
+        }
+        Entry::Decide(vote, session) => table.decide(alloc, session, digest, *vote),
+    }
+}
+
+impl Stand {
+    /// A shard before its first slot. No two of the objects have one key.
+    pub(crate) fn new(
+        alloc: Global,
+        config: Config,
+        shard: u16,
+        genesis: &[(Key, Object)],
+    ) -> Result<Stand, Memory>
+        requires fits { All (λ item. ObjectFits item.1) genesis.now }
+        requires apart { twice config.shards shard genesis.now ≡ None }
+        ensures config { IfOk result (λ s. s.config ≡ config) }
+        ensures shard { IfOk result (λ s. s.shard ≡ shard) }
+        ensures placed { IfOk result IsPlaced }
+        ensures chain { IfOk result (λ s. s.chain ≡ empty_log shard) }
+        ensures stand { (objects : List AnyObject) (approves : AnyTx → Bool) →
+            genesis.now ≡ keyed_from 0 objects → IfOk result (λ s.
+            stand_of s ≡ start_stand (deployed config objects approves) shard) }
+    {
+        match Table::genesis(alloc, config, shard, genesis) {
+            Ok(table) => {
+                root_is_shown(&table);
+                Ok(Stand {
+                    config,
+                    shard,
+                    table,
+                    chain: Chain::new(alloc, shard),
+                })
+            }
+            Err(TableError::Memory) => Err(Memory),
+            Err(TableError::Duplicate(_)) => unreachable!(),
+        }
+    }
+
+    // Executes an entry whose session, of this digest, is well formed and concerns the shard.
+    fn execute(&mut self, alloc: Global, entry: &Entry, digest: &Digest) -> Result<Effect, Memory>
+        requires placed { IsPlaced self.old }
+        requires fits { EntryFits entry.now }
+        requires named { digest.now ≡ digest_of_session (session_in entry.now) }
+        requires fit { AtAnySetup self.old.config
+            (λ setup. fits_in setup self.old.shard (session_in entry.now) ≡ true) }
+        requires anchored { is_some
+            (anchor_of self.old.config (session_in entry.now) self.old.shard) ≡ true }
+        ensures { AtAnySetup self.old.config (λ setup. IfOk result (λ effect.
+            Executes setup entry.now self.old self.new effect)) }
+    {
+        root_is_shown(&self.table);
+        let effect = act(alloc, &mut self.table, entry, digest)?;
+        root_is_shown(&self.table);
+        Ok(effect)
+    }
+
+    // Adds a leaf whose entry was executed last.
+    fn push(&mut self, alloc: Global, leaf: &Leaf) -> Result<Option<Checkpoint>, Memory>
+        requires { LeafFits leaf.now }
+        ensures made { IfOk result (λ made. made ≡ made_last self.new.chain) }
+        ensures chain { OnOk result (self.new.chain ≡ told
+            leaf.now (keys_in self.old.table.rows) (seen self.old.table) self.old.chain) }
+        ensures table { OnOk result (self.new.table ≡ self.old.table) }
+        ensures config { OnOk result (self.new.config ≡ self.old.config) }
+        ensures shard { OnOk result (self.new.shard ≡ self.old.shard) }
+    {
+        root_is_shown(&self.table);
+        let bytes = encode_leaf(alloc, leaf)?;
+        self.chain.push(alloc, bytes, &self.table)
+    }
+
+    /// Takes the leaf of the next slot, of whose session this is the digest, or tells the first rule
+    /// that it breaks. Then the shard isn't used again.
+    pub(crate) fn take<J: Judge>(
+        &mut self,
+        alloc: Global,
+        judge: &J,
+        heads: &[Digest],
+        leaf: &Leaf,
+        digest: &Digest,
+    ) -> Result<Option<Rule>, Memory>
+        requires placed { IsPlaced self.old }
+        requires fits { LeafFits leaf.now }
+        requires named { digest.now ≡ digest_of_session (session_in leaf.now.entry) }
+        ensures { AtAnyGenesis self.old.config (J.is_approved judge.now) (λ setup.
+            IfOk result (TellsLeaf setup heads.now leaf.now self.old self.new)) }
+    {
+        if leaf.slot != self.chain.slots() {
+            return Ok(Some(Rule::Slot));
+        }
+        if !is_fit(alloc, &self.config, self.shard, session_in(&leaf.entry))? {
+            return Ok(Some(Rule::Form));
+        }
+        if !is_judged(alloc, judge, &leaf.entry)? {
+            return Ok(Some(Rule::Judge));
+        }
+        let effect = self.execute(alloc, &leaf.entry, digest)?;
+        if effect != leaf.result {
+            return Ok(Some(Rule::Result));
+        }
+        let made = self.push(alloc, leaf)?;
+        if !is_head(heads, made) {
+            return Ok(Some(Rule::Head));
+        }
+        Ok(None)
+    }
+}
