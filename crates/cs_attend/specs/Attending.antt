@@ -1,0 +1,120 @@
+-- A client over a link: what it takes, what is offered, and how its run ends.
+use Rattle.std.specs.Prelude.{◌≡◌, ◌≢◌, ◌⊎◌, ℕ, ◌+◌, ◌-◌, ◌^◌, ◌≤◌, min, List, [], ◌∷◌, ◌++◌, length, reverse, Option, Result, Ok, Err, IfSome}
+use Rattle.cs_outer.specs.Told.{Changes, Stays}
+use Rattle.cs_outer.specs.Link.{Offers}
+use Rattle.cs_proc.specs.declared.error.ProcError.{ProcError}
+use Rattle.cs_serve.specs.declared.receiving.TheConstants.{MOST_MISSED}
+use Rattle.cs_serve.specs.Offering.{offers_in, Adds, AddsFront}
+use Rattle.cs_client.specs.declared.errand.Errand.{Errand}
+use Rattle.cs_client.specs.declared.known.Known.TheVariants as known
+use Rattle.cs_client.specs.Inputs.{Input}
+use Rattle.cs_client.specs.Knowing.{knows}
+use Rattle.cs_client.specs.Sayings.{says_at, says_by, outs_of}
+use Rattle.cs_client.specs.Seen.{Client}
+use Rattle.cs_client.specs.Standing.{StandsFor, IsRefused}
+use Rattle.cs_attend.specs.declared.ending.Ending.{Ending}
+use Rattle.cs_attend.specs.declared.ending.Ending.TheVariants.{Knows, Refused, LinkFault, Memory}
+
+-- what the link tells
+pub record Side : Type 0 where
+  pub left : Option (List Input)  -- the inputs that are left
+  pub offered : Option Offers
+  pub missed : ℕ  -- receives in a row that failed
+
+abbrev pub side : Option (List Input) → Option Offers → ℕ → Side
+side left offered missed = record { left = left; offered = offered; missed = missed }
+
+-- the first inputs that were left are gone, and are these, the newest first
+abbrev pub Takes : List Input → Side → Side → Type 0
+Takes inputs old new =
+    Changes (λ before now. (taken : List Input) × (before ≡ taken ++ now) × (inputs ≡ reverse taken)) old.left new.left
+
+-- all that the client says at these inputs, as datagrams with who they are for
+abbrev pub offers_by : Errand → List Input → Offers
+offers_by e inputs = offers_in (outs_of e.keys (says_by e inputs))
+
+abbrev pub offers_at : Errand → Input → List Input → Offers
+offers_at e input past = offers_in (outs_of e.keys (says_at e input past))
+
+-- ---- how it ends
+
+-- before the last of these inputs nothing was known
+abbrev pub WasOpen : Errand → List Input → Type 0
+WasOpen e [] = Unit {0}
+WasOpen e (input ∷ past) = (knows e past ≡ known.Open) × WasOpen e past
+
+-- no more inputs were to be taken, or none was left
+abbrev pub IsOver : ℕ → List Input → Side → Type 0
+IsOver turns inputs new = (length inputs ≡ turns) ⊎ IfSome new.left (λ left. left ≡ [])
+
+-- so many receives in a row had failed, before the link was asked again
+abbrev pub missed_past : ℕ → List Input → ℕ
+missed_past before [] = before
+missed_past before (input ∷ past) = 0
+
+-- the method is refused at the last of these inputs; of that one nothing is said
+abbrev pub EndsRefused : Errand → List Input → Side → Side → ProcError → Type 0
+EndsRefused e [] old new cause = ⊥
+EndsRefused e (input ∷ past) old new cause =
+    IsRefused e past input cause × Adds (offers_by e past) old.offered new.offered
+
+-- Knows: so much is known; where it is nothing, the inputs are over. LinkFault: so many receives in a row failed. With
+-- these all that the client says was offered; for want of memory a front of it.
+abbrev pub Ends : Errand → ℕ → List Input → Side → Side → Ending → Type 0
+Ends e turns inputs old new (Knows so) =
+    (knows e inputs ≡ so) × (so ≡ known.Open → IsOver turns inputs new)
+    × Adds (offers_by e inputs) old.offered new.offered
+Ends e turns inputs old new (Refused cause) = EndsRefused e inputs old new cause
+Ends e turns inputs old new LinkFault =
+    (new.missed ≡ min (missed_past old.missed inputs + MOST_MISSED) (2 ^ 64 - 1))
+    × (knows e inputs ≡ known.Open) × Adds (offers_by e inputs) old.offered new.offered
+Ends e turns inputs old new Memory = AddsFront (offers_by e inputs) old.offered new.offered
+
+-- A client was run: these inputs were taken, before the last of which nothing was known, and it ended so.
+pub record Attends (e : Errand) (turns : ℕ) (old new : Side) (ending : Ending) : Type 0 where
+  pub inputs : List Input
+  pub few : length inputs ≤ turns
+  pub takes : Takes inputs old new
+  pub unknown : WasOpen e inputs
+  pub ends : Ends e turns inputs old new ending
+
+-- ---- one input
+
+-- these were offered, and the client, which stands for these inputs, knows nothing yet; or this is how it ends
+abbrev pub Says : Errand → List Input → Offers → Option Offers → Option Offers → Result Client Ending → Type 0
+Says e inputs offers old new (Ok client) =
+    StandsFor e inputs client × (knows e inputs ≡ known.Open) × Adds offers old new
+Says e inputs offers old new (Err (Knows so)) = (knows e inputs ≡ so) × (so ≢ known.Open) × Adds offers old new
+Says e inputs offers old new (Err (Refused cause)) = ⊥
+Says e inputs offers old new (Err LinkFault) = ⊥
+Says e inputs offers old new (Err Memory) = AddsFront offers old new
+
+-- an input was answered, or the method is refused at it
+abbrev pub GoesBy : Errand → List Input → Input → Option Offers → Option Offers → Result Client Ending → Type 0
+GoesBy e past input old new (Err (Refused cause)) = IsRefused e past input cause × Stays old new
+GoesBy e past input old new result = Says e (input ∷ past) (offers_at e input past) old new result
+
+-- the first input that was left is gone, and was answered
+pub record Answers (e : Errand) (past : List Input) (old new : Side) (result : Result Client Ending) : Type 0 where
+  pub input : Input
+  pub takes : Takes (input ∷ []) old new
+  pub missed : new.missed ≡ 0
+  pub goes : GoesBy e past input old.offered new.offered result
+
+-- nothing was left
+pub record HasNone (old new : Side) : Type 0 where
+  pub none : IfSome new.left (λ left. left ≡ [])
+  pub left : Stays old.left new.left
+  pub offered : Stays old.offered new.offered
+
+-- too many receives failed
+pub record HasFailed (old new : Side) : Type 0 where
+  pub missed : new.missed ≡ min (old.missed + MOST_MISSED) (2 ^ 64 - 1)
+  pub left : Stays old.left new.left
+  pub offered : Stays old.offered new.offered
+
+-- what came of one turn
+abbrev pub Goes : Errand → List Input → Side → Side → Result Client Ending → Type 0
+Goes e past old new (Err (Knows known.Open)) = HasNone old new
+Goes e past old new (Err LinkFault) = HasFailed old new
+Goes e past old new result = Answers e past old new result

@@ -1,0 +1,108 @@
+//! Running a client.
+ghost use Rattle.std.specs.Prelude.{◌≡◌, ◌+◌, ◌≤◌, List, [], length, IsErrOf};
+ghost use Rattle.cs_base.specs.Outside.{HasCause};
+ghost use Rattle.cs_base.specs.declared.limits.TheConstants.{MOST_DATAGRAM};
+ghost use Rattle.cs_outer.specs.Told.{Stays};
+ghost use Rattle.cs_client.specs.declared.errand.Errand.{Errand};
+ghost use Rattle.cs_client.specs.Inputs.{Input as Given, input_of};
+ghost use Rattle.cs_client.specs.Standing.{StandsFor};
+ghost use Rattle.cs_serve.specs.Offering.{offers_in};
+ghost use Rattle.cs_attend.specs.Attending.{side, Attends, Goes, GoesBy, Says};
+
+use crate::ending::Ending;
+use cs_base::{MOST_DATAGRAM, Sequence};
+use cs_client::{ClientCore, ClientError, Input, Known, Out};
+use cs_outer::{Arrived, Link};
+use cs_serve::{offer, receive};
+use std::alloc::Global;
+
+/// Gives a client so many inputs of the link, and offers what it says. It ends at the first input
+/// after which the client knows what has become of its session, or at which its method is refused;
+/// else where the link has nothing left or fails too often in a row, or for want of memory.
+pub fn attend<L: Link>(alloc: Global, client: ClientCore, link: &mut L, turns: u64) -> Ending
+    ensures attends { (e : Errand) → StandsFor e [] client → Attends e turns
+        (side (L.left link.old) (L.offered link.old) (L.missed link.old))
+        (side (L.left link.new) (L.offered link.new) (L.missed link.new)) result }
+    ensures bound { Stays (L.bound link.old) (L.bound link.new) }
+    ensures cause { HasCause (L.faults link.old) (L.faults link.new) (result ≡ Ending.LinkFault) }
+{
+    let Ok(mut room) = vec![in alloc; 0u8; MOST_DATAGRAM + 1] else {
+        return Ending::Memory;
+    };
+    let buf = room.as_mut_slice();
+    let mut client = client;
+    for _turn in 0..turns {
+        match take_turn(alloc, client, link, buf) {
+            Ok(next) => client = next,
+            Err(ending) => return ending,
+        }
+    }
+    Ending::Knows(Known::Open)
+}
+
+// Takes an input and answers it: the client after it, or how its run ends.
+fn take_turn<L: Link>(
+    alloc: Global,
+    client: ClientCore,
+    link: &mut L,
+    buf: &mut [u8],
+) -> Result<ClientCore, Ending>
+    requires { length buf.old ≡ MOST_DATAGRAM + 1 }
+    ensures goes { (e : Errand) (past : List Given) → StandsFor e past client → Goes e past
+        (side (L.left link.old) (L.offered link.old) (L.missed link.old))
+        (side (L.left link.new) (L.offered link.new) (L.missed link.new)) result }
+    ensures bound { Stays (L.bound link.old) (L.bound link.new) }
+    ensures cause { HasCause (L.faults link.old) (L.faults link.new)
+        (IsErrOf result Ending.LinkFault) }
+{
+    match receive(link, buf) {
+        Arrived::Datagram(count) => {
+            let (bytes, _) = buf.split_at(count);
+            answer(alloc, client, Input::Datagram(bytes), link)
+        }
+        Arrived::Tick => answer(alloc, client, Input::Tick, link),
+        Arrived::End => Err(Ending::Knows(Known::Open)),
+        Arrived::Failed => Err(Ending::LinkFault),
+    }
+}
+
+// Gives the client an input, and offers what it says of it.
+fn answer<L: Link>(
+    alloc: Global,
+    client: ClientCore,
+    input: Input<'_>,
+    link: &mut L,
+) -> Result<ClientCore, Ending>
+    ensures goes { (e : Errand) (past : List Given) → StandsFor e past client →
+        GoesBy e past (input_of input.entry) (L.offered link.old) (L.offered link.new) result }
+    ensures only { IsErrOf result Ending.LinkFault → ⊥ }
+    ensures left { Stays (L.left link.old) (L.left link.new) }
+    ensures bound { Stays (L.bound link.old) (L.bound link.new) }
+    ensures missed { L.missed link.new ≡ L.missed link.old }
+    ensures faults { L.faults link.old ≤ L.faults link.new }
+{
+    match client.step(alloc, input) {
+        Ok((client, outs)) => say(client, outs, link),
+        Err(ClientError::Refused(cause)) => Err(Ending::Refused(cause)),
+        Err(ClientError::Memory) => Err(Ending::Memory),
+    }
+}
+
+// Offers what the client says, and asks it what it knows.
+fn say<L: Link>(client: ClientCore, outs: Sequence<Out>, link: &mut L) -> Result<ClientCore, Ending>
+    ensures says { (e : Errand) (inputs : List Given) → StandsFor e inputs client →
+        Says e inputs (offers_in outs) (L.offered link.old) (L.offered link.new) result }
+    ensures only { IsErrOf result Ending.LinkFault → ⊥ }
+    ensures left { Stays (L.left link.old) (L.left link.new) }
+    ensures bound { Stays (L.bound link.old) (L.bound link.new) }
+    ensures missed { L.missed link.new ≡ L.missed link.old }
+    ensures faults { L.faults link.old ≤ L.faults link.new }
+{
+    let Ok(()) = offer(link, outs.as_slice()) else {
+        return Err(Ending::Memory);
+    };
+    match client.known() {
+        Known::Open => Ok(client),
+        known => Err(Ending::Knows(known)),
+    }
+}

@@ -1,0 +1,183 @@
+-- What a client keeps before its first input, and that what it keeps has its form.
+use Rattle.std.proofs.Common.{◌≡◌, ℕ, zero, suc, ◌+◌, ◌*◌, ◌<◌, Bool, true, false, List, [], ◌∷◌, ◌++◌, length, map, Option, Some, None, refl, sym, ap, subst, ◌∙◌, arith, length-set, replicate, if◌then◌else◌}
+use Rattle.std.specs.Prelude.{slice_set, slice_get, bytes_eq, is_some, option_map, ◌==◌}
+use Rattle.std.specs.List.{AllByRecursion}
+use Rattle.std.proofs.lemmas.List.{map-append, length-replicate}
+use Rattle.cs_base.specs.declared.config.Config.{Config}
+use Rattle.cs_base.specs.declared.key.Key.{Key}
+use Rattle.cs_base.specs.declared.key.Key.TheVariants as key
+use Rattle.cs_base.specs.declared.node_id.NodeId.{NodeId}
+use Rattle.cs_base.specs.Key.{shard_of_key}
+use Rattle.cs_base.specs.NodeId.{is_node, members_below}
+use Rattle.cs_tx_value.specs.declared.object.Object.{Object}
+use Rattle.cs_tx_form.specs.declared.state.State.{State}
+use Rattle.cs_tx_form.specs.declared.state.State.TheVariants as state
+use Rattle.cs_tx_form.specs.State.{StateFits}
+use Rattle.cs_client.specs.declared.beliefs.Asked.{Asked}
+use Rattle.cs_client.specs.declared.errand.Errand.{Errand}
+use Rattle.cs_client.specs.Objects.{active, word_on, words_on, first_believed, shard_of_name}
+use Rattle.cs_client.specs.Dummies.{serial_by, serials_in}
+use Rattle.cs_client.specs.Kept.{Told, told_by, asked_with, asked_on, shards_below, unheard_on, unheard, with_word, with_told, serials_kept, with_state, heard_of, WordFits, AskedFits, HasAll, ToldFits, IsMarked, ToldMarked}
+use Rattle.cs_client.proofs.Members.{node_at, same-each}
+use Rattle.cs_client.proofs.Telling.{is_in, is-one, isn't, told-eq}
+
+-- ---- before the first input
+
+module _ {A : Type 0} where
+  replicate-more : (n : ℕ) (c : A) → replicate n c ++ c ∷ [] ≡ replicate (suc n) c
+  replicate-more zero c = refl
+  replicate-more (suc n) c = ap (λ cs. c ∷ cs) (replicate-more n c)
+
+  none-members : (F : NodeId → A) (c : A) (shard n : ℕ) → ((node : NodeId) → F node ≡ c) → map F (members_below shard n) ≡ replicate n c
+  none-members F c shard zero same = refl
+  none-members F c shard (suc n) same =
+      map-append F (members_below shard n) (node_at shard n ∷ [])
+      ∙ (ap (λ cs. cs ++ F (node_at shard n) ∷ []) (none-members F c shard n same)
+      ∙ (ap (λ y. replicate n c ++ y ∷ []) (same (node_at shard n)) ∙ replicate-more n c))
+
+  none-shards : (F : ℕ → A) (c : A) (n : ℕ) → ((shard : ℕ) → F shard ≡ c) → map F (shards_below n) ≡ replicate n c
+  none-shards F c zero same = refl
+  none-shards F c (suc n) same =
+      map-append F (shards_below n) (n ∷ [])
+      ∙ (ap (λ cs. cs ++ F n ∷ []) (none-shards F c n same) ∙ (ap (λ y. replicate n c ++ y ∷ []) (same n) ∙ replicate-more n c))
+
+none-believed : (f n : ℕ) (all : List (Option Object)) → first_believed f all (replicate n None) ≡ None
+none-believed f zero all = refl
+none-believed f (suc n) all = none-believed f n all
+
+pub nothing-told : (e : Errand) → told_by e [] ≡ unheard e.config e.call.inputs e.call.reads
+nothing-told e =
+    let n = 3 * e.config.f + 1 in
+    let words : (name : List ℕ) → words_on e.config e.keys name [] ≡ replicate n None = λ name.
+    none-members (word_on e.keys name []) None (shard_of_name e.config name) n (λ node. refl) in
+    let asked : (name : List ℕ) → asked_on e.config e.keys [] name ≡ unheard_on n name = λ name.
+    ap (asked_with e.config.f name) (words name)
+    ∙ ap (λ b. let one : Asked = record { name = name; words = replicate n None; settled = b } in one) (ap is_some (none-believed e.config.f n (replicate n None))) in
+    let inputs = same-each (asked_on e.config e.keys []) (unheard_on n) e.call.inputs asked in
+    let reads = same-each (asked_on e.config e.keys []) (unheard_on n) e.call.reads asked in
+    let serials : map (serials_in e.config e.keys []) (shards_below e.config.shards) ≡ replicate e.config.shards (replicate n None) =
+    none-shards (serials_in e.config e.keys []) (replicate n None) e.config.shards (λ shard. none-members (serial_by e.keys []) None shard n (λ node. refl)) in
+    told-eq (told_by e []) (unheard e.config e.call.inputs e.call.reads) inputs reads serials
+
+-- ---- its form
+
+module _ {X : Type 0} (P : X → Type 0) where
+  all-replicate : (n : ℕ) (x : X) → P x → AllByRecursion P (replicate n x)
+  all-replicate zero x h = tt
+  all-replicate (suc n) x h = (h, all-replicate n x h)
+
+  all-set : (xs : List X) (i : ℕ) (x : X) → AllByRecursion P xs → P x → AllByRecursion P (slice_set xs i x)
+  all-set [] i x all h = tt
+  all-set (y ∷ xs) zero x all h = (h, all.1)
+  all-set (y ∷ xs) (suc i) x all h = (all.0, all-set xs i x all.1 h)
+
+  all-at : (xs : List X) (i : ℕ) (x : X) → AllByRecursion P xs → slice_get xs i ≡ Some x → P x
+  all-at [] i x all is = absurd cc
+  all-at (y ∷ xs) zero x all is = subst P (let e : y ≡ x = cc in e) all.0
+  all-at (y ∷ xs) (suc i) x all is = all-at xs i x all.1 is
+
+  all-map : {Y : Type 0} (f : Y → X) (ys : List Y) → ((y : Y) → P (f y)) → AllByRecursion P (map f ys)
+  all-map f [] h = tt
+  all-map f (y ∷ ys) h = (h y, all-map f ys h)
+
+  all-changed : (f : X → X) (xs : List X) → ((x : X) → P x → P (f x)) → AllByRecursion P xs → AllByRecursion P (map f xs)
+  all-changed f [] h all = tt
+  all-changed f (x ∷ xs) h all = (h x all.0, all-changed f xs h all.1)
+
+pub unheard-fits : (config : Config) (inputs reads : List (List ℕ)) → ToldFits config (unheard config inputs reads)
+unheard-fits config inputs reads =
+    let n = 3 * config.f + 1 in
+    let one : (name : List ℕ) → AskedFits n (unheard_on n name) = λ name.
+    record { all = length-replicate n None; fit = all-replicate WordFits n None tt } in
+    record {
+      inputs = all-map (AskedFits n) (unheard_on n) inputs one;
+      reads = all-map (AskedFits n) (unheard_on n) reads one;
+      shards = length-replicate config.shards (replicate n None);
+      serials = all-replicate (HasAll n) config.shards (replicate n None) (length-replicate n None);
+    }
+
+pub unheard-marked : (config : Config) (inputs reads : List (List ℕ)) → ToldMarked config.f (unheard config inputs reads)
+unheard-marked config inputs reads =
+    let n = 3 * config.f + 1 in
+    let one : (name : List ℕ) → IsMarked config.f (unheard_on n name) = λ name. sym (ap is_some (none-believed config.f n (replicate n None))) in
+    record { inputs = all-map (IsMarked config.f) (unheard_on n) inputs one; reads = all-map (IsMarked config.f) (unheard_on n) reads one }
+
+pub active-fits : (s : State) → StateFits s → WordFits (active s)
+active-fits state.Unknown fits = tt
+active-fits (state.Active object) fits = fits
+active-fits (state.Locked object session) fits = tt
+active-fits (state.Inactive session) fits = tt
+
+told-fits : (n f : ℕ) (name : List ℕ) (index : ℕ) (word : Option Object) → WordFits word → (asked : Asked) → AskedFits n asked → AskedFits n (with_told f name index word asked)
+told-fits n f name index word fits asked before = by (bytes_eq asked.name name) where
+  by : (here : Bool) → AskedFits n (if here then with_word f index word asked else asked)
+  by true = record { all = length-set asked.words index word ∙ before.all; fit = all-set WordFits asked.words index word before.fit fits }
+  by false = before
+
+told-marked : (f : ℕ) (name : List ℕ) (index : ℕ) (word : Option Object) (asked : Asked) → IsMarked f asked → IsMarked f (with_told f name index word asked)
+told-marked f name index word asked before = by (bytes_eq asked.name name) where
+  by : (here : Bool) → IsMarked f (if here then with_word f index word asked else asked)
+  by true = refl
+  by false = before
+
+kept-all : (n : ℕ) (serials : List (List (Option ℕ))) (shard : ℕ) → shard < length serials → AllByRecursion (HasAll n) serials → HasAll n (serials_kept serials shard)
+kept-all n [] shard less all = absurd (omega arith)
+kept-all n (words ∷ serials) zero less all = all.0
+kept-all n (words ∷ serials) (suc shard) less all = kept-all n serials shard (omega arith) all.1
+
+-- a node of the configuration has its place among the words of its shard
+pub has-words : (config : Config) (from : NodeId) (told : Told) → is_node config from ≡ true → ToldFits config told → from.index < length (serials_kept told.serials from.shard)
+has-words config from told known fits =
+    let place = is_in config from known in
+    let many = fits.shards in
+    let long : length (serials_kept told.serials from.shard) ≡ 3 * config.f + 1 =
+    kept-all (3 * config.f + 1) told.serials from.shard (omega arith) fits.serials in
+    omega arith
+
+-- what is told of a key of this shard, and of one of another
+pub heard-here : (config : Config) (from : NodeId) (k : Key) (s : State) (told : Told) → shard_of_key config.shards k ≡ from.shard → heard_of config from k s told ≡ with_state config.f from k (active s) told
+heard-here config from k s told here =
+    ap (λ t. if t then with_state config.f from k (active s) told else told) (is-one (shard_of_key config.shards k) from.shard here)
+
+pub heard-apart : (config : Config) (from : NodeId) (k : Key) (s : State) (told : Told) → (shard_of_key config.shards k ≡ from.shard → ⊥) → heard_of config from k s told ≡ told
+heard-apart config from k s told apart =
+    ap (λ t. if t then with_state config.f from k (active s) told else told) (isn't (shard_of_key config.shards k) from.shard apart)
+
+pub heard-fits : (config : Config) (from : NodeId) (k : Key) (s : State) (told : Told) → is_node config from ≡ true → StateFits s → ToldFits config told → ToldFits config (heard_of config from k s told)
+heard-fits config from k s told known fits before = by (shard_of_key config.shards k == from.shard) k where
+  by : (here : Bool) (k : Key) → ToldFits config (if here then with_state config.f from k (active s) told else told)
+  by false k = before
+  by true (key.Object name) =
+      let n = 3 * config.f + 1 in
+      let one = told-fits n config.f name from.index (active s) (active-fits s fits) in
+      record {
+        inputs = all-changed (AskedFits n) (with_told config.f name from.index (active s)) told.inputs one before.inputs;
+        reads = all-changed (AskedFits n) (with_told config.f name from.index (active s)) told.reads one before.reads;
+        shards = before.shards;
+        serials = before.serials;
+      }
+  by true (key.Dummy shard serial) =
+      let n = 3 * config.f + 1 in
+      let place = is_in config from known in
+      let many = before.shards in
+      let words = serials_kept told.serials from.shard in
+      let word = option_map (λ object. serial) (active s) in
+      record {
+        inputs = before.inputs;
+        reads = before.reads;
+        shards = length-set told.serials from.shard (slice_set words from.index word) ∙ before.shards;
+        serials = all-set (HasAll n) told.serials from.shard (slice_set words from.index word) before.serials
+            (length-set words from.index word ∙ kept-all n told.serials from.shard (omega arith) before.serials);
+      }
+
+pub heard-marked : (config : Config) (from : NodeId) (k : Key) (s : State) (told : Told) → ToldMarked config.f told → ToldMarked config.f (heard_of config from k s told)
+heard-marked config from k s told before = by (shard_of_key config.shards k == from.shard) k where
+  by : (here : Bool) (k : Key) → ToldMarked config.f (if here then with_state config.f from k (active s) told else told)
+  by false k = before
+  by true (key.Object name) =
+      let one = told-marked config.f name from.index (active s) in
+      record {
+        inputs = all-changed (IsMarked config.f) (with_told config.f name from.index (active s)) told.inputs one before.inputs;
+        reads = all-changed (IsMarked config.f) (with_told config.f name from.index (active s)) told.reads one before.reads;
+      }
+  by true (key.Dummy shard serial) = record { inputs = before.inputs; reads = before.reads }

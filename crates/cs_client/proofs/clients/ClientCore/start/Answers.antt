@@ -1,0 +1,32 @@
+use Rattle.std.proofs.Common.{refl, sym, ap, subst, ◌∙◌}
+use Rattle.cs_client.specs.Kept.{unheard, ToldFits, ToldMarked}
+use Rattle.cs_client.specs.Standing.{errand_for}
+use Rattle.cs_client.proofs.Beginning.{nothing-told, unheard-fits, unheard-marked}
+use Rattle.cs_client.proofs.clients.ClientCore.start.Goals as goal
+
+pub invariant_of-result : goal.invariant_of-result
+invariant_of-result c =
+    let config = c.args.site.config in
+    let i = c.as_slice.result.now in
+    let r = c.as_slice-2.result.now in
+    record {
+      told_fits = subst (ToldFits config) (sym c.in_ok-beliefs.ensures) (unheard-fits config i r);
+      told_marked = subst (ToldMarked config.f) (sym c.in_ok-beliefs.ensures) (unheard-marked config i r);
+      phase_fits = tt;
+    }
+
+pub returns : goal.returns
+returns c =
+    let config = c.args.site.config in
+    record {
+      errand_is = refl;
+      keeps = record {
+        told_is =
+            c.in_ok-beliefs.ensures
+            ∙ (ap (λ names. unheard config names c.as_slice-2.result.now) c.as_slice.ensures
+            ∙ (ap (unheard config c.args.call.inputs) c.as_slice-2.ensures
+            ∙ sym (nothing-told (errand_for c.args.site c.args.keys c.args.book c.args.call))));
+        phase_is = refl;
+        heard = tt;
+      };
+    }

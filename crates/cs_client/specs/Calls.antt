@@ -1,0 +1,43 @@
+-- The call of the method, on the objects that are believed.
+use Rattle.std.specs.Prelude.{ℕ, List, [], ◌∷◌, Option, Some, None, option_map, option_and_then}
+use Rattle.cs_tx_value.specs.declared.object.Object.{Object}
+use Rattle.cs_tx_form.specs.Transaction.{Keyed}
+use Rattle.cs_config.specs.declared.call.CallFile.{CallFile}
+use Rattle.cs_proc.specs.declared.call.Call.{Call}
+use Rattle.cs_proc.specs.Calling.{Ran, ran}
+use Rattle.cs_client.specs.declared.errand.Errand.{Errand}
+use Rattle.cs_client.specs.Inputs.{Input}
+use Rattle.cs_client.specs.Objects.{believed}
+
+-- these names, each with its object, where each has one
+abbrev pub with_object : List ℕ → Option Object → Option (List Keyed) → Option (List Keyed)
+with_object name (Some object) more = option_map (λ items. (name, object) ∷ items) more
+with_object name None more = None
+
+abbrev pub objects_for : (List ℕ → Option Object) → List (List ℕ) → Option (List Keyed)
+objects_for object [] = Some []
+objects_for object (name ∷ names) = with_object name (object name) (objects_for object names)
+
+-- the call on these objects to be used up, and these to be read
+abbrev pub call_on : CallFile → List Keyed → List Keyed → Call
+call_on call inputs reads = record {
+  contract = call.contract;
+  method = call.method;
+  inputs = inputs;
+  reads = reads;
+  args = call.args;
+}
+
+-- both, where there are both
+abbrev pub call_with : CallFile → Option (List Keyed) → Option (List Keyed) → Option Call
+call_with call inputs reads = option_and_then (λ i. option_map (λ r. call_on call i r) reads) inputs
+
+-- the call that is made, where all its objects are believed
+abbrev pub ready : Errand → List Input → Option Call
+ready e inputs =
+    let object = believed e.config e.keys inputs in
+    call_with e.call (objects_for object e.call.inputs) (objects_for object e.call.reads)
+
+-- what the method comes to
+abbrev pub ran_with : Errand → Call → Ran
+ran_with e call = ran e.book call

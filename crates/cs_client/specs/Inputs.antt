@@ -1,0 +1,52 @@
+-- What a client is given, and what it hears by it. Of lists of inputs the newest stands first.
+use Rattle.std.specs.Prelude.{List, [], ◌∷◌, Option, Some, None, Ok, Err, if◌then◌else◌}
+use Rattle.cs_base.specs.Options.{or_else}
+use Rattle.cs_base.specs.declared.node_id.NodeId.{NodeId}
+use Rattle.cs_base.specs.NodeId.{same_name}
+use Rattle.cs_outer.specs.declared.link.MemInput.{MemInput}
+use Rattle.cs_outer.specs.declared.link.MemInput.TheVariants as came
+use Rattle.cs_wire.specs.declared.input.Input.{Input as Given}
+use Rattle.cs_wire.specs.declared.input.Input.TheVariants as given
+use Rattle.cs_wire.specs.declared.keys.Keys.{Keys}
+use Rattle.cs_wire.specs.Opened.{Opened, opened}
+use Rattle.cs_wire_message.specs.declared.message.Message.{Message}
+
+-- the bytes of a datagram, or the word that some time has passed
+abbrev pub Input : Type 0
+Input = MemInput
+
+abbrev pub input_of : Given → Input
+input_of (given.Datagram bytes) = came.Datagram bytes.now
+input_of given.Tick = came.Tick
+
+-- who says what, if anyone
+abbrev pub Said : Type 0
+Said = Option (NodeId × Message)
+
+abbrev pub said_by : Opened → Said
+said_by (Ok said) = Some said
+said_by (Err error) = None
+
+-- a datagram says what it opens to
+abbrev pub heard : Keys → Input → Said
+heard keys (came.Datagram bytes) = said_by (opened keys bytes)
+heard keys came.Tick = None
+
+-- what is said, where this node says it
+abbrev pub from_node : NodeId → Said → Option Message
+from_node node (Some said) = if same_name said.0 node then Some said.1 else None
+from_node node None = None
+
+-- what a node says by an input
+abbrev pub said_from : Keys → NodeId → Input → Option Message
+said_from keys node input = from_node node (heard keys input)
+
+-- what is found in the last input in which something is found
+abbrev pub latest : {A : Type 0} → (Input → Option A) → List Input → Option A
+latest {A} found [] = None
+latest {A} found (input ∷ past) = or_else (found input) (latest found past)
+
+-- a word that was taken back, or wasn't said, is none
+abbrev pub or_none : {A : Type 0} → Option (Option A) → Option A
+or_none {A} (Some word) = word
+or_none {A} None = None

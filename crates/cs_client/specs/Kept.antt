@@ -1,0 +1,146 @@
+-- What a client keeps of its inputs.
+use Rattle.std.specs.Prelude.{◌≡◌, ℕ, zero, suc, ◌+◌, ◌*◌, ◌==◌, Bool, false, bytes_eq, is_some, List, [], ◌∷◌, ◌++◌, length, map, replicate, slice_get, slice_set, unwrap_or, Option, Some, None, option_map, option_and_then, if◌then◌else◌}
+use Rattle.std.specs.List.{list_all, AllByRecursion}
+use Rattle.cs_base.specs.declared.config.Config.{Config}
+use Rattle.cs_base.specs.declared.key.Key.{Key}
+use Rattle.cs_base.specs.declared.key.Key.TheVariants as key
+use Rattle.cs_base.specs.declared.node_id.NodeId.{NodeId}
+use Rattle.cs_base.specs.Key.{shard_of_key}
+use Rattle.cs_tx_value.specs.declared.object.Object.{Object}
+use Rattle.cs_tx_value.specs.Object.{ObjectFits}
+use Rattle.cs_tx_form.specs.Transaction.{Keyed}
+use Rattle.cs_tx_form.specs.declared.state.State.{State}
+use Rattle.cs_wire.specs.declared.keys.Keys.{Keys}
+use Rattle.cs_client.specs.declared.beliefs.Asked.{Asked}
+use Rattle.cs_client.specs.declared.beliefs.Objects.{Objects}
+use Rattle.cs_client.specs.declared.errand.Errand.{Errand}
+use Rattle.cs_client.specs.Inputs.{Input}
+use Rattle.cs_client.specs.Objects.{active, words_on, believed_in}
+use Rattle.cs_client.specs.Dummies.{serials_in, least_named}
+use Rattle.cs_client.specs.Calls.{with_object}
+
+-- the last words of nodes on all that a client is to know
+pub record Told : Type 0 where
+  pub inputs : List Asked
+  pub reads : List Asked
+  pub serials : List (List (Option ℕ))  -- of each shard
+
+-- ---- as a function of the inputs
+
+abbrev pub asked_with : ℕ → List ℕ → List (Option Object) → Asked
+asked_with f name words = record { name = name; words = words; settled = is_some (believed_in f words) }
+
+abbrev pub asked_on : Config → Keys → List Input → List ℕ → Asked
+asked_on config keys inputs name = asked_with config.f name (words_on config keys name inputs)
+
+abbrev pub shards_below : ℕ → List ℕ
+shards_below zero = []
+shards_below (suc n) = shards_below n ++ n ∷ []
+
+abbrev pub told_by : Errand → List Input → Told
+told_by e inputs = record {
+  inputs = map (asked_on e.config e.keys inputs) e.call.inputs;
+  reads = map (asked_on e.config e.keys inputs) e.call.reads;
+  serials = map (serials_in e.config e.keys inputs) (shards_below e.config.shards);
+}
+
+-- ---- before the first input
+
+abbrev pub unheard_on : ℕ → List ℕ → Asked
+unheard_on members name = record { name = name; words = replicate members None; settled = false }
+
+abbrev pub unheard : Config → List (List ℕ) → List (List ℕ) → Told
+unheard config inputs reads = record {
+  inputs = map (unheard_on (3 * config.f + 1)) inputs;
+  reads = map (unheard_on (3 * config.f + 1)) reads;
+  serials = replicate config.shards (replicate (3 * config.f + 1) None);
+}
+
+-- ---- one word more
+
+abbrev pub with_word : ℕ → ℕ → Option Object → Asked → Asked
+with_word f index word asked = asked_with f asked.name (slice_set asked.words index word)
+
+-- where it is on this name
+abbrev pub with_told : ℕ → List ℕ → ℕ → Option Object → Asked → Asked
+with_told f name index word asked = if bytes_eq asked.name name then with_word f index word asked else asked
+
+-- the words of the nodes of a shard
+abbrev pub serials_kept : List (List (Option ℕ)) → ℕ → List (Option ℕ)
+serials_kept serials shard = unwrap_or (slice_get serials shard) []
+
+-- the word of the node of this index there
+abbrev pub with_serial : ℕ → ℕ → Option ℕ → List (List (Option ℕ)) → List (List (Option ℕ))
+with_serial shard index word serials = slice_set serials shard (slice_set (serials_kept serials shard) index word)
+
+-- a node of the key's shard told of it
+abbrev pub with_state : ℕ → NodeId → Key → Option Object → Told → Told
+with_state f from (key.Object name) word told =
+    record told {
+      inputs = map (with_told f name from.index word) told.inputs;
+      reads = map (with_told f name from.index word) told.reads;
+    }
+with_state f from (key.Dummy shard serial) word told =
+    record told {
+      serials = with_serial from.shard from.index (option_map (λ object. serial) word) told.serials;
+    }
+
+-- what a node told of a key, where it is one of the key's shard
+abbrev pub heard_of : Config → NodeId → Key → State → Told → Told
+heard_of config from key state told =
+    if shard_of_key config.shards key == from.shard then with_state config.f from key (active state) told else told
+
+-- ---- its form
+
+-- an object within its limits, if any
+abbrev pub WordFits : Option Object → Type 0
+WordFits None = Unit {0}
+WordFits (Some object) = ObjectFits object
+
+abbrev pub WordsFit : List (Option Object) → Type 0
+WordsFit words = AllByRecursion WordFits words
+
+-- a word of each of so many nodes
+pub record AskedFits (members : ℕ) (asked : Asked) : Type 0 where
+  pub all : length asked.words ≡ members
+  pub fit : WordsFit asked.words
+
+abbrev pub EachFits : ℕ → List Asked → Type 0
+EachFits members asked = AllByRecursion (AskedFits members) asked
+
+abbrev pub HasAll : ℕ → List (Option ℕ) → Type 0
+HasAll members words = length words ≡ members
+
+-- words of all nodes of all shards
+pub record ToldFits (config : Config) (told : Told) : Type 0 where
+  pub inputs : EachFits (3 * config.f + 1) told.inputs
+  pub reads : EachFits (3 * config.f + 1) told.reads
+  pub shards : length told.serials ≡ config.shards
+  pub serials : AllByRecursion (HasAll (3 * config.f + 1)) told.serials
+
+-- ---- what is believed of what is kept
+
+abbrev pub objects_in : ℕ → List Asked → Option (List Keyed)
+objects_in f [] = Some []
+objects_in f (asked ∷ more) = with_object asked.name (believed_in f asked.words) (objects_in f more)
+
+abbrev pub are_settled : List Asked → Bool
+are_settled asked = list_all (λ one. one.settled) asked
+
+-- the flags say what the words do
+abbrev pub IsMarked : ℕ → Asked → Type 0
+IsMarked f asked = asked.settled ≡ is_some (believed_in f asked.words)
+
+abbrev pub dummy_kept : ℕ → List (List (Option ℕ)) → ℕ → Option ℕ
+dummy_kept f serials shard = least_named f (serials_kept serials shard)
+
+-- the objects of both, where there are both
+abbrev pub objects_kept : ℕ → Told → Option Objects
+objects_kept f told =
+    option_and_then (λ i. option_map (λ r. record { inputs = i; reads = r }) (objects_in f told.reads))
+    (objects_in f told.inputs)
+
+-- all flags say what the words do
+pub record ToldMarked (f : ℕ) (told : Told) : Type 0 where
+  pub inputs : AllByRecursion (IsMarked f) told.inputs
+  pub reads : AllByRecursion (IsMarked f) told.reads

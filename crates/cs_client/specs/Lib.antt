@@ -1,0 +1,16 @@
+pub mod Nodes
+pub mod Inputs
+pub mod Objects
+pub mod Dummies
+pub mod Calls
+pub mod Endings
+pub mod Sessions
+pub mod Phases
+pub mod Knowing
+pub mod Sayings
+pub mod Lines
+pub mod Kept
+pub mod Voices
+pub mod Seen
+pub mod Hearing
+pub mod Standing

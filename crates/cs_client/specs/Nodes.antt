@@ -1,0 +1,11 @@
+-- The nodes of shards, in the order of the shards, and those of each by rising index.
+use Rattle.std.specs.Prelude.{ℕ, ◌+◌, ◌*◌, List}
+use Rattle.std.specs.List.{flat_map}
+use Rattle.cs_base.specs.declared.node_id.NodeId.{NodeId}
+use Rattle.cs_base.specs.NodeId.{members_below}
+
+abbrev pub nodes_in : ℕ → ℕ → List NodeId
+nodes_in f shard = members_below shard (3 * f + 1)
+
+abbrev pub nodes_of : ℕ → List ℕ → List NodeId
+nodes_of f shards = flat_map (nodes_in f) shards

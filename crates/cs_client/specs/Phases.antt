@@ -1,0 +1,54 @@
+-- The phase of a client, by its inputs.
+use Rattle.std.specs.Prelude.{ℕ, List, [], ◌∷◌, Option, Some, None, Ok, Err, if◌then◌else◌}
+use Rattle.cs_base.specs.declared.config.Config.{Config}
+use Rattle.cs_tx_form.specs.declared.session.Session.{Session}
+use Rattle.cs_proc.specs.declared.call.Call.{Call}
+use Rattle.cs_proc.specs.Calling.{Ran}
+use Rattle.cs_proc.specs.Answering.{tx_of}
+use Rattle.cs_client.specs.declared.errand.Errand.{Errand}
+use Rattle.cs_client.specs.Inputs.{Input}
+use Rattle.cs_client.specs.Dummies.{dummy_believed, dummies_for}
+use Rattle.cs_client.specs.Calls.{ready, ran_with}
+use Rattle.cs_client.specs.Sessions.{has_input, bare, with_dummies, bare_shards}
+
+pub data Phase : Type 0 where
+  Asking : Phase  -- it asks for the objects of its call
+  Wanting : (x : Session) → Phase  -- it asks for dummies, which the session lacks
+  Submitting : (x : Session) → Phase
+  Idle : Phase  -- it does nothing more
+
+-- the dummy that is believed in a shard, if any
+abbrev pub Dummies : Type 0
+Dummies = ℕ → Option ℕ
+
+-- the session is submitted with its dummies, where there are all
+abbrev pub provided : Session → Option (List (ℕ × ℕ)) → Phase
+provided x (Some dummies) = Submitting (with_dummies x dummies)
+provided x None = Wanting x
+
+-- it needs one in each shard without an input
+abbrev pub wanting : Config → Dummies → Session → Phase
+wanting config dummy x = provided x (dummies_for dummy (bare_shards config x))
+
+-- what the method came to: a transaction with an input goes on; after a refusal nothing comes
+abbrev pub begun : Errand → Dummies → Ran → Phase
+begun e dummy (Ok traces) =
+    if has_input (tx_of traces) then wanting e.config dummy (bare (tx_of traces) e.call.number) else Idle
+begun e dummy (Err error) = Idle
+
+-- the method is run, where all objects of the call are believed
+abbrev pub called : Errand → Dummies → Option Call → Phase
+called e dummy (Some call) = begun e dummy (ran_with e call)
+called e dummy None = Asking
+
+-- the phase after an input, by the one before it, and by the call and the dummies that are believed now
+abbrev pub moved : Errand → Dummies → Option Call → Phase → Phase
+moved e dummy call Asking = called e dummy call
+moved e dummy call (Wanting x) = wanting e.config dummy x
+moved e dummy call (Submitting x) = Submitting x
+moved e dummy call Idle = Idle
+
+abbrev pub phase : Errand → List Input → Phase
+phase e [] = Asking
+phase e (input ∷ past) =
+    moved e (dummy_believed e.config e.keys (input ∷ past)) (ready e (input ∷ past)) (phase e past)

@@ -1,0 +1,306 @@
+//! What nodes told a client last, of the objects of its call and of dummies.
+ghost use Rattle.std.specs.Prelude.{◌≡◌, ◌+◌, ◌*◌, ◌≤◌, map, replicate, None, option_map, OnOk, IfOk};
+ghost use Rattle.cs_client.specs.Kept.{unheard_on, with_word, with_told, WordFits, AskedFits, EachFits, are_settled, objects_in};
+
+use crate::dummies::least_named;
+use crate::objects::{active, believed, copy_word, put_word};
+use cs_base::{Config, Key, Memory, NodeId, Sequence, shard_of};
+use cs_tx_form::State;
+use cs_tx_value::{Digest, Encoded, Object};
+use std::alloc::Global;
+use std::marker::Model;
+
+/// A name of which nodes are asked, with the last word of each node of its shard: the object that
+/// it told as active, or none.
+#[derive(Drop)]
+pub struct Asked {
+    pub name: Digest,
+    pub words: Sequence<Option<Object>>,
+    /// Whether an object is believed.
+    pub settled: bool,
+}
+
+/// Objects under their names, to be used up and to be read.
+#[derive(Drop)]
+pub struct Objects {
+    pub inputs: Sequence<(Digest, Object)>,
+    pub reads: Sequence<(Digest, Object)>,
+}
+
+/// The last words of nodes on all that a client is to know.
+#[derive(Drop)]
+pub struct Beliefs {
+    /// On the objects that the method may use up.
+    inputs: Vec<Asked>,
+    /// On those that it may read.
+    reads: Vec<Asked>,
+    /// Of each shard, and of each node there, the serial of the dummy that it told as active.
+    serials: Vec<Sequence<Option<u64>>>,
+}
+
+impl Model for Beliefs {
+    ghost use Rattle.std.specs.Coded.{codes};
+    ghost use Rattle.cs_tx_value.specs.contracts.value.Value as value;
+    ghost use Rattle.cs_client.specs.Kept.{Told};
+
+    ghost Value = { Told };
+
+    ghost coded = { Prim.hlevel (codes, value.the_row.coded) };
+
+    ghost view = { λ b. record {
+      inputs = b.inputs.items;
+      reads = b.reads.items;
+      serials = b.serials.items;
+    } };
+}
+
+// No word of so many nodes.
+fn no_words<T: Drop>(alloc: Global, members: u16) -> Result<Sequence<Option<T>>, Memory>
+    ensures { IfOk result (λ words. words ≡ replicate members None) }
+{
+    let mut words = Sequence::new(alloc);
+    for _member in 0..members {
+        words.push(None)?;
+    }
+    Ok(words)
+}
+
+// Names of which no node has told anything.
+fn unheard(alloc: Global, names: &[Digest], members: u16) -> Result<Vec<Asked>, Memory>
+    ensures { IfOk result (λ asked. asked.items ≡ map (unheard_on members) names.now) }
+{
+    let mut asked = Vec::new(alloc);
+    for name in names {
+        asked.push(Asked {
+            name: *name,
+            words: no_words(alloc, members)?,
+            settled: false,
+        })?;
+    }
+    Ok(asked)
+}
+
+// Shards of which no node has told of a dummy.
+fn no_serials(
+    alloc: Global,
+    shards: u16,
+    members: u16,
+) -> Result<Vec<Sequence<Option<u64>>>, Memory>
+    ensures { IfOk result (λ all. all.items ≡ replicate shards (replicate members None)) }
+{
+    let mut all = Vec::new(alloc);
+    for _shard in 0..shards {
+        all.push(no_words(alloc, members)?)?;
+    }
+    Ok(all)
+}
+
+// The serial, where there is a word.
+fn serial_of(word: &Option<Object>, serial: u64) -> Option<u64>
+    ensures { result ≡ option_map (λ object. serial) word.now }
+{
+    match word {
+        Some(_) => Some(serial),
+        None => None,
+    }
+}
+
+// Hears a node's word on a name.
+fn hear_word(
+    alloc: Global,
+    config: &Config,
+    asked: &mut Asked,
+    index: u16,
+    word: &Option<Object>,
+) -> Result<(), Memory>
+    requires member { index ≤ 3 * config.now.f }
+    requires asked { AskedFits (3 * config.now.f + 1) asked.old }
+    requires word { WordFits word.now }
+    ensures { OnOk result (asked.new ≡ with_word config.now.f index word.now asked.old) }
+{
+    let word = copy_word(alloc, word)?;
+    put_word(alloc, &mut asked.words, usize::from(index), word);
+    asked.settled = believed(config.f, asked.words.as_slice()).is_some();
+    Ok(())
+}
+
+// Hears a node's word on each of these that is of this name.
+fn hear_words(
+    alloc: Global,
+    config: &Config,
+    asked: &mut [Asked],
+    name: &Digest,
+    index: u16,
+    word: &Option<Object>,
+) -> Result<(), Memory>
+    requires member { index ≤ 3 * config.now.f }
+    requires asked { EachFits (3 * config.now.f + 1) asked.old }
+    requires word { WordFits word.now }
+    ensures { OnOk result
+        (asked.new ≡ map (with_told config.now.f name.now index word.now) asked.old) }
+{
+    for i in 0..asked.len() {
+        if asked[i].name == *name {
+            hear_word(alloc, config, &mut asked[i], index, word)?;
+        }
+    }
+    Ok(())
+}
+
+fn are_settled(asked: &[Asked]) -> bool
+    ensures { result ≡ are_settled asked.now }
+{
+    asked.iter().all(|one| one.settled)
+}
+
+// The objects that are believed, each under its name, where each name has one.
+fn objects_in(
+    alloc: Global,
+    config: &Config,
+    asked: &[Asked],
+) -> Result<Option<Sequence<(Digest, Object)>>, Memory>
+    requires { EachFits (3 * config.now.f + 1) asked.now }
+    ensures { IfOk result (λ objects. objects ≡ objects_in config.now.f asked.now) }
+{
+    let mut objects = Sequence::new(alloc);
+    for one in asked {
+        let Some(object) = believed(config.f, one.words.as_slice()) else {
+            return Ok(None);
+        };
+        objects.push((one.name, object.copy(alloc)?))?;
+    }
+    Ok(Some(objects))
+}
+
+impl Beliefs {
+    ghost use Rattle.std.specs.Prelude.{◌≡◌, ◌<◌, ◌≤◌, ◌*◌, true, length, OnOk, IfOk, IfSome};
+    ghost use Rattle.std.specs.List.{AllByRecursion};
+    ghost use Rattle.cs_tx_form.specs.Session.{DummyFits};
+    ghost use Rattle.cs_base.specs.NodeId.{is_node};
+    ghost use Rattle.cs_tx_form.specs.State.{StateFits};
+    ghost use Rattle.cs_client.specs.Dummies.{dummies_for};
+    ghost use Rattle.cs_client.specs.Kept.{unheard, ToldFits, ToldMarked, WordFits, with_serial, with_state, heard_of, objects_kept, serials_kept, dummy_kept};
+
+    /// What a client has been told before its first input: nothing.
+    pub fn new(
+        alloc: Global,
+        config: &Config,
+        inputs: &[Digest],
+        reads: &[Digest],
+    ) -> Result<Beliefs, Memory>
+        ensures { IfOk result (λ beliefs. beliefs ≡ unheard config.now inputs.now reads.now) }
+    {
+        let members = 3 * config.f + 1;
+        Ok(Beliefs {
+            inputs: unheard(alloc, inputs, members)?,
+            reads: unheard(alloc, reads, members)?,
+            serials: no_serials(alloc, config.shards, members)?,
+        })
+    }
+
+    // Hears a node's word on the dummies of its shard.
+    fn hear_serial(&mut self, alloc: Global, from: NodeId, word: Option<u64>)
+        requires { from.index < length (serials_kept self.old.serials from.shard) }
+        ensures { self.new ≡ record self.old {
+          serials = with_serial from.shard from.index word self.old.serials;
+        } }
+    {
+        if let Some(words) = self.serials.get_mut(usize::from(from.shard)) {
+            put_word(alloc, words, usize::from(from.index), word);
+        }
+    }
+
+    // Hears a node's word on a key of its shard.
+    fn hear_key(
+        &mut self,
+        alloc: Global,
+        config: &Config,
+        from: NodeId,
+        key: Key,
+        word: &Option<Object>,
+    ) -> Result<(), Memory>
+        requires member { from.index ≤ 3 * config.now.f }
+        requires place { from.index < length (serials_kept self.old.serials from.shard) }
+        requires told { ToldFits config.now self.old }
+        requires word { WordFits word.now }
+        ensures { OnOk result (self.new ≡ with_state config.now.f from key word.now self.old) }
+    {
+        match key {
+            Key::Object(name) => {
+                hear_words(alloc, config, &mut self.inputs, &name, from.index, word)?;
+                hear_words(alloc, config, &mut self.reads, &name, from.index, word)?;
+            }
+            Key::Dummy(_, serial) => self.hear_serial(alloc, from, serial_of(word, serial)),
+        }
+        Ok(())
+    }
+
+    /// Hears what a node told of a key. It counts where the node is one of the key's shard.
+    pub fn hear(
+        &mut self,
+        alloc: Global,
+        config: &Config,
+        from: NodeId,
+        key: Key,
+        state: State,
+    ) -> Result<(), Memory>
+        requires node { is_node config.now from ≡ true }
+        requires state { StateFits state }
+        requires told { ToldFits config.now self.old }
+        ensures { OnOk result (self.new ≡ heard_of config.now from key state self.old) }
+    {
+        if shard_of(config, &key) != from.shard {
+            return Ok(());
+        }
+        self.hear_key(alloc, config, from, key, &active(state))
+    }
+
+    /// The objects to be used up and those to be read, where one is believed under each name.
+    pub fn ready(&self, alloc: Global, config: &Config) -> Result<Option<Objects>, Memory>
+        requires fits { ToldFits config.now self.now }
+        requires marked { ToldMarked config.now.f self.now }
+        ensures { IfOk result (λ objects. objects ≡ objects_kept config.now.f self.now) }
+    {
+        if !are_settled(&self.inputs) || !are_settled(&self.reads) {
+            return Ok(None);
+        }
+        let Some(inputs) = objects_in(alloc, config, &self.inputs)? else {
+            return Ok(None);
+        };
+        let Some(reads) = objects_in(alloc, config, &self.reads)? else {
+            return Ok(None);
+        };
+        Ok(Some(Objects { inputs, reads }))
+    }
+
+    // The dummy that is believed in a shard.
+    fn dummy_in(&self, f: u16, shard: u16) -> Option<u64>
+        ensures { result ≡ dummy_kept f self.now.serials shard }
+    {
+        match self.serials.get(usize::from(shard)) {
+            Some(words) => least_named(f, words.as_slice()),
+            None => None,
+        }
+    }
+
+    /// A dummy of each of these shards, where one is believed in each.
+    pub fn dummies(
+        &self,
+        alloc: Global,
+        f: u16,
+        shards: &[u16],
+    ) -> Result<Option<Sequence<(u16, u64)>>, Memory>
+        ensures found { IfOk result (λ dummies.
+            dummies ≡ dummies_for (dummy_kept f self.now.serials) shards.now) }
+        ensures fit { IfOk result (λ dummies. IfSome dummies (AllByRecursion DummyFits)) }
+    {
+        let mut dummies = Sequence::new(alloc);
+        for shard in shards {
+            let Some(serial) = self.dummy_in(f, *shard) else {
+                return Ok(None);
+            };
+            dummies.push((*shard, serial))?;
+        }
+        Ok(Some(dummies))
+    }
+}

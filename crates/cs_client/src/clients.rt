@@ -1,0 +1,224 @@
+//! Clients.
+ghost use Rattle.std.specs.Prelude.{◌≡◌, ◌≤◌, ◌*◌, true, List, Some, OnOk, IfOk};
+ghost use Rattle.cs_base.specs.NodeId.{is_node};
+ghost use Rattle.cs_outer.specs.declared.link.MemInput.TheVariants as came;
+ghost use Rattle.cs_wire_message.specs.Message.{MessageFits};
+ghost use Rattle.cs_client.specs.Inputs.{Input as Given, heard, input_of};
+ghost use Rattle.cs_client.specs.Phases.{phase as phase_after};
+ghost use Rattle.cs_client.specs.Kept.{ToldFits, ToldMarked};
+ghost use Rattle.cs_client.specs.Seen.{PhaseFits, Counts};
+ghost use Rattle.cs_client.specs.Hearing.{Hears, TakesIn};
+
+use crate::beliefs::Beliefs;
+use crate::counting;
+use crate::errand::Errand;
+use crate::error::ClientError;
+use crate::known::Known;
+use crate::phases::{Phase, known_in, moved, say_again};
+use cs_approve::Book;
+use cs_base::{Config, Memory, NodeId, Sequence};
+use cs_config::{CallFile, Site};
+use cs_tx_value::Digest;
+use cs_wire::{Input, Keys, Message, Out, read};
+use std::alloc::Global;
+use std::marker::Model;
+
+/// A client: what it is to do, what it has been told, and the phase that it is in.
+#[derive(Drop)]
+pub struct ClientCore {
+    errand: Errand,
+    beliefs: Beliefs,
+    phase: Phase,
+}
+
+impl Model for ClientCore {
+    ghost use Rattle.std.specs.Coded.{codes};
+    ghost use Rattle.cs_client.specs.contracts.errand.Errand as errands;
+    ghost use Rattle.cs_client.specs.contracts.beliefs.Beliefs as beliefs_told;
+    ghost use Rattle.cs_client.specs.contracts.phases.Phase as phases_kept;
+    ghost use Rattle.cs_client.specs.Seen.{Client, IsSound};
+
+    ghost Value = { Client };
+
+    ghost coded = { Prim.hlevel (
+      codes,
+      errands.the_row.coded,
+      beliefs_told.the_row.coded,
+      phases_kept.the_row.coded,
+    ) };
+
+    ghost view = { λ c. record {
+      errand = c.errand;
+      beliefs = c.beliefs;
+      phase = c.phase;
+    } };
+
+    ghost invariant = { λ c. IsSound c.errand c.beliefs c.phase };
+}
+
+// Counts what a node says of a session, where it is the one that is submitted.
+fn count(config: &Config, phase: &mut Phase, from: NodeId, digest: &Digest, accepted: bool)
+    requires member { from.index ≤ 3 * config.now.f }
+    requires fits { PhaseFits config.now phase.old }
+    ensures { Counts from digest.now accepted phase.old phase.new }
+{
+    if let Phase::Submitting(submission) = phase {
+        if submission.digest == *digest {
+            counting::hear(config, &mut submission.voices, from, accepted);
+        }
+    }
+}
+
+// Takes what a node says.
+fn take(
+    alloc: Global,
+    errand: &Errand,
+    beliefs: &mut Beliefs,
+    phase: &mut Phase,
+    from: NodeId,
+    message: Message,
+) -> Result<(), Memory>
+    requires node { is_node errand.now.config from ≡ true }
+    requires message { MessageFits message }
+    requires told { ToldFits errand.now.config beliefs.old }
+    requires marked { ToldMarked errand.now.config.f beliefs.old }
+    requires phase { PhaseFits errand.now.config phase.old }
+    ensures { (past : List Given) (input : Given) →
+        heard errand.now.keys input ≡ Some (from, message) →
+        OnOk result (Hears errand.now past input beliefs.old phase.old beliefs.new phase.new) }
+{
+    match message {
+        Message::Told { key, state } => beliefs.hear(alloc, &errand.config, from, key, state),
+        Message::Decided { session, accepted } => {
+            count(&errand.config, phase, from, &session, accepted);
+            Ok(())
+        }
+        _ => Ok(()),
+    }
+}
+
+// Takes a datagram. One that doesn't open, or isn't a node's, changes nothing.
+fn hear(
+    alloc: Global,
+    errand: &Errand,
+    beliefs: &mut Beliefs,
+    phase: &mut Phase,
+    bytes: &[u8],
+) -> Result<(), Memory>
+    requires told { ToldFits errand.now.config beliefs.old }
+    requires marked { ToldMarked errand.now.config.f beliefs.old }
+    requires phase { PhaseFits errand.now.config phase.old }
+    ensures { (past : List Given) →
+        let input = came.Datagram bytes.now in
+        OnOk result (Hears errand.now past input beliefs.old phase.old beliefs.new phase.new) }
+{
+    match read(alloc, &errand.keys, bytes)? {
+        Ok((from, message)) => {
+            if !errand.config.has_node(from) {
+                return Ok(());
+            }
+            take(alloc, errand, beliefs, phase, from, message)
+        }
+        Err(_) => Ok(()),
+    }
+}
+
+// Takes an input: hears a datagram, or says again what the phase says, which is told.
+fn take_in(
+    alloc: Global,
+    errand: &Errand,
+    beliefs: &mut Beliefs,
+    phase: &mut Phase,
+    input: Input<'_>,
+) -> Result<Sequence<Out>, Memory>
+    requires told { ToldFits errand.now.config beliefs.old }
+    requires marked { ToldMarked errand.now.config.f beliefs.old }
+    requires phase { PhaseFits errand.now.config phase.old }
+    ensures { (past : List Given) →
+        let given = input_of input.entry in
+        IfOk result (TakesIn errand.now past given beliefs.old phase.old beliefs.new phase.new) }
+{
+    match input {
+        Input::Datagram(bytes) => {
+            hear(alloc, errand, beliefs, phase, bytes)?;
+            Ok(Sequence::new(alloc))
+        }
+        Input::Tick => {
+            let mut outs = Sequence::new(alloc);
+            say_again(alloc, errand, phase, &mut outs)?;
+            Ok(outs)
+        }
+    }
+}
+
+impl ClientCore {
+    ghost use Rattle.std.specs.Prelude.{◌≡◌, List, [], IfOk};
+    ghost use Rattle.cs_client.specs.declared.errand.Errand.{Errand as AnyErrand};
+    ghost use Rattle.cs_client.specs.Inputs.{Input as Given, input_of};
+    ghost use Rattle.cs_client.specs.Knowing.{knows};
+    ghost use Rattle.cs_client.specs.Standing.{errand_for, StandsFor, Steps};
+
+    /// The client that makes this call, before its first input. To a peer for whom there is no key
+    /// nothing is said; a key file holds all nodes of its site.
+    pub fn start(
+        alloc: Global,
+        site: Site,
+        keys: Keys,
+        book: Book,
+        call: CallFile,
+    ) -> Result<ClientCore, Memory>
+        ensures { IfOk result (StandsFor (errand_for site keys book call) []) }
+    {
+        let config = site.config;
+        let beliefs = Beliefs::new(
+            alloc,
+            &config,
+            call.inputs.as_slice(),
+            call.reads.as_slice(),
+        )?;
+        let errand = Errand {
+            config,
+            keys,
+            book,
+            call,
+        };
+        Ok(ClientCore {
+            errand,
+            beliefs,
+            phase: Phase::Asking,
+        })
+    }
+
+    /// The client after an input, with what it says, the oldest first. After a refusal of the
+    /// method and after a want of memory there is no client.
+    pub fn step(
+        self,
+        alloc: Global,
+        input: Input<'_>,
+    ) -> Result<(ClientCore, Sequence<Out>), ClientError>
+        ensures { (e : AnyErrand) (past : List Given) → StandsFor e past self →
+            Steps e past (input_of input.entry) result }
+    {
+        let ClientCore {
+            errand,
+            mut beliefs,
+            mut phase,
+        } = self;
+        let mut outs = take_in(alloc, &errand, &mut beliefs, &mut phase, input)?;
+        let phase = moved(alloc, &errand, &beliefs, phase, &mut outs)?;
+        let client = ClientCore {
+            errand,
+            beliefs,
+            phase,
+        };
+        Ok((client, outs))
+    }
+
+    /// What the client knows of its session.
+    pub fn known(&self) -> Known
+        ensures { (e : AnyErrand) (inputs : List Given) → StandsFor e inputs self.now →
+            result ≡ knows e inputs }
+    {
+        known_in(&self.errand, &self.phase)
+    }
+}

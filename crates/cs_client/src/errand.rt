@@ -1,0 +1,14 @@
+//! What a client is to do.
+use cs_approve::Book;
+use cs_base::Config;
+use cs_config::CallFile;
+use cs_wire::Keys;
+
+/// What a client is to do, and by what: the deployment, its keys, the contracts, and the call.
+#[derive(Drop)]
+pub struct Errand {
+    pub config: Config,
+    pub keys: Keys,
+    pub book: Book,
+    pub call: CallFile,
+}
