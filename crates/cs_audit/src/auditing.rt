@@ -26,7 +26,7 @@ pub fn audit<J: Judge>(alloc: Global, dump: &Dump, judge: &J) -> Result<Verdict,
     requires { IsFormed dump.now }
     ensures verdict { IfOk result
         (λ verdict. verdict ≡ verdict_of (J.is_approved judge.now) dump.now) }
-    // A yes has no premise: no string is assumed to collide with none.
+    // Of any dump: strings that are hashed may collide.
     ensures sound { IfOk result
         (λ verdict. SaysSound (setup_in (J.is_approved judge.now) dump.now) dump.now verdict) }
 {
