@@ -5,15 +5,13 @@ use Rattle.cs_tx_form.specs.declared.checkpoint.Checkpoint.{Checkpoint}
 use Rattle.cs_tx_form.specs.Log.{leaf_encoding, LeafFits}
 use Rattle.cs_checkpoint.specs.Chain.{Log}
 use Rattle.cs_check_rules.specs.Heads.{Heads, with_head}
+use Rattle.cs_check.specs.Leaves.{Hashed}
 
--- the log of its checkpoints, and the last checkpoint that each other member told
+-- the log of its checkpoints, the leaves of its records, and the last checkpoint that each other member told
 pub record Archived : Type 0 where
   pub log : Log
+  pub hashed : Hashed
   pub heads : Heads
-
--- one slot more changes the log alone
-abbrev pub with_log : Log → Archived → Archived
-with_log log a = record { log = log; heads = a.heads }
 
 -- the leaf of each slot is one of that slot
 abbrev pub AreInPlace : List (List ℕ) → Type 0
@@ -23,4 +21,4 @@ AreInPlace leaves =
 -- a checkpoint that is news is kept
 abbrev pub with_news : Bool → ℕ → Checkpoint → Archived → Archived
 with_news false index c a = a
-with_news true index c a = record { log = a.log; heads = with_head index c a.heads }
+with_news true index c a = record { log = a.log; hashed = a.hashed; heads = with_head index c a.heads }

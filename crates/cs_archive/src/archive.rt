@@ -2,12 +2,13 @@
 ghost use Rattle.std.specs.Prelude.{◌≡◌, [], ◌==◌, ◌<◌, ◌^◌, length, position, OnOk, IfOk, IfSome};
 ghost use Rattle.cs_tx_form.specs.Log.{LeafFits, leaf_encoding, ProofFits};
 ghost use Rattle.cs_table.specs.Seen.{seen};
+ghost use Rattle.cs_check.specs.Leaves.{HasLeaves, HasLeavesBut};
 ghost use Rattle.cs_checkpoint.specs.Chain.{empty_log, with_slot, made_last};
 ghost use Rattle.cs_check.specs.Root.{keys_in};
 ghost use Rattle.cs_check_rules.specs.Root.{root_under};
 ghost use Rattle.cs_check_rules.specs.Proofs.{proof_of};
 ghost use Rattle.cs_check_rules.specs.Heads.{is_news};
-ghost use Rattle.cs_archive.specs.Archives.{with_log, with_news};
+ghost use Rattle.cs_archive.specs.Archives.{with_news};
 
 use crate::fitting::{checkpoint_fits, digests_fit};
 use cs_base::Memory;
@@ -33,21 +34,24 @@ impl Model for Archive {
 
     ghost Value = { Archived };
 
-    ghost view = { λ a. record { log = a.chain; heads = a.heads.items } };
+    ghost view = { λ a. record { log = a.chain.log; hashed = a.chain.hashed; heads = a.heads.items } };
 
-    ghost invariant = { λ a. a.is_whole ≡ true → AreInPlace a.chain.leaves };
+    ghost invariant = { λ a. a.is_whole ≡ true → AreInPlace a.chain.log.leaves };
 }
 
 impl Archive {
-    /// Nothing was executed, and nothing told.
-    pub fn new(alloc: Global, shard: u16) -> Archive
-        ensures { result ≡ record { log = empty_log shard; heads = [] } }
+    /// Nothing was executed on the table of the shard, and nothing told.
+    pub fn new(alloc: Global, shard: u16, table: &Table) -> Result<Archive, Memory>
+        ensures archive { IfOk result (λ archive. archive
+            ≡ record { log = empty_log shard; hashed = archive.hashed; heads = [] }) }
+        ensures leaves { IfOk result (λ archive. HasLeaves archive.hashed (seen table.now)) }
     {
-        Archive {
-            chain: Chain::new(alloc, shard),
+        let chain = Chain::new(alloc, shard, table)?;
+        Ok(Archive {
+            chain,
             heads: Vec::new(alloc),
             is_whole: true,
-        }
+        })
     }
 
     /// How many slots were executed.
@@ -59,7 +63,7 @@ impl Archive {
 
     /// The chain of its slots.
     pub fn chain(&self) -> &Chain
-        ensures { result.now ≡ self.now.log }
+        ensures { result.now.log ≡ self.now.log }
     {
         &self.chain
     }
@@ -74,10 +78,12 @@ impl Archive {
     ) -> Result<Option<Checkpoint>, Memory>
         requires fits { LeafFits leaf.now }
         requires next { leaf.now.slot ≡ length self.old.log.leaves }
+        requires known { HasLeavesBut table.now.touched self.old.hashed (seen table.now) }
         ensures log { let root = root_under (keys_in table.now.rows) (seen table.now) in
-            OnOk result (self.new
-            ≡ with_log (with_slot (leaf_encoding leaf.now) root self.old.log) self.old) }
+            OnOk result (self.new.log ≡ with_slot (leaf_encoding leaf.now) root self.old.log) }
+        ensures heads { OnOk result (self.new.heads ≡ self.old.heads) }
         ensures made { IfOk result (λ made. made ≡ made_last self.new.log) }
+        ensures leaves { OnOk result (HasLeaves self.new.hashed (seen table.now)) }
     {
         if !self.is_whole {
             return Err(Memory);
@@ -122,6 +128,7 @@ impl Archive {
         ensures news { IfOk result (λ news. news ≡ is_news index checkpoint self.old.heads) }
         ensures kept { IfOk result
             (λ news. self.new ≡ with_news news index checkpoint self.old) }
+        ensures leaves { self.new.hashed ≡ self.old.hashed }
     {
         match self.place_of(index) {
             Some(place) => {

@@ -20,6 +20,7 @@ use Rattle.cs_table.specs.Effects.{ComesTo, effect_of}
 use Rattle.cs_table.specs.Pieces.{rules_in}
 use Rattle.cs_table.specs.Seen.{Stored, seen, vote_of}
 use Rattle.cs_check.specs.Root.{keys_in}
+use Rattle.cs_check.proofs.Hashing.{leaves_stay}
 use Rattle.cs_check_rules.specs.Keys.{AreKnown, keys_after}
 use Rattle.cs_check_rules.proofs.Same.{one_list}
 use Rattle.cs_check_rules.proofs.Known.{exec_known}
@@ -85,7 +86,11 @@ module _ (s : Stand) (placed : IsPlaced s) (genesis : List Object) (approves : T
         chain_stays = refl;
         config_stays = refl;
         shard_stays = refl;
-        placed = record { shards = comes.table_is.shards ∙ placed.shards; shard = comes.table_is.shard ∙ placed.shard };
+        placed = record {
+          shards = comes.table_is.shards ∙ placed.shards;
+          shard = comes.table_is.shard ∙ placed.shard;
+          leaves = leaves_stay s.table new s.chain.hashed comes.table_is.marks placed.leaves;
+        };
       }
   executes (Decide vote x) new effect fit old_known new_known comes =
       let e : Shard.Entry = Shard.Decide (session_of approves x) (Setup.vote_of vote) in
@@ -98,5 +103,9 @@ module _ (s : Stand) (placed : IsPlaced s) (genesis : List Object) (approves : T
         chain_stays = refl;
         config_stays = refl;
         shard_stays = refl;
-        placed = record { shards = comes.table_is.shards ∙ placed.shards; shard = comes.table_is.shard ∙ placed.shard };
+        placed = record {
+          shards = comes.table_is.shards ∙ placed.shards;
+          shard = comes.table_is.shard ∙ placed.shard;
+          leaves = leaves_stay s.table new s.chain.hashed comes.table_is.marks placed.leaves;
+        };
       }

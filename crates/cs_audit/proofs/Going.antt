@@ -54,7 +54,7 @@ pub record IsOn (approves : Tx → Bool) (config : Config) (shard : ℕ) (log : 
   pub placed : IsPlaced s
   pub config_is : s.config ≡ config
   pub shard_is : s.shard ≡ shard
-  pub slots : length s.chain.leaves ≡ slot
+  pub slots : length s.chain.log.leaves ≡ slot
   pub digests_are : digests ≡ map digest_in (take slot log.leaves)
   pub votes_are : log_votes shard (drop slot log.leaves) votes ≡ log_votes shard log.leaves old
   pub told : (genesis : List Object) → leaves_fault (deployed config genesis approves) shard log.heads (stand_of s) (drop slot log.leaves)
@@ -67,7 +67,7 @@ module _ (approves : Tx → Bool) (config : Config) (shard : ℕ) (log : Log) (f
   abbrev setup_at : List Object → Setup
   setup_at genesis = deployed config genesis approves
 
-  pub begins : (s : Stand) → IsPlaced s → s.config ≡ config → s.shard ≡ shard → s.chain ≡ empty_log shard → first ≡ stand_of s → On 0 s [] old
+  pub begins : (s : Stand) → IsPlaced s → s.config ≡ config → s.shard ≡ shard → s.chain.log ≡ empty_log shard → first ≡ stand_of s → On 0 s [] old
   begins s placed config_is shard_is chain is = record {
     placed = placed;
     config_is = config_is;
@@ -92,12 +92,12 @@ module _ (approves : Tx → Bool) (config : Config) (shard : ℕ) (log : Log) (f
       let follows = (tells []).1 in
       let left : drop slot log.leaves ≡ leaf ∷ drop (slot + 1) log.leaves = left-at log.leaves slot leaf less is in
       let after = (none-here [] slot s new digests votes leaf on (tells [])).1 in
-      let longer : new.chain.leaves ≡ s.chain.leaves ++ _ = ap (λ (x : rules.Stand). x.log.leaves) after in
+      let longer : new.chain.log.leaves ≡ s.chain.log.leaves ++ _ = ap (λ (x : rules.Stand). x.log.leaves) after in
       record {
         placed = follows.placed;
         config_is = follows.config_stays ∙ on.config_is;
         shard_is = follows.shard_stays ∙ on.shard_is;
-        slots = ap length longer ∙ length-append s.chain.leaves _ ∙ ap (λ n. n + 1) on.slots;
+        slots = ap length longer ∙ length-append s.chain.log.leaves _ ∙ ap (λ n. n + 1) on.slots;
         digests_are = pushed ∙ (λ i. on.digests_are i ++ named i ∷ []) ∙ sym (ap (map digest_in) (take_more log.leaves slot leaf less ∙ ap (λ x. take slot log.leaves ++ x ∷ []) (sym is)) ∙ map-append digest_in (take slot log.leaves) (leaf ∷ []));
         votes_are = ap (log_votes shard (drop (slot + 1) log.leaves)) (noted_is ∙ ap (λ x. noted shard leaf.entry leaf.result x votes) named)
             ∙ sym (ap (λ xs. log_votes shard xs votes) left) ∙ on.votes_are;

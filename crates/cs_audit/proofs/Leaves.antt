@@ -1,5 +1,5 @@
 -- The rules of a leaf, one after the other, and the shard behind it.
-use Rattle.std.proofs.Common.{◌≡◌, Bool, true, false, not, ◌==◌, List, length, Option, Some, None, refl, ap, sym, ◌∙◌}
+use Rattle.std.proofs.Common.{◌≡◌, Bool, true, false, not, ◌==◌, List, length, Option, Some, None, refl, ap, sym, subst, ◌∙◌}
 use Rattle.std.specs.Prelude.{if◌then◌else◌}
 use Rattle.cs_tx_form.specs.declared.checkpoint.Checkpoint.{Checkpoint}
 use Rattle.cs_tx_form.specs.declared.effect.Effect.{Effect}
@@ -10,7 +10,9 @@ use Rattle.cs_ledger.specs.Ledger.{Bytes}
 use Rattle.cs_checkpoint.specs.Chain.{made_last}
 use Rattle.cs_check.specs.Root.{keys_in}
 use Rattle.cs_table.specs.Effects.{effect_of}
-use Rattle.cs_table.specs.Seen.{seen}
+use Rattle.cs_table.specs.Seen.{Stored, seen, forgotten}
+use Rattle.cs_check.specs.Leaves.{HasLeaves}
+use Rattle.cs_check.proofs.Hashing.{leaves_but}
 use Rattle.cs_node_state.specs.Setup.{Setup, is_fit, session_in}
 use Rattle.cs_audit_rules.specs.declared.verdict.Rule.{Rule}
 use Rattle.cs_audit_rules.specs.declared.verdict.Rule.TheVariants as rule
@@ -51,7 +53,7 @@ first_of slot form judge result head =
 
 module _ (setup : Setup) (heads : List Bytes) (leaf : Leaf) (s : Stand) where
   abbrev slot : Bool
-  slot = leaf.slot == length s.chain.leaves
+  slot = leaf.slot == length s.chain.log.leaves
 
   abbrev form : Bool
   form = is_fit setup s.shard (session_in leaf.entry)
@@ -98,12 +100,12 @@ module _ (setup : Setup) (heads : List Bytes) (leaf : Leaf) (s : Stand) where
     result_differs ne =
         ap (same_effect (effect_of leaf.result)) (sym ran.effect_is) ∙ differ leaf.result effect ne
 
-    module _ (new : Stand) (table : new.table ≡ mid.table) (config : new.config ≡ mid.config) (shard : new.shard ≡ mid.shard)
-        (chain : new.chain ≡ rules.told leaf (keys_in mid.table.rows) (seen mid.table) mid.chain) where
+    module _ (new : Stand) (table : new.table ≡ forgotten mid.table) (config : new.config ≡ mid.config) (shard : new.shard ≡ mid.shard)
+        (chain : new.chain.log ≡ rules.told leaf (keys_in mid.table.rows) (seen mid.table) mid.chain.log) (leaves : HasLeaves new.chain.hashed (seen mid.table)) where
       stand : stand_of new ≡ rules.after_leaf setup s.shard (stand_of s) leaf
       stand =
           (λ i. record { table = seen (table i); keys = keys_in (table i).rows; log = chain i })
-          ∙ (λ i. record { table = ran.table_is i; keys = ran.keys_are i; log = rules.told leaf (ran.keys_are i) (ran.table_is i) (ran.chain_stays i) })
+          ∙ (λ i. record { table = ran.table_is i; keys = ran.keys_are i; log = rules.told leaf (ran.keys_are i) (ran.table_is i) (ran.chain_stays i).log })
 
       pub follows : Follows setup leaf s new
       follows = record {
@@ -113,9 +115,11 @@ module _ (setup : Setup) (heads : List Bytes) (leaf : Leaf) (s : Stand) where
         placed = record {
           shards = ap (λ t. t.shards) table ∙ ran.placed.shards ∙ ap (λ c. c.shards) (sym config);
           shard = ap (λ t. t.shard) table ∙ ran.placed.shard ∙ sym shard;
+          leaves = leaves_but new.table.touched new.chain.hashed (seen new.table)
+              (subst (λ (t : Stored). HasLeaves new.chain.hashed (seen t)) (sym table) leaves);
         };
       }
 
       -- the checkpoint that the slot made
-      pub head_is : (made : Option Checkpoint) → made ≡ made_last new.chain → head ≡ is_head heads made
+      pub head_is : (made : Option Checkpoint) → made ≡ made_last new.chain.log → head ≡ is_head heads made
       head_is made is = ap (λ log. is_head heads (made_last log)) (sym (ap (λ (x : rules.Stand). x.log) stand)) ∙ ap (is_head heads) (sym is)

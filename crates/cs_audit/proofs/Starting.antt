@@ -112,7 +112,7 @@ rules-same config objects =
     ap with_items (items-same 0 objects)
 
 pub started : (config : Config) (objects : List Object) (approves : Tx → Bool) (items : List (Key × Object)) (s : Stand) (shard : ℕ) → items ≡ keyed_from 0 objects
-    → seen s.table ≡ start (genesis_rules config items) shard → AreKnown (keys_in s.table.rows) (seen s.table) → s.chain ≡ empty_log shard
+    → seen s.table ≡ start (genesis_rules config items) shard → AreKnown (keys_in s.table.rows) (seen s.table) → s.chain.log ≡ empty_log shard
     → stand_of s ≡ rules.start_stand (deployed config objects approves) shard
 started config objects approves items s shard is shows known chain =
     let r : ledger.Rules = rules_of config objects in

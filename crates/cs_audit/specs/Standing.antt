@@ -13,6 +13,7 @@ use Rattle.cs_table.specs.Effects.{effect_of}
 use Rattle.cs_table.specs.Pieces.{rules_in}
 use Rattle.cs_table.specs.Seen.{Stored, seen as shown}
 use Rattle.cs_check.specs.Root.{keys_in}
+use Rattle.cs_check.specs.Leaves.{HasLeavesBut}
 use Rattle.cs_check_rules.specs.Keys.{keys_after}
 use Rattle.cs_node_state.specs.Setup.{Setup, vote_of, entry_of}
 use Rattle.cs_audit_rules.specs.declared.verdict.Rule.{Rule}
@@ -22,12 +23,13 @@ use Rattle.cs_audit.specs.declared.stand.Stand.{Stand}
 
 -- what the shard shows
 abbrev pub stand_of : Stand → rules.Stand
-stand_of s = record { table = shown s.table; keys = keys_in s.table.rows; log = s.chain }
+stand_of s = record { table = shown s.table; keys = keys_in s.table.rows; log = s.chain.log }
 
--- its table is that of the shard
+-- its table is that of the shard, and the leaves of all keys that aren't touched are those of the table
 pub record IsPlaced (s : Stand) : Type 0 where
   pub shards : s.table.shards ≡ s.config.shards
   pub shard : s.table.shard ≡ s.shard
+  pub leaves : HasLeavesBut s.table.touched s.chain.hashed (shown s.table)
 
 -- ---- an entry
 

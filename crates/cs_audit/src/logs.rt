@@ -55,7 +55,7 @@ fn execute_log<J: Judge>(
     requires fits { All LeafFits log.now.leaves }
     requires placed { IsPlaced stand.old }
     requires shard { stand.old.shard ≡ shard }
-    requires chain { stand.old.chain ≡ empty_log shard }
+    requires chain { stand.old.chain.log ≡ empty_log shard }
     ensures { AtAnyGenesis stand.old.config (J.is_approved judge.now) (λ setup. IfOk result
         (TellsLog setup shard log.now (stand_of stand.old) votes.old votes.new)) }
 {

@@ -12,7 +12,8 @@ ghost use Rattle.cs_tx.specs.Sessions.{session_of};
 ghost use Rattle.cs_tx.specs.Uses.{anchor_of};
 ghost use Rattle.cs_check.specs.Root.{keys_in};
 ghost use Rattle.cs_checkpoint.specs.Chain.{empty_log, made_last};
-ghost use Rattle.cs_table.specs.Seen.{seen};
+ghost use Rattle.cs_table.specs.Seen.{seen, forgotten};
+ghost use Rattle.cs_check.specs.Leaves.{HasLeaves, HasLeavesBut};
 ghost use Rattle.cs_table.specs.Calls.{anchor_in};
 ghost use Rattle.cs_table.specs.Effects.{effect_of, ComesTo};
 ghost use Rattle.cs_table.specs.Genesis.{twice};
@@ -109,7 +110,7 @@ impl Stand {
         ensures config { IfOk result (λ s. s.config ≡ config) }
         ensures shard { IfOk result (λ s. s.shard ≡ shard) }
         ensures placed { IfOk result IsPlaced }
-        ensures chain { IfOk result (λ s. s.chain ≡ empty_log shard) }
+        ensures chain { IfOk result (λ s. s.chain.log ≡ empty_log shard) }
         ensures stand { (objects : List AnyObject) (approves : AnyTx → Bool) →
             genesis.now ≡ keyed_from 0 objects → IfOk result (λ s.
             stand_of s ≡ start_stand (deployed config objects approves) shard) }
@@ -117,11 +118,12 @@ impl Stand {
         match Table::genesis(alloc, config, shard, genesis) {
             Ok(table) => {
                 root_is_shown(&table);
+                let chain = Chain::new(alloc, shard, &table)?;
                 Ok(Stand {
                     config,
                     shard,
                     table,
-                    chain: Chain::new(alloc, shard),
+                    chain,
                 })
             }
             Err(TableError::Memory) => Err(Memory),
@@ -149,17 +151,23 @@ impl Stand {
 
     // Adds a leaf whose entry was executed last.
     fn push(&mut self, alloc: Global, leaf: &Leaf) -> Result<Option<Checkpoint>, Memory>
-        requires { LeafFits leaf.now }
-        ensures made { IfOk result (λ made. made ≡ made_last self.new.chain) }
-        ensures chain { OnOk result (self.new.chain ≡ told
-            leaf.now (keys_in self.old.table.rows) (seen self.old.table) self.old.chain) }
-        ensures table { OnOk result (self.new.table ≡ self.old.table) }
+        requires fits { LeafFits leaf.now }
+        requires leaves { HasLeavesBut
+            self.old.table.touched self.old.chain.hashed (seen self.old.table) }
+        ensures made { IfOk result (λ made. made ≡ made_last self.new.chain.log) }
+        ensures chain { OnOk result (self.new.chain.log ≡ told
+            leaf.now (keys_in self.old.table.rows) (seen self.old.table) self.old.chain.log) }
+        ensures leaves { OnOk result
+            (HasLeaves self.new.chain.hashed (seen self.old.table)) }
+        ensures table { OnOk result (self.new.table ≡ forgotten self.old.table) }
         ensures config { OnOk result (self.new.config ≡ self.old.config) }
         ensures shard { OnOk result (self.new.shard ≡ self.old.shard) }
     {
         root_is_shown(&self.table);
         let bytes = encode_leaf(alloc, leaf)?;
-        self.chain.push(alloc, bytes, &self.table)
+        let made = self.chain.push(alloc, bytes, &self.table)?;
+        self.table.forget_touched();
+        Ok(made)
     }
 
     /// Takes the leaf of the next slot, of whose session this is the digest, or tells the first rule

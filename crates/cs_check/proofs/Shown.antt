@@ -36,7 +36,7 @@ Rows = List (Key × Record)
 
 -- ---- encodings of what is shown
 
-key_shown : (k : Key) → key_bytes (key_seen k) ≡ key_encoding k
+pub key_shown : (k : Key) → key_bytes (key_seen k) ≡ key_encoding k
 key_shown (key.Object name) = refl
 key_shown (key.Dummy shard serial) = refl
 
@@ -54,7 +54,7 @@ places_shown : (book : List (List ℕ × Vote)) → each place_bytes (map seen_p
 places_shown [] = refl
 places_shown (place ∷ book) = rw (vote_shown place.1, places_shown book) refl
 
-record_shown : (r : Record) → record_bytes (seen_record r) ≡ record_encoding r
+pub record_shown : (r : Record) → record_bytes (seen_record r) ≡ record_encoding r
 record_shown r = rw (state_shown r.state, length-map r.book seen_place, places_shown r.book) refl
 
 -- ---- the keys of the rows
@@ -118,7 +118,7 @@ unknown_is (table.Active object) book e = absurd (both_ways _ e refl)
 unknown_is (table.Locked object by) book e = absurd (both_ways _ e refl)
 unknown_is (table.Inactive by) book e = absurd (both_ways _ e refl)
 
-stored_known : (r : Record) → IsStored r → is_known (seen_record r) ≡ true
+pub stored_known : (r : Record) → IsStored r → is_known (seen_record r) ≡ true
 stored_known r stored =
     elim (cases_Bool (is_known (seen_record r))) [
       | inl known ↦ known

@@ -2,12 +2,14 @@
 ghost use Rattle.std.specs.Prelude.{◌≡◌, ◌+◌, ◌*◌, ◌≤◌, ◌<◌, ◌↔◌, ◌/◌, ◌%◌, length, take, drop, slice_get, IfOk, OnOk, IsErrOf};
 ghost use Rattle.cs_merkle.specs.Tree.{leaves_of, merkle_tree_hash};
 ghost use Rattle.cs_merkle.specs.Path.{audit_path};
+ghost use Rattle.cs_check.specs.Leaves.{HasLeaves, HasLeavesBut};
 ghost use Rattle.cs_check.specs.Root.{table_root as root_of};
 ghost use Rattle.cs_checkpoint.specs.Chain.{empty_log, with_slot, made_last, chain_head, last_head, head_of, checkpoint_of, IsLeaf, IsProofOf};
 ghost use Rattle.cs_checkpoint.specs.Shown.{Shows};
+ghost use Rattle.cs_table.specs.Seen.{seen};
 
+use crate::hashes::Hashes;
 use crate::leaf::read_leaf;
-use crate::root::table_root;
 use cs_base::{Memory, Sequence};
 use cs_checkpoint::{Checkpoint, Digest, Proof, checkpoint_head};
 use cs_merkle::{path, root};
@@ -15,8 +17,7 @@ use cs_table::Table;
 use std::alloc::Global;
 use std::marker::Model;
 
-/// How many slots a checkpoint covers: it costs a hash of the whole table, and a proof has a path
-/// of four hashes.
+/// How many slots a checkpoint covers: a proof has a path of four hashes.
 const COVERED: usize = 16;
 
 /// Why there is no proof.
@@ -39,21 +40,27 @@ impl From<Memory> for ProveError {
     }
 }
 
-/// The leaves of a shard's slots, with the checkpoints over them.
+/// The leaves of a shard's slots, with the checkpoints over them, and the hashes of the leaves of
+/// its records.
 #[derive(Drop)]
 pub struct Chain {
     shard: u16,
     leaves: Vec<Vec<u8>>,
     made: Vec<Checkpoint>,
+    hashes: Hashes,
 }
 
 impl Model for Chain {
     ghost use Rattle.cs_merkle.specs.Tree.{leaves_of};
-    ghost use Rattle.cs_checkpoint.specs.Chain.{Log, log_of, IsChain};
+    ghost use Rattle.cs_checkpoint.specs.Chain.{log_of, IsChain};
+    ghost use Rattle.cs_check.specs.Leaves.{Chained};
 
-    ghost Value = { Log };
+    ghost Value = { Chained };
 
-    ghost view = { λ c. log_of c.shard (leaves_of c.leaves.items) c.made.items };
+    ghost view = { λ c. record {
+      log = log_of c.shard (leaves_of c.leaves.items) c.made.items;
+      hashed = c.hashes;
+    } };
 
     ghost invariant = { λ c.
         IsChain (log_of c.shard (leaves_of c.leaves.items) c.made.items) c.made.items };
@@ -113,56 +120,63 @@ fn covered_path(alloc: Global, leaves: &[Vec<u8>], slot: usize) -> Result<Vec<Di
 }
 
 impl Chain {
-    /// A chain without slots, of this shard.
-    pub fn new(alloc: Global, shard: u16) -> Chain
-        ensures { result ≡ empty_log shard }
+    /// A chain without slots, of the shard that has this table.
+    pub fn new(alloc: Global, shard: u16, table: &Table) -> Result<Chain, Memory>
+        ensures log { IfOk result (λ chain. chain.log ≡ empty_log shard) }
+        ensures leaves { IfOk result (λ chain. HasLeaves chain.hashed (seen table.now)) }
     {
-        Chain {
+        let hashes = Hashes::new(alloc, table)?;
+        Ok(Chain {
             shard,
             leaves: Vec::new(alloc),
             made: Vec::new(alloc),
-        }
+            hashes,
+        })
     }
 
     /// How many slots it has.
     pub fn slots(&self) -> u64
-        ensures { result ≡ length self.now.leaves }
+        ensures { result ≡ length self.now.log.leaves }
     {
         self.leaves.len() as u64
     }
 
     /// The leaf of each of its slots, as encoded.
     pub fn leaves(&self) -> &[Vec<u8>]
-        ensures { leaves_of result.now ≡ self.now.leaves }
+        ensures { leaves_of result.now ≡ self.now.log.leaves }
     {
         self.leaves.as_slice()
     }
 
     /// How many checkpoints are made.
     pub fn checkpoints(&self) -> u64
-        ensures { result ≡ length self.now.table_roots }
+        ensures { result ≡ length self.now.log.table_roots }
     {
         self.made.len() as u64
     }
 
-    /// Takes the leaf of the next slot, whose entry was executed on the table last. Every 16th leaf
-    /// makes a checkpoint.
+    /// Takes the leaf of the next slot, whose entry was executed on the table last, and takes over
+    /// the leaves of the touched keys; no other record is encoded or hashed. Every 16th leaf makes a
+    /// checkpoint, for which no node is joined twice. After want of memory no leaf is known.
     pub fn push(
         &mut self,
         alloc: Global,
         leaf: Vec<u8>,
         table: &Table,
     ) -> Result<Option<Checkpoint>, Memory>
-        requires { IsLeaf leaf.items }
+        requires leaf { IsLeaf leaf.items }
+        requires known { HasLeavesBut table.now.touched self.old.hashed (seen table.now) }
         ensures log { OnOk result
-            (self.new ≡ with_slot leaf.items (root_of table.now.rows) self.old) }
-        ensures made { IfOk result (λ made. made ≡ made_last self.new) }
+            (self.new.log ≡ with_slot leaf.items (root_of table.now.rows) self.old.log) }
+        ensures made { IfOk result (λ made. made ≡ made_last self.new.log) }
+        ensures leaves { OnOk result (HasLeaves self.new.hashed (seen table.now)) }
     {
         self.leaves.push(leaf)?;
+        self.hashes.take(alloc, table)?;
         if self.leaves.len() % COVERED != 0 {
             return Ok(None);
         }
-        let table_root = table_root(alloc, table)?;
+        let table_root = self.hashes.root(alloc, table)?;
         let checkpoint = next_checkpoint(
             self.shard,
             self.leaves.as_slice(),
@@ -175,7 +189,7 @@ impl Chain {
 
     /// The head of the checkpoint of a number, where that one is made.
     pub fn head(&self, number: u64) -> Option<Digest>
-        ensures { result ≡ chain_head self.now number }
+        ensures { result ≡ chain_head self.now.log number }
     {
         match self.made.get(number as usize) {
             Some(checkpoint) => Some(checkpoint_head(checkpoint)),
@@ -186,12 +200,12 @@ impl Chain {
     /// The leaf of a slot with the checkpoint that covers it, and the path from the one to the
     /// other.
     pub fn prove(&self, alloc: Global, slot: u64) -> Result<Proof, ProveError>
-        ensures proof { IfOk result (λ proof. IsProofOf self.now slot proof) }
+        ensures proof { IfOk result (λ proof. IsProofOf self.now.log slot proof) }
         // Where the leaf is of that slot, the proof shows it under the checkpoint's head.
         ensures shown { IfOk result (λ proof. proof.leaf.slot ≡ slot →
-            Shows (head_of (checkpoint_of self.now (slot / 16))) proof) }
+            Shows (head_of (checkpoint_of self.now.log (slot / 16))) proof) }
         ensures not_yet { IsErrOf result ProveError.NotYet
-            ↔ (16 * length self.now.table_roots ≤ slot) }
+            ↔ (16 * length self.now.log.table_roots ≤ slot) }
     {
         let slot = slot as usize;
         let leaves = self.leaves.as_slice();

@@ -16,7 +16,8 @@ fn digest_fits(digest: &Digest)
     let _bytes = digest.as_slice();
 }
 
-fn key_fits(key: &Key)
+/// A key is within all limits.
+pub(crate) fn key_fits(key: &Key)
     ensures { KeyFits key.now }
 {
     match key {

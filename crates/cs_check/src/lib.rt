@@ -3,6 +3,7 @@
 
 mod chain;
 mod fitting;
+mod hashes;
 mod leaf;
 mod root;
 

@@ -14,8 +14,8 @@ use cs_table::{Record, Records, Table};
 use cs_tx::{Digest, Encoded};
 use std::alloc::Global;
 
-// The encoding of a record behind that of its key.
-fn record_leaf(alloc: Global, key: &Key, row: &Record) -> Result<Vec<u8>, Memory>
+/// The encoding of a record behind that of its key.
+pub(crate) fn record_leaf(alloc: Global, key: &Key, row: &Record) -> Result<Vec<u8>, Memory>
     requires { IsStored row.now }
     ensures { IfOk result (λ leaf.
         leaf.items ≡ stored_encoding (record { key = key.now; value = row.now })) }

@@ -6,7 +6,7 @@ ghost use Rattle.cs_merkle.specs.Tree.{leaves_of};
 ghost use Rattle.cs_checkpoint.specs.Chain.{head_of, checkpoint_of};
 ghost use Rattle.cs_tx_value.specs.Object.{ObjectFits, object_encoding};
 ghost use Rattle.cs_node_rules.specs.Dumps.{leaf_line, dumped_head, heads_below, log_text, contract_line};
-ghost use Rattle.cs_play.specs.Longest.{log_in};
+ghost use Rattle.cs_play.specs.Longest.{log_of, log_in};
 ghost use Rattle.cs_dump.specs.Lines.{settings_text, object_line, log_line};
 
 use cs_base::{Config, Memory, Sequence, Writer, print_bytes};
@@ -60,7 +60,7 @@ fn object_text(alloc: Global, object: &Object) -> Result<String, Memory>
 /// The log of a shard; where there is no chain, that of no slot.
 pub(crate) fn log_text(alloc: Global, shard: u16, chain: Option<&Chain>) -> Result<String, Memory>
     ensures { IfOk result (λ text.
-        string_bytes text ≡ log_text shard (log_in shard (option_copied chain.entry))) }
+        string_bytes text ≡ log_text shard (log_in shard (log_of (option_copied chain.entry)))) }
 {
     match chain {
         Some(chain) => chain_text(alloc, shard, chain),
@@ -75,7 +75,7 @@ fn log_line(alloc: Global, shard: u16, slots: u64) -> Result<String, Memory>
 }
 
 fn chain_text(alloc: Global, shard: u16, chain: &Chain) -> Result<String, Memory>
-    ensures { IfOk result (λ text. string_bytes text ≡ log_text shard chain.now) }
+    ensures { IfOk result (λ text. string_bytes text ≡ log_text shard chain.now.log) }
 {
     let mut text = log_line(alloc, shard, chain.slots())?;
     let leaves = leaf_lines(alloc, chain.leaves())?;
@@ -101,7 +101,7 @@ fn leaf_lines(alloc: Global, leaves: &[Vec<u8>]) -> Result<String, Memory>
 // The heads of all checkpoints that are made.
 fn head_lines(alloc: Global, chain: &Chain) -> Result<String, Memory>
     ensures { IfOk result (λ text. string_bytes text
-        ≡ flat_map dumped_head (heads_below chain.now (length chain.now.table_roots))) }
+        ≡ flat_map dumped_head (heads_below chain.now.log (length chain.now.log.table_roots))) }
 {
     let mut text = String::new(alloc);
     for number in 0..chain.checkpoints() {
@@ -112,9 +112,9 @@ fn head_lines(alloc: Global, chain: &Chain) -> Result<String, Memory>
 }
 
 fn head_line(alloc: Global, chain: &Chain, number: u64) -> Result<String, Memory>
-    requires { number < length chain.now.table_roots }
+    requires { number < length chain.now.log.table_roots }
     ensures { IfOk result (λ text.
-        string_bytes text ≡ dumped_head (head_of (checkpoint_of chain.now number))) }
+        string_bytes text ≡ dumped_head (head_of (checkpoint_of chain.now.log number))) }
 {
     match chain.head(number) {
         Some(head) => {

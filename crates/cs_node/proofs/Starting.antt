@@ -27,6 +27,7 @@ use Rattle.cs_check_rules.proofs.Same.{one_list}
 use Rattle.cs_check_rules.proofs.Known.{start_known}
 use Rattle.cs_check.specs.Root.{keys_in}
 use Rattle.cs_node_pool.specs.Deployed.{deployed}
+use Rattle.cs_check.specs.Leaves.{Hashed}
 use Rattle.cs_sbac.specs.Held.{Held}
 use Rattle.cs_node.specs.Setups.{keyed_from, AreObjects}
 use Rattle.cs_node.specs.Cores.{KeepsView}
@@ -48,21 +49,21 @@ rules-same config objects =
     ap with_items (items-same 0 objects)
 
 -- what a node of this name holds then
-abbrev pub begun_with : Config → Stored → NodeId → Held
-begun_with config table me = record {
+abbrev pub begun_with : Config → Stored → Hashed → NodeId → Held
+begun_with config table hashed me = record {
   config = config;
   me = me;
   table = table;
   pool = [];
-  archived = record { log = empty_log me.shard; heads = [] };
+  archived = record { log = empty_log me.shard; hashed = hashed; heads = [] };
 }
 
-pub started : {O J M : Type 0} (stands : O → Member M → Type 0) (approves : J → Tx → Bool) (rules : Machine M) (carried : Carrier M) (net : Net) (config : Config) (me : NodeId) (objects : List Object) (given : List (Key × Object)) (order : O) (judge : J) (table : Stored) (f index : ℕ)
+pub started : {O J M : Type 0} (stands : O → Member M → Type 0) (approves : J → Tx → Bool) (rules : Machine M) (carried : Carrier M) (net : Net) (config : Config) (me : NodeId) (objects : List Object) (given : List (Key × Object)) (order : O) (judge : J) (table : Stored) (hashed : Hashed) (f index : ℕ)
     → stands order (record { f = f; me = index; deeds = [] }) → f ≡ config.f → index ≡ me.index → is_node config me ≡ true → given ≡ keyed_from 0 objects → seen table ≡ start (genesis_rules config given) me.shard
     → AreKnown (keys_in table.rows) (seen table)
-    → KeepsView stands approves (deployed config objects (approves judge)) (record { order = order; judge = judge; sbac = begun_with config table me })
+    → KeepsView stands approves (deployed config objects (approves judge)) (record { order = order; judge = judge; sbac = begun_with config table hashed me })
     (start_view (site_of (deployed config objects (approves judge)) net rules carried) me)
-started {O} {J} {M} stands approves rules carried net config me objects given order judge table f index is same-f same-me node named shows known =
+started {O} {J} {M} stands approves rules carried net config me objects given order judge table hashed f index is same-f same-me node named shows known =
     let F : ℕ → Type 0 = λ n. stands order (record { f = n; me = index; deeds = [] }) in
     let I : ℕ → Type 0 = λ n. stands order (record { f = config.f; me = n; deeds = [] }) in
     let shown : seen table ≡ start (rules_of config objects) me.shard =

@@ -66,6 +66,7 @@ pub fn execute(
         result: outcome.effect,
     };
     let made = sbac.close(alloc, &leaf)?;
+    sbac.forget_touched();
     draft.note_execution(slot, leaf.entry, leaf.result)?;
     say_made(alloc, sbac, draft, made)
 }

@@ -37,6 +37,17 @@ pub enum StartError {
     Memory,
 }
 
+impl From<Memory> for StartError {
+    ghost use Rattle.std.specs.Prelude.{◌≡◌};
+    ghost use Rattle.cs_node.specs.declared.nodes.StartError.TheVariants.{Memory as NoMemory};
+
+    ghost from_gives = { λ _ e. e ≡ NoMemory };
+
+    fn from(_e: Memory) -> StartError {
+        StartError::Memory
+    }
+}
+
 /// One node: its keys, its order, its table, its pool, and what it keeps for checkpoints.
 #[derive(Drop)]
 pub struct Core<O: Order, J: Judge + Drop> {
@@ -75,7 +86,7 @@ impl<O: Carried, J: Judge + Drop> Core<O, J> {
             Err(TableError::Memory) => return Err(StartError::Memory),
         };
         root_is_shown(&table);
-        let sbac = Sbac::new(alloc, config, me, table);
+        let sbac = Sbac::new(alloc, config, me, table)?;
         let engine = Engine { order, judge, sbac };
         Ok(Core { keys, engine })
     }
@@ -115,7 +126,7 @@ impl<O: Carried, J: Judge + Drop> Core<O, J> {
     /// The chain of its checkpoints.
     pub fn chain(&self) -> &Chain
         ensures { (site : Site O.Message) (v : View O.Message) →
-            StandsFor O.stands J.is_approved site self.now v → result.now ≡ v.bench.log }
+            StandsFor O.stands J.is_approved site self.now v → result.now.log ≡ v.bench.log }
     {
         self.engine.sbac.chain()
     }

@@ -1,7 +1,7 @@
 //! The logs of shards, for a dump.
 ghost use Rattle.std.specs.Prelude.{◌≡◌, option_copied, length, None, Some};
 ghost use Rattle.cs_node_rules.specs.Dumps.{shard_log};
-ghost use Rattle.cs_play.specs.Longest.{honest_log, slots_in, longer_found, log_in};
+ghost use Rattle.cs_play.specs.Longest.{honest_log, log_of, slots_in, longer_found, log_in};
 ghost use Rattle.cs_play.specs.Standing.{site_in};
 ghost use Rattle.cs_play.specs.Ends.{WhereStands};
 
@@ -17,7 +17,7 @@ impl<O: Carried, J: Judge + Drop> Replay<O, J> {
     /// index; none where nothing was executed in the shard.
     pub fn shard_chain(&self, config: Config, shard: u16) -> Option<&Chain>
         ensures { WhereStands O.stands J.is_approved O.rules O.carrier self.now (λ s p.
-            s.setup.f ≡ config.f → log_in shard (option_copied result)
+            s.setup.f ≡ config.f → log_in shard (log_of (option_copied result))
             ≡ shard_log (site_in O.rules O.carrier s) p.world shard) }
     {
         let mut found = None;
@@ -30,7 +30,8 @@ impl<O: Carried, J: Judge + Drop> Replay<O, J> {
     // The chain of a node, if it doesn't lie.
     fn node_chain(&self, name: NodeId) -> Option<&Chain>
         ensures { WhereStands O.stands J.is_approved O.rules O.carrier self.now (λ s p.
-            option_copied result ≡ honest_log (site_in O.rules O.carrier s) p.world name) }
+            log_of (option_copied result)
+            ≡ honest_log (site_in O.rules O.carrier s) p.world name) }
     {
         match place_of(self.cores.as_slice(), name) {
             Some(place) => Some(self.cores[place].chain()),
@@ -41,7 +42,8 @@ impl<O: Carried, J: Judge + Drop> Replay<O, J> {
 
 // The later chain where it is longer, else the first.
 fn longer<'a>(first: Option<&'a Chain>, later: Option<&'a Chain>) -> Option<&'a Chain>
-    ensures { option_copied result ≡ longer_found (option_copied first.entry) (option_copied later.entry) }
+    ensures { log_of (option_copied result)
+        ≡ longer_found (log_of (option_copied first.entry)) (log_of (option_copied later.entry)) }
 {
     match later {
         Some(chain) if slots_in(first) < chain.slots() => later,
@@ -50,7 +52,7 @@ fn longer<'a>(first: Option<&'a Chain>, later: Option<&'a Chain>) -> Option<&'a 
 }
 
 fn slots_in(chain: Option<&Chain>) -> u64
-    ensures { result ≡ slots_in (option_copied chain.entry) }
+    ensures { result ≡ slots_in (log_of (option_copied chain.entry)) }
 {
     match chain {
         Some(chain) => chain.slots(),

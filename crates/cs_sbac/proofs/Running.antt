@@ -21,7 +21,7 @@ use Rattle.cs_tx_form.specs.declared.effect.Effect.{Effect}
 use Rattle.cs_tx_form.specs.declared.effect.Effect.TheVariants.{Voted, Accepted, Aborted, Skipped, Void}
 use Rattle.cs_table.specs.Seen.{Stored, seen, vote_of}
 use Rattle.cs_table.specs.Pieces.{rules_in}
-use Rattle.cs_table.specs.Changes.{Becomes}
+use Rattle.cs_table.specs.Changes.{Becomes, Marks}
 use Rattle.cs_table.specs.Effects.{ComesTo, effect_of}
 use Rattle.cs_table.specs.declared.standing.Standing.TheVariants.{Accepted as Accepted', Aborted as Aborted', Open as Open'}
 use Rattle.cs_ledger.specs.Standing.{stands_accepted, stands_aborted}
@@ -114,6 +114,11 @@ module _ (me : NodeId) (x : Session) (y : Seen.Session) (told tnew : Stored) (po
   decided-run effect comes pool = by effect comes.effect_is pool comes.table_is
 
 -- ---- the table stays that of the shard
+
+pub marked : (approves : Tx → Bool) (me : NodeId) (entry : Entry) (told tnew : Stored) (pold pnew : Pool) (answer : Outcome)
+    → RunsEntry approves me entry told tnew pold pnew answer → Marks told tnew
+marked approves me (Prepare x) told tnew pold pnew answer r = r.table_is.marks
+marked approves me (Decide vote x) told tnew pold pnew answer r = r.table_is.marks
 
 pub stays : (approves : Tx → Bool) (config : Config) (me : NodeId) (entry : Entry) (told tnew : Stored) (pold pnew : Pool) (answer : Outcome)
     → IsOfNode config me told → RunsEntry approves me entry told tnew pold pnew answer → IsOfNode config me tnew

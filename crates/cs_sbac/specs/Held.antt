@@ -3,7 +3,8 @@ use Rattle.std.specs.Prelude.{◌≡◌, Bool, true}
 use Rattle.cs_base.specs.declared.config.Config.{Config}
 use Rattle.cs_base.specs.declared.node_id.NodeId.{NodeId}
 use Rattle.cs_base.specs.NodeId.{is_node}
-use Rattle.cs_table.specs.Seen.{Stored, seen}
+use Rattle.cs_table.specs.Seen.{Stored, seen, forgotten}
+use Rattle.cs_check.specs.Leaves.{HasLeavesBut}
 use Rattle.cs_check.specs.Root.{keys_in}
 use Rattle.cs_archive.specs.Archives.{Archived}
 use Rattle.cs_node_state.specs.Pool.{Pool}
@@ -26,12 +27,14 @@ pub record IsOfNode (config : Config) (me : NodeId) (table : Stored) : Type 0 wh
   pub shards : table.shards ≡ config.shards
   pub shard : table.shard ≡ me.shard
 
--- so, unless memory ran out in the midst of an execution; and the pool has the same configuration
+-- So, and the leaves of all keys that aren't touched are those of the table, unless memory ran out in the midst of a slot;
+-- and the pool has the same configuration.
 pub record IsSoundBench (is_whole : Bool) (config : Config) (me : NodeId)
-    (table : Stored) (pool : Gathered) : Type 0 where
+    (table : Stored) (pool : Gathered) (archived : Archived) : Type 0 where
   pub node : is_node config me ≡ true
   pub same : pool.config ≡ config
   pub placed : is_whole ≡ true → IsOfNode config me table
+  pub leaves : is_whole ≡ true → HasLeavesBut table.touched archived.hashed (seen table)
 
 -- the session is well formed, and concerns the shard, whatever the genesis and the checks say
 abbrev pub IsFit : Held → Session → Type 0
@@ -51,3 +54,6 @@ with_pool held pool = record held { pool = pool }
 
 abbrev pub with_archived : Held → Archived → Held
 with_archived held archived = record held { archived = archived }
+
+abbrev pub with_forgotten : Held → Held
+with_forgotten held = record held { table = forgotten held.table }

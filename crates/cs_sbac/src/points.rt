@@ -6,7 +6,9 @@ ghost use Rattle.cs_check_rules.specs.Heads.{is_news};
 ghost use Rattle.cs_check_rules.specs.Proofs.{proof_of};
 ghost use Rattle.cs_archive.specs.Archives.{with_news};
 ghost use Rattle.cs_node_state.specs.Bench.{with_leaf};
-ghost use Rattle.cs_sbac.specs.Held.{bench_of, with_archived};
+ghost use Rattle.cs_table.specs.Seen.{seen};
+ghost use Rattle.cs_check.specs.Leaves.{HasLeaves};
+ghost use Rattle.cs_sbac.specs.Held.{bench_of, with_archived, with_forgotten};
 
 use crate::sbac::Sbac;
 use cs_base::Memory;
@@ -24,7 +26,7 @@ impl Sbac {
 
     /// The chain of the node's checkpoints.
     pub fn chain(&self) -> &Chain
-        ensures { result.now ≡ self.now.archived.log }
+        ensures { result.now.log ≡ self.now.archived.log }
     {
         self.archive.chain()
     }
@@ -36,10 +38,27 @@ impl Sbac {
         requires next { leaf.now.slot ≡ length self.old.archived.log.leaves }
         ensures bench { OnOk result (bench_of self.new ≡ with_leaf leaf.now (bench_of self.old)) }
         ensures made { IfOk result (λ made. made ≡ made_last self.new.archived.log) }
+        ensures leaves { OnOk result
+            (HasLeaves self.new.archived.hashed (seen self.new.table)) }
         ensures config { OnOk result (self.new.config ≡ self.old.config) }
         ensures me { OnOk result (self.new.me ≡ self.old.me) }
     {
-        self.archive.push(alloc, leaf, &self.table)
+        if !self.is_whole {
+            return Err(Memory);
+        }
+        self.is_whole = false;
+        let made = self.archive.push(alloc, leaf, &self.table)?;
+        self.is_whole = true;
+        Ok(made)
+    }
+
+    /// From now on no key of the table is touched, until its record changes. All leaves are those
+    /// of the table, as they are where a slot was closed.
+    pub fn forget_touched(&mut self)
+        requires { HasLeaves self.old.archived.hashed (seen self.old.table) }
+        ensures { self.new ≡ with_forgotten self.old }
+    {
+        self.table.forget_touched();
     }
 
     /// The proof of a slot, where a checkpoint covers it.

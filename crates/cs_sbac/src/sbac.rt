@@ -22,8 +22,8 @@ use cs_tx::{Digest, Entry, Session, Vote, concerned};
 use std::alloc::Global;
 use std::marker::Model;
 
-/// The table of a node, its pool and its archive. Where memory ran out in the midst of an execution
-/// nothing is known of table and pool: no entry is executed on them again.
+/// The table of a node, its pool and its archive. Where memory ran out in the midst of a slot nothing
+/// is known of these: no entry is executed on them again.
 #[derive(Drop)]
 pub struct Sbac {
     pub(crate) config: Config,
@@ -52,29 +52,34 @@ impl Model for Sbac {
       archived = s.archive;
     } };
 
-    ghost invariant = { λ s. IsSoundBench s.is_whole s.config s.me s.table s.pool };
+    ghost invariant = { λ s. IsSoundBench s.is_whole s.config s.me s.table s.pool s.archive };
 }
 
 impl Sbac {
     /// A node's table, with an empty pool and an empty archive.
-    pub fn new(alloc: Global, config: Config, me: NodeId, table: Table) -> Self
+    pub fn new(alloc: Global, config: Config, me: NodeId, table: Table) -> Result<Self, Memory>
         requires { IsOfNode config me table }
-        ensures { result ≡ record {
+        ensures { IfOk result (λ begun. begun ≡ record {
           config = config;
           me = me;
           table = table;
           pool = [];
-          archived = record { log = empty_log me.shard; heads = [] };
-        } }
+          archived = record {
+            log = empty_log me.shard;
+            hashed = begun.archived.hashed;
+            heads = [];
+          };
+        }) }
     {
-        Sbac {
+        let archive = Archive::new(alloc, me.shard, &table)?;
+        Ok(Sbac {
             config,
             me,
             table,
             pool: Pool::new(alloc, config),
-            archive: Archive::new(alloc, me.shard),
+            archive,
             is_whole: true,
-        }
+        })
     }
 
     /// The configuration.

@@ -13,6 +13,7 @@ use Rattle.cs_tx_value.specs.declared.object.Object.{Object}
 use Rattle.cs_tx_value.specs.Object.{object_encoding}
 use Rattle.cs_table.proofs.Rows.{same_table}
 use Rattle.cs_table.proofs.Loops.{Left}
+use Rattle.cs_table.proofs.Marked.{marks_self, marks_after}
 
 -- a piece is loaded after those before the index
 pub record Loading (ps : List Piece) (i : ℕ) (old now : Stored) : Type 0 where
@@ -85,6 +86,7 @@ module _ (ps : List Piece) (i : ℕ) (p : Piece) (old now : Stored) (lt : i < le
           ∙ subst (λ rest. appeared_each [] (map seen_piece rest) (seen now) ≡ appeared_each [] (map seen_piece ps) (seen old)) (next ps i p lt is) so_far.left.shows;
       shards = did.shards ∙ so_far.left.shards;
       shard = did.shard ∙ so_far.left.shard;
+      marks = marks_after old now later so_far.left.marks did.marks;
     };
     shown = λ name.
         ap (λ t. is_unknown (t.at name).state) did.shows
@@ -95,7 +97,7 @@ module _ (ps : List Piece) (i : ℕ) (p : Piece) (old now : Stored) (lt : i < le
 
 pub begins : (ps : List Piece) (old : Stored) → seen old ≡ empty old.next → Loading ps 0 old old
 begins ps old is = record {
-  left = record { shows = refl; shards = refl; shard = refl };
+  left = record { shows = refl; shards = refl; shard = refl; marks = marks_self old };
   shown = λ name. ap (λ t. is_unknown (t.at name).state) is;
   second = refl;
 }
@@ -142,6 +144,7 @@ dummies_more old now later shard n s k o o' is_shard is_n same so_far did = reco
       ∙ ap (changed (appeared_record o) (ledger.Dummy shard n)) so_far.shows ∙ dummies_next shard n o (seen old);
   shards = did.shards ∙ so_far.shards;
   shard = did.shard ∙ so_far.shard;
+  marks = marks_after old now later so_far.marks did.marks;
 }
 
 none_less : (j : ℕ) → nat_lt j 0 ≡ false
@@ -156,4 +159,4 @@ none_below shard (ledger.Dummy s k) = by_shard (s == shard)
     by_shard false = refl
 
 pub no_dummies : (old : Stored) (shard : ℕ) (o : List ℕ) → Becomes old old (with_dummies shard 0 o (seen old))
-no_dummies old shard o = record { shows = same_table _ _ old.next (λ name. ap (λ b. if b then appeared_record o ((seen old).at name) else (seen old).at name) (sym (none_below shard name))); shards = refl; shard = refl }
+no_dummies old shard o = record { shows = same_table _ _ old.next (λ name. ap (λ b. if b then appeared_record o ((seen old).at name) else (seen old).at name) (sym (none_below shard name))); shards = refl; shard = refl; marks = marks_self old }

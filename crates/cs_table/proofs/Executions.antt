@@ -9,16 +9,17 @@ use Rattle.cs_table.specs.Seen.{Stored, seen}
 use Rattle.cs_table.specs.Changes.{Becomes, changed, changed_record, noted_record, changed_each, appeared_each}
 use Rattle.cs_table.specs.Effects.{settled_vote, or_lost, ComesTo, accepted}
 use Rattle.cs_table.proofs.Each.{locks, aborts_noted, aborts_full, accepts, books_kept}
+use Rattle.cs_table.proofs.Marked.{marks_self, marks_after}
 
 pub becomes_self : (a : Stored) → Becomes a a (seen a)
-becomes_self a = record { shows = refl; shards = refl; shard = refl }
+becomes_self a = record { shows = refl; shards = refl; shard = refl; marks = marks_self a }
 
 -- one change after another
 pub after : (a b c : Stored) (first second : Table → Table) → Becomes a b (first (seen a)) → Becomes b c (second (seen b)) → Becomes a c (second (first (seen a)))
-after a b c first second one two = record { shows = two.shows ∙ ap second one.shows; shards = two.shards ∙ one.shards; shard = two.shard ∙ one.shard }
+after a b c first second one two = record { shows = two.shows ∙ ap second one.shows; shards = two.shards ∙ one.shards; shard = two.shard ∙ one.shard; marks = marks_after a b c one.marks two.marks }
 
 pub becomes_same : (a b : Stored) (t u : Table) → t ≡ u → Becomes a b t → Becomes a b u
-becomes_same a b t u e h = record { shows = h.shows ∙ e; shards = h.shards; shard = h.shard }
+becomes_same a b t u e h = record { shows = h.shows ∙ e; shards = h.shards; shard = h.shard; marks = h.marks }
 
 pub locked : (a b c : Stored) (d : Bytes) (used read : List Piece) → Becomes a b (changed_each (changed_record (Lock d)) used (seen a)) → Becomes b c (changed_each (changed_record (Lock d)) read (seen b)) → Becomes a c (ledger.with_locks (seen a) d used read)
 locked a b c d used read one two = becomes_same a c _ _ (locks d used read (seen a)) (after a b c (changed_each (changed_record (Lock d)) used) (changed_each (changed_record (Lock d)) read) one two)

@@ -1,5 +1,5 @@
 -- The record that is found under a key, after one was put or taken out.
-use Rattle.std.proofs.Common.{◌≡◌, ℕ, Bool, true, false, if◌then◌else◌, cond, List, [], ◌∷◌, Option, Some, None, refl, sym, ap, ◌∙◌, subst, Bor, IfSome, option_copied}
+use Rattle.std.proofs.Common.{◌≡◌, ℕ, Bool, true, false, if◌then◌else◌, cond, List, [], ◌∷◌, Option, Some, None, is_some, refl, sym, ap, ◌∙◌, subst, inl, inr, Bor, IfSome, option_copied}
 use Rattle.std.proofs.Math.Path.{fun_ext}
 use Rattle.std.specs.declared.cmp.Ordering.{Ordering}
 use Rattle.std.specs.Ordering.{nat_cmp}
@@ -7,6 +7,7 @@ use Rattle.std.specs.BTreeMap.{is_at}
 use Rattle.std.specs.Map.{lookup}
 use Rattle.std.specs.Cmp.{both_tied, unsigned_ties}
 use Rattle.std.specs.Cmp.Lexicographic.{texts_ties}
+use Rattle.std.proofs.lemmas.Bool.{cases_Bool}
 use Rattle.cs_base.specs.declared.key.Key.{Key}
 use Rattle.cs_base.specs.declared.key.Key.TheVariants as key
 use Rattle.cs_base.specs.contracts.key.KeyOrd.TheImpl.{ghosts}
@@ -14,9 +15,9 @@ use Rattle.cs_ledger.specs.Session as ledger
 use Rattle.cs_ledger.specs.Table.{Record as Seen, Table}
 use Rattle.cs_ledger.proofs.Basics as basics
 use Rattle.cs_tx_form.specs.declared.record.Record.{Record}
-use Rattle.cs_table.specs.Seen.{Stored, is_under, row_in, seen_row, unknown_record, seen, RowFits, RowsFit, HoldsFit}
+use Rattle.cs_table.specs.Seen.{Stored, is_under, row_in, seen_row, unknown_record, seen, RowFits, RowsFit, HoldsFit, IsStored, IsInWidth, KeysInWidth, IsKeptTable}
 use Rattle.cs_tx.specs.Sessions.{key_seen}
-use Rattle.cs_table.specs.Changes.{changed, Becomes}
+use Rattle.cs_table.specs.Changes.{changed, Shows, Marks, Becomes}
 
 abbrev pub key_cmp : Key → Key → Ordering
 key_cmp = ghosts.cmp
@@ -37,7 +38,7 @@ same_tests true false there back = sym (there refl)
 same_tests false true there back = back refl
 same_tests false false there back = refl
 
-key_sym : (a b : ledger.Key) → ledger.key_eq a b ≡ ledger.key_eq b a
+pub key_sym : (a b : ledger.Key) → ledger.key_eq a b ≡ ledger.key_eq b a
 key_sym a b = same_tests _ _ (λ h. subst (λ z. ledger.key_eq z a ≡ true) (basics.same_key a b h) (basics.key_refl a)) (λ h. subst (λ z. ledger.key_eq z b ≡ true) (basics.same_key b a h) (basics.key_refl b))
 
 pub find_row : (rows : Rows) (q : Key) → lookup (is_at (key_cmp q)) rows ≡ row_in rows (key_seen q)
@@ -66,8 +67,8 @@ if_row : (b : Bool) (w row : Option Record) → seen_row (if b then w else row) 
 if_row true w row = refl
 if_row false w row = refl
 
-pub becomes : (s : Stored) (k : Key) (w : Option Record) (after : Rows) → UpdatesAt k w s.rows after → Becomes s (record { shards = s.shards; shard = s.shard; next = s.next; rows = after }) (changed (λ r. seen_row w) (key_seen k) (seen s))
-becomes s k w after updates = record {
+pub becomes : (s : Stored) (k : Key) (w : Option Record) (after : Rows) (touched : List Key) → UpdatesAt k w s.rows after → Shows s (record { shards = s.shards; shard = s.shard; next = s.next; rows = after; touched = touched }) (changed (λ r. seen_row w) (key_seen k) (seen s))
+becomes s k w after touched updates = record {
   shows = same_table _ _ s.next (λ name. ap seen_row (row_after k w s.rows after updates name) ∙ if_row (ledger.key_eq name (key_seen k)) w (row_in s.rows name));
   shards = refl;
   shard = refl;
@@ -79,6 +80,22 @@ if_fits false w row new old = old
 
 pub fits_after : (k : Key) (w : Option Record) (rows after : Rows) → UpdatesAt k w rows after → RowFits w → RowsFit rows → RowsFit after
 fits_after k w rows after updates new old name = rw (row_after k w rows after updates name) (if_fits (ledger.key_eq name (key_seen k)) w (row_in rows name) new (old name))
+
+widths_after : (k : Key) (w : Option Record) (rows after : Rows) → UpdatesAt k w rows after → (is_some w ≡ true → IsInWidth (key_seen k)) → KeysInWidth rows → KeysInWidth after
+widths_after k w rows after updates here old name some =
+    let there : is_some (if ledger.key_eq name (key_seen k) then w else row_in rows name) ≡ true = sym (ap is_some (row_after k w rows after updates name)) ∙ some in
+    elim (cases_Bool (ledger.key_eq name (key_seen k))) [
+      | inl same ↦
+          subst IsInWidth (sym (basics.same_key name (key_seen k) same))
+          (here (sym (ap (λ (b : Bool). is_some (if b then w else row_in rows name)) same) ∙ there))
+      | inr other ↦ old name (sym (ap (λ (b : Bool). is_some (if b then w else row_in rows name)) other) ∙ there)
+    ]
+
+pub kept_after : (k : Key) (w : Option Record) (rows after : Rows) → UpdatesAt k w rows after → RowFits w → (is_some w ≡ true → IsInWidth (key_seen k)) → IsKeptTable rows → IsKeptTable after
+kept_after k w rows after updates fits here old = record {
+  fit = fits_after k w rows after updates fits old.fit;
+  widths = widths_after k w rows after updates here old.widths;
+}
 
 -- a record that was taken out, changed and put back
 if_twice : (b : Bool) (r r' s t u : Seen) → (b ≡ true → r ≡ s) → (if b then r else (if b then u else t)) ≡ (if b then s else t)
@@ -99,15 +116,18 @@ if_same false r t h = refl
 pub unchanged : (k : ledger.Key) (r : Seen) (t : Table) → t.at k ≡ r → t ≡ changed (λ old. r) k t
 unchanged k r t is = same_table _ _ t.next (λ name. if_same (ledger.key_eq name k) r (t.at name) (λ same. subst (λ z. t.at z ≡ r) (sym (basics.same_key name k same)) is))
 
-pub becomes_again : (a b c : Stored) (change : Seen → Seen) (k : ledger.Key) (r : Seen) → Becomes a b (changed (λ old. unknown_record) k (seen a)) → Becomes b c (changed (λ old. r) k (seen b)) → r ≡ change ((seen a).at k) → Becomes a c (changed change k (seen a))
+pub becomes_again : (a b c : Stored) (change : Seen → Seen) (k : ledger.Key) (r : Seen) → Shows a b (changed (λ old. unknown_record) k (seen a)) → Shows b c (changed (λ old. r) k (seen b)) → r ≡ change ((seen a).at k) → Shows a c (changed change k (seen a))
 becomes_again a b c change k r left there is = record {
   shows = there.shows ∙ ap (λ t. changed (λ old. r) k t) left.shows ∙ back_again change k r (seen a) is;
   shards = there.shards ∙ left.shards;
   shard = there.shard ∙ left.shard;
 }
 
-pub gone : (a b : Stored) (k : ledger.Key) → Becomes a b (changed (λ old. unknown_record) k (seen a)) → (seen b).at k ≡ unknown_record
+pub gone : (a b : Stored) (k : ledger.Key) → Shows a b (changed (λ old. unknown_record) k (seen a)) → (seen b).at k ≡ unknown_record
 gone a b k left = ap (λ t. t.at k) left.shows ∙ unknown_there k (seen a)
+
+pub with_marks : (a b : Stored) (t : Table) → Shows a b t → Marks a b → Becomes a b t
+with_marks a b t shown marks = record { shows = shown.shows; shards = shown.shards; shard = shown.shard; marks = marks }
 
 -- what is found fits
 pub found_fits : (rows : Rows) (k : Key) → RowsFit rows → (found : Option (Bor Record)) → option_copied found ≡ lookup (is_at (key_cmp k)) rows → IfSome found (λ row. HoldsFit row.now.state)
@@ -115,3 +135,7 @@ found_fits rows k fits None is = tt
 found_fits rows k fits (Some row) is =
     let stored : RowFits (Some row.now) = subst (λ found. RowFits found) (sym (is ∙ find_row rows k)) (fits (key_seen k)) in
     stored.kept.holds
+
+pub found_stored : (rows : Rows) (k : Key) → RowsFit rows → (found : Option (Bor Record)) → option_copied found ≡ lookup (is_at (key_cmp k)) rows → IfSome found (λ row. IsStored row.now)
+found_stored rows k fits None is = tt
+found_stored rows k fits (Some row) is = subst (λ found. RowFits found) (sym (is ∙ find_row rows k)) (fits (key_seen k))

@@ -1,11 +1,11 @@
 -- What the calls do to one record, and to the records of several keys.
-use Rattle.std.specs.Prelude.{◌≡◌, ℕ, if◌then◌else◌, List, [], ◌∷◌, ◌++◌}
+use Rattle.std.specs.Prelude.{◌≡◌, ℕ, false, if◌then◌else◌, List, [], ◌∷◌, ◌++◌}
 use Rattle.cs_ledger.specs.Ledger.{Bytes}
 use Rattle.cs_ledger.specs.Session.{Key, Piece, key_eq, has_key}
 use Rattle.cs_ledger.specs.Table.{Vote, State, Inactive, Record, Table, locked, released, appeared}
 use Rattle.cs_table.specs.declared.change.Change.{Change}
 use Rattle.cs_table.specs.declared.change.Change.TheVariants.{Lock, Release, UseUp}
-use Rattle.cs_table.specs.Seen.{Stored, seen}
+use Rattle.cs_table.specs.Seen.{Stored, seen, has_name, unknown_record}
 
 abbrev pub changed_state : Change → State → State
 changed_state (Lock by) state = locked by state
@@ -45,8 +45,21 @@ appeared_each read (piece ∷ pieces) t =
 abbrev pub with_next : ℕ → Table → Table
 with_next next t = record { at = t.at; next = next }
 
--- A stored table became one that shows this, of the same shard.
+-- a stored table shows this now, and is of the same shard
+pub record Shows (old new : Stored) (table : Table) : Type 0 where
+  pub shows : seen new ≡ table
+  pub shards : new.shards ≡ old.shards
+  pub shard : new.shard ≡ old.shard
+
+-- A key that isn't touched wasn't so before, and has the record that it had; and nothing that was known is forgotten.
+pub record Marks (old new : Stored) : Type 0 where
+  pub untouched : (name : Key) → has_name new.touched name ≡ false →
+      (has_name old.touched name ≡ false) × ((seen new).at name ≡ (seen old).at name)
+  pub known : (name : Key) → (seen new).at name ≡ unknown_record → (seen old).at name ≡ unknown_record
+
+-- A stored table became one that shows this, of the same shard, with the keys touched whose records changed.
 pub record Becomes (old new : Stored) (table : Table) : Type 0 where
   pub shows : seen new ≡ table
   pub shards : new.shards ≡ old.shards
   pub shard : new.shard ≡ old.shard
+  pub marks : Marks old new

@@ -1,6 +1,6 @@
 -- What a table shows of its shard: the records of the definitions, under every key.
-use Rattle.std.specs.Prelude.{◌≡◌, ℕ, ◌≤◌, Bool, List, [], length, map, Option, Some, None}
-use Rattle.std.specs.List.{AllByRecursion}
+use Rattle.std.specs.Prelude.{◌≡◌, ℕ, ◌≤◌, ◌<◌, ◌^◌, Bool, true, List, [], length, map, Option, Some, None, is_some}
+use Rattle.std.specs.List.{AllByRecursion, list_any}
 use Rattle.std.specs.Map.{lookup}
 use Rattle.cs_base.specs.declared.limits.TheConstants.{MOST_PLACES}
 use Rattle.cs_base.specs.declared.key.Key.{Key}
@@ -35,15 +35,25 @@ seen_record r = record { state = seen_state r.state; book = map seen_place r.boo
 abbrev pub seen_piece : Piece → ledger.Piece
 seen_piece p = record { key = key_seen p.key; object = object_encoding p.object }
 
--- What a table keeps: its shard among so many, the next serial of a dummy, and the records by rising keys.
+-- What a table keeps: its shard among so many, the next serial of a dummy, the records by rising keys, and the touched
+-- keys, which rise too: those whose records changed since they were forgotten.
 pub record Stored : Type 0 where
   pub shards : ℕ
   pub shard : ℕ
   pub next : ℕ
   pub rows : List (Key × Record)
+  pub touched : List Key
 
 abbrev pub is_under : ledger.Key → Key → Bool
 is_under name key = ledger.key_eq name (key_seen key)
+
+-- whether a name is that of one of these keys
+abbrev pub has_name : List Key → ledger.Key → Bool
+has_name keys name = list_any (is_under name) keys
+
+-- no key is touched
+abbrev pub forgotten : Stored → Stored
+forgotten s = record s { touched = [] }
 
 -- the stored record of a key
 abbrev pub row_in : List (Key × Record) → ledger.Key → Option Record
@@ -87,6 +97,19 @@ RowFits (Some r) = IsStored r
 
 abbrev pub RowsFit : List (Key × Record) → Type 0
 RowsFit rows = (name : ledger.Key) → RowFits (row_in rows name)
+
+-- the numbers of a dummy have 16 and 64 bits
+abbrev pub IsInWidth : ledger.Key → Type 0
+IsInWidth (ledger.Object name) = Unit {0}
+IsInWidth (ledger.Dummy shard serial) = (shard < 2 ^ 16) × (serial < 2 ^ 64)
+
+-- each key that is stored is so
+abbrev pub KeysInWidth : List (Key × Record) → Type 0
+KeysInWidth rows = (name : ledger.Key) → is_some (row_in rows name) ≡ true → IsInWidth name
+
+pub record IsKeptTable (rows : List (Key × Record)) : Type 0 where
+  pub fit : RowsFit rows
+  pub widths : KeysInWidth rows
 
 -- each of these records is one that is stored
 abbrev pub AllStored : List (Key × Record) → Type 0

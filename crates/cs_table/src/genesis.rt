@@ -69,6 +69,7 @@ impl Table {
             seen table ≡ start (genesis_rules config objects.now) shard) }
         ensures shards { IfOk result (λ table. table.shards ≡ config.shards) }
         ensures shard { IfOk result (λ table. table.shard ≡ shard) }
+        ensures touched { IfOk result (λ table. table.touched ≡ []) }
         ensures finds { Finds result (twice config.shards shard objects.now) }
     {
         let pieces = genesis_pieces(alloc, &config, shard, objects)?;
@@ -76,6 +77,7 @@ impl Table {
         let mut table = Table::empty(alloc, config, shard);
         table.load(alloc, pieces.as_slice())?;
         table.load_dummies(alloc, count)?;
+        table.forget_touched();
         Ok(table)
     }
 

@@ -18,7 +18,7 @@ mod verdict;
 
 pub use cs_tx_form::{Effect, Record};
 pub use genesis::TableError;
-pub use listing::Records;
+pub use listing::{Records, Touched};
 pub use piece::Piece;
 pub use standing::{Preparation, Standing};
 pub use table::Table;

@@ -1,9 +1,9 @@
-//! What a table lists: its records, and the dummy that comes first.
+//! What a table lists: its records, the touched keys, and the dummy that comes first.
 ghost use Rattle.std.specs.Prelude.{◌≡◌};
 ghost use Rattle.std.specs.Map.{keys_of};
 ghost use Rattle.std.specs.List.Sorted.{IsStrictlySortedBy};
 ghost use Rattle.cs_base.specs.declared.key.Key.{Key};
-ghost use Rattle.cs_table.specs.Seen.{seen, AllStored};
+ghost use Rattle.cs_table.specs.Seen.{seen, AllStored, KeysInWidth};
 ghost use Rattle.cs_tx.specs.Sessions.{key_seen};
 ghost use Rattle.cs_table.specs.Dummies.{IsLeastDummy, is_active, first_active};
 
@@ -12,9 +12,13 @@ use cs_base::Key;
 use cs_tx::State;
 use cs_tx_form::Record;
 use std::collections::btree_map::{Iter, Range};
+use std::collections::btree_set;
 
 /// The records that are stored, each with its key.
 pub type Records<'a> = Iter<'a, Key, Record>;
+
+/// The touched keys.
+pub type Touched<'a> = btree_set::Iter<'a, Key>;
 
 /// Whether an object is there, which no session holds.
 fn is_active(row: &Record) -> bool
@@ -32,8 +36,17 @@ impl Table {
         ensures rows { result ≡ self.now.rows }
         ensures rising { IsStrictlySortedBy ⟦<Key as Ord>⟧.cmp (keys_of self.now.rows) }
         ensures stored { AllStored self.now.rows }
+        ensures widths { KeysInWidth self.now.rows }
     {
         self.rows().iter()
+    }
+
+    /// The keys whose records calls changed since they were forgotten, each once, in rising order.
+    pub fn touched(&self) -> Touched<'_>
+        ensures keys { result ≡ self.now.touched }
+        ensures rising { IsStrictlySortedBy ⟦<Key as Ord>⟧.cmp self.now.touched }
+    {
+        self.touched_keys().iter()
     }
 
     /// The active dummy of the least serial, or where none is active the one that is made next.

@@ -1,7 +1,7 @@
 //! What becomes of the record of a key.
-ghost use Rattle.std.specs.Prelude.{◌≡◌, ◌↔◌, ◌+◌, [], length, IsTrue, OnOk};
+ghost use Rattle.std.specs.Prelude.{◌≡◌, ◌↔◌, ◌+◌, false, [], length, IsTrue, OnOk};
 ghost use Rattle.cs_tx_value.specs.Object.{object_encoding, ObjectFits};
-ghost use Rattle.cs_table.specs.Changes.{changed_record, appeared_record, noted_record};
+ghost use Rattle.cs_table.specs.Changes.{changed_state, changed_record, appeared_record, noted_record};
 ghost use Rattle.cs_table.specs.Seen.{seen_record, seen_state, vote_of, unknown_record, HoldsFit};
 ghost use Rattle.cs_ledger.specs.Table.{locked, released};
 ghost use Rattle.cs_tx_form.specs.declared.state.State.TheVariants.{Unknown};
@@ -33,30 +33,56 @@ pub(crate) fn is_unknown(row: &Record) -> bool
     }
 }
 
-/// Changes the state.
-pub(crate) fn change(row: &mut Record, change: Change)
+// Whether a change gives another state.
+fn is_moved(state: &State, change: Change) -> bool
+    ensures { result ≡ false → changed_state change (seen_state state.now) ≡ seen_state state.now }
+{
+    match change {
+        Change::Lock(_) => match state {
+            State::Active(_) => true,
+            State::Unknown | State::Locked(_, _) | State::Inactive(_) => false,
+        },
+        Change::Release => match state {
+            State::Locked(_, _) => true,
+            State::Unknown | State::Active(_) | State::Inactive(_) => false,
+        },
+        Change::UseUp(by) => match state {
+            State::Inactive(other) => by != *other,
+            State::Unknown | State::Active(_) | State::Locked(_, _) => true,
+        },
+    }
+}
+
+/// Changes the state, and tells whether it is another one now.
+pub(crate) fn change(row: &mut Record, change: Change) -> bool
     ensures now { seen_record row.new ≡ changed_record change (seen_record row.old) }
     ensures fits { HoldsFit row.old.state → HoldsFit row.new.state }
     ensures book { row.new.book ≡ row.old.book }
+    ensures same { result ≡ false → seen_record row.new ≡ seen_record row.old }
 {
+    let moved = is_moved(&row.state, change);
     let state = mem::replace(&mut row.state, State::Unknown);
     row.state = match change {
         Change::Lock(by) => lock(state, by),
         Change::Release => release(state),
         Change::UseUp(by) => State::Inactive(by),
     };
+    moved
 }
 
-/// Makes the object active, where nothing was known of the key.
-pub(crate) fn appear(row: &mut Record, object: Object)
+/// Makes the object active, where nothing was known of the key, and tells whether it did.
+pub(crate) fn appear(row: &mut Record, object: Object) -> bool
     ensures now { seen_record row.new
         ≡ appeared_record (object_encoding object) (seen_record row.old) }
     ensures fits { ObjectFits object → HoldsFit row.old.state → HoldsFit row.new.state }
     ensures book { row.new.book ≡ row.old.book }
+    ensures same { result ≡ false → seen_record row.new ≡ seen_record row.old }
 {
     if let State::Unknown = row.state {
         row.state = State::Active(object);
+        return true;
     }
+    false
 }
 
 /// Adds a vote to the book.

@@ -1,10 +1,11 @@
 //! The table of a shard.
-ghost use Rattle.std.specs.Prelude.{◌≡◌, [], ◌+◌, ◌-◌, ◌<◌, ◌^◌, true, IfSome, OnOk, option_copied};
+ghost use Rattle.std.specs.Prelude.{◌≡◌, [], ◌+◌, ◌-◌, ◌<◌, ◌^◌, ◌||◌, ◌&&◌, true, IfSome, OnOk, option_copied};
 ghost use Rattle.cs_tx_value.specs.Object.{object_encoding, ObjectFits};
+ghost use Rattle.cs_ledger.specs.Session.{Key as Name, key_eq};
 ghost use Rattle.cs_ledger.specs.Table.{is_active_with, has_place};
-ghost use Rattle.cs_table.specs.Seen.{seen, shown_at, row_in, vote_of, seen_record, seen_row, unknown_record, HoldsFit, IsKept, RowFits, RowsFit};
+ghost use Rattle.cs_table.specs.Seen.{seen, shown_at, row_in, vote_of, seen_record, seen_row, unknown_record, HoldsFit, IsKept, IsStored, RowFits, has_name, forgotten, IsInWidth, IsKeptTable};
 ghost use Rattle.cs_tx.specs.Sessions.{key_seen};
-ghost use Rattle.cs_table.specs.Changes.{with_next, changed, changed_record, appeared_record, noted_record, Becomes};
+ghost use Rattle.cs_table.specs.Changes.{with_next, changed, changed_record, appeared_record, noted_record, Shows, Becomes};
 
 use crate::change::Change;
 use crate::piece::Piece;
@@ -13,20 +14,21 @@ use cs_base::{Config, Key, Memory};
 use cs_tx::{Digest, Object, State, Vote};
 use cs_tx_form::Record;
 use std::alloc::{AllocError, Global};
-use std::collections::BTreeMap;
+use std::collections::{BTreeMap, BTreeSet};
 use std::marker::Model;
 
-/// The records of a shard.
+/// The records of a shard, and the keys whose records changed since they were forgotten.
 #[derive(Drop)]
 pub struct Table {
     config: Config,
     shard: u16,
     next: u64,
     rows: BTreeMap<Key, Record>,
+    touched: BTreeSet<Key>,
 }
 
 impl Model for Table {
-    ghost use Rattle.cs_table.specs.Seen.{Stored, RowsFit};
+    ghost use Rattle.cs_table.specs.Seen.{Stored, IsKeptTable};
     ghost use Rattle.std.specs.Coded.{codes};
     ghost use Rattle.cs_tx_value.specs.contracts.value.Value as values;
 
@@ -39,21 +41,28 @@ impl Model for Table {
       shard = t.shard;
       next = t.next;
       rows = t.rows.entries;
+      touched = t.touched.keys;
     } };
 
-    ghost invariant = { λ t. RowsFit t.rows.entries };
+    ghost invariant = { λ t. IsKeptTable t.rows.entries };
 }
 
 impl Table {
     /// A table with no record, of a shard of the configuration.
     pub(crate) fn empty(alloc: Global, config: Config, shard: u16) -> Table
-        ensures { result
-            ≡ record { shards = config.shards; shard = shard; next = config.dummies; rows = [] } }
+        ensures { result ≡ record {
+          shards = config.shards;
+          shard = shard;
+          next = config.dummies;
+          rows = [];
+          touched = [];
+        } }
     {
         Table {
             shard,
             next: u64::from(config.dummies),
             rows: BTreeMap::new(alloc),
+            touched: BTreeSet::new(alloc),
             config,
         }
     }
@@ -78,9 +87,22 @@ impl Table {
 
     pub(crate) fn rows(&self) -> &BTreeMap<Key, Record>
         ensures rows { result.now.entries ≡ self.now.rows }
-        ensures fit { RowsFit result.now.entries }
+        ensures kept { IsKeptTable result.now.entries }
     {
         &self.rows
+    }
+
+    pub(crate) fn touched_keys(&self) -> &BTreeSet<Key>
+        ensures { result.now.keys ≡ self.now.touched }
+    {
+        &self.touched
+    }
+
+    /// From now on no key is touched, until its record changes.
+    pub fn forget_touched(&mut self)
+        ensures { self.new ≡ forgotten self.old }
+    {
+        self.touched.clear();
     }
 
     /// Takes the next serial of a dummy.
@@ -98,6 +120,7 @@ impl Table {
     pub fn record(&self, key: &Key) -> Option<&Record>
         ensures row { option_copied result ≡ row_in self.now.rows (key_seen key.now) }
         ensures fits { IfSome result (λ row. HoldsFit row.now.state) }
+        ensures stored { IfSome result (λ row. IsStored row.now) }
     {
         self.rows.get(key)
     }
@@ -122,20 +145,26 @@ impl Table {
     fn take(&mut self, alloc: Global, key: &Key) -> Record
         ensures row { seen_record result ≡ shown_at self.old key.now }
         ensures fits { IsKept result }
-        ensures left { Becomes self.old self.new
+        ensures left { Shows self.old self.new
             (changed (λ r. unknown_record) (key_seen key.now) (seen self.old)) }
+        ensures touched { self.new.touched ≡ self.old.touched }
     {
         let row = self.rows.remove(key);
         row_or_unknown(alloc, row)
     }
 
-    /// Puts the record of a key. One of which nothing is known is not stored.
-    fn put(&mut self, key: Key, row: Record) -> Result<(), Memory>
+    /// Puts the record of a key, which is touched where that is another record than it had. One of
+    /// which nothing is known is not stored.
+    fn put(&mut self, key: Key, row: Record, moved: bool) -> Result<(), Memory>
         requires gone { shown_at self.old key ≡ unknown_record }
         requires fits { IsKept row }
-        ensures { OnOk result (Becomes self.old self.new
+        ensures shown { OnOk result (Shows self.old self.new
             (changed (λ r. seen_record row) (key_seen key) (seen self.old))) }
+        ensures touched { OnOk result ((name : Name) → has_name self.new.touched name
+            ≡ (has_name self.old.touched name || (moved && key_eq name (key_seen key)))) }
     {
+        in_width(&key);
+        touch(&mut self.touched, key, moved)?;
         if record::is_unknown(&row) {
             return Ok(());
         }
@@ -151,8 +180,8 @@ impl Table {
             (changed (changed_record change) (key_seen key.now) (seen self.old))) }
     {
         let mut row = self.take(alloc, key);
-        record::change(&mut row, change);
-        self.put(*key, row)?;
+        let moved = record::change(&mut row, change);
+        self.put(*key, row, moved)?;
         Ok(())
     }
 
@@ -164,8 +193,8 @@ impl Table {
             (seen self.old))) }
     {
         let mut row = self.take(alloc, key);
-        record::appear(&mut row, object);
-        self.put(*key, row)?;
+        let moved = record::appear(&mut row, object);
+        self.put(*key, row, moved)?;
         Ok(())
     }
 
@@ -183,9 +212,31 @@ impl Table {
     {
         let mut row = self.take(alloc, key);
         record::note(&mut row, session, vote)?;
-        self.put(*key, row)?;
+        self.put(*key, row, true)?;
         Ok(())
     }
+}
+
+// What the type of a key says of its numbers.
+fn in_width(key: &Key)
+    ensures { IsInWidth (key_seen key.now) }
+{
+    match key {
+        Key::Object(_) => {}
+        Key::Dummy(shard, serial) => {
+            let _numbers = (*shard, *serial);
+        }
+    }
+}
+
+fn touch(touched: &mut BTreeSet<Key>, key: Key, moved: bool) -> Result<(), Memory>
+    ensures { OnOk result ((name : Name) → has_name touched.new.keys name
+        ≡ (has_name touched.old.keys name || (moved && key_eq name (key_seen key)))) }
+{
+    if moved {
+        touched.insert(key)?;
+    }
+    Ok(())
 }
 
 fn row_or_unknown(alloc: Global, row: Option<Record>) -> Record

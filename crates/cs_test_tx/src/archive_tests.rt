@@ -1,11 +1,15 @@
 //! The heads of other members, and the slots of a shard that makes checkpoints.
+ghost use Rattle.std.specs.Prelude.{OnOk};
+ghost use Rattle.cs_table.specs.Seen.{seen};
+ghost use Rattle.cs_check.specs.Leaves.{HasLeaves};
+
 use cs_archive::*;
 use cs_base::{Config, Memory};
 use cs_check::table_root;
 use cs_checkpoint::{Checkpoint, Leaf, checkpoint_head};
 use cs_table::Table;
 use cs_test_samples::spend;
-use cs_tx::{Effect, Encoded, Entry};
+use cs_tx::{Digest, Effect, Encoded, Entry};
 use std::alloc::Global;
 use std::process::Abort;
 use std::test::Fail;
@@ -23,7 +27,9 @@ fn numbered(number: u64) -> Checkpoint {
 
 #[test]
 fn heads_are_kept_where_their_number_is_above_the_last(rt: HostRuntime) -> Result<(), Fail> {
-    let mut archive = Archive::new(rt.alloc(), 0);
+    let config = Config::new(1, 0, 2).expect(&rt, "a configuration");
+    let table = Table::genesis(rt.alloc(), config, 0, &[])?;
+    let mut archive = Archive::new(rt.alloc(), 0, &table)?;
     // Of which member, which number, and whether it is news.
     let told = [
         (1, 3, true),
@@ -60,22 +66,28 @@ fn pushed(
     archive: &mut Archive,
     table: &Table,
     slot: u64,
-) -> Result<Option<Checkpoint>, Fail> {
+) -> Result<Option<Checkpoint>, Fail>
+    requires { HasLeaves archive.old.hashed (seen table.now) }
+    ensures { OnOk result (HasLeaves archive.new.hashed (seen table.now)) }
+{
     let leaf = leaf_of(alloc, slot)?;
     assert!(rt; leaf.fits() && leaf.slot == archive.slots());
     Ok(archive.push(alloc, &leaf, table)?)
 }
 
-#[test]
-fn every_16th_slot_makes_a_checkpoint(rt: HostRuntime) -> Result<(), Fail> {
-    let alloc = rt.alloc();
-    let config = Config::new(1, 0, 2).expect(&rt, "a configuration");
-    let table = Table::genesis(alloc, config, 0, &[])?;
-    let root = table_root(alloc, &table)?;
-    let mut archive = Archive::new(alloc, 0);
+// Pushes 40 slots.
+fn makes_each_16th(
+    rt: &impl Abort,
+    alloc: Global,
+    archive: &mut Archive,
+    table: &Table,
+    root: Digest,
+) -> Result<(), Fail>
+    requires { HasLeaves archive.old.hashed (seen table.now) }
+{
     let mut previous = [0; 32];
     for slot in 0..40u64 {
-        let made = pushed(&rt, alloc, &mut archive, &table, slot)?;
+        let made = pushed(rt, alloc, archive, table, slot)?;
         assert_eq!(rt; made.is_some(), slot % 16 == 15, "at {slot}");
         if let Some(checkpoint) = made {
             assert_eq!(rt; checkpoint.number, slot / 16, "at {slot}");
@@ -88,15 +100,33 @@ fn every_16th_slot_makes_a_checkpoint(rt: HostRuntime) -> Result<(), Fail> {
 }
 
 #[test]
+fn every_16th_slot_makes_a_checkpoint(rt: HostRuntime) -> Result<(), Fail> {
+    let alloc = rt.alloc();
+    let config = Config::new(1, 0, 2).expect(&rt, "a configuration");
+    let table = Table::genesis(alloc, config, 0, &[])?;
+    let root = table_root(alloc, &table)?;
+    let mut archive = Archive::new(alloc, 0, &table)?;
+    makes_each_16th(&rt, alloc, &mut archive, &table, root)
+}
+
+// Pushes 16 slots, of which none is proved before the last.
+fn covers(rt: &impl Abort, alloc: Global, archive: &mut Archive, table: &Table) -> Result<(), Fail>
+    requires { HasLeaves archive.old.hashed (seen table.now) }
+{
+    for slot in 0..16u64 {
+        assert!(rt; archive.prove(alloc, 0)?.is_none(), "before {slot}");
+        pushed(rt, alloc, archive, table, slot)?;
+    }
+    Ok(())
+}
+
+#[test]
 fn a_slot_is_proved_once_it_is_covered(rt: HostRuntime) -> Result<(), Fail> {
     let alloc = rt.alloc();
     let config = Config::new(1, 0, 2).expect(&rt, "a configuration");
     let table = Table::genesis(alloc, config, 0, &[])?;
-    let mut archive = Archive::new(alloc, 0);
-    for slot in 0..16u64 {
-        assert!(rt; archive.prove(alloc, 0)?.is_none(), "before {slot}");
-        pushed(&rt, alloc, &mut archive, &table, slot)?;
-    }
+    let mut archive = Archive::new(alloc, 0, &table)?;
+    covers(&rt, alloc, &mut archive, &table)?;
     for slot in 0..16u64 {
         let proof = archive.prove(alloc, slot)?.expect(&rt, "a proof");
         assert!(rt; proof.fits() && proof.leaf.slot == slot, "at {slot}");

@@ -1,6 +1,8 @@
 //! Eight coins, each moved whole by a session of its own: sixteen slots, and what follows them.
 ghost use Rattle.std.specs.Prelude.{All, IfOk, OnOk};
 ghost use Rattle.cs_tx_value.specs.Object.{ObjectFits};
+ghost use Rattle.cs_table.specs.Seen.{seen};
+ghost use Rattle.cs_check.specs.Leaves.{HasLeaves, HasLeavesBut};
 
 use cs_base::{Config, Key, Memory, Sequence, Writer, print_bytes};
 use cs_check::*;
@@ -72,7 +74,10 @@ fn push(
     chain: &mut Chain,
     table: &Table,
     leaf: Leaf,
-) -> Result<Option<Checkpoint>, Fail> {
+) -> Result<Option<Checkpoint>, Fail>
+    requires { HasLeavesBut table.now.touched chain.old.hashed (seen table.now) }
+    ensures { OnOk result (HasLeaves chain.new.hashed (seen table.now)) }
+{
     assert!(rt; leaf.fits());
     let bytes = encode_leaf(alloc, &leaf)?;
     Ok(chain.push(alloc, bytes, table)?)
@@ -87,7 +92,10 @@ fn execute(
     table: &mut Table,
     session: Session,
     slot: u64,
-) -> Result<Option<Checkpoint>, Fail> {
+) -> Result<Option<Checkpoint>, Fail>
+    requires { HasLeaves chain.old.hashed (seen table.old) }
+    ensures { OnOk result (HasLeaves chain.new.hashed (seen table.new)) }
+{
     assert!(rt; session.fits());
     assert!(rt; table.has_anchor(alloc, &session)?);
     let digest = session_digest(alloc, &session)?;
@@ -97,7 +105,9 @@ fn execute(
         entry: Entry::Prepare(session.copy(alloc)?),
         result: Effect::Voted(vote),
     };
-    assert!(rt; push(rt, alloc, chain, table, prepare)?.is_none());
+    let made = push(rt, alloc, chain, table, prepare)?;
+    table.forget_touched();
+    assert!(rt; made.is_none());
     assert!(rt; table.has_anchor(alloc, &session)?);
     let result = table.decide(alloc, &session, &digest, Vote::Commit)?;
     let decide = Leaf {
@@ -105,7 +115,9 @@ fn execute(
         entry: Entry::Decide(Vote::Commit, session),
         result,
     };
-    push(rt, alloc, chain, table, decide)
+    let made = push(rt, alloc, chain, table, decide)?;
+    table.forget_touched();
+    Ok(made)
 }
 
 // The chain after so many of the sessions.
@@ -113,7 +125,7 @@ fn chain_of(rt: &impl Abort, alloc: Global, sessions: usize) -> Result<Chain, Fa
     let objects = coins(alloc)?;
     let config = Config::new(1, 0, 0).expect(rt, "a configuration");
     let mut table = Table::genesis(alloc, config, 0, objects.as_slice())?;
-    let mut chain = Chain::new(alloc, 0);
+    let mut chain = Chain::new(alloc, 0, &table)?;
     for number in 0..sessions.min(8) {
         let worth = WORTHS[number];
         let slot = 2 * number as u64;
@@ -153,20 +165,34 @@ fn nothing_is_proved_past_the_last_checkpoint(rt: HostRuntime) -> Result<(), Fai
     Ok(())
 }
 
-// The chain over so many slots of one entry each, on a table that stays as it is.
-fn filled(rt: &impl Abort, alloc: Global, slots: u64) -> Result<Chain, Fail> {
-    let config = Config::new(1, 0, 2).expect(rt, "a configuration");
-    let table = Table::genesis(alloc, config, 0, &[])?;
-    let mut chain = Chain::new(alloc, 0);
+// Pushes so many slots of one entry each, on a table that stays as it is.
+fn fill(
+    rt: &impl Abort,
+    alloc: Global,
+    chain: &mut Chain,
+    table: &Table,
+    slots: u64,
+) -> Result<(), Fail>
+    requires { HasLeaves chain.old.hashed (seen table.now) }
+{
     for slot in 0..slots {
         let leaf = Leaf {
             slot,
             entry: Entry::Prepare(spend(alloc, [7; 32], 1, &[1], slot)?),
             result: Effect::Void,
         };
-        let made = push(rt, alloc, &mut chain, &table, leaf)?;
+        let made = push(rt, alloc, chain, table, leaf)?;
         assert_eq!(rt; made.is_some(), slot % 16 == 15, "at {slot}");
     }
+    Ok(())
+}
+
+// The chain over them.
+fn filled(rt: &impl Abort, alloc: Global, slots: u64) -> Result<Chain, Fail> {
+    let config = Config::new(1, 0, 2).expect(rt, "a configuration");
+    let table = Table::genesis(alloc, config, 0, &[])?;
+    let mut chain = Chain::new(alloc, 0, &table)?;
+    fill(rt, alloc, &mut chain, &table, slots)?;
     Ok(chain)
 }
 

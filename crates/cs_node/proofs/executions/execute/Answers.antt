@@ -2,11 +2,12 @@ use Rattle.std.proofs.Common.{◌≡◌, false, ◌++◌, ◌∷◌, [], List, l
 use Rattle.std.proofs.lemmas.Result.{on_ok_weaker}
 use Rattle.cs_tx_form.specs.declared.entry.Entry.{Entry}
 use Rattle.cs_archive.specs.Archives.{Archived}
+use Rattle.cs_checkpoint.specs.Chain.{made_last}
 use Rattle.cs_node_state.specs.Setup.{is_fit}
 use Rattle.cs_node_state.specs.Bench.{Bench, with_leaf}
 use Rattle.cs_node_rules.specs.Signs.{Sign, vote_signs, headed_signs, execution_signs}
 use Rattle.cs_node_pool.specs.Deployed.{deployed}
-use Rattle.cs_sbac.specs.Held.{bench_of}
+use Rattle.cs_sbac.specs.Held.{Held, bench_of}
 use Rattle.cs_node.specs.declared.draft.Note.TheVariants.{Executed}
 use Rattle.cs_node.specs.Notes.{Tells}
 use Rattle.cs_node.specs.Steps.{Makes}
@@ -21,14 +22,14 @@ returns-clause-made c = λ approves genesis.
     let me = held.me in
     let old : Bench = bench_of held in
     let entry = c.in_ok-entry.entry in
-    let new : Bench = bench_of c.close.new.self in
+    let new : Bench = bench_of c.forget_touched.new.self in
     let ran = c.in_ok-outcome.ensures genesis approves in
     let slot_is = c.slots.ensures ∙ ap (λ (a : Archived). length a.log.leaves) ran.archived_stays in
     let result_is = effect-again _ _ ran.effect_is in
     let closed : new ≡ bench_closed setup me old entry =
-    c.in_ok-made.ensures.bench ∙ (λ i. with_leaf (record { slot = slot_is i; entry = entry; result = result_is i }) (ran.bench_is i)) in
-    let config_is = c.in_ok-made.ensures.config ∙ ran.config_stays in
-    let me_is = c.in_ok-made.ensures.me ∙ ran.me_stays in
+    ap (λ (h : Held). bench_of h) c.forget_touched.ensures ∙ c.in_ok-made.ensures.bench ∙ (λ i. with_leaf (record { slot = slot_is i; entry = entry; result = result_is i }) (ran.bench_is i)) in
+    let config_is = ap (λ (h : Held). h.config) c.forget_touched.ensures ∙ c.in_ok-made.ensures.config ∙ ran.config_stays in
+    let me_is = ap (λ (h : Held). h.me) c.forget_touched.ensures ∙ c.in_ok-made.ensures.me ∙ ran.me_stays in
     let S : List Sign → Type 0 = λ signs. Tells signs c.args.draft.now c.say_vote.new.draft in
     let said = subst S (λ i. vote_signs (deployed (ran.config_stays i) genesis approves) (ran.me_stays i) (c.session_in.ensures.session i) (ran.voted_is i)) (c.in_ok-say_vote.ensures.tells genesis approves) in
     let noted = c.in_ok-note_execution.ensures.notes ∙ ap (λ effect. c.say_vote.new.draft.notes ++ Executed c.args.slot entry effect ∷ []) result_is in
@@ -37,17 +38,17 @@ returns-clause-made c = λ approves genesis.
     on_ok_weaker _
     (λ heads. subst P c.in_ok-entry.ensures.entry
     (execution-makes setup me old new c.args.slot entry c.args.draft.now c.say_vote.new.draft c.note_execution.new.self c.say_made.new.draft closed said noted c.in_ok-note_execution.ensures.said
-    (subst H (λ i. headed_signs (deployed (config_is i) genesis approves) (me_is i) (c.in_ok-made.ensures.made i)) heads)))
+    (subst H (λ i. headed_signs (deployed (config_is i) genesis approves) (me_is i) ((c.in_ok-made.ensures.made ∙ ap (λ (h : Held). made_last h.archived.log) (sym c.forget_touched.ensures)) i)) heads)))
     (c.say_made.ensures.tells genesis approves)
 
 pub returns-clause-config : goal.returns-clause-config
 returns-clause-config c =
-    let is = c.in_ok-made.ensures.config ∙ (c.in_ok-outcome.ensures [] (λ tx. false)).config_stays in
+    let is = ap (λ (h : Held). h.config) c.forget_touched.ensures ∙ c.in_ok-made.ensures.config ∙ (c.in_ok-outcome.ensures [] (λ tx. false)).config_stays in
     on_ok_weaker _ (λ said. is) (c.say_made.ensures.tells [] (λ tx. false))
 
 pub returns-clause-me : goal.returns-clause-me
 returns-clause-me c =
-    let is = c.in_ok-made.ensures.me ∙ (c.in_ok-outcome.ensures [] (λ tx. false)).me_stays in
+    let is = ap (λ (h : Held). h.me) c.forget_touched.ensures ∙ c.in_ok-made.ensures.me ∙ (c.in_ok-outcome.ensures [] (λ tx. false)).me_stays in
     on_ok_weaker _ (λ said. is) (c.say_made.ensures.tells [] (λ tx. false))
 
 pub say_vote-requires-clause-fit : goal.say_vote-requires-clause-fit

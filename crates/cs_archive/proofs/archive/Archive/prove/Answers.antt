@@ -10,7 +10,7 @@ use Rattle.cs_archive.proofs.archive.Archive.prove.Goals as goal
 
 pub returns-in-Ok-clause-proof : goal.returns-in-Ok-clause-proof
 returns-in-Ok-clause-proof c =
-    let log = c.self.inside.chain in
+    let log = c.self.inside.chain.log in
     let proof = c.in-Ok.proof in
     let covered : c.args.slot < 16 * length log.table_roots =
     elim (cases_lt c.args.slot (16 * length log.table_roots)) [
@@ -23,6 +23,6 @@ returns-in-Ok-clause-proof c =
 pub returns-in-Ok-clause-fits : goal.returns-in-Ok-clause-fits
 returns-in-Ok-clause-fits c = λ small.
     let whole : c.self.inside.is_whole ≡ true = search rules in
-    proof_fits c.self.inside.chain c.args.slot c.in-Ok.proof (c.self.invariant whole) small c.in-Ok.ensures.proof
+    proof_fits c.self.inside.chain.log c.args.slot c.in-Ok.proof (c.self.invariant whole) small c.in-Ok.ensures.proof
     c.in-Ok.ensures.shown c.checkpoint_fits.ensures
     (subst (AllByRecursion DigestFits) c.as_slice.ensures c.digests_fit.ensures)

@@ -1,4 +1,5 @@
-use Rattle.std.proofs.Common.{◌≡◌, ◌∙◌, true, sym, ap, nat_eq, length, arith, rules}
+use Rattle.std.proofs.lemmas.Bool.{eq-eqb}
+use Rattle.std.proofs.Common.{◌≡◌, ◌∙◌, true, false, [], sym, ap, nat_eq, length, arith, rules}
 use Rattle.cs_tx_form.specs.declared.effect.Effect.{Effect}
 use Rattle.cs_node_state.specs.Setup.{Setup, is_fit, session_in}
 use Rattle.cs_node_pool.specs.Deployed.{deployed}
@@ -6,6 +7,9 @@ use Rattle.cs_audit_rules.specs.Slots.{is_judged}
 use Rattle.cs_audit.specs.declared.stand.Stand.{Stand}
 use Rattle.cs_audit.proofs.Leaves.{at_none, result_is, follows, head_is}
 use Rattle.cs_audit.proofs.stand.Stand.take.Goals as goal
+
+pub push-requires-clause-leaves : goal.push-requires-clause-leaves
+push-requires-clause-leaves g c = (c.in_ok-effect.ensures [] (λ tx. false)).placed.leaves
 
 pub returns : goal.returns
 returns g c genesis =
@@ -18,13 +22,13 @@ returns g c genesis =
     let heads = c.args.heads.now in
     let effect : Effect = c.in_ok-effect.effect in
     let ran = c.in_ok-effect.ensures genesis approves in
-    let slot : nat_eq leaf.slot (length s.chain.leaves) ≡ true = grind arith in
+    let slot : nat_eq leaf.slot (length s.chain.log.leaves) ≡ true = eq-eqb leaf.slot (length s.chain.log.leaves) (omega arith) in
     let fits : c.in_ok-is_fit.field-0 ≡ true = search rules in
     let form : is_fit setup s.shard (session_in leaf.entry) ≡ true = sym (ap (is_fit setup s.shard) c.session_in.ensures.is) ∙ sym (c.in_ok-is_fit.ensures.fit genesis approves) ∙ fits in
     let judged : c.in_ok-is_judged.field-0 ≡ true = search rules in
     let judge : is_judged setup leaf.entry ≡ true = sym (c.in_ok-is_judged.ensures c.args.self.now.config genesis) ∙ judged in
     let same : leaf.result ≡ effect = search rules in (
       at_none setup heads leaf s slot form judge (result_is setup heads leaf s mid effect ran same)
-          (head_is setup heads leaf s mid effect ran new c.in_ok-made.ensures.table c.in_ok-made.ensures.config c.in_ok-made.ensures.shard c.in_ok-made.ensures.chain c.in_ok-made.made c.in_ok-made.ensures.made ∙ sym c.if-not-is_head.ensures),
-      follows setup heads leaf s mid effect ran new c.in_ok-made.ensures.table c.in_ok-made.ensures.config c.in_ok-made.ensures.shard c.in_ok-made.ensures.chain,
+          (head_is setup heads leaf s mid effect ran new c.in_ok-made.ensures.table c.in_ok-made.ensures.config c.in_ok-made.ensures.shard c.in_ok-made.ensures.chain c.in_ok-made.ensures.leaves c.in_ok-made.made c.in_ok-made.ensures.made ∙ sym c.if-not-is_head.ensures),
+      follows setup heads leaf s mid effect ran new c.in_ok-made.ensures.table c.in_ok-made.ensures.config c.in_ok-made.ensures.shard c.in_ok-made.ensures.chain c.in_ok-made.ensures.leaves,
     )

@@ -4,6 +4,7 @@ use Rattle.std.proofs.lemmas.List.{length-map}
 use Rattle.cs_tx_form.specs.declared.checkpoint.Checkpoint.{Checkpoint}
 use Rattle.cs_merkle.specs.Tree.{leaves_of}
 use Rattle.cs_checkpoint.specs.Chain.{Log, log_of, IsProofOf}
+use Rattle.cs_check.specs.Leaves.{Chained}
 use Rattle.cs_check.proofs.Chains.{covers}
 use Rattle.cs_checkpoint.proofs.Covered.{chain_shows}
 use Rattle.cs_check.proofs.chain.Chain.prove.Goals as goal
@@ -50,7 +51,7 @@ returns-clause-proof c =
       place = c.args.slot % 16;
       leaf = c.in_ok-leaf.leaf;
       path = c.from_vec.result;
-    })) c.self.view_is
+    })) (ap (λ (x : Chained). x.log) c.self.view_is)
     (record {
       checkpoint = same;
       place = refl;
@@ -69,9 +70,9 @@ returns-clause-shown c = λ of_slot.
     c.self.invariant
     (c.in-Some.ensures
     ∙ ap (λ (xs : List Checkpoint). slice_get xs number) c.as_slice.ensures.value) in
-    let whole : 16 * number + 16 ≤ length c.args.self.now.leaves =
-    subst (λ (log : Log). 16 * number + 16 ≤ length log.leaves) c.self.view_is enough in
-    chain_shows c.args.self.now c.args.slot
+    let whole : 16 * number + 16 ≤ length c.args.self.now.log.leaves =
+    subst (λ (log : Log). 16 * number + 16 ≤ length log.leaves) (ap (λ (x : Chained). x.log) c.self.view_is) enough in
+    chain_shows c.args.self.now.log c.args.slot
     (record {
       checkpoint = c.in-Some.checkpoint;
       place = c.args.slot % 16;

@@ -14,7 +14,18 @@ invariant_of-self-then-len-ne0 c =
     subst (λ (leaves : List (List ℕ)). IsChain (log_of c.self.inside.shard leaves made) made)
     (sym leaves_is)
     (kept_chain c.self.inside.shard (leaves_of old) made c.args.leaf.items c.self.invariant
-    c.requires)
+    c.requires.leaf)
+
+pub invariant_of-self-in_err-take : goal.invariant_of-self-in_err-take
+invariant_of-self-in_err-take c =
+    let old = c.self.inside.leaves.items in
+    let leaves_is : leaves_of c.push.new.self.items ≡ leaves_of old ++ c.args.leaf.items ∷ [] =
+    ap leaves_of c.in_ok-push.ensures.items ∙ map_push (λ v. v.items) old c.args.leaf in
+    let made = c.self.inside.made.items in
+    subst (λ (leaves : List (List ℕ)). IsChain (log_of c.self.inside.shard leaves made) made)
+    (sym leaves_is)
+    (kept_chain c.self.inside.shard (leaves_of old) made c.args.leaf.items c.self.invariant
+    c.requires.leaf)
 
 pub invariant_of-self-in_err-table_root : goal.invariant_of-self-in_err-table_root
 invariant_of-self-in_err-table_root c =
@@ -25,7 +36,7 @@ invariant_of-self-in_err-table_root c =
     subst (λ (leaves : List (List ℕ)). IsChain (log_of c.self.inside.shard leaves made) made)
     (sym leaves_is)
     (kept_chain c.self.inside.shard (leaves_of old) made c.args.leaf.items c.self.invariant
-    c.requires)
+    c.requires.leaf)
 
 pub invariant_of-self-in_err-push-2 : goal.invariant_of-self-in_err-push-2
 invariant_of-self-in_err-push-2 c =
@@ -35,7 +46,7 @@ invariant_of-self-in_err-push-2 c =
     let made = c.self.inside.made.items in
     rw (c.in_err-push-2.ensures.items, leaves_is)
     (kept_chain c.self.inside.shard (leaves_of old) made c.args.leaf.items c.self.invariant
-    c.requires)
+    c.requires.leaf)
 
 pub invariant_of-self-2 : goal.invariant_of-self-2
 invariant_of-self-2 c =
@@ -67,7 +78,7 @@ invariant_of-self-2 c =
     let enough : 16 * length made + 16 ≤ length longer =
     omega (arith, whole, c.self.invariant.enough, length_push (leaves_of old) leaf) in
     rw (c.in_ok-push-2.ensures.items, leaves_is)
-    (next_chain shard (leaves_of old) made leaf c.self.invariant c.requires next
+    (next_chain shard (leaves_of old) made leaf c.self.invariant c.requires.leaf next
     c.in_ok-table_root.table_root is enough)
 
 pub returns-clause-made : goal.returns-clause-made
@@ -98,5 +109,5 @@ returns-clause-made c =
     ) in
     let whole : length longer % 16 ≡ 0 = subst (λ (n : ℕ). n % 16 ≡ 0) count c.if-len-ne0.false in
     rw (c.in_ok-push-2.ensures.items, leaves_is)
-    (last_made shard (leaves_of old) made leaf c.self.invariant c.requires next
+    (last_made shard (leaves_of old) made leaf c.self.invariant c.requires.leaf next
     c.in_ok-table_root.table_root is whole)

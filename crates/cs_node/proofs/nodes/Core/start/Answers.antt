@@ -27,13 +27,13 @@ returns-clause-stands g c = λ objects named net speaks.
     let me = c.args.keys.me in
     let setup = deployed c.args.config objects (approves c.args.judge) in
     let site = site_of setup net rules carried in
-    let held : NodeId → Held = begun_with c.args.config c.in-Ok.table in
-    let sbac-is : c.new-sbac.result ≡ held me = c.new-sbac.ensures ∙ ap held c.me-me.ensures in
+    let held : NodeId → Held = begun_with c.args.config c.in-Ok.table c.in_ok-sbac.sbac.archived.hashed in
+    let sbac-is : c.in_ok-sbac.sbac ≡ held me = c.in_ok-sbac.ensures ∙ ap held c.me-me.ensures in
     let P : Held → Type 0 = λ sbac. KeepsView g.O.Order.stands approves setup (record { order = c.args.order; judge = c.args.judge; sbac = sbac }) (start_view site me) in
     let S : Held → Type 0 = λ sbac. Speaks sbac.config net c.args.keys in
     record {
       keeps = subst P (sym sbac-is)
-          (started g.O.Order.stands approves rules carried net c.args.config me objects c.args.genesis.now c.args.order c.args.judge c.in-Ok.table (g.O.Order.f c.args.order) (g.O.Order.me c.args.order)
+          (started g.O.Order.stands approves rules carried net c.args.config me objects c.args.genesis.now c.args.order c.args.judge c.in-Ok.table c.in_ok-sbac.sbac.archived.hashed (g.O.Order.f c.args.order) (g.O.Order.me c.args.order)
           (g.met.O.Order.begins c.args.order c.requires.start) c.requires.f c.requires.me c.requires.node named
           (c.in-Ok.ensures.table ∙ ap (λ (name : NodeId). begun (genesis_rules c.args.config c.args.genesis.now) name.shard) c.me-me.ensures)
           c.root_is_shown.ensures.keys);

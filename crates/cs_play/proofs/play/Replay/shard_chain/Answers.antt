@@ -1,5 +1,5 @@
 use Rattle.std.proofs.Common.{◌≡◌, ◌+◌, ◌*◌, ap, ◌∙◌, option_copied, arith}
-use Rattle.cs_play.specs.Longest.{log_in, longer_found}
+use Rattle.cs_play.specs.Longest.{log_of, log_in, longer_found}
 use Rattle.cs_play.specs.Standing.{site_in}
 use Rattle.cs_play.proofs.Longer.{longest_below, longest-next}
 use Rattle.cs_play.proofs.play.Replay.shard_chain.Goals as goal
@@ -7,7 +7,7 @@ use Rattle.cs_play.proofs.play.Replay.shard_chain.Goals as goal
 pub loop-index-preserved : goal.loop-index-preserved
 loop-index-preserved g c = λ s p st.
     let site = site_in g.O.Order.rules g.O.Carried.carrier s in
-    let found = option_copied c.loop-index.found in
+    let found = log_of (option_copied c.loop-index.found) in
     ap (log_in c.args.shard) (c.longer-found.ensures ∙ ap (λ later. longer_found found later) (c.node_chain.ensures s p st))
     ∙ longest-next site p.world c.args.shard c.loop-index.index found (c.loop-index.invariant s p st)
 

@@ -6,7 +6,8 @@ use Rattle.cs_sbac.specs.Held.{Held}
 use Rattle.cs_node_pool.specs.Deployed.{deployed}
 use Rattle.cs_sbac.specs.Calls.{Executes}
 use Rattle.cs_sbac.proofs.Settings.{formed}
-use Rattle.cs_sbac.proofs.Running.{stays, anchored, executes, executes-nothing}
+use Rattle.cs_check.proofs.Hashing.{leaves_stay}
+use Rattle.cs_sbac.proofs.Running.{stays, marked, anchored, executes, executes-nothing}
 use Rattle.cs_tx_form.specs.declared.effect.Effect.TheVariants.{Void}
 use Rattle.cs_sbac.proofs.sbac.Sbac.execute.Goals as goal
 
@@ -31,6 +32,9 @@ invariant_of-self-2 c =
       same = c.run.ensures.config ∙ c.self.invariant.same;
       placed = λ again. stays (λ tx. true) c.self.inside.config c.self.inside.me c.args.entry.now c.self.inside.table c.run.new.table c.self.inside.pool.sessions c.run.new.pool.sessions c.in_ok-outcome.outcome
           (c.self.invariant.placed whole) (c.in_ok-outcome.ensures.runs (λ tx. true));
+      leaves = λ again. leaves_stay c.self.inside.table c.run.new.table c.self.inside.archive.hashed
+          (marked (λ tx. true) c.self.inside.me c.args.entry.now c.self.inside.table c.run.new.table c.self.inside.pool.sessions c.run.new.pool.sessions c.in_ok-outcome.outcome (c.in_ok-outcome.ensures.runs (λ tx. true)))
+          (c.self.invariant.leaves whole);
     }
 
 pub returns-then-not-fit : goal.returns-then-not-fit

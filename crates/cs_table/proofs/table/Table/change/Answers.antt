@@ -4,17 +4,24 @@ use Rattle.cs_tx_form.specs.Record.{Place}
 use Rattle.cs_table.specs.Seen.{seen_record}
 use Rattle.cs_tx.specs.Sessions.{key_seen}
 use Rattle.cs_table.specs.Changes.{changed_record}
-use Rattle.cs_table.proofs.Rows.{becomes_again, gone}
+use Rattle.cs_table.proofs.Rows.{becomes_again, gone, with_marks}
+use Rattle.cs_table.proofs.Marked.{marks_at, changed_known}
 use Rattle.cs_table.proofs.table.Table.change.Goals as goal
 
 pub put-requires-clause-gone : goal.put-requires-clause-gone
 put-requires-clause-gone c = gone c.args.self.now c.take-row.new.self (key_seen c.args.key.now) c.take-row.ensures.left
 
 pub returns : goal.returns
-returns c = becomes_again c.args.self.now c.take-row.new.self c.put.new.self (changed_record c.args.change) (key_seen c.args.key.now) (seen_record c.change.new.row) c.take-row.ensures.left c.in_ok-put.ensures (c.change.ensures.now ∙ ap (changed_record c.args.change) c.take-row.ensures.row)
+returns c =
+    let is = c.change-moved.ensures.now ∙ ap (changed_record c.args.change) c.take-row.ensures.row in
+    let shown = becomes_again c.args.self.now c.take-row.new.self c.put.new.self (changed_record c.args.change) (key_seen c.args.key.now) (seen_record c.change-moved.new.row) c.take-row.ensures.left c.in_ok-put.ensures.shown is in
+    with_marks c.args.self.now c.put.new.self _ shown
+    (marks_at c.args.self.now c.take-row.new.self c.put.new.self (changed_record c.args.change) (key_seen c.args.key.now) c.change-moved.result shown.shows c.take-row.ensures.touched c.in_ok-put.ensures.touched
+    (λ unmoved. sym is ∙ c.change-moved.ensures.same unmoved ∙ c.take-row.ensures.row)
+    (changed_known c.args.change))
 
 pub put-requires-clause-fits : goal.put-requires-clause-fits
 put-requires-clause-fits c = record {
-  holds = c.change.ensures.fits c.take-row.ensures.fits.holds;
-  places = subst (λ (book : List Place). length book ≤ MOST_PLACES) (sym c.change.ensures.book) c.take-row.ensures.fits.places;
+  holds = c.change-moved.ensures.fits c.take-row.ensures.fits.holds;
+  places = subst (λ (book : List Place). length book ≤ MOST_PLACES) (sym c.change-moved.ensures.book) c.take-row.ensures.fits.places;
 }
