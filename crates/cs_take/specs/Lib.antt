@@ -1,0 +1,6 @@
+pub mod Causes
+pub mod Taking
+pub mod Refusing
+pub mod Files
+pub mod Calls
+pub mod Setups
