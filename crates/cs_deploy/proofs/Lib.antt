@@ -1,0 +1,5 @@
+pub mod Later
+pub mod Decided
+pub mod Apart
+pub mod Keyed
+pub mod Spoken

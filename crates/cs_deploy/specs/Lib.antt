@@ -1,0 +1,4 @@
+pub mod Outside
+pub mod Node
+pub mod Client
+pub mod Speaking

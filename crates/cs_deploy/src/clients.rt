@@ -1,0 +1,133 @@
+//! The command `client`.
+ghost use Rattle.std.specs.Prelude.{◌≡◌, ◌≢◌};
+ghost use Rattle.cs_base.specs.Outside.{HasCause, Rose};
+ghost use Rattle.cs_base.specs.Answers.{Answers};
+ghost use Rattle.cs_outer.specs.Told.{Stays};
+ghost use Rattle.cs_take.specs.Calls.{ClientComes};
+ghost use Rattle.cs_deploy_keys.specs.Untaken.{IsDecided};
+ghost use Rattle.cs_deploy.specs.Outside.{outside};
+ghost use Rattle.cs_deploy.specs.Client.{ClientGoes, ClientRuns, IsToldOf, TellsEnding, known_answer, known_status, refused_answer};
+
+use crate::refusals::refusal_line;
+use cs_attend::{Ending, attend};
+use cs_base::Sink;
+use cs_client::{ClientCore, Known, known_line};
+use cs_config::CallFile;
+use cs_deploy_keys::{refuse, tell};
+use cs_outer::{Bound, Link, Store};
+use cs_proc::ProcError;
+use cs_take::{Setup, take_client};
+use std::alloc::Global;
+
+/// Runs the client of a site file, a key file and a call file for so many turns at most, and answers
+/// the status that a program ends with: 0 where it knows what has become of its session, 10 where
+/// that is open, 3 where its method is refused, 12 where a file isn't taken, 7 where the link fails,
+/// 6 where the sink fails, 8 for want of memory.
+pub fn run_client<E: Store, L: Link, K: Sink>(
+    alloc: Global,
+    site_name: &str,
+    keys_name: &str,
+    call_name: &str,
+    turns: u64,
+    store: &mut E,
+    link: &mut L,
+    out: &mut K,
+) -> u8
+    ensures runs { ClientRuns site_name.now keys_name.now call_name.now turns
+        (Rose (E.faults store.old) (E.faults store.new))
+        (Rose (L.faults link.old) (L.faults link.new))
+        (E.files store.old)
+        (outside (L.bound link.old) (L.left link.old) (L.offered link.old) (L.missed link.old)
+        (K.written out.old))
+        (outside (L.bound link.new) (L.left link.new) (L.offered link.new) (L.missed link.new)
+        (K.written out.new))
+        result }
+    ensures kept { Stays (E.files store.old) (E.files store.new) }
+    // Where no fault came about, the files decide, and what the client comes to know.
+    ensures whole { (Rose (E.faults store.old) (E.faults store.new) → ⊥)
+        → (Rose (L.faults link.old) (L.faults link.new) → ⊥)
+        → (Rose (K.faults out.old) (K.faults out.new) → ⊥)
+        → IsDecided (ClientComes site_name.now keys_name.now call_name.now) IsToldOf
+        (E.files store.old) result }
+    ensures only { (result ≢ 2) × (result ≢ 5) }
+    ensures write_fault { HasCause (K.faults out.old) (K.faults out.new) (result ≡ 6) }
+{
+    match take_client(alloc, store, site_name, keys_name, call_name) {
+        Ok((setup, call)) => run_call(alloc, setup, call, turns, link, out),
+        Err(why) => refuse(alloc, why, out),
+    }
+}
+
+// Runs the client of a setup, which makes this call.
+fn run_call<L: Link, K: Sink>(
+    alloc: Global,
+    setup: Setup,
+    call: CallFile,
+    turns: u64,
+    link: &mut L,
+    out: &mut K,
+) -> u8
+    ensures goes { ClientGoes setup call turns (Rose (L.faults link.old) (L.faults link.new))
+        (outside (L.bound link.old) (L.left link.old) (L.offered link.old) (L.missed link.old)
+        (K.written out.old))
+        (outside (L.bound link.new) (L.left link.new) (L.offered link.new) (L.missed link.new)
+        (K.written out.new))
+        result }
+    ensures write_fault { HasCause (K.faults out.old) (K.faults out.new) (result ≡ 6) }
+{
+    let me = setup.keys.me();
+    let base_port = setup.site.base_port;
+    let Setup { site, book, keys } = setup;
+    let Ok(client) = ClientCore::start(alloc, site, keys, book, call) else {
+        return 8;
+    };
+    match link.bind(me, base_port) {
+        Bound::Done => tell_ending(alloc, attend(alloc, client, link, turns), out),
+        Bound::Failed => tell(out, b"link fault\n", 7),
+    }
+}
+
+// Tells how the run of a client has ended.
+fn tell_ending<K: Sink>(alloc: Global, ending: Ending, out: &mut K) -> u8
+    ensures tells { TellsEnding ending (K.written out.old) (K.written out.new) result }
+    ensures cause { HasCause (K.faults out.old) (K.faults out.new) (result ≡ 6) }
+{
+    match ending {
+        Ending::Knows(known) => tell_known(alloc, known, out),
+        Ending::Refused(cause) => tell_refused(alloc, cause, out),
+        Ending::LinkFault => tell(out, b"link fault\n", 7),
+        Ending::Memory => 8,
+    }
+}
+
+fn status_of(known: Known) -> u8
+    ensures { result ≡ known_status known }
+{
+    match known {
+        Known::Open => 10,
+        Known::Accepted(_) | Known::Aborted(_) => 0,
+    }
+}
+
+// Tells what a client knows.
+fn tell_known<K: Sink>(alloc: Global, known: Known, out: &mut K) -> u8
+    ensures answers { Answers (known_answer known) (K.written out.old) (K.written out.new) result }
+    ensures cause { HasCause (K.faults out.old) (K.faults out.new) (result ≡ 6) }
+{
+    match known_line(alloc, known) {
+        Ok(line) => tell(out, line.as_bytes(), status_of(known)),
+        Err(_) => 8,
+    }
+}
+
+// Tells why a client's method isn't run.
+fn tell_refused<K: Sink>(alloc: Global, cause: ProcError, out: &mut K) -> u8
+    ensures answers { Answers (refused_answer cause)
+        (K.written out.old) (K.written out.new) result }
+    ensures cause { HasCause (K.faults out.old) (K.faults out.new) (result ≡ 6) }
+{
+    match refusal_line(alloc, cause) {
+        Ok(line) => tell(out, line.as_bytes(), 3),
+        Err(_) => 8,
+    }
+}

@@ -1,0 +1,101 @@
+//! The command `node`.
+ghost use Rattle.std.specs.Prelude.{◌≡◌, ◌≢◌, ◌⊎◌, ◌≤◌};
+ghost use Rattle.cs_base.specs.Outside.{HasCause, Rose};
+ghost use Rattle.cs_outer.specs.Told.{Stays};
+ghost use Rattle.cs_take.specs.Taking.{Comes};
+ghost use Rattle.cs_take.specs.Files.{setup_taken};
+ghost use Rattle.cs_take.specs.declared.keys.Role.TheVariants.{Node};
+ghost use Rattle.cs_take.specs.Setups.{IsSound};
+ghost use Rattle.cs_deploy_keys.specs.Untaken.{IsDecided};
+ghost use Rattle.cs_deploy.specs.Outside.{outside};
+ghost use Rattle.cs_deploy.specs.Node.{NodeGoes, NodeRuns, TellsEnd};
+
+use crate::starting::start_node;
+use cs_base::Sink;
+use cs_deploy_keys::{refuse, tell};
+use cs_outer::{Bound, Link, Store};
+use cs_serve::{End, serve};
+use cs_take::{Setup, take_node};
+use std::alloc::Global;
+
+/// Runs the node of a site file and a key file for so many turns, and answers the status that a
+/// program ends with: 0 where the turns were taken or the link has ended, 12 where a file isn't
+/// taken, 7 where the link fails, 6 where the sink fails, 8 for want of memory.
+pub fn run_node<E: Store, L: Link, K: Sink>(
+    alloc: Global,
+    site_name: &str,
+    keys_name: &str,
+    turns: u64,
+    store: &mut E,
+    link: &mut L,
+    out: &mut K,
+) -> u8
+    ensures runs { NodeRuns site_name.now keys_name.now turns
+        (Rose (E.faults store.old) (E.faults store.new))
+        (Rose (L.faults link.old) (L.faults link.new))
+        (E.files store.old)
+        (outside (L.bound link.old) (L.left link.old) (L.offered link.old) (L.missed link.old)
+        (K.written out.old))
+        (outside (L.bound link.new) (L.left link.new) (L.offered link.new) (L.missed link.new)
+        (K.written out.new))
+        result }
+    ensures kept { Stays (E.files store.old) (E.files store.new) }
+    // Where no fault came about, the files alone decide.
+    ensures whole { (Rose (E.faults store.old) (E.faults store.new) → ⊥)
+        → (Rose (L.faults link.old) (L.faults link.new) → ⊥)
+        → (Rose (K.faults out.old) (K.faults out.new) → ⊥)
+        → IsDecided (Comes (setup_taken Node site_name.now keys_name.now))
+        (λ status. status ≡ 0) (E.files store.old) result }
+    ensures only { (result ≢ 2) × (result ≢ 5) }
+    ensures write_fault { HasCause (K.faults out.old) (K.faults out.new) (result ≡ 6) }
+{
+    match take_node(alloc, store, site_name, keys_name) {
+        Ok(setup) => run_setup(alloc, setup, turns, link, out),
+        Err(why) => refuse(alloc, why, out),
+    }
+}
+
+// Runs the node of a setup.
+fn run_setup<L: Link, K: Sink>(
+    alloc: Global,
+    setup: Setup,
+    turns: u64,
+    link: &mut L,
+    out: &mut K,
+) -> u8
+    requires { IsSound Node setup }
+    ensures goes { NodeGoes setup turns (Rose (L.faults link.old) (L.faults link.new))
+        (outside (L.bound link.old) (L.left link.old) (L.offered link.old) (L.missed link.old)
+        (K.written out.old))
+        (outside (L.bound link.new) (L.left link.new) (L.offered link.new) (L.missed link.new)
+        (K.written out.new))
+        result }
+    ensures write_fault { HasCause (K.faults out.old) (K.faults out.new) (result ≡ 6) }
+{
+    let me = setup.keys.me();
+    let base_port = setup.site.base_port;
+    let Ok(core) = start_node(alloc, setup) else {
+        return 8;
+    };
+    match link.bind(me, base_port) {
+        Bound::Done => {
+            let (end, _core) = serve(alloc, core, link, out, turns);
+            tell_end(end, out)
+        }
+        Bound::Failed => tell(out, b"link fault\n", 7),
+    }
+}
+
+// Tells how the serving of a node has ended.
+fn tell_end<K: Sink>(end: End, out: &mut K) -> u8
+    ensures tells { TellsEnd end (K.written out.old) (K.written out.new) result }
+    ensures faults { K.faults out.old ≤ K.faults out.new }
+    ensures cause { result ≡ 6 → (end ≡ End.WriteFault) ⊎ Rose (K.faults out.old) (K.faults out.new) }
+{
+    match end {
+        End::Turns | End::Ended => 0,
+        End::LinkFault => tell(out, b"link fault\n", 7),
+        End::WriteFault => 6,
+        End::Memory => 8,
+    }
+}

@@ -1,0 +1,39 @@
+//! The start of a node.
+ghost use Rattle.std.specs.Prelude.{IfOk};
+ghost use Rattle.cs_node_rules.specs.Net.{Net};
+ghost use Rattle.cs_node_rules.specs.Site.{start_view};
+ghost use Rattle.cs_node.specs.Speaking.{Speaks};
+ghost use Rattle.cs_node.specs.Cores.{StandsFor};
+ghost use Rattle.cs_take.specs.declared.keys.Role.TheVariants.{Node};
+ghost use Rattle.cs_take.specs.Setups.{IsSound};
+ghost use Rattle.cs_deploy.specs.Node.{site_in};
+
+use crate::genesis::keyed;
+use cs_approve::Book;
+use cs_base::Memory;
+use cs_log::SlotOrder;
+use cs_node::{Core, StartError};
+use cs_order::Order;
+use cs_take::Setup;
+use cs_tx::Judge;
+use std::alloc::Global;
+
+// The node of a setup, before its first input.
+pub(crate) fn start_node(alloc: Global, setup: Setup) -> Result<Core<SlotOrder, Book>, Memory>
+    requires { IsSound Node setup }
+    ensures { (net : Net) → Speaks setup.site.config net setup.keys →
+        let site = site_in setup net in
+        IfOk result (λ core.
+        StandsFor ⟦<SlotOrder as Order>⟧.stands ⟦<Book as Judge>⟧.is_approved site core
+        (start_view site setup.keys.me)) }
+{
+    let Setup { site, book, keys } = setup;
+    let genesis = keyed(alloc, site.genesis.as_slice())?;
+    let order = SlotOrder::new(alloc, site.config.f, keys.me().index)?;
+    match Core::start(alloc, site.config, keys, book, genesis.as_slice(), order) {
+        Ok(core) => Ok(core),
+        // The keys of a setup's objects differ.
+        Err(StartError::Duplicate(_)) => unreachable!(),
+        Err(StartError::Memory) => Err(Memory),
+    }
+}

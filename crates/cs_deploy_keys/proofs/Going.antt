@@ -1,0 +1,40 @@
+-- What becomes of a plan, from before its files were taken on.
+use Rattle.std.proofs.Common.{◌≡◌, ℕ, ◌+◌, ◌≤◌, inl, inr, List, [], Option, Some, None, Err, sym, append-nil, arith}
+use Rattle.std.specs.Prelude.{◌++◌}
+use Rattle.cs_base.specs.Outside.{Rose}
+use Rattle.cs_outer.specs.Told.{Changes, Stays}
+use Rattle.cs_outer.specs.Store.{Files}
+use Rattle.cs_outer.specs.Spawner.{Children}
+use Rattle.cs_config.specs.declared.plan.Plan.{Plan}
+use Rattle.cs_config.specs.declared.site.Site.{Site}
+use Rattle.cs_wire.specs.Opened.{names_of}
+use Rattle.cs_key_files.specs.Saving.{SavesUpTo, Saves}
+use Rattle.cs_spawn.specs.Running.{Outer, outer, Starts}
+use Rattle.cs_deploy_keys.specs.Cluster.{ClusterGoes}
+use Rattle.cs_deploy_keys.proofs.Answered.{rose-later}
+use Rattle.cs_deploy_keys.proofs.Told.{stays-same, changes-after}
+
+-- no child was started
+pub idle-same : (started : Option Children) (children : ℕ) (statuses : Option (ℕ → ℕ)) (written written' : Option (List ℕ)) → Starts [] (outer started children statuses written) (outer started children statuses written')
+idle-same started children statuses written written' = record {
+  started = none started;
+  children = let same : children ≡ children + 0 = omega arith in same;
+  statuses = stays-same statuses;
+}
+  where
+    none : (started : Option Children) → Changes (λ (before now : Children). now ≡ before ++ []) started started
+    none None = tt
+    none (Some words) = sym (append-nil words)
+
+-- the store kept its files until then
+pub going-later : (plan : Plan) (site : Site) (first middle last : ℕ) (Spawn : Type 0) (files files' files'' : Option Files) (old new : Outer) (status : ℕ) → Stays files files' → first ≤ middle
+    → ClusterGoes plan site (Rose middle last) Spawn files' files'' old new status → ClusterGoes plan site (Rose first last) Spawn files files'' old new status
+going-later plan site first middle last Spawn files files' files'' old new status kept later (inl is) = inl (record {
+  error = is.error;
+  saved = changes-after (SavesUpTo site.config plan.master (names_of site.config) (Err is.error)) files files' files'' kept is.saved;
+  failed = λ failed. rose-later first middle last later (is.failed failed);
+  idle = is.idle;
+  told = is.told;
+})
+going-later plan site first middle last Spawn files files' files'' old new status kept later (inr (saved, is)) =
+    inr (changes-after (Saves site.config plan.master (names_of site.config)) files files' files'' kept saved, is)

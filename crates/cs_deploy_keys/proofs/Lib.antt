@@ -1,0 +1,4 @@
+pub mod Answered
+pub mod Told
+pub mod Decided
+pub mod Going

@@ -1,0 +1,11 @@
+//! The commands that save the key files of a site: `keys`, which does no more, and `cluster`, which
+//! then runs all nodes of the site and the calls of a plan.
+#![tactic(auto)]
+
+mod clusters;
+mod keys;
+mod telling;
+
+pub use clusters::run_cluster;
+pub use keys::run_keys;
+pub use telling::{refuse, tell};
