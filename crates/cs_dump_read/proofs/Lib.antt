@@ -2,3 +2,7 @@ pub mod Kept
 pub mod Leaves
 pub mod Reading
 pub mod Whole
+pub mod Fields
+pub mod Steps
+pub mod Walk
+pub mod Again

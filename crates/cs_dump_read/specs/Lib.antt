@@ -4,3 +4,5 @@ pub mod Lines
 pub mod Places
 pub mod Said
 pub mod Text
+pub mod Printed
+pub mod Again

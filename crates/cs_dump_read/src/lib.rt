@@ -4,11 +4,13 @@
 mod draft;
 mod dump;
 mod error;
+mod law;
 mod limits;
 mod lines;
 mod places;
 mod reader;
 
 pub use dump::{Dump, Log};
+pub use law::printed_dumps_are_read;
 pub use limits::MOST_DUMP;
 pub use reader::parse_dump;

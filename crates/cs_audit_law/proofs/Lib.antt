@@ -1,0 +1,13 @@
+pub mod Behind
+pub mod Growing
+pub mod Fit
+pub mod Unbroken
+pub mod Votes
+pub mod Backed
+pub mod Ledgers
+pub mod Listed
+pub mod Passed
+pub mod Longest
+pub mod Fitting
+pub mod Worlds
+pub mod Texts

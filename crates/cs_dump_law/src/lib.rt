@@ -1,0 +1,28 @@
+//! What an auditor answers to the dump of a replay: yes.
+#![tactic(auto)]
+
+ghost use Rattle.std.specs.Prelude.{ℕ, Bool, ◌<◌, ◌^◌};
+ghost use Rattle.cs_tx_form.specs.declared.transaction.Tx.{Tx};
+ghost use Rattle.cs_sched_types.specs.declared.schedule.Schedule.{Schedule};
+ghost use Rattle.cs_sched.specs.Playable.{IsPlayable};
+ghost use Rattle.cs_dump_law.specs.Answered.{IsAnsweredYes};
+
+use cs_audit_law::worlds_pass_audit;
+use cs_dump_read::printed_dumps_are_read;
+use cs_log::SlotOrder;
+use cs_node_law::schedules_play_worlds;
+use cs_replay::schedules_are_sound;
+
+/// What is answered to the dump of every schedule that can be played, whatever its judge approves
+/// of.
+///
+/// It does nothing: its contract is a theorem, which a caller has by calling it.
+pub fn dumps_are_answered_yes()
+    ensures { (limit : ℕ) → limit < 2 ^ 64 → (approves : Tx → Bool) (schedule : Schedule)
+        → IsPlayable schedule → IsAnsweredYes limit approves schedule }
+{
+    schedules_play_worlds::<SlotOrder>();
+    schedules_are_sound();
+    worlds_pass_audit::<SlotOrder>();
+    printed_dumps_are_read();
+}
