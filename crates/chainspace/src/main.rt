@@ -1,8 +1,8 @@
-//! The program: its words, standard input and standard output, handed to the library.
+//! The program: its words and the real outside, handed to the library.
 #![tactic(auto)]
 
 use cs_cli::{WordsError, words_or_status};
-use cs_outside::{StandardInput, StandardOutput};
+use cs_outside::{Children, FileStore, StandardInput, StandardOutput, UdpLink};
 use std::env;
 use std::process::ExitCode;
 
@@ -13,7 +13,18 @@ fn main(rt: HostRuntime) -> ExitCode {
     };
     let mut input = StandardInput::new(rt.stdin());
     let mut output = StandardOutput::new(rt.stdout());
-    ExitCode::from(cs_cli::run(rt.alloc(), &words, &mut input, &mut output))
+    let mut store = FileStore::new(&rt, rt.alloc());
+    let mut link = UdpLink::new(&rt);
+    let mut children = Children::new(&rt, rt.alloc());
+    ExitCode::from(cs_cli::run(
+        rt.alloc(),
+        &words,
+        &mut input,
+        &mut output,
+        &mut store,
+        &mut link,
+        &mut children,
+    ))
 }
 
 // The words behind the program's name.

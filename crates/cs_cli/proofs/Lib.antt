@@ -3,3 +3,6 @@ pub mod Simulations
 pub mod Reported
 pub mod Sources
 pub mod Told
+pub mod Dumps
+pub mod Doing
+pub mod Longer

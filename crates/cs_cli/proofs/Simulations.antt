@@ -1,24 +1,16 @@
 -- What the words of a simulation call for.
 use Rattle.std.proofs.Common.{◌≡◌, ℕ, ◌≤◌, Bool, true, false, cond, nat_lt, nat_le, ◌&&◌, List, [], ◌∷◌, Option, Some, None, refl, ap, subst, arith}
-use Rattle.std.specs.Prelude.{codes, option_map, if◌then◌else◌}
+use Rattle.std.specs.Prelude.{codes, option_map}
 use Rattle.std.specs.Str.{bytes_eq}
 use Rattle.std.proofs.lemmas.Bool.Decides.{nat_tests}
-use Rattle.cs_base.specs.Answers.{Answer}
 use Rattle.cs_command.specs.Numbers.{short_number}
 use Rattle.cs_gen.specs.declared.limits.TheConstants.{MOST_SIZE}
 use Rattle.cs_replay.specs.declared.schedule.Mode.{Mode}
-use Rattle.cs_simulate.specs.Simulated.{simulate_answer}
 use Rattle.cs_cli.specs.Numbers.{size_in, both, simulated}
-use Rattle.cs_cli.specs.Words.{plain_mode, mode_from, flagged, plain, called, command_of}
+use Rattle.cs_cli.specs.Deployed.{is_file, are_files, is_turns, master_in, node_called, client_called, keys_called, cluster_called, deployed}
+use Rattle.cs_cli.specs.Words.{plain_mode, mode_from, flagged, plain, command_of}
 use Rattle.cs_cli.specs.declared.words.Command.{Command}
-use Rattle.cs_cli.specs.declared.words.Command.TheVariants.{Replay, Contract, Verify, Simulate}
-use Rattle.cs_cli.proofs.Outcomes.{simulate-same}
-
--- the same words call for the same answer
-pub same-answer : (number size n s : ℕ) (x : Command) → x ≡ Simulate number size → x ≡ Simulate n s → simulate_answer number size ≡ simulate_answer n s
-same-answer number size n s x here there =
-    let same = simulate-same number size n s x here there in
-    λ i. simulate_answer (same.0 i) (same.1 i)
+use Rattle.cs_cli.specs.declared.words.Command.TheVariants.{Replay, Contract, Verify, Audit, Simulate, Node, Client, Keys, Cluster}
 
 -- ---- its size is within the limit
 
@@ -60,9 +52,9 @@ no-contract : (printing : Option Bool) (number size : ℕ) → option_map Contra
 no-contract None number size is = absurd (let q : None ≡ Some (Simulate number size) = is in cc)
 no-contract (Some printing) number size is = absurd (let q : Some (Contract printing) ≡ Some (Simulate number size) = is in cc)
 
-no-verify : (options : List (List ℕ)) (number size : ℕ) → plain Verify options ≡ Some (Simulate number size) → size ≤ MOST_SIZE
-no-verify [] number size is = absurd (let q : Some Verify ≡ Some (Simulate number size) = is in cc)
-no-verify (option ∷ options) number size is = absurd (let q : None ≡ Some (Simulate number size) = is in cc)
+no-plain : (command : Command) (options : List (List ℕ)) (number size : ℕ) → (command ≡ Simulate number size → ⊥) → plain command options ≡ Some (Simulate number size) → size ≤ MOST_SIZE
+no-plain command [] number size other is = absurd (other (let q : Some command ≡ Some (Simulate number size) = is in cc))
+no-plain command (option ∷ options) number size other is = absurd (let q : None ≡ Some (Simulate number size) = is in cc)
 
 abbrev simulating : ℕ × ℕ → Command
 simulating said = Simulate said.0 said.1
@@ -74,18 +66,83 @@ said-small (Some said) number size small is =
     let same : said.1 ≡ size = cc in
     subst (λ (k : ℕ). k ≤ MOST_SIZE) same (small said.0 said.1 refl)
 
-by-word : (a b c d : Bool) (options : List (List ℕ)) (mode : Option Mode) (printing : Option Bool) (said : Option (ℕ × ℕ)) (number size : ℕ) → ((n s : ℕ) → said ≡ Some (n, s) → s ≤ MOST_SIZE)
-    → cond a (option_map Replay mode) (cond b (option_map Contract printing) (cond c (plain Verify options) (cond d (option_map simulating said) None))) ≡ Some (Simulate number size)
-    → size ≤ MOST_SIZE
-by-word true b c d options mode printing said number size small is = no-replay mode number size is
-by-word false true c d options mode printing said number size small is = no-contract printing number size is
-by-word false false true d options mode printing said number size small is = no-verify options number size is
-by-word false false false true options mode printing said number size small is = said-small said number size small is
-by-word false false false false options mode printing said number size small is = absurd (let q : None ≡ Some (Simulate number size) = is in cc)
+-- ---- nor one of a deployment
+
+abbrev Small : ℕ → ℕ → Option Command → Type 0
+Small number size command = command ≡ Some (Simulate number size) → size ≤ MOST_SIZE
+
+none-small : (number size : ℕ) → Small number size None
+none-small number size is = absurd (let q : None ≡ Some (Simulate number size) = is in cc)
+
+either-small : (number size : ℕ) (b : Bool) (x y : Option Command) → Small number size x → Small number size y → Small number size (cond b x y)
+either-small number size true x y here there = here
+either-small number size false x y here there = there
+
+module _ (number size : ℕ) where
+  node-small : (site keys : ℕ) (turns : Option ℕ) → Small number size (option_map (Node site keys) turns)
+  node-small site keys None is = none-small number size is
+  node-small site keys (Some turns) is = absurd (let q : Some (Node site keys turns) ≡ Some (Simulate number size) = is in cc)
+
+  client-small : (site keys call : ℕ) (turns : Option ℕ) → Small number size (option_map (Client site keys call) turns)
+  client-small site keys call None is = none-small number size is
+  client-small site keys call (Some turns) is = absurd (let q : Some (Client site keys call turns) ≡ Some (Simulate number size) = is in cc)
+
+  keys-small : (site : ℕ) (master : Option (List ℕ)) → Small number size (option_map (Keys site) master)
+  keys-small site None is = none-small number size is
+  keys-small site (Some master) is = absurd (let q : Some (Keys site master) ≡ Some (Simulate number size) = is in cc)
+
+  cluster-small : (plan : ℕ) → Small number size (Some (Cluster plan))
+  cluster-small plan is = absurd (let q : Some (Cluster plan) ≡ Some (Simulate number size) = is in cc)
+
+  nodes-small : (options : List (List ℕ)) → Small number size (node_called options)
+  nodes-small [] = none-small number size
+  nodes-small (a ∷ []) = none-small number size
+  nodes-small (a ∷ b ∷ []) = none-small number size
+  nodes-small (a ∷ b ∷ c ∷ []) = none-small number size
+  nodes-small (a ∷ b ∷ c ∷ d ∷ []) =
+      either-small number size (is_turns c && are_files a b) _ _ (node-small 1 2 (short_number d))
+      (either-small number size (is_turns b && are_files a d) _ _ (node-small 1 4 (short_number c))
+      (either-small number size (is_turns a && are_files c d) _ _ (node-small 3 4 (short_number b)) (none-small number size)))
+  nodes-small (a ∷ b ∷ c ∷ d ∷ e ∷ more) = none-small number size
+
+  clients-small : (options : List (List ℕ)) → Small number size (client_called options)
+  clients-small [] = none-small number size
+  clients-small (a ∷ []) = none-small number size
+  clients-small (a ∷ b ∷ []) = none-small number size
+  clients-small (a ∷ b ∷ c ∷ []) = none-small number size
+  clients-small (a ∷ b ∷ c ∷ d ∷ []) = none-small number size
+  clients-small (a ∷ b ∷ c ∷ d ∷ e ∷ []) =
+      either-small number size (is_turns d && are_files a b && is_file c) _ _ (client-small 1 2 3 (short_number e))
+      (either-small number size (is_turns c && are_files a b && is_file e) _ _ (client-small 1 2 5 (short_number d))
+      (either-small number size (is_turns b && are_files a d && is_file e) _ _ (client-small 1 4 5 (short_number c))
+      (either-small number size (is_turns a && are_files c d && is_file e) _ _ (client-small 3 4 5 (short_number b)) (none-small number size))))
+  clients-small (a ∷ b ∷ c ∷ d ∷ e ∷ f ∷ more) = none-small number size
+
+  all-keys-small : (options : List (List ℕ)) → Small number size (keys_called options)
+  all-keys-small [] = none-small number size
+  all-keys-small (a ∷ []) = none-small number size
+  all-keys-small (a ∷ b ∷ []) = either-small number size (is_file a) _ _ (keys-small 1 (master_in b)) (none-small number size)
+  all-keys-small (a ∷ b ∷ c ∷ more) = none-small number size
+
+  clusters-small : (options : List (List ℕ)) → Small number size (cluster_called options)
+  clusters-small [] = none-small number size
+  clusters-small (a ∷ []) = either-small number size (is_file a) _ _ (cluster-small 1) (none-small number size)
+  clusters-small (a ∷ b ∷ more) = none-small number size
+
+  deployed-small : (word : List ℕ) (options : List (List ℕ)) → Small number size (deployed word options)
+  deployed-small word options =
+      either-small number size (bytes_eq word (codes "node")) _ _ (nodes-small options)
+      (either-small number size (bytes_eq word (codes "client")) _ _ (clients-small options)
+      (either-small number size (bytes_eq word (codes "keys")) _ _ (all-keys-small options)
+      (either-small number size (bytes_eq word (codes "cluster")) _ _ (clusters-small options) (none-small number size))))
 
 -- words that call for a simulation have its size within the limit
 pub command-small : (words : List (List ℕ)) (number size : ℕ) → command_of words ≡ Some (Simulate number size) → size ≤ MOST_SIZE
-command-small [] number size is = absurd (let q : None ≡ Some (Simulate number size) = is in cc)
-command-small (word ∷ options) number size is =
-    by-word (bytes_eq word (codes "replay")) (bytes_eq word (codes "contract")) (bytes_eq word (codes "verify")) (bytes_eq word (codes "simulate")) options
-    (mode_from plain_mode options) (flagged (codes "--print") options) (simulated options) number size (simulated-small options) is
+command-small [] number size = none-small number size
+command-small (word ∷ options) number size =
+    either-small number size (bytes_eq word (codes "replay")) _ _ (no-replay (mode_from plain_mode options) number size)
+    (either-small number size (bytes_eq word (codes "contract")) _ _ (no-contract (flagged (codes "--print") options) number size)
+    (either-small number size (bytes_eq word (codes "verify")) _ _ (no-plain Verify options number size (λ q. cc))
+    (either-small number size (bytes_eq word (codes "audit")) _ _ (no-plain Audit options number size (λ q. cc))
+    (either-small number size (bytes_eq word (codes "simulate")) _ _ (said-small (simulated options) number size (simulated-small options))
+    (deployed-small number size word options)))))

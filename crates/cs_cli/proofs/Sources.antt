@@ -2,7 +2,7 @@
 use Rattle.std.specs.Prelude.{◌≡◌, ◌≢◌, ℕ, ◌+◌, Bool, List, take, Option, None, Some}
 use Rattle.std.specs.Io.KnownBytes.{Keeps, Appends}
 use Rattle.std.proofs.Common.{refl, inl, inr, subst}
-use Rattle.cs_base.specs.Answers.{Answer, Answers, IsText}
+use Rattle.cs_base.specs.Answers.{Answer, IsText}
 use Rattle.cs_base.proofs.Outcomes.{some_text}
 use Rattle.cs_lang_token.specs.declared.limits.TheConstants.{MOST_TEXT}
 use Rattle.cs_contract.specs.Reports.{IsReport}

@@ -1,5 +1,5 @@
 -- What is shown of a claim.
-use Rattle.std.proofs.Common.{◌≡◌, Bool, true, false, inl, inr, sym, subst}
+use Rattle.std.proofs.Common.{inl, inr, sym, subst}
 use Rattle.std.proofs.lemmas.Bool.{cases_Bool, cond-false}
 use Rattle.cs_tx_form.specs.Log.{ProofFits}
 use Rattle.cs_verify.specs.declared.claim.Claim.{Claim}

@@ -4,8 +4,9 @@ use Rattle.std.specs.declared.alloc.Global.{Global}
 use Rattle.std.specs.Str.{bytes_eq}
 use Rattle.cs_replay.specs.declared.schedule.Mode.{Mode}
 use Rattle.cs_cli.specs.declared.words.Command.{Command}
-use Rattle.cs_cli.specs.declared.words.Command.TheVariants.{Replay, Contract, Verify, Simulate}
+use Rattle.cs_cli.specs.declared.words.Command.TheVariants.{Replay, Contract, Verify, Audit, Simulate}
 use Rattle.cs_cli.specs.Numbers.{simulated}
+use Rattle.cs_cli.specs.Deployed.{deployed}
 
 -- what the words say, each as its bytes
 abbrev pub texts_of : List (String Global) → List (List ℕ)
@@ -50,8 +51,9 @@ called word options =
     if bytes_eq word (codes "replay") then option_map Replay (mode_from plain_mode options)
     else if bytes_eq word (codes "contract") then option_map Contract (flagged (codes "--print") options)
     else if bytes_eq word (codes "verify") then plain Verify options
+    else if bytes_eq word (codes "audit") then plain Audit options
     else if bytes_eq word (codes "simulate") then option_map (λ said. Simulate said.0 said.1) (simulated options)
-    else None
+    else deployed word options
 
 -- the command that the words call for, or none where they are outside the grammar
 abbrev pub command_of : List (List ℕ) → Option Command

@@ -1,7 +1,9 @@
 //! The words of the command line, and what the program does for each.
 #![tactic(auto)]
 
+mod auditing;
 mod claims;
+mod deployments;
 mod numbers;
 mod program;
 mod telling;

@@ -1,4 +1,4 @@
-//! The whole of the program, over the words, the source and the sink that are handed in.
+//! The whole of the program, over the words and the outside that are handed in.
 ghost use Rattle.std.specs.Prelude.{◌≡◌, ◌≢◌, ◌≤◌, ℕ, Bool, List, Ok, Some, None};
 ghost use Rattle.std.specs.Io.KnownBytes.{Keeps};
 ghost use Rattle.cs_base.specs.Outside.{HasCause, Rose};
@@ -18,31 +18,66 @@ ghost use Rattle.cs_command.specs.Answers.{Gives, GivesWhole};
 ghost use Rattle.cs_gen.specs.declared.limits.TheConstants.{MOST_SIZE};
 ghost use Rattle.cs_simulate.specs.Simulated.{simulate_answer, IsEnded};
 ghost use Rattle.cs_simulate.specs.Reports.{AnswersWhole};
+ghost use Rattle.cs_dump_read.specs.declared.dump.Dump.{Dump};
+ghost use Rattle.cs_dump_read.specs.declared.limits.TheConstants.{MOST_DUMP};
+ghost use Rattle.cs_dump_read.specs.Text.{dump_of};
+ghost use Rattle.cs_audit_rules.specs.Sound.{SaysSound};
+ghost use Rattle.cs_cli.specs.Audited.{audit_answer, dump_setup, dump_verdict, DumpsAreAnsweredYes};
+ghost use Rattle.cs_base.specs.declared.config.Config.{Config};
+ghost use Rattle.cs_wire.specs.declared.keys.Keys.{Keys as FileKeys};
+ghost use Rattle.cs_config_keys.specs.File.{keys_of};
+ghost use Rattle.cs_node.specs.Speaking.{Speaks};
+ghost use Rattle.cs_deploy.specs.Speaking.{net_of_keys};
+ghost use Rattle.cs_outer.specs.Told.{Stays};
+ghost use Rattle.cs_spawn.specs.Running.{outer};
+ghost use Rattle.cs_deploy_keys.specs.Keys.{KeysRuns};
+ghost use Rattle.cs_deploy_keys.specs.Cluster.{ClusterRuns};
+ghost use Rattle.cs_deploy.specs.Outside.{outside};
+ghost use Rattle.cs_deploy.specs.Node.{NodeRuns};
+ghost use Rattle.cs_deploy.specs.Client.{ClientRuns};
 ghost use Rattle.cs_cli.specs.Answers.{Tells, TellsWhole, words_answer};
-ghost use Rattle.cs_cli.specs.declared.words.Command.TheVariants.{Replay, Contract, Verify, Simulate};
+ghost use Rattle.cs_cli.specs.Deployed.{word_at};
+ghost use Rattle.cs_cli.specs.Done.{NodeDecided, ClientDecided, KeysDecided, ClusterDecided, around, Does};
+ghost use Rattle.cs_cli.specs.declared.words.Command.TheVariants.{Replay, Contract, Verify, Audit, Simulate, Node, Client, Keys, Cluster};
 
+use crate::auditing::{audit_source, audited_dumps_are_sound};
 use crate::claims::shown_claims_are_covered;
+use crate::deployments::word_at;
 use crate::telling::tell_source;
 use crate::verifying::verify_source;
 use crate::words::{Command, read_words};
 use cs_base::{Sink, Source, print};
 use cs_command::closing;
+use cs_deploy::{keys_of_files_speak, run_client, run_node};
+use cs_deploy_keys::{run_cluster, run_keys};
+use cs_dump_law::dumps_are_answered_yes;
+use cs_outer::{Link, Spawner, Store};
 use cs_replay::{replay_source, schedules_are_sound};
 use cs_simulate::simulate;
 use std::alloc::Global;
 
 /// Does what the words call for, and answers the status that the process ends with: 0 where it is
-/// done, 2 for words outside the grammar, 3 for a text with a bad line, a contract with a fault or a
-/// simulation of coins with one key, 4 where a line injects what its sender never sent, 9 for a
-/// proof that isn't shown, 13 where a quantity is past its limit, 5 where the source fails and 6
-/// where the sink does, 8 for want of memory.
+/// done, 2 for words outside the grammar, 3 for a text with a bad line, a contract with a fault, a
+/// simulation of coins with one key or a call whose method is refused, 4 where a line injects what
+/// its sender never sent, 9 for a proof that isn't shown or a dump that breaks a rule, 10 for a call
+/// that stays open, 12 for a file that isn't taken, 13 where a quantity is past its limit, 5 where
+/// the source fails, 6 where the sink does, 7 the link, 11 the spawner, 12 the store, and 8 for want
+/// of memory.
 ///
 /// For every replayed schedule, with at most f liars per shard, no forged tag and no hash
 /// collision, the accepted transactions form one serial history that the ledger takes and every
 /// checker approves; no object is consumed twice; no two honest nodes decide a session differently;
 /// each phase of a session with free objects succeeds once its stated messages have arrived; and
 /// the printed decisions are the core's.
-pub fn run<S: Source, K: Sink>(alloc: Global, words: &[String], input: &mut S, output: &mut K) -> u8
+pub fn run<S: Source, K: Sink, E: Store, L: Link, P: Spawner>(
+    alloc: Global,
+    words: &[String],
+    input: &mut S,
+    output: &mut K,
+    store: &mut E,
+    link: &mut L,
+    spawn: &mut P,
+) -> u8
     // Words outside the grammar are refused, and nothing is read.
     ensures words { command_of (texts_of words.now) ≡ None
         → Answers words_answer (K.written output.old) (K.written output.new) result }
@@ -89,6 +124,23 @@ pub fn run<S: Source, K: Sink>(alloc: Global, words: &[String], input: &mut S, o
     ensures covered { (claim : Claim) → ProofFits claim.proof
         → ProofTells claim.head (verdict_on claim) }
 
+    // `audit` answers what the dump comes to that the text of the source holds.
+    ensures audit { command_of (texts_of words.now) ≡ Some Audit
+        → Gives MOST_DUMP (audit_answer MOST_DUMP)
+        (S.left input.old) (S.left input.new) (K.written output.old) (K.written output.new)
+        (Rose (S.faults input.old) (S.faults input.new)) result }
+    ensures audit_whole { command_of (texts_of words.now) ≡ Some Audit
+        → (Rose (S.faults input.old) (S.faults input.new) → ⊥)
+        → (Rose (K.faults output.old) (K.faults output.new) → ⊥)
+        → GivesWhole MOST_DUMP (audit_answer MOST_DUMP)
+        (S.left input.old) (K.written output.old) (K.written output.new) result }
+    // A yes says that the dump is sound with that history. There is no premise.
+    ensures sound_dump { (text : List ℕ) (dump : Dump) → dump_of MOST_DUMP text ≡ Ok dump
+        → SaysSound (dump_setup dump) dump (dump_verdict dump) }
+    // What a replay dumps is answered yes, with the history that it printed.
+    ensures dumps_pass { (text : List ℕ) (schedule : Schedule)
+        → schedule_of MOST_SCHEDULE text ≡ Ok schedule → DumpsAreAnsweredYes schedule }
+
     // `simulate` answers what the schedule of its number and size comes to, and nothing is read.
     ensures simulate { (number size : ℕ)
         → command_of (texts_of words.now) ≡ Some (Simulate number size)
@@ -105,6 +157,79 @@ pub fn run<S: Source, K: Sink>(alloc: Global, words: &[String], input: &mut S, o
     // Nothing is injected in it, so it ends with 0, 3 or 13.
     ensures simulate_ends { (number size : ℕ) → IsEnded (simulate_answer number size) }
 
+    // `node` runs the node of its files, whose lines are printed.
+    ensures node { (site keys turns : ℕ)
+        → command_of (texts_of words.now) ≡ Some (Node site keys turns)
+        → NodeRuns (word_at (texts_of words.now) site) (word_at (texts_of words.now) keys) turns
+        (Rose (E.faults store.old) (E.faults store.new))
+        (Rose (L.faults link.old) (L.faults link.new)) (E.files store.old)
+        (outside (L.bound link.old) (L.left link.old) (L.offered link.old) (L.missed link.old)
+        (K.written output.old))
+        (outside (L.bound link.new) (L.left link.new) (L.offered link.new) (L.missed link.new)
+        (K.written output.new)) result }
+    ensures node_kept { (site keys turns : ℕ)
+        → command_of (texts_of words.now) ≡ Some (Node site keys turns)
+        → Stays (E.files store.old) (E.files store.new) }
+    ensures node_whole { (site keys turns : ℕ)
+        → command_of (texts_of words.now) ≡ Some (Node site keys turns)
+        → (Rose (E.faults store.old) (E.faults store.new) → ⊥)
+        → (Rose (L.faults link.old) (L.faults link.new) → ⊥)
+        → (Rose (K.faults output.old) (K.faults output.new) → ⊥)
+        → NodeDecided (word_at (texts_of words.now) site) (word_at (texts_of words.now) keys)
+        (E.files store.old) result }
+    // The keys of each key file speak in a net, so of each node it is said what it sends.
+    ensures keys_speak { (config : Config) (text : List ℕ) (keys : FileKeys)
+        → keys_of config text ≡ Ok keys → Speaks config (net_of_keys keys) keys }
+
+    // `client` runs the client of its files, until it knows what has become of its call.
+    ensures client { (site keys call turns : ℕ)
+        → command_of (texts_of words.now) ≡ Some (Client site keys call turns)
+        → ClientRuns (word_at (texts_of words.now) site) (word_at (texts_of words.now) keys)
+        (word_at (texts_of words.now) call) turns
+        (Rose (E.faults store.old) (E.faults store.new))
+        (Rose (L.faults link.old) (L.faults link.new)) (E.files store.old)
+        (outside (L.bound link.old) (L.left link.old) (L.offered link.old) (L.missed link.old)
+        (K.written output.old))
+        (outside (L.bound link.new) (L.left link.new) (L.offered link.new) (L.missed link.new)
+        (K.written output.new)) result }
+    ensures client_kept { (site keys call turns : ℕ)
+        → command_of (texts_of words.now) ≡ Some (Client site keys call turns)
+        → Stays (E.files store.old) (E.files store.new) }
+    ensures client_whole { (site keys call turns : ℕ)
+        → command_of (texts_of words.now) ≡ Some (Client site keys call turns)
+        → (Rose (E.faults store.old) (E.faults store.new) → ⊥)
+        → (Rose (L.faults link.old) (L.faults link.new) → ⊥)
+        → (Rose (K.faults output.old) (K.faults output.new) → ⊥)
+        → ClientDecided (word_at (texts_of words.now) site) (word_at (texts_of words.now) keys)
+        (word_at (texts_of words.now) call) (E.files store.old) result }
+
+    // `keys` saves the key files that the master key gives the names of its site.
+    ensures keys { (site : ℕ) (master : List ℕ)
+        → command_of (texts_of words.now) ≡ Some (Keys site master)
+        → KeysRuns (word_at (texts_of words.now) site) master
+        (Rose (E.faults store.old) (E.faults store.new)) (E.files store.old) (E.files store.new)
+        (K.written output.old) (K.written output.new) result }
+    ensures keys_whole { (site : ℕ) (master : List ℕ)
+        → command_of (texts_of words.now) ≡ Some (Keys site master)
+        → (Rose (E.faults store.old) (E.faults store.new) → ⊥)
+        → (Rose (K.faults output.old) (K.faults output.new) → ⊥)
+        → KeysDecided (word_at (texts_of words.now) site) (E.files store.old) result }
+
+    // `cluster` saves them too, and then runs the nodes of its plan and its calls.
+    ensures cluster { (plan : ℕ) → command_of (texts_of words.now) ≡ Some (Cluster plan)
+        → ClusterRuns (word_at (texts_of words.now) plan)
+        (Rose (E.faults store.old) (E.faults store.new))
+        (Rose (P.faults spawn.old) (P.faults spawn.new)) (E.files store.old) (E.files store.new)
+        (outer (P.started spawn.old) (P.children spawn.old) (P.statuses spawn.old)
+        (K.written output.old))
+        (outer (P.started spawn.new) (P.children spawn.new) (P.statuses spawn.new)
+        (K.written output.new)) result }
+    ensures cluster_whole { (plan : ℕ) → command_of (texts_of words.now) ≡ Some (Cluster plan)
+        → (Rose (E.faults store.old) (E.faults store.new) → ⊥)
+        → (Rose (P.faults spawn.old) (P.faults spawn.new) → ⊥)
+        → (Rose (K.faults output.old) (K.faults output.new) → ⊥)
+        → ClusterDecided (word_at (texts_of words.now) plan) (E.files store.old) result }
+
     // What is true of every schedule that is read, as far as it is played, whichever few nodes lie
     // in it: of its history, which is printed, and of the decisions of all honest nodes. A free
     // session is voted commit and the vote is sent; what a node can echo, confirm or choose it has;
@@ -119,52 +244,40 @@ pub fn run<S: Source, K: Sink>(alloc: Global, words: &[String], input: &mut S, o
     ensures write_fault { HasCause (K.faults output.old) (K.faults output.new) (result ≡ 6) }
 {
     schedules_are_sound();
+    dumps_are_answered_yes();
     shown_claims_are_covered();
+    audited_dumps_are_sound();
+    keys_of_files_speak();
     match read_words(words) {
-        Some(command) => answer(alloc, command, input, output),
+        Some(command) => answer(alloc, words, command, input, output, store, link, spawn),
         None => closing(print(output, b"words\n"), 2),
     }
 }
 
-// Does what a command calls for.
-fn answer<S: Source, K: Sink>(alloc: Global, command: Command, input: &mut S, output: &mut K) -> u8
+// Does what a command calls for, whose files are among the words.
+fn answer<S: Source, K: Sink, E: Store, L: Link, P: Spawner>(
+    alloc: Global,
+    words: &[String],
+    command: Command,
+    input: &mut S,
+    output: &mut K,
+    store: &mut E,
+    link: &mut L,
+    spawn: &mut P,
+) -> u8
     requires { (number size : ℕ) → command ≡ Simulate number size → size ≤ MOST_SIZE }
-    ensures replay { (mode : Mode) → command ≡ Replay mode
-        → Replays MOST_SCHEDULE mode
-        (S.left input.old) (S.left input.new) (K.written output.old) (K.written output.new)
-        (Rose (S.faults input.old) (S.faults input.new)) result }
-    ensures complete { (mode : Mode) → command ≡ Replay mode
-        → (Rose (S.faults input.old) (S.faults input.new) → ⊥)
-        → (Rose (K.faults output.old) (K.faults output.new) → ⊥)
-        → Completes MOST_SCHEDULE mode
-        (S.left input.old) (K.written output.old) (K.written output.new) result }
-    ensures contract { (printing : Bool) → command ≡ Contract printing
-        → Tells printing
-        (S.left input.old) (S.left input.new) (K.written output.old) (K.written output.new)
-        (Rose (S.faults input.old) (S.faults input.new)) result }
-    ensures contract_whole { (printing : Bool) → command ≡ Contract printing
-        → (Rose (S.faults input.old) (S.faults input.new) → ⊥)
-        → (Rose (K.faults output.old) (K.faults output.new) → ⊥)
-        → TellsWhole printing
-        (S.left input.old) (K.written output.old) (K.written output.new) result }
-    ensures verify { command ≡ Verify
-        → Gives MOST_SCHEDULE (verify_answer MOST_SCHEDULE)
-        (S.left input.old) (S.left input.new) (K.written output.old) (K.written output.new)
-        (Rose (S.faults input.old) (S.faults input.new)) result }
-    ensures verify_whole { command ≡ Verify
-        → (Rose (S.faults input.old) (S.faults input.new) → ⊥)
-        → (Rose (K.faults output.old) (K.faults output.new) → ⊥)
-        → GivesWhole MOST_SCHEDULE (verify_answer MOST_SCHEDULE)
-        (S.left input.old) (K.written output.old) (K.written output.new) result }
-    ensures simulate { (number size : ℕ) → command ≡ Simulate number size
-        → Answers (simulate_answer number size)
-        (K.written output.old) (K.written output.new) result }
-    ensures simulate_whole { (number size : ℕ) → command ≡ Simulate number size
-        → (Rose (K.faults output.old) (K.faults output.new) → ⊥)
-        → AnswersWhole (simulate_answer number size)
-        (K.written output.old) (K.written output.new) result }
-    ensures simulate_unread { (number size : ℕ) → command ≡ Simulate number size
-        → Keeps (S.left input.old) (S.left input.new) }
+    ensures does { Does command (texts_of words.now)
+        (around (S.left input.old) (S.faults input.old) (K.written output.old) (K.faults output.old)
+        (E.files store.old) (E.faults store.old)
+        (L.bound link.old) (L.left link.old) (L.offered link.old) (L.missed link.old)
+        (L.faults link.old)
+        (P.started spawn.old) (P.children spawn.old) (P.statuses spawn.old) (P.faults spawn.old))
+        (around (S.left input.new) (S.faults input.new) (K.written output.new) (K.faults output.new)
+        (E.files store.new) (E.faults store.new)
+        (L.bound link.new) (L.left link.new) (L.offered link.new) (L.missed link.new)
+        (L.faults link.new)
+        (P.started spawn.new) (P.children spawn.new) (P.statuses spawn.new) (P.faults spawn.new))
+        result }
     ensures only { result ≢ 2 }
     ensures read_fault { HasCause (S.faults input.old) (S.faults input.new) (result ≡ 5) }
     ensures write_fault { HasCause (K.faults output.old) (K.faults output.new) (result ≡ 6) }
@@ -173,6 +286,29 @@ fn answer<S: Source, K: Sink>(alloc: Global, command: Command, input: &mut S, ou
         Command::Replay(mode) => replay_source(alloc, mode, input, output),
         Command::Contract { printing } => tell_source(alloc, printing, input, output),
         Command::Verify => verify_source(alloc, input, output),
+        Command::Audit => audit_source(alloc, input, output),
         Command::Simulate { number, size } => simulate(alloc, number, size, output),
+        Command::Node { site, keys, turns } => {
+            let site = word_at(words, site);
+            let keys = word_at(words, keys);
+            run_node(alloc, site, keys, turns, store, link, output)
+        }
+        Command::Client {
+            site,
+            keys,
+            call,
+            turns,
+        } => {
+            let site = word_at(words, site);
+            let keys = word_at(words, keys);
+            let call = word_at(words, call);
+            run_client(alloc, site, keys, call, turns, store, link, output)
+        }
+        Command::Keys { site, master } => {
+            run_keys(alloc, word_at(words, site), &master, store, output)
+        }
+        Command::Cluster { plan } => {
+            run_cluster(alloc, word_at(words, plan), store, spawn, output)
+        }
     }
 }

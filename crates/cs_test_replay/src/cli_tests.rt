@@ -1,5 +1,6 @@
 use cs_base::{MemSink, MemSource};
 use cs_cli::{WordsError, run, words_or_status};
+use cs_outer::{MemLink, MemSpawner, MemStore};
 use std::alloc::{AllocError, Global};
 use std::test::Fail;
 
@@ -30,7 +31,18 @@ fn answer(
     }
     let mut input = MemSource::new(text.to_vec(alloc)?, read_fails.to_vec(alloc)?);
     let mut output = MemSink::new(alloc, write_fails.to_vec(alloc)?);
-    let status = run(alloc, &owned, &mut input, &mut output);
+    let mut store = MemStore::new(alloc, Vec::new(alloc), Vec::new(alloc));
+    let mut link = MemLink::new(alloc, Vec::new(alloc), Vec::new(alloc));
+    let mut spawner = MemSpawner::new(alloc, Vec::new(alloc), Vec::new(alloc));
+    let status = run(
+        alloc,
+        &owned,
+        &mut input,
+        &mut output,
+        &mut store,
+        &mut link,
+        &mut spawner,
+    );
     Ok((status, output.bytes().to_vec(alloc)?))
 }
 

@@ -1,4 +1,4 @@
-use Rattle.std.proofs.Common.{◌≢◌, ℕ, List, inl, inr, refl, sym, subst}
+use Rattle.std.proofs.Common.{inl, inr, refl, subst}
 use Rattle.cs_base.specs.Answers.{Answer, Answers}
 use Rattle.cs_contract.specs.Reports.{told}
 use Rattle.cs_cli.proofs.Reported.{told-answers, reported-other, reported-failed}

@@ -1,4 +1,4 @@
-use Rattle.std.proofs.Common.{◌≢◌, ℕ, List, Err, inl, ap, refl, sym, subst}
+use Rattle.std.proofs.Common.{ℕ, List, Err, inl, ap, refl, sym, subst}
 use Rattle.cs_base.specs.Answers.{Answers}
 use Rattle.cs_command.specs.Answers.{read_fault_answer}
 use Rattle.cs_command.proofs.Closings.{closed}

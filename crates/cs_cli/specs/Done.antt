@@ -1,0 +1,137 @@
+-- What a command does, by what the objects of the outside told before and after.
+use Rattle.std.specs.Prelude.{◌≡◌, ℕ, List, Option}
+use Rattle.std.specs.Io.KnownBytes.{Keeps}
+use Rattle.cs_base.specs.Answers.{Answers}
+use Rattle.cs_base.specs.Outside.{Rose}
+use Rattle.cs_base.specs.declared.limits.TheConstants.{MOST_SCHEDULE}
+use Rattle.cs_command.specs.Answers.{Gives, GivesWhole}
+use Rattle.cs_outer.specs.Told.{Stays}
+use Rattle.cs_outer.specs.Store.{Files}
+use Rattle.cs_outer.specs.Link.{Place, Offers}
+use Rattle.cs_outer.specs.Spawner.{Children}
+use Rattle.cs_outer.specs.declared.link.MemInput.{MemInput}
+use Rattle.cs_replay.specs.Answers.{Replays, Completes}
+use Rattle.cs_verify.specs.Verdicts.{verify_answer}
+use Rattle.cs_dump_read.specs.declared.limits.TheConstants.{MOST_DUMP}
+use Rattle.cs_simulate.specs.Simulated.{simulate_answer}
+use Rattle.cs_simulate.specs.Reports.{AnswersWhole}
+use Rattle.cs_spawn.specs.Running.{Outer, outer}
+use Rattle.cs_take.specs.declared.keys.Role.TheVariants as role
+use Rattle.cs_take.specs.Taking.{Comes}
+use Rattle.cs_take.specs.Files.{setup_taken, site_taken, cluster_taken}
+use Rattle.cs_take.specs.Calls.{ClientComes}
+use Rattle.cs_deploy_keys.specs.Untaken.{IsDecided}
+use Rattle.cs_deploy_keys.specs.Keys.{KeysRuns}
+use Rattle.cs_deploy_keys.specs.Cluster.{ClusterRuns}
+use Rattle.cs_deploy.specs.Outside.{Outside, outside}
+use Rattle.cs_deploy.specs.Node.{NodeRuns}
+use Rattle.cs_deploy.specs.Client.{ClientRuns, IsToldOf}
+use Rattle.cs_cli.specs.Answers.{Tells, TellsWhole}
+use Rattle.cs_cli.specs.Audited.{audit_answer}
+use Rattle.cs_cli.specs.Deployed.{word_at}
+use Rattle.cs_cli.specs.declared.words.Command.{Command}
+use Rattle.cs_cli.specs.declared.words.Command.TheVariants.{Replay, Contract, Verify, Audit, Simulate, Node, Client, Keys, Cluster}
+
+-- what the objects of the outside tell, and how often each has failed
+pub record Around : Type 0 where
+  pub left : Option (List ℕ)
+  pub reads : ℕ
+  pub written : Option (List ℕ)
+  pub writes : ℕ
+  pub files : Option Files
+  pub stores : ℕ
+  pub link : Outside
+  pub links : ℕ
+  pub spawned : Outer
+  pub spawns : ℕ
+
+-- that of source, sink, store, link and spawner
+abbrev pub around : Option (List ℕ) → ℕ → Option (List ℕ) → ℕ → Option Files → ℕ
+    → Option (Option Place) → Option (List MemInput) → Option Offers → ℕ → ℕ
+    → Option Children → ℕ → Option (ℕ → ℕ) → ℕ → Around
+around left reads written writes files stores bound inputs offered missed links started children statuses spawns = record {
+  left = left;
+  reads = reads;
+  written = written;
+  writes = writes;
+  files = files;
+  stores = stores;
+  link = outside bound inputs offered missed written;
+  links = links;
+  spawned = outer started children statuses written;
+  spawns = spawns;
+}
+
+abbrev pub Unfailed : ℕ → ℕ → Type 0
+Unfailed before now = Rose before now → ⊥
+
+-- ---- what decides where no fault came about
+
+abbrev pub NodeDecided : List ℕ → List ℕ → Option Files → ℕ → Type 0
+NodeDecided site keys = IsDecided (Comes (setup_taken role.Node site keys)) (λ status. status ≡ 0)
+
+abbrev pub ClientDecided : List ℕ → List ℕ → List ℕ → Option Files → ℕ → Type 0
+ClientDecided site keys call = IsDecided (ClientComes site keys call) IsToldOf
+
+abbrev pub KeysDecided : List ℕ → Option Files → ℕ → Type 0
+KeysDecided site = IsDecided (Comes (site_taken site)) (λ status. status ≡ 0)
+
+abbrev pub ClusterDecided : List ℕ → Option Files → ℕ → Type 0
+ClusterDecided plan = IsDecided (Comes (cluster_taken plan)) (λ status. status ≡ 0)
+
+-- ---- the commands of a deployment, by the names of their files
+
+abbrev pub NodeDoes : List ℕ → List ℕ → ℕ → Around → Around → ℕ → Type 0
+NodeDoes site keys turns a b status =
+    NodeRuns site keys turns (Rose a.stores b.stores) (Rose a.links b.links) a.files a.link b.link status
+    × Stays a.files b.files
+    × (Unfailed a.stores b.stores → Unfailed a.links b.links → Unfailed a.writes b.writes
+    → NodeDecided site keys a.files status)
+
+abbrev pub ClientDoes : List ℕ → List ℕ → List ℕ → ℕ → Around → Around → ℕ → Type 0
+ClientDoes site keys call turns a b status =
+    ClientRuns site keys call turns (Rose a.stores b.stores) (Rose a.links b.links) a.files a.link b.link status
+    × Stays a.files b.files
+    × (Unfailed a.stores b.stores → Unfailed a.links b.links → Unfailed a.writes b.writes
+    → ClientDecided site keys call a.files status)
+
+abbrev pub KeysDoes : List ℕ → List ℕ → Around → Around → ℕ → Type 0
+KeysDoes site master a b status =
+    KeysRuns site master (Rose a.stores b.stores) a.files b.files a.written b.written status
+    × (Unfailed a.stores b.stores → Unfailed a.writes b.writes → KeysDecided site a.files status)
+
+abbrev pub ClusterDoes : List ℕ → Around → Around → ℕ → Type 0
+ClusterDoes plan a b status =
+    ClusterRuns plan (Rose a.stores b.stores) (Rose a.spawns b.spawns) a.files b.files a.spawned b.spawned status
+    × (Unfailed a.stores b.stores → Unfailed a.spawns b.spawns → Unfailed a.writes b.writes
+    → ClusterDecided plan a.files status)
+
+-- ---- all commands
+
+-- what a command does, whose files are among the words; and what decides where no fault came about
+abbrev pub Does : Command → List (List ℕ) → Around → Around → ℕ → Type 0
+Does (Replay mode) words a b status =
+    Replays MOST_SCHEDULE mode a.left b.left a.written b.written (Rose a.reads b.reads) status
+    × (Unfailed a.reads b.reads → Unfailed a.writes b.writes
+    → Completes MOST_SCHEDULE mode a.left a.written b.written status)
+Does (Contract printing) words a b status =
+    Tells printing a.left b.left a.written b.written (Rose a.reads b.reads) status
+    × (Unfailed a.reads b.reads → Unfailed a.writes b.writes → TellsWhole printing a.left a.written b.written status)
+Does Verify words a b status =
+    Gives MOST_SCHEDULE (verify_answer MOST_SCHEDULE) a.left b.left a.written b.written (Rose a.reads b.reads) status
+    × (Unfailed a.reads b.reads → Unfailed a.writes b.writes
+    → GivesWhole MOST_SCHEDULE (verify_answer MOST_SCHEDULE) a.left a.written b.written status)
+Does Audit words a b status =
+    Gives MOST_DUMP (audit_answer MOST_DUMP) a.left b.left a.written b.written (Rose a.reads b.reads) status
+    × (Unfailed a.reads b.reads → Unfailed a.writes b.writes
+    → GivesWhole MOST_DUMP (audit_answer MOST_DUMP) a.left a.written b.written status)
+Does (Simulate number size) words a b status =
+    Answers (simulate_answer number size) a.written b.written status
+    × (Unfailed a.writes b.writes → AnswersWhole (simulate_answer number size) a.written b.written status)
+    × Keeps a.left b.left
+Does (Node site keys turns) words a b status =
+    NodeDoes (word_at words site) (word_at words keys) turns a b status
+Does (Client site keys call turns) words a b status =
+    ClientDoes (word_at words site) (word_at words keys) (word_at words call) turns a b status
+Does (Keys site master) words a b status = KeysDoes (word_at words site) master a b status
+Does (Cluster plan) words a b status = ClusterDoes (word_at words plan) a b status

@@ -1,0 +1,118 @@
+//! Auditing the dump that a source holds.
+ghost use Rattle.std.specs.Prelude.{◌≡◌, ◌≢◌, ℕ, List, Ok, Err};
+ghost use Rattle.cs_base.specs.Outside.{HasCause, Rose};
+ghost use Rattle.cs_base.specs.Answers.{Answers};
+ghost use Rattle.cs_command.specs.Answers.{Gives, GivesWhole};
+ghost use Rattle.cs_approve.specs.Approval.{is_approved};
+ghost use Rattle.cs_dump_read.specs.Formed.{IsFormed};
+ghost use Rattle.cs_dump_read.specs.Text.{dump_of};
+ghost use Rattle.cs_dump_read.specs.declared.dump.Dump.{Dump as AnyDump};
+ghost use Rattle.cs_dump_read.specs.declared.limits.TheConstants.{MOST_DUMP};
+ghost use Rattle.cs_audit_rules.specs.Sound.{SaysSound};
+ghost use Rattle.cs_audit_rules.specs.Verdicts.{verdict_of};
+ghost use Rattle.cs_cli.specs.Audited.{audited, audit_answer, dump_setup, dump_verdict, verdict_answer};
+
+use cs_approve::{Book, BookError};
+use cs_audit::{Verdict, audit, verdict_status, verdict_text};
+use cs_base::{ReadError, Sink, Source, print, read_text};
+use cs_command::closing;
+use cs_dump_read::{Dump, MOST_DUMP, parse_dump};
+use cs_sched::{Refusal, ScheduleError, refusal_line};
+use std::alloc::Global;
+
+/// Audits the dump in the text of the source, by the book of its contracts, and answers the status
+/// that a program ends with: 0 where no rule is broken, 9 where one is, 3 for a bad line, 13 for a
+/// line past its limit, 5 where the source fails and 6 where the sink does, 8 for want of memory.
+pub fn audit_source<S: Source, K: Sink>(alloc: Global, input: &mut S, output: &mut K) -> u8
+    ensures audits { Gives MOST_DUMP (audit_answer MOST_DUMP)
+        (S.left input.old) (S.left input.new) (K.written output.old) (K.written output.new)
+        (Rose (S.faults input.old) (S.faults input.new)) result }
+    ensures whole { (Rose (S.faults input.old) (S.faults input.new) → ⊥)
+        → (Rose (K.faults output.old) (K.faults output.new) → ⊥)
+        → GivesWhole MOST_DUMP (audit_answer MOST_DUMP)
+        (S.left input.old) (K.written output.old) (K.written output.new) result }
+    ensures only { result ≢ 2 }
+    ensures read_fault { HasCause (S.faults input.old) (S.faults input.new) (result ≡ 5) }
+    ensures write_fault { HasCause (K.faults output.old) (K.faults output.new) (result ≡ 6) }
+{
+    match read_text(alloc, MOST_DUMP, input) {
+        Ok(text) => audit_text(alloc, &text, output),
+        Err(ReadError::Failed) => closing(print(output, b"read fault\n"), 5),
+        Err(ReadError::Memory) => 8,
+    }
+}
+
+/// A dump to which yes is answered is sound, with the history that is told. There is no premise.
+pub fn audited_dumps_are_sound()
+    ensures { (text : List ℕ) (dump : AnyDump) → dump_of MOST_DUMP text ≡ Ok dump
+        → SaysSound (dump_setup dump) dump (dump_verdict dump) }
+{}
+
+// Audits the dump of a text.
+fn audit_text<K: Sink>(alloc: Global, text: &[u8], output: &mut K) -> u8
+    ensures answers { Answers (audit_answer MOST_DUMP text.now)
+        (K.written output.old) (K.written output.new) result }
+    ensures only { (result ≢ 2) × (result ≢ 5) }
+    ensures write_fault { HasCause (K.faults output.old) (K.faults output.new) (result ≡ 6) }
+{
+    match parse_dump(alloc, text) {
+        Ok(dump) => audit_dump(alloc, &dump, output),
+        Err(ScheduleError::Line(refusal)) => refuse(alloc, refusal, output),
+        Err(ScheduleError::Memory) => 8,
+    }
+}
+
+// Audits a dump by the book of its contracts.
+fn audit_dump<K: Sink>(alloc: Global, dump: &Dump, output: &mut K) -> u8
+    requires { IsFormed dump.now }
+    ensures answers { Answers (audited (Ok dump.now))
+        (K.written output.old) (K.written output.new) result }
+    ensures only { (result ≢ 2) × (result ≢ 5) }
+    ensures write_fault { HasCause (K.faults output.old) (K.faults output.new) (result ≡ 6) }
+{
+    match Book::new(alloc, dump.contracts.as_slice()) {
+        Ok(book) => audit_by(alloc, dump, &book, output),
+        Err(BookError::Memory) => 8,
+        // The contracts of a dump are accepted.
+        Err(BookError::Refused(..)) => unreachable!(),
+    }
+}
+
+fn audit_by<K: Sink>(alloc: Global, dump: &Dump, book: &Book, output: &mut K) -> u8
+    requires { IsFormed dump.now }
+    ensures answers { Answers (verdict_answer (verdict_of (is_approved book.now) dump.now))
+        (K.written output.old) (K.written output.new) result }
+    ensures only { (result ≢ 2) × (result ≢ 5) }
+    ensures write_fault { HasCause (K.faults output.old) (K.faults output.new) (result ≡ 6) }
+{
+    match audit(alloc, dump, book) {
+        Ok(verdict) => tell_verdict(alloc, &verdict, output),
+        Err(_) => 8,
+    }
+}
+
+fn tell_verdict<K: Sink>(alloc: Global, verdict: &Verdict, output: &mut K) -> u8
+    ensures answers { Answers (verdict_answer verdict.now)
+        (K.written output.old) (K.written output.new) result }
+    ensures only { (result ≢ 2) × (result ≢ 5) }
+    ensures write_fault { HasCause (K.faults output.old) (K.faults output.new) (result ≡ 6) }
+{
+    let status = verdict_status(verdict);
+    match verdict_text(alloc, verdict) {
+        Ok(text) => closing(print(output, text.as_bytes()), status),
+        Err(_) => 8,
+    }
+}
+
+fn refuse<K: Sink>(alloc: Global, refusal: Refusal, output: &mut K) -> u8
+    ensures answers { Answers (audited (Err refusal))
+        (K.written output.old) (K.written output.new) result }
+    ensures only { (result ≢ 2) × (result ≢ 5) }
+    ensures write_fault { HasCause (K.faults output.old) (K.faults output.new) (result ≡ 6) }
+{
+    let status = refusal.status();
+    match refusal_line(alloc, refusal) {
+        Ok(line) => closing(print(output, line.as_bytes()), status),
+        Err(_) => 8,
+    }
+}

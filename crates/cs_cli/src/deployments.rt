@@ -1,0 +1,178 @@
+//! The words of the commands of a deployment: files, by their places, a number of turns, a key.
+ghost use Rattle.std.specs.Prelude.{◌≡◌, ◌∷◌, []};
+ghost use Rattle.cs_cli.specs.Words.{texts_of};
+ghost use Rattle.cs_cli.specs.Deployed.{word_at, is_file, are_files, is_turns, node_at, node_called, client_at, client_called, master_in, keys_called, cluster_called, deployed};
+
+use crate::words::Command;
+use cs_command::read_short_number;
+use cs_tx_value::Digest;
+use hex::FromHex;
+
+/// The word at a place, the command's own at 0.
+pub(crate) fn word_at(words: &[String], place: usize) -> &str
+    ensures { result.now ≡ word_at (texts_of words.now) place }
+{
+    match words.get(place) {
+        Some(word) => word.as_str(),
+        None => "",
+    }
+}
+
+fn is_file(word: &str) -> bool
+    ensures { result ≡ is_file word.now }
+{
+    match word.as_bytes().first() {
+        Some(code) => *code != b'-',
+        None => false,
+    }
+}
+
+fn are_files(a: &str, b: &str) -> bool
+    ensures { result ≡ are_files a.now b.now }
+{
+    is_file(a) && is_file(b)
+}
+
+fn is_turns(word: &str) -> bool
+    ensures { result ≡ is_turns word.now }
+{
+    word == "--turns"
+}
+
+fn node_at(site: usize, keys: usize, turns: &str) -> Option<Command>
+    ensures { result ≡ node_at site keys turns.now }
+{
+    let turns = read_short_number(turns)?;
+    Some(Command::Node { site, keys, turns })
+}
+
+// The words behind `node`.
+fn read_node(options: &[String]) -> Option<Command>
+    ensures { result ≡ node_called (texts_of options.now) }
+{
+    let (first, behind) = options.split_first()?;
+    let (second, behind) = behind.split_first()?;
+    let (third, behind) = behind.split_first()?;
+    let (fourth, others) = behind.split_first()?;
+    if others.is_empty() {
+        node_among(
+            first.as_str(),
+            second.as_str(),
+            third.as_str(),
+            fourth.as_str(),
+        )
+    } else {
+        None
+    }
+}
+
+// The same of exactly so many words.
+fn node_among(a: &str, b: &str, c: &str, d: &str) -> Option<Command>
+    ensures { result ≡ node_called (a.now ∷ b.now ∷ c.now ∷ d.now ∷ []) }
+{
+    if is_turns(c) && are_files(a, b) {
+        node_at(1, 2, d)
+    } else if is_turns(b) && are_files(a, d) {
+        node_at(1, 4, c)
+    } else if is_turns(a) && are_files(c, d) {
+        node_at(3, 4, b)
+    } else {
+        None
+    }
+}
+
+fn client_at(site: usize, keys: usize, call: usize, turns: &str) -> Option<Command>
+    ensures { result ≡ client_at site keys call turns.now }
+{
+    let turns = read_short_number(turns)?;
+    Some(Command::Client {
+        site,
+        keys,
+        call,
+        turns,
+    })
+}
+
+// The words behind `client`.
+fn read_client(options: &[String]) -> Option<Command>
+    ensures { result ≡ client_called (texts_of options.now) }
+{
+    let (first, behind) = options.split_first()?;
+    let (second, behind) = behind.split_first()?;
+    let (third, behind) = behind.split_first()?;
+    let (fourth, behind) = behind.split_first()?;
+    let (fifth, others) = behind.split_first()?;
+    if others.is_empty() {
+        client_among(
+            first.as_str(),
+            second.as_str(),
+            third.as_str(),
+            fourth.as_str(),
+            fifth.as_str(),
+        )
+    } else {
+        None
+    }
+}
+
+// The same of exactly so many words.
+fn client_among(a: &str, b: &str, c: &str, d: &str, e: &str) -> Option<Command>
+    ensures { result ≡ client_called (a.now ∷ b.now ∷ c.now ∷ d.now ∷ e.now ∷ []) }
+{
+    if is_turns(d) && are_files(a, b) && is_file(c) {
+        client_at(1, 2, 3, e)
+    } else if is_turns(c) && are_files(a, b) && is_file(e) {
+        client_at(1, 2, 5, d)
+    } else if is_turns(b) && are_files(a, d) && is_file(e) {
+        client_at(1, 4, 5, c)
+    } else if is_turns(a) && are_files(c, d) && is_file(e) {
+        client_at(3, 4, 5, b)
+    } else {
+        None
+    }
+}
+
+// The key of which the word is the hex.
+fn master_in(word: &str) -> Option<Digest>
+    ensures { result ≡ master_in word.now }
+{
+    <[u8; 32] as FromHex>::from_hex(word).ok()
+}
+
+// The words behind `keys`.
+fn read_keys(options: &[String]) -> Option<Command>
+    ensures { result ≡ keys_called (texts_of options.now) }
+{
+    let (site, behind) = options.split_first()?;
+    let (master, others) = behind.split_first()?;
+    if !others.is_empty() || !is_file(site.as_str()) {
+        return None;
+    }
+    let master = master_in(master.as_str())?;
+    Some(Command::Keys { site: 1, master })
+}
+
+// The words behind `cluster`.
+fn read_cluster(options: &[String]) -> Option<Command>
+    ensures { result ≡ cluster_called (texts_of options.now) }
+{
+    let (plan, others) = options.split_first()?;
+    if others.is_empty() && is_file(plan.as_str()) {
+        Some(Command::Cluster { plan: 1 })
+    } else {
+        None
+    }
+}
+
+/// The command of a deployment of this word, with the words behind it.
+pub(crate) fn read_deployment(word: &str, options: &[String]) -> Option<Command>
+    ensures { result ≡ deployed word.now (texts_of options.now) }
+{
+    match word {
+        "node" => read_node(options),
+        "client" => read_client(options),
+        "keys" => read_keys(options),
+        "cluster" => read_cluster(options),
+        _ => None,
+    }
+}
