@@ -5,6 +5,7 @@ use cs_test_samples::{TOKEN, coin};
 use cs_tx::{Digest, Encoded, Judge, Name, Object, Trace, Tx, Value};
 use sha2::{Digest as Hasher, Sha256};
 use std::alloc::Global;
+use std::process::Abort;
 use std::test::Fail;
 
 /// A contract that says yes to what is above 0.
@@ -52,10 +53,12 @@ fn trace(alloc: Global, contract: Digest, method: &str) -> Result<Trace, Memory>
     })
 }
 
-/// A trace of `keep` with this number.
-fn keep(alloc: Global, text: &str, number: i64) -> Result<Trace, Memory> {
-    let mut kept = trace(alloc, id(text), "keep")?;
-    kept.parameters.push(Value::Int(number))?;
+/// A trace of this method with this number, if there is one.
+fn keep(alloc: Global, text: &str, method: &str, number: Option<i64>) -> Result<Trace, Memory> {
+    let mut kept = trace(alloc, id(text), method)?;
+    if let Some(number) = number {
+        kept.parameters.push(Value::Int(number))?;
+    }
     Ok(kept)
 }
 
@@ -78,73 +81,120 @@ fn approves(alloc: Global, book: &Book, traces: Vec<Trace>) -> Result<Option<boo
     Ok(Some(book.approves(alloc, &tx)?))
 }
 
+/// Whether it approves of one trace alone.
+fn approves_one(alloc: Global, book: &Book, one: Trace) -> Result<Option<bool>, Memory> {
+    let mut traces = Vec::new(alloc);
+    traces.push(one)?;
+    approves(alloc, book, traces)
+}
+
+/// Whether it approves of one trace and another.
+fn approves_both(
+    alloc: Global,
+    book: &Book,
+    first: Trace,
+    second: Trace,
+) -> Result<Option<bool>, Memory> {
+    let mut traces = Vec::new(alloc);
+    traces.push(first)?;
+    traces.push(second)?;
+    approves(alloc, book, traces)
+}
+
+/// The contract and the method of a trace, its number, and what the book that has `ABOVE` says.
+const KEPT: [(&str, &str, Option<i64>, bool); 5] = [
+    (ABOVE, "keep", Some(1), true),
+    (ABOVE, "keep", Some(0), false),
+    // A method that isn't there, a view that doesn't fit, and a contract that isn't there.
+    (ABOVE, "give", None, false),
+    (ABOVE, "keep", None, false),
+    (FREE, "keep", Some(1), false),
+];
+
 #[test]
 fn the_check_of_a_listed_contract_decides(rt: HostRuntime) -> Result<(), Fail> {
     let alloc = rt.alloc();
     let book = book(alloc, &[ABOVE])?;
-    let rows = [
-        (keep(alloc, ABOVE, 1)?, true),
-        (keep(alloc, ABOVE, 0)?, false),
-        // A method that isn't there, a view that doesn't fit, and a contract that isn't there.
-        (trace(alloc, id(ABOVE), "give")?, false),
-        (trace(alloc, id(ABOVE), "keep")?, false),
-        (keep(alloc, FREE, 1)?, false),
-    ];
-    for (one, yes) in rows {
-        assert_eq!(rt; approves(alloc, &book, vec![in alloc; one]?)?, Some(yes));
+    for (text, method, number, yes) in KEPT.iter() {
+        let one = keep(alloc, *text, *method, *number)?;
+        assert_eq!(rt; approves_one(alloc, &book, one)?, Some(*yes));
     }
     Ok(())
 }
+
+/// The contract and the number of one trace and of the next, and what the book of both says.
+const PAIRS: [(&str, i64, &str, i64, bool); 3] = [
+    (FREE, 0, ABOVE, 1, true),
+    (ABOVE, 0, FREE, 0, false),
+    (FREE, 0, ABOVE, 0, false),
+];
 
 #[test]
 fn each_trace_is_checked(rt: HostRuntime) -> Result<(), Fail> {
     let alloc = rt.alloc();
     let book = book(alloc, &[FREE, ABOVE])?;
-    let both = vec![in alloc; keep(alloc, FREE, 0)?, keep(alloc, ABOVE, 1)?]?;
-    assert_eq!(rt; approves(alloc, &book, both)?, Some(true));
-    let first = vec![in alloc; keep(alloc, ABOVE, 0)?, keep(alloc, FREE, 0)?]?;
-    assert_eq!(rt; approves(alloc, &book, first)?, Some(false));
-    let last = vec![in alloc; keep(alloc, FREE, 0)?, keep(alloc, ABOVE, 0)?]?;
-    assert_eq!(rt; approves(alloc, &book, last)?, Some(false));
+    for (text, number, next_text, next_number, yes) in PAIRS.iter() {
+        let first = keep(alloc, *text, "keep", Some(*number))?;
+        let second = keep(alloc, *next_text, "keep", Some(*next_number))?;
+        assert_eq!(rt; approves_both(alloc, &book, first, second)?, Some(*yes));
+    }
+    Ok(())
+}
+
+/// What a coin is worth, what is made of it, and whether that is approved.
+const MOVES: [(i64, i64, bool); 3] = [(5, 5, true), (5, 6, false), (-1, -1, false)];
+
+fn moves_coins(rt: &impl Abort, alloc: Global, book: &Book) -> Result<(), Fail> {
+    for (worth, made, yes) in MOVES.iter() {
+        let moved = transfer(alloc, *worth, *made)?;
+        assert_eq!(rt; approves_one(alloc, book, moved)?, Some(*yes));
+    }
     Ok(())
 }
 
 #[test]
 fn token_is_always_there(rt: HostRuntime) -> Result<(), Fail> {
     let alloc = rt.alloc();
-    for book in [book(alloc, &[])?, book(alloc, &[FREE])?] {
-        let even = vec![in alloc; transfer(alloc, 5, 5)?]?;
-        assert_eq!(rt; approves(alloc, &book, even)?, Some(true));
-        let more = vec![in alloc; transfer(alloc, 5, 6)?]?;
-        assert_eq!(rt; approves(alloc, &book, more)?, Some(false));
-        let owed = vec![in alloc; transfer(alloc, -1, -1)?]?;
-        assert_eq!(rt; approves(alloc, &book, owed)?, Some(false));
+    moves_coins(&rt, alloc, &book(alloc, &[])?)?;
+    moves_coins(&rt, alloc, &book(alloc, &[FREE])?)
+}
+
+/// The deps of the second trace, its method, and what its check says of them.
+const DEPS: [(&[u8], &str, bool); 8] = [
+    (&[0], "next", true),
+    (&[0], "last", false),
+    (&[], "next", false),
+    (&[], "last", true),
+    (&[9], "next", false),
+    (&[9], "last", true),
+    (&[9, 0], "next", false),
+    (&[9, 0], "last", true),
+];
+
+/// A trace of this method with these deps.
+fn standing_on(alloc: Global, method: &str, deps: &[u8]) -> Result<Trace, Memory> {
+    let mut made = trace(alloc, id(AFTER), method)?;
+    for dep in deps {
+        made.deps.push(*dep)?;
     }
-    Ok(())
+    Ok(made)
+}
+
+/// A trace of `first`, which returns 7.
+fn first_of_all(alloc: Global) -> Result<Trace, Memory> {
+    let mut made = trace(alloc, id(AFTER), "first")?;
+    made.returns.push(Value::Int(7))?;
+    Ok(made)
 }
 
 #[test]
 fn a_check_sees_the_traces_that_its_own_stands_on(rt: HostRuntime) -> Result<(), Fail> {
     let alloc = rt.alloc();
     let book = book(alloc, &[AFTER])?;
-    // The deps of the second trace, and what the checks of `next` and `last` say of them.
-    let rows: [(&[u8], bool, bool); 4] = [
-        (&[0], true, false),
-        (&[], false, true),
-        (&[9], false, true),
-        (&[9, 0], false, true),
-    ];
-    for (deps, next, last) in rows {
-        for (method, yes) in [("next", next), ("last", last)] {
-            let mut first = trace(alloc, id(AFTER), "first")?;
-            first.returns.push(Value::Int(7))?;
-            let mut second = trace(alloc, id(AFTER), method)?;
-            for dep in deps {
-                second.deps.push(*dep)?;
-            }
-            let traces = vec![in alloc; first, second]?;
-            assert_eq!(rt; approves(alloc, &book, traces)?, Some(yes));
-        }
+    for (deps, method, yes) in DEPS.iter() {
+        let first = first_of_all(alloc)?;
+        let second = standing_on(alloc, *method, *deps)?;
+        assert_eq!(rt; approves_both(alloc, &book, first, second)?, Some(*yes));
     }
     Ok(())
 }

@@ -13,6 +13,8 @@ use std::test::Fail;
 
 const ME: NodeId = NodeId { shard: 0, index: 0 };
 
+const OTHER: NodeId = NodeId { shard: 1, index: 0 };
+
 const CLIENT: NodeId = NodeId {
     shard: CLIENT_SHARD,
     index: 3,
@@ -299,20 +301,40 @@ fn is_decided(notes: &[Note]) -> bool {
     }
 }
 
+/// A node votes on what the client submits, and asks the other node for its vote.
+fn asks(
+    rt: &impl Abort,
+    alloc: Global,
+    core: Core<Solo, TokenJudge>,
+    session: &[u8],
+) -> Result<(Core<Solo, TokenJudge>, Vec<u8>), Fail> {
+    let (core, made) = core.step(alloc, Input::Datagram(session))?;
+    let said = said_to(rt, alloc, &made, OTHER)?;
+    Ok((core, said))
+}
+
+/// The other node votes and decides, and answers with its vote.
+fn votes(
+    rt: &impl Abort,
+    alloc: Global,
+    core: Core<Solo, TokenJudge>,
+    asks: &[u8],
+) -> Result<Vec<u8>, Fail> {
+    assert!(rt; core.sender(asks) == Some(ME));
+    let (_, made) = core.step(alloc, Input::Datagram(asks))?;
+    assert!(rt; is_split(made.notes.as_slice()));
+    said_to(rt, alloc, &made, ME)
+}
+
 #[test]
 fn two_shards_accept_a_session(rt: HostRuntime) -> Result<(), Fail> {
     let alloc = rt.alloc();
-    let other = NodeId { shard: 1, index: 0 };
     let (first, name) = start_in(&rt, alloc, 0)?;
     let (second, _) = start_in(&rt, alloc, 1)?;
     let session = submitted(&rt, alloc, split_in_two(&rt, alloc, name)?)?;
-    let (first, made) = first.step(alloc, Input::Datagram(&session))?;
-    let asks = said_to(&rt, alloc, &made, other)?;
-    assert!(rt; second.sender(&asks) == Some(ME));
-    let (_, made) = second.step(alloc, Input::Datagram(&asks))?;
-    assert!(rt; is_split(made.notes.as_slice()));
-    let vote = said_to(&rt, alloc, &made, ME)?;
-    let (_, made) = first.step(alloc, Input::Datagram(&vote))?;
+    let (first, asked) = asks(&rt, alloc, first, session.as_slice())?;
+    let vote = votes(&rt, alloc, second, asked.as_slice())?;
+    let (_, made) = first.step(alloc, Input::Datagram(vote.as_slice()))?;
     assert!(rt; is_decided(made.notes.as_slice()) && made.outs.is_empty());
     Ok(())
 }

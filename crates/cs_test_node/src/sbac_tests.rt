@@ -25,7 +25,7 @@ fn start(rt: &impl Abort, alloc: Global) -> Result<(Sbac, Session), Fail> {
     let objects = [(key, object)];
     let table = Table::genesis(alloc, config, 0, &objects)?;
     let session = spend(alloc, name, 10, &[4, 6], 0)?;
-    Ok((Sbac::new(alloc, config, me, table), session))
+    Ok((Sbac::new(alloc, config, me, table)?, session))
 }
 
 /// Before the session is there.
@@ -122,25 +122,43 @@ fn close_slot(
         result: outcome.effect,
     };
     assert!(rt; leaf.fits() && leaf.slot == sbac.slots());
-    Ok(sbac.close(alloc, &leaf)?)
+    let made = sbac.close(alloc, &leaf)?;
+    sbac.forget_touched();
+    Ok(made)
+}
+
+/// The checkpoint that the 16th slot makes, and none before it.
+fn checkpoint_of_16(
+    rt: &impl Abort,
+    alloc: Global,
+    sbac: &mut Sbac,
+    session: &Session,
+) -> Result<Checkpoint, Fail> {
+    for slot in 0..15 {
+        let made = close_slot(rt, alloc, sbac, session)?;
+        assert!(rt; made.is_none(), "at {slot}");
+    }
+    match close_slot(rt, alloc, sbac, session)? {
+        Some(made) => Ok(made),
+        None => panic!(rt; "no checkpoint"),
+    }
+}
+
+/// Slot 0 is shown, and slot 16 isn't.
+fn shows_slot_0(rt: &impl Abort, alloc: Global, sbac: &Sbac) -> Result<(), Fail> {
+    let proof = sbac.prove(alloc, 0)?.expect(rt, "a proof");
+    assert!(rt; proof.leaf.result == Effect::Voted(Vote::Commit));
+    assert!(rt; sbac.prove(alloc, 16)?.is_none());
+    Ok(())
 }
 
 #[test]
 fn the_16th_slot_makes_a_checkpoint(rt: HostRuntime) -> Result<(), Fail> {
     let alloc = rt.alloc();
     let (mut sbac, session) = start(&rt, alloc)?;
-    for slot in 0..15 {
-        let made = close_slot(&rt, alloc, &mut sbac, &session)?;
-        assert!(rt; made.is_none(), "at {slot}");
-    }
-    assert!(rt; sbac.prove(alloc, 0)?.is_none());
-    let Some(made) = close_slot(&rt, alloc, &mut sbac, &session)? else {
-        panic!(rt; "no checkpoint");
-    };
+    let made = checkpoint_of_16(&rt, alloc, &mut sbac, &session)?;
     assert!(rt; made.table_root == table_root(alloc, sbac.table())?);
-    let proof = sbac.prove(alloc, 0)?.expect(&rt, "a proof");
-    assert!(rt; proof.leaf.result == Effect::Voted(Vote::Commit));
-    assert!(rt; sbac.prove(alloc, 16)?.is_none());
+    shows_slot_0(&rt, alloc, &sbac)?;
     assert!(rt; sbac.keep(1, made)?);
     Ok(())
 }

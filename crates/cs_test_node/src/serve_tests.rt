@@ -66,8 +66,33 @@ fn numbers(alloc: Global, first: u32, count: u32) -> Result<Vec<u32>, Fail> {
     Ok(all)
 }
 
-// A submit and two ticks, served for so many turns while calls of the link and of the sink fail:
-// how it ends, and how many inputs are left.
+// A submit and two ticks.
+fn three_inputs(rt: &impl Abort, alloc: Global, name: [u8; 32]) -> Result<Vec<MemInput>, Fail> {
+    let mut inputs = Vec::new(alloc);
+    inputs.push(submitted(rt, alloc, name)?)?;
+    inputs.push(MemInput::Tick)?;
+    inputs.push(MemInput::Tick)?;
+    Ok(inputs)
+}
+
+// These inputs, served for so many turns while calls of the link and of the sink fail: how it ends,
+// and how many inputs are left.
+fn ended(
+    rt: &impl Abort,
+    alloc: Global,
+    core: Core<Solo, TokenJudge>,
+    link: &mut MemLink,
+    turns: u64,
+    lines: (Vec<u32>, &str),
+) -> End {
+    let (fails, text) = lines;
+    let mut out = MemSink::new(alloc, fails);
+    let (end, left) = serve(alloc, core, link, &mut out, turns);
+    assert!(rt; left.is_some());
+    assert_eq!(rt; out.bytes(), text.as_bytes());
+    end
+}
+
 fn served(
     rt: &impl Abort,
     alloc: Global,
@@ -76,15 +101,9 @@ fn served(
     text: &str,
 ) -> Result<(End, usize), Fail> {
     let (core, name) = start(rt, alloc)?;
-    let mut inputs = Vec::new(alloc);
-    inputs.push(submitted(rt, alloc, name)?)?;
-    inputs.push(MemInput::Tick)?;
-    inputs.push(MemInput::Tick)?;
+    let inputs = three_inputs(rt, alloc, name)?;
     let mut link = MemLink::new(alloc, inputs, fails.0);
-    let mut out = MemSink::new(alloc, fails.1);
-    let (end, left) = serve(alloc, core, &mut link, &mut out, turns);
-    assert!(rt; left.is_some());
-    assert_eq!(rt; out.bytes(), text.as_bytes());
+    let end = ended(rt, alloc, core, &mut link, turns, (fails.1, text));
     Ok((end, link.left().len()))
 }
 
@@ -122,19 +141,30 @@ fn a_line_that_is_not_written(rt: HostRuntime) -> Result<(), Fail> {
     Ok(())
 }
 
-// The same session twice, of which the second is answered; the call of this number fails.
-fn answered(rt: &impl Abort, alloc: Global, call: u32) -> Result<(End, usize), Fail> {
-    let (core, name) = start(rt, alloc)?;
+// The same session twice.
+fn two_submits(rt: &impl Abort, alloc: Global, name: [u8; 32]) -> Result<Vec<MemInput>, Fail> {
     let mut inputs = Vec::new(alloc);
     inputs.push(submitted(rt, alloc, name)?)?;
     inputs.push(submitted(rt, alloc, name)?)?;
-    let mut link = MemLink::new(alloc, inputs, numbers(alloc, call, 1)?);
-    let mut out = MemSink::new(alloc, Vec::new(alloc));
-    let (end, _) = serve(alloc, core, &mut link, &mut out, 9);
-    assert_eq!(rt; out.bytes(), LINES.as_bytes());
+    Ok(inputs)
+}
+
+fn are_for_the_client(link: &MemLink) -> bool {
     for (to, _) in link.offered() {
-        assert_eq!(rt; *to, CLIENT);
+        if *to != CLIENT {
+            return false;
+        }
     }
+    true
+}
+
+// The same session twice, of which the second is answered; the call of this number fails.
+fn answered(rt: &impl Abort, alloc: Global, call: u32) -> Result<(End, usize), Fail> {
+    let (core, name) = start(rt, alloc)?;
+    let inputs = two_submits(rt, alloc, name)?;
+    let mut link = MemLink::new(alloc, inputs, numbers(alloc, call, 1)?);
+    let end = ended(rt, alloc, core, &mut link, 9, (Vec::new(alloc), LINES));
+    assert!(rt; are_for_the_client(&link));
     Ok((end, link.offered().len()))
 }
 
