@@ -1,6 +1,6 @@
 #!/usr/bin/env bash
-# Prints the processor time of the root over a table of 1,000, 10,000 and 100,000 records, which is nearly all of the cost of a
-# checkpoint, as a ratio to that of `openssl dgst -sha256` over as many bytes as are hashed, and as a ratio to the cost at 1,000
+# Prints the processor time of the root from scratch over a table of 1,000, 10,000 and 100,000 records, which a node pays at its
+# first checkpoint alone, as a ratio to that of `openssl dgst -sha256` over as many bytes as are hashed, and as a ratio to the cost at 1,000
 # records. Hashed are for each record its leaf with a byte before it, and for each inner node a byte and two hashes. The time of
 # making the table is taken off. Proves and builds crates/cs_bench first; it takes openssl.
 . "$(dirname "${BASH_SOURCE[0]}")/common.sh"
@@ -21,7 +21,7 @@ for records in 1000 10000 100000; do
   read -r one line < <(awk -v records="$records" -v rounds="$rounds" -v bytes="$bytes" -v first="${first:-0}" "$shared"'{
     root = less($2, $1)
     one = root / rounds
-    printf "%.9f %d records: %.5f s a checkpoint for %d hashed bytes, %.1f times openssl dgst -sha256", one, records, one, bytes, ratio(root, $3)
+    printf "%.9f %d records: %.5f s a root for %d hashed bytes, %.1f times openssl dgst -sha256", one, records, one, bytes, ratio(root, $3)
     if (first > 0) printf ", %.1f times the cost at 1000 records", one / first
     print ""
   }' <<<"$times")
