@@ -13,11 +13,12 @@ use Rattle.cs_tx_value.specs.declared.object.Object.{Object}
 use Rattle.cs_tx_value.specs.Object.{object_encoding}
 use Rattle.cs_table.proofs.Rows.{same_table}
 use Rattle.cs_table.proofs.Loops.{Left}
+use Rattle.cs_table.proofs.Weights.{AllGain, all_stay, all_after, one_gains, if_gains, deciding, appears_gain}
 use Rattle.cs_table.proofs.Marked.{marks_self, marks_after}
 
 -- a piece is loaded after those before the index
 pub record Loading (ps : List Piece) (i : ℕ) (old now : Stored) : Type 0 where
-  pub left : Left (appeared_each []) (drop i ps) ps old now
+  pub left : Left (deciding []) (appeared_each []) (drop i ps) ps old now
   pub shown : (name : ledger.Key) → is_unknown ((seen now).at name).state ≡ not (ledger.has_key name (map seen_piece (take i ps)))
   pub second : second_of (map seen_piece (take i ps)) (drop i ps) ≡ second_of [] ps
 
@@ -55,6 +56,11 @@ shown_more true false o r h = appeared_known o r.state
 shown_more false true o r h = h
 shown_more false false o r h = h
 
+-- where an object comes into being, no record weighs less
+appearing : (now later : Stored) (o : List ℕ) (key : ledger.Key) → Becomes now later (changed (appeared_record o) key (seen now)) → AllGain (deciding []) (seen now) (seen later)
+appearing now later o key did =
+    subst (λ (t : Table). AllGain (deciding []) (seen now) t) (sym did.shows) (one_gains (deciding []) (appeared_record o) (appears_gain [] o) key (seen now))
+
 not_true : (b : Bool) → true ≡ not b → b ≡ false
 not_true true h = absurd (let no_way = h in cc)
 not_true false h = refl
@@ -86,7 +92,8 @@ module _ (ps : List Piece) (i : ℕ) (p : Piece) (old now : Stored) (lt : i < le
           ∙ subst (λ rest. appeared_each [] (map seen_piece rest) (seen now) ≡ appeared_each [] (map seen_piece ps) (seen old)) (next ps i p lt is) so_far.left.shows;
       shards = did.shards ∙ so_far.left.shards;
       shard = did.shard ∙ so_far.left.shard;
-      marks = marks_after old now later so_far.left.marks did.marks;
+      marks = marks_after (deciding []) old now later so_far.left.gains (appearing now later (object_encoding object) (key_seen p.key) did) so_far.left.marks did.marks;
+      gains = all_after (deciding []) (seen old) (seen now) (seen later) so_far.left.gains (appearing now later (object_encoding object) (key_seen p.key) did);
     };
     shown = λ name.
         ap (λ t. is_unknown (t.at name).state) did.shows
@@ -97,7 +104,7 @@ module _ (ps : List Piece) (i : ℕ) (p : Piece) (old now : Stored) (lt : i < le
 
 pub begins : (ps : List Piece) (old : Stored) → seen old ≡ empty old.next → Loading ps 0 old old
 begins ps old is = record {
-  left = record { shows = refl; shards = refl; shard = refl; marks = marks_self old };
+  left = record { shows = refl; shards = refl; shard = refl; marks = marks_self old; gains = all_stay (deciding []) (seen old) };
   shown = λ name. ap (λ t. is_unknown (t.at name).state) is;
   second = refl;
 }
@@ -135,6 +142,11 @@ dummies_next shard n o t = same_table _ _ t.next (λ name.
     one_dummy (ledger.key_eq name (ledger.Dummy shard n)) (is_dummy_below shard n name) o (t.at name)
     ∙ ap (λ b. if b then appeared_record o (t.at name) else t.at name) (sym (dummy_more name shard n)))
 
+dummies_appear : (old now : Stored) (shard n : ℕ) (o : List ℕ) → Becomes old now (with_dummies shard n o (seen old)) → AllGain (deciding []) (seen old) (seen now)
+dummies_appear old now shard n o did =
+    subst (λ (t : Table). AllGain (deciding []) (seen old) t) (sym did.shows)
+    (record { each = λ name. if_gains (deciding []) (is_dummy_below shard n name) ((seen old).at name) (appeared_record o ((seen old).at name)) (appears_gain [] o ((seen old).at name)) })
+
 pub dummies_more : (old now later : Stored) (shard n s k : ℕ) (o o' : List ℕ) → s ≡ shard → k ≡ n → o' ≡ o → Becomes old now (with_dummies shard n o (seen old)) → Becomes now later (changed (appeared_record o') (ledger.Dummy s k) (seen now)) → Becomes old later (with_dummies shard (n + 1) o (seen old))
 dummies_more old now later shard n s k o o' is_shard is_n same so_far did = record {
   shows = did.shows
@@ -144,7 +156,7 @@ dummies_more old now later shard n s k o o' is_shard is_n same so_far did = reco
       ∙ ap (changed (appeared_record o) (ledger.Dummy shard n)) so_far.shows ∙ dummies_next shard n o (seen old);
   shards = did.shards ∙ so_far.shards;
   shard = did.shard ∙ so_far.shard;
-  marks = marks_after old now later so_far.marks did.marks;
+  marks = marks_after (deciding []) old now later (dummies_appear old now shard n o so_far) (appearing now later o' (ledger.Dummy s k) did) so_far.marks did.marks;
 }
 
 none_less : (j : ℕ) → nat_lt j 0 ≡ false

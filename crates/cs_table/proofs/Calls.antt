@@ -21,7 +21,7 @@ use Rattle.cs_tx.specs.Sessions.{session_of, dummy_name, key_seen}
 use Rattle.cs_table.specs.Calls.{anchor_in, prepared, decided, makes_dummy, new_in, accepted_with}
 use Rattle.cs_table.proofs.Shown.{used_seen, read_seen, made_seen}
 use Rattle.cs_table.proofs.Executions.{becomes_same, becomes_self}
-use Rattle.cs_table.proofs.Marked.{marks_after}
+use Rattle.cs_table.proofs.Marked.{marks_same}
 
 module _ (s : Stored) (x : Session) (used : List Piece) (used_is : used ≡ used_in s.shards s.shard x) (approves : Tx → Bool) where
   pub used_up : map seen_piece used ≡ ledger.used_up (rules_in s.shards) (session_of approves x) s.shard
@@ -104,7 +104,7 @@ accepted_so a b e x approves d used read made now made_is now_is one two =
       shows = two.shows ∙ ap (λ (t : Table). accepted d used read (map seen_piece now) t.next t) one.shows ∙ ap (λ ps. accepted d used read ps n (seen a)) pieces;
       shards = two.shards ∙ one.shards;
       shard = two.shard ∙ one.shard;
-      marks = marks_after a b e one.marks two.marks;
+      marks = marks_same a b e (λ name. ap (λ (t : Table). t.at name) one.shows) one.marks two.marks;
     }
 
 by_true : (b : Bool) (o p : Outcome) → b ≡ true → (if b then o else p) ≡ o

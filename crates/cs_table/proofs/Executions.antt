@@ -1,5 +1,5 @@
 -- How the calls that execute come to what the definitions give.
-use Rattle.std.proofs.Common.{◌≡◌, Bool, true, false, if◌then◌else◌, List, Option, Some, None, refl, sym, ap, ◌∙◌}
+use Rattle.std.proofs.Common.{◌≡◌, ℕ, Bool, true, false, if◌then◌else◌, List, Option, Some, None, refl, sym, ap, ◌∙◌, subst}
 use Rattle.cs_ledger.specs.Ledger.{Bytes}
 use Rattle.cs_ledger.specs.Session.{Key, Piece}
 use Rattle.cs_ledger.specs.Table as ledger
@@ -9,23 +9,57 @@ use Rattle.cs_table.specs.Seen.{Stored, seen}
 use Rattle.cs_table.specs.Changes.{Becomes, changed, changed_record, noted_record, changed_each, appeared_each}
 use Rattle.cs_table.specs.Effects.{settled_vote, or_lost, ComesTo, accepted}
 use Rattle.cs_table.proofs.Each.{locks, aborts_noted, aborts_full, accepts, books_kept}
+use Rattle.cs_table.proofs.Weights.{AllGain, all_after, one_gains, each_gains, made_gain, voting, deciding, locks_gain, releases_gain, uses_gain, appears_gain, notes_gain}
 use Rattle.cs_table.proofs.Marked.{marks_self, marks_after}
 
 pub becomes_self : (a : Stored) → Becomes a a (seen a)
 becomes_self a = record { shows = refl; shards = refl; shard = refl; marks = marks_self a }
 
+-- each record stays by a change, or weighs more
+abbrev Lifts : (Record → ℕ) → (Table → Table) → Type 0
+Lifts weight change = (t : Table) → AllGain weight t (change t)
+
 -- one change after another
-pub after : (a b c : Stored) (first second : Table → Table) → Becomes a b (first (seen a)) → Becomes b c (second (seen b)) → Becomes a c (second (first (seen a)))
-after a b c first second one two = record { shows = two.shows ∙ ap second one.shows; shards = two.shards ∙ one.shards; shard = two.shard ∙ one.shard; marks = marks_after a b c one.marks two.marks }
+module _ (weight : Record → ℕ) where
+  lifted : (a b : Stored) (change : Table → Table) → Lifts weight change → Becomes a b (change (seen a)) → AllGain weight (seen a) (seen b)
+  lifted a b change lifts did = subst (λ (t : Table). AllGain weight (seen a) t) (sym did.shows) (lifts (seen a))
+
+  after : (a b c : Stored) (first second : Table → Table) → Lifts weight first → Lifts weight second
+      → Becomes a b (first (seen a)) → Becomes b c (second (seen b)) → Becomes a c (second (first (seen a)))
+  after a b c first second lifts then_lifts one two = record {
+    shows = two.shows ∙ ap second one.shows;
+    shards = two.shards ∙ one.shards;
+    shard = two.shard ∙ one.shard;
+    marks = marks_after weight a b c (lifted a b first lifts one) (lifted b c second then_lifts two) one.marks two.marks;
+  }
+
+  both_lift : (first second : Table → Table) → Lifts weight first → Lifts weight second → Lifts weight (λ t. second (first t))
+  both_lift first second lifts then_lifts t = all_after weight t (first t) (second (first t)) (lifts t) (then_lifts (first t))
 
 pub becomes_same : (a b : Stored) (t u : Table) → t ≡ u → Becomes a b t → Becomes a b u
 becomes_same a b t u e h = record { shows = h.shows ∙ e; shards = h.shards; shard = h.shard; marks = h.marks }
 
+lock_lifts : (d : Bytes) (ps : List Piece) → Lifts voting (changed_each (changed_record (Lock d)) ps)
+lock_lifts d ps t = each_gains voting (changed_record (Lock d)) (locks_gain d) ps t
+
 pub locked : (a b c : Stored) (d : Bytes) (used read : List Piece) → Becomes a b (changed_each (changed_record (Lock d)) used (seen a)) → Becomes b c (changed_each (changed_record (Lock d)) read (seen b)) → Becomes a c (ledger.with_locks (seen a) d used read)
-locked a b c d used read one two = becomes_same a c _ _ (locks d used read (seen a)) (after a b c (changed_each (changed_record (Lock d)) used) (changed_each (changed_record (Lock d)) read) one two)
+locked a b c d used read one two = becomes_same a c _ _ (locks d used read (seen a))
+    (after voting a b c (changed_each (changed_record (Lock d)) used) (changed_each (changed_record (Lock d)) read) (lock_lifts d used) (lock_lifts d read) one two)
 
 abbrev released_all : List Piece → Table → Table
 released_all ps t = changed_each (changed_record Release) ps t
+
+release_lifts : (d : Bytes) (ps : List Piece) → Lifts (deciding d) (released_all ps)
+release_lifts d ps t = each_gains (deciding d) (changed_record Release) (releases_gain d) ps t
+
+use_lifts : (d : Bytes) (ps : List Piece) → Lifts (deciding d) (changed_each (changed_record (UseUp d)) ps)
+use_lifts d ps t = each_gains (deciding d) (changed_record (UseUp d)) (uses_gain d) ps t
+
+make_lifts : (d : Bytes) (read made : List Piece) → Lifts (deciding d) (appeared_each read made)
+make_lifts d read made t = made_gain (deciding d) (appears_gain d) read made t
+
+note_lifts : (d session : Bytes) (vote : ledger.Vote) (anchor : Key) → Lifts (deciding d) (changed (noted_record session vote) anchor)
+note_lifts d session vote anchor t = one_gains (deciding d) (noted_record session vote) (notes_gain d session vote) anchor t
 
 -- a book has a place as before
 pub still_place : (a b c : Stored) (used read : List Piece) (k : Key) → Becomes a b (released_all used (seen a)) → Becomes b c (released_all read (seen b)) → ledger.has_place ((seen a).at k).book ≡ true → ledger.has_place ((seen c).at k).book ≡ true
@@ -35,17 +69,24 @@ still_place a b c used read k one two room =
     ∙ room
 
 pub aborted_full : (a b c : Stored) (d : Bytes) (anchor : Key) (used read : List Piece) → ledger.has_place ((seen a).at anchor).book ≡ false → Becomes a b (released_all used (seen a)) → Becomes b c (released_all read (seen b)) → Becomes a c (ledger.with_aborted (seen a) d anchor used read)
-aborted_full a b c d anchor used read full one two = becomes_same a c _ _ (aborts_full d anchor used read (seen a) full) (after a b c (released_all used) (released_all read) one two)
+aborted_full a b c d anchor used read full one two = becomes_same a c _ _ (aborts_full d anchor used read (seen a) full)
+    (after (deciding d) a b c (released_all used) (released_all read) (release_lifts d used) (release_lifts d read) one two)
 
 pub aborted_noted : (a b c e : Stored) (d : Bytes) (anchor : Key) (used read : List Piece) → ledger.has_place ((seen a).at anchor).book ≡ true → Becomes a b (released_all used (seen a)) → Becomes b c (released_all read (seen b)) → Becomes c e (changed (noted_record d ledger.Commit) anchor (seen c)) → Becomes a e (ledger.with_aborted (seen a) d anchor used read)
 aborted_noted a b c e d anchor used read room one two three =
     becomes_same a e _ _ (aborts_noted d anchor used read (seen a) room)
-    (after a c e (λ t. released_all read (released_all used t)) (changed (noted_record d ledger.Commit) anchor) (after a b c (released_all used) (released_all read) one two) three)
+    (after (deciding d) a c e (λ t. released_all read (released_all used t)) (changed (noted_record d ledger.Commit) anchor)
+    (both_lift (deciding d) (released_all used) (released_all read) (release_lifts d used) (release_lifts d read))
+    (note_lifts d d ledger.Commit anchor)
+    (after (deciding d) a b c (released_all used) (released_all read) (release_lifts d used) (release_lifts d read) one two) three)
 
 pub carried : (a b c e : Stored) (d : Bytes) (used read made : List Piece) → Becomes a b (released_all read (seen a)) → Becomes b c (changed_each (changed_record (UseUp d)) used (seen b)) → Becomes c e (appeared_each read made (seen c)) → Becomes a e (accepted d used read made (seen a).next (seen a))
 carried a b c e d used read made one two three =
     becomes_same a e _ _ (accepts d used read made (seen a))
-    (after a c e (λ t. changed_each (changed_record (UseUp d)) used (released_all read t)) (appeared_each read made) (after a b c (released_all read) (changed_each (changed_record (UseUp d)) used) one two) three)
+    (after (deciding d) a c e (λ t. changed_each (changed_record (UseUp d)) used (released_all read t)) (appeared_each read made)
+    (both_lift (deciding d) (released_all read) (changed_each (changed_record (UseUp d)) used) (release_lifts d read) (use_lifts d used))
+    (make_lifts d read made)
+    (after (deciding d) a b c (released_all read) (changed_each (changed_record (UseUp d)) used) (release_lifts d read) (use_lifts d used) one two) three)
 
 -- ---- the vote on a session, by its cases
 

@@ -1,5 +1,5 @@
 -- Of a record that is stored something is known.
-use Rattle.std.proofs.Common.{◌≡◌, ℕ, Bool, true, false, List, [], ◌∷◌, map, refl, sym, ap, ◌∙◌, length, ◌≤◌, ◌<◌, ◌+◌, nat_lt, arith}
+use Rattle.std.proofs.Common.{◌≡◌, ℕ, Bool, true, false, List, [], ◌∷◌, map, refl, sym, ap, ◌∙◌, length, ◌≤◌, ◌+◌, arith}
 use Rattle.std.specs.Prelude.{◌↔◌}
 use Rattle.std.proofs.lemmas.Bool.{both_ways, ltb-true, lt-ltb}
 use Rattle.std.proofs.lemmas.List.{length-map}
@@ -9,7 +9,7 @@ use Rattle.cs_tx_form.specs.declared.state.State.{State}
 use Rattle.cs_tx_form.specs.declared.state.State.TheVariants as state
 use Rattle.cs_tx_form.specs.declared.record.Record.{Record}
 use Rattle.cs_ledger.specs.Table as ledger
-use Rattle.cs_table.specs.Seen.{seen_place, seen_state, seen_record, unknown_record, IsKept}
+use Rattle.cs_table.specs.Seen.{seen_place, seen_state, seen_record, unknown_record}
 
 nil_from : (book : List (List ℕ × Vote)) → map seen_place book ≡ [] → book ≡ []
 nil_from [] is = refl

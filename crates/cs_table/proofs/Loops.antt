@@ -2,50 +2,58 @@
 use Rattle.std.proofs.Common.{◌≡◌, ℕ, suc, ◌+◌, ◌<◌, Bool, true, false, if◌then◌else◌, List, [], ◌∷◌, length, get_or, drop, map, add-one, drop-cons, refl, sym, ap, ◌∙◌, subst}
 use Rattle.cs_ledger.specs.Ledger.{Bytes}
 use Rattle.cs_ledger.specs.Session.{Piece as Carried, has_key}
-use Rattle.cs_ledger.specs.Table.{Table}
+use Rattle.cs_ledger.specs.Table.{Record, Table}
 use Rattle.cs_table.specs.declared.piece.Piece.{Piece}
 use Rattle.cs_tx.specs.Sessions.{key_seen}
 use Rattle.cs_table.specs.Seen.{Stored, seen, seen_piece}
 use Rattle.cs_table.specs.Changes.{Marks, Becomes, changed, appeared_record, appeared_each}
+use Rattle.cs_table.proofs.Weights.{AllGain, all_stay, all_after}
 use Rattle.cs_table.proofs.Marked.{marks_self, marks_after}
 
-pub record Left (change : List Carried → Table → Table) (rest all : List Piece) (old now : Stored) : Type 0 where
+pub record Left (weight : Record → ℕ) (change : List Carried → Table → Table) (rest all : List Piece) (old now : Stored) : Type 0 where
   pub shows : change (map seen_piece rest) (seen now) ≡ change (map seen_piece all) (seen old)
   pub shards : now.shards ≡ old.shards
   pub shard : now.shard ≡ old.shard
   pub marks : Marks old now
+  pub gains : AllGain weight (seen old) (seen now)
 
 next : {X : Type 0} (xs : List X) (i : ℕ) (x : X) → i < length xs → x ≡ get_or xs i x → drop i xs ≡ x ∷ drop (i + 1) xs
 next xs i x lt is = rw add-one (drop-cons xs i x lt ∙ ap (λ y. y ∷ drop (suc i) xs) (sym is))
 
-pub left_begins : (change : List Carried → Table → Table) (all : List Piece) (old : Stored) → Left change all all old old
-left_begins change all old = record { shows = refl; shards = refl; shard = refl; marks = marks_self old }
+pub left_begins : (weight : Record → ℕ) (change : List Carried → Table → Table) (all : List Piece) (old : Stored) → Left weight change all all old old
+left_begins weight change all old = record { shows = refl; shards = refl; shard = refl; marks = marks_self old; gains = all_stay weight (seen old) }
 
 -- one piece less
-module _ (change : List Carried → Table → Table) (all : List Piece) (i : ℕ) (p : Piece) (old now : Stored) (lt : i < length all) (is : p ≡ get_or all i p)
-    (so_far : Left change (drop i all) all old now) where
+module _ (weight : Record → ℕ) (change : List Carried → Table → Table) (all : List Piece) (i : ℕ) (p : Piece) (old now : Stored) (lt : i < length all) (is : p ≡ get_or all i p)
+    (so_far : Left weight change (drop i all) all old now) where
   rest : change (seen_piece p ∷ map seen_piece (drop (i + 1) all)) (seen now) ≡ change (map seen_piece all) (seen old)
   rest = subst (λ (ps : List Piece). change (map seen_piece ps) (seen now) ≡ change (map seen_piece all) (seen old)) (next all i p lt is) so_far.shows
 
+  more : (later : Stored) (step : Table → Table) → ((t : Table) → AllGain weight t (step t)) → Becomes now later (step (seen now)) → AllGain weight (seen now) (seen later)
+  more later step gains did = subst (λ (t : Table). AllGain weight (seen now) t) (sym did.shows) (gains (seen now))
+
   pub left_more : (later : Stored) (step : Table → Table) → ((ps : List Carried) (t : Table) → change (seen_piece p ∷ ps) t ≡ change ps (step t))
-      → Becomes now later (step (seen now)) → Left change (drop (i + 1) all) all old later
-  left_more later step unfolds did = record {
+      → ((t : Table) → AllGain weight t (step t))
+      → Becomes now later (step (seen now)) → Left weight change (drop (i + 1) all) all old later
+  left_more later step unfolds gains did = record {
     shows = ap (change (map seen_piece (drop (i + 1) all))) did.shows ∙ sym (unfolds (map seen_piece (drop (i + 1) all)) (seen now)) ∙ rest;
     shards = did.shards ∙ so_far.shards;
     shard = did.shard ∙ so_far.shard;
-    marks = marks_after old now later so_far.marks did.marks;
+    marks = marks_after weight old now later so_far.gains (more later step gains did) so_far.marks did.marks;
+    gains = all_after weight (seen old) (seen now) (seen later) so_far.gains (more later step gains did);
   }
 
-  pub left_same : ((ps : List Carried) (t : Table) → change (seen_piece p ∷ ps) t ≡ change ps t) → Left change (drop (i + 1) all) all old now
+  pub left_same : ((ps : List Carried) (t : Table) → change (seen_piece p ∷ ps) t ≡ change ps t) → Left weight change (drop (i + 1) all) all old now
   left_same unfolds = record {
     shows = sym (unfolds (map seen_piece (drop (i + 1) all)) (seen now)) ∙ rest;
     shards = so_far.shards;
     shard = so_far.shard;
     marks = so_far.marks;
+    gains = so_far.gains;
   }
 
-pub left_none : (change : List Carried → Table → Table) (left_over all : List Piece) (old now : Stored) → ((t : Table) → change [] t ≡ t) → left_over ≡ [] → Left change left_over all old now → Becomes old now (change (map seen_piece all) (seen old))
-left_none change left_over all old now ends none left = record {
+pub left_none : (weight : Record → ℕ) (change : List Carried → Table → Table) (left_over all : List Piece) (old now : Stored) → ((t : Table) → change [] t ≡ t) → left_over ≡ [] → Left weight change left_over all old now → Becomes old now (change (map seen_piece all) (seen old))
+left_none weight change left_over all old now ends none left = record {
   shows = sym (ends (seen now)) ∙ ap (λ (ps : List Piece). change (map seen_piece ps) (seen now)) (sym none) ∙ left.shows;
   shards = left.shards;
   shard = left.shard;

@@ -1,8 +1,8 @@
--- Which keys are touched, and that the others keep their records.
-use Rattle.std.proofs.Common.{◌≡◌, Bool, true, false, ◌||◌, ◌&&◌, if◌then◌else◌, cond, List, [], ◌∷◌, ◌++◌, refl, sym, ap, ◌∙◌, subst}
+-- Which keys are touched: those whose records changed.
+use Rattle.std.proofs.Common.{◌≡◌, Bool, true, false, ◌||◌, ◌&&◌, if◌then◌else◌, ℕ, cond, List, [], ◌∷◌, ◌++◌, length, length-append, arith, inl, inr, refl, sym, ap, ◌∙◌, subst}
 use Rattle.std.specs.List.{list_any}
 use Rattle.std.specs.BTreeMap.{is_at}
-use Rattle.std.proofs.lemmas.Bool.{both_ways}
+use Rattle.std.proofs.lemmas.Bool.{both_ways, cases_Bool}
 use Rattle.cs_base.specs.declared.key.Key.{Key}
 use Rattle.cs_base.specs.declared.key.Key.TheVariants as key
 use Rattle.cs_ledger.specs.Ledger.{Bytes}
@@ -16,20 +16,37 @@ use Rattle.cs_table.specs.declared.change.Change.TheVariants.{Lock, Release, Use
 use Rattle.cs_table.specs.Seen.{Stored, seen, has_name, is_under, unknown_record}
 use Rattle.cs_table.specs.Changes.{Marks, changed, changed_record, appeared_record, noted_record}
 use Rattle.cs_table.proofs.Rows.{key_cmp, same_key, key_sym}
+use Rattle.cs_table.proofs.Weights.{AllGain, never_back}
 
 -- ---- one step after another
 
 pub marks_self : (a : Stored) → Marks a a
-marks_self a = record { untouched = λ name h. (h, refl); known = λ name h. h }
+marks_self a = record { untouched = λ name h. (h, refl); touched = λ name late early. absurd (both_ways _ early late); known = λ name h. h }
 
-pub marks_after : (a b c : Stored) → Marks a b → Marks b c → Marks a c
-marks_after a b c one two = record {
+-- what one step changed, the next doesn't bring back
+abbrev NeverBack : Table → Table → Table → Type 0
+NeverBack t u v = (name : ledger.Key) → (u.at name ≡ t.at name → ⊥) → v.at name ≡ t.at name → ⊥
+
+marks_chain : (a b c : Stored) → NeverBack (seen a) (seen b) (seen c) → Marks a b → Marks b c → Marks a c
+marks_chain a b c never one two = record {
   untouched = λ name h.
       let late = two.untouched name h in
       let early = one.untouched name late.0 in
       (early.0, late.1 ∙ early.1);
+  touched = λ name late early back. elim (cases_Bool (has_name b.touched name)) [
+    | inl mid ↦ never name (one.touched name mid early) back
+    | inr mid ↦ two.touched name late mid (back ∙ sym (one.untouched name mid).1)
+  ];
   known = λ name h. one.known name (two.known name h);
 }
+
+pub marks_after : (weight : Record → ℕ) (a b c : Stored) → AllGain weight (seen a) (seen b) → AllGain weight (seen b) (seen c) → Marks a b → Marks b c → Marks a c
+marks_after weight a b c first second =
+    marks_chain a b c (λ name. never_back weight ((seen a).at name) ((seen b).at name) ((seen c).at name) (first.each name) (second.each name))
+
+-- after a step that changes no record
+pub marks_same : (a b c : Stored) → ((name : ledger.Key) → (seen b).at name ≡ (seen a).at name) → Marks a b → Marks b c → Marks a c
+marks_same a b c same = marks_chain a b c (λ name differs back. differs (same name))
 
 -- ---- the record of one key
 
@@ -42,6 +59,15 @@ if_kept true true r s h same = absurd (both_ways true h refl)
 if_kept true false r s h same = same refl refl
 if_kept false moved r s h same = refl
 
+if_first : (b : Bool) (r s : Record) → b ≡ true → (if b then r else s) ≡ r
+if_first true r s h = refl
+if_first false r s h = absurd (both_ways false refl h)
+
+moved_here : (x moved here : Bool) → (x || (moved && here)) ≡ true → x ≡ false → (moved ≡ true) × (here ≡ true)
+moved_here true moved here h unmoved = absurd (both_ways true unmoved refl)
+moved_here false true here h unmoved = (refl, h)
+moved_here false false here h unmoved = absurd (both_ways false refl h)
+
 if_known : (b : Bool) (r s : Record) → (r ≡ unknown_record → s ≡ unknown_record) → (if b then r else s) ≡ unknown_record → s ≡ unknown_record
 if_known true r s known h = known h
 if_known false r s known h = h
@@ -49,9 +75,10 @@ if_known false r s known h = h
 pub marks_at : (a b c : Stored) (f : Record → Record) (k : ledger.Key) (moved : Bool) → seen c ≡ changed f k (seen a) → b.touched ≡ a.touched
     → ((name : ledger.Key) → has_name c.touched name ≡ (has_name b.touched name || (moved && ledger.key_eq name k)))
     → (moved ≡ false → f ((seen a).at k) ≡ (seen a).at k)
+    → (moved ≡ true → f ((seen a).at k) ≡ (seen a).at k → ⊥)
     → ((r : Record) → f r ≡ unknown_record → r ≡ unknown_record)
     → Marks a c
-marks_at a b c f k moved shows same touched stays known = record {
+marks_at a b c f k moved shows same touched stays moves known = record {
   untouched = λ name h.
       let parts = or_false (has_name a.touched name) (moved && ledger.key_eq name k)
       (sym (touched name ∙ ap (λ (ts : List Key). has_name ts name || (moved && ledger.key_eq name k)) same) ∙ h) in (
@@ -60,6 +87,12 @@ marks_at a b c f k moved shows same touched stays known = record {
             ∙ if_kept (ledger.key_eq name k) moved (f ((seen a).at name)) ((seen a).at name) parts.1
             (λ here unmoved. subst (λ (z : ledger.Key). f ((seen a).at z) ≡ (seen a).at z) (sym (basics.same_key name k here)) (stays unmoved)),
       );
+  touched = λ name late early back.
+      let parts = moved_here (has_name a.touched name) moved (ledger.key_eq name k)
+      (sym (touched name ∙ ap (λ (ts : List Key). has_name ts name || (moved && ledger.key_eq name k)) same) ∙ late) early in
+      let stays_here : f ((seen a).at name) ≡ (seen a).at name =
+      sym (if_first (ledger.key_eq name k) (f ((seen a).at name)) ((seen a).at name) parts.1) ∙ sym (ap (λ (t : Table). t.at name) shows) ∙ back in
+      moves parts.0 (subst (λ (z : ledger.Key). f ((seen a).at z) ≡ (seen a).at z) (basics.same_key name k parts.1) stays_here);
   known = λ name h.
       if_known (ledger.key_eq name k) (f ((seen a).at name)) ((seen a).at name) (known ((seen a).at name))
       (sym (ap (λ (t : Table). t.at name) shows) ∙ h);
@@ -108,6 +141,13 @@ no_push (y ∷ xs) x h = let no_way = h in cc
 
 pub noted_known : (d : Bytes) (vote : Vote) (r : Record) → noted_record d vote r ≡ unknown_record → r ≡ unknown_record
 noted_known d vote r h = absurd (no_push r.book (d, vote) (in_book (noted_record d vote r) h))
+
+-- a vote more is another record
+pub noted_other : (d : Bytes) (vote : Vote) (r : Record) → noted_record d vote r ≡ r → ⊥
+noted_other d vote r h = longer r.book (d, vote) (ap (λ (x : Record). x.book) h)
+  where
+    longer : {X : Type 0} (xs : List X) (x : X) → xs ++ x ∷ [] ≡ xs → ⊥
+    longer xs x e = let more = length-append xs (x ∷ []) in let even : length (xs ++ x ∷ []) ≡ length xs = ap length e in omega (arith, more, even)
 
 -- ---- a key that is touched
 

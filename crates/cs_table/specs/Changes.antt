@@ -1,5 +1,5 @@
 -- What the calls do to one record, and to the records of several keys.
-use Rattle.std.specs.Prelude.{◌≡◌, ℕ, false, if◌then◌else◌, List, [], ◌∷◌, ◌++◌}
+use Rattle.std.specs.Prelude.{◌≡◌, ℕ, true, false, if◌then◌else◌, List, [], ◌∷◌, ◌++◌}
 use Rattle.cs_ledger.specs.Ledger.{Bytes}
 use Rattle.cs_ledger.specs.Session.{Key, Piece, key_eq, has_key}
 use Rattle.cs_ledger.specs.Table.{Vote, State, Inactive, Record, Table, locked, released, appeared}
@@ -51,13 +51,16 @@ pub record Shows (old new : Stored) (table : Table) : Type 0 where
   pub shards : new.shards ≡ old.shards
   pub shard : new.shard ≡ old.shard
 
--- A key that isn't touched wasn't so before, and has the record that it had; and nothing that was known is forgotten.
+-- A key that isn't touched wasn't so before, and has the record that it had; one that is touched now and wasn't so before
+-- has another record than it had; and nothing that was known is forgotten.
 pub record Marks (old new : Stored) : Type 0 where
   pub untouched : (name : Key) → has_name new.touched name ≡ false →
       (has_name old.touched name ≡ false) × ((seen new).at name ≡ (seen old).at name)
+  pub touched : (name : Key) → has_name new.touched name ≡ true → has_name old.touched name ≡ false →
+      (seen new).at name ≡ (seen old).at name → ⊥
   pub known : (name : Key) → (seen new).at name ≡ unknown_record → (seen old).at name ≡ unknown_record
 
--- A stored table became one that shows this, of the same shard, with the keys touched whose records changed.
+-- A stored table became one that shows this, of the same shard, with those keys touched anew whose records changed.
 pub record Becomes (old new : Stored) (table : Table) : Type 0 where
   pub shows : seen new ≡ table
   pub shards : new.shards ≡ old.shards

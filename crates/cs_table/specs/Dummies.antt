@@ -4,8 +4,7 @@ use Rattle.cs_base.specs.declared.key.Key.{Key}
 use Rattle.cs_tx_form.specs.declared.state.State.{State}
 use Rattle.cs_tx_form.specs.declared.state.State.TheVariants as state
 use Rattle.cs_ledger.specs.Session as ledger
-use Rattle.cs_ledger.specs.Table.{Active, Table, has_active_dummy}
-use Rattle.cs_ledger.specs.Table as table
+use Rattle.cs_ledger.specs.Table.{Table, has_active_dummy}
 use Rattle.cs_tx_form.specs.declared.record.Record.{Record}
 
 -- an object is there, which no session holds

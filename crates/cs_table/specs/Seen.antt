@@ -4,7 +4,6 @@ use Rattle.std.specs.List.{AllByRecursion, list_any}
 use Rattle.std.specs.Map.{lookup}
 use Rattle.cs_base.specs.declared.limits.TheConstants.{MOST_PLACES}
 use Rattle.cs_base.specs.declared.key.Key.{Key}
-use Rattle.cs_base.specs.declared.key.Key.TheVariants as key
 use Rattle.cs_tx_value.specs.Object.{object_encoding, ObjectFits}
 use Rattle.cs_tx_form.specs.declared.vote.Vote.{Vote}
 use Rattle.cs_tx_form.specs.declared.vote.Vote.TheVariants as vote

@@ -35,7 +35,8 @@ pub(crate) fn is_unknown(row: &Record) -> bool
 
 // Whether a change gives another state.
 fn is_moved(state: &State, change: Change) -> bool
-    ensures { result ≡ false → changed_state change (seen_state state.now) ≡ seen_state state.now }
+    ensures { (result ≡ false)
+        ↔ (changed_state change (seen_state state.now) ≡ seen_state state.now) }
 {
     match change {
         Change::Lock(_) => match state {
@@ -58,7 +59,7 @@ pub(crate) fn change(row: &mut Record, change: Change) -> bool
     ensures now { seen_record row.new ≡ changed_record change (seen_record row.old) }
     ensures fits { HoldsFit row.old.state → HoldsFit row.new.state }
     ensures book { row.new.book ≡ row.old.book }
-    ensures same { result ≡ false → seen_record row.new ≡ seen_record row.old }
+    ensures same { (result ≡ false) ↔ (seen_record row.new ≡ seen_record row.old) }
 {
     let moved = is_moved(&row.state, change);
     let state = mem::replace(&mut row.state, State::Unknown);
@@ -76,7 +77,7 @@ pub(crate) fn appear(row: &mut Record, object: Object) -> bool
         ≡ appeared_record (object_encoding object) (seen_record row.old) }
     ensures fits { ObjectFits object → HoldsFit row.old.state → HoldsFit row.new.state }
     ensures book { row.new.book ≡ row.old.book }
-    ensures same { result ≡ false → seen_record row.new ≡ seen_record row.old }
+    ensures same { (result ≡ false) ↔ (seen_record row.new ≡ seen_record row.old) }
 {
     if let State::Unknown = row.state {
         row.state = State::Active(object);

@@ -1,4 +1,5 @@
 use Rattle.std.proofs.Common.{◌≤◌, List, length, sym, ap, ◌∙◌, subst}
+use Rattle.std.proofs.lemmas.Bool.{both_ways}
 use Rattle.cs_base.specs.declared.limits.TheConstants.{MOST_PLACES}
 use Rattle.cs_tx_form.specs.Record.{Place}
 use Rattle.cs_tx_value.specs.Object.{object_encoding}
@@ -19,7 +20,8 @@ returns c =
     let shown = becomes_again c.args.self.now c.take-row.new.self c.put.new.self change (key_seen c.args.key.now) (seen_record c.appear-moved.new.row) c.take-row.ensures.left c.in_ok-put.ensures.shown is in
     with_marks c.args.self.now c.put.new.self _ shown
     (marks_at c.args.self.now c.take-row.new.self c.put.new.self change (key_seen c.args.key.now) c.appear-moved.result shown.shows c.take-row.ensures.touched c.in_ok-put.ensures.touched
-    (λ unmoved. sym is ∙ c.appear-moved.ensures.same unmoved ∙ c.take-row.ensures.row)
+    (λ unmoved. sym is ∙ c.appear-moved.ensures.same.0 unmoved ∙ c.take-row.ensures.row)
+    (λ moved back. both_ways c.appear-moved.result (c.appear-moved.ensures.same.1 (is ∙ back ∙ sym c.take-row.ensures.row)) moved)
     (appears_known (object_encoding c.args.object)))
 
 pub put-requires-clause-fits : goal.put-requires-clause-fits

@@ -1,4 +1,5 @@
 use Rattle.std.proofs.Common.{◌≤◌, List, length, sym, ap, ◌∙◌, subst}
+use Rattle.std.proofs.lemmas.Bool.{both_ways}
 use Rattle.cs_base.specs.declared.limits.TheConstants.{MOST_PLACES}
 use Rattle.cs_tx_form.specs.Record.{Place}
 use Rattle.cs_table.specs.Seen.{seen_record}
@@ -17,7 +18,8 @@ returns c =
     let shown = becomes_again c.args.self.now c.take-row.new.self c.put.new.self (changed_record c.args.change) (key_seen c.args.key.now) (seen_record c.change-moved.new.row) c.take-row.ensures.left c.in_ok-put.ensures.shown is in
     with_marks c.args.self.now c.put.new.self _ shown
     (marks_at c.args.self.now c.take-row.new.self c.put.new.self (changed_record c.args.change) (key_seen c.args.key.now) c.change-moved.result shown.shows c.take-row.ensures.touched c.in_ok-put.ensures.touched
-    (λ unmoved. sym is ∙ c.change-moved.ensures.same unmoved ∙ c.take-row.ensures.row)
+    (λ unmoved. sym is ∙ c.change-moved.ensures.same.0 unmoved ∙ c.take-row.ensures.row)
+    (λ moved back. both_ways c.change-moved.result (c.change-moved.ensures.same.1 (is ∙ back ∙ sym c.take-row.ensures.row)) moved)
     (changed_known c.args.change))
 
 pub put-requires-clause-fits : goal.put-requires-clause-fits

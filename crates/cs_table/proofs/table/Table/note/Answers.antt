@@ -5,7 +5,7 @@ use Rattle.cs_table.proofs.Known.{one_more}
 use Rattle.cs_tx.specs.Sessions.{key_seen}
 use Rattle.cs_table.specs.Changes.{noted_record}
 use Rattle.cs_table.proofs.Rows.{becomes_again, gone, with_marks}
-use Rattle.cs_table.proofs.Marked.{marks_at, noted_known}
+use Rattle.cs_table.proofs.Marked.{marks_at, noted_known, noted_other}
 use Rattle.cs_table.proofs.table.Table.note.Goals as goal
 
 pub put-requires-clause-gone : goal.put-requires-clause-gone
@@ -18,6 +18,7 @@ returns c =
     with_marks c.args.self.now c.put.new.self _ shown
     (marks_at c.args.self.now c.take-row.new.self c.put.new.self change (key_seen c.args.key.now) true shown.shows c.take-row.ensures.touched c.in_ok-put.ensures.touched
     (λ unmoved. absurd (both_ways true unmoved (λ i. true)))
+    (λ _. noted_other c.args.session (vote_of c.args.vote) (shown_at c.args.self.now c.args.key.now))
     (noted_known c.args.session (vote_of c.args.vote)))
 
 pub put-requires-clause-fits : goal.put-requires-clause-fits
