@@ -4,6 +4,9 @@
 //! spends so many of them, each by a session that is prepared in so many rounds and decided once.
 //! `merkle LEAVES ROUNDS` makes so many leaves of 100 bytes and computes their root in so many rounds.
 //! `root OBJECTS ROUNDS` makes a shard of so many coins and computes the root over its records in so many rounds.
+//! `checkpoints OBJECTS SLOTS KEYS` makes a node of one shard with so many coins and closes so many slots, in which coins are
+//! prepared where KEYS is `old`, and prepared and decided where it is `new`; `executions OBJECTS SLOTS KEYS` does
+//! the same, and closes none.
 //! `slots F COUNT` chooses so many entries among 3F+1 members, of 16 at most, with all messages delivered.
 //! `hostile VIEWS` lets five liars of 16 members fill so many views, at most 1,024, of the open slot and the 15 above,
 //! chooses 11 slots, and the same where the liars are silent, and prints one line of numbers: the liars' messages
@@ -14,10 +17,11 @@
 //! kind being `tag` or `digest`, and prints a number that comes of all hashes.
 //! `parse METHODS COUNT` reads a contract text of so many methods, at most 64, of 1,024 bytes each so
 //! many times, and `accept METHODS COUNT` also accepts it.
-//! Else it prints nothing; the status is 0, or 1 where not every entry was chosen, not every datagram sealed or
+//! Else it prints nothing; the status is 0, or 1 where not every entry was chosen or executed, not every datagram sealed or
 //! opened or not every text read or accepted, or 2 for other words, or 8 for want of memory.
 #![tactic(auto)]
 
+mod checkpoints;
 mod datagrams;
 mod hashes;
 mod hostile;
@@ -26,6 +30,7 @@ mod merkle;
 mod slots;
 mod table;
 
+use checkpoints::Measured;
 use cs_base::Memory;
 use datagrams::{open_often, seal_often};
 use hashes::{Kind, Row, hash_row};
@@ -70,6 +75,15 @@ fn run(rt: &HostRuntime, words: &[String]) -> Result<u8, Memory> {
         [first, rows @ ..] if first.as_str() == "hash" => run_hashes(rt, rows),
         [first, objects, sessions, rounds] if first.as_str() == "table" => {
             run_table(alloc, number(objects), number(sessions), number(rounds))
+        }
+        [first, objects, slots, keys] => {
+            run_slots(
+                alloc,
+                first.as_str(),
+                number(objects),
+                number(slots),
+                keys.as_str(),
+            )
         }
         [first, size, count] => run_sized(alloc, first.as_str(), number(size), number(count)),
         _ => Ok(OTHER_WORDS),
@@ -131,6 +145,37 @@ fn run_table(
     };
     table::run(alloc, objects, sessions, rounds)?;
     Ok(DONE)
+}
+
+// Slots that are executed, and closed where checkpoints are measured.
+fn run_slots(
+    alloc: Global,
+    word: &str,
+    objects: Option<u32>,
+    slots: Option<u32>,
+    keys: &str,
+) -> Result<u8, Memory> {
+    let (Some(objects), Some(slots)) = (objects, slots) else {
+        return Ok(OTHER_WORDS);
+    };
+    let closes = match word {
+        "checkpoints" => true,
+        "executions" => false,
+        _ => return Ok(OTHER_WORDS),
+    };
+    let decides = match keys {
+        "old" => false,
+        "new" => true,
+        _ => return Ok(OTHER_WORDS),
+    };
+    let measured = Measured {
+        objects,
+        slots,
+        decides,
+        closes,
+    };
+    let all = checkpoints::run(alloc, &measured)?;
+    Ok(if all { DONE } else { NOT_ALL })
 }
 
 // What is done so many times with something of a size.

@@ -22,7 +22,8 @@ fn add_coin(alloc: Global, objects: &mut Vec<(Key, Object)>, place: u32) -> Resu
     Ok(())
 }
 
-fn coins(alloc: Global, count: u32) -> Result<Vec<(Key, Object)>, Memory>
+/// So many coins, each under its key.
+pub fn coins(alloc: Global, count: u32) -> Result<Vec<(Key, Object)>, Memory>
     ensures { IfOk result (λ objects. All (λ item. ObjectFits item.1) objects.items) }
 {
     let mut objects = Vec::new(alloc);
@@ -41,7 +42,7 @@ fn again(alloc: Global, object: &Object) -> Result<Object, Memory> {
 }
 
 /// A session that spends a coin and makes it anew.
-fn session(alloc: Global, name: Digest, object: &Object) -> Result<Session, Memory> {
+pub fn session(alloc: Global, name: Digest, object: &Object) -> Result<Session, Memory> {
     let mut transfer = Transfer::new(alloc);
     transfer.inputs.push((name, again(alloc, object)?))?;
     transfer.outputs.push(again(alloc, object)?)?;

@@ -1,0 +1,104 @@
+//! Slots of one shard that are executed, and closed in the chain of its checkpoints.
+ghost use Rattle.std.specs.Prelude.{All};
+ghost use Rattle.cs_tx_value.specs.Object.{ObjectFits};
+
+use crate::table::{coins, session};
+use cs_base::{Config, Key, Memory, NodeId};
+use cs_checkpoint::Leaf;
+use cs_sbac::Sbac;
+use cs_table::{Table, TableError};
+use cs_tx::{Encoded, Entry, Object, Session, Vote};
+use std::alloc::Global;
+
+/// What is measured.
+#[derive(Clone, Copy, Drop)]
+pub struct Measured {
+    /// The records of the table at the start.
+    pub objects: u32,
+    pub slots: u32,
+    /// Each coin is prepared, and decided in the slot behind, which makes a new one. Else it is
+    /// prepared alone, which touches its key and no other.
+    pub decides: bool,
+    /// The slots are closed. Else they are executed alone, which is what to take off.
+    pub closes: bool,
+}
+
+// The node of a shard of one, which has these coins.
+fn node(alloc: Global, objects: &[(Key, Object)]) -> Result<Option<Sbac>, Memory>
+    requires { All (λ item. ObjectFits item.1) objects.now }
+{
+    let Ok(config) = Config::new(1, 0, 0) else {
+        return Ok(None);
+    };
+    let me = NodeId { shard: 0, index: 0 };
+    if !config.has_node(me) {
+        return Ok(None);
+    }
+    match Table::genesis(alloc, config, 0, objects) {
+        Ok(table) => Ok(Some(Sbac::new(alloc, config, me, table)?)),
+        Err(TableError::Duplicate(_)) => Ok(None),
+        Err(TableError::Memory) => Err(Memory),
+    }
+}
+
+// Executes an entry as the next slot, and closes it if so wished. It answers whether all was done.
+fn fill(alloc: Global, sbac: &mut Sbac, entry: Entry, closes: bool) -> Result<bool, Memory> {
+    if !entry.fits() {
+        return Ok(false);
+    }
+    let outcome = sbac.execute(alloc, &entry)?;
+    if !closes {
+        return Ok(true);
+    }
+    let leaf = Leaf {
+        slot: sbac.slots(),
+        entry,
+        result: outcome.effect,
+    };
+    if !leaf.fits() || leaf.slot != sbac.slots() {
+        return Ok(false);
+    }
+    sbac.close(alloc, &leaf)?;
+    sbac.forget_touched();
+    Ok(true)
+}
+
+// The entries that spend a coin: so many as are measured of one.
+fn spend(
+    alloc: Global,
+    sbac: &mut Sbac,
+    session: Session,
+    measured: &Measured,
+) -> Result<bool, Memory> {
+    if !session.fits() {
+        return Ok(false);
+    }
+    let copied = session.copy(alloc)?;
+    let done = fill(alloc, sbac, Entry::Prepare(copied), measured.closes)?;
+    if !done || !measured.decides {
+        return Ok(done);
+    }
+    fill(
+        alloc,
+        sbac,
+        Entry::Decide(Vote::Commit, session),
+        measured.closes,
+    )
+}
+
+/// Makes the shard, and fills its slots. It answers whether each was filled.
+pub fn run(alloc: Global, measured: &Measured) -> Result<bool, Memory> {
+    let objects = coins(alloc, measured.objects)?;
+    let Some(mut sbac) = node(alloc, &objects)? else {
+        return Ok(false);
+    };
+    let spent = (measured.slots / if measured.decides { 2 } else { 1 }) as usize;
+    let mut all = spent <= objects.len();
+    for item in objects.iter().take(spent) {
+        if let Key::Object(name) = &item.0 {
+            let session = session(alloc, *name, &item.1)?;
+            all = spend(alloc, &mut sbac, session, measured)? && all;
+        }
+    }
+    Ok(all)
+}
