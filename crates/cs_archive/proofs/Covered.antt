@@ -1,9 +1,9 @@
 -- What a chain proves is the proof of the definition, and fits: its path has four hashes, and its leaf is of the slot
 -- that is asked for.
-use Rattle.std.proofs.Common.{◌≡◌, ℕ, ◌+◌, ◌-◌, ◌*◌, ◌/◌, ◌^◌, ◌<◌, ◌≤◌, Bool, true, false, List, [], length, Some, None, refl, sym, ap, ◌∙◌, arith, append-nil}
-use Rattle.std.specs.Prelude.{if◌then◌else◌, nat_lt}
+use Rattle.std.proofs.Common.{◌≡◌, ℕ, ◌+◌, ◌-◌, ◌*◌, ◌/◌, ◌^◌, ◌<◌, ◌≤◌, Bool, true, false, List, [], length, Some, None, inl, inr, refl, sym, ap, ◌∙◌, arith, append-nil}
+use Rattle.std.specs.Prelude.{if◌then◌else◌, nat_le, nat_lt}
 use Rattle.std.specs.List.{AllByRecursion}
-use Rattle.std.proofs.lemmas.Bool.{lt-ltb, le-ltb}
+use Rattle.std.proofs.lemmas.Bool.{cases_Bool, lt-ltb, le-ltb, le-leb, lt-leb}
 use Rattle.cs_base.specs.Fields.{whole_at}
 use Rattle.cs_merkle.specs.Tree.{split}
 use Rattle.cs_merkle.specs.Path.{length_in, path_length}
@@ -11,7 +11,7 @@ use Rattle.cs_tx_value.specs.Object.{DigestFits}
 use Rattle.cs_tx_form.specs.declared.proof.Proof.{Proof}
 use Rattle.cs_tx_form.specs.Log.{leaf_encoding, leaf_at, CheckpointFits, ProofFits}
 use Rattle.cs_tx_form.specs.laws.Log.{leaf_form}
-use Rattle.cs_checkpoint.specs.Chain.{Log, head_of, checkpoint_of, IsProofOf}
+use Rattle.cs_checkpoint.specs.Chain.{Log, head_of, checkpoint_of, cut_slot, IsProofOf}
 use Rattle.cs_checkpoint.specs.Shown.{Shows}
 use Rattle.cs_check_rules.specs.Proofs.{leaf_in, proof_with, proof_of}
 use Rattle.cs_archive.specs.Archives.{AreInPlace}
@@ -62,18 +62,27 @@ proof_fits log slot p in_place small is shown checkpoint digests =
 
 -- it is the one of the definition
 pub proof_is : (log : Log) (slot : ℕ) (p : Proof) → IsProofOf log slot p → slot < 16 * length log.table_roots →
-    Some p ≡ proof_of log slot
-proof_is log slot p is covered =
+    cut_slot log ≤ slot → Some p ≡ proof_of log slot
+proof_is log slot p is covered uncut =
     let whole : whole_at leaf_at (leaf_encoding p.leaf) ≡ Some p.leaf =
     ap (λ (bytes : List ℕ). whole_at leaf_at bytes) (sym (append-nil (leaf_encoding p.leaf)))
     ∙ rw (leaf_form.again p.leaf [] is.leaf_fits) refl in
     let read : leaf_in log slot ≡ Some p.leaf = rw is.leaf whole in
-    let below : nat_lt (slot / 16) (length log.table_roots) ≡ true = lt-ltb _ _ (omega (arith, covered)) in
+    let above : nat_le (cut_slot log) slot ≡ true = le-leb _ _ uncut in
+    let below : nat_lt slot (16 * length log.table_roots) ≡ true = lt-ltb _ _ covered in
     let same : p ≡ proof_with log slot p.leaf =
     λ i. record { checkpoint = is.checkpoint i; place = is.place i; leaf = p.leaf; path = is.path i } in
-    ap Some same ∙ sym (rw (below, read) refl)
+    ap Some same ∙ sym (rw (above, below, read) refl)
 
 pub not_yet : (log : Log) (slot : ℕ) → 16 * length log.table_roots ≤ slot → None ≡ proof_of log slot
 not_yet log slot past =
-    let above : nat_lt (slot / 16) (length log.table_roots) ≡ false = le-ltb _ _ (omega (arith, past)) in
-    sym (rw above refl)
+    let below : nat_lt slot (16 * length log.table_roots) ≡ false = le-ltb _ _ past in
+    elim (cases_Bool (nat_le (cut_slot log) slot)) [
+      | inl above ↦ sym (rw (above, below) refl)
+      | inr cut ↦ sym (rw cut refl)
+    ]
+
+pub cut_off : (log : Log) (slot : ℕ) → slot < cut_slot log → None ≡ proof_of log slot
+cut_off log slot before =
+    let below : nat_le (cut_slot log) slot ≡ false = lt-leb _ _ before in
+    sym (rw below refl)

@@ -3,7 +3,7 @@ ghost use Rattle.std.specs.Prelude.{◌≡◌, [], ◌==◌, ◌<◌, ◌^◌, l
 ghost use Rattle.cs_tx_form.specs.Log.{LeafFits, leaf_encoding, ProofFits};
 ghost use Rattle.cs_table.specs.Seen.{seen};
 ghost use Rattle.cs_check.specs.Leaves.{HasLeaves, HasLeavesBut};
-ghost use Rattle.cs_checkpoint.specs.Chain.{empty_log, with_slot, made_last};
+ghost use Rattle.cs_checkpoint.specs.Chain.{empty_log, with_slot, made_last, kept_of, AtItsLog};
 ghost use Rattle.cs_check.specs.Root.{keys_in};
 ghost use Rattle.cs_check_rules.specs.Root.{root_under};
 ghost use Rattle.cs_check_rules.specs.Proofs.{proof_of};
@@ -30,20 +30,20 @@ pub struct Archive {
 
 impl Model for Archive {
     ghost use Rattle.std.specs.Prelude.{◌≡◌, true};
-    ghost use Rattle.cs_archive.specs.Archives.{Archived, AreInPlace};
+    ghost use Rattle.cs_archive.specs.Archives.{Archived, IsOfLog};
 
     ghost Value = { Archived };
 
-    ghost view = { λ a. record { log = a.chain.log; hashed = a.chain.hashed; heads = a.heads.items } };
+    ghost view = { λ a. record { kept = a.chain.kept; hashed = a.chain.hashed; heads = a.heads.items } };
 
-    ghost invariant = { λ a. a.is_whole ≡ true → AreInPlace a.chain.log.leaves };
+    ghost invariant = { λ a. a.is_whole ≡ true → IsOfLog a.chain.kept };
 }
 
 impl Archive {
     /// Nothing was executed on the table of the shard, and nothing told.
     pub fn new(alloc: Global, shard: u16, table: &Table) -> Result<Archive, Memory>
         ensures archive { IfOk result (λ archive. archive
-            ≡ record { log = empty_log shard; hashed = archive.hashed; heads = [] }) }
+            ≡ record { kept = kept_of (empty_log shard); hashed = archive.hashed; heads = [] }) }
         ensures leaves { IfOk result (λ archive. HasLeaves archive.hashed (seen table.now)) }
     {
         let chain = Chain::new(alloc, shard, table)?;
@@ -56,14 +56,14 @@ impl Archive {
 
     /// How many slots were executed.
     pub fn slots(&self) -> u64
-        ensures { result ≡ length self.now.log.leaves }
+        ensures { result ≡ self.now.kept.slots }
     {
         self.chain.slots()
     }
 
     /// The chain of its slots.
     pub fn chain(&self) -> &Chain
-        ensures { result.now.log ≡ self.now.log }
+        ensures { result.now.kept ≡ self.now.kept }
     {
         &self.chain
     }
@@ -77,12 +77,15 @@ impl Archive {
         table: &Table,
     ) -> Result<Option<Checkpoint>, Memory>
         requires fits { LeafFits leaf.now }
-        requires next { leaf.now.slot ≡ length self.old.log.leaves }
+        requires next { leaf.now.slot ≡ self.old.kept.slots }
         requires known { HasLeavesBut table.now.touched self.old.hashed (seen table.now) }
         ensures log { let root = root_under (keys_in table.now.rows) (seen table.now) in
-            OnOk result (self.new.log ≡ with_slot (leaf_encoding leaf.now) root self.old.log) }
+            AtItsLog self.old.kept (λ log. OnOk result
+            (self.new.kept ≡ kept_of (with_slot (leaf_encoding leaf.now) root log))) }
         ensures heads { OnOk result (self.new.heads ≡ self.old.heads) }
-        ensures made { IfOk result (λ made. made ≡ made_last self.new.log) }
+        ensures made { let root = root_under (keys_in table.now.rows) (seen table.now) in
+            AtItsLog self.old.kept (λ log. IfOk result (λ made.
+            made ≡ made_last (with_slot (leaf_encoding leaf.now) root log))) }
         ensures leaves { OnOk result (HasLeaves self.new.hashed (seen table.now)) }
     {
         if !self.is_whole {
@@ -96,9 +99,10 @@ impl Archive {
         Ok(made)
     }
 
-    /// The proof of a slot, where a checkpoint covers it.
+    /// The proof of a slot that isn't cut, where a checkpoint covers it.
     pub fn prove(&self, alloc: Global, slot: u64) -> Result<Option<Proof>, Memory>
-        ensures proof { IfOk result (λ found. found ≡ proof_of self.now.log slot) }
+        ensures proof { AtItsLog self.now.kept
+            (λ log. IfOk result (λ found. found ≡ proof_of log slot)) }
         ensures fits { slot < 2 ^ 62 → IfOk result (λ found. IfSome found ProofFits) }
     {
         if !self.is_whole {
@@ -110,7 +114,7 @@ impl Archive {
                 digests_fit(proof.path.as_slice());
                 Ok(Some(proof))
             }
-            Err(ProveError::NotYet) => Ok(None),
+            Err(ProveError::NotYet | ProveError::Cut) => Ok(None),
             Err(ProveError::Memory) => Err(Memory),
         }
     }

@@ -8,7 +8,8 @@ use Rattle.cs_tx_value.specs.declared.object.Object.{Object}
 use Rattle.cs_tx_form.specs.declared.leaf.Leaf.{Leaf}
 use Rattle.cs_tx_form.specs.declared.transaction.Tx.{Tx}
 use Rattle.cs_ledger.specs.Ledger.{Bytes}
-use Rattle.cs_checkpoint.specs.Chain.{empty_log}
+use Rattle.cs_checkpoint.specs.Chain as chain
+use Rattle.cs_checkpoint.specs.Chain.{empty_log, kept_of}
 use Rattle.cs_node_state.specs.Setup.{Setup}
 use Rattle.cs_node_pool.specs.Deployed.{deployed}
 use Rattle.cs_dump_read.specs.declared.dump.Log.{Log}
@@ -18,7 +19,7 @@ use Rattle.cs_audit_rules.specs.declared.verdict.Rule.{Rule}
 use Rattle.cs_audit_rules.specs.Slots.{fault_at, broken_by, leaves_fault, logs_fault}
 use Rattle.cs_audit_rules.specs.Stands as rules
 use Rattle.cs_audit.specs.declared.stand.Stand.{Stand}
-use Rattle.cs_audit.specs.Standing.{IsPlaced, stand_of, TellsLeaf}
+use Rattle.cs_audit.specs.Standing.{IsPlaced, stand_of, log_with, TellsLeaf}
 use Rattle.cs_audit.specs.Votes.{KeptVotes}
 use Rattle.cs_audit.specs.Kept.{no_votes, noted, digest_in, log_votes, logs_votes, digests_of, TellsLog, Tells}
 use Rattle.cs_audit.specs.declared.logs.Executed.{Executed}
@@ -54,10 +55,12 @@ pub record IsOn (approves : Tx → Bool) (config : Config) (shard : ℕ) (log : 
   pub placed : IsPlaced s
   pub config_is : s.config ≡ config
   pub shard_is : s.shard ≡ shard
-  pub slots : length s.chain.log.leaves ≡ slot
+  pub executed : chain.Log
+  pub kept_is : s.chain.kept ≡ kept_of executed
+  pub slots : length executed.leaves ≡ slot
   pub digests_are : digests ≡ map digest_in (take slot log.leaves)
   pub votes_are : log_votes shard (drop slot log.leaves) votes ≡ log_votes shard log.leaves old
-  pub told : (genesis : List Object) → leaves_fault (deployed config genesis approves) shard log.heads (stand_of s) (drop slot log.leaves)
+  pub told : (genesis : List Object) → leaves_fault (deployed config genesis approves) shard log.heads (stand_of executed s) (drop slot log.leaves)
       ≡ leaves_fault (deployed config genesis approves) shard log.heads first log.leaves
 
 module _ (approves : Tx → Bool) (config : Config) (shard : ℕ) (log : Log) (first : rules.Stand) (old : KeptVotes) where
@@ -67,64 +70,70 @@ module _ (approves : Tx → Bool) (config : Config) (shard : ℕ) (log : Log) (f
   abbrev setup_at : List Object → Setup
   setup_at genesis = deployed config genesis approves
 
-  pub begins : (s : Stand) → IsPlaced s → s.config ≡ config → s.shard ≡ shard → s.chain.log ≡ empty_log shard → first ≡ stand_of s → On 0 s [] old
-  begins s placed config_is shard_is chain is = record {
+  pub begins : (s : Stand) → IsPlaced s → s.config ≡ config → s.shard ≡ shard → s.chain.kept ≡ kept_of (empty_log shard)
+      → first ≡ stand_of (empty_log shard) s → On 0 s [] old
+  begins s placed config_is shard_is kept_is is = record {
     placed = placed;
     config_is = config_is;
     shard_is = shard_is;
-    slots = ap (λ c. length c.leaves) chain;
+    executed = empty_log shard;
+    kept_is = kept_is;
+    slots = refl;
     digests_are = refl;
     votes_are = refl;
     told = λ genesis. ap (λ x. leaves_fault (setup_at genesis) shard log.heads x log.leaves) (sym is);
   }
 
   -- the shard's rules, by the names of the log
-  none-here : (genesis : List Object) (slot : ℕ) (s new : Stand) (digests : List Bytes) (votes : KeptVotes) (leaf : Leaf) → On slot s digests votes → TellsLeaf (deployed s.config genesis approves) log.heads leaf s new None
-      → (broken_by (setup_at genesis) shard log.heads (stand_of s) leaf ≡ None) × (stand_of new ≡ rules.after_leaf (setup_at genesis) shard (stand_of s) leaf)
+  none-here : (genesis : List Object) (slot : ℕ) (s new : Stand) (digests : List Bytes) (votes : KeptVotes) (leaf : Leaf) (on : On slot s digests votes)
+      → TellsLeaf (deployed s.config genesis approves) on.executed log.heads leaf s new None
+      → (broken_by (setup_at genesis) shard log.heads (stand_of on.executed s) leaf ≡ None)
+      × (stand_of (log_with leaf on.executed new) new ≡ rules.after_leaf (setup_at genesis) shard (stand_of on.executed s) leaf)
   none-here genesis slot s new digests votes leaf on tells =
-      let P : Config × ℕ → Type 0 = λ at. (broken_by (deployed at.0 genesis approves) at.1 log.heads (stand_of s) leaf ≡ None) × (stand_of new ≡ rules.after_leaf (deployed at.0 genesis approves) at.1 (stand_of s) leaf) in
+      let P : Config × ℕ → Type 0 = λ at. (broken_by (deployed at.0 genesis approves) at.1 log.heads (stand_of on.executed s) leaf ≡ None)
+      × (stand_of (log_with leaf on.executed new) new ≡ rules.after_leaf (deployed at.0 genesis approves) at.1 (stand_of on.executed s) leaf) in
       subst P (λ i. (on.config_is i, on.shard_is i)) (tells.0, tells.1.stand_is)
 
-  pub goes_on : (slot : ℕ) (s new : Stand) (digests : List Bytes) (votes : KeptVotes) (leaf : Leaf) (d : Bytes) (more : List Bytes) (later : KeptVotes) → On slot s digests votes
-      → slot < length log.leaves → leaf ≡ get_or log.leaves slot leaf → ((genesis : List Object) → TellsLeaf (deployed s.config genesis approves) log.heads leaf s new None)
+  pub goes_on : (slot : ℕ) (s new : Stand) (digests : List Bytes) (votes : KeptVotes) (leaf : Leaf) (d : Bytes) (more : List Bytes) (later : KeptVotes) (on : On slot s digests votes)
+      → slot < length log.leaves → leaf ≡ get_or log.leaves slot leaf → ((genesis : List Object) → TellsLeaf (deployed s.config genesis approves) on.executed log.heads leaf s new None)
       → d ≡ digest_in leaf → more ≡ digests ++ d ∷ [] → later ≡ noted shard leaf.entry leaf.result d votes → On (slot + 1) new more later
   goes_on slot s new digests votes leaf d more later on less is tells named pushed noted_is =
       let follows = (tells []).1 in
       let left : drop slot log.leaves ≡ leaf ∷ drop (slot + 1) log.leaves = left-at log.leaves slot leaf less is in
-      let after = (none-here [] slot s new digests votes leaf on (tells [])).1 in
-      let longer : new.chain.log.leaves ≡ s.chain.log.leaves ++ _ = ap (λ (x : rules.Stand). x.log.leaves) after in
       record {
         placed = follows.placed;
         config_is = follows.config_stays ∙ on.config_is;
         shard_is = follows.shard_stays ∙ on.shard_is;
-        slots = ap length longer ∙ length-append s.chain.log.leaves _ ∙ ap (λ n. n + 1) on.slots;
+        executed = log_with leaf on.executed new;
+        kept_is = follows.kept_is;
+        slots = length-append on.executed.leaves _ ∙ ap (λ n. n + 1) on.slots;
         digests_are = pushed ∙ (λ i. on.digests_are i ++ named i ∷ []) ∙ sym (ap (map digest_in) (take_more log.leaves slot leaf less ∙ ap (λ x. take slot log.leaves ++ x ∷ []) (sym is)) ∙ map-append digest_in (take slot log.leaves) (leaf ∷ []));
         votes_are = ap (log_votes shard (drop (slot + 1) log.leaves)) (noted_is ∙ ap (λ x. noted shard leaf.entry leaf.result x votes) named)
             ∙ sym (ap (λ xs. log_votes shard xs votes) left) ∙ on.votes_are;
         told = λ genesis.
             let here = none-here genesis slot s new digests votes leaf on (tells genesis) in
             ap (λ x. leaves_fault (setup_at genesis) shard log.heads x (drop (slot + 1) log.leaves)) here.1
-            ∙ sym (fault-behind (setup_at genesis) shard log.heads (stand_of s) leaf (drop (slot + 1) log.leaves) here.0)
-            ∙ sym (ap (leaves_fault (setup_at genesis) shard log.heads (stand_of s)) left) ∙ on.told genesis;
+            ∙ sym (fault-behind (setup_at genesis) shard log.heads (stand_of on.executed s) leaf (drop (slot + 1) log.leaves) here.0)
+            ∙ sym (ap (leaves_fault (setup_at genesis) shard log.heads (stand_of on.executed s)) left) ∙ on.told genesis;
       }
 
   pub ends : (genesis : List Object) (slot : ℕ) (s : Stand) (digests : List Bytes) (votes : KeptVotes) → On slot s digests votes → length log.leaves ≤ slot
       → TellsLog (setup_at genesis) shard log first old votes (Ok digests)
   ends genesis slot s digests votes on over =
       let none : drop slot log.leaves ≡ [] = drop_of_length-le log.leaves over in (
-        sym (on.told genesis) ∙ ap (leaves_fault (setup_at genesis) shard log.heads (stand_of s)) none,
+        sym (on.told genesis) ∙ ap (leaves_fault (setup_at genesis) shard log.heads (stand_of on.executed s)) none,
         on.digests_are ∙ ap (map digest_in) (whole log.leaves slot over),
         sym (ap (λ xs. log_votes shard xs votes) none) ∙ on.votes_are,
       )
 
-  pub breaks : (genesis : List Object) (slot : ℕ) (s new : Stand) (digests : List Bytes) (votes later : KeptVotes) (leaf : Leaf) (rule : Rule) (fault : Fault) → On slot s digests votes
-      → slot < length log.leaves → leaf ≡ get_or log.leaves slot leaf → TellsLeaf (deployed s.config genesis approves) log.heads leaf s new (Some rule) → fault ≡ fault_at shard slot rule
+  pub breaks : (genesis : List Object) (slot : ℕ) (s new : Stand) (digests : List Bytes) (votes later : KeptVotes) (leaf : Leaf) (rule : Rule) (fault : Fault) (on : On slot s digests votes)
+      → slot < length log.leaves → leaf ≡ get_or log.leaves slot leaf → TellsLeaf (deployed s.config genesis approves) on.executed log.heads leaf s new (Some rule) → fault ≡ fault_at shard slot rule
       → TellsLog (setup_at genesis) shard log first old later (Err fault)
   breaks genesis slot s new digests votes later leaf rule fault on less is tells fault_is =
-      let P : Config × ℕ → Type 0 = λ at. broken_by (deployed at.0 genesis approves) at.1 log.heads (stand_of s) leaf ≡ Some rule in
+      let P : Config × ℕ → Type 0 = λ at. broken_by (deployed at.0 genesis approves) at.1 log.heads (stand_of on.executed s) leaf ≡ Some rule in
       let broken = subst P (λ i. (on.config_is i, on.shard_is i)) tells in
-      sym (on.told genesis) ∙ ap (leaves_fault (setup_at genesis) shard log.heads (stand_of s)) (left-at log.leaves slot leaf less is)
-      ∙ fault-here (setup_at genesis) shard log.heads (stand_of s) leaf (drop (slot + 1) log.leaves) rule broken
+      sym (on.told genesis) ∙ ap (leaves_fault (setup_at genesis) shard log.heads (stand_of on.executed s)) (left-at log.leaves slot leaf less is)
+      ∙ fault-here (setup_at genesis) shard log.heads (stand_of on.executed s) leaf (drop (slot + 1) log.leaves) rule broken
       ∙ (λ i. Some (fault_at shard (on.slots i) rule)) ∙ ap (λ f. Some f) (sym fault_is)
 
 -- ---- the logs one after the other

@@ -7,7 +7,7 @@ use Rattle.cs_tx_form.specs.declared.effect.Effect.TheVariants as effect
 use Rattle.cs_tx_form.specs.declared.vote.Vote.TheVariants as vote
 use Rattle.cs_tx_form.specs.declared.leaf.Leaf.{Leaf}
 use Rattle.cs_ledger.specs.Ledger.{Bytes}
-use Rattle.cs_checkpoint.specs.Chain.{made_last}
+use Rattle.cs_checkpoint.specs.Chain.{Log, KeptLog, made_last, kept_of}
 use Rattle.cs_check.specs.Root.{keys_in}
 use Rattle.cs_table.specs.Effects.{effect_of}
 use Rattle.cs_table.specs.Seen.{Stored, seen, forgotten}
@@ -19,7 +19,7 @@ use Rattle.cs_audit_rules.specs.declared.verdict.Rule.TheVariants as rule
 use Rattle.cs_audit_rules.specs.Slots.{is_judged, same_effect, is_result, is_head, broken_by}
 use Rattle.cs_audit_rules.specs.Stands as rules
 use Rattle.cs_audit.specs.declared.stand.Stand.{Stand}
-use Rattle.cs_audit.specs.Standing.{stand_of, Executes, Follows}
+use Rattle.cs_audit.specs.Standing.{stand_of, log_with, Executes, Follows}
 
 -- ---- effects
 
@@ -51,9 +51,9 @@ first_of slot form judge result head =
     else if not head then Some rule.Head
     else None
 
-module _ (setup : Setup) (heads : List Bytes) (leaf : Leaf) (s : Stand) where
+module _ (setup : Setup) (log : Log) (heads : List Bytes) (leaf : Leaf) (s : Stand) where
   abbrev slot : Bool
-  slot = leaf.slot == length s.chain.log.leaves
+  slot = leaf.slot == length log.leaves
 
   abbrev form : Bool
   form = is_fit setup s.shard (session_in leaf.entry)
@@ -62,13 +62,13 @@ module _ (setup : Setup) (heads : List Bytes) (leaf : Leaf) (s : Stand) where
   judge = is_judged setup leaf.entry
 
   abbrev result : Bool
-  result = is_result setup s.shard (stand_of s) leaf
+  result = is_result setup s.shard (stand_of log s) leaf
 
   abbrev head : Bool
-  head = is_head heads (made_last (rules.after_leaf setup s.shard (stand_of s) leaf).log)
+  head = is_head heads (made_last (rules.after_leaf setup s.shard (stand_of log s) leaf).log)
 
   abbrev broken : Option Rule
-  broken = broken_by setup s.shard heads (stand_of s) leaf
+  broken = broken_by setup s.shard heads (stand_of log s) leaf
 
   pub at_slot : slot ≡ false → broken ≡ Some rule.Slot
   at_slot a = ap (λ x. first_of x form judge result head) a
@@ -93,7 +93,7 @@ module _ (setup : Setup) (heads : List Bytes) (leaf : Leaf) (s : Stand) where
   module _ (mid : Stand) (effect : Effect) (ran : Executes setup leaf.entry s mid effect) where
     pub result_is : leaf.result ≡ effect → result ≡ true
     result_is e =
-        ap (λ told. same_effect (effect_of told) (rules.outcome_of setup s.shard (stand_of s).table leaf).effect) e
+        ap (λ told. same_effect (effect_of told) (rules.outcome_of setup s.shard (stand_of log s).table leaf).effect) e
         ∙ ap (same_effect (effect_of effect)) (sym ran.effect_is) ∙ same effect
 
     pub result_differs : (leaf.result ≡ effect → ⊥) → result ≡ false
@@ -101,15 +101,20 @@ module _ (setup : Setup) (heads : List Bytes) (leaf : Leaf) (s : Stand) where
         ap (same_effect (effect_of leaf.result)) (sym ran.effect_is) ∙ differ leaf.result effect ne
 
     module _ (new : Stand) (table : new.table ≡ forgotten mid.table) (config : new.config ≡ mid.config) (shard : new.shard ≡ mid.shard)
-        (chain : new.chain.log ≡ rules.told leaf (keys_in mid.table.rows) (seen mid.table) mid.chain.log) (leaves : HasLeaves new.chain.hashed (seen mid.table)) where
-      stand : stand_of new ≡ rules.after_leaf setup s.shard (stand_of s) leaf
-      stand =
-          (λ i. record { table = seen (table i); keys = keys_in (table i).rows; log = chain i })
-          ∙ (λ i. record { table = ran.table_is i; keys = ran.keys_are i; log = rules.told leaf (ran.keys_are i) (ran.table_is i) (ran.chain_stays i).log })
+        (chain : new.chain.kept ≡ kept_of (rules.told leaf (keys_in mid.table.rows) (seen mid.table) log)) (leaves : HasLeaves new.chain.hashed (seen mid.table)) where
+      -- what is told is told of what is stored then
+      same_log : rules.told leaf (keys_in mid.table.rows) (seen mid.table) log ≡ log_with leaf log new
+      same_log = λ i. rules.told leaf (keys_in (sym table i).rows) (seen (sym table i)) log
 
-      pub follows : Follows setup leaf s new
+      stand : stand_of (log_with leaf log new) new ≡ rules.after_leaf setup s.shard (stand_of log s) leaf
+      stand =
+          (λ i. record { table = seen (table i); keys = keys_in (table i).rows; log = sym same_log i })
+          ∙ (λ i. record { table = ran.table_is i; keys = ran.keys_are i; log = rules.told leaf (ran.keys_are i) (ran.table_is i) log })
+
+      pub follows : Follows setup log leaf s new
       follows = record {
         stand_is = stand;
+        kept_is = chain ∙ ap kept_of same_log;
         config_stays = config ∙ ran.config_stays;
         shard_stays = shard ∙ ran.shard_stays;
         placed = record {
@@ -121,5 +126,7 @@ module _ (setup : Setup) (heads : List Bytes) (leaf : Leaf) (s : Stand) where
       }
 
       -- the checkpoint that the slot made
-      pub head_is : (made : Option Checkpoint) → made ≡ made_last new.chain.log → head ≡ is_head heads made
-      head_is made is = ap (λ log. is_head heads (made_last log)) (sym (ap (λ (x : rules.Stand). x.log) stand)) ∙ ap (is_head heads) (sym is)
+      pub head_is : (made : Option Checkpoint) → made ≡ made_last (rules.told leaf (keys_in mid.table.rows) (seen mid.table) log) → head ≡ is_head heads made
+      head_is made is =
+          ap (λ (told : Log). is_head heads (made_last told)) (sym (ap (λ (x : rules.Stand). x.log) stand) ∙ sym same_log)
+          ∙ ap (is_head heads) (sym is)

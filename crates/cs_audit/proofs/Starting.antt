@@ -112,13 +112,13 @@ rules-same config objects =
     ap with_items (items-same 0 objects)
 
 pub started : (config : Config) (objects : List Object) (approves : Tx → Bool) (items : List (Key × Object)) (s : Stand) (shard : ℕ) → items ≡ keyed_from 0 objects
-    → seen s.table ≡ start (genesis_rules config items) shard → AreKnown (keys_in s.table.rows) (seen s.table) → s.chain.log ≡ empty_log shard
-    → stand_of s ≡ rules.start_stand (deployed config objects approves) shard
-started config objects approves items s shard is shows known chain =
+    → seen s.table ≡ start (genesis_rules config items) shard → AreKnown (keys_in s.table.rows) (seen s.table)
+    → stand_of (empty_log shard) s ≡ rules.start_stand (deployed config objects approves) shard
+started config objects approves items s shard is shows known =
     let r : ledger.Rules = rules_of config objects in
     let shown : seen s.table ≡ start r shard =
     shows ∙ ap (λ given. start (genesis_rules config given) shard) is ∙ ap (λ (x : ledger.Rules). start x shard) (rules-same config objects) in
     let keys : keys_in s.table.rows ≡ start_keys r shard =
     one_list (start r shard) (keys_in s.table.rows) (start_keys r shard)
     (subst (λ (t : Table). AreKnown (keys_in s.table.rows) t) shown known) (start_known r shard) in
-    λ i. record { table = shown i; keys = keys i; log = chain i }
+    λ i. record { table = shown i; keys = keys i; log = empty_log shard }

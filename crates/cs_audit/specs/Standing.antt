@@ -12,6 +12,7 @@ use Rattle.cs_table.specs.Calls.{anchor_in}
 use Rattle.cs_table.specs.Effects.{effect_of}
 use Rattle.cs_table.specs.Pieces.{rules_in}
 use Rattle.cs_table.specs.Seen.{Stored, seen as shown}
+use Rattle.cs_checkpoint.specs.Chain.{Log, kept_of}
 use Rattle.cs_check.specs.Root.{keys_in}
 use Rattle.cs_check.specs.Leaves.{HasLeavesBut}
 use Rattle.cs_check_rules.specs.Keys.{keys_after}
@@ -21,9 +22,9 @@ use Rattle.cs_audit_rules.specs.Slots.{broken_by}
 use Rattle.cs_audit_rules.specs.Stands as rules
 use Rattle.cs_audit.specs.declared.stand.Stand.{Stand}
 
--- what the shard shows
-abbrev pub stand_of : Stand → rules.Stand
-stand_of s = record { table = shown s.table; keys = keys_in s.table.rows; log = s.chain.log }
+-- what the shard shows, where this is its log
+abbrev pub stand_of : Log → Stand → rules.Stand
+stand_of log s = record { table = shown s.table; keys = keys_in s.table.rows; log = log }
 
 -- its table is that of the shard, and the leaves of all keys that aren't touched are those of the table
 pub record IsPlaced (s : Stand) : Type 0 where
@@ -60,15 +61,21 @@ pub record Executes (setup : Setup) (entry : Entry) (old new : Stand) (effect : 
 
 -- ---- a leaf
 
+-- the log with it, and with the root over what is stored then
+abbrev pub log_with : Leaf → Log → Stand → Log
+log_with leaf log new = rules.told leaf (keys_in new.table.rows) (shown new.table) log
+
 -- the shard went on behind it
-pub record Follows (setup : Setup) (leaf : Leaf) (old new : Stand) : Type 0 where
-  pub stand_is : stand_of new ≡ rules.after_leaf setup old.shard (stand_of old) leaf
+pub record Follows (setup : Setup) (log : Log) (leaf : Leaf) (old new : Stand) : Type 0 where
+  pub stand_is : stand_of (log_with leaf log new) new ≡ rules.after_leaf setup old.shard (stand_of log old) leaf
+  pub kept_is : new.chain.kept ≡ kept_of (log_with leaf log new)
   pub config_stays : new.config ≡ old.config
   pub shard_stays : new.shard ≡ old.shard
   pub placed : IsPlaced new
 
 -- it broke no rule, and the shard went on behind it; or this is the first rule that it breaks
-abbrev pub TellsLeaf : Setup → List Bytes → Leaf → Stand → Stand → Option Rule → Type 0
-TellsLeaf setup heads leaf old new None =
-    (broken_by setup old.shard heads (stand_of old) leaf ≡ None) × Follows setup leaf old new
-TellsLeaf setup heads leaf old new (Some rule) = broken_by setup old.shard heads (stand_of old) leaf ≡ Some rule
+abbrev pub TellsLeaf : Setup → Log → List Bytes → Leaf → Stand → Stand → Option Rule → Type 0
+TellsLeaf setup log heads leaf old new None =
+    (broken_by setup old.shard heads (stand_of log old) leaf ≡ None) × Follows setup log leaf old new
+TellsLeaf setup log heads leaf old new (Some rule) =
+    broken_by setup old.shard heads (stand_of log old) leaf ≡ Some rule

@@ -2,7 +2,7 @@
 ghost use Rattle.std.specs.Prelude.{◌≡◌, IfOk};
 ghost use Rattle.std.specs.List.{All};
 ghost use Rattle.cs_tx_form.specs.Log.{LeafFits};
-ghost use Rattle.cs_checkpoint.specs.Chain.{empty_log};
+ghost use Rattle.cs_checkpoint.specs.Chain.{empty_log, kept_of};
 ghost use Rattle.cs_node_pool.specs.Deployed.{AtAnyGenesis, deployed};
 ghost use Rattle.cs_dump_read.specs.Formed.{IsFormed};
 ghost use Rattle.cs_audit_rules.specs.declared.verdict.Rule.TheVariants as rule;
@@ -55,9 +55,9 @@ fn execute_log<J: Judge>(
     requires fits { All LeafFits log.now.leaves }
     requires placed { IsPlaced stand.old }
     requires shard { stand.old.shard ≡ shard }
-    requires chain { stand.old.chain.log ≡ empty_log shard }
+    requires chain { stand.old.chain.kept ≡ kept_of (empty_log shard) }
     ensures { AtAnyGenesis stand.old.config (J.is_approved judge.now) (λ setup. IfOk result
-        (TellsLog setup shard log.now (stand_of stand.old) votes.old votes.new)) }
+        (TellsLog setup shard log.now (stand_of (empty_log shard) stand.old) votes.old votes.new)) }
 {
     let mut digests = Sequence::new(alloc);
     for (slot, leaf) in log.leaves.as_slice().iter().enumerate() {

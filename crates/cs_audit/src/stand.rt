@@ -11,7 +11,7 @@ ghost use Rattle.cs_tx.specs.Digest.{digest_of_session};
 ghost use Rattle.cs_tx.specs.Sessions.{session_of};
 ghost use Rattle.cs_tx.specs.Uses.{anchor_of};
 ghost use Rattle.cs_check.specs.Root.{keys_in};
-ghost use Rattle.cs_checkpoint.specs.Chain.{empty_log, made_last};
+ghost use Rattle.cs_checkpoint.specs.Chain.{empty_log, made_last, kept_of, AtItsLog};
 ghost use Rattle.cs_table.specs.Seen.{seen, forgotten};
 ghost use Rattle.cs_check.specs.Leaves.{HasLeaves, HasLeavesBut};
 ghost use Rattle.cs_table.specs.Calls.{anchor_in};
@@ -110,10 +110,10 @@ impl Stand {
         ensures config { IfOk result (λ s. s.config ≡ config) }
         ensures shard { IfOk result (λ s. s.shard ≡ shard) }
         ensures placed { IfOk result IsPlaced }
-        ensures chain { IfOk result (λ s. s.chain.log ≡ empty_log shard) }
+        ensures chain { IfOk result (λ s. s.chain.kept ≡ kept_of (empty_log shard)) }
         ensures stand { (objects : List AnyObject) (approves : AnyTx → Bool) →
             genesis.now ≡ keyed_from 0 objects → IfOk result (λ s.
-            stand_of s ≡ start_stand (deployed config objects approves) shard) }
+            stand_of (empty_log shard) s ≡ start_stand (deployed config objects approves) shard) }
     {
         match Table::genesis(alloc, config, shard, genesis) {
             Ok(table) => {
@@ -154,9 +154,10 @@ impl Stand {
         requires fits { LeafFits leaf.now }
         requires leaves { HasLeavesBut
             self.old.table.touched self.old.chain.hashed (seen self.old.table) }
-        ensures made { IfOk result (λ made. made ≡ made_last self.new.chain.log) }
-        ensures chain { OnOk result (self.new.chain.log ≡ told
-            leaf.now (keys_in self.old.table.rows) (seen self.old.table) self.old.chain.log) }
+        ensures made { AtItsLog self.old.chain.kept (λ log. IfOk result (λ made. made ≡ made_last
+            (told leaf.now (keys_in self.old.table.rows) (seen self.old.table) log))) }
+        ensures chain { AtItsLog self.old.chain.kept (λ log. OnOk result (self.new.chain.kept ≡
+            kept_of (told leaf.now (keys_in self.old.table.rows) (seen self.old.table) log))) }
         ensures leaves { OnOk result
             (HasLeaves self.new.chain.hashed (seen self.old.table)) }
         ensures table { OnOk result (self.new.table ≡ forgotten self.old.table) }
@@ -183,8 +184,9 @@ impl Stand {
         requires placed { IsPlaced self.old }
         requires fits { LeafFits leaf.now }
         requires named { digest.now ≡ digest_of_session (session_in leaf.now.entry) }
-        ensures { AtAnyGenesis self.old.config (J.is_approved judge.now) (λ setup.
-            IfOk result (TellsLeaf setup heads.now leaf.now self.old self.new)) }
+        ensures { AtItsLog self.old.chain.kept (λ log.
+            AtAnyGenesis self.old.config (J.is_approved judge.now) (λ setup.
+            IfOk result (TellsLeaf setup log heads.now leaf.now self.old self.new))) }
     {
         if leaf.slot != self.chain.slots() {
             return Ok(Some(Rule::Slot));

@@ -8,7 +8,7 @@ use Rattle.cs_base.specs.declared.key.Key.{Key}
 use Rattle.cs_merkle.specs.Tree.{leaf_hash}
 use Rattle.cs_merkle_kept.specs.Leaves.{KeyedHashes, key_order, entry_of}
 use Rattle.cs_merkle_kept.specs.declared.leaf.Leaf.{Leaf}
-use Rattle.cs_checkpoint.specs.Chain.{Log}
+use Rattle.cs_checkpoint.specs.Chain.{KeptLog}
 use Rattle.cs_tx.specs.Sessions.{key_seen}
 use Rattle.cs_ledger.specs.Ledger.{Bytes}
 use Rattle.cs_ledger.specs.Session as ledger
@@ -24,9 +24,9 @@ pub record Hashed : Type 0 where
   pub tree : KeyedHashes
   pub waiting : List (Key × Bytes)
 
--- a log, and the leaves of the records that its last root is over, and of those that changed since
+-- what is kept of a log, and the leaves of the records that its last root is over, and of those that changed since
 pub record Chained : Type 0 where
-  pub log : Log
+  pub kept : KeptLog
   pub hashed : Hashed
 
 abbrev pub leaf_in : KeyedHashes → Bytes → Option Bytes

@@ -1,2 +1,3 @@
 pub mod Root
 pub mod Leaves
+pub mod Kept

@@ -1,30 +1,37 @@
 //! The chain of the checkpoints of a shard's log.
-ghost use Rattle.std.specs.Prelude.{◌≡◌, ◌+◌, ◌*◌, ◌≤◌, ◌<◌, ◌↔◌, ◌/◌, ◌%◌, length, take, drop, slice_get, IfOk, OnOk, IsErrOf};
-ghost use Rattle.cs_merkle.specs.Tree.{leaves_of, merkle_tree_hash};
-ghost use Rattle.cs_merkle.specs.Path.{audit_path};
+ghost use Rattle.std.specs.Prelude.{◌≡◌, ◌+◌, ◌*◌, ◌≤◌, ◌<◌, ◌↔◌, ◌/◌, [], ◌∷◌, ◌++◌, length, IfOk, OnOk, IsErrOf};
+ghost use Rattle.cs_merkle.specs.Tree.{leaves_of};
+ghost use Rattle.cs_checkpoint.specs.Chain.{empty_log, with_slot, made_last, chain_head, head_of, checkpoint_of, cut_slot, kept_of, AtItsLog, IsLeaf, IsProofOf};
+ghost use Rattle.cs_checkpoint.specs.Shown.{Shows};
+ghost use Rattle.cs_check.specs.Kept.{next_behind, cut_first, with_leaf, with_checkpoint};
 ghost use Rattle.cs_check.specs.Leaves.{HasLeaves, HasLeavesBut};
 ghost use Rattle.cs_check.specs.Root.{table_root as root_of};
-ghost use Rattle.cs_checkpoint.specs.Chain.{empty_log, with_slot, made_last, chain_head, last_head, head_of, checkpoint_of, IsLeaf, IsProofOf};
-ghost use Rattle.cs_checkpoint.specs.Shown.{Shows};
 ghost use Rattle.cs_table.specs.Seen.{seen};
 
+use crate::covered::Covered;
 use crate::hashes::Hashes;
-use crate::leaf::read_leaf;
-use cs_base::{Memory, Sequence};
-use cs_checkpoint::{Checkpoint, Digest, Proof, checkpoint_head};
-use cs_merkle::{path, root};
+use cs_base::Memory;
+use cs_checkpoint::{Checkpoint, Digest, KEPT_SLOTS, Proof, checkpoint_head};
+use cs_merkle::root;
 use cs_table::Table;
 use std::alloc::Global;
+use std::collections::VecDeque;
 use std::marker::Model;
+use std::mem;
 
 /// How many slots a checkpoint covers: a proof has a path of four hashes.
 const COVERED: usize = 16;
+
+/// How many checkpoints keep their leaves.
+const KEPT: usize = KEPT_SLOTS as usize / COVERED;
 
 /// Why there is no proof.
 #[derive(Clone, Copy, Debug, PartialEq, Eq)]
 pub enum ProveError {
     /// No checkpoint covers the slot yet.
     NotYet,
+    /// The slot is cut: its leaf isn't kept any more.
+    Cut,
     /// There was not enough memory.
     Memory,
 }
@@ -40,124 +47,127 @@ impl From<Memory> for ProveError {
     }
 }
 
-/// The leaves of a shard's slots, with the checkpoints over them, and the hashes of the leaves of
-/// its records.
+/// The checkpoints over a shard's last slots with the leaves of these, the heads of all, and the
+/// hashes of the leaves of its records.
 #[derive(Drop)]
 pub struct Chain {
     shard: u16,
-    leaves: Vec<Vec<u8>>,
-    made: Vec<Checkpoint>,
+    slots: u64,
+    covered: VecDeque<Covered>,
+    uncovered: Vec<Vec<u8>>,
+    heads: Vec<Digest>,
     hashes: Hashes,
 }
 
 impl Model for Chain {
     ghost use Rattle.cs_merkle.specs.Tree.{leaves_of};
-    ghost use Rattle.cs_checkpoint.specs.Chain.{log_of, IsChain};
+    ghost use Rattle.cs_check.specs.Kept.{kept_by, IsKept};
     ghost use Rattle.cs_check.specs.Leaves.{Chained};
 
     ghost Value = { Chained };
 
     ghost view = { λ c. record {
-      log = log_of c.shard (leaves_of c.leaves.items) c.made.items;
+      kept = kept_by c.shard c.slots c.covered.items (leaves_of c.uncovered.items) c.heads.items;
       hashed = c.hashes;
     } };
 
-    ghost invariant = { λ c.
-        IsChain (log_of c.shard (leaves_of c.leaves.items) c.made.items) c.made.items };
+    ghost invariant = { λ c. IsKept
+        (kept_by c.shard c.slots c.covered.items (leaves_of c.uncovered.items) c.heads.items) };
 }
 
-// The checkpoint behind those that were made, over the next leaves.
+// The checkpoint over these leaves, behind those that have these heads.
 fn next_checkpoint(
     shard: u16,
+    heads: &[Digest],
     leaves: &[Vec<u8>],
-    made: &[Checkpoint],
     table_root: Digest,
 ) -> Checkpoint
-    requires { 16 * length made.now + 16 ≤ length leaves.now }
-    ensures { let number = length made.now in result ≡ record {
-      shard = shard;
-      number = number;
-      previous = last_head made.now;
-      leaf_root = merkle_tree_hash (take 16 (drop (16 * number) (leaves_of leaves.now)));
-      table_root = table_root;
-    } }
+    ensures { result ≡ next_behind shard heads.now (leaves_of leaves.now) table_root }
 {
-    let number = made.len();
-    let from = COVERED * number;
-    let previous = match made.last() {
-        Some(last) => checkpoint_head(last),
+    let previous = match heads.last() {
+        Some(head) => *head,
         None => [0; 32],
     };
     Checkpoint {
         shard,
-        number: number as u64,
+        number: heads.len() as u64,
         previous,
-        leaf_root: root(&leaves[from..from + COVERED]),
+        leaf_root: root(leaves),
         table_root,
     }
 }
 
-fn made_at(made: &[Checkpoint], number: usize) -> Option<Checkpoint>
-    ensures { result ≡ slice_get made.now number }
+// The first checkpoint of too many is cut, with its leaves.
+fn cut(covered: &mut VecDeque<Covered>)
+    ensures { covered.new.items ≡ cut_first covered.old.items }
 {
-    match made.get(number) {
-        Some(checkpoint) => Some(*checkpoint),
-        None => None,
-    }
-}
-
-// The audit path of a slot among the 16 that are covered with it.
-fn covered_path(alloc: Global, leaves: &[Vec<u8>], slot: usize) -> Result<Vec<Digest>, Memory>
-    requires { 16 * (slot / 16) + 16 ≤ length leaves.now }
-    ensures { let covered = take 16 (drop (16 * (slot / 16)) (leaves_of leaves.now)) in
-        IfOk result (λ hashes. hashes.items ≡ audit_path covered (slot % 16)) }
-{
-    let from = COVERED * (slot / COVERED);
-    match path(alloc, &leaves[from..from + COVERED], slot % COVERED) {
-        Ok(hashes) => Ok(hashes),
-        Err(_) => Err(Memory),
+    if covered.len() > KEPT {
+        covered.pop_front();
     }
 }
 
 impl Chain {
     /// A chain without slots, of the shard that has this table.
     pub fn new(alloc: Global, shard: u16, table: &Table) -> Result<Chain, Memory>
-        ensures log { IfOk result (λ chain. chain.log ≡ empty_log shard) }
+        ensures log { IfOk result (λ chain. chain.kept ≡ kept_of (empty_log shard)) }
         ensures leaves { IfOk result (λ chain. HasLeaves chain.hashed (seen table.now)) }
     {
         let hashes = Hashes::new(alloc, table)?;
         Ok(Chain {
             shard,
-            leaves: Vec::new(alloc),
-            made: Vec::new(alloc),
+            slots: 0,
+            covered: VecDeque::new(alloc),
+            uncovered: Vec::new(alloc),
+            heads: Vec::new(alloc),
             hashes,
         })
     }
 
-    /// How many slots it has.
+    /// How many slots it has, with those that are cut.
     pub fn slots(&self) -> u64
-        ensures { result ≡ length self.now.log.leaves }
+        ensures { result ≡ self.now.kept.slots }
     {
-        self.leaves.len() as u64
-    }
-
-    /// The leaf of each of its slots, as encoded.
-    pub fn leaves(&self) -> &[Vec<u8>]
-        ensures { leaves_of result.now ≡ self.now.log.leaves }
-    {
-        self.leaves.as_slice()
+        self.slots
     }
 
     /// How many checkpoints are made.
     pub fn checkpoints(&self) -> u64
-        ensures { result ≡ length self.now.log.table_roots }
+        ensures { AtItsLog self.now.kept (λ log. result ≡ length log.table_roots) }
     {
-        self.made.len() as u64
+        self.heads.len() as u64
+    }
+
+    // Makes the checkpoint over the leaves that none covers yet and this one.
+    fn cover(
+        &mut self,
+        alloc: Global,
+        leaf: Vec<u8>,
+        table_root: Digest,
+    ) -> Result<Checkpoint, Memory>
+        requires leaf { IsLeaf leaf.items }
+        requires last { length self.old.kept.uncovered ≡ 15 }
+        requires slots { 16 * length self.old.kept.heads + 16 ≤ self.old.kept.slots }
+        ensures checkpoint { IfOk result (λ made. made ≡ next_behind
+            self.old.kept.shard self.old.kept.heads
+            (self.old.kept.uncovered ++ leaf.items ∷ []) table_root) }
+        ensures kept { IfOk result (λ made.
+            self.new.kept ≡ with_checkpoint made (with_leaf leaf.items self.old.kept)) }
+        ensures hashed { self.new.hashed ≡ self.old.hashed }
+    {
+        let mut leaves = mem::replace(&mut self.uncovered, Vec::new(alloc));
+        leaves.push(leaf)?;
+        let heads = self.heads.as_slice();
+        let checkpoint = next_checkpoint(self.shard, heads, leaves.as_slice(), table_root);
+        self.heads.push(checkpoint_head(&checkpoint))?;
+        self.covered.push_back(Covered::new(checkpoint, leaves))?;
+        cut(&mut self.covered);
+        Ok(checkpoint)
     }
 
     /// Takes the leaf of the next slot, whose entry was executed on the table last, and takes over
     /// the leaves of the touched keys; no other record is encoded or hashed. Every 16th leaf makes a
-    /// checkpoint, for which no node is joined twice. After want of memory no leaf is known.
+    /// checkpoint, for which no node is joined twice; from the 65th on one is cut then. After want of
+    /// memory no leaf is known.
     pub fn push(
         &mut self,
         alloc: Global,
@@ -166,33 +176,33 @@ impl Chain {
     ) -> Result<Option<Checkpoint>, Memory>
         requires leaf { IsLeaf leaf.items }
         requires known { HasLeavesBut table.now.touched self.old.hashed (seen table.now) }
-        ensures log { OnOk result
-            (self.new.log ≡ with_slot leaf.items (root_of table.now.rows) self.old.log) }
-        ensures made { IfOk result (λ made. made ≡ made_last self.new.log) }
+        ensures log { AtItsLog self.old.kept (λ log. OnOk result
+            (self.new.kept ≡ kept_of (with_slot leaf.items (root_of table.now.rows) log))) }
+        ensures made { AtItsLog self.old.kept (λ log. IfOk result (λ made.
+            made ≡ made_last (with_slot leaf.items (root_of table.now.rows) log))) }
         ensures leaves { OnOk result (HasLeaves self.new.hashed (seen table.now)) }
     {
-        self.leaves.push(leaf)?;
+        let slots = match self.slots.checked_add(1) {
+            Some(slots) => slots,
+            None => return Err(Memory),
+        };
         self.hashes.take(alloc, table)?;
-        if self.leaves.len() % COVERED != 0 {
+        self.slots = slots;
+        if self.uncovered.len() < COVERED - 1 {
+            self.uncovered.push(leaf)?;
             return Ok(None);
         }
         let table_root = self.hashes.root(alloc, table)?;
-        let checkpoint = next_checkpoint(
-            self.shard,
-            self.leaves.as_slice(),
-            self.made.as_slice(),
-            table_root,
-        );
-        self.made.push(checkpoint)?;
+        let checkpoint = self.cover(alloc, leaf, table_root)?;
         Ok(Some(checkpoint))
     }
 
     /// The head of the checkpoint of a number, where that one is made.
     pub fn head(&self, number: u64) -> Option<Digest>
-        ensures { result ≡ chain_head self.now.log number }
+        ensures { AtItsLog self.now.kept (λ log. result ≡ chain_head log number) }
     {
-        match self.made.get(number as usize) {
-            Some(checkpoint) => Some(checkpoint_head(checkpoint)),
+        match self.heads.get(number as usize) {
+            Some(head) => Some(*head),
             None => None,
         }
     }
@@ -200,26 +210,24 @@ impl Chain {
     /// The leaf of a slot with the checkpoint that covers it, and the path from the one to the
     /// other.
     pub fn prove(&self, alloc: Global, slot: u64) -> Result<Proof, ProveError>
-        ensures proof { IfOk result (λ proof. IsProofOf self.now.log slot proof) }
+        ensures proof { AtItsLog self.now.kept (λ log. IfOk result (IsProofOf log slot)) }
         // Where the leaf is of that slot, the proof shows it under the checkpoint's head.
-        ensures shown { IfOk result (λ proof. proof.leaf.slot ≡ slot →
-            Shows (head_of (checkpoint_of self.now.log (slot / 16))) proof) }
-        ensures not_yet { IsErrOf result ProveError.NotYet
-            ↔ (16 * length self.now.log.table_roots ≤ slot) }
+        ensures shown { AtItsLog self.now.kept (λ log. IfOk result (λ proof. proof.leaf.slot ≡ slot →
+            Shows (head_of (checkpoint_of log (slot / 16))) proof)) }
+        ensures not_yet { AtItsLog self.now.kept (λ log.
+            IsErrOf result ProveError.NotYet ↔ (16 * length log.table_roots ≤ slot)) }
+        ensures cut { AtItsLog self.now.kept (λ log.
+            IsErrOf result ProveError.Cut ↔ (slot < cut_slot log)) }
     {
         let slot = slot as usize;
-        let leaves = self.leaves.as_slice();
-        let checkpoint = match made_at(self.made.as_slice(), slot / COVERED) {
-            Some(checkpoint) => checkpoint,
-            None => return Err(ProveError::NotYet),
+        let cut = self.heads.len() - self.covered.len();
+        let place = match (slot / COVERED).checked_sub(cut) {
+            Some(place) => place,
+            None => return Err(ProveError::Cut),
         };
-        let leaf = read_leaf(alloc, leaves, slot)?;
-        let hashes = covered_path(alloc, leaves, slot)?;
-        Ok(Proof {
-            checkpoint,
-            place: (slot % COVERED) as u8,
-            leaf,
-            path: Sequence::from_vec(hashes),
-        })
+        match self.covered.get(place) {
+            Some(covered) => Ok(covered.prove(alloc, slot % COVERED)?),
+            None => Err(ProveError::NotYet),
+        }
     }
 }

@@ -2,6 +2,7 @@
 #![tactic(auto)]
 
 mod chain;
+mod covered;
 mod fitting;
 mod hashes;
 mod leaf;

@@ -1,11 +1,11 @@
 -- The proof of a slot, as a function of the log.
-use Rattle.std.specs.Prelude.{ℕ, ◌/◌, ◌%◌, nat_lt, if◌then◌else◌, length, slice_get, Option, None, option_and_then, option_map}
+use Rattle.std.specs.Prelude.{ℕ, ◌*◌, ◌/◌, ◌%◌, nat_le, nat_lt, Bool, ◌&&◌, if◌then◌else◌, length, slice_get, Option, None, option_and_then, option_map}
 use Rattle.cs_base.specs.Fields.{whole_at}
 use Rattle.cs_tx_form.specs.declared.leaf.Leaf.{Leaf}
 use Rattle.cs_tx_form.specs.declared.proof.Proof.{Proof}
 use Rattle.cs_tx_form.specs.Log.{leaf_at}
 use Rattle.cs_merkle.specs.Path.{audit_path}
-use Rattle.cs_checkpoint.specs.Chain.{Log, covered_leaves, checkpoint_of}
+use Rattle.cs_checkpoint.specs.Chain.{Log, covered_leaves, checkpoint_of, cut_slot}
 
 -- the leaf of a slot, read of its bytes
 abbrev pub leaf_in : Log → ℕ → Option Leaf
@@ -20,9 +20,10 @@ proof_with log slot leaf = record {
   path = audit_path (covered_leaves log (slot / 16)) (slot % 16);
 }
 
--- none where no checkpoint covers the slot yet
+-- a checkpoint covers the slot, and it isn't cut
+abbrev pub is_provable : Log → ℕ → Bool
+is_provable log slot = nat_le (cut_slot log) slot && nat_lt slot (16 * length log.table_roots)
+
+-- none of any other slot
 abbrev pub proof_of : Log → ℕ → Option Proof
-proof_of log slot =
-    if nat_lt (slot / 16) (length log.table_roots)
-    then option_map (proof_with log slot) (leaf_in log slot)
-    else None
+proof_of log slot = if is_provable log slot then option_map (proof_with log slot) (leaf_in log slot) else None

@@ -1,5 +1,5 @@
 -- The checkpoints of a shard's log, one after every 16 slots, and their heads.
-use Rattle.std.specs.Prelude.{◌≡◌, ℕ, zero, suc, ◌+◌, ◌-◌, ◌*◌, ◌/◌, ◌%◌, ◌==◌, ◌<◌, ◌≤◌, nat_lt, if◌then◌else◌, List, [], ◌∷◌, ◌++◌, length, map, take, drop, replicate, slice_get, slice_index_or, All, Option, Some, None}
+use Rattle.std.specs.Prelude.{◌≡◌, ℕ, zero, suc, ◌+◌, ◌-◌, ◌*◌, ◌/◌, ◌%◌, ◌==◌, nat_lt, if◌then◌else◌, List, [], ◌∷◌, ◌++◌, length, map, take, drop, replicate, slice_get, slice_index_or, Option, Some, None}
 use Rattle.cs_hash.specs.Hash.{tagged_digest}
 use Rattle.cs_tx_form.specs.declared.leaf.Leaf.{Leaf}
 use Rattle.cs_tx_form.specs.declared.checkpoint.Checkpoint.{Checkpoint}
@@ -67,14 +67,6 @@ head_before log (suc number) = head_of (checkpoint_behind (head_before log numbe
 abbrev pub checkpoint_of : Log → ℕ → Checkpoint
 checkpoint_of log number = checkpoint_behind (head_before log number) log number
 
--- the head of the last of these checkpoints
-abbrev pub head_after : Option Checkpoint → List ℕ
-head_after None = no_head
-head_after (Some c) = head_of c
-
-abbrev pub last_head : List Checkpoint → List ℕ
-last_head made = head_after (slice_get made (length made - 1))
-
 -- the head of the checkpoint of a number, where that one is made
 abbrev pub chain_head : Log → ℕ → Option (List ℕ)
 chain_head log number =
@@ -97,12 +89,48 @@ pub record IsProofOf (log : Log) (slot : ℕ) (proof : Proof) : Type 0 where
 
 -- ---- what a chain keeps
 
--- the checkpoints that were made tell the roots
-abbrev pub log_of : ℕ → List (List ℕ) → List Checkpoint → Log
-log_of shard leaves made = record { shard = shard; leaves = leaves; table_roots = map (λ c. c.table_root) made }
+-- how many slots up to the last checkpoint keep their leaves
+abbrev pub kept_slots : ℕ
+kept_slots = 1024
 
--- What was made are the checkpoints of the log, as far as its leaves go.
-pub record IsChain (log : Log) (made : List Checkpoint) : Type 0 where
-  pub enough : 16 * length made ≤ length log.leaves
-  pub checkpoints : (number : ℕ) → number < length made → slice_get made number ≡ Some (checkpoint_of log number)
-  pub leaves : All IsLeaf log.leaves
+-- The first slot that is kept: 0 up to the 64th checkpoint.
+abbrev pub cut_slot : Log → ℕ
+cut_slot log = 16 * length log.table_roots - kept_slots
+
+-- a checkpoint, and the leaves that it covers
+pub record Covered : Type 0 where
+  pub checkpoint : Checkpoint
+  pub leaves : List (List ℕ)
+
+abbrev pub covered_of : Log → ℕ → Covered
+covered_of log number = record { checkpoint = checkpoint_of log number; leaves = covered_leaves log number }
+
+-- those of the numbers below this one
+abbrev pub covered_below : Log → ℕ → List Covered
+covered_below log zero = []
+covered_below log (suc number) = covered_below log number ++ covered_of log number ∷ []
+
+abbrev pub all_covered : Log → List Covered
+all_covered log = covered_below log (length log.table_roots)
+
+pub record KeptLog : Type 0 where
+  pub shard : ℕ
+  pub slots : ℕ  -- how many there are in all
+  pub covered : List Covered  -- the checkpoints that aren't cut
+  pub uncovered : List (List ℕ)  -- the leaves of the slots that no checkpoint covers yet
+  pub heads : List (List ℕ)  -- those of all checkpoints
+
+-- What is kept of a log: its checkpoints from the cut slot on, with the leaves that they cover, the leaves behind these,
+-- and all heads.
+abbrev pub kept_of : Log → KeptLog
+kept_of log = record {
+  shard = log.shard;
+  slots = length log.leaves;
+  covered = drop (cut_slot log / 16) (all_covered log);
+  uncovered = drop (16 * length log.table_roots) log.leaves;
+  heads = map (λ c. head_of c.checkpoint) (all_covered log);
+}
+
+-- it holds of every log of which this is kept
+abbrev pub AtItsLog : KeptLog → (Log → Type 0) → Type 0
+AtItsLog kept Holds = (log : Log) → kept ≡ kept_of log → Holds log

@@ -12,3 +12,6 @@ pub use head::checkpoint_head;
 pub use laws::shown_leaf_is_covered;
 pub use leaf::encode_leaf;
 pub use shown::shows;
+
+/// How many slots up to the last checkpoint keep their leaves.
+pub const KEPT_SLOTS: u64 = 1024;

@@ -1,10 +1,13 @@
 -- Lines of a dump by what the code has at hand: the numbers of a configuration at once, genesis objects without their
--- names.
-use Rattle.std.specs.Prelude.{ℕ, List, ◌++◌, codes}
+-- names, what is kept of a log.
+use Rattle.std.specs.Prelude.{ℕ, List, ◌++◌, length, codes}
+use Rattle.std.specs.List.{flat_map}
 use Rattle.std.specs.Fmt.{decimal}
 use Rattle.cs_base.specs.Codes.{bytes_text}
 use Rattle.cs_tx_value.specs.declared.object.Object.{Object}
 use Rattle.cs_tx_value.specs.Object.{object_encoding}
+use Rattle.cs_node_rules.specs.Dumps.{leaf_line, dumped_head}
+use Rattle.cs_play.specs.Logged.{Logged}
 
 abbrev pub settings_text : ℕ → ℕ → ℕ → List ℕ
 settings_text shards faulty dummies =
@@ -17,3 +20,9 @@ object_line object = codes "genesis " ++ (bytes_text (object_encoding object) ++
 -- in front of the leaves of a shard
 abbrev pub log_line : ℕ → ℕ → List ℕ
 log_line shard slots = codes "log " ++ (decimal shard ++ (codes " " ++ (decimal slots ++ codes "\n")))
+
+-- what is kept of the log of a shard
+abbrev pub logged_text : ℕ → Logged → List ℕ
+logged_text shard kept =
+    codes "log " ++ (decimal shard ++ (codes " " ++ (decimal (length kept.leaves) ++ (codes "\n"
+    ++ (flat_map leaf_line kept.leaves ++ flat_map dumped_head kept.heads)))))

@@ -66,8 +66,8 @@ fn logs_text<O: Carried, J: Judge + Drop>(
 {
     let mut text = String::new(alloc);
     for shard in 0..config.shards {
-        let chain = replay.shard_chain(config, shard);
-        let log = log_text(alloc, shard, chain)?;
+        let longest = replay.shard_log(config, shard);
+        let log = log_text(alloc, shard, longest)?;
         text.push_str(&log)?;
     }
     Ok(text)

@@ -1,5 +1,5 @@
 -- What the calls of a replica come to.
-use Rattle.std.proofs.Common.{◌≡◌, ℕ, ◌+◌, ◌*◌, ◌%◌, ◌^◌, ◌<◌, ◌≤◌, ◌==◌, min, nat_lt, bytes_eq, Bool, true, false, ◌&&◌, ◌||◌, if◌then◌else◌, List, [], ◌∷◌, ◌++◌, length, length-append, append-nil, Option, Some, None, is_some, refl, sym, ap, ap₂, ◌∙◌, subst, lt-ltb, arith}
+use Rattle.std.proofs.Common.{◌≡◌, ℕ, ◌+◌, ◌*◌, ◌%◌, ◌^◌, ◌<◌, ◌≤◌, ◌==◌, min, nat_lt, bytes_eq, Bool, true, false, ◌&&◌, ◌||◌, if◌then◌else◌, List, [], ◌∷◌, ◌++◌, length, append-nil, Option, Some, None, is_some, refl, sym, ap, ap₂, ◌∙◌, subst, lt-ltb, arith}
 use Rattle.std.proofs.Math.Nat.{pow-le-pow_right, min-le_right}
 use Rattle.std.specs.Cmp.Lexicographic.{slice_cmp}
 use Rattle.std.specs.Ordering.{nat_cmp, is_lt}
@@ -24,26 +24,20 @@ use Rattle.cs_order_law.specs.laws.Rest.{none_proposed}
 use Rattle.cs_order_open.specs.Shows.{KeptOpenSlot, Shows, TakesFirst}
 use Rattle.cs_order_open.specs.Look.{look_of, entering_by, change_by, pending_by, may_by}
 use Rattle.cs_order_open.specs.laws.Looking as looking
-use Rattle.cs_log.specs.Replicas.{KeptReplica, Mirrors, IsSeen, longest_wait, said, entered, chose, after_step, after_echo, after_tick}
-use Rattle.cs_log.proofs.Mirroring.{with_round, says_proposal, says_echo, says_confirm, enters, waits_more}
+use Rattle.cs_log.specs.Replicas.{KeptReplica, next_slot, Mirrors, IsSeen, longest_wait, said, entered, chose, after_step, after_echo, after_tick}
+use Rattle.cs_log.proofs.Mirroring.{next_is, with_round, says_proposal, says_echo, says_confirm, enters, waits_more}
 
 abbrev pub Outs : Type 0
 Outs = List (Outgoing OrderMessage)
-
-pub next_slot : (n : ℕ) (now old : List Proposed) (e : Proposed) → n ≡ length now → now ≡ old ++ e ∷ [] → n ≡ length old + 1
-next_slot n now old e is same = is ∙ ap length same ∙ one_more old
-  where
-    one_more : (xs : List Proposed) → length (xs ++ e ∷ []) ≡ length xs + 1
-    one_more xs = simp length-append refl
 
 -- how long a view waits is a small number
 pub limit_fits : (k : ℕ) → k ≤ 10 → 8 * 2 ^ k % 65536 ≡ 8 * 2 ^ k
 limit_fits k few = (let small : 2 ^ k ≤ 2 ^ 10 = pow-le-pow_right (omega arith) few in omega arith)
 
 -- propose
-pub proposed : (k : KeptReplica) (s : Sight) (current : KeptOpenSlot) (e : Proposed) (fresh : Bool) (n : ℕ) (old now : Outs) → Mirrors k s → Proposable (may_by (look_of k.current)) e → TakesFirst fresh current s (open_slot s) s.view k.me (message.Propose (open_slot s) k.view e) → n ≡ length k.log → now ≡ old ++ to_all (message.Propose n k.view e) → (now ≡ old ++ propose_sent s e) × Mirrors (with_round k current) (said s (message.Propose (open_slot s) s.view e))
+pub proposed : (k : KeptReplica) (s : Sight) (current : KeptOpenSlot) (e : Proposed) (fresh : Bool) (n : ℕ) (old now : Outs) → Mirrors k s → Proposable (may_by (look_of k.current)) e → TakesFirst fresh current s (open_slot s) s.view k.me (message.Propose (open_slot s) k.view e) → n ≡ next_slot k.log → now ≡ old ++ to_all (message.Propose n k.view e) → (now ≡ old ++ propose_sent s e) × Mirrors (with_round k current) (said s (message.Propose (open_slot s) s.view e))
 proposed k s current e fresh n old now p may takes slot out = (
-  out ∙ ap₂ (λ a b. old ++ to_all (message.Propose a b e)) (slot ∙ ap length p.log) p.view,
+  out ∙ ap₂ (λ a b. old ++ to_all (message.Propose a b e)) (slot ∙ next_is k s p) p.view,
   says_proposal k s current e fresh p (none_proposed s e (subst (λ (m : May). Proposable m e) (looking.may_is k.current s p.shows) may)) takes,
 )
 
@@ -55,24 +49,24 @@ echo_none k s out p none = echo_by (pending s) (none ∙ looking.pending_is k.cu
     echo_by None h = (sym (append-nil out), p)
     echo_by (Some e) h = cc
 
-pub echoed : (k : KeptReplica) (s : Sight) (current : KeptOpenSlot) (e : Proposed) (fresh : Bool) (n : ℕ) (old now : Outs) → Mirrors k s → Some e ≡ pending_by (look_of k.current) → TakesFirst fresh current s (open_slot s) s.view k.me (message.Echo (open_slot s) k.view e.digest) → n ≡ length k.log → now ≡ old ++ to_all (message.Echo n k.view e.digest) → (now ≡ old ++ echo_sent s (pending s)) × Mirrors (with_round k current) (after_echo s (pending s))
+pub echoed : (k : KeptReplica) (s : Sight) (current : KeptOpenSlot) (e : Proposed) (fresh : Bool) (n : ℕ) (old now : Outs) → Mirrors k s → Some e ≡ pending_by (look_of k.current) → TakesFirst fresh current s (open_slot s) s.view k.me (message.Echo (open_slot s) k.view e.digest) → n ≡ next_slot k.log → now ≡ old ++ to_all (message.Echo n k.view e.digest) → (now ≡ old ++ echo_sent s (pending s)) × Mirrors (with_round k current) (after_echo s (pending s))
 echoed k s current e fresh n old now p some takes slot out =
     let is : Some e ≡ pending s = some ∙ looking.pending_is k.current s p.shows in
-    let sent = out ∙ ap₂ (λ a b. old ++ to_all (message.Echo a b e.digest)) (slot ∙ ap length p.log) p.view in
+    let sent = out ∙ ap₂ (λ a b. old ++ to_all (message.Echo a b e.digest)) (slot ∙ next_is k s p) p.view in
     subst (λ (o : Option Proposed). (now ≡ old ++ echo_sent s o) × Mirrors (with_round k current) (after_echo s o)) is (sent, says_echo k s current e.digest fresh p (pending_is s e (sym is)).none_yet takes)
 
 -- confirm
-pub confirmed : (k : KeptReplica) (s : Sight) (current : KeptOpenSlot) (d : List ℕ) (fresh : Bool) (n : ℕ) (old now : Outs) → Mirrors k s → to_confirm (look_of k.current).seen ≡ Some d → TakesFirst fresh current s (open_slot s) s.view k.me (message.Confirm (open_slot s) k.view d) → n ≡ length k.log → now ≡ old ++ to_all (message.Confirm n k.view d) → (now ≡ old ++ to_all (message.Confirm (open_slot s) s.view d)) × Mirrors (with_round k current) (said s (message.Confirm (open_slot s) s.view d))
+pub confirmed : (k : KeptReplica) (s : Sight) (current : KeptOpenSlot) (d : List ℕ) (fresh : Bool) (n : ℕ) (old now : Outs) → Mirrors k s → to_confirm (look_of k.current).seen ≡ Some d → TakesFirst fresh current s (open_slot s) s.view k.me (message.Confirm (open_slot s) k.view d) → n ≡ next_slot k.log → now ≡ old ++ to_all (message.Confirm n k.view d) → (now ≡ old ++ to_all (message.Confirm (open_slot s) s.view d)) × Mirrors (with_round k current) (said s (message.Confirm (open_slot s) s.view d))
 confirmed k s current d fresh n old now p due takes slot out = (
-  out ∙ ap₂ (λ a b. old ++ to_all (message.Confirm a b d)) (slot ∙ ap length p.log) p.view,
+  out ∙ ap₂ (λ a b. old ++ to_all (message.Confirm a b d)) (slot ∙ next_is k s p) p.view,
   says_confirm k s current d fresh p (rule.to_confirm_is s d (sym (looking.confirming_is k.current s p.shows) ∙ due)).1 takes,
 )
 
 -- enter
-pub view_entered : (k : KeptReplica) (s : Sight) (told current : KeptOpenSlot) (w : ℕ) (change sent : Change) (fresh : Bool) (n : ℕ) (old now : Outs) → Mirrors k s → k.view < w → w < view_bound → change ≡ change_by (look_of k.current) → sent ≡ change_by (look_of k.current) → TakesFirst fresh told s (open_slot s) s.view k.me (message.Change (open_slot s) w change) → ((t : Sight) (i v : ℕ) → Shows told t i v → Shows current t i w) → n ≡ length k.log → now ≡ old ++ to_all (message.Change n w sent) → (now ≡ old ++ change_to s w) × Mirrors (record { f = k.f; me = k.me; log = k.log; view = w; wait = 0; current = current; later = k.later }) (entered s w)
+pub view_entered : (k : KeptReplica) (s : Sight) (told current : KeptOpenSlot) (w : ℕ) (change sent : Change) (fresh : Bool) (n : ℕ) (old now : Outs) → Mirrors k s → k.view < w → w < view_bound → change ≡ change_by (look_of k.current) → sent ≡ change_by (look_of k.current) → TakesFirst fresh told s (open_slot s) s.view k.me (message.Change (open_slot s) w change) → ((t : Sight) (i v : ℕ) → Shows told t i v → Shows current t i w) → n ≡ next_slot k.log → now ≡ old ++ to_all (message.Change n w sent) → (now ≡ old ++ change_to s w) × Mirrors (record { f = k.f; me = k.me; log = k.log; view = w; wait = 0; current = current; later = k.later }) (entered s w)
 view_entered k s told current w change sent fresh n old now p higher small is also takes enter slot out =
     let tells = looking.change_is k.current s p.shows in (
-      out ∙ ap₂ (λ a (c : Change). old ++ to_all (message.Change a w c)) (slot ∙ ap length p.log) (also ∙ tells),
+      out ∙ ap₂ (λ a (c : Change). old ++ to_all (message.Change a w c)) (slot ∙ next_is k s p) (also ∙ tells),
       enters k s told current w change fresh p (rw (← p.view) higher) small takes (is ∙ tells) enter,
     )
 
@@ -84,11 +78,11 @@ entering_later k w seen is =
     let r = rule.entering_is s w (sym (is ∙ looking.entering_is k.current s p.shows)) in
     ((let e = p.view in let above = r.0 in omega arith), (let e = p.views in let below = r.1 in omega arith))
 
-pub room_to_choose : (k : KeptReplica) (e : Proposed) → IsSeen k → Some e ≡ chosen (look_of k.current).seen → length k.log < last_slot
+pub room_to_choose : (k : KeptReplica) (e : Proposed) → IsSeen k → Some e ≡ chosen (look_of k.current).seen → next_slot k.log < last_slot
 room_to_choose k e seen is =
     let s = seen.0 in
     let p = seen.1 in
-    rw p.log (rule.choice_is s e (sym (is ∙ looking.choice_is k.current s p.shows))).0
+    rw (next_is k s p) (rule.choice_is s e (sym (is ∙ looking.choice_is k.current s p.shows))).0
 
 abbrev pub Advanced : Sight → KeptReplica → Step → Outs → Outs → Option Proposed → Option ℕ → Option (List ℕ) → Type 0
 Advanced s new x old now c w d = (x ≡ step_by c w d) × (now ≡ old ++ advance_by s c w d) × Mirrors new (after_step s c w d)

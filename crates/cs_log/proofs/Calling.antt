@@ -1,7 +1,7 @@
 -- Each call of what is kept is the rules' function of the member's deeds.
-use Rattle.std.proofs.Common.{◌≡◌, ℕ, ◌<◌, Bool, true, false, List, ◌++◌, length, slice_get, Option, Some, None, IsSome, refl, sym, ap, ap₂, ◌∙◌, subst, arith}
+use Rattle.std.proofs.Common.{◌≡◌, ℕ, ◌<◌, Bool, true, false, List, ◌++◌, Option, Some, None, IsSome, refl, sym, ap, ap₂, ◌∙◌, subst, arith}
 use Rattle.cs_order.specs.Limits.{rest_at}
-use Rattle.cs_order.specs.Deeds.{Deed, Member, did, sent_by}
+use Rattle.cs_order.specs.Deeds.{Deed, Member, did, sent_by, entry_from, entry_at}
 use Rattle.cs_order.specs.Deeds as deed
 use Rattle.cs_order.specs.Calls.{Proposable, TakesIn, Advances, Echoes, Proposes, Ticks, Replies, RepliesWith, Lowers, taken_in, advanced, sent_at}
 use Rattle.cs_order.specs.declared.proposed.Proposed.{Proposed}
@@ -19,15 +19,16 @@ use Rattle.cs_order_rules.specs.SlotMachine.{slot_machine, sight, slot_rest}
 use Rattle.cs_order_law.specs.laws.Rest.{rest_falls}
 use Rattle.cs_order_open.specs.Look.{look_of, pending_by, may_by, left_by}
 use Rattle.cs_order_open.specs.laws.Looking.{left_is, pending_is, may_is}
-use Rattle.cs_log.specs.Stands.{ReplicaStands, allowed, awaited}
+use Rattle.cs_log.specs.Stands.{StandsFor, ReplicaStands, allowed, awaited}
 use Rattle.cs_log.specs.Replicas.{KeptReplica, Mirrors, after_taking, after_step, after_echo, after_tick, said, kept_rest, RepliedWith}
+use Rattle.cs_log.proofs.Mirroring.{next_is}
 
 abbrev pub Outs : Type 0
 Outs = List (Outgoing OrderMessage)
 
 -- What is left to do is what the rules leave.
 pub rest_is : (k : KeptReplica) (h : Member OrderMessage) → Mirrors k (sight h) → kept_rest k ≡ slot_rest h
-rest_is k h p = ap (λ (xs : List Proposed). rest_at (length xs) k.view (left_by (look_of k.current))) p.log ∙ ap₂ (λ v left. rest_at (open_slot (sight h)) v left) p.view (left_is k.current (sight h) p.shows)
+rest_is k h p = ap (λ n. rest_at n k.view (left_by (look_of k.current))) (next_is k (sight h) p) ∙ ap₂ (λ v left. rest_at (open_slot (sight h)) v left) p.view (left_is k.current (sight h) p.shows)
 
 lower : (k new : KeptReplica) (h : Member OrderMessage) (act : Deed OrderMessage) → Mirrors k (sight h) → Mirrors new (sight (did act h)) → slot_rest (did act h) < slot_rest h → kept_rest new < kept_rest k
 lower k new h act p q less = rw (rest_is k h p, rest_is new (did act h) q) less
@@ -79,9 +80,9 @@ pub echo_lowers : (h : Member OrderMessage) (k new : KeptReplica) (old now : Out
 echo_lowers h k new old now p some made = lower k new h (deed.Echoed (slot_machine.echoing h)) p made.1 (rest_falls h (deed.Echoed (slot_machine.echoing h)) (rw (← pending_is k.current (sight h) p.shows) some, refl) tt)
 
 -- where nothing is pending, an echo changes nothing
-pub echo_stays : (h : Member OrderMessage) (new : KeptReplica) (o : Option Proposed) → Mirrors new (after_echo (sight h) o) → (t : Member OrderMessage) × Mirrors new (sight t)
-echo_stays h new None p = (h, p)
-echo_stays h new (Some e) p = (did (deed.Echoed (echo_sent (sight h) (Some e))) h, p)
+pub echo_stays : (h : Member OrderMessage) (k new : KeptReplica) (o : Option Proposed) → StandsFor k h → new.log.first ≡ k.log.first → Mirrors new (after_echo (sight h) o) → (t : Member OrderMessage) × StandsFor new t
+echo_stays h k new None stands uncut p = (h, record { mirrors = p; first = uncut ∙ stands.first })
+echo_stays h k new (Some e) stands uncut p = (did (deed.Echoed (echo_sent (sight h) (Some e))) h, record { mirrors = p; first = uncut ∙ stands.first })
 
 -- propose
 pub proposes : (h : Member OrderMessage) (new : KeptReplica) (e : Proposed) (old now : Outs) → (now ≡ old ++ propose_sent (sight h) e) × Mirrors new (said (sight h) (message.Propose (open_slot (sight h)) (sight h).view e)) → Proposes slot_machine h e old now (λ t. Mirrors new (sight t))
@@ -100,17 +101,17 @@ pub ticks : (h : Member OrderMessage) (new : KeptReplica) (due : Bool) (old now 
 ticks h new due old now made = (made.0, ticked_by h new due (is_over (sight h) due) (waits (sight h) due) refl refl made.1)
 
 -- resend and reply
-pub replies_by : (h : Member OrderMessage) (k : KeptReplica) (slot to : ℕ) (answer : Bool) (old now : Outs) (o : Option (Outgoing OrderMessage)) → Mirrors k (sight h) → RepliedWith o answer old now → RepliesWith o h slot to answer old now (λ t. Mirrors k (sight t))
+pub replies_by : (h : Member OrderMessage) (k : KeptReplica) (slot to : ℕ) (answer : Bool) (old now : Outs) (o : Option (Outgoing OrderMessage)) → StandsFor k h → RepliedWith o answer old now → RepliesWith o h slot to answer old now (λ t. StandsFor k t)
 replies_by h k slot to answer old now None p made = made
-replies_by h k slot to answer old now (Some out) p made = (made.0, made.1, p)
+replies_by h k slot to answer old now (Some out) p made = (made.0, made.1, record { mirrors = p.mirrors; first = p.first })
 
-pub replies : (h : Member OrderMessage) (k : KeptReplica) (slot to : ℕ) (answer : Bool) (old now : Outs) → Mirrors k (sight h) → RepliedWith (reply_with slot to (slice_get k.log slot)) answer old now → Replies slot_machine h slot to answer old now (λ t. Mirrors k (sight t))
-replies h k slot to answer old now p made = replies_by h k slot to answer old now (reply_with slot to (slice_get (sight h).log slot)) p (subst (λ (log : List Proposed). RepliedWith (reply_with slot to (slice_get log slot)) answer old now) p.log made)
+pub replies : (h : Member OrderMessage) (k : KeptReplica) (slot to : ℕ) (answer : Bool) (old now : Outs) → StandsFor k h → RepliedWith (reply_with slot to (entry_from k.log.first (sight h).log slot)) answer old now → Replies slot_machine h slot to answer old now (λ t. StandsFor k t)
+replies h k slot to answer old now p made = replies_by h k slot to answer old now (reply_with slot to (entry_at h.deeds slot)) p (subst (λ first. RepliedWith (reply_with slot to (entry_from first (sight h).log slot)) answer old now) p.first made)
 
 pub allows_rule : (o : Option KeptReplica) (h : Member OrderMessage) → ReplicaStands o h → allowed o ≡ slot_machine.may_propose h
 allows_rule None h stands = absurd stands
-allows_rule (Some k) h stands = may_is k.current (sight h) stands.shows
+allows_rule (Some k) h stands = may_is k.current (sight h) stands.mirrors.shows
 
 pub awaits_rule : (o : Option KeptReplica) (h : Member OrderMessage) → ReplicaStands o h → awaited o ≡ slot_machine.pending h
 awaits_rule None h stands = absurd stands
-awaits_rule (Some k) h stands = pending_is k.current (sight h) stands.shows
+awaits_rule (Some k) h stands = pending_is k.current (sight h) stands.mirrors.shows

@@ -1,7 +1,8 @@
 -- What is kept mirrors what the member sees, after each call.
-use Rattle.std.proofs.Common.{◌≡◌, ◌≢◌, ℕ, ◌+◌, ◌*◌, ◌<◌, ◌≤◌, ◌==◌, min, Bool, true, false, not, if◌then◌else◌, List, [], ◌∷◌, ◌++◌, length, length-append, Option, Some, None, is_some, slice_get, slice_set, inl, inr, refl, sym, ap, ◌∙◌, subst, ne_eqb, arith}
+use Rattle.std.proofs.Common.{◌≡◌, ◌≢◌, ℕ, ◌+◌, ◌*◌, ◌<◌, ◌≤◌, ◌==◌, min, Bool, true, false, not, List, [], ◌∷◌, ◌++◌, length, length-append, length-drop, Option, Some, None, is_some, slice_get, slice_set, inl, inr, refl, sym, ap, ◌∙◌, subst, ne_eqb, arith}
 use Rattle.cs_order.specs.Limits.{last_slot, view_bound}
 use Rattle.cs_order.specs.Lists.{IsIn}
+use Rattle.cs_order.specs.Kept.{KeepsFrom}
 use Rattle.cs_order.specs.declared.proposed.Proposed.{Proposed}
 use Rattle.cs_order_rules.specs.declared.message.Change.{Change}
 use Rattle.cs_order_rules.specs.declared.message.OrderMessage.{OrderMessage}
@@ -14,9 +15,13 @@ use Rattle.cs_order_law.specs.Terms.{Within}
 use Rattle.cs_order_open.specs.Shows.{KeptOpenSlot, Shows, TakesFirst, IsOf, with_fact, led}
 use Rattle.cs_order_open.specs.laws.Seeing.{took_is_found, like_proposal, like_echo, like_confirm, like_change}
 use Rattle.cs_order_open.specs.laws.OneSlot.{shows_more}
-use Rattle.cs_log.specs.Replicas.{KeptReplica, Mirrors, IsSeen, longest_wait, at_first, said, entered, chose, waited, if_fresh}
+use Rattle.cs_log.specs.Replicas.{KeptEntries, KeptReplica, next_slot, Mirrors, IsSeen, longest_wait, at_first, said, entered, chose, waited, if_fresh}
 use Rattle.cs_log.specs.Later.{ShowLater, MayTake}
 use Rattle.cs_log.proofs.LaterSlots.{moved, moved_later, more_later, slot_at, takes_at}
+
+-- the log is kept up to the open slot
+pub next_is : (k : KeptReplica) (s : Sight) → Mirrors k s → next_slot k.log ≡ open_slot s
+next_is k s p = (let within = p.log.within in let n = ap length p.log.entries_are ∙ length-drop k.log.first s.log in omega arith)
 
 -- whose open slot it is
 pub is_of : (k : KeptOpenSlot) (s : Sight) (n v : ℕ) → Shows k s n v → IsOf s.f n s.me v k
@@ -30,8 +35,8 @@ is_of k s n v p =
     }
 
 -- What is known of a replica that is seen.
-pub replica_of : (k : KeptReplica) → (p : IsSeen k) → IsOf k.f (length k.log) k.me k.view k.current
-replica_of k p = let m = p.1 in rw (m.f, m.log, m.me, m.view) (is_of k.current p.0 (open_slot p.0) p.0.view m.shows)
+pub replica_of : (k : KeptReplica) → (p : IsSeen k) → IsOf k.f (next_slot k.log) k.me k.view k.current
+replica_of k p = let m = p.1 in rw (m.f, next_is k p.0 m, m.me, m.view) (is_of k.current p.0 (open_slot p.0) p.0.view m.shows)
 
 pub replica_few : (k : KeptReplica) → IsSeen k → k.f ≤ 5
 replica_few k p = rw p.1.f p.1.few
@@ -39,8 +44,8 @@ replica_few k p = rw p.1.f p.1.few
 pub replica_member : (k : KeptReplica) → IsSeen k → k.me ≤ 3 * k.f
 replica_member k p = rw (p.1.me, p.1.f) p.1.member
 
-pub replica_short : (k : KeptReplica) → IsSeen k → length k.log ≤ last_slot
-replica_short k p = rw p.1.log p.1.short
+pub replica_short : (k : KeptReplica) → IsSeen k → next_slot k.log ≤ last_slot
+replica_short k p = rw (next_is k p.0 p.1) p.1.short
 
 pub replica_small : (k : KeptReplica) → IsSeen k → k.view < view_bound
 replica_small k p = rw p.1.view p.1.small
@@ -84,17 +89,17 @@ same_round k s current p shows =
     record { f = p.f; me = p.me; log = p.log; view = p.view; wait = p.wait; views = p.views; few = p.few; member = p.member; short = p.short; small = p.small; shows = shows; later = p.later; within = p.within }
 
 -- a message of another member that the open slot took, or not
-pub round_took : (k : KeptReplica) (s : Sight) (current : KeptOpenSlot) (from : ℕ) (m : OrderMessage) (fresh : Bool) → Mirrors k s → from ≢ k.me → slot_of m ≡ length k.log → TakesFirst fresh current s (open_slot s) s.view from m → (fresh ≡ not (took (is_like m) s.taken from)) × Mirrors (with_round k current) (if_fresh fresh s from m)
-round_took k s current from m true p other slot takes = (takes.0, here k s current from m p (slot ∙ ap length p.log) takes.1 (within_other s from m (rw (← p.me) other) p.within))
+pub round_took : (k : KeptReplica) (s : Sight) (current : KeptOpenSlot) (from : ℕ) (m : OrderMessage) (fresh : Bool) → Mirrors k s → from ≢ k.me → slot_of m ≡ next_slot k.log → TakesFirst fresh current s (open_slot s) s.view from m → (fresh ≡ not (took (is_like m) s.taken from)) × Mirrors (with_round k current) (if_fresh fresh s from m)
+round_took k s current from m true p other slot takes = (takes.0, here k s current from m p (slot ∙ next_is k s p) takes.1 (within_other s from m (rw (← p.me) other) p.within))
 round_took k s current from m false p other slot takes = (takes.0, same_round k s current p takes.1)
 
 -- a slot above the open one may take it
-pub may_take : (k : KeptReplica) (s : Sight) (later : List KeptOpenSlot) (place from : ℕ) (m : OrderMessage) → Mirrors k s → from ≤ 3 * k.f → from ≢ k.me → led k.f from m ≡ true → slot_of m ≡ length k.log + 1 + place → ShowLater later s (open_slot s + 1) → (x : KeptOpenSlot) → slice_get later place ≡ Some x → MayTake x from m
+pub may_take : (k : KeptReplica) (s : Sight) (later : List KeptOpenSlot) (place from : ℕ) (m : OrderMessage) → Mirrors k s → from ≤ 3 * k.f → from ≢ k.me → led k.f from m ≡ true → slot_of m ≡ next_slot k.log + 1 + place → ShowLater later s (open_slot s + 1) → (x : KeptOpenSlot) → slice_get later place ≡ Some x → MayTake x from m
 may_take k s later place from m p member other leads slot show x at =
     let of = is_of x s (open_slot s + 1 + place) 0 (slot_at later s (open_slot s + 1) place x show at) in
     let same_f : k.f ≡ x.slot.f = p.f ∙ sym of.f_is in
     let same_me : k.me ≡ x.slot.me = p.me ∙ sym of.me_is in
-    let same_log = ap length p.log in
+    let same_log = next_is k s p in
     let is_slot = of.n_is in
     record {
       member = subst (λ f. from ≤ 3 * f) same_f member;
@@ -124,9 +129,9 @@ later_took_by k s later from m true p other apart show =
 later_took_by k s later from m false p other apart show =
     record { f = p.f; me = p.me; log = p.log; view = p.view; wait = p.wait; views = p.views; few = p.few; member = p.member; short = p.short; small = p.small; shows = p.shows; later = show; within = p.within }
 
-pub later_took : (k : KeptReplica) (s : Sight) (later now : List KeptOpenSlot) (place from : ℕ) (m : OrderMessage) (fresh : Bool) (new : KeptOpenSlot) → Mirrors k s → from ≢ k.me → slot_of m ≡ length k.log + 1 + place → ShowLater later s (open_slot s + 1) → place < length later → now ≡ slice_set later place new → TakesFirst fresh new s (open_slot s + 1 + place) 0 from m → (fresh ≡ not (took (is_like m) s.taken from)) × Mirrors (with_later k now) (if_fresh fresh s from m)
+pub later_took : (k : KeptReplica) (s : Sight) (later now : List KeptOpenSlot) (place from : ℕ) (m : OrderMessage) (fresh : Bool) (new : KeptOpenSlot) → Mirrors k s → from ≢ k.me → slot_of m ≡ next_slot k.log + 1 + place → ShowLater later s (open_slot s + 1) → place < length later → now ≡ slice_set later place new → TakesFirst fresh new s (open_slot s + 1 + place) 0 from m → (fresh ≡ not (took (is_like m) s.taken from)) × Mirrors (with_later k now) (if_fresh fresh s from m)
 later_took k s later now place from m fresh new p other slot show within is takes =
-    let same_log = ap length p.log in
+    let same_log = next_is k s p in
     let there : slot_of m ≡ open_slot s + 1 + place = omega arith in
     let apart : (slot_of m == open_slot s) ≡ false = ne_eqb (slot_of m) (open_slot s) (λ e. (omega arith)) in
     let shown = takes_at later s (open_slot s + 1) place from m fresh new show within there takes.1 in
@@ -194,20 +199,20 @@ enters k s told current w change fresh p higher small made is enter =
     }
 
 -- The next slot.
-pub chooses : (k : KeptReplica) (s : Sight) (e : Proposed) (current : KeptOpenSlot) (rest : List KeptOpenSlot) → Mirrors k s → length k.log < last_slot → Shows current s (open_slot s + 1) 0 → ShowLater rest s (open_slot s + 1 + 1) → Mirrors (record { f = k.f; me = k.me; log = k.log ++ e ∷ []; view = 0; wait = 0; current = current; later = rest }) (chose s e)
-chooses k s e current rest p room shows kept =
+pub chooses : (k : KeptReplica) (s : Sight) (e : Proposed) (log : KeptEntries) (current : KeptOpenSlot) (rest : List KeptOpenSlot) → Mirrors k s → KeepsFrom log.first log.entries (s.log ++ e ∷ []) → next_slot k.log < last_slot → Shows current s (open_slot s + 1) 0 → ShowLater rest s (open_slot s + 1 + 1) → Mirrors (record { f = k.f; me = k.me; log = log; view = 0; wait = 0; current = current; later = rest }) (chose s e)
+chooses k s e log current rest p pushed room shows kept =
     let n = open_slot s + 1 in
     let is_open : n ≡ open_slot (chose s e) = simp length-append refl in
     record {
       f = p.f;
       me = p.me;
-      log = ap (λ (xs : List Proposed). xs ++ e ∷ []) p.log;
+      log = pushed;
       view = refl;
       wait = refl;
       views = p.views;
       few = p.few;
       member = p.member;
-      short = (let a = is_open in let b = ap length p.log in omega arith);
+      short = (let a = is_open in let b = next_is k s p in omega arith);
       small = omega arith;
       shows = subst (λ j. Shows current (chose s e) j 0) is_open (moved current s n 0 (s.log ++ e ∷ []) 0 0 shows);
       later = subst (λ j. ShowLater rest (chose s e) (j + 1)) is_open (moved_later rest s (n + 1) (s.log ++ e ∷ []) 0 0 kept);
@@ -234,7 +239,7 @@ waits_more k s wait p more =
     }
 
 -- A member that has done nothing.
-pub begins : (f me : ℕ) (k : KeptReplica) → f ≤ 5 → me ≤ 3 * f → k.f ≡ f → k.me ≡ me → k.log ≡ [] → k.view ≡ 0 → k.wait ≡ 0 → k.later ≡ [] → Shows k.current (at_first f me) 0 0 → Mirrors k (at_first f me)
+pub begins : (f me : ℕ) (k : KeptReplica) → f ≤ 5 → me ≤ 3 * f → k.f ≡ f → k.me ≡ me → KeepsFrom k.log.first k.log.entries [] → k.view ≡ 0 → k.wait ≡ 0 → k.later ≡ [] → Shows k.current (at_first f me) 0 0 → Mirrors k (at_first f me)
 begins f me k few member same_f same_me log view wait later shows =
     record {
       f = same_f;
@@ -251,3 +256,8 @@ begins f me k few member same_f same_me log view wait later shows =
       later = subst (λ (xs : List KeptOpenSlot). ShowLater xs (at_first f me) 1) (sym later) tt;
       within = λ m h. absurd h;
     }
+
+-- The log is cut.
+pub cuts : (k : KeptReplica) (s : Sight) (log : KeptEntries) → Mirrors k s → KeepsFrom log.first log.entries s.log → Mirrors (record { f = k.f; me = k.me; log = log; view = k.view; wait = k.wait; current = k.current; later = k.later }) s
+cuts k s log p kept =
+    record { f = p.f; me = p.me; log = kept; view = p.view; wait = p.wait; views = p.views; few = p.few; member = p.member; short = p.short; small = p.small; shows = p.shows; later = p.later; within = p.within }

@@ -3,6 +3,7 @@ use Rattle.std.specs.Prelude.{◌≡◌, ℕ, ◌+◌, ◌*◌, ◌≤◌, ◌<�
 use Rattle.cs_log.specs.declared.replica.TheConstants.{LONGEST_WAIT}
 use Rattle.cs_order.specs.Limits.{last_slot, view_bound, rest_at}
 use Rattle.cs_order.specs.Lists.{IsIn}
+use Rattle.cs_order.specs.Kept.{KeepsFrom}
 use Rattle.cs_order.specs.declared.proposed.Proposed.{Proposed}
 use Rattle.cs_order.specs.declared.answers.Outgoing.{Outgoing}
 use Rattle.cs_order.specs.declared.answers.Took.{Took}
@@ -17,10 +18,19 @@ use Rattle.cs_order_open.specs.Look.{look_of, left_by}
 use Rattle.cs_log.specs.Later.{ShowLater}
 use Rattle.cs_log.specs.declared.replica.Replica.{Replica}
 
+-- a log that is kept from a slot on
+pub record KeptEntries : Type 0 where
+  pub first : ℕ
+  pub entries : List Proposed
+
+-- the first slot that isn't chosen
+abbrev pub next_slot : KeptEntries → ℕ
+next_slot log = log.first + length log.entries
+
 pub record KeptReplica : Type 0 where
   pub f : ℕ
   pub me : ℕ
-  pub log : List Proposed
+  pub log : KeptEntries  -- the entries chosen
   pub view : ℕ
   pub wait : ℕ
   pub current : KeptOpenSlot  -- the open slot
@@ -30,7 +40,7 @@ abbrev pub kept : Replica → KeptReplica
 kept replica = record {
   f = replica.f;
   me = replica.me;
-  log = replica.log.items;
+  log = record { first = replica.log.first; entries = replica.log.entries.items };
   view = replica.view;
   wait = replica.wait;
   current = replica.current;
@@ -41,11 +51,11 @@ kept replica = record {
 abbrev pub longest_wait : ℕ
 longest_wait = LONGEST_WAIT
 
--- What is kept is what the rules look at.
+-- What is kept is what the rules look at, the log from a slot on.
 pub record Mirrors (k : KeptReplica) (s : Sight) : Type 0 where
   pub f : k.f ≡ s.f
   pub me : k.me ≡ s.me
-  pub log : k.log ≡ s.log
+  pub log : KeepsFrom k.log.first k.log.entries s.log
   pub view : k.view ≡ s.view
   pub wait : k.wait ≡ min s.wait longest_wait
   pub views : s.views ≡ view_bound
@@ -112,7 +122,7 @@ after_tick s due = if is_over s due then entered s (s.view + 1) else (if waits s
 
 -- how many more of a caller's turns there may be
 abbrev pub kept_rest : KeptReplica → ℕ
-kept_rest k = rest_at (length k.log) k.view (left_by (look_of k.current))
+kept_rest k = rest_at (next_slot k.log) k.view (left_by (look_of k.current))
 
 -- what a member answers, and hands out with that
 abbrev pub RepliedWith : Option (Outgoing OrderMessage) → Bool

@@ -1,6 +1,6 @@
 -- Where a member's deeds have led it.
-use Rattle.std.specs.Prelude.{ℕ, Option, Some, None}
-use Rattle.cs_order.specs.Deeds.{Member}
+use Rattle.std.specs.Prelude.{◌≡◌, ℕ, Option, Some, None}
+use Rattle.cs_order.specs.Deeds.{Member, kept_from}
 use Rattle.cs_order.specs.declared.proposed.Proposed.{Proposed}
 use Rattle.cs_order.specs.declared.answers.May.{May}
 use Rattle.cs_order.specs.declared.answers.May.TheVariants.{No}
@@ -15,14 +15,19 @@ abbrev pub kept_if : Option Replica → Option KeptReplica
 kept_if None = None
 kept_if (Some replica) = Some (kept replica)
 
+-- The deeds come to what is kept, and to the slot from which on the log is kept.
+pub record StandsFor (k : KeptReplica) (h : Member OrderMessage) : Type 0 where
+  pub mirrors : Mirrors k (sight h)
+  pub first : k.log.first ≡ kept_from h.deeds
+
 abbrev pub ReplicaStands : Option KeptReplica → Member OrderMessage → Type 0
 ReplicaStands None h = ⊥
-ReplicaStands (Some k) h = Mirrors k (sight h)
+ReplicaStands (Some k) h = StandsFor k h
 
 -- some deeds led to what is kept
 abbrev pub IsLed : Option KeptReplica → Type 0
 IsLed None = Unit {0}
-IsLed (Some k) = (h : Member OrderMessage) × Mirrors k (sight h)
+IsLed (Some k) = (h : Member OrderMessage) × StandsFor k h
 
 abbrev pub f_of : Option KeptReplica → ℕ
 f_of None = 0
@@ -34,7 +39,7 @@ me_of (Some k) = k.me
 
 abbrev pub ReplicaStarts : Option KeptReplica → Type 0
 ReplicaStarts None = ⊥
-ReplicaStarts (Some k) = Mirrors k (at_first k.f k.me)
+ReplicaStarts (Some k) = Mirrors k (at_first k.f k.me) × (k.log.first ≡ 0)
 
 abbrev pub awaited : Option KeptReplica → Option Proposed
 awaited None = None

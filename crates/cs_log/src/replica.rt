@@ -1,6 +1,9 @@
 //! What a member keeps of its shard's order.
-ghost use Rattle.std.specs.Prelude.{◌≡◌, ◌≢◌, ◌+◌, ◌*◌, ◌^◌, ◌≤◌, ◌<◌, ◌==◌, ◌&&◌, nat_lt, min, not, true, Some, None, IfOk, OnOk, OnErr, length, slice_get, option_copied, ◌++◌, if◌then◌else◌};
+ghost use Rattle.std.specs.Prelude.{◌≡◌, ◌≢◌, ◌+◌, ◌*◌, ◌^◌, ◌≤◌, ◌<◌, ◌==◌, ◌&&◌, nat_lt, min, max, not, true, List, Some, None, IfOk, OnOk, OnErr, length, option_copied, ◌++◌, if◌then◌else◌};
 ghost use Rattle.cs_base.specs.declared.limits.TheConstants.{SLOTS_AHEAD};
+ghost use Rattle.cs_order.specs.declared.proposed.Proposed.{Proposed};
+ghost use Rattle.cs_order.specs.Deeds.{entry_from};
+ghost use Rattle.cs_order.specs.Kept.{KeepsFrom};
 ghost use Rattle.cs_order.specs.Limits.{last_slot, view_bound};
 ghost use Rattle.cs_order.specs.Calls.{Proposable};
 ghost use Rattle.cs_order.specs.Law.{IsPrefix};
@@ -10,15 +13,15 @@ ghost use Rattle.cs_order_rules.specs.Facts.{Sight, open_slot, slot_of, is_like,
 ghost use Rattle.cs_order_rules.specs.Rules.{verdict, choice, entering, confirming, step_of, advance_sent, pending, echo_sent, may_propose, propose_sent, change_to, tick_sent, to_all, reply_with};
 ghost use Rattle.cs_order_open.specs.Shows.{led};
 ghost use Rattle.cs_order_open.specs.Look.{look_of, pending_by, may_by, resend_by};
-ghost use Rattle.cs_log.specs.Replicas.{kept, longest_wait, Mirrors, IsSeen, at_first, after_taking, if_fresh, said, entered, chose, after_step, after_echo, after_tick, RepliedWith};
+ghost use Rattle.cs_log.specs.Replicas.{kept, next_slot, longest_wait, Mirrors, IsSeen, at_first, after_taking, if_fresh, said, entered, chose, after_step, after_echo, after_tick, kept_rest, RepliedWith};
 
 use crate::later::{extend, open_first, take_at};
 use crate::saying::{change_again, confirm_again, echo_again, hand_out, propose_again, say};
 use cs_base::{Memory, SLOTS_AHEAD, VIEW_BOUND};
-use cs_order::{May, Outgoing, Proposed, Step, Took};
+use cs_order::{KeptLog, May, Outgoing, Proposed, Step, Took};
 use cs_order_open::{OpenSlot, slot_of};
 use cs_order_rules::OrderMessage;
-use std::alloc::{AllocError, Global};
+use std::alloc::Global;
 
 /// A wait counts no further: no view waits for more ticks.
 const LONGEST_WAIT: u16 = 8192;
@@ -28,7 +31,7 @@ const LONGEST_WAIT: u16 = 8192;
 pub struct Replica {
     f: u16,
     me: u16,
-    log: Vec<Proposed>,
+    log: KeptLog,
     view: u16,
     /// The ticks since the view was entered at which there was something to wait for.
     wait: u16,
@@ -42,13 +45,14 @@ impl Replica {
     pub fn new(alloc: Global, f: u16, me: u16) -> Result<Replica, Memory>
         requires few { f ≤ 5 }
         requires member { me ≤ 3 * f }
-        ensures { IfOk result (λ replica. Mirrors (kept replica) (at_first f me)) }
+        ensures mirrors { IfOk result (λ replica. Mirrors (kept replica) (at_first f me)) }
+        ensures first { IfOk result (λ replica. replica.log.first ≡ 0) }
     {
         let current = OpenSlot::new(alloc, f, 0, me)?;
         Ok(Replica {
             f,
             me,
-            log: Vec::new(alloc),
+            log: KeptLog::new(alloc),
             view: 0,
             wait: 0,
             current,
@@ -72,9 +76,10 @@ impl Replica {
 
     /// The first slot that is not chosen.
     pub fn open_slot(&self) -> u64
-        ensures { result ≡ length self.now.log.items }
+        ensures slot { result ≡ next_slot (kept self.now).log }
+        ensures bound { result ≤ last_slot }
     {
-        self.log.len() as u64
+        self.log.next()
     }
 
     /// The view that the member is in.
@@ -84,11 +89,13 @@ impl Replica {
         self.view
     }
 
-    /// The entry that is chosen in a slot.
+    /// The entry that is chosen in a slot, unless it was cut.
     pub fn entry(&self, slot: u64) -> Option<&Proposed>
-        ensures { option_copied result ≡ slice_get self.now.log.items slot }
+        ensures { (log : List Proposed) →
+            KeepsFrom self.now.log.first self.now.log.entries.items log →
+            option_copied result ≡ entry_from self.now.log.first log slot }
     {
-        self.log.get(slot as usize)
+        self.log.get(slot)
     }
 
     /// Takes a message of another member.
@@ -96,9 +103,10 @@ impl Replica {
         requires seen { IsSeen (kept self.old) }
         requires member { from ≤ 3 * self.old.f }
         requires other { from ≢ self.old.me }
-        ensures { (s : Sight) → Mirrors (kept self.old) s →
+        ensures call { (s : Sight) → Mirrors (kept self.old) s →
             IfOk result (λ took. (took ≡ verdict s from message)
             × Mirrors (kept self.new) (after_taking (verdict s from message) s from message)) }
+        ensures uncut { OnOk result (self.new.log.first ≡ self.old.log.first) }
     {
         let slot = slot_of(&message);
         let open = self.open_slot();
@@ -138,12 +146,13 @@ impl Replica {
         requires seen { IsSeen (kept self.old) }
         requires member { from ≤ 3 * self.old.f }
         requires other { from ≢ self.old.me }
-        requires slot { length self.old.log.items ≤ slot_of message }
-        requires near { slot_of message ≤ length self.old.log.items + SLOTS_AHEAD }
+        requires slot { next_slot (kept self.old).log ≤ slot_of message }
+        requires near { slot_of message ≤ next_slot (kept self.old).log + SLOTS_AHEAD }
         requires led { led self.old.f from message ≡ true }
-        ensures { (s : Sight) → Mirrors (kept self.old) s →
+        ensures call { (s : Sight) → Mirrors (kept self.old) s →
             IfOk result (λ fresh. (fresh ≡ not (took (is_like message) s.taken from))
             × Mirrors (kept self.new) (if_fresh fresh s from message)) }
+        ensures uncut { OnOk result (self.new.log.first ≡ self.old.log.first) }
     {
         let slot = slot_of(&message);
         let open = self.open_slot();
@@ -163,10 +172,11 @@ impl Replica {
         out: &mut Vec<Outgoing<OrderMessage>>,
     ) -> Result<Step, Memory>
         requires { IsSeen (kept self.old) }
-        ensures { (s : Sight) → Mirrors (kept self.old) s →
+        ensures call { (s : Sight) → Mirrors (kept self.old) s →
             IfOk result (λ step. (step ≡ step_of s)
             × (out.new.items ≡ out.old.items ++ advance_sent s)
             × Mirrors (kept self.new) (after_step s (choice s) (entering s) (confirming s))) }
+        ensures uncut { OnOk result (self.new.log.first ≡ self.old.log.first) }
     {
         if let Some(entry) = self.current.chosen() {
             let chosen = entry.copy(alloc)?;
@@ -188,13 +198,12 @@ impl Replica {
     /// Puts an entry to the log, and opens the next slot.
     fn choose(&mut self, alloc: Global, entry: Proposed) -> Result<(), Memory>
         requires seen { IsSeen (kept self.old) }
-        requires room { length self.old.log.items < last_slot }
-        ensures { (s : Sight) → Mirrors (kept self.old) s →
+        requires room { next_slot (kept self.old).log < last_slot }
+        ensures call { (s : Sight) → Mirrors (kept self.old) s →
             OnOk result (Mirrors (kept self.new) (chose s entry)) }
+        ensures uncut { OnOk result (self.new.log.first ≡ self.old.log.first) }
     {
-        if let Err(refused) = self.log.push(entry) {
-            return Err(AllocError::from(refused).into());
-        }
+        self.log.push(entry)?;
         let open = self.open_slot();
         let current = open_first(alloc, &mut self.later, self.f, open, self.me)?;
         self.current = current;
@@ -213,9 +222,10 @@ impl Replica {
         requires seen { IsSeen (kept self.old) }
         requires later { self.old.view < view }
         requires small { view < view_bound }
-        ensures { (s : Sight) → Mirrors (kept self.old) s →
+        ensures call { (s : Sight) → Mirrors (kept self.old) s →
             OnOk result ((out.new.items ≡ out.old.items ++ change_to s view)
             × Mirrors (kept self.new) (entered s view)) }
+        ensures uncut { OnOk result (self.new.log.first ≡ self.old.log.first) }
     {
         let slot = self.open_slot();
         let change = self.current.change(alloc)?;
@@ -242,10 +252,11 @@ impl Replica {
     ) -> Result<(), Memory>
         requires seen { IsSeen (kept self.old) }
         requires due { to_confirm (look_of self.old.current).seen ≡ Some digest }
-        ensures { (s : Sight) → Mirrors (kept self.old) s →
+        ensures call { (s : Sight) → Mirrors (kept self.old) s →
             (let confirm = message.Confirm (open_slot s) s.view digest in
             OnOk result ((out.new.items ≡ out.old.items ++ to_all confirm)
             × Mirrors (kept self.new) (said s confirm))) }
+        ensures uncut { OnOk result (self.new.log.first ≡ self.old.log.first) }
     {
         let slot = self.open_slot();
         let view = self.view;
@@ -267,9 +278,10 @@ impl Replica {
         out: &mut Vec<Outgoing<OrderMessage>>,
     ) -> Result<(), Memory>
         requires { IsSeen (kept self.old) }
-        ensures { (s : Sight) → Mirrors (kept self.old) s →
+        ensures call { (s : Sight) → Mirrors (kept self.old) s →
             OnOk result ((out.new.items ≡ out.old.items ++ echo_sent s (pending s))
             × Mirrors (kept self.new) (after_echo s (pending s))) }
+        ensures uncut { OnOk result (self.new.log.first ≡ self.old.log.first) }
     {
         let Some(entry) = self.current.pending() else {
             return Ok(());
@@ -298,9 +310,10 @@ impl Replica {
     ) -> Result<(), Memory>
         requires seen { IsSeen (kept self.old) }
         requires may { Proposable (may_by (look_of self.old.current)) entry }
-        ensures { (s : Sight) → Mirrors (kept self.old) s →
+        ensures call { (s : Sight) → Mirrors (kept self.old) s →
             OnOk result ((out.new.items ≡ out.old.items ++ propose_sent s entry)
             × Mirrors (kept self.new) (said s (message.Propose (open_slot s) s.view entry))) }
+        ensures uncut { OnOk result (self.new.log.first ≡ self.old.log.first) }
     {
         let slot = self.open_slot();
         let view = self.view;
@@ -332,9 +345,10 @@ impl Replica {
         out: &mut Vec<Outgoing<OrderMessage>>,
     ) -> Result<(), Memory>
         requires { IsSeen (kept self.old) }
-        ensures { (s : Sight) → Mirrors (kept self.old) s →
+        ensures call { (s : Sight) → Mirrors (kept self.old) s →
             OnOk result ((out.new.items ≡ out.old.items ++ tick_sent s due)
             × Mirrors (kept self.new) (after_tick s due)) }
+        ensures uncut { OnOk result (self.new.log.first ≡ self.old.log.first) }
     {
         if !due && !self.current.has_echoed() {
             return Ok(());
@@ -366,8 +380,10 @@ impl Replica {
         to: u16,
         out: &mut Vec<Outgoing<OrderMessage>>,
     ) -> Result<bool, Memory>
-        ensures said { IfOk result (λ answer.
-            RepliedWith (reply_with slot to (slice_get self.now.log.items slot)) answer
+        ensures said { (log : List Proposed) →
+            KeepsFrom self.now.log.first self.now.log.entries.items log →
+            IfOk result (λ answer.
+            RepliedWith (reply_with slot to (entry_from self.now.log.first log slot)) answer
             out.old.items out.new.items) }
         ensures same { OnErr result (out.new.items ≡ out.old.items) }
     {
@@ -377,6 +393,16 @@ impl Replica {
         let entry = entry.copy(alloc)?;
         hand_out(out, Some(to), OrderMessage::Done { slot, entry })?;
         Ok(true)
+    }
+
+    /// Gives up the entries of the slots below this one.
+    pub fn cut(&mut self, slot: u64)
+        ensures call { (s : Sight) → Mirrors (kept self.old) s → slot ≤ open_slot s →
+            Mirrors (kept self.new) s × (self.new.log.first ≡ max slot self.old.log.first) }
+        ensures rest { kept_rest (kept self.new) ≡ kept_rest (kept self.old) }
+        ensures same { (self.new.f ≡ self.old.f) × (self.new.me ≡ self.old.me) }
+    {
+        self.log.cut(slot);
     }
 }
 

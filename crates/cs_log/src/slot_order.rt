@@ -201,4 +201,12 @@ impl Order for SlotOrder {
             None => Err(Memory),
         }
     }
+
+    fn cut(&mut self, slot: u64) {
+        let Some(mut replica) = self.replica.take() else {
+            return;
+        };
+        replica.cut(slot);
+        self.replica = Some(replica);
+    }
 }

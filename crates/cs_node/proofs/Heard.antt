@@ -6,6 +6,7 @@ use Rattle.cs_base.specs.declared.node_id.NodeId.{NodeId}
 use Rattle.cs_tx_value.specs.declared.object.Object.{Object}
 use Rattle.cs_tx_form.specs.declared.transaction.Tx.{Tx}
 use Rattle.cs_wire_message.specs.declared.message.Message.{Message}
+use Rattle.cs_checkpoint.specs.Chain.{Log}
 use Rattle.cs_order.specs.declared.answers.Outgoing.{Outgoing}
 use Rattle.cs_order.specs.declared.answers.Took.{Took}
 use Rattle.cs_order.specs.declared.answers.Took.TheVariants.{Taken}
@@ -25,7 +26,8 @@ use Rattle.cs_sbac.specs.Held.{Held, bench_of}
 use Rattle.cs_node.specs.declared.engine.Engine.{Engine}
 use Rattle.cs_node.specs.declared.draft.Draft.{Draft}
 use Rattle.cs_node.specs.Notes.{Tells}
-use Rattle.cs_node.specs.Steps.{Makes, Marks}
+use Rattle.cs_node.specs.Signing.{Leaves}
+use Rattle.cs_node.specs.Steps.{Marks}
 use Rattle.cs_node.specs.Cores.{IsSeated, KeepsView, view_at, LeadsBy}
 use Rattle.cs_node.proofs.Sums.{tells-nothing, plain-marks}
 use Rattle.cs_node.proofs.Turns.{deed-done}
@@ -61,7 +63,7 @@ pub replied-some : {M : Type 0} (found : Option (Outgoing M)) (h : Member M) (sl
 replied-some {M} None h slot to old new Stands called = let q : true ≡ false = called.0 in cc
 replied-some {M} (Some out) h slot to old new Stands called = record { out = out; is = refl; grown = called.1; stood = called.2 }
 
-module _ {O J M : Type 0} (stands : O → Member M → Type 0) (approves : J → Tx → Bool) (rules : Machine M) (carried : Carrier M) (net : Net) (core : Engine O J M) (genesis : List Object) (h : Member M) (made made' : Draft) (seated : IsSeated stands core h) where
+module _ {O J M : Type 0} (stands : O → Member M → Type 0) (approves : J → Tx → Bool) (rules : Machine M) (carried : Carrier M) (net : Net) (core : Engine O J M) (genesis : List Object) (log : Log) (h : Member M) (made made' : Draft) (seated : IsSeated stands core log h) where
   abbrev setup : Setup
   setup = deployed core.sbac.config genesis (approves core.judge)
 
@@ -69,22 +71,22 @@ module _ {O J M : Type 0} (stands : O → Member M → Type 0) (approves : J →
   site = site_of setup net rules carried
 
   abbrev v : View M
-  v = view_at core.sbac h
+  v = view_at log core.sbac h
 
   abbrev After : Engine O J M → View M → Type 0
   After next = KeepsView stands approves setup next
 
   -- table and pool did what these signs say
-  pub said-here : (signs : List Sign) (marks : List (Mark M)) (held : Held) → marks ≡ plain signs → Makes setup core.sbac.me signs (bench_of core.sbac) (bench_of held) made made' → held.config ≡ core.sbac.config → held.me ≡ core.sbac.me
+  pub said-here : (signs : List Sign) (marks : List (Mark M)) (held : Held) → marks ≡ plain signs → Leaves setup core.sbac.me signs (bench_of log core.sbac) held made made' → held.config ≡ core.sbac.config → held.me ≡ core.sbac.me
       → Marks site marks v made made' (After (record { order = core.order; judge = core.judge; sbac = held }))
-  said-here signs marks held are makes same-config same-me =
+  said-here signs marks held are leaves same-config same-me =
       let next : Engine O J M = record { order = core.order; judge = core.judge; sbac = held } in
       subst (λ (ms : List (Mark M)). Marks site ms v made made' (After next)) (sym are)
-      (plain-marks site signs v (bench_of held) made made' (After next) makes (keeps-on stands approves genesis core h core.order held h seated seated.stood refl refl same-config same-me))
+      (plain-marks site signs v (bench_of leaves.log held) made made' (After next) leaves.makes (keeps-on stands approves genesis core log h core.order held leaves.log h seated seated.stood refl refl same-config same-me leaves.kept_is))
 
   -- it was dropped
   pub dropped-here : (cause : Cause) (marks : List (Mark M)) → marks ≡ drops cause → Tells (Dropped cause ∷ []) made made' → Marks site marks v made made' (After core)
-  dropped-here cause marks are tells = said-here (Dropped cause ∷ []) marks core.sbac are (record { tells = tells; bench_is = refl }) refl refl
+  dropped-here cause marks are tells = said-here (Dropped cause ∷ []) marks core.sbac are (record { log = log; kept_is = seated.kept_is; makes = record { tells = tells; bench_is = refl } }) refl refl
 
   -- ---- the order's messages
 
@@ -96,7 +98,7 @@ module _ {O J M : Type 0} (stands : O → Member M → Type 0) (approves : J →
       let stood : stands order h = subst (stands order) same (subst T (sym called.0) called.1) in
       let which : taking_marks from m (rules.taking h from m) ≡ plain (Dropped cause ∷ []) = ap (taking_marks from m) (sym called.0) ∙ are in
       subst (λ (ms : List (Mark M)). Marks site ms v made made' (After next)) (sym which)
-      (plain-marks site (Dropped cause ∷ []) v (bench_of core.sbac) made made' (After next) (record { tells = tells; bench_is = refl }) (keeps-on stands approves genesis core h order core.sbac h seated stood refl refl refl refl))
+      (plain-marks site (Dropped cause ∷ []) v (bench_of log core.sbac) made made' (After next) (record { tells = tells; bench_is = refl }) (keeps-on stands approves genesis core log h order core.sbac log h seated stood refl refl refl refl seated.kept_is))
 
   pub taken-here : (from : ℕ) (m : M) (order : O) → TakesIn rules h from m Taken (stands order) → made' ≡ made
       → Marks site (taking_marks from m (rules.taking h from m)) v made made' (After (record { order = order; judge = core.judge; sbac = core.sbac }))
@@ -108,7 +110,7 @@ module _ {O J M : Type 0} (stands : O → Member M → Type 0) (approves : J →
       let D : Draft → Type 0 = λ d. Tells [] made d in
       subst R called.0 (record {
         tells = subst D (sym same) (tells-nothing made);
-        after = keeps-on stands approves genesis core h order core.sbac (did (Took_in from m) h) seated stood refl refl refl refl;
+        after = keeps-on stands approves genesis core log h order core.sbac log (did (Took_in from m) h) seated stood refl refl refl refl seated.kept_is;
       })
 
   module _ (sender : NodeId) where
@@ -141,7 +143,7 @@ module _ {O J M : Type 0} (stands : O → Member M → Type 0) (approves : J →
         let S : List (Outgoing M) → Type 0 = λ outs. Tells (handed site core.sbac.me outs) made made' in
         subst (λ (ms : List (Mark M)). Marks site ms v made made' (After core)) (sym which)
         (deed-done site v made made' (After core) (Replied slot sender.index (r.out ∷ [])) (subst S (from-nothing old new (r.out ∷ []) empty r.grown) says)
-        (keeps-on stands approves genesis core h core.order core.sbac (did (Replied slot sender.index (r.out ∷ [])) h) seated r.stood refl refl refl refl))
+        (keeps-on stands approves genesis core log h core.order core.sbac log (did (Replied slot sender.index (r.out ∷ [])) h) seated r.stood refl refl refl refl seated.kept_is))
 
 -- what a message led to is what its variant led to
 pub as-said : {O J M A E : Type 0} (stands : O → Member M → Type 0) (approves : J → Tx → Bool) (rules : Machine M) (carrier : Carrier M) (engine engine' : Engine O J M) (draft draft' : Draft) (result : Result A E)

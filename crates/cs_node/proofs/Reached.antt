@@ -1,5 +1,5 @@
 -- What an event sends is for those to whom the node has keys.
-use Rattle.std.proofs.Common.{◌≡◌, ℕ, zero, suc, ◌<◌, ◌^◌, nat_lt, Bool, true, false, cond, List, [], ◌∷◌, ◌++◌, length, Option, Some, None, Ok, Err, IsSome, refl, ap, sym, subst, ◌∙◌, arith}
+use Rattle.std.proofs.Common.{◌≡◌, ℕ, zero, suc, ◌+◌, ◌-◌, ◌%◌, ◌<◌, ◌^◌, ◌==◌, nat_lt, Bool, true, false, cond, List, [], ◌∷◌, ◌++◌, length, Option, Some, None, Ok, Err, IsSome, refl, ap, sym, subst, ◌∙◌, arith}
 use Rattle.std.proofs.lemmas.Bool.Decides.{nat_tests}
 use Rattle.std.specs.Prelude.{is_some}
 use Rattle.cs_base.specs.declared.config.Config.{Config}
@@ -17,16 +17,17 @@ use Rattle.cs_order.specs.declared.answers.Step.{Step}
 use Rattle.cs_order.specs.declared.answers.Step.TheVariants as step
 use Rattle.cs_order.specs.declared.answers.May.{May}
 use Rattle.cs_order.specs.declared.answers.May.TheVariants as may
-use Rattle.cs_order.specs.Deeds.{Deed, Advanced, Echoed, Proposing, Resent, Ticked, Replied, Member, did, sent_by, chosen_in}
+use Rattle.cs_order.specs.Deeds.{Deed, Advanced, Echoed, Proposing, Resent, Ticked, Replied, Cut, Member, did, sent_by, chosen_in}
 use Rattle.cs_wire.specs.declared.keys.Keys.{Keys}
 use Rattle.cs_wire.specs.Keys.{row_of}
 use Rattle.cs_wire.specs.Opened.{Opened}
+use Rattle.cs_checkpoint.specs.Chain.{kept_slots}
 use Rattle.cs_node_state.specs.Setup.{Setup}
 use Rattle.cs_node_rules.specs.Members.{is_other_member, others}
 use Rattle.cs_node_state.specs.Admission.{due}
 use Rattle.cs_node_rules.specs.Signs.{Sign, Dropped, Took as Took_vote, Entered, Viewed, Did, Headed, Kept, Sent, sends, submit_signs, voted_signs, ask_signs, ask_proof_signs, head_signs, execution_signs, asked_again}
 use Rattle.cs_node_rules.specs.Site.{Input, Datagram, Tick, Mark, In, Ordered, Site, View, view_after, plain, signs_of}
-use Rattle.cs_node_rules.specs.Trail.{out_signs, handed, with_deed, entered_view, moving, admits_proposed, proposing, due_marks, candidate_marks, propose_marks, echo_marks, step_marks, turn_marks, continued, settled, taking_marks, member_marks, reply_marks, want_marks, message_marks, opened_marks, again_marks, waiting_marks, input_marks, event_marks}
+use Rattle.cs_node_rules.specs.Trail.{out_signs, handed, with_deed, entered_view, moving, admits_proposed, proposing, due_marks, candidate_marks, propose_marks, echo_marks, cut_marks, step_marks, turn_marks, continued, settled, taking_marks, member_marks, reply_marks, want_marks, message_marks, opened_marks, again_marks, waiting_marks, input_marks, event_marks}
 use Rattle.cs_node.specs.declared.nodes.Core.{Core}
 use Rattle.cs_node.specs.Notes.{said_of, AllReached}
 use Rattle.cs_node.specs.Cores.{StandsFor}
@@ -141,11 +142,20 @@ module _ {M : Type 0} (Peer : NodeId → Type 0) (config : Config) (site : Site 
         by_test true = goes-deed (Echoed (site.machine.echoing v.member))
         by_test false = goes-propose (site.machine.may_propose v.member)
 
+    goes-cut : (slot : ℕ) (marks : List (Mark M)) → Goes marks → Goes (cut_marks slot ++ marks)
+    goes-cut slot marks goes = by_test ((slot + 1) % 16 == 0)
+      where
+        by_test : (due : Bool) → Goes (cond due (Ordered (Cut (slot + 1 - kept_slots)) ∷ []) [] ++ marks)
+        by_test true = goes
+        by_test false = goes
+
     goes-step : (taken : Step) → GoesIf (step_marks site v taken)
     goes-step (step.Chosen proposed) =
-        let signs : List Sign = execution_signs site.setup v.me v.bench (length (chosen_in v.member.deeds)) (site.entry_in proposed) in
+        let slot : ℕ = length (chosen_in v.member.deeds) in
+        let signs : List Sign = execution_signs site.setup v.me v.bench slot (site.entry_in proposed) in
         let deed : Deed M = Advanced (step.Chosen proposed) (site.machine.advancing v.member) in
-        goes-plain signs (with_deed site v deed) (to-execution Peer config v.me home.others_too site.setup same_f same_shards in-range v.bench (length (chosen_in v.member.deeds)) (site.entry_in proposed)) (goes-deed deed)
+        goes-cut slot (plain signs ++ with_deed site v deed)
+        (goes-plain signs (with_deed site v deed) (to-execution Peer config v.me home.others_too site.setup same_f same_shards in-range v.bench slot (site.entry_in proposed)) (goes-deed deed))
     goes-step step.Moved = goes-moving (Advanced step.Moved (site.machine.advancing v.member))
     goes-step step.Quiet = goes-echo (site.machine.pending v.member)
 

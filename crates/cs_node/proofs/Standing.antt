@@ -6,6 +6,7 @@ use Rattle.cs_base.specs.declared.node_id.NodeId.{NodeId}
 use Rattle.cs_base.specs.NodeId.{is_node}
 use Rattle.cs_tx_value.specs.declared.object.Object.{Object}
 use Rattle.cs_tx_form.specs.declared.transaction.Tx.{Tx}
+use Rattle.cs_checkpoint.specs.Chain.{Log, kept_of}
 use Rattle.cs_order.specs.Deeds.{Member, Machine}
 use Rattle.cs_wire.specs.declared.keys.Keys.{Keys}
 use Rattle.cs_node_state.specs.Setup.{Setup}
@@ -30,40 +31,41 @@ use Rattle.cs_node.proofs.Settling.{turn-goes, turn-ends, with-input, event-made
 
 module _ {O J M : Type 0} (stands : O → Member M → Type 0) (approves : J → Tx → Bool) where
   -- An engine whose order stands for the member after more deeds of it, and whose table and pool are those of the same node.
-  pub keeps-on : (genesis : List Object) (core : Engine O J M) (h : Member M) (order : O) (held : Held) (h' : Member M) → IsSeated stands core h → stands order h' → h'.f ≡ h.f → h'.me ≡ h.me → held.config ≡ core.sbac.config → held.me ≡ core.sbac.me
-      → KeepsView stands approves (deployed core.sbac.config genesis (approves core.judge)) (record { order = order; judge = core.judge; sbac = held }) (view_of core.sbac.me (bench_of held) h')
-  keeps-on genesis core h order held h' seated is same-f same-index same-config same-me =
+  pub keeps-on : (genesis : List Object) (core : Engine O J M) (log : Log) (h : Member M) (order : O) (held : Held) (log' : Log) (h' : Member M) → IsSeated stands core log h → stands order h' → h'.f ≡ h.f → h'.me ≡ h.me → held.config ≡ core.sbac.config → held.me ≡ core.sbac.me → held.archived.kept ≡ kept_of log'
+      → KeepsView stands approves (deployed core.sbac.config genesis (approves core.judge)) (record { order = order; judge = core.judge; sbac = held }) (view_of core.sbac.me (bench_of log' held) h')
+  keeps-on genesis core log h order held log' h' seated is same-f same-index same-config same-me kept_is =
       let N : Config × NodeId → Type 0 = λ p. is_node p.0 p.1 ≡ true in
       record {
         seated = record {
           stood = is;
+          kept_is = kept_is;
           f_is = same-f ∙ seated.f_is ∙ sym (ap (λ (c : Config). c.f) same-config);
           index_is = same-index ∙ seated.index_is ∙ sym (ap (λ (n : NodeId). n.index) same-me);
           node = subst N (λ i. (sym same-config i, sym same-me i)) seated.node;
         };
-        view_is = ap (λ (name : NodeId). view_of name (bench_of held) h') same-me;
+        view_is = ap (λ (name : NodeId). view_of name (bench_of log' held) h') same-me;
         genesis = genesis;
         setup_is = ap (λ (c : Config). deployed c genesis (approves core.judge)) same-config;
       }
 
   -- where nothing was done
-  pub keeps-still : (genesis : List Object) (core : Engine O J M) (h : Member M) → IsSeated stands core h → KeepsView stands approves (deployed core.sbac.config genesis (approves core.judge)) core (view_at core.sbac h)
-  keeps-still genesis core h seated = keeps-on genesis core h core.order core.sbac h seated seated.stood refl refl refl refl
+  pub keeps-still : (genesis : List Object) (core : Engine O J M) (log : Log) (h : Member M) → IsSeated stands core log h → KeepsView stands approves (deployed core.sbac.config genesis (approves core.judge)) core (view_at log core.sbac h)
+  keeps-still genesis core log h seated = keeps-on genesis core log h core.order core.sbac log h seated seated.stood refl refl refl refl seated.kept_is
 
-  -- what a clause says at every genesis and member, it says at the setup and the view
+  -- what a clause says at every genesis, log and member, it says at the setup and the view
   pub at-standing : (F : Setup → View M → Type 0) (setup : Setup) (core : Engine O J M) (w : View M) → KeepsView stands approves setup core w
-      → ((genesis : List Object) (h : Member M) → IsSeated stands core h → F (deployed core.sbac.config genesis (approves core.judge)) (view_at core.sbac h)) → F setup w
+      → ((genesis : List Object) (log : Log) (h : Member M) → IsSeated stands core log h → F (deployed core.sbac.config genesis (approves core.judge)) (view_at log core.sbac h)) → F setup w
   at-standing F setup core w s all =
       let P : View M → Type 0 = λ u. F setup u in
-      let Q : Setup → Type 0 = λ t. F t (view_at core.sbac w.member) in
-      subst P s.view_is (subst Q s.setup_is (all s.genesis w.member s.seated))
+      let Q : Setup → Type 0 = λ t. F t (view_at w.bench.log core.sbac w.member) in
+      subst P s.view_is (subst Q s.setup_is (all s.genesis w.bench.log w.member s.seated))
 
   module _ (rules : Machine M) (carried : Carrier M) (net : Net) (core core' : Engine O J M) (now next : Draft) where
     abbrev Turned : Bool → Setup → View M → Type 0
     Turned went setup u = TurnDone (site_of setup net rules carried) (turn_marks (site_of setup net rules carried) u) u went now next (KeepsView stands approves setup core')
 
     module _ (setup : Setup) (v : View M) (old : Draft) (went : Bool) (before : ℕ) (s : Settling (site_of setup net rules carried) v old now (KeepsView stands approves setup core) before)
-        (done : (genesis : List Object) (h : Member M) → IsSeated stands core h → Turned went (deployed core.sbac.config genesis (approves core.judge)) (view_at core.sbac h)) where
+        (done : (genesis : List Object) (log : Log) (h : Member M) → IsSeated stands core log h → Turned went (deployed core.sbac.config genesis (approves core.judge)) (view_at log core.sbac h)) where
       abbrev site : Site M
       site = site_of setup net rules carried
 
@@ -91,8 +93,8 @@ module _ {O J M : Type 0} (stands : O → Member M → Type 0) (approves : J →
 
   -- an input, and then the rules until none applies
   pub event-done : (rules : Machine M) (carried : Carrier M) (net : Net) (core core' core'' : Engine O J M) (setup : Setup) (v : View M) (input : Input) (start mid made : Draft) → KeepsView stands approves setup core v → start ≡ nothing
-      → ((genesis : List Object) (h : Member M) → IsSeated stands core h → (let t : Setup = deployed core.sbac.config genesis (approves core.judge) in Marks (site_of t net rules carried) (input_marks (site_of t net rules carried) (view_at core.sbac h) input) (view_at core.sbac h) start mid (KeepsView stands approves t core')))
-      → ((genesis : List Object) (h : Member M) → IsSeated stands core' h → (let t : Setup = deployed core'.sbac.config genesis (approves core'.judge) in Settles (site_of t net rules carried) (view_at core'.sbac h) mid made (KeepsView stands approves t core'')))
+      → ((genesis : List Object) (log : Log) (h : Member M) → IsSeated stands core log h → (let t : Setup = deployed core.sbac.config genesis (approves core.judge) in Marks (site_of t net rules carried) (input_marks (site_of t net rules carried) (view_at log core.sbac h) input) (view_at log core.sbac h) start mid (KeepsView stands approves t core')))
+      → ((genesis : List Object) (log : Log) (h : Member M) → IsSeated stands core' log h → (let t : Setup = deployed core'.sbac.config genesis (approves core'.judge) in Settles (site_of t net rules carried) (view_at log core'.sbac h) mid made (KeepsView stands approves t core'')))
       → Drafts (site_of setup net rules carried) v input made (KeepsView stands approves setup core'')
   event-done rules carried net core core' core'' setup v input start mid made s e took settled =
       let site : Site M = site_of setup net rules carried in

@@ -21,7 +21,7 @@ use Rattle.cs_node_state.specs.Deployed.{genesis_from, rules_of}
 use Rattle.cs_table.specs.Seen.{Stored, seen}
 use Rattle.cs_tx.specs.Sessions.{item_of}
 use Rattle.cs_table.specs.Genesis.{keyed_of, genesis_rules}
-use Rattle.cs_checkpoint.specs.Chain.{empty_log}
+use Rattle.cs_checkpoint.specs.Chain.{empty_log, kept_of}
 use Rattle.cs_check_rules.specs.Keys.{AreKnown, start_keys}
 use Rattle.cs_check_rules.proofs.Same.{one_list}
 use Rattle.cs_check_rules.proofs.Known.{start_known}
@@ -55,7 +55,7 @@ begun_with config table hashed me = record {
   me = me;
   table = table;
   pool = [];
-  archived = record { log = empty_log me.shard; hashed = hashed; heads = [] };
+  archived = record { kept = kept_of (empty_log me.shard); hashed = hashed; heads = [] };
 }
 
 pub started : {O J M : Type 0} (stands : O → Member M → Type 0) (approves : J → Tx → Bool) (rules : Machine M) (carried : Carrier M) (net : Net) (config : Config) (me : NodeId) (objects : List Object) (given : List (Key × Object)) (order : O) (judge : J) (table : Stored) (hashed : Hashed) (f index : ℕ)
@@ -74,7 +74,7 @@ started {O} {J} {M} stands approves rules carried net config me objects given or
     (subst (λ (t : Table). AreKnown (keys_in table.rows) t) shown known) (start_known r me.shard) in
     let h : Member M = record { f = config.f; me = me.index; deeds = [] } in
     record {
-      seated = record { stood = subst I same-me (subst F same-f is); f_is = refl; index_is = refl; node = node };
+      seated = record { stood = subst I same-me (subst F same-f is); kept_is = refl; f_is = refl; index_is = refl; node = node };
       view_is = λ i. record {
         me = me;
         bench = record { table = shown i; keys = keys i; pool = []; log = empty_log me.shard; heads = [] };

@@ -9,6 +9,7 @@ use Rattle.cs_tx_form.specs.declared.session.Session.{Session}
 use Rattle.cs_wire_message.specs.declared.message.Message.TheVariants as message
 use Rattle.cs_node_rules.specs.declared.cause.Cause.{Cause}
 use Rattle.cs_node_rules.specs.declared.cause.Cause.TheVariants.{Mine, Role, Malformed, Repeat, Denied, Full}
+use Rattle.cs_checkpoint.specs.Chain.{Log, kept_of}
 use Rattle.cs_node_state.specs.Setup.{Setup, digest_of, is_fit, is_approved}
 use Rattle.cs_node_state.specs.Pool.{Pool, is_pooled, has_room, pushed, entered}
 use Rattle.cs_node_state.specs.Bench.{Bench, decided}
@@ -21,6 +22,7 @@ use Rattle.cs_sbac.specs.Held.{Held, bench_of, with_pool}
 use Rattle.cs_sbac.specs.Calls.{entered_in, pool_entered}
 use Rattle.cs_node.specs.declared.draft.Draft.{Draft}
 use Rattle.cs_node.specs.Notes.{Tells}
+use Rattle.cs_node.specs.Signing.{Leaves}
 use Rattle.cs_node.specs.Steps.{Makes}
 use Rattle.cs_node.proofs.Sums.{tells-nothing}
 
@@ -78,26 +80,35 @@ module _ (setup : Setup) (me : NodeId) (b : Bench) (x : Session) where
         bench_is = ap (λ (p : Pool). record b { pool = p }) (is ∙ sym there);
       })
 
+-- what is held stays
+pub stays : (setup : Setup) (me : NodeId) (signs : List Sign) (held : Held) (log : Log) (old new : Draft) → held.archived.kept ≡ kept_of log
+    → Makes setup me signs (bench_of log held) (bench_of log held) old new → Leaves setup me signs (bench_of log held) held old new
+stays setup me made held log old new kept_is makes = record { log = log; kept_is = kept_is; makes = makes }
+
 -- the last test is that of the pool itself
-module _ (setup : Setup) (me : NodeId) (held held' : Held) (x : Session) (answer : Entered)
+module _ (setup : Setup) (me : NodeId) (held held' : Held) (log : Log) (kept_is : held.archived.kept ≡ kept_of log) (x : Session) (answer : Entered)
     (pooled : is_pooled (digest_of setup x) held.pool ≡ false) (approved : is_approved setup x ≡ true) (answered : answer ≡ entered_in held.pool) (left : held' ≡ with_pool held (pool_entered (digest_of setup x) x held.pool)) where
   abbrev made_signs : List Sign
-  made_signs = entering_signs setup (bench_of held) x
+  made_signs = entering_signs setup (bench_of log held) x
 
-  pub new-makes : (old : Draft) → answer ≡ New → Makes setup me made_signs (bench_of held) (bench_of held') old old
+  pub new-makes : (old : Draft) → answer ≡ New → Leaves setup me made_signs (bench_of log held) held' old old
   new-makes old new =
       let room : has_room held.pool ≡ true = room-new held.pool (sym answered ∙ new) in
       let grown : pool_entered (digest_of setup x) x held.pool ≡ pushed (digest_of setup x) x false held.pool = rw room refl in
-      let P : Held → Type 0 = λ h. Makes setup me made_signs (bench_of held) (bench_of h) old old in
-      subst P (sym left) (entered-makes setup me (bench_of held) x (pool_entered (digest_of setup x) x held.pool) old pooled approved room grown)
+      let P : Held → Type 0 = λ h. Leaves setup me made_signs (bench_of log held) h old old in
+      subst P (sym left) (record {
+        log = log;
+        kept_is = kept_is;
+        makes = entered-makes setup me (bench_of log held) x (pool_entered (digest_of setup x) x held.pool) old pooled approved room grown;
+      })
 
-  pub full-makes : (old new : Draft) → answer ≡ Entering.Full → Tells (Dropped Full ∷ []) old new → Makes setup me made_signs (bench_of held) (bench_of held') old new
+  pub full-makes : (old new : Draft) → answer ≡ Entering.Full → Tells (Dropped Full ∷ []) old new → Leaves setup me made_signs (bench_of log held) held' old new
   full-makes old new is tells =
       let room : has_room held.pool ≡ false = room-full held.pool (sym answered ∙ is) in
       let same : pool_entered (digest_of setup x) x held.pool ≡ held.pool = rw room refl in
-      let P : Held → Type 0 = λ h. Makes setup me made_signs (bench_of held) (bench_of h) old new in
-      let Q : Pool → Type 0 = λ pool. Makes setup me made_signs (bench_of held) (bench_of (with_pool held pool)) old new in
-      subst P (sym left) (subst Q (sym same) (dropped-makes setup me (bench_of held) made_signs Full old new (full setup me (bench_of held) x pooled approved room) tells))
+      let P : Held → Type 0 = λ h. Leaves setup me made_signs (bench_of log held) h old new in
+      let Q : Pool → Type 0 = λ pool. Leaves setup me made_signs (bench_of log held) (with_pool held pool) old new in
+      subst P (sym left) (subst Q (sym same) (stays setup me made_signs held log old new kept_is (dropped-makes setup me (bench_of log held) made_signs Full old new (full setup me (bench_of log held) x pooled approved room) tells)))
 
 -- ---- a session that a client submits
 

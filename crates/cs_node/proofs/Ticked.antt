@@ -10,6 +10,7 @@ use Rattle.cs_tx_form.specs.declared.session.Session.{Session}
 use Rattle.cs_tx_form.specs.declared.vote.Vote.{Vote}
 use Rattle.cs_tx_form.specs.declared.vote.Vote.TheVariants.{Commit}
 use Rattle.cs_wire_message.specs.declared.message.Message.TheVariants as message
+use Rattle.cs_checkpoint.specs.Chain.{Log}
 use Rattle.cs_order.specs.declared.answers.Outgoing.{Outgoing}
 use Rattle.cs_order.specs.Deeds.{Deed, Resent, Ticked, Member, Machine, did, chosen_in}
 use Rattle.cs_order.specs.Calls.{Resends, Ticks}
@@ -84,7 +85,7 @@ some-fits (y ∷ all) (suc k) x less fits = some-fits all k x (omega (arith, les
 pub fits-at : (all : List Session) (k : ℕ) (x : Session) → k < length all → x ≡ get_or all k x → AllFit all → SessionFits x
 fits-at all k x less is fits = subst SessionFits (sym is) (some-fits all k x less fits)
 
-module _ {O J M : Type 0} (stands : O → Member M → Type 0) (approves : J → Tx → Bool) (rules : Machine M) (carried : Carrier M) (net : Net) (core : Engine O J M) (genesis : List Object) (h : Member M) (made : Draft) (seated : IsSeated stands core h) where
+module _ {O J M : Type 0} (stands : O → Member M → Type 0) (approves : J → Tx → Bool) (rules : Machine M) (carried : Carrier M) (net : Net) (core : Engine O J M) (genesis : List Object) (log : Log) (h : Member M) (made : Draft) (seated : IsSeated stands core log h) where
   abbrev setup : Setup
   setup = deployed core.sbac.config genesis (approves core.judge)
 
@@ -92,7 +93,7 @@ module _ {O J M : Type 0} (stands : O → Member M → Type 0) (approves : J →
   site = site_of setup net rules carried
 
   abbrev v : View M
-  v = view_at core.sbac h
+  v = view_at log core.sbac h
 
   abbrev After : Engine O J M → View M → Type 0
   After next = KeepsView stands approves setup next
@@ -114,14 +115,14 @@ module _ {O J M : Type 0} (stands : O → Member M → Type 0) (approves : J →
       let signs : List Sign = wants (length (chosen_in h.deeds)) ++ asks in
       let W : ℕ → Type 0 = λ n. Tells (wants n ++ asks) mid made' in
       let tells : Tells signs mid made' = subst W at (tells-more asks (wants slot) mid late made' asked wanted) in
-      let still : bench_after setup core.sbac.me.shard signs (bench_of core.sbac) ≡ bench_of core.sbac =
-      bench-append setup core.sbac.me.shard (wants (length (chosen_in h.deeds))) asks (bench_of core.sbac)
-      ∙ ap (bench_after setup core.sbac.me.shard (wants (length (chosen_in h.deeds)))) (bench-asked setup core.sbac.me.shard core.sbac.me core.sbac.pool (bench_of core.sbac))
-      ∙ bench-sends setup core.sbac.me.shard (others core.sbac.config.f core.sbac.me (core.sbac.me.shard ∷ [])) (message.Want (length (chosen_in h.deeds))) (bench_of core.sbac) in
+      let still : bench_after setup core.sbac.me.shard signs (bench_of log core.sbac) ≡ bench_of log core.sbac =
+      bench-append setup core.sbac.me.shard (wants (length (chosen_in h.deeds))) asks (bench_of log core.sbac)
+      ∙ ap (bench_after setup core.sbac.me.shard (wants (length (chosen_in h.deeds)))) (bench-asked setup core.sbac.me.shard core.sbac.me core.sbac.pool (bench_of log core.sbac))
+      ∙ bench-sends setup core.sbac.me.shard (others core.sbac.config.f core.sbac.me (core.sbac.me.shard ∷ [])) (message.Want (length (chosen_in h.deeds))) (bench_of log core.sbac) in
       let at_w : View M → Type 0 = λ u. After core (with_bench (bench_after setup u.me.shard signs u.bench) u) in
       let P : Bench → Type 0 = λ b. After core (with_bench b w) in
       marks-plain site signs (with_deed site v deed) v made mid made' Q (After core) first tells
-      (subst at_w (sym first.after) (subst P (sym still) (keeps-on stands approves genesis core h core.order core.sbac (did deed h) seated called.1 refl refl refl refl)))
+      (subst at_w (sym first.after) (subst P (sym still) (keeps-on stands approves genesis core log h core.order core.sbac log (did deed h) seated called.1 refl refl refl refl seated.kept_is)))
 
   pub waited-here : (made' : Draft) (order : O) (empty outs : List (Outgoing M)) (slot before : ℕ) (on : Bool) → empty ≡ [] → slot ≡ length (chosen_in h.deeds) → before ≡ rules.view h → on ≡ is_some (due setup core.sbac.pool) → Ticks rules h on empty outs (stands order)
       → ((h' : Member M) → stands order h' → Tells (handed site core.sbac.me outs ++ entered_view slot before (rules.view h')) made made')
@@ -134,7 +135,7 @@ module _ {O J M : Type 0} (stands : O → Member M → Type 0) (approves : J →
       subst D is_due
       (moving-done site v made made' (After next) deed
       (subst (λ (signs : List Sign). Tells signs made made') (λ i. handed site core.sbac.me (sent i) ++ entered_view (at i) (seen i) (rules.view (did deed h))) (says (did deed h) called.1))
-      (keeps-on stands approves genesis core h order core.sbac (did deed h) seated called.1 refl refl refl refl))
+      (keeps-on stands approves genesis core log h order core.sbac log (did deed h) seated called.1 refl refl refl refl seated.kept_is))
 
 -- what is said again changes neither table nor pool
 bench-again : {M : Type 0} (site : Site M) (v : View M) → (view_after site (again_marks site v) v).bench ≡ v.bench
@@ -151,14 +152,14 @@ bench-again {M} site v =
     ∙ bench-sends site.setup v.me.shard (others site.setup.f v.me (v.me.shard ∷ [])) (message.Want (length (chosen_in v.member.deeds))) v.bench
 
 -- both
-pub ticked-here : {O J M : Type 0} (stands : O → Member M → Type 0) (approves : J → Tx → Bool) (rules : Machine M) (carried : Carrier M) (net : Net) (core core' : Engine O J M) (genesis : List Object) (h : Member M) (made mid made' : Draft)
-    → (let t : Setup = deployed core.sbac.config genesis (approves core.judge) in Marks (site_of t net rules carried) (again_marks (site_of t net rules carried) (view_at core.sbac h)) (view_at core.sbac h) made mid (KeepsView stands approves t core))
-    → ((genesis : List Object) (h : Member M) → IsSeated stands core h → (let t : Setup = deployed core.sbac.config genesis (approves core.judge) in Marks (site_of t net rules carried) (waiting_marks (site_of t net rules carried) (view_at core.sbac h) (is_some (due t core.sbac.pool))) (view_at core.sbac h) mid made' (KeepsView stands approves t core')))
-    → (let t : Setup = deployed core.sbac.config genesis (approves core.judge) in Marks (site_of t net rules carried) (tick_marks (site_of t net rules carried) (view_at core.sbac h)) (view_at core.sbac h) made made' (KeepsView stands approves t core'))
-ticked-here {O} {J} {M} stands approves rules carried net core core' genesis h made mid made' first later =
+pub ticked-here : {O J M : Type 0} (stands : O → Member M → Type 0) (approves : J → Tx → Bool) (rules : Machine M) (carried : Carrier M) (net : Net) (core core' : Engine O J M) (genesis : List Object) (log : Log) (h : Member M) (made mid made' : Draft)
+    → (let t : Setup = deployed core.sbac.config genesis (approves core.judge) in Marks (site_of t net rules carried) (again_marks (site_of t net rules carried) (view_at log core.sbac h)) (view_at log core.sbac h) made mid (KeepsView stands approves t core))
+    → ((genesis : List Object) (log : Log) (h : Member M) → IsSeated stands core log h → (let t : Setup = deployed core.sbac.config genesis (approves core.judge) in Marks (site_of t net rules carried) (waiting_marks (site_of t net rules carried) (view_at log core.sbac h) (is_some (due t core.sbac.pool))) (view_at log core.sbac h) mid made' (KeepsView stands approves t core')))
+    → (let t : Setup = deployed core.sbac.config genesis (approves core.judge) in Marks (site_of t net rules carried) (tick_marks (site_of t net rules carried) (view_at log core.sbac h)) (view_at log core.sbac h) made made' (KeepsView stands approves t core'))
+ticked-here {O} {J} {M} stands approves rules carried net core core' genesis log h made mid made' first later =
     let setup : Setup = deployed core.sbac.config genesis (approves core.judge) in
     let site : Site M = site_of setup net rules carried in
-    let v : View M = view_at core.sbac h in
+    let v : View M = view_at log core.sbac h in
     let again : List (Mark M) = again_marks site v in
     let w : View M = view_after site again v in
     let F : Setup → View M → Type 0 = λ t u. Marks (site_of t net rules carried) (waiting_marks (site_of t net rules carried) u (is_some (due t u.bench.pool))) u mid made' (KeepsView stands approves t core') in

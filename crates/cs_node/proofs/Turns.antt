@@ -1,18 +1,19 @@
 -- The rules that apply: what the code did is what the marks of the rule say.
-use Rattle.std.proofs.Common.{◌≡◌, ℕ, nat_lt, Bool, true, false, cond, List, [], ◌∷◌, ◌++◌, length, Option, Some, None, refl, ap, sym, subst, ◌∙◌, append_assoc, append-nil}
+use Rattle.std.proofs.Common.{◌≡◌, ℕ, ◌+◌, ◌-◌, ◌%◌, ◌==◌, nat_lt, Bool, true, false, cond, List, [], ◌∷◌, ◌++◌, length, Option, Some, None, refl, ap, sym, subst, ◌∙◌, append_assoc, append-nil}
 use Rattle.cs_base.specs.declared.node_id.NodeId.{NodeId}
 use Rattle.cs_order.specs.declared.proposed.Proposed.{Proposed}
 use Rattle.cs_order.specs.declared.answers.Outgoing.{Outgoing}
 use Rattle.cs_order.specs.declared.answers.Step.TheVariants.{Chosen, Moved}
-use Rattle.cs_order.specs.Deeds.{Deed, Advanced, Proposing, Member, did, sent_by, chosen_in}
+use Rattle.cs_order.specs.Deeds.{Deed, Advanced, Proposing, Cut, Member, did, sent_by, chosen_in}
+use Rattle.cs_checkpoint.specs.Chain.{kept_slots}
 use Rattle.cs_node_state.specs.Bench.{Bench}
 use Rattle.cs_node_rules.specs.Members.{is_other_member, others}
 use Rattle.cs_node_rules.specs.Signs.{Sign, Viewed, Sent, bench_after, execution_signs}
-use Rattle.cs_node_rules.specs.Site.{Mark, Ordered, Site, View, plain}
-use Rattle.cs_node_rules.specs.Trail.{out_signs, handed, with_deed, entered_view, moving, proposing, step_marks, turn_marks}
+use Rattle.cs_node_rules.specs.Site.{Mark, Ordered, Site, View, view_after, plain}
+use Rattle.cs_node_rules.specs.Trail.{out_signs, handed, with_deed, entered_view, moving, proposing, cut_marks, step_marks, turn_marks}
 use Rattle.cs_node.specs.declared.draft.Draft.{Draft}
 use Rattle.cs_node.specs.Notes.{Tells}
-use Rattle.cs_node.specs.Steps.{Makes, Marks, TurnDone}
+use Rattle.cs_node.specs.Steps.{Makes, Marks, TurnDone, cut_at}
 use Rattle.cs_node.proofs.Sums.{with_bench, tells-nothing, bench-append, bench-sends, turn-some, marks-plain}
 
 abbrev pub with_member : {M : Type 0} → Member M → View M → View M
@@ -87,21 +88,36 @@ module _ {M : Type 0} (site : Site M) (v : View M) (old new : Draft) (After : Vi
 pub turn-none : {M : Type 0} (site : Site M) (v : View M) (old : Draft) (After : View M → Type 0) (found : Option (List (Mark M))) → found ≡ None → After v → TurnDone site found v false old old After
 turn-none {M} site v old After found e after = let P : Option (List (Mark M)) → Type 0 = λ o. TurnDone site o v false old old After in subst P (sym e) (refl, refl, after)
 
--- what was chosen is executed
+-- what the order gives up is told to nobody
+cut-done : {M : Type 0} (site : Site M) (slot : ℕ) (marks : List (Mark M)) (v : View M) (old new : Draft) (After : View M → Type 0)
+    → Marks site marks v old new (λ w. After (with_member (cut_at (slot + 1) w.member) w)) → Marks site (cut_marks slot ++ marks) v old new After
+cut-done {M} site slot marks v old new After done = by_test ((slot + 1) % 16 == 0) done.after
+  where
+    by_test : (due : Bool) → After (with_member (cond due (did (Cut (slot + 1 - kept_slots)) (view_after site marks v).member) (view_after site marks v).member) (view_after site marks v))
+        → Marks site (cond due (Ordered (Cut (slot + 1 - kept_slots)) ∷ []) [] ++ marks) v old new After
+    by_test true after = record { tells = done.tells; after = after }
+    by_test false after = record { tells = done.tells; after = after }
+
+-- what was chosen is executed, and the log is cut
 pub chosen-done : {M : Type 0} (site : Site M) (v : View M) (old mid new : Draft) (After : View M → Type 0) (proposed : Proposed) (slot : ℕ) (b' : Bench) → site.machine.step v.member ≡ Chosen proposed → slot ≡ length (chosen_in v.member.deeds)
     → Tells (handed site v.me (site.machine.advancing v.member)) old mid
     → Makes site.setup v.me (execution_signs site.setup v.me v.bench slot (site.entry_in proposed)) v.bench b' mid new
-    → After (record { me = v.me; bench = b'; member = did (Advanced (Chosen proposed) (site.machine.advancing v.member)) v.member }) → TurnDone site (turn_marks site v) v true old new After
+    → After (record { me = v.me; bench = b'; member = cut_at (slot + 1) (did (Advanced (Chosen proposed) (site.machine.advancing v.member)) v.member) }) → TurnDone site (turn_marks site v) v true old new After
 chosen-done {M} site v old mid new After proposed slot b' is at tells made after =
     let deed : Deed M = Advanced (Chosen proposed) (site.machine.advancing v.member) in
-    let signs : List Sign = execution_signs site.setup v.me v.bench (length (chosen_in v.member.deeds)) (site.entry_in proposed) in
+    let here : ℕ = length (chosen_in v.member.deeds) in
+    let signs : List Sign = execution_signs site.setup v.me v.bench here (site.entry_in proposed) in
     let N : ℕ → Type 0 = λ n. Makes site.setup v.me (execution_signs site.setup v.me v.bench n (site.entry_in proposed)) v.bench b' mid new in
     let now : Makes site.setup v.me signs v.bench b' mid new = subst N at made in
     let w : View M = with_member (did deed v.member) v in
     let Q : View M → Type 0 = λ u. u ≡ w in
+    let Cutting : View M → Type 0 = λ u. After (with_member (cut_at (here + 1) u.member) u) in
+    let C : ℕ → Type 0 = λ n. After (record { me = v.me; bench = b'; member = cut_at (n + 1) (did deed v.member) }) in
     let said : List Sign = handed site v.me (site.machine.advancing v.member) in
-    let at_w : View M → Type 0 = λ u. After (with_bench (bench_after site.setup u.me.shard signs u.bench) u) in
+    let at_w : View M → Type 0 = λ u. Cutting (with_bench (bench_after site.setup u.me.shard signs u.bench) u) in
     let first : Marks site (with_deed site v deed) v old mid Q = deed-done site v old mid Q deed tells refl in
-    let P : Bench → Type 0 = λ b. After (with_bench b w) in
-    turn-some site (turn_marks site v) (plain signs ++ with_deed site v deed) v true old new After (ap (step_marks site v) is) refl
-    (marks-plain site signs (with_deed site v deed) v old mid new Q After first now.tells (subst at_w (sym first.after) (subst P now.bench_is after)))
+    let P : Bench → Type 0 = λ b. Cutting (with_bench b w) in
+    let all : List (Mark M) = plain signs ++ with_deed site v deed in
+    turn-some site (turn_marks site v) (cut_marks here ++ all) v true old new After (ap (step_marks site v) is) refl
+    (cut-done site here all v old new After
+    (marks-plain site signs (with_deed site v deed) v old mid new Q Cutting first now.tells (subst at_w (sym first.after) (subst P now.bench_is (subst C at after)))))

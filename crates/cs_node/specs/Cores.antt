@@ -3,6 +3,7 @@ use Rattle.std.specs.Prelude.{◌≡◌, true, Bool, List, Option, Result, IfOk,
 use Rattle.cs_base.specs.NodeId.{is_node}
 use Rattle.cs_tx_value.specs.declared.object.Object.{Object}
 use Rattle.cs_tx_form.specs.declared.transaction.Tx.{Tx}
+use Rattle.cs_checkpoint.specs.Chain.{Log, kept_of}
 use Rattle.cs_order.specs.Deeds.{Member, Machine}
 use Rattle.cs_node_state.specs.Setup.{Setup}
 use Rattle.cs_node_rules.specs.Net.{Net}
@@ -25,14 +26,16 @@ abbrev pub AtEverySite : {M : Type 0} → Machine M → Carrier M → Held → (
 AtEverySite {M} rules carrier held Holds =
     (net : Net) (genesis : List Object) (approves : Tx → Bool) → Holds (site_at rules carrier net held genesis approves)
 
--- the view, but for the deeds of the order
-abbrev pub view_at : {M : Type 0} → Held → Member M → View M
-view_at {M} held h = view_of held.me (bench_of held) h
+-- the view, but for the log and the deeds of the order
+abbrev pub view_at : {M : Type 0} → Log → Held → Member M → View M
+view_at {M} log held h = view_of held.me (bench_of log held) h
 
--- The order stands for the member that the node is in its shard, and the node is one of the configuration.
+-- The order stands for the member that the node is in its shard, what is to be kept of the log is kept, and the node is one
+-- of the configuration.
 pub record IsSeated {O J M : Type 0} (stands : O → Member M → Type 0)
-    (engine : Engine O J M) (h : Member M) : Type 0 where
+    (engine : Engine O J M) (log : Log) (h : Member M) : Type 0 where
   pub stood : stands engine.order h
+  pub kept_is : engine.sbac.archived.kept ≡ kept_of log
   pub f_is : h.f ≡ engine.sbac.config.f
   pub index_is : h.me ≡ engine.sbac.me.index
   pub node : is_node engine.sbac.config engine.sbac.me ≡ true
@@ -40,8 +43,8 @@ pub record IsSeated {O J M : Type 0} (stands : O → Member M → Type 0)
 -- An engine keeps a view under a setup: its order the member, its table and pool the rest.
 pub record KeepsView {O J M : Type 0} (stands : O → Member M → Type 0) (approves : J → Tx → Bool)
     (setup : Setup) (engine : Engine O J M) (v : View M) : Type 0 where
-  pub seated : IsSeated stands engine v.member
-  pub view_is : view_at engine.sbac v.member ≡ v
+  pub seated : IsSeated stands engine v.bench.log v.member
+  pub view_is : view_at v.bench.log engine.sbac v.member ≡ v
   pub genesis : List Object
   pub setup_is : deployed engine.sbac.config genesis (approves engine.judge) ≡ setup
 
@@ -54,13 +57,13 @@ pub record StandsFor {O J M : Type 0} (stands : O → Member M → Type 0) (appr
   pub speaks : Speaks core.engine.sbac.config site.net core.keys
   pub quiet : IsQuiet site v
 
--- Where a call of an engine leads, as it keeps the view of its member, at any genesis and in any net: what it says of the
--- site and the view, and of what the view is after.
+-- Where a call of an engine leads, as it keeps the view of its member and its log, at any genesis and in any net: what it
+-- says of the site and the view, and of what the view is after.
 abbrev pub Leads : {O J M : Type 0} → (O → Member M → Type 0) → (J → Tx → Bool) → Machine M → Carrier M
     → Engine O J M → Engine O J M → (Site M → View M → (View M → Type 0) → Type 0) → Type 0
 Leads {O} {J} {M} stands approves rules carrier engine engine' Says =
-    (net : Net) (genesis : List Object) (h : Member M) → IsSeated stands engine h
-    → Says (site_at rules carrier net engine.sbac genesis (approves engine.judge)) (view_at engine.sbac h)
+    (net : Net) (genesis : List Object) (log : Log) (h : Member M) → IsSeated stands engine log h
+    → Says (site_at rules carrier net engine.sbac genesis (approves engine.judge)) (view_at log engine.sbac h)
     (KeepsView stands approves (deployed engine.sbac.config genesis (approves engine.judge)) engine')
 
 -- Where a call with this outcome leads, unless memory ran out: it made these marks of the site and the view, and drafted

@@ -1,8 +1,10 @@
 -- What calls of the table and the pool make, at the setup of any deployment that the node may be of.
-use Rattle.std.specs.Prelude.{Bool, List, Result, OnOk}
+use Rattle.std.specs.Prelude.{◌≡◌, Bool, List, Result, OnOk}
 use Rattle.cs_base.specs.declared.config.Config.{Config}
+use Rattle.cs_base.specs.declared.node_id.NodeId.{NodeId}
 use Rattle.cs_tx_value.specs.declared.object.Object.{Object}
 use Rattle.cs_tx_form.specs.declared.transaction.Tx.{Tx}
+use Rattle.cs_checkpoint.specs.Chain.{Log, kept_of, AtItsLog}
 use Rattle.cs_node_state.specs.Setup.{Setup}
 use Rattle.cs_node_state.specs.Bench.{Bench}
 use Rattle.cs_node_rules.specs.Signs.{Sign}
@@ -15,9 +17,17 @@ use Rattle.cs_node.specs.Steps.{Makes}
 abbrev pub AtEverySetup : Config → (Setup → Type 0) → Type 0
 AtEverySetup config Holds = (genesis : List Object) (approves : Tx → Bool) → Holds (deployed config genesis approves)
 
+-- These signs were made of a bench, and what is held then keeps the bench behind them.
+pub record Leaves (setup : Setup) (me : NodeId) (signs : List Sign)
+    (old : Bench) (held : Held) (draft draft' : Draft) : Type 0 where
+  pub log : Log
+  pub kept_is : held.archived.kept ≡ kept_of log
+  pub makes : Makes setup me signs old (bench_of log held) draft draft'
+
 -- A call with this outcome, unless memory ran out, made the signs that a node with such a judge makes of what it held.
 abbrev pub Does : {A E : Type 0} → (Tx → Bool) → Held → Held → Draft → Draft → Result A E
     → (Setup → Bench → List Sign) → Type 0
 Does {A} {E} approves held held' draft draft' result signs =
-    (genesis : List Object) → OnOk result (Makes (deployed held.config genesis approves) held.me
-    (signs (deployed held.config genesis approves) (bench_of held)) (bench_of held) (bench_of held') draft draft')
+    (genesis : List Object) → AtItsLog held.archived.kept (λ log.
+    OnOk result (Leaves (deployed held.config genesis approves) held.me
+    (signs (deployed held.config genesis approves) (bench_of log held)) (bench_of log held) held' draft draft'))

@@ -1,7 +1,8 @@
 -- What the calls of a node make: marks, what these tell and say, and the view for which the node stands then.
-use Rattle.std.specs.Prelude.{◌≡◌, ℕ, ◌<◌, ◌^◌, Bool, true, false, List, [], ◌∷◌, ◌++◌, Option, Some, None}
+use Rattle.std.specs.Prelude.{◌≡◌, ℕ, ◌-◌, ◌%◌, ◌<◌, ◌^◌, ◌==◌, Bool, true, false, if◌then◌else◌, List, [], ◌∷◌, ◌++◌, Option, Some, None}
 use Rattle.cs_base.specs.declared.node_id.NodeId.{NodeId}
-use Rattle.cs_order.specs.Deeds.{Member}
+use Rattle.cs_order.specs.Deeds.{Cut, Member, did}
+use Rattle.cs_checkpoint.specs.Chain.{kept_slots}
 use Rattle.cs_node_state.specs.Setup.{Setup}
 use Rattle.cs_node_state.specs.Bench.{Bench}
 use Rattle.cs_node_rules.specs.declared.cause.Cause.{Cause}
@@ -27,6 +28,10 @@ pub record Marks {M : Type 0} (site : Site M) (marks : List (Mark M)) (v : View 
     (old new : Draft) (After : View M → Type 0) : Type 0 where
   pub tells : Tells (signs_of marks) old new
   pub after : After (view_after site marks v)
+
+-- a member that has chosen so many slots: after every 16th it gives up those before the last 1,024
+abbrev pub cut_at : {M : Type 0} → ℕ → Member M → Member M
+cut_at {M} slots h = if slots % 16 == 0 then did (Cut (slots - kept_slots)) h else h
 
 -- one turn: the marks of the rule that applies, or nothing
 abbrev pub TurnDone : {M : Type 0} → Site M → Option (List (Mark M)) → View M → Bool

@@ -1,8 +1,8 @@
 //! What applies the rules of a node.
-ghost use Rattle.std.specs.Prelude.{◌≡◌, ◌++◌, ◌<◌, IfOk, OnOk, List, true};
+ghost use Rattle.std.specs.Prelude.{◌≡◌, ◌++◌, ◌≤◌, ◌<◌, IfOk, OnOk, List, length, true};
 ghost use Rattle.cs_tx_value.specs.declared.object.Object.{Object as AnyObject};
 ghost use Rattle.cs_order.specs.declared.answers.May.TheVariants.{Free, Only};
-ghost use Rattle.cs_order.specs.Deeds.{Member};
+ghost use Rattle.cs_order.specs.Deeds.{Member, chosen_in};
 ghost use Rattle.cs_node_rules.specs.Net.{Net};
 ghost use Rattle.cs_node_rules.specs.Trail.{handed, entered_view, due_marks, candidate_marks, propose_marks, echo_marks, turn_marks, input_marks};
 ghost use Rattle.cs_node_state.specs.Admission.{due};
@@ -10,13 +10,14 @@ ghost use Rattle.cs_node_pool.specs.Deployed.{deployed};
 ghost use Rattle.cs_node.specs.Notes.{Tells, DraftFits};
 ghost use Rattle.cs_node.specs.Proposals.{admits_proposed, admits_pending, first_admitted};
 ghost use Rattle.cs_node.specs.Speaking.{Speaks, input_of};
-ghost use Rattle.cs_node.specs.Steps.{Marks, Settles};
+ghost use Rattle.cs_node.specs.Steps.{Marks, Settles, cut_at};
 ghost use Rattle.cs_node.specs.Cores.{Leads, TurnsBy, site_at};
 
 use crate::draft::Draft;
 use crate::executions::execute;
 use crate::handing::hand_out;
 use cs_base::{Memory, Sequence};
+use cs_checkpoint::KEPT_SLOTS;
 use cs_node_carried::{Carried, propose_entry, read_entry};
 use cs_order::{May, Order, Outgoing, Proposed, Step};
 use cs_sbac::Sbac;
@@ -79,6 +80,7 @@ impl<O: Carried, J: Judge + Drop> Engine<O, J> {
             Step::Chosen(proposed) => {
                 hand_out::<O>(alloc, &self.sbac, draft, outgoing)?;
                 execute(alloc, &mut self.sbac, draft, slot, &proposed)?;
+                cut_log(&mut self.order);
                 Ok(true)
             }
             Step::Moved => {
@@ -248,4 +250,17 @@ fn note_entered_view(draft: &mut Draft, slot: u64, before: u16, after: u16) -> R
         return draft.note_view(slot, after);
     }
     Ok(())
+}
+
+// After every 16th slot, which makes a checkpoint, the order gives up the slots before the last
+// 1,024.
+fn cut_log<O: Order>(order: &mut O)
+    ensures cut { (h : Member O.Message) → O.stands order.old h →
+        O.stands order.new (cut_at (length (chosen_in h.deeds)) h) }
+    ensures rest { O.rest order.new ≤ O.rest order.old }
+{
+    let open = order.open_slot();
+    if open % 16 == 0 {
+        order.cut(open.saturating_sub(KEPT_SLOTS));
+    }
 }

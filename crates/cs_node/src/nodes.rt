@@ -8,6 +8,7 @@ ghost use Rattle.cs_node_rules.specs.Site.{Site, View, start_view};
 ghost use Rattle.cs_node_rules.specs.declared.cause.Cause.{Cause as AnyCause};
 ghost use Rattle.cs_node_rules.specs.Trail.{drops, input_marks};
 ghost use Rattle.cs_node_rules.specs.Deployment.{site_of};
+ghost use Rattle.cs_checkpoint.specs.Chain.{kept_of};
 ghost use Rattle.cs_node_pool.specs.Deployed.{deployed};
 ghost use Rattle.cs_table.specs.Genesis.{twice};
 ghost use Rattle.cs_node.specs.Notes.{NotesFit};
@@ -126,7 +127,8 @@ impl<O: Carried, J: Judge + Drop> Core<O, J> {
     /// The chain of its checkpoints.
     pub fn chain(&self) -> &Chain
         ensures { (site : Site O.Message) (v : View O.Message) →
-            StandsFor O.stands J.is_approved site self.now v → result.now.log ≡ v.bench.log }
+            StandsFor O.stands J.is_approved site self.now v →
+            result.now.kept ≡ kept_of v.bench.log }
     {
         self.engine.sbac.chain()
     }

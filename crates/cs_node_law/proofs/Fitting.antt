@@ -21,7 +21,7 @@ use Rattle.cs_wire.specs.Opened.{Opened, keys_of_master}
 use Rattle.cs_order.specs.declared.proposed.Proposed.{Proposed}
 use Rattle.cs_order.specs.declared.answers.May.TheVariants.{Only}
 use Rattle.cs_order.specs.Lists as Order
-use Rattle.cs_order.specs.Deeds.{Deed, Took_in, Advanced, Echoed, Proposing, Ticked, Resent, Replied, Member, Machine}
+use Rattle.cs_order.specs.Deeds.{Deed, Took_in, Advanced, Echoed, Proposing, Ticked, Resent, Replied, Cut, Member, Machine}
 use Rattle.cs_order.specs.Runs.{KeepsRules, IsKept, held_in}
 use Rattle.cs_order.specs.Law.{Holds}
 use Rattle.cs_ledger.specs.Ledger.{Bytes, IsIn}
@@ -230,6 +230,7 @@ module _ {M : Type 0} (machine : Machine M) (carrier : Carrier M) (config : Conf
       all-fit (Ordered (Ticked on sent) ∷ t) made bytes = let f = all-fit t made.1 bytes in record { held = f.held; voted = f.voted }
       all-fit (Ordered (Resent sent) ∷ t) made bytes = let f = all-fit t made.1 bytes in record { held = f.held; voted = f.voted }
       all-fit (Ordered (Replied slot to sent) ∷ t) made bytes = let f = all-fit t made.1 bytes in record { held = f.held; voted = f.voted }
+      all-fit (Ordered (Cut slot) ∷ t) made bytes = let f = all-fit t made.1 bytes in record { held = f.held; voted = f.voted }
       all-fit (Plain (Dropped cause) ∷ t) made bytes = let f = all-fit t made.1 bytes in record { held = f.held; voted = f.voted }
       all-fit (Plain (Took sender vote x) ∷ t) made bytes = let f = all-fit t made.1 bytes in record { held = f.held; voted = f.voted }
       all-fit (Plain (Entered x) ∷ t) made bytes = let f = all-fit t made.1 bytes in record { held = f.held; voted = f.voted }

@@ -15,3 +15,4 @@ pub mod Speaking
 pub mod Fitting
 pub mod Played
 pub mod Resting
+pub mod Cuts

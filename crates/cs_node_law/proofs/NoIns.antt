@@ -1,5 +1,5 @@
 -- The rules make no inputs: of each event one input is given.
-use Rattle.std.proofs.Common.{◌≡◌, ℕ, zero, suc, ◌^◌, List, [], ◌∷◌, ◌++◌, length, Option, Some, None, is_some, refl, ap, ◌∙◌, append_assoc, sym}
+use Rattle.std.proofs.Common.{◌≡◌, ℕ, zero, suc, ◌+◌, ◌%◌, ◌^◌, ◌==◌, List, [], ◌∷◌, ◌++◌, length, Option, Some, None, is_some, refl, ap, ◌∙◌, append_assoc, sym}
 use Rattle.std.specs.Prelude.{Ok, Err}
 use Rattle.std.proofs.lemmas.Bool.{cond_both}
 use Rattle.cs_base.specs.declared.node_id.NodeId.{NodeId}
@@ -20,7 +20,7 @@ use Rattle.cs_node_state.specs.Admission.{due}
 use Rattle.cs_node_rules.specs.Members.{is_other_member, others}
 use Rattle.cs_node_rules.specs.Signs.{Sign, submit_signs, voted_signs, ask_signs, ask_proof_signs, head_signs, sends, execution_signs, asked_again}
 use Rattle.cs_node_rules.specs.Site.{Input, Datagram, Tick, Mark, In, Ordered, Plain, Site, View, view_after, plain}
-use Rattle.cs_node_rules.specs.Trail.{handed, with_deed, entered_view, moving, admits_proposed, due_marks, candidate_marks, propose_marks, echo_marks, step_marks, turn_marks, continued, settled, taking_marks, member_marks, reply_marks, want_marks, message_marks, opened_marks, again_marks, waiting_marks, tick_marks, input_marks, event_marks}
+use Rattle.cs_node_rules.specs.Trail.{handed, with_deed, entered_view, moving, cut_marks, admits_proposed, due_marks, candidate_marks, propose_marks, echo_marks, step_marks, turn_marks, continued, settled, taking_marks, member_marks, reply_marks, want_marks, message_marks, opened_marks, again_marks, waiting_marks, tick_marks, input_marks, event_marks}
 
 -- what the node was given, the newest first
 abbrev pub inputs_in : {M : Type 0} → List (Mark M) → List Input
@@ -83,11 +83,16 @@ module _ {M : Type 0} (site : Site M) where
     no-echo None = no-propose (site.machine.may_propose v.member)
     no-echo (Some p) = cond_both (admits_proposed site v p) _ _ (λ o. NoneIn o) (λ e. no-deed v (Echoed (site.machine.echoing v.member))) (λ e. no-propose (site.machine.may_propose v.member))
 
+    no-cut : (slot : ℕ) → NoIn {M = M} (cut_marks slot)
+    no-cut slot = cond_both ((slot + 1) % 16 == 0) _ _ (λ marks. NoIn marks) (λ e. tt) (λ e. tt)
+
     no-step : (step : Step) → NoneIn (step_marks site v step)
     no-step (Chosen p) =
-        let signs = execution_signs site.setup v.me v.bench (length (chosen_in v.member.deeds)) (site.entry_in p) in
+        let slot = length (chosen_in v.member.deeds) in
+        let signs = execution_signs site.setup v.me v.bench slot (site.entry_in p) in
         let deed : Deed M = Advanced (Chosen p) (site.machine.advancing v.member) in
-        no-append (plain signs) (with_deed site v deed) (no-plain signs) (no-deed v deed)
+        no-append (cut_marks slot) (plain signs ++ with_deed site v deed) (no-cut slot)
+        (no-append (plain signs) (with_deed site v deed) (no-plain signs) (no-deed v deed))
     no-step Moved = no-moving v (Advanced Moved (site.machine.advancing v.member))
     no-step Quiet = no-echo (site.machine.pending v.member)
 

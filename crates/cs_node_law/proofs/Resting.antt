@@ -1,5 +1,5 @@
 -- Where what an order has to do comes to an end, the rules of a node do, and none applies after an event.
-use Rattle.std.proofs.Common.{◌≡◌, ℕ, zero, suc, ◌<◌, ◌^◌, Bool, true, false, if◌then◌else◌, List, [], ◌∷◌, ◌++◌, Option, Some, None, IsSome, inl, inr, arith, refl, sym, subst, ◌∙◌}
+use Rattle.std.proofs.Common.{◌≡◌, ℕ, zero, suc, ◌+◌, ◌-◌, ◌%◌, ◌<◌, ◌^◌, ◌==◌, Bool, true, false, if◌then◌else◌, List, [], ◌∷◌, ◌++◌, length, Option, Some, None, IsSome, inl, inr, arith, refl, sym, subst, ◌∙◌}
 use Rattle.std.proofs.lemmas.Bool.{cond_both}
 use Rattle.cs_base.specs.declared.node_id.NodeId.{NodeId}
 use Rattle.cs_base.specs.NodeId.{same_name}
@@ -10,26 +10,22 @@ use Rattle.cs_order.specs.declared.answers.Step.TheVariants.{Chosen, Moved, Quie
 use Rattle.cs_order.specs.declared.answers.May.{May}
 use Rattle.cs_order.specs.declared.answers.May.TheVariants.{No, Free, Only}
 use Rattle.cs_order.specs.Lists as Order
-use Rattle.cs_order.specs.Deeds.{Advanced, Echoed, Proposing, Member, did}
+use Rattle.cs_order.specs.Deeds.{Advanced, Echoed, Proposing, Cut, Member, did, chosen_in}
 use Rattle.cs_order.specs.Calls.{Proposable}
 use Rattle.cs_order.specs.Law.{ComesToRest, Holds}
+use Rattle.cs_checkpoint.specs.Chain.{kept_slots}
 use Rattle.cs_node_state.specs.Admission.{due}
 use Rattle.cs_node_rules.specs.Signs.{Sign, execution_signs}
 use Rattle.cs_node_rules.specs.Site.{Input, Mark, In, Ordered, Site, View, start_view, view_after, plain}
-use Rattle.cs_node_rules.specs.Trail.{handed, entered_view, with_deed, admits_proposed, due_marks, candidate_marks, propose_marks, echo_marks, step_marks, turn_marks, continued, settled, input_marks, event_marks}
+use Rattle.cs_node_rules.specs.Trail.{handed, entered_view, with_deed, admits_proposed, due_marks, candidate_marks, propose_marks, echo_marks, cut_marks, step_marks, turn_marks, continued, settled, input_marks, event_marks}
 use Rattle.cs_node_rules.specs.World.{trail_of, view_of}
 use Rattle.cs_node_rules.specs.Ready.{IsQuiet}
 use Rattle.cs_node_rules.proofs.Starting.{start-quiet}
 use Rattle.cs_node_law.specs.Made.{LivesAreQuiet}
-use Rattle.cs_node_law.proofs.Views.{view_after-append}
+use Rattle.cs_node_law.proofs.Views.{view_after-append, member-said}
 use Rattle.cs_node_law.proofs.Played.{name-same}
 
 module _ {M : Type 0} (site : Site M) where
-  -- what is said changes nothing of the order
-  member-said : (signs : List Sign) (past : List (Mark M)) (v : View M) → (view_after site (plain signs ++ past) v).member ≡ (view_after site past v).member
-  member-said [] past v = refl
-  member-said (sign ∷ signs) past v = member-said signs past v
-
   module _ (left : Member M → ℕ) (rests : ComesToRest site.machine left) where
     abbrev Falls : View M → List (Mark M) → Type 0
     Falls v fresh = left (view_after site fresh v).member < left v.member
@@ -41,7 +37,14 @@ module _ {M : Type 0} (site : Site M) where
     said-falls : (signs : List Sign) (past : List (Mark M)) (v : View M) → Falls v past → Falls v (plain signs ++ past)
     said-falls signs past v less =
         let P : Member M → Type 0 = λ h. left h < left v.member in
-        subst P (sym (member-said signs past v)) less
+        subst P (sym (member-said site signs past v)) less
+
+    -- what is given up raises nothing
+    cut-falls : (slot : ℕ) (past : List (Mark M)) (v : View M) → Falls v past → Falls v (cut_marks slot ++ past)
+    cut-falls slot past v less =
+        cond_both ((slot + 1) % 16 == 0) (Ordered (Cut (slot + 1 - kept_slots)) ∷ []) [] (λ marks. Falls v (marks ++ past))
+        (λ e. omega (arith, less, rests.cut (view_after site past v).member (slot + 1 - kept_slots)))
+        (λ e. less)
 
     moves-falls : (v : View M) (x : Step) → site.machine.step v.member ≡ x → (x ≡ Quiet → ⊥) → Falls v (Ordered (Advanced x (site.machine.advancing v.member)) ∷ [])
     moves-falls v x is moves =
@@ -81,9 +84,12 @@ module _ {M : Type 0} (site : Site M) where
     step-falls : (v : View M) (x : Step) → site.machine.step v.member ≡ x → TurnFalls v (step_marks site v x)
     step-falls v (Chosen p) is =
         let sent = site.machine.advancing v.member in
+        let slot = length (chosen_in v.member.deeds) in
+        let signs = execution_signs site.setup v.me v.bench slot (site.entry_in p) in
         let first = with_deed site v (Advanced (Chosen p) sent) in
-        said-falls (execution_signs site.setup v.me v.bench _ (site.entry_in p)) first v
-        (said-falls (handed site v.me sent) (Ordered (Advanced (Chosen p) sent) ∷ []) v (moves-falls v (Chosen p) is (λ q. cc)))
+        cut-falls slot (plain signs ++ first) v
+        (said-falls signs first v
+        (said-falls (handed site v.me sent) (Ordered (Advanced (Chosen p) sent) ∷ []) v (moves-falls v (Chosen p) is (λ q. cc))))
     step-falls v Moved is =
         said-falls (handed site v.me (site.machine.advancing v.member) ++ entered_view _ _ _) (Ordered (Advanced Moved (site.machine.advancing v.member)) ∷ []) v
         (moves-falls v Moved is (λ q. cc))

@@ -1,5 +1,5 @@
 -- The rules, one turn after the other, make only marks that are made.
-use Rattle.std.proofs.Common.{◌≡◌, inl, inr, ℕ, zero, suc, ◌+◌, Bool, true, false, not, ◌&&◌, List, [], ◌∷◌, ◌++◌, length, Option, Some, None, arith, sym, ◌∙◌, ap, subst, refl, append_assoc}
+use Rattle.std.proofs.Common.{◌≡◌, inl, inr, ℕ, zero, suc, ◌+◌, ◌-◌, ◌%◌, ◌≤◌, ◌==◌, Bool, true, false, not, ◌&&◌, List, [], ◌∷◌, ◌++◌, length, Option, Some, None, arith, sym, ◌∙◌, ap, subst, refl, append_assoc}
 use Rattle.std.specs.Prelude.{slice_get, IsSome}
 use Rattle.std.proofs.lemmas.Bool.{cond_both, and_from, or_left}
 use Rattle.std.proofs.lemmas.Option.{slice_get-get_or}
@@ -18,7 +18,7 @@ use Rattle.cs_order.specs.declared.answers.Step.TheVariants.{Chosen, Moved, Quie
 use Rattle.cs_order.specs.declared.answers.May.{May}
 use Rattle.cs_order.specs.declared.answers.May.TheVariants.{No, Free, Only}
 use Rattle.cs_order.specs.Lists as Order
-use Rattle.cs_order.specs.Deeds.{Deed, Advanced, Echoed, Proposing, chosen_in}
+use Rattle.cs_order.specs.Deeds.{Deed, Advanced, Echoed, Proposing, Cut, Member, chosen_in}
 use Rattle.cs_order.specs.Calls.{Proposable}
 use Rattle.cs_ledger.specs.Session as Seen
 use Rattle.cs_ledger.specs.Table.{Vote, Commit, Abort, Effect, Voted, Accepted, Aborted, Skipped, Void, Outcome, Table, exec, decide}
@@ -31,16 +31,16 @@ use Rattle.cs_node_rules.specs.Members.{others}
 use Rattle.cs_node_state.specs.Pool.{is_pooled}
 use Rattle.cs_node_state.specs.Bench.{is_locked, executed, slot_executed, told_by, told_of, next_leaf}
 use Rattle.cs_node_rules.specs.Signs.{Sign, Took, Entered, Did, Headed, Sent, sends, vote_signs, own_signs, entered_signs, ran_signs, headed_signs, execution_signs}
-use Rattle.cs_node_rules.specs.Site.{Mark, Ordered, Plain, Site, View, view_after, plain, signs_of}
-use Rattle.cs_node_rules.specs.Trail.{with_deed, admits_proposed, due_marks, candidate_marks, propose_marks, echo_marks, step_marks, turn_marks, continued, settled}
+use Rattle.cs_node_rules.specs.Site.{Mark, Ordered, Plain, Site, View, start_view, view_after, plain, signs_of}
+use Rattle.cs_node_rules.specs.Trail.{with_deed, admits_proposed, due_marks, candidate_marks, propose_marks, echo_marks, cut_marks, step_marks, turn_marks, continued, settled}
 use Rattle.cs_tx_form.specs.declared.checkpoint.Checkpoint.{Checkpoint}
 use Rattle.cs_tx_form.specs.Log.{leaf_encoding}
-use Rattle.cs_checkpoint.specs.Chain.{Log, head_of, chain_head, made_last}
+use Rattle.cs_checkpoint.specs.Chain.{Log, head_of, chain_head, made_last, kept_slots}
 use Rattle.cs_check_rules.specs.Root.{root_under}
 use Rattle.cs_node_law.proofs.Heads.{root_hashed, last_is}
 use Rattle.cs_node_law.specs.Made.{HasDigests, view_at, log_in, HasVotedOn, has_given, IsMade, Executes, AllMade, IsLevel}
-use Rattle.cs_node_law.proofs.Views.{view_after-append, me-same}
-use Rattle.cs_node_law.proofs.Silent.{given-over, voted-over, said-append, said-sends, Adds, said-adds, said-level, plain-onto, Handed, all-handed, deed-level, moving-level}
+use Rattle.cs_node_law.proofs.Views.{view_after-append, me-same, member-said}
+use Rattle.cs_node_law.proofs.Silent.{given-over, voted-over, said-append, said-sends, Adds, said-adds, said-level, plain-onto, Handed, all-handed, done-level, deed-level, moving-level}
 
 pub get-last : {A : Type 0} (xs : List A) (x : A) → slice_get (xs ++ x ∷ []) (length xs) ≡ Some x
 get-last {A} xs x =
@@ -227,6 +227,14 @@ module _ {M : Type 0} (site : Site M) (me : NodeId) where
   TurnLevel t None = Unit {0}
   TurnLevel t (Some fresh) = IsLevel site me (fresh ++ t)
 
+  -- slots that were executed may be given up
+  cut-level : (slot : ℕ) (u : List (Mark M)) → slot + 1 ≤ length (chosen_in (view_at site me u).member.deeds) → IsLevel site me u → IsLevel site me (cut_marks slot ++ u)
+  cut-level slot u within l =
+      let cut : ℕ = slot + 1 - kept_slots in
+      cond_both ((slot + 1) % 16 == 0) (Ordered (Cut cut) ∷ []) [] (λ marks. IsLevel site me (marks ++ u))
+      (λ e. done-level site me u (Cut cut) l (omega (arith, within), tt) refl)
+      (λ e. l)
+
   -- what was chosen is executed
   chosen-level : (t : List (Mark M)) (p : Proposed) → IsLevel site me t → site.machine.step (view_at site me t).member ≡ Chosen p → TurnLevel t (step_marks site (view_at site me t) (Chosen p))
   chosen-level t p l e =
@@ -255,10 +263,16 @@ module _ {M : Type 0} (site : Site M) (me : NodeId) where
       } in
       let after = followed site me u slot entry level in
       let moved_here = subst (λ (z : View M). IsLevel site me (plain (execution_signs site.setup z.me z.bench slot entry) ++ u)) a.view after in
-      let signs = plain (execution_signs site.setup v.me v.bench slot entry) in
+      let signs = execution_signs site.setup v.me v.bench slot entry in
+      let cut : List (Mark M) = cut_marks slot in
+      let all : List (Mark M) = plain signs ++ with_deed site v deed in
+      let chosen : length (chosen_in (view_at site me (plain signs ++ u)).member.deeds) ≡ suc slot =
+      ap (λ (h : Member M). length (chosen_in h.deeds)) (member-said site signs u (start_view site me)) ∙ same ∙ count in
+      let onto : plain signs ++ u ≡ all ++ t =
+      ap (λ (z : List (Mark M)). plain signs ++ z) (sym (append_assoc (plain (Handed site me t deed)) (Ordered deed ∷ []) t)) ∙ sym (append_assoc (plain signs) (with_deed site v deed) t) in
       subst (λ z. IsLevel site me z)
-      (ap (λ (z : List (Mark M)). signs ++ z) (sym (append_assoc (plain (Handed site me t deed)) (Ordered deed ∷ []) t)) ∙ sym (append_assoc signs (with_deed site v deed) t))
-      moved_here
+      (ap (λ (z : List (Mark M)). cut ++ z) onto ∙ sym (append_assoc cut all t))
+      (cut-level slot (plain signs ++ u) (omega (arith, chosen)) moved_here)
 
   due-level : (t : List (Mark M)) (o : Option Entry) → IsLevel site me t → site.machine.may_propose (view_at site me t).member ≡ Free → due site.setup (view_at site me t).bench.pool ≡ o → TurnLevel t (due_marks site (view_at site me t) o)
   due-level t None l e d = tt

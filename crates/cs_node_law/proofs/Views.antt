@@ -3,7 +3,8 @@ use Rattle.std.proofs.Common.{◌≡◌, List, [], ◌∷◌, ◌++◌, refl, ap
 use Rattle.cs_base.specs.declared.node_id.NodeId.{NodeId}
 use Rattle.cs_tx_form.specs.declared.session.Session.{Session}
 use Rattle.cs_order.specs.Deeds.{Member}
-use Rattle.cs_node_rules.specs.Site.{Mark, In, Ordered, Plain, Site, View, mark_step, view_after, signs_of}
+use Rattle.cs_node_rules.specs.Signs.{Sign}
+use Rattle.cs_node_rules.specs.Site.{Mark, In, Ordered, Plain, Site, View, mark_step, view_after, plain, signs_of}
 use Rattle.cs_node_rules.specs.Collisions.{sessions_in, given}
 use Rattle.cs_node_law.specs.Made.{view_at}
 
@@ -34,3 +35,8 @@ member-is {M} site me [] = refl
 member-is {M} site me (In input ∷ t) = member-is site me t
 member-is {M} site me (Ordered deed ∷ t) = ap (λ (h : Member M). record { f = h.f; me = h.me; deeds = deed ∷ (view_at site me t).member.deeds }) (member-is site me t)
 member-is {M} site me (Plain sign ∷ t) = member-is site me t
+
+-- what is said changes nothing of the order
+pub member-said : {M : Type 0} (site : Site M) (signs : List Sign) (past : List (Mark M)) (v : View M) → (view_after site (plain signs ++ past) v).member ≡ (view_after site past v).member
+member-said {M} site [] past v = refl
+member-said {M} site (sign ∷ signs) past v = member-said site signs past v

@@ -11,11 +11,11 @@ use Rattle.cs_tx_form.specs.declared.entry.Entry.TheVariants.{Prepare}
 use Rattle.cs_wire_message.specs.declared.message.Message.{Message}
 use Rattle.cs_wire_message.specs.declared.message.Message.TheVariants as message
 use Rattle.cs_wire_message.specs.Message.{MessageFits}
-use Rattle.cs_checkpoint.specs.Chain.{chain_head}
+use Rattle.cs_checkpoint.specs.Chain.{chain_head, cut_slot}
 use Rattle.cs_order.specs.declared.proposed.Proposed.{Proposed}
 use Rattle.cs_order.specs.declared.answers.May.TheVariants.{Only}
 use Rattle.cs_order.specs.Lists as Order
-use Rattle.cs_order.specs.Deeds.{Deed, Took_in, Advanced, Echoed, Proposing, Ticked, Resent, Replied, sent_by, chosen_in}
+use Rattle.cs_order.specs.Deeds.{Deed, Took_in, Advanced, Echoed, Proposing, Ticked, Resent, Replied, Cut, sent_by, chosen_in, kept_from}
 use Rattle.cs_order.specs.Runs.{KeepsRules, IsFor}
 use Rattle.cs_ledger.specs.Ledger.{Bytes, IsIn}
 use Rattle.cs_ledger.specs.Table.{Vote, Commit, Effect, Voted, exec}
@@ -139,6 +139,7 @@ DeedMade {M} site v t (Proposing proposed sent) = IsDue site v proposed ⊎ IsCa
 DeedMade {M} site v t (Ticked on sent) = Unit {0}
 DeedMade {M} site v t (Resent sent) = Unit {0}
 DeedMade {M} site v t (Replied slot to sent) = Unit {0}
+DeedMade {M} site v t (Cut slot) = Unit {0}
 
 -- the entry that was chosen for the next slot is executed on the table
 pub record Executes {M : Type 0} (site : Site M) (v : View M) (signs : List Sign)
@@ -259,6 +260,12 @@ NotesAreGiven {M} site =
 abbrev pub LivesAreQuiet : {M : Type 0} → Site M → Type 0
 LivesAreQuiet {M} site =
     (world : List (Happening M)) → IsLife site world → (i : NodeId) → IsQuiet site (view_of site world i)
+
+-- After any events the order of a node keeps its entries from the slot on from which its chain keeps leaves.
+abbrev pub CutsAreAlike : {M : Type 0} → Site M → Type 0
+CutsAreAlike {M} site =
+    (world : List (Happening M)) → IsLife site world → (i : NodeId) →
+    kept_from (view_of site world i).member.deeds ≡ cut_slot (view_of site world i).bench.log
 
 -- Where no rule applies, a datagram that is dropped makes the mark of that alone, and the node stays as it is.
 abbrev pub DropChangesNothing : {M : Type 0} → Site M → Type 0

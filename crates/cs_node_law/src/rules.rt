@@ -2,7 +2,7 @@
 
 ghost use Rattle.std.specs.Prelude.{◌≡◌};
 ghost use Rattle.cs_node_rules.specs.Site.{Site};
-ghost use Rattle.cs_node_law.specs.Made.{EventIsMade, LocksAreGiven, NotesAreGiven, DropChangesNothing, LivesAreQuiet};
+ghost use Rattle.cs_node_law.specs.Made.{EventIsMade, LocksAreGiven, NotesAreGiven, CutsAreAlike, DropChangesNothing, LivesAreQuiet};
 ghost use Rattle.cs_node_law.specs.Given.{PlaysWorlds};
 
 use cs_order::Order;
@@ -34,6 +34,15 @@ pub fn a_dropped_datagram_changes_nothing<O: Order>()
 pub fn events_end_quiet<O: Order>()
     // After any events of nodes that keep the rules, no rule applies at any node.
     ensures { (site : Site O.Message) → site.machine ≡ O.rules → LivesAreQuiet site }
+{}
+
+/// What cuts take from nodes, over any order: from the order of a node the same slots as from its
+/// chain, which is cut by its own count.
+///
+/// It does nothing: its contract is a theorem, which a caller has by calling it.
+pub fn cuts_are_alike<O: Order>()
+    // After any events of nodes that keep the rules, order and chain of a node keep the same slots.
+    ensures { (site : Site O.Message) → CutsAreAlike site }
 {}
 
 /// What the schedules play, over any order: worlds in which honest nodes keep the rules, and are

@@ -10,7 +10,7 @@ use Rattle.cs_tx_form.specs.declared.entry.Entry.{Entry}
 use Rattle.cs_tx_form.specs.Transaction.{tx_encoding}
 use Rattle.cs_tx_form.specs.Session.{session_encoding, entry_encoding}
 use Rattle.cs_tx.specs.Digest.{digest_of_tx}
-use Rattle.cs_order.specs.Deeds.{Deed, Took_in, Advanced, Echoed, Proposing, Ticked, Resent, Replied}
+use Rattle.cs_order.specs.Deeds.{Deed, Took_in, Advanced, Echoed, Proposing, Ticked, Resent, Replied, Cut}
 use Rattle.cs_base.specs.declared.node_id.NodeId.{NodeId}
 use Rattle.cs_wire_message.specs.declared.message.Message.{Message}
 use Rattle.cs_wire_message.specs.declared.message.Message.TheVariants as message
@@ -55,6 +55,7 @@ entries_of {M} site (Echoed sent) = []
 entries_of {M} site (Ticked on sent) = []
 entries_of {M} site (Resent sent) = []
 entries_of {M} site (Replied slot to sent) = []
+entries_of {M} site (Cut slot) = []
 
 -- the entries that nodes proposed
 abbrev pub entries_proposed : {M : Type 0} → Site M → List (Mark M) → List Entry

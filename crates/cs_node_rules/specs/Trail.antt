@@ -1,5 +1,5 @@
 -- The rules of a node: the marks that each input makes.
-use Rattle.std.specs.Prelude.{ℕ, zero, suc, ◌^◌, nat_lt, Bool, if◌then◌else◌, List, [], ◌∷◌, ◌++◌, length, Option, Some, None, is_some, Ok, Err}
+use Rattle.std.specs.Prelude.{ℕ, zero, suc, ◌+◌, ◌-◌, ◌%◌, ◌^◌, ◌==◌, nat_lt, Bool, if◌then◌else◌, List, [], ◌∷◌, ◌++◌, length, Option, Some, None, is_some, Ok, Err}
 use Rattle.cs_base.specs.declared.node_id.NodeId.{NodeId}
 use Rattle.cs_tx_form.specs.declared.entry.Entry.{Entry}
 use Rattle.cs_wire_message.specs.declared.message.Message.{Message}
@@ -12,8 +12,9 @@ use Rattle.cs_order.specs.declared.answers.Step.{Step}
 use Rattle.cs_order.specs.declared.answers.Step.TheVariants.{Chosen, Moved, Quiet}
 use Rattle.cs_order.specs.declared.answers.May.{May}
 use Rattle.cs_order.specs.declared.answers.May.TheVariants.{No, Free, Only}
-use Rattle.cs_order.specs.Deeds.{Deed, Took_in, Advanced, Echoed, Proposing, Ticked, Resent, Replied, did, sent_by, chosen_in}
+use Rattle.cs_order.specs.Deeds.{Deed, Took_in, Advanced, Echoed, Proposing, Ticked, Resent, Replied, Cut, did, sent_by, chosen_in}
 use Rattle.cs_wire.specs.Opened.{Opened}
+use Rattle.cs_checkpoint.specs.Chain.{kept_slots}
 use Rattle.cs_node_rules.specs.declared.cause.Cause.{Cause}
 use Rattle.cs_node_rules.specs.declared.cause.Cause.TheVariants.{Role, Old, Far, Leader, Repeat}
 use Rattle.cs_node_state.specs.Admission.{admits, due}
@@ -79,11 +80,17 @@ echo_marks {M} site v (Some proposed) =
     then Some (with_deed site v (Echoed (site.machine.echoing v.member)))
     else propose_marks site v (site.machine.may_propose v.member)
 
+-- After every 16th slot the order gives up the slots before the last 1,024.
+abbrev pub cut_marks : {M : Type 0} → ℕ → List (Mark M)
+cut_marks {M} slot = if (slot + 1) % 16 == 0 then Ordered (Cut (slot + 1 - kept_slots)) ∷ [] else []
+
 -- What is chosen is executed; else the order moves; else echoing.
 abbrev pub step_marks : {M : Type 0} → Site M → View M → Step → Option (List (Mark M))
 step_marks {M} site v (Chosen proposed) =
-    Some (plain (execution_signs site.setup v.me v.bench (length (chosen_in v.member.deeds)) (site.entry_in proposed))
-    ++ with_deed site v (Advanced (Chosen proposed) (site.machine.advancing v.member)))
+    let slot = length (chosen_in v.member.deeds) in
+    Some (cut_marks slot
+    ++ (plain (execution_signs site.setup v.me v.bench slot (site.entry_in proposed))
+    ++ with_deed site v (Advanced (Chosen proposed) (site.machine.advancing v.member))))
 step_marks {M} site v Moved = Some (moving site v (Advanced Moved (site.machine.advancing v.member)))
 step_marks {M} site v Quiet = echo_marks site v (site.machine.pending v.member)
 

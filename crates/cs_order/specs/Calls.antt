@@ -8,7 +8,7 @@ use Rattle.cs_order.specs.declared.answers.Step.{Step}
 use Rattle.cs_order.specs.declared.answers.Step.TheVariants.{Chosen, Moved, Quiet}
 use Rattle.cs_order.specs.declared.answers.May.{May}
 use Rattle.cs_order.specs.declared.answers.May.TheVariants.{No, Free, Only}
-use Rattle.cs_order.specs.Deeds.{Took_in, Advanced, Echoed, Proposing, Ticked, Resent, Replied, Member, Machine, did}
+use Rattle.cs_order.specs.Deeds.{Took_in, Advanced, Echoed, Proposing, Ticked, Resent, Replied, Cut, Member, Machine, did}
 use Rattle.cs_order.specs.Lists.{IsIn}
 
 -- this entry may be proposed
@@ -78,6 +78,10 @@ RepliesWith {M} (Some out) h slot to answer old new Stands =
 abbrev pub Replies : {M : Type 0} → Machine M → Member M → ℕ → ℕ → Bool
     → List (Outgoing M) → List (Outgoing M) → (Member M → Type 0) → Type 0
 Replies {M} m h slot to answer old new Stands = RepliesWith (m.replying h slot to) h slot to answer old new Stands
+
+-- the call that cuts the log answers nothing and hands nothing out
+abbrev pub Cuts : {M : Type 0} → Member M → ℕ → (Member M → Type 0) → Type 0
+Cuts {M} h slot Stands = Stands (did (Cut slot) h)
 
 -- a step lowered the number by which a caller's loop ends
 abbrev pub Lowers : ℕ → ℕ → Step → Type 0

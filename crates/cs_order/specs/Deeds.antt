@@ -1,5 +1,5 @@
 -- What one member of an order has done, as a list, and what an order does next, read off that list.
-use Rattle.std.specs.Prelude.{ℕ, Bool, List, [], ◌∷◌, ◌++◌, Option}
+use Rattle.std.specs.Prelude.{ℕ, max, nat_lt, Bool, if◌then◌else◌, List, [], ◌∷◌, ◌++◌, Option, None, slice_get}
 use Rattle.cs_order.specs.declared.proposed.Proposed.{Proposed}
 use Rattle.cs_order.specs.declared.answers.Outgoing.{Outgoing}
 use Rattle.cs_order.specs.declared.answers.Took.{Took}
@@ -16,6 +16,7 @@ pub data Deed (M : Type 0) : Type 0 where
   Ticked : (due : Bool) → (sent : List (Outgoing M)) → Deed M
   Resent : (sent : List (Outgoing M)) → Deed M
   Replied : (slot : ℕ) → (to : ℕ) → (sent : List (Outgoing M)) → Deed M
+  Cut : (slot : ℕ) → Deed M  -- the entries of the slots below it are given up
 
 -- a member: the number of liars its shard may have, its index, and its deeds, the newest first
 pub record Member (M : Type 0) : Type 0 where
@@ -36,6 +37,7 @@ sent_by {M} (Proposing entry sent) = sent
 sent_by {M} (Ticked due sent) = sent
 sent_by {M} (Resent sent) = sent
 sent_by {M} (Replied slot to sent) = sent
+sent_by {M} (Cut slot) = []
 
 -- the log after a step
 abbrev pub chosen_by : Step → List Proposed → List Proposed
@@ -43,7 +45,7 @@ chosen_by (Chosen entry) log = log ++ entry ∷ []
 chosen_by Moved log = log
 chosen_by Quiet log = log
 
--- the log of a member: the entries chosen, in the order of slots
+-- the log of a member: the entries chosen, in the order of slots, with those that it gave up
 abbrev pub chosen_in : {M : Type 0} → List (Deed M) → List Proposed
 chosen_in {M} [] = []
 chosen_in {M} (Took_in from message ∷ past) = chosen_in past
@@ -53,6 +55,27 @@ chosen_in {M} (Proposing entry sent ∷ past) = chosen_in past
 chosen_in {M} (Ticked due sent ∷ past) = chosen_in past
 chosen_in {M} (Resent sent ∷ past) = chosen_in past
 chosen_in {M} (Replied slot to sent ∷ past) = chosen_in past
+chosen_in {M} (Cut slot ∷ past) = chosen_in past
+
+-- the slot from which on a member keeps its log: the greatest at which it was cut
+abbrev pub kept_from : {M : Type 0} → List (Deed M) → ℕ
+kept_from {M} [] = 0
+kept_from {M} (Took_in from message ∷ past) = kept_from past
+kept_from {M} (Advanced step sent ∷ past) = kept_from past
+kept_from {M} (Echoed sent ∷ past) = kept_from past
+kept_from {M} (Proposing entry sent ∷ past) = kept_from past
+kept_from {M} (Ticked due sent ∷ past) = kept_from past
+kept_from {M} (Resent sent ∷ past) = kept_from past
+kept_from {M} (Replied slot to sent ∷ past) = kept_from past
+kept_from {M} (Cut slot ∷ past) = max slot (kept_from past)
+
+-- the entry of a slot in a log that is kept from a slot on
+abbrev pub entry_from : ℕ → List Proposed → ℕ → Option Proposed
+entry_from first log slot = if nat_lt slot first then None else slice_get log slot
+
+-- the entry that a member gives of a slot: the one chosen in it, unless it was cut
+abbrev pub entry_at : {M : Type 0} → List (Deed M) → ℕ → Option Proposed
+entry_at {M} deeds slot = entry_from (kept_from deeds) (chosen_in deeds) slot
 
 -- An order, as functions of what its member has done.
 pub record Machine (M : Type 0) : Type 0 where

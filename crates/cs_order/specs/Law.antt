@@ -1,14 +1,14 @@
 -- The laws of an order.
-use Rattle.std.specs.Prelude.{◌≡◌, ℕ, ◌<◌, ◌^◌, Bool, true, List, [], ◌∷◌, ◌++◌, Some, IsSome, ◌⊎◌, slice_get}
+use Rattle.std.specs.Prelude.{◌≡◌, ℕ, ◌≤◌, ◌<◌, ◌^◌, Bool, true, List, [], ◌∷◌, ◌++◌, Some, None, IsSome, ◌⊎◌, slice_get}
 use Rattle.cs_order.specs.declared.proposed.Proposed.{Proposed}
 use Rattle.cs_order.specs.declared.answers.Outgoing.{Outgoing}
 use Rattle.cs_order.specs.declared.answers.Step.TheVariants.{Chosen, Quiet}
 use Rattle.cs_order.specs.declared.answers.May.TheVariants.{Only}
 use Rattle.cs_order.specs.Lists.{IsIn}
 use Rattle.cs_order.specs.Digests.{HaveDigests}
-use Rattle.cs_order.specs.Deeds.{Deed, Took_in, Advanced, Echoed, Proposing, Ticked, Resent, Replied, Member, Machine, did, sent_by, chosen_in}
+use Rattle.cs_order.specs.Deeds.{Deed, Took_in, Advanced, Echoed, Proposing, Ticked, Resent, Replied, Cut, Member, Machine, did, sent_by, chosen_in, entry_at}
 use Rattle.cs_order.specs.Calls.{Proposable}
-use Rattle.cs_order.specs.Runs.{Act, IsKept, IsFor, member_of, log_of, Run, FewLiars, held_in, handed_in, EntriesToldApart}
+use Rattle.cs_order.specs.Runs.{Act, IsKept, IsFor, deeds_of, member_of, log_of, Run, FewLiars, held_in, handed_in, EntriesToldApart}
 
 -- a member admitted the entry: it proposed it, or echoed it while it was pending
 abbrev pub Admits : {M : Type 0} → Machine M → Proposed → Member M → Deed M → Type 0
@@ -19,6 +19,7 @@ Admits {M} m entry h (Proposing proposed sent) = proposed ≡ entry
 Admits {M} m entry h (Ticked due sent) = ⊥
 Admits {M} m entry h (Resent sent) = ⊥
 Admits {M} m entry h (Replied slot to sent) = ⊥
+Admits {M} m entry h (Cut slot) = ⊥
 
 abbrev pub Admitted : {M : Type 0} → Machine M → ℕ → Proposed → List (Act M) → Type 0
 Admitted {M} m f entry [] = ⊥
@@ -41,14 +42,15 @@ Law {M} m =
     → m.serves f ≡ true → FewLiars f honest → Run m f honest past → EntriesToldApart (handed_in m past)
     → IsLawful m f honest past
 
--- What is sent again changes nothing of what the rules do.
+-- What is sent again, and what is given up, changes no step.
 pub record Undisturbed {M : Type 0} (m : Machine M) : Type 0 where
   pub by_resend : (h : Member M) (sent : List (Outgoing M)) → m.step (did (Resent sent) h) ≡ m.step h
   pub by_reply : (h : Member M) (slot to : ℕ) (sent : List (Outgoing M))
       → m.step (did (Replied slot to sent) h) ≡ m.step h
+  pub by_cut : (h : Member M) (slot : ℕ) → m.step (did (Cut slot) h) ≡ m.step h
 
 -- A member that has done nothing has no step to take, and what a member has to do comes to an end: what it advances,
--- echoes or proposes lowers a number.
+-- echoes or proposes lowers a number, which no cut raises.
 pub record ComesToRest {M : Type 0} (m : Machine M) (left : Member M → ℕ) : Type 0 where
   pub start : (f me : ℕ) → m.step (record { f = f; me = me; deeds = [] }) ≡ Quiet
   pub advanced : (h : Member M) → (m.step h ≡ Quiet → ⊥)
@@ -56,6 +58,7 @@ pub record ComesToRest {M : Type 0} (m : Machine M) (left : Member M → ℕ) : 
   pub echoed : (h : Member M) → IsSome (m.pending h) → left (did (Echoed (m.echoing h)) h) < left h
   pub proposed : (h : Member M) (entry : Proposed) → Proposable (m.may_propose h) entry
       → left (did (Proposing entry (m.proposing h entry)) h) < left h
+  pub cut : (h : Member M) (slot : ℕ) → left (did (Cut slot) h) ≤ left h
   pub bounded : (h : Member M) → left h < 2 ^ 80
 
 -- Each entry that a member gives was handed in at it, and each message that it hands out is proper,
@@ -94,3 +97,15 @@ LogsAgree {M} m =
 -- What was chosen stays.
 abbrev pub LogsStay : Type 0 → Type 0
 LogsStay M = (act : Act M) (past : List (Act M)) (i : ℕ) → IsPrefix (log_of i past) (log_of i (act ∷ past))
+
+-- the act is a cut of the member's above the slot
+abbrev pub IsCutAbove : {M : Type 0} → ℕ → ℕ → Act M → Type 0
+IsCutAbove {M} i slot act = (act.member ≡ i) × (bound : ℕ) × (act.deed ≡ Cut bound) × (slot < bound)
+
+-- An entry that a member gives stays, or is gone by a cut above its slot.
+abbrev pub EntriesStay : Type 0 → Type 0
+EntriesStay M =
+    (act : Act M) (past : List (Act M)) (i slot : ℕ) (entry : Proposed)
+    → entry_at (deeds_of i past) slot ≡ Some entry
+    → (entry_at (deeds_of i (act ∷ past)) slot ≡ Some entry)
+    ⊎ ((entry_at (deeds_of i (act ∷ past)) slot ≡ None) × IsCutAbove i slot act)

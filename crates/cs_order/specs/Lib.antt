@@ -3,6 +3,7 @@ pub mod Lists
 pub mod Digests
 pub mod Limits
 pub mod Deeds
+pub mod Kept
 pub mod Calls
 pub mod Runs
 pub mod Law

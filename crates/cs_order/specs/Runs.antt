@@ -1,12 +1,12 @@
 -- The runs of one shard: deeds of its honest members that keep the rules.
-use Rattle.std.specs.Prelude.{◌≡◌, ◌≢◌, ℕ, ◌+◌, ◌*◌, ◌≤◌, ◌<◌, ◌==◌, Bool, true, not, if◌then◌else◌, List, [], ◌∷◌, ◌++◌, Some, None, IsSome, ◌⊎◌}
+use Rattle.std.specs.Prelude.{◌≡◌, ◌≢◌, ℕ, ◌+◌, ◌*◌, ◌≤◌, ◌<◌, ◌==◌, Bool, true, not, if◌then◌else◌, List, [], ◌∷◌, ◌++◌, length, Some, None, IsSome, ◌⊎◌}
 use Rattle.cs_order.specs.declared.proposed.Proposed.{Proposed}
 use Rattle.cs_order.specs.declared.answers.Outgoing.{Outgoing}
 use Rattle.cs_order.specs.declared.answers.Took.TheVariants.{Taken}
 use Rattle.cs_order.specs.declared.answers.Step.TheVariants.{Quiet}
 use Rattle.cs_order.specs.Lists.{IsIn}
 use Rattle.cs_order.specs.Counts.{count_below}
-use Rattle.cs_order.specs.Deeds.{Deed, Took_in, Advanced, Echoed, Proposing, Ticked, Resent, Replied, Member, Machine, sent_by, chosen_in}
+use Rattle.cs_order.specs.Deeds.{Deed, Took_in, Advanced, Echoed, Proposing, Ticked, Resent, Replied, Cut, Member, Machine, sent_by, chosen_in}
 use Rattle.cs_order.specs.Calls.{Proposable}
 
 -- a deed that the rules give after what the member did before
@@ -20,6 +20,7 @@ KeepsRules {M} m h (Ticked due sent) = m.ticking h due ≡ sent
 KeepsRules {M} m h (Resent sent) = m.resending h ≡ sent
 KeepsRules {M} m h (Replied slot to sent) =
     (outgoing : Outgoing M) × (m.replying h slot to ≡ Some outgoing) × (sent ≡ outgoing ∷ [])
+KeepsRules {M} m h (Cut slot) = slot ≤ length (chosen_in h.deeds)
 
 -- all deeds of a member keep the rules
 abbrev pub IsKept : {M : Type 0} → Machine M → ℕ → ℕ → List (Deed M) → Type 0
@@ -62,6 +63,7 @@ Genuine {M} honest i (Proposing entry sent) past = Unit {0}
 Genuine {M} honest i (Ticked due sent) past = Unit {0}
 Genuine {M} honest i (Resent sent) past = Unit {0}
 Genuine {M} honest i (Replied slot to sent) past = Unit {0}
+Genuine {M} honest i (Cut slot) past = Unit {0}
 
 -- an act that may come after these
 pub record Follows {M : Type 0} (m : Machine M) (f : ℕ) (honest : ℕ → Bool) (past : List (Act M)) (act : Act M)
@@ -88,6 +90,7 @@ entries_in {M} m (Proposing entry sent) = entry ∷ []
 entries_in {M} m (Ticked due sent) = []
 entries_in {M} m (Resent sent) = []
 entries_in {M} m (Replied slot to sent) = []
+entries_in {M} m (Cut slot) = []
 
 -- the entries that were handed in at one member
 abbrev pub held_in : {M : Type 0} → Machine M → List (Deed M) → List Proposed

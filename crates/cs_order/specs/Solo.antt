@@ -6,7 +6,8 @@ use Rattle.cs_order.specs.declared.answers.Step.{Step}
 use Rattle.cs_order.specs.declared.answers.Step.TheVariants.{Chosen, Quiet}
 use Rattle.cs_order.specs.declared.answers.May.{May}
 use Rattle.cs_order.specs.declared.answers.May.TheVariants.{No, Free}
-use Rattle.cs_order.specs.Deeds.{Deed, Took_in, Advanced, Echoed, Proposing, Ticked, Resent, Replied, Member, Machine, chosen_in}
+use Rattle.cs_order.specs.Kept.{KeepsFrom}
+use Rattle.cs_order.specs.Deeds.{Deed, Took_in, Advanced, Echoed, Proposing, Ticked, Resent, Replied, Cut, Member, Machine, chosen_in, kept_from}
 use Rattle.cs_order.specs.Limits.{last_slot, rest_at}
 
 -- the entry that was proposed and isn't chosen yet
@@ -19,6 +20,7 @@ waiting_of {M} (Proposing entry sent ∷ past) = Some entry
 waiting_of {M} (Ticked due sent ∷ past) = waiting_of past
 waiting_of {M} (Resent sent ∷ past) = waiting_of past
 waiting_of {M} (Replied slot to sent ∷ past) = waiting_of past
+waiting_of {M} (Cut slot ∷ past) = waiting_of past
 
 -- it is chosen, but in the last slot
 abbrev pub step_at : ℕ → Option Proposed → Step
@@ -48,16 +50,19 @@ solo {M} = record {
   replying = λ h slot to. None;
 }
 
--- A single member with this log and this entry proposed has done these deeds.
-pub record SoloStands {M : Type 0} (log : List Proposed) (waiting : Option Proposed) (h : Member M) : Type 0 where
+-- A single member that keeps these entries of its log, from a slot on, and this entry proposed has done these deeds.
+pub record SoloStands {M : Type 0} (first : ℕ) (entries : List Proposed) (waiting : Option Proposed) (h : Member M)
+    : Type 0 where
   pub f : h.f ≡ 0
   pub me : h.me ≡ 0
-  pub log_is : chosen_in h.deeds ≡ log
+  pub first_is : kept_from h.deeds ≡ first
+  pub keeps : KeepsFrom first entries (chosen_in h.deeds)
   pub waiting_is : waiting_of h.deeds ≡ waiting
 
--- nothing is chosen or proposed
-pub record SoloStarts (log : List Proposed) (waiting : Option Proposed) : Type 0 where
-  pub no_log : log ≡ []
+-- nothing is chosen, cut or proposed
+pub record SoloStarts (first : ℕ) (entries : List Proposed) (waiting : Option Proposed) : Type 0 where
+  pub none_cut : first ≡ 0
+  pub no_log : entries ≡ []
   pub none_waits : waiting ≡ None
 
 -- proposing, echoing and confirming are left, but what waits was proposed

@@ -4,12 +4,14 @@
 
 mod agreement;
 mod answers;
+mod kept_log;
 mod order;
 mod proposed;
 mod solo;
 
 pub use agreement::logs_agree;
 pub use answers::{May, Outgoing, Step, Took};
+pub use kept_log::KeptLog;
 pub use order::Order;
 pub use proposed::Proposed;
 pub use solo::{NoMessage, Solo};

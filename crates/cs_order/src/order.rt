@@ -1,9 +1,9 @@
 //! The trait of an order.
-ghost use Rattle.std.specs.Prelude.{◌≡◌, ◌≢◌, ℕ, ◌*◌, ◌≤◌, ◌<◌, ◌^◌, true, [], IfOk, OnOk, OnErr, IsSome, length, slice_get, Option, option_copied};
+ghost use Rattle.std.specs.Prelude.{◌≡◌, ◌≢◌, ℕ, ◌*◌, ◌≤◌, ◌<◌, ◌^◌, true, [], IfOk, OnOk, OnErr, IsSome, length, Option, option_copied};
 ghost use Rattle.cs_order.specs.declared.proposed.Proposed.{Proposed};
 ghost use Rattle.cs_order.specs.declared.answers.May.{May};
-ghost use Rattle.cs_order.specs.Deeds.{Member, Machine, chosen_in};
-ghost use Rattle.cs_order.specs.Calls.{Proposable, TakesIn, Advances, Echoes, Proposes, Ticks, Resends, Replies, Lowers};
+ghost use Rattle.cs_order.specs.Deeds.{Member, Machine, chosen_in, entry_at};
+ghost use Rattle.cs_order.specs.Calls.{Proposable, TakesIn, Advances, Echoes, Proposes, Ticks, Resends, Replies, Cuts, Lowers};
 ghost use Rattle.cs_order.specs.Limits.{last_slot};
 ghost use Rattle.cs_order.specs.Law.{Law, Undisturbed, ComesToRest, Holds, IsPrefix};
 
@@ -63,10 +63,10 @@ pub trait Order: Drop {
             IfOk result (λ took. TakesIn rules h from message took (stands self.new)) }
         ensures same { OnOk result ((f self.new ≡ f self.old) × (me self.new ≡ me self.old)) };
 
-    /// The entry that is chosen in a slot.
+    /// The entry that is chosen in a slot, unless it was cut.
     fn entry(&self, slot: u64) -> Option<&Proposed>
         ensures { (h : Member Self.Message) → stands self.now h →
-            option_copied result ≡ slice_get (chosen_in h.deeds) slot };
+            option_copied result ≡ entry_at h.deeds slot };
 
     /// Chooses an entry, enters a view or confirms, whichever applies first.
     fn advance(
@@ -144,10 +144,19 @@ pub trait Order: Drop {
             (stands self.now)) }
         ensures begins { OnErr result (IsPrefix out.old.items out.new.items) };
 
+    /// Gives up the entries of the slots below this one, and frees their memory.
+    fn cut(&mut self, slot: u64)
+        requires { (h : Member Self.Message) → stands self.old h →
+            slot ≤ length (chosen_in h.deeds) }
+        ensures call { (h : Member Self.Message) → stands self.old h →
+            Cuts h slot (stands self.new) }
+        ensures rest { rest self.new ≤ rest self.old }
+        ensures same { (f self.new ≡ f self.old) × (me self.new ≡ me self.old) };
+
     /// In every run of one shard with few enough liars, the law holds.
     ghost law: { Law rules };
 
-    /// Messages sent again change no rule.
+    /// Messages sent again, and cuts, change no step.
     ghost undisturbed: { Undisturbed rules };
 
     /// What a member has to do comes to an end.

@@ -1,15 +1,15 @@
 //! The order of a single member.
-ghost use Rattle.std.specs.Prelude.{◌≡◌, ◌≤◌, false, None, IfOk, length};
+ghost use Rattle.std.specs.Prelude.{◌≡◌, ◌+◌, false, None, IfOk, length};
 ghost use Rattle.cs_order.specs.declared.answers.Took.{Took};
-ghost use Rattle.cs_order.specs.Limits.{last_slot};
 ghost use Rattle.cs_order.specs.Solo.{solo, SoloStands, SoloStarts, solo_rest, solo_turns, may_at};
 ghost use Rattle.cs_order.specs.laws.SoloLaw.{solo_law, solo_undisturbed, solo_comes_to_rest, solo_holds, solo_begins, solo_bounded};
 
 use crate::answers::{May, Outgoing, Step, Took};
+use crate::kept_log::KeptLog;
 use crate::order::Order;
 use crate::proposed::Proposed;
 use cs_base::{LAST_SLOT, Memory};
-use std::alloc::{AllocError, Global};
+use std::alloc::Global;
 
 /// The message of an order that sends none.
 #[derive(Drop)]
@@ -18,9 +18,8 @@ pub struct NoMessage;
 /// The order of a shard with one member: it chooses what is proposed, and takes no message.
 #[derive(Drop)]
 pub struct Solo {
-    log: Vec<Proposed>,
+    log: KeptLog,
     waiting: Option<Proposed>,
-    ghost short: { length log.items ≤ last_slot },
 }
 
 impl Solo {
@@ -29,7 +28,7 @@ impl Solo {
         ensures { ⟦<Solo as Order>⟧.at_start result }
     {
         Solo {
-            log: Vec::new(alloc),
+            log: KeptLog::new(alloc),
             waiting: None,
         }
     }
@@ -40,19 +39,19 @@ impl Order for Solo {
 
     ghost rules = { solo };
 
-    ghost stands = { λ s h. SoloStands s.log.items s.waiting h };
+    ghost stands = { λ s h. SoloStands s.log.first s.log.entries.items s.waiting h };
 
     ghost f = { λ s. 0 };
 
     ghost me = { λ s. 0 };
 
-    ghost at_start = { λ s. SoloStarts s.log.items s.waiting };
+    ghost at_start = { λ s. SoloStarts s.log.first s.log.entries.items s.waiting };
 
     ghost awaits = { λ s. None };
 
     ghost allows = { λ s. may_at s.waiting };
 
-    ghost rest = { λ s. solo_rest (length s.log.items) s.waiting };
+    ghost rest = { λ s. solo_rest (s.log.first + length s.log.entries.items) s.waiting };
 
     ghost left = { solo_turns };
 
@@ -64,14 +63,14 @@ impl Order for Solo {
 
     ghost holds = { solo_holds };
 
-    ghost begins = { λ s. solo_begins s.log.items s.waiting };
+    ghost begins = { λ s. solo_begins s.log.first s.log.entries.items s.waiting };
 
     ghost belongs = { λ s h stands. (stands.f, stands.me) };
 
-    ghost bounded = { λ s. solo_bounded (length s.log.items) s.waiting };
+    ghost bounded = { λ s. solo_bounded (s.log.first + length s.log.entries.items) s.waiting };
 
     fn open_slot(&self) -> u64 {
-        self.log.len() as u64
+        self.log.next()
     }
 
     fn view(&self) -> u16 {
@@ -86,7 +85,7 @@ impl Order for Solo {
     }
 
     fn entry(&self, slot: u64) -> Option<&Proposed> {
-        self.log.get(slot as usize)
+        self.log.get(slot)
     }
 
     fn advance(
@@ -94,16 +93,14 @@ impl Order for Solo {
         alloc: Global,
         _out: &mut Vec<Outgoing<NoMessage>>,
     ) -> Result<Step, Memory> {
-        if self.log.len() >= LAST_SLOT as usize {
+        if self.log.next() >= LAST_SLOT {
             return Ok(Step::Quiet);
         }
         match self.waiting.take() {
             None => Ok(Step::Quiet),
             Some(entry) => {
                 let chosen = entry.copy(alloc)?;
-                if let Err(refused) = self.log.push(entry) {
-                    return Err(AllocError::from(refused).into());
-                }
+                self.log.push(entry)?;
                 Ok(Step::Chosen(chosen))
             }
         }
@@ -159,6 +156,10 @@ impl Order for Solo {
     {
         Ok(false)
     }
+
+    fn cut(&mut self, slot: u64) {
+        self.log.cut(slot);
+    }
 }
 
 #[cfg(test)]
@@ -193,6 +194,12 @@ mod tests {
         }
     }
 
+    /// Gives up all that it has chosen.
+    fn cut_all<O: Order>(order: &mut O) {
+        let open = order.open_slot();
+        order.cut(open);
+    }
+
     #[test]
     fn a_caller_of_the_trait(rt: HostRuntime) -> Result<(), Fail> {
         let alloc = rt.alloc();
@@ -211,6 +218,12 @@ mod tests {
         assert!(rt; !solo.reply(alloc, 0, 1, &mut out)?);
         assert!(rt; solo.pending().is_none() && solo.entry(2).is_none());
         assert!(rt; solo.view() == 0 && out.is_empty());
+        cut_all(&mut solo);
+        assert!(rt; solo.entry(1).is_none());
+        assert_eq!(rt; solo.open_slot(), 2);
+        let wanted = Some(entry(alloc, 3)?);
+        assert!(rt; decide(&mut solo, alloc, entry(alloc, 3)?)? == wanted);
+        assert!(rt; solo.entry(2) == wanted.as_ref());
         logs_agree::<Solo>();
         Ok(())
     }

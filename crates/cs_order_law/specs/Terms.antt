@@ -1,6 +1,6 @@
 -- The terms in which laws of a member are said.
 use Rattle.std.specs.Prelude.{◌≡◌, ◌≤◌, ◌<◌, ◌⊎◌}
-use Rattle.cs_order.specs.Deeds.{Deed, Took_in, Advanced, Echoed, Proposing, Ticked, Resent, Replied}
+use Rattle.cs_order.specs.Deeds.{Deed, Took_in, Advanced, Echoed, Proposing, Ticked, Resent, Replied, Cut}
 use Rattle.cs_order_rules.specs.declared.message.OrderMessage.{OrderMessage}
 use Rattle.cs_order_rules.specs.Facts.{Sight, open_slot, slot_of, view_of}
 
@@ -13,6 +13,7 @@ IsRule (Proposing e sent) = Unit {0}
 IsRule (Ticked due sent) = ⊥
 IsRule (Resent sent) = ⊥
 IsRule (Replied slot to sent) = ⊥
+IsRule (Cut slot) = ⊥
 
 -- the message is not beyond the member's slot and view
 abbrev pub Within : Sight → OrderMessage → Type 0

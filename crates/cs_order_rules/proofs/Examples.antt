@@ -1,5 +1,5 @@
 -- A view change after a confirm that was lost, and changes that make a digest safe, worked out by hand.
-use Rattle.std.proofs.Common.{◌≡◌, ℕ, Bool, true, false, List, [], ◌∷◌, ◌++◌, Option, Some, None, refl, if◌then◌else◌, replicate}
+use Rattle.std.proofs.Common.{◌≡◌, ℕ, nat_le, Bool, true, false, List, [], ◌∷◌, ◌++◌, length, Option, Some, None, refl, if◌then◌else◌, replicate}
 use Rattle.cs_order.specs.Counts.{count_below, any_below, first_below, last_below, last_found}
 use Rattle.cs_order.specs.Limits.{view_bound}
 use Rattle.cs_order.specs.Deeds.{Deed, Member, chosen_in}
@@ -59,6 +59,7 @@ given h (deed.Proposing e sent) = proposed_by h e (slot_machine.may_propose h)
 given h (deed.Ticked due sent) = Some (deed.Ticked due (slot_machine.ticking h due))
 given h (deed.Resent sent) = Some (deed.Resent (slot_machine.resending h))
 given h (deed.Replied slot to sent) = None
+given h (deed.Cut slot) = if nat_le slot (length (chosen_in h.deeds)) then Some (deed.Cut slot) else None
 
 all_given : ℕ → Deeds → List (Option (Deed OrderMessage))
 all_given me [] = []
@@ -209,3 +210,19 @@ both_are_safe = refl
 second_is_repeated : verdict (with_changes four_changes) 0 change_3 ≡ Repeat
 unfolding count_below any_below first_below last_below last_found
 second_is_repeated = refl
+
+-- A member that is cut answers for what it keeps alone, and goes on as before.
+abbrev cut_1 : Deeds
+cut_1 = deed.Cut 1 ∷ deeds_1
+
+given_cut : given (at 1 deeds_1) (deed.Cut 1) ∷ given (at 1 deeds_1) (deed.Cut 2) ∷ [] ≡ Some (deed.Cut 1) ∷ None ∷ []
+given_cut = refl
+
+answers_before : slot_machine.replying (at 1 deeds_1) 0 2 ≡ Some (record { to = Some 2; message = message.Done 0 x })
+answers_before = refl
+
+answers_no_more : slot_machine.replying (at 1 cut_1) 0 2 ≡ None
+answers_no_more = refl
+
+sees_the_same : sight (at 1 cut_1) ≡ sight (at 1 deeds_1)
+sees_the_same = refl

@@ -2,7 +2,7 @@
 use Rattle.std.specs.List.{list_any, filter_map}
 use Rattle.std.specs.Cmp.Lexicographic.{slice_cmp}
 use Rattle.std.specs.Ordering.{nat_cmp, is_lt}
-use Rattle.std.specs.Prelude.{ℕ, zero, suc, ◌+◌, ◌*◌, ◌%◌, ◌^◌, ◌==◌, min, nat_lt, nat_le, bytes_eq, Bool, true, not, ◌&&◌, ◌||◌, if◌then◌else◌, List, [], ◌∷◌, ◌++◌, length, Option, Some, None, is_some, slice_get}
+use Rattle.std.specs.Prelude.{ℕ, zero, suc, ◌+◌, ◌*◌, ◌%◌, ◌^◌, ◌==◌, min, nat_lt, nat_le, bytes_eq, Bool, true, not, ◌&&◌, ◌||◌, if◌then◌else◌, List, [], ◌∷◌, ◌++◌, length, Option, Some, None, is_some}
 use Rattle.cs_base.specs.declared.limits.TheConstants.{MOST_ECHOED, SLOTS_AHEAD}
 use Rattle.cs_order.specs.Counts.{when, last_below}
 use Rattle.cs_order.specs.Limits.{view_bound, rest_at}
@@ -221,13 +221,10 @@ resend_sent s =
     ++ again (message.Confirm (open_slot s) s.view) (own confirm_said s)
     ++ again (message.Change (open_slot s) s.view) (own change_said s)
 
--- What answers a Want of the slot.
+-- What answers a Want of the slot: the entry that the member gives of it.
 abbrev pub reply_with : ℕ → ℕ → Option Proposed → Option (Outgoing OrderMessage)
 reply_with slot to None = None
 reply_with slot to (Some e) = Some (record { to = Some to; message = message.Done slot e })
-
-abbrev pub reply_sent : Sight → ℕ → ℕ → Option (Outgoing OrderMessage)
-reply_sent s slot to = reply_with slot to (slice_get s.log slot)
 
 -- how many of proposing, echoing and confirming the member has not done in its view
 abbrev pub one_unless : {A : Type 0} → Option A → ℕ

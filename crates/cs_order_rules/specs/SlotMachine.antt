@@ -2,14 +2,14 @@
 use Rattle.std.specs.Prelude.{ℕ, ◌+◌, Bool, true, ◌||◌, if◌then◌else◌, List, [], ◌∷◌, length, Option, Some, None, is_some}
 use Rattle.cs_base.specs.Options.{or_else}
 use Rattle.cs_order.specs.Limits.{view_bound}
-use Rattle.cs_order.specs.Deeds.{Deed, Took_in, Advanced, Echoed, Proposing, Ticked, Resent, Replied, Member, Machine, chosen_in}
+use Rattle.cs_order.specs.Deeds.{Deed, Took_in, Advanced, Echoed, Proposing, Ticked, Resent, Replied, Cut, Member, Machine, chosen_in, entry_at}
 use Rattle.cs_order.specs.declared.answers.Outgoing.{Outgoing}
 use Rattle.cs_order.specs.declared.answers.Step.{Step}
 use Rattle.cs_order.specs.declared.answers.Step.TheVariants.{Chosen, Moved, Quiet}
 use Rattle.cs_order_rules.specs.declared.message.OrderMessage.{OrderMessage}
 use Rattle.cs_order_rules.specs.declared.message.OrderMessage.TheVariants as message
 use Rattle.cs_order_rules.specs.Facts.{Facts, Sight, carried, proper, first_of, echo_in}
-use Rattle.cs_order_rules.specs.Rules.{verdict, step_of, advance_sent, pending, echo_sent, may_propose, propose_sent, tick_sent, resend_sent, reply_sent, rest_of}
+use Rattle.cs_order_rules.specs.Rules.{verdict, step_of, advance_sent, pending, echo_sent, may_propose, propose_sent, tick_sent, resend_sent, reply_with, rest_of}
 
 abbrev pub Deeds : Type 0
 Deeds = List (Deed OrderMessage)
@@ -29,6 +29,7 @@ facts_in me (Proposing entry sent ∷ past) = with_own me sent (facts_in me past
 facts_in me (Ticked due sent ∷ past) = with_own me sent (facts_in me past)
 facts_in me (Resent sent ∷ past) = facts_in me past
 facts_in me (Replied slot to sent ∷ past) = facts_in me past
+facts_in me (Cut slot ∷ past) = facts_in me past
 
 -- the view that is entered by sending this
 abbrev pub changed_to : OrderMessage → Option ℕ
@@ -62,6 +63,7 @@ view_in (Proposing entry sent ∷ past) = view_in past
 view_in (Ticked due sent ∷ past) = after (entered_by sent) (λ entered. entered) (view_in past)
 view_in (Resent sent ∷ past) = view_in past
 view_in (Replied slot to sent ∷ past) = view_in past
+view_in (Cut slot ∷ past) = view_in past
 
 -- the wait: the ticks since the view was entered or the slot opened
 -- at which an entry was due or the member had echoed in the slot
@@ -83,8 +85,9 @@ wait_in me (Ticked due sent ∷ past) =
     after (entered_by sent) (λ entered. 0) (if due || has_echoed me past then wait_in me past + 1 else wait_in me past)
 wait_in me (Resent sent ∷ past) = wait_in me past
 wait_in me (Replied slot to sent ∷ past) = wait_in me past
+wait_in me (Cut slot ∷ past) = wait_in me past
 
--- all that the rules look at
+-- all that the rules look at, but where the log was cut: what is given up changes no rule, and is answered no more
 abbrev pub sight : Member OrderMessage → Sight
 sight h = record {
   f = h.f;
@@ -111,7 +114,7 @@ slot_machine = record {
   proposing = λ h entry. propose_sent (sight h) entry;
   ticking = λ h due. tick_sent (sight h) due;
   resending = λ h. resend_sent (sight h);
-  replying = λ h slot to. reply_sent (sight h) slot to;
+  replying = λ h slot to. reply_with slot to (entry_at h.deeds slot);
 }
 
 abbrev pub slot_rest : Member OrderMessage → ℕ

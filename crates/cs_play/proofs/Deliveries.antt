@@ -34,15 +34,15 @@ module _ {O J M : Type 0} (stands : O → Member M → Type 0) (approves : J →
 
   -- the same datagrams
   pub same-post : (r : Replay O J M) (post' : List Parcel) (written : Option (List ℕ)) (p : Played M) → StandsPrinted stands approves rules carrier s r written p → post' ≡ r.post
-      → StandsPrinted stands approves rules carrier s (record { cores = r.cores; history = r.history; post = post'; voices = r.voices; events = r.events; traced = r.traced }) written p
+      → StandsPrinted stands approves rules carrier s (record { cores = r.cores; logs = r.logs; history = r.history; post = post'; voices = r.voices; events = r.events; traced = r.traced }) written p
   same-post r post' written p st is =
-      subst (λ (post : List Parcel). StandsPrinted stands approves rules carrier s (record { cores = r.cores; history = r.history; post = post; voices = r.voices; events = r.events; traced = r.traced }) written p) (sym is) st
+      subst (λ (post : List Parcel). StandsPrinted stands approves rules carrier s (record { cores = r.cores; logs = r.logs; history = r.history; post = post; voices = r.voices; events = r.events; traced = r.traced }) written p) (sym is) st
 
   -- the same voices
   pub same-voices : (r : Replay O J M) (voices' : Voicing) (written : Option (List ℕ)) (p : Played M) → StandsPrinted stands approves rules carrier s r written p → voices' ≡ r.voices
-      → StandsPrinted stands approves rules carrier s (record { cores = r.cores; history = r.history; post = r.post; voices = voices'; events = r.events; traced = r.traced }) written p
+      → StandsPrinted stands approves rules carrier s (record { cores = r.cores; logs = r.logs; history = r.history; post = r.post; voices = voices'; events = r.events; traced = r.traced }) written p
   same-voices r voices' written p st is =
-      subst (λ (voices : Voicing). StandsPrinted stands approves rules carrier s (record { cores = r.cores; history = r.history; post = r.post; voices = voices; events = r.events; traced = r.traced }) written p) (sym is) st
+      subst (λ (voices : Voicing). StandsPrinted stands approves rules carrier s (record { cores = r.cores; logs = r.logs; history = r.history; post = r.post; voices = voices; events = r.events; traced = r.traced }) written p) (sym is) st
 
   -- ---- drained
 
@@ -73,7 +73,7 @@ module _ {O J M : Type 0} (stands : O → Member M → Type 0) (approves : J →
     next = with_arrived number parcel p
 
     abbrev left : Replay O J M
-    left = record { cores = r.cores; history = r.history; post = post'; voices = r.voices; events = r.events; traced = r.traced }
+    left = record { cores = r.cores; logs = r.logs; history = r.history; post = post'; voices = r.voices; events = r.events; traced = r.traced }
 
     found : slice_get p.parcels number ≡ Some parcel
     found = ap (λ ps. slice_get ps number) (sym st.holds.parcels) ∙ sym there
@@ -83,7 +83,7 @@ module _ {O J M : Type 0} (stands : O → Member M → Type 0) (approves : J →
 
     pub arrived-standing : StandsPrinted stands approves rules carrier s left written next
     arrived-standing = record {
-      holds = arrived-stands stands approves rules carrier s r left p number parcel st.holds (size-arrived p.parcels number parcel found) refl refl refl refl refl moved;
+      holds = arrived-stands stands approves rules carrier s r left p number parcel st.holds (size-arrived p.parcels number parcel found) refl refl refl refl refl refl moved;
       printed = st.printed;
     }
 

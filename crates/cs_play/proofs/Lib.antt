@@ -2,9 +2,11 @@ pub mod Courses
 pub mod Deliveries
 pub mod Forgeries
 pub mod Histories
+pub mod Leaves
 pub mod Longer
 pub mod Notes
 pub mod Outcomes
+pub mod Places
 pub mod Posted
 pub mod Printed
 pub mod Taken

@@ -8,24 +8,26 @@ use Rattle.cs_checkpoint.specs.Chain.{Log, empty_log}
 use Rattle.cs_node_rules.specs.Dumps.{longer, longest, logs_of}
 use Rattle.cs_node_rules.specs.Site.{Site}
 use Rattle.cs_node_rules.specs.World.{Happening, view_of}
+use Rattle.cs_play.specs.Logged.{Logged, logged_of}
 use Rattle.cs_play.specs.Longest.{honest_log, slots_in, longer_found, log_in}
 
 longest-push : (first : Log) (logs : List Log) (log : Log) → longest first (logs ++ log ∷ []) ≡ longer (longest first logs) log
 longest-push first [] log = refl
 longest-push first (next ∷ logs) log = longest-push (longer first next) logs log
 
--- the longer one of what was found and a log
-longer-in : (shard : ℕ) (found : Option Log) (log : Log) → log_in shard (longer_found found (Some log)) ≡ longer (log_in shard found) log
-longer-in shard found log =
-    pick (nat_lt (slots_in found) (length log.leaves)) ∙ ap (λ n. cond (nat_lt n (length log.leaves)) log (log_in shard found)) (slots-same found)
+-- the longer one of what was found, which is kept of one log, and of another log
+longer-in : (found : Option Logged) (first log : Log) → log_in found ≡ logged_of first → log_in (longer_found found (Some (logged_of log))) ≡ logged_of (longer first log)
+longer-in found first log is =
+    ap (λ n. log_in (cond (nat_lt n (length log.leaves)) (Some (logged_of log)) found)) (slots-same found ∙ ap (λ (kept : Logged). length kept.leaves) is)
+    ∙ pick (nat_lt (length first.leaves) (length log.leaves))
   where
-    pick : (b : Bool) → log_in shard (cond b (Some log) found) ≡ cond b log (log_in shard found)
+    pick : (b : Bool) → log_in (cond b (Some (logged_of log)) found) ≡ logged_of (cond b log first)
     pick true = refl
-    pick false = refl
+    pick false = is
 
-    slots-same : (o : Option Log) → slots_in o ≡ length (log_in shard o).leaves
+    slots-same : (o : Option Logged) → slots_in o ≡ length (log_in o).leaves
     slots-same None = refl
-    slots-same (Some l) = refl
+    slots-same (Some kept) = refl
 
 module _ {M : Type 0} (site : Site M) (world : List (Happening M)) (shard : ℕ) where
   abbrev honest_names : ℕ → List NodeId
@@ -50,21 +52,21 @@ module _ {M : Type 0} (site : Site M) (world : List (Happening M)) (shard : ℕ)
       ∙ ap (λ c. honest_names n ++ cond c (member n ∷ []) []) is
 
   -- one member more
-  pub longest-next : (n : ℕ) (found : Option Log) → log_in shard found ≡ longest_below n → log_in shard (longer_found found (honest_log site world (member n))) ≡ longest_below (n + 1)
+  pub longest-next : (n : ℕ) (found : Option Logged) → log_in found ≡ logged_of (longest_below n) → log_in (longer_found found (honest_log site world (member n))) ≡ logged_of (longest_below (n + 1))
   longest-next n found so_far = by (site.net.is_honest (member n)) refl
     where
       log : Log
       log = (view_of site world (member n)).bench.log
 
-      by : (b : Bool) → site.net.is_honest (member n) ≡ b → log_in shard (longer_found found (honest_log site world (member n))) ≡ longest_below (n + 1)
+      by : (b : Bool) → site.net.is_honest (member n) ≡ b → log_in (longer_found found (honest_log site world (member n))) ≡ logged_of (longest_below (n + 1))
       by true is =
-          ap (λ c. log_in shard (longer_found found (cond c (Some log) None))) is
-          ∙ longer-in shard found log
-          ∙ ap (λ l. longer l log) so_far
-          ∙ sym (longest-push (empty_log shard) (logs_of site world (honest_names n)) log)
+          ap (λ c. log_in (longer_found found (cond c (Some (logged_of log)) None))) is
+          ∙ longer-in found (longest_below n) log so_far
+          ∙ ap logged_of
+          (sym (longest-push (empty_log shard) (logs_of site world (honest_names n)) log)
           ∙ ap (longest (empty_log shard)) (sym (logs-push (honest_names n) (member n)))
-          ∙ ap (λ names. longest (empty_log shard) (logs_of site world names)) (sym (names-next n true is))
+          ∙ ap (λ names. longest (empty_log shard) (logs_of site world names)) (sym (names-next n true is)))
       by false is =
-          ap (λ c. log_in shard (longer_found found (cond c (Some log) None))) is
+          ap (λ c. log_in (longer_found found (cond c (Some (logged_of log)) None))) is
           ∙ so_far
-          ∙ ap (λ names. longest (empty_log shard) (logs_of site world names)) (sym (names-next n false is ∙ append-nil (honest_names n)))
+          ∙ ap (λ names. logged_of (longest (empty_log shard) (logs_of site world names))) (sym (names-next n false is ∙ append-nil (honest_names n)))

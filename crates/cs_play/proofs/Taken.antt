@@ -8,7 +8,7 @@ use Rattle.cs_node_rules.specs.Site.{Input, Datagram, Carrier, Site, signs_of}
 use Rattle.cs_node_rules.specs.Signs.{Sign}
 use Rattle.cs_node_rules.specs.Trail.{event_marks}
 use Rattle.cs_node_rules.specs.Aborts.{aborted_by}
-use Rattle.cs_node_rules.specs.World.{Execution, view_of, firsts_of}
+use Rattle.cs_node_rules.specs.World.{Execution, view_of, happens, firsts_of}
 use Rattle.cs_node_rules.specs.Ready.{AllQuiet}
 use Rattle.cs_node_rules.specs.Lines.{Parcel, parcels_of, sign_lines, if_traced, at_line, sent_lines}
 use Rattle.cs_node_rules.specs.Play.{Played, Goes, Stops, size_of, most_events, most_sent, plays, within, occurs, arrived, with_arrived, comes}
@@ -17,6 +17,7 @@ use Rattle.cs_node.specs.Notes.{notes_of}
 use Rattle.cs_node.specs.declared.nodes.Core.{Core}
 use Rattle.cs_play.specs.declared.play.Replay.{Replay}
 use Rattle.cs_play.specs.Kept.{KeptHistory, KeepsHistory}
+use Rattle.cs_play.specs.Logged.{AllLogged}
 use Rattle.cs_play.specs.Told.{noted_firsts, noted_aborted, told_text, IsTold}
 use Rattle.cs_play.specs.Voicing.{Voicing}
 use Rattle.cs_play.specs.Standing.{Setting, site_in, AllStand, HasNode, Delivered, Rests, Stands}
@@ -97,13 +98,14 @@ module _ {O J M : Type 0} (stands : O → Member M → Type 0) (approves : J →
   -- the event was taken in
   pub taken : (r' : Replay O J M) (made : Made) (text : List ℕ) → Delivered stands approves here s.names r'.cores.items p.world to input made
       → length r'.cores.items ≡ length r.cores.items
+      → AllLogged here s.names s.count r'.logs.items (happens here to input p.world)
       → r'.post ≡ r.post ++ parcels_from to made.outs → size_of r'.post ≤ most_sent
       → IsTold to made.notes r.history r'.history
       → r'.voices ≡ r.voices → r'.traced ≡ r.traced → r'.events ≡ r.events + 1
       → text ≡ told_text r.traced r.events line to made.notes (length r.post) (parcels_from to made.outs)
       → r.events < most_events
       → (q : Played M) × (occurs here s.traced line to input p ≡ Goes q) × Stands stands approves rules carrier s r' q × (q.text ≡ p.text ++ text)
-  taken r' made text d count posted small told voices traced events is few =
+  taken r' made text d count logged posted small told voices traced events is few =
       let sent : r'.post ≡ (plays here s.traced line to input p).parcels = posted ∙ sent-is made r'.cores.items d in
       let size : size_of (plays here s.traced line to input p).parcels ≤ most_sent = subst (λ (parcels : List Parcel). size_of parcels ≤ most_sent) sent small in
       let fewer : length p.world < most_events = subst (λ n. n < most_events) st.events few in (
@@ -114,6 +116,7 @@ module _ {O J M : Type 0} (stands : O → Member M → Type 0) (approves : J →
           traced = traced ∙ st.traced;
           count = count ∙ st.count;
           all = d.all;
+          logs = logged;
           kept =
               subst (λ (firsts : List Execution). KeepsHistory s.setup firsts r'.history)
               (ap (λ ns. noted_firsts to.shard ns (firsts_of p.world)) d.notes ∙ firsts-noted to.shard (firsts_of p.world) (signs here s.traced line to input p))
@@ -130,31 +133,32 @@ module _ {O J M : Type 0} (stands : O → Member M → Type 0) (approves : J →
         sym (text-is made r'.cores.items d text is),
       )
 
-  -- the same, of what is at hand
-  pub taken-by : (told : Replay O J M) (cores' : _) (post' : List Parcel) (made : Made) (text : List ℕ) (number : ℕ) (outs : List Out)
-      → told ≡ record { cores = cores'; history = told.history; post = post'; voices = r.voices; events = r.events; traced = r.traced }
-      → Delivered stands approves here s.names cores'.items p.world to input made → length cores'.items ≡ length r.cores.items → outs ≡ made.outs
+  -- the same, of what is at hand: what was told was printed, and then taken in by the log of the node
+  pub taken-by : (told after : Replay O J M) (cores' : _) (logs : _) (post' : List Parcel) (made : Made) (text : List ℕ) (number : ℕ) (outs : List Out)
+      → told ≡ record { cores = cores'; logs = logs; history = told.history; post = post'; voices = r.voices; events = r.events; traced = r.traced }
+      → after ≡ record { cores = told.cores; logs = after.logs; history = told.history; post = told.post; voices = told.voices; events = told.events + 1; traced = told.traced }
+      → Delivered stands approves here s.names cores'.items p.world to input made → length cores'.items ≡ length r.cores.items
+      → AllLogged here s.names s.count after.logs.items (happens here to input p.world) → outs ≡ made.outs
       → (post' ≡ r.post ++ parcels_from to outs) × (size_of r.post ≤ most_sent → size_of post' ≤ most_sent)
       → IsTold to made.notes r.history told.history → number ≡ length r.post
       → text ≡ told_text r.traced r.events line to made.notes number (drop number post') → r.events < most_events
-      → (q : Played M) × (occurs here s.traced line to input p ≡ Goes q)
-      × Stands stands approves rules carrier s (record { cores = told.cores; history = told.history; post = told.post; voices = told.voices; events = told.events + 1; traced = told.traced }) q
-      × (q.text ≡ p.text ++ text)
-  taken-by told cores' post' made text number outs rest d count are sent kept at is few =
+      → (q : Played M) × (occurs here s.traced line to input p ≡ Goes q) × Stands stands approves rules carrier s after q × (q.text ≡ p.text ++ text)
+  taken-by told after cores' logs post' made text number outs rest end d count logged are sent kept at is few =
       let posted : post' ≡ r.post ++ parcels_from to made.outs = sent.0 ∙ ap (λ os. r.post ++ parcels_from to os) are in
       let small : size_of post' ≤ most_sent = sent.1 (subst (λ (parcels : List Parcel). size_of parcels ≤ most_sent) (sym st.parcels) st.within) in
       let behind : drop number post' ≡ parcels_from to made.outs = ap (λ n. drop n post') at ∙ ap (λ parcels. drop (length r.post) parcels) posted ∙ drop-front r.post (parcels_from to made.outs) in
-      let cores = ap (λ (x : Replay O J M). x.cores) rest in
-      let post = ap (λ (x : Replay O J M). x.post) rest in
-      taken (record { cores = told.cores; history = told.history; post = told.post; voices = told.voices; events = told.events + 1; traced = told.traced }) made text
+      let cores = ap (λ (x : Replay O J M). x.cores) end ∙ ap (λ (x : Replay O J M). x.cores) rest in
+      let post = ap (λ (x : Replay O J M). x.post) end ∙ ap (λ (x : Replay O J M). x.post) rest in
+      taken after made text
       (subst (λ cs. Delivered stands approves here s.names cs.items p.world to input made) (sym cores) d)
       (ap (λ cs. length cs.items) cores ∙ count)
+      logged
       (post ∙ posted)
       (subst (λ (parcels : List Parcel). size_of parcels ≤ most_sent) (sym post) small)
-      kept
-      (ap (λ (x : Replay O J M). x.voices) rest)
-      (ap (λ (x : Replay O J M). x.traced) rest)
-      (ap (λ (x : Replay O J M). x.events + 1) rest)
+      (subst (λ (h : KeptHistory). IsTold to made.notes r.history h) (sym (ap (λ (x : Replay O J M). x.history) end)) kept)
+      (ap (λ (x : Replay O J M). x.voices) end ∙ ap (λ (x : Replay O J M). x.voices) rest)
+      (ap (λ (x : Replay O J M). x.traced) end ∙ ap (λ (x : Replay O J M). x.traced) rest)
+      (ap (λ (x : Replay O J M). x.events) end ∙ ap (λ (x : Replay O J M). x.events + 1) rest)
       (is ∙ ap (λ n. told_text r.traced r.events line to made.notes n (drop number post')) at ∙ ap (λ parcels. told_text r.traced r.events line to made.notes (length r.post) parcels) behind)
       few
 
@@ -163,13 +167,14 @@ module _ {O J M : Type 0} (stands : O → Member M → Type 0) (approves : J →
 -- a replay in which a datagram has arrived
 module _ {O J M : Type 0} (stands : O → Member M → Type 0) (approves : J → Tx → Bool) (rules : Machine M) (carrier : Carrier M) (s : Setting) (r r' : Replay O J M) (p : Played M) (number : ℕ) (parcel : Parcel) where
   pub arrived-stands : Stands stands approves rules carrier s r p → size_of (with_arrived number parcel p).parcels ≡ size_of p.parcels
-      → r'.cores ≡ r.cores → r'.history ≡ r.history → r'.voices ≡ r.voices → r'.traced ≡ r.traced → r'.events ≡ r.events
+      → r'.cores ≡ r.cores → r'.logs ≡ r.logs → r'.history ≡ r.history → r'.voices ≡ r.voices → r'.traced ≡ r.traced → r'.events ≡ r.events
       → r'.post ≡ (with_arrived number parcel p).parcels → Stands stands approves rules carrier s r' (with_arrived number parcel p)
-  arrived-stands st size cores history voices traced events post = record {
+  arrived-stands st size cores logs history voices traced events post = record {
     rests = rests-same s r.history.config r'.history.config r.voices r'.voices st.rests (ap (λ (h : KeptHistory). h.config) history) voices;
     traced = traced ∙ st.traced;
     count = ap (λ cs. length cs.items) cores ∙ st.count;
     all = subst (λ cs. AllStand stands approves (site_in rules carrier s) s.names cs.items p.world) (sym cores) st.all;
+    logs = subst (λ ls. AllLogged (site_in rules carrier s) s.names s.count ls.items p.world) (sym logs) st.logs;
     kept = subst (λ (h : KeptHistory). KeepsHistory s.setup (firsts_of p.world) h) (sym history) st.kept;
     aborted = ap (λ (h : KeptHistory). h.aborted) history ∙ st.aborted;
     parcels = post;

@@ -31,7 +31,7 @@ after-me site (mark ∷ past) v = step-me site mark (view_after site past v) ∙
 pub view-me : {M : Type 0} (site : Site M) (world : List (Happening M)) (name : NodeId) → (view_of site world name).me ≡ name
 view-me site world name = after-me site (trail_of name world) (start_view site name)
 
-after-append : {M : Type 0} (site : Site M) (xs ys : List (Mark M)) (v : View M) → view_after site (xs ++ ys) v ≡ view_after site xs (view_after site ys v)
+pub after-append : {M : Type 0} (site : Site M) (xs ys : List (Mark M)) (v : View M) → view_after site (xs ++ ys) v ≡ view_after site xs (view_after site ys v)
 after-append site [] ys v = refl
 after-append site (x ∷ xs) ys v = ap (mark_step site x) (after-append site xs ys v)
 
@@ -100,7 +100,7 @@ get-read {A} [] k x h e = absurd (omega arith)
 get-read {A} (y ∷ xs) zero x h e = ap Some (sym e)
 get-read {A} (y ∷ xs) (suc k) x h e = get-read xs k x (omega arith) e
 
-get-within : {A : Type 0} (xs : List A) (k : ℕ) (x : A) → slice_get xs k ≡ Some x → k < length xs
+pub get-within : {A : Type 0} (xs : List A) (k : ℕ) (x : A) → slice_get xs k ≡ Some x → k < length xs
 get-within {A} [] k x h = let q : None ≡ Some x = h in cc
 get-within {A} (y ∷ xs) zero x h = omega arith
 get-within {A} (y ∷ xs) (suc k) x h = omega (arith, get-within xs k x h)
@@ -145,7 +145,7 @@ stepped {O} {J} {M} stands approves site names world cores cores' place core cor
       });
     }
 
-some-at : {A : Type 0} (xs : List A) (k : ℕ) → k < length xs → (x : A) × (slice_get xs k ≡ Some x)
+pub some-at : {A : Type 0} (xs : List A) (k : ℕ) → k < length xs → (x : A) × (slice_get xs k ≡ Some x)
 some-at {A} [] k h = absurd (omega arith)
 some-at {A} (x ∷ xs) zero h = (x, refl)
 some-at {A} (x ∷ xs) (suc k) h = some-at xs k (omega arith)

@@ -1,6 +1,7 @@
 pub mod Digests
 pub mod Kept
 pub mod Told
+pub mod Logged
 pub mod Voicing
 pub mod Standing
 pub mod Ends

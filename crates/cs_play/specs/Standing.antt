@@ -24,6 +24,7 @@ use Rattle.cs_node.specs.Notes.{notes_of, outs_of}
 use Rattle.cs_node.specs.Cores.{StandsFor}
 use Rattle.cs_play.specs.declared.play.Replay.{Replay}
 use Rattle.cs_play.specs.Kept.{KeepsHistory}
+use Rattle.cs_play.specs.Logged.{AllLogged}
 use Rattle.cs_play.specs.Voicing.{Voicing}
 
 -- what stays the same in a replay
@@ -80,6 +81,7 @@ pub record Stands {O J M : Type 0} (stands : O → Member M → Type 0) (approve
   pub traced : r.traced ≡ s.traced
   pub count : length r.cores.items ≡ s.count
   pub all : AllStand stands approves (site_in rules carrier s) s.names r.cores.items p.world
+  pub logs : AllLogged (site_in rules carrier s) s.names s.count r.logs.items p.world
   pub kept : KeepsHistory s.setup (firsts_of p.world) r.history
   pub aborted : r.history.aborted ≡ aborted s.setup p.world
   pub parcels : r.post ≡ p.parcels

@@ -17,6 +17,8 @@ ghost use Rattle.cs_play.specs.declared.halt.Halt.TheVariants.{Failed as SinkFai
 use crate::cores::{deliver, place_of, sender_at};
 use crate::halt::Halt;
 use crate::history::History;
+use crate::logs::keep_told;
+use crate::node_log::NodeLog;
 use crate::parcel::Parcel;
 use crate::post::{Post, SendError};
 use crate::telling::{head_text, sent_text, tell};
@@ -33,6 +35,8 @@ use std::alloc::Global;
 pub struct Replay<O: Carried, J: Judge + Drop> {
     /// The honest nodes.
     pub cores: Vec<Core<O, J>>,
+    /// The log of each of them, in the same order.
+    pub logs: Vec<NodeLog>,
     pub history: History,
     pub post: Post,
     pub voices: Voices,
@@ -267,6 +271,7 @@ impl<O: Carried, J: Judge + Drop> Replay<O, J> {
         let number = self.post.len();
         send_all(alloc, &mut self.post, line, to, made.outs.as_slice())?;
         let text = self.tell(alloc, line, to, &made, number)?;
+        keep_told(alloc, self.cores.as_slice(), &mut self.logs, to, made.notes)?;
         self.events += 1;
         Ok(text)
     }

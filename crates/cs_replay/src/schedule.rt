@@ -23,7 +23,9 @@ use cs_dump::dump_text;
 use cs_log::SlotOrder;
 use cs_node::Carried;
 use cs_order::Order;
-use cs_play::{Halt, History, Post, Replay, Voices, forged_line, history_text, limit_line};
+use cs_play::{
+    Halt, History, Post, Replay, Voices, forged_line, history_text, limit_line, start_logs,
+};
 use cs_sched_types::Schedule;
 use cs_tx::Judge;
 use std::alloc::Global;
@@ -87,11 +89,13 @@ fn begin<J: Judge + Copy + Drop>(
         (setting_of (J.is_approved judge) mode.traced schedule.now before) replay unplayed) }
 {
     let cores = start_nodes(alloc, schedule, judge)?;
+    let logs = start_logs(alloc, cores.len())?;
     let history = History::new(alloc, schedule.config)?;
     let post = Post::new(alloc);
     let voices = Voices::new(alloc, schedule.config, schedule.master);
     Ok(Replay {
         cores,
+        logs,
         history,
         post,
         voices,

@@ -31,6 +31,7 @@ use Rattle.cs_node_state.specs.Pool.{Pool}
 use Rattle.cs_node_state.specs.Bench.{told_by, own_pool, pool_after, is_locked, locked_at, decided_at, decided as standing, vote_read, noted_at, noted as on_record}
 use Rattle.cs_node_state.specs.Deployed.{genesis_from}
 use Rattle.cs_sbac.specs.declared.answers.Outcome.{Outcome}
+use Rattle.cs_checkpoint.specs.Chain.{Log}
 use Rattle.cs_check_rules.specs.Keys.{AreKnown, keys_after}
 use Rattle.cs_check_rules.proofs.Same.{one_list}
 use Rattle.cs_check_rules.proofs.Known.{exec_known}
@@ -173,14 +174,14 @@ module _ (config : Config) (me : NodeId) (told : Stored) (of : IsOfNode config m
           (subst (λ (t : Shard.Table). AreKnown after t) (sym shows)
           (exec_known setup.rules me.shard (seen told) (keys_in told.rows) e old_known))
 
-      module _ (archived : Archived) where
+      module _ (archived : Archived) (log : Log) where
         abbrev held_with : Stored → Pool → Held
         held_with table pool = record { config = config; me = me; table = table; pool = pool; archived = archived }
 
         pub executes : (entry : Entry) (tnew : Stored) (pold pnew : Pool) (answer : Outcome)
             → Setup.is_fit setup me.shard (Setup.session_in entry) ≡ true → AreKnown (keys_in tnew.rows) (seen tnew)
             → RunsEntry approves me entry told tnew pold pnew answer
-            → Executes setup entry (held_with told pold) (held_with tnew pnew) answer
+            → Executes setup log entry (held_with told pold) (held_with tnew pnew) answer
         executes (Prepare x) tnew pold pnew answer fit known r =
             let y : Seen.Session = session_of approves x in
             let e : Shard.Entry = Shard.Prepare y in
@@ -190,7 +191,7 @@ module _ (config : Config) (me : NodeId) (told : Stored) (of : IsOfNode config m
             record {
               effect_is = s.effect_is;
               voted_is = s.voted_is;
-              bench_is = λ i. record { table = s.table_is.shows i; keys = keys i; pool = s.pool_is i; log = archived.log; heads = archived.heads };
+              bench_is = λ i. record { table = s.table_is.shows i; keys = keys i; pool = s.pool_is i; log = log; heads = archived.heads };
               config_stays = refl;
               me_stays = refl;
               archived_stays = refl;
@@ -205,7 +206,7 @@ module _ (config : Config) (me : NodeId) (told : Stored) (of : IsOfNode config m
             record {
               effect_is = s.effect_is;
               voted_is = s.voted_is;
-              bench_is = λ i. record { table = s.table_is.shows i; keys = keys i; pool = s.pool_is i; log = archived.log; heads = archived.heads };
+              bench_is = λ i. record { table = s.table_is.shows i; keys = keys i; pool = s.pool_is i; log = log; heads = archived.heads };
               config_stays = refl;
               me_stays = refl;
               archived_stays = refl;
@@ -213,7 +214,7 @@ module _ (config : Config) (me : NodeId) (told : Stored) (of : IsOfNode config m
 
         -- an entry that isn't fit changes nothing
         abbrev Nothing : Entry → Pool → Type 0
-        Nothing entry pool = Executes setup entry (held_with told pool) (held_with told pool) (record { effect = Void; voted = None })
+        Nothing entry pool = Executes setup log entry (held_with told pool) (held_with told pool) (record { effect = Void; voted = None })
 
         nothing-by : (entry : Entry) (pool : Pool)
             → Shard.exec setup.rules me.shard (seen told) (Setup.entry_of setup entry) ≡ record { table = seen told; effect = Shard.Void }
@@ -231,7 +232,7 @@ module _ (config : Config) (me : NodeId) (told : Stored) (of : IsOfNode config m
                 keys = keys i;
                 pool = own_pool me d (told_by (o i).effect (is_locked setup me.shard (o i).table x))
                     (pool_after (o i).effect (is_locked setup me.shard (o i).table x) d x pool);
-                log = archived.log;
+                log = log;
                 heads = archived.heads;
               };
               config_stays = refl;

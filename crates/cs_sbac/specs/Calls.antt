@@ -11,6 +11,7 @@ use Rattle.cs_tx_form.specs.declared.transaction.Tx.{Tx}
 use Rattle.cs_tx.specs.Sessions.{session_of}
 use Rattle.cs_tx_form.specs.declared.effect.Effect.{Effect}
 use Rattle.cs_tx_form.specs.declared.effect.Effect.TheVariants.{Voted, Accepted, Aborted, Skipped, Void}
+use Rattle.cs_checkpoint.specs.Chain.{Log}
 use Rattle.cs_table.specs.declared.standing.Standing.{Standing}
 use Rattle.cs_table.specs.declared.standing.Standing.TheVariants as Standings
 use Rattle.cs_table.specs.Seen.{Stored, vote_of}
@@ -50,12 +51,12 @@ accepted_by Standings.Open = None
 abbrev pub placed : Bool → Bytes → Session → Pool → Pool
 placed locked d x pool = if locked then entered_locked d x pool else without d pool
 
--- the execution of an entry answered this, and left this
-pub record Executes (setup : Setup) (entry : Entry) (old new : Held) (answer : Outcome) : Type 0 where
-  pub effect_is : effect_of answer.effect ≡ (executed setup old.me.shard (bench_of old) entry).effect
+-- the execution of an entry behind a log answered this, and left this
+pub record Executes (setup : Setup) (log : Log) (entry : Entry) (old new : Held) (answer : Outcome) : Type 0 where
+  pub effect_is : effect_of answer.effect ≡ (executed setup old.me.shard (bench_of log old) entry).effect
   pub voted_is : answer.voted
-      ≡ told_of setup old.me.shard (session_in entry) (executed setup old.me.shard (bench_of old) entry)
-  pub bench_is : bench_of new ≡ bench_executed setup old.me (bench_of old) entry
+      ≡ told_of setup old.me.shard (session_in entry) (executed setup old.me.shard (bench_of log old) entry)
+  pub bench_is : bench_of log new ≡ bench_executed setup old.me (bench_of log old) entry
   pub config_stays : new.config ≡ old.config
   pub me_stays : new.me ≡ old.me
   pub archived_stays : new.archived ≡ old.archived

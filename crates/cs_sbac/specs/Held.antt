@@ -4,6 +4,7 @@ use Rattle.cs_base.specs.declared.config.Config.{Config}
 use Rattle.cs_base.specs.declared.node_id.NodeId.{NodeId}
 use Rattle.cs_base.specs.NodeId.{is_node}
 use Rattle.cs_table.specs.Seen.{Stored, seen, forgotten}
+use Rattle.cs_checkpoint.specs.Chain.{Log, kept_of}
 use Rattle.cs_check.specs.Leaves.{HasLeavesBut}
 use Rattle.cs_check.specs.Root.{keys_in}
 use Rattle.cs_archive.specs.Archives.{Archived}
@@ -40,14 +41,20 @@ pub record IsSoundBench (is_whole : Bool) (config : Config) (me : NodeId)
 abbrev pub IsFit : Held → Session → Type 0
 IsFit held x = AtAnySetup held.config (λ setup. is_fit setup held.me.shard x ≡ true)
 
-abbrev pub bench_of : Held → Bench
-bench_of held = record {
+-- what the node works on, where this is its log
+abbrev pub bench_of : Log → Held → Bench
+bench_of log held = record {
   table = seen held.table;
   keys = keys_in held.table.rows;
   pool = held.pool;
-  log = held.archived.log;
+  log = log;
   heads = held.archived.heads;
 }
+
+-- it works on this, and keeps of its log what is to be kept
+pub record KeepsBench (held : Held) (bench : Bench) : Type 0 where
+  pub bench_is : bench_of bench.log held ≡ bench
+  pub kept_is : held.archived.kept ≡ kept_of bench.log
 
 abbrev pub with_pool : Held → Pool → Held
 with_pool held pool = record held { pool = pool }

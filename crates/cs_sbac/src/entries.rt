@@ -2,6 +2,7 @@
 ghost use Rattle.std.specs.Prelude.{◌≡◌, IfOk};
 ghost use Rattle.cs_tx_form.specs.declared.entry.Entry.TheVariants.{Prepare, Decide};
 ghost use Rattle.cs_tx_form.specs.Session.{SessionFits, EntryFits};
+ghost use Rattle.cs_checkpoint.specs.Chain.{Log};
 ghost use Rattle.cs_node_state.specs.Admission.{admits};
 ghost use Rattle.cs_node_pool.specs.Deployed.{AtAnySetup, AtAnyGenesis};
 ghost use Rattle.cs_sbac.specs.Calls.{Executes};
@@ -78,8 +79,8 @@ impl Sbac {
     /// is taken; or it leaves the pool, as does one on which a decision took effect.
     pub fn execute(&mut self, alloc: Global, entry: &Entry) -> Result<Outcome, Memory>
         requires { EntryFits entry.now }
-        ensures { AtAnySetup self.old.config (λ setup.
-            IfOk result (λ answer. Executes setup entry.now self.old self.new answer)) }
+        ensures { AtAnySetup self.old.config (λ setup. (log : Log) →
+            IfOk result (λ answer. Executes setup log entry.now self.old self.new answer)) }
     {
         if !self.is_whole {
             return Err(Memory);

@@ -1,14 +1,14 @@
 //! What a node keeps for checkpoints: the slots that it executed, and the checkpoints of others.
-ghost use Rattle.std.specs.Prelude.{◌≡◌, ◌<◌, ◌^◌, length, IfOk, IfSome, OnOk};
+ghost use Rattle.std.specs.Prelude.{◌≡◌, ◌<◌, ◌^◌, IfOk, IfSome, OnOk};
 ghost use Rattle.cs_tx_form.specs.Log.{LeafFits, ProofFits};
-ghost use Rattle.cs_checkpoint.specs.Chain.{made_last};
+ghost use Rattle.cs_checkpoint.specs.Chain.{made_last, AtItsLog};
 ghost use Rattle.cs_check_rules.specs.Heads.{is_news};
 ghost use Rattle.cs_check_rules.specs.Proofs.{proof_of};
 ghost use Rattle.cs_archive.specs.Archives.{with_news};
 ghost use Rattle.cs_node_state.specs.Bench.{with_leaf};
 ghost use Rattle.cs_table.specs.Seen.{seen};
 ghost use Rattle.cs_check.specs.Leaves.{HasLeaves};
-ghost use Rattle.cs_sbac.specs.Held.{bench_of, with_archived, with_forgotten};
+ghost use Rattle.cs_sbac.specs.Held.{bench_of, KeepsBench, with_archived, with_forgotten};
 
 use crate::sbac::Sbac;
 use cs_base::Memory;
@@ -19,14 +19,14 @@ use std::alloc::Global;
 impl Sbac {
     /// How many slots were executed.
     pub fn slots(&self) -> u64
-        ensures { result ≡ length self.now.archived.log.leaves }
+        ensures { result ≡ self.now.archived.kept.slots }
     {
         self.archive.slots()
     }
 
     /// The chain of the node's checkpoints.
     pub fn chain(&self) -> &Chain
-        ensures { result.now.log ≡ self.now.archived.log }
+        ensures { result.now.kept ≡ self.now.archived.kept }
     {
         self.archive.chain()
     }
@@ -35,9 +35,11 @@ impl Sbac {
     /// it made one.
     pub fn close(&mut self, alloc: Global, leaf: &Leaf) -> Result<Option<Checkpoint>, Memory>
         requires fits { LeafFits leaf.now }
-        requires next { leaf.now.slot ≡ length self.old.archived.log.leaves }
-        ensures bench { OnOk result (bench_of self.new ≡ with_leaf leaf.now (bench_of self.old)) }
-        ensures made { IfOk result (λ made. made ≡ made_last self.new.archived.log) }
+        requires next { leaf.now.slot ≡ self.old.archived.kept.slots }
+        ensures bench { AtItsLog self.old.archived.kept (λ log. OnOk result
+            (KeepsBench self.new (with_leaf leaf.now (bench_of log self.old)))) }
+        ensures made { AtItsLog self.old.archived.kept (λ log. IfOk result (λ made.
+            made ≡ made_last (with_leaf leaf.now (bench_of log self.old)).log)) }
         ensures leaves { OnOk result
             (HasLeaves self.new.archived.hashed (seen self.new.table)) }
         ensures config { OnOk result (self.new.config ≡ self.old.config) }
@@ -61,9 +63,10 @@ impl Sbac {
         self.table.forget_touched();
     }
 
-    /// The proof of a slot, where a checkpoint covers it.
+    /// The proof of a slot that isn't cut, where a checkpoint covers it.
     pub fn prove(&self, alloc: Global, slot: u64) -> Result<Option<Proof>, Memory>
-        ensures proof { IfOk result (λ found. found ≡ proof_of self.now.archived.log slot) }
+        ensures proof { AtItsLog self.now.archived.kept
+            (λ log. IfOk result (λ found. found ≡ proof_of log slot)) }
         ensures fits { slot < 2 ^ 62 → IfOk result (λ found. IfSome found ProofFits) }
     {
         self.archive.prove(alloc, slot)

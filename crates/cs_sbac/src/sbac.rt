@@ -7,7 +7,7 @@ ghost use Rattle.cs_node_state.specs.Admission.{due};
 ghost use Rattle.cs_node_pool.specs.Deployed.{AtAnySetup};
 ghost use Rattle.cs_node_pool.specs.Fits.{DueFits, AllFit};
 ghost use Rattle.cs_node_pool.specs.Calls.{counted_in, locked_in};
-ghost use Rattle.cs_checkpoint.specs.Chain.{empty_log};
+ghost use Rattle.cs_checkpoint.specs.Chain.{empty_log, kept_of};
 ghost use Rattle.cs_sbac.specs.Held.{with_pool, IsOfNode};
 ghost use Rattle.cs_sbac.specs.Calls.{entered_in, pool_entered, pool_entered_with};
 
@@ -65,7 +65,7 @@ impl Sbac {
           table = table;
           pool = [];
           archived = record {
-            log = empty_log me.shard;
+            kept = kept_of (empty_log me.shard);
             hashed = begun.archived.hashed;
             heads = [];
           };

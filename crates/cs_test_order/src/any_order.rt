@@ -10,6 +10,9 @@ use std::test::Fail;
 /// Entries are proposed in the slots below this one.
 const SLOTS: u64 = 4;
 
+/// A member that is cut keeps so many slots.
+const KEPT: u64 = 2;
+
 /// A member and all that it may do now.
 fn turn(rt: &impl Abort, alloc: Global, shard: &mut Shard, me: u16) -> Result<(), Fail> {
     let digest = if shard.slot(me) < SLOTS {
@@ -79,6 +82,22 @@ fn draw_said(draws: &mut Draws, slot: u64) -> Said {
     }
 }
 
+/// A member asks another for its open slot, or for an earlier one.
+fn ask(
+    rt: &impl Abort,
+    alloc: Global,
+    shard: &mut Shard,
+    draws: &mut Draws,
+    me: u16,
+    other: u16,
+) -> Result<(), Fail> {
+    let slot = draws.below(shard.slot(me).saturating_add(1));
+    if other == me {
+        return Ok(());
+    }
+    shard.ask(rt, alloc, me, other, slot)
+}
+
 /// The last member says anything to another.
 fn lie(shard: &mut Shard, draws: &mut Draws, to: u16) -> Result<(), Memory> {
     let slot = shard.slot(to).saturating_add(draws.below(2));
@@ -102,8 +121,15 @@ fn happen(
             turn(rt, alloc, shard, me)
         }
         3 => shard.resend(rt, alloc, me),
-        4 => shard.ask(rt, alloc, me, draws.small(honest), shard.slot(me)),
+        4 => {
+            let other = draws.small(honest);
+            ask(rt, alloc, shard, draws, me, other)
+        }
         5 | 6 | 7 if honest < MEMBERS => Ok(lie(shard, draws, me)?),
+        9 => {
+            shard.cut(me, shard.slot(me).saturating_sub(KEPT));
+            Ok(())
+        }
         _ => arrive(rt, alloc, shard, draws, honest),
     }
 }
@@ -162,13 +188,15 @@ fn run_one(rt: &impl Abort, alloc: Global, seed: u64, honest: u16) -> Result<Sha
 #[test]
 fn four_honest_members(rt: HostRuntime) -> Result<(), Fail> {
     let counts = run(&rt, rt.alloc(), 4)?;
-    assert!(rt; counts.chosen > 10 && counts.later > 10);
+    let (chosen, later) = (counts.chosen, counts.later);
+    assert!(rt; chosen > 10 && later > 10, "{chosen} {later}");
     Ok(())
 }
 
 #[test]
 fn three_honest_members_and_a_liar(rt: HostRuntime) -> Result<(), Fail> {
     let counts = run(&rt, rt.alloc(), 3)?;
-    assert!(rt; counts.chosen > 10 && counts.later > 10);
+    let (chosen, later) = (counts.chosen, counts.later);
+    assert!(rt; chosen > 10 && later > 10, "{chosen} {later}");
     Ok(())
 }

@@ -170,7 +170,7 @@ impl Both {
     ) -> Result<Option<Said>, Fail> {
         let mut out = Vec::new(alloc);
         let is_answered = self.order.reply(alloc, slot, to, &mut out)?;
-        let Some(digest) = self.plain.chosen(slot) else {
+        let Some(digest) = self.plain.given(slot) else {
             assert!(rt; !is_answered && out.is_empty());
             return Ok(None);
         };
@@ -183,10 +183,17 @@ impl Both {
         Ok(Some(done))
     }
 
-    /// What is chosen in a slot.
+    /// The slot is cut, or the open one, where it is above that.
+    pub fn cut(&mut self, slot: u64) {
+        let open = self.order.open_slot();
+        self.order.cut(slot.min(open));
+        self.plain.cut(slot.min(open));
+    }
+
+    /// What is chosen in a slot. Unless it was cut, the member gives it.
     pub fn chosen(&self, rt: &impl Abort, slot: u64) -> Option<u8> {
-        let chosen = self.plain.chosen(slot);
-        assert!(rt; digest_of(self.order.entry(slot)) == chosen);
-        chosen
+        assert!(rt; digest_of(self.order.entry(slot)) == self.plain.given(slot));
+        assert_eq!(rt; self.order.open_slot(), self.plain.slot());
+        self.plain.chosen(slot)
     }
 }

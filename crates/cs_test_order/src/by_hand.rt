@@ -83,6 +83,18 @@ fn a_member_alone_chooses(rt: HostRuntime) -> Result<(), Fail> {
         assert!(rt; is_confirmed && is_chosen);
         assert!(rt; both.chosen(&rt, u64::from(digest)) == Some(digest));
     }
+    are_cut(&rt, alloc, both)
+}
+
+/// Of three slots the first two are cut, twice, and the third is answered still.
+fn are_cut(rt: &impl Abort, alloc: Global, mut both: Both) -> Result<(), Fail> {
+    both.cut(2);
+    both.cut(1);
+    for slot in 0..3 {
+        assert!(rt; both.chosen(rt, slot).is_some());
+        let answer = both.reply(rt, alloc, slot, 1)?;
+        assert!(rt; answer.is_some() == (slot == 2), "{slot}");
+    }
     Ok(())
 }
 

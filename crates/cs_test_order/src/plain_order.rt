@@ -11,6 +11,8 @@ pub struct PlainOrder {
     me: u16,
     facts: Vec<(u16, Said)>,
     log: Vec<u8>,
+    /// No slot below this one is given.
+    cut: u64,
     view: u16,
     wait: u16,
 }
@@ -36,6 +38,7 @@ impl PlainOrder {
             me,
             facts: Vec::new(alloc),
             log: Vec::new(alloc),
+            cut: 0,
             view: 0,
             wait: 0,
         }
@@ -411,7 +414,21 @@ impl PlainOrder {
         Ok(())
     }
 
+    /// What is chosen in a slot, whether it was cut or not.
     pub fn chosen(&self, slot: u64) -> Option<u8> {
         self.log.get(usize::try_from(slot).ok()?).copied()
+    }
+
+    pub fn cut(&mut self, slot: u64) {
+        self.cut = self.cut.max(slot);
+    }
+
+    /// What is chosen in a slot that was not cut.
+    pub fn given(&self, slot: u64) -> Option<u8> {
+        if slot < self.cut {
+            None
+        } else {
+            self.chosen(slot)
+        }
     }
 }

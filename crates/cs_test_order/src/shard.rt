@@ -135,6 +135,13 @@ impl Shard {
         Ok(())
     }
 
+    /// A member is cut at a slot of those that it has.
+    pub fn cut(&mut self, me: u16, slot: u64) {
+        if let Some(both) = self.members.get_mut(usize::from(me)) {
+            both.cut(slot);
+        }
+    }
+
     pub fn slot(&self, me: u16) -> u64 {
         match self.members.get(usize::from(me)) {
             Some(both) => both.plain.slot(),

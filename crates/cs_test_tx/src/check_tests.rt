@@ -213,6 +213,16 @@ fn checkpoints_follow_one_another(rt: HostRuntime) -> Result<(), Fail> {
     Ok(())
 }
 
+#[test]
+fn slots_are_cut_at_the_65th_checkpoint(rt: HostRuntime) -> Result<(), Fail> {
+    let chain = filled(&rt, rt.alloc(), 1_040)?;
+    let cut = chain.prove(rt.alloc(), 15).err();
+    let first = chain.prove(rt.alloc(), 16)?;
+    let is_cut = cut == Some(ProveError::Cut) && first.leaf.slot == 16;
+    assert!(rt; is_cut && chain.head(0).is_some() && chain.slots() == 1_040);
+    Ok(())
+}
+
 // Whether a proof is shown. One whose leaf doesn't fit isn't.
 fn is_shown(alloc: Global, head: &Digest, proof: &Proof) -> Result<bool, Memory> {
     if !proof.leaf.fits() {

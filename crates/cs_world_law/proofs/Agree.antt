@@ -7,7 +7,7 @@ use Rattle.cs_tx_form.specs.declared.entry.Entry.{Entry}
 use Rattle.cs_order.specs.declared.proposed.Proposed.{Proposed}
 use Rattle.cs_order.specs.declared.answers.Step.TheVariants.{Chosen, Moved, Quiet}
 use Rattle.cs_order.specs.laws.Lists.{slice_get-left}
-use Rattle.cs_order.specs.Deeds.{Deed, Took_in, Advanced, Echoed, Proposing, Ticked, Resent, Replied, Member, chosen_in}
+use Rattle.cs_order.specs.Deeds.{Deed, Took_in, Advanced, Echoed, Proposing, Ticked, Resent, Replied, Cut, Member, chosen_in}
 use Rattle.cs_order.specs.Runs.{deeds_of}
 use Rattle.cs_node_rules.specs.Signs.{Dropped, Took, Entered, Viewed, Did, Headed, Kept, Sent}
 use Rattle.cs_node_rules.specs.Site.{Mark, In, Ordered, Plain, Site, signs_of}
@@ -30,6 +30,7 @@ stays {M} (Proposing entry sent) deeds slot p e = e
 stays {M} (Ticked due sent) deeds slot p e = e
 stays {M} (Resent sent) deeds slot p e = e
 stays {M} (Replied n to sent) deeds slot p e = e
+stays {M} (Cut n) deeds slot p e = e
 
 -- what a node executed in a slot is what its order chose there
 pub record HasChosen {M : Type 0} (site : Site M) (deeds : List (Deed M)) (slot : ℕ) (entry : Entry) : Type 0 where

@@ -9,7 +9,7 @@ use Rattle.cs_tx_form.specs.declared.vote.Vote.TheVariants as tx
 use Rattle.cs_tx_form.specs.declared.entry.Entry.{Entry}
 use Rattle.cs_tx_form.specs.declared.entry.Entry.TheVariants.{Prepare, Decide}
 use Rattle.cs_order.specs.declared.proposed.Proposed.{Proposed}
-use Rattle.cs_order.specs.Deeds.{Deed, Took_in, Advanced, Echoed, Proposing, Ticked, Resent, Replied, Member, chosen_in}
+use Rattle.cs_order.specs.Deeds.{Deed, Took_in, Advanced, Echoed, Proposing, Ticked, Resent, Replied, Cut, Member, chosen_in}
 use Rattle.cs_order.specs.Runs.{member_of}
 use Rattle.cs_order.specs.Law.{Admits, Admitted}
 use Rattle.cs_ledger.specs.Ledger.{IsIn}
@@ -134,6 +134,7 @@ module _ {M : Type 0} (site : Site M) (sound : IsSoundSite site) (known : Known)
   deed-behind node (Ticked due sent) past p story approved honest made admitted = absurd admitted
   deed-behind node (Resent sent) past p story approved honest made admitted = absurd admitted
   deed-behind node (Replied slot to sent) past p story approved honest made admitted = absurd admitted
+  deed-behind node (Cut slot) past p story approved honest made admitted = absurd admitted
   deed-behind node (Echoed sent) past p story approved honest made admitted =
       let v = view_at site node (trail_at node past) in
       let q : Some p ≡ Some made.proposed = sym admitted ∙ made.pending in

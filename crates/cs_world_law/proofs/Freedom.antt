@@ -10,7 +10,7 @@ use Rattle.cs_wire_message.specs.declared.message.Message.{Message}
 use Rattle.cs_wire_message.specs.declared.message.Message.TheVariants as message
 use Rattle.cs_order.specs.declared.proposed.Proposed.{Proposed}
 use Rattle.cs_order.specs.Lists as Order
-use Rattle.cs_order.specs.Deeds.{Deed, Took_in, Advanced, Echoed, Proposing, Ticked, Resent, Replied, Member, chosen_in}
+use Rattle.cs_order.specs.Deeds.{Deed, Took_in, Advanced, Echoed, Proposing, Ticked, Resent, Replied, Cut, Member, chosen_in}
 use Rattle.cs_order.specs.Runs.{entries_in, held_in}
 use Rattle.cs_ledger.specs.Ledger.{IsIn}
 use Rattle.cs_ledger.specs.Session as Seen
@@ -107,6 +107,7 @@ module _ {M : Type 0} (site : Site M) (sound : IsSoundSite site) (known : Known)
       by (Ticked on sent) made within j held = absurd j
       by (Resent sent) made within j held = absurd j
       by (Replied slot to sent) made within j held = absurd j
+      by (Cut slot) made within j held = absurd j
       by (Proposing proposed sent) made within (inr none) held = absurd none
       by (Proposing proposed sent) made within (inl same) held =
           let v = view_at site me t in

@@ -4,7 +4,7 @@ use Rattle.std.specs.Prelude.{slice_get}
 use Rattle.std.proofs.lemmas.Bool.{cond_both, eqb-true}
 use Rattle.cs_order.specs.declared.proposed.Proposed.{Proposed}
 use Rattle.cs_order.specs.Lists.{IsIn}
-use Rattle.cs_order.specs.Deeds.{Deed, Took_in, Advanced, Echoed, Proposing, Ticked, Resent, Replied, Member, Machine, chosen_in}
+use Rattle.cs_order.specs.Deeds.{Deed, Took_in, Advanced, Echoed, Proposing, Ticked, Resent, Replied, Cut, Member, Machine, chosen_in}
 use Rattle.cs_order.specs.Runs.{Act, KeepsRules, IsKept, Run, deeds_of, member_of, entries_in, held_in}
 use Rattle.cs_order.specs.Law.{Admits, Admitted, HasChosen, IsLawful, Holds}
 use Rattle.cs_node_rules.specs.Site.{Site}
@@ -58,6 +58,7 @@ module _ {M : Type 0} (m : Machine M) (holds : Holds m) (f : ℕ) (alone : f ≡
   own h (Ticked due sent) a same member keeps i = absurd i
   own h (Resent sent) a same member keeps i = absurd i
   own h (Replied slot to sent) a same member keeps i = absurd i
+  own h (Cut slot) a same member keeps i = absurd i
   own h (Proposing proposed sent) a same member keeps (inl is) = sym is
   own h (Proposing proposed sent) a same member keeps (inr none) = absurd none
 

@@ -10,7 +10,7 @@ use Rattle.cs_wire_message.specs.declared.message.Message.TheVariants as message
 use Rattle.cs_wire.specs.Opened.{Opened}
 use Rattle.cs_order.specs.declared.proposed.Proposed.{Proposed}
 use Rattle.cs_order.specs.Lists as Order
-use Rattle.cs_order.specs.Deeds.{Deed, Took_in, Advanced, Echoed, Proposing, Ticked, Resent, Replied, Member, chosen_in}
+use Rattle.cs_order.specs.Deeds.{Deed, Took_in, Advanced, Echoed, Proposing, Ticked, Resent, Replied, Cut, Member, chosen_in}
 use Rattle.cs_order.specs.Runs.{KeepsRules, IsKept, entries_in as entries_by, held_in}
 use Rattle.cs_ledger.specs.Ledger.{Bytes, IsIn}
 use Rattle.cs_ledger.specs.Table.{Effect}
@@ -149,6 +149,7 @@ module _ {M : Type 0} (site : Site M) (sound : IsSoundSite site) (known : Known)
   by-deed t (Ticked on sent) made within l is in_known p i = absurd i
   by-deed t (Resent sent) made within l is in_known p i = absurd i
   by-deed t (Replied slot to sent) made within l is in_known p i = absurd i
+  by-deed t (Cut slot) made within l is in_known p i = absurd i
   by-deed t (Proposing proposed sent) made within l is in_known p (inr none) = absurd none
   by-deed t (Proposing proposed sent) made within l is in_known p (inl same) =
       elim is.1 [

@@ -17,7 +17,7 @@ use Rattle.cs_order.specs.Lists as Order
 use Rattle.cs_order.specs.laws.Lists.{IsIn-right}
 use Rattle.cs_order.specs.laws.Digests.{digest-passes}
 use Rattle.cs_order.specs.Digests.{digest_fits}
-use Rattle.cs_order.specs.Deeds.{Deed, Took_in, Advanced, Echoed, Proposing, Ticked, Resent, Replied, Member, sent_by}
+use Rattle.cs_order.specs.Deeds.{Deed, Took_in, Advanced, Echoed, Proposing, Ticked, Resent, Replied, Cut, Member, sent_by}
 use Rattle.cs_order.specs.Runs.{Act, KeepsRules, IsKept, IsFor, HandedOut, Genuine, Run, deeds_of, entries_in, held_in, handed_in, EntriesToldApart, Follows as Next}
 use Rattle.cs_order.specs.Law.{IsLawful}
 use Rattle.cs_tx.specs.Digest.{digest_of_entry}
@@ -237,6 +237,7 @@ module _ {M : Type 0} (site : Site M) (sound : IsSoundSite site) (known : Known)
   deed-genuine node (Ticked due sent) past story follows = tt
   deed-genuine node (Resent sent) past story follows = tt
   deed-genuine node (Replied slot to sent) past story follows = tt
+  deed-genuine node (Cut slot) past story follows = tt
 
   next-deed : (node : NodeId) (deed : Deed M) (past : List (Moment M)) → Story site known past → Follows site known past (record { node = node; mark = Ordered deed })
       → Next site.machine site.setup.f (honest_in site node.shard) (shard_acts node.shard past) (record { member = node.index; deed = deed })

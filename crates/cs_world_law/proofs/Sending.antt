@@ -1,5 +1,5 @@
 -- Whatever a node executed, the votes that came of it were sent afterwards.
-use Rattle.std.proofs.Common.{◌≡◌, ◌⊎◌, inl, inr, ℕ, zero, suc, ◌^◌, Bool, true, false, not, ◌&&◌, if◌then◌else◌, List, [], ◌∷◌, ◌++◌, length, Option, Some, None, refl, sym, ap, ◌∙◌, subst, append_assoc}
+use Rattle.std.proofs.Common.{◌≡◌, ◌⊎◌, inl, inr, ℕ, zero, suc, ◌+◌, ◌-◌, ◌%◌, ◌^◌, Bool, true, false, not, ◌&&◌, if◌then◌else◌, List, [], ◌∷◌, ◌++◌, length, Option, Some, None, refl, sym, ap, ◌∙◌, subst, append_assoc}
 use Rattle.std.specs.Prelude.{Ok, Err, ◌==◌, is_some, nat_lt}
 use Rattle.std.proofs.lemmas.Bool.{cond_both}
 use Rattle.cs_base.specs.declared.node_id.NodeId.{NodeId}
@@ -22,14 +22,14 @@ use Rattle.cs_order.specs.declared.answers.Step.{Step}
 use Rattle.cs_order.specs.declared.answers.Step.TheVariants.{Chosen, Moved, Quiet}
 use Rattle.cs_order.specs.declared.answers.May.{May}
 use Rattle.cs_order.specs.declared.answers.May.TheVariants.{No, Free, Only}
-use Rattle.cs_order.specs.Deeds.{Deed, Advanced, Echoed, Proposing, Ticked, Resent, Replied, chosen_in, did, sent_by}
+use Rattle.cs_order.specs.Deeds.{Deed, Advanced, Echoed, Proposing, Ticked, Resent, Replied, Cut, chosen_in, did, sent_by}
 use Rattle.cs_wire.specs.Opened.{Opened}
 use Rattle.cs_ledger.specs.Ledger.{IsIn}
 use Rattle.cs_ledger.specs.Table.{Effect}
 use Rattle.cs_ledger.proofs.Basics.{in_left, in_right}
 use Rattle.cs_node_rules.specs.declared.cause.Cause.{Cause}
 use Rattle.cs_node_rules.specs.declared.cause.Cause.TheVariants.{Mine, Role, Malformed, Repeat, Unasked, Denied, Full}
-use Rattle.cs_checkpoint.specs.Chain.{head_of, made_last}
+use Rattle.cs_checkpoint.specs.Chain.{head_of, made_last, kept_slots}
 use Rattle.cs_check_rules.specs.Heads.{is_news}
 use Rattle.cs_check_rules.specs.Proofs.{proof_of}
 use Rattle.cs_node_state.specs.declared.pooled.Pooled.{Pooled}
@@ -42,7 +42,7 @@ use Rattle.cs_node_state.specs.Bench.{Bench, executed, slot_executed, decided, n
 use Rattle.cs_node_state.specs.Asked.{told_at, key_asked}
 use Rattle.cs_node_rules.specs.Signs.{Sign, Dropped, Took, Entered, Viewed, Did, Headed, Kept, Sent, guarded, entering_signs, submitted_signs, submit_signs, ask_signs, proof_signs, ask_proof_signs, head_signs, asking_signs, ballot_signs, voted_signs, sends, vote_signs, own_signs, entered_signs, ran_signs, headed_signs, execution_signs, asked_again}
 use Rattle.cs_node_rules.specs.Site.{Input, Datagram, Tick, Mark, In, Ordered, Site, View, view_after, plain, signs_of}
-use Rattle.cs_node_rules.specs.Trail.{out_signs, handed, with_deed, moving, entered_view, admits_proposed, due_marks, candidate_marks, propose_marks, echo_marks, step_marks, turn_marks, continued, settled, taking_marks, member_marks, reply_marks, message_marks, opened_marks, again_marks, waiting_marks, input_marks, event_marks}
+use Rattle.cs_node_rules.specs.Trail.{out_signs, handed, with_deed, moving, entered_view, admits_proposed, due_marks, candidate_marks, propose_marks, echo_marks, cut_marks, step_marks, turn_marks, continued, settled, taking_marks, member_marks, reply_marks, message_marks, opened_marks, again_marks, waiting_marks, input_marks, event_marks}
 use Rattle.cs_node_rules.specs.World.{Happening, trail_of, view_of, IsLife}
 use Rattle.cs_node_rules.specs.Ready.{bench_at}
 use Rattle.cs_node_law.specs.Made.{view_at}
@@ -336,6 +336,11 @@ module _ {M : Type 0} (site : Site M) (me : NodeId) where
   plain-signs [] t = refl
   plain-signs (sign ∷ signs) t = ap (λ l. sign ∷ l) (plain-signs signs t)
 
+  cut-signs : (slot : ℕ) (t : List (Mark M)) → signs_of (cut_marks slot ++ t) ≡ signs_of t
+  cut-signs slot t =
+      cond_both ((slot + 1) % 16 == 0) (Ordered (Cut (slot + 1 - kept_slots)) ∷ []) [] (λ (marks : List (Mark M)). signs_of (marks ++ t) ≡ signs_of t)
+      (λ e. refl) (λ e. refl)
+
   -- a deed, and signs that execute nothing
   tell-deed : (signs : List Sign) (deed : Deed M) (t : List (Mark M)) → NoDid signs → Tells t → Tells ((plain signs ++ Ordered deed ∷ []) ++ t)
   tell-deed signs deed t none tells =
@@ -387,8 +392,12 @@ module _ {M : Type 0} (site : Site M) (me : NodeId) where
         let told = tell-execution site.setup me v.bench slot entry before is (tell-over site.setup me out (signs_of t) (only-no out only) tells) in
         let own = subst (λ (n : NodeId). IsTelling site.setup me (execution_signs site.setup n v.bench slot entry ++ before)) (sym here) told in
         let signs = execution_signs site.setup v.me v.bench slot entry in
-        let same : signs_of ((plain signs ++ with_deed site v deed) ++ t) ≡ signs ++ before =
-        ap signs_of (append_assoc (plain signs) (with_deed site v deed) t)
+        let cut : List (Mark M) = cut_marks slot in
+        let all : List (Mark M) = plain signs ++ with_deed site v deed in
+        let same : signs_of ((cut ++ all) ++ t) ≡ signs ++ before =
+        ap signs_of (append_assoc cut all t)
+        ∙ cut-signs slot (all ++ t)
+        ∙ ap signs_of (append_assoc (plain signs) (with_deed site v deed) t)
         ∙ plain-signs signs (with_deed site v deed ++ t)
         ∙ ap (λ l. signs ++ l) (ap signs_of (append_assoc (plain out) (Ordered deed ∷ []) t) ∙ plain-signs out (Ordered deed ∷ t)) in
         subst (λ l. IsTelling site.setup me l) (sym same) own

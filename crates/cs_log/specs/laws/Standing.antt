@@ -10,11 +10,11 @@ use Rattle.cs_log.specs.Stands.{ReplicaStands, ReplicaStarts, f_of, me_of, rest_
 
 pub replica_begins : (o : Option KeptReplica) → ReplicaStarts o → ReplicaStands o (record { f = f_of o; me = me_of o; deeds = [] })
 replica_begins None h = h
-replica_begins (Some k) h = h
+replica_begins (Some k) h = record { mirrors = h.0; first = h.1 }
 
 pub replica_belongs : (o : Option KeptReplica) (h : Member OrderMessage) → ReplicaStands o h → (h.f ≡ f_of o) × (h.me ≡ me_of o)
 replica_belongs None h stands = absurd stands
-replica_belongs (Some k) h stands = (sym stands.f, sym stands.me)
+replica_belongs (Some k) h stands = (sym stands.mirrors.f, sym stands.mirrors.me)
 
 one_or_none : {A : Type 0} (o : Option A) → one_unless o ≤ 1
 one_or_none None = omega arith

@@ -46,6 +46,7 @@ module _ {M : Type 0} (f : ℕ) (honest : ℕ → Bool) where
   waits_by h past (deed.Ticked due sent) e before k = inr (before k)
   waits_by h past (deed.Resent sent) e before k = inr (before k)
   waits_by h past (deed.Replied slot to sent) e before k = inr (before k)
+  waits_by h past (deed.Cut slot) e before k = inr (before k)
 
   waiting_admitted : (past : List (Act M)) (i : ℕ) (e : Proposed) → waiting_of (deeds_of i past) ≡ Some e → Admitted {M = M} solo f e past
   waiting_admitted [] i e h = absurd (let none = h in cc)
@@ -73,6 +74,7 @@ module _ {M : Type 0} (f : ℕ) (honest : ℕ → Bool) where
   chosen_by_deed h past (deed.Ticked due sent) slot a keeps before waits k = before k
   chosen_by_deed h past (deed.Resent sent) slot a keeps before waits k = before k
   chosen_by_deed h past (deed.Replied place to sent) slot a keeps before waits k = before k
+  chosen_by_deed h past (deed.Cut place) slot a keeps before waits k = before k
 
   chosen_admitted : (past : List (Act M)) → Run {M = M} solo f honest past → (i slot : ℕ) (a : Proposed) → HasChosen i slot a past → Admitted {M = M} solo f a past
   chosen_admitted [] run i slot a h = absurd (let none = h in cc)
@@ -99,9 +101,9 @@ solo_law f honest past serves few run none =
       admitted = λ i slot a x. chosen_admitted f honest past run i slot a x;
     }
 
--- what is sent again changes nothing
+-- what is sent again or cut changes nothing
 pub solo_undisturbed : {M : Type 0} → Undisturbed {M = M} solo
-solo_undisturbed = record { by_resend = λ h sent. refl; by_reply = λ h slot to sent. refl }
+solo_undisturbed = record { by_resend = λ h sent. refl; by_reply = λ h slot to sent. refl; by_cut = λ h slot. refl }
 
 module _ {M : Type 0} (f me : ℕ) where
   abbrev IsHeld : Proposed → List (Deed M) → Type 0
@@ -120,6 +122,7 @@ module _ {M : Type 0} (f me : ℕ) where
   waiting_held (deed.Ticked due sent ∷ past) e k = waiting_held past e k
   waiting_held (deed.Resent sent ∷ past) e k = waiting_held past e k
   waiting_held (deed.Replied slot to sent ∷ past) e k = waiting_held past e k
+  waiting_held (deed.Cut slot ∷ past) e k = waiting_held past e k
 
   -- what is chosen was handed in
   step_held : (deeds : List (Deed M)) (x : Step) (slot : ℕ) (a : Proposed) → step_at (length (chosen_in deeds)) (waiting_of deeds) ≡ x → (slice_get (chosen_in deeds) slot ≡ Some a → IsHeld a deeds) → slice_get (chosen_in (deed.Advanced x [] ∷ deeds)) slot ≡ Some a → IsHeld a deeds
@@ -140,6 +143,7 @@ module _ {M : Type 0} (f me : ℕ) where
   logged_held (deed.Ticked due sent ∷ past) kept slot a k = logged_held past kept.1 slot a k
   logged_held (deed.Resent sent ∷ past) kept slot a k = logged_held past kept.1 slot a k
   logged_held (deed.Replied place to sent ∷ past) kept slot a k = logged_held past kept.1 slot a k
+  logged_held (deed.Cut place ∷ past) kept slot a k = logged_held past kept.1 slot a k
 
 none_offered : (o : Option Proposed) (entries : List Proposed) → may_at o ≡ may.Only entries → ⊥
 none_offered None entries k = cc
@@ -154,6 +158,7 @@ none_handed_out h (deed.Proposing p sent) keeps message to k = subst (λ all. Is
 none_handed_out h (deed.Ticked due sent) keeps message to k = subst (λ all. IsFor message to all) (sym keeps) k
 none_handed_out h (deed.Resent sent) keeps message to k = subst (λ all. IsFor message to all) (sym keeps) k
 none_handed_out h (deed.Replied slot member sent) keeps message to k = absurd (let none = keeps.1 in cc)
+none_handed_out h (deed.Cut slot) keeps message to k = k
 
 pub solo_holds : {M : Type 0} → Holds {M = M} solo
 solo_holds {M} =
@@ -166,8 +171,15 @@ solo_holds {M} =
       proper = λ f me act deeds kept have m to k. absurd (none_handed_out (record { f = f; me = me; deeds = deeds }) act kept.0 m to k);
     }
 
-pub solo_begins : {M : Type 0} (log : List Proposed) (waiting : Option Proposed) → SoloStarts log waiting → SoloStands {M = M} log waiting (record { f = 0; me = 0; deeds = [] })
-solo_begins {M} log waiting start = record { f = refl; me = refl; log_is = sym start.no_log; waiting_is = sym start.none_waits }
+pub solo_begins : {M : Type 0} (first : ℕ) (entries : List Proposed) (waiting : Option Proposed) → SoloStarts first entries waiting → SoloStands {M = M} first entries waiting (record { f = 0; me = 0; deeds = [] })
+solo_begins {M} first entries waiting start =
+    record {
+      f = refl;
+      me = refl;
+      first_is = sym start.none_cut;
+      keeps = record { within = (let e = start.none_cut in omega arith); entries_are = rw (start.none_cut, start.no_log) refl };
+      waiting_is = sym start.none_waits;
+    }
 
 pub solo_bounded : (slot : ℕ) (waiting : Option Proposed) → solo_rest slot waiting < 2 ^ 80
 solo_bounded slot None = omega arith
@@ -195,5 +207,6 @@ solo_comes_to_rest {M} = record {
   advanced = λ h moves. advance_lowers (chosen_in h.deeds) (waiting_of h.deeds) moves;
   echoed = λ h some. absurd (let none = some in cc);
   proposed = λ h e may. propose_lowers (length (chosen_in h.deeds)) (waiting_of h.deeds) e may;
+  cut = λ h slot. let z : ℕ = 0 in omega arith;
   bounded = λ h. solo_bounded (length (chosen_in h.deeds)) (waiting_of h.deeds);
 }

@@ -130,6 +130,7 @@ module _ (f me : ℕ) where
   lines_short (deed.Ticked due sent ∷ past) kept = tick_short (at past) due (is_over (sight (at past)) due) sent (lines_short past kept.1) kept.0
   lines_short (deed.Resent sent ∷ past) kept = lines_short past kept.1
   lines_short (deed.Replied slot to sent ∷ past) kept = lines_short past kept.1
+  lines_short (deed.Cut slot ∷ past) kept = lines_short past kept.1
 
 -- What is new is within the limits.
 both : (a b : Bool) → a ≡ true → b ≡ true → (a && b) ≡ true

@@ -119,6 +119,7 @@ rest_falls h (deed.Proposing e sent) keeps rule = rw (← keeps.1) (propose_fall
 rest_falls h (deed.Ticked due sent) keeps rule = absurd rule
 rest_falls h (deed.Resent sent) keeps rule = absurd rule
 rest_falls h (deed.Replied slot to sent) keeps rule = absurd rule
+rest_falls h (deed.Cut slot) keeps rule = absurd rule
 
 pub member_bounded : (h : Member OrderMessage) → slot_rest h < 2 ^ 80
 member_bounded h = rest_bounded (sight h)

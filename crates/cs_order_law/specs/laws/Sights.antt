@@ -58,3 +58,4 @@ module _ (f me : ℕ) where
   log_short (deed.Ticked due sent ∷ past) kept = log_short past kept.1
   log_short (deed.Resent sent ∷ past) kept = log_short past kept.1
   log_short (deed.Replied slot to sent ∷ past) kept = log_short past kept.1
+  log_short (deed.Cut slot ∷ past) kept = log_short past kept.1

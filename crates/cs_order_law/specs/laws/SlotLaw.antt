@@ -352,4 +352,4 @@ slot_law f honest past serves few run none =
 
 -- what is sent again changes nothing of what the rules do
 pub slot_undisturbed : Undisturbed slot_machine
-slot_undisturbed = record { by_resend = λ h sent. refl; by_reply = λ h slot to sent. refl }
+slot_undisturbed = record { by_resend = λ h sent. refl; by_reply = λ h slot to sent. refl; by_cut = λ h slot. refl }

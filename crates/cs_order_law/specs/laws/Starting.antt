@@ -52,5 +52,6 @@ slot_comes_to_rest = record {
   advanced = λ h moves. rest_falls h (deed.Advanced (slot_machine.step h) (slot_machine.advancing h)) (refl, moves, refl) tt;
   echoed = λ h some. rest_falls h (deed.Echoed (slot_machine.echoing h)) (some, refl) tt;
   proposed = λ h e may. rest_falls h (deed.Proposing e (slot_machine.proposing h e)) (may, refl) tt;
+  cut = λ h slot. let z : ℕ = 0 in omega arith;
   bounded = member_bounded;
 }

@@ -1,8 +1,8 @@
 -- Each deed of a member is a step, and hands out what the member has said or chosen.
-use Rattle.std.proofs.Common.{◌≡◌, ◌≢◌, ℕ, ◌+◌, ◌*◌, ◌≤◌, ◌<◌, ◌==◌, Bool, true, false, ◌||◌, if◌then◌else◌, List, [], ◌∷◌, ◌++◌, length-append, Option, Some, None, IsSome, slice_get, ◌⊎◌, inl, inr, refl, sym, ap, ◌∙◌, subst, arith, ◌^◌, min, ltb-true}
+use Rattle.std.proofs.Common.{◌≡◌, ◌≢◌, ℕ, ◌+◌, ◌*◌, ◌≤◌, ◌<◌, ◌==◌, nat_lt, Bool, true, false, ◌||◌, if◌then◌else◌, List, [], ◌∷◌, ◌++◌, length-append, Option, Some, None, IsSome, slice_get, ◌⊎◌, inl, inr, refl, sym, ap, ◌∙◌, subst, arith, ◌^◌, min, ltb-true}
 use Rattle.cs_order_law.specs.laws.SafeFacts.{and_right}
 use Rattle.cs_order.specs.Lists.{IsIn}
-use Rattle.cs_order.specs.Deeds.{Deed, Member, did, sent_by}
+use Rattle.cs_order.specs.Deeds.{Deed, Member, did, sent_by, kept_from, entry_from, entry_at}
 use Rattle.cs_order.specs.Runs.{KeepsRules, IsFor}
 use Rattle.cs_order.specs.Deeds as deed
 use Rattle.cs_order.specs.Limits.{view_bound}
@@ -185,10 +185,19 @@ reply_is : (slot to : ℕ) (o : Option Proposed) (out : Outgoing OrderMessage) �
 reply_is slot to None out h = cc
 reply_is slot to (Some e) out h = (e, refl, (let given : Outgoing OrderMessage = record { to = Some to; message = message.Done slot e } in let same : given ≡ out = cc in ap (λ (y : Outgoing OrderMessage). y.message) (sym same)))
 
-reply_step : (h : Member OrderMessage) (slot to : ℕ) (sent : List (Outgoing OrderMessage)) (out : Outgoing OrderMessage) → reply_with slot to (slice_get (sight h).log slot) ≡ Some out → sent ≡ out ∷ [] → Goal h (deed.Replied slot to sent)
+-- an entry that is given is chosen
+given_is : (first : ℕ) (log : List Proposed) (slot : ℕ) (e : Proposed) → entry_from first log slot ≡ Some e → slice_get log slot ≡ Some e
+given_is first log slot e = by_place (nat_lt slot first)
+  where
+    by_place : (b : Bool) → (if b then None else slice_get log slot) ≡ Some e → slice_get log slot ≡ Some e
+    by_place true h = cc
+    by_place false h = h
+
+reply_step : (h : Member OrderMessage) (slot to : ℕ) (sent : List (Outgoing OrderMessage)) (out : Outgoing OrderMessage) → reply_with slot to (entry_at h.deeds slot) ≡ Some out → sent ≡ out ∷ [] → Goal h (deed.Replied slot to sent)
 reply_step h slot to sent out is same =
-    let r = reply_is slot to (slice_get (sight h).log slot) out is in
-    rw same (still_step (deed.Replied slot to (out ∷ [])) (sight h) (sight h).wait, λ sound m k one. elim one [ inl it ↦ subst (λ n. Vouches (sight h) n) (sym r.2 ∙ it.0) r.1 | inr none ↦ absurd none ])
+    let r = reply_is slot to (entry_at h.deeds slot) out is in
+    let chosen = given_is (kept_from h.deeds) (sight h).log slot r.0 r.1 in
+    rw same (still_step (deed.Replied slot to (out ∷ [])) (sight h) (sight h).wait, λ sound m k one. elim one [ inl it ↦ subst (λ n. Vouches (sight h) n) (sym r.2 ∙ it.0) chosen | inr none ↦ absurd none ])
 
 -- each deed that keeps the rules is a step
 pub step_of : (h : Member OrderMessage) (act : SlotAct) → KeepsRules slot_machine h act → Goal h act
@@ -201,3 +210,4 @@ step_of h (deed.Proposing e sent) keeps =
 step_of h (deed.Ticked due sent) keeps = tick_step h due (is_over (sight h) due) sent refl keeps
 step_of h (deed.Resent sent) keeps = (still_step (deed.Resent sent) (sight h) (sight h).wait, λ sound m to one. vouch_old (sight h) sound m (resent (sight h) m to (rw keeps one)))
 step_of h (deed.Replied slot to sent) keeps = reply_step h slot to sent keeps.0 keeps.1 keeps.2
+step_of h (deed.Cut slot) keeps = (still_step (deed.Cut slot) (sight h) (sight h).wait, λ sound k to none. absurd none)

@@ -1,6 +1,7 @@
 use Rattle.std.proofs.Common.{◌≡◌, suc, ◌+◌, ◌++◌, ap, sym, ◌∙◌, arith}
-use Rattle.cs_node_rules.specs.Dumps.{log_text, logs_text}
+use Rattle.cs_node_rules.specs.Dumps.{logs_text}
 use Rattle.cs_play.specs.Standing.{site_in}
+use Rattle.cs_dump.specs.Lines.{logged_text}
 use Rattle.cs_dump.proofs.dump.logs_text.Goals as goal
 
 pub loop-shard-preserved : goal.loop-shard-preserved
@@ -10,7 +11,7 @@ loop-shard-preserved g c = λ s p st f.
     let next : shard + 1 ≡ suc shard = omega arith in
     c.in_ok-push_str.ensures.bytes
     ∙ ap (λ text. text ++ c.deref.result.now) (c.loop-shard.invariant s p st f)
-    ∙ ap (λ log. logs_text site p.world shard ++ log) (c.deref.ensures ∙ c.in_ok-log.ensures ∙ ap (log_text shard) (c.shard_chain-chain.ensures s p st f))
+    ∙ ap (λ log. logs_text site p.world shard ++ log) (c.deref.ensures ∙ c.in_ok-log.ensures ∙ ap (logged_text shard) (c.shard_log-longest.ensures s p st f))
     ∙ sym (ap (logs_text site p.world) next)
 
 pub returns : goal.returns

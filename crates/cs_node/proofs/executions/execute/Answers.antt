@@ -1,8 +1,8 @@
-use Rattle.std.proofs.Common.{◌≡◌, false, ◌++◌, ◌∷◌, [], List, length, is_some, ap, sym, subst, ◌∙◌}
+use Rattle.std.proofs.Common.{◌≡◌, false, ◌++◌, ◌∷◌, [], List, is_some, ap, sym, subst, ◌∙◌}
 use Rattle.std.proofs.lemmas.Result.{on_ok_weaker}
 use Rattle.cs_tx_form.specs.declared.entry.Entry.{Entry}
 use Rattle.cs_archive.specs.Archives.{Archived}
-use Rattle.cs_checkpoint.specs.Chain.{made_last}
+use Rattle.cs_checkpoint.specs.Chain.{Log, KeptLog, empty_log}
 use Rattle.cs_node_state.specs.Setup.{is_fit}
 use Rattle.cs_node_state.specs.Bench.{Bench, with_leaf}
 use Rattle.cs_node_rules.specs.Signs.{Sign, vote_signs, headed_signs, execution_signs}
@@ -10,52 +10,58 @@ use Rattle.cs_node_pool.specs.Deployed.{deployed}
 use Rattle.cs_sbac.specs.Held.{Held, bench_of}
 use Rattle.cs_node.specs.declared.draft.Note.TheVariants.{Executed}
 use Rattle.cs_node.specs.Notes.{Tells}
-use Rattle.cs_node.specs.Steps.{Makes}
+use Rattle.cs_node.specs.Signing.{Leaves}
 use Rattle.cs_node.proofs.Executing.{bench_closed, execution-makes, voted-fit}
 use Rattle.cs_node.proofs.Noting.{effect-again}
 use Rattle.cs_node.proofs.executions.execute.Goals as goal
 
 pub returns-clause-made : goal.returns-clause-made
-returns-clause-made c = λ approves genesis.
+returns-clause-made c = λ approves genesis log kept_is.
     let held = c.args.sbac.now in
     let setup = deployed held.config genesis approves in
     let me = held.me in
-    let old : Bench = bench_of held in
+    let old : Bench = bench_of log held in
     let entry = c.in_ok-entry.entry in
-    let new : Bench = bench_of c.forget_touched.new.self in
-    let ran = c.in_ok-outcome.ensures genesis approves in
-    let slot_is = c.slots.ensures ∙ ap (λ (a : Archived). length a.log.leaves) ran.archived_stays in
+    let ran = c.in_ok-outcome.ensures genesis approves log in
+    let left = ap (λ (a : Archived). a.kept) ran.archived_stays ∙ kept_is in
+    let closing = c.in_ok-made.ensures.bench log left in
+    let slot_is = c.slots.ensures ∙ ap (λ (k : KeptLog). k.slots) left in
     let result_is = effect-again _ _ ran.effect_is in
+    let after : Log = (with_leaf (record { slot = c.slots.result; entry = entry; result = c.in_ok-outcome.outcome.effect }) (bench_of log c.execute.new.self)).log in
+    let new : Bench = bench_of after c.forget_touched.new.self in
     let closed : new ≡ bench_closed setup me old entry =
-    ap (λ (h : Held). bench_of h) c.forget_touched.ensures ∙ c.in_ok-made.ensures.bench ∙ (λ i. with_leaf (record { slot = slot_is i; entry = entry; result = result_is i }) (ran.bench_is i)) in
+    ap (λ (h : Held). bench_of after h) c.forget_touched.ensures ∙ closing.bench_is ∙ (λ i. with_leaf (record { slot = slot_is i; entry = entry; result = result_is i }) (ran.bench_is i)) in
     let config_is = ap (λ (h : Held). h.config) c.forget_touched.ensures ∙ c.in_ok-made.ensures.config ∙ ran.config_stays in
     let me_is = ap (λ (h : Held). h.me) c.forget_touched.ensures ∙ c.in_ok-made.ensures.me ∙ ran.me_stays in
     let S : List Sign → Type 0 = λ signs. Tells signs c.args.draft.now c.say_vote.new.draft in
     let said = subst S (λ i. vote_signs (deployed (ran.config_stays i) genesis approves) (ran.me_stays i) (c.session_in.ensures.session i) (ran.voted_is i)) (c.in_ok-say_vote.ensures.tells genesis approves) in
     let noted = c.in_ok-note_execution.ensures.notes ∙ ap (λ effect. c.say_vote.new.draft.notes ++ Executed c.args.slot entry effect ∷ []) result_is in
     let H : List Sign → Type 0 = λ signs. Tells signs c.note_execution.new.self c.say_made.new.draft in
-    let P : Entry → Type 0 = λ e. Makes setup me (execution_signs setup me old c.args.slot e) old new c.args.draft.now c.say_made.new.draft in
+    let P : Entry → Type 0 = λ e. Leaves setup me (execution_signs setup me old c.args.slot e) old c.forget_touched.new.self c.args.draft.now c.say_made.new.draft in
     on_ok_weaker _
-    (λ heads. subst P c.in_ok-entry.ensures.entry
-    (execution-makes setup me old new c.args.slot entry c.args.draft.now c.say_vote.new.draft c.note_execution.new.self c.say_made.new.draft closed said noted c.in_ok-note_execution.ensures.said
-    (subst H (λ i. headed_signs (deployed (config_is i) genesis approves) (me_is i) ((c.in_ok-made.ensures.made ∙ ap (λ (h : Held). made_last h.archived.log) (sym c.forget_touched.ensures)) i)) heads)))
+    (λ heads. subst P c.in_ok-entry.ensures.entry (record {
+      log = after;
+      kept_is = ap (λ (h : Held). h.archived.kept) c.forget_touched.ensures ∙ closing.kept_is;
+      makes = execution-makes setup me old new c.args.slot entry c.args.draft.now c.say_vote.new.draft c.note_execution.new.self c.say_made.new.draft closed said noted c.in_ok-note_execution.ensures.said
+          (subst H (λ i. headed_signs (deployed (config_is i) genesis approves) (me_is i) (c.in_ok-made.ensures.made log left i)) heads);
+    }))
     (c.say_made.ensures.tells genesis approves)
 
 pub returns-clause-config : goal.returns-clause-config
 returns-clause-config c =
-    let is = ap (λ (h : Held). h.config) c.forget_touched.ensures ∙ c.in_ok-made.ensures.config ∙ (c.in_ok-outcome.ensures [] (λ tx. false)).config_stays in
+    let is = ap (λ (h : Held). h.config) c.forget_touched.ensures ∙ c.in_ok-made.ensures.config ∙ (c.in_ok-outcome.ensures [] (λ tx. false) (empty_log 0)).config_stays in
     on_ok_weaker _ (λ said. is) (c.say_made.ensures.tells [] (λ tx. false))
 
 pub returns-clause-me : goal.returns-clause-me
 returns-clause-me c =
-    let is = ap (λ (h : Held). h.me) c.forget_touched.ensures ∙ c.in_ok-made.ensures.me ∙ (c.in_ok-outcome.ensures [] (λ tx. false)).me_stays in
+    let is = ap (λ (h : Held). h.me) c.forget_touched.ensures ∙ c.in_ok-made.ensures.me ∙ (c.in_ok-outcome.ensures [] (λ tx. false) (empty_log 0)).me_stays in
     on_ok_weaker _ (λ said. is) (c.say_made.ensures.tells [] (λ tx. false))
 
 pub say_vote-requires-clause-fit : goal.say_vote-requires-clause-fit
 say_vote-requires-clause-fit c = λ some genesis approves.
     let setup = deployed c.args.sbac.now.config genesis approves in
     let me = c.args.sbac.now.me in
-    let ran = c.in_ok-outcome.ensures genesis approves in
+    let ran = c.in_ok-outcome.ensures genesis approves (empty_log 0) in
     let told = sym (ap is_some ran.voted_is) ∙ some in
-    let fit = voted-fit setup me.shard (bench_of c.args.sbac.now) c.in_ok-entry.entry told in
+    let fit = voted-fit setup me.shard (bench_of (empty_log 0) c.args.sbac.now) c.in_ok-entry.entry told in
     (λ i. is_fit (deployed (ran.config_stays i) genesis approves) (ran.me_stays i).shard (c.session_in.ensures.session i)) ∙ fit

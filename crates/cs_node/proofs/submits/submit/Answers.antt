@@ -5,27 +5,28 @@ use Rattle.cs_ledger.specs.Ledger.{Bytes}
 use Rattle.cs_node_rules.specs.Signs.{Sign, Sent, submit_signs}
 use Rattle.cs_node_pool.specs.Deployed.{deployed}
 use Rattle.cs_sbac.specs.Held.{bench_of}
-use Rattle.cs_node.specs.Steps.{Makes}
-use Rattle.cs_node.proofs.Submitting.{one-makes, standing}
+use Rattle.cs_node.specs.Signing.{Leaves}
+use Rattle.cs_node.proofs.Submitting.{stays, one-makes, standing}
 use Rattle.cs_node.proofs.submits.submit.Goals as goal
 
 pub returns-in-Some-clause-made : goal.returns-in-Some-clause-made
-returns-in-Some-clause-made g c = λ genesis.
+returns-in-Some-clause-made g c = λ genesis log kept_is.
     let approves = g.J.Judge.is_approved c.args.judge.now in
     let setup = deployed c.args.sbac.now.config genesis approves in
     let me = c.args.sbac.now.me in
-    let bench = bench_of c.args.sbac.now in
+    let bench = bench_of log c.args.sbac.now in
     let says : Bytes → List Sign = λ digest. Sent c.args.sender (message.Decided digest c.in-Some.accepted) ∷ [] in
-    on_ok_weaker _ (one-makes setup me bench (submit_signs setup me.shard bench c.args.sender c.args.session) (Sent c.args.sender (message.Decided c.in_ok-digest.digest c.in-Some.accepted)) c.args.draft.now c.say.new.self
+    on_ok_weaker _ (λ tells. stays setup me (submit_signs setup me.shard bench c.args.sender c.args.session) c.args.sbac.now log c.args.draft.now c.say.new.self kept_is
+    (one-makes setup me bench (submit_signs setup me.shard bench c.args.sender c.args.session) (Sent c.args.sender (message.Decided c.in_ok-digest.digest c.in-Some.accepted)) c.args.draft.now c.say.new.self
     (standing setup me.shard bench c.args.sender c.args.session (Some c.in-Some.accepted) (sym c.is_client.ensures ∙ c.if-not-is_client.false) (sym (c.in_ok-is_fit.ensures genesis approves) ∙ c.if-not-branch.false)
-    (sym (c.in_ok-accepted.ensures genesis approves) ∙ c.in-Some.is) ∙ ap says (sym c.in_ok-digest.ensures)) refl) c.say.ensures.tells
+    (sym (c.in_ok-accepted.ensures genesis approves) ∙ c.in-Some.is) ∙ ap says (sym c.in_ok-digest.ensures)) refl tells)) c.say.ensures.tells
 
 pub returns-in-None-clause-made : goal.returns-in-None-clause-made
-returns-in-None-clause-made g c = λ genesis.
+returns-in-None-clause-made g c = λ genesis log kept_is.
     let approves = g.J.Judge.is_approved c.args.judge.now in
     let setup = deployed c.args.sbac.now.config genesis approves in
     let me = c.args.sbac.now.me in
-    let bench = bench_of c.args.sbac.now in
-    let P : List Sign → Type 0 = λ signs. OnOk c.enter.result (Makes setup me signs bench (bench_of c.enter.new.sbac) c.args.draft.now c.enter.new.draft) in
+    let bench = bench_of log c.args.sbac.now in
+    let P : List Sign → Type 0 = λ signs. OnOk c.enter.result (Leaves setup me signs bench c.enter.new.sbac c.args.draft.now c.enter.new.draft) in
     subst P (sym (standing setup me.shard bench c.args.sender c.args.session None (sym c.is_client.ensures ∙ c.if-not-is_client.false) (sym (c.in_ok-is_fit.ensures genesis approves) ∙ c.if-not-branch.false)
-    (sym (c.in_ok-accepted.ensures genesis approves) ∙ c.in-None.is))) (c.enter.ensures.made genesis)
+    (sym (c.in_ok-accepted.ensures genesis approves) ∙ c.in-None.is))) (c.enter.ensures.made genesis log kept_is)

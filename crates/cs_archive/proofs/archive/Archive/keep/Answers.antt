@@ -35,12 +35,12 @@ returns-else-checkpoint-last-clause-kept c =
     let same = ap (λ (a : Archived). a.heads) c.self.view_is in
     let at : position (is_own c.args.index) heads ≡ Some c.in-Some.place = cc (c.place_of.ensures, c.in-Some.is) in
     let read = subst (λ items. last ≡ get_or items c.in-Some.place last) same c.index_mut-last.ensures.value in
-    let log = ap (λ (a : Archived). a.log) c.self.view_is in
+    let kept = ap (λ (a : Archived). a.kept) c.self.view_is in
     let hashed = ap (λ (a : Archived). a.hashed) c.self.view_is in
     let told : set c.self.inside.heads.items c.in-Some.place (last.0, c.args.checkpoint) ≡ with_head c.args.index c.args.checkpoint heads =
     ap (λ items. set items c.in-Some.place (last.0, c.args.checkpoint)) same
     ∙ sym (changed c.args.index c.args.checkpoint heads c.in-Some.place last at read) in
-    λ i. record { log = log i; hashed = hashed i; heads = told i }
+    λ i. record { kept = kept i; hashed = hashed i; heads = told i }
 
 pub returns-in_ok-push-in-None-clause-news : goal.returns-in_ok-push-in-None-clause-news
 returns-in_ok-push-in-None-clause-news c =
@@ -54,10 +54,10 @@ returns-in_ok-push-in-None-clause-kept c =
     let heads = c.args.self.now.heads in
     let same = ap (λ (a : Archived). a.heads) c.self.view_is in
     let none : position (is_own c.args.index) heads ≡ None = cc (c.place_of.ensures, c.in-None.is) in
-    let log = ap (λ (a : Archived). a.log) c.self.view_is in
+    let kept = ap (λ (a : Archived). a.kept) c.self.view_is in
     let hashed = ap (λ (a : Archived). a.hashed) c.self.view_is in
     let one = (c.args.index, c.args.checkpoint) ∷ [] in
     let told : c.push.new.self.items ≡ with_head c.args.index c.args.checkpoint heads =
     c.in_ok-push-in-None.ensures.items ∙ ap (λ items. items ++ one) same
     ∙ sym (appended c.args.index c.args.checkpoint heads (is_absent c.args.index heads none)) in
-    λ i. record { log = log i; hashed = hashed i; heads = told i }
+    λ i. record { kept = kept i; hashed = hashed i; heads = told i }

@@ -3,6 +3,8 @@ use Rattle.std.proofs.Common.{◌≡◌, ◌∙◌, true, false, [], sym, ap, na
 use Rattle.cs_tx_form.specs.declared.effect.Effect.{Effect}
 use Rattle.cs_node_state.specs.Setup.{Setup, is_fit, session_in}
 use Rattle.cs_node_pool.specs.Deployed.{deployed}
+use Rattle.cs_checkpoint.specs.Chain.{KeptLog, kept_of}
+use Rattle.cs_check.specs.Leaves.{Chained}
 use Rattle.cs_audit_rules.specs.Slots.{is_judged}
 use Rattle.cs_audit.specs.declared.stand.Stand.{Stand}
 use Rattle.cs_audit.proofs.Leaves.{at_none, result_is, follows, head_is}
@@ -12,7 +14,7 @@ pub push-requires-clause-leaves : goal.push-requires-clause-leaves
 push-requires-clause-leaves g c = (c.in_ok-effect.ensures [] (λ tx. false)).placed.leaves
 
 pub returns : goal.returns
-returns g c genesis =
+returns g c log kept_is genesis =
     let approves = g.J.Judge.is_approved c.args.judge.now in
     let setup : Setup = deployed c.args.self.now.config genesis approves in
     let s : Stand = c.args.self.now in
@@ -22,13 +24,17 @@ returns g c genesis =
     let heads = c.args.heads.now in
     let effect : Effect = c.in_ok-effect.effect in
     let ran = c.in_ok-effect.ensures genesis approves in
-    let slot : nat_eq leaf.slot (length s.chain.log.leaves) ≡ true = eq-eqb leaf.slot (length s.chain.log.leaves) (omega arith) in
+    let here : mid.chain.kept ≡ kept_of log = ap (λ (x : Chained). x.kept) ran.chain_stays ∙ kept_is in
+    let chain = c.in_ok-made.ensures.chain log here in
+    let count = ap (λ (k : KeptLog). k.slots) kept_is in
+    let slot : nat_eq leaf.slot (length log.leaves) ≡ true = eq-eqb leaf.slot (length log.leaves) (omega (arith, count)) in
     let fits : c.in_ok-is_fit.field-0 ≡ true = search rules in
     let form : is_fit setup s.shard (session_in leaf.entry) ≡ true = sym (ap (is_fit setup s.shard) c.session_in.ensures.is) ∙ sym (c.in_ok-is_fit.ensures.fit genesis approves) ∙ fits in
     let judged : c.in_ok-is_judged.field-0 ≡ true = search rules in
     let judge : is_judged setup leaf.entry ≡ true = sym (c.in_ok-is_judged.ensures c.args.self.now.config genesis) ∙ judged in
     let same : leaf.result ≡ effect = search rules in (
-      at_none setup heads leaf s slot form judge (result_is setup heads leaf s mid effect ran same)
-          (head_is setup heads leaf s mid effect ran new c.in_ok-made.ensures.table c.in_ok-made.ensures.config c.in_ok-made.ensures.shard c.in_ok-made.ensures.chain c.in_ok-made.ensures.leaves c.in_ok-made.made c.in_ok-made.ensures.made ∙ sym c.if-not-is_head.ensures),
-      follows setup heads leaf s mid effect ran new c.in_ok-made.ensures.table c.in_ok-made.ensures.config c.in_ok-made.ensures.shard c.in_ok-made.ensures.chain c.in_ok-made.ensures.leaves,
+      at_none setup log heads leaf s slot form judge (result_is setup log heads leaf s mid effect ran same)
+          (head_is setup log heads leaf s mid effect ran new c.in_ok-made.ensures.table c.in_ok-made.ensures.config c.in_ok-made.ensures.shard chain c.in_ok-made.ensures.leaves c.in_ok-made.made
+          (c.in_ok-made.ensures.made log here) ∙ sym c.if-not-is_head.ensures),
+      follows setup log heads leaf s mid effect ran new c.in_ok-made.ensures.table c.in_ok-made.ensures.config c.in_ok-made.ensures.shard chain c.in_ok-made.ensures.leaves,
     )

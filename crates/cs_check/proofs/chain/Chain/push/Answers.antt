@@ -1,113 +1,76 @@
-use Rattle.std.proofs.Common.{◌≡◌, ℕ, ◌+◌, ◌*◌, ◌%◌, ◌≤◌, List, [], ◌∷◌, ◌++◌, length, take, drop, refl, sym, ap, ◌∙◌, subst, arith}
+use Rattle.std.proofs.Common.{◌≡◌, ℕ, ◌+◌, ◌<◌, List, [], ◌∷◌, ◌++◌, length, sym, ap, subst, ◌∙◌, arith}
+use Rattle.std.specs.Prelude.{All}
 use Rattle.std.proofs.lemmas.List.{map_push, length-map, length_push}
-use Rattle.cs_merkle.specs.Tree.{leaves_of, merkle_tree_hash}
-use Rattle.cs_checkpoint.specs.Chain.{log_of, last_head, IsChain}
-use Rattle.cs_check.proofs.Chains.{kept_chain, next_chain, last_made}
+use Rattle.std.proofs.lemmas.List.Elements.{All-push}
+use Rattle.cs_merkle.specs.Tree.{leaves_of}
+use Rattle.cs_checkpoint.specs.Chain.{kept_of, IsLeaf}
+use Rattle.cs_check.specs.Kept.{kept_by, with_leaf, next_behind, with_checkpoint}
+use Rattle.cs_check.specs.Leaves.{Chained}
+use Rattle.cs_check.proofs.Keeping.{goes_on, none_made, covers, last_made}
+use Rattle.cs_check.specs.Root.{table_root}
 use Rattle.cs_check.proofs.chain.Chain.push.Goals as goal
 
-pub invariant_of-self-then-len-ne0 : goal.invariant_of-self-then-len-ne0
-invariant_of-self-then-len-ne0 c =
-    let old = c.self.inside.leaves.items in
-    let leaves_is : leaves_of c.push.new.self.items ≡ leaves_of old ++ c.args.leaf.items ∷ [] =
-    ap leaves_of c.in_ok-push.ensures.items ∙ map_push (λ v. v.items) old c.args.leaf in
-    let made = c.self.inside.made.items in
-    subst (λ (leaves : List (List ℕ)). IsChain (log_of c.self.inside.shard leaves made) made)
-    (sym leaves_is)
-    (kept_chain c.self.inside.shard (leaves_of old) made c.args.leaf.items c.self.invariant
-    c.requires.leaf)
-
-pub invariant_of-self-in_err-take : goal.invariant_of-self-in_err-take
-invariant_of-self-in_err-take c =
-    let old = c.self.inside.leaves.items in
-    let leaves_is : leaves_of c.push.new.self.items ≡ leaves_of old ++ c.args.leaf.items ∷ [] =
-    ap leaves_of c.in_ok-push.ensures.items ∙ map_push (λ v. v.items) old c.args.leaf in
-    let made = c.self.inside.made.items in
-    subst (λ (leaves : List (List ℕ)). IsChain (log_of c.self.inside.shard leaves made) made)
-    (sym leaves_is)
-    (kept_chain c.self.inside.shard (leaves_of old) made c.args.leaf.items c.self.invariant
-    c.requires.leaf)
-
-pub invariant_of-self-in_err-table_root : goal.invariant_of-self-in_err-table_root
-invariant_of-self-in_err-table_root c =
-    let old = c.self.inside.leaves.items in
-    let leaves_is : leaves_of c.push.new.self.items ≡ leaves_of old ++ c.args.leaf.items ∷ [] =
-    ap leaves_of c.in_ok-push.ensures.items ∙ map_push (λ v. v.items) old c.args.leaf in
-    let made = c.self.inside.made.items in
-    subst (λ (leaves : List (List ℕ)). IsChain (log_of c.self.inside.shard leaves made) made)
-    (sym leaves_is)
-    (kept_chain c.self.inside.shard (leaves_of old) made c.args.leaf.items c.self.invariant
-    c.requires.leaf)
-
-pub invariant_of-self-in_err-push-2 : goal.invariant_of-self-in_err-push-2
-invariant_of-self-in_err-push-2 c =
-    let old = c.self.inside.leaves.items in
-    let leaves_is : leaves_of c.push.new.self.items ≡ leaves_of old ++ c.args.leaf.items ∷ [] =
-    ap leaves_of c.in_ok-push.ensures.items ∙ map_push (λ v. v.items) old c.args.leaf in
-    let made = c.self.inside.made.items in
-    rw (c.in_err-push-2.ensures.items, leaves_is)
-    (kept_chain c.self.inside.shard (leaves_of old) made c.args.leaf.items c.self.invariant
-    c.requires.leaf)
-
-pub invariant_of-self-2 : goal.invariant_of-self-2
-invariant_of-self-2 c =
-    let shard = c.self.inside.shard in
-    let old = c.self.inside.leaves.items in
+pub invariant_of-self-then-len : goal.invariant_of-self-then-len
+invariant_of-self-then-len c =
+    let old = leaves_of c.self.inside.uncovered.items in
     let leaf = c.args.leaf.items in
-    let longer = leaves_of old ++ leaf ∷ [] in
-    let made = c.self.inside.made.items in
-    let next = c.next_checkpoint-checkpoint.result in
-    let leaves_is : leaves_of c.push.new.self.items ≡ longer =
-    ap leaves_of c.in_ok-push.ensures.items ∙ map_push (λ v. v.items) old c.args.leaf in
-    let is : next ≡ record {
-      shard = shard;
-      number = length made;
-      previous = last_head made;
-      leaf_root = merkle_tree_hash (take 16 (drop (16 * length made) longer));
-      table_root = c.in_ok-table_root.table_root;
-    } = c.next_checkpoint-checkpoint.ensures
-    ∙ rw (c.as_slice-2.ensures.value, c.as_slice.ensures.value, leaves_is) refl in
-    let count : c.len.result ≡ length longer =
-    omega (
-      arith,
-      c.len.ensures,
-      c.push.new.self.ok.0,
-      length-map c.push.new.self.items (λ v. v.items),
-      ap length leaves_is,
-    ) in
-    let whole : length longer % 16 ≡ 0 = subst (λ (n : ℕ). n % 16 ≡ 0) count c.if-len-ne0.false in
-    let enough : 16 * length made + 16 ≤ length longer =
-    omega (arith, whole, c.self.invariant.enough, length_push (leaves_of old) leaf) in
-    rw (c.in_ok-push-2.ensures.items, leaves_is)
-    (next_chain shard (leaves_of old) made leaf c.self.invariant c.requires.leaf next
-    c.in_ok-table_root.table_root is enough)
+    let leaves_is : leaves_of c.push.new.self.items ≡ old ++ leaf ∷ [] =
+    ap leaves_of c.in_ok-push.ensures.items ∙ map_push (λ v. v.items) c.self.inside.uncovered.items c.args.leaf in
+    let long : length (leaves_of c.push.new.self.items) ≡ length old + 1 = ap length leaves_is ∙ length_push old leaf in
+    record {
+      enough = omega (arith, c.self.invariant.enough, long);
+      few = omega (arith, long, length-map c.self.inside.uncovered.items (λ v. v.items), c.self.inside.uncovered.ok.0);
+      leaves = subst (λ (leaves : List (List ℕ)). All IsLeaf leaves) (sym leaves_is) (All-push IsLeaf old leaf c.self.invariant.leaves c.requires.leaf);
+      cut = c.self.invariant.cut;
+    }
+
+pub returns-then-len-clause-log : goal.returns-then-len-clause-log
+returns-then-len-clause-log c = λ log is.
+    let kept = kept_by c.self.inside.shard c.self.inside.slots c.self.inside.covered.items (leaves_of c.self.inside.uncovered.items) c.self.inside.heads.items in
+    let here : kept ≡ kept_of log = ap (λ (x : Chained). x.kept) c.self.view_is ∙ is in
+    let old = leaves_of c.self.inside.uncovered.items in
+    let leaf = c.args.leaf.items in
+    let leaves_is : leaves_of c.push.new.self.items ≡ old ++ leaf ∷ [] =
+    ap leaves_of c.in_ok-push.ensures.items ∙ map_push (λ v. v.items) c.self.inside.uncovered.items c.args.leaf in
+    let few : length old + 1 < 16 =
+    omega (arith, length-map c.self.inside.uncovered.items (λ v. v.items), c.self.inside.uncovered.ok.0) in
+    let slots_is : c.in-Some.slots ≡ c.self.inside.slots + 1 = omega arith in
+    (λ i. kept_by c.self.inside.shard (slots_is i) c.self.inside.covered.items (leaves_is i) c.self.inside.heads.items)
+    ∙ goes_on log kept here c.self.invariant leaf (table_root c.args.table.now.rows) few
+
+pub returns-then-len-clause-made : goal.returns-then-len-clause-made
+returns-then-len-clause-made c = λ log is.
+    let kept = kept_by c.self.inside.shard c.self.inside.slots c.self.inside.covered.items (leaves_of c.self.inside.uncovered.items) c.self.inside.heads.items in
+    let here : kept ≡ kept_of log = ap (λ (x : Chained). x.kept) c.self.view_is ∙ is in
+    let old = leaves_of c.self.inside.uncovered.items in
+    let few : length old + 1 < 16 =
+    omega (arith, length-map c.self.inside.uncovered.items (λ v. v.items), c.self.inside.uncovered.ok.0) in
+    none_made log kept here c.self.invariant c.args.leaf.items (table_root c.args.table.now.rows) few
+
+pub returns-clause-log : goal.returns-clause-log
+returns-clause-log c = λ log is.
+    let kept = kept_by c.self.inside.shard c.self.inside.slots c.self.inside.covered.items (leaves_of c.self.inside.uncovered.items) c.self.inside.heads.items in
+    let here : kept ≡ kept_of log = ap (λ (x : Chained). x.kept) c.self.view_is ∙ is in
+    let old = leaves_of c.self.inside.uncovered.items in
+    let leaf = c.args.leaf.items in
+    let last : length old + 1 ≡ 16 =
+    omega (arith, c.self.invariant.few, length-map c.self.inside.uncovered.items (λ v. v.items), c.self.inside.uncovered.ok.0) in
+    let slots_is : c.in-Some.slots ≡ c.self.inside.slots + 1 = omega arith in
+    let made = c.in_ok-checkpoint.checkpoint in
+    let made_is = c.in_ok-checkpoint.ensures.checkpoint
+    ∙ ap (next_behind c.self.inside.shard c.self.inside.heads.items (old ++ leaf ∷ [])) c.in_ok-table_root.ensures.root in
+    c.in_ok-checkpoint.ensures.kept
+    ∙ ap (λ (n : ℕ). with_checkpoint made (with_leaf leaf (kept_by c.self.inside.shard n c.self.inside.covered.items old c.self.inside.heads.items))) slots_is
+    ∙ covers log kept here c.self.invariant leaf (table_root c.args.table.now.rows) last made made_is
 
 pub returns-clause-made : goal.returns-clause-made
-returns-clause-made c =
-    let shard = c.self.inside.shard in
-    let old = c.self.inside.leaves.items in
+returns-clause-made c = λ log is.
+    let kept = kept_by c.self.inside.shard c.self.inside.slots c.self.inside.covered.items (leaves_of c.self.inside.uncovered.items) c.self.inside.heads.items in
+    let here : kept ≡ kept_of log = ap (λ (x : Chained). x.kept) c.self.view_is ∙ is in
+    let old = leaves_of c.self.inside.uncovered.items in
     let leaf = c.args.leaf.items in
-    let longer = leaves_of old ++ leaf ∷ [] in
-    let made = c.self.inside.made.items in
-    let next = c.next_checkpoint-checkpoint.result in
-    let leaves_is : leaves_of c.push.new.self.items ≡ longer =
-    ap leaves_of c.in_ok-push.ensures.items ∙ map_push (λ v. v.items) old c.args.leaf in
-    let is : next ≡ record {
-      shard = shard;
-      number = length made;
-      previous = last_head made;
-      leaf_root = merkle_tree_hash (take 16 (drop (16 * length made) longer));
-      table_root = c.in_ok-table_root.table_root;
-    } = c.next_checkpoint-checkpoint.ensures
-    ∙ rw (c.as_slice-2.ensures.value, c.as_slice.ensures.value, leaves_is) refl in
-    let count : c.len.result ≡ length longer =
-    omega (
-      arith,
-      c.len.ensures,
-      c.push.new.self.ok.0,
-      length-map c.push.new.self.items (λ v. v.items),
-      ap length leaves_is,
-    ) in
-    let whole : length longer % 16 ≡ 0 = subst (λ (n : ℕ). n % 16 ≡ 0) count c.if-len-ne0.false in
-    rw (c.in_ok-push-2.ensures.items, leaves_is)
-    (last_made shard (leaves_of old) made leaf c.self.invariant c.requires.leaf next
-    c.in_ok-table_root.table_root is whole)
+    let last : length old + 1 ≡ 16 =
+    omega (arith, c.self.invariant.few, length-map c.self.inside.uncovered.items (λ v. v.items), c.self.inside.uncovered.ok.0) in
+    let made_is = c.in_ok-checkpoint.ensures.checkpoint
+    ∙ ap (next_behind c.self.inside.shard c.self.inside.heads.items (old ++ leaf ∷ [])) c.in_ok-table_root.ensures.root in
+    last_made log kept here c.self.invariant leaf (table_root c.args.table.now.rows) last c.in_ok-checkpoint.checkpoint made_is

@@ -2,4 +2,4 @@ use Rattle.std.proofs.Common.{[]}
 use Rattle.cs_log.proofs.slot_order.SlotOrder.new.Goals as goal
 
 pub invariant_of-result : goal.invariant_of-result
-invariant_of-result c = (record { f = c.args.f; me = c.args.me; deeds = [] }, c.in_ok-replica.ensures)
+invariant_of-result c = (record { f = c.args.f; me = c.args.me; deeds = [] }, record { mirrors = c.in_ok-replica.ensures.mirrors; first = c.in_ok-replica.ensures.first })

@@ -4,13 +4,13 @@ use Rattle.cs_log.proofs.Whole.{led_as, now_is, propose_led, propose_call, propo
 use Rattle.cs_log.proofs.slot_order.SlotOrderOrder.propose.Goals as goal
 
 pub invariant_of-self-2 : goal.invariant_of-self-2
-invariant_of-self-2 c = propose_led (kept c.in-Some.replica) (kept c.propose.new.self) c.args.entry c.args.out.now.items c.propose.new.out.items (led_as c.self.inside.replica c.in-Some.replica (sym c.in-Some.ensures.value) c.self.invariant) c.in_ok-propose.ensures
+invariant_of-self-2 c = propose_led (kept c.in-Some.replica) (kept c.propose.new.self) c.args.entry c.args.out.now.items c.propose.new.out.items (led_as c.self.inside.replica c.in-Some.replica (sym c.in-Some.ensures.value) c.self.invariant) (c.in_ok-propose.ensures.call, c.in_ok-propose.ensures.uncut)
 
 pub returns-clause-call : goal.returns-clause-call
-returns-clause-call c = propose_call (kept c.in-Some.replica) (kept c.propose.new.self) c.args.self.now c.args.entry c.args.out.now.items c.propose.new.out.items (now_is c.self.inside.replica c.in-Some.replica c.args.self.now (sym c.in-Some.ensures.value) c.self.view_is) c.in_ok-propose.ensures
+returns-clause-call c = propose_call (kept c.in-Some.replica) (kept c.propose.new.self) c.args.self.now c.args.entry c.args.out.now.items c.propose.new.out.items (now_is c.self.inside.replica c.in-Some.replica c.args.self.now (sym c.in-Some.ensures.value) c.self.view_is) (c.in_ok-propose.ensures.call, c.in_ok-propose.ensures.uncut)
 
 pub returns-clause-falls : goal.returns-clause-falls
-returns-clause-falls c = propose_falls (kept c.in-Some.replica) (kept c.propose.new.self) c.args.self.now c.args.entry c.args.out.now.items c.propose.new.out.items (now_is c.self.inside.replica c.in-Some.replica c.args.self.now (sym c.in-Some.ensures.value) c.self.view_is) (led_as c.self.inside.replica c.in-Some.replica (sym c.in-Some.ensures.value) c.self.invariant) c.in_ok-propose.ensures c.requires
+returns-clause-falls c = propose_falls (kept c.in-Some.replica) (kept c.propose.new.self) c.args.self.now c.args.entry c.args.out.now.items c.propose.new.out.items (now_is c.self.inside.replica c.in-Some.replica c.args.self.now (sym c.in-Some.ensures.value) c.self.view_is) (led_as c.self.inside.replica c.in-Some.replica (sym c.in-Some.ensures.value) c.self.invariant) (c.in_ok-propose.ensures.call, c.in_ok-propose.ensures.uncut) c.requires
 
 pub returns-clause-same : goal.returns-clause-same
-returns-clause-same c = propose_same (kept c.in-Some.replica) (kept c.propose.new.self) c.args.self.now c.args.entry c.args.out.now.items c.propose.new.out.items (now_is c.self.inside.replica c.in-Some.replica c.args.self.now (sym c.in-Some.ensures.value) c.self.view_is) (led_as c.self.inside.replica c.in-Some.replica (sym c.in-Some.ensures.value) c.self.invariant) c.in_ok-propose.ensures
+returns-clause-same c = propose_same (kept c.in-Some.replica) (kept c.propose.new.self) c.args.self.now c.args.entry c.args.out.now.items c.propose.new.out.items (now_is c.self.inside.replica c.in-Some.replica c.args.self.now (sym c.in-Some.ensures.value) c.self.view_is) (led_as c.self.inside.replica c.in-Some.replica (sym c.in-Some.ensures.value) c.self.invariant) (c.in_ok-propose.ensures.call, c.in_ok-propose.ensures.uncut)

@@ -9,53 +9,53 @@ use Rattle.cs_node.proofs.Heard.{said-here, as-said}
 use Rattle.cs_node.proofs.engine.Engine.hear.Goals as goal
 
 pub returns-in-Submit-clause-marks : goal.returns-in-Submit-clause-marks
-returns-in-Submit-clause-marks g c = λ net genesis h seated.
+returns-in-Submit-clause-marks g c = λ net genesis log h seated.
     let core = c.args.self.now in
     let approves = g.J.Judge.is_approved core.judge in
     let setup = deployed core.sbac.config genesis approves in
     let site = site_at g.O.Order.rules g.O.Carried.carrier net core.sbac genesis approves in
-    let v = view_at core.sbac h in
-    said-here g.O.Order.stands g.J.Judge.is_approved g.O.Order.rules g.O.Carried.carrier net core genesis h c.args.draft.now c.submit.new.draft seated (submit_signs setup core.sbac.me.shard (bench_of core.sbac) c.args.sender c.in-Submit.session) (message_marks site v c.args.sender c.args.message) c.submit.new.sbac
-    (ap (message_marks site v c.args.sender) c.in-Submit.is) (c.in_ok-submit-in-Submit.ensures.made genesis) c.in_ok-submit-in-Submit.ensures.config c.in_ok-submit-in-Submit.ensures.me
+    let v = view_at log core.sbac h in
+    said-here g.O.Order.stands g.J.Judge.is_approved g.O.Order.rules g.O.Carried.carrier net core genesis log h c.args.draft.now c.submit.new.draft seated (submit_signs setup core.sbac.me.shard (bench_of log core.sbac) c.args.sender c.in-Submit.session) (message_marks site v c.args.sender c.args.message) c.submit.new.sbac
+    (ap (message_marks site v c.args.sender) c.in-Submit.is) (c.in_ok-submit-in-Submit.ensures.made genesis log seated.kept_is) c.in_ok-submit-in-Submit.ensures.config c.in_ok-submit-in-Submit.ensures.me
 
 pub returns-in-Voted-clause-marks : goal.returns-in-Voted-clause-marks
-returns-in-Voted-clause-marks g c = λ net genesis h seated.
+returns-in-Voted-clause-marks g c = λ net genesis log h seated.
     let core = c.args.self.now in
     let approves = g.J.Judge.is_approved core.judge in
     let setup = deployed core.sbac.config genesis approves in
     let site = site_at g.O.Order.rules g.O.Carried.carrier net core.sbac genesis approves in
-    let v = view_at core.sbac h in
-    said-here g.O.Order.stands g.J.Judge.is_approved g.O.Order.rules g.O.Carried.carrier net core genesis h c.args.draft.now c.hear_vote.new.draft seated (voted_signs setup core.sbac.me.shard (bench_of core.sbac) c.args.sender c.in-Voted.vote c.in-Voted.asks c.in-Voted.session) (message_marks site v c.args.sender c.args.message) c.hear_vote.new.sbac
-    (ap (message_marks site v c.args.sender) c.in-Voted.is) (c.in_ok-hear_vote-in-Voted.ensures.made genesis) c.in_ok-hear_vote-in-Voted.ensures.config c.in_ok-hear_vote-in-Voted.ensures.me
+    let v = view_at log core.sbac h in
+    said-here g.O.Order.stands g.J.Judge.is_approved g.O.Order.rules g.O.Carried.carrier net core genesis log h c.args.draft.now c.hear_vote.new.draft seated (voted_signs setup core.sbac.me.shard (bench_of log core.sbac) c.args.sender c.in-Voted.vote c.in-Voted.asks c.in-Voted.session) (message_marks site v c.args.sender c.args.message) c.hear_vote.new.sbac
+    (ap (message_marks site v c.args.sender) c.in-Voted.is) (c.in_ok-hear_vote-in-Voted.ensures.made genesis log seated.kept_is) c.in_ok-hear_vote-in-Voted.ensures.config c.in_ok-hear_vote-in-Voted.ensures.me
 
 pub returns-in-Ask-clause-marks : goal.returns-in-Ask-clause-marks
-returns-in-Ask-clause-marks g c = λ net genesis h seated.
+returns-in-Ask-clause-marks g c = λ net genesis log h seated.
     let core = c.args.self.now in
     let approves = g.J.Judge.is_approved core.judge in
     let setup = deployed core.sbac.config genesis approves in
     let site = site_at g.O.Order.rules g.O.Carried.carrier net core.sbac genesis approves in
-    let v = view_at core.sbac h in
-    said-here g.O.Order.stands g.J.Judge.is_approved g.O.Order.rules g.O.Carried.carrier net core genesis h c.args.draft.now c.ask.new.draft seated (ask_signs setup core.sbac.me.shard (bench_of core.sbac) c.args.sender c.in-Ask.key) (message_marks site v c.args.sender c.args.message) core.sbac
-    (ap (message_marks site v c.args.sender) c.in-Ask.is) (c.in_ok-ask-in-Ask.ensures.made approves genesis) refl refl
+    let v = view_at log core.sbac h in
+    said-here g.O.Order.stands g.J.Judge.is_approved g.O.Order.rules g.O.Carried.carrier net core genesis log h c.args.draft.now c.ask.new.draft seated (ask_signs setup core.sbac.me.shard (bench_of log core.sbac) c.args.sender c.in-Ask.key) (message_marks site v c.args.sender c.args.message) core.sbac
+    (ap (message_marks site v c.args.sender) c.in-Ask.is) (c.in_ok-ask-in-Ask.ensures.made approves genesis log seated.kept_is) refl refl
 
 pub returns-in-AskProof-clause-marks : goal.returns-in-AskProof-clause-marks
-returns-in-AskProof-clause-marks g c = λ net genesis h seated.
+returns-in-AskProof-clause-marks g c = λ net genesis log h seated.
     let core = c.args.self.now in
     let approves = g.J.Judge.is_approved core.judge in
     let site = site_at g.O.Order.rules g.O.Carried.carrier net core.sbac genesis approves in
-    let v = view_at core.sbac h in
-    said-here g.O.Order.stands g.J.Judge.is_approved g.O.Order.rules g.O.Carried.carrier net core genesis h c.args.draft.now c.ask_proof.new.draft seated (ask_proof_signs (bench_of core.sbac) c.args.sender c.in-AskProof.slot) (message_marks site v c.args.sender c.args.message) core.sbac
-    (ap (message_marks site v c.args.sender) c.in-AskProof.is) (c.in_ok-ask_proof-in-AskProof.ensures.made approves genesis) refl refl
+    let v = view_at log core.sbac h in
+    said-here g.O.Order.stands g.J.Judge.is_approved g.O.Order.rules g.O.Carried.carrier net core genesis log h c.args.draft.now c.ask_proof.new.draft seated (ask_proof_signs (bench_of log core.sbac) c.args.sender c.in-AskProof.slot) (message_marks site v c.args.sender c.args.message) core.sbac
+    (ap (message_marks site v c.args.sender) c.in-AskProof.is) (c.in_ok-ask_proof-in-AskProof.ensures.made approves genesis log seated.kept_is) refl refl
 
 pub returns-in-Head-clause-marks : goal.returns-in-Head-clause-marks
-returns-in-Head-clause-marks g c = λ net genesis h seated.
+returns-in-Head-clause-marks g c = λ net genesis log h seated.
     let core = c.args.self.now in
     let approves = g.J.Judge.is_approved core.judge in
     let setup = deployed core.sbac.config genesis approves in
     let site = site_at g.O.Order.rules g.O.Carried.carrier net core.sbac genesis approves in
-    let v = view_at core.sbac h in
-    said-here g.O.Order.stands g.J.Judge.is_approved g.O.Order.rules g.O.Carried.carrier net core genesis h c.args.draft.now c.hear_head.new.draft seated (head_signs setup core.sbac.me (bench_of core.sbac) c.args.sender c.in-Head.checkpoint) (message_marks site v c.args.sender c.args.message) c.hear_head.new.sbac
-    (ap (message_marks site v c.args.sender) c.in-Head.is) (c.in_ok-hear_head-in-Head.ensures.made approves genesis) c.in_ok-hear_head-in-Head.ensures.config c.in_ok-hear_head-in-Head.ensures.me
+    let v = view_at log core.sbac h in
+    said-here g.O.Order.stands g.J.Judge.is_approved g.O.Order.rules g.O.Carried.carrier net core genesis log h c.args.draft.now c.hear_head.new.draft seated (head_signs setup core.sbac.me (bench_of log core.sbac) c.args.sender c.in-Head.checkpoint) (message_marks site v c.args.sender c.args.message) c.hear_head.new.sbac
+    (ap (message_marks site v c.args.sender) c.in-Head.is) (c.in_ok-hear_head-in-Head.ensures.made approves genesis log seated.kept_is) c.in_ok-hear_head-in-Head.ensures.config c.in_ok-hear_head-in-Head.ensures.me
 
 pub returns-in-Want-clause-marks : goal.returns-in-Want-clause-marks
 returns-in-Want-clause-marks g c =

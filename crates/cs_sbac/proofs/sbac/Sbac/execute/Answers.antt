@@ -38,20 +38,20 @@ invariant_of-self-2 c =
     }
 
 pub returns-then-not-fit : goal.returns-then-not-fit
-returns-then-not-fit c genesis approves =
+returns-then-not-fit c genesis approves log =
     let whole : c.self.inside.is_whole ≡ true = search rules in
     let unfit : c.in_ok-fit.fit ≡ false = search rules in
-    let Does : Held → Type 0 = λ held. Executes (deployed held.config genesis approves) c.args.entry.now held held (record { effect = Void; voted = None }) in
+    let Does : Held → Type 0 = λ held. Executes (deployed held.config genesis approves) log c.args.entry.now held held (record { effect = Void; voted = None }) in
     subst Does c.self.view_is
-    (executes-nothing c.self.inside.config c.self.inside.me c.self.inside.table (c.self.invariant.placed whole) genesis approves c.root_is_shown.ensures.keys c.self.inside.archive c.args.entry.now c.self.inside.pool.sessions
+    (executes-nothing c.self.inside.config c.self.inside.me c.self.inside.table (c.self.invariant.placed whole) genesis approves c.root_is_shown.ensures.keys c.self.inside.archive log c.args.entry.now c.self.inside.pool.sessions
     (sym (c.in_ok-fit.ensures.fit genesis approves) ∙ unfit))
 
 pub returns : goal.returns
-returns c genesis approves =
+returns c genesis approves log =
     let whole : c.self.inside.is_whole ≡ true = search rules in
     let fit : c.in_ok-fit.fit ≡ true = search rules in
     let after : Held = record { config = c.self.inside.config; me = c.self.inside.me; table = c.run.new.table; pool = c.run.new.pool.sessions; archived = c.self.inside.archive } in
-    let Does : Held → Type 0 = λ held. Executes (deployed held.config genesis approves) c.args.entry.now held after c.in_ok-outcome.outcome in
+    let Does : Held → Type 0 = λ held. Executes (deployed held.config genesis approves) log c.args.entry.now held after c.in_ok-outcome.outcome in
     subst Does c.self.view_is
-    (executes c.self.inside.config c.self.inside.me c.self.inside.table (c.self.invariant.placed whole) genesis approves c.root_is_shown.ensures.keys c.self.inside.archive c.args.entry.now c.run.new.table c.self.inside.pool.sessions c.run.new.pool.sessions c.in_ok-outcome.outcome
+    (executes c.self.inside.config c.self.inside.me c.self.inside.table (c.self.invariant.placed whole) genesis approves c.root_is_shown.ensures.keys c.self.inside.archive log c.args.entry.now c.run.new.table c.self.inside.pool.sessions c.run.new.pool.sessions c.in_ok-outcome.outcome
     (sym (c.in_ok-fit.ensures.fit genesis approves) ∙ fit) c.root_is_shown-2.ensures.keys (c.in_ok-outcome.ensures.runs approves))
