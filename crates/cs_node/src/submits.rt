@@ -3,6 +3,7 @@ ghost use Rattle.std.specs.Prelude.{◌≡◌, OnOk};
 ghost use Rattle.cs_tx_form.specs.Session.{SessionFits};
 ghost use Rattle.cs_tx.specs.Digest.{digest_of_session};
 ghost use Rattle.cs_node_rules.specs.Signs.{entering_signs, submit_signs};
+ghost use Rattle.cs_sbac.specs.Held.{IsFit};
 ghost use Rattle.cs_node.specs.Notes.{DraftFits};
 ghost use Rattle.cs_node.specs.Signing.{Does};
 
@@ -24,6 +25,7 @@ fn enter<J: Judge>(
     digest: Digest,
 ) -> Result<(), Memory>
     requires fits { SessionFits session }
+    requires formed { IsFit sbac.old session }
     requires named { digest ≡ digest_of_session session }
     ensures made { Does (J.is_approved judge.now) sbac.old sbac.new draft.old draft.new result
         (λ setup b. entering_signs setup b session) }
@@ -62,10 +64,10 @@ pub fn submit<J: Judge>(
     if !sender.is_client() {
         return draft.drop_it(Cause::Role);
     }
-    if !sbac.is_fit(alloc, &session)? {
+    let digest = session_digest(alloc, &session)?;
+    if !sbac.is_fit_named(alloc, &session, &digest)? {
         return draft.drop_it(Cause::Malformed);
     }
-    let digest = session_digest(alloc, &session)?;
     match sbac.decided(alloc, &session, &digest)? {
         Some(accepted) => {
             let session = digest;

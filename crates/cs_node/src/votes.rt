@@ -7,6 +7,7 @@ ghost use Rattle.cs_node_state.specs.Setup.{is_approved};
 ghost use Rattle.cs_node_state.specs.Pool.{found, has_room};
 ghost use Rattle.cs_node_state.specs.Bench.{noted};
 ghost use Rattle.cs_node_rules.specs.Signs.{Took, Entered as Enters, guarded, asking_signs, voted_signs};
+ghost use Rattle.cs_sbac.specs.Held.{IsFit};
 ghost use Rattle.cs_node.specs.Notes.{DraftFits};
 ghost use Rattle.cs_node.specs.Signing.{Does};
 
@@ -30,6 +31,7 @@ fn enter_voted<J: Judge>(
     digest: Digest,
 ) -> Result<(), Memory>
     requires fits { SessionFits session }
+    requires formed { IsFit sbac.old session }
     requires named { digest ≡ digest_of_session session }
     requires new { found (digest_of_session session) sbac.old.pool ≡ None }
     ensures made { Does (J.is_approved judge.now) sbac.old sbac.new draft.old draft.new result
@@ -61,6 +63,7 @@ fn answer_vote<J: Judge>(
     digest: Digest,
 ) -> Result<(), Memory>
     requires fits { SessionFits session }
+    requires formed { IsFit sbac.old session }
     requires named { digest ≡ digest_of_session session }
     requires new { found (digest_of_session session) sbac.old.pool ≡ None }
     ensures made { Does (J.is_approved judge.now) sbac.old sbac.new draft.old draft.new result
@@ -106,13 +109,13 @@ pub fn hear_vote<J: Judge>(
     if ballot.sender.is_client() {
         return draft.drop_it(Cause::Role);
     }
-    if !sbac.is_fit(alloc, &session)? {
+    let digest = session_digest(alloc, &session)?;
+    if !sbac.is_fit_named(alloc, &session, &digest)? {
         return draft.drop_it(Cause::Malformed);
     }
     if !sbac.concerns(&session, ballot.sender.shard) {
         return draft.drop_it(Cause::Role);
     }
-    let digest = session_digest(alloc, &session)?;
     match sbac.vote(ballot.sender, &digest, ballot.vote)? {
         Counted::Counted => Ok(()),
         Counted::Repeat => draft.drop_it(Cause::Repeat),

@@ -6,9 +6,10 @@ ghost use Rattle.cs_tx_form.specs.Session.{EntryFits};
 ghost use Rattle.cs_node_rules.specs.Deployment.{proposed_of, bare_trace, no_session};
 ghost use Rattle.cs_node_carried.specs.Proposals.{entry_read, entry_spelled};
 
-use cs_base::{Memory, Sequence, Writer};
+use cs_base::{MOST_ENTRY, Memory, Sequence, Writer};
+use cs_hash::tagged;
 use cs_order::Proposed;
-use cs_tx::{Encoded, Entry, FormError, Name, Session, Trace, Tx, entry_digest};
+use cs_tx::{Encoded, Entry, FormError, Name, Session, Trace, Tx};
 use std::alloc::Global;
 
 /// The value that all of the bytes encode, if they encode one.
@@ -64,15 +65,17 @@ pub fn void_entry(alloc: Global) -> Result<Entry, Memory>
     }))
 }
 
-/// An entry with its digest, to be proposed.
+/// An entry with its digest, to be proposed. It is encoded once, and the bytes are hashed.
 pub fn propose_entry(alloc: Global, entry: &Entry) -> Result<Proposed, Memory>
     requires { EntryFits entry.now }
     ensures { IfOk result (λ proposed. proposed ≡ proposed_of entry.now) }
 {
-    let mut out = Writer::new(alloc);
+    let left = entry.room(MOST_ENTRY).unwrap_or(0);
+    let mut out = Writer::with_room(alloc, MOST_ENTRY.saturating_sub(left))?;
     entry.encode(&mut out)?;
+    let bytes = out.into_bytes();
     Ok(Proposed {
-        digest: entry_digest(alloc, entry)?,
-        bytes: Sequence::from_vec(out.into_bytes()),
+        digest: tagged(b'E', &bytes),
+        bytes: Sequence::from_vec(bytes),
     })
 }

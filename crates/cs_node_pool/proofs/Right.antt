@@ -1,14 +1,17 @@
 -- What is said of each seat stays so with each change.
-use Rattle.std.proofs.Common.{◌≡◌, ℕ, zero, suc, true, false, cond, [], ◌∷◌, ◌++◌, Option, Some, None, is_some, refl, ap, sym, subst, ◌∙◌}
+use Rattle.std.proofs.Common.{◌≡◌, ℕ, zero, suc, true, false, cond, [], ◌∷◌, ◌++◌, Option, Some, None, is_some, IfSome, refl, ap, sym, subst, ◌∙◌}
 use Rattle.indexmap.specs.IndexMap.{set_value_at}
 use Rattle.cs_base.specs.declared.config.Config.{Config}
 use Rattle.cs_ledger.specs.Ledger.{Bytes}
+use Rattle.cs_tx_form.specs.declared.session.Session.{Session}
 use Rattle.cs_tx_form.specs.Session.{SessionFits}
 use Rattle.cs_tx.specs.Uses.{concerned_shards}
+use Rattle.cs_tx.specs.Digest.{digest_of_session}
+use Rattle.cs_tx.specs.WellFormed.{IsWellFormed}
 use Rattle.cs_node_state.specs.declared.pooled.Pooled.{Pooled}
 use Rattle.cs_node_pool.specs.Fits.{PoolFits}
 use Rattle.cs_node_pool.specs.declared.seat.Seat.{Seat}
-use Rattle.cs_node_pool.specs.Seats.{Seats, with_place, seated, place_at, closed, reseated, IsRight, IsRightIn, AllRight}
+use Rattle.cs_node_pool.specs.Seats.{Seats, with_place, seated, place_at, closed, reseated, IsKnown, IsRight, IsRightIn, AllRight}
 
 module _ (config : Config) where
   pub right-at : (seats : Seats) (n : ℕ) → AllRight config seats → IsRightIn config (place_at n seats)
@@ -35,6 +38,7 @@ module _ (config : Config) where
   pub right-changed : (change : Pooled → Pooled) → ((p : Pooled) → (change p).session ≡ p.session) → (place : Option Seat) → IsRightIn config place → IsRightIn config (reseated config.f change place)
   right-changed change same None right = tt
   right-changed change same (Some seat) right = record {
+    known = subst (λ x. IsKnown config x seat.digest) (sym (same seat.pooled)) right.known;
     shards = right.shards ∙ ap (concerned_shards config) (sym (same seat.pooled));
     due = refl;
     fits = subst SessionFits (sym (same seat.pooled)) right.fits;
@@ -60,3 +64,14 @@ fits-at (e ∷ seats) zero seat fits at = here (subst (λ place. PoolFits (with_
     here : PoolFits (with_place e.0 (Some seat) (seated seats)) → SessionFits seat.pooled.session
     here h = h.0
 fits-at (e ∷ seats) (suc n) seat fits at = fits-at seats n seat (fits-there e.0 e.1 seats fits) at
+
+-- ---- a session that the pool knows, or not
+
+module _ (config : Config) (x : Session) where
+  pub known-formed : (known : Option Bytes) → IfSome known (IsKnown config x) → is_some known ≡ true → IsWellFormed config x
+  known-formed (Some d) is there = is.formed
+  known-formed None is there = let q : false ≡ true = there in cc
+
+  pub known-named : (known : Option Bytes) → IfSome known (IsKnown config x) → IfSome known (λ d. d ≡ digest_of_session x)
+  known-named (Some d) is = is.named
+  known-named None is = tt

@@ -7,9 +7,12 @@ use Rattle.std.specs.BTreeSet.{BTreeSet, contains}
 use Rattle.std.specs.BTreeSet as set
 use Rattle.indexmap.specs.IndexMap.{IsUnique}
 use Rattle.cs_base.specs.declared.config.Config.{Config}
+use Rattle.cs_tx_form.specs.declared.session.Session.{Session}
 use Rattle.cs_tx_form.specs.Session.{SessionFits}
 use Rattle.cs_ledger.specs.Ledger.{Bytes}
 use Rattle.cs_tx.specs.Uses.{concerned_shards}
+use Rattle.cs_tx.specs.Digest.{digest_of_session}
+use Rattle.cs_tx.specs.WellFormed.{IsWellFormed}
 use Rattle.cs_node_state.specs.declared.pooled.Pooled.{Pooled}
 use Rattle.cs_node_state.specs.Pool.{Pool}
 use Rattle.cs_node_state.specs.Admission.{due_vote}
@@ -87,8 +90,14 @@ pub record Placed (kept : Kept) : Type 0 where
 
 -- ---- what a seat says
 
--- the shards that its session concerns, and the decision that is due on it; and the session is within the limits
+-- a session that is well formed, and its digest
+pub record IsKnown (config : Config) (x : Session) (digest : Bytes) : Type 0 where
+  pub formed : IsWellFormed config x
+  pub named : digest ≡ digest_of_session x
+
+-- its session is known by its digest and within the limits; the shards that it concerns, and the decision that is due on it
 pub record IsRight (config : Config) (seat : Seat) : Type 0 where
+  pub known : IsKnown config seat.pooled.session seat.digest
   pub shards : seat.shards.items ≡ concerned_shards config seat.pooled.session
   pub due : seat.due ≡ due_vote config.f seat.shards.items seat.pooled
   pub fits : SessionFits seat.pooled.session
@@ -109,6 +118,7 @@ pub record SoundSeats (config : Config) (kept : Kept) : Type 0 where
 abbrev pub reseated : ℕ → (Pooled → Pooled) → Option Seat → Option Seat
 reseated f change None = None
 reseated f change (Some seat) = Some (record {
+  digest = seat.digest;
   pooled = change seat.pooled;
   shards = seat.shards;
   due = due_vote f seat.shards.items (change seat.pooled);

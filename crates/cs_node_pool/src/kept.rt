@@ -1,19 +1,22 @@
 //! How a pool is kept, so that no call goes over all its sessions.
-ghost use Rattle.std.specs.Prelude.{◌≡◌, ◌++◌, ◌∷◌, [], OnOk, IfOk, None, Some, is_some, option_copied, bytes_eq};
+ghost use Rattle.std.specs.Prelude.{◌≡◌, ◌++◌, ◌∷◌, [], true, OnOk, IfOk, IfSome, None, Some, is_some, option_copied, bytes_eq};
 ghost use Rattle.std.specs.Map.{lookup};
 ghost use Rattle.std.specs.Ordering.{nat_cmp};
 ghost use Rattle.std.specs.BTreeSet.{IsOrdered};
 ghost use Rattle.cs_base.specs.declared.config.Config.{Config};
 ghost use Rattle.cs_tx.specs.Uses.{concerned_shards};
+ghost use Rattle.cs_tx.specs.Digest.{digest_of_session};
+ghost use Rattle.cs_tx.specs.WellFormed.{IsWellFormed};
 ghost use Rattle.cs_tx_form.specs.Session.{SessionFits};
 ghost use Rattle.cs_node_state.specs.Pool.{found, without, changed, as_locked, with_ballot, waiting_count};
 ghost use Rattle.cs_node_state.specs.Admission.{first_decided, first_waiting, due};
 ghost use Rattle.cs_node_pool.specs.Deployed.{AtAnySetup};
 ghost use Rattle.cs_node_pool.specs.Fits.{PoolFits, AllFit, DueFits};
 ghost use Rattle.cs_node_pool.specs.Calls.{counted_in, locked_in};
-ghost use Rattle.cs_node_pool.specs.Seats.{Placed, SoundSeats, AllRight, IsPicked, IsMarked, waits, is_due, place_at, closed, pool_in};
+ghost use Rattle.cs_node_pool.specs.Seats.{Placed, SoundSeats, AllRight, IsKnown, IsPicked, IsMarked, waits, is_due, place_at, closed, pool_in};
 
 use crate::answers::Counted;
+use crate::same::same_session;
 use crate::seat::{Seat, is_due, lock, take_vote, waits};
 use cs_base::{Config, Memory};
 use cs_node_state::{Ballot, Pooled};
@@ -107,6 +110,53 @@ impl Kept {
         }
     }
 
+    /// The digest of a session, where exactly that one has this place.
+    fn known_at(&self, index: usize, session: &Session) -> Option<Digest>
+        ensures { (config : Config) → AllRight config self.now.seats.entries →
+            IfSome result (IsKnown config session.now) }
+    {
+        let Some(seat) = self.seat_at(index) else {
+            return None;
+        };
+        if !same_session(&seat.pooled.session, session) {
+            return None;
+        }
+        Some(seat.digest)
+    }
+
+    fn known_of(&self, index: Option<&usize>, session: &Session) -> Option<Digest>
+        ensures { (config : Config) → AllRight config self.now.seats.entries →
+            IfSome result (IsKnown config session.now) }
+    {
+        match index {
+            Some(index) => self.known_at(*index, session),
+            None => None,
+        }
+    }
+
+    /// The digest of a session that is the next one to be decided or voted on: it is compared with
+    /// these two alone. Nothing is hashed.
+    pub fn known(&self, session: &Session) -> Option<Digest>
+        ensures { (config : Config) → AllRight config self.now.seats.entries →
+            IfSome result (IsKnown config session.now) }
+    {
+        match self.known_of(self.ready.first(), session) {
+            Some(digest) => Some(digest),
+            None => self.known_of(self.waiting.first(), session),
+        }
+    }
+
+    /// Whether exactly this session is there under a digest: then it is well formed.
+    pub fn holds(&self, digest: &Digest, session: &Session) -> bool
+        ensures { (config : Config) → AllRight config self.now.seats.entries →
+            result ≡ true → IsWellFormed config session.now }
+    {
+        let Some(index) = self.seats.get_index_of(digest) else {
+            return false;
+        };
+        self.known_at(index, session).is_some()
+    }
+
     /// Closes the gaps: the sessions move up, in their order.
     fn close(&mut self) -> Result<(), Memory>
         requires { Placed self.old }
@@ -166,12 +216,14 @@ impl Kept {
     ) -> Result<(), Memory>
         requires sound { SoundSeats config.now self.old }
         requires new { found digest (pool_in self.old) ≡ None }
+        requires formed { IsWellFormed config.now pooled.session }
+        requires named { digest ≡ digest_of_session pooled.session }
         requires concerned { shards.items ≡ concerned_shards config.now pooled.session }
         requires fits { SessionFits pooled.session }
         ensures sound { OnOk result (SoundSeats config.now self.new) }
         ensures pool { OnOk result (pool_in self.new ≡ pool_in self.old ++ (digest, pooled) ∷ []) }
     {
-        let seat = Seat::new(config, pooled, shards);
+        let seat = Seat::new(config, digest, pooled, shards);
         self.make_way(&digest)?;
         self.add(digest, seat)?;
         Ok(())

@@ -4,6 +4,7 @@
 mod answers;
 mod kept;
 mod pool;
+mod same;
 mod seat;
 mod votes;
 

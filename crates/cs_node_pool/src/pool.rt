@@ -1,12 +1,15 @@
 //! The pool: sessions under their digests, in the order of entering.
-ghost use Rattle.std.specs.Prelude.{◌≡◌, ◌++◌, ◌∷◌, [], OnOk, IfOk, None, option_copied};
+ghost use Rattle.std.specs.Prelude.{◌≡◌, ◌++◌, ◌∷◌, [], true, OnOk, IfOk, IfSome, None, option_copied};
 ghost use Rattle.cs_tx.specs.Uses.{concerned_shards};
+ghost use Rattle.cs_tx.specs.Digest.{digest_of_session};
+ghost use Rattle.cs_tx.specs.WellFormed.{IsWellFormed};
 ghost use Rattle.cs_tx_form.specs.Session.{SessionFits};
 ghost use Rattle.cs_node_state.specs.Pool.{found, is_pooled, without, changed, as_locked, with_ballot, waiting_count};
 ghost use Rattle.cs_node_state.specs.Admission.{due};
 ghost use Rattle.cs_node_pool.specs.Deployed.{AtAnySetup};
 ghost use Rattle.cs_node_pool.specs.Fits.{DueFits, AllFit};
 ghost use Rattle.cs_node_pool.specs.Calls.{counted_in, locked_in};
+ghost use Rattle.cs_node_pool.specs.Seats.{IsKnown};
 
 use crate::answers::Counted;
 use crate::kept::Kept;
@@ -92,9 +95,34 @@ impl Pool {
         Ok(self.kept.waiting())
     }
 
-    /// Adds a session at the end, which concerns these shards.
+    /// The digest of a session that is the next one to be decided or voted on, for which nothing is
+    /// hashed. Of other sessions it says nothing.
+    pub fn known(&self, session: &Session) -> Result<Option<Digest>, Memory>
+        ensures { IfOk result (λ found. IfSome found (IsKnown self.now.config session.now)) }
+    {
+        if !self.is_whole {
+            return Err(Memory);
+        }
+        Ok(self.kept.known(session))
+    }
+
+    /// Whether exactly this session is there under a digest: then it is well formed, for which
+    /// nothing is hashed.
+    pub fn holds(&self, digest: &Digest, session: &Session) -> Result<bool, Memory>
+        ensures { IfOk result (λ holds. holds ≡ true →
+            IsWellFormed self.now.config session.now) }
+    {
+        if !self.is_whole {
+            return Err(Memory);
+        }
+        Ok(self.kept.holds(digest, session))
+    }
+
+    /// Adds a well-formed session at the end under its digest, which concerns these shards.
     pub fn push(&mut self, digest: Digest, pooled: Pooled, shards: Vec<u16>) -> Result<(), Memory>
         requires new { found digest self.old.sessions ≡ None }
+        requires formed { IsWellFormed self.old.config pooled.session }
+        requires named { digest ≡ digest_of_session pooled.session }
         requires concerned { shards.items ≡ concerned_shards self.old.config pooled.session }
         requires fits { SessionFits pooled.session }
         ensures sessions { OnOk result (self.new.sessions

@@ -1,6 +1,8 @@
 //! The seat of a session, and what is done at its place.
 ghost use Rattle.std.specs.Prelude.{◌≡◌, OnOk, IfOk};
 ghost use Rattle.cs_tx.specs.Uses.{concerned_shards};
+ghost use Rattle.cs_tx.specs.Digest.{digest_of_session};
+ghost use Rattle.cs_tx.specs.WellFormed.{IsWellFormed};
 ghost use Rattle.cs_tx_form.specs.Session.{SessionFits};
 ghost use Rattle.cs_node_state.specs.Pool.{as_locked, with_ballot};
 ghost use Rattle.cs_node_pool.specs.Calls.{counted_in};
@@ -10,12 +12,13 @@ use crate::answers::Counted;
 use crate::votes::{has_voted, vote_due};
 use cs_base::{Config, Memory};
 use cs_node_state::{Ballot, Pooled};
-use cs_tx::Vote;
+use cs_tx::{Digest, Vote};
 
-/// A session of the pool, the shards that it concerns, which take hashing to find, and the
-/// decision that is due on it.
+/// A well-formed session of the pool, its digest and the shards that it concerns, which take
+/// hashing to find, and the decision that is due on it.
 #[derive(Drop)]
 pub struct Seat {
+    pub digest: Digest,
     pub pooled: Pooled,
     pub shards: Vec<u16>,
     pub due: Option<Vote>,
@@ -23,7 +26,9 @@ pub struct Seat {
 
 impl Seat {
     /// The seat of a session that concerns these shards.
-    pub fn new(config: &Config, pooled: Pooled, shards: Vec<u16>) -> Seat
+    pub fn new(config: &Config, digest: Digest, pooled: Pooled, shards: Vec<u16>) -> Seat
+        requires formed { IsWellFormed config.now pooled.session }
+        requires named { digest ≡ digest_of_session pooled.session }
         requires concerned { shards.items ≡ concerned_shards config.now pooled.session }
         requires fits { SessionFits pooled.session }
         ensures pooled { result.pooled ≡ pooled }
@@ -31,6 +36,7 @@ impl Seat {
     {
         let due = vote_due(config.f, shards.as_slice(), &pooled);
         Seat {
+            digest,
             pooled,
             shards,
             due,

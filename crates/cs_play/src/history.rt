@@ -1,7 +1,7 @@
 //! The history, kept from the executions as they come.
 ghost use Rattle.std.specs.Prelude.{◌≡◌, ◌<◌, ◌==◌, [], IfOk, OnOk, List, replicate};
 ghost use Rattle.cs_tx_form.specs.Session.{SessionFits, EntryFits};
-ghost use Rattle.cs_node_state.specs.Setup.{Setup};
+ghost use Rattle.cs_node_state.specs.Setup.{Setup, session_in};
 ghost use Rattle.cs_node_rules.specs.Aborts.{with_digest};
 ghost use Rattle.cs_node_rules.specs.World.{Execution, first_of};
 ghost use Rattle.cs_node_rules.specs.Signs.{Did};
@@ -13,7 +13,7 @@ ghost use Rattle.cs_play.specs.Kept.{KeepsHistory, IsBeforeFirst, is_commit, all
 
 use cs_base::{Config, Memory};
 use cs_node::Effect;
-use cs_tx::{Digest, Entry, Session, Vote, concerned, session_digest, tx_digest};
+use cs_tx::{Digest, Entry, Session, Vote, concerned, tx_digest};
 use indexmap::IndexSet;
 use std::alloc::Global;
 use std::marker::Model;
@@ -81,17 +81,19 @@ impl History {
         self.aborted.as_slice()
     }
 
-    /// Adds the execution of an entry at a node of the shard. Nothing is added to the history of a
-    /// shard that the configuration doesn't have.
+    /// Adds the execution of an entry, whose session has this digest, at a node of the shard. Nothing
+    /// is added to the history of a shard that the configuration doesn't have.
     pub fn execute(
         &mut self,
         alloc: Global,
         shard: u16,
         slot: u64,
         entry: &Entry,
+        digest: &Digest,
         effect: Effect,
     ) -> Result<(), Memory>
         requires fits { EntryFits entry.now }
+        requires named { digest.now ≡ digest_of_session (session_in entry.now) }
         ensures kept { (setup : Setup) (firsts : List Execution)
             → shard < self.old.config.shards → KeepsHistory setup firsts self.old
             → OnOk result (KeepsHistory setup
@@ -100,32 +102,30 @@ impl History {
             ≡ with_abort entry.now (effect_of effect) self.old.aborted) }
         ensures config { OnOk result (self.new.config ≡ self.old.config) }
     {
-        self.enter(alloc, shard, slot, entry, effect)?;
-        self.note_abort(alloc, entry, effect)
+        self.enter(alloc, shard, slot, entry, digest, effect)?;
+        self.note_abort(entry, digest, effect)
     }
 
     // The session of an execution that decides abort on it.
-    fn note_abort(&mut self, alloc: Global, entry: &Entry, effect: Effect) -> Result<(), Memory>
-        requires fits { EntryFits entry.now }
+    fn note_abort(&mut self, entry: &Entry, digest: &Digest, effect: Effect) -> Result<(), Memory>
+        requires { digest.now ≡ digest_of_session (session_in entry.now) }
         ensures { OnOk result (self.new ≡ record self.old {
           aborted = with_abort entry.now (effect_of effect) self.old.aborted;
         }) }
     {
         match (entry, effect) {
-            (Entry::Prepare(session), Effect::Voted(Vote::Abort)) => self.abort(alloc, session),
-            (Entry::Decide(_, session), Effect::Aborted) => self.abort(alloc, session),
+            (Entry::Prepare(_), Effect::Voted(Vote::Abort)) => self.abort(digest),
+            (Entry::Decide(_, _), Effect::Aborted) => self.abort(digest),
             _ => Ok(()),
         }
     }
 
-    fn abort(&mut self, alloc: Global, session: &Session) -> Result<(), Memory>
-        requires { SessionFits session.now }
+    fn abort(&mut self, digest: &Digest) -> Result<(), Memory>
         ensures { OnOk result (self.new ≡ record self.old {
-          aborted = with_digest (digest_of_session session.now) self.old.aborted;
+          aborted = with_digest digest.now self.old.aborted;
         }) }
     {
-        let digest = session_digest(alloc, session)?;
-        self.aborted.insert(digest)?;
+        self.aborted.insert(*digest)?;
         Ok(())
     }
 
@@ -135,9 +135,11 @@ impl History {
         shard: u16,
         slot: u64,
         entry: &Entry,
+        digest: &Digest,
         effect: Effect,
     ) -> Result<(), Memory>
         requires fits { EntryFits entry.now }
+        requires named { digest.now ≡ digest_of_session (session_in entry.now) }
         ensures kept { shard < self.old.config.shards
             → OnOk result (self.new ≡ kept_after self.old shard slot entry.now (effect_of effect)) }
         ensures aborted { OnOk result (self.new.aborted ≡ self.old.aborted) }
@@ -152,7 +154,7 @@ impl History {
             return Ok(());
         }
         self.slots[place] = known + 1;
-        self.note(alloc, shard, entry, effect)
+        self.note(alloc, shard, entry, digest, effect)
     }
 
     // What a new execution gives: a vote on a session. What is void gives nothing.
@@ -161,14 +163,16 @@ impl History {
         alloc: Global,
         shard: u16,
         entry: &Entry,
+        digest: &Digest,
         effect: Effect,
     ) -> Result<(), Memory>
         requires fits { EntryFits entry.now }
+        requires named { digest.now ≡ digest_of_session (session_in entry.now) }
         ensures { OnOk result (self.new ≡ executed self.old shard entry.now (effect_of effect)) }
     {
         match (entry, effect) {
             (Entry::Prepare(session), Effect::Voted(vote)) => {
-                self.prepare(alloc, shard, session, vote)
+                self.prepare(alloc, shard, session, *digest, vote)
             }
             _ => Ok(()),
         }
@@ -180,13 +184,14 @@ impl History {
         alloc: Global,
         shard: u16,
         session: &Session,
+        digest: Digest,
         vote: Vote,
     ) -> Result<(), Memory>
-        requires { SessionFits session.now }
+        requires fits { SessionFits session.now }
+        requires digest { digest ≡ digest_of_session session.now }
         ensures { OnOk result (self.new ≡ told_next
             (voted self.old shard (digest_of_session session.now) (vote_of vote)) session.now) }
     {
-        let digest = session_digest(alloc, session)?;
         if vote == Vote::Commit {
             self.commits.insert((shard, digest))?;
         }

@@ -12,7 +12,7 @@ use crate::lines::{at_line, drop_line, sent_line, view_line};
 use crate::parcel::Parcel;
 use cs_base::{Memory, NodeId};
 use cs_node::Note;
-use cs_node_lines::{head_line, slot_line};
+use cs_node_lines::{digest_in, head_line, slot_line};
 use std::alloc::Global;
 
 /// The lines of the notes of a node; those of dropped datagrams and of views in a trace alone. The
@@ -77,8 +77,9 @@ fn tell_note(
             entry,
             effect,
         } => {
-            history.execute(alloc, me.shard, *slot, entry, *effect)?;
-            slot_line(alloc, me, *slot, entry, *effect)
+            let digest = digest_in(alloc, entry)?;
+            history.execute(alloc, me.shard, *slot, entry, &digest, *effect)?;
+            slot_line(alloc, me, *slot, &digest, *effect)
         }
         Note::Headed { number, head } => head_line(alloc, me, *number, head),
     }

@@ -1,5 +1,5 @@
 -- Whether a session is well formed and concerns the shard, as the calls on it and as the setup have it.
-use Rattle.std.proofs.Common.{◌≡◌, ◌↔◌, ℕ, suc, Bool, true, false, ◌&&◌, List, [], ◌∷◌, ◌++◌, Option, Some, None, is_none, is_some, IsNone, refl, ap, sym, ◌∙◌}
+use Rattle.std.proofs.Common.{◌≡◌, ◌↔◌, ℕ, suc, Bool, true, false, ◌&&◌, List, [], ◌∷◌, ◌++◌, Option, Some, None, is_none, is_some, IsNone, IfSome, subst, refl, ap, sym, ◌∙◌}
 use Rattle.std.specs.Prelude.{if◌then◌else◌}
 use Rattle.std.proofs.lemmas.Bool.{and_parts}
 use Rattle.cs_base.specs.declared.config.Config.{Config}
@@ -13,8 +13,12 @@ use Rattle.cs_tx.proofs.TestsSeen.{well_formed-session_of}
 use Rattle.cs_ledger.specs.Session as Seen
 use Rattle.cs_node_state.specs.Setup as Setup
 use Rattle.cs_node_state.specs.Deployed.{rules_of}
+use Rattle.cs_tx.specs.Digest.{digest_of_session}
+use Rattle.cs_ledger.specs.Ledger.{Bytes}
 use Rattle.cs_node_pool.specs.Deployed.{deployed, AtAnySetup}
+use Rattle.cs_node_pool.specs.Seats.{IsKnown}
 use Rattle.cs_node_pool.proofs.Concerned.{concerns-session}
+use Rattle.cs_node_pool.proofs.Right as Right
 
 pub some_anchor : (o : Option Key) (c : Bool) → IsNone o ↔ (c ≡ false) → is_some o ≡ c
 some_anchor (Some k) true h = refl
@@ -46,3 +50,12 @@ pub one-more : (config : Config) (x : Session) (shard : ℕ) (found : Option Key
 one-more config x shard found has shards more anchored is so_far grown =
     let same : has ≡ Uses.concerns config x shard = sym is ∙ some_anchor found (Uses.concerns config x shard) anchored in
     grown ∙ (λ i. so_far i ++ (if same i then shard ∷ [] else []))
+
+-- ---- a session that the pool knows, by its configuration, which is that of the node
+
+module _ (config other : Config) (x : Session) (known : Option Bytes) (same : other ≡ config) (is : IfSome known (IsKnown other x)) where
+  pub known-formed : is_some known ≡ true → IsWellFormed config x
+  known-formed there = subst (λ c. IsWellFormed c x) same (Right.known-formed other x known is there)
+
+  pub known-named : IfSome known (λ d. d ≡ digest_of_session x)
+  known-named = Right.known-named other x known is

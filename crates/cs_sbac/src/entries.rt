@@ -1,10 +1,13 @@
 //! Which entries a node admits, and the execution of one.
-ghost use Rattle.std.specs.Prelude.{◌≡◌, IfOk};
+ghost use Rattle.std.specs.Prelude.{◌≡◌, IfOk, IfSome};
 ghost use Rattle.cs_tx_form.specs.declared.entry.Entry.TheVariants.{Prepare, Decide};
 ghost use Rattle.cs_tx_form.specs.Session.{SessionFits, EntryFits};
 ghost use Rattle.cs_checkpoint.specs.Chain.{Log};
 ghost use Rattle.cs_node_state.specs.Admission.{admits};
+ghost use Rattle.cs_node_state.specs.Setup.{session_in};
+ghost use Rattle.cs_tx.specs.Digest.{digest_of_session};
 ghost use Rattle.cs_node_pool.specs.Deployed.{AtAnySetup, AtAnyGenesis};
+ghost use Rattle.cs_node_pool.specs.Seats.{IsKnown};
 ghost use Rattle.cs_sbac.specs.Calls.{Executes};
 
 use crate::answers::Outcome;
@@ -13,10 +16,46 @@ use crate::sbac::Sbac;
 use crate::setting::{concerned_shards, is_fit, is_fit_entry};
 use cs_base::Memory;
 use cs_check::root_is_shown;
-use cs_node_pool::is_decided;
+use cs_node_pool::{Pool, is_decided};
 use cs_table::Effect;
-use cs_tx::{Entry, Judge, Session, Vote, session_digest};
+use cs_tx::{Digest, Entry, Judge, Session, Vote, session_digest};
 use std::alloc::Global;
+
+/// The digest of the session of an entry, where the pool knows it.
+fn known_in(pool: &Pool, entry: &Entry) -> Result<Option<Digest>, Memory>
+    ensures { IfOk result (λ found.
+        IfSome found (IsKnown pool.now.config (session_in entry.now))) }
+{
+    match entry {
+        Entry::Prepare(session) => pool.known(session),
+        Entry::Decide(_, session) => pool.known(session),
+    }
+}
+
+/// The digest of a session, which is known or found by hashing.
+fn digest_of(alloc: Global, session: &Session, known: Option<Digest>) -> Result<Digest, Memory>
+    requires fits { SessionFits session.now }
+    requires known { IfSome known (λ digest. digest ≡ digest_of_session session.now) }
+    ensures { IfOk result (λ digest. digest ≡ digest_of_session session.now) }
+{
+    match known {
+        Some(digest) => Ok(digest),
+        None => session_digest(alloc, session),
+    }
+}
+
+/// The same of the session of an entry.
+fn digest_in(alloc: Global, entry: &Entry, known: Option<Digest>) -> Result<Digest, Memory>
+    requires fits { EntryFits entry.now }
+    requires known { IfSome known (λ digest.
+        digest ≡ digest_of_session (session_in entry.now)) }
+    ensures { IfOk result (λ digest. digest ≡ digest_of_session (session_in entry.now)) }
+{
+    match entry {
+        Entry::Prepare(session) => digest_of(alloc, session, known),
+        Entry::Decide(_, session) => digest_of(alloc, session, known),
+    }
+}
 
 impl Sbac {
     fn admits_prepare<J: Judge>(
@@ -30,7 +69,8 @@ impl Sbac {
             IfOk result (λ admitted.
             admitted ≡ admits setup self.now.me.shard self.now.pool (Prepare session.now))) }
     {
-        let fit = is_fit(alloc, &self.config, self.me.shard, session)?;
+        let known = self.pool.known(session)?;
+        let fit = is_fit(alloc, &self.config, self.me.shard, session, known.is_some())?;
         if !fit {
             return Ok(false);
         }
@@ -44,11 +84,12 @@ impl Sbac {
             IfOk result (λ admitted.
             admitted ≡ admits setup self.now.me.shard self.now.pool (Decide vote session.now))) }
     {
-        let shards = concerned_shards(alloc, &self.config, session)?;
+        let known = self.pool.known(session)?;
+        let shards = concerned_shards(alloc, &self.config, session, known.is_some())?;
         if !shards.as_slice().contains(&self.me.shard) {
             return Ok(false);
         }
-        let digest = session_digest(alloc, session)?;
+        let digest = digest_of(alloc, session, known)?;
         let pooled = self.pool.get(&digest)?;
         match pooled {
             None => Ok(false),
@@ -86,15 +127,24 @@ impl Sbac {
             return Err(Memory);
         }
         root_is_shown(&self.table);
-        let fit = is_fit_entry(alloc, &self.config, self.me.shard, entry)?;
+        let known = known_in(&self.pool, entry)?;
+        let fit = is_fit_entry(alloc, &self.config, self.me.shard, entry, known.is_some())?;
         if !fit {
             return Ok(Outcome {
                 effect: Effect::Void,
                 voted: None,
             });
         }
+        let digest = digest_in(alloc, entry, known)?;
         self.is_whole = false;
-        let outcome = run(alloc, self.me, &mut self.table, &mut self.pool, entry)?;
+        let outcome = run(
+            alloc,
+            self.me,
+            &mut self.table,
+            &mut self.pool,
+            entry,
+            &digest,
+        )?;
         root_is_shown(&self.table);
         self.is_whole = true;
         Ok(outcome)

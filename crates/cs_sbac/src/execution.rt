@@ -2,6 +2,7 @@
 ghost use Rattle.std.specs.Prelude.{◌≡◌, Bool, true, Some, IsSome, OnOk, IfOk};
 ghost use Rattle.cs_tx_form.specs.declared.transaction.Tx.{Tx};
 ghost use Rattle.cs_tx_form.specs.Session.{SessionFits, EntryFits};
+ghost use Rattle.cs_tx.specs.Digest.{digest_of_session};
 ghost use Rattle.cs_tx.specs.Sessions.{session_of};
 ghost use Rattle.cs_tx.specs.WellFormed.{IsWellFormed};
 ghost use Rattle.cs_table.specs.Seen.{vote_of};
@@ -17,7 +18,7 @@ use cs_base::{Memory, NodeId, Sequence};
 use cs_node_pool::Pool;
 use cs_node_state::{Ballot, Pooled};
 use cs_table::{Effect, Preparation, Table};
-use cs_tx::{Digest, Encoded, Entry, Session, Vote, session_digest};
+use cs_tx::{Digest, Encoded, Entry, Session, Vote};
 use std::alloc::Global;
 
 /// A session as it enters the pool.
@@ -41,6 +42,7 @@ fn place(
 ) -> Result<(), Memory>
     requires fits { SessionFits session.now }
     requires formed { IsWellFormed pool.old.config session.now }
+    requires named { digest.now ≡ digest_of_session session.now }
     ensures sessions { OnOk result (pool.new.sessions
         ≡ placed locked digest.now session.now pool.old.sessions) }
     ensures config { pool.new.config ≡ pool.old.config }
@@ -68,6 +70,7 @@ fn place_voted(
 ) -> Result<(), Memory>
     requires fits { SessionFits session.now }
     requires formed { IsWellFormed pool.old.config session.now }
+    requires named { digest.now ≡ digest_of_session session.now }
     ensures sessions { OnOk result (pool.new.sessions
         ≡ own_pool own.sender digest.now (Some (own.vote, locked))
         (placed locked digest.now session.now pool.old.sessions)) }
@@ -86,9 +89,11 @@ fn prepare(
     table: &mut Table,
     pool: &mut Pool,
     session: &Session,
+    digest: &Digest,
 ) -> Result<Outcome, Memory>
     requires fits { SessionFits session.now }
     requires formed { IsWellFormed pool.old.config session.now }
+    requires named { digest.now ≡ digest_of_session session.now }
     requires anchored { IsSome (anchor_in table.old (session_of (λ tx. true) session.now)) }
     ensures runs { (approves : Tx → Bool) → IfOk result (λ answer.
         let x = session_of approves session.now in
@@ -96,10 +101,9 @@ fn prepare(
         table.old table.new pool.old.sessions pool.new.sessions answer) }
     ensures config { pool.new.config ≡ pool.old.config }
 {
-    let digest = session_digest(alloc, session)?;
-    let Preparation { vote, locked } = table.prepare(alloc, session, &digest)?;
+    let Preparation { vote, locked } = table.prepare(alloc, session, digest)?;
     let own = Ballot { sender: me, vote };
-    place_voted(alloc, pool, &digest, session, own, locked)?;
+    place_voted(alloc, pool, digest, session, own, locked)?;
     Ok(Outcome {
         effect: Effect::Voted(vote),
         voted: Some((vote, locked)),
@@ -124,8 +128,10 @@ fn decide(
     pool: &mut Pool,
     vote: Vote,
     session: &Session,
+    digest: &Digest,
 ) -> Result<Outcome, Memory>
     requires fits { SessionFits session.now }
+    requires named { digest.now ≡ digest_of_session session.now }
     requires anchored { IsSome (anchor_in table.old (session_of (λ tx. true) session.now)) }
     ensures runs { (approves : Tx → Bool) → IfOk result (λ answer.
         let x = session_of approves session.now in
@@ -133,25 +139,26 @@ fn decide(
         table.old table.new pool.old.sessions pool.new.sessions answer) }
     ensures config { pool.new.config ≡ pool.old.config }
 {
-    let digest = session_digest(alloc, session)?;
-    let effect = table.decide(alloc, session, &digest, vote)?;
-    leave(pool, &digest, effect)?;
+    let effect = table.decide(alloc, session, digest, vote)?;
+    leave(pool, digest, effect)?;
     Ok(Outcome {
         effect,
         voted: None,
     })
 }
 
-/// Executes an entry whose session is well formed and has an anchor in the table.
+/// Executes an entry whose session, of this digest, is well formed and has an anchor in the table.
 pub fn run(
     alloc: Global,
     me: NodeId,
     table: &mut Table,
     pool: &mut Pool,
     entry: &Entry,
+    digest: &Digest,
 ) -> Result<Outcome, Memory>
     requires fits { EntryFits entry.now }
     requires formed { IsWellFormed pool.old.config (session_in entry.now) }
+    requires named { digest.now ≡ digest_of_session (session_in entry.now) }
     requires anchored { IsSome
         (anchor_in table.old (session_of (λ tx. true) (session_in entry.now))) }
     ensures runs { (approves : Tx → Bool) → IfOk result (λ answer.
@@ -160,7 +167,7 @@ pub fn run(
     ensures config { pool.new.config ≡ pool.old.config }
 {
     match entry {
-        Entry::Prepare(session) => prepare(alloc, me, table, pool, session),
-        Entry::Decide(vote, session) => decide(alloc, me, table, pool, *vote, session),
+        Entry::Prepare(session) => prepare(alloc, me, table, pool, session, digest),
+        Entry::Decide(vote, session) => decide(alloc, me, table, pool, *vote, session, digest),
     }
 }

@@ -70,7 +70,24 @@ impl Sbac {
         ensures { AtAnySetup self.now.config (λ setup.
             IfOk result (λ fit. fit ≡ is_fit setup self.now.me.shard session.now)) }
     {
-        let fit = is_fit(alloc, &self.config, self.me.shard, session)?;
+        let fit = is_fit(alloc, &self.config, self.me.shard, session, false)?;
+        Ok(fit)
+    }
+
+    /// The same of a session whose digest is given. One that is in the pool isn't hashed for it.
+    pub fn is_fit_named(
+        &self,
+        alloc: Global,
+        session: &Session,
+        digest: &Digest,
+    ) -> Result<bool, Memory>
+        requires fits { SessionFits session.now }
+        requires named { digest.now ≡ digest_of_session session.now }
+        ensures { AtAnySetup self.now.config (λ setup.
+            IfOk result (λ fit. fit ≡ is_fit setup self.now.me.shard session.now)) }
+    {
+        let known = self.pool.holds(digest, session)?;
+        let fit = is_fit(alloc, &self.config, self.me.shard, session, known)?;
         Ok(fit)
     }
 
@@ -80,7 +97,7 @@ impl Sbac {
         ensures { AtAnySetup self.now.config (λ setup.
             IfOk result (λ shards. shards.items ≡ concerned setup session.now)) }
     {
-        concerned_shards(alloc, &self.config, session)
+        concerned_shards(alloc, &self.config, session, false)
     }
 
     /// The same of a fit session, for which nothing is hashed.

@@ -8,17 +8,18 @@ ghost use Rattle.cs_node_pool.specs.Deployed.{AtAnySetup};
 ghost use Rattle.cs_node_pool.specs.Fits.{DueFits, AllFit};
 ghost use Rattle.cs_node_pool.specs.Calls.{counted_in, locked_in};
 ghost use Rattle.cs_checkpoint.specs.Chain.{empty_log, kept_of};
-ghost use Rattle.cs_sbac.specs.Held.{with_pool, IsOfNode};
+ghost use Rattle.cs_sbac.specs.Held.{with_pool, IsOfNode, IsFit};
 ghost use Rattle.cs_sbac.specs.Calls.{entered_in, pool_entered, pool_entered_with};
 
 use crate::answers::Entered;
 use crate::execution::newcomer;
+use crate::setting::formed_shards;
 use cs_archive::Archive;
 use cs_base::{Config, MOST_WAITING, Memory, NodeId};
 use cs_node_pool::{Counted, Pool};
 use cs_node_state::Ballot;
 use cs_table::Table;
-use cs_tx::{Digest, Entry, Session, Vote, concerned};
+use cs_tx::{Digest, Entry, Session, Vote};
 use std::alloc::Global;
 use std::marker::Model;
 
@@ -110,7 +111,7 @@ impl Sbac {
         self.pool.contains(digest)
     }
 
-    /// Brings a session, whose digest is given, into the pool, where it waits.
+    /// Brings a fit session, whose digest is given, into the pool, where it waits.
     pub fn enter(
         &mut self,
         alloc: Global,
@@ -118,6 +119,7 @@ impl Sbac {
         digest: Digest,
     ) -> Result<Entered, Memory>
         requires fits { SessionFits session }
+        requires formed { IsFit self.old session }
         requires named { digest ≡ digest_of_session session }
         requires new { found (digest_of_session session) self.old.pool ≡ None }
         ensures answer { IfOk result (λ answer. answer ≡ entered_in self.old.pool) }
@@ -127,14 +129,14 @@ impl Sbac {
         if self.pool.waiting()? >= MOST_WAITING {
             return Ok(Entered::Full);
         }
-        let shards = concerned(alloc, &session, &self.config)?;
+        let shards = formed_shards(alloc, &self.config, &session)?;
         self.pool
             .push(digest, newcomer(alloc, session, false), shards)?;
         Ok(Entered::New)
     }
 
-    /// Brings a session, whose digest is given, into the pool, where it waits, with a first vote on
-    /// it.
+    /// Brings a fit session, whose digest is given, into the pool, where it waits, with a first vote
+    /// on it.
     pub fn enter_voted(
         &mut self,
         alloc: Global,
@@ -144,6 +146,7 @@ impl Sbac {
         vote: Vote,
     ) -> Result<Entered, Memory>
         requires fits { SessionFits session }
+        requires formed { IsFit self.old session }
         requires named { digest ≡ digest_of_session session }
         requires new { found (digest_of_session session) self.old.pool ≡ None }
         ensures answer { IfOk result (λ answer. answer ≡ entered_in self.old.pool) }
@@ -154,7 +157,7 @@ impl Sbac {
         if self.pool.waiting()? >= MOST_WAITING {
             return Ok(Entered::Full);
         }
-        let shards = concerned(alloc, &session, &self.config)?;
+        let shards = formed_shards(alloc, &self.config, &session)?;
         self.pool
             .push(digest, newcomer(alloc, session, false), shards)?;
         let ballot = Ballot { sender: from, vote };

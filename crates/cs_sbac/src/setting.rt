@@ -10,16 +10,23 @@ use cs_base::{Config, Memory};
 use cs_tx::{Entry, Malformed, Session, anchor, concerned, well_formed};
 use std::alloc::Global;
 
-/// The shards that a session concerns, in rising order.
+/// The shards that a session concerns, in rising order. One that is known to be well formed isn't
+/// hashed for them.
 pub fn concerned_shards(
     alloc: Global,
     config: &Config,
     session: &Session,
+    known: bool,
 ) -> Result<Vec<u16>, Memory>
-    requires { SessionFits session.now }
+    requires fits { SessionFits session.now }
+    requires known { known ≡ true → IsWellFormed config.now session.now }
     ensures { AtAnySetup config.now (λ setup.
         IfOk result (λ shards. shards.items ≡ concerned setup session.now)) }
 {
+    if known {
+        let shards = formed_shards(alloc, config, session)?;
+        return Ok(shards);
+    }
     let shards = concerned(alloc, session, config)?;
     Ok(shards)
 }
@@ -39,10 +46,20 @@ pub fn formed_shards(alloc: Global, config: &Config, session: &Session) -> Resul
     Ok(shards)
 }
 
-fn is_well_formed(alloc: Global, config: &Config, session: &Session) -> Result<bool, Memory>
-    requires { SessionFits session.now }
+/// Whether a session is well formed. One that is known to be isn't hashed for it.
+fn is_well_formed(
+    alloc: Global,
+    config: &Config,
+    session: &Session,
+    known: bool,
+) -> Result<bool, Memory>
+    requires fits { SessionFits session.now }
+    requires known { known ≡ true → IsWellFormed config.now session.now }
     ensures { IfOk result (λ yes. yes ≡ is_none (fault_of config.now session.now)) }
 {
+    if known {
+        return Ok(true);
+    }
     match well_formed(alloc, session, config) {
         Ok(()) => Ok(true),
         Err(Malformed::Memory) => Err(Memory),
@@ -56,16 +73,23 @@ fn is_well_formed(alloc: Global, config: &Config, session: &Session) -> Result<b
     }
 }
 
-/// Whether a session is well formed and concerns the shard.
-pub fn is_fit(alloc: Global, config: &Config, shard: u16, session: &Session) -> Result<bool, Memory>
-    requires { SessionFits session.now }
+/// Whether a session is well formed, as it may be known to be, and concerns the shard.
+pub fn is_fit(
+    alloc: Global,
+    config: &Config,
+    shard: u16,
+    session: &Session,
+    known: bool,
+) -> Result<bool, Memory>
+    requires fits { SessionFits session.now }
+    requires known { known ≡ true → IsWellFormed config.now session.now }
     ensures fit { AtAnySetup config.now (λ setup.
         IfOk result (λ fit. fit ≡ is_fit setup shard session.now)) }
     // Then the shard has a key of the session, by which it is held.
     ensures anchored { IfOk result (λ fit.
         fit ≡ true → is_some (anchor_of config.now session.now shard) ≡ true) }
 {
-    if !is_well_formed(alloc, config, session)? {
+    if !is_well_formed(alloc, config, session, known)? {
         return Ok(false);
     }
     Ok(anchor(session, config, shard).is_some())
@@ -77,15 +101,17 @@ pub fn is_fit_entry(
     config: &Config,
     shard: u16,
     entry: &Entry,
+    known: bool,
 ) -> Result<bool, Memory>
-    requires { EntryFits entry.now }
+    requires fits { EntryFits entry.now }
+    requires known { known ≡ true → IsWellFormed config.now (session_in entry.now) }
     ensures fit { AtAnySetup config.now (λ setup.
         IfOk result (λ fit. fit ≡ is_fit setup shard (session_in entry.now))) }
     ensures anchored { IfOk result (λ fit.
         fit ≡ true → is_some (anchor_of config.now (session_in entry.now) shard) ≡ true) }
 {
     match entry {
-        Entry::Prepare(session) => is_fit(alloc, config, shard, session),
-        Entry::Decide(_, session) => is_fit(alloc, config, shard, session),
+        Entry::Prepare(session) => is_fit(alloc, config, shard, session, known),
+        Entry::Decide(_, session) => is_fit(alloc, config, shard, session, known),
     }
 }

@@ -8,7 +8,7 @@ ghost use Rattle.cs_serve.specs.Telling.{note_text, notes_text};
 
 use cs_base::{Memory, NodeId, Sink, WriteError, print};
 use cs_node::Note;
-use cs_node_lines::{head_line, slot_line};
+use cs_node_lines::{digest_in, head_line, slot_line};
 use std::alloc::Global;
 
 /// Prints the lines of what a node notes.
@@ -57,7 +57,10 @@ fn note_text(alloc: Global, me: NodeId, note: &Note) -> Result<String, Memory>
             slot,
             entry,
             effect,
-        } => slot_line(alloc, me, *slot, entry, *effect),
+        } => {
+            let digest = digest_in(alloc, entry)?;
+            slot_line(alloc, me, *slot, &digest, *effect)
+        }
         Note::Headed { number, head } => head_line(alloc, me, *number, head),
     }
 }

@@ -46,6 +46,7 @@ fn is_absent(
 
 fn enters(rt: &impl Abort, alloc: Global, sbac: &mut Sbac, session: &Session) -> Result<(), Fail> {
     assert!(rt; session.fits());
+    assert!(rt; sbac.is_fit(alloc, session)?);
     let copied = session.copy(alloc)?;
     let digest = session_digest(alloc, session)?;
     let pooled = sbac.pooled(&digest)?;

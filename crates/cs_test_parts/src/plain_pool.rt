@@ -11,13 +11,9 @@ pub struct Due {
     pub number: u64,
 }
 
-/// Whether the session of a number concerns a shard: by its number, all sets of the first two come.
+/// Whether the session of a number concerns a shard: by its number the first, the second, or both.
 pub fn is_concerned(number: u64, shard: u16) -> bool {
-    if shard == 0 {
-        number % 2 == 1
-    } else {
-        number / 2 % 2 == 1
-    }
+    number % 3 == 2 || number % 3 == u64::from(shard)
 }
 
 #[derive(Drop)]

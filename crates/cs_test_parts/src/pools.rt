@@ -5,7 +5,7 @@ use cs_node_pool::Pool;
 use cs_node_state::{Ballot, Pooled};
 use cs_test_draws::Draws;
 use cs_test_samples::{Transfer, coin};
-use cs_tx::{Digest, Encoded, Entry, Session, Vote, concerned};
+use cs_tx::{Digest, Encoded, Entry, Session, Vote, concerned, session_digest, well_formed};
 use std::alloc::Global;
 use std::process::Abort;
 use std::test::Fail;
@@ -13,15 +13,10 @@ use std::test::Fail;
 /// How many sessions come and go.
 const SESSIONS: u64 = 12;
 
-fn digest_of(number: u64) -> Digest {
-    let mut digest = [7; 32];
-    digest[0] = (number % 256) as u8;
-    digest
-}
-
 /// The name of an input of a shard.
 fn name_in(number: u64, shard: u8) -> Digest {
-    let mut name = digest_of(number);
+    let mut name = [7; 32];
+    name[0] = (number % 256) as u8;
     name[28] = 0;
     name[29] = 0;
     name[30] = 0;
@@ -40,6 +35,13 @@ fn session(alloc: Global, number: u64) -> Result<Session, Memory> {
     transfer.into_session(alloc, number)
 }
 
+/// The digest of the session of a number.
+fn digest_of(rt: &impl Abort, alloc: Global, number: u64) -> Result<Digest, Fail> {
+    let session = session(alloc, number)?;
+    assert!(rt; session.fits());
+    Ok(session_digest(alloc, &session)?)
+}
+
 /// A session enters where it isn't there.
 fn enter(
     rt: &impl Abort,
@@ -49,14 +51,15 @@ fn enter(
     number: u64,
     locked: bool,
 ) -> Result<(), Fail> {
-    let digest = digest_of(number);
+    let session = session(alloc, number)?;
+    assert!(rt; session.fits());
+    let digest = session_digest(alloc, &session)?;
     let there = pool.contains(&digest)?;
     assert!(rt; there == plain.contains(number));
     if there {
         return Ok(());
     }
-    let session = session(alloc, number)?;
-    assert!(rt; session.fits());
+    assert!(rt; well_formed(alloc, &session, pool.config()).is_ok());
     let shards = concerned(alloc, &session, pool.config())?;
     let ballots = Sequence::new(alloc);
     let pooled = Pooled {
@@ -72,6 +75,7 @@ fn enter(
 /// A node of one of two shards votes.
 fn vote(
     rt: &impl Abort,
+    alloc: Global,
     pool: &mut Pool,
     plain: &mut PlainPool,
     draws: &mut Draws,
@@ -86,15 +90,32 @@ fn vote(
     } else {
         Vote::Commit
     };
-    let answer = pool.count(&digest_of(number), Ballot { sender, vote })?;
+    let session = session(alloc, number)?;
+    assert!(rt; session.fits());
+    let digest = session_digest(alloc, &session)?;
+    assert!(rt; pool.holds(&digest, &session)? == plain.contains(number));
+    let answer = pool.count(&digest, Ballot { sender, vote })?;
     assert!(rt; answer == plain.count(number, sender, vote)?);
     Ok(())
 }
 
-fn leave(pool: &mut Pool, plain: &mut PlainPool, number: u64) -> Result<(), Fail> {
-    pool.remove(&digest_of(number))?;
+fn leave(
+    rt: &impl Abort,
+    alloc: Global,
+    pool: &mut Pool,
+    plain: &mut PlainPool,
+    number: u64,
+) -> Result<(), Fail> {
+    pool.remove(&digest_of(rt, alloc, number)?)?;
     plain.remove(number);
     Ok(())
+}
+
+fn session_in(entry: &Entry) -> &Session {
+    match entry {
+        Entry::Prepare(session) => session,
+        Entry::Decide(_, session) => session,
+    }
 }
 
 fn shown(entry: Entry) -> Due {
@@ -118,7 +139,11 @@ fn are_alike(
     plain: &PlainPool,
 ) -> Result<Option<Due>, Fail> {
     assert!(rt; pool.waiting()? == plain.waiting());
-    let due = pool.due(alloc)?.map(shown);
+    let due = pool.due(alloc)?;
+    if let Some(entry) = &due {
+        assert!(rt; pool.known(session_in(entry))?.is_some());
+    }
+    let due = due.map(shown);
     assert!(rt; due == plain.due());
     Ok(due)
 }
@@ -134,12 +159,12 @@ fn step(
     match draws.below(16) {
         0 => enter(rt, alloc, pool, plain, number, true)?,
         1 | 2 => enter(rt, alloc, pool, plain, number, false)?,
-        3 => leave(pool, plain, number)?,
+        3 => leave(rt, alloc, pool, plain, number)?,
         4 | 5 => {
-            pool.lock(&digest_of(number))?;
+            pool.lock(&digest_of(rt, alloc, number)?)?;
             plain.lock(number);
         }
-        _ => vote(rt, pool, plain, draws, number)?,
+        _ => vote(rt, alloc, pool, plain, draws, number)?,
     }
     Ok(())
 }
@@ -178,7 +203,7 @@ fn run(rt: &impl Abort, alloc: Global, steps: u32) -> Result<Counts, Fail> {
         if let Some(due) = are_alike(rt, alloc, &pool, &plain)? {
             counts.add(due);
             if due.decision.is_some() && draws.below(2) == 0 {
-                leave(&mut pool, &mut plain, due.number)?;
+                leave(rt, alloc, &mut pool, &mut plain, due.number)?;
             }
         }
     }

@@ -18,7 +18,7 @@ returns-in-Some-clause-made g c = λ genesis log kept_is.
     let says : Bytes → List Sign = λ digest. Sent c.args.sender (message.Decided digest c.in-Some.accepted) ∷ [] in
     on_ok_weaker _ (λ tells. stays setup me (submit_signs setup me.shard bench c.args.sender c.args.session) c.args.sbac.now log c.args.draft.now c.say.new.self kept_is
     (one-makes setup me bench (submit_signs setup me.shard bench c.args.sender c.args.session) (Sent c.args.sender (message.Decided c.in_ok-digest.digest c.in-Some.accepted)) c.args.draft.now c.say.new.self
-    (standing setup me.shard bench c.args.sender c.args.session (Some c.in-Some.accepted) (sym c.is_client.ensures ∙ c.if-not-is_client.false) (sym (c.in_ok-is_fit.ensures genesis approves) ∙ c.if-not-branch.false)
+    (standing setup me.shard bench c.args.sender c.args.session (Some c.in-Some.accepted) (sym c.is_client.ensures ∙ c.if-not-is_client.false) (sym (c.in_ok-is_fit_named.ensures genesis approves) ∙ c.if-not-branch.false)
     (sym (c.in_ok-accepted.ensures genesis approves) ∙ c.in-Some.is) ∙ ap says (sym c.in_ok-digest.ensures)) refl tells)) c.say.ensures.tells
 
 pub returns-in-None-clause-made : goal.returns-in-None-clause-made
@@ -28,5 +28,8 @@ returns-in-None-clause-made g c = λ genesis log kept_is.
     let me = c.args.sbac.now.me in
     let bench = bench_of log c.args.sbac.now in
     let P : List Sign → Type 0 = λ signs. OnOk c.enter.result (Leaves setup me signs bench c.enter.new.sbac c.args.draft.now c.enter.new.draft) in
-    subst P (sym (standing setup me.shard bench c.args.sender c.args.session None (sym c.is_client.ensures ∙ c.if-not-is_client.false) (sym (c.in_ok-is_fit.ensures genesis approves) ∙ c.if-not-branch.false)
+    subst P (sym (standing setup me.shard bench c.args.sender c.args.session None (sym c.is_client.ensures ∙ c.if-not-is_client.false) (sym (c.in_ok-is_fit_named.ensures genesis approves) ∙ c.if-not-branch.false)
     (sym (c.in_ok-accepted.ensures genesis approves) ∙ c.in-None.is))) (c.enter.ensures.made genesis log kept_is)
+
+pub enter-requires-clause-formed : goal.enter-requires-clause-formed
+enter-requires-clause-formed g c = λ genesis approves. sym (c.in_ok-is_fit_named.ensures genesis approves) ∙ c.if-not-branch.false

@@ -8,6 +8,7 @@ use Rattle.cs_tx.specs.Digest.{digest_of_session}
 use Rattle.cs_sbac.specs.Held.{Held}
 use Rattle.cs_node_pool.specs.Deployed.{deployed}
 use Rattle.cs_sbac.proofs.Concerned.{contains-concerned, in_range}
+use Rattle.cs_sbac.proofs.Settings.{known-formed, known-named}
 use Rattle.cs_sbac.proofs.sbac.Sbac.admits_decide.Goals as goal
 
 pub returns-then-not-contains : goal.returns-then-not-contains
@@ -42,3 +43,11 @@ returns c genesis approves =
     && is_decided_in held.config.f (concerned (deployed held.config genesis approves) c.args.session.now) c.args.vote (found (digest_of_session c.args.session.now) held.pool)) in
     subst Says c.self.view_is
     (carried ∙ ap (λ b. b && is_decided_in f (concerned setup c.args.session.now) c.args.vote (found (digest_of_session c.args.session.now) c.self.inside.pool.sessions)) (sym yes ∙ has))
+
+pub concerned_shards-requires-clause-known : goal.concerned_shards-requires-clause-known
+concerned_shards-requires-clause-known c = λ h.
+    known-formed c.self.inside.config c.self.inside.pool.config c.args.session.now c.in_ok-known.known c.self.invariant.same c.in_ok-known.ensures (sym c.is_some.ensures ∙ h)
+
+pub digest_of-requires-clause-known : goal.digest_of-requires-clause-known
+digest_of-requires-clause-known c =
+    known-named c.self.inside.config c.self.inside.pool.config c.args.session.now c.in_ok-known.known c.self.invariant.same c.in_ok-known.ensures

@@ -5,7 +5,7 @@ use Rattle.cs_node_state.specs.Setup.{session_in}
 use Rattle.cs_sbac.specs.Held.{Held}
 use Rattle.cs_node_pool.specs.Deployed.{deployed}
 use Rattle.cs_sbac.specs.Calls.{Executes}
-use Rattle.cs_sbac.proofs.Settings.{formed}
+use Rattle.cs_sbac.proofs.Settings.{formed, known-formed, known-named}
 use Rattle.cs_check.proofs.Hashing.{leaves_stay}
 use Rattle.cs_sbac.proofs.Running.{stays, marked, anchored, executes, executes-nothing}
 use Rattle.cs_tx_form.specs.declared.effect.Effect.TheVariants.{Void}
@@ -55,3 +55,11 @@ returns c genesis approves log =
     subst Does c.self.view_is
     (executes c.self.inside.config c.self.inside.me c.self.inside.table (c.self.invariant.placed whole) genesis approves c.root_is_shown.ensures.keys c.self.inside.archive log c.args.entry.now c.run.new.table c.self.inside.pool.sessions c.run.new.pool.sessions c.in_ok-outcome.outcome
     (sym (c.in_ok-fit.ensures.fit genesis approves) ∙ fit) c.root_is_shown-2.ensures.keys (c.in_ok-outcome.ensures.runs approves))
+
+pub is_fit_entry-requires-clause-known : goal.is_fit_entry-requires-clause-known
+is_fit_entry-requires-clause-known c = λ h.
+    known-formed c.self.inside.config c.self.inside.pool.config (session_in c.args.entry.now) c.in_ok-known.known c.self.invariant.same c.in_ok-known.ensures (sym c.is_some.ensures ∙ h)
+
+pub digest_in-requires-clause-known : goal.digest_in-requires-clause-known
+digest_in-requires-clause-known c =
+    known-named c.self.inside.config c.self.inside.pool.config (session_in c.args.entry.now) c.in_ok-known.known c.self.invariant.same c.in_ok-known.ensures
