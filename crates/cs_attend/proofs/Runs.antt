@@ -17,7 +17,9 @@ use Rattle.cs_client.specs.Standing.{StandsFor}
 use Rattle.cs_attend.specs.declared.ending.Ending.{Ending}
 use Rattle.cs_attend.specs.declared.ending.Ending.TheVariants.{Knows, Refused, LinkFault, Memory}
 use Rattle.cs_attend.specs.Attending.{Side, Takes, offers_by, offers_at, WasOpen, missed_past, Attends, Says, GoesBy, Answers, Goes}
-use Rattle.cs_attend.proofs.Told.{stays-same, stays-both, adds-none, adds-more, adds-still, adds-later, front-later, front-more, offers-more, takes-none, takes-still, takes-more, takes-one}
+use Rattle.cs_outer.specs.laws.Told.{stays-same, stays-both}
+use Rattle.cs_serve.specs.laws.Offering.{adds-none, adds-more, adds-still, adds-later, front-later, front-more}
+use Rattle.cs_attend.proofs.Told.{offers-more, takes-none, takes-still, takes-more, takes-one}
 
 -- ---- one turn
 

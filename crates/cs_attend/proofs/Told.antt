@@ -1,67 +1,18 @@
 -- What a link tells, through one call after the other.
-use Rattle.std.proofs.Common.{◌≡◌, List, [], ◌∷◌, ◌++◌, Option, Some, None, refl, sym, ap, subst, ◌∙◌, append_assoc, append-nil}
+use Rattle.std.proofs.Common.{◌≡◌, List, [], ◌∷◌, ◌++◌, Option, Some, None, refl, sym, ap, ◌∙◌, append_assoc}
 use Rattle.std.specs.Prelude.{reverse}
 use Rattle.std.proofs.lemmas.List.{map-append, reverse-append}
 use Rattle.std.proofs.lemmas.List.Concat.{flat_map-append}
 use Rattle.cs_outer.specs.Told.{Changes, Stays}
-use Rattle.cs_outer.specs.Link.{Offers}
+use Rattle.cs_outer.specs.laws.Told.{changes-before}
 use Rattle.cs_wire.specs.declared.input.Out.{Out}
-use Rattle.cs_serve.specs.Offering.{offers_in, Adds, AddsFront}
+use Rattle.cs_serve.specs.Offering.{offers_in}
 use Rattle.cs_client.specs.declared.errand.Errand.{Errand}
 use Rattle.cs_client.specs.Inputs.{Input}
 use Rattle.cs_client.specs.Sayings.{says_at, says_by, out_of, outs_of}
 use Rattle.cs_attend.specs.Attending.{Side, Takes, offers_by, offers_at}
 
--- ---- what stays, and what changes
-
-pub stays-same : {A : Type 0} (a : Option A) → Stays a a
-stays-same None = tt
-stays-same (Some x) = refl
-
-pub stays-both : {A : Type 0} (a b c : Option A) → Stays a b → Stays b c → Stays a c
-stays-both None b c p q = tt
-stays-both (Some x) None c p q = absurd p
-stays-both (Some x) (Some y) None p q = absurd q
-stays-both (Some x) (Some y) (Some z) p q = q ∙ p
-
-pub changes-after : {A : Type 0} (Step : A → A → Type 0) (a b c : Option A) → Stays a b → Changes Step b c → Changes Step a c
-changes-after Step None b c p q = tt
-changes-after Step (Some x) None c p q = absurd p
-changes-after Step (Some x) (Some y) None p q = absurd q
-changes-after {A} Step (Some x) (Some y) (Some z) p q = subst (λ (w : A). Step w z) p q
-
-pub changes-before : {A : Type 0} (Step : A → A → Type 0) (a b c : Option A) → Changes Step a b → Stays b c → Changes Step a c
-changes-before Step None b c p q = tt
-changes-before Step (Some x) None c p q = absurd p
-changes-before Step (Some x) (Some y) None p q = absurd q
-changes-before {A} Step (Some x) (Some y) (Some z) p q = subst (λ (w : A). Step x w) (sym q) p
-
 -- ---- offers
-
-pub adds-none : (a : Option Offers) → Adds [] a a
-adds-none None = tt
-adds-none (Some x) = sym (append-nil x)
-
-pub adds-more : (a b c : Option Offers) (xs ys : Offers) → Adds xs a b → Adds ys b c → Adds (xs ++ ys) a c
-adds-more None b c xs ys p q = tt
-adds-more (Some x) None c xs ys p q = absurd p
-adds-more (Some x) (Some y) None xs ys p q = absurd q
-adds-more (Some x) (Some y) (Some z) xs ys p q = q ∙ ap (λ l. l ++ ys) p ∙ append_assoc x xs ys
-
--- nothing more is offered
-pub adds-still : (a b c : Option Offers) (xs : Offers) → Adds xs a b → Stays b c → Adds xs a c
-adds-still a b c xs = changes-before (λ (before now : Offers). now ≡ before ++ xs) a b c
-
--- nothing was offered before
-pub adds-later : (a b c : Option Offers) (xs : Offers) → Stays a b → Adds xs b c → Adds xs a c
-adds-later a b c xs = changes-after (λ (before now : Offers). now ≡ before ++ xs) a b c
-
-pub front-later : (a b c : Option Offers) (xs : Offers) → Stays a b → AddsFront xs b c → AddsFront xs a c
-front-later a b c xs stays (front, rest, whole, p) = (front, rest, whole, adds-later a b c front stays p)
-
-pub front-more : (a b c : Option Offers) (xs ys : Offers) → Adds xs a b → AddsFront ys b c → AddsFront (xs ++ ys) a c
-front-more a b c xs ys p (front, rest, whole, q) =
-    (xs ++ front, rest, ap (λ l. xs ++ l) whole ∙ sym (append_assoc xs front rest), adds-more a b c xs front p q)
 
 -- what is said at an input comes after what was said before
 pub offers-more : (e : Errand) (input : Input) (past : List Input) → offers_by e (input ∷ past) ≡ offers_by e past ++ offers_at e input past

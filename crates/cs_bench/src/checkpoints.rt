@@ -1,5 +1,5 @@
 //! Slots of one shard that are executed, and closed in the chain of its checkpoints.
-ghost use Rattle.std.specs.Prelude.{All};
+ghost use Rattle.std.specs.Prelude.{◌<◌, All};
 ghost use Rattle.cs_tx_value.specs.Object.{ObjectFits};
 
 use crate::table::{coins, session};
@@ -7,7 +7,7 @@ use cs_base::{Config, Key, Memory, NodeId};
 use cs_checkpoint::Leaf;
 use cs_sbac::Sbac;
 use cs_table::{Table, TableError};
-use cs_tx::{Encoded, Entry, Object, Session, Vote};
+use cs_tx::{Effect, Encoded, Entry, Object, Session, Vote};
 use std::alloc::Global;
 
 /// What is measured.
@@ -16,11 +16,26 @@ pub struct Measured {
     /// The records of the table at the start.
     pub objects: u32,
     pub slots: u32,
-    /// Each coin is prepared, and decided in the slot behind, which makes a new one. Else it is
-    /// prepared alone, which touches its key and no other.
-    pub decides: bool,
-    /// The slots are closed. Else they are executed alone, which is what to take off.
-    pub closes: bool,
+    pub keys: Keys,
+    pub extent: Extent,
+}
+
+/// Which keys the slots touch.
+#[derive(Clone, Copy)]
+pub enum Keys {
+    /// Each coin is prepared alone, which touches its key and no other.
+    Old,
+    /// Each coin is prepared, and decided in the slot behind, which makes a new one.
+    New,
+}
+
+/// What is done of each slot.
+#[derive(Clone, Copy)]
+pub enum Extent {
+    /// It is executed alone, which is what to take off.
+    Executed,
+    /// It is executed, and closed.
+    Closed,
 }
 
 // The node of a shard of one, which has these coins.
@@ -42,18 +57,23 @@ fn node(alloc: Global, objects: &[(Key, Object)]) -> Result<Option<Sbac>, Memory
 }
 
 // Executes an entry as the next slot, and closes it if so wished. It answers whether all was done.
-fn fill(alloc: Global, sbac: &mut Sbac, entry: Entry, closes: bool) -> Result<bool, Memory> {
+fn fill(alloc: Global, sbac: &mut Sbac, entry: Entry, extent: Extent) -> Result<bool, Memory> {
     if !entry.fits() {
         return Ok(false);
     }
     let outcome = sbac.execute(alloc, &entry)?;
-    if !closes {
-        return Ok(true);
+    match extent {
+        Extent::Executed => Ok(true),
+        Extent::Closed => close(alloc, sbac, entry, outcome.effect),
     }
+}
+
+// Closes the next slot.
+fn close(alloc: Global, sbac: &mut Sbac, entry: Entry, effect: Effect) -> Result<bool, Memory> {
     let leaf = Leaf {
         slot: sbac.slots(),
         entry,
-        result: outcome.effect,
+        result: effect,
     };
     if !leaf.fits() || leaf.slot != sbac.slots() {
         return Ok(false);
@@ -74,16 +94,24 @@ fn spend(
         return Ok(false);
     }
     let copied = session.copy(alloc)?;
-    let done = fill(alloc, sbac, Entry::Prepare(copied), measured.closes)?;
-    if !done || !measured.decides {
-        return Ok(done);
+    let done = fill(alloc, sbac, Entry::Prepare(copied), measured.extent)?;
+    match measured.keys {
+        Keys::New if done => {
+            let decision = Entry::Decide(Vote::Commit, session);
+            fill(alloc, sbac, decision, measured.extent)
+        }
+        Keys::New | Keys::Old => Ok(done),
     }
-    fill(
-        alloc,
-        sbac,
-        Entry::Decide(Vote::Commit, session),
-        measured.closes,
-    )
+}
+
+// How many slots touch one coin.
+fn slots_of_a_coin(keys: Keys) -> u32
+    ensures { 0 < result }
+{
+    match keys {
+        Keys::Old => 1,
+        Keys::New => 2,
+    }
 }
 
 /// Makes the shard, and fills its slots. It answers whether each was filled.
@@ -92,7 +120,7 @@ pub fn run(alloc: Global, measured: &Measured) -> Result<bool, Memory> {
     let Some(mut sbac) = node(alloc, &objects)? else {
         return Ok(false);
     };
-    let spent = (measured.slots / if measured.decides { 2 } else { 1 }) as usize;
+    let spent = (measured.slots / slots_of_a_coin(measured.keys)) as usize;
     let mut all = spent <= objects.len();
     for item in objects.iter().take(spent) {
         if let Key::Object(name) = &item.0 {

@@ -30,7 +30,7 @@ mod merkle;
 mod slots;
 mod table;
 
-use checkpoints::Measured;
+use checkpoints::{Extent, Keys, Measured};
 use cs_base::Memory;
 use datagrams::{open_often, seal_often};
 use hashes::{Kind, Row, hash_row};
@@ -155,27 +155,38 @@ fn run_slots(
     slots: Option<u32>,
     keys: &str,
 ) -> Result<u8, Memory> {
-    let (Some(objects), Some(slots)) = (objects, slots) else {
+    let (Some(extent), Some(objects), Some(slots), Some(keys)) = (
+        extent_of(word),
+        objects,
+        slots,
+        keys_of(keys),
+    ) else {
         return Ok(OTHER_WORDS);
-    };
-    let closes = match word {
-        "checkpoints" => true,
-        "executions" => false,
-        _ => return Ok(OTHER_WORDS),
-    };
-    let decides = match keys {
-        "old" => false,
-        "new" => true,
-        _ => return Ok(OTHER_WORDS),
     };
     let measured = Measured {
         objects,
         slots,
-        decides,
-        closes,
+        keys,
+        extent,
     };
     let all = checkpoints::run(alloc, &measured)?;
     Ok(if all { DONE } else { NOT_ALL })
+}
+
+fn extent_of(word: &str) -> Option<Extent> {
+    match word {
+        "checkpoints" => Some(Extent::Closed),
+        "executions" => Some(Extent::Executed),
+        _ => None,
+    }
+}
+
+fn keys_of(word: &str) -> Option<Keys> {
+    match word {
+        "old" => Some(Keys::Old),
+        "new" => Some(Keys::New),
+        _ => None,
+    }
 }
 
 // What is done so many times with something of a size.

@@ -1,35 +1,40 @@
 -- What a command does, by what its words call for.
 use Rattle.std.proofs.Common.{◌≡◌, ℕ, List, Option, Some, sym, subst}
 use Rattle.cs_cli.specs.declared.words.Command.{Command}
-use Rattle.cs_cli.specs.declared.words.Command.TheVariants.{Node, Client, Keys, Cluster}
+use Rattle.cs_cli.specs.declared.deployments.Deployment.{Deployment}
+use Rattle.cs_cli.specs.declared.deployments.Deployment.TheVariants.{Node, Client, Keys, Cluster}
 use Rattle.cs_cli.specs.Deployed.{word_at}
-use Rattle.cs_cli.specs.Done.{Around, NodeDoes, ClientDoes, KeysDoes, ClusterDoes, Does}
+use Rattle.cs_cli.specs.Done.{Around, AllAround, NodeDoes, ClientDoes, KeysDoes, ClusterDoes, Deploys, Does}
 use Rattle.cs_cli.proofs.Outcomes.{one-command}
 
-module _ (words : List (List ℕ)) (a b : Around) (status : ℕ) where
+module _ (words : List (List ℕ)) (a b : AllAround) (status : ℕ) where
   pub does-as : (x y : Command) (command : Option Command) → Some x ≡ command → command ≡ Some y → Does x words a b status → Does y words a b status
   does-as x y command here there = subst (λ (z : Command). Does z words a b status) (one-command x y command here there)
 
   pub does-so : (x command : Command) → command ≡ x → Does x words a b status → Does command words a b status
   does-so x command is = subst (λ (z : Command). Does z words a b status) (sym is)
 
-  pub node-does : (site keys turns : ℕ) (s k : List ℕ) (command : Command) → command ≡ Node site keys turns → s ≡ word_at words site → k ≡ word_at words keys → NodeDoes s k turns a b status → Does command words a b status
-  node-does site keys turns s k command is first second does =
-      does-so (Node site keys turns) command is
+module _ (words : List (List ℕ)) (a b : Around) (status : ℕ) where
+  deploys-so : (x deployment : Deployment) → deployment ≡ x → Deploys x words a b status → Deploys deployment words a b status
+  deploys-so x deployment is = subst (λ (z : Deployment). Deploys z words a b status) (sym is)
+
+  pub node-does : (site keys turns : ℕ) (s k : List ℕ) (deployment : Deployment) → deployment ≡ Node site keys turns → s ≡ word_at words site → k ≡ word_at words keys → NodeDoes s k turns a b status → Deploys deployment words a b status
+  node-does site keys turns s k deployment is first second does =
+      deploys-so (Node site keys turns) deployment is
       (subst (λ (x : List ℕ). NodeDoes x (word_at words keys) turns a b status) first
       (subst (λ (x : List ℕ). NodeDoes s x turns a b status) second does))
 
-  pub client-does : (site keys call turns : ℕ) (s k c : List ℕ) (command : Command) → command ≡ Client site keys call turns → s ≡ word_at words site → k ≡ word_at words keys → c ≡ word_at words call → ClientDoes s k c turns a b status → Does command words a b status
-  client-does site keys call turns s k c command is first second third does =
-      does-so (Client site keys call turns) command is
+  pub client-does : (site keys call turns : ℕ) (s k c : List ℕ) (deployment : Deployment) → deployment ≡ Client site keys call turns → s ≡ word_at words site → k ≡ word_at words keys → c ≡ word_at words call → ClientDoes s k c turns a b status → Deploys deployment words a b status
+  client-does site keys call turns s k c deployment is first second third does =
+      deploys-so (Client site keys call turns) deployment is
       (subst (λ (x : List ℕ). ClientDoes x (word_at words keys) (word_at words call) turns a b status) first
       (subst (λ (x : List ℕ). ClientDoes s x (word_at words call) turns a b status) second
       (subst (λ (x : List ℕ). ClientDoes s k x turns a b status) third does)))
 
-  pub keys-does : (site : ℕ) (master s : List ℕ) (command : Command) → command ≡ Keys site master → s ≡ word_at words site → KeysDoes s master a b status → Does command words a b status
-  keys-does site master s command is first does =
-      does-so (Keys site master) command is (subst (λ (x : List ℕ). KeysDoes x master a b status) first does)
+  pub keys-does : (site : ℕ) (master s : List ℕ) (deployment : Deployment) → deployment ≡ Keys site master → s ≡ word_at words site → KeysDoes s master a b status → Deploys deployment words a b status
+  keys-does site master s deployment is first does =
+      deploys-so (Keys site master) deployment is (subst (λ (x : List ℕ). KeysDoes x master a b status) first does)
 
-  pub cluster-does : (plan : ℕ) (s : List ℕ) (command : Command) → command ≡ Cluster plan → s ≡ word_at words plan → ClusterDoes s a b status → Does command words a b status
-  cluster-does plan s command is first does =
-      does-so (Cluster plan) command is (subst (λ (x : List ℕ). ClusterDoes x a b status) first does)
+  pub cluster-does : (plan : ℕ) (s : List ℕ) (deployment : Deployment) → deployment ≡ Cluster plan → s ≡ word_at words plan → ClusterDoes s a b status → Deploys deployment words a b status
+  cluster-does plan s deployment is first does =
+      deploys-so (Cluster plan) deployment is (subst (λ (x : List ℕ). ClusterDoes x a b status) first does)

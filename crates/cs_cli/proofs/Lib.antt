@@ -6,3 +6,4 @@ pub mod Told
 pub mod Dumps
 pub mod Doing
 pub mod Longer
+pub mod Subjects

@@ -11,8 +11,6 @@ use Rattle.cs_outer.specs.Link.{Place, Offers}
 use Rattle.cs_outer.specs.Spawner.{Children}
 use Rattle.cs_outer.specs.declared.link.MemInput.{MemInput}
 use Rattle.cs_replay.specs.Answers.{Replays, Completes}
-use Rattle.cs_verify.specs.Verdicts.{verify_answer}
-use Rattle.cs_dump_read.specs.declared.limits.TheConstants.{MOST_DUMP}
 use Rattle.cs_simulate.specs.Simulated.{simulate_answer}
 use Rattle.cs_simulate.specs.Reports.{AnswersWhole}
 use Rattle.cs_spawn.specs.Running.{Outer, outer}
@@ -27,15 +25,17 @@ use Rattle.cs_deploy.specs.Outside.{Outside, outside}
 use Rattle.cs_deploy.specs.Node.{NodeRuns}
 use Rattle.cs_deploy.specs.Client.{ClientRuns, IsToldOf}
 use Rattle.cs_cli.specs.Answers.{Tells, TellsWhole}
-use Rattle.cs_cli.specs.Audited.{audit_answer}
+use Rattle.cs_cli.specs.Examined.{most_in, answer_to}
 use Rattle.cs_cli.specs.Deployed.{word_at}
+use Rattle.cs_cli.specs.declared.examining.Subject.{Subject}
+use Rattle.cs_cli.specs.declared.examining.Subject.TheVariants.{Claim, Dump}
+use Rattle.cs_cli.specs.declared.deployments.Deployment.{Deployment}
+use Rattle.cs_cli.specs.declared.deployments.Deployment.TheVariants.{Node, Client, Keys, Cluster}
 use Rattle.cs_cli.specs.declared.words.Command.{Command}
-use Rattle.cs_cli.specs.declared.words.Command.TheVariants.{Replay, Contract, Verify, Audit, Simulate, Node, Client, Keys, Cluster}
+use Rattle.cs_cli.specs.declared.words.Command.TheVariants.{Replay, Contract, Verify, Audit, Simulate, Deploy}
 
--- what the objects of the outside tell, and how often each has failed
+-- what sink, store, link and spawner tell, and how often each has failed
 pub record Around : Type 0 where
-  pub left : Option (List ℕ)
-  pub reads : ℕ
   pub written : Option (List ℕ)
   pub writes : ℕ
   pub files : Option Files
@@ -45,22 +45,30 @@ pub record Around : Type 0 where
   pub spawned : Outer
   pub spawns : ℕ
 
--- that of source, sink, store, link and spawner
-abbrev pub around : Option (List ℕ) → ℕ → Option (List ℕ) → ℕ → Option Files → ℕ
-    → Option (Option Place) → Option (List MemInput) → Option Offers → ℕ → ℕ
-    → Option Children → ℕ → Option (ℕ → ℕ) → ℕ → Around
-around left reads written writes files stores bound inputs offered missed links started children statuses spawns = record {
-  left = left;
-  reads = reads;
-  written = written;
-  writes = writes;
-  files = files;
-  stores = stores;
-  link = outside bound inputs offered missed written;
-  links = links;
-  spawned = outer started children statuses written;
-  spawns = spawns;
-}
+-- that of these four, by what each of their kinds tells
+abbrev pub around : {K E L P : Type 0} → (K → Option (List ℕ)) → (K → ℕ) → (E → Option Files) → (E → ℕ)
+    → (L → Option (Option Place)) → (L → Option (List MemInput)) → (L → Option Offers) → (L → ℕ) → (L → ℕ)
+    → (P → Option Children) → (P → ℕ) → (P → Option (ℕ → ℕ)) → (P → ℕ) → K → E → L → P → Around
+around {K} {E} {L} {P} written writes files stores bound inputs offered missed links started children statuses spawns
+    output store link spawn = record {
+      written = written output;
+      writes = writes output;
+      files = files store;
+      stores = stores store;
+      link = outside (bound link) (inputs link) (offered link) (missed link) (written output);
+      links = links link;
+      spawned = outer (started spawn) (children spawn) (statuses spawn) (written output);
+      spawns = spawns spawn;
+    }
+
+-- the same with the source
+pub record AllAround : Type 0 where
+  pub left : Option (List ℕ)
+  pub reads : ℕ
+  pub rest : Around
+
+abbrev pub all_around : Option (List ℕ) → ℕ → Around → AllAround
+all_around left reads rest = record { left = left; reads = reads; rest = rest }
 
 abbrev pub Unfailed : ℕ → ℕ → Type 0
 Unfailed before now = Rose before now → ⊥
@@ -106,32 +114,37 @@ ClusterDoes plan a b status =
     × (Unfailed a.stores b.stores → Unfailed a.spawns b.spawns → Unfailed a.writes b.writes
     → ClusterDecided plan a.files status)
 
+abbrev pub Deploys : Deployment → List (List ℕ) → Around → Around → ℕ → Type 0
+Deploys (Node site keys turns) words = NodeDoes (word_at words site) (word_at words keys) turns
+Deploys (Client site keys call turns) words =
+    ClientDoes (word_at words site) (word_at words keys) (word_at words call) turns
+Deploys (Keys site master) words = KeysDoes (word_at words site) master
+Deploys (Cluster plan) words = ClusterDoes (word_at words plan)
+
 -- ---- all commands
 
+abbrev pub Examines : Subject → AllAround → AllAround → ℕ → Type 0
+Examines subject a b status =
+    Gives (most_in subject) (answer_to subject)
+    a.left b.left a.rest.written b.rest.written (Rose a.reads b.reads) status
+    × (Unfailed a.reads b.reads → Unfailed a.rest.writes b.rest.writes
+    → GivesWhole (most_in subject) (answer_to subject) a.left a.rest.written b.rest.written status)
+
 -- what a command does, whose files are among the words; and what decides where no fault came about
-abbrev pub Does : Command → List (List ℕ) → Around → Around → ℕ → Type 0
+abbrev pub Does : Command → List (List ℕ) → AllAround → AllAround → ℕ → Type 0
 Does (Replay mode) words a b status =
-    Replays MOST_SCHEDULE mode a.left b.left a.written b.written (Rose a.reads b.reads) status
-    × (Unfailed a.reads b.reads → Unfailed a.writes b.writes
-    → Completes MOST_SCHEDULE mode a.left a.written b.written status)
+    Replays MOST_SCHEDULE mode a.left b.left a.rest.written b.rest.written (Rose a.reads b.reads) status
+    × (Unfailed a.reads b.reads → Unfailed a.rest.writes b.rest.writes
+    → Completes MOST_SCHEDULE mode a.left a.rest.written b.rest.written status)
 Does (Contract printing) words a b status =
-    Tells printing a.left b.left a.written b.written (Rose a.reads b.reads) status
-    × (Unfailed a.reads b.reads → Unfailed a.writes b.writes → TellsWhole printing a.left a.written b.written status)
-Does Verify words a b status =
-    Gives MOST_SCHEDULE (verify_answer MOST_SCHEDULE) a.left b.left a.written b.written (Rose a.reads b.reads) status
-    × (Unfailed a.reads b.reads → Unfailed a.writes b.writes
-    → GivesWhole MOST_SCHEDULE (verify_answer MOST_SCHEDULE) a.left a.written b.written status)
-Does Audit words a b status =
-    Gives MOST_DUMP (audit_answer MOST_DUMP) a.left b.left a.written b.written (Rose a.reads b.reads) status
-    × (Unfailed a.reads b.reads → Unfailed a.writes b.writes
-    → GivesWhole MOST_DUMP (audit_answer MOST_DUMP) a.left a.written b.written status)
+    Tells printing a.left b.left a.rest.written b.rest.written (Rose a.reads b.reads) status
+    × (Unfailed a.reads b.reads → Unfailed a.rest.writes b.rest.writes
+    → TellsWhole printing a.left a.rest.written b.rest.written status)
+Does Verify words a b status = Examines Claim a b status
+Does Audit words a b status = Examines Dump a b status
 Does (Simulate number size) words a b status =
-    Answers (simulate_answer number size) a.written b.written status
-    × (Unfailed a.writes b.writes → AnswersWhole (simulate_answer number size) a.written b.written status)
+    Answers (simulate_answer number size) a.rest.written b.rest.written status
+    × (Unfailed a.rest.writes b.rest.writes
+    → AnswersWhole (simulate_answer number size) a.rest.written b.rest.written status)
     × Keeps a.left b.left
-Does (Node site keys turns) words a b status =
-    NodeDoes (word_at words site) (word_at words keys) turns a b status
-Does (Client site keys call turns) words a b status =
-    ClientDoes (word_at words site) (word_at words keys) (word_at words call) turns a b status
-Does (Keys site master) words a b status = KeysDoes (word_at words site) master a b status
-Does (Cluster plan) words a b status = ClusterDoes (word_at words plan) a b status
+Does (Deploy deployment) words a b status = Deploys deployment words a.rest b.rest status

@@ -4,7 +4,8 @@ use Rattle.std.specs.declared.alloc.Global.{Global}
 use Rattle.std.specs.Str.{bytes_eq}
 use Rattle.cs_replay.specs.declared.schedule.Mode.{Mode}
 use Rattle.cs_cli.specs.declared.words.Command.{Command}
-use Rattle.cs_cli.specs.declared.words.Command.TheVariants.{Replay, Contract, Verify, Audit, Simulate}
+use Rattle.cs_cli.specs.declared.words.Command.TheVariants.{Replay, Contract, Verify, Audit, Simulate, Deploy}
+use Rattle.cs_cli.specs.declared.deployments.Deployment.TheVariants as deployment
 use Rattle.cs_cli.specs.Numbers.{simulated}
 use Rattle.cs_cli.specs.Deployed.{deployed}
 
@@ -45,6 +46,19 @@ abbrev pub plain : Command → List (List ℕ) → Option Command
 plain command [] = Some command
 plain command (option ∷ options) = None
 
+-- the commands of a deployment
+abbrev pub Node : ℕ → ℕ → ℕ → Command
+Node site keys turns = Deploy (deployment.Node site keys turns)
+
+abbrev pub Client : ℕ → ℕ → ℕ → ℕ → Command
+Client site keys call turns = Deploy (deployment.Client site keys call turns)
+
+abbrev pub Keys : ℕ → List ℕ → Command
+Keys site master = Deploy (deployment.Keys site master)
+
+abbrev pub Cluster : ℕ → Command
+Cluster plan = Deploy (deployment.Cluster plan)
+
 -- the command of a word and the words behind it
 abbrev pub called : List ℕ → List (List ℕ) → Option Command
 called word options =
@@ -53,7 +67,7 @@ called word options =
     else if bytes_eq word (codes "verify") then plain Verify options
     else if bytes_eq word (codes "audit") then plain Audit options
     else if bytes_eq word (codes "simulate") then option_map (λ said. Simulate said.0 said.1) (simulated options)
-    else deployed word options
+    else option_map Deploy (deployed word options)
 
 -- the command that the words call for, or none where they are outside the grammar
 abbrev pub command_of : List (List ℕ) → Option Command

@@ -1,8 +1,7 @@
-//! Auditing the dump that a source holds.
+//! Auditing the dump of a text.
 ghost use Rattle.std.specs.Prelude.{◌≡◌, ◌≢◌, ℕ, List, Ok, Err};
-ghost use Rattle.cs_base.specs.Outside.{HasCause, Rose};
+ghost use Rattle.cs_base.specs.Outside.{HasCause};
 ghost use Rattle.cs_base.specs.Answers.{Answers};
-ghost use Rattle.cs_command.specs.Answers.{Gives, GivesWhole};
 ghost use Rattle.cs_approve.specs.Approval.{is_approved};
 ghost use Rattle.cs_dump_read.specs.Formed.{IsFormed};
 ghost use Rattle.cs_dump_read.specs.Text.{dump_of};
@@ -14,33 +13,11 @@ ghost use Rattle.cs_cli.specs.Audited.{audited, audit_answer, dump_setup, dump_v
 
 use cs_approve::{Book, BookError};
 use cs_audit::{Verdict, audit, verdict_status, verdict_text};
-use cs_base::{ReadError, Sink, Source, print, read_text};
+use cs_base::{Sink, print};
 use cs_command::closing;
-use cs_dump_read::{Dump, MOST_DUMP, parse_dump};
+use cs_dump_read::{Dump, parse_dump};
 use cs_sched::{Refusal, ScheduleError, refusal_line};
 use std::alloc::Global;
-
-/// Audits the dump in the text of the source, by the book of its contracts, and answers the status
-/// that a program ends with: 0 where no rule is broken, 9 where one is, 3 for a bad line, 13 for a
-/// line past its limit, 5 where the source fails and 6 where the sink does, 8 for want of memory.
-pub fn audit_source<S: Source, K: Sink>(alloc: Global, input: &mut S, output: &mut K) -> u8
-    ensures audits { Gives MOST_DUMP (audit_answer MOST_DUMP)
-        (S.left input.old) (S.left input.new) (K.written output.old) (K.written output.new)
-        (Rose (S.faults input.old) (S.faults input.new)) result }
-    ensures whole { (Rose (S.faults input.old) (S.faults input.new) → ⊥)
-        → (Rose (K.faults output.old) (K.faults output.new) → ⊥)
-        → GivesWhole MOST_DUMP (audit_answer MOST_DUMP)
-        (S.left input.old) (K.written output.old) (K.written output.new) result }
-    ensures only { result ≢ 2 }
-    ensures read_fault { HasCause (S.faults input.old) (S.faults input.new) (result ≡ 5) }
-    ensures write_fault { HasCause (K.faults output.old) (K.faults output.new) (result ≡ 6) }
-{
-    match read_text(alloc, MOST_DUMP, input) {
-        Ok(text) => audit_text(alloc, &text, output),
-        Err(ReadError::Failed) => closing(print(output, b"read fault\n"), 5),
-        Err(ReadError::Memory) => 8,
-    }
-}
 
 /// A dump to which yes is answered is sound, with the history that is told. There is no premise.
 pub fn audited_dumps_are_sound()
@@ -48,8 +25,8 @@ pub fn audited_dumps_are_sound()
         → SaysSound (dump_setup dump) dump (dump_verdict dump) }
 {}
 
-// Audits the dump of a text.
-fn audit_text<K: Sink>(alloc: Global, text: &[u8], output: &mut K) -> u8
+/// Audits the dump of a text, by the book of its contracts.
+pub fn audit_text<K: Sink>(alloc: Global, text: &[u8], output: &mut K) -> u8
     ensures answers { Answers (audit_answer MOST_DUMP text.now)
         (K.written output.old) (K.written output.new) result }
     ensures only { (result ≢ 2) × (result ≢ 5) }

@@ -3,10 +3,38 @@ ghost use Rattle.std.specs.Prelude.{◌≡◌, ◌∷◌, []};
 ghost use Rattle.cs_cli.specs.Words.{texts_of};
 ghost use Rattle.cs_cli.specs.Deployed.{word_at, is_file, are_files, is_turns, node_at, node_called, client_at, client_called, master_in, keys_called, cluster_called, deployed};
 
-use crate::words::Command;
 use cs_command::read_short_number;
 use cs_tx_value::Digest;
 use hex::FromHex;
+
+/// A command of a deployment. Its files stand at these places among the words.
+#[derive(Clone, Copy, Debug, PartialEq, Eq)]
+pub enum Deployment {
+    /// Runs the node of a site file and a key file for so many turns, and prints its lines.
+    Node {
+        site: usize,
+        keys: usize,
+        turns: u64,
+    },
+    /// Runs the client of a site file, a key file and a call file for so many turns at most, and
+    /// prints what has become of its call.
+    Client {
+        site: usize,
+        keys: usize,
+        call: usize,
+        turns: u64,
+    },
+    /// Saves the key files that a master key gives the nodes and clients of a site file.
+    Keys {
+        site: usize,
+        master: Digest,
+    },
+    /// Saves the key files of a plan file's site, starts all its nodes, runs the calls, and prints
+    /// how each child has ended.
+    Cluster {
+        plan: usize,
+    },
+}
 
 /// The word at a place, the command's own at 0.
 pub(crate) fn word_at(words: &[String], place: usize) -> &str
@@ -39,15 +67,15 @@ fn is_turns(word: &str) -> bool
     word == "--turns"
 }
 
-fn node_at(site: usize, keys: usize, turns: &str) -> Option<Command>
+fn node_at(site: usize, keys: usize, turns: &str) -> Option<Deployment>
     ensures { result ≡ node_at site keys turns.now }
 {
     let turns = read_short_number(turns)?;
-    Some(Command::Node { site, keys, turns })
+    Some(Deployment::Node { site, keys, turns })
 }
 
 // The words behind `node`.
-fn read_node(options: &[String]) -> Option<Command>
+fn read_node(options: &[String]) -> Option<Deployment>
     ensures { result ≡ node_called (texts_of options.now) }
 {
     let (first, behind) = options.split_first()?;
@@ -67,7 +95,7 @@ fn read_node(options: &[String]) -> Option<Command>
 }
 
 // The same of exactly so many words.
-fn node_among(a: &str, b: &str, c: &str, d: &str) -> Option<Command>
+fn node_among(a: &str, b: &str, c: &str, d: &str) -> Option<Deployment>
     ensures { result ≡ node_called (a.now ∷ b.now ∷ c.now ∷ d.now ∷ []) }
 {
     if is_turns(c) && are_files(a, b) {
@@ -81,11 +109,11 @@ fn node_among(a: &str, b: &str, c: &str, d: &str) -> Option<Command>
     }
 }
 
-fn client_at(site: usize, keys: usize, call: usize, turns: &str) -> Option<Command>
+fn client_at(site: usize, keys: usize, call: usize, turns: &str) -> Option<Deployment>
     ensures { result ≡ client_at site keys call turns.now }
 {
     let turns = read_short_number(turns)?;
-    Some(Command::Client {
+    Some(Deployment::Client {
         site,
         keys,
         call,
@@ -94,7 +122,7 @@ fn client_at(site: usize, keys: usize, call: usize, turns: &str) -> Option<Comma
 }
 
 // The words behind `client`.
-fn read_client(options: &[String]) -> Option<Command>
+fn read_client(options: &[String]) -> Option<Deployment>
     ensures { result ≡ client_called (texts_of options.now) }
 {
     let (first, behind) = options.split_first()?;
@@ -116,7 +144,7 @@ fn read_client(options: &[String]) -> Option<Command>
 }
 
 // The same of exactly so many words.
-fn client_among(a: &str, b: &str, c: &str, d: &str, e: &str) -> Option<Command>
+fn client_among(a: &str, b: &str, c: &str, d: &str, e: &str) -> Option<Deployment>
     ensures { result ≡ client_called (a.now ∷ b.now ∷ c.now ∷ d.now ∷ e.now ∷ []) }
 {
     if is_turns(d) && are_files(a, b) && is_file(c) {
@@ -140,7 +168,7 @@ fn master_in(word: &str) -> Option<Digest>
 }
 
 // The words behind `keys`.
-fn read_keys(options: &[String]) -> Option<Command>
+fn read_keys(options: &[String]) -> Option<Deployment>
     ensures { result ≡ keys_called (texts_of options.now) }
 {
     let (site, behind) = options.split_first()?;
@@ -149,23 +177,23 @@ fn read_keys(options: &[String]) -> Option<Command>
         return None;
     }
     let master = master_in(master.as_str())?;
-    Some(Command::Keys { site: 1, master })
+    Some(Deployment::Keys { site: 1, master })
 }
 
 // The words behind `cluster`.
-fn read_cluster(options: &[String]) -> Option<Command>
+fn read_cluster(options: &[String]) -> Option<Deployment>
     ensures { result ≡ cluster_called (texts_of options.now) }
 {
     let (plan, others) = options.split_first()?;
     if others.is_empty() && is_file(plan.as_str()) {
-        Some(Command::Cluster { plan: 1 })
+        Some(Deployment::Cluster { plan: 1 })
     } else {
         None
     }
 }
 
 /// The command of a deployment of this word, with the words behind it.
-pub(crate) fn read_deployment(word: &str, options: &[String]) -> Option<Command>
+pub(crate) fn read_deployment(word: &str, options: &[String]) -> Option<Deployment>
     ensures { result ≡ deployed word.now (texts_of options.now) }
 {
     match word {

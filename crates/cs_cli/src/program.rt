@@ -10,7 +10,7 @@ ghost use Rattle.cs_approve.specs.Approval.{is_approved_by};
 ghost use Rattle.cs_replay.specs.Sound.{IsSound};
 ghost use Rattle.cs_replay.specs.Answers.{Replays, Completes};
 ghost use Rattle.cs_replay.specs.declared.schedule.Mode.{Mode};
-ghost use Rattle.cs_cli.specs.Words.{command_of, texts_of};
+ghost use Rattle.cs_cli.specs.Words.{command_of, texts_of, Node, Client, Keys, Cluster};
 ghost use Rattle.cs_tx_form.specs.Log.{ProofFits};
 ghost use Rattle.cs_verify.specs.declared.claim.Claim.{Claim};
 ghost use Rattle.cs_verify.specs.Verdicts.{verify_answer, verdict_on, ShowsExactly, Tells as ProofTells};
@@ -37,14 +37,14 @@ ghost use Rattle.cs_deploy.specs.Node.{NodeRuns};
 ghost use Rattle.cs_deploy.specs.Client.{ClientRuns};
 ghost use Rattle.cs_cli.specs.Answers.{Tells, TellsWhole, words_answer};
 ghost use Rattle.cs_cli.specs.Deployed.{word_at};
-ghost use Rattle.cs_cli.specs.Done.{NodeDecided, ClientDecided, KeysDecided, ClusterDecided, around, Does};
-ghost use Rattle.cs_cli.specs.declared.words.Command.TheVariants.{Replay, Contract, Verify, Audit, Simulate, Node, Client, Keys, Cluster};
+ghost use Rattle.cs_cli.specs.Done.{NodeDecided, ClientDecided, KeysDecided, ClusterDecided, around, all_around, Deploys, Does};
+ghost use Rattle.cs_cli.specs.declared.words.Command.TheVariants.{Replay, Contract, Verify, Audit, Simulate};
 
-use crate::auditing::{audit_source, audited_dumps_are_sound};
+use crate::auditing::audited_dumps_are_sound;
 use crate::claims::shown_claims_are_covered;
-use crate::deployments::word_at;
+use crate::deployments::{Deployment, word_at};
+use crate::examining::{Subject, examine_source};
 use crate::telling::tell_source;
-use crate::verifying::verify_source;
 use crate::words::{Command, read_words};
 use cs_base::{Sink, Source, print};
 use cs_command::closing;
@@ -266,18 +266,13 @@ fn answer<S: Source, K: Sink, E: Store, L: Link, P: Spawner>(
     spawn: &mut P,
 ) -> u8
     requires { (number size : ℕ) → command ≡ Simulate number size → size ≤ MOST_SIZE }
-    ensures does { Does command (texts_of words.now)
-        (around (S.left input.old) (S.faults input.old) (K.written output.old) (K.faults output.old)
-        (E.files store.old) (E.faults store.old)
-        (L.bound link.old) (L.left link.old) (L.offered link.old) (L.missed link.old)
-        (L.faults link.old)
-        (P.started spawn.old) (P.children spawn.old) (P.statuses spawn.old) (P.faults spawn.old))
-        (around (S.left input.new) (S.faults input.new) (K.written output.new) (K.faults output.new)
-        (E.files store.new) (E.faults store.new)
-        (L.bound link.new) (L.left link.new) (L.offered link.new) (L.missed link.new)
-        (L.faults link.new)
-        (P.started spawn.new) (P.children spawn.new) (P.statuses spawn.new) (P.faults spawn.new))
-        result }
+    ensures does { let told = around K.written K.faults E.files E.faults L.bound L.left L.offered
+        L.missed L.faults P.started P.children P.statuses P.faults in
+        Does command (texts_of words.now)
+        (all_around (S.left input.old) (S.faults input.old)
+        (told output.old store.old link.old spawn.old))
+        (all_around (S.left input.new) (S.faults input.new)
+        (told output.new store.new link.new spawn.new)) result }
     ensures only { result ≢ 2 }
     ensures read_fault { HasCause (S.faults input.old) (S.faults input.new) (result ≡ 5) }
     ensures write_fault { HasCause (K.faults output.old) (K.faults output.new) (result ≡ 6) }
@@ -285,15 +280,38 @@ fn answer<S: Source, K: Sink, E: Store, L: Link, P: Spawner>(
     match command {
         Command::Replay(mode) => replay_source(alloc, mode, input, output),
         Command::Contract { printing } => tell_source(alloc, printing, input, output),
-        Command::Verify => verify_source(alloc, input, output),
-        Command::Audit => audit_source(alloc, input, output),
+        Command::Verify => examine_source(alloc, Subject::Claim, input, output),
+        Command::Audit => examine_source(alloc, Subject::Dump, input, output),
         Command::Simulate { number, size } => simulate(alloc, number, size, output),
-        Command::Node { site, keys, turns } => {
+        Command::Deploy(deployment) => deploy(alloc, words, deployment, output, store, link, spawn),
+    }
+}
+
+// Does what a command of a deployment calls for.
+fn deploy<K: Sink, E: Store, L: Link, P: Spawner>(
+    alloc: Global,
+    words: &[String],
+    deployment: Deployment,
+    output: &mut K,
+    store: &mut E,
+    link: &mut L,
+    spawn: &mut P,
+) -> u8
+    ensures deploys { let told = around K.written K.faults E.files E.faults L.bound L.left L.offered
+        L.missed L.faults P.started P.children P.statuses P.faults in
+        Deploys deployment (texts_of words.now)
+        (told output.old store.old link.old spawn.old)
+        (told output.new store.new link.new spawn.new) result }
+    ensures only { (result ≢ 2) × (result ≢ 5) }
+    ensures write_fault { HasCause (K.faults output.old) (K.faults output.new) (result ≡ 6) }
+{
+    match deployment {
+        Deployment::Node { site, keys, turns } => {
             let site = word_at(words, site);
             let keys = word_at(words, keys);
             run_node(alloc, site, keys, turns, store, link, output)
         }
-        Command::Client {
+        Deployment::Client {
             site,
             keys,
             call,
@@ -304,10 +322,10 @@ fn answer<S: Source, K: Sink, E: Store, L: Link, P: Spawner>(
             let call = word_at(words, call);
             run_client(alloc, site, keys, call, turns, store, link, output)
         }
-        Command::Keys { site, master } => {
+        Deployment::Keys { site, master } => {
             run_keys(alloc, word_at(words, site), &master, store, output)
         }
-        Command::Cluster { plan } => {
+        Deployment::Cluster { plan } => {
             run_cluster(alloc, word_at(words, plan), store, spawn, output)
         }
     }

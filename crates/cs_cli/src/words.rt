@@ -5,10 +5,9 @@ ghost use Rattle.std.specs.declared.io.ErrorKind.TheVariants.{InvalidData};
 ghost use Rattle.cs_cli.specs.Words.{called, command_of, flagged, plain, plain_mode, mode_from, with_option, texts_of};
 ghost use Rattle.cs_cli.specs.declared.words.WordsError.TheVariants.{NotText, Memory};
 
-use crate::deployments::read_deployment;
+use crate::deployments::{Deployment, read_deployment};
 use crate::numbers::read_simulation;
 use cs_replay::Mode;
-use cs_tx_value::Digest;
 use std::alloc::{AllocFailed, Global};
 use std::io;
 use std::io::ErrorKind;
@@ -21,43 +20,15 @@ pub enum Command {
     Replay(Mode),
     /// Reads a contract from the input, and tells what it is, or what its first fault is; where it
     /// is accepted and to be printed, its text as the printer gives it instead.
-    Contract {
-        printing: bool,
-    },
+    Contract { printing: bool },
     /// Reads a head and a proof from the input, and says what the proof shows to who trusts the head.
     Verify,
     /// Reads a dump from the input, and says whether it is sound, or the first rule that it breaks.
     Audit,
     /// Plays the schedule of a number and a size, and prints the numbers of what was played.
-    Simulate {
-        number: u64,
-        size: u32,
-    },
-    /// Runs the node of a site file and a key file, which stand at these places among the words, for
-    /// so many turns, and prints its lines.
-    Node {
-        site: usize,
-        keys: usize,
-        turns: u64,
-    },
-    /// Runs the client of a site file, a key file and a call file for so many turns at most, and
-    /// prints what has become of its call.
-    Client {
-        site: usize,
-        keys: usize,
-        call: usize,
-        turns: u64,
-    },
-    /// Saves the key files that a master key gives the nodes and clients of a site file.
-    Keys {
-        site: usize,
-        master: Digest,
-    },
-    /// Saves the key files of a plan file's site, starts all its nodes, runs the calls, and prints
-    /// how each child has ended.
-    Cluster {
-        plan: usize,
-    },
+    Simulate { number: u64, size: u32 },
+    /// Runs a node or a client, or saves key files, as the files among the words say.
+    Deploy(Deployment),
 }
 
 /// Why the words of the command line were not read.
@@ -136,7 +107,10 @@ fn read_command(word: &str, options: &[String]) -> Option<Command>
             let (number, size) = read_simulation(options)?;
             Some(Command::Simulate { number, size })
         }
-        _ => read_deployment(word, options),
+        _ => {
+            let deployment = read_deployment(word, options)?;
+            Some(Command::Deploy(deployment))
+        }
     }
 }
 

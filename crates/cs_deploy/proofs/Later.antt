@@ -16,17 +16,9 @@ use Rattle.cs_proc.specs.declared.error.ProcError.{ProcError}
 use Rattle.cs_attend.specs.declared.ending.Ending.{Ending}
 use Rattle.cs_attend.specs.declared.ending.Ending.TheVariants.{Knows, Refused, LinkFault, Memory}
 use Rattle.cs_attend.specs.Attending as attend
-use Rattle.cs_serve.specs.Offering.{Adds, AddsFront}
-use Rattle.cs_deploy_keys.proofs.Told.{changes-after}
+use Rattle.cs_serve.specs.laws.Offering.{adds-later, front-later}
+use Rattle.cs_outer.specs.laws.Told.{changes-after}
 use Rattle.cs_deploy.specs.Node.{ServesFrom}
-
--- ---- what is offered
-
-adds-later : (a b c : Option Offers) (offers : Offers) → Stays a b → Adds offers b c → Adds offers a c
-adds-later a b c offers = changes-after (λ (before now : Offers). now ≡ before ++ offers) a b c
-
-front-later : (a b c : Option Offers) (offers : Offers) → Stays a b → AddsFront offers b c → AddsFront offers a c
-front-later a b c offers stays (front, rest, whole, p) = (front, rest, whole, adds-later a b c front stays p)
 
 -- ---- a node
 
@@ -90,12 +82,13 @@ module _ {M : Type 0} (site : Site M) (v : View M) (turns : ℕ) (b : Outer) whe
       by end.Memory inputs gives = part-so _ _ gives
 
   -- a bind changed nothing of this
-  pub serves-later : (left left' : Option (List MemInput)) (offered offered' : Option Offers) (missed missed' : ℕ) (written : Option Bytes) (ending : End) → Stays left left' → Stays offered offered' → missed' ≡ missed
-      → ServesFrom site v turns (outer left' offered' missed' written) b ending → ServesFrom site v turns (outer left offered missed written) b ending
-  serves-later left left' offered offered' missed missed' written ending stays kept same serves =
+  pub serves-later : (left left' : Option (List MemInput)) (offered offered' : Option Offers) (missed missed' : ℕ) (written written' : Option Bytes) (ending : End) → Stays left left' → Stays offered offered' → missed' ≡ missed → written' ≡ written
+      → ServesFrom site v turns (outer left' offered' missed' written') b ending → ServesFrom site v turns (outer left offered missed written) b ending
+  serves-later left left' offered offered' missed missed' written written' ending stays kept same unwritten serves =
       offered-later (outer left offered' missed written) offered ending kept
       (left-later (outer left' offered' missed written) left ending stays
-      (subst (λ (n : ℕ). ServesFrom site v turns (outer left' offered' n written) b ending) same serves))
+      (subst (λ (n : ℕ). ServesFrom site v turns (outer left' offered' n written) b ending) same
+      (subst (λ (w : Option Bytes). ServesFrom site v turns (outer left' offered' missed' w) b ending) unwritten serves)))
 
 -- the node that is left isn't spoken of
 pub serves-alone : {C M : Type 0} (stands : C → View M → Type 0) (site : Site M) (v : View M) (turns : ℕ) (a b : Outer) (result : End × Option C) → Serves stands site v turns a b result → ServesFrom site v turns a b result.0

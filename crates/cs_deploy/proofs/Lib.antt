@@ -1,5 +1,4 @@
+pub mod Bound
 pub mod Later
 pub mod Decided
-pub mod Apart
-pub mod Keyed
 pub mod Spoken

@@ -1,5 +1,5 @@
 -- What a node or a client finds at its link and its sink, and what it leaves there.
-use Rattle.std.specs.Prelude.{◌≡◌, ◌⊎◌, ℕ, List, codes, Option, Ok}
+use Rattle.std.specs.Prelude.{◌≡◌, ◌⊎◌, ℕ, List, codes, Option, Result, Ok, Err}
 use Rattle.cs_base.specs.Answers.{Answer, Answers}
 use Rattle.cs_base.specs.declared.node_id.NodeId.{NodeId}
 use Rattle.cs_outer.specs.Told.{Stays}
@@ -46,6 +46,17 @@ pub record IsUnbound (me : NodeId) (base_port : ℕ) (LinkFailed : Type 0) (old 
   pub bound : Binds old.bound new.bound me base_port bind.Failed
   pub quiet : IsQuiet old new
   pub told : Answers link_answer old.written new.written status
+
+-- The link was bound, and all else left alone.
+pub record IsBound (me : NodeId) (base_port : ℕ) (old new : Outside) : Type 0 where
+  pub bound : Binds old.bound new.bound me base_port bind.Done
+  pub quiet : IsQuiet old new
+  pub unwritten : new.written ≡ old.written
+
+-- what comes of binding it, with the status of a program whose link could not be bound
+abbrev pub BindsOrTells : NodeId → ℕ → Type 0 → Outside → Outside → Result (Unit {0}) ℕ → Type 0
+BindsOrTells me base_port LinkFailed old new (Ok done) = IsBound me base_port old new
+BindsOrTells me base_port LinkFailed old new (Err status) = IsUnbound me base_port LinkFailed old new status
 
 -- ---- files first
 

@@ -8,13 +8,14 @@ ghost use Rattle.cs_deploy_keys.specs.Untaken.{IsDecided};
 ghost use Rattle.cs_deploy.specs.Outside.{outside};
 ghost use Rattle.cs_deploy.specs.Client.{ClientGoes, ClientRuns, IsToldOf, TellsEnding, known_answer, known_status, refused_answer};
 
+use crate::binding::bind_or_tell;
 use crate::refusals::refusal_line;
 use cs_attend::{Ending, attend};
 use cs_base::Sink;
 use cs_client::{ClientCore, Known, known_line};
 use cs_config::CallFile;
 use cs_deploy_keys::{refuse, tell};
-use cs_outer::{Bound, Link, Store};
+use cs_outer::{Link, Store};
 use cs_proc::ProcError;
 use cs_take::{Setup, take_client};
 use std::alloc::Global;
@@ -81,9 +82,9 @@ fn run_call<L: Link, K: Sink>(
     let Ok(client) = ClientCore::start(alloc, site, keys, book, call) else {
         return 8;
     };
-    match link.bind(me, base_port) {
-        Bound::Done => tell_ending(alloc, attend(alloc, client, link, turns), out),
-        Bound::Failed => tell(out, b"link fault\n", 7),
+    match bind_or_tell(link, me, base_port, out) {
+        Ok(()) => tell_ending(alloc, attend(alloc, client, link, turns), out),
+        Err(status) => status,
     }
 }
 

@@ -1,8 +1,8 @@
 //! The commands that run one node of a deployment, or one client, by the files that name it.
 #![tactic(auto)]
 
+mod binding;
 mod clients;
-mod genesis;
 mod nodes;
 mod refusals;
 mod speaking;

@@ -10,10 +10,11 @@ ghost use Rattle.cs_deploy_keys.specs.Untaken.{IsDecided};
 ghost use Rattle.cs_deploy.specs.Outside.{outside};
 ghost use Rattle.cs_deploy.specs.Node.{NodeGoes, NodeRuns, TellsEnd};
 
+use crate::binding::bind_or_tell;
 use crate::starting::start_node;
 use cs_base::Sink;
 use cs_deploy_keys::{refuse, tell};
-use cs_outer::{Bound, Link, Store};
+use cs_outer::{Link, Store};
 use cs_serve::{End, serve};
 use cs_take::{Setup, take_node};
 use std::alloc::Global;
@@ -77,12 +78,12 @@ fn run_setup<L: Link, K: Sink>(
     let Ok(core) = start_node(alloc, setup) else {
         return 8;
     };
-    match link.bind(me, base_port) {
-        Bound::Done => {
+    match bind_or_tell(link, me, base_port, out) {
+        Ok(()) => {
             let (end, _core) = serve(alloc, core, link, out, turns);
             tell_end(end, out)
         }
-        Bound::Failed => tell(out, b"link fault\n", 7),
+        Err(status) => status,
     }
 }
 

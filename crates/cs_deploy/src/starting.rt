@@ -8,12 +8,12 @@ ghost use Rattle.cs_take.specs.declared.keys.Role.TheVariants.{Node};
 ghost use Rattle.cs_take.specs.Setups.{IsSound};
 ghost use Rattle.cs_deploy.specs.Node.{site_in};
 
-use crate::genesis::keyed;
 use cs_approve::Book;
 use cs_base::Memory;
 use cs_log::SlotOrder;
-use cs_node::{Core, StartError};
+use cs_node::Core;
 use cs_order::Order;
+use cs_start::{keyed, start};
 use cs_take::Setup;
 use cs_tx::Judge;
 use std::alloc::Global;
@@ -29,11 +29,5 @@ pub(crate) fn start_node(alloc: Global, setup: Setup) -> Result<Core<SlotOrder, 
 {
     let Setup { site, book, keys } = setup;
     let genesis = keyed(alloc, site.genesis.as_slice())?;
-    let order = SlotOrder::new(alloc, site.config.f, keys.me().index)?;
-    match Core::start(alloc, site.config, keys, book, genesis.as_slice(), order) {
-        Ok(core) => Ok(core),
-        // The keys of a setup's objects differ.
-        Err(StartError::Duplicate(_)) => unreachable!(),
-        Err(StartError::Memory) => Err(Memory),
-    }
+    start(alloc, site.config, keys, book, genesis.as_slice())
 }

@@ -12,7 +12,7 @@ use Rattle.cs_key_files.specs.Saving.{SavesUpTo, Saves}
 use Rattle.cs_spawn.specs.Running.{Outer, outer, Starts}
 use Rattle.cs_deploy_keys.specs.Cluster.{ClusterGoes}
 use Rattle.cs_deploy_keys.proofs.Answered.{rose-later}
-use Rattle.cs_deploy_keys.proofs.Told.{stays-same, changes-after}
+use Rattle.cs_outer.specs.laws.Told.{stays-same, changes-after}
 
 -- no child was started
 pub idle-same : (started : Option Children) (children : ℕ) (statuses : Option (ℕ → ℕ)) (written written' : Option (List ℕ)) → Starts [] (outer started children statuses written) (outer started children statuses written')

@@ -32,7 +32,8 @@ use Rattle.cs_dump_read.specs.declared.dump.Log.{Log}
 use Rattle.cs_dump_read.specs.Printed.{leaf_words, head_words, tx_words, log_words, log_lines, logs_lines, config_lines, history_lines}
 use Rattle.cs_dump_read.specs.Again.{IsEncodedLog}
 use Rattle.cs_dump_read.specs.Formed.{IsFormedLog}
-use Rattle.cs_dump_read.proofs.Fields.{shards_back, faulty_back, dummies_back, contract_back, object_back, log_back, leaf_back, digest_back, txs_back, next_new}
+use Rattle.cs_sched.proofs.Fields.{shards_back, faulty_back, dummies_back, contract_back, object_back, digest_back, next_new}
+use Rattle.cs_dump_read.proofs.Fields.{log_back, leaf_back, txs_back}
 use Rattle.cs_dump_read.proofs.Steps.{steps, then_step, steps_then}
 
 -- a draft between logs, whose names are those of its objects

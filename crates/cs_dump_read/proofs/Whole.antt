@@ -13,14 +13,14 @@ use Rattle.cs_tx_form.specs.Log.{LeafFits, leaf_at}
 use Rattle.cs_tx.specs.Digest.{name_of_genesis}
 use Rattle.cs_sched.specs.Names.{is_known}
 use Rattle.cs_sched.specs.Reading.{GivesText}
-use Rattle.cs_sched.specs.Said.{no_field, number_said, shards_said, faulty_said, dummies_said, contract_said, object_said}
+use Rattle.cs_sched.specs.Said.{digest_said, no_field, number_said, shards_said, faulty_said, dummies_said, contract_said, object_said}
 use Rattle.cs_sched.specs.declared.cause.Cause.{Cause}
 use Rattle.cs_sched.specs.declared.cause.Cause.TheVariants as cause
 use Rattle.cs_sched.specs.declared.cause.Refusal.{Refusal}
 use Rattle.cs_sched.specs.declared.error.ScheduleError.{ScheduleError}
 use Rattle.cs_sched.proofs.Steps.{step_ok, change_ok, ok_same, when_ok, unless_ok, either_ok, some_ok}
 use Rattle.cs_sched.proofs.Said.{contract_said-ok, object_said-ok, bytes_fit}
-use Rattle.cs_dump_read.specs.Said.{log_said, leaf_said, encoded_leaf, digest_said}
+use Rattle.cs_dump_read.specs.Said.{log_said, leaf_said, encoded_leaf}
 use Rattle.cs_dump_read.specs.Drafts.{empty_draft, has_ended, is_open}
 use Rattle.cs_dump_read.specs.Lines.{with_config, with_contract, with_genesis, with_log, with_leaf, with_head, with_history, with_tx, at_stage, shards_line, faulty_line, dummies_line, contract_line, named_object, genesis_line, log_line, leaf_line, head_line, history_line, tx_line, end_line}
 use Rattle.cs_dump_read.specs.Places.{next_place, logs_place, genesis_place, contracts_place, history_place, before_place, line_at, line_step}

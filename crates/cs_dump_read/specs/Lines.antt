@@ -6,10 +6,10 @@ use Rattle.cs_tx_form.specs.declared.leaf.Leaf.{Leaf}
 use Rattle.cs_tx.specs.Digest.{name_of_genesis}
 use Rattle.cs_sched.specs.Values.{◌>>=◌}
 use Rattle.cs_sched.specs.Names.{is_known}
-use Rattle.cs_sched.specs.Said.{no_field, number_said, shards_said, faulty_said, dummies_said, contract_said, object_said}
+use Rattle.cs_sched.specs.Said.{digest_said, no_field, number_said, shards_said, faulty_said, dummies_said, contract_said, object_said}
 use Rattle.cs_sched.specs.declared.cause.Cause.{Cause}
 use Rattle.cs_sched.specs.declared.cause.Cause.TheVariants as cause
-use Rattle.cs_dump_read.specs.Said.{log_said, leaf_said, digest_said}
+use Rattle.cs_dump_read.specs.Said.{log_said, leaf_said}
 use Rattle.cs_dump_read.specs.Drafts.{empty_log, is_open}
 use Rattle.cs_dump_read.specs.declared.draft.Draft.{Draft}
 use Rattle.cs_dump_read.specs.declared.draft.Stage.{Stage}

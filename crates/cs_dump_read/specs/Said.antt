@@ -5,7 +5,7 @@ use Rattle.cs_base.specs.Codes.{number_of, bytes_of}
 use Rattle.cs_base.specs.Fields.{whole_at}
 use Rattle.cs_tx_form.specs.declared.leaf.Leaf.{Leaf}
 use Rattle.cs_tx_form.specs.Log.{leaf_at}
-use Rattle.cs_sched.specs.Values.{◌>>=◌, digest_in}
+use Rattle.cs_sched.specs.Values.{◌>>=◌}
 use Rattle.cs_sched.specs.Said.{only_field}
 use Rattle.cs_sched.specs.declared.cause.Cause.{Cause}
 use Rattle.cs_sched.specs.declared.cause.Cause.TheVariants as cause
@@ -34,9 +34,3 @@ abbrev pub leaf_said : List (List ℕ) → Result Leaf Cause
 leaf_said fields = do
   field ← only_field fields
   leaf_in field
-
--- 32 bytes in hex
-abbrev pub digest_said : List (List ℕ) → Result (List ℕ) Cause
-digest_said fields = do
-  field ← only_field fields
-  digest_in field

@@ -6,11 +6,11 @@ ghost use Rattle.cs_dump_read.specs.Drafts.{empty_dump, empty_draft};
 ghost use Rattle.cs_dump_read.specs.Lines.{shards_line, faulty_line, dummies_line, contract_line, genesis_line, log_line, leaf_line, head_line, history_line, tx_line, end_line, settled};
 
 use crate::dump::{Dump, Log, no_slot};
-use crate::lines::{read_digest_line, read_leaf_line, read_log_line};
+use crate::lines::{read_leaf_line, read_log_line};
 use cs_base::Sequence;
 use cs_sched::{
     Cause, LineError, NameSet, genesis_name, least_config, no_field, only_number,
-    read_contract_line, read_dummies, read_faulty, read_object_line, read_shards,
+    read_contract_line, read_digest_line, read_dummies, read_faulty, read_object_line, read_shards,
 };
 use std::alloc::Global;
 use std::mem;

@@ -2,11 +2,11 @@
 ghost use Rattle.std.specs.Prelude.{◌≡◌};
 ghost use Rattle.cs_base.specs.Lines.{views};
 ghost use Rattle.cs_sched.specs.Reading.{GivesStep};
-ghost use Rattle.cs_dump_read.specs.Said.{slots_of, log_said, encoded_leaf, leaf_in, leaf_said, digest_said};
+ghost use Rattle.cs_dump_read.specs.Said.{slots_of, log_said, encoded_leaf, leaf_in, leaf_said};
 
 use cs_base::read_bytes;
-use cs_sched::{Cause, LineError, only_field, read_digest, read_field_number};
-use cs_tx::{Digest, Encoded, FormError, Leaf};
+use cs_sched::{Cause, LineError, only_field, read_field_number};
+use cs_tx::{Encoded, FormError, Leaf};
 use std::alloc::Global;
 
 // How many slots the log has of the shard whose turn it is.
@@ -54,11 +54,4 @@ fn decode_leaf(alloc: Global, bytes: &[u8]) -> Result<Leaf, LineError>
         Err(FormError::BadForm) => Err(LineError::Bad(Cause::Object)),
         Err(FormError::TooLong) => Err(LineError::Bad(Cause::Object)),
     }
-}
-
-pub(crate) fn read_digest_line(alloc: Global, fields: &[&[u8]]) -> Result<Digest, LineError>
-    ensures { GivesStep result (digest_said (views fields.now)) }
-{
-    let field = only_field(fields)?;
-    read_digest(alloc, field)
 }

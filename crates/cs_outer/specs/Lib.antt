@@ -4,3 +4,4 @@ pub mod Files
 pub mod Link
 pub mod Spawner
 pub mod InMemory
+pub mod laws

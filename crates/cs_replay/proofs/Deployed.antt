@@ -1,18 +1,14 @@
 -- The nodes of a schedule that can be played: those that don't lie.
-use Rattle.std.proofs.Common.{◌≡◌, ℕ, zero, suc, ◌+◌, ◌*◌, ◌<◌, ◌≤◌, nat_lt, nat_le, ◌==◌, true, false, not, ◌&&◌, ◌||◌, List, [], ◌∷◌, ◌++◌, length, take, get_or, Some, None, refl, ap, sym, subst, ◌∙◌, arith}
+use Rattle.std.proofs.Common.{◌≡◌, ℕ, zero, suc, ◌+◌, ◌*◌, ◌<◌, ◌≤◌, nat_lt, nat_le, ◌==◌, true, false, not, ◌&&◌, ◌||◌, List, [], ◌∷◌, ◌++◌, length, get_or, Some, None, refl, ap, sym, subst, ◌∙◌, arith}
 use Rattle.std.specs.Prelude.{Bool, Option, if◌then◌else◌}
 use Rattle.std.specs.List.{All, list_any}
 use Rattle.std.proofs.lemmas.Bool.{eqb-true, ltb-true, leb-true, lt-ltb, le-leb}
 use Rattle.std.proofs.lemmas.Bool.Decides.{nat_tests}
-use Rattle.std.proofs.lemmas.List.{take_more, length-take}
 use Rattle.cs_base.specs.declared.config.Config.{Config}
-use Rattle.cs_base.specs.declared.key.Key.TheVariants as key
 use Rattle.cs_base.specs.declared.node_id.NodeId.{NodeId}
 use Rattle.cs_tx_value.specs.declared.object.Object.{Object}
-use Rattle.cs_tx_value.specs.Object.{ObjectFits}
 use Rattle.cs_tx_form.specs.declared.transaction.Tx.{Tx}
 use Rattle.cs_tx_form.specs.declared.session.Session.{Session}
-use Rattle.cs_tx.specs.Digest.{name_of_genesis}
 use Rattle.cs_tx.specs.Sessions.{session_of}
 use Rattle.cs_tx.specs.Uses as Uses
 use Rattle.cs_tx.proofs.ShardsSeen.{concerns-session_of}
@@ -30,7 +26,6 @@ use Rattle.cs_node_rules.specs.Site.{Site, View, start_view}
 use Rattle.cs_node_state.specs.Deployed.{rules_of, setup_of}
 use Rattle.cs_node.specs.declared.nodes.Core.{Core}
 use Rattle.cs_node.specs.Cores.{StandsFor}
-use Rattle.cs_node.specs.Setups.{keyed_from, AreObjects}
 use Rattle.cs_node_law.specs.Given as Given
 use Rattle.cs_sched.specs.Naming.{is_name, is_liar}
 use Rattle.cs_sched.specs.Playable.{IsHonest, IsSpeaker, IsPlayable, IsPlayableEvent}
@@ -41,28 +36,6 @@ use Rattle.cs_replay.specs.Site.{net_of_schedule}
 use Rattle.cs_replay.specs.Settings.{honest_nodes, name_in, setting_of}
 use Rattle.cs_replay.proofs.Few.{count-same, count-listed}
 use Rattle.cs_replay.proofs.Honest.{Has, has-below, is-below, apart-below, ranks-within, shards-within}
-
--- ---- objects under their keys
-
-keyed-push : (n : ℕ) (objects : List Object) (object : Object) → keyed_from n (objects ++ object ∷ []) ≡ keyed_from n objects ++ (key.Object (name_of_genesis (n + length objects) object), object) ∷ []
-keyed-push n [] object = let same : n ≡ n + 0 = omega arith in ap (λ m. (key.Object (name_of_genesis m object), object) ∷ []) same
-keyed-push n (first ∷ objects) object =
-    let same : (n + 1) + length objects ≡ n + suc (length objects) = omega arith in
-    ap (λ rest. (key.Object (name_of_genesis n first), first) ∷ rest)
-    (keyed-push (n + 1) objects object ∙ ap (λ m. keyed_from (n + 1) objects ++ (key.Object (name_of_genesis m object), object) ∷ []) same)
-
--- one object more
-pub keyed-more : (objects : List Object) (k : ℕ) (object : Object) → k < length objects → object ≡ get_or objects k object
-    → keyed_from 0 (take (k + 1) objects) ≡ keyed_from 0 (take k objects) ++ (key.Object (name_of_genesis k object), object) ∷ []
-keyed-more objects k object within is =
-    let count : 0 + length (take k objects) ≡ k = omega (arith, length-take k objects) in
-    ap (keyed_from 0) (take_more objects k object within ∙ ap (λ o. take k objects ++ o ∷ []) (sym is))
-    ∙ keyed-push 0 (take k objects) object
-    ∙ ap (λ m. keyed_from 0 (take k objects) ++ (key.Object (name_of_genesis m object), object) ∷ []) count
-
-pub keyed-fit : (n : ℕ) (objects : List Object) → All ObjectFits objects → AreObjects (keyed_from n objects)
-keyed-fit n [] all = tt
-keyed-fit n (object ∷ objects) all = (all 0 object (omega arith), keyed-fit (n + 1) objects (λ k d within. all (suc k) d (omega arith)))
 
 -- ---- the setup of a deployment
 

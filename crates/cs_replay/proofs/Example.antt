@@ -3,7 +3,6 @@ use Rattle.std.proofs.Common.{◌≡◌, ℕ, zero, suc, ◌+◌, ◌==◌, ◌�
 use Rattle.std.specs.List.{All}
 use Rattle.cs_base.specs.Fields.{IsBytes}
 use Rattle.cs_base.specs.NodeId.{is_node}
-use Rattle.cs_base.specs.declared.config.Config.{Config}
 use Rattle.cs_base.specs.declared.node_id.NodeId.{NodeId}
 use Rattle.cs_tx_form.specs.declared.transaction.Tx.{Tx}
 use Rattle.cs_sched_types.specs.declared.schedule.Schedule.{Schedule}

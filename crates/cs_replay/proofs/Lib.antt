@@ -1,4 +1,3 @@
-pub mod Apart
 pub mod Books
 pub mod Deployed
 pub mod Earlier

@@ -1,5 +1,5 @@
 -- The lines of the events, and then the history, are the whole.
-use Rattle.std.proofs.Common.{◌≡◌, ℕ, suc, Bool, ◌++◌, List, [], ◌∷◌, length, Option, Result, Ok, Err, IfOk, refl, ap, sym, subst, ◌∙◌, append_assoc, append-nil}
+use Rattle.std.proofs.Common.{◌≡◌, ℕ, Bool, ◌++◌, List, [], length, Option, Result, Ok, Err, IfOk, refl, ap, sym, subst, ◌∙◌, append_assoc, append-nil}
 use Rattle.std.specs.Io.KnownBytes.{Appends}
 use Rattle.std.proofs.KnownBytes.{Appends-trans}
 use Rattle.cs_base.specs.Answers.{Answers, AppendsFront}

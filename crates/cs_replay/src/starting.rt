@@ -1,9 +1,6 @@
 //! The start of the nodes of a schedule.
-ghost use Rattle.std.specs.Prelude.{◌≡◌, ◌≤◌, [], length, true, IfOk};
-ghost use Rattle.std.specs.List.{All};
-ghost use Rattle.cs_base.specs.declared.limits.TheConstants.{MOST_GENESIS};
+ghost use Rattle.std.specs.Prelude.{◌≡◌, [], length, true, IfOk};
 ghost use Rattle.cs_base.specs.NodeId.{is_node};
-ghost use Rattle.cs_tx_value.specs.Object.{ObjectFits};
 ghost use Rattle.cs_node_rules.specs.Site.{start_view};
 ghost use Rattle.cs_sched.specs.Playable.{IsPlayable};
 ghost use Rattle.cs_node.specs.Setups.{keyed_from};
@@ -14,11 +11,12 @@ ghost use Rattle.cs_replay.specs.Settings.{honest_nodes, name_in};
 
 use cs_base::{Key, Memory, NodeId};
 use cs_log::SlotOrder;
-use cs_node::{Core, StartError, keys_of_a_master_speak};
+use cs_node::{Core, keys_of_a_master_speak};
 use cs_order::Order;
 use cs_sched::is_liar;
 use cs_sched_types::Schedule;
-use cs_tx::{Encoded, Judge, Object, genesis_key};
+use cs_start::{keyed, start};
+use cs_tx::{Judge, Object};
 use cs_wire::Keys;
 use std::alloc::Global;
 
@@ -82,26 +80,5 @@ fn start_node<J: Judge + Copy + Drop>(
 {
     keys_of_a_master_speak();
     let keys = Keys::from_master(alloc, &schedule.config, &schedule.master, name)?;
-    let order = SlotOrder::new(alloc, schedule.config.f, name.index)?;
-    match Core::start(alloc, schedule.config, keys, judge, genesis, order) {
-        Ok(core) => Ok(core),
-        // The keys of a schedule's objects differ.
-        Err(StartError::Duplicate(_)) => unreachable!(),
-        Err(StartError::Memory) => Err(Memory),
-    }
-}
-
-// The genesis objects under their keys.
-fn keyed(alloc: Global, objects: &[Object]) -> Result<Vec<(Key, Object)>, Memory>
-    requires fits { All ObjectFits objects.now }
-    requires few { length objects.now ≤ MOST_GENESIS }
-    ensures { IfOk result (λ keyed. keyed.items ≡ keyed_from 0 objects.now) }
-{
-    let mut keyed = Vec::new(alloc);
-    for (place, object) in objects.iter().enumerate() {
-        let key = genesis_key(alloc, place as u32, object)?;
-        let copied = object.copy(alloc)?;
-        keyed.push((key, copied))?;
-    }
-    Ok(keyed)
+    start(alloc, schedule.config, keys, judge, genesis)
 }

@@ -1,6 +1,7 @@
 pub mod Again
 pub mod Back
 pub mod Distinct
+pub mod Fields
 pub mod Liars
 pub mod Objects
 pub mod Plain

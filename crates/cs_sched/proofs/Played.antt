@@ -15,7 +15,7 @@ use Rattle.cs_sched.specs.declared.draft.Stage.TheVariants as stage
 use Rattle.cs_sched.specs.declared.error.ScheduleError.{ScheduleError}
 use Rattle.cs_sched.specs.Names.{is_known}
 use Rattle.cs_sched.specs.Drafts.{empty_draft, has_ended}
-use Rattle.cs_sched.specs.Said.{no_field, shards_said, faulty_said, dummies_said, master_said, liar_said, contract_said, object_said}
+use Rattle.cs_sched.specs.Said.{no_field, shards_said, faulty_said, dummies_said, digest_said, liar_said, contract_said, object_said}
 use Rattle.cs_sched.specs.Events.{event_said}
 use Rattle.cs_sched.specs.Lines.{with_config, with_master, with_liar, with_contract, with_genesis, with_event, at_stage, shards_line, faulty_line, dummies_line, master_line, liar_line, named_object, genesis_line, run_line, event_line, end_line, contract_line}
 use Rattle.cs_sched.specs.Places.{genesis_place, contracts_place, liars_place, events_place, line_at, line_step}
@@ -24,7 +24,7 @@ use Rattle.cs_sched.specs.Playable.{IsPlayable}
 use Rattle.cs_sched.specs.Reading.{GivesText}
 use Rattle.cs_sched.proofs.Steps.{step_ok, change_ok, ok_same, when_ok, unless_ok, either_ok}
 use Rattle.cs_sched.proofs.Sound.{IsSound, has_run, has_master, empty_sound, at_stage-sound, with_config-sound, with_master-sound, with_event-sound, with_contract-sound, with_genesis-sound, with_liar-sound}
-use Rattle.cs_sched.proofs.Said.{master_said-ok, contract_said-ok, object_said-ok}
+use Rattle.cs_sched.proofs.Said.{digest_said-ok, contract_said-ok, object_said-ok}
 use Rattle.cs_sched.proofs.Liars.{liar_said-ok}
 use Rattle.cs_sched.proofs.Told.{event_said-ok}
 
@@ -46,8 +46,8 @@ module _ (draft next : Draft) (fields : List (List ℕ)) (sound : IsSound draft)
 
   master_sound : draft.schedule.events ≡ [] → master_line draft fields ≡ Ok next → IsSound next
   master_sound none is =
-      let (master, said, moved) = change_ok (master_said fields) (λ master. with_master draft master) next is in
-      subst IsSound moved (with_master-sound draft master sound none (master_said-ok fields master said))
+      let (master, said, moved) = change_ok (digest_said fields) (λ master. with_master draft master) next is in
+      subst IsSound moved (with_master-sound draft master sound none (digest_said-ok fields master said))
 
   liar_sound : has_master draft.stage ≡ true → draft.schedule.events ≡ [] → liar_line draft fields ≡ Ok next → IsSound next
   liar_sound met none is =

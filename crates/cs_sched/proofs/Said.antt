@@ -19,7 +19,7 @@ use Rattle.cs_sched.specs.declared.cause.Cause.TheVariants as cause
 use Rattle.cs_sched.specs.Values.{◌>>=◌, bytes_within, contract_in, encoded_object, object_in}
 use Rattle.cs_sched.specs.declared.limits.TheConstants.{MOST_CONTRACTS}
 use Rattle.cs_sched.specs.Playable.{IsContractText}
-use Rattle.cs_sched.specs.Said.{master_said, contract_said, object_said}
+use Rattle.cs_sched.specs.Said.{digest_said, contract_said, object_said}
 use Rattle.cs_sched.proofs.Steps.{step_ok, ok_same, when_ok, unless_ok, some_ok}
 use Rattle.cs_sched.proofs.Objects.{found_fits}
 
@@ -48,14 +48,14 @@ bytes_within-ok most field bytes is =
       subst IsBytes same (bytes_fit field read (some_ok (bytes_of field) cause.Hex read hex)),
     )
 
-pub master_said-ok : (fields : List (List ℕ)) (master : List ℕ) → master_said fields ≡ Ok master → DigestFits master
-master_said-ok [] master is = absurd cc
-master_said-ok (field ∷ []) master is =
+pub digest_said-ok : (fields : List (List ℕ)) (master : List ℕ) → digest_said fields ≡ Ok master → DigestFits master
+digest_said-ok [] master is = absurd cc
+digest_said-ok (field ∷ []) master is =
     let (bytes, hex, after) = step_ok (ok_or (bytes_of field) cause.Hex) (λ bytes. if length bytes == 32 then Ok bytes else Err cause.Hex) master is in
     let (long, done) = when_ok (length bytes == 32) (Ok bytes) cause.Hex master after in
     let same : bytes ≡ master = ok_same bytes master done in
     subst DigestFits same (eqb-true (length bytes) 32 long, bytes_fit field bytes (some_ok (bytes_of field) cause.Hex bytes hex))
-master_said-ok (field ∷ another ∷ more) master is = absurd cc
+digest_said-ok (field ∷ another ∷ more) master is = absurd cc
 
 pub contract_said-ok : (place : ℕ) (fields : List (List ℕ)) (text : List ℕ) → contract_said place fields ≡ Ok text → (place < MOST_CONTRACTS) × IsContractText text
 contract_said-ok place [] text is = absurd cc

@@ -1,24 +1,17 @@
 -- The lines of a schedule, read one after the other, give the schedule.
-use Rattle.std.specs.Prelude.{◌≡◌, ◌≢◌, ℕ, ◌+◌, ◌<◌, ◌≤◌, ◌^◌, ◌==◌, Bool, true, false, List, [], ◌∷◌, ◌++◌, length, replicate, None, Ok, codes}
+use Rattle.std.specs.Prelude.{◌≡◌, ◌≢◌, ℕ, ◌+◌, ◌<◌, ◌≤◌, Bool, true, false, List, [], ◌∷◌, ◌++◌, length, replicate, None, Ok, codes}
 use Rattle.std.specs.List.{AllByRecursion, AllPairs}
-use Rattle.std.specs.Str.{bytes_eq}
-use Rattle.std.specs.Fmt.{decimal}
-use Rattle.std.proofs.Common.{◌∙◌, sym, ap, refl, subst, arith, inl, inr, append_assoc, get_or, suc}
-use Rattle.std.proofs.lemmas.Bool.{cases_Bool, lt-ltb}
+use Rattle.std.proofs.Common.{◌∙◌, sym, ap, refl, subst, arith, append_assoc}
+use Rattle.std.proofs.lemmas.Bool.{lt-ltb}
 use Rattle.std.proofs.lemmas.Bool.Decides.{nat_tests}
-use Rattle.std.proofs.lemmas.List.{append-nil, length-append, get_or_append_left}
-use Rattle.std.proofs.lemmas.Slice.Eq.{bytes_eq-Decides}
-use Rattle.std.proofs.Math.Seq.{get_or-append_seam}
-use Rattle.cs_base.specs.Codes.{bytes_text}
+use Rattle.std.proofs.lemmas.List.{append-nil, length-append}
 use Rattle.cs_base.specs.Config.{config_of, configured, first_out, unless_out}
 use Rattle.cs_base.specs.Fields.{IsBytes}
 use Rattle.cs_base.specs.NodeId.{is_node, node_text}
 use Rattle.cs_base.specs.declared.config.Config.{Config}
 use Rattle.cs_base.specs.declared.node_id.NodeId.{NodeId}
-use Rattle.cs_base.specs.declared.limits.TheConstants.{MOST_SHARDS, MOST_LIARS, MOST_DUMMIES, MOST_BODY, MOST_DATAGRAM, MOST_GENESIS, MOST_OBJECT}
-use Rattle.cs_lang_token.specs.declared.limits.TheConstants.{MOST_TEXT}
+use Rattle.cs_base.specs.declared.limits.TheConstants.{MOST_SHARDS, MOST_LIARS, MOST_DUMMIES, MOST_BODY, MOST_DATAGRAM, MOST_GENESIS}
 use Rattle.cs_base.proofs.Configs.{configured-config}
-use Rattle.cs_base.proofs.HexTexts.{bytes_of-bytes_text}
 use Rattle.cs_tx_value.specs.Object.{object_encoding, DigestFits, ObjectFits}
 use Rattle.cs_tx_value.specs.declared.object.Object.{Object}
 use Rattle.cs_tx.specs.Digest.{name_of_genesis}
@@ -30,17 +23,16 @@ use Rattle.cs_sched.specs.Naming.{is_liar, liars_of, liar_in}
 use Rattle.cs_sched.specs.Places.{line_step}
 use Rattle.cs_sched.specs.declared.limits.TheConstants.{MOST_CONTRACTS}
 use Rattle.cs_sched.specs.Playable.{IsPlayableEvent, IsContractText}
-use Rattle.cs_sched.specs.Said.{shards_said, faulty_said, dummies_said, master_said, contract_said, object_said}
 use Rattle.cs_sched.specs.Values.{in_range}
 use Rattle.cs_sched.specs.declared.draft.Draft.{Draft}
 use Rattle.cs_sched.specs.declared.draft.Stage.{Stage}
 use Rattle.cs_sched.specs.declared.draft.Stage.TheVariants as stage
 use Rattle.cs_sched.proofs.Distinct.{genesis_names-append}
-use Rattle.cs_sched.proofs.Objects.{object_found}
 use Rattle.cs_sched.specs.Again.{numbered}
 use Rattle.cs_sched.specs.Printed.{number_words, bytes_words, liar_words, contract_words, object_words, event_words, liar_lines, contract_lines, genesis_lines, event_lines}
 use Rattle.cs_sched.proofs.Back.{number_back, within_back, bytes_back, named_back, node_named, node_no_client, speaker_back, honest_back}
 use Rattle.cs_sched.proofs.Liars.{new_liar, room_before}
+use Rattle.cs_sched.proofs.Fields.{shards_back, faulty_back, dummies_back, digest_back, contract_back, object_back, next_new}
 use Rattle.cs_sched.proofs.Rows.{read_fields, read-cons}
 
 -- a draft, whose names are those of its objects
@@ -50,56 +42,6 @@ made place config master liars contracts genesis events = record {
   schedule = record { config = config; master = master; liars = liars; contracts = contracts; genesis = genesis; events = events };
   names = genesis_names 0 genesis;
 }
-
--- the numbers of the configuration
-
-shards_back : (now next : Config) (shards : ℕ) → shards < 2 ^ 64 → in_range (configured shards now.f now.dummies) ≡ Ok next → shards_said now (decimal shards ∷ []) ≡ Ok next
-shards_back now next shards small ranged = rw (number_back shards small, ranged) refl
-
-faulty_back : (now next : Config) (faulty : ℕ) → faulty < 2 ^ 64 → in_range (configured now.shards faulty now.dummies) ≡ Ok next → faulty_said now (decimal faulty ∷ []) ≡ Ok next
-faulty_back now next faulty small ranged = rw (number_back faulty small, ranged) refl
-
-dummies_back : (now next : Config) (dummies : ℕ) → dummies < 2 ^ 64 → in_range (configured now.shards now.f dummies) ≡ Ok next → dummies_said now (decimal dummies ∷ []) ≡ Ok next
-dummies_back now next dummies small ranged = rw (number_back dummies small, ranged) refl
-
-master_back : (master : List ℕ) → DigestFits master → master_said (bytes_text master ∷ []) ≡ Ok master
-master_back master fits =
-    let test : (length master == 32) ≡ true = rw (fits.0) refl in
-    rw (bytes_of-bytes_text master fits.1, test) refl
-
--- contracts
-
-contract_back : (place : ℕ) (text : List ℕ) → place < MOST_CONTRACTS → IsContractText text → contract_said place (bytes_text text ∷ []) ≡ Ok text
-contract_back place text few fits =
-    rw (lt-ltb place MOST_CONTRACTS few, bytes_back MOST_TEXT text fits.short fits.in_bytes, fits.accepted) refl
-
--- objects
-
-object_back : (place : ℕ) (object : Object) → place < MOST_GENESIS → ObjectFits object → IsBytes (object_encoding object)
-    → object_said place (bytes_text (object_encoding object) ∷ []) ≡ Ok object
-object_back place object few fits encoded =
-    rw (lt-ltb place MOST_GENESIS few, bytes_back MOST_OBJECT (object_encoding object) fits.small encoded, object_found (object_encoding object) object fits refl) refl
-
-not_among : (name : List ℕ) (names : List (List ℕ)) → ((k : ℕ) → k < length names → get_or names k [] ≢ name) → is_known name names ≡ false
-not_among name [] differ = refl
-not_among name (first ∷ names) differ =
-    elim (cases_Bool (bytes_eq name first)) [
-      | inl same ↦ absurd (differ 0 (omega arith) (sym ((bytes_eq-Decides name first).0 same)))
-      | inr other ↦ rw other (not_among name names (λ k within. differ (suc k) (omega arith)))
-    ]
-
-new_name : (before after : List (List ℕ)) (name : List ℕ) → AllPairs (λ a b. a ≢ b) (before ++ name ∷ after) → is_known name before ≡ false
-new_name before after name differ =
-    not_among name before (λ k within same. differ k (length before) [] within (omega (arith, length-append before (name ∷ after)))
-    (get_or_append_left before (name ∷ after) [] k within ∙ same ∙ sym (get_or-append_seam before name after [])))
-
--- the names of objects in two parts
-names-split : (place : ℕ) (before : List Object) (object : Object) (after : List Object)
-    → genesis_names place (before ++ object ∷ after) ≡ genesis_names place before ++ name_of_genesis (place + length before) object ∷ genesis_names (place + length before + 1) after
-names-split place [] object after = let same : place + 0 ≡ place = omega arith in rw same refl
-names-split place (first ∷ before) object after =
-    let same : place + 1 + length before ≡ place + length (first ∷ before) = omega arith in
-    ap (λ names. name_of_genesis place first ∷ names) (names-split (place + 1) before object after ∙ rw same refl)
 
 -- the places at which a contract can stand: before the first one, and behind it
 abbrev pub contract_stage : Bool → Stage
@@ -225,11 +167,7 @@ module _ (config : Config) (master : List ℕ) (liars : List NodeId) (contracts 
     reads_objects few differ (object ∷ objects) before told any number is fit more =
         let next : number + length (object ∷ objects) ≡ number + 1 + length objects = omega arith in
         let total : length before + length (object ∷ objects) ≡ length genesis = sym (length-append before (object ∷ objects)) ∙ ap length is in
-        let zero_first : 0 + length before ≡ length before = omega arith in
-        let names : AllPairs (λ a b. a ≢ b) (genesis_names 0 before ++ name_of_genesis (0 + length before) object ∷ genesis_names (0 + length before + 1) objects) =
-        subst (AllPairs (λ a b. a ≢ b)) (ap (genesis_names 0) (sym is) ∙ names-split 0 before object objects) differ in
-        let fresh : is_known (name_of_genesis (0 + length before) object) (genesis_names 0 before) ≡ false = new_name (genesis_names 0 before) (genesis_names (0 + length before + 1) objects) (name_of_genesis (0 + length before) object) names in
-        let new : is_known (name_of_genesis (length before) object) (genesis_names 0 before) ≡ false = subst (λ n. is_known (name_of_genesis n object) (genesis_names 0 before) ≡ false) zero_first fresh in
+        let new = next_new before object objects (subst (λ (all : List Object). AllPairs (λ a b. a ≢ b) (genesis_names 0 all)) (sym is) differ) in
         read-cons (made (genesis_stage told any) config master liars contracts before []) (made stage.Genesis config master liars contracts (before ++ object ∷ []) []) last number (object_words object) (genesis_lines objects ++ rest)
         (object_step told any before object number fit.0 (omega arith) new)
         (reads_objects few differ objects (before ++ object ∷ []) told true (number + 1) (append_assoc before (object ∷ []) objects ∙ is) fit.1
@@ -262,5 +200,5 @@ reads_head config master fits last rest more =
     rw (faulty_back first second config.f (omega arith) trusted) refl in
     let dummies : line_step 3 (made stage.Dummies second zeros [] [] [] []) (number_words (codes "dummies") config.dummies) ≡ Ok (made stage.Master config zeros [] [] [] []) =
     rw (dummies_back second config config.dummies (omega arith) whole) refl in
-    let mastered : line_step 4 (made stage.Master config zeros [] [] [] []) (bytes_words (codes "master") master) ≡ Ok (made stage.Liars config master [] [] [] []) = rw (master_back master fits) refl in
+    let mastered : line_step 4 (made stage.Master config zeros [] [] [] []) (bytes_words (codes "master") master) ≡ Ok (made stage.Liars config master [] [] [] []) = rw (digest_back master fits) refl in
     rw (shards, faulty, dummies, mastered) more

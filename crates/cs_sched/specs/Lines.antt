@@ -7,7 +7,7 @@ use Rattle.cs_tx.specs.Digest.{name_of_genesis}
 use Rattle.cs_sched_types.specs.declared.schedule.Event.{Event}
 use Rattle.cs_sched.specs.Values.{◌>>=◌}
 use Rattle.cs_sched.specs.Names.{is_known}
-use Rattle.cs_sched.specs.Said.{no_field, shards_said, faulty_said, dummies_said, master_said, liar_said, contract_said, object_said}
+use Rattle.cs_sched.specs.Said.{no_field, shards_said, faulty_said, dummies_said, digest_said, liar_said, contract_said, object_said}
 use Rattle.cs_sched.specs.Events.{event_said}
 use Rattle.cs_sched.specs.declared.cause.Cause.{Cause}
 use Rattle.cs_sched.specs.declared.cause.Cause.TheVariants as cause
@@ -75,7 +75,7 @@ dummies_line draft fields = do
 
 abbrev pub master_line : Draft → List (List ℕ) → Result Draft Cause
 master_line draft fields = do
-  master ← master_said fields
+  master ← digest_said fields
   Ok (with_master draft master)
 
 abbrev pub liar_line : Draft → List (List ℕ) → Result Draft Cause

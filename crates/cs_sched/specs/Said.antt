@@ -48,9 +48,9 @@ dummies_said config fields = do
   dummies ← number_said fields
   in_range (configured config.shards config.f dummies)
 
--- the master
-abbrev pub master_said : List (List ℕ) → Result (List ℕ) Cause
-master_said fields = do
+-- 32 bytes in hex
+abbrev pub digest_said : List (List ℕ) → Result (List ℕ) Cause
+digest_said fields = do
   field ← only_field fields
   digest_in field
 

@@ -12,7 +12,7 @@ use crate::cause::Cause;
 use crate::error::LineError;
 use crate::events::read_event;
 use crate::lines::{
-    no_field, read_contract_line, read_dummies, read_faulty, read_liar_line, read_master_line,
+    no_field, read_contract_line, read_digest_line, read_dummies, read_faulty, read_liar_line,
     read_object_line, read_shards,
 };
 use crate::name_set::NameSet;
@@ -111,7 +111,7 @@ impl Draft {
     pub(crate) fn take_master(&mut self, alloc: Global, fields: &[&[u8]]) -> Result<(), LineError>
         ensures { Moves result self.new (master_line self.old (views fields.now)) }
     {
-        self.schedule.master = read_master_line(alloc, fields)?;
+        self.schedule.master = read_digest_line(alloc, fields)?;
         self.stage = Stage::Liars;
         Ok(())
     }

@@ -23,11 +23,11 @@ pub use error::{LineError, ScheduleError};
 pub use law::printed_schedules_are_read;
 pub use limits::MOST_CONTRACTS;
 pub use lines::{
-    no_field, only_field, only_number, read_contract_line, read_dummies, read_faulty,
-    read_object_line, read_shards,
+    no_field, only_field, only_number, read_contract_line, read_digest_line, read_dummies,
+    read_faulty, read_object_line, read_shards,
 };
 pub use name_set::NameSet;
 pub use naming::is_liar;
 pub use printing::print;
 pub use reader::{parse, refusals_name_the_first_bad_line};
-pub use values::{read_digest, read_field_number};
+pub use values::read_field_number;

@@ -4,7 +4,7 @@ ghost use Rattle.cs_base.specs.Lines.{views};
 ghost use Rattle.cs_base.specs.declared.limits.TheConstants.{MOST_GENESIS};
 ghost use Rattle.cs_tx_value.specs.Object.{ObjectFits};
 ghost use Rattle.cs_sched.specs.Reading.{GivesStep, Lends};
-ghost use Rattle.cs_sched.specs.Said.{only_field, no_field, number_said, shards_said, faulty_said, dummies_said, master_said, liar_said, contract_said, object_said};
+ghost use Rattle.cs_sched.specs.Said.{only_field, no_field, number_said, shards_said, faulty_said, dummies_said, digest_said, liar_said, contract_said, object_said};
 
 use crate::cause::Cause;
 use crate::error::LineError;
@@ -68,8 +68,9 @@ pub fn read_dummies(now: Config, fields: &[&[u8]]) -> Result<Config, Cause>
     config(u64::from(now.shards), u64::from(now.f), dummies)
 }
 
-pub(crate) fn read_master_line(alloc: Global, fields: &[&[u8]]) -> Result<Digest, LineError>
-    ensures { GivesStep result (master_said (views fields.now)) }
+/// 32 bytes in hex.
+pub fn read_digest_line(alloc: Global, fields: &[&[u8]]) -> Result<Digest, LineError>
+    ensures { GivesStep result (digest_said (views fields.now)) }
 {
     let field = only_field(fields)?;
     read_digest(alloc, field)

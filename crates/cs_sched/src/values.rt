@@ -70,7 +70,7 @@ pub(crate) fn read_bytes_within(
 }
 
 /// The 32 bytes that a field has in hex.
-pub fn read_digest(alloc: Global, field: &[u8]) -> Result<Digest, LineError>
+pub(crate) fn read_digest(alloc: Global, field: &[u8]) -> Result<Digest, LineError>
     ensures { GivesStep result (digest_in field.now) }
 {
     let Some(bytes) = read_bytes(alloc, field)? else {

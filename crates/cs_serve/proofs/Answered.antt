@@ -18,8 +18,9 @@ use Rattle.cs_serve.specs.Offering.{offers_in}
 use Rattle.cs_serve.specs.Telling.{notes_text}
 use Rattle.cs_serve.specs.Outer.{Outer, Gives, GivesFront}
 use Rattle.cs_serve.specs.Serving.{offers_of, lines_of, GivesAll, GivesPart}
+use Rattle.cs_serve.specs.laws.Offering.{adds-none, front-none}
 use Rattle.cs_serve.proofs.Noted.{outs-noted, lines-noted}
-use Rattle.cs_serve.proofs.Outers.{AddsFront-none, Adds-nil, AppendsFront-none}
+use Rattle.cs_serve.proofs.Outers.{AppendsFront-none}
 
 -- sessions are named by their digests
 pub named-by-digest : {O J M : Type 0} (stands : O → Member M → Type 0) (approves : J → Tx → Bool) (site : Site M) (core : Core O J M) (v : View M) → StandsFor stands approves site core v → (x : Session) → digest_of site.setup x ≡ digest_of_session x
@@ -49,4 +50,4 @@ module _ {M : Type 0} (site : Site M) (v : View M) (input : Input) (made : Made)
 
 -- nothing was given
 pub none-given : (a : Outer) (offers : Offers) (lines : Bytes) → GivesFront offers lines a a
-none-given a offers lines = record { offered = AddsFront-none a.offered a.offered offers (Adds-nil a.offered); written = AppendsFront-none a.written lines }
+none-given a offers lines = record { offered = front-none a.offered a.offered offers (adds-none a.offered); written = AppendsFront-none a.written lines }

@@ -10,54 +10,9 @@ use Rattle.cs_node_rules.specs.Site.{Input}
 use Rattle.cs_outer.specs.Told.{Changes, Stays}
 use Rattle.cs_outer.specs.Link.{Offers}
 use Rattle.cs_outer.specs.declared.link.MemInput.{MemInput}
-use Rattle.cs_serve.specs.Offering.{Adds, AddsFront}
+use Rattle.cs_serve.specs.Offering.{Adds}
 use Rattle.cs_serve.specs.Outer.{Outer, given_of, Takes, Gives, GivesFront}
-
--- ---- what stays, and what changes
-
-pub Stays-refl : {A : Type 0} (a : Option A) → Stays a a
-Stays-refl None = tt
-Stays-refl (Some x) = refl
-
-pub Stays-trans : {A : Type 0} (a b c : Option A) → Stays a b → Stays b c → Stays a c
-Stays-trans None b c p q = tt
-Stays-trans (Some x) None c p q = absurd p
-Stays-trans (Some x) (Some y) None p q = absurd q
-Stays-trans (Some x) (Some y) (Some z) p q = q ∙ p
-
-pub Changes-after : {A : Type 0} (Step : A → A → Type 0) (a b c : Option A) → Stays a b → Changes Step b c → Changes Step a c
-Changes-after Step None b c p q = tt
-Changes-after Step (Some x) None c p q = absurd p
-Changes-after Step (Some x) (Some y) None p q = absurd q
-Changes-after {A} Step (Some x) (Some y) (Some z) p q = subst (λ (w : A). Step w z) p q
-
-pub Changes-before : {A : Type 0} (Step : A → A → Type 0) (a b c : Option A) → Changes Step a b → Stays b c → Changes Step a c
-Changes-before Step None b c p q = tt
-Changes-before Step (Some x) None c p q = absurd p
-Changes-before Step (Some x) (Some y) None p q = absurd q
-Changes-before {A} Step (Some x) (Some y) (Some z) p q = subst (λ (w : A). Step x w) (sym q) p
-
--- ---- offers
-
-pub Adds-nil : (a : Option Offers) → Adds [] a a
-Adds-nil None = tt
-Adds-nil (Some x) = sym (append-nil x)
-
-pub Adds-more : (a b c : Option Offers) (xs ys : Offers) → Adds xs a b → Adds ys b c → Adds (xs ++ ys) a c
-Adds-more None b c xs ys p q = tt
-Adds-more (Some x) None c xs ys p q = absurd p
-Adds-more (Some x) (Some y) None xs ys p q = absurd q
-Adds-more (Some x) (Some y) (Some z) xs ys p q = q ∙ ap (λ l. l ++ ys) p ∙ append_assoc x xs ys
-
-pub AddsFront-all : (a b : Option Offers) (xs : Offers) → Adds xs a b → AddsFront xs a b
-AddsFront-all a b xs p = (xs, [], sym (append-nil xs), p)
-
-pub AddsFront-none : (a b : Option Offers) (xs : Offers) → Adds [] a b → AddsFront xs a b
-AddsFront-none a b xs p = ([], xs, refl, p)
-
-pub AddsFront-after : (a b c : Option Offers) (xs ys : Offers) → Adds xs a b → AddsFront ys b c → AddsFront (xs ++ ys) a c
-AddsFront-after a b c xs ys p (front, rest, whole, q) =
-    (xs ++ front, rest, ap (λ l. xs ++ l) whole ∙ sym (append_assoc xs front rest), Adds-more a b c xs front p q)
+use Rattle.cs_serve.specs.laws.Offering.{adds-none, adds-more, front-all, front-more}
 
 -- ---- lines
 
@@ -74,7 +29,7 @@ AppendsFront-then a b c xs ys p (front, rest, whole, q) =
 -- ---- both
 
 pub Gives-nil : (a : Outer) → Gives [] [] a a
-Gives-nil a = record { offered = Adds-nil a.offered; written = Appends-nil a.written }
+Gives-nil a = record { offered = adds-none a.offered; written = Appends-nil a.written }
 
 -- nothing more was offered or written
 pub Gives-kept : (a b : Outer) → Stays a.offered b.offered → b.written ≡ a.written → Gives [] [] a b
@@ -90,19 +45,19 @@ Gives-kept a b stays same = record {
 
 pub Gives-more : (a b c : Outer) (xs ys : Offers) (one two : Bytes) → Gives xs one a b → Gives ys two b c → Gives (xs ++ ys) (one ++ two) a c
 Gives-more a b c xs ys one two p q = record {
-  offered = Adds-more a.offered b.offered c.offered xs ys p.offered q.offered;
+  offered = adds-more a.offered b.offered c.offered xs ys p.offered q.offered;
   written = Appends-trans a.written b.written c.written one two p.written q.written;
 }
 
 pub GivesFront-after : (a b c : Outer) (xs ys : Offers) (one two : Bytes) → Gives xs one a b → GivesFront ys two b c → GivesFront (xs ++ ys) (one ++ two) a c
 GivesFront-after a b c xs ys one two p q = record {
-  offered = AddsFront-after a.offered b.offered c.offered xs ys p.offered q.offered;
+  offered = front-more a.offered b.offered c.offered xs ys p.offered q.offered;
   written = AppendsFront-then a.written b.written c.written one two p.written q.written;
 }
 
 pub GivesFront-all : (a b : Outer) (xs : Offers) (one : Bytes) → Gives xs one a b → GivesFront xs one a b
 GivesFront-all a b xs one p = record {
-  offered = AddsFront-all a.offered b.offered xs p.offered;
+  offered = front-all a.offered b.offered xs p.offered;
   written = AppendsFront-all a.written b.written one p.written;
 }
 

@@ -16,7 +16,8 @@ use Rattle.cs_serve.specs.declared.ending.End.TheVariants.{Turns, Ended, LinkFau
 use Rattle.cs_serve.specs.declared.receiving.TheConstants.{MOST_MISSED}
 use Rattle.cs_serve.specs.Outer.{Outer, given_of, Takes, Gives, GivesFront}
 use Rattle.cs_serve.specs.Serving.{trail, offers_of, lines_of, GivesAll, GivesPart, missed_past, Ends, Serves, GivesBy, Answers}
-use Rattle.cs_serve.proofs.Outers.{Stays-refl, Changes-after, Changes-before, Gives-nil, Gives-more, GivesFront-all, GivesFront-after, Takes-nil, Takes-more, Takes-one}
+use Rattle.cs_outer.specs.laws.Told.{stays-same, changes-after, changes-before}
+use Rattle.cs_serve.proofs.Outers.{Gives-nil, Gives-more, GivesFront-all, GivesFront-after, Takes-nil, Takes-more, Takes-one}
 use Rattle.cs_serve.proofs.Trails.{me-same, offers-append, bytes-append, after, trail-append, after-append, trail-one}
 
 -- a fact of the node that is left
@@ -117,7 +118,7 @@ module _ {C M : Type 0} (stands : C → View M → Type 0) (site : Site M) where
   serves-nothing v turns a core is = record {
     inputs = [];
     few = omega arith;
-    takes = Takes-nil a a (Stays-refl a.left);
+    takes = Takes-nil a a (stays-same a.left);
     ends = GivesFront-all a a [] [] (Gives-nil a);
     after = is;
   }
@@ -167,13 +168,13 @@ module _ {C M : Type 0} (stands : C → View M → Type 0) (site : Site M) where
   part-later v marks a b c stays same gives =
       let (front, rest, whole, adds) = gives.offered in
       record {
-        offered = (front, rest, whole, Changes-after (λ (before now : Offers). now ≡ before ++ front) a.offered b.offered c.offered stays adds);
+        offered = (front, rest, whole, changes-after (λ (before now : Offers). now ≡ before ++ front) a.offered b.offered c.offered stays adds);
         written = subst (λ (w : Option Bytes). AppendsFront w c.written (lines_of site v marks)) same gives.written;
       }
 
   gives-later : (v : View M) (marks : List (Mark M)) (a b c : Outer) → Stays a.offered b.offered → b.written ≡ a.written → (end : End) → GivesBy site v marks b c end → GivesBy site v marks a c end
   gives-later v marks a b c stays same Turns gives = record {
-    offered = Changes-after (λ (before now : Offers). now ≡ before ++ offers_of site v marks) a.offered b.offered c.offered stays gives.offered;
+    offered = changes-after (λ (before now : Offers). now ≡ before ++ offers_of site v marks) a.offered b.offered c.offered stays gives.offered;
     written = subst (λ (w : Option Bytes). Appends w c.written (lines_of site v marks)) same gives.written;
   }
   gives-later v marks a b c stays same Ended gives = gives
@@ -189,7 +190,7 @@ module _ {C M : Type 0} (stands : C → View M → Type 0) (site : Site M) where
 
   -- the first that was left is gone
   takes-later : (a b c : Outer) (first : MemInput) → Changes (λ (before now : List MemInput). before ≡ first ∷ now) a.left b.left → Stays b.left c.left → Takes (given_of first ∷ []) a c
-  takes-later a b c first gone stays = Takes-one a c first (Changes-before (λ (before now : List MemInput). before ≡ first ∷ now) a.left b.left c.left gone stays)
+  takes-later a b c first gone stays = Takes-one a c first (changes-before (λ (before now : List MemInput). before ≡ first ∷ now) a.left b.left c.left gone stays)
 
   -- the first input that was left was taken and answered
   pub serves-answer : (v : View M) (first : MemInput) (a b c : Outer) (result : End × Option C) → Changes (λ (before now : List MemInput). before ≡ first ∷ now) a.left b.left → b.missed ≡ 0 → Stays a.offered b.offered → b.written ≡ a.written

@@ -3,3 +3,4 @@ pub mod Offering
 pub mod Telling
 pub mod Outer
 pub mod Serving
+pub mod laws

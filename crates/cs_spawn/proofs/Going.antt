@@ -6,24 +6,13 @@ use Rattle.std.proofs.KnownBytes.{Appends-nil, Appends-trans}
 use Rattle.cs_base.specs.Answers.{AppendsFront}
 use Rattle.cs_base.specs.Outside.{HasCause}
 use Rattle.cs_outer.specs.Told.{Changes, Stays}
+use Rattle.cs_outer.specs.laws.Told.{stays-same, stays-both}
 use Rattle.cs_outer.specs.Spawner.{Children}
 use Rattle.cs_spawn.specs.Words.{end_line}
 use Rattle.cs_spawn.specs.Deeds.{Deed, Start, Wait, words_in}
 use Rattle.cs_spawn.specs.Running.{Outer, EndsWith, AreLines, Starts, Does, DoesFront, BreaksOff, Fails, Ends}
 use Rattle.cs_spawn.specs.declared.error.ClusterError.{ClusterError}
 use Rattle.cs_spawn.specs.declared.error.ClusterError.TheVariants.{SpawnFault, WriteFault, Memory}
-
--- ---- what stays
-
-Stays-refl : {A : Type 0} (a : Option A) → Stays a a
-Stays-refl None = tt
-Stays-refl (Some x) = refl
-
-Stays-trans : {A : Type 0} (a b c : Option A) → Stays a b → Stays b c → Stays a c
-Stays-trans None b c p q = tt
-Stays-trans (Some x) None c p q = absurd p
-Stays-trans (Some x) (Some y) None p q = absurd q
-Stays-trans (Some x) (Some y) (Some z) p q = q ∙ p
 
 -- ---- children
 
@@ -53,7 +42,7 @@ starts-more : (a b c : Outer) (xs ys : Children) → Starts xs a b → Starts ys
 starts-more a b c xs ys p q = record {
   started = grows-more a.started b.started c.started xs ys p.started q.started;
   children = (let one = p.children in let two = q.children in let all = length-append xs ys in omega arith);
-  statuses = Stays-trans a.statuses b.statuses c.statuses p.statuses q.statuses;
+  statuses = stays-both a.statuses b.statuses c.statuses p.statuses q.statuses;
 }
 
 -- ---- lines
@@ -98,7 +87,7 @@ does-none a b starts written = record {
 }
 
 pub does-nil : (a : Outer) → Does [] a a
-does-nil a = does-none a a (starts-none a a (Stays-refl a.started) refl (Stays-refl a.statuses)) refl
+does-nil a = does-none a a (starts-none a a (stays-same a.started) refl (stays-same a.statuses)) refl
 
 pub does-more : (a b c : Outer) (xs ys : List Deed) → Does xs a b → Does ys b c → Does (xs ++ ys) a c
 does-more a b c xs ys p q = record {

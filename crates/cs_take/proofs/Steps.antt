@@ -104,13 +104,7 @@ pub call-not : (name : List ℕ) (a : Option Files) (bytes : List ℕ) (error : 
 call-not name None bytes error why first is told = tt
 call-not name (Some files) bytes error why first is told = call-of-not name bytes (bytes_taken name files) error why first is told
 
--- ---- what stays, and what doesn't fall
-
-pub stays-both : {A : Type 0} (a b c : Option A) → Stays a b → Stays b c → Stays a c
-stays-both None b c p q = tt
-stays-both (Some x) None c p q = absurd p
-stays-both (Some x) (Some y) None p q = absurd q
-stays-both (Some x) (Some y) (Some z) p q = q ∙ p
+-- ---- what doesn't fall
 
 pub le_both : (a b c : ℕ) → a ≤ b → b ≤ c → a ≤ c
 le_both a b c p q = omega arith

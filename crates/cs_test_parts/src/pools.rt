@@ -85,7 +85,7 @@ fn vote(
         shard: draws.below(2) as u16,
         index: draws.below(4) as u16,
     };
-    let vote = if draws.below(2) == 0 {
+    let vote = if draws.below(3) == 0 {
         Vote::Abort
     } else {
         Vote::Commit

@@ -2,7 +2,7 @@ use Rattle.std.proofs.Common.{Err, subst}
 use Rattle.cs_client.specs.declared.error.ClientError.{ClientError}
 use Rattle.cs_client.specs.Inputs.{input_of}
 use Rattle.cs_client.specs.Standing.{Steps}
-use Rattle.cs_attend.proofs.Told.{stays-same}
+use Rattle.cs_outer.specs.laws.Told.{stays-same}
 use Rattle.cs_attend.proofs.Runs.{goes-said, none-offered}
 use Rattle.cs_attend.proofs.attending.answer.Goals as goal
 

@@ -3,7 +3,7 @@ use Rattle.cs_client.specs.Seen.{Client}
 use Rattle.cs_attend.specs.declared.ending.Ending.{Ending}
 use Rattle.cs_attend.specs.declared.ending.Ending.TheVariants.{LinkFault}
 use Rattle.cs_attend.specs.Attending.{side}
-use Rattle.cs_attend.proofs.Told.{stays-same, stays-both}
+use Rattle.cs_outer.specs.laws.Told.{stays-same, stays-both}
 use Rattle.cs_attend.proofs.Runs.{SoFar, begins, goes-on, nothing, over, ends-so, le_same, le_more, le_both, cause-later}
 use Rattle.cs_attend.proofs.attending.attend.Goals as goal
 

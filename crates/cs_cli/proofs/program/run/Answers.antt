@@ -5,8 +5,8 @@ use Rattle.cs_sched.proofs.Played.{given_playable}
 use Rattle.cs_dump_read.specs.declared.limits.TheConstants.{MOST_DUMP}
 use Rattle.cs_cli.proofs.Dumps.{answers_yes}
 use Rattle.cs_simulate.proofs.Ended.{simulate-ends}
-use Rattle.cs_cli.specs.declared.words.Command.TheVariants.{Replay, Contract, Verify, Audit, Simulate, Node, Client, Keys, Cluster}
-use Rattle.cs_cli.specs.Words.{texts_of}
+use Rattle.cs_cli.specs.declared.words.Command.TheVariants.{Replay, Contract, Verify, Audit, Simulate}
+use Rattle.cs_cli.specs.Words.{texts_of, Node, Client, Keys, Cluster}
 use Rattle.cs_cli.proofs.Doing.{does-as}
 use Rattle.cs_cli.proofs.Simulations.{command-small}
 use Rattle.cs_cli.proofs.program.run.Goals as goal
@@ -24,16 +24,16 @@ pub returns-in-Some-clause-contract_whole : goal.returns-in-Some-clause-contract
 returns-in-Some-clause-contract_whole g c = λ printing is. (does-as _ _ _ _ c.in-Some.command (Contract printing) _ c.in-Some.ensures is c.answer.ensures.does).1
 
 pub returns-in-Some-clause-verify : goal.returns-in-Some-clause-verify
-returns-in-Some-clause-verify g c = λ is. (does-as _ _ _ _ c.in-Some.command (Verify) _ c.in-Some.ensures is c.answer.ensures.does).0
+returns-in-Some-clause-verify g c = λ is. (does-as _ _ _ _ c.in-Some.command Verify _ c.in-Some.ensures is c.answer.ensures.does).0
 
 pub returns-in-Some-clause-verify_whole : goal.returns-in-Some-clause-verify_whole
-returns-in-Some-clause-verify_whole g c = λ is. (does-as _ _ _ _ c.in-Some.command (Verify) _ c.in-Some.ensures is c.answer.ensures.does).1
+returns-in-Some-clause-verify_whole g c = λ is. (does-as _ _ _ _ c.in-Some.command Verify _ c.in-Some.ensures is c.answer.ensures.does).1
 
 pub returns-in-Some-clause-audit : goal.returns-in-Some-clause-audit
-returns-in-Some-clause-audit g c = λ is. (does-as _ _ _ _ c.in-Some.command (Audit) _ c.in-Some.ensures is c.answer.ensures.does).0
+returns-in-Some-clause-audit g c = λ is. (does-as _ _ _ _ c.in-Some.command Audit _ c.in-Some.ensures is c.answer.ensures.does).0
 
 pub returns-in-Some-clause-audit_whole : goal.returns-in-Some-clause-audit_whole
-returns-in-Some-clause-audit_whole g c = λ is. (does-as _ _ _ _ c.in-Some.command (Audit) _ c.in-Some.ensures is c.answer.ensures.does).1
+returns-in-Some-clause-audit_whole g c = λ is. (does-as _ _ _ _ c.in-Some.command Audit _ c.in-Some.ensures is c.answer.ensures.does).1
 
 pub returns-in-Some-clause-simulate : goal.returns-in-Some-clause-simulate
 returns-in-Some-clause-simulate g c = λ number size is. (does-as _ _ _ _ c.in-Some.command (Simulate number size) _ c.in-Some.ensures is c.answer.ensures.does).0

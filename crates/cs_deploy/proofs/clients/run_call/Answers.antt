@@ -1,10 +1,8 @@
-use Rattle.std.proofs.Common.{◌≡◌, Some, inl, inr, refl, subst}
-use Rattle.cs_base.specs.declared.node_id.NodeId.{NodeId}
-use Rattle.cs_outer.specs.Link.{Binds}
-use Rattle.cs_outer.specs.declared.link.Bound.TheVariants.{Done}
-use Rattle.cs_deploy_keys.proofs.Answered.{keeps, rose-later}
-use Rattle.cs_deploy_keys.proofs.Told.{stays-same, changes-before}
-use Rattle.cs_deploy.specs.Client.{errand_of}
+use Rattle.std.proofs.Common.{ℕ, List, Option, Err, inl, inr, refl, ap, subst}
+use Rattle.cs_outer.specs.laws.Told.{stays-same}
+use Rattle.cs_deploy_keys.proofs.Answered.{keeps, rose-later, cause-later}
+use Rattle.cs_deploy.specs.Client.{errand_of, TellsEnding}
+use Rattle.cs_deploy.proofs.Bound.{bound-later, unbound-as}
 use Rattle.cs_deploy.proofs.Later.{attends-later}
 use Rattle.cs_deploy.proofs.clients.run_call.Goals as goal
 
@@ -21,32 +19,28 @@ returns-in_default-clause-goes g c = inl (record {
   silent = (refl, keeps (g.K.Sink.written c.args.out.now));
 })
 
-pub returns-in-Failed-clause-goes : goal.returns-in-Failed-clause-goes
-returns-in-Failed-clause-goes g c = inr (inl (record {
-  failed = c.in-Failed.ensures.cause.cause refl;
-  bound = c.in-Failed.ensures.place;
-  quiet = record {
-    left = c.in-Failed.ensures.left;
-    offered = c.in-Failed.ensures.offered;
-    missed = c.in-Failed.ensures.missed;
-  };
-  told = c.tell.ensures.answers;
-}))
+pub returns-in-Err-clause-goes : goal.returns-in-Err-clause-goes
+returns-in-Err-clause-goes g c =
+    inr (inl (unbound-as _ _ _ _ _ _ _ c.me-me.ensures c.in-Err.ensures.binds))
 
-pub returns-in-Done-clause-goes : goal.returns-in-Done-clause-goes
-returns-in-Done-clause-goes g c =
+pub returns-in-Ok-bind_or_tell-clause-goes : goal.returns-in-Ok-bind_or_tell-clause-goes
+returns-in-Ok-bind_or_tell-clause-goes g c =
     let setup = c.args.setup in
-    let port = setup.site.base_port in
     let e = errand_of setup c.args.call in
+    let bound = c.in-Ok-bind_or_tell.ensures.binds in
     inr (inr (record {
-      bound =
-          subst (λ (me : NodeId). Binds (g.L.Link.bound c.args.link.now) (g.L.Link.bound c.attend.new.link) me port Done) c.me-me.ensures
-          (changes-before (λ before now. now ≡ Some (c.me-me.result, port)) _ _ _ c.in-Done.ensures.place c.attend.ensures.bound);
+      bound = bound-later _ _ _ _ _ setup.site.base_port c.me-me.ensures bound.bound c.attend.ensures.bound;
       ending = c.attend.result;
-      attends = attends-later e c.args.turns _ _ _ _ _ _ _ _ _ c.attend.result c.in-Done.ensures.left c.in-Done.ensures.offered c.in-Done.ensures.missed (c.attend.ensures.attends e c.in-Ok.ensures);
-      failed = λ is. rose-later _ _ _ c.in-Done.ensures.cause.later (c.attend.ensures.cause.cause is);
-      told = c.tell_ending.ensures.tells;
+      attends = attends-later e c.args.turns _ _ _ _ _ _ _ _ _ c.attend.result bound.quiet.left bound.quiet.offered bound.quiet.missed (c.attend.ensures.attends e c.in-Ok.ensures);
+      failed = λ is. rose-later _ _ _ c.in-Ok-bind_or_tell.ensures.link (c.attend.ensures.cause.cause is);
+      told = subst (λ (written : Option (List ℕ)). TellsEnding c.attend.result written (g.K.Sink.written c.tell_ending.new.out) c.tell_ending.result) bound.unwritten c.tell_ending.ensures.tells;
     }))
 
-pub returns-in-Failed-clause-write_fault : goal.returns-in-Failed-clause-write_fault
-returns-in-Failed-clause-write_fault g c = record { later = c.tell.ensures.faults; cause = c.tell.ensures.cause (λ is. absurd (cc)) }
+pub returns-in-Ok-bind_or_tell-clause-write_fault : goal.returns-in-Ok-bind_or_tell-clause-write_fault
+returns-in-Ok-bind_or_tell-clause-write_fault g c = cause-later _ _ _ c.in-Ok-bind_or_tell.ensures.write_fault.later c.tell_ending.ensures.cause
+
+pub returns-in-Err-clause-write_fault : goal.returns-in-Err-clause-write_fault
+returns-in-Err-clause-write_fault g c = record {
+  later = c.in-Err.ensures.write_fault.later;
+  cause = λ six. c.in-Err.ensures.write_fault.cause (ap Err six);
+}

@@ -2,7 +2,7 @@ use Rattle.std.proofs.Common.{inl, inr}
 use Rattle.cs_wire.specs.Opened.{names_of}
 use Rattle.cs_key_files.specs.Saving.{SavesUpTo}
 use Rattle.cs_deploy_keys.proofs.Answered.{rose-later}
-use Rattle.cs_deploy_keys.proofs.Told.{changes-after}
+use Rattle.cs_outer.specs.laws.Told.{changes-after}
 use Rattle.cs_deploy_keys.proofs.Decided.{keys-decided, keys-other}
 use Rattle.cs_deploy_keys.proofs.keys.run_keys.Goals as goal
 

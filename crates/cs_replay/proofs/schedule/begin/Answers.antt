@@ -1,4 +1,4 @@
-use Rattle.std.proofs.Common.{refl, ap, sym, ◌∙◌, arith}
+use Rattle.std.proofs.Common.{refl, ap, ◌∙◌, arith}
 use Rattle.std.specs.Prelude.{replicate}
 use Rattle.cs_replay.specs.Site.{setup_of_schedule, site_of_schedule}
 use Rattle.cs_replay.specs.Settings.{honest_nodes, name_in}
@@ -17,7 +17,7 @@ returns g c = λ before.
       traced = refl;
       count = c.in_ok-cores.ensures.count;
       all = c.in_ok-cores.ensures.nodes;
-      logs = logs-begin (site_of_schedule approves schedule) (name_in (honest_nodes schedule)) _ c.in_ok-logs.logs.items (c.in_ok-logs.ensures ∙ ap (λ n. replicate n none_logged) (c.len.ensures ∙ c.in_ok-cores.ensures.count));
+      logs = logs-begin (site_of_schedule approves schedule) (name_in (honest_nodes schedule)) _ c.in_ok-logs.logs.items (c.in_ok-logs.ensures ∙ ap (λ n. replicate n none_logged) (c.len.ensures ∙ c.in_ok-cores.cores.ok.0 ∙ c.in_ok-cores.ensures.count));
       kept = kept-first schedule.config (setup_of_schedule approves schedule) c.in_ok-history.history c.in_ok-history.ensures.config c.in_ok-history.ensures.empty (deploys-setup schedule.config schedule.genesis approves);
       aborted = c.in_ok-history.ensures.none;
       parcels = c.new-post.ensures;

@@ -59,6 +59,16 @@ returns-clause-closes g c = λ s is stands setup here.
     (closes-cut g.O.Order.stands g.J.Judge.is_approved g.O.Order.rules g.O.Carried.carrier s c.args.schedule.now setup c.args.dumps (play_all site s.traced c.as_slice.result.now unplayed) c.play_all-played.new.self (g.K.Sink.written c.play_all-played.new.output)
     _ c.play_all-played.result c.as_bytes.result.now c.in_ok-last.last.answer Memory ends last tt c.in-Err-Memory.ensures.part)
 
+-- what is cut short fails where the events failed
+pub returns-in_err-last-clause-cause : goal.returns-in_err-last-clause-cause
+returns-in_err-last-clause-cause g c =
+    let e = err_from_is_err_and c.from_residual.result c.from_residual.ensures.1 in
+    rw (e.1, e.2)
+    (record {
+      later = c.play_all-played.ensures.cause.later;
+      cause = λ failed. c.play_all-played.ensures.cause.cause (c.in_err-last.ensures.failed (ap Err (cc (failed))));
+    })
+
 -- the answer that is kept is no fault of the sink
 pub returns-in-Ok-clause-cause : goal.returns-in-Ok-clause-cause
 returns-in-Ok-clause-cause g c = record {

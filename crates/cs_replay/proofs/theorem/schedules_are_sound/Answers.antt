@@ -1,4 +1,4 @@
-use Rattle.std.proofs.Common.{◌≡◌, ◌≤◌, ◌++◌, List, refl, subst, arith}
+use Rattle.std.proofs.Common.{◌≡◌, ◌≤◌, ◌++◌, List, refl, subst}
 use Rattle.cs_tx.specs.Sessions.{session_of}
 use Rattle.cs_node_carried.specs.SlotCarried.{slot_carrier}
 use Rattle.cs_node_carried.specs.laws.SlotCarried.{slot_carries}

@@ -3,7 +3,7 @@ use Rattle.std.proofs.lemmas.List.{take-append-drop, map-append}
 use Rattle.cs_outer.specs.Link.{Offers}
 use Rattle.cs_wire.specs.declared.input.Out.{Out}
 use Rattle.cs_serve.specs.Offering.{offers_in}
-use Rattle.cs_serve.proofs.Outers.{Changes-before}
+use Rattle.cs_outer.specs.laws.Told.{changes-before}
 use Rattle.cs_serve.proofs.offering.offer.Goals as goal
 
 pub returns-in-Memory-clause-front : goal.returns-in-Memory-clause-front
@@ -13,5 +13,5 @@ returns-in-Memory-clause-front g c =
       offers_in (take i outs),
       offers_in (drop i outs),
       ap offers_in (sym (take-append-drop i outs)) ∙ map-append (λ (out : Out). (out.to, out.bytes)) (take i outs) (drop i outs),
-      Changes-before (λ (before now : Offers). now ≡ before ++ offers_in (take i outs)) (g.L.Link.offered c.args.link.now) (g.L.Link.offered c.loop-out.link) (g.L.Link.offered c.send.new.self) c.loop-out.invariant.offered c.in-Memory.ensures.datagram,
+      changes-before (λ (before now : Offers). now ≡ before ++ offers_in (take i outs)) (g.L.Link.offered c.args.link.now) (g.L.Link.offered c.loop-out.link) (g.L.Link.offered c.send.new.self) c.loop-out.invariant.offered c.in-Memory.ensures.datagram,
     )

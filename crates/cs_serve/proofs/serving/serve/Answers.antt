@@ -4,7 +4,8 @@ use Rattle.cs_node.specs.Cores.{StandsFor}
 use Rattle.cs_serve.specs.declared.ending.End.TheVariants.{Turns, LinkFault, WriteFault}
 use Rattle.cs_serve.specs.Outer.{outer}
 use Rattle.cs_serve.specs.Serving.{Serves}
-use Rattle.cs_serve.proofs.Outers.{Stays-refl, Stays-trans, Gives-nil}
+use Rattle.cs_outer.specs.laws.Told.{stays-same, stays-both}
+use Rattle.cs_serve.proofs.Outers.{Gives-nil}
 use Rattle.cs_serve.proofs.Turns.{serves-none, serves-more, serves-within, serves-nothing, le_same, le_more, le_both, lt_next, cause_later}
 use Rattle.cs_serve.proofs.serving.serve.Goals as goal
 
@@ -13,8 +14,8 @@ loop-turn-init g c = record {
   serves = λ setup net v is.
       let site = site_of setup net g.O.Order.rules g.O.Carried.carrier in
       let a = (outer (g.L.Link.left c.args.link.now) (g.L.Link.offered c.args.link.now) (g.L.Link.missed c.args.link.now) (g.K.Sink.written c.args.out.now)) in
-      serves-none (StandsFor g.O.Order.stands g.J.Judge.is_approved site) site v a a c.args.core is (Stays-refl (g.L.Link.left c.args.link.now)) refl (Gives-nil a);
-  bound = Stays-refl (g.L.Link.bound c.args.link.now);
+      serves-none (StandsFor g.O.Order.stands g.J.Judge.is_approved site) site v a a c.args.core is (stays-same (g.L.Link.left c.args.link.now)) refl (Gives-nil a);
+  bound = stays-same (g.L.Link.bound c.args.link.now);
   link = le_same (g.L.Link.faults c.args.link.now);
   sink = le_same (g.K.Sink.faults c.args.out.now);
 }
@@ -28,7 +29,7 @@ loop-turn-preserved g c =
           let site = site_of setup net g.O.Order.rules g.O.Carried.carrier in
           serves-more (StandsFor g.O.Order.stands g.J.Judge.is_approved site) site v c.loop-turn._turn (outer (g.L.Link.left c.args.link.now) (g.L.Link.offered c.args.link.now) (g.L.Link.missed c.args.link.now) (g.K.Sink.written c.args.out.now)) (outer (g.L.Link.left c.loop-turn.link) (g.L.Link.offered c.loop-turn.link) (g.L.Link.missed c.loop-turn.link) (g.K.Sink.written c.loop-turn.out)) (outer (g.L.Link.left c.take_turn.new.link) (g.L.Link.offered c.take_turn.new.link) (g.L.Link.missed c.take_turn.new.link) (g.K.Sink.written c.take_turn.new.out)) c.loop-turn.core (Turns, Some c.in-Ok-take_turn.next)
           (so_far.serves setup net v is) (λ w stood. turn.serves setup net w stood);
-      bound = Stays-trans (g.L.Link.bound c.args.link.now) (g.L.Link.bound c.loop-turn.link) (g.L.Link.bound c.take_turn.new.link) so_far.bound turn.bound;
+      bound = stays-both (g.L.Link.bound c.args.link.now) (g.L.Link.bound c.loop-turn.link) (g.L.Link.bound c.take_turn.new.link) so_far.bound turn.bound;
       link = le_more (g.L.Link.faults c.args.link.now) (g.L.Link.faults c.loop-turn.link) (g.L.Link.faults c.take_turn.new.link) so_far.link turn.link.later;
       sink = le_more (g.K.Sink.faults c.args.out.now) (g.K.Sink.faults c.loop-turn.out) (g.K.Sink.faults c.take_turn.new.out) so_far.sink turn.sink.later;
     }
@@ -51,7 +52,7 @@ returns-in-Err-clause-kept g c = c.in-Err.ensures.kept
 
 pub returns-in-Err-clause-bound : goal.returns-in-Err-clause-bound
 returns-in-Err-clause-bound g c =
-    Stays-trans (g.L.Link.bound c.args.link.now) (g.L.Link.bound c.loop-turn.link) (g.L.Link.bound c.take_turn.new.link) c.loop-turn.invariant.bound c.in-Err.ensures.bound
+    stays-both (g.L.Link.bound c.args.link.now) (g.L.Link.bound c.loop-turn.link) (g.L.Link.bound c.take_turn.new.link) c.loop-turn.invariant.bound c.in-Err.ensures.bound
 
 pub returns-in-Err-clause-link : goal.returns-in-Err-clause-link
 returns-in-Err-clause-link g c =

@@ -2,7 +2,8 @@ use Rattle.std.proofs.Common.{◌≡◌, ℕ, ◌+◌, List, Ok, Err, None, take
 use Rattle.cs_approve.specs.Books.{first_refused}
 use Rattle.cs_take.specs.Taking.{Takes, Comes}
 use Rattle.cs_take.specs.Files.{text_taken, texts_taken}
-use Rattle.cs_take.proofs.Steps.{gave, stays-both, le_both}
+use Rattle.cs_outer.specs.laws.Told.{stays-both}
+use Rattle.cs_take.proofs.Steps.{gave, le_both}
 use Rattle.cs_take.proofs.Texts.{texts-next, texts-refused, texts-all, none-refused}
 use Rattle.cs_take.proofs.contracts.take_texts.Goals as goal
 

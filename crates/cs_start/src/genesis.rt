@@ -1,4 +1,4 @@
-//! The genesis objects of a site, under their keys.
+//! Genesis objects under their keys.
 ghost use Rattle.std.specs.Prelude.{◌≡◌, ◌≤◌, length, IfOk};
 ghost use Rattle.std.specs.List.{All};
 ghost use Rattle.cs_base.specs.declared.limits.TheConstants.{MOST_GENESIS};
@@ -9,8 +9,8 @@ use cs_base::{Key, Memory};
 use cs_tx::{Encoded, Object, genesis_key};
 use std::alloc::Global;
 
-// The objects under their keys, by their places.
-pub(crate) fn keyed(alloc: Global, objects: &[Object]) -> Result<Vec<(Key, Object)>, Memory>
+/// The objects under their keys, by their places.
+pub fn keyed(alloc: Global, objects: &[Object]) -> Result<Vec<(Key, Object)>, Memory>
     requires fits { All ObjectFits objects.now }
     requires few { length objects.now ≤ MOST_GENESIS }
     ensures { IfOk result (λ keyed. keyed.items ≡ keyed_from 0 objects.now) }

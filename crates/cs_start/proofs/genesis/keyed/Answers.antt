@@ -4,8 +4,8 @@ use Rattle.cs_base.specs.declared.key.Key.TheVariants as key
 use Rattle.cs_tx_value.specs.declared.object.Object.{Object}
 use Rattle.cs_tx.specs.Digest.{name_of_genesis}
 use Rattle.cs_node.specs.Setups.{keyed_from}
-use Rattle.cs_replay.proofs.Deployed.{keyed-more}
-use Rattle.cs_replay.proofs.starting.keyed.Goals as goal
+use Rattle.cs_start.proofs.Numbered.{keyed-more}
+use Rattle.cs_start.proofs.genesis.keyed.Goals as goal
 
 pub loop-place-preserved : goal.loop-place-preserved
 loop-place-preserved c =

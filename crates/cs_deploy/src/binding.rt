@@ -1,0 +1,30 @@
+//! The link of a node or a client, bound before its first turn.
+ghost use Rattle.std.specs.Prelude.{◌≡◌, ◌≤◌, Err};
+ghost use Rattle.cs_base.specs.Outside.{HasCause, Rose};
+ghost use Rattle.cs_deploy.specs.Outside.{outside, BindsOrTells};
+
+use cs_base::{NodeId, Sink};
+use cs_deploy_keys::tell;
+use cs_outer::{Bound, Link};
+
+/// Binds the link; or tells that it can't be, and answers the status that a program ends with.
+pub(crate) fn bind_or_tell<L: Link, K: Sink>(
+    link: &mut L,
+    me: NodeId,
+    base_port: u16,
+    out: &mut K,
+) -> Result<(), u8>
+    ensures binds { BindsOrTells me base_port (Rose (L.faults link.old) (L.faults link.new))
+        (outside (L.bound link.old) (L.left link.old) (L.offered link.old) (L.missed link.old)
+        (K.written out.old))
+        (outside (L.bound link.new) (L.left link.new) (L.offered link.new) (L.missed link.new)
+        (K.written out.new))
+        result }
+    ensures link { L.faults link.old ≤ L.faults link.new }
+    ensures write_fault { HasCause (K.faults out.old) (K.faults out.new) (result ≡ Err 6) }
+{
+    match link.bind(me, base_port) {
+        Bound::Done => Ok(()),
+        Bound::Failed => Err(tell(out, b"link fault\n", 7)),
+    }
+}
