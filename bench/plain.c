@@ -3,10 +3,15 @@
 // `plain table OBJECTS SESSIONS ROUNDS`: a hash table of so many coins. So many of them are spent, each by a session that is
 // encoded, hashed and prepared in so many rounds, and then decided.
 // `plain slots F COUNT`: 3F+1 members choose so many entries of 100 bytes by proposal, echoes and confirms, all delivered.
+// `plain run PROGRAM WORDS ..`: runs a program, and prints its processor time in seconds and its most memory in KiB. It is small
+// itself, since a child begins with the memory of who started it.
 #include <stdint.h>
 #include <stdio.h>
 #include <stdlib.h>
 #include <string.h>
+#include <sys/resource.h>
+#include <sys/wait.h>
+#include <unistd.h>
 
 typedef uint8_t byte;
 
@@ -253,11 +258,29 @@ static void run_slots(unsigned f, size_t count) {
     if (all[i].slot != count) fail("not every entry was chosen");
 }
 
+// ---- a program that is run
+
+static double seconds(struct timeval t) { return t.tv_sec + t.tv_usec / 1e6; }
+
+static void run(char **words) {
+  int status;
+  struct rusage used;
+  pid_t child = fork();
+  if (child == 0) {
+    execvp(words[0], words);
+    _exit(127);
+  }
+  if (child < 0 || wait4(child, &status, 0, &used) != child || status != 0) fail("the program failed");
+  printf("%.3f %ld\n", seconds(used.ru_utime) + seconds(used.ru_stime), used.ru_maxrss);
+}
+
 int main(int argc, char **argv) {
   if (argc == 5 && strcmp(argv[1], "table") == 0)
     run_table(strtoul(argv[2], NULL, 10), strtoul(argv[3], NULL, 10), strtoul(argv[4], NULL, 10));
   else if (argc == 4 && strcmp(argv[1], "slots") == 0)
     run_slots(strtoul(argv[2], NULL, 10), strtoul(argv[3], NULL, 10));
+  else if (argc > 2 && strcmp(argv[1], "run") == 0)
+    run(argv + 2);
   else
     fail("other words");
   return 0;

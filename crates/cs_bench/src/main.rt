@@ -7,7 +7,8 @@
 //! `checkpoints OBJECTS SLOTS KEYS` makes a node of one shard with so many coins and closes so many slots, in which coins are
 //! prepared where KEYS is `old`, and prepared and decided where it is `new`; `executions OBJECTS SLOTS KEYS` does
 //! the same, and closes none.
-//! `slots F COUNT` chooses so many entries among 3F+1 members, of 16 at most, with all messages delivered.
+//! `leaves OBJECTS COUNT` makes a shard of so many coins and pushes so many leaves to the chain of its checkpoints.
+//! `slots F COUNT` chooses so many entries among 3F+1 members, of 16 at most, with all messages delivered. Each cuts its log.
 //! `hostile VIEWS` lets five liars of 16 members fill so many views, at most 1,024, of the open slot and the 15 above,
 //! chooses 11 slots, and the same where the liars are silent, and prints one line of numbers: the liars' messages
 //! that were taken, and the nanoseconds for these, for the slots, and for those among silent liars.
@@ -26,6 +27,7 @@ mod datagrams;
 mod hashes;
 mod hostile;
 mod lang;
+mod leaves;
 mod merkle;
 mod slots;
 mod table;
@@ -196,24 +198,55 @@ fn run_sized(
     size: Option<u32>,
     count: Option<u32>,
 ) -> Result<u8, Memory> {
-    let (Some(size), Some(count)) = (size, count) else {
+    let (Some(part), Some(size), Some(count)) = (part_of(word), size, count) else {
         return Ok(OTHER_WORDS);
     };
+    run_part(alloc, part, size, count)
+}
+
+/// A part of the ledger that is run so many times on something of a size.
+#[derive(Clone, Copy)]
+enum Part {
+    Merkle,
+    Root,
+    Leaves,
+    Slots,
+    Seal,
+    Open,
+    Parse,
+    Accept,
+}
+
+fn part_of(word: &str) -> Option<Part> {
     match word {
-        "merkle" => {
+        "merkle" => Some(Part::Merkle),
+        "root" => Some(Part::Root),
+        "leaves" => Some(Part::Leaves),
+        "slots" => Some(Part::Slots),
+        "seal" => Some(Part::Seal),
+        "open" => Some(Part::Open),
+        "parse" => Some(Part::Parse),
+        "accept" => Some(Part::Accept),
+        _ => None,
+    }
+}
+
+fn run_part(alloc: Global, part: Part, size: u32, count: u32) -> Result<u8, Memory> {
+    match part {
+        Part::Merkle => {
             merkle::run(alloc, size, count)?;
             Ok(DONE)
         }
-        "root" => {
+        Part::Root => {
             table::root_often(alloc, size, count)?;
             Ok(DONE)
         }
-        "slots" => Ok(status(slots::run(alloc, size, count)?, count)),
-        "seal" => Ok(status(seal_often(alloc, size, count)?, count)),
-        "open" => Ok(status(open_often(alloc, size, count)?, count)),
-        "parse" => Ok(status(read_often(alloc, size, count)?, count)),
-        "accept" => Ok(status(accept_often(alloc, size, count)?, count)),
-        _ => Ok(OTHER_WORDS),
+        Part::Leaves => Ok(status(leaves::run(alloc, size, count)?, count)),
+        Part::Slots => Ok(status(slots::run(alloc, size, count)?, count)),
+        Part::Seal => Ok(status(seal_often(alloc, size, count)?, count)),
+        Part::Open => Ok(status(open_often(alloc, size, count)?, count)),
+        Part::Parse => Ok(status(read_often(alloc, size, count)?, count)),
+        Part::Accept => Ok(status(accept_often(alloc, size, count)?, count)),
     }
 }
 

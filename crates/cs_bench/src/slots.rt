@@ -1,5 +1,6 @@
 //! The members of one shard, which order entries with all messages delivered.
 use cs_base::{Memory, Sequence};
+use cs_checkpoint::KEPT_SLOTS;
 use cs_log::SlotOrder;
 use cs_order::{May, Order, Outgoing, Proposed, Step};
 use cs_order_rules::{Change, OrderMessage};
@@ -22,11 +23,15 @@ pub struct Shard {
     members: u16,
 }
 
-/// Chooses so many entries of 100 bytes among 3f+1 members: how many the first of them has.
+/// Chooses so many entries of 100 bytes among 3f+1 members: how many the first of them has. Behind
+/// every 16th slot each cuts its log, as a node does.
 pub fn run(alloc: Global, f: u32, count: u32) -> Result<u32, Memory> {
     let mut shard = Shard::new(alloc, f)?;
     for number in 0..count {
         shard.choose(alloc, number)?;
+        if number % 16 == 15 {
+            shard.cut();
+        }
     }
     Ok(shard.chosen())
 }
@@ -83,6 +88,14 @@ impl Shard {
             self.deliver_all(alloc)?;
         }
         Ok(())
+    }
+
+    /// Each member gives up the slots before its last ones.
+    fn cut(&mut self) {
+        for order in &mut self.orders {
+            let open = order.open_slot();
+            order.cut(open.saturating_sub(KEPT_SLOTS));
+        }
     }
 
     /// Delivers all that is on its way.

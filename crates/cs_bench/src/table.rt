@@ -78,7 +78,7 @@ fn spend_coin(
 }
 
 /// The table of a shard of these coins.
-fn shard(alloc: Global, objects: &[(Key, Object)]) -> Result<Option<Table>, Memory>
+pub fn shard(alloc: Global, objects: &[(Key, Object)]) -> Result<Option<Table>, Memory>
     requires { All (λ item. ObjectFits item.1) objects.now }
 {
     let config = match Config::new(1, 0, 0) {
