@@ -12,7 +12,7 @@ ghost use Rattle.cs_check.specs.Root.{table_root as root_of};
 
 use crate::fitting::key_fits;
 use crate::root::record_leaf;
-use cs_base::{Key, Memory, Writer};
+use cs_base::{Key, Memory};
 use cs_merkle_kept::{Incremental, Leaf, Steps};
 use cs_table::{Record, Table};
 use cs_tx::{Digest, Encoded};
@@ -43,9 +43,7 @@ fn key_bytes(alloc: Global, key: &Key) -> Result<Vec<u8>, Memory>
     ensures { IfOk result (λ bytes. bytes.items ≡ key_encoding key.now) }
 {
     key_fits(key);
-    let mut out = Writer::new(alloc);
-    key.encode(&mut out)?;
-    Ok(out.into_bytes())
+    key.to_bytes(alloc)
 }
 
 // The leaf of a record, under its encoded key.

@@ -3,7 +3,7 @@ ghost use Rattle.std.specs.Prelude.{◌≡◌, IfOk};
 ghost use Rattle.cs_tx_form.specs.Log.{leaf_encoding, LeafFits};
 ghost use Rattle.cs_checkpoint.specs.Chain.{IsLeaf};
 
-use cs_base::{Memory, Writer};
+use cs_base::Memory;
 use cs_tx::{Encoded, Leaf};
 use std::alloc::Global;
 
@@ -13,7 +13,5 @@ pub fn encode_leaf(alloc: Global, leaf: &Leaf) -> Result<Vec<u8>, Memory>
     ensures encoded { IfOk result (λ bytes. bytes.items ≡ leaf_encoding leaf.now) }
     ensures leaf { IfOk result (λ bytes. IsLeaf bytes.items) }
 {
-    let mut out = Writer::new(alloc);
-    leaf.encode(&mut out)?;
-    Ok(out.into_bytes())
+    leaf.to_bytes(alloc)
 }

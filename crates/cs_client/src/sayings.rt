@@ -8,7 +8,7 @@ ghost use Rattle.cs_client.specs.Sayings.{to_each, outs_of, asks_on};
 
 use crate::nodes::nodes_of;
 use crate::offers::{say, say_body};
-use cs_base::{Config, Key, Memory, NodeId, Sequence, Writer, shard_of};
+use cs_base::{Config, Key, Memory, NodeId, Sequence, shard_of};
 use cs_tx_form::Session;
 use cs_tx_value::{Digest, Encoded};
 use cs_wire::{Keys, Message, Out};
@@ -83,7 +83,6 @@ pub fn submit_to(
     ensures { let sayings = to_each nodes.now (message.Submit session.now) in
         OnOk result (outs.new ≡ outs.old ++ outs_of keys.now sayings) }
 {
-    let mut body = Writer::new(alloc);
-    session.encode(&mut body)?;
-    say_body(alloc, keys, nodes, SUBMIT, &body.into_bytes(), outs)
+    let body = session.to_bytes(alloc)?;
+    say_body(alloc, keys, nodes, SUBMIT, &body, outs)
 }

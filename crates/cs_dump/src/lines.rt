@@ -7,7 +7,7 @@ ghost use Rattle.cs_node_rules.specs.Dumps.{leaf_line, dumped_head, contract_lin
 ghost use Rattle.cs_play.specs.Longest.{log_in};
 ghost use Rattle.cs_dump.specs.Lines.{settings_text, object_line, log_line, logged_text};
 
-use cs_base::{Config, Memory, Sequence, Writer, print_bytes};
+use cs_base::{Config, Memory, Sequence, print_bytes};
 use cs_play::NodeLog;
 use cs_tx_value::{Digest, Encoded, Object};
 use std::alloc::Global;
@@ -50,9 +50,7 @@ fn object_text(alloc: Global, object: &Object) -> Result<String, Memory>
     requires { ObjectFits object.now }
     ensures { IfOk result (λ text. string_bytes text ≡ bytes_text (object_encoding object.now)) }
 {
-    let mut encoding = Writer::new(alloc);
-    object.encode(&mut encoding)?;
-    print_bytes(alloc, &encoding.into_bytes())
+    print_bytes(alloc, &object.to_bytes(alloc)?)
 }
 
 /// The log of a shard; where there is none, that of no slot.

@@ -12,7 +12,7 @@ use crate::draws::Draws;
 use crate::limits::MOST_SIZE;
 use crate::serials::Serials;
 use crate::sessions::{Offer, make_offer};
-use cs_base::{CLIENT_SHARD, Memory, NodeId, Sequence, Writer};
+use cs_base::{CLIENT_SHARD, Memory, NodeId, Sequence};
 use cs_sched_types::Event;
 use cs_tx::{Digest, Encoded, Session};
 use std::alloc::Global;
@@ -56,9 +56,7 @@ fn submit(
     ensures { OnOk result (events.new.items
         ≡ events.old.items ++ submitted_to session.now shards.now) }
 {
-    let mut out = Writer::new(alloc);
-    session.encode(&mut out)?;
-    let body = out.into_bytes();
+    let body = session.to_bytes(alloc)?;
     for shard in shards {
         say_in(alloc, *shard, &body, events)?;
     }

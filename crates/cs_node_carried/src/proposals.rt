@@ -6,7 +6,7 @@ ghost use Rattle.cs_tx_form.specs.Session.{EntryFits};
 ghost use Rattle.cs_node_rules.specs.Deployment.{proposed_of, bare_trace, no_session};
 ghost use Rattle.cs_node_carried.specs.Proposals.{entry_read, entry_spelled};
 
-use cs_base::{MOST_ENTRY, Memory, Sequence, Writer};
+use cs_base::{Memory, Sequence};
 use cs_hash::tagged;
 use cs_order::Proposed;
 use cs_tx::{Encoded, Entry, FormError, Name, Session, Trace, Tx};
@@ -70,10 +70,7 @@ pub fn propose_entry(alloc: Global, entry: &Entry) -> Result<Proposed, Memory>
     requires { EntryFits entry.now }
     ensures { IfOk result (λ proposed. proposed ≡ proposed_of entry.now) }
 {
-    let left = entry.room(MOST_ENTRY).unwrap_or(0);
-    let mut out = Writer::with_room(alloc, MOST_ENTRY.saturating_sub(left))?;
-    entry.encode(&mut out)?;
-    let bytes = out.into_bytes();
+    let bytes = entry.to_bytes(alloc)?;
     Ok(Proposed {
         digest: tagged(b'E', &bytes),
         bytes: Sequence::from_vec(bytes),

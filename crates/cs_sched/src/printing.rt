@@ -115,9 +115,7 @@ fn print_object(alloc: Global, object: &Object, out: &mut Writer) -> Result<(), 
     ensures ok { OnOk result (out.new ≡ out.old ++ line_text (object_words object.now)) }
     ensures err { OnErr result (Begins out.new out.old) }
 {
-    let mut encoding = Writer::new(alloc);
-    object.encode(&mut encoding)?;
-    let bytes = encoding.into_bytes();
+    let bytes = object.to_bytes(alloc)?;
     print_bytes_line(alloc, b"genesis".as_slice(), bytes.as_slice(), out)
 }
 

@@ -19,9 +19,7 @@ pub fn tx_digest(alloc: Global, tx: &Tx) -> Result<Digest, Memory>
     requires { TxFits tx.now }
     ensures { IfOk result (λ digest. digest ≡ digest_of_tx tx.now) }
 {
-    let mut out = Writer::new(alloc);
-    tx.encode(&mut out)?;
-    Ok(tagged(b'T', &out.into_bytes()))
+    Ok(tagged(b'T', &tx.to_bytes(alloc)?))
 }
 
 /// SHA-256 of the letter S and the encoding.
@@ -29,9 +27,7 @@ pub fn session_digest(alloc: Global, session: &Session) -> Result<Digest, Memory
     requires { SessionFits session.now }
     ensures { IfOk result (λ digest. digest ≡ digest_of_session session.now) }
 {
-    let mut out = Writer::new(alloc);
-    session.encode(&mut out)?;
-    Ok(tagged(b'S', &out.into_bytes()))
+    Ok(tagged(b'S', &session.to_bytes(alloc)?))
 }
 
 /// SHA-256 of the letter E and the encoding.
@@ -39,9 +35,7 @@ pub fn entry_digest(alloc: Global, entry: &Entry) -> Result<Digest, Memory>
     requires { EntryFits entry.now }
     ensures { IfOk result (λ digest. digest ≡ digest_of_entry entry.now) }
 {
-    let mut out = Writer::new(alloc);
-    entry.encode(&mut out)?;
-    Ok(tagged(b'E', &out.into_bytes()))
+    Ok(tagged(b'E', &entry.to_bytes(alloc)?))
 }
 
 /// The key of the genesis object of this number: SHA-256 of the letter G, the number and the

@@ -55,6 +55,17 @@ pub trait Encoded: Sized + Drop {
     ghost short: { (value : Self) → Fits value → length (encoding value) < 2 ^ 64
         → length (encoding value) ≤ LIMIT };
 
+    /// The encoding of the value, which takes the room that it needs at once.
+    final fn to_bytes(&self, alloc: Global) -> Result<Vec<u8>, Memory>
+        requires { Self.Fits self.now }
+        ensures { IfOk result (λ bytes. bytes.items ≡ Self.encoding self.now) }
+    {
+        let left = self.room(Self::LIMIT).unwrap_or(0);
+        let mut out = Writer::with_room(alloc, Self::LIMIT.saturating_sub(left))?;
+        self.encode(&mut out)?;
+        Ok(out.into_bytes())
+    }
+
     /// The value that the bytes encode, all of the bytes.
     final fn decode(alloc: Global, bytes: &[u8]) -> Result<Self, FormError>
         // What is answered has this encoding.
