@@ -5,10 +5,8 @@ use Rattle.std.specs.Str.{bytes_eq}
 use Rattle.std.proofs.lemmas.Bool.Decides.{nat_tests}
 use Rattle.cs_command.specs.Numbers.{short_number}
 use Rattle.cs_gen.specs.declared.limits.TheConstants.{MOST_SIZE}
-use Rattle.cs_replay.specs.declared.schedule.Mode.{Mode}
 use Rattle.cs_cli.specs.Numbers.{size_in, both, simulated}
 use Rattle.cs_cli.specs.Deployed.{deployed}
-use Rattle.cs_cli.specs.declared.deployments.Deployment.{Deployment}
 use Rattle.cs_cli.specs.Words.{plain_mode, mode_from, flagged, plain, command_of}
 use Rattle.cs_cli.specs.declared.words.Command.{Command}
 use Rattle.cs_cli.specs.declared.words.Command.TheVariants.{Replay, Contract, Verify, Audit, Simulate, Deploy}
