@@ -1,19 +1,12 @@
 -- The order of a node and its chain give up the same slots.
 use Rattle.std.specs.Prelude.{Ok, Err, max, if◌then◌else◌}
-use Rattle.std.proofs.Common.{◌≡◌, ℕ, zero, suc, ◌+◌, ◌-◌, ◌*◌, ◌/◌, ◌%◌, ◌^◌, ◌≤◌, ◌==◌, nat_lt, Bool, true, false, not, ◌&&◌, List, [], ◌∷◌, ◌++◌, length, Option, Some, None, is_some, arith, refl, ap, sym, subst, ◌∙◌}
+use Rattle.std.proofs.Common.{◌≡◌, ℕ, zero, suc, ◌+◌, ◌-◌, ◌*◌, ◌/◌, ◌%◌, ◌^◌, ◌≤◌, ◌==◌, nat_lt, Bool, true, false, List, [], ◌∷◌, ◌++◌, length, Option, Some, None, is_some, arith, refl, ap, sym, subst, ◌∙◌}
 use Rattle.std.proofs.lemmas.Bool.{cond_both, eqb-true, eqb-false}
 use Rattle.std.proofs.Math.Nat.{max-eq_left}
 use Rattle.std.proofs.lemmas.List.{length_push}
-use Rattle.cs_base.specs.declared.key.Key.{Key}
-use Rattle.cs_base.specs.Key.{shard_of_key}
 use Rattle.cs_base.specs.declared.node_id.NodeId.{NodeId}
 use Rattle.cs_base.specs.NodeId.{is_client, same_name}
-use Rattle.cs_tx_form.specs.declared.session.Session.{Session}
-use Rattle.cs_tx_form.specs.declared.vote.Vote.{Vote}
-use Rattle.cs_tx_form.specs.declared.vote.Vote.TheVariants.{Commit}
 use Rattle.cs_tx_form.specs.declared.entry.Entry.{Entry}
-use Rattle.cs_tx_form.specs.declared.checkpoint.Checkpoint.{Checkpoint}
-use Rattle.cs_tx_form.specs.declared.proof.Proof.{Proof}
 use Rattle.cs_tx_form.specs.Log.{leaf_encoding}
 use Rattle.cs_wire_message.specs.declared.message.Message.{Message}
 use Rattle.cs_wire_message.specs.declared.message.Message.TheVariants as message
@@ -30,36 +23,23 @@ use Rattle.cs_wire.specs.Opened.{Opened}
 use Rattle.cs_checkpoint.specs.Chain.{Log, with_slot, cut_slot, kept_slots, made_last}
 use Rattle.cs_check_rules.specs.Proofs.{proof_of}
 use Rattle.cs_check_rules.specs.Root.{root_under}
-use Rattle.cs_check_rules.specs.Heads.{is_news}
 use Rattle.cs_node_rules.specs.declared.cause.Cause.{Cause}
 use Rattle.cs_node_rules.specs.declared.cause.Cause.TheVariants as cause
-use Rattle.cs_node_state.specs.declared.pooled.Pooled.{Pooled}
-use Rattle.cs_node_state.specs.Setup.{Setup, digest_of, concerns, concerned, is_fit, is_approved, session_in}
+use Rattle.cs_node_state.specs.Setup.{session_in}
 use Rattle.cs_node_state.specs.Admission.{due}
-use Rattle.cs_node_state.specs.Evidence.{has_voted}
-use Rattle.cs_node_state.specs.Pool.{Pool, found, is_pooled, has_room}
-use Rattle.cs_node_state.specs.Bench.{Bench, executed, slot_executed, next_leaf, decided, noted, told_of}
-use Rattle.cs_node_state.specs.Asked.{told_at, key_asked}
+use Rattle.cs_node_state.specs.Bench.{executed, slot_executed, next_leaf}
 use Rattle.cs_node_rules.specs.Net.{cause_of}
 use Rattle.cs_node_rules.specs.Members.{is_other_member, others}
-use Rattle.cs_node_rules.specs.Signs.{Sign, Dropped, Took, Entered, Viewed, Did, Headed, Kept, Sent, bench_step, guarded, submitted_signs, submit_signs, told_signs, ask_signs, asking_signs, ballot_signs, voted_signs, sends, vote_signs, own_signs, entered_signs, headed_signs, execution_signs, proof_signs, ask_proof_signs, head_signs, asked_again}
+use Rattle.cs_node_rules.specs.Signs.{Sign, Dropped, Viewed, bench_step, submit_signs, ask_signs, voted_signs, sends, ran_signs, headed_signs, execution_signs, proof_signs, ask_proof_signs, head_signs, asked_again}
 use Rattle.cs_node_rules.specs.Site.{Input, Datagram, Tick, Mark, In, Ordered, Plain, Site, View, start_view, view_after, plain}
-use Rattle.cs_node_rules.specs.Trail.{out_signs, handed, with_deed, entered_view, moving, cut_marks, admits_proposed, due_marks, candidate_marks, propose_marks, echo_marks, step_marks, turn_marks, continued, settled, taking_marks, member_marks, reply_marks, want_marks, message_marks, opened_marks, again_marks, waiting_marks, tick_marks, input_marks, event_marks}
+use Rattle.cs_node_rules.specs.Trail.{handed, with_deed, entered_view, moving, cut_marks, admits_proposed, due_marks, candidate_marks, propose_marks, echo_marks, step_marks, turn_marks, continued, settled, taking_marks, member_marks, reply_marks, want_marks, message_marks, opened_marks, again_marks, waiting_marks, tick_marks, input_marks, event_marks}
 use Rattle.cs_node_rules.specs.World.{Happening, IsLife, trail_of, view_of}
 use Rattle.cs_node_law.specs.Made.{CutsAreAlike}
 use Rattle.cs_node_law.proofs.Views.{view_after-append, member-said}
-use Rattle.cs_node_law.proofs.Silent.{plain-onto}
+use Rattle.cs_node_law.proofs.Keeping.{KeepsLog, AllKeepLog, keep-append, keep-guarded, keep-sends, keep-submit, keep-ask, keep-voted, keep-proof, keep-head, keep-headed, keep-again, keep-handed, log-said, log-ahead, ran-log}
 use Rattle.cs_node_law.proofs.Played.{name-same}
 
 -- ---- marks that neither choose nor cut nor execute
-
--- the sign leaves the log
-abbrev Idle : Sign → Type 0
-Idle sign = (setup : Setup) (shard : ℕ) (b : Bench) → (bench_step setup shard sign b).log ≡ b.log
-
-abbrev AllIdle : List Sign → Type 0
-AllIdle [] = Unit {0}
-AllIdle (sign ∷ signs) = Idle sign × AllIdle signs
 
 -- the deed leaves what is chosen, and what is kept of it
 abbrev IsCalm : {M : Type 0} → Deed M → Type 0
@@ -69,116 +49,19 @@ IsCalm {M} deed =
 abbrev Stays : {M : Type 0} → Mark M → Type 0
 Stays {M} (In input) = Unit {0}
 Stays {M} (Ordered deed) = IsCalm deed
-Stays {M} (Plain sign) = Idle sign
+Stays {M} (Plain sign) = KeepsLog sign
 
 abbrev AllStay : {M : Type 0} → List (Mark M) → Type 0
 AllStay {M} [] = Unit {0}
 AllStay {M} (mark ∷ past) = Stays mark × AllStay past
 
-idle-append : (a b : List Sign) → AllIdle a → AllIdle b → AllIdle (a ++ b)
-idle-append [] b of_a of_b = of_b
-idle-append (sign ∷ a) b of_a of_b = (of_a.0, idle-append a b of_a.1 of_b)
-
 stay-append : {M : Type 0} (a b : List (Mark M)) → AllStay a → AllStay b → AllStay (a ++ b)
 stay-append {M} [] b of_a of_b = of_b
 stay-append {M} (mark ∷ a) b of_a of_b = (of_a.0, stay-append a b of_a.1 of_b)
 
-stay-plain : (M : Type 0) (signs : List Sign) → AllIdle signs → AllStay {M = M} (plain signs)
-stay-plain M [] idle = tt
-stay-plain M (sign ∷ signs) idle = (idle.0, stay-plain M signs idle.1)
-
--- ---- signs
-
-idle-drop : (c : Cause) → AllIdle (Dropped c ∷ [])
-idle-drop c = (λ setup shard b. refl, tt)
-
-idle-sent : (to : NodeId) (said : Message) → AllIdle (Sent to said ∷ [])
-idle-sent to said = (λ setup shard b. refl, tt)
-
-idle-guarded : (holds : Bool) (c : Cause) (signs : List Sign) → AllIdle signs → AllIdle (guarded holds c signs)
-idle-guarded true c signs idle = idle
-idle-guarded false c signs idle = idle-drop c
-
-idle-sends : (names : List NodeId) (said : Message) → AllIdle (sends names said)
-idle-sends [] said = tt
-idle-sends (to ∷ names) said = idle-append (sends names said) (Sent to said ∷ []) (idle-sends names said) (idle-sent to said)
-
-idle-submitted : (setup : Setup) (b : Bench) (sender : NodeId) (x : Session) (o : Option Bool) → AllIdle (submitted_signs setup b sender x o)
-idle-submitted setup b sender x (Some accepted) = idle-sent sender (message.Decided (digest_of setup x) accepted)
-idle-submitted setup b sender x None =
-    let enters : List Sign = Entered x ∷ [] in
-    let with_room : List Sign = guarded (has_room b.pool) cause.Full enters in
-    idle-guarded (not (is_pooled (digest_of setup x) b.pool)) cause.Repeat (guarded (is_approved setup x) cause.Denied with_room)
-    (idle-guarded (is_approved setup x) cause.Denied with_room (idle-guarded (has_room b.pool) cause.Full enters (λ setup shard b. refl, tt)))
-
-idle-submit : (setup : Setup) (shard : ℕ) (b : Bench) (sender : NodeId) (x : Session) → AllIdle (submit_signs setup shard b sender x)
-idle-submit setup shard b sender x =
-    let signs : List Sign = submitted_signs setup b sender x (decided setup shard b.table x) in
-    idle-guarded (is_client sender) cause.Role (guarded (is_fit setup shard x) cause.Malformed signs)
-    (idle-guarded (is_fit setup shard x) cause.Malformed signs (idle-submitted setup b sender x (decided setup shard b.table x)))
-
-idle-ask : (setup : Setup) (shard : ℕ) (b : Bench) (sender : NodeId) (asked : Option Key) → AllIdle (ask_signs setup shard b sender asked)
-idle-ask setup shard b sender asked =
-    let key : Key = key_asked b.table shard asked in
-    let said : Message = message.Told key (told_at b.table key) in
-    idle-guarded (is_client sender) cause.Role (told_signs setup shard b sender key)
-    (idle-guarded (shard_of_key setup.shards key == shard) cause.Mine (Sent sender said ∷ []) (idle-sent sender said))
-
-idle-asking : (setup : Setup) (b : Bench) (sender : NodeId) (vote : Vote) (asks : Bool) (x : Session) (o : Option Vote) → AllIdle (asking_signs setup b sender vote asks x o)
-idle-asking setup b sender vote asks x (Some noted) =
-    let said : Message = message.Voted noted false x in
-    idle-guarded asks cause.Unasked (Sent sender said ∷ []) (idle-sent sender said)
-idle-asking setup b sender vote asks x None =
-    let enters : List Sign = Took sender vote x ∷ Entered x ∷ [] in
-    let with_room : List Sign = guarded (has_room b.pool) cause.Full enters in
-    idle-guarded asks cause.Unasked (guarded (is_approved setup x) cause.Denied with_room)
-    (idle-guarded (is_approved setup x) cause.Denied with_room
-    (idle-guarded (has_room b.pool) cause.Full enters (λ setup shard b. refl, (λ setup shard b. refl, tt))))
-
-idle-ballot : (setup : Setup) (shard : ℕ) (b : Bench) (sender : NodeId) (vote : Vote) (asks : Bool) (x : Session) (o : Option Pooled) → AllIdle (ballot_signs setup shard b sender vote asks x o)
-idle-ballot setup shard b sender vote asks x (Some p) = idle-guarded (not (has_voted sender p.ballots)) cause.Repeat (Took sender vote x ∷ []) (λ setup shard b. refl, tt)
-idle-ballot setup shard b sender vote asks x None = idle-asking setup b sender vote asks x (noted setup shard b.table x)
-
-idle-voted : (setup : Setup) (shard : ℕ) (b : Bench) (sender : NodeId) (vote : Vote) (asks : Bool) (x : Session) → AllIdle (voted_signs setup shard b sender vote asks x)
-idle-voted setup shard b sender vote asks x =
-    let signs : List Sign = ballot_signs setup shard b sender vote asks x (found (digest_of setup x) b.pool) in
-    let of_concerned : List Sign = guarded (concerns setup x sender.shard) cause.Role signs in
-    idle-guarded (not (is_client sender)) cause.Role (guarded (is_fit setup shard x) cause.Malformed of_concerned)
-    (idle-guarded (is_fit setup shard x) cause.Malformed of_concerned
-    (idle-guarded (concerns setup x sender.shard) cause.Role signs (idle-ballot setup shard b sender vote asks x (found (digest_of setup x) b.pool))))
-
-idle-proof : (sender : NodeId) (o : Option Proof) → AllIdle (proof_signs sender o)
-idle-proof sender None = idle-drop cause.NoProof
-idle-proof sender (Some proof) = idle-sent sender (message.Proof proof)
-
-idle-head : (setup : Setup) (me : NodeId) (b : Bench) (sender : NodeId) (c : Checkpoint) → AllIdle (head_signs setup me b sender c)
-idle-head setup me b sender c =
-    let keeps : List Sign = Kept sender.index c ∷ [] in
-    idle-guarded (is_other_member setup.f me sender) cause.Role (guarded (is_news sender.index c b.heads) cause.Repeat keeps)
-    (idle-guarded (is_news sender.index c b.heads) cause.Repeat keeps (λ setup shard b. refl, tt))
-
-idle-votes : (setup : Setup) (me : NodeId) (x : Session) (told : Option (Vote × Bool)) → AllIdle (vote_signs setup me x told)
-idle-votes setup me x None = tt
-idle-votes setup me x (Some told) = idle-sends (others setup.f me (concerned setup x)) (message.Voted told.0 told.1 x)
-
-idle-own : (me : NodeId) (x : Session) (told : Option (Vote × Bool)) → AllIdle (own_signs me x told)
-idle-own me x None = tt
-idle-own me x (Some told) = cond_both told.1 (Took me told.0 x ∷ []) [] AllIdle (λ e. (λ setup shard b. refl, tt)) (λ e. tt)
-
-idle-entered : (x : Session) (pooled : Bool) (told : Option (Vote × Bool)) → AllIdle (entered_signs x pooled told)
-idle-entered x pooled None = tt
-idle-entered x pooled (Some told) = cond_both (told.1 && not pooled) (Entered x ∷ []) [] AllIdle (λ e. (λ setup shard b. refl, tt)) (λ e. tt)
-
-idle-headed : (setup : Setup) (me : NodeId) (o : Option Checkpoint) → AllIdle (headed_signs setup me o)
-idle-headed setup me None = tt
-idle-headed setup me (Some c) =
-    idle-append (sends (others setup.f me (me.shard ∷ [])) (message.Head c)) (Headed c.number _ ∷ []) (idle-sends (others setup.f me (me.shard ∷ [])) (message.Head c)) (λ setup shard b. refl, tt)
-
-idle-again : (setup : Setup) (me : NodeId) (pool : Pool) → AllIdle (asked_again setup me pool)
-idle-again setup me [] = tt
-idle-again setup me (e ∷ pool) =
-    idle-append (asked_again setup me pool) _ (idle-again setup me pool)
-    (cond_both e.1.locked (vote_signs setup me e.1.session (Some (Commit, true))) [] AllIdle (λ locked. idle-votes setup me e.1.session (Some (Commit, true))) (λ free. tt))
+stay-plain : (M : Type 0) (signs : List Sign) → AllKeepLog signs → AllStay {M = M} (plain signs)
+stay-plain M [] kept = tt
+stay-plain M (sign ∷ signs) kept = (kept.0, stay-plain M signs kept.1)
 
 -- ---- what a node's log is, and what its order keeps
 
@@ -237,18 +120,8 @@ module _ {M : Type 0} (site : Site M) where
 
   -- ---- deeds
 
-  idle-out : (me : NodeId) (to : Option ℕ) (m : M) → AllIdle (out_signs site me to m)
-  idle-out me None m = idle-sends (others site.setup.f me (me.shard ∷ [])) (site.carrier.written m)
-  idle-out me (Some index) m =
-      let name : NodeId = record { shard = me.shard; index = index } in
-      cond_both (is_other_member site.setup.f me name) (Sent name (site.carrier.written m) ∷ []) [] AllIdle (λ e. idle-sent name (site.carrier.written m)) (λ e. tt)
-
-  idle-handed : (me : NodeId) (outs : List (Outgoing M)) → AllIdle (handed site me outs)
-  idle-handed me [] = tt
-  idle-handed me (out ∷ outs) = idle-append (handed site me outs) (out_signs site me out.to out.message) (idle-handed me outs) (idle-out me out.to out.message)
-
   stay-deed : (v : View M) (deed : Deed M) → IsCalm deed → AllStay (with_deed site v deed)
-  stay-deed v deed calm = let signs = handed site v.me (sent_by deed) in stay-append (plain signs) (Ordered deed ∷ []) (stay-plain M signs (idle-handed v.me (sent_by deed))) (calm, tt)
+  stay-deed v deed calm = let signs = handed site v.me (sent_by deed) in stay-append (plain signs) (Ordered deed ∷ []) (stay-plain M signs (keep-handed site v.me (sent_by deed))) (calm, tt)
 
   stay-moving : (v : View M) (deed : Deed M) → IsCalm deed → AllStay (moving site v deed)
   stay-moving v deed calm =
@@ -256,22 +129,13 @@ module _ {M : Type 0} (site : Site M) where
       let slot = length (chosen_in v.member.deeds) in
       let before = site.machine.view v.member in
       let after = site.machine.view (did deed v.member) in
-      let entered : AllIdle (entered_view slot before after) = cond_both (nat_lt before after) (Viewed slot after ∷ []) [] AllIdle (λ e. (λ setup shard b. refl, tt)) (λ e. tt) in
+      let entered : AllKeepLog (entered_view slot before after) = cond_both (nat_lt before after) (Viewed slot after ∷ []) [] AllKeepLog (λ e. (λ setup shard b. refl, tt)) (λ e. tt) in
       let signs = said ++ entered_view slot before after in
-      stay-append (plain signs) (Ordered deed ∷ []) (stay-plain M signs (idle-append said (entered_view slot before after) (idle-handed v.me (sent_by deed)) entered)) (calm, tt)
+      stay-append (plain signs) (Ordered deed ∷ []) (stay-plain M signs (keep-append said (entered_view slot before after) (keep-handed site v.me (sent_by deed)) entered)) (calm, tt)
 
   -- ---- rules
 
   -- what is chosen is executed, and the order is cut where a checkpoint is made
-  log-said : (signs : List Sign) (past : List (Mark M)) (v : View M) → AllIdle signs → (view_after site (plain signs ++ past) v).bench.log ≡ (view_after site past v).bench.log
-  log-said [] past v idle = refl
-  log-said (sign ∷ signs) past v idle =
-      let w = view_after site (plain signs ++ past) v in
-      idle.0 site.setup w.me.shard w.bench ∙ log-said signs past v idle.1
-
-  log-ahead : (a b : List Sign) (past : List (Mark M)) (v : View M) → AllIdle a → (view_after site (plain (a ++ b) ++ past) v).bench.log ≡ (view_after site (plain b ++ past) v).bench.log
-  log-ahead a b past v idle = ap (λ (t : List (Mark M)). (view_after site t v).bench.log) (plain-onto a b past) ∙ log-said a (plain b ++ past) v idle
-
   module _ (v : View M) (alike : IsAlike v) (p : Proposed) where
     abbrev slot : ℕ
     slot = length (chosen_in v.member.deeds)
@@ -300,22 +164,15 @@ module _ {M : Type 0} (site : Site M) where
     member-is = member-said site (execution_signs site.setup v.me v.bench slot entry) first v ∙ member-said site (handed site v.me (site.machine.advancing v.member)) (Ordered deed ∷ []) v
 
     log-before : w.bench.log ≡ v.bench.log
-    log-before = log-said (handed site v.me (site.machine.advancing v.member)) (Ordered deed ∷ []) v (idle-handed v.me (site.machine.advancing v.member))
+    log-before = log-said site (handed site v.me (site.machine.advancing v.member)) (Ordered deed ∷ []) v (keep-handed site v.me (site.machine.advancing v.member))
 
     log-after : u.bench.log ≡ (slot_executed site.setup w.me.shard w.bench entry).log
     log-after =
         let x = session_in entry in
         let ran = executed site.setup v.me.shard v.bench entry in
-        let told = told_of site.setup v.me.shard x ran in
-        let executing : List Sign = Did slot entry ran.effect ∷ [] in
-        let entering = entered_signs x (is_pooled (digest_of site.setup x) v.bench.pool) told in
-        let voting = vote_signs site.setup v.me x told in
-        let own = own_signs v.me x told in
         let made = made_last (slot_executed site.setup v.me.shard v.bench entry).log in
-        log-ahead (headed_signs site.setup v.me made) (own ++ (voting ++ (entering ++ executing))) first v (idle-headed site.setup v.me made)
-        ∙ log-ahead own (voting ++ (entering ++ executing)) first v (idle-own v.me x told)
-        ∙ log-ahead voting (entering ++ executing) first v (idle-votes site.setup v.me x told)
-        ∙ log-ahead entering executing first v (idle-entered x (is_pooled (digest_of site.setup x) v.bench.pool) told)
+        log-ahead site (headed_signs site.setup v.me made) (ran_signs site.setup v.me v.bench slot entry x ran) first v (keep-headed site.setup v.me made)
+        ∙ ran-log site first v v.me v.bench slot entry x ran
 
     abbrev leaf : List ℕ
     leaf = leaf_encoding (next_leaf w.bench entry (executed site.setup w.me.shard w.bench entry).effect)
@@ -418,19 +275,19 @@ module _ {M : Type 0} (site : Site M) where
         cond_both (is_other_member site.setup.f v.me sender) _ _ (λ marks. AllStay marks) (λ e. stay-reply slot sender.index (site.machine.replying v.member slot sender.index)) (λ e. stay-drop cause.Role)
 
     stay-message : (sender : NodeId) (said : Message) → AllStay (message_marks site v sender said)
-    stay-message sender (message.Submit x) = stay-plain M (submit_signs site.setup v.me.shard v.bench sender x) (idle-submit site.setup v.me.shard v.bench sender x)
+    stay-message sender (message.Submit x) = stay-plain M (submit_signs site.setup v.me.shard v.bench sender x) (keep-submit site.setup v.me.shard v.bench sender x)
     stay-message sender (message.Propose slot view entry) = stay-member sender (site.carrier.read (message.Propose slot view entry))
     stay-message sender (message.Echo slot view digest) = stay-member sender (site.carrier.read (message.Echo slot view digest))
     stay-message sender (message.Confirm slot view digest) = stay-member sender (site.carrier.read (message.Confirm slot view digest))
     stay-message sender (message.Change slot view change) = stay-member sender (site.carrier.read (message.Change slot view change))
-    stay-message sender (message.Voted vote asks x) = stay-plain M (voted_signs site.setup v.me.shard v.bench sender vote asks x) (idle-voted site.setup v.me.shard v.bench sender vote asks x)
+    stay-message sender (message.Voted vote asks x) = stay-plain M (voted_signs site.setup v.me.shard v.bench sender vote asks x) (keep-voted site.setup v.me.shard v.bench sender vote asks x)
     stay-message sender (message.Decided digest accepted) = stay-drop cause.Role
     stay-message sender (message.Want slot) = stay-want sender slot
     stay-message sender (message.Done slot entry) = stay-member sender (site.carrier.read (message.Done slot entry))
-    stay-message sender (message.Ask asked) = stay-plain M (ask_signs site.setup v.me.shard v.bench sender asked) (idle-ask site.setup v.me.shard v.bench sender asked)
+    stay-message sender (message.Ask asked) = stay-plain M (ask_signs site.setup v.me.shard v.bench sender asked) (keep-ask site.setup v.me.shard v.bench sender asked)
     stay-message sender (message.Told key state) = stay-drop cause.Role
-    stay-message sender (message.Head checkpoint) = stay-plain M (head_signs site.setup v.me v.bench sender checkpoint) (idle-head site.setup v.me v.bench sender checkpoint)
-    stay-message sender (message.AskProof slot) = stay-plain M (ask_proof_signs v.bench sender slot) (idle-guarded (is_client sender) cause.Role (proof_signs sender (proof_of v.bench.log slot)) (idle-proof sender (proof_of v.bench.log slot)))
+    stay-message sender (message.Head checkpoint) = stay-plain M (head_signs site.setup v.me v.bench sender checkpoint) (keep-head site.setup v.me v.bench sender checkpoint)
+    stay-message sender (message.AskProof slot) = stay-plain M (ask_proof_signs v.bench sender slot) (keep-guarded (is_client sender) cause.Role (proof_signs sender (proof_of v.bench.log slot)) (keep-proof sender (proof_of v.bench.log slot)))
     stay-message sender (message.Proof proof) = stay-drop cause.Role
 
     stay-opened : (o : Opened) → AllStay (opened_marks site v o)
@@ -447,7 +304,7 @@ module _ {M : Type 0} (site : Site M) where
         let resent : Deed M = Resent (site.machine.resending v.member) in
         stay-append (waiting_marks site next on) again (stay-moving next (Ticked on (site.machine.ticking next.member on)) (λ past. (refl, refl)))
         (stay-append (plain (wants ++ asked)) (with_deed site v resent)
-        (stay-plain M (wants ++ asked) (idle-append wants asked (idle-sends (others site.setup.f v.me (v.me.shard ∷ [])) (message.Want (length (chosen_in v.member.deeds)))) (idle-again site.setup v.me v.bench.pool)))
+        (stay-plain M (wants ++ asked) (keep-append wants asked (keep-sends (others site.setup.f v.me (v.me.shard ∷ [])) (message.Want (length (chosen_in v.member.deeds)))) (keep-again site.setup v.me v.bench.pool)))
         (stay-deed v resent (λ past. (refl, refl))))
 
     stay-input : (input : Input) → AllStay (input_marks site v input)

@@ -3,6 +3,7 @@ pub mod Logs
 pub mod Locks
 pub mod Notes
 pub mod Silent
+pub mod Keeping
 pub mod Heads
 pub mod Turns
 pub mod Pools

@@ -13,7 +13,7 @@ use Rattle.cs_wire.specs.Opened.{Opened}
 use Rattle.cs_ledger.specs.Ledger.{Bytes, IsIn}
 use Rattle.cs_ledger.specs.Session as Seen
 use Rattle.cs_ledger.specs.Table as Shard
-use Rattle.cs_ledger.specs.Table.{Commit, Effect, Voted, Accepted, Aborted, Skipped, Void, Outcome, Table}
+use Rattle.cs_ledger.specs.Table.{Commit, Effect, Voted, Accepted, Aborted, Skipped, Void, Table}
 use Rattle.cs_ledger.proofs.Basics.{in_left, in_either, same_bytes}
 use Rattle.cs_node_state.specs.declared.ballot.Ballot.{Ballot}
 use Rattle.cs_node_state.specs.declared.pooled.Pooled.{Pooled}

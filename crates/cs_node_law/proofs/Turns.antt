@@ -1,5 +1,5 @@
 -- The rules, one turn after the other, make only marks that are made.
-use Rattle.std.proofs.Common.{◌≡◌, inl, inr, ℕ, zero, suc, ◌+◌, ◌-◌, ◌%◌, ◌≤◌, ◌==◌, Bool, true, false, not, ◌&&◌, List, [], ◌∷◌, ◌++◌, length, Option, Some, None, arith, sym, ◌∙◌, ap, subst, refl, append_assoc}
+use Rattle.std.proofs.Common.{◌≡◌, inl, inr, ℕ, zero, suc, ◌+◌, ◌-◌, ◌%◌, ◌≤◌, ◌==◌, Bool, true, false, ◌&&◌, List, [], ◌∷◌, ◌++◌, length, Option, Some, None, arith, sym, ◌∙◌, ap, subst, refl, append_assoc}
 use Rattle.std.specs.Prelude.{slice_get, IsSome}
 use Rattle.std.proofs.lemmas.Bool.{cond_both, and_from, or_left}
 use Rattle.std.proofs.lemmas.Option.{slice_get-get_or}
@@ -10,7 +10,6 @@ use Rattle.cs_tx_form.specs.declared.session.Session.{Session}
 use Rattle.cs_tx_form.specs.declared.vote.Vote as Tx
 use Rattle.cs_tx_form.specs.declared.entry.Entry.{Entry}
 use Rattle.cs_tx_form.specs.declared.entry.Entry.TheVariants.{Prepare, Decide}
-use Rattle.cs_wire_message.specs.declared.message.Message.{Message}
 use Rattle.cs_wire_message.specs.declared.message.Message.TheVariants as message
 use Rattle.cs_order.specs.declared.proposed.Proposed.{Proposed}
 use Rattle.cs_order.specs.declared.answers.Step.{Step}
@@ -21,7 +20,7 @@ use Rattle.cs_order.specs.Lists as Order
 use Rattle.cs_order.specs.Deeds.{Deed, Advanced, Echoed, Proposing, Cut, Member, chosen_in}
 use Rattle.cs_order.specs.Calls.{Proposable}
 use Rattle.cs_ledger.specs.Session as Seen
-use Rattle.cs_ledger.specs.Table.{Vote, Commit, Abort, Effect, Voted, Accepted, Aborted, Skipped, Void, Outcome, Table, exec, decide}
+use Rattle.cs_ledger.specs.Table.{Vote, Commit, Abort, Effect, Voted, Accepted, Aborted, Skipped, Void, Outcome, Table, exec}
 use Rattle.cs_ledger.specs.Table as Shard
 use Rattle.cs_ledger.specs.ShardWorld.{is_vote}
 use Rattle.cs_ledger.proofs.Basics.{bytes_refl}
@@ -29,8 +28,8 @@ use Rattle.cs_node_state.specs.Setup.{Setup, digest_of, concerned, session_in, v
 use Rattle.cs_node_state.specs.Admission.{due}
 use Rattle.cs_node_rules.specs.Members.{others}
 use Rattle.cs_node_state.specs.Pool.{is_pooled}
-use Rattle.cs_node_state.specs.Bench.{is_locked, executed, slot_executed, told_by, told_of, next_leaf}
-use Rattle.cs_node_rules.specs.Signs.{Sign, Took, Entered, Did, Headed, Sent, sends, vote_signs, own_signs, entered_signs, ran_signs, headed_signs, execution_signs}
+use Rattle.cs_node_state.specs.Bench.{is_locked, executed, slot_executed, told_by, next_leaf}
+use Rattle.cs_node_rules.specs.Signs.{Sign, Took, Entered, Did, Headed, sends, vote_signs, own_signs, entered_signs, ran_signs, headed_signs, execution_signs}
 use Rattle.cs_node_rules.specs.Site.{Mark, Ordered, Plain, Site, View, start_view, view_after, plain, signs_of}
 use Rattle.cs_node_rules.specs.Trail.{with_deed, admits_proposed, due_marks, candidate_marks, propose_marks, echo_marks, cut_marks, step_marks, turn_marks, continued, settled}
 use Rattle.cs_tx_form.specs.declared.checkpoint.Checkpoint.{Checkpoint}
@@ -41,6 +40,7 @@ use Rattle.cs_node_law.proofs.Heads.{root_hashed, last_is}
 use Rattle.cs_node_law.specs.Made.{HasDigests, view_at, log_in, HasVotedOn, has_given, IsMade, Executes, AllMade, IsLevel}
 use Rattle.cs_node_law.proofs.Views.{view_after-append, me-same, member-said}
 use Rattle.cs_node_law.proofs.Silent.{given-over, voted-over, said-append, said-sends, Adds, said-adds, said-level, plain-onto, Handed, all-handed, done-level, deed-level, moving-level}
+use Rattle.cs_node_law.proofs.Keeping.{ran-log}
 
 pub get-last : {A : Type 0} (xs : List A) (x : A) → slice_get (xs ++ x ∷ []) (length xs) ≡ Some x
 get-last {A} xs x =
@@ -131,31 +131,8 @@ module _ {M : Type 0} (site : Site M) (me : NodeId) where
         moved own (voting ++ (entering ++ did)) t
         (subst P (plain-onto voting entering Base ∙ ap (λ (z : List (Mark M)). plain voting ++ z) (sym (plain-onto entering did t)) ∙ sym (plain-onto voting (entering ++ did) t)) taken)
 
-  -- signs that execute nothing leave the log
   abbrev LogAt : List (Mark M) → Log
   LogAt u = (view_at site me u).bench.log
-
-  abbrev KeepsLog : List Sign → Type 0
-  KeepsLog signs = (u : List (Mark M)) → LogAt (plain signs ++ u) ≡ LogAt u
-
-  keeps-ahead : (a b : List Sign) (u : List (Mark M)) → KeepsLog a → LogAt (plain (a ++ b) ++ u) ≡ LogAt (plain b ++ u)
-  keeps-ahead a b u keeps = ap (λ (z : List (Mark M)). LogAt z) (plain-onto a b u) ∙ keeps (plain b ++ u)
-
-  keeps-sends : (names : List NodeId) (said : Message) → KeepsLog (sends names said)
-  keeps-sends [] said = λ u. refl
-  keeps-sends (to ∷ names) said = λ u. keeps-ahead (sends names said) (Sent to said ∷ []) u (keeps-sends names said)
-
-  keeps-votes : (who : NodeId) (x : Session) (told : Option (Tx.Vote × Bool)) → KeepsLog (vote_signs site.setup who x told)
-  keeps-votes who x None = λ u. refl
-  keeps-votes who x (Some told) = keeps-sends (others site.setup.f who (concerned site.setup x)) (message.Voted told.0 told.1 x)
-
-  keeps-own : (who : NodeId) (x : Session) (told : Option (Tx.Vote × Bool)) → KeepsLog (own_signs who x told)
-  keeps-own who x None = λ u. refl
-  keeps-own who x (Some told) = cond_both told.1 (Took who told.0 x ∷ []) [] KeepsLog (λ asks u. refl) (λ asks u. refl)
-
-  keeps-entered : (x : Session) (pooled : Bool) (told : Option (Tx.Vote × Bool)) → KeepsLog (entered_signs x pooled told)
-  keeps-entered x pooled None = λ u. refl
-  keeps-entered x pooled (Some told) = cond_both (told.1 && not pooled) (Entered x ∷ []) [] KeepsLog (λ new u. refl) (λ new u. refl)
 
   module _ (t : List (Mark M)) (slot : ℕ) where
     abbrev Followed : NodeId → Entry → Effect → Bool → Option (Tx.Vote × Bool) → List (Mark M)
@@ -178,24 +155,6 @@ module _ {M : Type 0} (site : Site M) (me : NodeId) where
         let none = untold site.setup.rules v.me.shard v.bench.table (site.setup.session_of x) (vote_of vote) (λ o. is_locked site.setup v.me.shard o.table x) in
         subst (λ told. IsLevel site me (Followed v.me (Decide vote x) ran.effect (is_pooled (digest_of site.setup x) v.bench.pool) told)) (sym none) l
 
-    -- it leaves the log with one slot more
-    ran-log : (entry : Entry) → let v = view_at site me t in
-        LogAt (plain (ran_signs site.setup v.me v.bench slot entry (session_in entry) (executed site.setup v.me.shard v.bench entry)) ++ t)
-        ≡ (slot_executed site.setup v.me.shard v.bench entry).log
-    ran-log entry =
-        let v = view_at site me t in
-        let x = session_in entry in
-        let ran = executed site.setup v.me.shard v.bench entry in
-        let told = told_of site.setup v.me.shard x ran in
-        let pooled = is_pooled (digest_of site.setup x) v.bench.pool in
-        let did : List Sign = Did slot entry ran.effect ∷ [] in
-        let entering = entered_signs x pooled told in
-        let voting = vote_signs site.setup v.me x told in
-        let own = own_signs v.me x told in
-        keeps-ahead own (voting ++ (entering ++ did)) t (keeps-own v.me x told)
-        ∙ keeps-ahead voting (entering ++ did) t (keeps-votes v.me x told)
-        ∙ keeps-ahead entering did t (keeps-entered x pooled told)
-
     -- a checkpoint is told
     headed-level : (u : List (Mark M)) (who : NodeId) (made : Option Checkpoint)
         → ((c : Checkpoint) → made ≡ Some c → HasDigests c × (chain_head (LogAt u) c.number ≡ Some (head_of c)))
@@ -217,7 +176,7 @@ module _ {M : Type 0} (site : Site M) (me : NodeId) where
         let signs = ran_signs site.setup v.me v.bench slot entry (session_in entry) ran in
         let new = last_is v.bench.log (leaf_encoding (next_leaf v.bench entry ran.effect)) (root_under ran.bench.keys ran.bench.table) (root_hashed _) in
         let own : (c : Checkpoint) → made_last left.log ≡ Some c → HasDigests c × (chain_head (LogAt (plain signs ++ t)) c.number ≡ Some (head_of c)) =
-        (λ c made. ((new c made).digests, subst (λ (log : Log). chain_head log c.number ≡ Some (head_of c)) (sym (ran-log entry)) (new c made).chained)) in
+        (λ c made. ((new c made).digests, subst (λ (log : Log). chain_head log c.number ≡ Some (head_of c)) (sym (ran-log site t (start_view site me) v.me v.bench slot entry (session_in entry) ran)) (new c made).chained)) in
         moved (headed_signs site.setup v.me (made_last left.log)) signs t
         (headed-level (plain signs ++ t) v.me (made_last left.log) own (ran-level entry l))
 
