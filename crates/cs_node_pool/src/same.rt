@@ -3,98 +3,75 @@ ghost use Rattle.std.specs.Prelude.{◌≡◌, ◌↔◌, IsTrue};
 
 use cs_tx::{Digest, Object, Session, Trace, Value};
 
-fn same_items(a: &[(Digest, Object)], b: &[(Digest, Object)]) -> bool
+/// What a session is made of.
+trait Part {
+    ghost use Rattle.std.specs.Prelude.{◌≡◌, ◌↔◌, IsTrue};
+
+    /// Whether the two are equal.
+    fn equals(&self, other: &Self) -> bool
+        ensures { IsTrue result ↔ (self.now ≡ other.now) };
+}
+
+fn same_parts<P: Part>(a: &[P], b: &[P]) -> bool
     ensures { IsTrue result ↔ (a.now ≡ b.now) }
 {
     if a.len() != b.len() {
         return false;
     }
     for i in 0..a.len() {
-        if a[i].0 != b[i].0 || !a[i].1.same(&b[i].1) {
+        if !a[i].equals(&b[i]) {
             return false;
         }
     }
     true
 }
 
-fn same_objects(a: &[Object], b: &[Object]) -> bool
-    ensures { IsTrue result ↔ (a.now ≡ b.now) }
-{
-    if a.len() != b.len() {
-        return false;
+impl Part for Value {
+    fn equals(&self, other: &Value) -> bool {
+        self.same(other)
     }
-    for i in 0..a.len() {
-        if !a[i].same(&b[i]) {
-            return false;
-        }
-    }
-    true
 }
 
-fn same_values(a: &[Value], b: &[Value]) -> bool
-    ensures { IsTrue result ↔ (a.now ≡ b.now) }
-{
-    if a.len() != b.len() {
-        return false;
+impl Part for Object {
+    fn equals(&self, other: &Object) -> bool {
+        self.same(other)
     }
-    for i in 0..a.len() {
-        if !a[i].same(&b[i]) {
-            return false;
-        }
-    }
-    true
 }
 
-fn same_dummies(a: &[(u16, u64)], b: &[(u16, u64)]) -> bool
-    ensures { IsTrue result ↔ (a.now ≡ b.now) }
-{
-    if a.len() != b.len() {
-        return false;
+impl Part for (Digest, Object) {
+    fn equals(&self, other: &(Digest, Object)) -> bool {
+        self.0 == other.0 && self.1.same(&other.1)
     }
-    for i in 0..a.len() {
-        if a[i].0 != b[i].0 || a[i].1 != b[i].1 {
-            return false;
-        }
-    }
-    true
 }
 
-fn same_trace(a: &Trace, b: &Trace) -> bool
-    ensures { IsTrue result ↔ (a.now ≡ b.now) }
-{
-    if a.contract != b.contract || a.method.as_slice() != b.method.as_slice() {
-        return false;
+impl Part for (u16, u64) {
+    fn equals(&self, other: &(u16, u64)) -> bool {
+        self.0 == other.0 && self.1 == other.1
     }
-    if !same_items(a.inputs.as_slice(), b.inputs.as_slice()) {
-        return false;
-    }
-    if !same_items(a.references.as_slice(), b.references.as_slice()) {
-        return false;
-    }
-    if !same_values(a.parameters.as_slice(), b.parameters.as_slice()) {
-        return false;
-    }
-    if !same_objects(a.outputs.as_slice(), b.outputs.as_slice()) {
-        return false;
-    }
-    if a.deps.as_slice() != b.deps.as_slice() {
-        return false;
-    }
-    same_values(a.returns.as_slice(), b.returns.as_slice())
 }
 
-fn same_traces(a: &[Trace], b: &[Trace]) -> bool
-    ensures { IsTrue result ↔ (a.now ≡ b.now) }
-{
-    if a.len() != b.len() {
-        return false;
-    }
-    for i in 0..a.len() {
-        if !same_trace(&a[i], &b[i]) {
+impl Part for Trace {
+    fn equals(&self, other: &Trace) -> bool {
+        if self.contract != other.contract || self.method.as_slice() != other.method.as_slice() {
             return false;
         }
+        if !same_parts(self.inputs.as_slice(), other.inputs.as_slice()) {
+            return false;
+        }
+        if !same_parts(self.references.as_slice(), other.references.as_slice()) {
+            return false;
+        }
+        if !same_parts(self.parameters.as_slice(), other.parameters.as_slice()) {
+            return false;
+        }
+        if !same_parts(self.outputs.as_slice(), other.outputs.as_slice()) {
+            return false;
+        }
+        if self.deps.as_slice() != other.deps.as_slice() {
+            return false;
+        }
+        same_parts(self.returns.as_slice(), other.returns.as_slice())
     }
-    true
 }
 
 /// Whether two sessions are equal.
@@ -104,8 +81,8 @@ pub fn same_session(a: &Session, b: &Session) -> bool
     if a.number != b.number {
         return false;
     }
-    if !same_dummies(a.dummies.as_slice(), b.dummies.as_slice()) {
+    if !same_parts(a.dummies.as_slice(), b.dummies.as_slice()) {
         return false;
     }
-    same_traces(a.tx.traces.as_slice(), b.tx.traces.as_slice())
+    same_parts(a.tx.traces.as_slice(), b.tx.traces.as_slice())
 }
