@@ -15,7 +15,7 @@ use Rattle.cs_ledger.specs.Ledger.{Bytes}
 use Rattle.cs_node_state.specs.declared.pooled.Pooled.{Pooled}
 use Rattle.cs_node_state.specs.Pool.{waiting_count}
 use Rattle.cs_node_pool.specs.declared.seat.Seat.{Seat}
-use Rattle.cs_node_pool.specs.Seats.{Seats, with_place, seated, place_at, passes, IsPicked, IsMarked, waits}
+use Rattle.cs_node_pool.specs.Seats.{Seats, with_place, seated, place_at, passes, first_passing, IsPicked, IsMarked, waits}
 use Rattle.cs_node_pool.proofs.Places.{same-at, place-taken}
 
 -- ---- a change at one place
@@ -160,14 +160,9 @@ waiting-count chosen seats was = ap length (picked-is waits chosen seats was) �
 
 -- ---- the first of them
 
-abbrev pub first_passing : (Seat → Bool) → Seats → Option Seat
-first_passing test [] = None
-first_passing test (e ∷ seats) = cond (passes test e.1) e.1 (first_passing test seats)
-
 -- what is at a place is the first that passes
-pub record Leads (test : Seat → Bool) (n : ℕ) (seats : Seats) : Type 0 where
-  pub first : first_passing test seats ≡ place_at n seats
-  pub passing : passes test (place_at n seats) ≡ true
+abbrev pub Leads : (Seat → Bool) → ℕ → Seats → Type 0
+Leads test n seats = first_passing test seats ≡ place_at n seats
 
 record Before (ns : List ℕ) (n : ℕ) : Type 0 where
   before : ℕ
@@ -197,10 +192,10 @@ module _ (test : Seat → Bool) where
   leads (e ∷ seats) n is = by (passes test e.1) refl is (leads seats)
     where
       here : passes test e.1 ≡ true → Leads test 0 (e ∷ seats)
-      here t = record { first = ap (λ b. cond b e.1 (first_passing test seats)) t; passing = t }
+      here t = ap (λ b. cond b e.1 (first_passing test seats)) t
 
       later : passes test e.1 ≡ false → (m : ℕ) → Leads test m seats → Leads test (suc m) (e ∷ seats)
-      later t m rest = record { first = ap (λ b. cond b e.1 (first_passing test seats)) t ∙ rest.first; passing = rest.passing }
+      later t m rest = ap (λ b. cond b e.1 (first_passing test seats)) t ∙ rest
 
       by : (b : Bool) → passes test e.1 ≡ b → slice_get (cond b (0 ∷ next (picked test seats)) (next (picked test seats))) 0 ≡ Some n → ((m : ℕ) → slice_get (picked test seats) 0 ≡ Some m → Leads test m seats)
           → Leads test n (e ∷ seats)

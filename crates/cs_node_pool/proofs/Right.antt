@@ -1,5 +1,5 @@
 -- What is said of each seat stays so with each change.
-use Rattle.std.proofs.Common.{◌≡◌, ℕ, zero, suc, true, false, cond, [], ◌∷◌, ◌++◌, Option, Some, None, is_some, IfSome, refl, ap, sym, subst, ◌∙◌}
+use Rattle.std.proofs.Common.{◌≡◌, ℕ, zero, suc, Bool, true, false, cond, [], ◌∷◌, ◌++◌, Option, Some, None, is_some, IfSome, bytes_eq, refl, ap, sym, subst, ◌∙◌}
 use Rattle.indexmap.specs.IndexMap.{set_value_at}
 use Rattle.cs_base.specs.declared.config.Config.{Config}
 use Rattle.cs_ledger.specs.Ledger.{Bytes}
@@ -9,15 +9,34 @@ use Rattle.cs_tx.specs.Uses.{concerned_shards}
 use Rattle.cs_tx.specs.Digest.{digest_of_session}
 use Rattle.cs_tx.specs.WellFormed.{IsWellFormed}
 use Rattle.cs_node_state.specs.declared.pooled.Pooled.{Pooled}
+use Rattle.cs_node_state.specs.Pool.{found}
 use Rattle.cs_node_pool.specs.Fits.{PoolFits}
 use Rattle.cs_node_pool.specs.declared.seat.Seat.{Seat}
-use Rattle.cs_node_pool.specs.Seats.{Seats, with_place, seated, place_at, closed, reseated, IsKnown, IsRight, IsRightIn, AllRight}
+use Rattle.cs_node_pool.specs.Seats.{Seats, with_place, seated, place_at, passes, first_passing, closed, reseated, IsKnown, IsRight, IsRightIn, AllRight}
 
 module _ (config : Config) where
   pub right-at : (seats : Seats) (n : ℕ) → AllRight config seats → IsRightIn config (place_at n seats)
   right-at [] n right = tt
   right-at (e ∷ seats) zero right = right.0
   right-at (e ∷ seats) (suc n) right = right-at seats n right.1
+
+  pub right-first : (test : Seat → Bool) (seats : Seats) → AllRight config seats → IsRightIn config (first_passing test seats)
+  right-first test [] right = tt
+  right-first test (e ∷ seats) right =
+      elim (passes test e.1) as (λ b. IsRightIn config (cond b e.1 (first_passing test seats))) [ true ↦ right.0 | false ↦ right-first test seats right.1 ]
+
+  -- a session that is found is well formed
+  formed-here : (b : Bool) (seat : Seat) (rest : Option Pooled) (p : Pooled) → IsRight config seat → (rest ≡ Some p → IsWellFormed config p.session) → cond b (Some seat.pooled) rest ≡ Some p → IsWellFormed config p.session
+  formed-here true seat rest p right later is = let same : seat.pooled ≡ p = cc in subst (λ (x : Pooled). IsWellFormed config x.session) same right.known.formed
+  formed-here false seat rest p right later is = later is
+
+  pub formed-found : (d : Bytes) (seats : Seats) (p : Pooled) → AllRight config seats → found d (seated seats) ≡ Some p → IsWellFormed config p.session
+  formed-found d [] p right is = let q : ◌≡◌ {A = Option Pooled} None (Some p) = is in absurd cc
+  formed-found d (e ∷ seats) p right is = by e.1 right.0 (formed-found d seats p right.1) is
+    where
+      by : (place : Option Seat) → IsRightIn config place → (found d (seated seats) ≡ Some p → IsWellFormed config p.session) → found d (with_place e.0 place (seated seats)) ≡ Some p → IsWellFormed config p.session
+      by None right later is = later is
+      by (Some seat) right later is = formed-here (bytes_eq d e.0) seat (found d (seated seats)) p right later is
 
   pub right-set : (seats : Seats) (n : ℕ) (w : Option Seat) → IsRightIn config w → AllRight config seats → AllRight config (set_value_at seats n w)
   right-set [] n w is right = tt
@@ -52,18 +71,21 @@ module _ (config : Config) where
   right-fits [] right = tt
   right-fits (e ∷ seats) right = fits-place e.0 e.1 seats right.0 (right-fits seats right.1)
 
-fits-there : (d : Bytes) (place : Option Seat) (seats : Seats) → PoolFits (with_place d place (seated seats)) → PoolFits (seated seats)
-fits-there d None seats fits = fits
-fits-there d (Some seat) seats fits = fits.1
+-- so is the session of the first that passes a test
+module _ (test : Seat → Bool) where
+  pub fits-first : (seats : Seats) (seat : Seat) → PoolFits (seated seats) → first_passing test seats ≡ Some seat → SessionFits seat.pooled.session
+  fits-first [] seat fits first = let q : ◌≡◌ {A = Option Seat} None (Some seat) = first in absurd cc
+  fits-first (e ∷ seats) seat fits first = by e.1 (fits-first seats seat) fits first
+    where
+      here : (other : Seat) (b : Bool) → (PoolFits (seated seats) → first_passing test seats ≡ Some seat → SessionFits seat.pooled.session) → SessionFits other.pooled.session → PoolFits (seated seats)
+          → cond b (Some other) (first_passing test seats) ≡ Some seat → SessionFits seat.pooled.session
+      here other true rest fit fits is = let same : other ≡ seat = cc in subst (λ (x : Seat). SessionFits x.pooled.session) same fit
+      here other false rest fit fits is = rest fits is
 
--- so is the session of a place
-pub fits-at : (seats : Seats) (n : ℕ) (seat : Seat) → PoolFits (seated seats) → place_at n seats ≡ Some seat → SessionFits seat.pooled.session
-fits-at [] n seat fits at = let q : ◌≡◌ {A = Option Seat} None (Some seat) = at in absurd cc
-fits-at (e ∷ seats) zero seat fits at = here (subst (λ place. PoolFits (with_place e.0 place (seated seats))) at fits)
-  where
-    here : PoolFits (with_place e.0 (Some seat) (seated seats)) → SessionFits seat.pooled.session
-    here h = h.0
-fits-at (e ∷ seats) (suc n) seat fits at = fits-at seats n seat (fits-there e.0 e.1 seats fits) at
+      by : (place : Option Seat) → (PoolFits (seated seats) → first_passing test seats ≡ Some seat → SessionFits seat.pooled.session) → PoolFits (with_place e.0 place (seated seats))
+          → cond (passes test place) place (first_passing test seats) ≡ Some seat → SessionFits seat.pooled.session
+      by None rest fits is = rest fits is
+      by (Some other) rest fits is = here other (test other) rest fits.0 fits.1 is
 
 -- ---- a session that the pool knows, or not
 

@@ -1,10 +1,13 @@
 -- What the calls of the pool answer.
-use Rattle.std.specs.Prelude.{if◌then◌else◌, List, [], ◌∷◌, Option, Some, None}
+use Rattle.std.specs.Prelude.{◌≡◌, ◌⊎◌, if◌then◌else◌, List, [], ◌∷◌, Option, Some, None, option_map}
 use Rattle.cs_base.specs.declared.node_id.NodeId.{NodeId}
 use Rattle.cs_tx_form.specs.declared.session.Session.{Session}
 use Rattle.cs_node_state.specs.declared.pooled.Pooled.{Pooled}
+use Rattle.cs_ledger.specs.Ledger.{Bytes}
+use Rattle.cs_node_state.specs.Setup.{Setup, session_in}
 use Rattle.cs_node_state.specs.Evidence.{has_voted}
-use Rattle.cs_node_state.specs.Pool.{Pool}
+use Rattle.cs_node_state.specs.Pool.{Pool, found}
+use Rattle.cs_node_state.specs.Admission.{first_decided, first_waiting}
 use Rattle.cs_node_pool.specs.declared.answers.Counted.{Counted}
 use Rattle.cs_node_pool.specs.declared.answers.Counted.TheVariants.{Counted as Taken, Repeat, NotPooled}
 
@@ -17,3 +20,13 @@ counted_in from (Some p) = if has_voted from p.ballots then Repeat else Taken
 abbrev pub locked_in : Pool → List Session
 locked_in [] = []
 locked_in (e ∷ pool) = if e.1.locked then e.1.session ∷ locked_in pool else locked_in pool
+
+-- the session that is pooled under a digest
+abbrev pub session_under : Bytes → Pool → Option Session
+session_under d pool = option_map (λ p. p.session) (found d pool)
+
+-- the session is that of the first decision which is due, or that of the first vote
+abbrev pub IsNext : Setup → Pool → Session → Type 0
+IsNext setup pool x =
+    (option_map session_in (first_decided setup pool) ≡ Some x)
+    ⊎ (option_map session_in (first_waiting pool) ≡ Some x)

@@ -28,6 +28,10 @@ abbrev pub pooled_in : Option Seat → Option Pooled
 pooled_in None = None
 pooled_in (Some seat) = Some seat.pooled
 
+abbrev pub session_at : Option Seat → Option Session
+session_at None = None
+session_at (Some seat) = Some seat.pooled.session
+
 -- the session of a place, if it is no gap, and those of a pool behind it
 abbrev pub with_place : Bytes → Option Seat → Pool → Pool
 with_place d None pool = pool
@@ -59,6 +63,11 @@ waits seat = not seat.pooled.locked
 
 abbrev pub is_due : Seat → Bool
 is_due seat = is_some seat.due
+
+-- what is at the first place whose session passes the test
+abbrev pub first_passing : (Seat → Bool) → Seats → Option Seat
+first_passing test [] = None
+first_passing test (e ∷ seats) = if passes test e.1 then e.1 else first_passing test seats
 
 -- the set has the places of the sessions that pass the test
 pub record IsPicked (test : Seat → Bool) (chosen : BTreeSet ℕ) (seats : Seats) : Type 0 where

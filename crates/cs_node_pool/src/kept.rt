@@ -1,5 +1,5 @@
 //! How a pool is kept, so that no call goes over all its sessions.
-ghost use Rattle.std.specs.Prelude.{◌≡◌, ◌++◌, ◌∷◌, [], true, OnOk, IfOk, IfSome, None, Some, is_some, option_copied, bytes_eq};
+ghost use Rattle.std.specs.Prelude.{◌≡◌, ◌↔◌, ◌++◌, ◌∷◌, [], Bool, true, IsTrue, IsSome, OnOk, IfOk, IfSome, None, Some, is_some, option_copied, bytes_eq};
 ghost use Rattle.std.specs.Map.{lookup};
 ghost use Rattle.std.specs.Ordering.{nat_cmp};
 ghost use Rattle.std.specs.BTreeSet.{IsOrdered};
@@ -12,12 +12,13 @@ ghost use Rattle.cs_node_state.specs.Pool.{found, without, changed, as_locked, w
 ghost use Rattle.cs_node_state.specs.Admission.{first_decided, first_waiting, due};
 ghost use Rattle.cs_node_pool.specs.Deployed.{AtAnySetup};
 ghost use Rattle.cs_node_pool.specs.Fits.{PoolFits, AllFit, DueFits};
-ghost use Rattle.cs_node_pool.specs.Calls.{counted_in, locked_in};
-ghost use Rattle.cs_node_pool.specs.Seats.{Placed, SoundSeats, AllRight, IsKnown, IsPicked, IsMarked, waits, is_due, place_at, closed, pool_in};
+ghost use Rattle.cs_node_pool.specs.declared.seat.Seat.{Seat};
+ghost use Rattle.cs_node_pool.specs.Calls.{counted_in, locked_in, session_under, IsNext};
+ghost use Rattle.cs_node_pool.specs.Seats.{Placed, SoundSeats, AllRight, IsKnown, IsPicked, IsMarked, waits, is_due, place_at, first_passing, closed, pool_in};
 
 use crate::answers::Counted;
 use crate::same::same_session;
-use crate::seat::{Seat, is_due, lock, take_vote, waits};
+use crate::seat::{Seat, is_due, known_as, lock, take_vote, waits};
 use cs_base::{Config, Memory};
 use cs_node_state::{Ballot, Pooled};
 use cs_tx::{Digest, Encoded, Entry, Session};
@@ -110,26 +111,13 @@ impl Kept {
         }
     }
 
-    /// The digest of a session, where exactly that one has this place.
-    fn known_at(&self, index: usize, session: &Session) -> Option<Digest>
-        ensures { (config : Config) → AllRight config self.now.seats.entries →
-            IfSome result (IsKnown config session.now) }
+    /// The seat at the first of these places.
+    fn first_at(&self, places: &BTreeSet<usize>) -> Option<&Seat>
+        ensures { (test : Seat → Bool) → IsPicked test places.now self.now.seats.entries →
+            option_copied result ≡ first_passing test self.now.seats.entries }
     {
-        let Some(seat) = self.seat_at(index) else {
-            return None;
-        };
-        if !same_session(&seat.pooled.session, session) {
-            return None;
-        }
-        Some(seat.digest)
-    }
-
-    fn known_of(&self, index: Option<&usize>, session: &Session) -> Option<Digest>
-        ensures { (config : Config) → AllRight config self.now.seats.entries →
-            IfSome result (IsKnown config session.now) }
-    {
-        match index {
-            Some(index) => self.known_at(*index, session),
+        match places.first() {
+            Some(index) => self.seat_at(*index),
             None => None,
         }
     }
@@ -137,24 +125,31 @@ impl Kept {
     /// The digest of a session that is the next one to be decided or voted on: it is compared with
     /// these two alone. Nothing is hashed.
     pub fn known(&self, session: &Session) -> Option<Digest>
-        ensures { (config : Config) → AllRight config self.now.seats.entries →
+        requires { Placed self.now }
+        ensures known { (config : Config) → AllRight config self.now.seats.entries →
             IfSome result (IsKnown config session.now) }
+        ensures next { (config : Config) → AllRight config self.now.seats.entries →
+            AtAnySetup config (λ setup.
+            IsSome result ↔ IsNext setup (pool_in self.now) session.now) }
     {
-        match self.known_of(self.ready.first(), session) {
+        match known_as(self.first_at(&self.ready), session) {
             Some(digest) => Some(digest),
-            None => self.known_of(self.waiting.first(), session),
+            None => known_as(self.first_at(&self.waiting), session),
         }
     }
 
     /// Whether exactly this session is there under a digest: then it is well formed.
     pub fn holds(&self, digest: &Digest, session: &Session) -> bool
-        ensures { (config : Config) → AllRight config self.now.seats.entries →
+        requires { Placed self.now }
+        ensures held { IsTrue result ↔
+            (session_under digest.now (pool_in self.now) ≡ Some session.now) }
+        ensures formed { (config : Config) → AllRight config self.now.seats.entries →
             result ≡ true → IsWellFormed config session.now }
     {
-        let Some(index) = self.seats.get_index_of(digest) else {
-            return false;
-        };
-        self.known_at(index, session).is_some()
+        match self.get(digest) {
+            Some(pooled) => same_session(&pooled.session, session),
+            None => false,
+        }
     }
 
     /// Closes the gaps: the sessions move up, in their order.
@@ -348,10 +343,7 @@ impl Kept {
         ensures fits { (config : Config) → AllRight config self.now.seats.entries →
             IfOk result DueFits }
     {
-        let Some(index) = self.ready.first() else {
-            return Ok(None);
-        };
-        let Some(seat) = self.seat_at(*index) else {
+        let Some(seat) = self.first_at(&self.ready) else {
             return Ok(None);
         };
         let Some(vote) = seat.due else {
@@ -366,10 +358,7 @@ impl Kept {
         ensures entry { IfOk result (λ entry. entry ≡ first_waiting (pool_in self.now)) }
         ensures fits { PoolFits (pool_in self.now) → IfOk result DueFits }
     {
-        let Some(index) = self.waiting.first() else {
-            return Ok(None);
-        };
-        let Some(seat) = self.seat_at(*index) else {
+        let Some(seat) = self.first_at(&self.waiting) else {
             return Ok(None);
         };
         let session = seat.pooled.session.copy(alloc)?;

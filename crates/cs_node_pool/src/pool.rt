@@ -1,5 +1,5 @@
 //! The pool: sessions under their digests, in the order of entering.
-ghost use Rattle.std.specs.Prelude.{◌≡◌, ◌++◌, ◌∷◌, [], true, OnOk, IfOk, IfSome, None, option_copied};
+ghost use Rattle.std.specs.Prelude.{◌≡◌, ◌↔◌, ◌++◌, ◌∷◌, [], true, IsTrue, IsSome, OnOk, IfOk, IfSome, None, Some, option_copied};
 ghost use Rattle.cs_tx.specs.Uses.{concerned_shards};
 ghost use Rattle.cs_tx.specs.Digest.{digest_of_session};
 ghost use Rattle.cs_tx.specs.WellFormed.{IsWellFormed};
@@ -8,7 +8,7 @@ ghost use Rattle.cs_node_state.specs.Pool.{found, is_pooled, without, changed, a
 ghost use Rattle.cs_node_state.specs.Admission.{due};
 ghost use Rattle.cs_node_pool.specs.Deployed.{AtAnySetup};
 ghost use Rattle.cs_node_pool.specs.Fits.{DueFits, AllFit};
-ghost use Rattle.cs_node_pool.specs.Calls.{counted_in, locked_in};
+ghost use Rattle.cs_node_pool.specs.Calls.{counted_in, locked_in, session_under, IsNext};
 ghost use Rattle.cs_node_pool.specs.Seats.{IsKnown};
 
 use crate::answers::Counted;
@@ -95,10 +95,13 @@ impl Pool {
         Ok(self.kept.waiting())
     }
 
-    /// The digest of a session that is the next one to be decided or voted on, for which nothing is
-    /// hashed. Of other sessions it says nothing.
+    /// The digest of a session, where it is the next one to be decided or voted on. Nothing is
+    /// hashed for it.
     pub fn known(&self, session: &Session) -> Result<Option<Digest>, Memory>
-        ensures { IfOk result (λ found. IfSome found (IsKnown self.now.config session.now)) }
+        ensures known { IfOk result (λ found. IfSome found (IsKnown self.now.config session.now)) }
+        ensures next { AtAnySetup self.now.config (λ setup.
+            IfOk result (λ found.
+            IsSome found ↔ IsNext setup self.now.sessions session.now)) }
     {
         if !self.is_whole {
             return Err(Memory);
@@ -109,7 +112,9 @@ impl Pool {
     /// Whether exactly this session is there under a digest: then it is well formed, for which
     /// nothing is hashed.
     pub fn holds(&self, digest: &Digest, session: &Session) -> Result<bool, Memory>
-        ensures { IfOk result (λ holds. holds ≡ true →
+        ensures held { IfOk result (λ holds. IsTrue holds ↔
+            (session_under digest.now self.now.sessions ≡ Some session.now)) }
+        ensures formed { IfOk result (λ holds. holds ≡ true →
             IsWellFormed self.now.config session.now) }
     {
         if !self.is_whole {

@@ -1,18 +1,20 @@
 //! The seat of a session, and what is done at its place.
-ghost use Rattle.std.specs.Prelude.{◌≡◌, OnOk, IfOk};
+ghost use Rattle.std.specs.Prelude.{◌≡◌, ◌↔◌, Some, IsSome, IfSome, OnOk, IfOk, option_copied};
+ghost use Rattle.cs_base.specs.declared.config.Config.{Config};
 ghost use Rattle.cs_tx.specs.Uses.{concerned_shards};
 ghost use Rattle.cs_tx.specs.Digest.{digest_of_session};
 ghost use Rattle.cs_tx.specs.WellFormed.{IsWellFormed};
 ghost use Rattle.cs_tx_form.specs.Session.{SessionFits};
 ghost use Rattle.cs_node_state.specs.Pool.{as_locked, with_ballot};
 ghost use Rattle.cs_node_pool.specs.Calls.{counted_in};
-ghost use Rattle.cs_node_pool.specs.Seats.{IsRight, IsRightIn, pooled_in, passes, waits, is_due, reseated};
+ghost use Rattle.cs_node_pool.specs.Seats.{IsKnown, IsRight, IsRightIn, pooled_in, session_at, passes, waits, is_due, reseated};
 
 use crate::answers::Counted;
+use crate::same::same_session;
 use crate::votes::{has_voted, vote_due};
 use cs_base::{Config, Memory};
 use cs_node_state::{Ballot, Pooled};
-use cs_tx::{Digest, Vote};
+use cs_tx::{Digest, Session, Vote};
 
 /// A well-formed session of the pool, its digest and the shards that it concerns, which take
 /// hashing to find, and the decision that is due on it.
@@ -42,6 +44,21 @@ impl Seat {
             due,
         }
     }
+}
+
+/// The digest of a session, where this is its seat.
+pub fn known_as(seat: Option<&Seat>, session: &Session) -> Option<Digest>
+    ensures known { (config : Config) → IsRightIn config (option_copied seat.entry) →
+        IfSome result (IsKnown config session.now) }
+    ensures same { IsSome result ↔ (session_at (option_copied seat.entry) ≡ Some session.now) }
+{
+    let Some(seat) = seat else {
+        return None;
+    };
+    if !same_session(&seat.pooled.session, session) {
+        return None;
+    }
+    Some(seat.digest)
 }
 
 /// Takes a vote on the session of a place, unless it repeats one of its node.

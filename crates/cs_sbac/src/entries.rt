@@ -1,5 +1,5 @@
 //! Which entries a node admits, and the execution of one.
-ghost use Rattle.std.specs.Prelude.{◌≡◌, IfOk, IfSome};
+ghost use Rattle.std.specs.Prelude.{◌≡◌, ◌↔◌, IsSome, IfOk, IfSome};
 ghost use Rattle.cs_tx_form.specs.declared.entry.Entry.TheVariants.{Prepare, Decide};
 ghost use Rattle.cs_tx_form.specs.Session.{SessionFits, EntryFits};
 ghost use Rattle.cs_checkpoint.specs.Chain.{Log};
@@ -7,6 +7,7 @@ ghost use Rattle.cs_node_state.specs.Admission.{admits};
 ghost use Rattle.cs_node_state.specs.Setup.{session_in};
 ghost use Rattle.cs_tx.specs.Digest.{digest_of_session};
 ghost use Rattle.cs_node_pool.specs.Deployed.{AtAnySetup, AtAnyGenesis};
+ghost use Rattle.cs_node_pool.specs.Calls.{IsNext};
 ghost use Rattle.cs_node_pool.specs.Seats.{IsKnown};
 ghost use Rattle.cs_sbac.specs.Calls.{Executes};
 
@@ -21,10 +22,13 @@ use cs_table::Effect;
 use cs_tx::{Digest, Entry, Judge, Session, Vote, session_digest};
 use std::alloc::Global;
 
-/// The digest of the session of an entry, where the pool knows it.
+/// The digest of the session of an entry, where it comes next in the pool.
 fn known_in(pool: &Pool, entry: &Entry) -> Result<Option<Digest>, Memory>
-    ensures { IfOk result (λ found.
+    ensures known { IfOk result (λ found.
         IfSome found (IsKnown pool.now.config (session_in entry.now))) }
+    ensures next { AtAnySetup pool.now.config (λ setup.
+        IfOk result (λ found.
+        IsSome found ↔ IsNext setup pool.now.sessions (session_in entry.now))) }
 {
     match entry {
         Entry::Prepare(session) => pool.known(session),

@@ -3,28 +3,31 @@ use Rattle.cs_tx_form.specs.declared.entry.Entry.TheVariants.{Decide}
 use Rattle.cs_tx_form.specs.Session.{SessionFits}
 use Rattle.cs_node_state.specs.Admission.{decide_due}
 use Rattle.cs_node_pool.specs.Seats.{is_due}
-use Rattle.cs_node_pool.proofs.Picking.{Leads, first-picked, none-passes}
-use Rattle.cs_node_pool.proofs.Right.{right-fits, fits-at}
-use Rattle.cs_node_pool.proofs.Dues.{no-keys, decide_of, decided-first}
+use Rattle.cs_node_pool.proofs.Right.{right-fits, fits-first}
+use Rattle.cs_node_pool.proofs.Dues.{decide_of, decided-first}
 use Rattle.cs_node_pool.proofs.kept.Kept.decide_due.Goals as goal
 
 pub returns-in_default-clause-entry : goal.returns-in_default-clause-entry
 returns-in_default-clause-entry c config right genesis approves =
     let kept = c.args.self.now in
-    sym (decided-first config genesis approves kept.seats.entries right
-    ∙ ap decide_of (none-passes is_due kept.ready kept.seats.entries c.requires.placed.ready (no-keys kept.ready.keys c.in_default.ensures.variant)))
+    sym (decided-first config genesis approves kept.seats.entries right ∙ ap decide_of (sym (c.in_default.ensures is_due c.requires.placed.ready)))
+
+pub returns-in_default-due-clause-entry : goal.returns-in_default-due-clause-entry
+returns-in_default-due-clause-entry c config right genesis approves =
+    let kept = c.args.self.now in
+    let seat = c.in-Some.seat.now in
+    sym (decided-first config genesis approves kept.seats.entries right ∙ ap decide_of (sym (c.in-Some.ensures is_due c.requires.placed.ready)) ∙ ap (decide_due seat.pooled.session None) c.in_default-due.is)
 
 pub returns-clause-entry : goal.returns-clause-entry
 returns-clause-entry c config right genesis approves =
     let kept = c.args.self.now in
-    let seat = c.in-Some-seat_at.seat.now in
-    let leads : Leads is_due c.in-Some.index.now kept.seats.entries = first-picked is_due kept.ready kept.seats.entries c.requires.placed.ready c.in-Some.index.now c.in-Some.ensures.first in
+    let seat = c.in-Some.seat.now in
     ap (λ x. Some (Decide c.in-Some-due.vote x)) c.in_ok-session.ensures
     ∙ sym (ap (decide_due seat.pooled.session None) c.in-Some-due.is)
-    ∙ sym (decided-first config genesis approves kept.seats.entries right ∙ ap decide_of (leads.first ∙ sym c.in-Some-seat_at.ensures))
+    ∙ sym (decided-first config genesis approves kept.seats.entries right ∙ ap decide_of (sym (c.in-Some.ensures is_due c.requires.placed.ready)))
 
 pub returns-clause-fits : goal.returns-clause-fits
 returns-clause-fits c config right =
     let kept = c.args.self.now in
     subst SessionFits (sym c.in_ok-session.ensures)
-    (fits-at kept.seats.entries c.in-Some.index.now c.in-Some-seat_at.seat.now (right-fits config kept.seats.entries right) (sym c.in-Some-seat_at.ensures))
+    (fits-first is_due kept.seats.entries c.in-Some.seat.now (right-fits config kept.seats.entries right) (sym (c.in-Some.ensures is_due c.requires.placed.ready)))

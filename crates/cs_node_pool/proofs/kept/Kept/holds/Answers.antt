@@ -1,7 +1,9 @@
-use Rattle.std.proofs.Common.{◌∙◌, sym}
-use Rattle.cs_node_pool.proofs.Right.{known-formed}
+use Rattle.std.proofs.Common.{sym, subst}
+use Rattle.cs_tx.specs.WellFormed.{IsWellFormed}
+use Rattle.cs_node_pool.proofs.Right.{formed-found}
 use Rattle.cs_node_pool.proofs.kept.Kept.holds.Goals as goal
 
-pub returns : goal.returns
-returns c config right = λ there.
-    known-formed config c.args.session.now c.known_at.result (c.known_at.ensures config right) (sym c.is_some.ensures ∙ there)
+pub returns-in-Some-clause-formed : goal.returns-in-Some-clause-formed
+returns-in-Some-clause-formed c config right = λ there.
+    subst (IsWellFormed config) (c.same_session.ensures.0 there)
+    (formed-found config c.args.digest.now c.args.self.now.seats.entries c.in-Some.pooled.now right (sym c.in-Some.ensures))

@@ -46,8 +46,8 @@ returns c genesis approves =
 
 pub concerned_shards-requires-clause-known : goal.concerned_shards-requires-clause-known
 concerned_shards-requires-clause-known c = λ h.
-    known-formed c.self.inside.config c.self.inside.pool.config c.args.session.now c.in_ok-known.known c.self.invariant.same c.in_ok-known.ensures (sym c.is_some.ensures ∙ h)
+    known-formed c.self.inside.config c.self.inside.pool.config c.args.session.now c.in_ok-known.known c.self.invariant.same c.in_ok-known.ensures.known (sym c.is_some.ensures ∙ h)
 
 pub digest_of-requires-clause-known : goal.digest_of-requires-clause-known
 digest_of-requires-clause-known c =
-    known-named c.self.inside.config c.self.inside.pool.config c.args.session.now c.in_ok-known.known c.self.invariant.same c.in_ok-known.ensures
+    known-named c.self.inside.config c.self.inside.pool.config c.args.session.now c.in_ok-known.known c.self.invariant.same c.in_ok-known.ensures.known

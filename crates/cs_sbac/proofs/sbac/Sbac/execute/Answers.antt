@@ -58,8 +58,8 @@ returns c genesis approves log =
 
 pub is_fit_entry-requires-clause-known : goal.is_fit_entry-requires-clause-known
 is_fit_entry-requires-clause-known c = λ h.
-    known-formed c.self.inside.config c.self.inside.pool.config (session_in c.args.entry.now) c.in_ok-known.known c.self.invariant.same c.in_ok-known.ensures (sym c.is_some.ensures ∙ h)
+    known-formed c.self.inside.config c.self.inside.pool.config (session_in c.args.entry.now) c.in_ok-known.known c.self.invariant.same c.in_ok-known.ensures.known (sym c.is_some.ensures ∙ h)
 
 pub digest_in-requires-clause-known : goal.digest_in-requires-clause-known
 digest_in-requires-clause-known c =
-    known-named c.self.inside.config c.self.inside.pool.config (session_in c.args.entry.now) c.in_ok-known.known c.self.invariant.same c.in_ok-known.ensures
+    known-named c.self.inside.config c.self.inside.pool.config (session_in c.args.entry.now) c.in_ok-known.known c.self.invariant.same c.in_ok-known.ensures.known
