@@ -13,12 +13,15 @@ use Rattle.cs_tx.proofs.TestsSeen.{well_formed-session_of}
 use Rattle.cs_ledger.specs.Session as Seen
 use Rattle.cs_node_state.specs.Setup as Setup
 use Rattle.cs_node_state.specs.Deployed.{rules_of}
+use Rattle.cs_node_state.specs.declared.pooled.Pooled.{Pooled}
+use Rattle.cs_node_state.specs.Pool.{entering}
 use Rattle.cs_tx.specs.Digest.{digest_of_session}
 use Rattle.cs_ledger.specs.Ledger.{Bytes}
 use Rattle.cs_node_pool.specs.Deployed.{deployed, AtAnySetup}
 use Rattle.cs_node_pool.specs.Seats.{IsKnown}
 use Rattle.cs_node_pool.proofs.Concerned.{concerns-session}
 use Rattle.cs_node_pool.proofs.Right as Right
+use Rattle.cs_sbac.specs.Held.{Held, IsFit}
 
 pub some_anchor : (o : Option Key) (c : Bool) → IsNone o ↔ (c ≡ false) → is_some o ≡ c
 some_anchor (Some k) true h = refl
@@ -43,6 +46,14 @@ formed config shard x fits =
     let setup : Setup.Setup = deployed config [] (λ tx. false) in
     let both = and_parts (Seen.well_formed setup.rules (setup.session_of x)) (Setup.concerns setup x shard) (fits [] (λ tx. false)) in
     none_from (fault_of config x) (sym (well_formed-session_of (rules_of config []) config (λ name. refl) (λ tx. false) x) ∙ both.0)
+
+-- so it is by what a node holds, and as it enters the pool, by the configuration of that
+module _ (inside held : Held) (same : inside ≡ held) (x : Session) (fits : IsFit held x) where
+  pub formed-held : IsWellFormed inside.config x
+  formed-held = formed inside.config inside.me.shard x (subst (λ (h : Held). IsFit h x) (sym same) fits)
+
+  pub formed-entering : (config : Config) (entered : Pooled) → config ≡ inside.config → entered ≡ entering x false → IsWellFormed config entered.session
+  formed-entering config entered its is = subst (λ (p : Pooled). IsWellFormed config p.session) (sym is) (subst (λ c. IsWellFormed c x) (sym its) formed-held)
 
 -- whether it has an anchor in the next of the shards says whether that one is concerned
 pub one-more : (config : Config) (x : Session) (shard : ℕ) (found : Option Key) (has : Bool) (shards more : List ℕ) → IsNone found ↔ (Uses.concerns config x shard ≡ false) → is_some found ≡ has
