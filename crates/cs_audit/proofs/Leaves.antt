@@ -7,7 +7,7 @@ use Rattle.cs_tx_form.specs.declared.effect.Effect.TheVariants as effect
 use Rattle.cs_tx_form.specs.declared.vote.Vote.TheVariants as vote
 use Rattle.cs_tx_form.specs.declared.leaf.Leaf.{Leaf}
 use Rattle.cs_ledger.specs.Ledger.{Bytes}
-use Rattle.cs_checkpoint.specs.Chain.{Log, KeptLog, made_last, kept_of}
+use Rattle.cs_checkpoint.specs.Chain.{Log, made_last, kept_of}
 use Rattle.cs_check.specs.Root.{keys_in}
 use Rattle.cs_table.specs.Effects.{effect_of}
 use Rattle.cs_table.specs.Seen.{Stored, seen, forgotten}

@@ -1,5 +1,4 @@
 pub mod Committed
-pub mod Genesis
 pub mod Kept
 pub mod Ledgers
 pub mod Printed

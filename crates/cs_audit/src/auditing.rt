@@ -7,16 +7,16 @@ ghost use Rattle.cs_audit_rules.specs.Sound.{SaysSound};
 ghost use Rattle.cs_audit_rules.specs.Slots.{logs_fault};
 ghost use Rattle.cs_audit_rules.specs.Support.{support_fault};
 ghost use Rattle.cs_audit_rules.specs.Verdicts.{setup_in, told_fault, first_fault, verdict_of};
-ghost use Rattle.cs_audit.specs.Genesis.{keyed_from};
+ghost use Rattle.cs_genesis.specs.Genesis.{keyed_from};
 ghost use Rattle.cs_audit.specs.Kept.{Keeps, digests_of};
 
-use crate::genesis::genesis_items;
 use crate::history::first_untold;
 use crate::logs::{Executed, execute_logs};
 use crate::support::first_unsupported;
 use cs_audit_rules::{Fault, Verdict, unbroken_dumps_are_sound};
 use cs_base::{Key, Memory, Sequence};
 use cs_dump_read::Dump;
+use cs_genesis::keyed;
 use cs_tx::{Digest, Judge, Object};
 use std::alloc::Global;
 
@@ -48,7 +48,7 @@ fn first_fault<J: Judge>(alloc: Global, dump: &Dump, judge: &J) -> Result<Option
     ensures { IfOk result (λ fault.
         fault ≡ first_fault (setup_in (J.is_approved judge.now) dump.now) dump.now) }
 {
-    let genesis = genesis_items(alloc, dump.genesis.as_slice())?;
+    let genesis = keyed(alloc, dump.genesis.as_slice())?;
     match execute_logs(alloc, dump, genesis.as_slice(), judge)? {
         Ok(executed) => first_disagreement(alloc, dump, genesis.as_slice(), &executed),
         Err(fault) => Ok(Some(fault)),

@@ -16,7 +16,7 @@ ghost use Rattle.cs_audit_rules.specs.Slots.{logs_fault};
 ghost use Rattle.cs_audit_rules.specs.Support.{all_commit};
 ghost use Rattle.cs_audit_rules.specs.Verdicts.{told_fault};
 ghost use Rattle.cs_audit.specs.Committed.{tx_at, commits, Finds, Told};
-ghost use Rattle.cs_audit.specs.Genesis.{keyed_from};
+ghost use Rattle.cs_genesis.specs.Genesis.{keyed_from};
 ghost use Rattle.cs_audit.specs.Ledgers.{Shows};
 ghost use Rattle.cs_audit.specs.Kept.{Keeps, digest_in, digests_of};
 

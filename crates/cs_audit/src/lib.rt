@@ -2,7 +2,6 @@
 #![tactic(auto)]
 
 mod auditing;
-mod genesis;
 mod history;
 mod ledger;
 mod logs;

@@ -7,7 +7,7 @@ ghost use Rattle.cs_node_pool.specs.Deployed.{AtAnyGenesis, deployed};
 ghost use Rattle.cs_dump_read.specs.Formed.{IsFormed};
 ghost use Rattle.cs_audit_rules.specs.declared.verdict.Rule.TheVariants as rule;
 ghost use Rattle.cs_audit_rules.specs.Slots.{fault_at};
-ghost use Rattle.cs_audit.specs.Genesis.{keyed_from};
+ghost use Rattle.cs_genesis.specs.Genesis.{keyed_from};
 ghost use Rattle.cs_audit.specs.Kept.{TellsLog, Tells};
 ghost use Rattle.cs_audit.specs.Standing.{IsPlaced, stand_of};
 

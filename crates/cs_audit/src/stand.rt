@@ -21,7 +21,7 @@ ghost use Rattle.cs_node_state.specs.Setup.{session_in, is_fit as fits_in};
 ghost use Rattle.cs_node_pool.specs.Deployed.{AtAnyGenesis, AtAnySetup, deployed};
 ghost use Rattle.cs_audit_rules.specs.Stands.{start_stand, told};
 ghost use Rattle.cs_audit_rules.specs.Slots.{is_judged as judged_in, is_head};
-ghost use Rattle.cs_audit.specs.Genesis.{keyed_from};
+ghost use Rattle.cs_genesis.specs.Genesis.{keyed_from};
 ghost use Rattle.cs_audit.specs.Standing.{IsPlaced, stand_of, entry_seen, acted, Executes, TellsLeaf};
 
 use crate::setting::is_fit;

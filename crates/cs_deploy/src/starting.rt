@@ -10,10 +10,11 @@ ghost use Rattle.cs_deploy.specs.Node.{site_in};
 
 use cs_approve::Book;
 use cs_base::Memory;
+use cs_genesis::keyed;
 use cs_log::SlotOrder;
 use cs_node::Core;
 use cs_order::Order;
-use cs_start::{keyed, start};
+use cs_start::start;
 use cs_take::Setup;
 use cs_tx::Judge;
 use std::alloc::Global;

@@ -5,7 +5,7 @@ use Rattle.cs_base.specs.declared.key.Key.{Key}
 use Rattle.cs_tx_value.specs.declared.object.Object.{Object}
 use Rattle.cs_tx_value.specs.Object.{ObjectFits}
 use Rattle.cs_sched.specs.Names.{genesis_names}
-use Rattle.cs_node.specs.Setups.{keyed_from}
+use Rattle.cs_genesis.specs.Genesis.{keyed_from}
 
 -- these objects under their keys; they have encodings, and no two of them have one name
 pub record IsGenesis (objects : List Object) (genesis : List (Key × Object)) : Type 0 where

@@ -1,8 +1,6 @@
 //! The start of a node in the order among 3f+1 members, on genesis objects whose names differ.
 #![tactic(auto)]
 
-mod genesis;
 mod starting;
 
-pub use genesis::keyed;
 pub use starting::start;

@@ -8,7 +8,7 @@ ghost use Rattle.cs_node_rules.specs.Site.{start_view};
 ghost use Rattle.cs_node_rules.specs.Deployment.{site_of};
 ghost use Rattle.cs_node_carried.specs.SlotCarried.{slot_carrier};
 ghost use Rattle.cs_node_pool.specs.Deployed.{deployed};
-ghost use Rattle.cs_node.specs.Setups.{keyed_from};
+ghost use Rattle.cs_genesis.specs.Genesis.{keyed_from};
 ghost use Rattle.cs_node.specs.Speaking.{Speaks};
 ghost use Rattle.cs_node.specs.Cores.{StandsFor};
 ghost use Rattle.cs_start.specs.Genesis.{IsGenesis};

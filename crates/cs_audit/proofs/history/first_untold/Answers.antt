@@ -9,12 +9,13 @@ use Rattle.cs_dump_read.specs.declared.dump.Log.{Log}
 use Rattle.cs_audit_rules.specs.History.{history_fault_at, committed}
 use Rattle.cs_audit.specs.Ledgers.{Shows}
 use Rattle.cs_audit.specs.Committed.{Finds, Told}
-use Rattle.cs_audit.proofs.Starting.{all-fit, items-same}
+use Rattle.cs_genesis.proofs.Fit.{keyed-fit, all-fit}
+use Rattle.cs_genesis.proofs.Begun.{items-same}
 use Rattle.cs_audit.proofs.Untold.{begins, told_on, told_off, ends_whole-so, ends_short, nothing-in}
 use Rattle.cs_audit.proofs.history.first_untold.Goals as goal
 
 pub genesis-requires : goal.genesis-requires
-genesis-requires c = all-fit c.args.dump.now.genesis c.args.genesis.now c.requires.genesis c.requires.formed.objects
+genesis-requires c = all-fit c.args.genesis.now (keyed-fit c.args.dump.now.genesis c.args.genesis.now c.requires.genesis c.requires.formed.objects)
 
 pub loop-place-init : goal.loop-place-init
 loop-place-init c approves none keeps =

@@ -7,15 +7,20 @@ use Rattle.cs_dump_read.specs.declared.dump.Log.{Log}
 use Rattle.cs_audit_rules.specs.declared.verdict.Fault.{Fault}
 use Rattle.cs_audit_rules.specs.Stands.{Stand}
 use Rattle.cs_audit.specs.Kept.{TellsLog}
-use Rattle.cs_audit.proofs.Starting.{all-fit, none-twice}
+use Rattle.cs_sched.specs.Names.{genesis_names}
+use Rattle.cs_genesis.proofs.Fit.{keyed-fit, all-fit}
+use Rattle.cs_genesis.proofs.Apart.{none-twice}
+use Rattle.cs_audit.proofs.Starting.{names-same}
 use Rattle.cs_audit.proofs.Going.{logs_go_on, logs_break, logs_end}
 use Rattle.cs_audit.proofs.logs.execute_logs.Goals as goal
 
 pub new-requires-clause-fits : goal.new-requires-clause-fits
-new-requires-clause-fits g c = all-fit c.args.dump.now.genesis c.args.genesis.now c.requires.named c.requires.formed.objects
+new-requires-clause-fits g c = all-fit c.args.genesis.now (keyed-fit c.args.dump.now.genesis c.args.genesis.now c.requires.named c.requires.formed.objects)
 
 pub new-requires-clause-apart : goal.new-requires-clause-apart
-new-requires-clause-apart g c = none-twice c.args.dump.now.config.shards c.loop-place.place c.args.dump.now.genesis c.args.genesis.now c.requires.named c.requires.formed.keys_differ
+new-requires-clause-apart g c =
+    let objects = c.args.dump.now.genesis in
+    none-twice c.args.dump.now.config.shards c.loop-place.place objects c.args.genesis.now (genesis_names 0 objects) c.requires.named (names-same 0 objects) c.requires.formed.keys_differ
 
 pub returns-in-Err : goal.returns-in-Err
 returns-in-Err g c =

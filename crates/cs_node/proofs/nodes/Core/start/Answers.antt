@@ -9,7 +9,8 @@ use Rattle.cs_node_pool.specs.Deployed.{deployed}
 use Rattle.cs_sbac.specs.Held.{Held}
 use Rattle.cs_node.specs.Cores.{KeepsView}
 use Rattle.cs_node.specs.Speaking.{Speaks}
-use Rattle.cs_node.proofs.Starting.{all-fit, begun_with, started}
+use Rattle.cs_genesis.proofs.Fit.{all-fit}
+use Rattle.cs_node.proofs.Starting.{begun_with, started}
 use Rattle.cs_node.proofs.nodes.Core.start.Goals as goal
 
 pub genesis-requires : goal.genesis-requires

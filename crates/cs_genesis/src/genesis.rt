@@ -3,7 +3,7 @@ ghost use Rattle.std.specs.Prelude.{◌≡◌, ◌≤◌, length, IfOk};
 ghost use Rattle.std.specs.List.{All};
 ghost use Rattle.cs_base.specs.declared.limits.TheConstants.{MOST_GENESIS};
 ghost use Rattle.cs_tx_value.specs.Object.{ObjectFits};
-ghost use Rattle.cs_node.specs.Setups.{keyed_from};
+ghost use Rattle.cs_genesis.specs.Genesis.{keyed_from};
 
 use cs_base::{Key, Memory};
 use cs_tx::{Encoded, Object, genesis_key};
