@@ -5,6 +5,7 @@ use Rattle.cs_base.specs.declared.node_id.NodeId.{NodeId}
 use Rattle.cs_base.specs.NodeId.{is_client}
 use Rattle.cs_tx_form.specs.declared.session.Session.{Session}
 use Rattle.cs_tx_form.specs.declared.vote.Vote.{Vote}
+use Rattle.cs_tx.specs.Digest.{digest_of_session}
 use Rattle.cs_wire_message.specs.declared.message.Message.TheVariants as message
 use Rattle.cs_ledger.specs.Ledger.{Bytes}
 use Rattle.cs_node_state.specs.declared.ballot.Ballot.{Ballot}
@@ -16,6 +17,7 @@ use Rattle.cs_node_state.specs.Evidence.{has_voted}
 use Rattle.cs_node_state.specs.Pool.{Pool, found, changed, changed_at, with_ballot, pushed, entered, has_room}
 use Rattle.cs_node_state.specs.Bench.{Bench}
 use Rattle.cs_node_rules.specs.Signs.{Sign, Dropped, Took, Entered, Sent, guarded, asking_signs, ballot_signs, voted_signs}
+use Rattle.cs_node_pool.specs.declared.answers.Counted.{Counted}
 use Rattle.cs_node_pool.specs.declared.answers.Counted.TheVariants as count
 use Rattle.cs_sbac.specs.declared.answers.Entered.{Entered as Answer}
 use Rattle.cs_sbac.specs.declared.answers.Entered.TheVariants as enter
@@ -56,7 +58,7 @@ counted-again from (Some p) h = by_voted (has_voted from p.ballots) refl h
     by_voted true e k = there from p true e
     by_voted false e k = let q : count.Counted ≡ count.Repeat = k in cc
 
-pub counted-absent : (from : NodeId) (o : Option Pooled) → counted_in from o ≡ count.NotPooled → o ≡ None
+counted-absent : (from : NodeId) (o : Option Pooled) → counted_in from o ≡ count.NotPooled → o ≡ None
 counted-absent from None h = refl
 counted-absent from (Some p) h = by_voted (has_voted from p.ballots) h
   where
@@ -74,7 +76,7 @@ set-same test (e ∷ pool) p h = by_test (set-same test pool p) (test e.0) h
     by_test later true k = let q : e.1 ≡ p = cc in ap (λ (w : Pooled). (e.0, w) ∷ pool) (sym q)
     by_test later false k = ap (λ (rest : Pool). e ∷ rest) (later k)
 
-pub changed-absent : (d : Bytes) (change : Pooled → Pooled) (pool : Pool) → found d pool ≡ None → changed d change pool ≡ pool
+changed-absent : (d : Bytes) (change : Pooled → Pooled) (pool : Pool) → found d pool ≡ None → changed d change pool ≡ pool
 changed-absent d change pool none = ap (changed_at d change pool) none
 
 -- a second vote leaves the pool as it is
@@ -83,6 +85,29 @@ changed-again d ballot pool t =
     ap (changed_at d (with_ballot ballot) pool) t.is
     ∙ ap (λ b. set_value (bytes_eq d) pool (cond b t.p (record { session = t.p.session; locked = t.p.locked; ballots = t.p.ballots ++ ballot ∷ [] }))) t.has
     ∙ set-same (bytes_eq d) pool t.p t.is
+
+-- a vote on a session was counted: what the pool answered, and what it left
+pub record IsCounted (held held' : Held) (ballot : Ballot) (x : Session) (answer : Counted) : Type 0 where
+  pub answered : answer ≡ counted_in ballot.sender (found (digest_of_session x) held.pool)
+  pub left : held' ≡ with_pool held (changed (digest_of_session x) (with_ballot ballot) held.pool)
+
+pub is-counted : (held held' : Held) (ballot : Ballot) (x : Session) (answer : Counted) (d : Bytes) → d ≡ digest_of_session x → answer ≡ counted_in ballot.sender (found d held.pool)
+    → held' ≡ with_pool held (changed d (with_ballot ballot) held.pool) → IsCounted held held' ballot x answer
+is-counted held held' ballot x answer d named answered left = record {
+  answered = answered ∙ ap (λ name. counted_in ballot.sender (found name held.pool)) named;
+  left = left ∙ ap (λ name. with_pool held (changed name (with_ballot ballot) held.pool)) named;
+}
+
+-- a session that is not there is left alone
+pub record IsAbsent (held held' : Held) (x : Session) : Type 0 where
+  pub none : found (digest_of_session x) held.pool ≡ None
+  pub same : held' ≡ held
+
+pub absent : (held held' : Held) (ballot : Ballot) (x : Session) (answer : Counted) → IsCounted held held' ballot x answer → answer ≡ count.NotPooled → IsAbsent held held' x
+absent held held' ballot x answer counted is =
+    let d : Bytes = digest_of_session x in
+    let none = counted-absent ballot.sender (found d held.pool) (sym counted.answered ∙ is) in
+    record { none = none; same = counted.left ∙ ap (with_pool held) (changed-absent d (with_ballot ballot) held.pool none) }
 
 -- ---- what is said of it
 
@@ -144,10 +169,6 @@ second-makes setup me held held' log kept_is ballot x signs old new is left t te
     let same : held' ≡ held = left ∙ ap (with_pool held) (changed-again (digest_of setup x) ballot held.pool t) in
     let P : Held → Type 0 = λ h. Leaves setup me signs (bench_of log held) h old new in
     subst P (sym same) (stays setup me signs held log old new kept_is (dropped-makes setup me (bench_of log held) signs Repeat old new is tells))
-
--- a session that is not there is left alone
-pub left-alone : (setup : Setup) (held held' : Held) (ballot : Ballot) (x : Session) → held' ≡ with_pool held (changed (digest_of setup x) (with_ballot ballot) held.pool) → found (digest_of setup x) held.pool ≡ None → held' ≡ held
-left-alone setup held held' ballot x left none = left ∙ ap (with_pool held) (changed-absent (digest_of setup x) (with_ballot ballot) held.pool none)
 
 -- a session enters with a vote
 module _ (setup : Setup) (me : NodeId) (held held' : Held) (log : Log) (kept_is : held.archived.kept ≡ kept_of log) (ballot : Ballot) (x : Session) (answer : Answer)
