@@ -32,7 +32,7 @@ use Rattle.cs_check_rules.specs.Proofs.{proof_of}
 use Rattle.cs_check_rules.specs.Root.{root_under}
 use Rattle.cs_ledger.specs.Ledger.{Bytes}
 use Rattle.cs_node_rules.specs.declared.cause.Cause.{Cause}
-use Rattle.cs_node_rules.specs.declared.cause.Cause.TheVariants.{Mine, Role, Malformed, Old, Far, Leader, Repeat, Unasked, Denied, Full}
+use Rattle.cs_node_rules.specs.declared.cause.Cause.TheVariants.{Mine, Role, Malformed, Old, Far, Leader, Repeat, Unasked, Denied, Full, NoProof}
 use Rattle.cs_node_state.specs.declared.pooled.Pooled.{Pooled}
 use Rattle.cs_node_state.specs.Setup.{Setup, digest_of, concerns, concerned, is_fit, is_approved, session_in}
 use Rattle.cs_node_state.specs.Admission.{due}
@@ -43,7 +43,7 @@ use Rattle.cs_node_state.specs.Bench.{Bench, Ran, decided, noted, executed, slot
 use Rattle.cs_node_rules.specs.Dumps.{heads_below}
 use Rattle.cs_node_rules.specs.Members.{is_other_member, others}
 use Rattle.cs_node_rules.specs.Net.{cause_of}
-use Rattle.cs_node_rules.specs.Signs.{Sign, Dropped, Took, Entered, Viewed, Did, Headed, Kept, Sent, guarded, submitted_signs, submit_signs, ask_signs, asking_signs, ballot_signs, voted_signs, sends, vote_signs, own_signs, entered_signs, ran_signs, headed_signs, execution_signs, proof_signs, ask_proof_signs, head_signs, asked_again}
+use Rattle.cs_node_rules.specs.Signs.{Sign, Dropped, Took, Entered, Viewed, Did, Headed, Kept, Sent, bench_step, guarded, submitted_signs, submit_signs, ask_signs, asking_signs, ballot_signs, voted_signs, sends, vote_signs, own_signs, entered_signs, ran_signs, headed_signs, execution_signs, proof_signs, ask_proof_signs, head_signs, asked_again}
 use Rattle.cs_node_rules.specs.Site.{Input, Datagram, Tick, Mark, In, Ordered, Plain, Site, View, view_after, plain, signs_of}
 use Rattle.cs_node_rules.specs.Trail.{out_signs, handed, with_deed, entered_view, admits_proposed, due_marks, candidate_marks, propose_marks, echo_marks, cut_marks, step_marks, turn_marks, continued, settled, taking_marks, member_marks, reply_marks, want_marks, message_marks, opened_marks, again_marks, waiting_marks, input_marks, event_marks}
 use Rattle.cs_play.specs.Logged.{Logged, with_leaf, with_head, logged_of}
@@ -133,54 +133,53 @@ module _ (log : Log) (leaf root : Bytes) where
 
 -- ---- signs that tell nothing of the log
 
+-- the sign tells nothing of it, and leaves it as it is
+pub record IsIdle (sign : Sign) : Type 0 where
+  pub tells : (kept : Logged) → sign_logged sign kept ≡ kept
+  pub leaves : (setup : Setup) (shard : ℕ) (b : Bench) → (bench_step setup shard sign b).log ≡ b.log
+
 abbrev AllIdle : List Sign → Type 0
 AllIdle [] = Unit {0}
-AllIdle (Dropped cause ∷ signs) = AllIdle signs
-AllIdle (Took sender vote x ∷ signs) = AllIdle signs
-AllIdle (Entered x ∷ signs) = AllIdle signs
-AllIdle (Viewed slot view ∷ signs) = AllIdle signs
-AllIdle (Did slot entry effect ∷ signs) = ⊥
-AllIdle (Headed number head ∷ signs) = ⊥
-AllIdle (Kept index checkpoint ∷ signs) = AllIdle signs
-AllIdle (Sent to message ∷ signs) = AllIdle signs
+AllIdle (sign ∷ signs) = IsIdle sign × AllIdle signs
 
--- and change nothing of the node
+-- the sign tells nothing of it, and changes nothing of the node
+pub record IsSent (sign : Sign) : Type 0 where
+  pub tells : (kept : Logged) → sign_logged sign kept ≡ kept
+  pub leaves : (setup : Setup) (shard : ℕ) (b : Bench) → bench_step setup shard sign b ≡ b
+
 abbrev AllSent : List Sign → Type 0
 AllSent [] = Unit {0}
-AllSent (Viewed slot view ∷ signs) = AllSent signs
-AllSent (Sent to message ∷ signs) = AllSent signs
-AllSent (Dropped cause ∷ signs) = ⊥
-AllSent (Took sender vote x ∷ signs) = ⊥
-AllSent (Entered x ∷ signs) = ⊥
-AllSent (Did slot entry effect ∷ signs) = ⊥
-AllSent (Headed number head ∷ signs) = ⊥
-AllSent (Kept index checkpoint ∷ signs) = ⊥
+AllSent (sign ∷ signs) = IsSent sign × AllSent signs
+
+drop-idle : (cause : Cause) → AllIdle (Dropped cause ∷ [])
+drop-idle cause = (record { tells = λ kept. refl; leaves = λ setup shard b. refl }, tt)
+
+take-idle : (sender : NodeId) (vote : Vote) (x : Session) → AllIdle (Took sender vote x ∷ [])
+take-idle sender vote x = (record { tells = λ kept. refl; leaves = λ setup shard b. refl }, tt)
+
+enter-idle : (x : Session) → AllIdle (Entered x ∷ [])
+enter-idle x = (record { tells = λ kept. refl; leaves = λ setup shard b. refl }, tt)
+
+keep-idle : (index : ℕ) (c : Checkpoint) → AllIdle (Kept index c ∷ [])
+keep-idle index c = (record { tells = λ kept. refl; leaves = λ setup shard b. refl }, tt)
+
+say-sent : (to : NodeId) (said : Message) → AllSent (Sent to said ∷ [])
+say-sent to said = (record { tells = λ kept. refl; leaves = λ setup shard b. refl }, tt)
 
 sent-idle : (signs : List Sign) → AllSent signs → AllIdle signs
-sent-idle [] sent = tt
-sent-idle (Viewed slot view ∷ signs) sent = sent-idle signs sent
-sent-idle (Sent to message ∷ signs) sent = sent-idle signs sent
-sent-idle (Dropped cause ∷ signs) sent = absurd sent
-sent-idle (Took sender vote x ∷ signs) sent = absurd sent
-sent-idle (Entered x ∷ signs) sent = absurd sent
-sent-idle (Did slot entry effect ∷ signs) sent = absurd sent
-sent-idle (Headed number head ∷ signs) sent = absurd sent
-sent-idle (Kept index checkpoint ∷ signs) sent = absurd sent
+sent-idle [] all = tt
+sent-idle (sign ∷ signs) all = (record { tells = all.0.tells; leaves = λ setup shard b. ap (λ (c : Bench). c.log) (all.0.leaves setup shard b) }, sent-idle signs all.1)
+
+say-idle : (to : NodeId) (said : Message) → AllIdle (Sent to said ∷ [])
+say-idle to said = sent-idle (Sent to said ∷ []) (say-sent to said)
 
 sent-append : (a b : List Sign) → AllSent a → AllSent b → AllSent (a ++ b)
 sent-append [] b first later = later
-sent-append (Viewed slot view ∷ a) b first later = sent-append a b first later
-sent-append (Sent to message ∷ a) b first later = sent-append a b first later
-sent-append (Dropped cause ∷ a) b first later = absurd first
-sent-append (Took sender vote x ∷ a) b first later = absurd first
-sent-append (Entered x ∷ a) b first later = absurd first
-sent-append (Did slot entry effect ∷ a) b first later = absurd first
-sent-append (Headed number head ∷ a) b first later = absurd first
-sent-append (Kept index checkpoint ∷ a) b first later = absurd first
+sent-append (sign ∷ a) b first later = (first.0, sent-append a b first.1 later)
 
 all-sent : (names : List NodeId) (said : Message) → AllSent (sends names said)
 all-sent [] said = tt
-all-sent (to ∷ names) said = sent-append (sends names said) (Sent to said ∷ []) (all-sent names said) tt
+all-sent (to ∷ names) said = sent-append (sends names said) (Sent to said ∷ []) (all-sent names said) (say-sent to said)
 
 votes-sent : (setup : Setup) (me : NodeId) (x : Session) (o : Option (Vote × Bool)) → AllSent (vote_signs setup me x o)
 votes-sent setup me x None = tt
@@ -193,36 +192,36 @@ again-sent setup me (e ∷ pool) =
     (cond_both e.1.locked (vote_signs setup me e.1.session (Some (Commit, true))) [] AllSent (λ locked. votes-sent setup me e.1.session (Some (Commit, true))) (λ waits. tt))
 
 view-sent : (slot before now : ℕ) → AllSent (entered_view slot before now)
-view-sent slot before now = cond_both (nat_lt before now) (Viewed slot now ∷ []) [] AllSent (λ later. tt) (λ same. tt)
+view-sent slot before now = cond_both (nat_lt before now) (Viewed slot now ∷ []) [] AllSent (λ later. (record { tells = λ kept. refl; leaves = λ setup shard b. refl }, tt)) (λ same. tt)
 
 own-idle : (me : NodeId) (x : Session) (o : Option (Vote × Bool)) → AllIdle (own_signs me x o)
 own-idle me x None = tt
-own-idle me x (Some told) = cond_both told.1 (Took me told.0 x ∷ []) [] AllIdle (λ asks. tt) (λ not. tt)
+own-idle me x (Some told) = cond_both told.1 (Took me told.0 x ∷ []) [] AllIdle (λ asks. take-idle me told.0 x) (λ not. tt)
 
 entered-idle : (x : Session) (pooled : Bool) (o : Option (Vote × Bool)) → AllIdle (entered_signs x pooled o)
 entered-idle x pooled None = tt
-entered-idle x pooled (Some told) = cond_both (told.1 && not pooled) (Entered x ∷ []) [] AllIdle (λ new. tt) (λ not. tt)
+entered-idle x pooled (Some told) = cond_both (told.1 && not pooled) (Entered x ∷ []) [] AllIdle (λ new. enter-idle x) (λ not. tt)
 
 guarded-idle : (holds : Bool) (cause : Cause) (signs : List Sign) → AllIdle signs → AllIdle (guarded holds cause signs)
-guarded-idle holds cause signs idle = cond_both holds signs (Dropped cause ∷ []) AllIdle (λ passed. idle) (λ failed. tt)
+guarded-idle holds cause signs idle = cond_both holds signs (Dropped cause ∷ []) AllIdle (λ passed. idle) (λ failed. drop-idle cause)
 
 submitted-idle : (setup : Setup) (b : Bench) (sender : NodeId) (x : Session) (o : Option Bool) → AllIdle (submitted_signs setup b sender x o)
-submitted-idle setup b sender x (Some accepted) = tt
+submitted-idle setup b sender x (Some accepted) = say-idle sender (message.Decided (digest_of setup x) accepted)
 submitted-idle setup b sender x None =
-    guarded-idle (not (is_pooled (digest_of setup x) b.pool)) Repeat _ (guarded-idle (is_approved setup x) Denied _ (guarded-idle (has_room b.pool) Full (Entered x ∷ []) tt))
+    guarded-idle (not (is_pooled (digest_of setup x) b.pool)) Repeat _ (guarded-idle (is_approved setup x) Denied _ (guarded-idle (has_room b.pool) Full (Entered x ∷ []) (enter-idle x)))
 
 asking-idle : (setup : Setup) (b : Bench) (sender : NodeId) (vote : Vote) (asks : Bool) (x : Session) (o : Option Vote) → AllIdle (asking_signs setup b sender vote asks x o)
-asking-idle setup b sender vote asks x (Some before) = guarded-idle asks Unasked (Sent sender (message.Voted before false x) ∷ []) tt
+asking-idle setup b sender vote asks x (Some before) = guarded-idle asks Unasked (Sent sender (message.Voted before false x) ∷ []) (say-idle sender (message.Voted before false x))
 asking-idle setup b sender vote asks x None =
-    guarded-idle asks Unasked _ (guarded-idle (is_approved setup x) Denied _ (guarded-idle (has_room b.pool) Full (Took sender vote x ∷ Entered x ∷ []) tt))
+    guarded-idle asks Unasked _ (guarded-idle (is_approved setup x) Denied _ (guarded-idle (has_room b.pool) Full (Took sender vote x ∷ Entered x ∷ []) ((take-idle sender vote x).0, enter-idle x)))
 
 ballot-idle : (setup : Setup) (shard : ℕ) (b : Bench) (sender : NodeId) (vote : Vote) (asks : Bool) (x : Session) (o : Option Pooled) → AllIdle (ballot_signs setup shard b sender vote asks x o)
-ballot-idle setup shard b sender vote asks x (Some p) = guarded-idle (not (has_voted sender p.ballots)) Repeat (Took sender vote x ∷ []) tt
+ballot-idle setup shard b sender vote asks x (Some p) = guarded-idle (not (has_voted sender p.ballots)) Repeat (Took sender vote x ∷ []) (take-idle sender vote x)
 ballot-idle setup shard b sender vote asks x None = asking-idle setup b sender vote asks x (noted setup shard b.table x)
 
 proof-idle : (sender : NodeId) (o : Option Proof) → AllIdle (proof_signs sender o)
-proof-idle sender None = tt
-proof-idle sender (Some proof) = tt
+proof-idle sender None = drop-idle NoProof
+proof-idle sender (Some proof) = say-idle sender (message.Proof proof)
 
 -- ---- a node, and what is kept of its log
 
@@ -239,15 +238,8 @@ told-append (Ordered deed ∷ a) b kept = told-append a b kept
 told-append (Plain sign ∷ a) b kept = ap (sign_logged sign) (told-append a b kept)
 
 sent-told : {M : Type 0} (signs : List Sign) (past : List (Mark M)) (kept : Logged) → AllSent signs → signs_logged (signs_of (plain signs ++ past)) kept ≡ signs_logged (signs_of past) kept
-sent-told [] past kept sent = refl
-sent-told (Viewed slot view ∷ signs) past kept sent = sent-told signs past kept sent
-sent-told (Sent to message ∷ signs) past kept sent = sent-told signs past kept sent
-sent-told (Dropped cause ∷ signs) past kept sent = absurd sent
-sent-told (Took sender vote x ∷ signs) past kept sent = absurd sent
-sent-told (Entered x ∷ signs) past kept sent = absurd sent
-sent-told (Did slot entry effect ∷ signs) past kept sent = absurd sent
-sent-told (Headed number head ∷ signs) past kept sent = absurd sent
-sent-told (Kept index checkpoint ∷ signs) past kept sent = absurd sent
+sent-told [] past kept all = refl
+sent-told (sign ∷ signs) past kept all = all.0.tells (signs_logged (signs_of (plain signs ++ past)) kept) ∙ sent-told signs past kept all.1
 
 module _ {M : Type 0} (site : Site M) where
   -- the node after signs
@@ -258,15 +250,10 @@ module _ {M : Type 0} (site : Site M) where
   told signs kept = signs_logged (signs_of (plain {M = M} signs)) kept
 
   sent-view : (signs : List Sign) (past : List (Mark M)) (v : View M) → AllSent signs → view_after site (plain signs ++ past) v ≡ view_after site past v
-  sent-view [] past v sent = refl
-  sent-view (Viewed slot view ∷ signs) past v sent = sent-view signs past v sent
-  sent-view (Sent to message ∷ signs) past v sent = sent-view signs past v sent
-  sent-view (Dropped cause ∷ signs) past v sent = absurd sent
-  sent-view (Took sender vote x ∷ signs) past v sent = absurd sent
-  sent-view (Entered x ∷ signs) past v sent = absurd sent
-  sent-view (Did slot entry effect ∷ signs) past v sent = absurd sent
-  sent-view (Headed number head ∷ signs) past v sent = absurd sent
-  sent-view (Kept index checkpoint ∷ signs) past v sent = absurd sent
+  sent-view [] past v all = refl
+  sent-view (sign ∷ signs) past v all =
+      let w = view_after site (plain signs ++ past) v in
+      ap (λ (b : Bench). record { me = w.me; bench = b; member = w.member }) (all.0.leaves site.setup w.me.shard w.bench) ∙ sent-view signs past v all.1
 
   -- the first signs tell of the log what the second do
   pub record Same (v : View M) (a b : List Sign) : Type 0 where
@@ -276,14 +263,10 @@ module _ {M : Type 0} (site : Site M) where
 
   idle-same : (v : View M) (a b : List Sign) → AllIdle a → Same v (a ++ b) b
   idle-same v [] b idle = record { log = refl; member = refl; told_is = λ kept. refl }
-  idle-same v (Dropped cause ∷ a) b idle = let s = idle-same v a b idle in record { log = s.log; member = s.member; told_is = s.told_is }
-  idle-same v (Took sender vote x ∷ a) b idle = let s = idle-same v a b idle in record { log = s.log; member = s.member; told_is = s.told_is }
-  idle-same v (Entered x ∷ a) b idle = let s = idle-same v a b idle in record { log = s.log; member = s.member; told_is = s.told_is }
-  idle-same v (Viewed slot view ∷ a) b idle = let s = idle-same v a b idle in record { log = s.log; member = s.member; told_is = s.told_is }
-  idle-same v (Kept index checkpoint ∷ a) b idle = let s = idle-same v a b idle in record { log = s.log; member = s.member; told_is = s.told_is }
-  idle-same v (Sent to message ∷ a) b idle = let s = idle-same v a b idle in record { log = s.log; member = s.member; told_is = s.told_is }
-  idle-same v (Did slot entry effect ∷ a) b idle = absurd idle
-  idle-same v (Headed number head ∷ a) b idle = absurd idle
+  idle-same v (sign ∷ a) b idle =
+      let w = At v (a ++ b) in
+      let s = idle-same v a b idle.1 in
+      record { log = idle.0.leaves site.setup w.me.shard w.bench ∙ s.log; member = s.member; told_is = λ kept. idle.0.tells (told (a ++ b) kept) ∙ s.told_is kept }
 
   -- what is kept, with what the log makes of it
   fits-same : (f : Log → Logged → Logged) (v : View M) (a b : List Sign) (kept : Logged) → Same v a b → Fits (At v b) (f (At v b).bench.log (told b kept)) → Fits (At v a) (f (At v a).bench.log (told a kept))
@@ -321,7 +304,7 @@ module _ {M : Type 0} (site : Site M) where
   out-sent me None m = all-sent (others site.setup.f me (me.shard ∷ [])) (site.carrier.written m)
   out-sent me (Some to) m =
       let name : NodeId = record { shard = me.shard; index = to } in
-      cond_both (is_other_member site.setup.f me name) (Sent name (site.carrier.written m) ∷ []) [] AllSent (λ other. tt) (λ not. tt)
+      cond_both (is_other_member site.setup.f me name) (Sent name (site.carrier.written m) ∷ []) [] AllSent (λ other. say-sent name (site.carrier.written m)) (λ not. tt)
 
   handed-sent : (me : NodeId) (outs : List (Outgoing M)) → AllSent (handed site me outs)
   handed-sent me [] = tt
@@ -500,15 +483,15 @@ module _ {M : Type 0} (site : Site M) where
 
   -- ---- inputs
 
+  not-leads : (v : View M) (cause : Cause) → Leads v (Plain (Dropped cause) ∷ [])
+  not-leads v cause = idle-leads v (Dropped cause ∷ []) (drop-idle cause)
+
   taking-leads : (v : View M) (from : ℕ) (m : M) (answer : Answer) → Leads v (taking_marks from m answer)
   taking-leads v from m took.Taken = deed-leads v (Took_in from m) [] tt refl
-  taking-leads v from m took.Old = idle-leads v (Dropped Old ∷ []) tt
-  taking-leads v from m took.Far = idle-leads v (Dropped Far ∷ []) tt
-  taking-leads v from m took.Leader = idle-leads v (Dropped Leader ∷ []) tt
-  taking-leads v from m took.Repeat = idle-leads v (Dropped Repeat ∷ []) tt
-
-  not-leads : (v : View M) (cause : Cause) → Leads v (Plain (Dropped cause) ∷ [])
-  not-leads v cause = idle-leads v (Dropped cause ∷ []) tt
+  taking-leads v from m took.Old = not-leads v Old
+  taking-leads v from m took.Far = not-leads v Far
+  taking-leads v from m took.Leader = not-leads v Leader
+  taking-leads v from m took.Repeat = not-leads v Repeat
 
   member-leads : (v : View M) (sender : NodeId) (o : Option M) → Leads v (member_marks site v sender o)
   member-leads v sender None = not-leads v Role
@@ -545,11 +528,13 @@ module _ {M : Type 0} (site : Site M) where
   message-leads v sender (message.Done slot entry) = member-leads v sender (site.carrier.read (message.Done slot entry))
   message-leads v sender (message.Ask asked) =
       idle-leads v (ask_signs site.setup v.me.shard v.bench sender asked)
-      (guarded-idle (is_client sender) Role _ (guarded-idle (shard_of_key site.setup.shards (key_asked v.bench.table v.me.shard asked) == v.me.shard) Mine (Sent sender (message.Told (key_asked v.bench.table v.me.shard asked) (told_at v.bench.table (key_asked v.bench.table v.me.shard asked))) ∷ []) tt))
+      (let key = key_asked v.bench.table v.me.shard asked in
+      let said : Message = message.Told key (told_at v.bench.table key) in
+      guarded-idle (is_client sender) Role _ (guarded-idle (shard_of_key site.setup.shards key == v.me.shard) Mine (Sent sender said ∷ []) (say-idle sender said)))
   message-leads v sender (message.Told key state) = not-leads v Role
   message-leads v sender (message.Head checkpoint) =
       idle-leads v (head_signs site.setup v.me v.bench sender checkpoint)
-      (guarded-idle (is_other_member site.setup.f v.me sender) Role _ (guarded-idle (is_news sender.index checkpoint v.bench.heads) Repeat (Kept sender.index checkpoint ∷ []) tt))
+      (guarded-idle (is_other_member site.setup.f v.me sender) Role _ (guarded-idle (is_news sender.index checkpoint v.bench.heads) Repeat (Kept sender.index checkpoint ∷ []) (keep-idle sender.index checkpoint)))
   message-leads v sender (message.AskProof slot) =
       idle-leads v (ask_proof_signs v.bench sender slot)
       (guarded-idle (is_client sender) Role _ (proof-idle sender (proof_of v.bench.log slot)))
