@@ -1,9 +1,12 @@
 -- How the run of a client goes on from turn to turn, and how it ends.
-use Rattle.std.proofs.Common.{◌≡◌, ℕ, ◌+◌, ◌-◌, ◌^◌, ◌<◌, ◌≤◌, inl, inr, List, [], ◌∷◌, length, Option, Result, Ok, Err, refl, sym, ap, subst, ◌∙◌, arith}
-use Rattle.std.specs.Prelude.{min}
+use Rattle.std.proofs.Common.{◌≡◌, ℕ, ◌+◌, ◌-◌, ◌^◌, ◌≤◌, inl, inr, Bool, List, [], ◌∷◌, length, Option, Result, Ok, Err, refl, sym, ap, subst, ◌∙◌, arith}
+use Rattle.std.specs.Prelude.{min, count_by}
+use Rattle.std.specs.Int.{from_bool}
 use Rattle.cs_base.specs.Outside.{HasCause}
 use Rattle.cs_outer.specs.Told.{Changes, Stays}
 use Rattle.cs_outer.specs.Link.{Offers}
+use Rattle.cs_outer.specs.Until.{IsOver, AreNeeded}
+use Rattle.cs_outer.specs.declared.until.Until.{Until}
 use Rattle.cs_serve.specs.declared.receiving.TheConstants.{MOST_MISSED}
 use Rattle.cs_wire.specs.declared.input.Out.{Out}
 use Rattle.cs_serve.specs.Offering.{offers_in, Adds, AddsFront}
@@ -16,8 +19,9 @@ use Rattle.cs_client.specs.Seen.{Client}
 use Rattle.cs_client.specs.Standing.{StandsFor}
 use Rattle.cs_attend.specs.declared.ending.Ending.{Ending}
 use Rattle.cs_attend.specs.declared.ending.Ending.TheVariants.{Knows, Refused, LinkFault, Memory}
-use Rattle.cs_attend.specs.Attending.{Side, Takes, offers_by, offers_at, WasOpen, missed_past, Attends, Says, GoesBy, Answers, Goes}
+use Rattle.cs_attend.specs.Attending.{Side, is_tick, Takes, offers_by, offers_at, WasOpen, missed_past, Attends, Says, GoesBy, Answers, Goes}
 use Rattle.cs_outer.specs.laws.Told.{stays-same, stays-both}
+use Rattle.cs_serve.specs.laws.Taken.{ticks-more, over-by, still-by}
 use Rattle.cs_serve.specs.laws.Offering.{adds-none, adds-more, adds-still, adds-later, front-later, front-more}
 use Rattle.cs_attend.proofs.Told.{offers-more, takes-none, takes-still, takes-more, takes-one}
 
@@ -47,32 +51,44 @@ none-offered e past input a = ([], offers_at e input past, refl, adds-none a)
 
 -- the first input that was left was taken and answered
 pub answered : (e : Errand) (past : List Input) (input : Input) (a b c : Side) (result : Result Client Ending) → Changes (λ (before now : List Input). before ≡ input ∷ now) a.left b.left → b.missed ≡ 0 → Stays a.offered b.offered
-    → Stays b.left c.left → c.missed ≡ b.missed → GoesBy e past input b.offered c.offered result → Goes e past a c result
-answered e past input a b c result gone missed offered left same goes = by result goes
-  where
-    so : (result : Result Client Ending) → GoesBy e past input b.offered c.offered result → Answers e past a c result
-    so result goes = record {
-      input = input;
-      takes = takes-one a b c input gone left;
-      missed = same ∙ missed;
-      goes = goes-later e past input a.offered b.offered c.offered result offered goes;
-    }
+    → Stays b.left c.left → c.missed ≡ b.missed → GoesBy e past input b.offered c.offered result → Answers e past a c result
+answered e past input a b c result gone missed offered left same goes = record {
+  input = input;
+  takes = takes-one a b c input gone left;
+  missed = same ∙ missed;
+  goes = goes-later e past input a.offered b.offered c.offered result offered goes;
+}
 
-    by : (result : Result Client Ending) → GoesBy e past input b.offered c.offered result → Goes e past a c result
-    by (Ok client) goes = so (Ok client) goes
-    by (Err (Knows known.Open)) goes = absurd (goes.1 refl)
-    by (Err (Knows (known.Accepted digest))) goes = so (Err (Knows (known.Accepted digest))) goes
-    by (Err (Knows (known.Aborted digest))) goes = so (Err (Knows (known.Aborted digest))) goes
-    by (Err (Refused cause)) goes = so (Err (Refused cause)) goes
-    by (Err LinkFault) goes = absurd goes
-    by (Err Memory) goes = so (Err Memory) goes
+-- and the run goes on
+pub went-on : (e : Errand) (past : List Input) (input : Input) (a b c : Side) (client : Client) (ticked : Bool) → ticked ≡ is_tick input → Changes (λ (before now : List Input). before ≡ input ∷ now) a.left b.left → b.missed ≡ 0
+    → Stays a.offered b.offered → Stays b.left c.left → c.missed ≡ b.missed → GoesBy e past input b.offered c.offered (Ok client) → Goes e past a c (Ok (client, ticked))
+went-on e past input a b c client ticked is gone missed offered left same goes = (
+  record {
+    input = input;
+    takes = takes-one a b c input gone left;
+    missed = same ∙ missed;
+    goes = goes-later e past input a.offered b.offered c.offered (Ok client) offered goes;
+  },
+  is,
+)
+
+-- and that ended the run
+pub ended-so : (e : Errand) (past : List Input) (a c : Side) (ending : Ending) → Answers e past a c (Err ending) → Goes e past a c (Err ending)
+ended-so e past a c (Knows known.Open) one = absurd (one.goes.1 refl)
+ended-so e past a c (Knows (known.Accepted digest)) one = one
+ended-so e past a c (Knows (known.Aborted digest)) one = one
+ended-so e past a c (Refused cause) one = one
+ended-so e past a c LinkFault one = absurd one.goes
+ended-so e past a c Memory one = one
 
 -- ---- so many turns
 
--- so many inputs were taken, and nothing is known yet
-pub record SoFar (e : Errand) (turns : ℕ) (old new : Side) (client : Client) : Type 0 where
+-- so many inputs were taken, so many of them ticks, none of them too many, and nothing is known yet
+pub record SoFar (e : Errand) (until : Until) (turns ticks : ℕ) (old new : Side) (client : Client) : Type 0 where
   pub inputs : List Input
   pub all : length inputs ≡ turns
+  pub ticked : count_by is_tick inputs ≡ ticks
+  pub needed : AreNeeded is_tick until inputs
   pub takes : Takes inputs old new
   pub unknown : WasOpen e inputs
   pub still : knows e inputs ≡ known.Open
@@ -80,10 +96,12 @@ pub record SoFar (e : Errand) (turns : ℕ) (old new : Side) (client : Client) :
   pub offered : Adds (offers_by e inputs) old.offered new.offered
   pub stands : StandsFor e inputs client
 
-pub begins : (e : Errand) (a : Side) (client : Client) → StandsFor e [] client → SoFar e 0 a a client
-begins e a client stands = record {
+pub begins : (e : Errand) (until : Until) (a : Side) (client : Client) → StandsFor e [] client → SoFar e until 0 0 a a client
+begins e until a client stands = record {
   inputs = [];
   all = refl;
+  ticked = refl;
+  needed = tt;
   takes = takes-none a a (stays-same a.left);
   unknown = tt;
   still = refl;
@@ -100,12 +118,16 @@ offered-more e past input a b c first later =
 one-more : (input : Input) (past : List Input) (n : ℕ) → length past ≡ n → length (input ∷ past) ≡ n + 1
 one-more input past n is = omega arith
 
-pub goes-on : (e : Errand) (n : ℕ) (a b c : Side) (client next : Client) → SoFar e n a b client → ((past : List Input) → StandsFor e past client → Goes e past b c (Ok next)) → SoFar e (n + 1) a c next
-goes-on e n a b c client next so turn =
-    let one = turn so.inputs so.stands in
+pub goes-on : (e : Errand) (until : Until) (turns ticks : ℕ) (a b c : Side) (client next : Client) (ticked : Bool) (more : ℕ) → more ≡ from_bool ticked → (IsOver until turns ticks → ⊥) → SoFar e until turns ticks a b client
+    → ((past : List Input) → StandsFor e past client → Goes e past b c (Ok (next, ticked))) → SoFar e until (turns + 1) (ticks + more) a c next
+goes-on e until turns ticks a b c client next ticked more counted still so turn =
+    let both = turn so.inputs so.stands in
+    let one = both.0 in
     record {
       inputs = one.input ∷ so.inputs;
-      all = one-more one.input so.inputs n so.all;
+      all = one-more one.input so.inputs turns so.all;
+      ticked = ticks-more is_tick one.input so.inputs ticks more ticked so.ticked both.1 counted;
+      needed = still-by is_tick until so.inputs turns ticks so.all so.ticked still;
       takes = takes-more a b c so.inputs (one.input ∷ []) so.takes one.takes;
       unknown = (so.still, so.unknown);
       still = one.goes.1;
@@ -117,39 +139,33 @@ goes-on e n a b c client next so turn =
 -- ---- how it ends
 
 -- want of memory before the first turn
-pub nothing : (e : Errand) (turns : ℕ) (a : Side) → Attends e turns a a Memory
-nothing e turns a = record {
+pub nothing : (e : Errand) (until : Until) (a : Side) → Attends e until a a Memory
+nothing e until a = record {
   inputs = [];
-  few = omega arith;
+  needed = tt;
   takes = takes-none a a (stays-same a.left);
   unknown = tt;
   ends = ([], [], refl, adds-none a.offered);
 }
 
-few-so : (past : List Input) (n turns : ℕ) → length past ≡ n → n < turns → length past ≤ turns
-few-so past n turns is less = omega arith
-
-few-more : (input : Input) (past : List Input) (n turns : ℕ) → length past ≡ n → n < turns → length (input ∷ past) ≤ turns
-few-more input past n turns is less = omega arith
-
-few-all : (past : List Input) (turns : ℕ) → length past ≡ turns → length past ≤ turns
-few-all past turns is = omega arith
-
--- all turns are taken
-pub over : (e : Errand) (n turns : ℕ) (a b : Side) (client : Client) → n ≡ turns → SoFar e n a b client → Attends e turns a b (Knows known.Open)
-over e n turns a b client is so = record {
+-- they were enough
+pub over : (e : Errand) (until : Until) (turns ticks : ℕ) (a b : Side) (client : Client) → IsOver until turns ticks → SoFar e until turns ticks a b client → Attends e until a b (Knows known.Open)
+over e until turns ticks a b client enough so = record {
   inputs = so.inputs;
-  few = few-all so.inputs turns (so.all ∙ is);
+  needed = so.needed;
   takes = so.takes;
   unknown = so.unknown;
-  ends = (so.still, λ open-yet. inl (so.all ∙ is), so.offered);
+  ends = (so.still, λ open-yet. inl (over-by is_tick until so.inputs turns ticks so.all so.ticked enough), so.offered);
 }
 
-module _ (e : Errand) (n turns : ℕ) (a b c : Side) (client : Client) (so : SoFar e n a b client) (less : n < turns) where
-  at-last : (ending : Ending) → (one : Answers e so.inputs b c (Err ending)) → Attends e turns a c ending
+module _ (e : Errand) (until : Until) (turns ticks : ℕ) (a b c : Side) (client : Client) (still : IsOver until turns ticks → ⊥) (so : SoFar e until turns ticks a b client) where
+  one-needed : (input : Input) → AreNeeded is_tick until (input ∷ so.inputs)
+  one-needed input = still-by is_tick until so.inputs turns ticks so.all so.ticked still
+
+  at-last : (ending : Ending) → (one : Answers e so.inputs b c (Err ending)) → Attends e until a c ending
   at-last (Knows k) one = record {
     inputs = one.input ∷ so.inputs;
-    few = few-more one.input so.inputs n turns so.all less;
+    needed = one-needed one.input;
     takes = takes-more a b c so.inputs (one.input ∷ []) so.takes one.takes;
     unknown = (so.still, so.unknown);
     ends = (
@@ -160,7 +176,7 @@ module _ (e : Errand) (n turns : ℕ) (a b c : Side) (client : Client) (so : SoF
   }
   at-last (Refused cause) one = record {
     inputs = one.input ∷ so.inputs;
-    few = few-more one.input so.inputs n turns so.all less;
+    needed = one-needed one.input;
     takes = takes-more a b c so.inputs (one.input ∷ []) so.takes one.takes;
     unknown = (so.still, so.unknown);
     ends = (one.goes.0, adds-still a.offered b.offered c.offered (offers_by e so.inputs) so.offered one.goes.1);
@@ -168,7 +184,7 @@ module _ (e : Errand) (n turns : ℕ) (a b c : Side) (client : Client) (so : SoF
   at-last LinkFault one = absurd one.goes
   at-last Memory one = record {
     inputs = one.input ∷ so.inputs;
-    few = few-more one.input so.inputs n turns so.all less;
+    needed = one-needed one.input;
     takes = takes-more a b c so.inputs (one.input ∷ []) so.takes one.takes;
     unknown = (so.still, so.unknown);
     ends =
@@ -176,12 +192,12 @@ module _ (e : Errand) (n turns : ℕ) (a b c : Side) (client : Client) (so : SoF
         (front-more a.offered b.offered c.offered (offers_by e so.inputs) (offers_at e one.input so.inputs) so.offered one.goes);
   }
 
-  pub ends-so : (ending : Ending) → ((past : List Input) → StandsFor e past client → Goes e past b c (Err ending)) → Attends e turns a c ending
+  pub ends-so : (ending : Ending) → ((past : List Input) → StandsFor e past client → Goes e past b c (Err ending)) → Attends e until a c ending
   ends-so (Knows known.Open) turn =
       let one = turn so.inputs so.stands in
       record {
         inputs = so.inputs;
-        few = few-so so.inputs n turns so.all less;
+        needed = so.needed;
         takes = takes-still a b c so.inputs so.takes one.left;
         unknown = so.unknown;
         ends = (so.still, λ open-yet. inr one.none, adds-still a.offered b.offered c.offered (offers_by e so.inputs) so.offered one.offered);
@@ -193,7 +209,7 @@ module _ (e : Errand) (n turns : ℕ) (a b c : Side) (client : Client) (so : SoF
       let one = turn so.inputs so.stands in
       record {
         inputs = so.inputs;
-        few = few-so so.inputs n turns so.all less;
+        needed = so.needed;
         takes = takes-still a b c so.inputs so.takes one.left;
         unknown = so.unknown;
         ends = (
@@ -211,9 +227,6 @@ le_same n = omega arith
 
 pub le_more : (a b c : ℕ) → a ≤ b → b ≤ c → a ≤ c
 le_more a b c first second = omega arith
-
-pub le_both : (a b : ℕ) → a ≤ b → b ≤ a → a ≡ b
-le_both a b first second = omega arith
 
 -- faults that came later than some
 pub cause-later : {P Q : Type 0} (a b c : ℕ) → a ≤ b → HasCause b c P → (Q → P) → HasCause a c Q

@@ -1,7 +1,10 @@
 -- A client over a link: what it takes, what is offered, and how its run ends.
-use Rattle.std.specs.Prelude.{◌≡◌, ◌≢◌, ◌⊎◌, ℕ, ◌+◌, ◌-◌, ◌^◌, ◌≤◌, min, List, [], ◌∷◌, ◌++◌, length, reverse, Option, Result, Ok, Err, IfSome}
+use Rattle.std.specs.Prelude.{◌≡◌, ◌≢◌, ◌⊎◌, ℕ, ◌+◌, ◌-◌, ◌^◌, min, Bool, true, false, List, [], ◌∷◌, ◌++◌, reverse, Option, Result, Ok, Err, IfSome}
 use Rattle.cs_outer.specs.Told.{Changes, Stays}
 use Rattle.cs_outer.specs.Link.{Offers}
+use Rattle.cs_outer.specs.Until.{AreEnough, AreNeeded}
+use Rattle.cs_outer.specs.declared.until.Until.{Until}
+use Rattle.cs_outer.specs.declared.link.MemInput.TheVariants as came
 use Rattle.cs_proc.specs.declared.error.ProcError.{ProcError}
 use Rattle.cs_serve.specs.declared.receiving.TheConstants.{MOST_MISSED}
 use Rattle.cs_serve.specs.Offering.{offers_in, Adds, AddsFront}
@@ -24,6 +27,10 @@ pub record Side : Type 0 where
 abbrev pub side : Option (List Input) → Option Offers → ℕ → Side
 side left offered missed = record { left = left; offered = offered; missed = missed }
 
+abbrev pub is_tick : Input → Bool
+is_tick (came.Datagram bytes) = false
+is_tick came.Tick = true
+
 -- the first inputs that were left are gone, and are these, the newest first
 abbrev pub Takes : List Input → Side → Side → Type 0
 Takes inputs old new =
@@ -44,8 +51,8 @@ WasOpen e [] = Unit {0}
 WasOpen e (input ∷ past) = (knows e past ≡ known.Open) × WasOpen e past
 
 -- no more inputs were to be taken, or none was left
-abbrev pub IsOver : ℕ → List Input → Side → Type 0
-IsOver turns inputs new = (length inputs ≡ turns) ⊎ IfSome new.left (λ left. left ≡ [])
+abbrev pub IsOver : Until → List Input → Side → Type 0
+IsOver until inputs new = AreEnough is_tick until inputs ⊎ IfSome new.left (λ left. left ≡ [])
 
 -- so many receives in a row had failed, before the link was asked again
 abbrev pub missed_past : ℕ → List Input → ℕ
@@ -60,23 +67,24 @@ EndsRefused e (input ∷ past) old new cause =
 
 -- Knows: so much is known; where it is nothing, the inputs are over. LinkFault: so many receives in a row failed. With
 -- these all that the client says was offered; for want of memory a front of it.
-abbrev pub Ends : Errand → ℕ → List Input → Side → Side → Ending → Type 0
-Ends e turns inputs old new (Knows so) =
-    (knows e inputs ≡ so) × (so ≡ known.Open → IsOver turns inputs new)
+abbrev pub Ends : Errand → Until → List Input → Side → Side → Ending → Type 0
+Ends e until inputs old new (Knows so) =
+    (knows e inputs ≡ so) × (so ≡ known.Open → IsOver until inputs new)
     × Adds (offers_by e inputs) old.offered new.offered
-Ends e turns inputs old new (Refused cause) = EndsRefused e inputs old new cause
-Ends e turns inputs old new LinkFault =
+Ends e until inputs old new (Refused cause) = EndsRefused e inputs old new cause
+Ends e until inputs old new LinkFault =
     (new.missed ≡ min (missed_past old.missed inputs + MOST_MISSED) (2 ^ 64 - 1))
     × (knows e inputs ≡ known.Open) × Adds (offers_by e inputs) old.offered new.offered
-Ends e turns inputs old new Memory = AddsFront (offers_by e inputs) old.offered new.offered
+Ends e until inputs old new Memory = AddsFront (offers_by e inputs) old.offered new.offered
 
--- A client was run: these inputs were taken, before the last of which nothing was known, and it ended so.
-pub record Attends (e : Errand) (turns : ℕ) (old new : Side) (ending : Ending) : Type 0 where
+-- A client was run: these inputs were taken, none of them too many, and before the last of them nothing was known; and
+-- it ended so.
+pub record Attends (e : Errand) (until : Until) (old new : Side) (ending : Ending) : Type 0 where
   pub inputs : List Input
-  pub few : length inputs ≤ turns
+  pub needed : AreNeeded is_tick until inputs
   pub takes : Takes inputs old new
   pub unknown : WasOpen e inputs
-  pub ends : Ends e turns inputs old new ending
+  pub ends : Ends e until inputs old new ending
 
 -- ---- one input
 
@@ -113,8 +121,9 @@ pub record HasFailed (old new : Side) : Type 0 where
   pub left : Stays old.left new.left
   pub offered : Stays old.offered new.offered
 
--- what came of one turn
-abbrev pub Goes : Errand → List Input → Side → Side → Result Client Ending → Type 0
+-- what came of one turn, which tells whether its input was a tick
+abbrev pub Goes : Errand → List Input → Side → Side → Result (Client × Bool) Ending → Type 0
+Goes e past old new (Ok (client, ticked)) = (one : Answers e past old new (Ok client)) × (ticked ≡ is_tick one.input)
 Goes e past old new (Err (Knows known.Open)) = HasNone old new
 Goes e past old new (Err LinkFault) = HasFailed old new
-Goes e past old new result = Answers e past old new result
+Goes e past old new (Err ending) = Answers e past old new (Err ending)

@@ -12,15 +12,15 @@ ghost use Rattle.cs_attend.specs.Attending.{side, Attends, Goes, GoesBy, Says};
 use crate::ending::Ending;
 use cs_base::{MOST_DATAGRAM, Sequence};
 use cs_client::{ClientCore, ClientError, Input, Known, Out};
-use cs_outer::{Arrived, Link};
+use cs_outer::{Arrived, Link, Until};
 use cs_serve::{offer, receive};
 use std::alloc::Global;
 
-/// Gives a client so many inputs of the link, and offers what it says. It ends at the first input
-/// after which the client knows what has become of its session, or at which its method is refused;
-/// else where the link has nothing left or fails too often in a row, or for want of memory.
-pub fn attend<L: Link>(alloc: Global, client: ClientCore, link: &mut L, turns: u64) -> Ending
-    ensures attends { (e : Errand) → StandsFor e [] client → Attends e turns
+/// Gives a client the inputs of the link for so long, and offers what it says. It ends at the first
+/// input after which the client knows what has become of its session, or at which its method is
+/// refused; else where the link has nothing left or fails too often in a row, or for want of memory.
+pub fn attend<L: Link>(alloc: Global, client: ClientCore, link: &mut L, until: Until) -> Ending
+    ensures attends { (e : Errand) → StandsFor e [] client → Attends e until
         (side (L.left link.old) (L.offered link.old) (L.missed link.old))
         (side (L.left link.new) (L.offered link.new) (L.missed link.new)) result }
     ensures bound { Stays (L.bound link.old) (L.bound link.new) }
@@ -31,22 +31,29 @@ pub fn attend<L: Link>(alloc: Global, client: ClientCore, link: &mut L, turns: u
     };
     let buf = room.as_mut_slice();
     let mut client = client;
-    for _turn in 0..turns {
+    let mut turns = 0;
+    let mut ticks = 0;
+    while !until.is_over(turns, ticks) {
         match take_turn(alloc, client, link, buf) {
-            Ok(next) => client = next,
+            Ok((next, ticked)) => {
+                client = next;
+                turns += 1;
+                ticks += u64::from(ticked);
+            }
             Err(ending) => return ending,
         }
     }
     Ending::Knows(Known::Open)
 }
 
-// Takes an input and answers it: the client after it, or how its run ends.
+// Takes an input and answers it: the client after it, with whether the input was a tick, or how its
+// run ends.
 fn take_turn<L: Link>(
     alloc: Global,
     client: ClientCore,
     link: &mut L,
     buf: &mut [u8],
-) -> Result<ClientCore, Ending>
+) -> Result<(ClientCore, bool), Ending>
     requires { length buf.old ≡ MOST_DATAGRAM + 1 }
     ensures goes { (e : Errand) (past : List Given) → StandsFor e past client → Goes e past
         (side (L.left link.old) (L.offered link.old) (L.missed link.old))
@@ -58,9 +65,13 @@ fn take_turn<L: Link>(
     match receive(link, buf) {
         Arrived::Datagram(count) => {
             let (bytes, _) = buf.split_at(count);
-            answer(alloc, client, Input::Datagram(bytes), link)
+            let client = answer(alloc, client, Input::Datagram(bytes), link)?;
+            Ok((client, false))
         }
-        Arrived::Tick => answer(alloc, client, Input::Tick, link),
+        Arrived::Tick => {
+            let client = answer(alloc, client, Input::Tick, link)?;
+            Ok((client, true))
+        }
         Arrived::End => Err(Ending::Knows(Known::Open)),
         Arrived::Failed => Err(Ending::LinkFault),
     }

@@ -1,10 +1,12 @@
 -- What a command does, by what its words call for.
 use Rattle.std.proofs.Common.{◌≡◌, ℕ, List, Option, Some, sym, subst}
+use Rattle.cs_outer.specs.declared.until.Until.{Until}
 use Rattle.cs_cli.specs.declared.words.Command.{Command}
+use Rattle.cs_cli.specs.declared.words.Command.TheVariants.{ReadKeys}
 use Rattle.cs_cli.specs.declared.deployments.Deployment.{Deployment}
 use Rattle.cs_cli.specs.declared.deployments.Deployment.TheVariants.{Node, Client, Keys, Cluster}
 use Rattle.cs_cli.specs.Deployed.{word_at}
-use Rattle.cs_cli.specs.Done.{Around, AllAround, NodeDoes, ClientDoes, KeysDoes, ClusterDoes, Deploys, Does}
+use Rattle.cs_cli.specs.Done.{Around, AllAround, NodeDoes, ClientDoes, KeysDoes, ClusterDoes, Deploys, ReadKeysDoes, Does}
 use Rattle.cs_cli.proofs.Outcomes.{one-command}
 
 module _ (words : List (List ℕ)) (a b : AllAround) (status : ℕ) where
@@ -14,22 +16,26 @@ module _ (words : List (List ℕ)) (a b : AllAround) (status : ℕ) where
   pub does-so : (x command : Command) → command ≡ x → Does x words a b status → Does command words a b status
   does-so x command is = subst (λ (z : Command). Does z words a b status) (sym is)
 
+  pub read-keys-does : (site : ℕ) (s : List ℕ) (command : Command) → command ≡ ReadKeys site → s ≡ word_at words site → ReadKeysDoes s a b status → Does command words a b status
+  read-keys-does site s command is first does =
+      does-so (ReadKeys site) command is (subst (λ (x : List ℕ). ReadKeysDoes x a b status) first does)
+
 module _ (words : List (List ℕ)) (a b : Around) (status : ℕ) where
   deploys-so : (x deployment : Deployment) → deployment ≡ x → Deploys x words a b status → Deploys deployment words a b status
   deploys-so x deployment is = subst (λ (z : Deployment). Deploys z words a b status) (sym is)
 
-  pub node-does : (site keys turns : ℕ) (s k : List ℕ) (deployment : Deployment) → deployment ≡ Node site keys turns → s ≡ word_at words site → k ≡ word_at words keys → NodeDoes s k turns a b status → Deploys deployment words a b status
-  node-does site keys turns s k deployment is first second does =
-      deploys-so (Node site keys turns) deployment is
-      (subst (λ (x : List ℕ). NodeDoes x (word_at words keys) turns a b status) first
-      (subst (λ (x : List ℕ). NodeDoes s x turns a b status) second does))
+  pub node-does : (site keys : ℕ) (until : Until) (s k : List ℕ) (deployment : Deployment) → deployment ≡ Node site keys until → s ≡ word_at words site → k ≡ word_at words keys → NodeDoes s k until a b status → Deploys deployment words a b status
+  node-does site keys until s k deployment is first second does =
+      deploys-so (Node site keys until) deployment is
+      (subst (λ (x : List ℕ). NodeDoes x (word_at words keys) until a b status) first
+      (subst (λ (x : List ℕ). NodeDoes s x until a b status) second does))
 
-  pub client-does : (site keys call turns : ℕ) (s k c : List ℕ) (deployment : Deployment) → deployment ≡ Client site keys call turns → s ≡ word_at words site → k ≡ word_at words keys → c ≡ word_at words call → ClientDoes s k c turns a b status → Deploys deployment words a b status
-  client-does site keys call turns s k c deployment is first second third does =
-      deploys-so (Client site keys call turns) deployment is
-      (subst (λ (x : List ℕ). ClientDoes x (word_at words keys) (word_at words call) turns a b status) first
-      (subst (λ (x : List ℕ). ClientDoes s x (word_at words call) turns a b status) second
-      (subst (λ (x : List ℕ). ClientDoes s k x turns a b status) third does)))
+  pub client-does : (site keys call : ℕ) (until : Until) (s k c : List ℕ) (deployment : Deployment) → deployment ≡ Client site keys call until → s ≡ word_at words site → k ≡ word_at words keys → c ≡ word_at words call → ClientDoes s k c until a b status → Deploys deployment words a b status
+  client-does site keys call until s k c deployment is first second third does =
+      deploys-so (Client site keys call until) deployment is
+      (subst (λ (x : List ℕ). ClientDoes x (word_at words keys) (word_at words call) until a b status) first
+      (subst (λ (x : List ℕ). ClientDoes s x (word_at words call) until a b status) second
+      (subst (λ (x : List ℕ). ClientDoes s k x until a b status) third does)))
 
   pub keys-does : (site : ℕ) (master s : List ℕ) (deployment : Deployment) → deployment ≡ Keys site master → s ≡ word_at words site → KeysDoes s master a b status → Deploys deployment words a b status
   keys-does site master s deployment is first does =

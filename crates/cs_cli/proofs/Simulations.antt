@@ -6,10 +6,10 @@ use Rattle.std.proofs.lemmas.Bool.Decides.{nat_tests}
 use Rattle.cs_command.specs.Numbers.{short_number}
 use Rattle.cs_gen.specs.declared.limits.TheConstants.{MOST_SIZE}
 use Rattle.cs_cli.specs.Numbers.{size_in, both, simulated}
-use Rattle.cs_cli.specs.Deployed.{deployed}
+use Rattle.cs_cli.specs.Deployed.{reads_master, deployed}
 use Rattle.cs_cli.specs.Words.{plain_mode, mode_from, flagged, plain, command_of}
 use Rattle.cs_cli.specs.declared.words.Command.{Command}
-use Rattle.cs_cli.specs.declared.words.Command.TheVariants.{Replay, Contract, Verify, Audit, Simulate, Deploy}
+use Rattle.cs_cli.specs.declared.words.Command.TheVariants.{Replay, Contract, Verify, Audit, Simulate, ReadKeys, Deploy}
 
 -- ---- its size is within the limit
 
@@ -49,6 +49,9 @@ Small number size command = command ≡ Some (Simulate number size) → size ≤
 none-small : (number size : ℕ) → Small number size None
 none-small number size is = absurd (let q : None ≡ Some (Simulate number size) = is in cc)
 
+keys-small : (number size : ℕ) → Small number size (Some (ReadKeys 1))
+keys-small number size is = absurd (let q : Some (ReadKeys 1) ≡ Some (Simulate number size) = is in cc)
+
 either-small : (number size : ℕ) (b : Bool) (x y : Option Command) → Small number size x → Small number size y → Small number size (cond b x y)
 either-small number size true x y here there = here
 either-small number size false x y here there = there
@@ -80,4 +83,5 @@ command-small (word ∷ options) number size =
     (either-small number size (bytes_eq word (codes "verify")) _ _ (no-plain Verify options number size (λ q. cc))
     (either-small number size (bytes_eq word (codes "audit")) _ _ (no-plain Audit options number size (λ q. cc))
     (either-small number size (bytes_eq word (codes "simulate")) _ _ (said-small (simulated options) number size (simulated-small options))
-    (other-small number size Deploy (λ deployment q. cc) (deployed word options))))))
+    (either-small number size (bytes_eq word (codes "keys") && reads_master options) _ _ (keys-small number size)
+    (other-small number size Deploy (λ deployment q. cc) (deployed word options)))))))

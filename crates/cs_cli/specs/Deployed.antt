@@ -1,9 +1,10 @@
--- The words of the commands of a deployment. Where `--turns N` stands among the files is free.
-use Rattle.std.specs.Prelude.{ℕ, Bool, false, not, ◌&&◌, ◌==◌, List, [], ◌∷◌, codes, slice_index_or, Option, Some, None, option_map, if◌then◌else◌}
-use Rattle.std.specs.Result.{result_ok}
+-- The words of the commands of a deployment. Where `--turns N` or `--ticks N` stands among the files is free.
+use Rattle.std.specs.Prelude.{ℕ, Bool, false, not, ◌&&◌, ◌||◌, ◌==◌, List, [], ◌∷◌, codes, slice_index_or, Option, Some, None, option_map, if◌then◌else◌}
 use Rattle.std.specs.Str.{bytes_eq}
-use Rattle.hex.specs.Hex.{decode_sized}
 use Rattle.cs_command.specs.Numbers.{short_number}
+use Rattle.cs_deploy_keys.specs.Master.{master_in}
+use Rattle.cs_outer.specs.declared.until.Until.{Until}
+use Rattle.cs_outer.specs.declared.until.Until.TheVariants.{Turns, Ticks}
 use Rattle.cs_cli.specs.declared.deployments.Deployment.{Deployment}
 use Rattle.cs_cli.specs.declared.deployments.Deployment.TheVariants.{Node, Client, Keys, Cluster}
 
@@ -16,50 +17,61 @@ abbrev pub is_file : List ℕ → Bool
 is_file [] = false
 is_file (code ∷ more) = not (code == 45)
 
-abbrev pub is_turns : List ℕ → Bool
-is_turns word = bytes_eq word (codes "--turns")
-
 abbrev pub are_files : List ℕ → List ℕ → Bool
 are_files a b = is_file a && is_file b
 
--- ---- `node FILE FILE --turns N`
+-- ---- `--turns N`, `--ticks N`
 
--- the places of the site and the keys, and the number of turns
-abbrev pub node_at : ℕ → ℕ → List ℕ → Option Deployment
-node_at site keys turns = option_map (Node site keys) (short_number turns)
+-- a word that says, with the number behind it, how long a node or a client runs
+abbrev pub is_limit : List ℕ → Bool
+is_limit word = bytes_eq word (codes "--turns") || bytes_eq word (codes "--ticks")
+
+-- how long that is
+abbrev pub until_in : List ℕ → List ℕ → Option Until
+until_in word number =
+    if bytes_eq word (codes "--turns") then option_map Turns (short_number number)
+    else if bytes_eq word (codes "--ticks") then option_map Ticks (short_number number)
+    else None
+
+-- ---- `node FILE FILE`, with one of them once
+
+-- the places of the site and the keys, and how long it runs
+abbrev pub node_at : ℕ → ℕ → List ℕ → List ℕ → Option Deployment
+node_at site keys limit number = option_map (Node site keys) (until_in limit number)
 
 abbrev pub node_called : List (List ℕ) → Option Deployment
 node_called (a ∷ b ∷ c ∷ d ∷ []) =
-    if is_turns c && are_files a b then node_at 1 2 d
-    else if is_turns b && are_files a d then node_at 1 4 c
-    else if is_turns a && are_files c d then node_at 3 4 b
+    if is_limit c && are_files a b then node_at 1 2 c d
+    else if is_limit b && are_files a d then node_at 1 4 b c
+    else if is_limit a && are_files c d then node_at 3 4 a b
     else None
 node_called _ = None
 
--- ---- `client FILE FILE FILE --turns N`
+-- ---- `client FILE FILE FILE`, with one of them once
 
--- the places of the site, the keys and the call, and the number of turns
-abbrev pub client_at : ℕ → ℕ → ℕ → List ℕ → Option Deployment
-client_at site keys call turns = option_map (Client site keys call) (short_number turns)
+-- the places of the site, the keys and the call, and how long it runs
+abbrev pub client_at : ℕ → ℕ → ℕ → List ℕ → List ℕ → Option Deployment
+client_at site keys call limit number = option_map (Client site keys call) (until_in limit number)
 
 abbrev pub client_called : List (List ℕ) → Option Deployment
 client_called (a ∷ b ∷ c ∷ d ∷ e ∷ []) =
-    if (is_turns d && are_files a b) && is_file c then client_at 1 2 3 e
-    else if (is_turns c && are_files a b) && is_file e then client_at 1 2 5 d
-    else if (is_turns b && are_files a d) && is_file e then client_at 1 4 5 c
-    else if (is_turns a && are_files c d) && is_file e then client_at 3 4 5 b
+    if (is_limit d && are_files a b) && is_file c then client_at 1 2 3 d e
+    else if (is_limit c && are_files a b) && is_file e then client_at 1 2 5 c d
+    else if (is_limit b && are_files a d) && is_file e then client_at 1 4 5 b c
+    else if (is_limit a && are_files c d) && is_file e then client_at 3 4 5 a b
     else None
 client_called _ = None
 
--- ---- `keys FILE HEX`, `cluster FILE`
-
--- a key of 64 hex digits, of either case
-abbrev pub master_in : List ℕ → Option (List ℕ)
-master_in word = result_ok (decode_sized word 32)
+-- ---- `keys FILE HEX`, `keys FILE -`, `cluster FILE`
 
 abbrev pub keys_called : List (List ℕ) → Option Deployment
 keys_called (a ∷ b ∷ []) = if is_file a then option_map (Keys 1) (master_in b) else None
 keys_called _ = None
+
+-- the master key is what the source says
+abbrev pub reads_master : List (List ℕ) → Bool
+reads_master (a ∷ b ∷ []) = is_file a && bytes_eq b (codes "-")
+reads_master _ = false
 
 abbrev pub cluster_called : List (List ℕ) → Option Deployment
 cluster_called (a ∷ []) = if is_file a then Some (Cluster 1) else None

@@ -2,12 +2,13 @@
 use Rattle.std.specs.Prelude.{ℕ, Bool, true, false, not, ◌&&◌, List, [], ◌∷◌, Option, Some, None, codes, if◌then◌else◌, map, option_map, String, string_bytes}
 use Rattle.std.specs.declared.alloc.Global.{Global}
 use Rattle.std.specs.Str.{bytes_eq}
+use Rattle.cs_outer.specs.declared.until.Until.{Until}
 use Rattle.cs_replay.specs.declared.schedule.Mode.{Mode}
 use Rattle.cs_cli.specs.declared.words.Command.{Command}
-use Rattle.cs_cli.specs.declared.words.Command.TheVariants.{Replay, Contract, Verify, Audit, Simulate, Deploy}
+use Rattle.cs_cli.specs.declared.words.Command.TheVariants.{Replay, Contract, Verify, Audit, Simulate, ReadKeys, Deploy}
 use Rattle.cs_cli.specs.declared.deployments.Deployment.TheVariants as deployment
 use Rattle.cs_cli.specs.Numbers.{simulated}
-use Rattle.cs_cli.specs.Deployed.{deployed}
+use Rattle.cs_cli.specs.Deployed.{reads_master, deployed}
 
 -- what the words say, each as its bytes
 abbrev pub texts_of : List (String Global) → List (List ℕ)
@@ -47,11 +48,11 @@ plain command [] = Some command
 plain command (option ∷ options) = None
 
 -- the commands of a deployment
-abbrev pub Node : ℕ → ℕ → ℕ → Command
-Node site keys turns = Deploy (deployment.Node site keys turns)
+abbrev pub Node : ℕ → ℕ → Until → Command
+Node site keys until = Deploy (deployment.Node site keys until)
 
-abbrev pub Client : ℕ → ℕ → ℕ → ℕ → Command
-Client site keys call turns = Deploy (deployment.Client site keys call turns)
+abbrev pub Client : ℕ → ℕ → ℕ → Until → Command
+Client site keys call until = Deploy (deployment.Client site keys call until)
 
 abbrev pub Keys : ℕ → List ℕ → Command
 Keys site master = Deploy (deployment.Keys site master)
@@ -67,6 +68,7 @@ called word options =
     else if bytes_eq word (codes "verify") then plain Verify options
     else if bytes_eq word (codes "audit") then plain Audit options
     else if bytes_eq word (codes "simulate") then option_map (λ said. Simulate said.0 said.1) (simulated options)
+    else if bytes_eq word (codes "keys") && reads_master options then Some (ReadKeys 1)
     else option_map Deploy (deployed word options)
 
 -- the command that the words call for, or none where they are outside the grammar

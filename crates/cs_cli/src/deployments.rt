@@ -1,28 +1,29 @@
-//! The words of the commands of a deployment: files, by their places, a number of turns, a key.
+//! The words of the commands of a deployment: files, by their places, how long it runs, a key.
 ghost use Rattle.std.specs.Prelude.{◌≡◌, ◌∷◌, []};
 ghost use Rattle.cs_cli.specs.Words.{texts_of};
-ghost use Rattle.cs_cli.specs.Deployed.{word_at, is_file, are_files, is_turns, node_at, node_called, client_at, client_called, master_in, keys_called, cluster_called, deployed};
+ghost use Rattle.cs_cli.specs.Deployed.{word_at, is_file, are_files, is_limit, until_in, node_at, node_called, client_at, client_called, keys_called, reads_master, cluster_called, deployed};
 
 use cs_command::read_short_number;
+use cs_deploy_keys::master_in;
+use cs_outer::Until;
 use cs_tx_value::Digest;
-use hex::FromHex;
 
 /// A command of a deployment. Its files stand at these places among the words.
 #[derive(Clone, Copy, Debug, PartialEq, Eq)]
 pub enum Deployment {
-    /// Runs the node of a site file and a key file for so many turns, and prints its lines.
+    /// Runs the node of a site file and a key file for so long, and prints its lines.
     Node {
         site: usize,
         keys: usize,
-        turns: u64,
+        until: Until,
     },
-    /// Runs the client of a site file, a key file and a call file for so many turns at most, and
-    /// prints what has become of its call.
+    /// Runs the client of a site file, a key file and a call file for so long at most, and prints
+    /// what has become of its call.
     Client {
         site: usize,
         keys: usize,
         call: usize,
-        turns: u64,
+        until: Until,
     },
     /// Saves the key files that a master key gives the nodes and clients of a site file.
     Keys {
@@ -61,17 +62,35 @@ fn are_files(a: &str, b: &str) -> bool
     is_file(a) && is_file(b)
 }
 
-fn is_turns(word: &str) -> bool
-    ensures { result ≡ is_turns word.now }
+// Whether a word says, with the number behind it, how long a node or a client runs.
+fn is_limit(word: &str) -> bool
+    ensures { result ≡ is_limit word.now }
 {
-    word == "--turns"
+    word == "--turns" || word == "--ticks"
 }
 
-fn node_at(site: usize, keys: usize, turns: &str) -> Option<Deployment>
-    ensures { result ≡ node_at site keys turns.now }
+// How long that is.
+fn until_in(word: &str, number: &str) -> Option<Until>
+    ensures { result ≡ until_in word.now number.now }
 {
-    let turns = read_short_number(turns)?;
-    Some(Deployment::Node { site, keys, turns })
+    match word {
+        "--turns" => {
+            let most = read_short_number(number)?;
+            Some(Until::Turns(most))
+        }
+        "--ticks" => {
+            let most = read_short_number(number)?;
+            Some(Until::Ticks(most))
+        }
+        _ => None,
+    }
+}
+
+fn node_at(site: usize, keys: usize, limit: &str, number: &str) -> Option<Deployment>
+    ensures { result ≡ node_at site keys limit.now number.now }
+{
+    let until = until_in(limit, number)?;
+    Some(Deployment::Node { site, keys, until })
 }
 
 // The words behind `node`.
@@ -98,26 +117,26 @@ fn read_node(options: &[String]) -> Option<Deployment>
 fn node_among(a: &str, b: &str, c: &str, d: &str) -> Option<Deployment>
     ensures { result ≡ node_called (a.now ∷ b.now ∷ c.now ∷ d.now ∷ []) }
 {
-    if is_turns(c) && are_files(a, b) {
-        node_at(1, 2, d)
-    } else if is_turns(b) && are_files(a, d) {
-        node_at(1, 4, c)
-    } else if is_turns(a) && are_files(c, d) {
-        node_at(3, 4, b)
+    if is_limit(c) && are_files(a, b) {
+        node_at(1, 2, c, d)
+    } else if is_limit(b) && are_files(a, d) {
+        node_at(1, 4, b, c)
+    } else if is_limit(a) && are_files(c, d) {
+        node_at(3, 4, a, b)
     } else {
         None
     }
 }
 
-fn client_at(site: usize, keys: usize, call: usize, turns: &str) -> Option<Deployment>
-    ensures { result ≡ client_at site keys call turns.now }
+fn client_at(site: usize, keys: usize, call: usize, limit: &str, number: &str) -> Option<Deployment>
+    ensures { result ≡ client_at site keys call limit.now number.now }
 {
-    let turns = read_short_number(turns)?;
+    let until = until_in(limit, number)?;
     Some(Deployment::Client {
         site,
         keys,
         call,
-        turns,
+        until,
     })
 }
 
@@ -147,24 +166,17 @@ fn read_client(options: &[String]) -> Option<Deployment>
 fn client_among(a: &str, b: &str, c: &str, d: &str, e: &str) -> Option<Deployment>
     ensures { result ≡ client_called (a.now ∷ b.now ∷ c.now ∷ d.now ∷ e.now ∷ []) }
 {
-    if is_turns(d) && are_files(a, b) && is_file(c) {
-        client_at(1, 2, 3, e)
-    } else if is_turns(c) && are_files(a, b) && is_file(e) {
-        client_at(1, 2, 5, d)
-    } else if is_turns(b) && are_files(a, d) && is_file(e) {
-        client_at(1, 4, 5, c)
-    } else if is_turns(a) && are_files(c, d) && is_file(e) {
-        client_at(3, 4, 5, b)
+    if is_limit(d) && are_files(a, b) && is_file(c) {
+        client_at(1, 2, 3, d, e)
+    } else if is_limit(c) && are_files(a, b) && is_file(e) {
+        client_at(1, 2, 5, c, d)
+    } else if is_limit(b) && are_files(a, d) && is_file(e) {
+        client_at(1, 4, 5, b, c)
+    } else if is_limit(a) && are_files(c, d) && is_file(e) {
+        client_at(3, 4, 5, a, b)
     } else {
         None
     }
-}
-
-// The key of which the word is the hex.
-fn master_in(word: &str) -> Option<Digest>
-    ensures { result ≡ master_in word.now }
-{
-    <[u8; 32] as FromHex>::from_hex(word).ok()
 }
 
 // The words behind `keys`.
@@ -176,8 +188,21 @@ fn read_keys(options: &[String]) -> Option<Deployment>
     if !others.is_empty() || !is_file(site.as_str()) {
         return None;
     }
-    let master = master_in(master.as_str())?;
+    let master = master_in(master.as_bytes())?;
     Some(Deployment::Keys { site: 1, master })
+}
+
+/// Whether the words behind `keys` say that the input has the master key.
+pub(crate) fn reads_master(options: &[String]) -> bool
+    ensures { result ≡ reads_master (texts_of options.now) }
+{
+    let Some((site, behind)) = options.split_first() else {
+        return false;
+    };
+    let Some((master, others)) = behind.split_first() else {
+        return false;
+    };
+    others.is_empty() && is_file(site.as_str()) && master.as_str() == "-"
 }
 
 // The words behind `cluster`.

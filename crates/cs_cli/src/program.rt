@@ -29,16 +29,18 @@ ghost use Rattle.cs_config_keys.specs.File.{keys_of};
 ghost use Rattle.cs_node.specs.Speaking.{Speaks};
 ghost use Rattle.cs_deploy.specs.Speaking.{net_of_keys};
 ghost use Rattle.cs_outer.specs.Told.{Stays};
+ghost use Rattle.cs_outer.specs.declared.until.Until.{Until};
 ghost use Rattle.cs_spawn.specs.Running.{outer};
 ghost use Rattle.cs_deploy_keys.specs.Keys.{KeysRuns};
+ghost use Rattle.cs_deploy_keys.specs.ReadKeys.{told, ReadKeysRuns};
 ghost use Rattle.cs_deploy_keys.specs.Cluster.{ClusterRuns};
 ghost use Rattle.cs_deploy.specs.Outside.{outside};
 ghost use Rattle.cs_deploy.specs.Node.{NodeRuns};
 ghost use Rattle.cs_deploy.specs.Client.{ClientRuns};
 ghost use Rattle.cs_cli.specs.Answers.{Tells, TellsWhole, words_answer};
 ghost use Rattle.cs_cli.specs.Deployed.{word_at};
-ghost use Rattle.cs_cli.specs.Done.{NodeDecided, ClientDecided, KeysDecided, ClusterDecided, around, all_around, Deploys, Does};
-ghost use Rattle.cs_cli.specs.declared.words.Command.TheVariants.{Replay, Contract, Verify, Audit, Simulate};
+ghost use Rattle.cs_cli.specs.Done.{NodeDecided, ClientDecided, KeysDecided, ReadKeysDecided, ClusterDecided, around, all_around, Deploys, Does};
+ghost use Rattle.cs_cli.specs.declared.words.Command.TheVariants.{Replay, Contract, Verify, Audit, Simulate, ReadKeys};
 
 use crate::auditing::audited_dumps_are_sound;
 use crate::claims::shown_claims_are_covered;
@@ -49,7 +51,7 @@ use crate::words::{Command, read_words};
 use cs_base::{Sink, Source, print};
 use cs_command::closing;
 use cs_deploy::{keys_of_files_speak, run_client, run_node};
-use cs_deploy_keys::{run_cluster, run_keys};
+use cs_deploy_keys::{run_cluster, run_keys, run_keys_read};
 use cs_dump_law::dumps_are_answered_yes;
 use cs_outer::{Link, Spawner, Store};
 use cs_replay::{replay_source, schedules_are_sound};
@@ -158,20 +160,20 @@ pub fn run<S: Source, K: Sink, E: Store, L: Link, P: Spawner>(
     ensures simulate_ends { (number size : ℕ) → IsEnded (simulate_answer number size) }
 
     // `node` runs the node of its files, whose lines are printed.
-    ensures node { (site keys turns : ℕ)
-        → command_of (texts_of words.now) ≡ Some (Node site keys turns)
-        → NodeRuns (word_at (texts_of words.now) site) (word_at (texts_of words.now) keys) turns
+    ensures node { (site keys : ℕ) (until : Until)
+        → command_of (texts_of words.now) ≡ Some (Node site keys until)
+        → NodeRuns (word_at (texts_of words.now) site) (word_at (texts_of words.now) keys) until
         (Rose (E.faults store.old) (E.faults store.new))
         (Rose (L.faults link.old) (L.faults link.new)) (E.files store.old)
         (outside (L.bound link.old) (L.left link.old) (L.offered link.old) (L.missed link.old)
         (K.written output.old))
         (outside (L.bound link.new) (L.left link.new) (L.offered link.new) (L.missed link.new)
         (K.written output.new)) result }
-    ensures node_kept { (site keys turns : ℕ)
-        → command_of (texts_of words.now) ≡ Some (Node site keys turns)
+    ensures node_kept { (site keys : ℕ) (until : Until)
+        → command_of (texts_of words.now) ≡ Some (Node site keys until)
         → Stays (E.files store.old) (E.files store.new) }
-    ensures node_whole { (site keys turns : ℕ)
-        → command_of (texts_of words.now) ≡ Some (Node site keys turns)
+    ensures node_whole { (site keys : ℕ) (until : Until)
+        → command_of (texts_of words.now) ≡ Some (Node site keys until)
         → (Rose (E.faults store.old) (E.faults store.new) → ⊥)
         → (Rose (L.faults link.old) (L.faults link.new) → ⊥)
         → (Rose (K.faults output.old) (K.faults output.new) → ⊥)
@@ -182,21 +184,21 @@ pub fn run<S: Source, K: Sink, E: Store, L: Link, P: Spawner>(
         → keys_of config text ≡ Ok keys → Speaks config (net_of_keys keys) keys }
 
     // `client` runs the client of its files, until it knows what has become of its call.
-    ensures client { (site keys call turns : ℕ)
-        → command_of (texts_of words.now) ≡ Some (Client site keys call turns)
+    ensures client { (site keys call : ℕ) (until : Until)
+        → command_of (texts_of words.now) ≡ Some (Client site keys call until)
         → ClientRuns (word_at (texts_of words.now) site) (word_at (texts_of words.now) keys)
-        (word_at (texts_of words.now) call) turns
+        (word_at (texts_of words.now) call) until
         (Rose (E.faults store.old) (E.faults store.new))
         (Rose (L.faults link.old) (L.faults link.new)) (E.files store.old)
         (outside (L.bound link.old) (L.left link.old) (L.offered link.old) (L.missed link.old)
         (K.written output.old))
         (outside (L.bound link.new) (L.left link.new) (L.offered link.new) (L.missed link.new)
         (K.written output.new)) result }
-    ensures client_kept { (site keys call turns : ℕ)
-        → command_of (texts_of words.now) ≡ Some (Client site keys call turns)
+    ensures client_kept { (site keys call : ℕ) (until : Until)
+        → command_of (texts_of words.now) ≡ Some (Client site keys call until)
         → Stays (E.files store.old) (E.files store.new) }
-    ensures client_whole { (site keys call turns : ℕ)
-        → command_of (texts_of words.now) ≡ Some (Client site keys call turns)
+    ensures client_whole { (site keys call : ℕ) (until : Until)
+        → command_of (texts_of words.now) ≡ Some (Client site keys call until)
         → (Rose (E.faults store.old) (E.faults store.new) → ⊥)
         → (Rose (L.faults link.old) (L.faults link.new) → ⊥)
         → (Rose (K.faults output.old) (K.faults output.new) → ⊥)
@@ -215,15 +217,29 @@ pub fn run<S: Source, K: Sink, E: Store, L: Link, P: Spawner>(
         → (Rose (K.faults output.old) (K.faults output.new) → ⊥)
         → KeysDecided (word_at (texts_of words.now) site) (E.files store.old) result }
 
+    // Where the words have `-` in its place, the master key is what the text of the source says.
+    ensures keys_read { (site : ℕ) → command_of (texts_of words.now) ≡ Some (ReadKeys site)
+        → ReadKeysRuns (word_at (texts_of words.now) site)
+        (Rose (E.faults store.old) (E.faults store.new))
+        (Rose (S.faults input.old) (S.faults input.new))
+        (told (S.left input.old) (E.files store.old) (K.written output.old))
+        (told (S.left input.new) (E.files store.new) (K.written output.new)) result }
+    ensures keys_read_whole { (site : ℕ) → command_of (texts_of words.now) ≡ Some (ReadKeys site)
+        → (Rose (E.faults store.old) (E.faults store.new) → ⊥)
+        → (Rose (S.faults input.old) (S.faults input.new) → ⊥)
+        → (Rose (K.faults output.old) (K.faults output.new) → ⊥)
+        → ReadKeysDecided (word_at (texts_of words.now) site) (S.left input.old)
+        (E.files store.old) result }
+
     // `cluster` saves them too, and then runs the nodes of its plan and its calls.
     ensures cluster { (plan : ℕ) → command_of (texts_of words.now) ≡ Some (Cluster plan)
         → ClusterRuns (word_at (texts_of words.now) plan)
         (Rose (E.faults store.old) (E.faults store.new))
         (Rose (P.faults spawn.old) (P.faults spawn.new)) (E.files store.old) (E.files store.new)
         (outer (P.started spawn.old) (P.children spawn.old) (P.statuses spawn.old)
-        (K.written output.old))
+        (P.ended spawn.old) (K.written output.old))
         (outer (P.started spawn.new) (P.children spawn.new) (P.statuses spawn.new)
-        (K.written output.new)) result }
+        (P.ended spawn.new) (K.written output.new)) result }
     ensures cluster_whole { (plan : ℕ) → command_of (texts_of words.now) ≡ Some (Cluster plan)
         → (Rose (E.faults store.old) (E.faults store.new) → ⊥)
         → (Rose (P.faults spawn.old) (P.faults spawn.new) → ⊥)
@@ -267,7 +283,7 @@ fn answer<S: Source, K: Sink, E: Store, L: Link, P: Spawner>(
 ) -> u8
     requires { (number size : ℕ) → command ≡ Simulate number size → size ≤ MOST_SIZE }
     ensures does { let told = around K.written K.faults E.files E.faults L.bound L.left L.offered
-        L.missed L.faults P.started P.children P.statuses P.faults in
+        L.missed L.faults P.started P.children P.statuses P.ended P.faults in
         Does command (texts_of words.now)
         (all_around (S.left input.old) (S.faults input.old)
         (told output.old store.old link.old spawn.old))
@@ -283,6 +299,9 @@ fn answer<S: Source, K: Sink, E: Store, L: Link, P: Spawner>(
         Command::Verify => examine_source(alloc, Subject::Claim, input, output),
         Command::Audit => examine_source(alloc, Subject::Dump, input, output),
         Command::Simulate { number, size } => simulate(alloc, number, size, output),
+        Command::ReadKeys { site } => {
+            run_keys_read(alloc, word_at(words, site), input, store, output)
+        }
         Command::Deploy(deployment) => deploy(alloc, words, deployment, output, store, link, spawn),
     }
 }
@@ -298,7 +317,7 @@ fn deploy<K: Sink, E: Store, L: Link, P: Spawner>(
     spawn: &mut P,
 ) -> u8
     ensures deploys { let told = around K.written K.faults E.files E.faults L.bound L.left L.offered
-        L.missed L.faults P.started P.children P.statuses P.faults in
+        L.missed L.faults P.started P.children P.statuses P.ended P.faults in
         Deploys deployment (texts_of words.now)
         (told output.old store.old link.old spawn.old)
         (told output.new store.new link.new spawn.new) result }
@@ -306,21 +325,21 @@ fn deploy<K: Sink, E: Store, L: Link, P: Spawner>(
     ensures write_fault { HasCause (K.faults output.old) (K.faults output.new) (result ≡ 6) }
 {
     match deployment {
-        Deployment::Node { site, keys, turns } => {
+        Deployment::Node { site, keys, until } => {
             let site = word_at(words, site);
             let keys = word_at(words, keys);
-            run_node(alloc, site, keys, turns, store, link, output)
+            run_node(alloc, site, keys, until, store, link, output)
         }
         Deployment::Client {
             site,
             keys,
             call,
-            turns,
+            until,
         } => {
             let site = word_at(words, site);
             let keys = word_at(words, keys);
             let call = word_at(words, call);
-            run_client(alloc, site, keys, call, turns, store, link, output)
+            run_client(alloc, site, keys, call, until, store, link, output)
         }
         Deployment::Keys { site, master } => {
             run_keys(alloc, word_at(words, site), &master, store, output)

@@ -5,7 +5,7 @@ ghost use Rattle.std.specs.declared.io.ErrorKind.TheVariants.{InvalidData};
 ghost use Rattle.cs_cli.specs.Words.{called, command_of, flagged, plain, plain_mode, mode_from, with_option, texts_of};
 ghost use Rattle.cs_cli.specs.declared.words.WordsError.TheVariants.{NotText, Memory};
 
-use crate::deployments::{Deployment, read_deployment};
+use crate::deployments::{Deployment, read_deployment, reads_master};
 use crate::numbers::read_simulation;
 use cs_replay::Mode;
 use std::alloc::{AllocFailed, Global};
@@ -27,6 +27,9 @@ pub enum Command {
     Audit,
     /// Plays the schedule of a number and a size, and prints the numbers of what was played.
     Simulate { number: u64, size: u32 },
+    /// Reads a master key from the input, and saves the key files that it gives the nodes and clients
+    /// of the site file at this place among the words.
+    ReadKeys { site: usize },
     /// Runs a node or a client, or saves key files, as the files among the words say.
     Deploy(Deployment),
 }
@@ -107,6 +110,7 @@ fn read_command(word: &str, options: &[String]) -> Option<Command>
             let (number, size) = read_simulation(options)?;
             Some(Command::Simulate { number, size })
         }
+        "keys" if reads_master(options) => Some(Command::ReadKeys { site: 1 }),
         _ => {
             let deployment = read_deployment(word, options)?;
             Some(Command::Deploy(deployment))

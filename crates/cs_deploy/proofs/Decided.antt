@@ -2,6 +2,7 @@
 use Rattle.std.specs.Prelude.{◌≡◌, ◌≢◌, ℕ, List, Option, Some, None, Ok}
 use Rattle.std.proofs.Common.{refl, sym, inl, inr, ◌∙◌}
 use Rattle.cs_outer.specs.Store.{Files}
+use Rattle.cs_outer.specs.declared.until.Until.{Until}
 use Rattle.cs_config.specs.declared.call.CallFile.{CallFile}
 use Rattle.cs_serve.specs.declared.ending.End.{End}
 use Rattle.cs_serve.specs.declared.ending.End.TheVariants as end
@@ -38,26 +39,26 @@ module _ {A : Type 0} (Come : Files → Taken A → Type 0) (Goes : A → Outsid
 
 -- ---- `node`
 
-module _ (setup : Setup) (turns : ℕ) (Failed : Type 0) (old new : Outside) (status : ℕ) where
-  pub node-done : NodeGoes setup turns Failed old new status → (Failed → ⊥) → status ≢ 6 → status ≢ 8 → status ≡ 0
+module _ (setup : Setup) (until : Until) (Failed : Type 0) (old new : Outside) (status : ℕ) where
+  pub node-done : NodeGoes setup until Failed old new status → (Failed → ⊥) → status ≢ 6 → status ≢ 8 → status ≡ 0
   node-done (inl is) links writes other = absurd (other is.silent.0)
   node-done (inr (inl is)) links writes other = absurd (links is.failed)
   node-done (inr (inr is)) links writes other = by is.end is.failed is.told
     where
       by : (e : End) → (e ≡ end.LinkFault → Failed) → TellsEnd e is.written new.written status → status ≡ 0
-      by end.Turns failed tells = tells.0
+      by end.Done failed tells = tells.0
       by end.Ended failed tells = tells.0
       by end.LinkFault failed tells = absurd (links (failed refl))
       by end.WriteFault failed tells = absurd (writes tells.0)
       by end.Memory failed tells = absurd (other tells.0)
 
-  pub node-other : (n : ℕ) → NodeGoes setup turns Failed old new status → 0 ≢ n → 7 ≢ n → 6 ≢ n → 8 ≢ n → status ≢ n
+  pub node-other : (n : ℕ) → NodeGoes setup until Failed old new status → 0 ≢ n → 7 ≢ n → 6 ≢ n → 8 ≢ n → status ≢ n
   node-other n (inl is) zero seven six eight = λ p. eight (sym is.silent.0 ∙ p)
   node-other n (inr (inl is)) zero seven six eight = answers-other link_answer old.written new.written status n is.told seven six eight
   node-other n (inr (inr is)) zero seven six eight = by is.end is.told
     where
       by : (e : End) → TellsEnd e is.written new.written status → status ≢ n
-      by end.Turns tells = λ p. zero (sym tells.0 ∙ p)
+      by end.Done tells = λ p. zero (sym tells.0 ∙ p)
       by end.Ended tells = λ p. zero (sym tells.0 ∙ p)
       by end.LinkFault tells = answers-other link_answer is.written new.written status n tells seven six eight
       by end.WriteFault tells = λ p. six (sym tells.0 ∙ p)
@@ -75,8 +76,8 @@ known-other known.Open n zero ten = ten
 known-other (known.Accepted digest) n zero ten = zero
 known-other (known.Aborted digest) n zero ten = zero
 
-module _ (setup : Setup) (call : CallFile) (turns : ℕ) (Failed : Type 0) (old new : Outside) (status : ℕ) where
-  pub client-done : ClientGoes setup call turns Failed old new status → (Failed → ⊥) → status ≢ 6 → status ≢ 8 → IsToldOf status
+module _ (setup : Setup) (call : CallFile) (until : Until) (Failed : Type 0) (old new : Outside) (status : ℕ) where
+  pub client-done : ClientGoes setup call until Failed old new status → (Failed → ⊥) → status ≢ 6 → status ≢ 8 → IsToldOf status
   client-done (inl is) links writes other = absurd (other is.silent.0)
   client-done (inr (inl is)) links writes other = absurd (links is.failed)
   client-done (inr (inr is)) links writes other = by is.ending is.failed is.told
@@ -87,7 +88,7 @@ module _ (setup : Setup) (call : CallFile) (turns : ℕ) (Failed : Type 0) (old 
       by ending.LinkFault failed tells = absurd (links (failed refl))
       by ending.Memory failed tells = absurd (other tells.0)
 
-  pub client-other : (n : ℕ) → ClientGoes setup call turns Failed old new status → 0 ≢ n → 10 ≢ n → 3 ≢ n → 7 ≢ n → 6 ≢ n → 8 ≢ n → status ≢ n
+  pub client-other : (n : ℕ) → ClientGoes setup call until Failed old new status → 0 ≢ n → 10 ≢ n → 3 ≢ n → 7 ≢ n → 6 ≢ n → 8 ≢ n → status ≢ n
   client-other n (inl is) zero ten three seven six eight = λ p. eight (sym is.silent.0 ∙ p)
   client-other n (inr (inl is)) zero ten three seven six eight = answers-other link_answer old.written new.written status n is.told seven six eight
   client-other n (inr (inr is)) zero ten three seven six eight = by is.ending is.told
@@ -100,24 +101,24 @@ module _ (setup : Setup) (call : CallFile) (turns : ℕ) (Failed : Type 0) (old 
 
 -- ---- both commands
 
-module _ (site keys : List ℕ) (turns : ℕ) (Failed Linked : Type 0) (files : Option Files) (old new : Outside) (status : ℕ) where
-  pub node-runs-decided : NodeRuns site keys turns Failed Linked files old new status → (Failed → ⊥) → (Linked → ⊥) → status ≢ 6 → IsDecided (Comes (setup_taken Node site keys)) (λ s. s ≡ 0) files status
+module _ (site keys : List ℕ) (until : Until) (Failed Linked : Type 0) (files : Option Files) (old new : Outside) (status : ℕ) where
+  pub node-runs-decided : NodeRuns site keys until Failed Linked files old new status → (Failed → ⊥) → (Linked → ⊥) → status ≢ 6 → IsDecided (Comes (setup_taken Node site keys)) (λ s. s ≡ 0) files status
   node-runs-decided runs stores links writes =
-      runs-decided (Comes (setup_taken Node site keys)) (λ setup. NodeGoes setup turns Linked) Failed files old new status (λ s. s ≡ 0) runs stores writes
-      (λ setup goes other. node-done setup turns Linked old new status goes links writes other)
+      runs-decided (Comes (setup_taken Node site keys)) (λ setup. NodeGoes setup until Linked) Failed files old new status (λ s. s ≡ 0) runs stores writes
+      (λ setup goes other. node-done setup until Linked old new status goes links writes other)
 
-  pub node-runs-other : (n : ℕ) → NodeRuns site keys turns Failed Linked files old new status → 0 ≢ n → 7 ≢ n → 12 ≢ n → 6 ≢ n → 8 ≢ n → status ≢ n
+  pub node-runs-other : (n : ℕ) → NodeRuns site keys until Failed Linked files old new status → 0 ≢ n → 7 ≢ n → 12 ≢ n → 6 ≢ n → 8 ≢ n → status ≢ n
   node-runs-other n runs zero seven twelve six eight =
-      runs-other (Comes (setup_taken Node site keys)) (λ setup. NodeGoes setup turns Linked) Failed files old new status n runs twelve six eight
-      (λ setup goes. node-other setup turns Linked old new status n goes zero seven six eight)
+      runs-other (Comes (setup_taken Node site keys)) (λ setup. NodeGoes setup until Linked) Failed files old new status n runs twelve six eight
+      (λ setup goes. node-other setup until Linked old new status n goes zero seven six eight)
 
-module _ (site keys call : List ℕ) (turns : ℕ) (Failed Linked : Type 0) (files : Option Files) (old new : Outside) (status : ℕ) where
-  pub client-runs-decided : ClientRuns site keys call turns Failed Linked files old new status → (Failed → ⊥) → (Linked → ⊥) → status ≢ 6 → IsDecided (ClientComes site keys call) IsToldOf files status
+module _ (site keys call : List ℕ) (until : Until) (Failed Linked : Type 0) (files : Option Files) (old new : Outside) (status : ℕ) where
+  pub client-runs-decided : ClientRuns site keys call until Failed Linked files old new status → (Failed → ⊥) → (Linked → ⊥) → status ≢ 6 → IsDecided (ClientComes site keys call) IsToldOf files status
   client-runs-decided runs stores links writes =
-      runs-decided (ClientComes site keys call) (λ both. ClientGoes both.0 both.1 turns Linked) Failed files old new status IsToldOf runs stores writes
-      (λ both goes other. client-done both.0 both.1 turns Linked old new status goes links writes other)
+      runs-decided (ClientComes site keys call) (λ both. ClientGoes both.0 both.1 until Linked) Failed files old new status IsToldOf runs stores writes
+      (λ both goes other. client-done both.0 both.1 until Linked old new status goes links writes other)
 
-  pub client-runs-other : (n : ℕ) → ClientRuns site keys call turns Failed Linked files old new status → 0 ≢ n → 10 ≢ n → 3 ≢ n → 7 ≢ n → 12 ≢ n → 6 ≢ n → 8 ≢ n → status ≢ n
+  pub client-runs-other : (n : ℕ) → ClientRuns site keys call until Failed Linked files old new status → 0 ≢ n → 10 ≢ n → 3 ≢ n → 7 ≢ n → 12 ≢ n → 6 ≢ n → 8 ≢ n → status ≢ n
   client-runs-other n runs zero ten three seven twelve six eight =
-      runs-other (ClientComes site keys call) (λ both. ClientGoes both.0 both.1 turns Linked) Failed files old new status n runs twelve six eight
-      (λ both goes. client-other both.0 both.1 turns Linked old new status n goes zero ten three seven six eight)
+      runs-other (ClientComes site keys call) (λ both. ClientGoes both.0 both.1 until Linked) Failed files old new status n runs twelve six eight
+      (λ both goes. client-other both.0 both.1 until Linked old new status n goes zero ten three seven six eight)

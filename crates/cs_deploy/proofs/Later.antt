@@ -6,6 +6,7 @@ use Rattle.cs_node_rules.specs.Site.{Input as Given, Site, View}
 use Rattle.cs_outer.specs.Told.{Stays}
 use Rattle.cs_outer.specs.Link.{Offers}
 use Rattle.cs_outer.specs.declared.link.MemInput.{MemInput}
+use Rattle.cs_outer.specs.declared.until.Until.{Until}
 use Rattle.cs_serve.specs.declared.ending.End.{End}
 use Rattle.cs_serve.specs.declared.ending.End.TheVariants as end
 use Rattle.cs_serve.specs.Outer.{Outer, outer, given_of, Gives, GivesFront}
@@ -42,30 +43,36 @@ module _ (a b : Outer) (offered : Option Offers) (stays : Stays offered a.offere
     written = gives.written;
   }
 
-module _ {M : Type 0} (site : Site M) (v : View M) (turns : ℕ) (b : Outer) where
-  offered-later : (a : Outer) (offered : Option Offers) (ending : End) → Stays offered a.offered → ServesFrom site v turns a b ending → ServesFrom site v turns (before a offered) b ending
+module _ {M : Type 0} (site : Site M) (v : View M) (until : Until) (b : Outer) where
+  offered-later : (a : Outer) (offered : Option Offers) (ending : End) → Stays offered a.offered → ServesFrom site v until a b ending → ServesFrom site v until (before a offered) b ending
   offered-later a offered ending stays serves = record {
     inputs = serves.inputs;
-    few = serves.few;
-    takes = serves.takes;
-    ends = by ending serves.inputs serves.ends;
-    after = tt;
+    needed = serves.needed;
+    enough = serves.enough;
+    passes = record {
+      takes = serves.passes.takes;
+      ends = by ending serves.inputs serves.passes.ends;
+      after = tt;
+    };
   }
     where
-      by : (ending : End) (inputs : List Given) → Ends site v turns inputs a b ending → Ends site v turns inputs (before a offered) b ending
-      by end.Turns inputs (count, missed, gives) = (count, missed, gives-later a b offered stays _ _ gives)
+      by : (ending : End) (inputs : List Given) → Ends site v inputs a b ending → Ends site v inputs (before a offered) b ending
+      by end.Done inputs (missed, gives) = (missed, gives-later a b offered stays _ _ gives)
       by end.Ended inputs (left, gives) = (left, gives-later a b offered stays _ _ gives)
       by end.LinkFault inputs (missed, gives) = (missed, gives-later a b offered stays _ _ gives)
       by end.WriteFault inputs gives = part-later a b offered stays _ _ gives
       by end.Memory inputs gives = part-later a b offered stays _ _ gives
 
-  left-later : (a : Outer) (left : Option (List MemInput)) (ending : End) → Stays left a.left → ServesFrom site v turns a b ending → ServesFrom site v turns (record a { left = left }) b ending
+  left-later : (a : Outer) (left : Option (List MemInput)) (ending : End) → Stays left a.left → ServesFrom site v until a b ending → ServesFrom site v until (record a { left = left }) b ending
   left-later a left ending stays serves = record {
     inputs = serves.inputs;
-    few = serves.few;
-    takes = changes-after (Came serves.inputs) left a.left b.left stays serves.takes;
-    ends = by ending serves.inputs serves.ends;
-    after = tt;
+    needed = serves.needed;
+    enough = serves.enough;
+    passes = record {
+      takes = changes-after (Came serves.inputs) left a.left b.left stays serves.passes.takes;
+      ends = by ending serves.inputs serves.passes.ends;
+      after = tt;
+    };
   }
     where
       gives-so : (offers : Offers) (lines : Bytes) → Gives offers lines a b → Gives offers lines (record a { left = left }) b
@@ -74,8 +81,8 @@ module _ {M : Type 0} (site : Site M) (v : View M) (turns : ℕ) (b : Outer) whe
       part-so : (offers : Offers) (lines : Bytes) → GivesFront offers lines a b → GivesFront offers lines (record a { left = left }) b
       part-so offers lines gives = record { offered = gives.offered; written = gives.written }
 
-      by : (ending : End) (inputs : List Given) → Ends site v turns inputs a b ending → Ends site v turns inputs (record a { left = left }) b ending
-      by end.Turns inputs (count, missed, gives) = (count, missed, gives-so _ _ gives)
+      by : (ending : End) (inputs : List Given) → Ends site v inputs a b ending → Ends site v inputs (record a { left = left }) b ending
+      by end.Done inputs (missed, gives) = (missed, gives-so _ _ gives)
       by end.Ended inputs (none, gives) = (none, gives-so _ _ gives)
       by end.LinkFault inputs (missed, gives) = (missed, gives-so _ _ gives)
       by end.WriteFault inputs gives = part-so _ _ gives
@@ -83,21 +90,20 @@ module _ {M : Type 0} (site : Site M) (v : View M) (turns : ℕ) (b : Outer) whe
 
   -- a bind changed nothing of this
   pub serves-later : (left left' : Option (List MemInput)) (offered offered' : Option Offers) (missed missed' : ℕ) (written written' : Option Bytes) (ending : End) → Stays left left' → Stays offered offered' → missed' ≡ missed → written' ≡ written
-      → ServesFrom site v turns (outer left' offered' missed' written') b ending → ServesFrom site v turns (outer left offered missed written) b ending
+      → ServesFrom site v until (outer left' offered' missed' written') b ending → ServesFrom site v until (outer left offered missed written) b ending
   serves-later left left' offered offered' missed missed' written written' ending stays kept same unwritten serves =
       offered-later (outer left offered' missed written) offered ending kept
       (left-later (outer left' offered' missed written) left ending stays
-      (subst (λ (n : ℕ). ServesFrom site v turns (outer left' offered' n written) b ending) same
-      (subst (λ (w : Option Bytes). ServesFrom site v turns (outer left' offered' missed' w) b ending) unwritten serves)))
+      (subst (λ (n : ℕ). ServesFrom site v until (outer left' offered' n written) b ending) same
+      (subst (λ (w : Option Bytes). ServesFrom site v until (outer left' offered' missed' w) b ending) unwritten serves)))
 
 -- the node that is left isn't spoken of
-pub serves-alone : {C M : Type 0} (stands : C → View M → Type 0) (site : Site M) (v : View M) (turns : ℕ) (a b : Outer) (result : End × Option C) → Serves stands site v turns a b result → ServesFrom site v turns a b result.0
-serves-alone {C} {M} stands site v turns a b result serves = record {
+pub serves-alone : {C M : Type 0} (stands : C → View M → Type 0) (site : Site M) (v : View M) (until : Until) (a b : Outer) (result : End × Option C) → Serves stands site v until a b result → ServesFrom site v until a b result.0
+serves-alone {C} {M} stands site v until a b result serves = record {
   inputs = serves.inputs;
-  few = serves.few;
-  takes = serves.takes;
-  ends = serves.ends;
-  after = tt;
+  needed = serves.needed;
+  enough = serves.enough;
+  passes = record { takes = serves.passes.takes; ends = serves.passes.ends; after = tt };
 }
 
 -- ---- a client
@@ -105,14 +111,14 @@ serves-alone {C} {M} stands site v turns a b result serves = record {
 abbrev Taken : List Input → List Input → List Input → Type 0
 Taken inputs before now = (taken : List Input) × (before ≡ taken ++ now) × (inputs ≡ reverse taken)
 
-pub attends-later : (e : Errand) (turns : ℕ) (left left' left'' : Option (List Input)) (offered offered' offered'' : Option Offers) (missed missed' missed'' : ℕ) (ending : Ending) → Stays left left' → Stays offered offered' → missed' ≡ missed
-    → attend.Attends e turns (attend.side left' offered' missed') (attend.side left'' offered'' missed'') ending
-    → attend.Attends e turns (attend.side left offered missed) (attend.side left'' offered'' missed'') ending
-attends-later e turns left left' left'' offered offered' offered'' missed missed' missed'' ending stays kept same was =
-    let attends = subst (λ (n : ℕ). attend.Attends e turns (attend.side left' offered' n) (attend.side left'' offered'' missed'') ending) same was in
+pub attends-later : (e : Errand) (until : Until) (left left' left'' : Option (List Input)) (offered offered' offered'' : Option Offers) (missed missed' missed'' : ℕ) (ending : Ending) → Stays left left' → Stays offered offered' → missed' ≡ missed
+    → attend.Attends e until (attend.side left' offered' missed') (attend.side left'' offered'' missed'') ending
+    → attend.Attends e until (attend.side left offered missed) (attend.side left'' offered'' missed'') ending
+attends-later e until left left' left'' offered offered' offered'' missed missed' missed'' ending stays kept same was =
+    let attends = subst (λ (n : ℕ). attend.Attends e until (attend.side left' offered' n) (attend.side left'' offered'' missed'') ending) same was in
     record {
       inputs = attends.inputs;
-      few = attends.few;
+      needed = attends.needed;
       takes = changes-after (Taken attends.inputs) left left' left'' stays attends.takes;
       unknown = attends.unknown;
       ends = by ending attends.inputs attends.ends;
@@ -123,8 +129,8 @@ attends-later e turns left left' left'' offered offered' offered'' missed missed
     refused [] cause ends = ends
     refused (input ∷ past) cause (is, adds) = (is, adds-later offered offered' offered'' _ kept adds)
 
-    by : (ending : Ending) (inputs : List Input) → attend.Ends e turns inputs (attend.side left' offered' missed) (attend.side left'' offered'' missed'') ending
-        → attend.Ends e turns inputs (attend.side left offered missed) (attend.side left'' offered'' missed'') ending
+    by : (ending : Ending) (inputs : List Input) → attend.Ends e until inputs (attend.side left' offered' missed) (attend.side left'' offered'' missed'') ending
+        → attend.Ends e until inputs (attend.side left offered missed) (attend.side left'' offered'' missed'') ending
     by (Knows so) inputs (is, over, adds) = (is, over, adds-later offered offered' offered'' _ kept adds)
     by (Refused cause) inputs ends = refused inputs cause ends
     by LinkFault inputs (missing, is, adds) = (missing, is, adds-later offered offered' offered'' _ kept adds)

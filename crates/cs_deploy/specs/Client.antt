@@ -4,6 +4,7 @@ use Rattle.cs_base.specs.Answers.{Answer, Answers}
 use Rattle.cs_outer.specs.Store.{Files}
 use Rattle.cs_outer.specs.Link.{Binds}
 use Rattle.cs_outer.specs.declared.link.Bound.TheVariants as bind
+use Rattle.cs_outer.specs.declared.until.Until.{Until}
 use Rattle.cs_config.specs.declared.call.CallFile.{CallFile}
 use Rattle.cs_proc.specs.declared.error.ProcError.{ProcError}
 use Rattle.cs_proc.specs.declared.error.ProcError.TheVariants as refusal
@@ -56,25 +57,25 @@ abbrev pub errand_of : Setup → CallFile → Errand
 errand_of setup call = errand_for setup.site setup.keys setup.book call
 
 -- The link is bound as the client of these keys, and the client is run until it knows what has become of its session.
-pub record IsAttended (errand : Errand) (base_port turns : ℕ) (LinkFailed : Type 0) (old new : Outside)
+pub record IsAttended (errand : Errand) (base_port : ℕ) (until : Until) (LinkFailed : Type 0) (old new : Outside)
     (status : ℕ) : Type 0 where
   pub bound : Binds old.bound new.bound errand.keys.me base_port bind.Done
   pub ending : Ending
-  pub attends : Attends errand turns (side old.left old.offered old.missed) (side new.left new.offered new.missed) ending
+  pub attends : Attends errand until (side old.left old.offered old.missed) (side new.left new.offered new.missed) ending
   pub failed : ending ≡ LinkFault → LinkFailed
   pub told : TellsEnding ending old.written new.written status
 
 -- what becomes of a client whose files are taken
-abbrev pub ClientGoes : Setup → CallFile → ℕ → Type 0 → Outside → Outside → ℕ → Type 0
-ClientGoes setup call turns LinkFailed old new status =
+abbrev pub ClientGoes : Setup → CallFile → Until → Type 0 → Outside → Outside → ℕ → Type 0
+ClientGoes setup call until LinkFailed old new status =
     IsShort old new status
     ⊎ (IsUnbound setup.keys.me setup.site.base_port LinkFailed old new status
-    ⊎ IsAttended (errand_of setup call) setup.site.base_port turns LinkFailed old new status)
+    ⊎ IsAttended (errand_of setup call) setup.site.base_port until LinkFailed old new status)
 
 -- what the command comes to
-abbrev pub ClientRuns : List ℕ → List ℕ → List ℕ → ℕ → Type 0 → Type 0 → Option Files → Outside → Outside → ℕ → Type 0
-ClientRuns site keys call turns StoreFailed LinkFailed files old new status =
-    Runs (ClientComes site keys call) (λ both. ClientGoes both.0 both.1 turns LinkFailed) StoreFailed files old new status
+abbrev pub ClientRuns : List ℕ → List ℕ → List ℕ → Until → Type 0 → Type 0 → Option Files → Outside → Outside → ℕ → Type 0
+ClientRuns site keys call until StoreFailed LinkFailed files old new status =
+    Runs (ClientComes site keys call) (λ both. ClientGoes both.0 both.1 until LinkFailed) StoreFailed files old new status
 
 -- it is known what has become of the session, or it is open, or the method is refused
 abbrev pub IsToldOf : ℕ → Type 0

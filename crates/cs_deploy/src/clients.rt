@@ -15,12 +15,12 @@ use cs_base::Sink;
 use cs_client::{ClientCore, Known, known_line};
 use cs_config::CallFile;
 use cs_deploy_keys::{refuse, tell};
-use cs_outer::{Link, Store};
+use cs_outer::{Link, Store, Until};
 use cs_proc::ProcError;
 use cs_take::{Setup, take_client};
 use std::alloc::Global;
 
-/// Runs the client of a site file, a key file and a call file for so many turns at most, and answers
+/// Runs the client of a site file, a key file and a call file for so long at most, and answers
 /// the status that a program ends with: 0 where it knows what has become of its session, 10 where
 /// that is open, 3 where its method is refused, 12 where a file isn't taken, 7 where the link fails,
 /// 6 where the sink fails, 8 for want of memory.
@@ -29,12 +29,12 @@ pub fn run_client<E: Store, L: Link, K: Sink>(
     site_name: &str,
     keys_name: &str,
     call_name: &str,
-    turns: u64,
+    until: Until,
     store: &mut E,
     link: &mut L,
     out: &mut K,
 ) -> u8
-    ensures runs { ClientRuns site_name.now keys_name.now call_name.now turns
+    ensures runs { ClientRuns site_name.now keys_name.now call_name.now until
         (Rose (E.faults store.old) (E.faults store.new))
         (Rose (L.faults link.old) (L.faults link.new))
         (E.files store.old)
@@ -54,7 +54,7 @@ pub fn run_client<E: Store, L: Link, K: Sink>(
     ensures write_fault { HasCause (K.faults out.old) (K.faults out.new) (result ≡ 6) }
 {
     match take_client(alloc, store, site_name, keys_name, call_name) {
-        Ok((setup, call)) => run_call(alloc, setup, call, turns, link, out),
+        Ok((setup, call)) => run_call(alloc, setup, call, until, link, out),
         Err(why) => refuse(alloc, why, out),
     }
 }
@@ -64,11 +64,11 @@ fn run_call<L: Link, K: Sink>(
     alloc: Global,
     setup: Setup,
     call: CallFile,
-    turns: u64,
+    until: Until,
     link: &mut L,
     out: &mut K,
 ) -> u8
-    ensures goes { ClientGoes setup call turns (Rose (L.faults link.old) (L.faults link.new))
+    ensures goes { ClientGoes setup call until (Rose (L.faults link.old) (L.faults link.new))
         (outside (L.bound link.old) (L.left link.old) (L.offered link.old) (L.missed link.old)
         (K.written out.old))
         (outside (L.bound link.new) (L.left link.new) (L.offered link.new) (L.missed link.new)
@@ -83,7 +83,7 @@ fn run_call<L: Link, K: Sink>(
         return 8;
     };
     match bind_or_tell(link, me, base_port, out) {
-        Ok(()) => tell_ending(alloc, attend(alloc, client, link, turns), out),
+        Ok(()) => tell_ending(alloc, attend(alloc, client, link, until), out),
         Err(status) => status,
     }
 }

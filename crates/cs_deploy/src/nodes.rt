@@ -14,24 +14,23 @@ use crate::binding::bind_or_tell;
 use crate::starting::start_node;
 use cs_base::Sink;
 use cs_deploy_keys::{refuse, tell};
-use cs_outer::{Link, Store};
+use cs_outer::{Link, Store, Until};
 use cs_serve::{End, serve};
 use cs_take::{Setup, take_node};
 use std::alloc::Global;
 
-/// Runs the node of a site file and a key file for so many turns, and answers the status that a
-/// program ends with: 0 where the turns were taken or the link has ended, 12 where a file isn't
-/// taken, 7 where the link fails, 6 where the sink fails, 8 for want of memory.
+/// Runs the node of a site file and a key file for so long, and answers the status that a program
+/// ends with: 0 where it was run for so long or the link has ended, 12 where a file isn't taken, 7 where the link fails, 6 where the sink fails, 8 for want of memory.
 pub fn run_node<E: Store, L: Link, K: Sink>(
     alloc: Global,
     site_name: &str,
     keys_name: &str,
-    turns: u64,
+    until: Until,
     store: &mut E,
     link: &mut L,
     out: &mut K,
 ) -> u8
-    ensures runs { NodeRuns site_name.now keys_name.now turns
+    ensures runs { NodeRuns site_name.now keys_name.now until
         (Rose (E.faults store.old) (E.faults store.new))
         (Rose (L.faults link.old) (L.faults link.new))
         (E.files store.old)
@@ -51,7 +50,7 @@ pub fn run_node<E: Store, L: Link, K: Sink>(
     ensures write_fault { HasCause (K.faults out.old) (K.faults out.new) (result ≡ 6) }
 {
     match take_node(alloc, store, site_name, keys_name) {
-        Ok(setup) => run_setup(alloc, setup, turns, link, out),
+        Ok(setup) => run_setup(alloc, setup, until, link, out),
         Err(why) => refuse(alloc, why, out),
     }
 }
@@ -60,12 +59,12 @@ pub fn run_node<E: Store, L: Link, K: Sink>(
 fn run_setup<L: Link, K: Sink>(
     alloc: Global,
     setup: Setup,
-    turns: u64,
+    until: Until,
     link: &mut L,
     out: &mut K,
 ) -> u8
     requires { IsSound Node setup }
-    ensures goes { NodeGoes setup turns (Rose (L.faults link.old) (L.faults link.new))
+    ensures goes { NodeGoes setup until (Rose (L.faults link.old) (L.faults link.new))
         (outside (L.bound link.old) (L.left link.old) (L.offered link.old) (L.missed link.old)
         (K.written out.old))
         (outside (L.bound link.new) (L.left link.new) (L.offered link.new) (L.missed link.new)
@@ -80,7 +79,7 @@ fn run_setup<L: Link, K: Sink>(
     };
     match bind_or_tell(link, me, base_port, out) {
         Ok(()) => {
-            let (end, _core) = serve(alloc, core, link, out, turns);
+            let (end, _core) = serve(alloc, core, link, out, until);
             tell_end(end, out)
         }
         Err(status) => status,
@@ -94,7 +93,7 @@ fn tell_end<K: Sink>(end: End, out: &mut K) -> u8
     ensures cause { result ≡ 6 → (end ≡ End.WriteFault) ⊎ Rose (K.faults out.old) (K.faults out.new) }
 {
     match end {
-        End::Turns | End::Ended => 0,
+        End::Done | End::Ended => 0,
         End::LinkFault => tell(out, b"link fault\n", 7),
         End::WriteFault => 6,
         End::Memory => 8,

@@ -53,11 +53,11 @@ unsaved-other : (error : SaveError) (written written' : Option (List ℕ)) (stat
 unsaved-other (save.Fault me) written written' status n tells own six eight = answers-other (untaken_answer (key_file me) cause.Fault) written written' status n tells own six eight
 unsaved-other save.Memory written written' status n tells own six eight = λ p. eight (sym tells.0 ∙ p)
 
-saved-other : (result : Result (Unit {0}) SaveError) (written written' : Option (List ℕ)) (status n : ℕ) → TellsSaved result written written' status → 0 ≢ n → 12 ≢ n → 6 ≢ n → 8 ≢ n → status ≢ n
+pub saved-other : (result : Result (Unit {0}) SaveError) (written written' : Option (List ℕ)) (status n : ℕ) → TellsSaved result written written' status → 0 ≢ n → 12 ≢ n → 6 ≢ n → 8 ≢ n → status ≢ n
 saved-other (Ok done) written written' status n tells zero own six eight = λ p. zero (sym tells.0 ∙ p)
 saved-other (Err error) written written' status n tells zero own six eight = unsaved-other error written written' status n tells own six eight
 
-saved-done : (result : Result (Unit {0}) SaveError) (Failed : Type 0) (written written' : Option (List ℕ)) (status : ℕ) → (ByFault result → Failed) → TellsSaved result written written' status → (Failed → ⊥) → status ≢ 8 → status ≡ 0
+pub saved-done : (result : Result (Unit {0}) SaveError) (Failed : Type 0) (written written' : Option (List ℕ)) (status : ℕ) → (ByFault result → Failed) → TellsSaved result written written' status → (Failed → ⊥) → status ≢ 8 → status ≡ 0
 saved-done (Ok done) Failed written written' status failed tells stores other = tells.0
 saved-done (Err (save.Fault me)) Failed written written' status failed tells stores other = absurd (stores (failed tt))
 saved-done (Err save.Memory) Failed written written' status failed tells stores other = absurd (other tells.0)

@@ -1,5 +1,5 @@
 -- What becomes of a plan, from before its files were taken on.
-use Rattle.std.proofs.Common.{◌≡◌, ℕ, ◌+◌, ◌≤◌, inl, inr, List, [], Option, Some, None, Err, sym, append-nil, arith}
+use Rattle.std.proofs.Common.{◌≡◌, ℕ, ◌+◌, ◌≤◌, inl, inr, Bool, List, [], Option, Some, None, Err, refl, sym, append-nil, arith}
 use Rattle.std.specs.Prelude.{◌++◌}
 use Rattle.cs_base.specs.Outside.{Rose}
 use Rattle.cs_outer.specs.Told.{Changes, Stays}
@@ -9,17 +9,20 @@ use Rattle.cs_config.specs.declared.plan.Plan.{Plan}
 use Rattle.cs_config.specs.declared.site.Site.{Site}
 use Rattle.cs_wire.specs.Opened.{names_of}
 use Rattle.cs_key_files.specs.Saving.{SavesUpTo, Saves}
-use Rattle.cs_spawn.specs.Running.{Outer, outer, Starts}
+use Rattle.cs_spawn.specs.Running.{Outer, outer, IsIdle}
 use Rattle.cs_deploy_keys.specs.Cluster.{ClusterGoes}
 use Rattle.cs_deploy_keys.proofs.Answered.{rose-later}
 use Rattle.cs_outer.specs.laws.Told.{stays-same, changes-after}
 
--- no child was started
-pub idle-same : (started : Option Children) (children : ℕ) (statuses : Option (ℕ → ℕ)) (written written' : Option (List ℕ)) → Starts [] (outer started children statuses written) (outer started children statuses written')
-idle-same started children statuses written written' = record {
-  started = none started;
-  children = let same : children ≡ children + 0 = omega arith in same;
-  statuses = stays-same statuses;
+-- no child was started, and none was told to end
+pub idle-same : (started : Option Children) (children : ℕ) (statuses : Option (ℕ → ℕ)) (ended : ℕ → Bool) (written written' : Option (List ℕ)) → IsIdle (outer started children statuses ended written) (outer started children statuses ended written')
+idle-same started children statuses ended written written' = record {
+  starts = record {
+    started = none started;
+    children = let same : children ≡ children + 0 = omega arith in same;
+    statuses = stays-same statuses;
+  };
+  ended = refl;
 }
   where
     none : (started : Option Children) → Changes (λ (before now : Children). now ≡ before ++ []) started started

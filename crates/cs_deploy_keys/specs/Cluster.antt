@@ -1,5 +1,5 @@
 -- The command `cluster`: the nodes of a plan, and its calls.
-use Rattle.std.specs.Prelude.{◌≡◌, ◌⊎◌, ℕ, List, [], codes, Option, Result, Ok, Err, IsErrOf}
+use Rattle.std.specs.Prelude.{◌≡◌, ◌⊎◌, ℕ, List, codes, Option, Result, Ok, Err, IsErrOf}
 use Rattle.std.specs.Io.KnownBytes.{Keeps}
 use Rattle.cs_base.specs.Answers.{Answer, Answers}
 use Rattle.cs_outer.specs.Told.{Changes, Stays}
@@ -10,7 +10,7 @@ use Rattle.cs_wire.specs.Opened.{names_of}
 use Rattle.cs_key_files.specs.Saving.{SavesUpTo, Saves, ByFault}
 use Rattle.cs_key_files.specs.declared.saving.SaveError.{SaveError}
 use Rattle.cs_spawn.specs.Deeds.{cluster_deeds}
-use Rattle.cs_spawn.specs.Running.{Outer, Starts, Ends}
+use Rattle.cs_spawn.specs.Running.{Outer, IsIdle, Ends}
 use Rattle.cs_spawn.specs.declared.error.ClusterError.{ClusterError}
 use Rattle.cs_spawn.specs.declared.error.ClusterError.TheVariants.{SpawnFault, WriteFault, Memory}
 use Rattle.cs_take.specs.Taking.{Takes, Comes}
@@ -22,7 +22,7 @@ use Rattle.cs_deploy_keys.specs.Keys.{TellsUnsaved}
 pub record IsUnplanned (name : List ℕ) (StoreFailed : Type 0) (files files' : Option Files) (old new : Outer)
     (status : ℕ) : Type 0 where
   pub kept : Stays files files'
-  pub idle : Starts [] old new
+  pub idle : IsIdle old new
   pub untaken : IsUntaken (Comes (cluster_taken name)) StoreFailed files old.written new.written status
 
 -- Not all key files are saved, and no child is started.
@@ -31,7 +31,7 @@ pub record IsUnsaved (master : List ℕ) (site : Site) (StoreFailed : Type 0) (f
   pub error : SaveError
   pub saved : Changes (SavesUpTo site.config master (names_of site.config) (Err error)) files files'
   pub failed : ByFault (Err error) → StoreFailed
-  pub idle : Starts [] old new
+  pub idle : IsIdle old new
   pub told : TellsUnsaved error old.written new.written status
 
 abbrev pub spawn_answer : Answer

@@ -1,3 +1,5 @@
 pub mod Untaken
 pub mod Keys
+pub mod Master
+pub mod ReadKeys
 pub mod Cluster

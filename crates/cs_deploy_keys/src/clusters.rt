@@ -19,7 +19,8 @@ use std::alloc::Global;
 /// Saves the key files of the site of this plan file, starts all nodes, runs the calls one after the
 /// other, waits for the nodes, and answers the status that a program ends with: 0 where all is done,
 /// 12 where a file isn't taken or the store fails, 11 where the spawner fails, 6 where the sink
-/// fails, 8 for want of memory.
+/// fails, 8 for want of memory. At 11, 6 and 8 each child is told to end that was started and not
+/// waited for.
 pub fn run_cluster<E: Store, P: Spawner, K: Sink>(
     alloc: Global,
     name: &str,
@@ -32,9 +33,9 @@ pub fn run_cluster<E: Store, P: Spawner, K: Sink>(
         (Rose (P.faults spawner.old) (P.faults spawner.new))
         (E.files store.old) (E.files store.new)
         (outer (P.started spawner.old) (P.children spawner.old) (P.statuses spawner.old)
-        (K.written out.old))
+        (P.ended spawner.old) (K.written out.old))
         (outer (P.started spawner.new) (P.children spawner.new) (P.statuses spawner.new)
-        (K.written out.new))
+        (P.ended spawner.new) (K.written out.new))
         result }
     // Where no fault came about, the plan and the site file alone decide.
     ensures whole { (Rose (E.faults store.old) (E.faults store.new) → ⊥)
@@ -65,9 +66,9 @@ fn run_taken<E: Store, P: Spawner, K: Sink>(
         (Rose (P.faults spawner.old) (P.faults spawner.new))
         (E.files store.old) (E.files store.new)
         (outer (P.started spawner.old) (P.children spawner.old) (P.statuses spawner.old)
-        (K.written out.old))
+        (P.ended spawner.old) (K.written out.old))
         (outer (P.started spawner.new) (P.children spawner.new) (P.statuses spawner.new)
-        (K.written out.new))
+        (P.ended spawner.new) (K.written out.new))
         result }
     ensures store { E.faults store.old ≤ E.faults store.new }
     ensures write_fault { HasCause (K.faults out.old) (K.faults out.new) (result ≡ 6) }
@@ -88,9 +89,9 @@ fn run_plan<P: Spawner, K: Sink>(
 ) -> u8
     ensures ends { PlanRuns plan.now site.now (Rose (P.faults spawner.old) (P.faults spawner.new))
         (outer (P.started spawner.old) (P.children spawner.old) (P.statuses spawner.old)
-        (K.written out.old))
+        (P.ended spawner.old) (K.written out.old))
         (outer (P.started spawner.new) (P.children spawner.new) (P.statuses spawner.new)
-        (K.written out.new))
+        (P.ended spawner.new) (K.written out.new))
         result }
     ensures write_fault { HasCause (K.faults out.old) (K.faults out.new) (result ≡ 6) }
 {

@@ -1,13 +1,16 @@
 //! The command `keys`.
-ghost use Rattle.std.specs.Prelude.{◌≡◌, ◌≢◌, ◌≤◌};
+ghost use Rattle.std.specs.Prelude.{◌≡◌, ◌≢◌, ◌≤◌, ◌⊎◌, ℕ, List, Option};
 ghost use Rattle.cs_base.specs.Outside.{HasCause, Rose};
 ghost use Rattle.cs_take.specs.Taking.{Comes};
 ghost use Rattle.cs_take.specs.Files.{site_taken};
 ghost use Rattle.cs_deploy_keys.specs.Untaken.{IsDecided};
 ghost use Rattle.cs_deploy_keys.specs.Keys.{KeysRuns, IsSaved};
+ghost use Rattle.cs_deploy_keys.specs.ReadKeys.{told, SavesUnder, IsUnread, IsRead, ReadKeysRuns, EndsAsRead};
 
-use crate::telling::{refuse, tell_unsaved};
-use cs_base::Sink;
+use crate::limits::MOST_MASTER;
+use crate::master::master_of;
+use crate::telling::{refuse, tell, tell_unsaved};
+use cs_base::{ReadError, Sink, Source, read_text};
 use cs_config::Site;
 use cs_key_files::save_keys;
 use cs_outer::Store;
@@ -59,5 +62,80 @@ fn save_site<E: Store, K: Sink>(
     match save_keys(alloc, store, site, master) {
         Ok(()) => 0,
         Err(error) => tell_unsaved(alloc, error, out),
+    }
+}
+
+/// The same under the master key that the input says, which is read behind the site file. It answers
+/// 3 too where the input says none, and 5 where it fails; then no file is saved.
+pub fn run_keys_read<S: Source, E: Store, K: Sink>(
+    alloc: Global,
+    name: &str,
+    input: &mut S,
+    store: &mut E,
+    out: &mut K,
+) -> u8
+    ensures runs { ReadKeysRuns name.now
+        (Rose (E.faults store.old) (E.faults store.new))
+        (Rose (S.faults input.old) (S.faults input.new))
+        (told (S.left input.old) (E.files store.old) (K.written out.old))
+        (told (S.left input.new) (E.files store.new) (K.written out.new)) result }
+    // Where no fault came about, the site file and the text of the input alone decide.
+    ensures whole { (Rose (E.faults store.old) (E.faults store.new) → ⊥)
+        → (Rose (S.faults input.old) (S.faults input.new) → ⊥)
+        → (Rose (K.faults out.old) (K.faults out.new) → ⊥)
+        → IsDecided (Comes (site_taken name.now)) (EndsAsRead (S.left input.old))
+        (E.files store.old) result }
+    ensures only { result ≢ 2 }
+    ensures read_fault { HasCause (S.faults input.old) (S.faults input.new) (result ≡ 5) }
+    ensures write_fault { HasCause (K.faults out.old) (K.faults out.new) (result ≡ 6) }
+{
+    match take_site(alloc, store, name) {
+        Ok(site) => save_read(alloc, &site, input, store, out),
+        Err(why) => refuse(alloc, why, out),
+    }
+}
+
+// Saves the key files of a site under the master key that the input says.
+fn save_read<S: Source, E: Store, K: Sink>(
+    alloc: Global,
+    site: &Site,
+    input: &mut S,
+    store: &mut E,
+    out: &mut K,
+) -> u8
+    ensures saves { let a = told (S.left input.old) (E.files store.old) (K.written out.old) in
+        let b = told (S.left input.new) (E.files store.new) (K.written out.new) in
+        IsUnread (Rose (S.faults input.old) (S.faults input.new)) a b result
+        ⊎ IsRead site.now (Rose (E.faults store.old) (E.faults store.new)) a b result }
+    ensures store { E.faults store.old ≤ E.faults store.new }
+    ensures read_fault { HasCause (S.faults input.old) (S.faults input.new) (result ≡ 5) }
+    ensures write_fault { HasCause (K.faults out.old) (K.faults out.new) (result ≡ 6) }
+{
+    match read_text(alloc, MOST_MASTER, input) {
+        Ok(text) => save_under(alloc, site, master_of(&text), store, out),
+        Err(ReadError::Failed) => tell(out, b"read fault\n", 5),
+        Err(ReadError::Memory) => 8,
+    }
+}
+
+// Saves the key files of a site under this master key, or tells that there is none.
+fn save_under<E: Store, K: Sink>(
+    alloc: Global,
+    site: &Site,
+    master: Option<Digest>,
+    store: &mut E,
+    out: &mut K,
+) -> u8
+    ensures saves { (left left' : Option (List ℕ)) →
+        SavesUnder master site.now (Rose (E.faults store.old) (E.faults store.new))
+        (told left (E.files store.old) (K.written out.old))
+        (told left' (E.files store.new) (K.written out.new)) result }
+    ensures store { E.faults store.old ≤ E.faults store.new }
+    ensures other { result ≢ 5 }
+    ensures write_fault { HasCause (K.faults out.old) (K.faults out.new) (result ≡ 6) }
+{
+    match master {
+        Some(master) => save_site(alloc, site, &master, store, out),
+        None => tell(out, b"refused master\n", 3),
     }
 }

@@ -4,8 +4,12 @@
 
 mod clusters;
 mod keys;
+mod limits;
+mod master;
 mod telling;
 
 pub use clusters::run_cluster;
-pub use keys::run_keys;
+pub use keys::{run_keys, run_keys_read};
+pub use limits::{MASTER_DIGITS, MOST_MASTER};
+pub use master::{master_in, master_of};
 pub use telling::{refuse, tell};

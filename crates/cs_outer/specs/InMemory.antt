@@ -1,11 +1,11 @@
 -- What the objects in memory mean, and which of their calls are to fail.
-use Rattle.std.specs.Prelude.{ℕ, ◌+◌, List, drop, take, map, length, Option, Some, slice_index}
+use Rattle.std.specs.Prelude.{ℕ, ◌+◌, Bool, List, drop, take, map, length, Option, Some, slice_index}
 use Rattle.cs_base.specs.declared.failures.Failures.{Failures}
 use Rattle.cs_base.specs.declared.limits.TheConstants.{MOST_DATAGRAM}
 use Rattle.cs_outer.specs.Files.{content_in}
 use Rattle.cs_outer.specs.Store.{Files}
 use Rattle.cs_outer.specs.Link.{Place, Offers}
-use Rattle.cs_outer.specs.Spawner.{Children}
+use Rattle.cs_outer.specs.Spawner.{Children, flag_at}
 use Rattle.cs_outer.specs.declared.link.MemInput.{MemInput}
 use Rattle.cs_outer.specs.declared.link.MemInput.TheVariants.{Datagram, Tick}
 use Rattle.cs_outer.specs.declared.mem_store.MemStore.{MemStore}
@@ -59,6 +59,9 @@ spawner_children s = length s.started
 -- the child of number k ends with the status at place k, or with 0 where there is none
 abbrev pub spawner_statuses : MemSpawner → Option (ℕ → ℕ)
 spawner_statuses s = Some (slice_index s.statuses.items)
+
+abbrev pub spawner_ended : MemSpawner → ℕ → Bool
+spawner_ended s = flag_at s.ended.items
 
 abbrev pub spawner_failures : MemSpawner → Failures
 spawner_failures s = s.failures

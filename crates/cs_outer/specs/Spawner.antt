@@ -1,5 +1,6 @@
 -- The children of a spawner, and what its calls do to them.
-use Rattle.std.specs.Prelude.{◌≡◌, ℕ, ◌+◌, List, [], ◌∷◌, ◌++◌, length, Option, IfSome}
+use Rattle.std.specs.Prelude.{◌≡◌, ℕ, ◌+◌, Bool, false, ◌||◌, ◌==◌, List, [], ◌∷◌, ◌++◌, length, slice_index_or, Option, IfSome}
+use Rattle.std.specs.List.{list_any}
 use Rattle.cs_outer.specs.Told.{Changes, Stays}
 use Rattle.cs_outer.specs.declared.spawner.Started.{Started}
 use Rattle.cs_outer.specs.declared.spawner.Started.TheVariants as started
@@ -27,3 +28,11 @@ children_after before started.Memory = before
 abbrev pub Waits : Option (ℕ → ℕ) → ℕ → Waited → Type 0
 Waits statuses number (Ended status) = IfSome statuses (λ status_of. status ≡ status_of number)
 Waits statuses number Failed = Unit {0}
+
+-- the children of these numbers were told to end, and no others
+abbrev pub EndsThese : List ℕ → (ℕ → Bool) → (ℕ → Bool) → Type 0
+EndsThese numbers before now = (n : ℕ) → now n ≡ (before n || list_any (λ number. number == n) numbers)
+
+-- the flag of each child; one that isn't there counts as false
+abbrev pub flag_at : List Bool → ℕ → Bool
+flag_at flags number = slice_index_or flags number false

@@ -1,10 +1,10 @@
 //! A spawner in memory.
-ghost use Rattle.std.specs.Prelude.{◌≡◌, ◌<◌, ◌++◌, ◌∷◌, [], ℕ, map, string_bytes, slice_index, Some, IfOk, OnOk, OnErr};
+ghost use Rattle.std.specs.Prelude.{◌≡◌, ◌<◌, ◌++◌, ◌∷◌, [], ℕ, false, length, map, string_bytes, slice_index, Some, IfOk, OnOk, OnErr};
 ghost use Rattle.cs_base.specs.Outside.{HasCause};
 ghost use Rattle.cs_outer.specs.Told.{Stays};
-ghost use Rattle.cs_outer.specs.Spawner.{Starts, Waits, children_after};
+ghost use Rattle.cs_outer.specs.Spawner.{Starts, Waits, EndsThese, children_after, flag_at};
 
-use crate::spawner::{Spawner, Started, Waited};
+use crate::spawner::{Spawner, Started, Stopped, Waited};
 use crate::text::Text;
 use cs_base::{Failures, Memory, Sequence};
 use std::alloc::Global;
@@ -16,7 +16,9 @@ pub struct MemSpawner {
     alloc: Global,
     statuses: Vec<u8>,
     started: Sequence<Sequence<Text>>,
+    ended: Vec<bool>,
     failures: Failures,
+    ghost flagged: { length ended.items ≡ length started },
 }
 
 impl MemSpawner {
@@ -30,6 +32,7 @@ impl MemSpawner {
         ensures children { ⟦<MemSpawner as Spawner>⟧.children result ≡ 0 }
         ensures statuses { ⟦<MemSpawner as Spawner>⟧.statuses result
             ≡ Some (slice_index statuses.items) }
+        ensures ended { ⟦<MemSpawner as Spawner>⟧.ended result ≡ (λ _. false) }
         ensures faults { ⟦<MemSpawner as Spawner>⟧.faults result ≡ 0 }
         ensures failures { spawner_failures result ≡ uncalled fails.items }
     {
@@ -37,6 +40,7 @@ impl MemSpawner {
             alloc,
             statuses,
             started: Sequence::new(alloc),
+            ended: Vec::new(alloc),
             failures: Failures::new(fails),
         }
     }
@@ -48,15 +52,28 @@ impl MemSpawner {
         self.started.as_slice()
     }
 
-    // Keeps the words of a child.
+    /// Whether the child of this number was told to end.
+    pub fn was_ended(&self, number: u64) -> bool
+        ensures { result ≡ ⟦<MemSpawner as Spawner>⟧.ended self.now number }
+    {
+        let flag = self.ended.get(number as usize).copied();
+        flag.unwrap_or(false)
+    }
+
+    // Keeps the words of a child, which isn't told to end.
     fn keep(&mut self, words: &[String]) -> Result<(), Memory>
-        ensures ok { OnOk result (self.new ≡ record self.old {
-          started = self.old.started ++ map string_bytes words.now ∷ [];
-        }) }
-        ensures err { OnErr result (self.new ≡ self.old) }
+        ensures ok { OnOk result
+            (self.new.started ≡ self.old.started ++ map string_bytes words.now ∷ []) }
+        ensures err { OnErr result (self.new.started ≡ self.old.started) }
+        ensures ended { flag_at self.new.ended.items ≡ flag_at self.old.ended.items }
+        ensures statuses { self.new.statuses ≡ self.old.statuses }
+        ensures failures { self.new.failures ≡ self.old.failures }
     {
         let kept = copy_words(self.alloc, words)?;
+        // Room for the flag first, so that it is never missing.
+        self.ended.reserve(1)?;
         self.started.push(kept)?;
+        self.ended.push(false)?;
         Ok(())
     }
 }
@@ -73,7 +90,8 @@ fn copy_words(alloc: Global, words: &[String]) -> Result<Sequence<Text>, Memory>
 
 impl Spawner for MemSpawner {
     ghost use Rattle.cs_base.specs.Failures.{CountsCall};
-    ghost use Rattle.cs_outer.specs.InMemory.{spawner_started, spawner_children, spawner_statuses, spawner_failures, spawner_faults};
+    ghost use Rattle.cs_outer.specs.laws.Flags.{spared_past};
+    ghost use Rattle.cs_outer.specs.InMemory.{spawner_started, spawner_children, spawner_statuses, spawner_ended, spawner_failures, spawner_faults};
 
     ghost started = { spawner_started };
 
@@ -81,7 +99,11 @@ impl Spawner for MemSpawner {
 
     ghost statuses = { spawner_statuses };
 
+    ghost ended = { spawner_ended };
+
     ghost faults = { spawner_faults };
+
+    ghost spared = { λ s n past. spared_past s.ended.items (length s.started) n s.flagged past };
 
     fn start(&mut self, words: &[String]) -> Started
         ensures words { Starts (spawner_started self.old) (spawner_started self.new)
@@ -90,6 +112,7 @@ impl Spawner for MemSpawner {
             ≡ children_after (spawner_children self.old) result }
         ensures number { (n : ℕ) → result ≡ Started.Started n → n ≡ spawner_children self.old }
         ensures statuses { Stays (spawner_statuses self.old) (spawner_statuses self.new) }
+        ensures ended { spawner_ended self.new ≡ spawner_ended self.old }
         ensures cause { HasCause (spawner_faults self.old) (spawner_faults self.new)
             (result ≡ Started.Failed) }
 
@@ -113,6 +136,7 @@ impl Spawner for MemSpawner {
         ensures started { Stays (spawner_started self.old) (spawner_started self.new) }
         ensures children { spawner_children self.new ≡ spawner_children self.old }
         ensures statuses { Stays (spawner_statuses self.old) (spawner_statuses self.new) }
+        ensures ended { spawner_ended self.new ≡ spawner_ended self.old }
         ensures cause { HasCause (spawner_faults self.old) (spawner_faults self.new)
             (result ≡ Waited.Failed) }
 
@@ -125,5 +149,26 @@ impl Spawner for MemSpawner {
         }
         let status = self.statuses.get(number as usize).copied();
         Waited::Ended(status.unwrap_or(0))
+    }
+
+    fn end(&mut self, number: u64) -> Stopped
+        requires { number < spawner_children self.old }
+        ensures ended { EndsThese
+            (number ∷ []) (spawner_ended self.old) (spawner_ended self.new) }
+        ensures started { Stays (spawner_started self.old) (spawner_started self.new) }
+        ensures children { spawner_children self.new ≡ spawner_children self.old }
+        ensures statuses { Stays (spawner_statuses self.old) (spawner_statuses self.new) }
+        ensures cause { HasCause (spawner_faults self.old) (spawner_faults self.new)
+            (result ≡ Stopped.Failed) }
+
+        // Exactly the listed calls fail.
+        ensures counted { CountsCall (spawner_failures self.old) (spawner_failures self.new)
+            (result ≡ Stopped.Failed) }
+    {
+        self.ended[number as usize] = true;
+        if self.failures.is_due() {
+            return Stopped::Failed;
+        }
+        Stopped::Done
     }
 }

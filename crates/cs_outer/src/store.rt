@@ -30,7 +30,8 @@ pub enum Saved {
     Memory,
 }
 
-/// Where files are kept, each under a name.
+/// Where files are kept, each under a name. The store of the system uses up the name of a saved file
+/// with `.new` behind it: what has that name is gone afterwards.
 pub trait Store {
     /// The files, where the store tells them.
     ghost files: { Self → Option Files };

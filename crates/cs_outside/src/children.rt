@@ -1,7 +1,9 @@
 //! Child programs of this same program.
-ghost use Rattle.std.specs.Prelude.{◌≡◌, None, vec_len};
+ghost use Rattle.std.specs.Prelude.{◌≡◌, None, length, vec_len};
+ghost use Rattle.cs_outer.specs.Spawner.{flag_at};
+ghost use Rattle.cs_outer.specs.laws.Flags.{spared_past};
 
-use cs_outer::{Spawner, Started, Waited};
+use cs_outer::{Spawner, Started, Stopped, Waited};
 use std::alloc::Global;
 use std::io::{self, ErrorKind};
 use std::process::{Child, Command, Processes, Stdio};
@@ -15,7 +17,9 @@ pub struct Children<'a, R: Processes> {
     system: &'a R,
     alloc: Global,
     children: Vec<Child<R::Started>>,
+    ended: Vec<bool>,
     faults: u64,
+    ghost flagged: { length ended.items ≡ vec_len children },
 }
 
 impl<'a, R: Processes> Children<'a, R> {
@@ -24,6 +28,7 @@ impl<'a, R: Processes> Children<'a, R> {
             system,
             alloc,
             children: Vec::new(alloc),
+            ended: Vec::new(alloc),
             faults: 0,
         }
     }
@@ -51,18 +56,24 @@ impl<R: Processes> Spawner for Children<'_, R> {
 
     ghost statuses = { λ _. None };
 
+    ghost ended = { λ s. flag_at s.ended.items };
+
     ghost faults = { λ s. s.faults };
+
+    ghost spared = { λ s n past. spared_past s.ended.items (vec_len s.children) n s.flagged past };
 
     fn start(&mut self, words: &[String]) -> Started {
         let number = self.children.len() as u64;
-        if self.children.reserve(1).is_err() {
+        // Room first, so that no child runs that isn't kept.
+        if self.children.reserve(1).is_err() || self.ended.reserve(1).is_err() {
             return Started::Memory;
         }
         match spawn(self.system, self.alloc, words) {
-            Ok(child) => match self.children.push(child) {
-                Ok(()) => Started::Started(number),
-                Err(_) => Started::Memory,
-            },
+            Ok(child) => {
+                self.children.push(child).unwrap();
+                self.ended.push(false).unwrap();
+                Started::Started(number)
+            }
             Err(error) if error.kind() == ErrorKind::OutOfMemory => Started::Memory,
             Err(_) => {
                 self.faults = self.faults.saturating_add(1);
@@ -82,6 +93,18 @@ impl<R: Processes> Spawner for Children<'_, R> {
             _ => {
                 self.faults = self.faults.saturating_add(1);
                 Waited::Failed
+            }
+        }
+    }
+
+    // What a child was doing is lost.
+    fn end(&mut self, number: u64) -> Stopped {
+        self.ended[number as usize] = true;
+        match self.children[number as usize].kill() {
+            Ok(()) => Stopped::Done,
+            Err(_) => {
+                self.faults = self.faults.saturating_add(1);
+                Stopped::Failed
             }
         }
     }

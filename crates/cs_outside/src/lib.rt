@@ -4,9 +4,11 @@
 
 mod children;
 mod files;
+mod pace;
 mod ports;
 mod socket;
 mod streams;
+mod timed_socket;
 
 pub use children::Children;
 pub use files::FileStore;

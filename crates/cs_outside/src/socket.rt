@@ -1,32 +1,37 @@
 //! A UDP socket of this computer.
-ghost use Rattle.std.specs.Prelude.{◌≡◌, ◌≤◌, None, IfOk, length};
+ghost use Rattle.std.specs.Prelude.{◌≡◌, ◌≤◌, None, IfOk, IfSome, length};
 
+use crate::pace::{Next, Pace};
 use crate::ports::port_of;
+use crate::timed_socket::TimedSocket;
 use cs_base::NodeId;
 use cs_outer::{Arrived, Bound, Link, Sent};
 use std::io::{self, ErrorKind};
-use std::net::{Ipv4Addr, Net, SocketAddr, SocketAddrV4, UdpSocket};
-use std::time::Duration;
+use std::net::{Ipv4Addr, Net, SocketAddr, SocketAddrV4};
+use std::time::{Clock, Instant};
 
-/// After so many milliseconds without a datagram there is a tick.
-const TICK: u64 = 20;
-
-/// A socket on 127.0.0.1, at the port of a node or client.
+/// A socket on 127.0.0.1, at the port of a node or client. It gives a tick whenever 20 milliseconds
+/// have passed since the last one, whether or not datagrams wait.
 #[derive(Drop)]
-pub struct UdpLink<'a, R: Net> {
-    net: &'a R,
-    socket: Option<UdpSocket>,
+pub struct UdpLink<'a, R: Net + Clock> {
+    system: &'a R,
+    socket: Option<TimedSocket>,
     base_port: u16,
+    pace: Pace,
+    // When the last tick was given, until the clock fails.
+    ticked: Option<Instant>,
     missed: u64,
     faults: u64,
 }
 
-impl<'a, R: Net> UdpLink<'a, R> {
-    pub fn new(net: &'a R) -> Self {
+impl<'a, R: Net + Clock> UdpLink<'a, R> {
+    pub fn new(system: &'a R) -> Self {
         UdpLink {
-            net,
+            system,
             socket: None,
             base_port: 0,
+            pace: Pace::new(),
+            ticked: None,
             missed: 0,
             faults: 0,
         }
@@ -40,33 +45,95 @@ fn address(base_port: u16, name: NodeId) -> io::Result<SocketAddr> {
     }
 }
 
-fn open_socket<R: Net>(net: &R, base_port: u16, me: NodeId) -> io::Result<UdpSocket> {
-    let socket = UdpSocket::bind(net, address(base_port, me)?)?;
-    socket.set_read_timeout(Some(Duration::from_millis(TICK)))?;
-    Ok(socket)
+fn open_socket<R: Net>(net: &R, base_port: u16, me: NodeId) -> io::Result<TimedSocket> {
+    TimedSocket::bind(net, address(base_port, me)?)
 }
 
-fn receive_from(socket: &Option<UdpSocket>, buf: &mut [u8]) -> io::Result<usize>
-    ensures { IfOk result (λ count. count ≤ length buf.new) }
+fn receive_from(
+    socket: &Option<TimedSocket>,
+    buf: &mut [u8],
+    milliseconds: u64,
+) -> io::Result<Option<usize>>
+    ensures { IfOk result (λ came. IfSome came (λ count. count ≤ length buf.new)) }
 {
     match socket {
-        Some(socket) => Ok(socket.recv_from(buf)?.0),
+        Some(socket) => socket.receive(buf, milliseconds),
         None => Err(io::Error::from(ErrorKind::NotConnected)),
     }
 }
 
-fn send_from(socket: &Option<UdpSocket>, to: SocketAddr, bytes: &[u8]) -> io::Result<usize> {
+fn send_from(socket: &Option<TimedSocket>, to: SocketAddr, bytes: &[u8]) -> io::Result<usize> {
     match socket {
-        Some(socket) => socket.send_to(bytes, to),
+        Some(socket) => socket.send(to, bytes),
         None => Err(io::Error::from(ErrorKind::NotConnected)),
     }
 }
 
-fn is_timeout(error: &io::Error) -> bool {
-    error.kind() == ErrorKind::WouldBlock || error.kind() == ErrorKind::TimedOut
+fn asks_again(error: &io::Error) -> bool {
+    error.kind() == ErrorKind::WouldBlock || error.kind() == ErrorKind::Interrupted
 }
 
-impl<R: Net> Link for UdpLink<'_, R> {
+impl<R: Net + Clock> UdpLink<'_, R> {
+    // The time now. A clock that failed is a fault, and isn't asked again.
+    fn read_clock(&mut self) -> Option<Instant>
+        ensures missed { self.new.missed ≡ self.old.missed }
+        ensures faults { self.old.faults ≤ self.new.faults }
+    {
+        match Instant::now(self.system) {
+            Ok(now) => Some(now),
+            Err(_) => {
+                self.faults = self.faults.saturating_add(1);
+                None
+            }
+        }
+    }
+
+    // How many milliseconds have passed since the last tick, if the clock tells that.
+    fn passed(&mut self) -> Option<u64>
+        ensures missed { self.new.missed ≡ self.old.missed }
+        ensures faults { self.old.faults ≤ self.new.faults }
+    {
+        let ticked = self.ticked?;
+        let Some(now) = self.read_clock() else {
+            self.ticked = None;
+            return None;
+        };
+        let passed = now.duration_since(ticked).as_millis();
+        Some(u64::try_from(passed).unwrap_or(u64::MAX))
+    }
+
+    // The length of a datagram, or none where a tick is due. An interrupted wait is made again.
+    fn wait(&mut self, buf: &mut [u8]) -> io::Result<Option<usize>>
+        ensures count { IfOk result (λ came. IfSome came (λ count. count ≤ length buf.new)) }
+        ensures missed { self.new.missed ≡ self.old.missed }
+        ensures faults { self.old.faults ≤ self.new.faults }
+    {
+        for _ in 0..u64::MAX {
+            let passed = self.passed();
+            let Next::Look(rest) = self.pace.next(passed) else {
+                return Ok(None);
+            };
+            match receive_from(&self.socket, buf, rest) {
+                Err(error) if asks_again(&error) => {}
+                came => return came,
+            }
+        }
+        Err(io::Error::from(ErrorKind::Interrupted))
+    }
+
+    // From here on the time to the next tick is counted.
+    fn begin_again(&mut self)
+        ensures missed { self.new.missed ≡ self.old.missed }
+        ensures faults { self.old.faults ≤ self.new.faults }
+    {
+        self.pace.begin_again();
+        if self.ticked.is_some() {
+            self.ticked = self.read_clock();
+        }
+    }
+}
+
+impl<R: Net + Clock> Link for UdpLink<'_, R> {
     ghost bound = { λ _. None };
 
     ghost left = { λ _. None };
@@ -79,7 +146,9 @@ impl<R: Net> Link for UdpLink<'_, R> {
 
     fn bind(&mut self, me: NodeId, base_port: u16) -> Bound {
         self.base_port = base_port;
-        match open_socket(self.net, base_port, me) {
+        self.pace.begin_again();
+        self.ticked = self.read_clock();
+        match open_socket(self.system, base_port, me) {
             Ok(socket) => {
                 self.socket = Some(socket);
                 Bound::Done
@@ -93,13 +162,15 @@ impl<R: Net> Link for UdpLink<'_, R> {
     }
 
     fn receive(&mut self, buf: &mut [u8]) -> Arrived {
-        match receive_from(&self.socket, buf) {
-            Ok(count) => {
+        match self.wait(buf) {
+            Ok(Some(count)) => {
                 self.missed = 0;
+                self.pace.count_datagram();
                 Arrived::Datagram(count)
             }
-            Err(error) if is_timeout(&error) => {
+            Ok(None) => {
                 self.missed = 0;
+                self.begin_again();
                 Arrived::Tick
             }
             Err(_) => {

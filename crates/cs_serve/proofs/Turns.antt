@@ -1,7 +1,7 @@
 -- One turn after the other.
-use Rattle.std.proofs.Common.{◌≡◌, ℕ, ◌+◌, ◌-◌, ◌^◌, ◌<◌, ◌≤◌, List, [], ◌∷◌, ◌++◌, Option, Some, None, IfSome, refl, sym, ap, subst, ◌∙◌, arith}
-use Rattle.std.specs.Prelude.{min}
-use Rattle.std.proofs.lemmas.List.{length-append}
+use Rattle.std.proofs.Common.{◌≡◌, ℕ, Bool, length, Result, Ok, Err, ◌+◌, ◌-◌, ◌^◌, ◌<◌, ◌≤◌, List, [], ◌∷◌, ◌++◌, Option, Some, None, IfSome, refl, sym, ap, subst, ◌∙◌, arith}
+use Rattle.std.specs.Prelude.{min, count_by}
+use Rattle.std.specs.Int.{from_bool}
 use Rattle.std.specs.Io.KnownBytes.{Appends}
 use Rattle.cs_base.specs.Answers.{AppendsFront}
 use Rattle.cs_base.specs.Outside.{HasCause}
@@ -12,11 +12,14 @@ use Rattle.cs_outer.specs.Told.{Changes, Stays}
 use Rattle.cs_outer.specs.Link.{Offers}
 use Rattle.cs_outer.specs.declared.link.MemInput.{MemInput}
 use Rattle.cs_serve.specs.declared.ending.End.{End}
-use Rattle.cs_serve.specs.declared.ending.End.TheVariants.{Turns, Ended, LinkFault, WriteFault, Memory}
+use Rattle.cs_serve.specs.declared.ending.End.TheVariants.{Done, Ended, LinkFault, WriteFault, Memory}
 use Rattle.cs_serve.specs.declared.receiving.TheConstants.{MOST_MISSED}
-use Rattle.cs_serve.specs.Outer.{Outer, given_of, Takes, Gives, GivesFront}
-use Rattle.cs_serve.specs.Serving.{trail, offers_of, lines_of, GivesAll, GivesPart, missed_past, Ends, Serves, GivesBy, Answers}
+use Rattle.cs_serve.specs.Outer.{Outer, given_of, is_tick, Takes, Gives, GivesFront}
+use Rattle.cs_serve.specs.Serving.{trail, offers_of, lines_of, GivesAll, GivesPart, missed_past, Ends, Passes, Serves, TakesTurn, GivesBy, Answers}
+use Rattle.cs_outer.specs.Until.{IsOver, AreEnough, AreNeeded}
+use Rattle.cs_outer.specs.declared.until.Until.{Until}
 use Rattle.cs_outer.specs.laws.Told.{stays-same, changes-after, changes-before}
+use Rattle.cs_serve.specs.laws.Taken.{ticks-more, over-by, still-by, needed-more}
 use Rattle.cs_serve.proofs.Outers.{Gives-nil, Gives-more, GivesFront-all, GivesFront-after, Takes-nil, Takes-more, Takes-one}
 use Rattle.cs_serve.proofs.Trails.{me-same, offers-append, bytes-append, after, trail-append, after-append, trail-one}
 
@@ -59,104 +62,71 @@ module _ {C M : Type 0} (stands : C → View M → Type 0) (site : Site M) where
   -- ---- turns
 
   -- none was taken yet
-  pub serves-none : (v : View M) (a b : Outer) (core : C) → stands core v → Stays a.left b.left → b.missed ≡ a.missed → Gives [] [] a b → Serves stands site v 0 a b (Turns, Some core)
-  serves-none v a b core is left missed gives = record {
-    inputs = [];
-    few = omega arith;
-    takes = Takes-nil a b left;
-    ends = (refl, missed, gives);
-    after = is;
-  }
-
-  ends-more : (v : View M) (n : ℕ) (first later : List Input) (a b c : Outer) → Ends site v n first a b Turns → (end : End) → Ends site (after site v first) 1 later b c end → Ends site v (n + 1) (later ++ first) a c end
-  ends-more v n first later a b c p Turns q = (
-    length-append later first ∙ (let one = q.0 in let so_far = p.0 in omega arith),
-    q.1 ∙ missed-more a.missed b.missed first later p.1,
-    all-more v first later a b c p.2 q.2,
-  )
-  ends-more v n first later a b c p Ended q = (q.0, all-more v first later a b c p.2 q.1)
-  ends-more v n first later a b c p LinkFault q =
-      (q.0 ∙ ap (λ k. min (k + MOST_MISSED) (2 ^ 64 - 1)) (missed-more a.missed b.missed first later p.1), all-more v first later a b c p.2 q.1)
-  ends-more v n first later a b c p WriteFault q = part-more v first later a b c p.2 q
-  ends-more v n first later a b c p Memory q = part-more v first later a b c p.2 q
-
-  -- one turn more
-  pub serves-more : (v : View M) (n : ℕ) (a b c : Outer) (core : C) (result : End × Option C) → Serves stands site v n a b (Turns, Some core) → ((w : View M) → stands core w → Serves stands site w 1 b c result) → Serves stands site v (n + 1) a c result
-  serves-more v n a b c core result p next =
-      let w = after site v p.inputs in
-      let q = next w p.after in
-      let one = q.few in
-      let so_far = p.few in
-      record {
-        inputs = q.inputs ++ p.inputs;
-        few = (let all = length-append q.inputs p.inputs in omega arith);
-        takes = Takes-more a b c p.inputs q.inputs p.takes q.takes;
-        ends = ends-more v n p.inputs q.inputs a b c p.ends result.0 q.ends;
-        after = left-is (λ core. stands core (after site w q.inputs)) (λ core. stands core (after site v (q.inputs ++ p.inputs)))
-            (λ core is. subst (stands core) (sym (after-append site v q.inputs p.inputs)) is) result.1 q.after;
-      }
-
-  ends-within : (v : View M) (n turns : ℕ) (inputs : List Input) (a b : Outer) (end : End) → (end ≡ Turns → ⊥) → Ends site v n inputs a b end → Ends site v turns inputs a b end
-  ends-within v n turns inputs a b Turns other ends = absurd (other refl)
-  ends-within v n turns inputs a b Ended other ends = ends
-  ends-within v n turns inputs a b LinkFault other ends = ends
-  ends-within v n turns inputs a b WriteFault other ends = ends
-  ends-within v n turns inputs a b Memory other ends = ends
-
-  -- it ended before so many turns
-  pub serves-within : (v : View M) (n turns : ℕ) (a b : Outer) (result : End × Option C) → n ≤ turns → (result.0 ≡ Turns → ⊥) → Serves stands site v n a b result → Serves stands site v turns a b result
-  serves-within v n turns a b result fits other p = record {
-    inputs = p.inputs;
-    few = (let few = p.few in omega arith);
-    takes = p.takes;
-    ends = ends-within v n turns p.inputs a b result.0 other p.ends;
-    after = p.after;
-  }
-
-  -- nothing was taken, for want of memory
-  pub serves-nothing : (v : View M) (turns : ℕ) (a : Outer) (core : C) → stands core v → Serves stands site v turns a a (Memory, Some core)
-  serves-nothing v turns a core is = record {
-    inputs = [];
-    few = omega arith;
-    takes = Takes-nil a a (stays-same a.left);
-    ends = GivesFront-all a a [] [] (Gives-nil a);
-    after = is;
-  }
-
-  -- ---- one turn
-
-  -- nothing was left
-  pub serves-ended : (v : View M) (a b : Outer) (core : C) → stands core v → Stays a.left b.left → IfSome b.left (λ left. left ≡ []) → Gives [] [] a b → Serves stands site v 1 a b (Ended, Some core)
-  serves-ended v a b core is left none gives = record {
-    inputs = [];
-    few = omega arith;
-    takes = Takes-nil a b left;
-    ends = (none, gives);
-    after = is;
-  }
-
-  -- too many receives failed
-  pub serves-failed : (v : View M) (a b : Outer) (core : C) → stands core v → Stays a.left b.left → b.missed ≡ min (a.missed + MOST_MISSED) (2 ^ 64 - 1) → Gives [] [] a b → Serves stands site v 1 a b (LinkFault, Some core)
-  serves-failed v a b core is left missed gives = record {
-    inputs = [];
-    few = omega arith;
+  pub passes-none : (v : View M) (a b : Outer) (core : C) → stands core v → Stays a.left b.left → b.missed ≡ a.missed → Gives [] [] a b → Passes stands site v [] a b (Done, Some core)
+  passes-none v a b core is left missed gives = record {
     takes = Takes-nil a b left;
     ends = (missed, gives);
     after = is;
   }
 
-  ends-one : (v : View M) (input : Input) (a b : Outer) → b.missed ≡ 0 → (end : End) → GivesBy site v (event_marks site v input) a b end → Ends site v 1 (input ∷ []) a b end
-  ends-one v input a b missed Turns gives = (refl, missed, subst (λ (marks : List (Mark M)). GivesAll site v marks a b) (sym (trail-one site v input)) gives)
+  ends-more : (v : View M) (first later : List Input) (a b c : Outer) → Ends site v first a b Done → (end : End) → Ends site (after site v first) later b c end → Ends site v (later ++ first) a c end
+  ends-more v first later a b c p Done q = (q.0 ∙ missed-more a.missed b.missed first later p.0, all-more v first later a b c p.1 q.1)
+  ends-more v first later a b c p Ended q = (q.0, all-more v first later a b c p.1 q.1)
+  ends-more v first later a b c p LinkFault q =
+      (q.0 ∙ ap (λ k. min (k + MOST_MISSED) (2 ^ 64 - 1)) (missed-more a.missed b.missed first later p.0), all-more v first later a b c p.1 q.1)
+  ends-more v first later a b c p WriteFault q = part-more v first later a b c p.1 q
+  ends-more v first later a b c p Memory q = part-more v first later a b c p.1 q
+
+  -- then some more
+  pub passes-more : (v : View M) (first later : List Input) (a b c : Outer) (core : C) (result : End × Option C) → Passes stands site v first a b (Done, Some core) → Passes stands site (after site v first) later b c result → Passes stands site v (later ++ first) a c result
+  passes-more v first later a b c core result p q = record {
+    takes = Takes-more a b c first later p.takes q.takes;
+    ends = ends-more v first later a b c p.ends result.0 q.ends;
+    after = left-is (λ core. stands core (after site (after site v first) later)) (λ core. stands core (after site v (later ++ first)))
+        (λ core is. subst (stands core) (sym (after-append site v later first)) is) result.1 q.after;
+  }
+
+  -- nothing was taken, for want of memory
+  pub serves-nothing : (v : View M) (until : Until) (a : Outer) (core : C) → stands core v → Serves stands site v until a a (Memory, Some core)
+  serves-nothing v until a core is = record {
+    inputs = [];
+    needed = tt;
+    enough = λ done. absurd (let q : Memory ≡ Done = done in cc);
+    passes = record {
+      takes = Takes-nil a a (stays-same a.left);
+      ends = GivesFront-all a a [] [] (Gives-nil a);
+      after = is;
+    };
+  }
+
+  -- ---- one turn
+
+  -- nothing was left
+  pub turn-ended : (v : View M) (a b : Outer) (core : C) → stands core v → Stays a.left b.left → IfSome b.left (λ left. left ≡ []) → Gives [] [] a b → TakesTurn stands site v a b (Err (Ended, Some core))
+  turn-ended v a b core is left none gives = record {
+    inputs = [];
+    one = omega arith;
+    passes = record { takes = Takes-nil a b left; ends = (none, gives); after = is };
+  }
+
+  -- too many receives failed
+  pub turn-failed : (v : View M) (a b : Outer) (core : C) → stands core v → Stays a.left b.left → b.missed ≡ min (a.missed + MOST_MISSED) (2 ^ 64 - 1) → Gives [] [] a b → TakesTurn stands site v a b (Err (LinkFault, Some core))
+  turn-failed v a b core is left missed gives = record {
+    inputs = [];
+    one = omega arith;
+    passes = record { takes = Takes-nil a b left; ends = (missed, gives); after = is };
+  }
+
+  ends-one : (v : View M) (input : Input) (a b : Outer) → b.missed ≡ 0 → (end : End) → GivesBy site v (event_marks site v input) a b end → Ends site v (input ∷ []) a b end
+  ends-one v input a b missed Done gives = (missed, subst (λ (marks : List (Mark M)). GivesAll site v marks a b) (sym (trail-one site v input)) gives)
   ends-one v input a b missed Ended gives = absurd gives
   ends-one v input a b missed LinkFault gives = absurd gives
   ends-one v input a b missed WriteFault gives = subst (λ (marks : List (Mark M)). GivesPart site v marks a b) (sym (trail-one site v input)) gives
   ends-one v input a b missed Memory gives = subst (λ (marks : List (Mark M)). GivesPart site v marks a b) (sym (trail-one site v input)) gives
 
   -- an input was taken and answered
-  serves-one : (v : View M) (input : Input) (a b : Outer) (result : End × Option C) → b.missed ≡ 0 → Takes (input ∷ []) a b → Answers stands site v input a b result → Serves stands site v 1 a b result
-  serves-one v input a b result missed takes answers = record {
-    inputs = input ∷ [];
-    few = omega arith;
+  passes-one : (v : View M) (input : Input) (a b : Outer) (result : End × Option C) → b.missed ≡ 0 → Takes (input ∷ []) a b → Answers stands site v input a b result → Passes stands site v (input ∷ []) a b result
+  passes-one v input a b result missed takes answers = record {
     takes = takes;
     ends = ends-one v input a b missed result.0 answers.gives;
     after = left-is (λ core. stands core (view_after site (event_marks site v input) v)) (λ core. stands core (after site v (input ∷ [])))
@@ -173,7 +143,7 @@ module _ {C M : Type 0} (stands : C → View M → Type 0) (site : Site M) where
       }
 
   gives-later : (v : View M) (marks : List (Mark M)) (a b c : Outer) → Stays a.offered b.offered → b.written ≡ a.written → (end : End) → GivesBy site v marks b c end → GivesBy site v marks a c end
-  gives-later v marks a b c stays same Turns gives = record {
+  gives-later v marks a b c stays same Done gives = record {
     offered = changes-after (λ (before now : Offers). now ≡ before ++ offers_of site v marks) a.offered b.offered c.offered stays gives.offered;
     written = subst (λ (w : Option Bytes). Appends w c.written (lines_of site v marks)) same gives.written;
   }
@@ -193,10 +163,69 @@ module _ {C M : Type 0} (stands : C → View M → Type 0) (site : Site M) where
   takes-later a b c first gone stays = Takes-one a c first (changes-before (λ (before now : List MemInput). before ≡ first ∷ now) a.left b.left c.left gone stays)
 
   -- the first input that was left was taken and answered
-  pub serves-answer : (v : View M) (first : MemInput) (a b c : Outer) (result : End × Option C) → Changes (λ (before now : List MemInput). before ≡ first ∷ now) a.left b.left → b.missed ≡ 0 → Stays a.offered b.offered → b.written ≡ a.written
-      → Stays b.left c.left → c.missed ≡ b.missed → Answers stands site v (given_of first) b c result → Serves stands site v 1 a c result
-  serves-answer v first a b c result gone missed offered written left same answers =
-      serves-one v (given_of first) a c result (same ∙ missed) (takes-later a b c first gone left) (answers-later v (given_of first) a b c result offered written answers)
+  pub passes-answer : (v : View M) (first : MemInput) (a b c : Outer) (result : End × Option C) → Changes (λ (before now : List MemInput). before ≡ first ∷ now) a.left b.left → b.missed ≡ 0 → Stays a.offered b.offered → b.written ≡ a.written
+      → Stays b.left c.left → c.missed ≡ b.missed → Answers stands site v (given_of first) b c result → Passes stands site v (given_of first ∷ []) a c result
+  passes-answer v first a b c result gone missed offered written left same answers =
+      passes-one v (given_of first) a c result (same ∙ missed) (takes-later a b c first gone left) (answers-later v (given_of first) a b c result offered written answers)
+
+-- ---- so many turns
+
+-- so many inputs were taken, so many of them ticks, none of them too many
+pub record SoFar {C M : Type 0} (stands : C → View M → Type 0) (site : Site M) (v : View M) (until : Until) (turns ticks : ℕ) (old new : Outer) (core : C) : Type 0 where
+  pub inputs : List Input
+  pub all : length inputs ≡ turns
+  pub ticked : count_by is_tick inputs ≡ ticks
+  pub needed : AreNeeded is_tick until inputs
+  pub passes : Passes stands site v inputs old new (Done, Some core)
+
+module _ {C M : Type 0} (stands : C → View M → Type 0) (site : Site M) (v : View M) (until : Until) where
+  pub begins : (a : Outer) (core : C) → stands core v → SoFar stands site v until 0 0 a a core
+  begins a core is = record {
+    inputs = [];
+    all = refl;
+    ticked = refl;
+    needed = tt;
+    passes = passes-none stands site v a a core is (stays-same a.left) refl (Gives-nil a);
+  }
+
+  -- they were enough
+  pub done : (turns ticks : ℕ) (a b : Outer) (core : C) → IsOver until turns ticks → SoFar stands site v until turns ticks a b core → Serves stands site v until a b (Done, Some core)
+  done turns ticks a b core over so = record {
+    inputs = so.inputs;
+    needed = so.needed;
+    enough = λ is. over-by is_tick until so.inputs turns ticks so.all so.ticked over;
+    passes = so.passes;
+  }
+
+  module _ (turns ticks : ℕ) (a b c : Outer) (core : C) (still : IsOver until turns ticks → ⊥) (so : SoFar stands site v until turns ticks a b core) where
+    more-needed : (later : List Input) → length later ≤ 1 → AreNeeded is_tick until (later ++ so.inputs)
+    more-needed later few = needed-more is_tick until later so.inputs few so.needed (still-by is_tick until so.inputs turns ticks so.all so.ticked still)
+
+    -- one turn more
+    pub goes-on : (next : C) (ticked : Bool) (more : ℕ) → more ≡ from_bool ticked → ((w : View M) → stands core w → TakesTurn stands site w b c (Ok (next, ticked))) → SoFar stands site v until (turns + 1) (ticks + more) a c next
+    goes-on next ticked more counted turn =
+        let p = turn (after site v so.inputs) so.passes.after in
+        let input = p.one.0 in
+        let one : p.inputs ≡ input ∷ [] = p.one.1 in
+        let q = subst (λ (later : List Input). Passes stands site (after site v so.inputs) later b c (Done, Some next)) one p.passes in
+        record {
+          inputs = input ∷ so.inputs;
+          all = (let all = so.all in omega arith);
+          ticked = ticks-more is_tick input so.inputs ticks more ticked so.ticked p.one.2 counted;
+          needed = more-needed (input ∷ []) (omega arith);
+          passes = passes-more stands site v so.inputs (input ∷ []) a b c core (Done, Some next) so.passes q;
+        }
+
+    -- it ended
+    pub ends : (ended : End × Option C) → (ended.0 ≡ Done → ⊥) → ((w : View M) → stands core w → TakesTurn stands site w b c (Err ended)) → Serves stands site v until a c ended
+    ends ended other turn =
+        let p = turn (after site v so.inputs) so.passes.after in
+        record {
+          inputs = p.inputs ++ so.inputs;
+          needed = more-needed p.inputs p.one;
+          enough = λ is. absurd (other is);
+          passes = passes-more stands site v so.inputs p.inputs a b c core ended so.passes p.passes;
+        }
 
 -- ---- counts
 
@@ -205,12 +234,6 @@ le_same n = omega arith
 
 pub le_more : (a b c : ℕ) → a ≤ b → b ≤ c → a ≤ c
 le_more a b c first second = omega arith
-
-pub le_both : (a b : ℕ) → a ≤ b → b ≤ a → a ≡ b
-le_both a b first second = omega arith
-
-pub lt_next : (a b : ℕ) → a < b → a + 1 ≤ b
-lt_next a b below = omega arith
 
 -- faults that came later than some
 pub cause_later : {P Q : Type 0} (a b c : ℕ) → a ≤ b → HasCause b c P → (Q → P) → HasCause a c Q

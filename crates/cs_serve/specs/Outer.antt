@@ -1,5 +1,5 @@
 -- What the link and the sink of a node tell.
-use Rattle.std.specs.Prelude.{◌≡◌, ℕ, List, ◌++◌, map, reverse, Option}
+use Rattle.std.specs.Prelude.{◌≡◌, ℕ, Bool, true, false, List, ◌++◌, map, reverse, Option}
 use Rattle.std.specs.Io.KnownBytes.{Appends}
 use Rattle.cs_base.specs.Answers.{AppendsFront}
 use Rattle.cs_ledger.specs.Ledger.{Bytes}
@@ -23,6 +23,10 @@ outer left offered missed written = record { left = left; offered = offered; mis
 abbrev pub given_of : MemInput → Input
 given_of (came.Datagram bytes) = Datagram bytes
 given_of came.Tick = Tick
+
+abbrev pub is_tick : Input → Bool
+is_tick (Datagram bytes) = false
+is_tick Tick = true
 
 -- the first inputs that were left are gone, and are these, the newest first
 abbrev pub Takes : List Input → Outer → Outer → Type 0

@@ -1,14 +1,16 @@
 -- Serving: what a node does with the inputs of a link.
-use Rattle.std.specs.Prelude.{◌≡◌, ℕ, ◌+◌, ◌-◌, ◌^◌, ◌≤◌, min, false, List, [], ◌∷◌, ◌++◌, length, map, Option, Some, IfSome, Result, Ok, Err}
+use Rattle.std.specs.Prelude.{◌≡◌, ℕ, ◌+◌, ◌-◌, ◌^◌, ◌≤◌, min, Bool, false, List, [], ◌∷◌, ◌++◌, length, map, Option, Some, IfSome, Result, Ok, Err}
 use Rattle.cs_ledger.specs.Ledger.{Bytes}
 use Rattle.cs_node_rules.specs.Lines.{parcels_of, sign_lines}
 use Rattle.cs_node_rules.specs.Site.{Input, Mark, Site, View, view_after, signs_of}
 use Rattle.cs_node_rules.specs.Trail.{event_marks}
 use Rattle.cs_outer.specs.Link.{Offers}
+use Rattle.cs_outer.specs.Until.{AreEnough, AreNeeded}
+use Rattle.cs_outer.specs.declared.until.Until.{Until}
 use Rattle.cs_serve.specs.declared.ending.End.{End}
-use Rattle.cs_serve.specs.declared.ending.End.TheVariants.{Turns, Ended, LinkFault, WriteFault, Memory}
+use Rattle.cs_serve.specs.declared.ending.End.TheVariants.{Done, Ended, LinkFault, WriteFault, Memory}
 use Rattle.cs_serve.specs.declared.receiving.TheConstants.{MOST_MISSED}
-use Rattle.cs_serve.specs.Outer.{Outer, Takes, Gives, GivesFront}
+use Rattle.cs_serve.specs.Outer.{Outer, is_tick, Takes, Gives, GivesFront}
 
 -- ---- what a node does
 
@@ -40,40 +42,60 @@ abbrev pub missed_past : ℕ → List Input → ℕ
 missed_past before [] = before
 missed_past before (input ∷ past) = 0
 
--- Turns: so many inputs were taken. Ended: the link has none left. LinkFault: so many receives in a row failed. With
--- these all was given; where a line couldn't be written, and for want of memory, a front of it.
-abbrev pub Ends : {M : Type 0} → Site M → View M → ℕ → List Input → Outer → Outer → End → Type 0
-Ends {M} site v turns inputs old new Turns =
-    (length inputs ≡ turns) × (new.missed ≡ missed_past old.missed inputs)
-    × GivesAll site v (trail site v inputs) old new
-Ends {M} site v turns inputs old new Ended =
+-- Done: so far it goes on. Ended: the link has none left. LinkFault: so many receives in a row failed. With these all
+-- was given; where a line couldn't be written, and for want of memory, a front of it.
+abbrev pub Ends : {M : Type 0} → Site M → View M → List Input → Outer → Outer → End → Type 0
+Ends {M} site v inputs old new Done =
+    (new.missed ≡ missed_past old.missed inputs) × GivesAll site v (trail site v inputs) old new
+Ends {M} site v inputs old new Ended =
     IfSome new.left (λ left. left ≡ []) × GivesAll site v (trail site v inputs) old new
-Ends {M} site v turns inputs old new LinkFault =
+Ends {M} site v inputs old new LinkFault =
     (new.missed ≡ min (missed_past old.missed inputs + MOST_MISSED) (2 ^ 64 - 1))
     × GivesAll site v (trail site v inputs) old new
-Ends {M} site v turns inputs old new WriteFault = GivesPart site v (trail site v inputs) old new
-Ends {M} site v turns inputs old new Memory = GivesPart site v (trail site v inputs) old new
+Ends {M} site v inputs old new WriteFault = GivesPart site v (trail site v inputs) old new
+Ends {M} site v inputs old new Memory = GivesPart site v (trail site v inputs) old new
 
--- A node was served: these inputs were taken, it ended so, and the node, if there is one, stands for the view after
--- them.
-pub record Serves {C M : Type 0} (stands : C → View M → Type 0) (site : Site M) (v : View M) (turns : ℕ)
+-- These inputs were taken, it ended so, and the node, if there is one, stands for the view after them.
+pub record Passes {C M : Type 0} (stands : C → View M → Type 0) (site : Site M) (v : View M) (inputs : List Input)
+    (old new : Outer) (result : End × Option C) : Type 0 where
+  pub takes : Takes inputs old new
+  pub ends : Ends site v inputs old new result.0
+  pub after : IfSome result.1 (λ core. stands core (view_after site (trail site v inputs) v))
+
+-- A node was served: of the inputs that it took none is too many, and where it is done they are enough.
+pub record Serves {C M : Type 0} (stands : C → View M → Type 0) (site : Site M) (v : View M) (until : Until)
     (old new : Outer) (result : End × Option C) : Type 0 where
   pub inputs : List Input
-  pub few : length inputs ≤ turns
-  pub takes : Takes inputs old new
-  pub ends : Ends site v turns inputs old new result.0
-  pub after : IfSome result.1 (λ core. stands core (view_after site (trail site v inputs) v))
+  pub needed : AreNeeded is_tick until inputs
+  pub enough : result.0 ≡ Done → AreEnough is_tick until inputs
+  pub passes : Passes stands site v inputs old new result
 
 -- ---- one turn
 
--- a turn that didn't end the serving took the one input that it was to take
+-- an input that was answered, unless that ended the serving
 abbrev pub served : {C : Type 0} → Result C (End × Option C) → End × Option C
-served {C} (Ok core) = (Turns, Some core)
+served {C} (Ok core) = (Done, Some core)
 served {C} (Err ended) = ended
+
+-- the same of a turn, which tells whether its input was a tick
+abbrev pub turned : {C : Type 0} → Result (C × Bool) (End × Option C) → End × Option C
+turned {C} (Ok (core, ticked)) = (Done, Some core)
+turned {C} (Err ended) = ended
+
+-- one input was taken, and it is a tick or isn't; or one at most, where that ended the serving
+abbrev pub TakesOne : {C : Type 0} → List Input → Result (C × Bool) (End × Option C) → Type 0
+TakesOne {C} inputs (Ok (core, ticked)) = (input : Input) × (inputs ≡ input ∷ []) × (ticked ≡ is_tick input)
+TakesOne {C} inputs (Err ended) = length inputs ≤ 1
+
+pub record TakesTurn {C M : Type 0} (stands : C → View M → Type 0) (site : Site M) (v : View M) (old new : Outer)
+    (result : Result (C × Bool) (End × Option C)) : Type 0 where
+  pub inputs : List Input
+  pub one : TakesOne inputs result
+  pub passes : Passes stands site v inputs old new (turned result)
 
 -- what an input makes was given; or a front of it
 abbrev pub GivesBy : {M : Type 0} → Site M → View M → List (Mark M) → Outer → Outer → End → Type 0
-GivesBy {M} site v marks old new Turns = GivesAll site v marks old new
+GivesBy {M} site v marks old new Done = GivesAll site v marks old new
 GivesBy {M} site v marks old new Ended = ⊥
 GivesBy {M} site v marks old new LinkFault = ⊥
 GivesBy {M} site v marks old new WriteFault = GivesPart site v marks old new

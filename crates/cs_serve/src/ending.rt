@@ -4,7 +4,7 @@
 #[derive(Clone, Copy, Debug, PartialEq, Eq)]
 pub enum End {
     /// It took as many inputs as it was to take.
-    Turns,
+    Done,
     /// The link has nothing left.
     Ended,
     /// Too many receives in a row failed.

@@ -13,7 +13,7 @@ ghost use Rattle.cs_node.specs.Speaking.{input_of};
 ghost use Rattle.cs_serve.specs.Offering.{offers_in};
 ghost use Rattle.cs_serve.specs.Outer.{outer, Gives, GivesFront};
 ghost use Rattle.cs_serve.specs.Telling.{notes_text};
-ghost use Rattle.cs_serve.specs.Serving.{Answers, Serves, served};
+ghost use Rattle.cs_serve.specs.Serving.{Answers, Serves, TakesTurn, served, turned};
 
 use crate::ending::End;
 use crate::offering::offer;
@@ -21,24 +21,24 @@ use crate::receiving::receive;
 use crate::telling::tell;
 use cs_base::{MOST_DATAGRAM, Memory, NodeId, Sink, WriteError};
 use cs_node::{Carried, Core, Input, Made};
-use cs_outer::{Arrived, Link};
+use cs_outer::{Arrived, Link, Until};
 use cs_tx::Judge;
 use std::alloc::Global;
 
-/// Gives a node so many inputs of the link, offers what it sends, and prints the lines of what it
-/// executes. It ends before if the link has nothing left or fails too often in a row, if a line
-/// can't be written, or for want of memory; at that alone the node may be gone.
+/// Gives a node the inputs of the link for so long, offers what it sends, and prints the lines of
+/// what it executes. It ends before if the link has nothing left or fails too often in a row, if a
+/// line can't be written, or for want of memory; at that alone the node may be gone.
 pub fn serve<O: Carried, J: Judge + Drop, L: Link, K: Sink>(
     alloc: Global,
     core: Core<O, J>,
     link: &mut L,
     out: &mut K,
-    turns: u64,
+    until: Until,
 ) -> (End, Option<Core<O, J>>)
     ensures serves { (setup : Setup) (net : Net) (v : View O.Message) →
         let site = site_of setup net O.rules O.carrier in
         let stands = StandsFor O.stands J.is_approved site in
-        stands core v → Serves stands site v turns
+        stands core v → Serves stands site v until
         (outer (L.left link.old) (L.offered link.old) (L.missed link.old) (K.written out.old))
         (outer (L.left link.new) (L.offered link.new) (L.missed link.new) (K.written out.new))
         result }
@@ -52,45 +52,56 @@ pub fn serve<O: Carried, J: Judge + Drop, L: Link, K: Sink>(
     };
     let buf = room.as_mut_slice();
     let mut core = core;
-    for _turn in 0..turns {
+    let mut turns = 0;
+    let mut ticks = 0;
+    while !until.is_over(turns, ticks) {
         match take_turn(alloc, core, link, out, buf) {
-            Ok(next) => core = next,
+            Ok((next, ticked)) => {
+                core = next;
+                turns += 1;
+                ticks += u64::from(ticked);
+            }
             Err(ended) => return ended,
         }
     }
-    (End::Turns, Some(core))
+    (End::Done, Some(core))
 }
 
-// Takes an input and answers it: the node after it, or how the serving ends.
+// Takes an input and answers it: the node after it, with whether the input was a tick, or how the
+// serving ends.
 fn take_turn<O: Carried, J: Judge + Drop, L: Link, K: Sink>(
     alloc: Global,
     core: Core<O, J>,
     link: &mut L,
     out: &mut K,
     buf: &mut [u8],
-) -> Result<Core<O, J>, (End, Option<Core<O, J>>)>
+) -> Result<(Core<O, J>, bool), (End, Option<Core<O, J>>)>
     requires { length buf.old ≡ MOST_DATAGRAM + 1 }
-    ensures serves { (setup : Setup) (net : Net) (v : View O.Message) →
+    ensures takes { (setup : Setup) (net : Net) (v : View O.Message) →
         let site = site_of setup net O.rules O.carrier in
         let stands = StandsFor O.stands J.is_approved site in
-        stands core v → Serves stands site v 1
+        stands core v → TakesTurn stands site v
         (outer (L.left link.old) (L.offered link.old) (L.missed link.old) (K.written out.old))
         (outer (L.left link.new) (L.offered link.new) (L.missed link.new) (K.written out.new))
-        (served result) }
-    ensures ended { IfErr result (λ ended. ended.0 ≢ End.Turns) }
+        result }
+    ensures ended { IfErr result (λ ended. ended.0 ≢ End.Done) }
     ensures kept { IfErr result (λ ended. ended.0 ≢ End.Memory → IsSome ended.1) }
     ensures bound { Stays (L.bound link.old) (L.bound link.new) }
     ensures link { HasCause (L.faults link.old) (L.faults link.new)
-        ((served result).0 ≡ End.LinkFault) }
+        ((turned result).0 ≡ End.LinkFault) }
     ensures sink { HasCause (K.faults out.old) (K.faults out.new)
-        ((served result).0 ≡ End.WriteFault) }
+        ((turned result).0 ≡ End.WriteFault) }
 {
     match receive(link, buf) {
         Arrived::Datagram(count) => {
             let (bytes, _) = buf.split_at(count);
-            answer(alloc, core, Input::Datagram(bytes), link, out)
+            let core = answer(alloc, core, Input::Datagram(bytes), link, out)?;
+            Ok((core, false))
         }
-        Arrived::Tick => answer(alloc, core, Input::Tick, link, out),
+        Arrived::Tick => {
+            let core = answer(alloc, core, Input::Tick, link, out)?;
+            Ok((core, true))
+        }
         Arrived::End => Err((End::Ended, Some(core))),
         Arrived::Failed => Err((End::LinkFault, Some(core))),
     }

@@ -1,6 +1,6 @@
 -- One deed after the other.
 use Rattle.std.proofs.Common.{◌≡◌, ◌⊎◌, inl, inr, ℕ, ◌+◌, List, [], ◌∷◌, ◌++◌, length, Option, Some, None, Result, Ok, Err, refl, sym, ap, subst, ◌∙◌, arith, append_assoc, append-nil, length-append}
-use Rattle.std.specs.Prelude.{IsErrAnd, IsErrOf}
+use Rattle.std.specs.Prelude.{IsErrAnd, IsErrOf, filter, not, ◌==◌}
 use Rattle.std.specs.Io.KnownBytes.{Appends}
 use Rattle.std.proofs.KnownBytes.{Appends-nil, Appends-trans}
 use Rattle.cs_base.specs.Answers.{AppendsFront}
@@ -9,8 +9,8 @@ use Rattle.cs_outer.specs.Told.{Changes, Stays}
 use Rattle.cs_outer.specs.laws.Told.{stays-same, stays-both}
 use Rattle.cs_outer.specs.Spawner.{Children}
 use Rattle.cs_spawn.specs.Words.{end_line}
-use Rattle.cs_spawn.specs.Deeds.{Deed, Start, Wait, words_in}
-use Rattle.cs_spawn.specs.Running.{Outer, EndsWith, AreLines, Starts, Does, DoesFront, BreaksOff, Fails, Ends}
+use Rattle.cs_spawn.specs.Deeds.{Deed, Start, Wait, words_in, left_after}
+use Rattle.cs_spawn.specs.Running.{Outer, EndsWith, AreLines, Starts, Does, DoesFront, BreaksOff, Fails, Leaves, Goes}
 use Rattle.cs_spawn.specs.declared.error.ClusterError.{ClusterError}
 use Rattle.cs_spawn.specs.declared.error.ClusterError.TheVariants.{SpawnFault, WriteFault, Memory}
 
@@ -38,7 +38,7 @@ starts-none a b started children statuses = record {
   statuses = statuses;
 }
 
-starts-more : (a b c : Outer) (xs ys : Children) → Starts xs a b → Starts ys b c → Starts (xs ++ ys) a c
+pub starts-more : (a b c : Outer) (xs ys : Children) → Starts xs a b → Starts ys b c → Starts (xs ++ ys) a c
 starts-more a b c xs ys p q = record {
   started = grows-more a.started b.started c.started xs ys p.started q.started;
   children = (let one = p.children in let two = q.children in let all = length-append xs ys in omega arith);
@@ -72,7 +72,7 @@ lines-more s (Wait title number ∷ xs) ys one two (status, later, ends, is, are
 
 -- ---- deeds
 
-words_in-append : (xs ys : List Deed) → words_in (xs ++ ys) ≡ words_in xs ++ words_in ys
+pub words_in-append : (xs ys : List Deed) → words_in (xs ++ ys) ≡ words_in xs ++ words_in ys
 words_in-append [] ys = refl
 words_in-append (Start words ∷ xs) ys = ap (λ l. words ∷ l) (words_in-append xs ys)
 words_in-append (Wait title number ∷ xs) ys = words_in-append xs ys
@@ -97,97 +97,132 @@ does-more a b c xs ys p q = record {
   written = Appends-trans a.written b.written c.written p.lines q.lines p.written q.written;
 }
 
+-- ---- the children that are left
+
+left_after-append : (left : List ℕ) (next : ℕ) (xs ys : List Deed) → left_after left next (xs ++ ys) ≡ left_after (left_after left next xs) (next + length (words_in xs)) ys
+left_after-append left next [] ys = let same : next ≡ next + 0 = omega arith in ap (λ n. left_after left n ys) same
+left_after-append left next (Start words ∷ xs) ys =
+    let later : List ℕ = left_after (left ++ next ∷ []) (next + 1) xs in
+    let same : (next + 1) + length (words_in xs) ≡ next + length (words ∷ words_in xs) = omega arith in
+    left_after-append (left ++ next ∷ []) (next + 1) xs ys ∙ ap (λ n. left_after later n ys) same
+left_after-append left next (Wait title number ∷ xs) ys = left_after-append (filter (λ n. not (n == number)) left) next xs ys
+
+-- all of these deeds were done, with these children left before and after
+abbrev pub Done : List Deed → List ℕ → List ℕ → Outer → Outer → Type 0
+Done deeds left left' old new = Does deeds old new × Leaves left left' old new deeds
+
+leaves-after : (a b c : Outer) (l m n : List ℕ) (xs ys : List Deed) → Done xs l m a b → Leaves m n b c ys → Leaves l n a c (xs ++ ys)
+leaves-after a b c l m n xs ys p q = record {
+  ended = q.ended ∙ p.1.ended;
+  left = q.left ∙ ap (λ k. left_after m k ys) p.0.starts.children
+      ∙ ap (λ k. left_after k (a.children + length (words_in xs)) ys) p.1.left
+      ∙ sym (left_after-append l a.children xs ys);
+}
+
+pub done-nil : (left : List ℕ) (a : Outer) → Done [] left left a a
+done-nil left a = (does-nil a, record { ended = refl; left = refl })
+
+pub done-more : (a b c : Outer) (l m n : List ℕ) (xs ys : List Deed) → Done xs l m a b → Done ys m n b c → Done (xs ++ ys) l n a c
+done-more a b c l m n xs ys p q = (does-more a b c xs ys p.0 q.0, leaves-after a b c l m n xs ys p q.1)
+
 -- ---- how it ends
 
-front-after : (a b c : Outer) (xs ys : List Deed) → Does xs a b → DoesFront ys b c → DoesFront (xs ++ ys) a c
-front-after a b c xs ys p q = record {
-  done = xs ++ q.done;
-  rest = q.rest;
-  front = ap (λ l. xs ++ l) q.front ∙ sym (append_assoc xs q.done q.rest);
-  does = does-more a b c xs q.done p q.does;
-}
+module _ (a b c : Outer) (l m n : List ℕ) (xs ys : List Deed) (p : Done xs l m a b) where
+  front-after : DoesFront (Leaves m n b c) ys b c → DoesFront (Leaves l n a c) (xs ++ ys) a c
+  front-after q = record {
+    done = xs ++ q.done;
+    rest = q.rest;
+    front = ap (λ l. xs ++ l) q.front ∙ sym (append_assoc xs q.done q.rest);
+    does = does-more a b c xs q.done p.0 q.does;
+    left = leaves-after a b c l m n xs q.done p q.left;
+  }
 
-front-early : (a b : Outer) (xs ys : List Deed) → DoesFront xs a b → DoesFront (xs ++ ys) a b
-front-early a b xs ys p = record {
-  done = p.done;
-  rest = p.rest ++ ys;
-  front = ap (λ l. l ++ ys) p.front ∙ append_assoc p.done p.rest ys;
-  does = p.does;
-}
+  breaks-after : BreaksOff (Leaves m n b c) ys b c → BreaksOff (Leaves l n a c) (xs ++ ys) a c
+  breaks-after q = record {
+    done = xs ++ q.done;
+    title = q.title;
+    number = q.number;
+    rest = q.rest;
+    front = ap (λ l. xs ++ l) q.front ∙ sym (append_assoc xs q.done (Wait q.title q.number ∷ q.rest));
+    status = q.status;
+    ended = ends_with-before a.statuses b.statuses p.0.starts.statuses q.number q.status q.ended;
+    middle = q.middle;
+    does = does-more a b q.middle xs q.done p.0 q.does;
+    kept = q.kept;
+    written = q.written;
+    left = subst (λ (d : List Deed). Leaves l n a c d) (sym (append_assoc xs q.done (Wait q.title q.number ∷ [])))
+        (leaves-after a b c l m n xs (q.done ++ Wait q.title q.number ∷ []) p q.left);
+  }
 
-breaks-after : (a b c : Outer) (xs ys : List Deed) → Does xs a b → BreaksOff ys b c → BreaksOff (xs ++ ys) a c
-breaks-after a b c xs ys p q = record {
-  done = xs ++ q.done;
-  title = q.title;
-  number = q.number;
-  rest = q.rest;
-  front = ap (λ l. xs ++ l) q.front ∙ sym (append_assoc xs q.done (Wait q.title q.number ∷ q.rest));
-  status = q.status;
-  ended = ends_with-before a.statuses b.statuses p.starts.statuses q.number q.status q.ended;
-  middle = q.middle;
-  does = does-more a b q.middle xs q.done p q.does;
-  kept = q.kept;
-  written = q.written;
-}
+  -- these deeds were done, and the next failed so
+  fails-after : (e : ClusterError) → Fails (Leaves m n b c) ys b c e → Fails (Leaves l n a c) (xs ++ ys) a c e
+  fails-after SpawnFault q = front-after q
+  fails-after WriteFault q = breaks-after q
+  fails-after Memory (inl q) = inl (front-after q)
+  fails-after Memory (inr q) = inr (breaks-after q)
 
-breaks-early : (a b : Outer) (xs ys : List Deed) → BreaksOff xs a b → BreaksOff (xs ++ ys) a b
-breaks-early a b xs ys p = record {
-  done = p.done;
-  title = p.title;
-  number = p.number;
-  rest = p.rest ++ ys;
-  front = ap (λ l. l ++ ys) p.front ∙ append_assoc p.done (Wait p.title p.number ∷ p.rest) ys;
-  status = p.status;
-  ended = p.ended;
-  middle = p.middle;
-  does = p.does;
-  kept = p.kept;
-  written = p.written;
-}
+  -- these deeds were done, and the next ended so
+  pub goes-after : {A : Type 0} (result : Result A ClusterError) → Goes ys m n b c result → Goes (xs ++ ys) l n a c result
+  goes-after (Ok x) q = done-more a b c l m n xs ys p q
+  goes-after (Err e) q = fails-after e q
 
-both : {A B C D : Type 0} → (A → C) → (B → D) → A ⊎ B → C ⊎ D
-both f g (inl x) = inl (f x)
-both f g (inr y) = inr (g y)
+module _ (Left : List Deed → Type 0) (a b : Outer) (xs ys : List Deed) where
+  front-early : DoesFront Left xs a b → DoesFront Left (xs ++ ys) a b
+  front-early p = record {
+    done = p.done;
+    rest = p.rest ++ ys;
+    front = ap (λ l. l ++ ys) p.front ∙ append_assoc p.done p.rest ys;
+    does = p.does;
+    left = p.left;
+  }
 
--- these deeds were done, and the next failed so
-fails-after : (a b c : Outer) (xs ys : List Deed) (e : ClusterError) → Does xs a b → Fails ys b c e → Fails (xs ++ ys) a c e
-fails-after a b c xs ys SpawnFault p q = front-after a b c xs ys p q
-fails-after a b c xs ys WriteFault p q = breaks-after a b c xs ys p q
-fails-after a b c xs ys Memory p q = both (front-after a b c xs ys p) (breaks-after a b c xs ys p) q
+  breaks-early : BreaksOff Left xs a b → BreaksOff Left (xs ++ ys) a b
+  breaks-early p = record {
+    done = p.done;
+    title = p.title;
+    number = p.number;
+    rest = p.rest ++ ys;
+    front = ap (λ l. l ++ ys) p.front ∙ append_assoc p.done (Wait p.title p.number ∷ p.rest) ys;
+    status = p.status;
+    ended = p.ended;
+    middle = p.middle;
+    does = p.does;
+    kept = p.kept;
+    written = p.written;
+    left = p.left;
+  }
 
--- they failed so before the next
-fails-early : (a b : Outer) (xs ys : List Deed) (e : ClusterError) → Fails xs a b e → Fails (xs ++ ys) a b e
-fails-early a b xs ys SpawnFault p = front-early a b xs ys p
-fails-early a b xs ys WriteFault p = breaks-early a b xs ys p
-fails-early a b xs ys Memory p = both (front-early a b xs ys) (breaks-early a b xs ys) p
-
--- these deeds were done, and the next ended so
-pub ends-after : {A : Type 0} (a b c : Outer) (xs ys : List Deed) (result : Result A ClusterError) → Does xs a b → Ends ys b c result → Ends (xs ++ ys) a c result
-ends-after a b c xs ys (Ok x) p q = does-more a b c xs ys p q
-ends-after a b c xs ys (Err e) p q = fails-after a b c xs ys e p q
+  -- they failed so before the next
+  fails-early : (e : ClusterError) → Fails Left xs a b e → Fails Left (xs ++ ys) a b e
+  fails-early SpawnFault p = front-early p
+  fails-early WriteFault p = breaks-early p
+  fails-early Memory (inl p) = inl (front-early p)
+  fails-early Memory (inr p) = inr (breaks-early p)
 
 -- the error is handed on
-pub ends-so : {A : Type 0} (a b : Outer) (deeds : List Deed) (e : ClusterError) (result : Result A ClusterError) → IsErrAnd result (λ x. x ≡ e) → Fails deeds a b e → Ends deeds a b result
-ends-so a b deeds e (Ok x) gives p = absurd gives
-ends-so a b deeds e (Err x) gives p = subst (λ (y : ClusterError). Fails deeds a b y) (sym gives) p
+pub goes-so : {A : Type 0} (a b : Outer) (l m : List ℕ) (deeds : List Deed) (e : ClusterError) (result : Result A ClusterError) → IsErrAnd result (λ x. x ≡ e) → Fails (Leaves l m a b) deeds a b e → Goes deeds l m a b result
+goes-so a b l m deeds e (Ok x) gives p = absurd gives
+goes-so a b l m deeds e (Err x) gives p = subst (λ (y : ClusterError). Fails (Leaves l m a b) deeds a b y) (sym gives) p
 
 -- memory ran out after these
-pub wants-there : {A : Type 0} (a b : Outer) (whole xs ys : List Deed) (result : Result A ClusterError) → whole ≡ xs ++ ys → Does xs a b → IsErrAnd result (λ x. x ≡ Memory) → Ends whole a b result
-wants-there a b whole xs ys result parts p gives = ends-so a b whole Memory result gives (inl (record { done = xs; rest = ys; front = parts; does = p }))
+pub wants-there : {A : Type 0} (a b : Outer) (l m : List ℕ) (whole xs ys : List Deed) (result : Result A ClusterError) → whole ≡ xs ++ ys → Done xs l m a b → IsErrAnd result (λ x. x ≡ Memory) → Goes whole l m a b result
+wants-there a b l m whole xs ys result parts p gives =
+    goes-so a b l m whole Memory result gives (inl (record { done = xs; rest = ys; front = parts; does = p.0; left = p.1 }))
 
 -- before any of these
-pub wants-at_once : {A : Type 0} (a : Outer) (deeds : List Deed) (result : Result A ClusterError) → IsErrAnd result (λ x. x ≡ Memory) → Ends deeds a a result
-wants-at_once a deeds result gives = wants-there a a deeds [] deeds result refl (does-nil a) gives
+pub wants-at_once : {A : Type 0} (a : Outer) (l : List ℕ) (deeds : List Deed) (result : Result A ClusterError) → IsErrAnd result (λ x. x ≡ Memory) → Goes deeds l l a a result
+wants-at_once a l deeds result gives = wants-there a a l l deeds [] deeds result refl (done-nil l a) gives
 
 -- these failed so, before the others
-pub stops-early : {A : Type 0} (a b : Outer) (xs ys : List Deed) (e : ClusterError) (result : Result A ClusterError) → Fails xs a b e → IsErrAnd result (λ x. x ≡ e) → Ends (xs ++ ys) a b result
-stops-early a b xs ys e result p gives = ends-so a b (xs ++ ys) e result gives (fails-early a b xs ys e p)
+pub stops-early : {A : Type 0} (a b : Outer) (l m : List ℕ) (xs ys : List Deed) (e : ClusterError) (result : Result A ClusterError) → Fails (Leaves l m a b) xs a b e → IsErrAnd result (λ x. x ≡ e) → Goes (xs ++ ys) l m a b result
+stops-early a b l m xs ys e result p gives = goes-so a b l m (xs ++ ys) e result gives (fails-early (Leaves l m a b) a b xs ys e p)
 
 -- the same, after some were done
-pub stops-there : {A : Type 0} (a b c : Outer) (whole xs one ys : List Deed) (e : ClusterError) (result : Result A ClusterError) → whole ≡ (xs ++ one) ++ ys → Does xs a b → Fails one b c e
-    → IsErrAnd result (λ x. x ≡ e) → Ends whole a c result
-stops-there a b c whole xs one ys e result parts p q gives =
-    ends-so a c whole e result gives (subst (λ (l : List Deed). Fails l a c e) (sym parts) (fails-early a c (xs ++ one) ys e (fails-after a b c xs one e p q)))
+pub stops-there : {A : Type 0} (a b c : Outer) (l m n : List ℕ) (whole xs one ys : List Deed) (e : ClusterError) (result : Result A ClusterError) → whole ≡ (xs ++ one) ++ ys → Done xs l m a b → Fails (Leaves m n b c) one b c e
+    → IsErrAnd result (λ x. x ≡ e) → Goes whole l n a c result
+stops-there a b c l m n whole xs one ys e result parts p q gives =
+    goes-so a c l n whole e result gives (subst (λ (d : List Deed). Fails (Leaves l n a c) d a c e) (sym parts)
+    (fails-early (Leaves l n a c) a c (xs ++ one) ys e (fails-after a b c l m n xs one p e q)))
 
 -- the sink isn't at fault
 pub not-the-sink : {A : Type 0} (e : ClusterError) (result : Result A ClusterError) (before : ℕ) → IsErrAnd result (λ x. x ≡ e) → (e ≡ WriteFault → ⊥) → HasCause before before (IsErrOf result WriteFault)
@@ -203,12 +238,14 @@ not-the-sink {A} e (Err x) before gives other = record {
 -- ---- one deed
 
 -- none was started, or the spawner failed at a wait
-pub front-kept : (a b : Outer) (deeds : List Deed) → Starts [] a b → b.written ≡ a.written → DoesFront deeds a b
-front-kept a b deeds starts written = record { done = []; rest = deeds; front = refl; does = does-none a b starts written }
+pub front-kept : (a b : Outer) (l m : List ℕ) (deeds : List Deed) → Starts [] a b → b.ended ≡ a.ended → b.written ≡ a.written → m ≡ l → DoesFront (Leaves l m a b) deeds a b
+front-kept a b l m deeds starts ended written left =
+    record { done = []; rest = deeds; front = refl; does = does-none a b starts written; left = record { ended = ended; left = left } }
 
--- a child has ended, and a front of its line was printed
-pub wait-broke : (a b : Outer) (title : List ℕ) (number status : ℕ) → EndsWith a.statuses number status → Starts [] a b → AppendsFront a.written b.written (end_line title status) → BreaksOff (Wait title number ∷ []) a b
-wait-broke a b title number status ends starts written = record {
+-- a child has ended, and isn't left; a front of its line was printed
+pub wait-broke : (a b : Outer) (l m title : List ℕ) (number status : ℕ) → EndsWith a.statuses number status → Starts [] a b → b.ended ≡ a.ended → m ≡ filter (λ n. not (n == number)) l
+    → AppendsFront a.written b.written (end_line title status) → BreaksOff (Leaves l m a b) (Wait title number ∷ []) a b
+wait-broke a b l m title number status ends starts ended left written = record {
   done = [];
   title = title;
   number = number;
@@ -220,6 +257,7 @@ wait-broke a b title number status ends starts written = record {
   does = does-nil a;
   kept = starts;
   written = written;
+  left = record { ended = ended; left = left };
 }
 
 -- ---- how many children there are

@@ -1,3 +1,4 @@
 mod Going
 mod Plans
 mod Steps
+mod Left

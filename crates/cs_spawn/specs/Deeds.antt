@@ -1,5 +1,5 @@
 -- What a cluster does, one deed after the other.
-use Rattle.std.specs.Prelude.{ℕ, ◌+◌, List, [], ◌∷◌, ◌++◌, map, length}
+use Rattle.std.specs.Prelude.{ℕ, ◌+◌, not, ◌==◌, List, [], ◌∷◌, ◌++◌, map, length, filter}
 use Rattle.cs_base.specs.declared.config.Config.{Config}
 use Rattle.cs_base.specs.declared.node_id.NodeId.{NodeId}
 use Rattle.cs_config.specs.declared.plan.Plan.{Plan}
@@ -42,3 +42,9 @@ abbrev pub words_in : List Deed → List (List (List ℕ))
 words_in [] = []
 words_in (Start words ∷ deeds) = words ∷ words_in deeds
 words_in (Wait title number ∷ deeds) = words_in deeds
+
+-- the children that are left: each that is started, with the next number, until it is waited for
+abbrev pub left_after : List ℕ → ℕ → List Deed → List ℕ
+left_after left next [] = left
+left_after left next (Start words ∷ deeds) = left_after (left ++ next ∷ []) (next + 1) deeds
+left_after left next (Wait title number ∷ deeds) = left_after (filter (λ n. not (n == number)) left) next deeds

@@ -1,11 +1,11 @@
 -- What deeds leave at the spawner and the sink, and how the running of a cluster ends.
-use Rattle.std.specs.Prelude.{◌≡◌, ◌⊎◌, ℕ, ◌+◌, List, [], ◌∷◌, ◌++◌, length, Option, IfSome, Result, Ok, Err}
+use Rattle.std.specs.Prelude.{◌≡◌, ◌⊎◌, ℕ, ◌+◌, ◌<◌, ◌≤◌, Bool, List, [], ◌∷◌, ◌++◌, length, Option, IfSome, Result, Ok, Err}
 use Rattle.std.specs.Io.KnownBytes.{Appends}
 use Rattle.cs_base.specs.Answers.{AppendsFront}
 use Rattle.cs_outer.specs.Told.{Changes, Stays}
-use Rattle.cs_outer.specs.Spawner.{Children}
+use Rattle.cs_outer.specs.Spawner.{Children, EndsThese}
 use Rattle.cs_spawn.specs.Words.{end_line}
-use Rattle.cs_spawn.specs.Deeds.{Deed, Start, Wait, words_in}
+use Rattle.cs_spawn.specs.Deeds.{Deed, Start, Wait, words_in, left_after}
 use Rattle.cs_spawn.specs.declared.error.ClusterError.{ClusterError}
 use Rattle.cs_spawn.specs.declared.error.ClusterError.TheVariants.{SpawnFault, WriteFault, Memory}
 
@@ -14,11 +14,12 @@ pub record Outer : Type 0 where
   pub started : Option Children  -- the words of each child
   pub children : ℕ  -- how many there are
   pub statuses : Option (ℕ → ℕ)  -- with which each ends
+  pub ended : ℕ → Bool  -- whether each was told to end
   pub written : Option (List ℕ)
 
-abbrev pub outer : Option Children → ℕ → Option (ℕ → ℕ) → Option (List ℕ) → Outer
-outer started children statuses written =
-    record { started = started; children = children; statuses = statuses; written = written }
+abbrev pub outer : Option Children → ℕ → Option (ℕ → ℕ) → (ℕ → Bool) → Option (List ℕ) → Outer
+outer started children statuses ended written =
+    record { started = started; children = children; statuses = statuses; ended = ended; written = written }
 
 -- the child of this number ends with this status, where the spawner tells that
 abbrev pub EndsWith : Option (ℕ → ℕ) → ℕ → ℕ → Type 0
@@ -38,22 +39,29 @@ pub record Starts (words : Children) (old new : Outer) : Type 0 where
   pub children : new.children ≡ old.children + length words
   pub statuses : Stays old.statuses new.statuses
 
--- all of these deeds were done, and nothing else
+-- no child was started, and none was told to end
+pub record IsIdle (old new : Outer) : Type 0 where
+  pub starts : Starts [] old new
+  pub ended : new.ended ≡ old.ended
+
+-- all of these deeds were done, and no others
 pub record Does (deeds : List Deed) (old new : Outer) : Type 0 where
   pub starts : Starts (words_in deeds) old new
   pub lines : List ℕ
   pub told : AreLines old.statuses deeds lines
   pub written : Appends old.written new.written lines
 
--- a front of these was done
-pub record DoesFront (deeds : List Deed) (old new : Outer) : Type 0 where
+-- a front of these was done, with such children left
+pub record DoesFront (Left : List Deed → Type 0) (deeds : List Deed) (old new : Outer) : Type 0 where
   pub done : List Deed
   pub rest : List Deed
   pub front : deeds ≡ done ++ rest
   pub does : Does done old new
+  pub left : Left done
 
--- all deeds before a wait were done; then the child had ended, and of its line a front was written
-pub record BreaksOff (deeds : List Deed) (old new : Outer) : Type 0 where
+-- All deeds before a wait were done; then the child had ended, and of its line a front was written. Such children are
+-- left.
+pub record BreaksOff (Left : List Deed → Type 0) (deeds : List Deed) (old new : Outer) : Type 0 where
   pub done : List Deed
   pub title : List ℕ
   pub number : ℕ
@@ -65,15 +73,37 @@ pub record BreaksOff (deeds : List Deed) (old new : Outer) : Type 0 where
   pub does : Does done old middle
   pub kept : Starts [] middle new
   pub written : AppendsFront middle.written new.written (end_line title status)
+  pub left : Left (done ++ Wait title number ∷ [])
 
 -- Where the spawner failed, the deeds before were done; where the sink failed, all but the end of a line; and where memory
 -- ran out, one or the other.
-abbrev pub Fails : List Deed → Outer → Outer → ClusterError → Type 0
-Fails deeds old new SpawnFault = DoesFront deeds old new
-Fails deeds old new WriteFault = BreaksOff deeds old new
-Fails deeds old new Memory = DoesFront deeds old new ⊎ BreaksOff deeds old new
+abbrev pub Fails : (List Deed → Type 0) → List Deed → Outer → Outer → ClusterError → Type 0
+Fails Left deeds old new SpawnFault = DoesFront Left deeds old new
+Fails Left deeds old new WriteFault = BreaksOff Left deeds old new
+Fails Left deeds old new Memory = DoesFront Left deeds old new ⊎ BreaksOff Left deeds old new
+
+-- ---- the children that are left
+
+-- those that were started and not waited for were told to end, and no others
+abbrev pub EndsLeft : Outer → Outer → List Deed → Type 0
+EndsLeft old new done = EndsThese (left_after [] old.children done) old.ended new.ended
+
+-- All deeds were done; or a part of them, and then the children that are left were told to end.
+abbrev pub Ends : {A : Type 0} → List Deed → Outer → Outer → Result A ClusterError → Type 0
+Ends {A} deeds old new (Ok x) = Does deeds old new × (new.ended ≡ old.ended)
+Ends {A} deeds old new (Err error) = Fails (EndsLeft old new) deeds old new error
+
+-- none was told to end; these are left, of those that were left before and those that were started
+pub record Leaves (before now : List ℕ) (old new : Outer) (done : List Deed) : Type 0 where
+  pub ended : new.ended ≡ old.ended
+  pub left : now ≡ left_after before old.children done
 
 -- all deeds were done, or a part of them
-abbrev pub Ends : {A : Type 0} → List Deed → Outer → Outer → Result A ClusterError → Type 0
-Ends {A} deeds old new (Ok x) = Does deeds old new
-Ends {A} deeds old new (Err error) = Fails deeds old new error
+abbrev pub Goes : {A : Type 0} → List Deed → List ℕ → List ℕ → Outer → Outer → Result A ClusterError → Type 0
+Goes {A} deeds before now old new (Ok x) = Does deeds old new × Leaves before now old new deeds
+Goes {A} deeds before now old new (Err error) = Fails (Leaves before now old new) deeds old new error
+
+-- these numbers rise, from the first on, and end before the last
+abbrev pub RiseBetween : ℕ → ℕ → List ℕ → Type 0
+RiseBetween first last [] = Unit {0}
+RiseBetween first last (number ∷ more) = (first ≤ number) × (number < last) × RiseBetween (number + 1) last more

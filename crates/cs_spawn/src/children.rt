@@ -1,8 +1,11 @@
-//! Starting a child, and waiting for one.
-ghost use Rattle.std.specs.Prelude.{◌≡◌, ◌≢◌, ◌<◌, ℕ, List, [], ◌∷◌, Option, IfOk, IfErr, map, string_bytes, IsErrOf};
+//! Starting a child, waiting for one, and telling those that are left to end.
+ghost use Rattle.std.specs.Prelude.{◌≡◌, ◌≢◌, ◌<◌, ◌≤◌, ◌==◌, ℕ, false, not, filter, List, [], ◌∷◌, Option, IfOk, IfErr, map, string_bytes, IsErrOf};
+ghost use Rattle.std.specs.List.{AllByRecursion};
 ghost use Rattle.cs_base.specs.Outside.{HasCause};
+ghost use Rattle.cs_outer.specs.Told.{Stays};
+ghost use Rattle.cs_outer.specs.Spawner.{EndsThese};
 ghost use Rattle.cs_spawn.specs.Deeds.{Start, Wait};
-ghost use Rattle.cs_spawn.specs.Running.{outer, Ends};
+ghost use Rattle.cs_spawn.specs.Running.{outer, Goes, RiseBetween};
 
 use crate::error::ClusterError;
 use crate::words::end_line;
@@ -10,39 +13,61 @@ use cs_base::{Sink, WriteError, print};
 use cs_outer::{Spawner, Started, Waited};
 use std::alloc::Global;
 
-/// Starts a child with these words, and gives its number.
-pub fn start<P: Spawner>(spawner: &mut P, words: &[String]) -> Result<u64, ClusterError>
+/// Starts a child with these words, gives its number, and keeps it among those that are left.
+pub fn start<P: Spawner>(
+    spawner: &mut P,
+    words: &[String],
+    left: &mut Vec<u64>,
+) -> Result<u64, ClusterError>
     ensures does { (written : Option (List ℕ)) →
-        Ends (Start (map string_bytes words.now) ∷ [])
-        (outer (P.started spawner.old) (P.children spawner.old) (P.statuses spawner.old) written)
-        (outer (P.started spawner.new) (P.children spawner.new) (P.statuses spawner.new) written)
+        Goes (Start (map string_bytes words.now) ∷ []) left.old.items left.new.items
+        (outer (P.started spawner.old) (P.children spawner.old) (P.statuses spawner.old)
+        (P.ended spawner.old) written)
+        (outer (P.started spawner.new) (P.children spawner.new) (P.statuses spawner.new)
+        (P.ended spawner.new) written)
         result }
     ensures number { IfOk result (λ number. number ≡ P.children spawner.old) }
     ensures other { IfErr result (λ error. error ≢ ClusterError.WriteFault) }
     ensures cause { HasCause (P.faults spawner.old) (P.faults spawner.new)
         (IsErrOf result ClusterError.SpawnFault) }
 {
+    // Room first, so that no child is started that isn't kept.
+    if left.reserve(1).is_err() {
+        return Err(ClusterError::Memory);
+    }
     match spawner.start(words) {
-        Started::Started(number) => Ok(number),
+        Started::Started(number) => {
+            left.push(number).unwrap();
+            Ok(number)
+        }
         Started::Failed => Err(ClusterError::SpawnFault),
         Started::Memory => Err(ClusterError::Memory),
     }
 }
 
-/// Waits until a child has ended, and prints its line: its title, and its status.
+// The child isn't left any more.
+fn forget(left: &mut Vec<u64>, child: u64)
+    ensures { left.new.items ≡ filter (λ other. not (other == child)) left.old.items }
+{
+    left.retain(|other| *other != child);
+}
+
+/// Waits until a child has ended, which then isn't left, and prints its line: its title, and its
+/// status.
 pub fn await_end<P: Spawner, K: Sink>(
     alloc: Global,
     spawner: &mut P,
     title: &str,
     child: u64,
+    left: &mut Vec<u64>,
     out: &mut K,
 ) -> Result<(), ClusterError>
     requires { child < P.children spawner.old }
-    ensures does { Ends (Wait title.now child ∷ [])
+    ensures does { Goes (Wait title.now child ∷ []) left.old.items left.new.items
         (outer (P.started spawner.old) (P.children spawner.old) (P.statuses spawner.old)
-        (K.written out.old))
+        (P.ended spawner.old) (K.written out.old))
         (outer (P.started spawner.new) (P.children spawner.new) (P.statuses spawner.new)
-        (K.written out.new))
+        (P.ended spawner.new) (K.written out.new))
         result }
     ensures spawner { HasCause (P.faults spawner.old) (P.faults spawner.new)
         (IsErrOf result ClusterError.SpawnFault) }
@@ -53,10 +78,26 @@ pub fn await_end<P: Spawner, K: Sink>(
         Waited::Ended(status) => status,
         Waited::Failed => return Err(ClusterError::SpawnFault),
     };
+    forget(left, child);
     let line = end_line(alloc, title, status)?;
     match print(out, line.as_bytes()) {
         Ok(()) => Ok(()),
         Err(WriteError::Failed) => Err(ClusterError::WriteFault),
         Err(WriteError::Memory) => Err(ClusterError::Memory),
+    }
+}
+
+/// Tells these children to end, whatever comes of it.
+pub fn end_all<P: Spawner>(spawner: &mut P, children: &[u64])
+    requires there { RiseBetween 0 (P.children spawner.old) children.now }
+    requires spared { AllByRecursion (λ child. P.ended spawner.old child ≡ false) children.now }
+    ensures ended { EndsThese children.now (P.ended spawner.old) (P.ended spawner.new) }
+    ensures started { Stays (P.started spawner.old) (P.started spawner.new) }
+    ensures children { P.children spawner.new ≡ P.children spawner.old }
+    ensures statuses { Stays (P.statuses spawner.old) (P.statuses spawner.new) }
+    ensures faults { P.faults spawner.old ≤ P.faults spawner.new }
+{
+    for child in children {
+        let _ = spawner.end(*child);
     }
 }

@@ -4,9 +4,9 @@ ghost use Rattle.std.specs.List.{AllByRecursion};
 ghost use Rattle.cs_base.specs.Outside.{HasCause};
 ghost use Rattle.cs_spawn.specs.Words.{client_words, client_title};
 ghost use Rattle.cs_spawn.specs.Deeds.{Start, Wait, numbered, node_starts, call_deeds, node_waits, cluster_deeds};
-ghost use Rattle.cs_spawn.specs.Running.{outer, Ends};
+ghost use Rattle.cs_spawn.specs.Running.{outer, Ends, Goes};
 
-use crate::children::{await_end, start};
+use crate::children::{await_end, end_all, start};
 use crate::error::ClusterError;
 use crate::words::{client_title, client_words, node_title, node_words};
 use cs_base::{NodeId, Sequence, Sink};
@@ -16,8 +16,8 @@ use cs_outer::Spawner;
 use std::alloc::Global;
 
 /// Runs a plan: starts all nodes of the site, runs the calls one after the other, and waits for the
-/// nodes; prints a line for each child that has ended. It ends at the first fault; what was started
-/// then runs on.
+/// nodes; prints a line for each child that has ended. It ends at the first fault, and tells each
+/// child to end then that was started and not waited for.
 pub fn cluster<P: Spawner, K: Sink>(
     alloc: Global,
     spawner: &mut P,
@@ -27,9 +27,40 @@ pub fn cluster<P: Spawner, K: Sink>(
 ) -> Result<(), ClusterError>
     ensures does { Ends (cluster_deeds plan.now site.now.config (P.children spawner.old))
         (outer (P.started spawner.old) (P.children spawner.old) (P.statuses spawner.old)
-        (K.written out.old))
+        (P.ended spawner.old) (K.written out.old))
         (outer (P.started spawner.new) (P.children spawner.new) (P.statuses spawner.new)
-        (K.written out.new))
+        (P.ended spawner.new) (K.written out.new))
+        result }
+    ensures spawner { HasCause (P.faults spawner.old) (P.faults spawner.new)
+        (IsErrOf result ClusterError.SpawnFault) }
+    ensures sink { HasCause (K.faults out.old) (K.faults out.new)
+        (IsErrOf result ClusterError.WriteFault) }
+{
+    let mut left = Vec::new(alloc);
+    match run_children(alloc, spawner, plan, site, &mut left, out) {
+        Ok(()) => Ok(()),
+        Err(error) => {
+            end_all(spawner, &left);
+            Err(error)
+        }
+    }
+}
+
+// Runs a plan. The children that are left run on.
+fn run_children<P: Spawner, K: Sink>(
+    alloc: Global,
+    spawner: &mut P,
+    plan: &Plan,
+    site: &Site,
+    left: &mut Vec<u64>,
+    out: &mut K,
+) -> Result<(), ClusterError>
+    ensures does { Goes (cluster_deeds plan.now site.now.config (P.children spawner.old))
+        left.old.items left.new.items
+        (outer (P.started spawner.old) (P.children spawner.old) (P.statuses spawner.old)
+        (P.ended spawner.old) (K.written out.old))
+        (outer (P.started spawner.new) (P.children spawner.new) (P.statuses spawner.new)
+        (P.ended spawner.new) (K.written out.new))
         result }
     ensures spawner { HasCause (P.faults spawner.old) (P.faults spawner.new)
         (IsErrOf result ClusterError.SpawnFault) }
@@ -37,9 +68,9 @@ pub fn cluster<P: Spawner, K: Sink>(
         (IsErrOf result ClusterError.WriteFault) }
 {
     let nodes = all_nodes(alloc, &site.config)?;
-    let running = start_nodes(alloc, spawner, plan, nodes.as_slice())?;
-    run_calls(alloc, spawner, plan, out)?;
-    await_nodes(alloc, spawner, running.as_slice(), out)
+    let running = start_nodes(alloc, spawner, plan, nodes.as_slice(), left)?;
+    run_calls(alloc, spawner, plan, left, out)?;
+    await_nodes(alloc, spawner, running.as_slice(), left, out)
 }
 
 // Starts these nodes, and gives each with the number of its child.
@@ -48,10 +79,14 @@ fn start_nodes<P: Spawner>(
     spawner: &mut P,
     plan: &Plan,
     nodes: &[NodeId],
+    left: &mut Vec<u64>,
 ) -> Result<Sequence<(NodeId, u64)>, ClusterError>
-    ensures does { (written : Option (List ℕ)) → Ends (node_starts plan.now nodes.now)
-        (outer (P.started spawner.old) (P.children spawner.old) (P.statuses spawner.old) written)
-        (outer (P.started spawner.new) (P.children spawner.new) (P.statuses spawner.new) written)
+    ensures does { (written : Option (List ℕ)) → Goes (node_starts plan.now nodes.now)
+        left.old.items left.new.items
+        (outer (P.started spawner.old) (P.children spawner.old) (P.statuses spawner.old)
+        (P.ended spawner.old) written)
+        (outer (P.started spawner.new) (P.children spawner.new) (P.statuses spawner.new)
+        (P.ended spawner.new) written)
         result }
     ensures running { IfOk result (λ running.
         running ≡ numbered (P.children spawner.old) nodes.now) }
@@ -62,7 +97,7 @@ fn start_nodes<P: Spawner>(
     let mut running = Sequence::new(alloc);
     for me in nodes {
         let words = node_words(alloc, plan, *me)?;
-        let child = start(spawner, &words)?;
+        let child = start(spawner, &words, left)?;
         let Ok(()) = running.push((*me, child)) else {
             return Err(ClusterError::Memory);
         };
@@ -75,13 +110,15 @@ fn run_calls<P: Spawner, K: Sink>(
     alloc: Global,
     spawner: &mut P,
     plan: &Plan,
+    left: &mut Vec<u64>,
     out: &mut K,
 ) -> Result<(), ClusterError>
-    ensures does { Ends (call_deeds plan.now 0 (P.children spawner.old) plan.now.calls)
+    ensures does { Goes (call_deeds plan.now 0 (P.children spawner.old) plan.now.calls)
+        left.old.items left.new.items
         (outer (P.started spawner.old) (P.children spawner.old) (P.statuses spawner.old)
-        (K.written out.old))
+        (P.ended spawner.old) (K.written out.old))
         (outer (P.started spawner.new) (P.children spawner.new) (P.statuses spawner.new)
-        (K.written out.new))
+        (P.ended spawner.new) (K.written out.new))
         result }
     ensures spawner { HasCause (P.faults spawner.old) (P.faults spawner.new)
         (IsErrOf result ClusterError.SpawnFault) }
@@ -89,7 +126,7 @@ fn run_calls<P: Spawner, K: Sink>(
         (IsErrOf result ClusterError.WriteFault) }
 {
     for (number, call) in plan.calls.as_slice().iter().enumerate() {
-        run_call(alloc, spawner, plan, number, call.as_str(), out)?;
+        run_call(alloc, spawner, plan, number, call.as_str(), left, out)?;
     }
     Ok(())
 }
@@ -101,15 +138,17 @@ fn run_call<P: Spawner, K: Sink>(
     plan: &Plan,
     number: usize,
     call: &str,
+    left: &mut Vec<u64>,
     out: &mut K,
 ) -> Result<(), ClusterError>
-    ensures does { Ends
+    ensures does { Goes
         (Start (client_words plan.now call.now)
         ∷ Wait (client_title number) (P.children spawner.old) ∷ [])
+        left.old.items left.new.items
         (outer (P.started spawner.old) (P.children spawner.old) (P.statuses spawner.old)
-        (K.written out.old))
+        (P.ended spawner.old) (K.written out.old))
         (outer (P.started spawner.new) (P.children spawner.new) (P.statuses spawner.new)
-        (K.written out.new))
+        (P.ended spawner.new) (K.written out.new))
         result }
     ensures spawner { HasCause (P.faults spawner.old) (P.faults spawner.new)
         (IsErrOf result ClusterError.SpawnFault) }
@@ -118,8 +157,8 @@ fn run_call<P: Spawner, K: Sink>(
 {
     let words = client_words(alloc, plan, call)?;
     let title = client_title(alloc, number)?;
-    let child = start(spawner, &words)?;
-    await_end(alloc, spawner, &title, child, out)
+    let child = start(spawner, &words, left)?;
+    await_end(alloc, spawner, &title, child, left, out)
 }
 
 // Waits for these nodes, each by the number of its child.
@@ -127,14 +166,15 @@ fn await_nodes<P: Spawner, K: Sink>(
     alloc: Global,
     spawner: &mut P,
     running: &[(NodeId, u64)],
+    left: &mut Vec<u64>,
     out: &mut K,
 ) -> Result<(), ClusterError>
     requires { AllByRecursion (λ node. node.1 < P.children spawner.old) running.now }
-    ensures does { Ends (node_waits running.now)
+    ensures does { Goes (node_waits running.now) left.old.items left.new.items
         (outer (P.started spawner.old) (P.children spawner.old) (P.statuses spawner.old)
-        (K.written out.old))
+        (P.ended spawner.old) (K.written out.old))
         (outer (P.started spawner.new) (P.children spawner.new) (P.statuses spawner.new)
-        (K.written out.new))
+        (P.ended spawner.new) (K.written out.new))
         result }
     ensures spawner { HasCause (P.faults spawner.old) (P.faults spawner.new)
         (IsErrOf result ClusterError.SpawnFault) }
@@ -143,7 +183,7 @@ fn await_nodes<P: Spawner, K: Sink>(
 {
     for node in running {
         let title = node_title(alloc, node.0)?;
-        await_end(alloc, spawner, &title, node.1, out)?;
+        await_end(alloc, spawner, &title, node.1, left, out)?;
     }
     Ok(())
 }

@@ -3,7 +3,7 @@ use crate::cases::{Word, make_case, sealed, start};
 use cs_attend::{Ending, attend};
 use cs_base::{NodeId, Sequence};
 use cs_client::Known;
-use cs_outer::{MemInput, MemLink};
+use cs_outer::{MemInput, MemLink, Until};
 use cs_proc::ProcError;
 use std::alloc::Global;
 use std::process::Abort;
@@ -12,7 +12,7 @@ use std::test::Fail;
 const NODE: NodeId = NodeId { shard: 0, index: 0 };
 
 // A client that makes these of the coin, over a link that gives these inputs, all of one node, for
-// so many turns, while calls fail: how it ends, how many inputs are left, and how many datagrams
+// so long, while calls fail: how it ends, how many inputs are left, and how many datagrams
 // were offered.
 fn attended(
     rt: &impl Abort,
@@ -20,7 +20,7 @@ fn attended(
     made: &[i64],
     words: &[Word],
     fails: Vec<u32>,
-    turns: u64,
+    until: Until,
 ) -> Result<(Ending, usize, usize), Fail> {
     let one = make_case(rt, alloc, (1, 0), &[2, 3], &[])?;
     let client = start(rt, alloc, &one, made, &[])?;
@@ -34,7 +34,7 @@ fn attended(
         }
     }
     let mut link = MemLink::new(alloc, inputs, fails);
-    let ending = attend(alloc, client, &mut link, turns);
+    let ending = attend(alloc, client, &mut link, until);
     Ok((ending, link.left().len(), link.offered().len()))
 }
 
@@ -54,7 +54,7 @@ fn a_client_runs_until_it_knows(rt: HostRuntime) -> Result<(), Fail> {
     let alloc = rt.alloc();
     let none = Vec::new(alloc);
     let words = WORDS.as_slice();
-    let (ending, left, offered) = attended(&rt, alloc, &[2, 3], words, none, 9)?;
+    let (ending, left, offered) = attended(&rt, alloc, &[2, 3], words, none, Until::Turns(9))?;
     assert!(rt; matches!(ending, Ending::Knows(Known::Accepted(_))));
     assert_eq!(rt; (left, offered), (1, 2));
 
@@ -62,9 +62,33 @@ fn a_client_runs_until_it_knows(rt: HostRuntime) -> Result<(), Fail> {
     let none = Vec::new(alloc);
     let open = Ending::Knows(Known::Open);
     assert_eq!(rt;
-        attended(&rt, alloc, &[2, 3], words, none, 2)?,
+        attended(&rt, alloc, &[2, 3], words, none, Until::Turns(2))?,
         (open, 2, 2)
     );
+    Ok(())
+}
+
+#[test]
+fn a_client_runs_for_so_many_ticks(rt: HostRuntime) -> Result<(), Fail> {
+    let alloc = rt.alloc();
+    let words = WORDS.as_slice();
+    let open = Ending::Knows(Known::Open);
+    let none = Vec::new(alloc);
+    assert_eq!(rt;
+        attended(&rt, alloc, &[2, 3], words, none, Until::Ticks(0))?,
+        (open, 4, 0)
+    );
+    let none = Vec::new(alloc);
+    assert_eq!(rt;
+        attended(&rt, alloc, &[2, 3], words, none, Until::Ticks(1))?,
+        (open, 3, 1)
+    );
+
+    // Datagrams count for nothing, so it comes to know.
+    let none = Vec::new(alloc);
+    let (ending, left, offered) = attended(&rt, alloc, &[2, 3], words, none, Until::Ticks(2))?;
+    assert!(rt; matches!(ending, Ending::Knows(Known::Accepted(_))));
+    assert_eq!(rt; (left, offered), (1, 2));
     Ok(())
 }
 
@@ -77,7 +101,7 @@ fn a_client_ends_otherwise(rt: HostRuntime) -> Result<(), Fail> {
     let refused = Ending::Refused(ProcError::CheckerNo(0));
     let none = Vec::new(alloc);
     assert_eq!(rt;
-        attended(&rt, alloc, &[2, 4], words, none, 9)?,
+        attended(&rt, alloc, &[2, 4], words, none, Until::Turns(9))?,
         (refused, 2, 1)
     );
 
@@ -85,11 +109,11 @@ fn a_client_ends_otherwise(rt: HostRuntime) -> Result<(), Fail> {
     let fails = numbers(alloc, 64)?;
     let fault = Ending::LinkFault;
     assert_eq!(rt;
-        attended(&rt, alloc, &[2, 3], words, fails, 9)?,
+        attended(&rt, alloc, &[2, 3], words, fails, Until::Turns(9))?,
         (fault, 4, 0)
     );
     let fails = numbers(alloc, 63)?;
-    let (ending, left, offered) = attended(&rt, alloc, &[2, 3], words, fails, 9)?;
+    let (ending, left, offered) = attended(&rt, alloc, &[2, 3], words, fails, Until::Turns(9))?;
     assert!(rt; matches!(ending, Ending::Knows(Known::Accepted(_))));
     assert_eq!(rt; (left, offered), (1, 2));
     Ok(())

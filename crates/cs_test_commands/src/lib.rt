@@ -4,6 +4,8 @@
 #[cfg(test)]
 mod ending_tests;
 #[cfg(test)]
+mod lasting_tests;
+#[cfg(test)]
 mod outside;
 #[cfg(test)]
 mod talking_tests;

@@ -2,7 +2,7 @@
 use cs_base::{CLIENT_SHARD, Config, Key, MemSink, NodeId, Sequence};
 use cs_node::Core;
 use cs_order::Solo;
-use cs_outer::{MemInput, MemLink};
+use cs_outer::{MemInput, MemLink, Until};
 use cs_serve::*;
 use cs_test_samples::{coin, spend};
 use cs_tx::{Encoded, TokenJudge, genesis_key};
@@ -75,19 +75,19 @@ fn three_inputs(rt: &impl Abort, alloc: Global, name: [u8; 32]) -> Result<Vec<Me
     Ok(inputs)
 }
 
-// These inputs, served for so many turns while calls of the link and of the sink fail: how it ends,
-// and how many inputs are left.
+// These inputs, served for so long while calls of the link and of the sink fail: how it ends, and
+// how many inputs are left.
 fn ended(
     rt: &impl Abort,
     alloc: Global,
     core: Core<Solo, TokenJudge>,
     link: &mut MemLink,
-    turns: u64,
+    until: Until,
     lines: (Vec<u32>, &str),
 ) -> End {
     let (fails, text) = lines;
     let mut out = MemSink::new(alloc, fails);
-    let (end, left) = serve(alloc, core, link, &mut out, turns);
+    let (end, left) = serve(alloc, core, link, &mut out, until);
     assert!(rt; left.is_some());
     assert_eq!(rt; out.bytes(), text.as_bytes());
     end
@@ -97,13 +97,13 @@ fn served(
     rt: &impl Abort,
     alloc: Global,
     fails: (Vec<u32>, Vec<u32>),
-    turns: u64,
+    until: Until,
     text: &str,
 ) -> Result<(End, usize), Fail> {
     let (core, name) = start(rt, alloc)?;
     let inputs = three_inputs(rt, alloc, name)?;
     let mut link = MemLink::new(alloc, inputs, fails.0);
-    let end = ended(rt, alloc, core, &mut link, turns, (fails.1, text));
+    let end = ended(rt, alloc, core, &mut link, until, (fails.1, text));
     Ok((end, link.left().len()))
 }
 
@@ -111,11 +111,46 @@ fn served(
 fn serving_in_memory(rt: HostRuntime) -> Result<(), Fail> {
     let alloc = rt.alloc();
     let none = (Vec::new(alloc), Vec::new(alloc));
-    assert_eq!(rt; served(&rt, alloc, none, 2, LINES)?, (End::Turns, 1));
+    assert_eq!(rt;
+        served(&rt, alloc, none, Until::Turns(2), LINES)?,
+        (End::Done, 1)
+    );
     let none = (Vec::new(alloc), Vec::new(alloc));
-    assert_eq!(rt; served(&rt, alloc, none, 9, LINES)?, (End::Ended, 0));
+    assert_eq!(rt;
+        served(&rt, alloc, none, Until::Turns(9), LINES)?,
+        (End::Ended, 0)
+    );
     let none = (Vec::new(alloc), Vec::new(alloc));
-    assert_eq!(rt; served(&rt, alloc, none, 0, "")?, (End::Turns, 3));
+    assert_eq!(rt;
+        served(&rt, alloc, none, Until::Turns(0), "")?,
+        (End::Done, 3)
+    );
+    Ok(())
+}
+
+#[test]
+fn serving_for_so_many_ticks(rt: HostRuntime) -> Result<(), Fail> {
+    let alloc = rt.alloc();
+    let none = (Vec::new(alloc), Vec::new(alloc));
+    assert_eq!(rt;
+        served(&rt, alloc, none, Until::Ticks(1), LINES)?,
+        (End::Done, 1)
+    );
+    let none = (Vec::new(alloc), Vec::new(alloc));
+    assert_eq!(rt;
+        served(&rt, alloc, none, Until::Ticks(2), LINES)?,
+        (End::Done, 0)
+    );
+    let none = (Vec::new(alloc), Vec::new(alloc));
+    assert_eq!(rt;
+        served(&rt, alloc, none, Until::Ticks(3), LINES)?,
+        (End::Ended, 0)
+    );
+    let none = (Vec::new(alloc), Vec::new(alloc));
+    assert_eq!(rt;
+        served(&rt, alloc, none, Until::Ticks(0), "")?,
+        (End::Done, 3)
+    );
     Ok(())
 }
 
@@ -123,11 +158,20 @@ fn serving_in_memory(rt: HostRuntime) -> Result<(), Fail> {
 fn receives_that_fail_in_a_row(rt: HostRuntime) -> Result<(), Fail> {
     let alloc = rt.alloc();
     let fails = (numbers(alloc, 0, 64)?, Vec::new(alloc));
-    assert_eq!(rt; served(&rt, alloc, fails, 9, "")?, (End::LinkFault, 3));
+    assert_eq!(rt;
+        served(&rt, alloc, fails, Until::Turns(9), "")?,
+        (End::LinkFault, 3)
+    );
     let fails = (numbers(alloc, 0, 63)?, Vec::new(alloc));
-    assert_eq!(rt; served(&rt, alloc, fails, 2, LINES)?, (End::Turns, 1));
+    assert_eq!(rt;
+        served(&rt, alloc, fails, Until::Turns(2), LINES)?,
+        (End::Done, 1)
+    );
     let fails = (numbers(alloc, 1, 64)?, Vec::new(alloc));
-    assert_eq!(rt; served(&rt, alloc, fails, 9, LINES)?, (End::LinkFault, 2));
+    assert_eq!(rt;
+        served(&rt, alloc, fails, Until::Turns(9), LINES)?,
+        (End::LinkFault, 2)
+    );
     Ok(())
 }
 
@@ -135,9 +179,15 @@ fn receives_that_fail_in_a_row(rt: HostRuntime) -> Result<(), Fail> {
 fn a_line_that_is_not_written(rt: HostRuntime) -> Result<(), Fail> {
     let alloc = rt.alloc();
     let fails = (Vec::new(alloc), numbers(alloc, 0, 1)?);
-    assert_eq!(rt; served(&rt, alloc, fails, 9, "")?, (End::WriteFault, 2));
+    assert_eq!(rt;
+        served(&rt, alloc, fails, Until::Turns(9), "")?,
+        (End::WriteFault, 2)
+    );
     let fails = (Vec::new(alloc), numbers(alloc, 1, 1)?);
-    assert_eq!(rt; served(&rt, alloc, fails, 9, LINES)?, (End::Ended, 0));
+    assert_eq!(rt;
+        served(&rt, alloc, fails, Until::Turns(9), LINES)?,
+        (End::Ended, 0)
+    );
     Ok(())
 }
 
@@ -163,7 +213,14 @@ fn answered(rt: &impl Abort, alloc: Global, call: u32) -> Result<(End, usize), F
     let (core, name) = start(rt, alloc)?;
     let inputs = two_submits(rt, alloc, name)?;
     let mut link = MemLink::new(alloc, inputs, numbers(alloc, call, 1)?);
-    let end = ended(rt, alloc, core, &mut link, 9, (Vec::new(alloc), LINES));
+    let end = ended(
+        rt,
+        alloc,
+        core,
+        &mut link,
+        Until::Turns(9),
+        (Vec::new(alloc), LINES),
+    );
     assert!(rt; are_for_the_client(&link));
     Ok((end, link.offered().len()))
 }

@@ -2,9 +2,13 @@
 //! word it is the child, and ends with the status 7.
 #![tactic(auto)]
 
+ghost use Rattle.std.specs.Prelude.{◌≡◌, ◌+◌, length};
+
 use cs_base::{CLIENT_SHARD, MOST_DATAGRAM, NodeId};
-use cs_outer::{Link, Spawner, Started, Store};
+use cs_outer::{Arrived, Link, Spawner, Started, Store};
 use cs_outside::{Children, FileStore, UdpLink};
+use std::fs::{self, Permissions};
+use std::os::unix::fs::{PermissionsExt, symlink};
 use std::process::{self, ExitCode};
 use std::{env, io};
 
@@ -20,6 +24,7 @@ fn main(rt: HostRuntime) -> io::Result<ExitCode> {
         return Ok(ExitCode::from(7));
     }
     try_files(&rt)?;
+    try_modes(&rt)?;
     try_socket(&rt)?;
     try_child(&rt)?;
     Ok(ExitCode::SUCCESS)
@@ -45,6 +50,32 @@ fn try_files(rt: &HostRuntime) -> io::Result<()> {
     Ok(())
 }
 
+fn write_readable(rt: &HostRuntime, name: &str) -> io::Result<()> {
+    fs::write(rt, name, "old")?;
+    fs::set_permissions(rt, name, Permissions::from_mode(0o644))
+}
+
+fn print_saved(rt: &HostRuntime, what: &str) -> io::Result<()> {
+    let saved = FileStore::new(rt, rt.alloc()).save("keys", b"secret");
+    let mode = fs::metadata(rt, "keys")?.permissions().mode() & 0o777;
+    let left = fs::exists(rt, "keys.new")?;
+    println!(rt; "over {what}: {saved:?} {mode:o} {left}")
+}
+
+// A key file is its owner's alone, whatever was there and beside it.
+fn try_modes(rt: &HostRuntime) -> io::Result<()> {
+    write_readable(rt, "keys")?;
+    print_saved(rt, "a file")?;
+    write_readable(rt, "keys.new")?;
+    print_saved(rt, "what is left")?;
+    write_readable(rt, "target")?;
+    symlink(rt, "target", "keys.new")?;
+    print_saved(rt, "a link")?;
+    let target = fs::read_to_string(rt, "target")?;
+    let mode = fs::metadata(rt, "target")?.permissions().mode() & 0o777;
+    println!(rt; "its target: {target} {mode:o}")
+}
+
 fn try_socket(rt: &HostRuntime) -> io::Result<()> {
     let base_port = 1_024 + (process::id(rt.process()) % 60_000) as u16;
     let mut node = UdpLink::new(rt);
@@ -65,7 +96,30 @@ fn try_socket(rt: &HostRuntime) -> io::Result<()> {
     let long = vec![in rt.alloc(); 7u8; MOST_DATAGRAM + 2]?;
     println!(rt; "sent long: {:?}", client.send(NODE, &long))?;
     println!(rt; "came: {:?}", node.receive(&mut buf))?;
-    Ok(())
+    let (ticks, doubled) = count_ticks(&mut client, &mut node, &mut buf);
+    println!(rt; "ticks: {ticks} {doubled}")
+}
+
+// A datagram always waits. How many ticks come nevertheless, up to five, and whether one follows
+// another.
+fn count_ticks<L: Link>(client: &mut L, node: &mut L, buf: &mut [u8]) -> (u8, bool)
+    requires { length buf.old ≡ MOST_DATAGRAM + 1 }
+{
+    let mut ticks = 0u8;
+    let mut ticked = false;
+    client.send(NODE, b"first");
+    for _ in 0..1_000_000 {
+        client.send(NODE, b"again");
+        if node.receive(buf) != Arrived::Tick {
+            ticked = false;
+        } else if ticked || ticks == 5 {
+            return (ticks, ticked);
+        } else {
+            ticks = ticks.saturating_add(1);
+            ticked = true;
+        }
+    }
+    (ticks, false)
 }
 
 fn try_child(rt: &HostRuntime) -> io::Result<()> {

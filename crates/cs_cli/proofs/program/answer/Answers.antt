@@ -1,6 +1,6 @@
 use Rattle.cs_cli.specs.declared.words.Command.TheVariants.{Replay, Contract, Verify, Audit, Simulate, Deploy}
 use Rattle.cs_cli.proofs.Sources.{kept}
-use Rattle.cs_cli.proofs.Doing.{does-so}
+use Rattle.cs_cli.proofs.Doing.{does-so, read-keys-does}
 use Rattle.cs_cli.proofs.program.answer.Goals as goal
 
 pub returns-in-Replay-clause-does : goal.returns-in-Replay-clause-does
@@ -24,6 +24,10 @@ pub returns-in-Simulate-clause-does : goal.returns-in-Simulate-clause-does
 returns-in-Simulate-clause-does g c =
     does-so _ _ _ _ (Simulate c.in-Simulate.number c.in-Simulate.size) c.args.command c.in-Simulate.is
     (c.simulate.ensures.answers, c.simulate.ensures.whole, kept (g.S.Source.left c.args.input.now))
+
+pub returns-in-ReadKeys-clause-does : goal.returns-in-ReadKeys-clause-does
+returns-in-ReadKeys-clause-does g c =
+    read-keys-does _ _ _ _ c.in-ReadKeys.site _ c.args.command c.in-ReadKeys.is c.word_at.ensures (c.run_keys_read.ensures.runs, c.run_keys_read.ensures.whole)
 
 pub returns-in-Deploy-clause-does : goal.returns-in-Deploy-clause-does
 returns-in-Deploy-clause-does g c = does-so _ _ _ _ (Deploy c.in-Deploy.deployment) c.args.command c.in-Deploy.is c.deploy.ensures.deploys

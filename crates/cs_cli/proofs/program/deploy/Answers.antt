@@ -3,12 +3,12 @@ use Rattle.cs_cli.proofs.program.deploy.Goals as goal
 
 pub returns-in-Node-clause-deploys : goal.returns-in-Node-clause-deploys
 returns-in-Node-clause-deploys g c =
-    node-does _ _ _ _ c.in-Node.site c.in-Node.keys c.in-Node.turns _ _ c.args.deployment c.in-Node.is c.word_at-site.ensures c.word_at-keys.ensures
+    node-does _ _ _ _ c.in-Node.site c.in-Node.keys c.in-Node.until _ _ c.args.deployment c.in-Node.is c.word_at-site.ensures c.word_at-keys.ensures
     (c.run_node.ensures.runs, c.run_node.ensures.kept, c.run_node.ensures.whole)
 
 pub returns-in-Client-clause-deploys : goal.returns-in-Client-clause-deploys
 returns-in-Client-clause-deploys g c =
-    client-does _ _ _ _ c.in-Client.site c.in-Client.keys c.in-Client.call c.in-Client.turns _ _ _ c.args.deployment c.in-Client.is c.word_at-site-in-Client.ensures c.word_at-keys-in-Client.ensures c.word_at-call.ensures
+    client-does _ _ _ _ c.in-Client.site c.in-Client.keys c.in-Client.call c.in-Client.until _ _ _ c.args.deployment c.in-Client.is c.word_at-site-in-Client.ensures c.word_at-keys-in-Client.ensures c.word_at-call.ensures
     (c.run_client.ensures.runs, c.run_client.ensures.kept, c.run_client.ensures.whole)
 
 pub returns-in-Keys-clause-deploys : goal.returns-in-Keys-clause-deploys

@@ -5,7 +5,7 @@ use Rattle.cs_sched.proofs.Played.{given_playable}
 use Rattle.cs_dump_read.specs.declared.limits.TheConstants.{MOST_DUMP}
 use Rattle.cs_cli.proofs.Dumps.{answers_yes}
 use Rattle.cs_simulate.proofs.Ended.{simulate-ends}
-use Rattle.cs_cli.specs.declared.words.Command.TheVariants.{Replay, Contract, Verify, Audit, Simulate}
+use Rattle.cs_cli.specs.declared.words.Command.TheVariants.{Replay, Contract, Verify, Audit, Simulate, ReadKeys}
 use Rattle.cs_cli.specs.Words.{texts_of, Node, Client, Keys, Cluster}
 use Rattle.cs_cli.proofs.Doing.{does-as}
 use Rattle.cs_cli.proofs.Simulations.{command-small}
@@ -45,28 +45,34 @@ pub returns-in-Some-clause-simulate_unread : goal.returns-in-Some-clause-simulat
 returns-in-Some-clause-simulate_unread g c = λ number size is. (does-as _ _ _ _ c.in-Some.command (Simulate number size) _ c.in-Some.ensures is c.answer.ensures.does).2
 
 pub returns-in-Some-clause-node : goal.returns-in-Some-clause-node
-returns-in-Some-clause-node g c = λ site keys turns is. (does-as _ _ _ _ c.in-Some.command (Node site keys turns) _ c.in-Some.ensures is c.answer.ensures.does).0
+returns-in-Some-clause-node g c = λ site keys until is. (does-as _ _ _ _ c.in-Some.command (Node site keys until) _ c.in-Some.ensures is c.answer.ensures.does).0
 
 pub returns-in-Some-clause-node_kept : goal.returns-in-Some-clause-node_kept
-returns-in-Some-clause-node_kept g c = λ site keys turns is. (does-as _ _ _ _ c.in-Some.command (Node site keys turns) _ c.in-Some.ensures is c.answer.ensures.does).1
+returns-in-Some-clause-node_kept g c = λ site keys until is. (does-as _ _ _ _ c.in-Some.command (Node site keys until) _ c.in-Some.ensures is c.answer.ensures.does).1
 
 pub returns-in-Some-clause-node_whole : goal.returns-in-Some-clause-node_whole
-returns-in-Some-clause-node_whole g c = λ site keys turns is. (does-as _ _ _ _ c.in-Some.command (Node site keys turns) _ c.in-Some.ensures is c.answer.ensures.does).2
+returns-in-Some-clause-node_whole g c = λ site keys until is. (does-as _ _ _ _ c.in-Some.command (Node site keys until) _ c.in-Some.ensures is c.answer.ensures.does).2
 
 pub returns-in-Some-clause-client : goal.returns-in-Some-clause-client
-returns-in-Some-clause-client g c = λ site keys call turns is. (does-as _ _ _ _ c.in-Some.command (Client site keys call turns) _ c.in-Some.ensures is c.answer.ensures.does).0
+returns-in-Some-clause-client g c = λ site keys call until is. (does-as _ _ _ _ c.in-Some.command (Client site keys call until) _ c.in-Some.ensures is c.answer.ensures.does).0
 
 pub returns-in-Some-clause-client_kept : goal.returns-in-Some-clause-client_kept
-returns-in-Some-clause-client_kept g c = λ site keys call turns is. (does-as _ _ _ _ c.in-Some.command (Client site keys call turns) _ c.in-Some.ensures is c.answer.ensures.does).1
+returns-in-Some-clause-client_kept g c = λ site keys call until is. (does-as _ _ _ _ c.in-Some.command (Client site keys call until) _ c.in-Some.ensures is c.answer.ensures.does).1
 
 pub returns-in-Some-clause-client_whole : goal.returns-in-Some-clause-client_whole
-returns-in-Some-clause-client_whole g c = λ site keys call turns is. (does-as _ _ _ _ c.in-Some.command (Client site keys call turns) _ c.in-Some.ensures is c.answer.ensures.does).2
+returns-in-Some-clause-client_whole g c = λ site keys call until is. (does-as _ _ _ _ c.in-Some.command (Client site keys call until) _ c.in-Some.ensures is c.answer.ensures.does).2
 
 pub returns-in-Some-clause-keys : goal.returns-in-Some-clause-keys
 returns-in-Some-clause-keys g c = λ site master is. (does-as _ _ _ _ c.in-Some.command (Keys site master) _ c.in-Some.ensures is c.answer.ensures.does).0
 
 pub returns-in-Some-clause-keys_whole : goal.returns-in-Some-clause-keys_whole
 returns-in-Some-clause-keys_whole g c = λ site master is. (does-as _ _ _ _ c.in-Some.command (Keys site master) _ c.in-Some.ensures is c.answer.ensures.does).1
+
+pub returns-in-Some-clause-keys_read : goal.returns-in-Some-clause-keys_read
+returns-in-Some-clause-keys_read g c = λ site is. (does-as _ _ _ _ c.in-Some.command (ReadKeys site) _ c.in-Some.ensures is c.answer.ensures.does).0
+
+pub returns-in-Some-clause-keys_read_whole : goal.returns-in-Some-clause-keys_read_whole
+returns-in-Some-clause-keys_read_whole g c = λ site is. (does-as _ _ _ _ c.in-Some.command (ReadKeys site) _ c.in-Some.ensures is c.answer.ensures.does).1
 
 pub returns-in-Some-clause-cluster : goal.returns-in-Some-clause-cluster
 returns-in-Some-clause-cluster g c = λ plan is. (does-as _ _ _ _ c.in-Some.command (Cluster plan) _ c.in-Some.ensures is c.answer.ensures.does).0

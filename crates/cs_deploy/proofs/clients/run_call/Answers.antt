@@ -31,7 +31,7 @@ returns-in-Ok-bind_or_tell-clause-goes g c =
     inr (inr (record {
       bound = bound-later _ _ _ _ _ setup.site.base_port c.me-me.ensures bound.bound c.attend.ensures.bound;
       ending = c.attend.result;
-      attends = attends-later e c.args.turns _ _ _ _ _ _ _ _ _ c.attend.result bound.quiet.left bound.quiet.offered bound.quiet.missed (c.attend.ensures.attends e c.in-Ok.ensures);
+      attends = attends-later e c.args.until _ _ _ _ _ _ _ _ _ c.attend.result bound.quiet.left bound.quiet.offered bound.quiet.missed (c.attend.ensures.attends e c.in-Ok.ensures);
       failed = λ is. rose-later _ _ _ c.in-Ok-bind_or_tell.ensures.link (c.attend.ensures.cause.cause is);
       told = subst (λ (written : Option (List ℕ)). TellsEnding c.attend.result written (g.K.Sink.written c.tell_ending.new.out) c.tell_ending.result) bound.unwritten c.tell_ending.ensures.tells;
     }))

@@ -10,13 +10,13 @@ returns-in-Ok-clause-runs g c = inr (c.in-Ok.setup, c.in-Ok.ensures.taken, c.run
 
 pub returns-in-Ok-clause-whole : goal.returns-in-Ok-clause-whole
 returns-in-Ok-clause-whole g c = λ stores links writes.
-    node-runs-decided c.args.site_name.now c.args.keys_name.now c.args.turns _ _ _ _ _ c.run_setup.result (returns-in-Ok-clause-runs g c) stores links
+    node-runs-decided c.args.site_name.now c.args.keys_name.now c.args.until _ _ _ _ _ c.run_setup.result (returns-in-Ok-clause-runs g c) stores links
     (λ six. writes (c.run_setup.ensures.write_fault.cause six))
 
 pub returns-in-Ok-clause-only : goal.returns-in-Ok-clause-only
 returns-in-Ok-clause-only g c = (
-  node-runs-other c.args.site_name.now c.args.keys_name.now c.args.turns _ _ _ _ _ c.run_setup.result 2 (returns-in-Ok-clause-runs g c) (λ is. absurd (cc)) (λ is. absurd (cc)) (λ is. absurd (cc)) (λ is. absurd (cc)) (λ is. absurd (cc)),
-  node-runs-other c.args.site_name.now c.args.keys_name.now c.args.turns _ _ _ _ _ c.run_setup.result 5 (returns-in-Ok-clause-runs g c) (λ is. absurd (cc)) (λ is. absurd (cc)) (λ is. absurd (cc)) (λ is. absurd (cc)) (λ is. absurd (cc)),
+  node-runs-other c.args.site_name.now c.args.keys_name.now c.args.until _ _ _ _ _ c.run_setup.result 2 (returns-in-Ok-clause-runs g c) (λ is. absurd (cc)) (λ is. absurd (cc)) (λ is. absurd (cc)) (λ is. absurd (cc)) (λ is. absurd (cc)),
+  node-runs-other c.args.site_name.now c.args.keys_name.now c.args.until _ _ _ _ _ c.run_setup.result 5 (returns-in-Ok-clause-runs g c) (λ is. absurd (cc)) (λ is. absurd (cc)) (λ is. absurd (cc)) (λ is. absurd (cc)) (λ is. absurd (cc)),
 )
 
 -- ---- one isn't
@@ -41,11 +41,11 @@ returns-in-Err-clause-runs g c = inl (record {
 
 pub returns-in-Err-clause-whole : goal.returns-in-Err-clause-whole
 returns-in-Err-clause-whole g c = λ stores links writes.
-    node-runs-decided c.args.site_name.now c.args.keys_name.now c.args.turns _ _ _ _ _ c.refuse.result (returns-in-Err-clause-runs g c) stores links
+    node-runs-decided c.args.site_name.now c.args.keys_name.now c.args.until _ _ _ _ _ c.refuse.result (returns-in-Err-clause-runs g c) stores links
     (λ six. writes (c.refuse.ensures.cause.cause six))
 
 pub returns-in-Err-clause-only : goal.returns-in-Err-clause-only
 returns-in-Err-clause-only g c = (
-  node-runs-other c.args.site_name.now c.args.keys_name.now c.args.turns _ _ _ _ _ c.refuse.result 2 (returns-in-Err-clause-runs g c) (λ is. absurd (cc)) (λ is. absurd (cc)) (λ is. absurd (cc)) (λ is. absurd (cc)) (λ is. absurd (cc)),
-  node-runs-other c.args.site_name.now c.args.keys_name.now c.args.turns _ _ _ _ _ c.refuse.result 5 (returns-in-Err-clause-runs g c) (λ is. absurd (cc)) (λ is. absurd (cc)) (λ is. absurd (cc)) (λ is. absurd (cc)) (λ is. absurd (cc)),
+  node-runs-other c.args.site_name.now c.args.keys_name.now c.args.until _ _ _ _ _ c.refuse.result 2 (returns-in-Err-clause-runs g c) (λ is. absurd (cc)) (λ is. absurd (cc)) (λ is. absurd (cc)) (λ is. absurd (cc)) (λ is. absurd (cc)),
+  node-runs-other c.args.site_name.now c.args.keys_name.now c.args.until _ _ _ _ _ c.refuse.result 5 (returns-in-Err-clause-runs g c) (λ is. absurd (cc)) (λ is. absurd (cc)) (λ is. absurd (cc)) (λ is. absurd (cc)) (λ is. absurd (cc)),
 )

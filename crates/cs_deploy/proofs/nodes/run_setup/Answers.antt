@@ -42,8 +42,8 @@ returns-in-Ok-bind_or_tell-clause-goes g c =
       serves = λ net speaks.
           let site = site_in setup net in
           let v = start_view site setup.keys.me in
-          serves-later site v c.args.turns new _ _ _ _ _ _ _ _ c.serve-end.result.0 bound.quiet.left bound.quiet.offered bound.quiet.missed bound.unwritten
-          (serves-alone (StandsFor order.ghosts.stands judge.ghosts.is_approved site) site v c.args.turns _ new c.serve-end.result
+          serves-later site v c.args.until new _ _ _ _ _ _ _ _ c.serve-end.result.0 bound.quiet.left bound.quiet.offered bound.quiet.missed bound.unwritten
+          (serves-alone (StandsFor order.ghosts.stands judge.ghosts.is_approved site) site v c.args.until _ new c.serve-end.result
           (c.serve-end.ensures.serves (deployed setup.site.config setup.site.genesis (is_approved setup.book)) net v (c.in-Ok.ensures net speaks)));
       failed = λ is. rose-later _ _ _ c.in-Ok-bind_or_tell.ensures.link (c.serve-end.ensures.link.cause is);
       told = c.tell_end.ensures.tells;

@@ -11,9 +11,9 @@ use Rattle.cs_spawn.proofs.running.await_nodes.Goals as goal
 pub returns-in_err-title-clause-does : goal.returns-in_err-title-clause-does
 returns-in_err-title-clause-does g c =
     let f : NodeId × ℕ → Deed = λ node. Wait (node_title node.0) node.1 in
-    let a : Outer = outer (g.P.Spawner.started c.args.spawner.now) (g.P.Spawner.children c.args.spawner.now) (g.P.Spawner.statuses c.args.spawner.now) (g.K.Sink.written c.args.out.now) in
-    let b : Outer = outer (g.P.Spawner.started c.loop-node.spawner) (g.P.Spawner.children c.loop-node.spawner) (g.P.Spawner.statuses c.loop-node.spawner) (g.K.Sink.written c.loop-node.out) in
-    each-wants f c.args.running.now c.loop-node.node-index a b c.from_residual.result c.loop-node.invariant.does c.from_residual.ensures.1
+    let a : Outer = outer (g.P.Spawner.started c.args.spawner.now) (g.P.Spawner.children c.args.spawner.now) (g.P.Spawner.statuses c.args.spawner.now) (g.P.Spawner.ended c.args.spawner.now) (g.K.Sink.written c.args.out.now) in
+    let b : Outer = outer (g.P.Spawner.started c.loop-node.spawner) (g.P.Spawner.children c.loop-node.spawner) (g.P.Spawner.statuses c.loop-node.spawner) (g.P.Spawner.ended c.loop-node.spawner) (g.K.Sink.written c.loop-node.out) in
+    each-wants f c.args.running.now c.loop-node.node-index a b c.args.left.now.items c.loop-node.left.items c.from_residual.result c.loop-node.invariant.does c.from_residual.ensures.1
 
 pub await_end-requires : goal.await_end-requires
 await_end-requires g c =
@@ -27,36 +27,36 @@ await_end-requires g c =
 pub returns-in_err-await_end-clause-does : goal.returns-in_err-await_end-clause-does
 returns-in_err-await_end-clause-does g c =
     let f : NodeId × ℕ → Deed = λ node. Wait (node_title node.0) node.1 in
-    let a : Outer = outer (g.P.Spawner.started c.args.spawner.now) (g.P.Spawner.children c.args.spawner.now) (g.P.Spawner.statuses c.args.spawner.now) (g.K.Sink.written c.args.out.now) in
-    let b : Outer = outer (g.P.Spawner.started c.loop-node.spawner) (g.P.Spawner.children c.loop-node.spawner) (g.P.Spawner.statuses c.loop-node.spawner) (g.K.Sink.written c.loop-node.out) in
-    let d : Outer = outer (g.P.Spawner.started c.await_end.new.spawner) (g.P.Spawner.children c.await_end.new.spawner) (g.P.Spawner.statuses c.await_end.new.spawner) (g.K.Sink.written c.await_end.new.out) in
+    let a : Outer = outer (g.P.Spawner.started c.args.spawner.now) (g.P.Spawner.children c.args.spawner.now) (g.P.Spawner.statuses c.args.spawner.now) (g.P.Spawner.ended c.args.spawner.now) (g.K.Sink.written c.args.out.now) in
+    let b : Outer = outer (g.P.Spawner.started c.loop-node.spawner) (g.P.Spawner.children c.loop-node.spawner) (g.P.Spawner.statuses c.loop-node.spawner) (g.P.Spawner.ended c.loop-node.spawner) (g.K.Sink.written c.loop-node.out) in
+    let d : Outer = outer (g.P.Spawner.started c.await_end.new.spawner) (g.P.Spawner.children c.await_end.new.spawner) (g.P.Spawner.statuses c.await_end.new.spawner) (g.P.Spawner.ended c.await_end.new.spawner) (g.K.Sink.written c.await_end.new.out) in
     let running = c.args.running.now in
     let i = c.loop-node.node-index in
     let none : NodeId × ℕ = (record { shard = 0; index = 0 }, 0) in
     let node : NodeId × ℕ = get_or running i none in
     let titled : c.deref.result.now ≡ node_title node.0 = c.deref.ensures ∙ c.in_ok-title.ensures in
-    each-stops f running i node none c.loop-node-test.true refl (Wait c.deref.result.now node.1) (ap (λ (t : List ℕ). Wait t node.1) titled) a b d c.in_err-await_end.field-0.0 c.from_residual-in_err-await_end.result
+    each-stops f running i node none c.loop-node-test.true refl (Wait c.deref.result.now node.1) (ap (λ (t : List ℕ). Wait t node.1) titled) a b d c.args.left.now.items c.loop-node.left.items c.await_end.new.left.items c.in_err-await_end.field-0.0 c.from_residual-in_err-await_end.result
     c.loop-node.invariant.does c.in_err-await_end.ensures.does c.from_residual-in_err-await_end.ensures.1
 
 pub loop-node-preserved : goal.loop-node-preserved
 loop-node-preserved g c =
     let f : NodeId × ℕ → Deed = λ node. Wait (node_title node.0) node.1 in
-    let a : Outer = outer (g.P.Spawner.started c.args.spawner.now) (g.P.Spawner.children c.args.spawner.now) (g.P.Spawner.statuses c.args.spawner.now) (g.K.Sink.written c.args.out.now) in
-    let b : Outer = outer (g.P.Spawner.started c.loop-node.spawner) (g.P.Spawner.children c.loop-node.spawner) (g.P.Spawner.statuses c.loop-node.spawner) (g.K.Sink.written c.loop-node.out) in
-    let d : Outer = outer (g.P.Spawner.started c.await_end.new.spawner) (g.P.Spawner.children c.await_end.new.spawner) (g.P.Spawner.statuses c.await_end.new.spawner) (g.K.Sink.written c.await_end.new.out) in
+    let a : Outer = outer (g.P.Spawner.started c.args.spawner.now) (g.P.Spawner.children c.args.spawner.now) (g.P.Spawner.statuses c.args.spawner.now) (g.P.Spawner.ended c.args.spawner.now) (g.K.Sink.written c.args.out.now) in
+    let b : Outer = outer (g.P.Spawner.started c.loop-node.spawner) (g.P.Spawner.children c.loop-node.spawner) (g.P.Spawner.statuses c.loop-node.spawner) (g.P.Spawner.ended c.loop-node.spawner) (g.K.Sink.written c.loop-node.out) in
+    let d : Outer = outer (g.P.Spawner.started c.await_end.new.spawner) (g.P.Spawner.children c.await_end.new.spawner) (g.P.Spawner.statuses c.await_end.new.spawner) (g.P.Spawner.ended c.await_end.new.spawner) (g.K.Sink.written c.await_end.new.out) in
     let running = c.args.running.now in
     let i = c.loop-node.node-index in
     let none : NodeId × ℕ = (record { shard = 0; index = 0 }, 0) in
     let node : NodeId × ℕ = get_or running i none in
     let titled : c.deref.result.now ≡ node_title node.0 = c.deref.ensures ∙ c.in_ok-title.ensures in
-    let more = more-children b d (Wait c.deref.result.now node.1 ∷ []) c.in_ok-await_end.ensures.does in
+    let more = more-children b d (Wait c.deref.result.now node.1 ∷ []) c.in_ok-await_end.ensures.does.0 in
     let so_many = c.loop-node.invariant.children in
     let spawner = c.loop-node.invariant.spawner in
     let spawner_later = c.in_ok-await_end.ensures.spawner.later in
     let sink = c.loop-node.invariant.sink in
     let sink_later = c.in_ok-await_end.ensures.sink.later in
     record {
-      does = each-next f running i node none c.loop-node-test.true refl (Wait c.deref.result.now node.1) (ap (λ (t : List ℕ). Wait t node.1) titled) a b d c.loop-node.invariant.does c.in_ok-await_end.ensures.does;
+      does = each-next f running i node none c.loop-node-test.true refl (Wait c.deref.result.now node.1) (ap (λ (t : List ℕ). Wait t node.1) titled) a b d c.args.left.now.items c.loop-node.left.items c.await_end.new.left.items c.loop-node.invariant.does c.in_ok-await_end.ensures.does;
       children = omega (arith, more, so_many);
       spawner = omega (arith, spawner, spawner_later);
       sink = omega (arith, sink, sink_later);

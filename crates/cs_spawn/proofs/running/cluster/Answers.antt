@@ -1,84 +1,42 @@
-use Rattle.std.proofs.Common.{◌++◌, ◌≡◌, ◌+◌, ◌<◌, ℕ, List, length, sym, ap, subst, ◌∙◌, arith, append_assoc}
+use Rattle.std.proofs.Common.{◌≡◌, ℕ, Bool, false, List, [], refl, sym, subst, arith}
 use Rattle.std.specs.List.{AllByRecursion}
-use Rattle.cs_base.specs.declared.node_id.NodeId.{NodeId}
-use Rattle.cs_key_files.specs.Names.{nodes_of}
-use Rattle.cs_spawn.specs.Deeds.{numbered, node_starts, call_deeds, node_waits, cluster_deeds}
-use Rattle.cs_spawn.specs.Running.{Outer, outer, Does, Fails, Ends}
-use Rattle.cs_spawn.proofs.Going.{ends-after, wants-at_once, stops-early, stops-there, not-the-sink, more-children}
-use Rattle.cs_spawn.proofs.Plans.{many-starts, numbered-below}
+use Rattle.cs_outer.specs.Spawner.{EndsThese}
+use Rattle.cs_spawn.specs.Deeds.{cluster_deeds}
+use Rattle.cs_spawn.specs.Running.{Outer, outer, Fails, Leaves, RiseBetween}
+use Rattle.cs_spawn.proofs.Going.{starts-none}
+use Rattle.cs_spawn.proofs.Left.{rise-wider, left-rises, left-spared, fails-ended}
 use Rattle.cs_spawn.proofs.running.cluster.Goals as goal
 
-pub returns-in_err-nodes-clause-does : goal.returns-in_err-nodes-clause-does
-returns-in_err-nodes-clause-does g c =
-    let a : Outer = outer (g.P.Spawner.started c.args.spawner.now) (g.P.Spawner.children c.args.spawner.now) (g.P.Spawner.statuses c.args.spawner.now) (g.K.Sink.written c.args.out.now) in
-    wants-at_once a (cluster_deeds c.args.plan.now c.args.site.now.config (g.P.Spawner.children c.args.spawner.now)) c.from_residual.result c.from_residual.ensures.1
+pub end_all-requires-clause-there : goal.end_all-requires-clause-there
+end_all-requires-clause-there g c =
+    let a : Outer = outer (g.P.Spawner.started c.args.spawner.now) (g.P.Spawner.children c.args.spawner.now) (g.P.Spawner.statuses c.args.spawner.now) (g.P.Spawner.ended c.args.spawner.now) (g.K.Sink.written c.args.out.now) in
+    let m : Outer = outer (g.P.Spawner.started c.run_children.new.spawner) (g.P.Spawner.children c.run_children.new.spawner) (g.P.Spawner.statuses c.run_children.new.spawner) (g.P.Spawner.ended c.run_children.new.spawner) (g.K.Sink.written c.run_children.new.out) in
+    let left = c.run_children.new.left.items in
+    let deeds = cluster_deeds c.args.plan.now c.args.site.now.config (g.P.Spawner.children c.args.spawner.now) in
+    let e = c.in-Err.error in
+    let fails : Fails (Leaves [] left a m) deeds a m e = subst (λ (l : List ℕ). Fails (Leaves l left a m) deeds a m e) c.new-left.ensures.items c.in-Err.ensures.does in
+    subst (λ (l : List ℕ). RiseBetween 0 m.children l) (sym c.deref.ensures.value)
+    (rise-wider 0 a.children m.children m.children left (omega arith) (omega arith) (left-rises a m left deeds e fails))
 
-pub returns-in_err-running-clause-does : goal.returns-in_err-running-clause-does
-returns-in_err-running-clause-does g c =
-    let a : Outer = outer (g.P.Spawner.started c.args.spawner.now) (g.P.Spawner.children c.args.spawner.now) (g.P.Spawner.statuses c.args.spawner.now) (g.K.Sink.written c.args.out.now) in
-    let b : Outer = outer (g.P.Spawner.started c.start_nodes.new.spawner) (g.P.Spawner.children c.start_nodes.new.spawner) (g.P.Spawner.statuses c.start_nodes.new.spawner) (g.K.Sink.written c.args.out.now) in
-    let plan = c.args.plan.now in
-    let first = g.P.Spawner.children c.args.spawner.now in
-    let nodes = nodes_of c.args.site.now.config in
-    let same : c.as_slice.result.now ≡ nodes = c.as_slice.ensures ∙ c.in_ok-nodes.ensures in
-    let e = c.in_err-running.field-0.0 in
-    stops-early a b (node_starts plan nodes) (call_deeds plan 0 (first + length nodes) plan.calls ++ node_waits (numbered first nodes)) e c.from_residual-in_err-running.result
-    (subst (λ (l : List NodeId). Fails (node_starts plan l) a b e) same (c.in_err-running.ensures.does (g.K.Sink.written c.args.out.now))) c.from_residual-in_err-running.ensures.1
-
-pub returns-in_err-running-clause-sink : goal.returns-in_err-running-clause-sink
-returns-in_err-running-clause-sink g c =
-    not-the-sink c.in_err-running.field-0.0 c.from_residual-in_err-running.result (g.K.Sink.faults c.args.out.now) c.from_residual-in_err-running.ensures.1 c.in_err-running.ensures.other
-
-pub returns-in_err-run_calls-clause-does : goal.returns-in_err-run_calls-clause-does
-returns-in_err-run_calls-clause-does g c =
-    let a : Outer = outer (g.P.Spawner.started c.args.spawner.now) (g.P.Spawner.children c.args.spawner.now) (g.P.Spawner.statuses c.args.spawner.now) (g.K.Sink.written c.args.out.now) in
-    let b : Outer = outer (g.P.Spawner.started c.start_nodes.new.spawner) (g.P.Spawner.children c.start_nodes.new.spawner) (g.P.Spawner.statuses c.start_nodes.new.spawner) (g.K.Sink.written c.args.out.now) in
-    let d : Outer = outer (g.P.Spawner.started c.run_calls.new.spawner) (g.P.Spawner.children c.run_calls.new.spawner) (g.P.Spawner.statuses c.run_calls.new.spawner) (g.K.Sink.written c.run_calls.new.out) in
-    let plan = c.args.plan.now in
-    let first = g.P.Spawner.children c.args.spawner.now in
-    let nodes = nodes_of c.args.site.now.config in
-    let same : c.as_slice.result.now ≡ nodes = c.as_slice.ensures ∙ c.in_ok-nodes.ensures in
-    let started : Does (node_starts plan nodes) a b = subst (λ (l : List NodeId). Does (node_starts plan l) a b) same (c.in_ok-running.ensures.does (g.K.Sink.written c.args.out.now)) in
-    let so_many : g.P.Spawner.children c.start_nodes.new.spawner ≡ first + length nodes = more-children a b (node_starts plan nodes) started ∙ ap (λ n. first + n) (many-starts plan nodes) in
-    let e = c.in_err-run_calls.field-0.0 in
-    let calls = call_deeds plan 0 (first + length nodes) plan.calls in
-    let waits = node_waits (numbered first nodes) in
-    stops-there a b d (node_starts plan nodes ++ (calls ++ waits)) (node_starts plan nodes) calls waits e c.from_residual-in_err-run_calls.result
-    (sym (append_assoc (node_starts plan nodes) calls waits)) started
-    (subst (λ (n : ℕ). Fails (call_deeds plan 0 n plan.calls) b d e) so_many c.in_err-run_calls.ensures.does) c.from_residual-in_err-run_calls.ensures.1
-
-pub await_nodes-requires : goal.await_nodes-requires
-await_nodes-requires g c =
-    let a : Outer = outer (g.P.Spawner.started c.args.spawner.now) (g.P.Spawner.children c.args.spawner.now) (g.P.Spawner.statuses c.args.spawner.now) (g.K.Sink.written c.args.out.now) in
-    let b : Outer = outer (g.P.Spawner.started c.start_nodes.new.spawner) (g.P.Spawner.children c.start_nodes.new.spawner) (g.P.Spawner.statuses c.start_nodes.new.spawner) (g.K.Sink.written c.args.out.now) in
-    let d : Outer = outer (g.P.Spawner.started c.run_calls.new.spawner) (g.P.Spawner.children c.run_calls.new.spawner) (g.P.Spawner.statuses c.run_calls.new.spawner) (g.K.Sink.written c.run_calls.new.out) in
-    let plan = c.args.plan.now in
-    let first = g.P.Spawner.children c.args.spawner.now in
-    let list = c.as_slice.result.now in
-    let most = g.P.Spawner.children c.run_calls.new.spawner in
-    let more = more-children a b (node_starts plan list) (c.in_ok-running.ensures.does (g.K.Sink.written c.args.out.now)) in
-    let many = many-starts plan list in
-    let later = more-children b d (call_deeds plan 0 (g.P.Spawner.children c.start_nodes.new.spawner) plan.calls) c.in_ok-run_calls.ensures.does in
-    let running : c.as_slice-2.result.now ≡ numbered first list = c.as_slice-2.ensures ∙ c.in_ok-running.ensures.running in
-    subst (λ (l : List (NodeId × ℕ)). AllByRecursion (λ (node : NodeId × ℕ). node.1 < most) l) (sym {a = c.as_slice-2.result.now} {b = numbered first list} running)
-    (numbered-below first list most (omega (arith, more, many, later)))
+pub end_all-requires-clause-spared : goal.end_all-requires-clause-spared
+end_all-requires-clause-spared g c =
+    let a : Outer = outer (g.P.Spawner.started c.args.spawner.now) (g.P.Spawner.children c.args.spawner.now) (g.P.Spawner.statuses c.args.spawner.now) (g.P.Spawner.ended c.args.spawner.now) (g.K.Sink.written c.args.out.now) in
+    let m : Outer = outer (g.P.Spawner.started c.run_children.new.spawner) (g.P.Spawner.children c.run_children.new.spawner) (g.P.Spawner.statuses c.run_children.new.spawner) (g.P.Spawner.ended c.run_children.new.spawner) (g.K.Sink.written c.run_children.new.out) in
+    let left = c.run_children.new.left.items in
+    let deeds = cluster_deeds c.args.plan.now c.args.site.now.config (g.P.Spawner.children c.args.spawner.now) in
+    let e = c.in-Err.error in
+    let fails : Fails (Leaves [] left a m) deeds a m e = subst (λ (l : List ℕ). Fails (Leaves l left a m) deeds a m e) c.new-left.ensures.items c.in-Err.ensures.does in
+    subst (λ (l : List ℕ). AllByRecursion (λ (n : ℕ). m.ended n ≡ false) l) (sym c.deref.ensures.value)
+    (left-spared a m left deeds e fails (g.met.P.Spawner.spared c.args.spawner.now))
 
 pub returns-clause-does : goal.returns-clause-does
 returns-clause-does g c =
-    let a : Outer = outer (g.P.Spawner.started c.args.spawner.now) (g.P.Spawner.children c.args.spawner.now) (g.P.Spawner.statuses c.args.spawner.now) (g.K.Sink.written c.args.out.now) in
-    let b : Outer = outer (g.P.Spawner.started c.start_nodes.new.spawner) (g.P.Spawner.children c.start_nodes.new.spawner) (g.P.Spawner.statuses c.start_nodes.new.spawner) (g.K.Sink.written c.args.out.now) in
-    let d : Outer = outer (g.P.Spawner.started c.run_calls.new.spawner) (g.P.Spawner.children c.run_calls.new.spawner) (g.P.Spawner.statuses c.run_calls.new.spawner) (g.K.Sink.written c.run_calls.new.out) in
-    let z : Outer = outer (g.P.Spawner.started c.await_nodes.new.spawner) (g.P.Spawner.children c.await_nodes.new.spawner) (g.P.Spawner.statuses c.await_nodes.new.spawner) (g.K.Sink.written c.await_nodes.new.out) in
-    let plan = c.args.plan.now in
-    let first = g.P.Spawner.children c.args.spawner.now in
-    let nodes = nodes_of c.args.site.now.config in
-    let same : c.as_slice.result.now ≡ nodes = c.as_slice.ensures ∙ c.in_ok-nodes.ensures in
-    let started : Does (node_starts plan nodes) a b = subst (λ (l : List NodeId). Does (node_starts plan l) a b) same (c.in_ok-running.ensures.does (g.K.Sink.written c.args.out.now)) in
-    let so_many : g.P.Spawner.children c.start_nodes.new.spawner ≡ first + length nodes = more-children a b (node_starts plan nodes) started ∙ ap (λ n. first + n) (many-starts plan nodes) in
-    let calls = call_deeds plan 0 (first + length nodes) plan.calls in
-    let waits = node_waits (numbered first nodes) in
-    let running : c.as_slice-2.result.now ≡ numbered first nodes = c.as_slice-2.ensures ∙ c.in_ok-running.ensures.running ∙ ap (λ (l : List NodeId). numbered first l) same in
-    let result = c.await_nodes.result in
-    ends-after a b z (node_starts plan nodes) (calls ++ waits) result started
-    (ends-after b d z calls waits result (subst (λ (n : ℕ). Does (call_deeds plan 0 n plan.calls) b d) so_many c.in_ok-run_calls.ensures.does)
-    (subst (λ (l : List (NodeId × ℕ)). Ends (node_waits l) d z result) running c.await_nodes.ensures.does))
+    let a : Outer = outer (g.P.Spawner.started c.args.spawner.now) (g.P.Spawner.children c.args.spawner.now) (g.P.Spawner.statuses c.args.spawner.now) (g.P.Spawner.ended c.args.spawner.now) (g.K.Sink.written c.args.out.now) in
+    let m : Outer = outer (g.P.Spawner.started c.run_children.new.spawner) (g.P.Spawner.children c.run_children.new.spawner) (g.P.Spawner.statuses c.run_children.new.spawner) (g.P.Spawner.ended c.run_children.new.spawner) (g.K.Sink.written c.run_children.new.out) in
+    let left = c.run_children.new.left.items in
+    let deeds = cluster_deeds c.args.plan.now c.args.site.now.config (g.P.Spawner.children c.args.spawner.now) in
+    let e = c.in-Err.error in
+    let fails : Fails (Leaves [] left a m) deeds a m e = subst (λ (l : List ℕ). Fails (Leaves l left a m) deeds a m e) c.new-left.ensures.items c.in-Err.ensures.does in
+    let z : Outer = outer (g.P.Spawner.started c.end_all.new.spawner) (g.P.Spawner.children c.end_all.new.spawner) (g.P.Spawner.statuses c.end_all.new.spawner) (g.P.Spawner.ended c.end_all.new.spawner) (g.K.Sink.written c.run_children.new.out) in
+    fails-ended a m left z (starts-none m z c.end_all.ensures.started c.end_all.ensures.children c.end_all.ensures.statuses) refl
+    (subst (λ (l : List ℕ). EndsThese l m.ended z.ended) c.deref.ensures.value c.end_all.ensures.ended) deeds e fails
