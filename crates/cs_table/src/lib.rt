@@ -1,8 +1,6 @@
 //! The records of a shard: what stands under each key, and what executing an entry does to it.
 #![tactic(auto)]
 
-#[cfg(test)]
-mod case_tests;
 mod change;
 mod execution;
 mod genesis;

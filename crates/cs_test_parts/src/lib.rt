@@ -1,4 +1,4 @@
-//! Trials: whole parts of the ledger against plain programs of their definitions, over random inputs from fixed seeds.
+//! Trials: the pool of a node against a plain list, over random inputs from fixed seeds.
 //!
 //! It has tests alone.
 #![tactic(auto)]
@@ -6,12 +6,4 @@
 #[cfg(test)]
 mod plain_pool;
 #[cfg(test)]
-mod plain_slot;
-#[cfg(test)]
 mod pools;
-#[cfg(test)]
-mod rows;
-#[cfg(test)]
-mod slots;
-#[cfg(test)]
-mod table;

@@ -1,17 +1,13 @@
-//! Tests of transactions, of the table of a shard and of its checkpoints.
+//! Tests of transactions, and of the table of a shard.
 #![tactic(auto)]
 
 #[cfg(test)]
-mod archive_tests;
+mod calls;
 #[cfg(test)]
-mod check_tests;
+mod case_tests;
 #[cfg(test)]
 mod table_dummy_tests;
 #[cfg(test)]
 mod table_tests;
 #[cfg(test)]
-mod tx_form_tests;
-#[cfg(test)]
 mod tx_tests;
-#[cfg(test)]
-mod tx_value_tests;

@@ -1,8 +1,9 @@
 //! Worked cases of a table.
+use crate::calls::{decided, prepared};
 use cs_base::{Config, Key, Memory};
-use cs_table::{Standing, Table, TableError};
+use cs_table::{Table, TableError};
 use cs_test_samples::{coin, spend};
-use cs_tx::{Encoded, Session, State, Vote, genesis_key, output_keys, session_digest};
+use cs_tx::{Encoded, Session, State, Vote, genesis_key};
 use cs_tx_form::Effect;
 use std::alloc::Global;
 use std::process::Abort;
@@ -27,71 +28,11 @@ fn split(alloc: Global, name: [u8; 32], worth: i64, number: u64) -> Result<Sessi
     spend(alloc, name, worth, &[4, 6], number)
 }
 
-fn prepared(
-    rt: &impl Abort,
-    alloc: Global,
-    table: &mut Table,
-    session: &Session,
-) -> Result<Vote, Fail> {
-    assert!(rt; session.fits());
-    let anchored = table.has_anchor(alloc, session)?;
-    assert!(rt; anchored);
-    let digest = session_digest(alloc, session)?;
-    let answer = table.prepare(alloc, session, &digest)?;
-    assert!(rt; answer.locked == (answer.vote == Vote::Commit));
-    Ok(answer.vote)
-}
-
-fn decided(
-    rt: &impl Abort,
-    alloc: Global,
-    table: &mut Table,
-    session: &Session,
-    vote: Vote,
-) -> Result<Effect, Fail> {
-    assert!(rt; session.fits());
-    let anchored = table.has_anchor(alloc, session)?;
-    assert!(rt; anchored);
-    let digest = session_digest(alloc, session)?;
-    Ok(table.decide(alloc, session, &digest, vote)?)
-}
-
-fn standing(
-    rt: &impl Abort,
-    alloc: Global,
-    table: &Table,
-    session: &Session,
-) -> Result<Standing, Fail> {
-    assert!(rt; session.fits());
-    let digest = session_digest(alloc, session)?;
-    Ok(table.standing(alloc, session, &digest)?)
-}
-
 fn name_of(rt: &impl Abort, key: Key) -> [u8; 32] {
     match key {
         Key::Object(name) => name,
         Key::Dummy(_, _) => panic!(rt; "a dummy"),
     }
-}
-
-#[test]
-fn a_coin_is_split(rt: HostRuntime) -> Result<(), Fail> {
-    let alloc = rt.alloc();
-    let (key, mut table) = one_coin(&rt, alloc)?;
-    let session = split(alloc, name_of(&rt, key), 10, 0)?;
-    for _ in 0..2 {
-        let vote = prepared(&rt, alloc, &mut table, &session)?;
-        assert!(rt; vote == Vote::Commit);
-    }
-    assert!(rt; decided(&rt, alloc, &mut table, &session, Vote::Commit)? == Effect::Accepted);
-    assert!(rt; standing(&rt, alloc, &table, &session)? == Standing::Accepted);
-    assert!(rt; session.fits());
-    let digest = session_digest(alloc, &session)?;
-    assert!(rt; table.recorded(alloc, &session, &digest)? == Some(Vote::Commit));
-    let row = table.record(&key).expect(&rt, "a record");
-    assert!(rt; matches!(&row.state, State::Inactive(_)) && row.book.is_empty());
-    assert!(rt; table.record(&Key::Dummy(0, 1)).is_some());
-    Ok(())
 }
 
 #[test]
@@ -103,7 +44,6 @@ fn a_full_book_takes_no_vote(rt: HostRuntime) -> Result<(), Fail> {
         assert!(rt; prepared(&rt, alloc, &mut table, &wrong)? == Vote::Abort);
     }
     let session = split(alloc, name_of(&rt, key), 10, 0)?;
-    assert!(rt; standing(&rt, alloc, &table, &session)? == Standing::Aborted);
     assert!(rt; prepared(&rt, alloc, &mut table, &session)? == Vote::Abort);
     let row = table.record(&key).expect(&rt, "a record");
     assert!(rt; row.book.len() == 1024 && matches!(&row.state, State::Active(_)));
@@ -132,52 +72,6 @@ fn the_last_place_of_a_book_goes_to_an_abort(rt: HostRuntime) -> Result<(), Fail
     let new = split(alloc, name_of(&rt, key), 10, 1)?;
     assert!(rt; prepared(&rt, alloc, &mut table, &new)? == Vote::Abort);
     has_places(&rt, &table, key, 1024)
-}
-
-#[test]
-fn a_second_number_finds_the_coin_used_up(rt: HostRuntime) -> Result<(), Fail> {
-    let alloc = rt.alloc();
-    let (key, mut table) = one_coin(&rt, alloc)?;
-    let first = split(alloc, name_of(&rt, key), 10, 1)?;
-    let second = split(alloc, name_of(&rt, key), 10, 2)?;
-    assert!(rt; prepared(&rt, alloc, &mut table, &first)? == Vote::Commit);
-    assert!(rt; decided(&rt, alloc, &mut table, &first, Vote::Commit)? == Effect::Accepted);
-    assert!(rt; prepared(&rt, alloc, &mut table, &second)? == Vote::Abort);
-    assert!(rt; standing(&rt, alloc, &table, &second)? == Standing::Aborted);
-    let row = table.record(&key).expect(&rt, "a record");
-    assert!(rt; row.book.is_empty());
-    Ok(())
-}
-
-/// The name of the first output of a session.
-fn first_output(rt: &impl Abort, alloc: Global, session: &Session) -> Result<[u8; 32], Fail> {
-    assert!(rt; session.tx.fits());
-    let keys = output_keys(alloc, &session.tx)?;
-    match keys.as_slice() {
-        [keys, ..] => match keys.as_slice() {
-            [key, ..] => Ok(name_of(rt, *key)),
-            [] => panic!(rt; "no output"),
-        },
-        [] => panic!(rt; "no trace"),
-    }
-}
-
-#[test]
-fn an_abort_is_kept_when_the_coin_comes(rt: HostRuntime) -> Result<(), Fail> {
-    let alloc = rt.alloc();
-    let (key, mut table) = one_coin(&rt, alloc)?;
-    let first = split(alloc, name_of(&rt, key), 10, 1)?;
-    let made = first_output(&rt, alloc, &first)?;
-    let early = spend(alloc, made, 4, &[4, 6], 1)?;
-    let late = spend(alloc, made, 4, &[4, 6], 2)?;
-    assert!(rt; prepared(&rt, alloc, &mut table, &early)? == Vote::Abort);
-    assert!(rt; prepared(&rt, alloc, &mut table, &first)? == Vote::Commit);
-    assert!(rt; decided(&rt, alloc, &mut table, &first, Vote::Commit)? == Effect::Accepted);
-    assert!(rt; prepared(&rt, alloc, &mut table, &early)? == Vote::Abort);
-    assert!(rt; prepared(&rt, alloc, &mut table, &late)? == Vote::Commit);
-    assert!(rt; decided(&rt, alloc, &mut table, &late, Vote::Commit)? == Effect::Accepted);
-    assert!(rt; prepared(&rt, alloc, &mut table, &early)? == Vote::Abort);
-    Ok(())
 }
 
 #[test]

@@ -159,31 +159,9 @@ fn entries_come_back(rt: HostRuntime) -> Result<(), Fail> {
 }
 
 #[test]
-fn states_come_back(rt: HostRuntime) -> Result<(), Fail> {
-    let alloc = rt.alloc();
-    comes_back(&rt, alloc, State::Unknown)?;
-    comes_back(&rt, alloc, State::Active(coin(alloc, TOKEN, 5)?))?;
-    comes_back(&rt, alloc, State::Locked(coin(alloc, TOKEN, 5)?, COIN))?;
-    comes_back(&rt, alloc, State::Inactive(COIN))
-}
-
-#[test]
 fn what_is_too_long_is_not_read(rt: HostRuntime) {
     assert!(rt; Tx::check_form(&[0; 8193]) == Err(FormError::TooLong));
     assert!(rt; Session::check_form(&[0; 8352]) == Err(FormError::TooLong));
     assert!(rt; Entry::check_form(&[0; 8353]) == Err(FormError::BadForm));
     assert!(rt; Entry::check_form(&[0; 8354]) == Err(FormError::TooLong));
-}
-
-#[test]
-fn anchor_is_the_genesis_coin(rt: HostRuntime) -> Result<(), Fail> {
-    let alloc = rt.alloc();
-    let x = session(alloc, split(alloc, 1, TOKEN)?)?;
-    let config = Config::new(1, 0, 0)?;
-    let genesis = coin(alloc, TOKEN, 5)?;
-    assert!(rt; x.fits() && genesis.fits());
-    assert!(rt; genesis_key(alloc, 0, &genesis)? == Key::Object(COIN));
-    well_formed(alloc, &x, &config)?;
-    assert!(rt; anchor(&x, &config, 0) == Some(Key::Object(COIN)));
-    Ok(())
 }

@@ -1,11 +1,7 @@
-//! Tests of datagrams and of the files of a deployment.
+//! Tests of datagrams and of key files.
 #![tactic(auto)]
 
 #[cfg(test)]
 mod config_keys_tests;
-#[cfg(test)]
-mod config_tests;
-#[cfg(test)]
-mod wire_message_tests;
 #[cfg(test)]
 mod wire_tests;

@@ -1,6 +1,0 @@
-use Rattle.std.specs.Prelude.{All}
-use Rattle.cs_tx_value.specs.Object.{ObjectFits}
-use Rattle.cs_test_parts.proofs.table.coins.Given as goal
-
-abbrev pub invariant-loop-place : goal.invariant-loop-place
-invariant-loop-place g l = All (λ item. ObjectFits item.1) l.objects.items

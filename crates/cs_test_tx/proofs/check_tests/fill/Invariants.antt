@@ -1,6 +1,0 @@
-use Rattle.cs_table.specs.Seen.{seen}
-use Rattle.cs_check.specs.Leaves.{HasLeaves}
-use Rattle.cs_test_tx.proofs.check_tests.fill.Given as goal
-
-abbrev pub invariant-loop-slot : goal.invariant-loop-slot
-invariant-loop-slot g l = HasLeaves l.chain.hashed (seen l.table)
