@@ -1,6 +1,6 @@
 #!/usr/bin/env bash
 # Prints the nanoseconds that a check of a contract takes for each unit of its cost, the time as a ratio to that of the plain
-# evaluator of the trials (crates/cs_test_eval) on the same check, and how it compares with that of a check of half the cost; for
+# evaluator (crates/cs_test_eval) on the same check, and how it compares with that of a check of half the cost; for
 # the part of a check that takes the least time for its units, comparing bytes, and for the one that takes the most, putting a list
 # of 8,000 bytes into another, which copies it. So the last line says what the dearest check costs a node: its cost is near the most
 # that a check may cost. The time of making and accepting the text is taken off. Proves and builds crates/cs_bench_checks first.

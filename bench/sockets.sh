@@ -2,7 +2,8 @@
 # Prints how many sessions a second a running shard of one node and of four decides for a client over the sockets of this computer,
 # each node a process; the processor time that the nodes take for it, and the system's share of that; and the same while another
 # process sends them 100,000 datagrams of each of four wrong kinds: cut short, changed, of another deployment, and repeated; with
-# the ratio of the two rates and what the first node's memory grows by. Every session has to be accepted by f+1 nodes.
+# the ratio of the two rates and what the first node's memory grows by. Then, of a shard of four, sessions a second before and after one
+# of its nodes is killed, beside the rate with all four. Every session has to be accepted by f+1 nodes.
 # The client is a plain Python program, which has up to 16 sessions under way and says all again until they are answered.
 # Proves and builds crates/chainspace first; it takes python3 and the 261 ports from the first argument on (20000).
 . "$(dirname "${BASH_SOURCE[0]}")/common.sh"
@@ -63,19 +64,20 @@ for number in range(count):
 PYTHON
 
 # Runs the nodes, the client and, where asked for, the flood. Prints sessions a second, the nodes' seconds of processor time, the
-# system's share, and the first node's memory in KiB before the first and after the last session.
+# system's share, and the first node's memory in KiB before the first and after the last session. Where sessions without the last node
+# are asked for, it is killed then, and their rate is printed too, of those that are accepted within a minute.
 cat >"$work/run.py" <<'PYTHON'
 import os, select, socket, subprocess, sys, time
 from ledger import *
 
-program, base_port, f, sessions, flood = sys.argv[1], *map(int, sys.argv[2:])
+program, base_port, f, sessions, flood, without = sys.argv[1], *map(int, sys.argv[2:])
 nodes, me, at_once = 3 * f + 1, (CLIENT, 0), 16
 with open("site.toml", "w") as site:
-    coins = ", ".join('"%s"' % coin(5).hex() for _ in range(sessions + 1))
+    coins = ", ".join('"%s"' % coin(5).hex() for _ in range(1 + sessions + without))
     site.write("shards = 1\nfaulty = %d\ndummies = 0\nbase_port = %d\ncontracts = []\ngenesis = [%s]\n" % (f, base_port, coins))
 subprocess.run([program, "keys", "site.toml", master.hex()], check=True)
 started = [
-    subprocess.Popen([program, "node", "site.toml", "keys-0.%d.toml" % index, "--turns", "9" * 18], stdout=subprocess.DEVNULL)
+    subprocess.Popen([program, "node", "site.toml", "keys-0.%d.toml" % index, "--ticks", "9" * 18], stdout=subprocess.DEVNULL)
     for index in range(nodes)
 ]
 
@@ -119,9 +121,11 @@ try:
                     return True
         return False
 
-    def decide(first, last):
+    # Has these sessions decided, and tells how many are, within so many seconds.
+    def decide(first, last, most=3600):
         done, following, again, pause = 0, first, time.monotonic(), 0.002
-        while done < last - first:
+        end = again + most
+        while done < last - first and time.monotonic() < end:
             while len(under_way) < at_once and following < last:
                 begin(following)
                 following += 1
@@ -132,11 +136,12 @@ try:
                             done, pause = done + 1, 0.002
                 except BlockingIOError:
                     pass
-            # Rarer and rarer while nothing is heard: a node has a tick after 20 ms without a datagram, and says its own again then.
+            # Rarer and rarer while nothing is heard: a node has what it was told once, and says its own again at its ticks.
             if time.monotonic() - again > pause:
                 for place in list(under_way.values()):
                     say(place)
                 again, pause = time.monotonic(), min(2 * pause, 0.256)
+        return done
 
     decide(0, 1)  # all nodes stand
     flooding = []
@@ -153,18 +158,29 @@ try:
     system = sum(b[1] - a[1] for a, b in zip(before, after))
     if any(process.poll() is not None for process in started):
         sys.exit("a node ended")
-    print(sessions / seconds, (own + system) / os.sysconf("SC_CLK_TCK"), system / max(1, own + system), size, memory(started[0]))
+    size = [size, memory(started[0])]
+    rest = 0
+    if without:
+        started[-1].kill()
+        start = time.monotonic()
+        rest = decide(sessions + 1, sessions + 1 + without, 60) / (time.monotonic() - start)
+    print(sessions / seconds, (own + system) / os.sysconf("SC_CLK_TCK"), system / max(1, own + system), *size, rest)
 finally:
     for process in started:
         process.kill()
         process.wait()
 PYTHON
 
+run() {
+  local folder
+  folder=$(mktemp -d "$work/XXXXXX")
+  (cd "$folder" && PYTHONPATH=$work python3 "$work/run.py" "$program" "$base_port" "$@")
+}
+
 measure() {
   local f=$1 sessions=$2 alone among
-  mkdir -p "$work/alone$f" "$work/among$f"
-  alone=$(cd "$work/alone$f" && PYTHONPATH=$work python3 "$work/run.py" "$program" "$base_port" "$f" "$sessions" 0)
-  among=$(cd "$work/among$f" && PYTHONPATH=$work python3 "$work/run.py" "$program" "$base_port" "$f" "$sessions" 100000)
+  alone=$(run "$f" "$sessions" 0 0)
+  among=$(run "$f" "$sessions" 100000 0)
   awk -v f="$f" -v sessions="$sessions" -v alone="$alone" -v among="$among" "$shared"'BEGIN {
     split(alone, a, " "); split(among, b, " ")
     printf "one shard of %d, %d sessions: %d a second, %.1f s of the nodes, %d %% of it the system\047s\n", 3 * f + 1, sessions, a[1], a[2], 100 * a[3]
@@ -172,5 +188,16 @@ measure() {
   }'
 }
 
+# A node of four is killed after so many sessions, and so many are to be decided without it; `all` is the rate with all four.
+measure_killed() {
+  local all
+  all=$(run 1 "$1" 0 0)
+  awk -v all="$all" -v killed="$(run 1 "$1" 0 "$2")" 'BEGIN {
+    split(all, a, " "); split(killed, b, " ")
+    printf "one shard of 4, of which one is killed: %d a second before, %.1f after; %d with all four\n", b[1], b[6], a[1]
+  }'
+}
+
 measure 0 5000
 measure 1 2000
+measure_killed 500 200
