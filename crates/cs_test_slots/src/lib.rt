@@ -1,9 +1,9 @@
-//! Tests of one slot among 3f+1 members, and of the order of one.
+//! Tests of one slot among 3f+1 members.
 #![tactic(auto)]
 
 #[cfg(test)]
 mod change_tests;
 #[cfg(test)]
-mod slot_tests;
+mod order_open_tests;
 #[cfg(test)]
-mod solo_tests;
+mod slot_tests;

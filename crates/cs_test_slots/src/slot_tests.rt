@@ -215,10 +215,24 @@ fn chooses_by_done_at(rt: &impl Abort, alloc: Global, row: &Threshold) -> Result
 }
 
 #[test]
-fn counts_one_below_and_at_each_threshold(rt: HostRuntime) -> Result<(), Fail> {
+fn a_member_confirms_at_2f_and_1_echoes(rt: HostRuntime) -> Result<(), Fail> {
     for row in &THRESHOLDS {
         confirms_at(&rt, rt.alloc(), row)?;
+    }
+    Ok(())
+}
+
+#[test]
+fn an_entry_is_chosen_at_2f_and_1_confirms(rt: HostRuntime) -> Result<(), Fail> {
+    for row in &THRESHOLDS {
         chooses_by_confirm_at(&rt, rt.alloc(), row)?;
+    }
+    Ok(())
+}
+
+#[test]
+fn an_entry_is_chosen_at_f_and_1_done(rt: HostRuntime) -> Result<(), Fail> {
+    for row in &THRESHOLDS {
         chooses_by_done_at(&rt, rt.alloc(), row)?;
     }
     Ok(())
