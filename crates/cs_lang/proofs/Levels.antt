@@ -9,7 +9,7 @@ use Rattle.cs_lang.specs.declared.tree.ValueKind.{ValueKind}
 use Rattle.cs_lang.specs.declared.tree.Expr.{Expr}
 use Rattle.cs_lang.specs.declared.tree.Statement.{Statement}
 use Rattle.cs_lang.specs.Rules.{Part, Whole, Negated, Signed}
-use Rattle.cs_lang.specs.Readers.{commas_at, optional_at, kinds_at, kind_level, inside_kind, reader_of, expression_at, inside_expr, inside_items, items_level, optional_items, inside_optional, group_level, bracket_level, empty_level, len_level, sha256_level, concat_level, called_level, depint_level, worded_level, primary_level, access_level, post_level, signed_level, ranked_product, ranked_sum, compared_level, no_level, ranked_and, below, ranked, arguments_level, statements_at, inside_statements, block_level, let_level, set_level, if_level, for_level, make_level, call_level, answer_level, statement_level, statements_level}
+use Rattle.cs_lang.specs.Readers.{commas_at, optional_at, two_at, kinds_at, kind_level, inside_kind, reader_of, expression_at, inside_expr, inside_items, items_level, inside_two, two_level, side_level, optional_items, inside_optional, group_level, bracket_level, empty_level, len_level, sha256_level, concat_level, called_level, depint_level, worded_level, primary_level, access_level, post_level, signed_level, ranked_product, ranked_sum, compared_level, no_level, ranked_and, below, ranked, arguments_level, statements_at, inside_statements, block_level, let_level, set_level, if_level, for_level, make_level, call_level, answer_level, statement_level, statements_level}
 
 expression_is : (left : ℕ) (part : Part) → expression_at left part ≡ reader_of part (inside_expr left) (kind_level left) (room_of left)
 unfolding expression_at inside_expr
@@ -18,15 +18,15 @@ expression_is (suc left) part = refl
 
 -- an expression is a chain of the loosest rank
 pub whole_ranked : (left : ℕ) → expression_at left Whole ≡ ranked rank.Or left
-unfolding ranked below ranked_and no_level compared_level ranked_sum ranked_product signed_level post_level access_level primary_level worded_level group_level bracket_level inside_items empty_level len_level sha256_level concat_level called_level depint_level
+unfolding ranked below ranked_and no_level compared_level side_level ranked_sum ranked_product signed_level post_level access_level primary_level worded_level group_level bracket_level inside_items inside_two empty_level len_level sha256_level concat_level called_level depint_level
 whole_ranked left = expression_is left Whole
 
 negated_no : (left : ℕ) → expression_at left Negated ≡ no_level left
-unfolding ranked below ranked_and no_level compared_level ranked_sum ranked_product signed_level post_level access_level primary_level worded_level group_level bracket_level inside_items empty_level len_level sha256_level concat_level called_level depint_level
+unfolding ranked below ranked_and no_level compared_level side_level ranked_sum ranked_product signed_level post_level access_level primary_level worded_level group_level bracket_level inside_items inside_two empty_level len_level sha256_level concat_level called_level depint_level
 negated_no left = expression_is left Negated
 
 signed_signed : (left : ℕ) → expression_at left Signed ≡ signed_level left
-unfolding ranked below ranked_and no_level compared_level ranked_sum ranked_product signed_level post_level access_level primary_level worded_level group_level bracket_level inside_items empty_level len_level sha256_level concat_level called_level depint_level
+unfolding ranked below ranked_and no_level compared_level side_level ranked_sum ranked_product signed_level post_level access_level primary_level worded_level group_level bracket_level inside_items inside_two empty_level len_level sha256_level concat_level called_level depint_level
 signed_signed left = expression_is left Signed
 
 kinds_is : (left : ℕ) → kinds_at left ≡ kind_level left
@@ -65,6 +65,11 @@ pub inside_items_is : (left : ℕ) (ts : List Token) → 0 < left → inside_ite
 unfolding inside_items items_level inside_expr
 inside_items_is zero ts lt = absurd (omega (arith, lt))
 inside_items_is (suc left) ts lt = rw sub-one (ap (λ (r : Reader Expr). commas_at r ts) (whole_ranked left))
+
+pub inside_two_is : (left : ℕ) (ts : List Token) → 0 < left → inside_two left ts ≡ two_level (left - 1) ts
+unfolding inside_two two_level inside_expr
+inside_two_is zero ts lt = absurd (omega (arith, lt))
+inside_two_is (suc left) ts lt = rw sub-one (ap (λ (r : Reader Expr). two_at r ts) (whole_ranked left))
 
 pub inside_optional_is : (left : ℕ) (ts : List Token) → 0 < left → inside_optional left ts ≡ optional_items (left - 1) ts
 unfolding inside_optional optional_items inside_items items_level inside_expr

@@ -1,10 +1,12 @@
 -- How contract texts are read from the left: the readers of the rules, as the code goes down.
 -- Each word is what one function answers.
-use Rattle.std.specs.Prelude.{ℕ, zero, suc, Bool, true, false, List, [], ◌∷◌, ◌++◌, Option, None, Some, Ok}
+use Rattle.std.specs.Prelude.{◌≡◌, ℕ, zero, suc, Bool, true, false, List, [], ◌∷◌, ◌++◌, Option, None, Some, Result, Ok, Err}
 use Rattle.cs_lang_token.specs.declared.token.Token.{Token}
 use Rattle.cs_lang_token.specs.declared.token.Text.{Text}
 use Rattle.cs_lang_token.specs.declared.kind.Kind.{Kind}
 use Rattle.cs_lang_token.specs.declared.kind.Kind.TheVariants as kind
+use Rattle.cs_lang_token.specs.declared.cursor.Stop.{Stop}
+use Rattle.cs_lang_token.specs.Answers.{Fails}
 use Rattle.cs_lang_token.specs.Kinds.{is}
 use Rattle.cs_lang_token.specs.Grammar.{Reader, pair_at, mapped_at, either_at, nothing_at, refused_at, links_at, many_at, ◌>>=◌}
 use Rattle.cs_lang_token.specs.Rules.{sign_at, name_at, bytes_at, number_at, room_of, joined, joined_pair, with_item, all_of}
@@ -46,6 +48,11 @@ turn f r e ts = r ts >>= λ x. Ok (f e x.0, x.1)
 
 abbrev pub with_one : {X : Type 0} → List X → X → List X
 with_one xs x = xs ++ x ∷ []
+
+-- what was held is given back, with the place of the sign behind it
+abbrev pub Closes : {X : Type 0} → Result (X × ℕ) Stop → X → List Token → Result (ℕ × List Token) (List Token) → Type 0
+Closes (Ok p) held rest found = (p.0 ≡ held) × (found ≡ Ok (p.1, rest))
+Closes (Err e) held rest found = Fails e rest found
 
 -- ---- kinds, fields, slots
 
@@ -109,11 +116,14 @@ group_at inside room = mapped_at grouped (in_parentheses_at inside room)
 abbrev pub bracket_at : Reader (List Expr) → Bool → Reader Expr
 bracket_at items room = mapped_at listed (pair_at (sign_at kind.OpenList room) (pair_at items (word_at kind.CloseList)))
 
+abbrev pub two_at : Reader Expr → Reader (Expr × (ℕ × Expr))
+two_at r = pair_at r (pair_at (word_at kind.Comma) r)
+
+abbrev pub concat_of : Reader (Expr × (ℕ × Expr)) → Bool → Reader Expr
+concat_of two room = mapped_at concat_expr (pair_at (word_at kind.Concat) (in_parentheses_at two room))
+
 abbrev pub concat_at : Reader Expr → Bool → Reader Expr
-concat_at inside room =
-    mapped_at concat_expr
-    (pair_at (word_at kind.Concat)
-    (in_parentheses_at (pair_at inside (pair_at (word_at kind.Comma) inside)) room))
+concat_at inside = concat_of (two_at inside)
 
 abbrev pub called_at : Bool → Reader Expr
 called_at room =
@@ -216,12 +226,15 @@ comparisons_at =
     (either_at (is (kind.Greater ∷ [])) (mapped_at (comparing comparison.Greater) (word_at kind.Greater))
     (mapped_at (comparing comparison.GreaterOrEqual) (word_at kind.GreaterOrEqual))))))
 
-abbrev pub compared_at : Reader Expr → Reader Expr
-compared_at r =
+abbrev pub compared_of : Reader Expr → Reader ((Comparison × ℕ) × Expr) → Reader Expr
+compared_of r side =
     mapped_at compared_expr
     (pair_at r
-    (either_at (is comparison_kinds) (mapped_at Some (pair_at comparisons_at r))
+    (either_at (is comparison_kinds) (mapped_at Some side)
     (nothing_at None)))
+
+abbrev pub compared_at : Reader Expr → Reader Expr
+compared_at r = compared_of r (pair_at comparisons_at r)
 
 abbrev pub signed_at : (Part → Reader Expr) → Reader ValueKind → Bool → Reader Expr
 signed_at inside kinds room = signed_of (inside Signed) room (post_at (inside Whole) kinds room)
@@ -255,6 +268,9 @@ inside_expr (suc left) part = expression_at left part
 unfoldable pub inside_items : ℕ → Reader (List Expr)
 inside_items left = commas_at (inside_expr left Whole)
 
+unfoldable pub inside_two : ℕ → Reader (Expr × (ℕ × Expr))
+inside_two left = two_at (inside_expr left Whole)
+
 unfoldable pub group_level : ℕ → Reader Expr
 group_level left = group_at (inside_expr left Whole) (room_of left)
 
@@ -271,7 +287,7 @@ unfoldable pub sha256_level : ℕ → Reader Expr
 sha256_level left = sha256_at (inside_expr left Whole) (room_of left)
 
 unfoldable pub concat_level : ℕ → Reader Expr
-concat_level left = concat_at (inside_expr left Whole) (room_of left)
+concat_level left = concat_of (inside_two left) (room_of left)
 
 unfoldable pub called_level : ℕ → Reader Expr
 called_level left = called_at (room_of left)
@@ -311,8 +327,12 @@ ranked_product left = chain_at rank.Product (signed_level left)
 unfoldable pub ranked_sum : ℕ → Reader Expr
 ranked_sum left = chain_at rank.Sum (ranked_product left)
 
+-- a comparison, and what it compares with
+unfoldable pub side_level : ℕ → Reader ((Comparison × ℕ) × Expr)
+side_level left = pair_at comparisons_at (ranked_sum left)
+
 unfoldable pub compared_level : ℕ → Reader Expr
-compared_level left = compared_at (ranked_sum left)
+compared_level left = compared_of (ranked_sum left) (side_level left)
 
 unfoldable pub no_level : ℕ → Reader Expr
 no_level left = no_of (inside_expr left Negated) (room_of left) (compared_level left)
@@ -336,6 +356,9 @@ ranked_onward rank left more =
 
 unfoldable pub ranked_turn : Rank → ℕ → Expr → Reader Expr
 ranked_turn rank left = turn (with_link rank) (pair_at (operators_at rank) (below rank left))
+
+unfoldable pub two_level : ℕ → Reader (Expr × (ℕ × Expr))
+two_level left = two_at (ranked rank.Or left)
 
 unfoldable pub items_level : ℕ → Reader (List Expr)
 items_level left = commas_at (ranked rank.Or left)

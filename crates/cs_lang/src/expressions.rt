@@ -1,13 +1,16 @@
 //! Reading expressions.
-ghost use Rattle.std.specs.Prelude.{◌≡◌, length};
+ghost use Rattle.std.specs.Prelude.{◌≡◌, length, true};
 ghost use Rattle.cs_lang_token.specs.Answers.{Gives};
 ghost use Rattle.cs_lang_token.specs.Kinds.{is};
-ghost use Rattle.cs_lang_token.specs.Grammar.{begins};
-ghost use Rattle.cs_lang.specs.Trees.{tree};
-ghost use Rattle.cs_lang.specs.Readers.{kinds_of, operators_at, comparisons_at, comparison_kinds, ranked, ranked_onward, ranked_turn, below, no_level, compared_level, signed_level, post_level, post_onward, post_turn, step_kinds, access_level, primary_level, worded_level, group_level, bracket_level, empty_level, len_level, sha256_level, concat_level, called_level, depint_level, items_level, items_onward, items_turn};
+ghost use Rattle.cs_lang_token.specs.Grammar.{begins, mapped_at, pair_at};
+ghost use Rattle.cs_lang_token.specs.Rules.{sign_at, name_at};
+ghost use Rattle.cs_lang_token.specs.declared.kind.Kind.TheVariants as kind;
+ghost use Rattle.cs_lang.specs.declared.tree.Rank.TheVariants as rank;
+ghost use Rattle.cs_lang.specs.Trees.{tree, field_step};
+ghost use Rattle.cs_lang.specs.Readers.{Closes, word_at, kinds_of, side_level, two_level, operators_at, comparisons_at, comparison_kinds, ranked, ranked_onward, ranked_turn, below, no_level, compared_level, signed_level, post_level, post_onward, post_turn, step_kinds, access_level, primary_level, worded_level, group_level, bracket_level, empty_level, len_level, sha256_level, concat_level, called_level, depint_level, items_level, items_onward, items_turn};
 
 use crate::kinds::value_kind;
-use crate::nodes::{grouped, with_link, with_step};
+use crate::nodes::{boxed, grouped, with_comparison, with_link, with_step};
 use crate::tree::{Access, Comparison, Expr, Operator, Rank, Shape};
 use cs_base::Sequence;
 use cs_lang_token::{Boxed, Cursor, Kind, MOST_OPERATORS, MOST_STEPS, Stop};
@@ -91,6 +94,14 @@ fn comparison(cursor: &mut Cursor<'_>) -> Result<(Comparison, usize), Stop>
     ))
 }
 
+/// What is held until the sign behind it was passed, and the place of the sign.
+pub fn closed<T: Drop>(cursor: &mut Cursor<'_>, sign: Kind, held: T) -> Result<(T, usize), Stop>
+    ensures { Closes result held cursor.new (sign_at sign true cursor.old) }
+{
+    let place = cursor.sign(sign)?;
+    Ok((held, place))
+}
+
 /// An operand of a chain.
 #[cycle(expression)]
 #[tactic(auto, unfolding(crate::specs::Readers::below), using(crate::proofs::Onward::below_and, crate::proofs::Onward::below_product))]
@@ -151,9 +162,24 @@ fn right(
 ) -> Result<Expr, Stop>
     ensures { Gives result cursor.new (ranked_turn rank left all cursor.old) }
 {
-    let (operator, place) = operator(cursor, rank)?;
-    let right = operand(alloc, cursor, left, rank)?;
+    let ((operator, place), right) = link(alloc, cursor, left, rank)?;
     Ok(with_link(alloc, all, rank, operator, place, right)?)
+}
+
+/// An operator with its place, and its right operand.
+#[cycle(expression)]
+fn link(
+    alloc: Global,
+    cursor: &mut Cursor<'_>,
+    left: u8,
+    rank: Rank,
+) -> Result<((Operator, usize), Expr), Stop>
+    ensures { Gives result cursor.new
+        (pair_at (operators_at rank) (below rank left) cursor.old) }
+{
+    let operator = operator(cursor, rank)?;
+    let right = operand(alloc, cursor, left, rank)?;
+    Ok((operator, right))
 }
 
 /// A comparison, with any number of words `not` before it.
@@ -184,17 +210,23 @@ fn compared(alloc: Global, cursor: &mut Cursor<'_>, left: u8) -> Result<Expr, St
     if !at_comparison(cursor) {
         return Ok(first);
     }
-    let (comparison, place) = comparison(cursor)?;
+    let (comparison, second) = other_side(alloc, cursor, left)?;
+    Ok(with_comparison(alloc, first, comparison, second)?)
+}
+
+/// A comparison with its place, and a sum.
+#[cycle(expression)]
+#[tactic(auto, unfolding(crate::specs::Readers::side_level), using(crate::proofs::Onward::sum_is))]
+fn other_side(
+    alloc: Global,
+    cursor: &mut Cursor<'_>,
+    left: u8,
+) -> Result<((Comparison, usize), Expr), Stop>
+    ensures { Gives result cursor.new (side_level left cursor.old) }
+{
+    let comparison = comparison(cursor)?;
     let second = chain(alloc, cursor, left, Rank::Sum)?;
-    Ok(Expr {
-        first: first.first,
-        place,
-        shape: Shape::Compared(
-            comparison,
-            Boxed::new(alloc, first)?,
-            Boxed::new(alloc, second)?,
-        ),
-    })
+    Ok((comparison, second))
 }
 
 /// A primary expression with its steps, with any number of signs before it.
@@ -267,14 +299,22 @@ fn access(alloc: Global, cursor: &mut Cursor<'_>, left: u8) -> Result<(usize, Ac
     ensures { Gives result cursor.new (access_level left cursor.old) }
 {
     if cursor.at(Kind::Dot) {
-        let place = cursor.sign(Kind::Dot)?;
-        let name = cursor.name(alloc)?;
-        return Ok((place, Access::Field(name)));
+        return field_access(alloc, cursor);
     }
     let place = cursor.open(Kind::OpenList, left)?;
     let index = chain(alloc, cursor, left - 1, Rank::Or)?;
-    cursor.sign(Kind::CloseList)?;
+    let (index, _closing) = closed(cursor, Kind::CloseList, index)?;
     Ok((place, Access::Index(index)))
+}
+
+/// A field's name behind a dot, and the place of the dot.
+fn field_access(alloc: Global, cursor: &mut Cursor<'_>) -> Result<(usize, Access), Stop>
+    ensures { Gives result cursor.new
+        (mapped_at field_step (pair_at (word_at kind.Dot) name_at) cursor.old) }
+{
+    let place = cursor.sign(Kind::Dot)?;
+    let name = cursor.name(alloc)?;
+    Ok((place, Access::Field(name)))
 }
 
 /// A primary expression.
@@ -355,7 +395,7 @@ fn group(alloc: Global, cursor: &mut Cursor<'_>, left: u8) -> Result<Expr, Stop>
 {
     let opening = cursor.open(Kind::Open, left)?;
     let inner = chain(alloc, cursor, left - 1, Rank::Or)?;
-    let closing = cursor.sign(Kind::Close)?;
+    let (inner, closing) = closed(cursor, Kind::Close, inner)?;
     Ok(grouped(opening, inner, closing))
 }
 
@@ -367,7 +407,7 @@ fn bracket(alloc: Global, cursor: &mut Cursor<'_>, left: u8) -> Result<Expr, Sto
 {
     let place = cursor.open(Kind::OpenList, left)?;
     let items = items(alloc, cursor, left - 1)?;
-    cursor.sign(Kind::CloseList)?;
+    let (items, _closing) = closed(cursor, Kind::CloseList, items)?;
     Ok(leaf(place, Shape::List(items)))
 }
 
@@ -390,7 +430,7 @@ fn length_of(alloc: Global, cursor: &mut Cursor<'_>, left: u8) -> Result<Expr, S
     let place = cursor.sign(Kind::Len)?;
     cursor.open(Kind::Open, left)?;
     let inner = chain(alloc, cursor, left - 1, Rank::Or)?;
-    cursor.sign(Kind::Close)?;
+    let (inner, _closing) = closed(cursor, Kind::Close, inner)?;
     Ok(leaf(place, Shape::Len(Boxed::new(alloc, inner)?)))
 }
 
@@ -403,26 +443,44 @@ fn hash_of(alloc: Global, cursor: &mut Cursor<'_>, left: u8) -> Result<Expr, Sto
     let place = cursor.sign(Kind::Sha256)?;
     cursor.open(Kind::Open, left)?;
     let inner = chain(alloc, cursor, left - 1, Rank::Or)?;
-    cursor.sign(Kind::Close)?;
+    let (inner, _closing) = closed(cursor, Kind::Close, inner)?;
     Ok(leaf(place, Shape::Sha256(Boxed::new(alloc, inner)?)))
 }
 
 /// Two that are joined.
 #[cycle(expression)]
-#[tactic(auto, unfolding(crate::specs::Readers::concat_level), using(crate::proofs::Levels::inside_whole_is))]
+#[tactic(auto, unfolding(crate::specs::Readers::concat_level), using(crate::proofs::Levels::inside_two_is))]
 fn concat(alloc: Global, cursor: &mut Cursor<'_>, left: u8) -> Result<Expr, Stop>
     ensures { Gives result cursor.new (concat_level left cursor.old) }
 {
     let place = cursor.sign(Kind::Concat)?;
     cursor.open(Kind::Open, left)?;
-    let front = chain(alloc, cursor, left - 1, Rank::Or)?;
-    cursor.sign(Kind::Comma)?;
-    let back = chain(alloc, cursor, left - 1, Rank::Or)?;
-    cursor.sign(Kind::Close)?;
-    Ok(leaf(
-        place,
-        Shape::Concat(Boxed::new(alloc, front)?, Boxed::new(alloc, back)?),
-    ))
+    let parts = two(alloc, cursor, left - 1)?;
+    let ((front, (_comma, back)), _closing) = closed(cursor, Kind::Close, parts)?;
+    let (front, back) = boxed(alloc, front, back)?;
+    Ok(leaf(place, Shape::Concat(front, back)))
+}
+
+/// Two expressions with a comma between them, and its place.
+#[cycle(expression)]
+#[tactic(auto, unfolding(crate::specs::Readers::two_level))]
+fn two(alloc: Global, cursor: &mut Cursor<'_>, left: u8) -> Result<(Expr, (usize, Expr)), Stop>
+    ensures { Gives result cursor.new (two_level left cursor.old) }
+{
+    let front = chain(alloc, cursor, left, Rank::Or)?;
+    let back = behind_comma(alloc, cursor, left)?;
+    Ok((front, back))
+}
+
+/// A comma's place, and an expression.
+#[cycle(expression)]
+fn behind_comma(alloc: Global, cursor: &mut Cursor<'_>, left: u8) -> Result<(usize, Expr), Stop>
+    ensures { Gives result cursor.new
+        (pair_at (word_at kind.Comma) (ranked rank.Or left) cursor.old) }
+{
+    let comma = cursor.sign(Kind::Comma)?;
+    let one = chain(alloc, cursor, left, Rank::Or)?;
+    Ok((comma, one))
 }
 
 /// Whether a dep called a method.
@@ -499,9 +557,8 @@ fn other_item(
 ) -> Result<Sequence<Expr>, Stop>
     ensures { Gives result cursor.new (items_turn left others cursor.old) }
 {
+    let (_comma, one) = behind_comma(alloc, cursor, left)?;
     let mut all = others;
-    cursor.sign(Kind::Comma)?;
-    let one = chain(alloc, cursor, left, Rank::Or)?;
     all.push(one)?;
     Ok(all)
 }

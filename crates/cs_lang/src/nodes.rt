@@ -1,8 +1,8 @@
 //! Nodes of trees.
-ghost use Rattle.std.specs.Prelude.{◌≡◌, IfOk};
-ghost use Rattle.cs_lang.specs.Trees.{same_rank, is_chain, is_path, chain_begun, path_begun, with_link, with_step, grouped};
+ghost use Rattle.std.specs.Prelude.{◌≡◌, IfOk, Some};
+ghost use Rattle.cs_lang.specs.Trees.{compared_expr, same_rank, is_chain, is_path, chain_begun, path_begun, with_link, with_step, grouped};
 
-use crate::tree::{Access, Expr, Link, Operator, Rank, Shape, Step};
+use crate::tree::{Access, Comparison, Expr, Link, Operator, Rank, Shape, Step};
 use cs_base::Sequence;
 use cs_lang_token::Boxed;
 use std::alloc::{AllocError, Global};
@@ -164,6 +164,38 @@ fn begun_path(alloc: Global, left: Expr, place: usize, step: Step) -> Result<Exp
         first: left.first,
         place,
         shape: Shape::Path(Boxed::new(alloc, left)?, steps),
+    })
+}
+
+/// Two expressions on the heap.
+pub fn boxed(
+    alloc: Global,
+    left: Expr,
+    right: Expr,
+) -> Result<(Boxed<Expr>, Boxed<Expr>), AllocError>
+    ensures { IfOk result (λ both. both ≡ (left, right)) }
+{
+    let left = Boxed::new(alloc, left)?;
+    let right = Boxed::new(alloc, right)?;
+    Ok((left, right))
+}
+
+/// Two expressions that are compared.
+pub fn with_comparison(
+    alloc: Global,
+    left: Expr,
+    comparison: (Comparison, usize),
+    right: Expr,
+) -> Result<Expr, AllocError>
+    ensures { IfOk result (λ e. e ≡ compared_expr (left, Some (comparison, right))) }
+{
+    let first = left.first;
+    let (comparison, place) = comparison;
+    let (left, right) = boxed(alloc, left, right)?;
+    Ok(Expr {
+        first,
+        place,
+        shape: Shape::Compared(comparison, left, right),
     })
 }
 

@@ -7,27 +7,33 @@ use Rattle.cs_lang.proofs.expressions.+expression.Given as goal
 -- the looser a chain, the more stands below it
 abbrev height : Rank → ℕ
 height rank.Product = 12
-height rank.Sum = 16
-height rank.And = 22
-height rank.Or = 26
+height rank.Sum = 17
+height rank.And = 25
+height rank.Or = 30
 
 abbrev pub decreases-chain : goal.decreases-chain
-decreases-chain l = 40 * l.left + height l.rank + 3
+decreases-chain l = 40 * l.left + height l.rank + 4
 
 abbrev pub decreases-rights : goal.decreases-rights
-decreases-rights l = 40 * l.left + height l.rank + 2
+decreases-rights l = 40 * l.left + height l.rank + 3
 
 abbrev pub decreases-right : goal.decreases-right
-decreases-right l = 40 * l.left + height l.rank + 1
+decreases-right l = 40 * l.left + height l.rank + 2
+
+abbrev pub decreases-link : goal.decreases-link
+decreases-link l = 40 * l.left + height l.rank + 1
 
 abbrev pub decreases-operand : goal.decreases-operand
 decreases-operand l = 40 * l.left + height l.rank
 
 abbrev pub decreases-negated : goal.decreases-negated
-decreases-negated l = 40 * l.left + 21
+decreases-negated l = 40 * l.left + 24
 
 abbrev pub decreases-compared : goal.decreases-compared
-decreases-compared l = 40 * l.left + 20
+decreases-compared l = 40 * l.left + 23
+
+abbrev pub decreases-other_side : goal.decreases-other_side
+decreases-other_side l = 40 * l.left + 22
 
 abbrev pub decreases-signed : goal.decreases-signed
 decreases-signed l = 40 * l.left + 11
@@ -66,13 +72,19 @@ abbrev pub decreases-concat : goal.decreases-concat
 decreases-concat l = 40 * l.left + 4
 
 abbrev pub decreases-items : goal.decreases-items
-decreases-items l = 40 * l.left + 32
+decreases-items l = 40 * l.left + 38
 
 abbrev pub decreases-other_items : goal.decreases-other_items
-decreases-other_items l = 40 * l.left + 31
+decreases-other_items l = 40 * l.left + 37
 
 abbrev pub decreases-other_item : goal.decreases-other_item
-decreases-other_item l = 40 * l.left + 30
+decreases-other_item l = 40 * l.left + 36
+
+abbrev pub decreases-two : goal.decreases-two
+decreases-two l = 40 * l.left + 36
+
+abbrev pub decreases-behind_comma : goal.decreases-behind_comma
+decreases-behind_comma l = 40 * l.left + 35
 
 abbrev pub invariant-rights-loop : goal.invariant-rights-loop
 invariant-rights-loop l = ranked_onward l.rank l.left (64 - l.counter) l.all l.cursor ≡ ranked_onward l.rank l.left 64 l.initial.all l.initial.cursor
