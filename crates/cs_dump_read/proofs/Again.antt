@@ -2,9 +2,7 @@
 use Rattle.std.specs.Prelude.{◌≡◌, ℕ, ◌+◌, ◌≤◌, false, List, [], ◌∷◌, ◌++◌, length, map, Ok, codes}
 use Rattle.std.specs.List.{AllByRecursion}
 use Rattle.std.specs.Fmt.{decimal}
-use Rattle.std.specs.Str.Lines.{lines}
-use Rattle.std.proofs.Common.{◌∙◌, ap, refl, arith}
-use Rattle.std.proofs.lemmas.Bool.{le-leb}
+use Rattle.std.proofs.Common.{refl, arith}
 use Rattle.std.proofs.lemmas.List.Elements.{recursion_from_All}
 use Rattle.cs_base.specs.Fields.{IsBytes}
 use Rattle.cs_base.specs.declared.limits.TheConstants.{MOST_SHARDS, MOST_LIARS, MOST_DUMMIES}
@@ -14,11 +12,11 @@ use Rattle.cs_tx_form.specs.declared.leaf.Leaf.{Leaf}
 use Rattle.cs_tx_form.specs.Log.{leaf_encoding, LeafFits}
 use Rattle.cs_sched.specs.Playable.{IsContractText}
 use Rattle.cs_sched.specs.Printed.{contract_lines, genesis_lines}
-use Rattle.cs_sched.proofs.Plain.{IsLine, field-word, field-decimal, field-bytes}
-use Rattle.cs_sched.proofs.Rows.{lines_of-text}
+use Rattle.cs_text.proofs.Plain.{IsLine, field-word, field-decimal, field-bytes}
+use Rattle.cs_text.proofs.Rows.{text_again}
 use Rattle.cs_dump_read.specs.Drafts.{empty_draft}
 use Rattle.cs_dump_read.specs.Formed.{IsFormed, IsFormedLog}
-use Rattle.cs_dump_read.specs.Text.{read_lines, whole, dump_of}
+use Rattle.cs_dump_read.specs.Text.{dump_form, dump_of}
 use Rattle.cs_dump_read.specs.declared.draft.Draft.{Draft}
 use Rattle.cs_dump_read.specs.declared.draft.Stage.TheVariants as stage
 use Rattle.cs_dump_read.specs.declared.dump.Dump.{Dump}
@@ -121,11 +119,7 @@ module _ (dump : Dump) (formed : IsFormed dump) (encoded : IsEncoded dump) where
 
   again_whole : (limit : ℕ) → length (printed_dump dump) ≤ limit → dump_of limit (printed_dump dump) ≡ Ok dump
   unfolding dump_of
-  again_whole limit short =
-      let text = printed_dump dump in
-      let read : read_lines empty_draft 1 (lines text) ≡ Ok last =
-      ap (read_lines empty_draft 1) (lines_of-text (dump_lines dump) are_lines) ∙ read_steps (dump_lines dump) empty_draft last 1 are_lines reads_all in
-      rw (le-leb (length text) limit short) (ap (whole (length (lines text) + 1)) read)
+  again_whole limit short = text_again dump_form (dump_lines dump) last dump limit are_lines (read_steps (dump_lines dump) empty_draft last 1 reads_all) refl short
 
 pub again : (limit : ℕ) → IsReadAgain limit
 again limit dump formed encoded short = again_whole dump formed encoded limit short

@@ -9,8 +9,8 @@ use Rattle.cs_base.proofs.HexTexts.{bytes_of-bytes_text}
 use Rattle.cs_base.proofs.Numbers.{number_printed}
 use Rattle.cs_tx_form.specs.declared.leaf.Leaf.{Leaf}
 use Rattle.cs_tx_form.specs.Log.{leaf_encoding, LeafFits}
-use Rattle.cs_sched.specs.Said.{number_said}
-use Rattle.cs_sched.proofs.Back.{number_back}
+use Rattle.cs_text.specs.Values.{number_said}
+use Rattle.cs_text.proofs.Back.{number_back}
 use Rattle.cs_dump_read.specs.Said.{log_said, leaf_said}
 use Rattle.cs_dump_read.proofs.Leaves.{leaf_found}
 

@@ -12,10 +12,10 @@ use Rattle.cs_tx_value.specs.Object.{ObjectFits}
 use Rattle.cs_tx_form.specs.declared.leaf.Leaf.{Leaf}
 use Rattle.cs_tx_form.specs.Log.{LeafFits}
 use Rattle.cs_tx.specs.Digest.{name_of_genesis}
-use Rattle.cs_sched.specs.Names.{is_known, genesis_names}
+use Rattle.cs_tx.specs.GenesisNames.{is_known, genesis_names}
 use Rattle.cs_sched.specs.declared.limits.TheConstants.{MOST_CONTRACTS}
 use Rattle.cs_sched.specs.Playable.{IsContractText}
-use Rattle.cs_sched.proofs.Distinct.{names_differ, genesis_names-append}
+use Rattle.cs_tx.proofs.GenesisNames.{names_differ, genesis_names-append}
 use Rattle.cs_dump_read.specs.declared.draft.Draft.{Draft}
 use Rattle.cs_dump_read.specs.declared.draft.Stage.{Stage}
 use Rattle.cs_dump_read.specs.declared.draft.Stage.TheVariants as stage

@@ -7,7 +7,7 @@ use Rattle.cs_base.proofs.Forms.{whole-takes, whole-again}
 use Rattle.cs_tx_form.specs.declared.leaf.Leaf.{Leaf}
 use Rattle.cs_tx_form.specs.Log.{leaf_encoding, LeafFits, leaf_at}
 use Rattle.cs_tx_form.specs.laws.Log.{leaf_form}
-use Rattle.cs_sched.specs.declared.cause.Cause.TheVariants as cause
+use Rattle.cs_text.specs.declared.cause.Cause.TheVariants as cause
 use Rattle.cs_dump_read.specs.Said.{encoded_leaf}
 
 pub leaf_found : (bytes : List ℕ) (leaf : Leaf) → LeafFits leaf → bytes ≡ leaf_encoding leaf → encoded_leaf bytes ≡ Ok leaf

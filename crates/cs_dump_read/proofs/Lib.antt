@@ -1,6 +1,5 @@
 pub mod Kept
 pub mod Leaves
-pub mod Reading
 pub mod Whole
 pub mod Fields
 pub mod Steps

@@ -15,16 +15,17 @@ use Rattle.cs_tx_value.specs.declared.object.Object.{Object}
 use Rattle.cs_tx_form.specs.declared.leaf.Leaf.{Leaf}
 use Rattle.cs_tx_form.specs.Log.{leaf_encoding, LeafFits}
 use Rattle.cs_tx.specs.Digest.{name_of_genesis}
-use Rattle.cs_sched.specs.Names.{is_known, genesis_names}
+use Rattle.cs_tx.specs.GenesisNames.{is_known, genesis_names}
 use Rattle.cs_sched.specs.declared.limits.TheConstants.{MOST_CONTRACTS}
 use Rattle.cs_sched.specs.Playable.{IsContractText}
-use Rattle.cs_sched.specs.Printed.{number_words, contract_words, object_words, contract_lines, genesis_lines}
+use Rattle.cs_text.specs.Printed.{number_words}
+use Rattle.cs_text.proofs.Back.{digest_back}
+use Rattle.cs_sched.specs.Printed.{contract_words, object_words, contract_lines, genesis_lines}
 use Rattle.cs_sched.specs.Values.{in_range}
-use Rattle.cs_sched.specs.declared.cause.Cause.{Cause}
-use Rattle.cs_sched.proofs.Distinct.{genesis_names-append}
+use Rattle.cs_text.specs.declared.cause.Cause.{Cause}
+use Rattle.cs_tx.proofs.GenesisNames.{genesis_names-append}
 use Rattle.cs_dump_read.specs.Drafts.{empty_draft, empty_log}
 use Rattle.cs_dump_read.specs.Lines.{settled}
-use Rattle.cs_dump_read.specs.Places.{line_step}
 use Rattle.cs_dump_read.specs.declared.draft.Draft.{Draft}
 use Rattle.cs_dump_read.specs.declared.draft.Stage.{Stage}
 use Rattle.cs_dump_read.specs.declared.draft.Stage.TheVariants as stage
@@ -32,9 +33,9 @@ use Rattle.cs_dump_read.specs.declared.dump.Log.{Log}
 use Rattle.cs_dump_read.specs.Printed.{leaf_words, head_words, tx_words, log_words, log_lines, logs_lines, config_lines, history_lines}
 use Rattle.cs_dump_read.specs.Again.{IsEncodedLog}
 use Rattle.cs_dump_read.specs.Formed.{IsFormedLog}
-use Rattle.cs_sched.proofs.Fields.{shards_back, faulty_back, dummies_back, contract_back, object_back, digest_back, next_new}
+use Rattle.cs_sched.proofs.Fields.{shards_back, faulty_back, dummies_back, contract_back, object_back, next_new}
 use Rattle.cs_dump_read.proofs.Fields.{log_back, leaf_back, txs_back}
-use Rattle.cs_dump_read.proofs.Steps.{steps, then_step, steps_then}
+use Rattle.cs_dump_read.proofs.Steps.{dump_step, steps, then_step, steps_then}
 
 -- a draft between logs, whose names are those of its objects
 abbrev pub made : Stage → Config → List (List ℕ) → List Object → List Log → List (List ℕ) → ℕ → Draft
@@ -77,16 +78,16 @@ reads_config config =
     let whole : in_range (configured second.shards second.f config.dummies) ≡ Ok config =
     ap (λ n. in_range (configured n second.f config.dummies)) same ∙ ap (λ n. in_range (configured config.shards n config.dummies)) same_f ∙ ap in_range (configured-config config) in
     let begun = made stage.Shards least [] [] [] [] 0 in
-    let shards : line_step begun (number_words (codes "shards") config.shards) ≡ Ok (made stage.Faulty first [] [] [] [] 0) = rw (shards_back least first config.shards (omega arith) sharded) refl in
-    let faulty : line_step (made stage.Faulty first [] [] [] [] 0) (number_words (codes "faulty") config.f) ≡ Ok (made stage.Dummies second [] [] [] [] 0) = rw (faulty_back first second config.f (omega arith) trusted) refl in
-    let dummies : line_step (made stage.Dummies second [] [] [] [] 0) (number_words (codes "dummies") config.dummies) ≡ Ok (made stage.Contracts config [] [] [] [] 0) = rw (dummies_back second config config.dummies (omega arith) whole) refl in
+    let shards : dump_step begun (number_words (codes "shards") config.shards) ≡ Ok (made stage.Faulty first [] [] [] [] 0) = rw (shards_back least first config.shards (omega arith) sharded) refl in
+    let faulty : dump_step (made stage.Faulty first [] [] [] [] 0) (number_words (codes "faulty") config.f) ≡ Ok (made stage.Dummies second [] [] [] [] 0) = rw (faulty_back first second config.f (omega arith) trusted) refl in
+    let dummies : dump_step (made stage.Dummies second [] [] [] [] 0) (number_words (codes "dummies") config.dummies) ≡ Ok (made stage.Contracts config [] [] [] [] 0) = rw (dummies_back second config config.dummies (omega arith) whole) refl in
     rw (shards, faulty, dummies) refl
 
 module _ (config : Config) where
   -- ---- contracts
 
   contract_step : (before : List (List ℕ)) (text : List ℕ) → IsContractText text → length before < MOST_CONTRACTS
-      → line_step (made stage.Contracts config before [] [] [] 0) (contract_words text) ≡ Ok (made stage.Contracts config (before ++ text ∷ []) [] [] [] 0)
+      → dump_step (made stage.Contracts config before [] [] [] 0) (contract_words text) ≡ Ok (made stage.Contracts config (before ++ text ∷ []) [] [] [] 0)
   contract_step before text fits few = rw (contract_back (length before) text few fits) refl
 
   pub reads_contracts : (texts before : List (List ℕ)) → AllByRecursion IsContractText texts → length before + length texts ≤ MOST_CONTRACTS
@@ -108,7 +109,7 @@ module _ (config : Config) where
 
     object_step : (any : Bool) (before : List Object) (object : Object) → ObjectFits object → IsBytes (object_encoding object) → length before < MOST_GENESIS
         → is_known (name_of_genesis (length before) object) (genesis_names 0 before) ≡ false
-        → line_step (made (genesis_stage any) config contracts before [] [] 0) (object_words object) ≡ Ok (made stage.Genesis config contracts (before ++ object ∷ []) [] [] 0)
+        → dump_step (made (genesis_stage any) config contracts before [] [] 0) (object_words object) ≡ Ok (made stage.Genesis config contracts (before ++ object ∷ []) [] [] 0)
     object_step false before object fits encoded few new = rw (object_back (length before) object few fits encoded, new, named before object) refl
     object_step true before object fits encoded few new = rw (object_back (length before) object few fits encoded, new, named before object) refl
 
@@ -154,13 +155,13 @@ module _ (config : Config) where
       none = le-ltb 0 0 (omega arith)
 
       leaf_step : (logs : List Log) (log : Log) (leaf : Leaf) (leaves heads : ℕ) → LeafFits leaf → IsBytes (leaf_encoding leaf)
-          → line_step (within logs log (suc leaves) heads) (leaf_words leaf) ≡ Ok (settled (within logs (record { leaves = log.leaves ++ leaf ∷ []; heads = log.heads }) leaves heads))
+          → dump_step (within logs log (suc leaves) heads) (leaf_words leaf) ≡ Ok (settled (within logs (record { leaves = log.leaves ++ leaf ∷ []; heads = log.heads }) leaves heads))
       leaf_step logs log leaf leaves heads fits encoded =
           let less : suc leaves - 1 ≡ leaves = omega arith in
           rw (some leaves, leaf_back leaf fits encoded) (ap (λ n. Ok (settled (within logs (record { leaves = log.leaves ++ leaf ∷ []; heads = log.heads }) n heads))) less)
 
       head_step : (logs : List Log) (log : Log) (head : List ℕ) (heads : ℕ) → DigestFits head
-          → line_step (within logs log 0 (suc heads)) (head_words head) ≡ Ok (settled (within logs (record { leaves = log.leaves; heads = log.heads ++ head ∷ [] }) 0 heads))
+          → dump_step (within logs log 0 (suc heads)) (head_words head) ≡ Ok (settled (within logs (record { leaves = log.leaves; heads = log.heads ++ head ∷ [] }) 0 heads))
       head_step logs log head heads fits =
           let less : suc heads - 1 ≡ heads = omega arith in
           rw (some heads, digest_back head fits) (ap (λ n. Ok (settled (within logs (record { leaves = log.leaves; heads = log.heads ++ head ∷ [] }) 0 n))) less)
@@ -197,13 +198,13 @@ module _ (config : Config) where
       log_stage any true = stage.Logs
 
       log_step : (any more : Bool) (logs : List Log) (slots : ℕ) → length logs < config.shards → slots < 2 ^ 64
-          → line_step (made (log_stage any more) config contracts genesis logs [] 0) (log_words (length logs) slots) ≡ Ok (settled (within logs empty_log slots (slots / 16)))
+          → dump_step (made (log_stage any more) config contracts genesis logs [] 0) (log_words (length logs) slots) ≡ Ok (settled (within logs empty_log slots (slots / 16)))
       log_step any more logs slots room few = by any more
         where
           small : length logs < 2 ^ 64
           small = let few_shards : config.shards ≤ MOST_SHARDS = config.few_shards in omega arith
 
-          by : (any more : Bool) → line_step (made (log_stage any more) config contracts genesis logs [] 0) (log_words (length logs) slots) ≡ Ok (settled (within logs empty_log slots (slots / 16)))
+          by : (any more : Bool) → dump_step (made (log_stage any more) config contracts genesis logs [] 0) (log_words (length logs) slots) ≡ Ok (settled (within logs empty_log slots (slots / 16)))
           by false false = rw (lt-ltb (length logs) config.shards room, log_back (length logs) slots small few) refl
           by true false = rw (lt-ltb (length logs) config.shards room, log_back (length logs) slots small few) refl
           by any true = rw (lt-ltb (length logs) config.shards room, log_back (length logs) slots small few) refl
@@ -243,16 +244,16 @@ module _ (config : Config) where
 
       module _ (logs : List Log) where
         history_step : (any more : Bool) (txs : ℕ) → config.shards ≤ length logs → txs < 2 ^ 64
-            → line_step (made (log_stage any more) config contracts genesis logs [] 0) (number_words (codes "history") txs) ≡ Ok (made stage.History config contracts genesis logs [] txs)
+            → dump_step (made (log_stage any more) config contracts genesis logs [] 0) (number_words (codes "history") txs) ≡ Ok (made stage.History config contracts genesis logs [] txs)
         history_step any more txs all few = by any more
           where
-            by : (any more : Bool) → line_step (made (log_stage any more) config contracts genesis logs [] 0) (number_words (codes "history") txs) ≡ Ok (made stage.History config contracts genesis logs [] txs)
+            by : (any more : Bool) → dump_step (made (log_stage any more) config contracts genesis logs [] 0) (number_words (codes "history") txs) ≡ Ok (made stage.History config contracts genesis logs [] txs)
             by false false = rw (le-ltb (length logs) config.shards all, txs_back txs few) refl
             by true false = rw (le-ltb (length logs) config.shards all, txs_back txs few) refl
             by any true = rw (le-ltb (length logs) config.shards all, txs_back txs few) refl
 
         tx_step : (history : List (List ℕ)) (tx : List ℕ) (left : ℕ) → DigestFits tx
-            → line_step (made stage.History config contracts genesis logs history (suc left)) (tx_words tx) ≡ Ok (made stage.History config contracts genesis logs (history ++ tx ∷ []) left)
+            → dump_step (made stage.History config contracts genesis logs history (suc left)) (tx_words tx) ≡ Ok (made stage.History config contracts genesis logs (history ++ tx ∷ []) left)
         tx_step history tx left fits =
             let less : suc left - 1 ≡ left = omega arith in
             rw (some left, digest_back tx fits) (ap (λ n. Ok (made stage.History config contracts genesis logs (history ++ tx ∷ []) n)) less)

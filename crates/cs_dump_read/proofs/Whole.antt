@@ -1,30 +1,29 @@
 -- Every dump that is read is formed.
-use Rattle.std.specs.Prelude.{◌≡◌, ◌⊎◌, ℕ, ◌+◌, ◌<◌, ◌≤◌, ◌==◌, nat_lt, nat_le, Bool, true, false, ◌||◌, List, [], ◌∷◌, length, take, slice_index, Result, Ok, Err, IfOk, codes, if◌then◌else◌}
+use Rattle.std.specs.Prelude.{◌≡◌, ◌⊎◌, ℕ, ◌<◌, ◌≤◌, nat_lt, Bool, true, false, ◌||◌, List, [], ◌∷◌, length, Some, None, Result, Ok, Err, IfOk, codes, if◌then◌else◌}
 use Rattle.std.specs.Option.{ok_or}
 use Rattle.std.specs.Str.{bytes_eq}
-use Rattle.std.specs.Str.Lines.{lines}
 use Rattle.std.proofs.Common.{◌∙◌, ap, refl, subst, inl, inr, arith}
 use Rattle.std.proofs.lemmas.Bool.{ltb-true, ltb-false}
 use Rattle.cs_base.specs.Codes.{bytes_of}
 use Rattle.cs_base.specs.Fields.{whole_at}
-use Rattle.cs_base.specs.Lines.{fields_of, ended_lines}
 use Rattle.cs_tx_form.specs.declared.leaf.Leaf.{Leaf}
 use Rattle.cs_tx_form.specs.Log.{LeafFits, leaf_at}
 use Rattle.cs_tx.specs.Digest.{name_of_genesis}
-use Rattle.cs_sched.specs.Names.{is_known}
-use Rattle.cs_sched.specs.Reading.{GivesText}
-use Rattle.cs_sched.specs.Said.{digest_said, no_field, number_said, shards_said, faulty_said, dummies_said, contract_said, object_said}
-use Rattle.cs_sched.specs.declared.cause.Cause.{Cause}
-use Rattle.cs_sched.specs.declared.cause.Cause.TheVariants as cause
-use Rattle.cs_sched.specs.declared.cause.Refusal.{Refusal}
-use Rattle.cs_sched.specs.declared.error.ScheduleError.{ScheduleError}
-use Rattle.cs_sched.proofs.Steps.{step_ok, change_ok, ok_same, when_ok, unless_ok, either_ok, some_ok}
-use Rattle.cs_sched.proofs.Said.{contract_said-ok, object_said-ok, bytes_fit}
+use Rattle.cs_tx.specs.GenesisNames.{is_known}
+use Rattle.cs_text.specs.Reading.{GivesText}
+use Rattle.cs_text.specs.Values.{digest_said, no_field, number_said}
+use Rattle.cs_text.proofs.Kept.{whole_kept}
+use Rattle.cs_text.proofs.Taken.{bytes_fit}
+use Rattle.cs_sched.specs.Said.{shards_said, faulty_said, dummies_said, contract_said, object_said}
+use Rattle.cs_text.specs.declared.cause.Cause.TheVariants as cause
+use Rattle.cs_text.specs.declared.error.TextError.{TextError}
+use Rattle.cs_text.proofs.Steps.{step_ok, change_ok, ok_same, when_ok, unless_ok, either_ok, some_ok}
+use Rattle.cs_sched.proofs.Said.{contract_said-ok, object_said-ok}
 use Rattle.cs_dump_read.specs.Said.{log_said, leaf_said, encoded_leaf}
-use Rattle.cs_dump_read.specs.Drafts.{empty_draft, has_ended, is_open}
+use Rattle.cs_dump_read.specs.Drafts.{has_ended, is_open}
 use Rattle.cs_dump_read.specs.Lines.{with_config, with_contract, with_genesis, with_log, with_leaf, with_head, with_history, with_tx, at_stage, shards_line, faulty_line, dummies_line, contract_line, named_object, genesis_line, log_line, leaf_line, head_line, history_line, tx_line, end_line}
-use Rattle.cs_dump_read.specs.Places.{next_place, logs_place, genesis_place, contracts_place, history_place, before_place, line_at, line_step}
-use Rattle.cs_dump_read.specs.Text.{then_lines, read_lines, whole, cut_at, dump_of}
+use Rattle.cs_dump_read.specs.Places.{next_place, logs_place, genesis_place, contracts_place, history_place, before_place, line_at}
+use Rattle.cs_dump_read.specs.Text.{dump_form, dump_of}
 use Rattle.cs_dump_read.specs.Formed.{IsFormed}
 use Rattle.cs_dump_read.specs.declared.draft.Draft.{Draft}
 use Rattle.cs_dump_read.specs.declared.draft.Stage.{Stage}
@@ -185,24 +184,8 @@ module _ (draft next : Draft) (fields : List (List ℕ)) (kept : IsKept draft) w
   line_kept stage.History word at all is = history_place-kept word at all is
   line_kept stage.Ended word at all is = absurd cc
 
-step_kept : (draft next : Draft) (fields : List (List ℕ)) → IsKept draft → line_step draft fields ≡ Ok next → IsKept next
-step_kept draft next [] kept is = subst IsKept (ok_same draft next is) kept
-step_kept draft next (word ∷ fields) kept is =
-    elim (either_ok (slice_index word 0 == 35) (Ok draft) (line_at draft.stage draft word fields) next is) [
-      | inl comment ↦ subst IsKept (ok_same draft next comment) kept
-      | inr here ↦ line_kept draft next fields kept draft.stage word refl kept.placed here
-    ]
-
-then_lines-ok : (number : ℕ) (step : Result Draft Cause) (more : Draft → Result Draft Refusal) (last : Draft) → then_lines number step more ≡ Ok last
-    → (next : Draft) × (step ≡ Ok next) × (more next ≡ Ok last)
-then_lines-ok number (Ok next) more last is = (next, refl, is)
-then_lines-ok number (Err cause) more last is = absurd cc
-
-lines_kept : (text : List (List ℕ)) (number : ℕ) (draft last : Draft) → IsKept draft → read_lines draft number text ≡ Ok last → IsKept last
-lines_kept [] number draft last kept is = subst IsKept (ok_same draft last is) kept
-lines_kept (line ∷ more) number draft last kept is =
-    let (next, step, rest) = then_lines-ok number (line_step draft (fields_of line)) (λ next. read_lines next (number + 1) more) last is in
-    lines_kept more (number + 1) next last (step_kept draft next (fields_of line) kept step) rest
+kept_by_line : (number : ℕ) (draft next : Draft) (word : List ℕ) (fields : List (List ℕ)) → IsKept draft → line_at draft.stage draft word fields ≡ Ok next → IsKept next
+kept_by_line number draft next word fields kept is = line_kept draft next fields kept draft.stage word refl kept.placed is
 
 -- at the end each shard has its log
 ended_formed : (draft : Draft) → IsKept draft → has_ended draft.stage ≡ true → IsFormed draft.dump
@@ -227,29 +210,17 @@ ended_formed draft kept ended = record {
     by stage.History is placed = absurd cc
     by stage.Ended is placed = placed
 
-whole-formed : (number : ℕ) (text : List (List ℕ)) (dump : Dump) → whole number (read_lines empty_draft 1 text) ≡ Ok dump → IsFormed dump
-whole-formed number text dump is = by (read_lines empty_draft 1 text) refl is
-  where
-    by : (read : Result Draft Refusal) → read_lines empty_draft 1 text ≡ read → whole number read ≡ Ok dump → IsFormed dump
-    by (Ok draft) read done =
-        let (ended, same) = when_ok (has_ended draft.stage) (Ok draft.dump) (record { line = number; cause = cause.End }) dump done in
-        subst IsFormed (ok_same draft.dump dump same) (ended_formed draft (lines_kept text 1 empty_draft draft empty_kept read) ended)
-    by (Err refusal) read done = absurd cc
-
-cut_at-never : (number : ℕ) (read : Result Draft Refusal) (dump : Dump) → cut_at number read ≡ Ok dump → ⊥
-cut_at-never number (Ok draft) dump is = cc
-cut_at-never number (Err refusal) dump is = cc
-
 dump_formed : (limit : ℕ) (text : List ℕ) (dump : Dump) → dump_of limit text ≡ Ok dump → IsFormed dump
 unfolding dump_of
 dump_formed limit text dump is =
-    let long = cut_at (length (ended_lines (take limit text)) + 1) (read_lines empty_draft 1 (ended_lines (take limit text))) in
-    elim (either_ok (nat_le (length text) limit) (whole (length (lines text) + 1) (read_lines empty_draft 1 (lines text))) long dump is) [
-      | inl within ↦ whole-formed (length (lines text) + 1) (lines text) dump within
-      | inr beyond ↦ absurd (cut_at-never (length (ended_lines (take limit text)) + 1) (read_lines empty_draft 1 (ended_lines (take limit text))) dump beyond)
-    ]
+    let (draft, kept, ends) = whole_kept dump_form IsKept empty_kept kept_by_line limit text dump is in
+    by draft (has_ended draft.stage) (λ ended. ended_formed draft kept ended) ends
+  where
+    by : (draft : Draft) (ended : Bool) → (ended ≡ true → IsFormed draft.dump) → (if ended then Some draft.dump else None) ≡ Some dump → IsFormed dump
+    by draft true formed ends = let same : draft.dump ≡ dump = cc in subst IsFormed same (formed refl)
+    by draft false formed ends = absurd cc
 
 -- what is read of a text is formed
-pub given_formed : (given : Result Dump ScheduleError) (limit : ℕ) (text : List ℕ) → GivesText given (dump_of limit text) → IfOk given IsFormed
+pub given_formed : (given : Result Dump TextError) (limit : ℕ) (text : List ℕ) → GivesText given (dump_of limit text) → IfOk given IsFormed
 given_formed (Ok dump) limit text gives = dump_formed limit text dump gives
 given_formed (Err error) limit text gives = tt

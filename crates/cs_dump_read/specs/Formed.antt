@@ -3,9 +3,10 @@ use Rattle.std.specs.Prelude.{◌≡◌, ◌≢◌, ◌≤◌, ◌/◌, length}
 use Rattle.std.specs.List.{All, AllPairs}
 use Rattle.cs_base.specs.declared.limits.TheConstants.{MOST_GENESIS}
 use Rattle.cs_tx_value.specs.Object.{ObjectFits}
+use Rattle.cs_tx_form.specs.declared.limits.TheConstants.{COVERED}
 use Rattle.cs_tx_form.specs.Log.{LeafFits}
 use Rattle.cs_sched.specs.declared.limits.TheConstants.{MOST_CONTRACTS}
-use Rattle.cs_sched.specs.Names.{genesis_names}
+use Rattle.cs_tx.specs.GenesisNames.{genesis_names}
 use Rattle.cs_sched.specs.Playable.{IsContractText}
 use Rattle.cs_dump_read.specs.declared.dump.Dump.{Dump}
 use Rattle.cs_dump_read.specs.declared.dump.Log.{Log}
@@ -13,7 +14,7 @@ use Rattle.cs_dump_read.specs.declared.dump.Log.{Log}
 -- the leaves have encodings, and there is a head for every 16
 pub record IsFormedLog (log : Log) : Type 0 where
   pub leaves : All LeafFits log.leaves
-  pub heads : length log.heads ≡ length log.leaves / 16
+  pub heads : length log.heads ≡ length log.leaves / COVERED
 
 -- The contracts are accepted. The objects have encodings, and no two of them one key. Each shard has a log.
 pub record IsFormed (dump : Dump) : Type 0 where

@@ -2,13 +2,14 @@
 use Rattle.std.specs.Prelude.{ℕ, ◌-◌, ◌/◌, List, [], ◌∷◌, ◌++◌, length, Result, Ok, Err, if◌then◌else◌}
 use Rattle.cs_base.specs.declared.config.Config.{Config}
 use Rattle.cs_tx_value.specs.declared.object.Object.{Object}
+use Rattle.cs_tx_form.specs.declared.limits.TheConstants.{COVERED}
 use Rattle.cs_tx_form.specs.declared.leaf.Leaf.{Leaf}
 use Rattle.cs_tx.specs.Digest.{name_of_genesis}
-use Rattle.cs_sched.specs.Values.{◌>>=◌}
-use Rattle.cs_sched.specs.Names.{is_known}
-use Rattle.cs_sched.specs.Said.{digest_said, no_field, number_said, shards_said, faulty_said, dummies_said, contract_said, object_said}
-use Rattle.cs_sched.specs.declared.cause.Cause.{Cause}
-use Rattle.cs_sched.specs.declared.cause.Cause.TheVariants as cause
+use Rattle.cs_text.specs.Values.{◌>>=◌, no_field, number_said, digest_said}
+use Rattle.cs_tx.specs.GenesisNames.{is_known}
+use Rattle.cs_sched.specs.Said.{shards_said, faulty_said, dummies_said, contract_said, object_said}
+use Rattle.cs_text.specs.declared.cause.Cause.{Cause}
+use Rattle.cs_text.specs.declared.cause.Cause.TheVariants as cause
 use Rattle.cs_dump_read.specs.Said.{log_said, leaf_said}
 use Rattle.cs_dump_read.specs.Drafts.{empty_log, is_open}
 use Rattle.cs_dump_read.specs.declared.draft.Draft.{Draft}
@@ -43,7 +44,7 @@ settled draft =
 
 -- the log of the next shard begins, of so many slots: a leaf for each, and behind them a head for every 16
 abbrev pub with_log : Draft → ℕ → Draft
-with_log draft slots = settled (record draft { stage = stage.Logs; leaves_left = slots; heads_left = slots / 16 })
+with_log draft slots = settled (record draft { stage = stage.Logs; leaves_left = slots; heads_left = slots / COVERED })
 
 -- one more leaf of the log
 abbrev pub with_leaf : Draft → Leaf → Draft

@@ -1,8 +1,8 @@
 -- Which lines can stand at each place. The word of a line is tested first.
-use Rattle.std.specs.Prelude.{ℕ, ◌==◌, nat_lt, List, [], ◌∷◌, length, slice_index, Result, Ok, Err, codes, if◌then◌else◌}
+use Rattle.std.specs.Prelude.{ℕ, nat_lt, List, [], ◌∷◌, length, Result, Ok, Err, codes, if◌then◌else◌}
 use Rattle.std.specs.Str.{bytes_eq}
-use Rattle.cs_sched.specs.declared.cause.Cause.{Cause}
-use Rattle.cs_sched.specs.declared.cause.Cause.TheVariants as cause
+use Rattle.cs_text.specs.declared.cause.Cause.{Cause}
+use Rattle.cs_text.specs.declared.cause.Cause.TheVariants as cause
 use Rattle.cs_dump_read.specs.Lines.{shards_line, faulty_line, dummies_line, contract_line, genesis_line, log_line, leaf_line, head_line, history_line, tx_line, end_line, at_stage}
 use Rattle.cs_dump_read.specs.declared.draft.Draft.{Draft}
 use Rattle.cs_dump_read.specs.declared.draft.Stage.{Stage}
@@ -62,9 +62,3 @@ line_at stage.Genesis draft word fields = genesis_place draft word fields
 line_at stage.Logs draft word fields = logs_place draft word fields
 line_at stage.History draft word fields = history_place draft word fields
 line_at stage.Ended draft word fields = Err cause.After
-
--- the draft after a line of these fields; a line without fields, and one that begins with `#`, is passed over
-abbrev pub line_step : Draft → List (List ℕ) → Result Draft Cause
-line_step draft [] = Ok draft
-line_step draft (word ∷ fields) =
-    if slice_index word 0 == 35 then Ok draft else line_at draft.stage draft word fields

@@ -5,7 +5,8 @@ use Rattle.cs_base.specs.Fields.{each}
 use Rattle.cs_base.specs.declared.config.Config.{Config}
 use Rattle.cs_tx_form.specs.declared.leaf.Leaf.{Leaf}
 use Rattle.cs_tx_form.specs.Log.{leaf_encoding}
-use Rattle.cs_sched.specs.Printed.{line_text, number_words, bytes_words, contract_lines, genesis_lines}
+use Rattle.cs_text.specs.Printed.{line_text, number_words, bytes_words}
+use Rattle.cs_sched.specs.Printed.{contract_lines, genesis_lines}
 use Rattle.cs_dump_read.specs.declared.dump.Dump.{Dump}
 use Rattle.cs_dump_read.specs.declared.dump.Log.{Log}
 

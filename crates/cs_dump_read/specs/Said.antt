@@ -5,10 +5,9 @@ use Rattle.cs_base.specs.Codes.{number_of, bytes_of}
 use Rattle.cs_base.specs.Fields.{whole_at}
 use Rattle.cs_tx_form.specs.declared.leaf.Leaf.{Leaf}
 use Rattle.cs_tx_form.specs.Log.{leaf_at}
-use Rattle.cs_sched.specs.Values.{◌>>=◌}
-use Rattle.cs_sched.specs.Said.{only_field}
-use Rattle.cs_sched.specs.declared.cause.Cause.{Cause}
-use Rattle.cs_sched.specs.declared.cause.Cause.TheVariants as cause
+use Rattle.cs_text.specs.Values.{◌>>=◌, only_field}
+use Rattle.cs_text.specs.declared.cause.Cause.{Cause}
+use Rattle.cs_text.specs.declared.cause.Cause.TheVariants as cause
 
 -- how many slots the log has of the shard whose turn it is
 abbrev pub slots_of : ℕ → List ℕ → List ℕ → Result ℕ Cause

@@ -1,7 +1,7 @@
 //! What was read of a dump so far, and what each line adds.
 ghost use Rattle.std.specs.Prelude.{◌≡◌, ◌<◌, Ok};
 ghost use Rattle.cs_base.specs.Lines.{views};
-ghost use Rattle.cs_sched.specs.Reading.{Moves};
+ghost use Rattle.cs_text.specs.Reading.{Moves};
 ghost use Rattle.cs_dump_read.specs.Drafts.{empty_dump, empty_draft};
 ghost use Rattle.cs_dump_read.specs.Lines.{shards_line, faulty_line, dummies_line, contract_line, genesis_line, log_line, leaf_line, head_line, history_line, tx_line, end_line, settled};
 
@@ -9,14 +9,13 @@ use crate::dump::{Dump, Log, no_slot};
 use crate::lines::{read_leaf_line, read_log_line};
 use cs_base::Sequence;
 use cs_sched::{
-    Cause, LineError, NameSet, genesis_name, least_config, no_field, only_number,
-    read_contract_line, read_digest_line, read_dummies, read_faulty, read_object_line, read_shards,
+    NameSet, genesis_name, least_config, read_contract_line, read_dummies, read_faulty,
+    read_object_line, read_shards,
 };
+use cs_text::{Cause, LineError, no_field, only_number, read_digest_line};
+use cs_tx_form::COVERED;
 use std::alloc::Global;
 use std::mem;
-
-/// The slots between one head and the next.
-const COVERED: u64 = 16;
 
 // Which line can stand next.
 #[derive(Clone, Copy, Debug, PartialEq, Eq)]

@@ -3,7 +3,6 @@
 
 mod draft;
 mod dump;
-mod error;
 mod law;
 mod limits;
 mod lines;

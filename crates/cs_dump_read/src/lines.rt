@@ -1,11 +1,11 @@
 //! What the lines say that stand in dumps alone.
 ghost use Rattle.std.specs.Prelude.{◌≡◌};
 ghost use Rattle.cs_base.specs.Lines.{views};
-ghost use Rattle.cs_sched.specs.Reading.{GivesStep};
+ghost use Rattle.cs_text.specs.Reading.{GivesStep};
 ghost use Rattle.cs_dump_read.specs.Said.{slots_of, log_said, encoded_leaf, leaf_in, leaf_said};
 
 use cs_base::read_bytes;
-use cs_sched::{Cause, LineError, only_field, read_field_number};
+use cs_text::{Cause, LineError, only_field, read_field_number};
 use cs_tx::{Encoded, FormError, Leaf};
 use std::alloc::Global;
 

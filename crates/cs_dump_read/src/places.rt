@@ -1,31 +1,31 @@
 //! Which lines can stand at each place.
 ghost use Rattle.std.specs.Prelude.{◌≡◌};
-ghost use Rattle.cs_base.specs.Lines.{views, fields_of};
-ghost use Rattle.cs_sched.specs.Reading.{Moves};
-ghost use Rattle.cs_dump_read.specs.Places.{before_place, contracts_place, genesis_place, logs_place, next_place, history_place, line_at, line_step};
+ghost use Rattle.cs_base.specs.Lines.{views};
+ghost use Rattle.cs_text.specs.Reading.{Moves};
+ghost use Rattle.cs_dump_read.specs.Places.{before_place, contracts_place, genesis_place, logs_place, next_place, history_place};
+ghost use Rattle.cs_dump_read.specs.Text.{dump_form};
 
 use crate::draft::{Draft, Stage};
-use cs_base::fields;
-use cs_sched::{Cause, LineError};
+use crate::dump::Dump;
+use cs_text::{Cause, LineError, LineReader};
 use std::alloc::Global;
 
-impl Draft {
-    // The draft after a line.
-    pub(crate) fn take_line(&mut self, alloc: Global, line: &[u8]) -> Result<(), LineError>
-        ensures { Moves result self.new (line_step self.old (fields_of line.now)) }
-    {
-        let fields = fields(alloc, line)?;
-        match fields.as_slice() {
-            [] => Ok(()),
-            [[b'#', ..], ..] => Ok(()),
-            [word, rest @ ..] => self.take_words(alloc, word, rest),
-        }
+impl LineReader for Draft {
+    type Whole = Dump;
+
+    ghost form = { dump_form };
+
+    fn start(alloc: Global) -> Draft {
+        Draft::new(alloc)
     }
 
-    fn take_words(&mut self, alloc: Global, word: &[u8], fields: &[&[u8]]) -> Result<(), LineError>
-        ensures { Moves result self.new
-            (line_at self.old.stage self.old word.now (views fields.now)) }
-    {
+    fn take_words(
+        &mut self,
+        alloc: Global,
+        _number: u64,
+        word: &[u8],
+        fields: &[&[u8]],
+    ) -> Result<(), LineError> {
         match self.stage {
             Stage::Before => {
                 self.take_before(word, fields);
@@ -43,6 +43,15 @@ impl Draft {
         }
     }
 
+    fn finish(self) -> Option<Dump> {
+        match self.stage {
+            Stage::Ended => Some(self.dump),
+            _ => None,
+        }
+    }
+}
+
+impl Draft {
     fn take_before(&mut self, word: &[u8], fields: &[&[u8]])
         ensures { self.new ≡ before_place self.old word.now (views fields.now) }
     {

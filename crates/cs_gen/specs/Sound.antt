@@ -2,7 +2,7 @@
 use Rattle.std.specs.Prelude.{◌≡◌, ◌≢◌, ℕ}
 use Rattle.std.specs.List.{AllPairs}
 use Rattle.cs_sched_types.specs.declared.schedule.Schedule.{Schedule}
-use Rattle.cs_sched.specs.Names.{genesis_names}
+use Rattle.cs_tx.specs.GenesisNames.{genesis_names}
 use Rattle.cs_sched.specs.Playable.{IsPlayable}
 use Rattle.cs_sched.specs.Again.{renumbered}
 use Rattle.cs_gen.specs.Schedules.{schedule_of}

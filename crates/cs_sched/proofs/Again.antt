@@ -1,9 +1,7 @@
 -- What is printed of a schedule is read as that schedule.
 use Rattle.std.specs.Prelude.{◌≡◌, ◌≢◌, ℕ, ◌+◌, ◌≤◌, true, false, List, [], ◌∷◌, ◌++◌, length, Ok, codes}
 use Rattle.std.specs.List.{All, AllByRecursion, AllPairs}
-use Rattle.std.specs.Str.Lines.{lines}
-use Rattle.std.proofs.Common.{◌∙◌, sym, ap, refl, subst, arith}
-use Rattle.std.proofs.lemmas.Bool.{le-leb}
+use Rattle.std.proofs.Common.{sym, refl, subst, arith}
 use Rattle.std.proofs.lemmas.List.Elements.{recursion_from_All}
 use Rattle.cs_base.specs.NodeId.{is_node}
 use Rattle.cs_base.specs.declared.config.Config.{Config}
@@ -15,20 +13,20 @@ use Rattle.cs_sched_types.specs.declared.schedule.Event.{Event}
 use Rattle.cs_sched_types.specs.declared.schedule.Event.TheVariants.{Say, Inject, Deliver, Tick, Drain}
 use Rattle.cs_sched_types.specs.declared.schedule.Schedule.{Schedule}
 use Rattle.cs_sched.specs.Drafts.{empty_draft}
-use Rattle.cs_sched.specs.Names.{genesis_names}
+use Rattle.cs_tx.specs.GenesisNames.{genesis_names}
 use Rattle.cs_sched.specs.Naming.{liars_of}
 use Rattle.cs_sched.specs.declared.limits.TheConstants.{MOST_CONTRACTS}
 use Rattle.cs_sched.specs.Playable.{IsPlayableEvent, IsContractText}
-use Rattle.cs_sched.specs.Text.{read_lines, whole, schedule_of}
+use Rattle.cs_text.proofs.Plain.{IsLine, field-word, field-decimal, field-bytes, field-name}
+use Rattle.cs_text.proofs.Rows.{read_fields, text_again}
+use Rattle.cs_sched.specs.Text.{schedule_form, schedule_of}
 use Rattle.cs_sched.specs.declared.draft.Draft.{Draft}
 use Rattle.cs_sched.specs.declared.draft.Stage.TheVariants as stage
 use Rattle.cs_sched.proofs.Played.{schedule_sound}
 use Rattle.cs_sched.proofs.Sound.{IsSound}
 use Rattle.cs_sched.specs.Again.{numbered, renumbered, IsReadAgain}
 use Rattle.cs_sched.specs.Printed.{event_words, liar_lines, contract_lines, genesis_lines, event_lines, schedule_lines, schedule_text}
-use Rattle.cs_sched.proofs.Plain.{IsLine, field-word, field-decimal, field-bytes, field-name}
 use Rattle.cs_sched.proofs.Back.{node_small, named_small, honest_small}
-use Rattle.cs_sched.proofs.Rows.{lines_of-text, read_fields, read_lines-rows}
 use Rattle.cs_sched.proofs.Walk.{made, IsPrintable, reads_head, reads_liars, reads_contracts, reads_objects, reads_events, run_step}
 
 abbrev whole_of : Config → List ℕ → List NodeId → List (List ℕ) → List Object → List (ℕ × Event) → Schedule
@@ -117,14 +115,14 @@ module _ (config : Config) (master : List ℕ) (liars : List NodeId) (contracts 
   abbrev last : ℕ → Draft
   last first = made stage.Ended config master liars contracts genesis (numbered first events)
 
-  reads_run : (first : ℕ) → read_fields (made stage.Events config master liars contracts genesis []) first (event_lines events ++ (codes "end" ∷ []) ∷ []) ≡ Ok (last first)
+  reads_run : (first : ℕ) → read_fields schedule_form (made stage.Events config master liars contracts genesis []) first (event_lines events ++ (codes "end" ∷ []) ∷ []) ≡ Ok (last first)
   reads_run first = reads_events config master liars contracts genesis (last first) ((codes "end" ∷ []) ∷ []) events [] first known.played refl
 
   -- the number of the first event's line
   abbrev events_from : ℕ
   events_from = 6 + (length liars + (length contracts + length genesis))
 
-  reads_all : read_fields empty_draft 1 (schedule_lines schedule) ≡ Ok (last events_from)
+  reads_all : read_fields schedule_form empty_draft 1 (schedule_lines schedule) ≡ Ok (last events_from)
   reads_all =
       let first : 5 + length liars + length contracts + length genesis + 1 ≡ events_from = omega arith in
       let rest = (codes "run" ∷ []) ∷ (event_lines events ++ (codes "end" ∷ []) ∷ []) in
@@ -133,17 +131,12 @@ module _ (config : Config) (master : List ℕ) (liars : List NodeId) (contracts 
       (reads_contracts config master liars contracts (last events_from) (genesis_lines genesis ++ rest) known.few_contracts contracts [] false (5 + length liars) refl known.contracts_fit
       (λ told. reads_objects config master liars contracts genesis (last events_from) rest known.few known.differ genesis [] told false (5 + length liars + length contracts) refl known.objects
       (λ any. rw (run_step config master liars contracts told any genesis (5 + length liars + length contracts + length genesis))
-      (subst (λ n. read_fields (made stage.Events config master liars contracts genesis []) n (event_lines events ++ (codes "end" ∷ []) ∷ []) ≡ Ok (last events_from)) (sym first) (reads_run events_from))))))
+      (subst (λ n. read_fields schedule_form (made stage.Events config master liars contracts genesis []) n (event_lines events ++ (codes "end" ∷ []) ∷ []) ≡ Ok (last events_from)) (sym first) (reads_run events_from))))))
 
   again_whole : (limit : ℕ) → length (schedule_text schedule) ≤ limit
       → schedule_of limit (schedule_text schedule) ≡ Ok (renumbered schedule)
   unfolding schedule_of
-  again_whole limit short =
-      let text = schedule_text schedule in
-      let read : read_lines empty_draft 1 (lines text) ≡ Ok (last events_from) =
-      ap (read_lines empty_draft 1) (lines_of-text (schedule_lines schedule) are_lines)
-      ∙ read_lines-rows (schedule_lines schedule) empty_draft 1 are_lines ∙ reads_all in
-      rw (le-leb (length text) limit short) (ap (whole (length (lines text) + 1)) read)
+  again_whole limit short = text_again schedule_form (schedule_lines schedule) (last events_from) (renumbered schedule) limit are_lines reads_all refl short
 
 -- a draft's objects have encodings
 printable : (objects : List Object) → All IsPrintable objects → AllByRecursion IsPrintable objects

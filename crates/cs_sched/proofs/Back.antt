@@ -1,33 +1,16 @@
--- What is printed of each item is read as that item.
-use Rattle.std.specs.Prelude.{◌≡◌, ℕ, ◌<◌, ◌≤◌, ◌*◌, ◌^◌, ◌==◌, nat_lt, nat_le, true, false, List, length, Ok}
-use Rattle.std.specs.Option.{ok_or}
-use Rattle.std.specs.Fmt.{decimal}
-use Rattle.std.proofs.Common.{ap, refl, arith, inl, inr}
-use Rattle.std.proofs.lemmas.Bool.{cases_Bool, and_parts, ltb-true, leb-true, eqb-true, le-leb}
+-- What is printed of a name is read as that name.
+use Rattle.std.specs.Prelude.{◌≡◌, ◌<◌, ◌≤◌, ◌*◌, ◌^◌, ◌==◌, nat_lt, nat_le, true, false, List, Ok}
+use Rattle.std.proofs.Common.{refl, arith, inl, inr}
+use Rattle.std.proofs.lemmas.Bool.{cases_Bool, and_parts, ltb-true, leb-true, eqb-true}
 use Rattle.std.proofs.lemmas.Bool.Decides.{nat_tests}
-use Rattle.cs_base.specs.Codes.{number_of, bytes_text}
-use Rattle.cs_base.specs.Fields.{IsBytes}
 use Rattle.cs_base.specs.NodeId.{node_text, is_node, is_named, is_client}
 use Rattle.cs_base.specs.declared.config.Config.{Config}
 use Rattle.cs_base.specs.declared.limits.TheConstants.{MOST_SHARDS, MOST_LIARS}
 use Rattle.cs_base.specs.declared.node_id.NodeId.{NodeId}
 use Rattle.cs_base.specs.declared.node_id.TheConstants.{CLIENT_SHARD, CLIENTS}
-use Rattle.cs_base.proofs.Numbers.{number_printed}
-use Rattle.cs_base.proofs.HexTexts.{bytes_of-bytes_text}
 use Rattle.cs_base.proofs.NodeTexts.{node_of-node_text}
 use Rattle.cs_sched.specs.Naming.{named, speaker_in, honest_in}
-use Rattle.cs_sched.specs.Values.{number_within, bytes_within}
 use Rattle.cs_sched.specs.Playable.{IsHonest, IsSpeaker}
-use Rattle.cs_sched.specs.declared.cause.Cause.TheVariants as cause
-
-pub number_back : (n : ℕ) → n < 2 ^ 64 → ok_or (number_of (decimal n)) cause.Number ≡ Ok n
-number_back n small = ap (λ found. ok_or found cause.Number) (number_printed n small)
-
-pub within_back : (most n : ℕ) → n ≤ most → n < 2 ^ 64 → number_within most (decimal n) ≡ Ok n
-within_back most n within small = rw (number_printed n small, le-leb n most within) refl
-
-pub bytes_back : (most : ℕ) (bytes : List ℕ) → length bytes ≤ most → IsBytes bytes → bytes_within most (bytes_text bytes) ≡ Ok bytes
-bytes_back most bytes short fits = rw (bytes_of-bytes_text bytes fits, le-leb (length bytes) most short) refl
 
 -- a name of the configuration has numbers of 16 bits
 pub record IsSmall (name : NodeId) : Type 0 where

@@ -1,5 +1,5 @@
 -- What is printed in the fields of a line is read again.
-use Rattle.std.specs.Prelude.{◌≡◌, ◌≢◌, ℕ, ◌+◌, ◌<◌, ◌^◌, ◌==◌, true, false, List, [], ◌∷◌, ◌++◌, length, Ok}
+use Rattle.std.specs.Prelude.{◌≡◌, ◌≢◌, ℕ, ◌+◌, ◌<◌, ◌^◌, false, List, [], ◌∷◌, ◌++◌, length, Ok}
 use Rattle.std.specs.List.{AllPairs}
 use Rattle.std.specs.Str.{bytes_eq}
 use Rattle.std.specs.Fmt.{decimal}
@@ -13,18 +13,17 @@ use Rattle.cs_base.specs.Config.{configured}
 use Rattle.cs_base.specs.Fields.{IsBytes}
 use Rattle.cs_base.specs.declared.config.Config.{Config}
 use Rattle.cs_base.specs.declared.limits.TheConstants.{MOST_GENESIS, MOST_OBJECT}
-use Rattle.cs_base.proofs.HexTexts.{bytes_of-bytes_text}
 use Rattle.cs_lang_token.specs.declared.limits.TheConstants.{MOST_TEXT}
-use Rattle.cs_tx_value.specs.Object.{object_encoding, DigestFits, ObjectFits}
+use Rattle.cs_tx_value.specs.Object.{object_encoding, ObjectFits}
 use Rattle.cs_tx_value.specs.declared.object.Object.{Object}
 use Rattle.cs_tx.specs.Digest.{name_of_genesis}
-use Rattle.cs_sched.specs.Names.{is_known, genesis_names}
+use Rattle.cs_tx.specs.GenesisNames.{is_known, genesis_names}
 use Rattle.cs_sched.specs.declared.limits.TheConstants.{MOST_CONTRACTS}
 use Rattle.cs_sched.specs.Playable.{IsContractText}
-use Rattle.cs_sched.specs.Said.{digest_said, shards_said, faulty_said, dummies_said, contract_said, object_said}
+use Rattle.cs_text.proofs.Back.{number_back, bytes_back}
+use Rattle.cs_sched.specs.Said.{shards_said, faulty_said, dummies_said, contract_said, object_said}
 use Rattle.cs_sched.specs.Values.{in_range}
 use Rattle.cs_sched.proofs.Objects.{object_found}
-use Rattle.cs_sched.proofs.Back.{number_back, bytes_back}
 
 -- ---- fields
 
@@ -45,11 +44,6 @@ pub object_back : (place : ℕ) (object : Object) → place < MOST_GENESIS → O
     → object_said place (bytes_text (object_encoding object) ∷ []) ≡ Ok object
 object_back place object few fits encoded =
     rw (lt-ltb place MOST_GENESIS few, bytes_back MOST_OBJECT (object_encoding object) fits.small encoded, object_found (object_encoding object) object fits refl) refl
-
-pub digest_back : (digest : List ℕ) → DigestFits digest → digest_said (bytes_text digest ∷ []) ≡ Ok digest
-digest_back digest fits =
-    let test : (length digest == 32) ≡ true = rw (fits.0) refl in
-    rw (bytes_of-bytes_text digest fits.1, test) refl
 
 -- ---- names of objects
 

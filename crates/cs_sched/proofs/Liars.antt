@@ -13,10 +13,10 @@ use Rattle.cs_base.specs.NodeId.{is_node, is_client}
 use Rattle.cs_base.specs.declared.config.Config.{Config}
 use Rattle.cs_base.specs.declared.node_id.NodeId.{NodeId}
 use Rattle.cs_sched_types.specs.declared.schedule.Schedule.{Schedule}
-use Rattle.cs_sched.specs.declared.cause.Cause.TheVariants as cause
+use Rattle.cs_text.specs.declared.cause.Cause.TheVariants as cause
 use Rattle.cs_sched.specs.Naming.{named, is_name, is_liar, liars_of, one_more_liar, liar_in}
 use Rattle.cs_sched.specs.Said.{liar_said}
-use Rattle.cs_sched.proofs.Steps.{step_ok, ok_same, when_ok, unless_ok}
+use Rattle.cs_text.proofs.Steps.{step_ok, ok_same, when_ok, unless_ok}
 use Rattle.cs_sched.proofs.Told.{named_ok, left_of}
 
 -- names told apart

@@ -1,17 +1,11 @@
 pub mod Again
 pub mod Back
-pub mod Distinct
 pub mod Fields
 pub mod Liars
 pub mod Objects
-pub mod Plain
 pub mod Played
-pub mod Reading
-pub mod Refused
-pub mod Rows
 pub mod Said
 pub mod Sound
-pub mod Steps
 pub mod Told
 pub mod Walk
 pub mod Texts

@@ -1,30 +1,29 @@
 -- Every schedule that is read can be played.
-use Rattle.std.specs.Prelude.{◌≡◌, ℕ, ◌+◌, ◌==◌, nat_le, true, List, [], ◌∷◌, length, take, slice_index, Result, Ok, Err, IfOk, codes, if◌then◌else◌}
+use Rattle.std.specs.Prelude.{◌≡◌, ℕ, Bool, true, false, List, [], length, Some, None, Result, Ok, Err, IfOk, codes, if◌then◌else◌}
 use Rattle.std.specs.Str.{bytes_eq}
-use Rattle.std.specs.Str.Lines.{lines}
 use Rattle.std.proofs.Common.{ap, refl, subst, inl, inr}
-use Rattle.cs_base.specs.Lines.{fields_of, ended_lines}
 use Rattle.cs_tx.specs.Digest.{name_of_genesis}
 use Rattle.cs_sched_types.specs.declared.schedule.Schedule.{Schedule}
-use Rattle.cs_sched.specs.declared.cause.Cause.{Cause}
-use Rattle.cs_sched.specs.declared.cause.Cause.TheVariants as cause
-use Rattle.cs_sched.specs.declared.cause.Refusal.{Refusal}
+use Rattle.cs_text.specs.declared.cause.Cause.TheVariants as cause
 use Rattle.cs_sched.specs.declared.draft.Draft.{Draft}
 use Rattle.cs_sched.specs.declared.draft.Stage.{Stage}
 use Rattle.cs_sched.specs.declared.draft.Stage.TheVariants as stage
-use Rattle.cs_sched.specs.declared.error.ScheduleError.{ScheduleError}
-use Rattle.cs_sched.specs.Names.{is_known}
-use Rattle.cs_sched.specs.Drafts.{empty_draft, has_ended}
-use Rattle.cs_sched.specs.Said.{no_field, shards_said, faulty_said, dummies_said, digest_said, liar_said, contract_said, object_said}
+use Rattle.cs_text.specs.declared.error.TextError.{TextError}
+use Rattle.cs_tx.specs.GenesisNames.{is_known}
+use Rattle.cs_sched.specs.Drafts.{has_ended}
+use Rattle.cs_sched.specs.Said.{shards_said, faulty_said, dummies_said, liar_said, contract_said, object_said}
 use Rattle.cs_sched.specs.Events.{event_said}
 use Rattle.cs_sched.specs.Lines.{with_config, with_master, with_liar, with_contract, with_genesis, with_event, at_stage, shards_line, faulty_line, dummies_line, master_line, liar_line, named_object, genesis_line, run_line, event_line, end_line, contract_line}
-use Rattle.cs_sched.specs.Places.{genesis_place, contracts_place, liars_place, events_place, line_at, line_step}
-use Rattle.cs_sched.specs.Text.{then_lines, read_lines, whole, cut_at, schedule_of}
+use Rattle.cs_sched.specs.Places.{genesis_place, contracts_place, liars_place, events_place, line_at}
+use Rattle.cs_text.proofs.Kept.{whole_kept}
+use Rattle.cs_text.proofs.Taken.{digest_said-ok}
+use Rattle.cs_text.specs.Values.{no_field, digest_said}
+use Rattle.cs_sched.specs.Text.{schedule_form, schedule_of}
 use Rattle.cs_sched.specs.Playable.{IsPlayable}
-use Rattle.cs_sched.specs.Reading.{GivesText}
-use Rattle.cs_sched.proofs.Steps.{step_ok, change_ok, ok_same, when_ok, unless_ok, either_ok}
+use Rattle.cs_text.specs.Reading.{GivesText}
+use Rattle.cs_text.proofs.Steps.{step_ok, change_ok, ok_same, when_ok, unless_ok, either_ok}
 use Rattle.cs_sched.proofs.Sound.{IsSound, has_run, has_master, empty_sound, at_stage-sound, with_config-sound, with_master-sound, with_event-sound, with_contract-sound, with_genesis-sound, with_liar-sound}
-use Rattle.cs_sched.proofs.Said.{digest_said-ok, contract_said-ok, object_said-ok}
+use Rattle.cs_sched.proofs.Said.{contract_said-ok, object_said-ok}
 use Rattle.cs_sched.proofs.Liars.{liar_said-ok}
 use Rattle.cs_sched.proofs.Told.{event_said-ok}
 
@@ -124,45 +123,19 @@ module _ (draft next : Draft) (fields : List (List ℕ)) (sound : IsSound draft)
   line_sound stage.Events line word at is = events_place-sound line word (ap has_run at) is
   line_sound stage.Ended line word at is = absurd cc
 
-step_sound : (line : ℕ) (draft next : Draft) (fields : List (List ℕ)) → IsSound draft → line_step line draft fields ≡ Ok next → IsSound next
-step_sound line draft next [] sound is = subst IsSound (ok_same draft next is) sound
-step_sound line draft next (word ∷ fields) sound is =
-    elim (either_ok (slice_index word 0 == 35) (Ok draft) (line_at draft.stage line draft word fields) next is) [
-      | inl comment ↦ subst IsSound (ok_same draft next comment) sound
-      | inr here ↦ line_sound draft next fields sound draft.stage line word refl here
-    ]
+line_kept : (number : ℕ) (draft next : Draft) (word : List ℕ) (fields : List (List ℕ)) → IsSound draft → line_at draft.stage number draft word fields ≡ Ok next → IsSound next
+line_kept number draft next word fields sound is = line_sound draft next fields sound draft.stage number word refl is
 
-then_lines-ok : (number : ℕ) (step : Result Draft Cause) (more : Draft → Result Draft Refusal) (last : Draft) → then_lines number step more ≡ Ok last
-    → (next : Draft) × (step ≡ Ok next) × (more next ≡ Ok last)
-then_lines-ok number (Ok next) more last is = (next, refl, is)
-then_lines-ok number (Err cause) more last is = absurd cc
-
-lines_sound : (text : List (List ℕ)) (number : ℕ) (draft last : Draft) → IsSound draft → read_lines draft number text ≡ Ok last → IsSound last
-lines_sound [] number draft last sound is = subst IsSound (ok_same draft last is) sound
-lines_sound (line ∷ more) number draft last sound is =
-    let (next, step, rest) = then_lines-ok number (line_step number draft (fields_of line)) (λ next. read_lines next (number + 1) more) last is in
-    lines_sound more (number + 1) next last (step_sound number draft next (fields_of line) sound step) rest
-
-whole-ok : (number : ℕ) (read : Result Draft Refusal) (schedule : Schedule) → whole number read ≡ Ok schedule → (draft : Draft) × (read ≡ Ok draft) × (draft.schedule ≡ schedule)
-whole-ok number (Ok draft) schedule is =
-    (draft, refl, ok_same draft.schedule schedule (when_ok (has_ended draft.stage) (Ok draft.schedule) (record { line = number; cause = cause.End }) schedule is).1)
-whole-ok number (Err refusal) schedule is = absurd cc
-
-cut_at-never : (number : ℕ) (read : Result Draft Refusal) (schedule : Schedule) → cut_at number read ≡ Ok schedule → ⊥
-cut_at-never number (Ok draft) schedule is = cc
-cut_at-never number (Err refusal) schedule is = cc
+ended_with : (draft : Draft) (ended : Bool) (schedule : Schedule) → (if ended then Some draft.schedule else None) ≡ Some schedule → draft.schedule ≡ schedule
+ended_with draft true schedule is = cc
+ended_with draft false schedule is = absurd cc
 
 -- the draft of which a schedule is what was read
 pub schedule_sound : (limit : ℕ) (text : List ℕ) (schedule : Schedule) → schedule_of limit text ≡ Ok schedule → (draft : Draft) × (draft.schedule ≡ schedule) × IsSound draft
 unfolding schedule_of
 schedule_sound limit text schedule is =
-    let long = cut_at (length (ended_lines (take limit text)) + 1) (read_lines empty_draft 1 (ended_lines (take limit text))) in
-    elim (either_ok (nat_le (length text) limit) (whole (length (lines text) + 1) (read_lines empty_draft 1 (lines text))) long schedule is) [
-      | inl within ↦
-          let (draft, read, same) = whole-ok (length (lines text) + 1) (read_lines empty_draft 1 (lines text)) schedule within in
-          (draft, same, lines_sound (lines text) 1 empty_draft draft empty_sound read)
-      | inr beyond ↦ absurd (cut_at-never (length (ended_lines (take limit text)) + 1) (read_lines empty_draft 1 (ended_lines (take limit text))) schedule beyond)
-    ]
+    let (draft, sound, ends) = whole_kept schedule_form IsSound empty_sound line_kept limit text schedule is in
+    (draft, ended_with draft (has_ended draft.stage) schedule ends, sound)
 
 schedule_playable : (limit : ℕ) (text : List ℕ) (schedule : Schedule) → schedule_of limit text ≡ Ok schedule → IsPlayable schedule
 schedule_playable limit text schedule is =
@@ -170,6 +143,6 @@ schedule_playable limit text schedule is =
     subst IsPlayable same sound.playable
 
 -- what is read of a text can be played
-pub given_playable : (given : Result Schedule ScheduleError) (limit : ℕ) (text : List ℕ) → GivesText given (schedule_of limit text) → IfOk given IsPlayable
+pub given_playable : (given : Result Schedule TextError) (limit : ℕ) (text : List ℕ) → GivesText given (schedule_of limit text) → IfOk given IsPlayable
 given_playable (Ok schedule) limit text gives = schedule_playable limit text schedule gives
 given_playable (Err error) limit text gives = tt

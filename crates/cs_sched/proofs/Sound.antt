@@ -18,14 +18,14 @@ use Rattle.cs_sched_types.specs.declared.schedule.Event.{Event}
 use Rattle.cs_sched.specs.declared.draft.Draft.{Draft}
 use Rattle.cs_sched.specs.declared.draft.Stage.{Stage}
 use Rattle.cs_sched.specs.declared.draft.Stage.TheVariants as stage
-use Rattle.cs_sched.specs.Names.{is_known, genesis_names}
+use Rattle.cs_tx.specs.GenesisNames.{is_known, genesis_names}
 use Rattle.cs_sched.specs.Naming.{liars_of}
 use Rattle.cs_sched.specs.Drafts.{empty_draft}
 use Rattle.cs_sched.specs.Lines.{with_config, with_master, with_liar, with_contract, with_genesis, with_event, at_stage}
 use Rattle.cs_sched.specs.declared.limits.TheConstants.{MOST_CONTRACTS}
 use Rattle.cs_sched.specs.Playable.{IsPlayable, IsPlayableEvent, IsContractText}
 use Rattle.cs_sched.proofs.Liars.{IsNewLiar, one_more, liars_differ}
-use Rattle.cs_sched.proofs.Distinct.{names_differ, genesis_names-append}
+use Rattle.cs_tx.proofs.GenesisNames.{names_differ, genesis_names-append}
 
 -- the line `run` was met
 abbrev pub has_run : Stage → Bool

@@ -8,7 +8,8 @@ use Rattle.cs_base.specs.Lines.{views}
 use Rattle.cs_base.proofs.Written.{each_more, each-append}
 use Rattle.cs_tx_value.specs.Reading.{Begins}
 use Rattle.cs_sched_types.specs.declared.schedule.Schedule.{Schedule}
-use Rattle.cs_sched.specs.Printed.{line_text, head_lines, liar_lines, contract_lines, genesis_lines, event_lines, schedule_text}
+use Rattle.cs_text.specs.Printed.{line_text}
+use Rattle.cs_sched.specs.Printed.{head_lines, liar_lines, contract_lines, genesis_lines, event_lines, schedule_text}
 
 pub each-map : {X Y : Type 0} (write : Y → List ℕ) (change : X → Y) (xs : List X) → each write (map change xs) ≡ each (λ x. write (change x)) xs
 each-map write change [] = refl

@@ -1,13 +1,9 @@
 -- What is known of events whose lines are taken.
-use Rattle.std.specs.Prelude.{◌≡◌, ℕ, ◌^◌, ◌<◌, ◌≤◌, nat_lt, nat_le, Bool, true, false, ◌&&◌, ◌||◌, List, [], ◌∷◌, Some, Ok, Err, codes, if◌then◌else◌}
+use Rattle.std.specs.Prelude.{◌≡◌, ℕ, Bool, true, false, ◌||◌, List, [], ◌∷◌, Ok, Err, codes, if◌then◌else◌}
 use Rattle.std.specs.Option.{ok_or}
 use Rattle.std.specs.Str.{bytes_eq}
-use Rattle.std.specs.Str.Parse.{digits_value}
-use Rattle.std.specs.Fmt.{decimal}
 use Rattle.std.proofs.Common.{◌∙◌, sym, subst, refl, inl, inr}
-use Rattle.std.proofs.lemmas.Bool.{true≢false, ltb-true, leb-true}
-use Rattle.std.proofs.lemmas.Option.{cond_some}
-use Rattle.cs_base.specs.Codes.{number_of}
+use Rattle.std.proofs.lemmas.Bool.{true≢false}
 use Rattle.cs_base.specs.declared.limits.TheConstants.{MOST_BODY, MOST_DATAGRAM}
 use Rattle.cs_base.specs.NodeId.{node_of, is_node, is_named, is_client}
 use Rattle.cs_base.specs.declared.config.Config.{Config}
@@ -15,36 +11,13 @@ use Rattle.cs_base.specs.declared.node_id.NodeId.{NodeId}
 use Rattle.cs_sched_types.specs.declared.schedule.Schedule.{Schedule}
 use Rattle.cs_sched_types.specs.declared.schedule.Event.{Event}
 use Rattle.cs_sched_types.specs.declared.schedule.Event.TheVariants.{Say, Inject, Deliver, Tick, Drain}
-use Rattle.cs_sched.specs.declared.cause.Cause.TheVariants as cause
-use Rattle.cs_sched.specs.Values.{◌>>=◌, number_within, bytes_within}
+use Rattle.cs_text.specs.declared.cause.Cause.TheVariants as cause
+use Rattle.cs_text.specs.Values.{◌>>=◌, number_within, bytes_within, number_said}
+use Rattle.cs_text.proofs.Steps.{step_ok, change_ok, ok_same, when_ok, unless_ok, either_ok}
+use Rattle.cs_text.proofs.Taken.{number_said-ok, number_within-ok, bytes_within-ok}
 use Rattle.cs_sched.specs.Naming.{named, is_liar, speaker_in, honest_in}
-use Rattle.cs_sched.specs.Said.{number_said}
 use Rattle.cs_sched.specs.Events.{say_of, inject_of, say_said, inject_said, deliver_said, tick_said, drain_said, event_said}
 use Rattle.cs_sched.specs.Playable.{IsHonest, IsSpeaker, IsPlayableEvent}
-use Rattle.cs_sched.proofs.Steps.{step_ok, change_ok, ok_same, when_ok, unless_ok, either_ok, some_ok}
-use Rattle.cs_sched.proofs.Said.{bytes_within-ok}
-
--- numbers
-
-number_small : (field : List ℕ) (number : ℕ) → number_of field ≡ Some number → number < 2 ^ 64
-number_small field number is =
-    let (test, same) = cond_some (nat_lt (digits_value 10 field) (2 ^ 64) && bytes_eq field (decimal (digits_value 10 field))) (digits_value 10 field) number is in
-    subst (λ n. n < 2 ^ 64) same (ltb-true (digits_value 10 field) (2 ^ 64) (both (nat_lt (digits_value 10 field) (2 ^ 64)) (bytes_eq field (decimal (digits_value 10 field))) test).0)
-  where
-    both : (one other : Bool) → (one && other) ≡ true → (one ≡ true) × (other ≡ true)
-    both true other all = (refl, all)
-    both false other all = absurd (true≢false (sym all))
-
-pub number_within-ok : (most : ℕ) (field : List ℕ) (number : ℕ) → number_within most field ≡ Ok number → number ≤ most
-number_within-ok most field number is =
-    let (n, read, after) = step_ok (ok_or (number_of field) cause.Number) (λ n. if nat_le n most then Ok n else Err cause.Limit) number is in
-    let (within, done) = when_ok (nat_le n most) (Ok n) cause.Limit number after in
-    subst (λ n. n ≤ most) (ok_same n number done) (leb-true n most within)
-
-pub number_said-ok : (fields : List (List ℕ)) (number : ℕ) → number_said fields ≡ Ok number → number < 2 ^ 64
-number_said-ok [] number is = absurd cc
-number_said-ok (field ∷ []) number is = number_small field number (some_ok (number_of field) cause.Number number is)
-number_said-ok (field ∷ another ∷ more) number is = absurd cc
 
 -- names
 

@@ -6,11 +6,10 @@ use Rattle.cs_base.specs.declared.limits.TheConstants.{MOST_BODY, MOST_DATAGRAM}
 use Rattle.cs_sched_types.specs.declared.schedule.Schedule.{Schedule}
 use Rattle.cs_sched_types.specs.declared.schedule.Event.{Event}
 use Rattle.cs_sched_types.specs.declared.schedule.Event.TheVariants.{Say, Inject, Deliver, Tick, Drain}
-use Rattle.cs_sched.specs.Values.{◌>>=◌, number_within, bytes_within}
+use Rattle.cs_text.specs.Values.{◌>>=◌, number_within, bytes_within, only_field, number_said}
 use Rattle.cs_sched.specs.Naming.{speaker_in, honest_in}
-use Rattle.cs_sched.specs.Said.{only_field, number_said}
-use Rattle.cs_sched.specs.declared.cause.Cause.{Cause}
-use Rattle.cs_sched.specs.declared.cause.Cause.TheVariants as cause
+use Rattle.cs_text.specs.declared.cause.Cause.{Cause}
+use Rattle.cs_text.specs.declared.cause.Cause.TheVariants as cause
 
 -- who says what to whom: a datagram of a kind and a body
 abbrev pub say_of : Schedule → List ℕ → List ℕ → List ℕ → List ℕ → Result Event Cause

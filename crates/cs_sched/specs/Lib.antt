@@ -1,15 +1,11 @@
 pub mod Again
 pub mod Drafts
 pub mod Events
-pub mod FirstBad
 pub mod Lines
-pub mod Names
 pub mod Naming
 pub mod Places
 pub mod Playable
 pub mod Printed
-pub mod Reading
-pub mod Refusals
 pub mod Said
 pub mod Text
 pub mod Values

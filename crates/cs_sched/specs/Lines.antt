@@ -5,12 +5,12 @@ use Rattle.cs_base.specs.declared.node_id.NodeId.{NodeId}
 use Rattle.cs_tx_value.specs.declared.object.Object.{Object}
 use Rattle.cs_tx.specs.Digest.{name_of_genesis}
 use Rattle.cs_sched_types.specs.declared.schedule.Event.{Event}
-use Rattle.cs_sched.specs.Values.{◌>>=◌}
-use Rattle.cs_sched.specs.Names.{is_known}
-use Rattle.cs_sched.specs.Said.{no_field, shards_said, faulty_said, dummies_said, digest_said, liar_said, contract_said, object_said}
+use Rattle.cs_text.specs.Values.{◌>>=◌, no_field, digest_said}
+use Rattle.cs_tx.specs.GenesisNames.{is_known}
+use Rattle.cs_sched.specs.Said.{shards_said, faulty_said, dummies_said, liar_said, contract_said, object_said}
 use Rattle.cs_sched.specs.Events.{event_said}
-use Rattle.cs_sched.specs.declared.cause.Cause.{Cause}
-use Rattle.cs_sched.specs.declared.cause.Cause.TheVariants as cause
+use Rattle.cs_text.specs.declared.cause.Cause.{Cause}
+use Rattle.cs_text.specs.declared.cause.Cause.TheVariants as cause
 use Rattle.cs_sched.specs.declared.draft.Draft.{Draft}
 use Rattle.cs_sched.specs.declared.draft.Stage.{Stage}
 use Rattle.cs_sched.specs.declared.draft.Stage.TheVariants as stage

@@ -5,9 +5,9 @@ use Rattle.std.specs.Option.{ok_or}
 use Rattle.cs_base.specs.NodeId.{node_of, is_named, is_client}
 use Rattle.cs_base.specs.declared.node_id.NodeId.{NodeId}
 use Rattle.cs_base.specs.declared.config.Config.{Config}
-use Rattle.cs_sched.specs.Values.{◌>>=◌}
-use Rattle.cs_sched.specs.declared.cause.Cause.{Cause}
-use Rattle.cs_sched.specs.declared.cause.Cause.TheVariants as cause
+use Rattle.cs_text.specs.Values.{◌>>=◌}
+use Rattle.cs_text.specs.declared.cause.Cause.{Cause}
+use Rattle.cs_text.specs.declared.cause.Cause.TheVariants as cause
 
 -- the node or client of the configuration whose name a field is
 abbrev pub named : Config → List ℕ → Result NodeId Cause

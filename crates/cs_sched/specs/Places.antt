@@ -1,9 +1,9 @@
 -- Which lines can stand at each place. The word of a line is tested first.
-use Rattle.std.specs.Prelude.{ℕ, ◌==◌, List, [], ◌∷◌, slice_index, Result, Ok, Err, codes, if◌then◌else◌}
+use Rattle.std.specs.Prelude.{ℕ, List, Result, Err, codes, if◌then◌else◌}
 use Rattle.std.specs.Str.{bytes_eq}
 use Rattle.cs_sched.specs.Lines.{shards_line, faulty_line, dummies_line, master_line, liar_line, contract_line, genesis_line, run_line, event_line, end_line}
-use Rattle.cs_sched.specs.declared.cause.Cause.{Cause}
-use Rattle.cs_sched.specs.declared.cause.Cause.TheVariants as cause
+use Rattle.cs_text.specs.declared.cause.Cause.{Cause}
+use Rattle.cs_text.specs.declared.cause.Cause.TheVariants as cause
 use Rattle.cs_sched.specs.declared.draft.Draft.{Draft}
 use Rattle.cs_sched.specs.declared.draft.Stage.{Stage}
 use Rattle.cs_sched.specs.declared.draft.Stage.TheVariants as stage
@@ -48,9 +48,3 @@ line_at stage.Contracts line draft word fields = contracts_place draft word fiel
 line_at stage.Genesis line draft word fields = genesis_place draft word fields
 line_at stage.Events line draft word fields = events_place line draft word fields
 line_at stage.Ended line draft word fields = Err cause.After
-
--- the draft after a line of these fields; a line without fields, and one that begins with `#`, is passed over
-abbrev pub line_step : ℕ → Draft → List (List ℕ) → Result Draft Cause
-line_step line draft [] = Ok draft
-line_step line draft (word ∷ fields) =
-    if slice_index word 0 == 35 then Ok draft else line_at draft.stage line draft word fields

@@ -14,7 +14,7 @@ use Rattle.cs_sched_types.specs.declared.schedule.Event.{Event}
 use Rattle.cs_sched_types.specs.declared.schedule.Event.TheVariants.{Say, Inject, Deliver, Tick, Drain}
 use Rattle.cs_sched.specs.declared.limits.TheConstants.{MOST_CONTRACTS}
 use Rattle.cs_sched.specs.Naming.{is_liar, liars_of}
-use Rattle.cs_sched.specs.Names.{genesis_names}
+use Rattle.cs_tx.specs.GenesisNames.{genesis_names}
 
 -- an honest node: one of the configuration that is none of the liars
 pub record IsHonest (config : Config) (liars : List NodeId) (name : NodeId) : Type 0 where

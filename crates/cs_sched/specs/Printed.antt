@@ -8,25 +8,12 @@ use Rattle.cs_base.specs.declared.config.Config.{Config}
 use Rattle.cs_base.specs.declared.node_id.NodeId.{NodeId}
 use Rattle.cs_tx_value.specs.Object.{object_encoding}
 use Rattle.cs_tx_value.specs.declared.object.Object.{Object}
+use Rattle.cs_text.specs.Printed.{line_text, number_words, name_words, bytes_words}
 use Rattle.cs_sched_types.specs.declared.schedule.Event.{Event}
 use Rattle.cs_sched_types.specs.declared.schedule.Event.TheVariants.{Say, Inject, Deliver, Tick, Drain}
 use Rattle.cs_sched_types.specs.declared.schedule.Schedule.{Schedule}
 
--- a line: its word, each field behind a space, and LF
-abbrev pub line_text : List (List ℕ) → List ℕ
-line_text [] = 10 ∷ []
-line_text (word ∷ fields) = word ++ (each (λ field. 32 ∷ field) fields ++ 10 ∷ [])
-
 -- the words of a line: the one that names it, and its fields
-
-abbrev pub number_words : List ℕ → ℕ → List (List ℕ)
-number_words word number = word ∷ decimal number ∷ []
-
-abbrev pub name_words : List ℕ → NodeId → List (List ℕ)
-name_words word name = word ∷ node_text name ∷ []
-
-abbrev pub bytes_words : List ℕ → List ℕ → List (List ℕ)
-bytes_words word bytes = word ∷ bytes_text bytes ∷ []
 
 abbrev pub liar_words : NodeId → List (List ℕ)
 liar_words name = name_words (codes "liar") name

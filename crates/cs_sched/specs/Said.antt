@@ -1,7 +1,5 @@
 -- What the fields of each line but an event's say, or why they are refused. Their count is tested first.
-use Rattle.std.specs.Prelude.{ℕ, nat_lt, List, [], ◌∷◌, Result, Ok, Err, if◌then◌else◌}
-use Rattle.std.specs.Option.{ok_or}
-use Rattle.cs_base.specs.Codes.{number_of}
+use Rattle.std.specs.Prelude.{ℕ, nat_lt, List, Result, Err, if◌then◌else◌}
 use Rattle.cs_base.specs.Config.{configured}
 use Rattle.cs_base.specs.declared.limits.TheConstants.{MOST_GENESIS}
 use Rattle.cs_base.specs.declared.config.Config.{Config}
@@ -9,26 +7,11 @@ use Rattle.cs_base.specs.declared.node_id.NodeId.{NodeId}
 use Rattle.cs_tx_value.specs.declared.object.Object.{Object}
 use Rattle.cs_sched_types.specs.declared.schedule.Schedule.{Schedule}
 use Rattle.cs_sched.specs.declared.limits.TheConstants.{MOST_CONTRACTS}
-use Rattle.cs_sched.specs.Values.{◌>>=◌, in_range, digest_in, contract_in, object_in}
+use Rattle.cs_text.specs.Values.{◌>>=◌, only_field, number_said}
+use Rattle.cs_sched.specs.Values.{in_range, contract_in, object_in}
 use Rattle.cs_sched.specs.Naming.{liar_in}
-use Rattle.cs_sched.specs.declared.cause.Cause.{Cause}
-use Rattle.cs_sched.specs.declared.cause.Cause.TheVariants as cause
-
--- a line of one field
-abbrev pub only_field : List (List ℕ) → Result (List ℕ) Cause
-only_field (field ∷ []) = Ok field
-only_field _ = Err cause.Count
-
--- a line of its word alone
-abbrev pub no_field : List (List ℕ) → Result (Unit {0}) Cause
-no_field [] = Ok tt
-no_field (field ∷ fields) = Err cause.Count
-
--- a line of one number
-abbrev pub number_said : List (List ℕ) → Result ℕ Cause
-number_said fields = do
-  field ← only_field fields
-  ok_or (number_of field) cause.Number
+use Rattle.cs_text.specs.declared.cause.Cause.{Cause}
+use Rattle.cs_text.specs.declared.cause.Cause.TheVariants as cause
 
 -- the number of shards
 abbrev pub shards_said : Config → List (List ℕ) → Result Config Cause
@@ -47,12 +30,6 @@ abbrev pub dummies_said : Config → List (List ℕ) → Result Config Cause
 dummies_said config fields = do
   dummies ← number_said fields
   in_range (configured config.shards config.f dummies)
-
--- 32 bytes in hex
-abbrev pub digest_said : List (List ℕ) → Result (List ℕ) Cause
-digest_said fields = do
-  field ← only_field fields
-  digest_in field
 
 -- one more liar
 abbrev pub liar_said : Schedule → List (List ℕ) → Result NodeId Cause

@@ -1,5 +1,5 @@
--- What one field of a line says, or why it is refused: the causes of a field in their order.
-use Rattle.std.specs.Prelude.{ℕ, ◌==◌, nat_le, List, length, Option, Result, Ok, Err, if◌then◌else◌}
+-- What a field of a schedule says, or why it is refused: the causes of a field in their order.
+use Rattle.std.specs.Prelude.{ℕ, List, Option, Result, Ok, Err, if◌then◌else◌}
 use Rattle.std.specs.Option.{ok_or}
 use Rattle.cs_base.specs.Fields.{whole_at}
 use Rattle.cs_base.specs.declared.limits.TheConstants.{MOST_OBJECT}
@@ -7,40 +7,16 @@ use Rattle.cs_base.specs.declared.config.Config.{Config}
 use Rattle.cs_base.specs.declared.config.OutOfRange.{OutOfRange}
 use Rattle.cs_tx_value.specs.declared.object.Object.{Object}
 use Rattle.cs_tx_value.specs.Object.{object_at}
-use Rattle.cs_base.specs.Codes.{number_of, bytes_of}
 use Rattle.cs_lang_token.specs.declared.limits.TheConstants.{MOST_TEXT}
 use Rattle.cs_accept.specs.Accepting.{is_refused}
-use Rattle.cs_sched.specs.declared.cause.Cause.{Cause}
-use Rattle.cs_sched.specs.declared.cause.Cause.TheVariants as cause
-
--- a step, and the next one with what it gave; the first cause decides
-infixl 10 ◌>>=◌
-abbrev pub ◌>>=◌ : {A B : Type 0} → Result A Cause → (A → Result B Cause) → Result B Cause
-(Ok x) >>= f = f x
-(Err cause) >>= f = Err cause
-
--- a number of at most so much
-abbrev pub number_within : ℕ → List ℕ → Result ℕ Cause
-number_within most field = do
-  n ← ok_or (number_of field) cause.Number
-  if nat_le n most then Ok n else Err cause.Limit
+use Rattle.cs_text.specs.Values.{◌>>=◌, bytes_within}
+use Rattle.cs_text.specs.declared.cause.Cause.{Cause}
+use Rattle.cs_text.specs.declared.cause.Cause.TheVariants as cause
 
 -- a configuration, which a number of it can't leave its range
 abbrev pub in_range : Result Config OutOfRange → Result Config Cause
 in_range (Ok config) = Ok config
 in_range (Err out) = Err cause.Limit
-
--- bytes in hex, at most so many
-abbrev pub bytes_within : ℕ → List ℕ → Result (List ℕ) Cause
-bytes_within most field = do
-  bytes ← ok_or (bytes_of field) cause.Hex
-  if nat_le (length bytes) most then Ok bytes else Err cause.Limit
-
--- 32 bytes in hex
-abbrev pub digest_in : List ℕ → Result (List ℕ) Cause
-digest_in field = do
-  bytes ← ok_or (bytes_of field) cause.Hex
-  if length bytes == 32 then Ok bytes else Err cause.Hex
 
 -- the text of a contract in hex, which is accepted
 abbrev pub contract_in : List ℕ → Result (List ℕ) Cause

@@ -1,15 +1,12 @@
 //! What each event's line says.
 ghost use Rattle.cs_base.specs.Lines.{views};
-ghost use Rattle.cs_sched.specs.Reading.{GivesStep};
+ghost use Rattle.cs_text.specs.Reading.{GivesStep};
 ghost use Rattle.cs_sched.specs.Events.{say_of, inject_of, say_said, inject_said, deliver_said, tick_said, drain_said, event_said};
 
-use crate::cause::Cause;
-use crate::error::LineError;
-use crate::lines::{only_field, only_number};
 use crate::naming::{read_honest, read_speaker};
-use crate::values::{read_bytes_within, read_number_within};
 use cs_base::{MOST_BODY, MOST_DATAGRAM};
 use cs_sched_types::{Event, Schedule};
+use cs_text::{Cause, LineError, only_field, only_number, read_bytes_within, read_number_within};
 use std::alloc::Global;
 
 /// The greatest kind of a datagram.

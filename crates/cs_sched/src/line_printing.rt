@@ -2,7 +2,7 @@
 ghost use Rattle.std.specs.Prelude.{◌≡◌, ◌++◌, ◌∷◌, OnOk, OnErr};
 ghost use Rattle.cs_base.specs.Lines.{views};
 ghost use Rattle.cs_tx_value.specs.Reading.{Begins};
-ghost use Rattle.cs_sched.specs.Printed.{line_text, number_words, name_words, bytes_words};
+ghost use Rattle.cs_text.specs.Printed.{line_text, number_words, name_words, bytes_words};
 
 use cs_base::{Memory, NodeId, Writer, print_bytes};
 use std::alloc::Global;

@@ -1,48 +1,19 @@
 //! What each line says.
-ghost use Rattle.std.specs.Prelude.{◌≡◌, ◌<◌, IfOk, length};
+ghost use Rattle.std.specs.Prelude.{◌≡◌, ◌<◌, IfOk};
 ghost use Rattle.cs_base.specs.Lines.{views};
 ghost use Rattle.cs_base.specs.declared.limits.TheConstants.{MOST_GENESIS};
 ghost use Rattle.cs_tx_value.specs.Object.{ObjectFits};
-ghost use Rattle.cs_sched.specs.Reading.{GivesStep, Lends};
-ghost use Rattle.cs_sched.specs.Said.{only_field, no_field, number_said, shards_said, faulty_said, dummies_said, digest_said, liar_said, contract_said, object_said};
+ghost use Rattle.cs_text.specs.Reading.{GivesStep};
+ghost use Rattle.cs_sched.specs.Said.{shards_said, faulty_said, dummies_said, liar_said, contract_said, object_said};
 
-use crate::cause::Cause;
-use crate::error::LineError;
 use crate::limits::MOST_CONTRACTS;
 use crate::naming::read_liar;
-use crate::values::{config, read_contract, read_digest, read_field_number, read_object};
+use crate::values::{config, read_contract, read_object};
 use cs_base::{Config, MOST_GENESIS, NodeId, Sequence};
 use cs_sched_types::Schedule;
-use cs_tx::{Digest, Object};
+use cs_text::{Cause, LineError, only_field, only_number};
+use cs_tx::Object;
 use std::alloc::Global;
-
-/// The field of a line that has one.
-pub fn only_field<'a>(fields: &[&'a [u8]]) -> Result<&'a [u8], Cause>
-    ensures { Lends result (only_field (views fields.now)) }
-{
-    match fields {
-        [field] => Ok(field),
-        _ => Err(Cause::Count),
-    }
-}
-
-/// Whether a line has its word alone.
-pub fn no_field(fields: &[&[u8]]) -> Result<(), Cause>
-    ensures { result ≡ no_field (views fields.now) }
-{
-    match fields {
-        [] => Ok(()),
-        _ => Err(Cause::Count),
-    }
-}
-
-/// The number of a line that has one.
-pub fn only_number(fields: &[&[u8]]) -> Result<u64, Cause>
-    ensures { result ≡ number_said (views fields.now) }
-{
-    let field = only_field(fields)?;
-    read_field_number(field)
-}
 
 /// The configuration, with the number of shards of a line.
 pub fn read_shards(now: Config, fields: &[&[u8]]) -> Result<Config, Cause>
@@ -66,14 +37,6 @@ pub fn read_dummies(now: Config, fields: &[&[u8]]) -> Result<Config, Cause>
 {
     let dummies = only_number(fields)?;
     config(u64::from(now.shards), u64::from(now.f), dummies)
-}
-
-/// 32 bytes in hex.
-pub fn read_digest_line(alloc: Global, fields: &[&[u8]]) -> Result<Digest, LineError>
-    ensures { GivesStep result (digest_said (views fields.now)) }
-{
-    let field = only_field(fields)?;
-    read_digest(alloc, field)
 }
 
 pub(crate) fn read_liar_line(schedule: &Schedule, fields: &[&[u8]]) -> Result<NodeId, Cause>

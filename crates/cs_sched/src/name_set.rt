@@ -1,6 +1,6 @@
 //! The names of the genesis objects so far.
 ghost use Rattle.std.specs.Prelude.{◌≡◌, ◌∷◌, ◌++◌, [], not, IfOk, if◌then◌else◌};
-ghost use Rattle.cs_sched.specs.Names.{is_known};
+ghost use Rattle.cs_tx.specs.GenesisNames.{is_known};
 
 use cs_base::Memory;
 use cs_tx::Digest;

@@ -2,8 +2,8 @@
 ghost use Rattle.std.specs.Prelude.{◌≡◌};
 ghost use Rattle.cs_sched.specs.Naming.{named, is_liar, liars_of, liar_in, speaker_in, honest_in};
 
-use crate::cause::Cause;
 use cs_base::{Config, NodeId, read_node};
+use cs_text::Cause;
 
 pub(crate) fn read_name(config: &Config, field: &[u8]) -> Result<NodeId, Cause>
     ensures { result ≡ named config.now field.now }

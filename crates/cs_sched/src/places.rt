@@ -1,43 +1,30 @@
 //! Which lines can stand at each place.
-ghost use Rattle.std.specs.Prelude.{◌≡◌};
-ghost use Rattle.cs_base.specs.Lines.{views, fields_of};
-ghost use Rattle.cs_sched.specs.Reading.{Moves};
-ghost use Rattle.cs_sched.specs.Places.{genesis_place, contracts_place, liars_place, events_place, line_at, line_step};
+ghost use Rattle.cs_base.specs.Lines.{views};
+ghost use Rattle.cs_text.specs.Reading.{Moves};
+ghost use Rattle.cs_sched.specs.Places.{genesis_place, contracts_place, liars_place, events_place};
+ghost use Rattle.cs_sched.specs.Text.{schedule_form};
 
-use crate::cause::Cause;
 use crate::draft::{Draft, Stage};
-use crate::error::LineError;
-use cs_base::fields;
+use cs_sched_types::Schedule;
+use cs_text::{Cause, LineError, LineReader};
 use std::alloc::Global;
 
-impl Draft {
-    // The draft after a line with this number.
-    pub(crate) fn take_line(
-        &mut self,
-        alloc: Global,
-        number: u64,
-        line: &[u8],
-    ) -> Result<(), LineError>
-        ensures { Moves result self.new (line_step number self.old (fields_of line.now)) }
-    {
-        let fields = fields(alloc, line)?;
-        match fields.as_slice() {
-            [] => Ok(()),
-            [[b'#', ..], ..] => Ok(()),
-            [word, rest @ ..] => self.take_words(alloc, number, word, rest),
-        }
+impl LineReader for Draft {
+    type Whole = Schedule;
+
+    ghost form = { schedule_form };
+
+    fn start(alloc: Global) -> Draft {
+        Draft::new(alloc)
     }
 
     fn take_words(
         &mut self,
         alloc: Global,
-        line: u64,
+        number: u64,
         word: &[u8],
         fields: &[&[u8]],
-    ) -> Result<(), LineError>
-        ensures { Moves result self.new
-            (line_at self.old.stage line self.old word.now (views fields.now)) }
-    {
+    ) -> Result<(), LineError> {
         match self.stage {
             Stage::Shards if word == b"shards".as_slice() => self.take_shards(fields),
             Stage::Faulty if word == b"faulty".as_slice() => self.take_faulty(fields),
@@ -49,11 +36,20 @@ impl Draft {
             Stage::Liars => self.take_at_liars(alloc, word, fields),
             Stage::Contracts => self.take_at_contracts(alloc, word, fields),
             Stage::Genesis => self.take_at_genesis(alloc, word, fields),
-            Stage::Events => self.take_at_events(alloc, line, word, fields),
+            Stage::Events => self.take_at_events(alloc, number, word, fields),
             Stage::Ended => Err(LineError::Bad(Cause::After)),
         }
     }
 
+    fn finish(self) -> Option<Schedule> {
+        match self.stage {
+            Stage::Ended => Some(self.schedule),
+            _ => None,
+        }
+    }
+}
+
+impl Draft {
     fn take_at_liars(
         &mut self,
         alloc: Global,

@@ -4,8 +4,9 @@ ghost use Rattle.std.specs.List.{All};
 ghost use Rattle.cs_base.specs.Fields.{each};
 ghost use Rattle.cs_tx_value.specs.Object.{ObjectFits};
 ghost use Rattle.cs_tx_value.specs.Reading.{Begins};
+ghost use Rattle.cs_text.specs.Printed.{line_text};
 ghost use Rattle.cs_sched_types.specs.declared.schedule.Event.TheVariants.{Say, Inject};
-ghost use Rattle.cs_sched.specs.Printed.{line_text, liar_words, contract_words, object_words, event_words, head_lines, liar_lines, contract_lines, genesis_lines, event_lines, schedule_text};
+ghost use Rattle.cs_sched.specs.Printed.{liar_words, contract_words, object_words, event_words, head_lines, liar_lines, contract_lines, genesis_lines, event_lines, schedule_text};
 
 use crate::line_printing::{print_bytes_line, print_line, print_name, print_number};
 use cs_base::{Memory, NodeId, Sequence, Writer, print_bytes};

@@ -1,38 +1,18 @@
-//! What one field of a line says.
-ghost use Rattle.std.specs.Prelude.{◌≡◌, ◌≤◌, ◌<◌, ◌^◌, IfOk, length};
+//! What a field of a schedule says.
+ghost use Rattle.std.specs.Prelude.{◌≡◌, IfOk};
 ghost use Rattle.std.specs.Option.{ok_or};
 ghost use Rattle.cs_base.specs.Config.{configured};
-ghost use Rattle.cs_base.specs.Codes.{number_of};
-ghost use Rattle.cs_sched.specs.Reading.{GivesStep};
-ghost use Rattle.cs_sched.specs.Values.{number_within, in_range, bytes_within, digest_in, contract_in, encoded_object, object_in};
+ghost use Rattle.cs_text.specs.Reading.{GivesStep};
+ghost use Rattle.cs_sched.specs.Values.{in_range, contract_in, encoded_object, object_in};
 ghost use Rattle.cs_tx_value.specs.Object.{ObjectFits};
-ghost use Rattle.cs_sched.specs.declared.cause.Cause.TheVariants as cause;
+ghost use Rattle.cs_text.specs.declared.cause.Cause.TheVariants as cause;
 
-use crate::cause::Cause;
-use crate::error::LineError;
 use cs_accept::{Unjudged, judged};
-use cs_base::{Config, MOST_OBJECT, Sequence, read_bytes, read_number};
+use cs_base::{Config, MOST_OBJECT, Sequence};
 use cs_lang_token::MOST_TEXT;
-use cs_tx::{Digest, Encoded, FormError, Object};
+use cs_text::{Cause, LineError, read_bytes_within};
+use cs_tx::{Encoded, FormError, Object};
 use std::alloc::Global;
-
-/// The number in a field.
-pub fn read_field_number(field: &[u8]) -> Result<u64, Cause>
-    ensures { result ≡ ok_or (number_of field.now) cause.Number }
-{
-    read_number(field).ok_or(Cause::Number)
-}
-
-pub(crate) fn read_number_within(field: &[u8], most: u64) -> Result<u64, Cause>
-    ensures value { result ≡ number_within most field.now }
-    ensures within { IfOk result (λ number. number ≤ most) }
-{
-    let number = read_field_number(field)?;
-    if number > most {
-        return Err(Cause::Limit);
-    }
-    Ok(number)
-}
 
 // A configuration of these numbers, which come from fields.
 pub(crate) fn config(shards: u64, f: u64, dummies: u64) -> Result<Config, Cause>
@@ -51,37 +31,6 @@ pub(crate) fn config(shards: u64, f: u64, dummies: u64) -> Result<Config, Cause>
         Ok(config) => Ok(config),
         Err(_) => Err(Cause::Limit),
     }
-}
-
-pub(crate) fn read_bytes_within(
-    alloc: Global,
-    field: &[u8],
-    most: usize,
-) -> Result<Sequence<u8>, LineError>
-    ensures { GivesStep result (bytes_within most field.now) }
-{
-    let Some(bytes) = read_bytes(alloc, field)? else {
-        return Err(LineError::Bad(Cause::Hex));
-    };
-    if bytes.len() > most {
-        return Err(LineError::Bad(Cause::Limit));
-    }
-    Ok(bytes)
-}
-
-/// The 32 bytes that a field has in hex.
-pub(crate) fn read_digest(alloc: Global, field: &[u8]) -> Result<Digest, LineError>
-    ensures { GivesStep result (digest_in field.now) }
-{
-    let Some(bytes) = read_bytes(alloc, field)? else {
-        return Err(LineError::Bad(Cause::Hex));
-    };
-    if bytes.len() != 32 {
-        return Err(LineError::Bad(Cause::Hex));
-    }
-    let mut digest = [0; 32];
-    digest.copy_from_slice(bytes.as_slice());
-    Ok(digest)
 }
 
 pub(crate) fn read_contract(alloc: Global, field: &[u8]) -> Result<Sequence<u8>, LineError>

@@ -7,8 +7,8 @@ use Rattle.cs_base.proofs.Forms.{whole-takes, whole-again}
 use Rattle.cs_tx_form.specs.declared.proof.Proof.{Proof}
 use Rattle.cs_tx_form.specs.Log.{proof_encoding, ProofFits, proof_at}
 use Rattle.cs_tx_form.specs.laws.Log.{proof_form}
-use Rattle.cs_sched.specs.declared.cause.Cause.{Cause}
-use Rattle.cs_sched.specs.declared.cause.Cause.TheVariants as cause
+use Rattle.cs_text.specs.declared.cause.Cause.{Cause}
+use Rattle.cs_text.specs.declared.cause.Cause.TheVariants as cause
 use Rattle.cs_verify.specs.Forms.{encoded_proof}
 
 pub proof_found : (bytes : List ℕ) (proof : Proof) → ProofFits proof → bytes ≡ proof_encoding proof →

@@ -1,3 +1,3 @@
 pub mod Decoded
-pub mod Reading
+pub mod Fitting
 pub mod Shown

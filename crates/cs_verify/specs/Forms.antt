@@ -1,22 +1,23 @@
 -- The proof that a field of a line holds, or why the field is refused: the causes in their order.
-use Rattle.std.specs.Prelude.{ℕ, ◌==◌, nat_le, Bool, false, ◌&&◌, bytes_eq, codes, List, [], ◌∷◌, ◌++◌, length, take, drop, Option, Some, None, Result, Ok, Err, if◌then◌else◌}
+use Rattle.std.specs.Prelude.{ℕ, nat_le, Bool, ◌&&◌, bytes_eq, List, [], ◌∷◌, ◌++◌, length, take, drop, Option, Some, None, Result, if◌then◌else◌, ◌==◌}
 use Rattle.std.specs.Option.{ok_or}
 use Rattle.std.specs.Int.{w32, from_be_bytes}
 use Rattle.cs_base.specs.declared.limits.TheConstants.{LEAST_DATAGRAM, MOST_DATAGRAM, MOST_BODY}
-use Rattle.cs_base.specs.Codes.{bytes_of}
 use Rattle.cs_base.specs.Fields.{whole_at}
 use Rattle.cs_tx_form.specs.declared.proof.Proof.{Proof}
 use Rattle.cs_tx_form.specs.Log.{proof_at}
+use Rattle.cs_wire_message.specs.declared.kinds.TheConstants.{PROOF}
+use Rattle.cs_wire.specs.declared.head.TheConstants.{MAGIC}
 use Rattle.cs_wire.specs.Datagram.{is_sized, body_in}
-use Rattle.cs_sched.specs.Values.{◌>>=◌, bytes_within}
-use Rattle.cs_sched.specs.declared.cause.Cause.{Cause}
-use Rattle.cs_sched.specs.declared.cause.Cause.TheVariants as cause
+use Rattle.cs_text.specs.Values.{◌>>=◌, bytes_within}
+use Rattle.cs_text.specs.declared.cause.Cause.{Cause}
+use Rattle.cs_text.specs.declared.cause.Cause.TheVariants as cause
 
 -- ---- the datagram of a proof, of which neither names nor tag are looked at
 
--- it begins with `CSP1` and the kind
+-- it begins with the magic and the kind
 abbrev pub is_proof_front : List ℕ → Bool
-is_proof_front front = bytes_eq front (codes "CSP1" ++ 14 ∷ [])
+is_proof_front front = bytes_eq front (MAGIC ++ PROOF ∷ [])
 
 -- behind these five bytes and the two names stands the length of the body
 abbrev pub size_in : List ℕ → ℕ
@@ -31,12 +32,6 @@ abbrev pub proof_body : List ℕ → Option (List ℕ)
 proof_body bytes = if is_formed bytes then Some (body_in bytes) else None
 
 -- ---- fields
-
--- 32 bytes in hex
-abbrev pub head_in : List ℕ → Result (List ℕ) Cause
-head_in field = do
-  bytes ← ok_or (bytes_of field) cause.Hex
-  if length bytes == 32 then Ok bytes else Err cause.Hex
 
 -- the proof of which these bytes are the encoding
 abbrev pub encoded_proof : List ℕ → Result Proof Cause

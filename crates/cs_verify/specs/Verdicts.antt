@@ -3,8 +3,8 @@ use Rattle.std.specs.Prelude.{◌≡◌, ◌↔◌, ℕ, ◌+◌, ◌*◌, ◌==
 use Rattle.std.specs.Fmt.{decimal}
 use Rattle.cs_base.specs.Answers.{Answer}
 use Rattle.cs_base.specs.Codes.{bytes_text}
+use Rattle.cs_tx_form.specs.declared.limits.TheConstants.{COVERED}
 use Rattle.cs_tx_form.specs.declared.vote.Vote.TheVariants as vote
-use Rattle.cs_tx_form.specs.declared.session.Session.{Session}
 use Rattle.cs_tx_form.specs.declared.entry.Entry.{Entry}
 use Rattle.cs_tx_form.specs.declared.entry.Entry.TheVariants.{Prepare, Decide}
 use Rattle.cs_tx_form.specs.declared.effect.Effect.{Effect}
@@ -17,24 +17,25 @@ use Rattle.cs_tx.specs.Digest.{digest_of_session}
 use Rattle.cs_checkpoint.specs.Chain.{head_of}
 use Rattle.cs_merkle.specs.Path.{path_length, root_by}
 use Rattle.cs_checkpoint.specs.Shown.{Shows, IsOver, NoProofCollision}
-use Rattle.cs_sched.specs.Refusals.{refusal_status, refusal_text}
-use Rattle.cs_sched.specs.declared.cause.Refusal.{Refusal}
+use Rattle.cs_text.specs.Refusals.{refusal_status, refusal_text}
+use Rattle.cs_text.specs.declared.cause.Refusal.{Refusal}
 use Rattle.cs_verify.specs.declared.claim.Claim.{Claim}
 use Rattle.cs_verify.specs.Text.{claim_of}
 use Rattle.cs_verify.specs.declared.judging.Verdict.{Verdict}
 use Rattle.cs_verify.specs.declared.judging.Verdict.TheVariants.{Shown, NotShown, Refused}
+use Rattle.cs_tx_form.specs.Session.{session_in}
 
 -- the path leads from the leaf to the root over the checkpoint's 16
 abbrev pub leads : Proof → Bool
 leads p =
-    nat_lt p.place 16
-    && (length p.path == path_length 16 p.place
-    && bytes_eq (root_by 16 p.place (leaf_encoding p.leaf) (reverse p.path)) p.checkpoint.leaf_root)
+    nat_lt p.place COVERED
+    && (length p.path == path_length COVERED p.place
+    && bytes_eq (root_by COVERED p.place (leaf_encoding p.leaf) (reverse p.path)) p.checkpoint.leaf_root)
 
 -- and the checkpoint has this head, and the leaf is of the slot at its place
 abbrev pub is_shown : List ℕ → Proof → Bool
 is_shown head p =
-    bytes_eq (head_of p.checkpoint) head && (p.leaf.slot == 16 * p.checkpoint.number + p.place && leads p)
+    bytes_eq (head_of p.checkpoint) head && (p.leaf.slot == COVERED * p.checkpoint.number + p.place && leads p)
 
 -- the proof is shown to who trusts the head, or it isn't; or the first bad line is told
 abbrev pub verdict_on : Claim → Verdict
@@ -73,10 +74,6 @@ abbrev pub entry_words : Entry → List ℕ
 entry_words (Prepare x) = codes "prepare"
 entry_words (Decide vote.Commit x) = codes "decide commit"
 entry_words (Decide vote.Abort x) = codes "decide abort"
-
-abbrev pub session_in : Entry → Session
-session_in (Prepare x) = x
-session_in (Decide vote x) = x
 
 abbrev pub result_word : Effect → List ℕ
 result_word (Voted vote.Commit) = codes "commit"

@@ -2,15 +2,15 @@
 ghost use Rattle.std.specs.Prelude.{◌≡◌, Some, IfOk, string_bytes};
 ghost use Rattle.cs_base.specs.Codes.{bytes_text};
 ghost use Rattle.cs_tx.specs.Digest.{digest_of_session};
-ghost use Rattle.cs_tx_form.specs.Session.{SessionFits, EntryFits};
+ghost use Rattle.cs_tx_form.specs.Session.{EntryFits, session_in};
 ghost use Rattle.cs_tx_form.specs.Log.{ProofFits};
-ghost use Rattle.cs_verify.specs.Verdicts.{VerdictFits, entry_words, result_word, session_in, shown_line as line_of, verdict_text as text_of};
+ghost use Rattle.cs_verify.specs.Verdicts.{VerdictFits, entry_words, result_word, shown_line as line_of, verdict_text as text_of};
 
 use crate::judging::Verdict;
 use cs_base::{Memory, print_bytes};
 use cs_checkpoint::Proof;
-use cs_sched::refusal_line;
-use cs_tx::{Effect, Entry, Session, Vote, session_digest};
+use cs_text::refusal_line;
+use cs_tx::{Effect, Entry, Vote, session_digest};
 use std::alloc::Global;
 
 /// The line of a verdict, with its LF.
@@ -43,18 +43,8 @@ fn digest_text(alloc: Global, entry: &Entry) -> Result<String, Memory>
     ensures { IfOk result (λ text.
         string_bytes text ≡ bytes_text (digest_of_session (session_in entry.now))) }
 {
-    let digest = session_digest(alloc, session_in(entry))?;
+    let digest = session_digest(alloc, entry.session())?;
     print_bytes(alloc, digest.as_slice())
-}
-
-fn session_in(entry: &Entry) -> &Session
-    ensures is { result.now ≡ session_in entry.now }
-    ensures fits { EntryFits entry.now → SessionFits result.now }
-{
-    match entry {
-        Entry::Prepare(session) => session,
-        Entry::Decide(_, session) => session,
-    }
 }
 
 fn entry_words(entry: &Entry) -> &'static str

@@ -5,6 +5,11 @@ ghost use Rattle.cs_wire.specs.Datagram.{is_sized as sized_so, body_in};
 ghost use Rattle.cs_verify.specs.Forms.{is_proof_front, size_in, is_formed as formed_so, proof_body as body_of_proof};
 
 use cs_base::{LEAST_DATAGRAM, MOST_DATAGRAM};
+use cs_wire::MAGIC;
+use cs_wire_message::kinds::PROOF;
+
+/// What the datagram of a proof begins with.
+const FRONT: [u8; 5] = [MAGIC[0], MAGIC[1], MAGIC[2], MAGIC[3], PROOF];
 
 /// The bytes of the magic and the kind, of the two names, and of the length of the body.
 const KINDED: usize = 5;
@@ -20,7 +25,7 @@ const TAG: usize = 32;
 fn is_proof_front(front: &[u8]) -> bool
     ensures { result ≡ is_proof_front front.now }
 {
-    front == b"CSP1\x0e".as_slice()
+    front == FRONT.as_slice()
 }
 
 // The length of the body, as the head tells it.

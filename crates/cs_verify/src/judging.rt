@@ -7,10 +7,10 @@ ghost use Rattle.cs_verify.specs.Text.{claim_of};
 ghost use Rattle.cs_verify.specs.Verdicts.{verdict_on, verdict_of, verdict_status, VerdictFits, ShowsExactly, Tells};
 
 use crate::claim::Claim;
-use crate::reader::parse_within;
-use cs_base::{MOST_SCHEDULE, Memory};
+use crate::reader::parse_claim;
+use cs_base::Memory;
 use cs_checkpoint::{Proof, shows};
-use cs_sched::Refusal;
+use cs_text::{Refusal, TextError};
 use std::alloc::Global;
 
 /// What is answered to a text.
@@ -49,9 +49,10 @@ pub fn judge(alloc: Global, text: &[u8]) -> Result<Verdict, Memory>
     ensures tells { (claim : AnyClaim) → claim_of MOST_SCHEDULE text.now ≡ Ok claim
         → IfOk result (Tells claim.head) }
 {
-    match parse_within(alloc, MOST_SCHEDULE, text)? {
+    match parse_claim(alloc, text) {
         Ok(claim) => judge_claim(alloc, claim),
-        Err(refusal) => Ok(Verdict::Refused(refusal)),
+        Err(TextError::Line(refusal)) => Ok(Verdict::Refused(refusal)),
+        Err(TextError::Memory) => Err(Memory),
     }
 }
 

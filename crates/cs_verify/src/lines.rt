@@ -1,97 +1,82 @@
 //! What each line adds.
-ghost use Rattle.std.specs.Prelude.{◌≡◌, IfOk};
-ghost use Rattle.cs_base.specs.Lines.{views, fields_of};
-ghost use Rattle.cs_tx_form.specs.Log.{ProofFits};
-ghost use Rattle.cs_verify.specs.Lines.{head_line, with_proof, proof_line, datagram_line, line_at, line_step, DraftFits};
+ghost use Rattle.cs_base.specs.Lines.{views};
+ghost use Rattle.cs_text.specs.Reading.{GivesStep};
+ghost use Rattle.cs_verify.specs.Lines.{head_line, proof_line, datagram_line, line_at};
+ghost use Rattle.cs_verify.specs.Text.{claim_form};
 
 use crate::claim::{Claim, Draft};
-use crate::values::{read_datagram, read_head, read_proof};
-use cs_base::{Memory, fields};
-use cs_checkpoint::{Digest, Proof};
-use cs_sched::Cause;
+use crate::values::{read_datagram, read_proof};
+use cs_checkpoint::Digest;
+use cs_text::{Cause, LineError, LineReader, only_field, read_digest_line};
 use std::alloc::Global;
 
-/// What was read after one line more.
-pub(crate) fn take_line(
-    alloc: Global,
-    draft: Draft,
-    line: &[u8],
-) -> Result<Result<Draft, Cause>, Memory>
-    ensures step { IfOk result (λ step. step ≡ line_step draft (fields_of line.now)) }
-    ensures fits { DraftFits draft → IfOk result (λ step. IfOk step DraftFits) }
-{
-    let fields = fields(alloc, line)?;
-    match fields.as_slice() {
-        [] => Ok(Ok(draft)),
-        [[b'#', ..], ..] => Ok(Ok(draft)),
-        [word, rest @ ..] => take_words(alloc, draft, word, rest),
-    }
-}
+impl LineReader for Draft {
+    type Whole = Claim;
 
-fn take_words(
-    alloc: Global,
-    draft: Draft,
-    word: &[u8],
-    fields: &[&[u8]],
-) -> Result<Result<Draft, Cause>, Memory>
-    ensures step { IfOk result (λ step. step ≡ line_at draft word.now (views fields.now)) }
-    ensures fits { IfOk result (λ step. IfOk step DraftFits) }
-{
-    match draft {
-        Draft::Nothing if word == b"head".as_slice() => take_head(alloc, fields),
-        Draft::Headed(head) if word == b"proof".as_slice() => take_proof(alloc, head, fields),
-        Draft::Headed(head) if word == b"datagram".as_slice() => {
-            take_datagram(alloc, head, fields)
+    ghost form = { claim_form };
+
+    fn start(_alloc: Global) -> Draft {
+        Draft::Nothing
+    }
+
+    fn take_words(
+        &mut self,
+        alloc: Global,
+        _number: u64,
+        word: &[u8],
+        fields: &[&[u8]],
+    ) -> Result<(), LineError> {
+        *self = self.after_line(alloc, word, fields)?;
+        Ok(())
+    }
+
+    fn finish(self) -> Option<Claim> {
+        match self {
+            Draft::Whole(claim) => Some(claim),
+            Draft::Nothing | Draft::Headed(_) => None,
         }
-        Draft::Nothing | Draft::Headed(_) => Ok(Err(Cause::Word)),
-        Draft::Whole(_) => Ok(Err(Cause::After)),
     }
 }
 
-fn take_head(alloc: Global, fields: &[&[u8]]) -> Result<Result<Draft, Cause>, Memory>
-    ensures step { IfOk result (λ step. step ≡ head_line (views fields.now)) }
-    ensures fits { IfOk result (λ step. IfOk step DraftFits) }
-{
-    let [field] = fields else {
-        return Ok(Err(Cause::Count));
-    };
-    match read_head(alloc, field)? {
-        Ok(head) => Ok(Ok(Draft::Headed(head))),
-        Err(cause) => Ok(Err(cause)),
+impl Draft {
+    fn after_line(&self, alloc: Global, word: &[u8], fields: &[&[u8]]) -> Result<Draft, LineError>
+        ensures { GivesStep result (line_at self.now word.now (views fields.now)) }
+    {
+        match self {
+            Draft::Nothing if word == b"head".as_slice() => read_head_line(alloc, fields),
+            Draft::Headed(head) if word == b"proof".as_slice() => {
+                read_proof_line(alloc, *head, fields)
+            }
+            Draft::Headed(head) if word == b"datagram".as_slice() => {
+                read_datagram_line(alloc, *head, fields)
+            }
+            Draft::Nothing | Draft::Headed(_) => Err(LineError::Bad(Cause::Word)),
+            Draft::Whole(_) => Err(LineError::Bad(Cause::After)),
+        }
     }
 }
 
-fn take_proof(alloc: Global, head: Digest, fields: &[&[u8]]) -> Result<Result<Draft, Cause>, Memory>
-    ensures step { IfOk result (λ step. step ≡ proof_line head (views fields.now)) }
-    ensures fits { IfOk result (λ step. IfOk step DraftFits) }
+fn read_head_line(alloc: Global, fields: &[&[u8]]) -> Result<Draft, LineError>
+    ensures { GivesStep result (head_line (views fields.now)) }
 {
-    let [field] = fields else {
-        return Ok(Err(Cause::Count));
-    };
-    Ok(with_proof(head, read_proof(alloc, field)?))
-}
-
-fn take_datagram(
-    alloc: Global,
-    head: Digest,
-    fields: &[&[u8]],
-) -> Result<Result<Draft, Cause>, Memory>
-    ensures step { IfOk result (λ step. step ≡ datagram_line head (views fields.now)) }
-    ensures fits { IfOk result (λ step. IfOk step DraftFits) }
-{
-    let [field] = fields else {
-        return Ok(Err(Cause::Count));
-    };
-    Ok(with_proof(head, read_datagram(alloc, field)?))
+    let head = read_digest_line(alloc, fields)?;
+    Ok(Draft::Headed(head))
 }
 
 // The proof behind the head.
-fn with_proof(head: Digest, said: Result<Proof, Cause>) -> Result<Draft, Cause>
-    ensures step { result ≡ with_proof head said }
-    ensures fits { IfOk said ProofFits → IfOk result DraftFits }
+fn read_proof_line(alloc: Global, head: Digest, fields: &[&[u8]]) -> Result<Draft, LineError>
+    ensures { GivesStep result (proof_line head (views fields.now)) }
 {
-    match said {
-        Ok(proof) => Ok(Draft::Whole(Claim { head, proof })),
-        Err(cause) => Err(cause),
-    }
+    let field = only_field(fields)?;
+    let proof = read_proof(alloc, field)?;
+    Ok(Draft::Whole(Claim { head, proof }))
+}
+
+// The datagram of the proof behind the head.
+fn read_datagram_line(alloc: Global, head: Digest, fields: &[&[u8]]) -> Result<Draft, LineError>
+    ensures { GivesStep result (datagram_line head (views fields.now)) }
+{
+    let field = only_field(fields)?;
+    let proof = read_datagram(alloc, field)?;
+    Ok(Draft::Whole(Claim { head, proof }))
 }

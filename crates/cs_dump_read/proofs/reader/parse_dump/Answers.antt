@@ -3,4 +3,5 @@ use Rattle.cs_dump_read.proofs.Whole.{given_formed}
 use Rattle.cs_dump_read.proofs.reader.parse_dump.Goals as goal
 
 pub returns-clause-formed : goal.returns-clause-formed
-returns-clause-formed c = given_formed c.parse_within.result MOST_DUMP c.args.text.now c.parse_within.ensures
+unfolding Rattle.cs_dump_read.specs.Text.dump_of
+returns-clause-formed c = given_formed c.parse_text.result MOST_DUMP c.args.text.now c.parse_text.ensures

@@ -1,5 +1,6 @@
 use Rattle.cs_base.proofs.Written.{each_more}
-use Rattle.cs_sched.specs.Printed.{line_text, contract_words}
+use Rattle.cs_text.specs.Printed.{line_text}
+use Rattle.cs_sched.specs.Printed.{contract_words}
 use Rattle.cs_sched.proofs.Texts.{lines_done}
 use Rattle.cs_sched.proofs.printing.print_contracts.Goals as goal
 

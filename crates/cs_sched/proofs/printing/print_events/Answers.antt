@@ -1,5 +1,6 @@
 use Rattle.cs_base.proofs.Written.{each_more}
-use Rattle.cs_sched.specs.Printed.{line_text, event_words}
+use Rattle.cs_text.specs.Printed.{line_text}
+use Rattle.cs_sched.specs.Printed.{event_words}
 use Rattle.cs_sched.proofs.Texts.{lines_done}
 use Rattle.cs_sched.proofs.printing.print_events.Goals as goal
 

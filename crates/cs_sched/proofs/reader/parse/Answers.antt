@@ -3,4 +3,5 @@ use Rattle.cs_sched.proofs.Played.{given_playable}
 use Rattle.cs_sched.proofs.reader.parse.Goals as goal
 
 pub returns-clause-playable : goal.returns-clause-playable
-returns-clause-playable c = given_playable c.parse_within.result MOST_SCHEDULE c.args.text.now c.parse_within.ensures
+unfolding Rattle.cs_sched.specs.Text.schedule_of
+returns-clause-playable c = given_playable c.parse_text.result MOST_SCHEDULE c.args.text.now c.parse_text.ensures

@@ -1,0 +1,6 @@
+pub mod FirstBad
+pub mod Printed
+pub mod Reading
+pub mod Refusals
+pub mod Text
+pub mod Values
