@@ -72,18 +72,7 @@ plain m names dummies none = record { names = names; dummies = dummies; decision
 pub is-other : (m : Message) → ((k : Key) (s : State) → m ≡ message.Told k s → ⊥) → ((digest : List ℕ) (so : Bool) → m ≡ message.Decided digest so → ⊥) → IsOther m
 is-other (message.Told k s) tells says = absurd (tells k s refl)
 is-other (message.Decided digest so) tells says = absurd (says digest so refl)
-is-other (message.Submit x) tells says = plain (message.Submit x) (λ n. refl) (λ n. refl) (λ d a. refl)
-is-other (message.Propose slot view entry) tells says = plain (message.Propose slot view entry) (λ n. refl) (λ n. refl) (λ d a. refl)
-is-other (message.Echo slot view digest) tells says = plain (message.Echo slot view digest) (λ n. refl) (λ n. refl) (λ d a. refl)
-is-other (message.Confirm slot view digest) tells says = plain (message.Confirm slot view digest) (λ n. refl) (λ n. refl) (λ d a. refl)
-is-other (message.Change slot view change) tells says = plain (message.Change slot view change) (λ n. refl) (λ n. refl) (λ d a. refl)
-is-other (message.Voted vote asks x) tells says = plain (message.Voted vote asks x) (λ n. refl) (λ n. refl) (λ d a. refl)
-is-other (message.Want slot) tells says = plain (message.Want slot) (λ n. refl) (λ n. refl) (λ d a. refl)
-is-other (message.Done slot entry) tells says = plain (message.Done slot entry) (λ n. refl) (λ n. refl) (λ d a. refl)
-is-other (message.Ask key) tells says = plain (message.Ask key) (λ n. refl) (λ n. refl) (λ d a. refl)
-is-other (message.Head checkpoint) tells says = plain (message.Head checkpoint) (λ n. refl) (λ n. refl) (λ d a. refl)
-is-other (message.AskProof slot) tells says = plain (message.AskProof slot) (λ n. refl) (λ n. refl) (λ d a. refl)
-is-other (message.Proof proof) tells says = plain (message.Proof proof) (λ n. refl) (λ n. refl) (λ d a. refl)
+is-other m tells says = plain m (λ n. refl) (λ n. refl) (λ d a. refl)
 
 pub other-taken : (e : Errand) (past : List Input) (input : Input) (told : Told) (now : Kept) (from : NodeId) (m : Message) → IsSound e told now → heard e.keys input ≡ Some (from, m) → IsOther m → Hears e past input told now told now
 other-taken e past input told now from m sound said other =

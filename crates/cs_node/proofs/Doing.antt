@@ -96,9 +96,9 @@ module _ {O J M : Type 0} (stands : O → Member M → Type 0) (approves : J →
   -- the order chose, what it chose was executed, and it was cut
   pub chosen-here : (order cut : O) (empty outs : List (Outgoing M)) (held : Held) (made'' : Draft) (proposed : Proposed) (slot : ℕ) → empty ≡ [] → Says outs → slot ≡ length (chosen_in h.deeds) → Advances rules h (Chosen proposed) empty outs (stands order)
       → ((h' : Member M) → stands order h' → stands cut (cut_at (length (chosen_in h'.deeds)) h'))
-      → Leaves setup core.sbac.me (execution_signs setup core.sbac.me (bench_of log core.sbac) slot (entry_in proposed)) (bench_of log core.sbac) held made' made'' → held.config ≡ core.sbac.config → held.me ≡ core.sbac.me
+      → Leaves setup core.sbac (execution_signs setup core.sbac.me (bench_of log core.sbac) slot (entry_in proposed)) (bench_of log core.sbac) held made' made''
       → TurnDone site (turn_marks site v) v true made made'' (After (record { order = cut; judge = core.judge; sbac = held }))
-  chosen-here order cut empty outs held made'' proposed slot none says at called cuts leaves same-config same-me =
+  chosen-here order cut empty outs held made'' proposed slot none says at called cuts leaves =
       let deed : Deed M = Advanced (Chosen proposed) (rules.advancing h) in
       let C : Step → Type 0 = λ s. (outs ≡ empty ++ sent_at s (rules.advancing h)) × stands order (advanced s (rules.advancing h) h) in
       let now : (outs ≡ empty ++ rules.advancing h) × stands order (did deed h) = subst C (sym called.0) (called.1, called.2) in
@@ -107,4 +107,4 @@ module _ {O J M : Type 0} (stands : O → Member M → Type 0) (approves : J →
       let stood : stands cut (cut_at (slot + 1) (did deed h)) = subst N more (cuts (did deed h) now.1) in
       chosen-done site v made made' made'' (After (record { order = cut; judge = core.judge; sbac = held })) proposed slot (bench_of leaves.log held) (sym called.0) at
       (subst Says (from-nothing empty outs (rules.advancing h) none now.0) says) leaves.makes
-      (keeps-on stands approves genesis core log h cut held leaves.log (cut_at (slot + 1) (did deed h)) seated stood (cut-f (slot + 1) (did deed h)) (cut-me (slot + 1) (did deed h)) same-config same-me leaves.kept_is)
+      (keeps-on stands approves genesis core log h cut held leaves.log (cut_at (slot + 1) (did deed h)) seated stood (cut-f (slot + 1) (did deed h)) (cut-me (slot + 1) (did deed h)) leaves.config_is leaves.me_is leaves.kept_is)

@@ -1,11 +1,18 @@
 -- What a core did as others spoke to it, at the view for which it stood.
 use Rattle.std.proofs.lemmas.Bool.Decides.{nat_tests}
+use Rattle.std.proofs.lemmas.Result.{on_ok_weaker}
 use Rattle.cs_base.specs.declared.config.Config.{Config}
-use Rattle.std.proofs.Common.{◌≡◌, ◌≢◌, arith, ℕ, ◌*◌, ◌≤◌, Bool, true, false, List, [], ◌∷◌, ◌++◌, Option, Some, None, Result, refl, ap, sym, subst, ◌∙◌}
+use Rattle.std.proofs.Common.{◌≡◌, ◌≢◌, arith, ℕ, ◌*◌, ◌≤◌, Bool, true, false, List, [], ◌∷◌, ◌++◌, Option, Some, None, Result, OnOk, refl, ap, sym, subst, ◌∙◌}
 use Rattle.cs_base.specs.declared.node_id.NodeId.{NodeId}
 use Rattle.cs_tx_value.specs.declared.object.Object.{Object}
 use Rattle.cs_tx_form.specs.declared.transaction.Tx.{Tx}
+use Rattle.cs_base.specs.declared.key.Key.{Key}
+use Rattle.cs_tx_form.specs.declared.session.Session.{Session}
+use Rattle.cs_tx_form.specs.declared.vote.Vote.{Vote}
+use Rattle.cs_tx_form.specs.declared.checkpoint.Checkpoint.{Checkpoint}
 use Rattle.cs_wire_message.specs.declared.message.Message.{Message}
+use Rattle.cs_wire_message.specs.declared.message.Message.TheVariants as message
+use Rattle.cs_wire_message.specs.Classes.{Class, OfOrder, class_of}
 use Rattle.cs_checkpoint.specs.Chain.{Log}
 use Rattle.cs_order.specs.declared.answers.Outgoing.{Outgoing}
 use Rattle.cs_order.specs.declared.answers.Took.{Took}
@@ -17,18 +24,19 @@ use Rattle.cs_node_rules.specs.declared.cause.Cause.TheVariants.{Role, Far}
 use Rattle.cs_node_state.specs.Setup.{Setup}
 use Rattle.cs_node_rules.specs.Members.{is_other_member}
 use Rattle.cs_node_rules.specs.Net.{Net}
-use Rattle.cs_node_rules.specs.Signs.{Sign, Dropped}
+use Rattle.cs_node_rules.specs.Signs.{Sign, Dropped, said_signs}
 use Rattle.cs_node_rules.specs.Site.{Carrier, Mark, Site, View, plain}
-use Rattle.cs_node_rules.specs.Trail.{handed, drops, taking_marks, member_marks, reply_marks, want_marks, message_marks}
+use Rattle.cs_node_rules.specs.Trail.{handed, drops, taking_marks, member_marks, reply_marks, want_marks, class_marks, message_marks}
 use Rattle.cs_node_rules.specs.Deployment.{site_of}
+use Rattle.cs_node_rules.specs.Carrying.{is_of_order, is_ordering, Carries}
 use Rattle.cs_node_pool.specs.Deployed.{deployed}
 use Rattle.cs_sbac.specs.Held.{Held, bench_of}
 use Rattle.cs_node.specs.declared.engine.Engine.{Engine}
 use Rattle.cs_node.specs.declared.draft.Draft.{Draft}
 use Rattle.cs_node.specs.Notes.{Tells}
-use Rattle.cs_node.specs.Signing.{Leaves}
+use Rattle.cs_node.specs.Signing.{Leaves, Does}
 use Rattle.cs_node.specs.Steps.{Marks}
-use Rattle.cs_node.specs.Cores.{IsSeated, KeepsView, view_at, LeadsBy}
+use Rattle.cs_node.specs.Cores.{IsSeated, KeepsView, site_at, view_at, LeadsBy}
 use Rattle.cs_node.proofs.Sums.{tells-nothing, plain-marks}
 use Rattle.cs_node.proofs.Turns.{deed-done}
 use Rattle.cs_node.proofs.Doing.{from-nothing}
@@ -77,16 +85,16 @@ module _ {O J M : Type 0} (stands : O → Member M → Type 0) (approves : J →
   After next = KeepsView stands approves setup next
 
   -- table and pool did what these signs say
-  pub said-here : (signs : List Sign) (marks : List (Mark M)) (held : Held) → marks ≡ plain signs → Leaves setup core.sbac.me signs (bench_of log core.sbac) held made made' → held.config ≡ core.sbac.config → held.me ≡ core.sbac.me
+  pub said-here : (signs : List Sign) (marks : List (Mark M)) (held : Held) → marks ≡ plain signs → Leaves setup core.sbac signs (bench_of log core.sbac) held made made'
       → Marks site marks v made made' (After (record { order = core.order; judge = core.judge; sbac = held }))
-  said-here signs marks held are leaves same-config same-me =
+  said-here signs marks held are leaves =
       let next : Engine O J M = record { order = core.order; judge = core.judge; sbac = held } in
       subst (λ (ms : List (Mark M)). Marks site ms v made made' (After next)) (sym are)
-      (plain-marks site signs v (bench_of leaves.log held) made made' (After next) leaves.makes (keeps-on stands approves genesis core log h core.order held leaves.log h seated seated.stood refl refl same-config same-me leaves.kept_is))
+      (plain-marks site signs v (bench_of leaves.log held) made made' (After next) leaves.makes (keeps-on stands approves genesis core log h core.order held leaves.log h seated seated.stood refl refl leaves.config_is leaves.me_is leaves.kept_is))
 
   -- it was dropped
   pub dropped-here : (cause : Cause) (marks : List (Mark M)) → marks ≡ drops cause → Tells (Dropped cause ∷ []) made made' → Marks site marks v made made' (After core)
-  dropped-here cause marks are tells = said-here (Dropped cause ∷ []) marks core.sbac are (record { log = log; kept_is = seated.kept_is; makes = record { tells = tells; bench_is = refl } }) refl refl
+  dropped-here cause marks are tells = said-here (Dropped cause ∷ []) marks core.sbac are (record { log = log; kept_is = seated.kept_is; config_is = refl; me_is = refl; makes = record { tells = tells; bench_is = refl } })
 
   -- ---- the order's messages
 
@@ -145,7 +153,9 @@ module _ {O J M : Type 0} (stands : O → Member M → Type 0) (approves : J →
         (deed-done site v made made' (After core) (Replied slot sender.index (r.out ∷ [])) (subst S (from-nothing old new (r.out ∷ []) empty r.grown) says)
         (keeps-on stands approves genesis core log h core.order core.sbac log (did (Replied slot sender.index (r.out ∷ [])) h) seated r.stood refl refl refl refl seated.kept_is))
 
--- what a message led to is what its variant led to
+-- ---- what a message led to
+
+-- it is what its variant led to
 pub as-said : {O J M A E : Type 0} (stands : O → Member M → Type 0) (approves : J → Tx → Bool) (rules : Machine M) (carrier : Carrier M) (engine engine' : Engine O J M) (draft draft' : Draft) (result : Result A E)
     (sender : NodeId) (m said : Message) → m ≡ said
     → LeadsBy stands approves rules carrier engine engine' draft draft' result (λ site v. message_marks site v sender said)
@@ -153,3 +163,62 @@ pub as-said : {O J M A E : Type 0} (stands : O → Member M → Type 0) (approve
 as-said {O} {J} {M} stands approves rules carrier engine engine' draft draft' result sender m said is led =
     let Leads : Message → Type 0 = λ given. LeadsBy stands approves rules carrier engine engine' draft draft' result (λ site v. message_marks site v sender given) in
     subst Leads (sym is) led
+
+-- where table and pool did what it says
+pub signs-said : {O J M A E : Type 0} (stands : O → Member M → Type 0) (approves : J → Tx → Bool) (rules : Machine M) (carrier : Carrier M) (engine : Engine O J M) (held : Held) (draft draft' : Draft) (result : Result A E)
+    (sender : NodeId) (m said : Message) → m ≡ said
+    → ((site : Site M) (v : View M) → message_marks site v sender said ≡ plain (said_signs site.setup v.me v.bench sender said))
+    → Does (approves engine.judge) engine.sbac held draft draft' result (λ setup b. said_signs setup engine.sbac.me b sender said)
+    → LeadsBy stands approves rules carrier engine (record { order = engine.order; judge = engine.judge; sbac = held }) draft draft' result (λ site v. message_marks site v sender m)
+signs-said {O} {J} {M} {A} {E} stands approves rules carrier engine held draft draft' result sender m said is signs made = λ net genesis log h seated.
+    let site = site_at rules carrier net engine.sbac genesis (approves engine.judge) in
+    let v = view_at log engine.sbac h in
+    let marks = message_marks site v sender m in
+    let are : marks ≡ plain (said_signs site.setup v.me v.bench sender said) = ap (message_marks site v sender) is ∙ signs site v in
+    on_ok_weaker result
+    (said-here stands approves rules carrier net engine genesis log h draft draft' seated (said_signs site.setup v.me v.bench sender said) marks held are)
+    (made genesis log seated.kept_is)
+
+-- the node answers none of its kind
+pub record IsUnanswered (m : Message) : Type 0 where
+  pub submit : (x : Session) → m ≡ message.Submit x → ⊥
+  pub ask : (asked : Option Key) → m ≡ message.Ask asked → ⊥
+  pub ask_proof : (slot : ℕ) → m ≡ message.AskProof slot → ⊥
+  pub voted : (vote : Vote) (asks : Bool) (x : Session) → m ≡ message.Voted vote asks x → ⊥
+  pub want : (slot : ℕ) → m ≡ message.Want slot → ⊥
+  pub head : (checkpoint : Checkpoint) → m ≡ message.Head checkpoint → ⊥
+
+module _ {M : Type 0} (machine : Machine M) (site : Site M) (carries : Carries machine site.carrier) (v : View M) (sender : NodeId) where
+  -- what is none of the order's is dropped
+  unread : (m : Message) (read : Option M) → site.carrier.read m ≡ read → is_ordering m ≡ false → member_marks site v sender read ≡ drops Role
+  unread m None is other = refl
+  unread m (Some k) is other = absurd (let q : true ≡ false = sym (carries.theirs m k is) ∙ other in cc)
+
+  heard-class : (m : Message) (class : Class) → class_of m ≡ class → said_signs site.setup v.me v.bench sender m ≡ Dropped Role ∷ []
+      → member_marks site v sender (site.carrier.read m) ≡ class_marks site v sender m class
+  heard-class m OfOrder is signs = refl
+  heard-class m class is signs =
+      let S : List Sign → Type 0 = λ made. member_marks site v sender (site.carrier.read m) ≡ plain made in
+      subst S (sym signs) (unread m (site.carrier.read m) refl (ap is_of_order is))
+
+  other-marks : (m : Message) → IsUnanswered m → member_marks site v sender (site.carrier.read m) ≡ message_marks site v sender m
+  other-marks (message.Submit x) other = absurd (other.submit x refl)
+  other-marks (message.Ask asked) other = absurd (other.ask asked refl)
+  other-marks (message.AskProof slot) other = absurd (other.ask_proof slot refl)
+  other-marks (message.Voted vote asks x) other = absurd (other.voted vote asks x refl)
+  other-marks (message.Want slot) other = absurd (other.want slot refl)
+  other-marks (message.Head checkpoint) other = absurd (other.head checkpoint refl)
+  other-marks m other = heard-class m (class_of m) refl refl
+
+-- so the order hears it
+pub other-said : {O J M A E : Type 0} (stands : O → Member M → Type 0) (approves : J → Tx → Bool) (rules : Machine M) (carrier : Carrier M) (engine engine' : Engine O J M) (draft draft' : Draft) (result : Result A E)
+    (sender : NodeId) (m : Message) → Carries rules carrier → IsUnanswered m
+    → LeadsBy stands approves rules carrier engine engine' draft draft' result (λ site v. member_marks site v sender (carrier.read m))
+    → LeadsBy stands approves rules carrier engine engine' draft draft' result (λ site v. message_marks site v sender m)
+other-said {O} {J} {M} stands approves rules carrier engine engine' draft draft' result sender m carries other led = λ net genesis log h seated.
+    let site = site_at rules carrier net engine.sbac genesis (approves engine.judge) in
+    let v = view_at log engine.sbac h in
+    let setup = deployed engine.sbac.config genesis (approves engine.judge) in
+    let After : View M → Type 0 = KeepsView stands approves setup engine' in
+    let P : List (Mark M) → Type 0 = λ marks. OnOk result (Marks site marks v draft draft' After) in
+    subst P (other-marks rules site carries v sender m other) (led net genesis log h seated)

@@ -1,6 +1,5 @@
 -- Whoever is opened has a key.
 use Rattle.std.proofs.Common.{◌≡◌, ℕ, ◌-◌, Bool, true, false, List, Option, Some, None, Ok, Err, IsSome, refl, ap, subst, nat_lt, bytes_eq, cond, length, take}
-use Rattle.std.specs.Prelude.{codes}
 use Rattle.cs_base.specs.declared.node_id.NodeId.{NodeId}
 use Rattle.cs_wire_message.specs.declared.message.Message.{Message}
 use Rattle.cs_wire_message.specs.Body.{message_whole}
@@ -9,7 +8,9 @@ use Rattle.cs_wire.specs.declared.keys.Row.{Row}
 use Rattle.cs_wire.specs.declared.keys.Keys.{Keys}
 use Rattle.cs_wire.specs.declared.opening.OpenError.{OpenError}
 use Rattle.cs_wire.specs.declared.opening.OpenError.TheVariants as errors
-use Rattle.cs_wire.specs.Datagram.{is_kind, body_in}
+use Rattle.cs_wire_message.specs.Message.{is_kind}
+use Rattle.cs_wire.specs.declared.head.TheConstants.{MAGIC}
+use Rattle.cs_wire.specs.Datagram.{body_in}
 use Rattle.cs_wire.specs.Heads.{head_seen}
 use Rattle.cs_wire.specs.Keys.{row_of}
 use Rattle.cs_base.specs.NodeId.{same_name}
@@ -33,7 +34,7 @@ keyed head bytes (Some row) none = refl
 headed : (keys : Keys) (bytes : List ℕ) (head : Head) → head_fault keys bytes (Some head) ≡ None → IsSome (row_of head.from keys)
 headed keys bytes head none =
     keyed head bytes (row_of head.from keys)
-    (past-test (same_name head.to keys.me) errors.NotMine _ (past-test (is_kind head.kind) errors.Kind _ (past-test (bytes_eq head.magic (codes "CSP1")) errors.Magic _ none)))
+    (past-test (same_name head.to keys.me) errors.NotMine _ (past-test (is_kind head.kind) errors.Kind _ (past-test (bytes_eq head.magic MAGIC) errors.Magic _ none)))
 
 long : (short : Bool) (later : Option OpenError) → cond short (Some errors.Short) later ≡ None → later ≡ None
 long true later none = let q : Some errors.Short ≡ None = none in cc

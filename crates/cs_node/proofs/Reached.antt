@@ -9,6 +9,7 @@ use Rattle.cs_tx_form.specs.declared.transaction.Tx.{Tx}
 use Rattle.cs_tx_form.specs.declared.entry.Entry.{Entry}
 use Rattle.cs_wire_message.specs.declared.message.Message.{Message}
 use Rattle.cs_wire_message.specs.declared.message.Message.TheVariants as message
+use Rattle.cs_wire_message.specs.Classes.{Class, OfOrder, class_of}
 use Rattle.cs_order.specs.declared.proposed.Proposed.{Proposed}
 use Rattle.cs_order.specs.declared.answers.Outgoing.{Outgoing}
 use Rattle.cs_order.specs.declared.answers.Took.{Took}
@@ -24,17 +25,18 @@ use Rattle.cs_wire.specs.Opened.{Opened}
 use Rattle.cs_checkpoint.specs.Chain.{kept_slots}
 use Rattle.cs_node_state.specs.Setup.{Setup}
 use Rattle.cs_node_rules.specs.Members.{is_other_member, others}
+use Rattle.cs_node_rules.proofs.Heard.{heard}
 use Rattle.cs_node_state.specs.Admission.{due}
-use Rattle.cs_node_rules.specs.Signs.{Sign, Dropped, Took as Took_vote, Entered, Viewed, Did, Headed, Kept, Sent, sends, submit_signs, voted_signs, ask_signs, ask_proof_signs, head_signs, execution_signs, asked_again}
+use Rattle.cs_node_rules.specs.Signs.{Sign, Dropped, Took as Took_vote, Entered, Viewed, Did, Headed, Kept, Sent, sends, execution_signs, asked_again, said_signs}
 use Rattle.cs_node_rules.specs.Site.{Input, Datagram, Tick, Mark, In, Ordered, Site, View, view_after, plain, signs_of}
-use Rattle.cs_node_rules.specs.Trail.{out_signs, handed, with_deed, entered_view, moving, admits_proposed, proposing, due_marks, candidate_marks, propose_marks, echo_marks, cut_marks, step_marks, turn_marks, continued, settled, taking_marks, member_marks, reply_marks, want_marks, message_marks, opened_marks, again_marks, waiting_marks, input_marks, event_marks}
+use Rattle.cs_node_rules.specs.Trail.{out_signs, handed, with_deed, entered_view, moving, admits_proposed, proposing, due_marks, candidate_marks, propose_marks, echo_marks, cut_marks, step_marks, turn_marks, continued, settled, taking_marks, member_marks, reply_marks, want_marks, class_marks, message_marks, opened_marks, again_marks, waiting_marks, input_marks, event_marks}
 use Rattle.cs_node.specs.declared.nodes.Core.{Core}
 use Rattle.cs_node.specs.Notes.{said_of, AllReached}
 use Rattle.cs_node.specs.Cores.{StandsFor}
 use Rattle.cs_node.proofs.Names.{me-after}
 use Rattle.cs_node.proofs.Sums.{signs-append, signs-plain}
 use Rattle.cs_node.proofs.Openers.{opener-held}
-use Rattle.cs_node.proofs.Receivers.{AllTo, to-append, to-all, to-submit, to-ask, to-voted, to-execution, to-asked, to-head, to-ask_proof}
+use Rattle.cs_node.proofs.Receivers.{AllTo, to-append, to-all, to-heard, to-execution, to-asked}
 
 module _ {M : Type 0} (Peer : NodeId → Type 0) (config : Config) (site : Site M) (same_f : site.setup.f ≡ config.f) (same_shards : site.setup.shards ≡ config.shards) where
   -- a node of the deployment, whose peers are all others
@@ -187,21 +189,15 @@ module _ {M : Type 0} (Peer : NodeId → Type 0) (config : Config) (site : Site 
         by_test true = goes-reply slot sender.index (site.machine.replying v.member slot sender.index)
         by_test false = tt
 
+    goes-class : (sender : NodeId) (said : Message) (class : Class) → Peer sender → Goes (class_marks site v sender said class)
+    goes-class sender said OfOrder peer = goes-member sender (site.carrier.read said)
+    goes-class sender said class peer =
+        let signs = said_signs site.setup v.me v.bench sender said in
+        goes-alone signs (to-heard Peer sender signs (heard site.setup v.me v.bench sender said) peer)
+
     goes-message : (sender : NodeId) (said : Message) → Peer sender → Goes (message_marks site v sender said)
-    goes-message sender (message.Submit x) peer = goes-alone (submit_signs site.setup v.me.shard v.bench sender x) (to-submit Peer config v.me home.others_too site.setup same_f same_shards v.me.shard v.bench sender x peer)
-    goes-message sender (message.Propose slot view entry) peer = goes-member sender (site.carrier.read (message.Propose slot view entry))
-    goes-message sender (message.Echo slot view digest) peer = goes-member sender (site.carrier.read (message.Echo slot view digest))
-    goes-message sender (message.Confirm slot view digest) peer = goes-member sender (site.carrier.read (message.Confirm slot view digest))
-    goes-message sender (message.Change slot view change) peer = goes-member sender (site.carrier.read (message.Change slot view change))
-    goes-message sender (message.Voted vote asks x) peer = goes-alone (voted_signs site.setup v.me.shard v.bench sender vote asks x) (to-voted Peer config v.me home.others_too site.setup same_f same_shards v.me.shard v.bench sender vote asks x peer)
-    goes-message sender (message.Decided digest accepted) peer = tt
     goes-message sender (message.Want slot) peer = goes-want sender slot
-    goes-message sender (message.Done slot entry) peer = goes-member sender (site.carrier.read (message.Done slot entry))
-    goes-message sender (message.Ask asked) peer = goes-alone (ask_signs site.setup v.me.shard v.bench sender asked) (to-ask Peer config v.me home.others_too site.setup same_f same_shards v.me.shard v.bench sender asked peer)
-    goes-message sender (message.Told key state) peer = tt
-    goes-message sender (message.Head checkpoint) peer = goes-alone (head_signs site.setup v.me v.bench sender checkpoint) (to-head Peer site.setup v.me v.bench sender checkpoint)
-    goes-message sender (message.AskProof slot) peer = goes-alone (ask_proof_signs v.bench sender slot) (to-ask_proof Peer v.bench sender slot peer)
-    goes-message sender (message.Proof proof) peer = tt
+    goes-message sender said peer = goes-class sender said (class_of said) peer
 
     goes-opened : (said : Opened) → ((sender : NodeId) (m : Message) → said ≡ Ok (sender, m) → Peer sender) → Goes (opened_marks site v said)
     goes-opened (Ok said) peer = goes-message said.0 said.1 (peer said.0 said.1 refl)

@@ -1,32 +1,24 @@
 -- To whom a node sends: to others of its deployment, and to those who spoke to it.
-use Rattle.std.proofs.Common.{◌≡◌, ℕ, zero, suc, ◌+◌, ◌*◌, ◌<◌, ◌≤◌, Bool, true, false, not, cond, List, [], ◌∷◌, ◌++◌, Option, Some, None, refl, sym, subst, arith}
-use Rattle.std.specs.Prelude.{◌==◌}
+use Rattle.std.proofs.Common.{◌≡◌, ℕ, zero, suc, ◌+◌, ◌*◌, ◌<◌, ◌≤◌, Bool, true, false, cond, List, [], ◌∷◌, ◌++◌, Option, Some, None, refl, sym, subst, arith}
 use Rattle.std.proofs.lemmas.Bool.Decides.{nat_tests}
 use Rattle.cs_base.specs.declared.config.Config.{Config}
-use Rattle.cs_base.specs.declared.key.Key.{Key}
 use Rattle.cs_base.specs.declared.node_id.NodeId.{NodeId}
-use Rattle.cs_base.specs.Key.{shard_of_key}
-use Rattle.cs_base.specs.NodeId.{is_node, is_client, same_name, members_below}
+use Rattle.cs_base.specs.NodeId.{is_node, same_name, members_below}
 use Rattle.cs_tx_form.specs.declared.session.Session.{Session}
 use Rattle.cs_tx_form.specs.declared.vote.Vote.{Vote}
 use Rattle.cs_tx_form.specs.declared.vote.Vote.TheVariants.{Commit}
 use Rattle.cs_tx_form.specs.declared.entry.Entry.{Entry}
 use Rattle.cs_wire_message.specs.declared.message.Message.{Message}
 use Rattle.cs_wire_message.specs.declared.message.Message.TheVariants as message
-use Rattle.cs_node_rules.specs.declared.cause.Cause.{Cause}
-use Rattle.cs_node_state.specs.declared.pooled.Pooled.{Pooled}
-use Rattle.cs_node_state.specs.Setup.{Setup, digest_of, concerns, concerned, concerned_below, is_fit, is_approved, session_in}
-use Rattle.cs_node_state.specs.Evidence.{has_voted}
-use Rattle.cs_node_rules.specs.Members.{is_other_member, members, except, others}
-use Rattle.cs_node_state.specs.Pool.{Pool, found, is_pooled, has_room}
-use Rattle.cs_node_state.specs.Bench.{Bench, Ran, executed, slot_executed, decided, noted, told_of}
+use Rattle.cs_node_state.specs.Setup.{Setup, digest_of, concerns, concerned, concerned_below}
+use Rattle.cs_tx_form.specs.Session.{session_in}
+use Rattle.cs_node_rules.specs.Members.{members, except, others}
+use Rattle.cs_node_state.specs.Pool.{Pool, is_pooled}
+use Rattle.cs_node_state.specs.Bench.{Bench, Ran, executed, slot_executed, told_of}
+use Rattle.cs_node_rules.proofs.Heard.{AllHeard}
 use Rattle.cs_tx_form.specs.declared.checkpoint.Checkpoint.{Checkpoint}
-use Rattle.cs_tx_form.specs.declared.proof.Proof.{Proof}
 use Rattle.cs_checkpoint.specs.Chain.{head_of, made_last}
-use Rattle.cs_check_rules.specs.Heads.{is_news}
-use Rattle.cs_check_rules.specs.Proofs.{proof_of}
-use Rattle.cs_node_state.specs.Asked.{key_asked}
-use Rattle.cs_node_rules.specs.Signs.{Sign, Dropped, Took, Entered, Viewed, Did, Headed, Kept, Sent, guarded, entering_signs, submitted_signs, submit_signs, ask_signs, asking_signs, ballot_signs, voted_signs, sends, vote_signs, own_signs, entered_signs, ran_signs, headed_signs, execution_signs, proof_signs, ask_proof_signs, head_signs, asked_again}
+use Rattle.cs_node_rules.specs.Signs.{Sign, Dropped, Took, Entered, Viewed, Did, Headed, Kept, Sent, sends, vote_signs, own_signs, entered_signs, ran_signs, headed_signs, execution_signs, asked_again}
 
 module _ (Peer : NodeId → Type 0) where
   -- all that is sent goes to a peer
@@ -60,19 +52,17 @@ module _ (Peer : NodeId → Type 0) where
   to-sends [] m peers = tt
   to-sends (to ∷ more) m peers = to-append (sends more m) (Sent to m ∷ []) (to-sends more m peers.1) (peers.0, tt)
 
-  pub to-guarded : (holds : Bool) (cause : Cause) (signs : List Sign) → (holds ≡ true → AllTo signs) → AllTo (guarded holds cause signs)
-  to-guarded true cause signs all = all refl
-  to-guarded false cause signs all = tt
-
-  pub to-head : (setup : Setup) (me : NodeId) (b : Bench) (sender : NodeId) (c : Checkpoint) → AllTo (head_signs setup me b sender c)
-  to-head setup me b sender c = to-guarded (is_other_member setup.f me sender) _ _ (λ h. to-guarded (is_news sender.index c b.heads) _ _ (λ k. tt))
-
-  pub to-ask_proof : (b : Bench) (sender : NodeId) (slot : ℕ) → Peer sender → AllTo (ask_proof_signs b sender slot)
-  to-ask_proof b sender slot peer = to-guarded (is_client sender) _ _ (λ client. by_found (proof_of b.log slot))
-    where
-      by_found : (found : Option Proof) → AllTo (proof_signs sender found)
-      by_found None = tt
-      by_found (Some proof) = (peer, tt)
+  -- what is said to a node, but for its order, is answered to its sender
+  pub to-heard : (sender : NodeId) (signs : List Sign) → AllHeard sender signs → Peer sender → AllTo signs
+  to-heard sender [] all peer = tt
+  to-heard sender (Dropped cause ∷ signs) all peer = to-heard sender signs all peer
+  to-heard sender (Took from vote x ∷ signs) all peer = to-heard sender signs all peer
+  to-heard sender (Entered x ∷ signs) all peer = to-heard sender signs all peer
+  to-heard sender (Viewed slot view ∷ signs) all peer = absurd all
+  to-heard sender (Did slot entry effect ∷ signs) all peer = absurd all
+  to-heard sender (Headed number head ∷ signs) all peer = absurd all
+  to-heard sender (Kept index checkpoint ∷ signs) all peer = to-heard sender signs all peer
+  to-heard sender (Sent to said ∷ signs) all peer = (subst Peer (sym all.0) peer, to-heard sender signs all.1 peer)
 
   -- ---- the nodes of some shards
 
@@ -134,34 +124,6 @@ module _ (Peer : NodeId → Type 0) where
       to-voters : (x : Session) (told : Option (Vote × Bool)) → AllTo (vote_signs setup me x told)
       to-voters x None = tt
       to-voters x (Some told) = to-all (concerned setup x) (message.Voted told.0 told.1 x) (concerned-are x setup.shards (omega (arith, same_shards)))
-
-      -- ---- what others say
-
-      to-entering : (b : Bench) (x : Session) → AllTo (entering_signs setup b x)
-      to-entering b x = to-guarded (not (is_pooled (digest_of setup x) b.pool)) _ _ (λ h. to-guarded (is_approved setup x) _ _ (λ k. to-guarded (has_room b.pool) _ _ (λ r. tt)))
-
-      pub to-submit : (shard : ℕ) (b : Bench) (sender : NodeId) (x : Session) → Peer sender → AllTo (submit_signs setup shard b sender x)
-      to-submit shard b sender x peer = to-guarded (is_client sender) _ _ (λ client. to-guarded (is_fit setup shard x) _ _ (λ fit. by_standing (decided setup shard b.table x)))
-        where
-          by_standing : (stands : Option Bool) → AllTo (submitted_signs setup b sender x stands)
-          by_standing (Some accepted) = (peer, tt)
-          by_standing None = to-entering b x
-
-      pub to-ask : (shard : ℕ) (b : Bench) (sender : NodeId) (asked : Option Key) → Peer sender → AllTo (ask_signs setup shard b sender asked)
-      to-ask shard b sender asked peer =
-          to-guarded (is_client sender) _ _ (λ client. to-guarded (shard_of_key setup.shards (key_asked b.table shard asked) == shard) _ _ (λ here. (peer, tt)))
-
-      pub to-voted : (shard : ℕ) (b : Bench) (sender : NodeId) (vote : Vote) (asks : Bool) (x : Session) → Peer sender → AllTo (voted_signs setup shard b sender vote asks x)
-      to-voted shard b sender vote asks x peer =
-          to-guarded (not (is_client sender)) _ _ (λ h. to-guarded (is_fit setup shard x) _ _ (λ fit. to-guarded (concerns setup x sender.shard) _ _ (λ k. by_found (found (digest_of setup x) b.pool))))
-        where
-          by_noted : (known : Option Vote) → AllTo (asking_signs setup b sender vote asks x known)
-          by_noted (Some known) = to-guarded asks _ _ (λ h. (peer, tt))
-          by_noted None = to-guarded asks _ _ (λ h. to-guarded (is_approved setup x) _ _ (λ k. to-guarded (has_room b.pool) _ _ (λ r. tt)))
-
-          by_found : (o : Option Pooled) → AllTo (ballot_signs setup shard b sender vote asks x o)
-          by_found (Some p) = to-guarded (not (has_voted sender p.ballots)) _ _ (λ h. tt)
-          by_found None = by_noted (noted setup shard b.table x)
 
       -- ---- executions and ticks
 

@@ -81,34 +81,36 @@ module _ (setup : Setup) (me : NodeId) (b : Bench) (x : Session) where
       })
 
 -- what is held stays
-pub stays : (setup : Setup) (me : NodeId) (signs : List Sign) (held : Held) (log : Log) (old new : Draft) → held.archived.kept ≡ kept_of log
-    → Makes setup me signs (bench_of log held) (bench_of log held) old new → Leaves setup me signs (bench_of log held) held old new
-stays setup me made held log old new kept_is makes = record { log = log; kept_is = kept_is; makes = makes }
+pub stays : (setup : Setup) (signs : List Sign) (held : Held) (log : Log) (old new : Draft) → held.archived.kept ≡ kept_of log
+    → Makes setup held.me signs (bench_of log held) (bench_of log held) old new → Leaves setup held signs (bench_of log held) held old new
+stays setup made held log old new kept_is makes = record { log = log; kept_is = kept_is; config_is = refl; me_is = refl; makes = makes }
 
 -- the last test is that of the pool itself
-module _ (setup : Setup) (me : NodeId) (held held' : Held) (log : Log) (kept_is : held.archived.kept ≡ kept_of log) (x : Session) (answer : Entered)
+module _ (setup : Setup) (held held' : Held) (log : Log) (kept_is : held.archived.kept ≡ kept_of log) (x : Session) (answer : Entered)
     (pooled : is_pooled (digest_of setup x) held.pool ≡ false) (approved : is_approved setup x ≡ true) (answered : answer ≡ entered_in held.pool) (left : held' ≡ with_pool held (pool_entered (digest_of setup x) x held.pool)) where
   abbrev made_signs : List Sign
   made_signs = entering_signs setup (bench_of log held) x
 
-  pub new-makes : (old : Draft) → answer ≡ New → Leaves setup me made_signs (bench_of log held) held' old old
+  pub new-makes : (old : Draft) → answer ≡ New → Leaves setup held made_signs (bench_of log held) held' old old
   new-makes old new =
       let room : has_room held.pool ≡ true = room-new held.pool (sym answered ∙ new) in
       let grown : pool_entered (digest_of setup x) x held.pool ≡ pushed (digest_of setup x) x false held.pool = rw room refl in
-      let P : Held → Type 0 = λ h. Leaves setup me made_signs (bench_of log held) h old old in
+      let P : Held → Type 0 = λ h. Leaves setup held made_signs (bench_of log held) h old old in
       subst P (sym left) (record {
         log = log;
         kept_is = kept_is;
-        makes = entered-makes setup me (bench_of log held) x (pool_entered (digest_of setup x) x held.pool) old pooled approved room grown;
+        config_is = refl;
+        me_is = refl;
+        makes = entered-makes setup held.me (bench_of log held) x (pool_entered (digest_of setup x) x held.pool) old pooled approved room grown;
       })
 
-  pub full-makes : (old new : Draft) → answer ≡ Entering.Full → Tells (Dropped Full ∷ []) old new → Leaves setup me made_signs (bench_of log held) held' old new
+  pub full-makes : (old new : Draft) → answer ≡ Entering.Full → Tells (Dropped Full ∷ []) old new → Leaves setup held made_signs (bench_of log held) held' old new
   full-makes old new is tells =
       let room : has_room held.pool ≡ false = room-full held.pool (sym answered ∙ is) in
       let same : pool_entered (digest_of setup x) x held.pool ≡ held.pool = rw room refl in
-      let P : Held → Type 0 = λ h. Leaves setup me made_signs (bench_of log held) h old new in
-      let Q : Pool → Type 0 = λ pool. Leaves setup me made_signs (bench_of log held) (with_pool held pool) old new in
-      subst P (sym left) (subst Q (sym same) (stays setup me made_signs held log old new kept_is (dropped-makes setup me (bench_of log held) made_signs Full old new (full setup me (bench_of log held) x pooled approved room) tells)))
+      let P : Held → Type 0 = λ h. Leaves setup held made_signs (bench_of log held) h old new in
+      let Q : Pool → Type 0 = λ pool. Leaves setup held made_signs (bench_of log held) (with_pool held pool) old new in
+      subst P (sym left) (subst Q (sym same) (stays setup made_signs held log old new kept_is (dropped-makes setup held.me (bench_of log held) made_signs Full old new (full setup held.me (bench_of log held) x pooled approved room) tells)))
 
 -- ---- a session that a client submits
 

@@ -149,13 +149,15 @@ module _ (setup : Setup) (shard : ℕ) (b : Bench) (sender : NodeId) (vote : Vot
   asked-new known ask is = ap (asking_signs setup b sender vote asks x) is ∙ ap (λ a. guarded a Unasked enters) ask
 
 -- the first vote of a node on a pooled session is taken
-pub first-makes : (setup : Setup) (me : NodeId) (held held' : Held) (log : Log) (kept_is : held.archived.kept ≡ kept_of log) (sender : NodeId) (vote : Vote) (x : Session) (signs : List Sign) (draft : Draft) → signs ≡ Took sender vote x ∷ []
-    → held' ≡ with_pool held (changed (digest_of setup x) (with_ballot (record { sender = sender; vote = vote })) held.pool) → Leaves setup me signs (bench_of log held) held' draft draft
-first-makes setup me held held' log kept_is sender vote x signs draft is left =
-    let P : List Sign → Type 0 = λ made. Leaves setup me made (bench_of log held) held' draft draft in
+pub first-makes : (setup : Setup) (held held' : Held) (log : Log) (kept_is : held.archived.kept ≡ kept_of log) (sender : NodeId) (vote : Vote) (x : Session) (signs : List Sign) (draft : Draft) → signs ≡ Took sender vote x ∷ []
+    → held' ≡ with_pool held (changed (digest_of setup x) (with_ballot (record { sender = sender; vote = vote })) held.pool) → Leaves setup held signs (bench_of log held) held' draft draft
+first-makes setup held held' log kept_is sender vote x signs draft is left =
+    let P : List Sign → Type 0 = λ made. Leaves setup held made (bench_of log held) held' draft draft in
     subst P (sym is) (record {
       log = log;
       kept_is = ap (λ (h : Held). h.archived.kept) left ∙ kept_is;
+      config_is = ap (λ (h : Held). h.config) left;
+      me_is = ap (λ (h : Held). h.me) left;
       makes = record {
         tells = record { notes = (tells-nothing draft).notes; said = (tells-nothing draft).said };
         bench_is = ap (bench_of log) left;
@@ -163,43 +165,45 @@ first-makes setup me held held' log kept_is sender vote x signs draft is left =
     })
 
 -- the second one is dropped
-pub second-makes : (setup : Setup) (me : NodeId) (held held' : Held) (log : Log) (kept_is : held.archived.kept ≡ kept_of log) (ballot : Ballot) (x : Session) (signs : List Sign) (old new : Draft) → signs ≡ Dropped Repeat ∷ []
-    → held' ≡ with_pool held (changed (digest_of setup x) (with_ballot ballot) held.pool) → IsThere ballot.sender true (found (digest_of setup x) held.pool) → Tells (Dropped Repeat ∷ []) old new → Leaves setup me signs (bench_of log held) held' old new
-second-makes setup me held held' log kept_is ballot x signs old new is left t tells =
+pub second-makes : (setup : Setup) (held held' : Held) (log : Log) (kept_is : held.archived.kept ≡ kept_of log) (ballot : Ballot) (x : Session) (signs : List Sign) (old new : Draft) → signs ≡ Dropped Repeat ∷ []
+    → held' ≡ with_pool held (changed (digest_of setup x) (with_ballot ballot) held.pool) → IsThere ballot.sender true (found (digest_of setup x) held.pool) → Tells (Dropped Repeat ∷ []) old new → Leaves setup held signs (bench_of log held) held' old new
+second-makes setup held held' log kept_is ballot x signs old new is left t tells =
     let same : held' ≡ held = left ∙ ap (with_pool held) (changed-again (digest_of setup x) ballot held.pool t) in
-    let P : Held → Type 0 = λ h. Leaves setup me signs (bench_of log held) h old new in
-    subst P (sym same) (stays setup me signs held log old new kept_is (dropped-makes setup me (bench_of log held) signs Repeat old new is tells))
+    let P : Held → Type 0 = λ h. Leaves setup held signs (bench_of log held) h old new in
+    subst P (sym same) (stays setup signs held log old new kept_is (dropped-makes setup held.me (bench_of log held) signs Repeat old new is tells))
 
 -- a session enters with a vote
-module _ (setup : Setup) (me : NodeId) (held held' : Held) (log : Log) (kept_is : held.archived.kept ≡ kept_of log) (ballot : Ballot) (x : Session) (answer : Answer)
+module _ (setup : Setup) (held held' : Held) (log : Log) (kept_is : held.archived.kept ≡ kept_of log) (ballot : Ballot) (x : Session) (answer : Answer)
     (none : found (digest_of setup x) held.pool ≡ None) (approved : is_approved setup x ≡ true) (answered : answer ≡ entered_in held.pool) (left : held' ≡ with_pool held (pool_entered_with (digest_of setup x) x ballot held.pool)) where
   abbrev signs : List Sign
   signs = guarded (is_approved setup x) Denied (guarded (has_room held.pool) Full (Took ballot.sender ballot.vote x ∷ Entered x ∷ []))
 
-  pub new-voted : (draft : Draft) → answer ≡ enter.New → Leaves setup me signs (bench_of log held) held' draft draft
+  pub new-voted : (draft : Draft) → answer ≡ enter.New → Leaves setup held signs (bench_of log held) held' draft draft
   new-voted draft new =
       let room : has_room held.pool ≡ true = room-new held.pool (sym answered ∙ new) in
       let d : Bytes = digest_of setup x in
       let grown : pool_entered_with d x ballot held.pool ≡ changed d (with_ballot ballot) (pushed d x false held.pool) = rw room refl in
       let there : entered d x held.pool ≡ pushed d x false held.pool = ap (λ (o : Option Pooled). cond (is_some o) held.pool (pushed d x false held.pool)) none in
-      let P : List Sign → Type 0 = λ made. Leaves setup me made (bench_of log held) held' draft draft in
+      let P : List Sign → Type 0 = λ made. Leaves setup held made (bench_of log held) held' draft draft in
       let takes : signs ≡ Took ballot.sender ballot.vote x ∷ Entered x ∷ [] = rw (approved, room) refl in
       subst P (sym takes) (record {
         log = log;
         kept_is = ap (λ (h : Held). h.archived.kept) left ∙ kept_is;
+        config_is = ap (λ (h : Held). h.config) left;
+        me_is = ap (λ (h : Held). h.me) left;
         makes = record {
           tells = record { notes = (tells-nothing draft).notes; said = (tells-nothing draft).said };
           bench_is = ap (bench_of log) left ∙ ap (λ (p : Pool). record (bench_of log held) { pool = p }) (grown ∙ ap (changed d (with_ballot ballot)) (sym there));
         };
       })
 
-  pub full-voted : (old new : Draft) → answer ≡ enter.Full → Tells (Dropped Full ∷ []) old new → Leaves setup me signs (bench_of log held) held' old new
+  pub full-voted : (old new : Draft) → answer ≡ enter.Full → Tells (Dropped Full ∷ []) old new → Leaves setup held signs (bench_of log held) held' old new
   full-voted old new is tells =
       let room : has_room held.pool ≡ false = room-full held.pool (sym answered ∙ is) in
       let same : held' ≡ held = left ∙ ap (λ b. with_pool held (cond b (changed (digest_of setup x) (with_ballot ballot) (pushed (digest_of setup x) x false held.pool)) held.pool)) room in
       let full : signs ≡ Dropped Full ∷ [] = rw (approved, room) refl in
-      let P : Held → Type 0 = λ h. Leaves setup me signs (bench_of log held) h old new in
-      subst P (sym same) (stays setup me signs held log old new kept_is (dropped-makes setup me (bench_of log held) signs Full old new full tells))
+      let P : Held → Type 0 = λ h. Leaves setup held signs (bench_of log held) h old new in
+      subst P (sym same) (stays setup signs held log old new kept_is (dropped-makes setup held.me (bench_of log held) signs Full old new full tells))
 
 pub denied-voted : (setup : Setup) (me : NodeId) (b : Bench) (ballot : Ballot) (x : Session) (old new : Draft) → is_approved setup x ≡ false → Tells (Dropped Denied ∷ []) old new
     → Makes setup me (guarded (is_approved setup x) Denied (guarded (has_room b.pool) Full (Took ballot.sender ballot.vote x ∷ Entered x ∷ []))) b b old new

@@ -1,7 +1,5 @@
 -- What calls of the table and the pool make, at the setup of any deployment that the node may be of.
 use Rattle.std.specs.Prelude.{◌≡◌, Bool, List, Result, OnOk}
-use Rattle.cs_base.specs.declared.config.Config.{Config}
-use Rattle.cs_base.specs.declared.node_id.NodeId.{NodeId}
 use Rattle.cs_tx_value.specs.declared.object.Object.{Object}
 use Rattle.cs_tx_form.specs.declared.transaction.Tx.{Tx}
 use Rattle.cs_checkpoint.specs.Chain.{Log, kept_of, AtItsLog}
@@ -13,21 +11,19 @@ use Rattle.cs_sbac.specs.Held.{Held, bench_of}
 use Rattle.cs_node.specs.declared.draft.Draft.{Draft}
 use Rattle.cs_node.specs.Steps.{Makes}
 
--- it holds at the setup of every deployment with this configuration, whatever its genesis and its judge
-abbrev pub AtEverySetup : Config → (Setup → Type 0) → Type 0
-AtEverySetup config Holds = (genesis : List Object) (approves : Tx → Bool) → Holds (deployed config genesis approves)
-
--- These signs were made of a bench, and what is held then keeps the bench behind them.
-pub record Leaves (setup : Setup) (me : NodeId) (signs : List Sign)
-    (old : Bench) (held : Held) (draft draft' : Draft) : Type 0 where
+-- These signs were made of a bench: what is held then keeps the bench behind them, the configuration and the name.
+pub record Leaves (setup : Setup) (held : Held) (signs : List Sign)
+    (old : Bench) (held' : Held) (draft draft' : Draft) : Type 0 where
   pub log : Log
-  pub kept_is : held.archived.kept ≡ kept_of log
-  pub makes : Makes setup me signs old (bench_of log held) draft draft'
+  pub kept_is : held'.archived.kept ≡ kept_of log
+  pub config_is : held'.config ≡ held.config
+  pub me_is : held'.me ≡ held.me
+  pub makes : Makes setup held.me signs old (bench_of log held') draft draft'
 
 -- A call with this outcome, unless memory ran out, made the signs that a node with such a judge makes of what it held.
 abbrev pub Does : {A E : Type 0} → (Tx → Bool) → Held → Held → Draft → Draft → Result A E
     → (Setup → Bench → List Sign) → Type 0
 Does {A} {E} approves held held' draft draft' result signs =
     (genesis : List Object) → AtItsLog held.archived.kept (λ log.
-    OnOk result (Leaves (deployed held.config genesis approves) held.me
+    OnOk result (Leaves (deployed held.config genesis approves) held
     (signs (deployed held.config genesis approves) (bench_of log held)) (bench_of log held) held' draft draft'))

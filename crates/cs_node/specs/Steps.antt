@@ -2,6 +2,7 @@
 use Rattle.std.specs.Prelude.{◌≡◌, ℕ, ◌-◌, ◌%◌, ◌<◌, ◌^◌, ◌==◌, Bool, true, false, if◌then◌else◌, List, [], ◌∷◌, ◌++◌, Option, Some, None}
 use Rattle.cs_base.specs.declared.node_id.NodeId.{NodeId}
 use Rattle.cs_order.specs.Deeds.{Cut, Member, did}
+use Rattle.cs_tx_form.specs.declared.limits.TheConstants.{COVERED}
 use Rattle.cs_checkpoint.specs.Chain.{kept_slots}
 use Rattle.cs_node_state.specs.Setup.{Setup}
 use Rattle.cs_node_state.specs.Bench.{Bench}
@@ -31,7 +32,7 @@ pub record Marks {M : Type 0} (site : Site M) (marks : List (Mark M)) (v : View 
 
 -- a member that has chosen so many slots: after every 16th it gives up those before the last 1,024
 abbrev pub cut_at : {M : Type 0} → ℕ → Member M → Member M
-cut_at {M} slots h = if slots % 16 == 0 then did (Cut (slots - kept_slots)) h else h
+cut_at {M} slots h = if slots % COVERED == 0 then did (Cut (slots - kept_slots)) h else h
 
 -- one turn: the marks of the rule that applies, or nothing
 abbrev pub TurnDone : {M : Type 0} → Site M → Option (List (Mark M)) → View M → Bool

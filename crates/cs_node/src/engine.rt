@@ -22,6 +22,7 @@ use cs_node_carried::{Carried, propose_entry, read_entry};
 use cs_order::{May, Order, Outgoing, Proposed, Step};
 use cs_sbac::Sbac;
 use cs_tx::Judge;
+use cs_tx_form::COVERED;
 use cs_wire::{Input, Keys};
 use std::alloc::Global;
 
@@ -260,7 +261,7 @@ fn cut_log<O: Order>(order: &mut O)
     ensures rest { O.rest order.new ≤ O.rest order.old }
 {
     let open = order.open_slot();
-    if open % 16 == 0 {
+    if open % COVERED == 0 {
         order.cut(open.saturating_sub(KEPT_SLOTS));
     }
 }

@@ -1,8 +1,7 @@
 //! Execution of what was chosen.
 ghost use Rattle.std.specs.Prelude.{◌≡◌, IfOk, OnOk, Bool};
 ghost use Rattle.cs_tx_form.specs.declared.transaction.Tx.{Tx};
-ghost use Rattle.cs_tx_form.specs.Session.{SessionFits, EntryFits};
-ghost use Rattle.cs_node_state.specs.Setup.{session_in};
+ghost use Rattle.cs_tx_form.specs.Session.{EntryFits};
 ghost use Rattle.cs_node_rules.specs.Signs.{execution_signs};
 ghost use Rattle.cs_node.specs.Notes.{DraftFits};
 ghost use Rattle.cs_node.specs.Proposals.{entry_in};
@@ -15,20 +14,8 @@ use cs_checkpoint::Leaf;
 use cs_node_carried::{read_entry, void_entry};
 use cs_order::Proposed;
 use cs_sbac::Sbac;
-use cs_tx::{Entry, Session};
+use cs_tx::Entry;
 use std::alloc::Global;
-
-/// The session of an entry.
-fn session_in(entry: &Entry) -> &Session
-    requires { EntryFits entry.now }
-    ensures session { result.now ≡ session_in entry.now }
-    ensures fits { SessionFits result.now }
-{
-    match entry {
-        Entry::Prepare(session) => session,
-        Entry::Decide(_, session) => session,
-    }
-}
 
 /// What was chosen, as an entry. Bytes that are none stand for one that changes nothing.
 fn chosen(alloc: Global, proposed: &Proposed) -> Result<Entry, Memory>
@@ -54,12 +41,10 @@ pub fn execute(
         Does approves sbac.old sbac.new draft.old draft.new result
         (λ setup b. execution_signs setup sbac.old.me b slot (entry_in proposed.now)) }
     ensures fits { DraftFits draft.old → OnOk result (DraftFits draft.new) }
-    ensures config { OnOk result (sbac.new.config ≡ sbac.old.config) }
-    ensures me { OnOk result (sbac.new.me ≡ sbac.old.me) }
 {
     let entry = chosen(alloc, proposed)?;
     let outcome = sbac.execute(alloc, &entry)?;
-    say_vote(alloc, sbac, draft, session_in(&entry), outcome.voted)?;
+    say_vote(alloc, sbac, draft, entry.session(), outcome.voted)?;
     let leaf = Leaf {
         slot: sbac.slots(),
         entry,

@@ -1,5 +1,5 @@
 //! What other members tell of their checkpoints.
-ghost use Rattle.std.specs.Prelude.{◌≡◌, OnOk, Bool};
+ghost use Rattle.std.specs.Prelude.{OnOk, Bool};
 ghost use Rattle.cs_tx_form.specs.declared.transaction.Tx.{Tx};
 ghost use Rattle.cs_node_rules.specs.Signs.{head_signs};
 ghost use Rattle.cs_node.specs.Notes.{DraftFits};
@@ -23,8 +23,6 @@ pub fn hear_head(
         Does approves sbac.old sbac.new draft.old draft.new result
         (λ setup b. head_signs setup sbac.old.me b sender checkpoint) }
     ensures fits { DraftFits draft.old → OnOk result (DraftFits draft.new) }
-    ensures config { OnOk result (sbac.new.config ≡ sbac.old.config) }
-    ensures me { OnOk result (sbac.new.me ≡ sbac.old.me) }
 {
     if !is_other_member(sbac.config(), sbac.me(), sender) {
         return draft.drop_it(Cause::Role);

@@ -10,7 +10,6 @@ ghost use Rattle.cs_node.specs.Steps.{Marks};
 ghost use Rattle.cs_node.specs.Cores.{Leads, LeadsBy};
 
 use crate::asks::{ask, ask_proof};
-use crate::causes::cause_of;
 use crate::draft::Draft;
 use crate::engine::Engine;
 use crate::handing::hand_out;
@@ -46,7 +45,7 @@ impl<O: Carried, J: Judge + Drop> Engine<O, J> {
     {
         match read(alloc, keys, bytes)? {
             Ok((sender, message)) => self.hear(alloc, draft, sender, message)?,
-            Err(error) => draft.drop_it(cause_of(error))?,
+            Err(error) => draft.drop_it(Cause::Unopened(error))?,
         }
         Ok(())
     }
@@ -66,9 +65,10 @@ impl<O: Carried, J: Judge + Drop> Engine<O, J> {
     {
         match message {
             Message::Submit(session) => {
-                submit(alloc, &mut self.sbac, &self.judge, draft, sender, session)?;
-                Ok(())
+                submit(alloc, &mut self.sbac, &self.judge, draft, sender, session)
             }
+            Message::Ask(key) => ask(alloc, &self.sbac, draft, sender, key),
+            Message::AskProof { slot } => ask_proof(alloc, &self.sbac, draft, sender, slot),
             Message::Voted {
                 vote,
                 asks,
@@ -83,59 +83,15 @@ impl<O: Carried, J: Judge + Drop> Engine<O, J> {
                     ballot,
                     asks,
                     session,
-                )?;
-                Ok(())
-            }
-            Message::Want { slot } => self.hear_want(alloc, draft, sender, slot),
-            Message::Ask(key) => {
-                ask(alloc, &self.sbac, draft, sender, key)?;
-                Ok(())
-            }
-            Message::AskProof { slot } => {
-                ask_proof(alloc, &self.sbac, draft, sender, slot)?;
-                Ok(())
-            }
-            Message::Propose { slot, view, entry } => {
-                self.hear_member(alloc, draft, sender, Message::Propose { slot, view, entry })
-            }
-            Message::Echo { slot, view, digest } => {
-                self.hear_member(alloc, draft, sender, Message::Echo { slot, view, digest })
-            }
-            Message::Confirm { slot, view, digest } => {
-                self.hear_member(
-                    alloc,
-                    draft,
-                    sender,
-                    Message::Confirm { slot, view, digest },
                 )
             }
-            Message::Change { slot, view, change } => {
-                self.hear_member(alloc, draft, sender, Message::Change { slot, view, change })
-            }
-            Message::Done { slot, entry } => {
-                self.hear_member(alloc, draft, sender, Message::Done { slot, entry })
-            }
-            Message::Decided { .. } => self.refuse(draft),
-            Message::Told { .. } => self.refuse(draft),
-            Message::Head(checkpoint) => {
-                hear_head(&mut self.sbac, draft, sender, checkpoint)?;
-                Ok(())
-            }
-            Message::Proof(_) => self.refuse(draft),
+            Message::Want { slot } => self.hear_want(alloc, draft, sender, slot),
+            Message::Head(checkpoint) => hear_head(&mut self.sbac, draft, sender, checkpoint),
+            other => self.hear_member(alloc, draft, sender, other),
         }
     }
 
-    /// Drops what its sender may not say.
-    fn refuse(&self, draft: &mut Draft) -> Result<(), Memory>
-        ensures marks { LeadsBy O.stands J.is_approved O.rules O.carrier self.now self.now
-            draft.old draft.new result (λ site v. drops Role) }
-        ensures fits { DraftFits draft.old → OnOk result (DraftFits draft.new) }
-    {
-        draft.drop_it(Cause::Role)?;
-        Ok(())
-    }
-
-    /// Another member says something for the order.
+    /// Another member says something for the order, or what its sender may not say is dropped.
     fn hear_member(
         &mut self,
         alloc: Global,

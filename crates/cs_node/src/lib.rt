@@ -2,7 +2,6 @@
 #![tactic(auto)]
 
 mod asks;
-mod causes;
 mod draft;
 mod engine;
 mod executions;

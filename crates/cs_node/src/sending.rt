@@ -1,9 +1,7 @@
 //! What a node says of its own accord.
-ghost use Rattle.std.specs.Prelude.{◌≡◌, ◌<◌, ◌^◌, ◌∷◌, [], true, Some, IsSome, IfOk, OnOk};
+ghost use Rattle.std.specs.Prelude.{◌≡◌, ◌<◌, ◌∷◌, [], true, Some, IsSome, IfOk, OnOk};
 ghost use Rattle.cs_tx_form.specs.declared.vote.Vote.TheVariants.{Commit};
 ghost use Rattle.cs_tx_form.specs.Session.{SessionFits};
-ghost use Rattle.cs_tx_value.specs.Object.{DigestFits};
-ghost use Rattle.cs_tx_form.specs.Log.{CheckpointFits};
 ghost use Rattle.cs_wire_message.specs.declared.message.Message.TheVariants as message;
 ghost use Rattle.cs_wire_message.specs.Message.{IsSlot};
 ghost use Rattle.cs_node_state.specs.Setup.{concerned};
@@ -11,14 +9,15 @@ ghost use Rattle.cs_node_rules.specs.Members.{others};
 ghost use Rattle.cs_node_rules.specs.Signs.{sends, vote_signs, headed_signs, asked_again};
 ghost use Rattle.cs_sbac.specs.Held.{IsFit};
 ghost use Rattle.cs_node.specs.Notes.{Tells, DraftFits};
-ghost use Rattle.cs_node.specs.Signing.{AtEverySetup};
+ghost use Rattle.cs_node_pool.specs.Deployed.{AtEverySetup};
 
 use crate::draft::Draft;
 use crate::members::others;
 use cs_base::{Memory, NodeId, Sequence};
 use cs_checkpoint::{Checkpoint, checkpoint_head};
 use cs_sbac::Sbac;
-use cs_tx::{Digest, Encoded, Session, Vote};
+use cs_tx::{Encoded, Session, Vote};
+use cs_tx_form::checkpoint_fits;
 use cs_wire_message::Message;
 use std::alloc::Global;
 
@@ -110,27 +109,6 @@ pub fn ask_again(alloc: Global, sbac: &Sbac, draft: &mut Draft) -> Result<(), Me
     }
     Ok(())
 }
-
-// A checkpoint that was made is within all limits: its type has them.
-fn checkpoint_fits(checkpoint: &Checkpoint)
-    ensures { CheckpointFits checkpoint.now }
-{
-    digest_fits(&checkpoint.previous);
-    digest_fits(&checkpoint.leaf_root);
-    digest_fits(&checkpoint.table_root);
-    numbers_fit(checkpoint.shard, checkpoint.number);
-}
-
-fn digest_fits(digest: &Digest)
-    ensures { DigestFits digest.now }
-{
-    let _bytes = digest.as_slice();
-}
-
-fn numbers_fit(shard: u16, number: u64)
-    ensures shard { shard < 2 ^ 16 }
-    ensures number { number < 2 ^ 64 }
-{}
 
 /// Notes a checkpoint, if one was made, and tells it to the other members of the shard.
 pub fn say_made(

@@ -30,8 +30,6 @@ fn enter<J: Judge>(
     ensures made { Does (J.is_approved judge.now) sbac.old sbac.new draft.old draft.new result
         (λ setup b. entering_signs setup b session) }
     ensures fits { DraftFits draft.old → OnOk result (DraftFits draft.new) }
-    ensures config { OnOk result (sbac.new.config ≡ sbac.old.config) }
-    ensures me { OnOk result (sbac.new.me ≡ sbac.old.me) }
 {
     if sbac.pooled(&digest)? {
         return draft.drop_it(Cause::Repeat);
@@ -58,8 +56,6 @@ pub fn submit<J: Judge>(
     ensures made { Does (J.is_approved judge.now) sbac.old sbac.new draft.old draft.new result
         (λ setup b. submit_signs setup sbac.old.me.shard b sender session) }
     ensures fits { DraftFits draft.old → OnOk result (DraftFits draft.new) }
-    ensures config { OnOk result (sbac.new.config ≡ sbac.old.config) }
-    ensures me { OnOk result (sbac.new.me ≡ sbac.old.me) }
 {
     if !sender.is_client() {
         return draft.drop_it(Cause::Role);

@@ -38,8 +38,6 @@ fn enter_voted<J: Judge>(
         (λ setup b. let signs = Took ballot.sender ballot.vote session ∷ Enters session ∷ [] in
         guarded (is_approved setup session) Denied (guarded (has_room b.pool) Full signs)) }
     ensures fits { DraftFits draft.old → OnOk result (DraftFits draft.new) }
-    ensures config { OnOk result (sbac.new.config ≡ sbac.old.config) }
-    ensures me { OnOk result (sbac.new.me ≡ sbac.old.me) }
 {
     if !judge.approves(alloc, &session.tx)? {
         return draft.drop_it(Cause::Denied);
@@ -70,8 +68,6 @@ fn answer_vote<J: Judge>(
         (λ setup b. let on_record = noted setup sbac.old.me.shard b.table session in
         asking_signs setup b ballot.sender ballot.vote asks session on_record) }
     ensures fits { DraftFits draft.old → OnOk result (DraftFits draft.new) }
-    ensures config { OnOk result (sbac.new.config ≡ sbac.old.config) }
-    ensures me { OnOk result (sbac.new.me ≡ sbac.old.me) }
 {
     if !asks {
         return draft.drop_it(Cause::Unasked);
@@ -103,8 +99,6 @@ pub fn hear_vote<J: Judge>(
     ensures made { Does (J.is_approved judge.now) sbac.old sbac.new draft.old draft.new result
         (λ setup b. voted_signs setup sbac.old.me.shard b ballot.sender ballot.vote asks session) }
     ensures fits { DraftFits draft.old → OnOk result (DraftFits draft.new) }
-    ensures config { OnOk result (sbac.new.config ≡ sbac.old.config) }
-    ensures me { OnOk result (sbac.new.me ≡ sbac.old.me) }
 {
     if ballot.sender.is_client() {
         return draft.drop_it(Cause::Role);

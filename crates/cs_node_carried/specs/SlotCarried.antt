@@ -42,20 +42,12 @@ abbrev pub change_read : Change → OrderChange
 change_read change = record { prepared = change.prepared; echoed = change.echoed }
 
 abbrev pub slot_read : Message → Option OrderMessage
-slot_read (message.Submit x) = None
 slot_read (message.Propose slot view entry) = Some (order.Propose slot view (proposed_of entry))
 slot_read (message.Echo slot view digest) = Some (order.Echo slot view digest)
 slot_read (message.Confirm slot view digest) = Some (order.Confirm slot view digest)
 slot_read (message.Change slot view change) = Some (order.Change slot view (change_read change))
-slot_read (message.Voted vote asks x) = None
-slot_read (message.Decided digest accepted) = None
-slot_read (message.Want slot) = None
 slot_read (message.Done slot entry) = Some (order.Done slot (proposed_of entry))
-slot_read (message.Ask key) = None
-slot_read (message.Told key state) = None
-slot_read (message.Head checkpoint) = None
-slot_read (message.AskProof slot) = None
-slot_read (message.Proof proof) = None
+slot_read said = None
 
 abbrev pub slot_carrier : Carrier OrderMessage
 slot_carrier = record { written = slot_written; read = slot_read }

@@ -106,15 +106,7 @@ impl Carried for SlotOrder {
                 let entry = propose_entry(alloc, &entry)?;
                 Ok(Some(OrderMessage::Done { slot, entry }))
             }
-            Message::Submit(_) => Ok(None),
-            Message::Voted { .. } => Ok(None),
-            Message::Decided { .. } => Ok(None),
-            Message::Want { .. } => Ok(None),
-            Message::Ask(_) => Ok(None),
-            Message::Told { .. } => Ok(None),
-            Message::Head(_) => Ok(None),
-            Message::AskProof { .. } => Ok(None),
-            Message::Proof(_) => Ok(None),
+            _ => Ok(None),
         }
     }
 }

@@ -5,11 +5,12 @@ use Rattle.std.proofs.lemmas.Bool.{cond_both, eqb-true, eqb-false}
 use Rattle.std.proofs.Math.Nat.{max-eq_left}
 use Rattle.std.proofs.lemmas.List.{length_push}
 use Rattle.cs_base.specs.declared.node_id.NodeId.{NodeId}
-use Rattle.cs_base.specs.NodeId.{is_client, same_name}
+use Rattle.cs_base.specs.NodeId.{same_name}
 use Rattle.cs_tx_form.specs.declared.entry.Entry.{Entry}
 use Rattle.cs_tx_form.specs.Log.{leaf_encoding}
 use Rattle.cs_wire_message.specs.declared.message.Message.{Message}
 use Rattle.cs_wire_message.specs.declared.message.Message.TheVariants as message
+use Rattle.cs_wire_message.specs.Classes.{Class, OfOrder, class_of}
 use Rattle.cs_order.specs.declared.proposed.Proposed.{Proposed}
 use Rattle.cs_order.specs.declared.answers.Outgoing.{Outgoing}
 use Rattle.cs_order.specs.declared.answers.Took.{Took as Answer}
@@ -21,23 +22,22 @@ use Rattle.cs_order.specs.declared.answers.May.TheVariants.{No, Free, Only}
 use Rattle.cs_order.specs.Deeds.{Member, Deed, Advanced, Echoed, Proposing, Ticked, Resent, Replied, Cut, did, sent_by, chosen_in, kept_from}
 use Rattle.cs_wire.specs.Opened.{Opened}
 use Rattle.cs_checkpoint.specs.Chain.{Log, with_slot, cut_slot, kept_slots, made_last}
-use Rattle.cs_check_rules.specs.Proofs.{proof_of}
 use Rattle.cs_check_rules.specs.Root.{root_under}
 use Rattle.cs_node_rules.specs.declared.cause.Cause.{Cause}
 use Rattle.cs_node_rules.specs.declared.cause.Cause.TheVariants as cause
-use Rattle.cs_node_state.specs.Setup.{session_in}
+use Rattle.cs_tx_form.specs.Session.{session_in}
+use Rattle.cs_node_rules.proofs.Heard.{heard}
 use Rattle.cs_node_state.specs.Admission.{due}
 use Rattle.cs_node_state.specs.Bench.{executed, slot_executed, next_leaf}
-use Rattle.cs_node_rules.specs.Net.{cause_of}
 use Rattle.cs_node_rules.specs.Members.{is_other_member, others}
-use Rattle.cs_node_rules.specs.Signs.{Sign, Dropped, Viewed, bench_step, submit_signs, ask_signs, voted_signs, sends, ran_signs, headed_signs, execution_signs, proof_signs, ask_proof_signs, head_signs, asked_again}
+use Rattle.cs_node_rules.specs.Signs.{Sign, Dropped, Viewed, bench_step, sends, ran_signs, headed_signs, execution_signs, asked_again, said_signs}
 use Rattle.cs_node_rules.specs.Site.{Input, Datagram, Tick, Mark, In, Ordered, Plain, Site, View, start_view, view_after, plain}
-use Rattle.cs_node_rules.specs.Trail.{handed, with_deed, entered_view, moving, cut_marks, admits_proposed, due_marks, candidate_marks, propose_marks, echo_marks, step_marks, turn_marks, continued, settled, taking_marks, member_marks, reply_marks, want_marks, message_marks, opened_marks, again_marks, waiting_marks, tick_marks, input_marks, event_marks}
+use Rattle.cs_node_rules.specs.Trail.{handed, with_deed, entered_view, moving, cut_marks, admits_proposed, due_marks, candidate_marks, propose_marks, echo_marks, step_marks, turn_marks, continued, settled, taking_marks, member_marks, reply_marks, want_marks, class_marks, message_marks, opened_marks, again_marks, waiting_marks, tick_marks, input_marks, event_marks}
 use Rattle.cs_node_rules.specs.World.{Happening, IsLife, trail_of, view_of}
 use Rattle.cs_node_law.specs.Made.{CutsAreAlike}
 use Rattle.cs_node_law.proofs.Views.{view_after-append, member-said}
-use Rattle.cs_node_law.proofs.Keeping.{KeepsLog, AllKeepLog, keep-append, keep-guarded, keep-sends, keep-submit, keep-ask, keep-voted, keep-proof, keep-head, keep-headed, keep-again, keep-handed, log-said, log-ahead, ran-log}
-use Rattle.cs_node_law.proofs.Played.{name-same}
+use Rattle.cs_node_law.proofs.Keeping.{KeepsLog, AllKeepLog, keep-append, keep-sends, keep-headed, keep-again, keep-handed, log-said, log-ahead, ran-log, keep-heard}
+use Rattle.cs_node_law.proofs.Names.{name-same}
 
 -- ---- marks that neither choose nor cut nor execute
 
@@ -274,25 +274,19 @@ module _ {M : Type 0} (site : Site M) where
     stay-want sender slot =
         cond_both (is_other_member site.setup.f v.me sender) _ _ (λ marks. AllStay marks) (λ e. stay-reply slot sender.index (site.machine.replying v.member slot sender.index)) (λ e. stay-drop cause.Role)
 
+    stay-class : (sender : NodeId) (said : Message) (class : Class) → AllStay (class_marks site v sender said class)
+    stay-class sender said OfOrder = stay-member sender (site.carrier.read said)
+    stay-class sender said class =
+        let signs = said_signs site.setup v.me v.bench sender said in
+        stay-plain M signs (keep-heard sender signs (heard site.setup v.me v.bench sender said))
+
     stay-message : (sender : NodeId) (said : Message) → AllStay (message_marks site v sender said)
-    stay-message sender (message.Submit x) = stay-plain M (submit_signs site.setup v.me.shard v.bench sender x) (keep-submit site.setup v.me.shard v.bench sender x)
-    stay-message sender (message.Propose slot view entry) = stay-member sender (site.carrier.read (message.Propose slot view entry))
-    stay-message sender (message.Echo slot view digest) = stay-member sender (site.carrier.read (message.Echo slot view digest))
-    stay-message sender (message.Confirm slot view digest) = stay-member sender (site.carrier.read (message.Confirm slot view digest))
-    stay-message sender (message.Change slot view change) = stay-member sender (site.carrier.read (message.Change slot view change))
-    stay-message sender (message.Voted vote asks x) = stay-plain M (voted_signs site.setup v.me.shard v.bench sender vote asks x) (keep-voted site.setup v.me.shard v.bench sender vote asks x)
-    stay-message sender (message.Decided digest accepted) = stay-drop cause.Role
     stay-message sender (message.Want slot) = stay-want sender slot
-    stay-message sender (message.Done slot entry) = stay-member sender (site.carrier.read (message.Done slot entry))
-    stay-message sender (message.Ask asked) = stay-plain M (ask_signs site.setup v.me.shard v.bench sender asked) (keep-ask site.setup v.me.shard v.bench sender asked)
-    stay-message sender (message.Told key state) = stay-drop cause.Role
-    stay-message sender (message.Head checkpoint) = stay-plain M (head_signs site.setup v.me v.bench sender checkpoint) (keep-head site.setup v.me v.bench sender checkpoint)
-    stay-message sender (message.AskProof slot) = stay-plain M (ask_proof_signs v.bench sender slot) (keep-guarded (is_client sender) cause.Role (proof_signs sender (proof_of v.bench.log slot)) (keep-proof sender (proof_of v.bench.log slot)))
-    stay-message sender (message.Proof proof) = stay-drop cause.Role
+    stay-message sender said = stay-class sender said (class_of said)
 
     stay-opened : (o : Opened) → AllStay (opened_marks site v o)
     stay-opened (Ok said) = stay-message said.0 said.1
-    stay-opened (Err error) = stay-drop (cause_of error)
+    stay-opened (Err error) = stay-drop (cause.Unopened error)
 
     stay-tick : AllStay (tick_marks site v)
     stay-tick =

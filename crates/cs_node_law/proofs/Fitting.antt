@@ -10,7 +10,7 @@ use Rattle.cs_tx_value.specs.declared.object.Object.{Object}
 use Rattle.cs_tx_form.specs.declared.session.Session.{Session}
 use Rattle.cs_tx_form.specs.declared.entry.Entry.{Entry}
 use Rattle.cs_tx_form.specs.declared.entry.Entry.TheVariants.{Prepare, Decide}
-use Rattle.cs_tx_form.specs.Session.{SessionFits, entry_encoding, EntryFits}
+use Rattle.cs_tx_form.specs.Session.{SessionFits, entry_encoding, EntryFits, session_in}
 use Rattle.cs_tx_form.specs.Reading.{entry_at}
 use Rattle.cs_tx_form.specs.laws.Session.{entry_form}
 use Rattle.cs_wire_message.specs.declared.message.Message.{Message}
@@ -27,7 +27,6 @@ use Rattle.cs_order.specs.Law.{Holds}
 use Rattle.cs_ledger.specs.Ledger.{Bytes, IsIn}
 use Rattle.cs_ledger.specs.Session as Seen
 use Rattle.cs_ledger.proofs.Basics.{in_either}
-use Rattle.cs_node_state.specs.Setup.{session_in}
 use Rattle.cs_node_rules.specs.Net.{net_of}
 use Rattle.cs_node_rules.specs.Signs.{Dropped, Took, Entered, Viewed, Did, Headed, Kept, Sent}
 use Rattle.cs_node_rules.specs.Site.{Input, Datagram, Tick, Mark, In, Ordered, Plain, Carrier, Site, signs_of}
@@ -65,34 +64,14 @@ sessions-fit (message.Voted vote asks y) fits x (inl e) = subst SessionFits (sym
 sessions-fit (message.Voted vote asks y) fits x (inr none) = absurd none
 sessions-fit (message.Done slot entry) fits x (inl e) = subst SessionFits (sym e) (session-fits entry fits.1)
 sessions-fit (message.Done slot entry) fits x (inr none) = absurd none
-sessions-fit (message.Echo slot view digest) fits x i = absurd i
-sessions-fit (message.Confirm slot view digest) fits x i = absurd i
-sessions-fit (message.Change slot view change) fits x i = absurd i
-sessions-fit (message.Decided digest accepted) fits x i = absurd i
-sessions-fit (message.Want slot) fits x i = absurd i
-sessions-fit (message.Ask asked) fits x i = absurd i
-sessions-fit (message.Told key state) fits x i = absurd i
-sessions-fit (message.Head checkpoint) fits x i = absurd i
-sessions-fit (message.AskProof slot) fits x i = absurd i
-sessions-fit (message.Proof proof) fits x i = absurd i
+sessions-fit said fits x i = absurd i
 
 pub entries-fit : (said : Message) → MessageFits said → (entry : Entry) → IsIn entry (entries_in said) → EntryFits entry
 entries-fit (message.Propose slot view other) fits entry (inl e) = subst EntryFits (sym e) fits.1.1
 entries-fit (message.Propose slot view other) fits entry (inr none) = absurd none
 entries-fit (message.Done slot other) fits entry (inl e) = subst EntryFits (sym e) fits.1
 entries-fit (message.Done slot other) fits entry (inr none) = absurd none
-entries-fit (message.Submit x) fits entry i = absurd i
-entries-fit (message.Echo slot view digest) fits entry i = absurd i
-entries-fit (message.Confirm slot view digest) fits entry i = absurd i
-entries-fit (message.Change slot view change) fits entry i = absurd i
-entries-fit (message.Voted vote asks x) fits entry i = absurd i
-entries-fit (message.Decided digest accepted) fits entry i = absurd i
-entries-fit (message.Want slot) fits entry i = absurd i
-entries-fit (message.Ask asked) fits entry i = absurd i
-entries-fit (message.Told key state) fits entry i = absurd i
-entries-fit (message.Head checkpoint) fits entry i = absurd i
-entries-fit (message.AskProof slot) fits entry i = absurd i
-entries-fit (message.Proof proof) fits entry i = absurd i
+entries-fit said fits entry i = absurd i
 
 -- an entry of a message, as it is proposed
 written-entry : (entries : List Entry) (p : Proposed) → Order.IsIn p (map proposed_of entries) → (entry : Entry) × (IsIn entry entries) × (p ≡ proposed_of entry)
@@ -268,18 +247,8 @@ module _ {M : Type 0} (machine : Machine M) (carrier : Carrier M) (config : Conf
         said-fits : AllMade At me t → (said : Message) → SaidMade At (view_at At me t) t to said → IsSpoken said
         said-fits made (message.Voted vote asks x) h = inl (known-fits t made bytes (all-fit t made bytes) x h.1)
         said-fits made (message.Want slot) h = inr (inl (slot, refl))
-        said-fits made (message.Submit x) h = absurd (no-client to node h.0)
-        said-fits made (message.Propose slot view entry) h = absurd (no-client to node h.0)
-        said-fits made (message.Echo slot view digest) h = absurd (no-client to node h.0)
-        said-fits made (message.Confirm slot view digest) h = absurd (no-client to node h.0)
-        said-fits made (message.Change slot view change) h = absurd (no-client to node h.0)
-        said-fits made (message.Decided digest accepted) h = absurd (no-client to node h.0)
-        said-fits made (message.Done slot entry) h = absurd (no-client to node h.0)
-        said-fits made (message.Ask asked) h = absurd (no-client to node h.0)
-        said-fits made (message.Told key state) h = absurd (no-client to node h.0)
         said-fits made (message.Head checkpoint) h = inr (inr (checkpoint, refl, h))
-        said-fits made (message.AskProof slot) h = absurd (no-client to node h.0)
-        said-fits made (message.Proof proof) h = absurd (no-client to node h.0)
+        said-fits made said h = absurd (no-client to node h.0)
 
         pub sent-fits : (said : Message) → AllMade At me (Plain (Sent to said) ∷ t) → IsSpoken said
         sent-fits said made =

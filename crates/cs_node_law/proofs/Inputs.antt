@@ -11,6 +11,7 @@ use Rattle.cs_tx_form.specs.declared.vote.Vote.{Vote}
 use Rattle.cs_tx_form.specs.declared.vote.Vote.TheVariants.{Commit}
 use Rattle.cs_wire_message.specs.declared.message.Message.{Message}
 use Rattle.cs_wire_message.specs.declared.message.Message.TheVariants as message
+use Rattle.cs_wire_message.specs.Classes.{Class, OfOrder, class_of}
 use Rattle.cs_order.specs.declared.answers.Outgoing.{Outgoing}
 use Rattle.cs_order.specs.declared.answers.Took.{Took as Answer}
 use Rattle.cs_order.specs.declared.answers.Took.TheVariants as took
@@ -19,22 +20,22 @@ use Rattle.cs_wire.specs.Opened.{Opened}
 use Rattle.cs_ledger.specs.Ledger.{Bytes, IsIn}
 use Rattle.cs_ledger.specs.Table as Shard
 use Rattle.cs_node_rules.specs.declared.cause.Cause.{Cause}
-use Rattle.cs_node_rules.specs.declared.cause.Cause.TheVariants.{Mine, Role, Malformed, Old, Far, Leader, Repeat, Unasked, Denied, Full, NoProof}
+use Rattle.cs_node_rules.specs.declared.cause.Cause.TheVariants.{Unopened, Mine, Role, Malformed, Old, Far, Leader, Repeat, Unasked, Denied, Full, NoProof}
+use Rattle.cs_node_rules.proofs.Heard.{heard}
 use Rattle.cs_node_state.specs.declared.pooled.Pooled.{Pooled}
 use Rattle.cs_node_state.specs.Setup.{digest_of, concerns, concerned, is_fit, is_approved}
 use Rattle.cs_node_state.specs.Admission.{due}
 use Rattle.cs_node_state.specs.Evidence.{has_voted}
 use Rattle.cs_node_rules.specs.Members.{is_other_member, others}
-use Rattle.cs_node_rules.specs.Net.{cause_of}
 use Rattle.cs_node_state.specs.Pool.{Pool, found, is_pooled, has_room}
 use Rattle.cs_node_state.specs.Asked.{told_at, key_asked}
 use Rattle.cs_node_state.specs.Bench.{decided, noted}
 use Rattle.cs_tx_form.specs.declared.proof.Proof.{Proof}
 use Rattle.cs_check_rules.specs.Heads.{is_news}
 use Rattle.cs_check_rules.specs.Proofs.{proof_of}
-use Rattle.cs_node_rules.specs.Signs.{Sign, Dropped, Took, Entered, Kept, Sent, guarded, proof_signs, submitted_signs, submit_signs, told_signs, ask_signs, asking_signs, ballot_signs, voted_signs, sends, vote_signs, asked_again}
+use Rattle.cs_node_rules.specs.Signs.{Sign, Dropped, Took, Entered, Kept, Sent, guarded, proof_signs, submitted_signs, submit_signs, told_signs, ask_signs, asking_signs, ballot_signs, voted_signs, sends, vote_signs, asked_again, said_signs}
 use Rattle.cs_node_rules.specs.Site.{Input, Datagram, Tick, Mark, In, Ordered, Plain, Site, View, view_after, plain, signs_of}
-use Rattle.cs_node_rules.specs.Trail.{with_deed, taking_marks, member_marks, reply_marks, want_marks, message_marks, opened_marks, again_marks, waiting_marks, tick_marks, input_marks, event_marks, settled}
+use Rattle.cs_node_rules.specs.Trail.{with_deed, taking_marks, member_marks, reply_marks, want_marks, class_marks, message_marks, opened_marks, again_marks, waiting_marks, tick_marks, input_marks, event_marks, settled}
 use Rattle.cs_node_rules.specs.Collisions.{sessions_in}
 use Rattle.cs_node_law.specs.Made.{view_at, has_given, IsKnown, StoodDecided, SignMade, IsOffered, IsVoted, IsTaken, IsLevel, ReadsProper, InputFits, EventIsMade}
 use Rattle.cs_node_law.proofs.Views.{view_after-append, me-same, member-is}
@@ -206,28 +207,28 @@ module _ {M : Type 0} (site : Site M) (me : NodeId) (t : List (Mark M)) (bytes :
         (λ other. replies slot sender.index _ refl)
         (λ not. dropped Role)
 
-    message-level : (sender : NodeId) (said : Message) → Says sender said → Marks (message_marks site Now sender said)
-    message-level sender (message.Submit x) e = submits sender x e
-    message-level sender (message.Ask asked) e = asks sender asked
-    message-level sender (message.AskProof slot) e = tested (is_client sender) Role _ (λ client. proved sender client (proof_of Now.bench.log slot))
-    message-level sender (message.Propose slot view entry) e = member sender (message.Propose slot view entry) _ e refl
-    message-level sender (message.Echo slot view digest) e = member sender (message.Echo slot view digest) _ e refl
-    message-level sender (message.Confirm slot view digest) e = member sender (message.Confirm slot view digest) _ e refl
-    message-level sender (message.Change slot view change) e = member sender (message.Change slot view change) _ e refl
-    message-level sender (message.Voted vote again x) e = votes sender vote again x e
-    message-level sender (message.Decided digest accepted) e = dropped Role
-    message-level sender (message.Want slot) e = wants sender slot
-    message-level sender (message.Done slot entry) e = member sender (message.Done slot entry) _ e refl
-    message-level sender (message.Told key state) e = dropped Role
-    message-level sender (message.Head checkpoint) e =
+    heard-level : (sender : NodeId) (said : Message) → Says sender said → Marks (plain (said_signs site.setup Now.me Now.bench sender said))
+    heard-level sender (message.Submit x) e = submits sender x e
+    heard-level sender (message.Ask asked) e = asks sender asked
+    heard-level sender (message.AskProof slot) e = tested (is_client sender) Role _ (λ client. proved sender client (proof_of Now.bench.log slot))
+    heard-level sender (message.Voted vote again x) e = votes sender vote again x e
+    heard-level sender (message.Head checkpoint) e =
         tested (is_other_member site.setup.f Now.me sender) Role _
         (λ other. tested (is_news sender.index checkpoint Now.bench.heads) Repeat _
         (λ new. sign-level site me Given (Kept sender.index checkpoint) (λ past. refl) given tt))
-    message-level sender (message.Proof proof) e = dropped Role
+    heard-level sender said e = dropped Role
+
+    class-level : (sender : NodeId) (said : Message) (class : Class) → Says sender said → Marks (class_marks site Now sender said class)
+    class-level sender said OfOrder e = member sender said _ e refl
+    class-level sender said class e = heard-level sender said e
+
+    message-level : (sender : NodeId) (said : Message) → Says sender said → Marks (message_marks site Now sender said)
+    message-level sender (message.Want slot) e = wants sender slot
+    message-level sender said e = class-level sender said (class_of said) e
 
     opened-level : (o : Opened) → site.net.opened Now.me bytes ≡ o → Marks (opened_marks site Now o)
     opened-level (Ok said) e = message-level said.0 said.1 e
-    opened-level (Err error) e = dropped (cause_of error)
+    opened-level (Err error) e = dropped (Unopened error)
 
 -- ---- time that has passed
 

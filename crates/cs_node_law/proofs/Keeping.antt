@@ -1,32 +1,23 @@
 -- What leaves the log of a node as it is: all signs but an execution.
-use Rattle.std.proofs.Common.{◌≡◌, ℕ, ◌==◌, Bool, true, false, not, ◌&&◌, List, [], ◌∷◌, ◌++◌, Option, Some, None, refl, ap, ◌∙◌}
+use Rattle.std.proofs.Common.{◌≡◌, ℕ, Bool, true, not, ◌&&◌, List, [], ◌∷◌, ◌++◌, Option, Some, None, refl, ap, ◌∙◌}
 use Rattle.std.proofs.lemmas.Bool.{cond_both}
-use Rattle.cs_base.specs.declared.key.Key.{Key}
-use Rattle.cs_base.specs.Key.{shard_of_key}
 use Rattle.cs_base.specs.declared.node_id.NodeId.{NodeId}
-use Rattle.cs_base.specs.NodeId.{is_client}
 use Rattle.cs_tx_form.specs.declared.session.Session.{Session}
 use Rattle.cs_tx_form.specs.declared.vote.Vote.{Vote}
 use Rattle.cs_tx_form.specs.declared.vote.Vote.TheVariants.{Commit}
 use Rattle.cs_tx_form.specs.declared.entry.Entry.{Entry}
 use Rattle.cs_tx_form.specs.declared.checkpoint.Checkpoint.{Checkpoint}
-use Rattle.cs_tx_form.specs.declared.proof.Proof.{Proof}
 use Rattle.cs_wire_message.specs.declared.message.Message.{Message}
 use Rattle.cs_wire_message.specs.declared.message.Message.TheVariants as message
 use Rattle.cs_order.specs.declared.answers.Outgoing.{Outgoing}
-use Rattle.cs_check_rules.specs.Heads.{is_news}
-use Rattle.cs_node_rules.specs.declared.cause.Cause.{Cause}
-use Rattle.cs_node_rules.specs.declared.cause.Cause.TheVariants as cause
-use Rattle.cs_node_state.specs.declared.pooled.Pooled.{Pooled}
-use Rattle.cs_node_state.specs.Setup.{Setup, digest_of, concerns, concerned, is_fit, is_approved}
-use Rattle.cs_node_state.specs.Evidence.{has_voted}
-use Rattle.cs_node_state.specs.Pool.{Pool, found, is_pooled, has_room}
-use Rattle.cs_node_state.specs.Bench.{Bench, Ran, slot_executed, decided, noted, told_of}
-use Rattle.cs_node_state.specs.Asked.{told_at, key_asked}
+use Rattle.cs_node_state.specs.Setup.{Setup, digest_of, concerned}
+use Rattle.cs_node_state.specs.Pool.{Pool, is_pooled}
+use Rattle.cs_node_state.specs.Bench.{Bench, Ran, slot_executed, told_of}
 use Rattle.cs_node_rules.specs.Members.{is_other_member, others}
-use Rattle.cs_node_rules.specs.Signs.{Sign, Dropped, Took, Entered, Did, Headed, Kept, Sent, bench_step, guarded, submitted_signs, submit_signs, told_signs, ask_signs, asking_signs, ballot_signs, voted_signs, sends, vote_signs, own_signs, entered_signs, ran_signs, headed_signs, proof_signs, head_signs, asked_again}
+use Rattle.cs_node_rules.specs.Signs.{Sign, Dropped, Took, Entered, Viewed, Did, Headed, Kept, Sent, bench_step, sends, vote_signs, own_signs, entered_signs, ran_signs, headed_signs, asked_again}
 use Rattle.cs_node_rules.specs.Site.{Mark, Site, View, view_after, plain}
 use Rattle.cs_node_rules.specs.Trail.{out_signs, handed}
+use Rattle.cs_node_rules.proofs.Heard.{AllHeard}
 use Rattle.cs_node_law.proofs.Silent.{plain-onto}
 
 -- the sign leaves the log
@@ -43,73 +34,24 @@ keep-append (sign ∷ a) b of_a of_b = (of_a.0, keep-append a b of_a.1 of_b)
 
 -- ---- signs
 
-keep-drop : (c : Cause) → AllKeepLog (Dropped c ∷ [])
-keep-drop c = (λ setup shard b. refl, tt)
-
 keep-sent : (to : NodeId) (said : Message) → AllKeepLog (Sent to said ∷ [])
 keep-sent to said = (λ setup shard b. refl, tt)
-
-pub keep-guarded : (holds : Bool) (c : Cause) (signs : List Sign) → AllKeepLog signs → AllKeepLog (guarded holds c signs)
-keep-guarded true c signs kept = kept
-keep-guarded false c signs kept = keep-drop c
 
 pub keep-sends : (names : List NodeId) (said : Message) → AllKeepLog (sends names said)
 keep-sends [] said = tt
 keep-sends (to ∷ names) said = keep-append (sends names said) (Sent to said ∷ []) (keep-sends names said) (keep-sent to said)
 
-keep-submitted : (setup : Setup) (b : Bench) (sender : NodeId) (x : Session) (o : Option Bool) → AllKeepLog (submitted_signs setup b sender x o)
-keep-submitted setup b sender x (Some accepted) = keep-sent sender (message.Decided (digest_of setup x) accepted)
-keep-submitted setup b sender x None =
-    let enters : List Sign = Entered x ∷ [] in
-    let with_room : List Sign = guarded (has_room b.pool) cause.Full enters in
-    keep-guarded (not (is_pooled (digest_of setup x) b.pool)) cause.Repeat (guarded (is_approved setup x) cause.Denied with_room)
-    (keep-guarded (is_approved setup x) cause.Denied with_room (keep-guarded (has_room b.pool) cause.Full enters (λ setup shard b. refl, tt)))
-
-pub keep-submit : (setup : Setup) (shard : ℕ) (b : Bench) (sender : NodeId) (x : Session) → AllKeepLog (submit_signs setup shard b sender x)
-keep-submit setup shard b sender x =
-    let signs : List Sign = submitted_signs setup b sender x (decided setup shard b.table x) in
-    keep-guarded (is_client sender) cause.Role (guarded (is_fit setup shard x) cause.Malformed signs)
-    (keep-guarded (is_fit setup shard x) cause.Malformed signs (keep-submitted setup b sender x (decided setup shard b.table x)))
-
-pub keep-ask : (setup : Setup) (shard : ℕ) (b : Bench) (sender : NodeId) (asked : Option Key) → AllKeepLog (ask_signs setup shard b sender asked)
-keep-ask setup shard b sender asked =
-    let key : Key = key_asked b.table shard asked in
-    let said : Message = message.Told key (told_at b.table key) in
-    keep-guarded (is_client sender) cause.Role (told_signs setup shard b sender key)
-    (keep-guarded (shard_of_key setup.shards key == shard) cause.Mine (Sent sender said ∷ []) (keep-sent sender said))
-
-keep-asking : (setup : Setup) (b : Bench) (sender : NodeId) (vote : Vote) (asks : Bool) (x : Session) (o : Option Vote) → AllKeepLog (asking_signs setup b sender vote asks x o)
-keep-asking setup b sender vote asks x (Some noted) =
-    let said : Message = message.Voted noted false x in
-    keep-guarded asks cause.Unasked (Sent sender said ∷ []) (keep-sent sender said)
-keep-asking setup b sender vote asks x None =
-    let enters : List Sign = Took sender vote x ∷ Entered x ∷ [] in
-    let with_room : List Sign = guarded (has_room b.pool) cause.Full enters in
-    keep-guarded asks cause.Unasked (guarded (is_approved setup x) cause.Denied with_room)
-    (keep-guarded (is_approved setup x) cause.Denied with_room
-    (keep-guarded (has_room b.pool) cause.Full enters (λ setup shard b. refl, (λ setup shard b. refl, tt))))
-
-keep-ballot : (setup : Setup) (shard : ℕ) (b : Bench) (sender : NodeId) (vote : Vote) (asks : Bool) (x : Session) (o : Option Pooled) → AllKeepLog (ballot_signs setup shard b sender vote asks x o)
-keep-ballot setup shard b sender vote asks x (Some p) = keep-guarded (not (has_voted sender p.ballots)) cause.Repeat (Took sender vote x ∷ []) (λ setup shard b. refl, tt)
-keep-ballot setup shard b sender vote asks x None = keep-asking setup b sender vote asks x (noted setup shard b.table x)
-
-pub keep-voted : (setup : Setup) (shard : ℕ) (b : Bench) (sender : NodeId) (vote : Vote) (asks : Bool) (x : Session) → AllKeepLog (voted_signs setup shard b sender vote asks x)
-keep-voted setup shard b sender vote asks x =
-    let signs : List Sign = ballot_signs setup shard b sender vote asks x (found (digest_of setup x) b.pool) in
-    let of_concerned : List Sign = guarded (concerns setup x sender.shard) cause.Role signs in
-    keep-guarded (not (is_client sender)) cause.Role (guarded (is_fit setup shard x) cause.Malformed of_concerned)
-    (keep-guarded (is_fit setup shard x) cause.Malformed of_concerned
-    (keep-guarded (concerns setup x sender.shard) cause.Role signs (keep-ballot setup shard b sender vote asks x (found (digest_of setup x) b.pool))))
-
-pub keep-proof : (sender : NodeId) (o : Option Proof) → AllKeepLog (proof_signs sender o)
-keep-proof sender None = keep-drop cause.NoProof
-keep-proof sender (Some proof) = keep-sent sender (message.Proof proof)
-
-pub keep-head : (setup : Setup) (me : NodeId) (b : Bench) (sender : NodeId) (c : Checkpoint) → AllKeepLog (head_signs setup me b sender c)
-keep-head setup me b sender c =
-    let keeps : List Sign = Kept sender.index c ∷ [] in
-    keep-guarded (is_other_member setup.f me sender) cause.Role (guarded (is_news sender.index c b.heads) cause.Repeat keeps)
-    (keep-guarded (is_news sender.index c b.heads) cause.Repeat keeps (λ setup shard b. refl, tt))
+-- what is said to a node, but for its order
+pub keep-heard : (sender : NodeId) (signs : List Sign) → AllHeard sender signs → AllKeepLog signs
+keep-heard sender [] all = tt
+keep-heard sender (Dropped cause ∷ signs) all = (λ setup shard b. refl, keep-heard sender signs all)
+keep-heard sender (Took from vote x ∷ signs) all = (λ setup shard b. refl, keep-heard sender signs all)
+keep-heard sender (Entered x ∷ signs) all = (λ setup shard b. refl, keep-heard sender signs all)
+keep-heard sender (Viewed slot view ∷ signs) all = absurd all
+keep-heard sender (Did slot entry effect ∷ signs) all = absurd all
+keep-heard sender (Headed number head ∷ signs) all = absurd all
+keep-heard sender (Kept index checkpoint ∷ signs) all = (λ setup shard b. refl, keep-heard sender signs all)
+keep-heard sender (Sent to said ∷ signs) all = (λ setup shard b. refl, keep-heard sender signs all.1)
 
 keep-votes : (setup : Setup) (me : NodeId) (x : Session) (told : Option (Vote × Bool)) → AllKeepLog (vote_signs setup me x told)
 keep-votes setup me x None = tt

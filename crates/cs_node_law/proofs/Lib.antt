@@ -14,6 +14,6 @@ pub mod Sealing
 pub mod NoIns
 pub mod Speaking
 pub mod Fitting
-pub mod Played
 pub mod Resting
 pub mod Cuts
+pub mod Names

@@ -6,6 +6,7 @@ use Rattle.cs_base.specs.declared.node_id.NodeId.{NodeId}
 use Rattle.cs_tx_form.specs.declared.entry.Entry.{Entry}
 use Rattle.cs_wire_message.specs.declared.message.Message.{Message}
 use Rattle.cs_wire_message.specs.declared.message.Message.TheVariants as message
+use Rattle.cs_wire_message.specs.Classes.{Class, OfOrder, class_of}
 use Rattle.cs_order.specs.declared.proposed.Proposed.{Proposed}
 use Rattle.cs_order.specs.declared.answers.Outgoing.{Outgoing}
 use Rattle.cs_order.specs.declared.answers.Took.{Took as Answer}
@@ -18,9 +19,9 @@ use Rattle.cs_order.specs.Deeds.{Deed, Advanced, Echoed, Proposing, Ticked, Rese
 use Rattle.cs_wire.specs.Opened.{Opened}
 use Rattle.cs_node_state.specs.Admission.{due}
 use Rattle.cs_node_rules.specs.Members.{is_other_member, others}
-use Rattle.cs_node_rules.specs.Signs.{Sign, submit_signs, voted_signs, ask_signs, ask_proof_signs, head_signs, sends, execution_signs, asked_again}
+use Rattle.cs_node_rules.specs.Signs.{Sign, sends, execution_signs, asked_again, said_signs}
 use Rattle.cs_node_rules.specs.Site.{Input, Datagram, Tick, Mark, In, Ordered, Plain, Site, View, view_after, plain}
-use Rattle.cs_node_rules.specs.Trail.{handed, with_deed, entered_view, moving, cut_marks, admits_proposed, due_marks, candidate_marks, propose_marks, echo_marks, step_marks, turn_marks, continued, settled, taking_marks, member_marks, reply_marks, want_marks, message_marks, opened_marks, again_marks, waiting_marks, tick_marks, input_marks, event_marks}
+use Rattle.cs_node_rules.specs.Trail.{handed, with_deed, entered_view, moving, cut_marks, admits_proposed, due_marks, candidate_marks, propose_marks, echo_marks, step_marks, turn_marks, continued, settled, taking_marks, member_marks, reply_marks, want_marks, class_marks, message_marks, opened_marks, again_marks, waiting_marks, tick_marks, input_marks, event_marks}
 
 -- what the node was given, the newest first
 abbrev pub inputs_in : {M : Type 0} → List (Mark M) → List Input
@@ -116,21 +117,13 @@ module _ {M : Type 0} (site : Site M) where
     no-want : (sender : NodeId) (slot : ℕ) → NoIn (want_marks site v sender slot)
     no-want sender slot = cond_both (is_other_member site.setup.f v.me sender) _ _ (λ marks. NoIn marks) (λ e. no-reply slot sender.index (site.machine.replying v.member slot sender.index)) (λ e. tt)
 
+    no-class : (sender : NodeId) (said : Message) (class : Class) → NoIn (class_marks site v sender said class)
+    no-class sender said OfOrder = no-member sender (site.carrier.read said)
+    no-class sender said class = no-plain (said_signs site.setup v.me v.bench sender said)
+
     no-message : (sender : NodeId) (said : Message) → NoIn (message_marks site v sender said)
-    no-message sender (message.Submit x) = no-plain (submit_signs site.setup v.me.shard v.bench sender x)
-    no-message sender (message.Propose slot view entry) = no-member sender (site.carrier.read (message.Propose slot view entry))
-    no-message sender (message.Echo slot view digest) = no-member sender (site.carrier.read (message.Echo slot view digest))
-    no-message sender (message.Confirm slot view digest) = no-member sender (site.carrier.read (message.Confirm slot view digest))
-    no-message sender (message.Change slot view change) = no-member sender (site.carrier.read (message.Change slot view change))
-    no-message sender (message.Voted vote asks x) = no-plain (voted_signs site.setup v.me.shard v.bench sender vote asks x)
-    no-message sender (message.Decided digest accepted) = tt
     no-message sender (message.Want slot) = no-want sender slot
-    no-message sender (message.Done slot entry) = no-member sender (site.carrier.read (message.Done slot entry))
-    no-message sender (message.Ask asked) = no-plain (ask_signs site.setup v.me.shard v.bench sender asked)
-    no-message sender (message.Told key state) = tt
-    no-message sender (message.Head checkpoint) = no-plain (head_signs site.setup v.me v.bench sender checkpoint)
-    no-message sender (message.AskProof slot) = no-plain (ask_proof_signs v.bench sender slot)
-    no-message sender (message.Proof proof) = tt
+    no-message sender said = no-class sender said (class_of said)
 
     no-opened : (o : Opened) → NoIn (opened_marks site v o)
     no-opened (Ok said) = no-message said.0 said.1

@@ -17,7 +17,8 @@ use Rattle.cs_ledger.specs.Table.{Commit, Effect, Voted, Accepted, Aborted, Skip
 use Rattle.cs_ledger.proofs.Basics.{in_left, in_either, same_bytes}
 use Rattle.cs_node_state.specs.declared.ballot.Ballot.{Ballot}
 use Rattle.cs_node_state.specs.declared.pooled.Pooled.{Pooled}
-use Rattle.cs_node_state.specs.Setup.{Setup, digest_of, is_fit, is_approved, session_in, entry_of, vote_of}
+use Rattle.cs_node_state.specs.Setup.{Setup, digest_of, is_fit, is_approved, entry_of, vote_of}
+use Rattle.cs_tx_form.specs.Session.{session_in}
 use Rattle.cs_node_state.specs.Evidence.{has_voted}
 use Rattle.cs_node_state.specs.Pool.{Pool, found, is_pooled, without, changed_at, changed, with_ballot, as_locked, entering, pushed}
 use Rattle.cs_node_state.specs.Bench.{is_locked, pool_after, told_by}

@@ -23,7 +23,7 @@ use Rattle.cs_node_rules.specs.Ready.{IsQuiet}
 use Rattle.cs_node_rules.proofs.Starting.{start-quiet}
 use Rattle.cs_node_law.specs.Made.{LivesAreQuiet}
 use Rattle.cs_node_law.proofs.Views.{view_after-append, member-said}
-use Rattle.cs_node_law.proofs.Played.{name-same}
+use Rattle.cs_node_law.proofs.Names.{name-same}
 
 module _ {M : Type 0} (site : Site M) where
   module _ (left : Member M → ℕ) (rests : ComesToRest site.machine left) where

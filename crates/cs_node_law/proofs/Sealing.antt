@@ -1,13 +1,15 @@
 -- Datagrams are made of bytes.
-use Rattle.std.proofs.Common.{ℕ, zero, suc, ◌<◌, List, ◌∷◌, ◌++◌, length, arith}
-use Rattle.std.specs.Prelude.{codes, slice_index}
+use Rattle.std.proofs.Common.{ℕ, zero, suc, ◌<◌, List, ◌∷◌, ◌++◌, length}
+use Rattle.std.specs.Prelude.{slice_index}
 use Rattle.std.specs.Int.{w16, w32, to_be_bytes}
 use Rattle.sha2.specs.Sha256.{digest_bytes, sha256}
 use Rattle.cs_base.specs.declared.node_id.NodeId.{NodeId}
 use Rattle.cs_base.specs.Fields.{IsBytes}
 use Rattle.cs_hash.specs.Hash.{key_block, masked, hmac}
 use Rattle.cs_wire_message.proofs.Bytes.{bytes-nil, bytes-cons, bytes-append, bytes-16, bytes-32}
+use Rattle.cs_wire.specs.declared.head.TheConstants.{MAGIC}
 use Rattle.cs_wire.specs.Datagram.{name_encoding, text_with, datagram_with}
+use Rattle.cs_wire.proofs.Parts.{magic_bytes}
 
 bytes-name : (name : NodeId) → IsBytes (name_encoding name)
 bytes-name name = bytes-append (to_be_bytes w16 name.shard) (to_be_bytes w16 name.index) (bytes-16 name.shard) (bytes-16 name.index)
@@ -21,13 +23,6 @@ pub bytes-sha256 : (bytes : List ℕ) → IsBytes (sha256 bytes)
 unfolding sha256
 bytes-sha256 bytes = bytes-digest _ 8
 
-bytes-magic : IsBytes (codes "CSP1")
-bytes-magic zero = omega arith
-bytes-magic (suc zero) = omega arith
-bytes-magic (suc (suc zero)) = omega arith
-bytes-magic (suc (suc (suc zero))) = omega arith
-bytes-magic (suc (suc (suc (suc i)))) = omega arith
-
 bytes-text : (from to : NodeId) (kind : ℕ) (body : List ℕ) → kind < 256 → IsBytes body → IsBytes (text_with from to kind body)
 unfolding text_with
 bytes-text from to kind body small fits =
@@ -36,7 +31,7 @@ bytes-text from to kind body small fits =
     let of_to = bytes-append (name_encoding to) sized (bytes-name to) of_sized in
     let of_names = bytes-append (name_encoding from) (name_encoding to ++ sized) (bytes-name from) of_to in
     let behind = kind ∷ (name_encoding from ++ (name_encoding to ++ sized)) in
-    bytes-append (codes "CSP1") behind bytes-magic (bytes-cons kind (name_encoding from ++ (name_encoding to ++ sized)) small of_names)
+    bytes-append MAGIC behind magic_bytes (bytes-cons kind (name_encoding from ++ (name_encoding to ++ sized)) small of_names)
 
 pub bytes-datagram : (key : List ℕ) (from to : NodeId) (kind : ℕ) (body : List ℕ) → kind < 256 → IsBytes body → IsBytes (datagram_with key from to kind body)
 bytes-datagram key from to kind body small fits =

@@ -84,19 +84,8 @@ module _ {M : Type 0} (site : Site M) (me : NodeId) where
 
   pub said-more : (mark : Mark M) (t : List (Mark M)) (to : NodeId) (said : Message) → SaidMade site (At t) t to said → SaidMade site (At (mark ∷ t)) (mark ∷ t) to said
   said-more mark t to (message.Voted vote asks x) h = (given-more site.setup (digest_of site.setup x) (vote_of vote) mark t h.0, known-more x mark t h.1)
-  said-more mark t to (message.Want slot) h = h
-  said-more mark t to (message.Submit x) h = h
-  said-more mark t to (message.Propose slot view entry) h = h
-  said-more mark t to (message.Echo slot view digest) h = h
-  said-more mark t to (message.Confirm slot view digest) h = h
-  said-more mark t to (message.Change slot view change) h = h
   said-more mark t to (message.Decided digest accepted) h = (h.0, stood-more site me digest accepted mark t h.1)
-  said-more mark t to (message.Done slot entry) h = h
-  said-more mark t to (message.Ask key) h = h
-  said-more mark t to (message.Told key state) h = h
-  said-more mark t to (message.Head checkpoint) h = h
-  said-more mark t to (message.AskProof slot) h = h
-  said-more mark t to (message.Proof proof) h = h
+  said-more mark t to said h = h
 
   -- what may be sent may be sent later
   pub sent-more : (mark : Mark M) (t : List (Mark M)) (to : NodeId) (said : Message) → SignMade site (At t) t (Sent to said) → SignMade site (At (mark ∷ t)) (mark ∷ t) (Sent to said)

@@ -1,6 +1,6 @@
 -- A datagram opens, if at all, as from the name that stands in it.
-use Rattle.std.proofs.Common.{◌≡◌, ℕ, zero, suc, ◌^◌, ◌<◌, List, ◌++◌, length, Option, Some, None, refl, sym, ap, ◌∙◌, subst, append_assoc, arith}
-use Rattle.std.specs.Prelude.{Ok, codes, ◌-◌, take}
+use Rattle.std.proofs.Common.{◌≡◌, ℕ, ◌^◌, ◌<◌, List, ◌++◌, length, Option, Some, None, refl, sym, ap, ◌∙◌, subst, append_assoc}
+use Rattle.std.specs.Prelude.{Ok, ◌-◌, take}
 use Rattle.cs_base.specs.Fields.{IsBytes}
 use Rattle.cs_base.specs.declared.node_id.NodeId.{NodeId}
 use Rattle.cs_base.proofs.Forms.{IsBytes-drop, IsBytes-take}
@@ -10,13 +10,14 @@ use Rattle.cs_wire_message.specs.Message.{MessageFits}
 use Rattle.cs_wire_message.specs.Body.{message_whole}
 use Rattle.cs_wire_message.proofs.Wholes.{whole_has}
 use Rattle.cs_wire.specs.declared.head.Head.{Head}
+use Rattle.cs_wire.specs.declared.head.TheConstants.{MAGIC}
 use Rattle.cs_wire.specs.declared.keys.Keys.{Keys}
 use Rattle.cs_wire.specs.declared.opening.OpenError.{OpenError}
 use Rattle.cs_wire.specs.Datagram.{body_in, text_with, datagram_with}
 use Rattle.cs_wire.specs.Heads.{first, head_seen}
 use Rattle.cs_wire.specs.Opens.{IsName, fault_of}
 use Rattle.cs_wire.specs.Opened.{said_by, opened_body, unless_fault, opened}
-use Rattle.cs_wire.proofs.Parts.{head_encoding, HeadFits, head_form}
+use Rattle.cs_wire.proofs.Parts.{head_encoding, HeadFits, head_form, magic_bytes}
 
 -- ---- what opens is within the limits
 
@@ -36,26 +37,19 @@ opened-fits keys bytes said fits e = message-fits bytes (fault_of keys bytes) (h
 
 -- ---- the speaker
 
-text-parts : (from to : NodeId) (kind : ℕ) (body : List ℕ) → text_with from to kind body ≡ head_encoding (record { magic = codes "CSP1"; kind = kind; from = from; to = to; size = length body }) ++ body
+text-parts : (from to : NodeId) (kind : ℕ) (body : List ℕ) → text_with from to kind body ≡ head_encoding (record { magic = MAGIC; kind = kind; from = from; to = to; size = length body }) ++ body
 unfolding text_with
 text-parts from to kind body = refl
 
-magic : IsBytes (codes "CSP1")
-magic zero = omega arith
-magic (suc zero) = omega arith
-magic (suc (suc zero)) = omega arith
-magic (suc (suc (suc zero))) = omega arith
-magic (suc (suc (suc (suc i)))) = omega arith
-
 module _ (key : List ℕ) (from to : NodeId) (kind : ℕ) (body : List ℕ) (named : IsName from) (addressed : IsName to) (small : kind < 256) (short : length body < 2 ^ 32) where
   abbrev Front : Head
-  Front = record { magic = codes "CSP1"; kind = kind; from = from; to = to; size = length body }
+  Front = record { magic = MAGIC; kind = kind; from = from; to = to; size = length body }
 
   seen : head_seen (datagram_with key from to kind body) ≡ Some Front
   seen =
       let text = text_with from to kind body in
       let tag = hmac key text in
-      let fits : HeadFits Front = ((refl, magic), (small, (named, (addressed, short)))) in
+      let fits : HeadFits Front = ((refl, magic_bytes), (small, (named, (addressed, short)))) in
       let is : text ++ tag ≡ head_encoding Front ++ (body ++ tag) = ap (λ (t : List ℕ). t ++ tag) (text-parts from to kind body) ∙ append_assoc (head_encoding Front) body tag in
       ap (λ (b : List ℕ). head_seen b) is ∙ ap first (head_form.again Front (body ++ tag) fits)
 

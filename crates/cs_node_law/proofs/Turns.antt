@@ -24,7 +24,8 @@ use Rattle.cs_ledger.specs.Table.{Vote, Commit, Abort, Effect, Voted, Accepted, 
 use Rattle.cs_ledger.specs.Table as Shard
 use Rattle.cs_ledger.specs.ShardWorld.{is_vote}
 use Rattle.cs_ledger.proofs.Basics.{bytes_refl}
-use Rattle.cs_node_state.specs.Setup.{Setup, digest_of, concerned, session_in, vote_of, vote_from}
+use Rattle.cs_node_state.specs.Setup.{Setup, digest_of, concerned, vote_of, vote_from}
+use Rattle.cs_tx_form.specs.Session.{session_in}
 use Rattle.cs_node_state.specs.Admission.{due}
 use Rattle.cs_node_rules.specs.Members.{others}
 use Rattle.cs_node_state.specs.Pool.{is_pooled}

@@ -5,5 +5,4 @@ mod rules;
 
 pub use rules::{
     a_dropped_datagram_changes_nothing, cuts_are_alike, events_end_quiet, marks_are_made,
-    schedules_play_worlds,
 };

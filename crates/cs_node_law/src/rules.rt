@@ -3,7 +3,6 @@
 ghost use Rattle.std.specs.Prelude.{◌≡◌};
 ghost use Rattle.cs_node_rules.specs.Site.{Site};
 ghost use Rattle.cs_node_law.specs.Made.{EventIsMade, LocksAreGiven, NotesAreGiven, CutsAreAlike, DropChangesNothing, LivesAreQuiet};
-ghost use Rattle.cs_node_law.specs.Given.{PlaysWorlds};
 
 use cs_order::Order;
 
@@ -43,12 +42,4 @@ pub fn events_end_quiet<O: Order>()
 pub fn cuts_are_alike<O: Order>()
     // After any events of nodes that keep the rules, order and chain of a node keep the same slots.
     ensures { (site : Site O.Message) → CutsAreAlike site }
-{}
-
-/// What the schedules play, over any order: worlds in which honest nodes keep the rules, and are
-/// given bytes of which none is forged.
-///
-/// It does nothing: its contract is a theorem, which a caller has by calling it.
-pub fn schedules_play_worlds<O: Order>()
-    ensures { PlaysWorlds O.rules }
 {}

@@ -1,3 +1,2 @@
-pub mod Example
-pub mod Shards
 pub mod Starting
+pub mod Heard

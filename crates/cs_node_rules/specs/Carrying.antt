@@ -1,9 +1,9 @@
 -- What an order may ask of the carrier of its messages.
-use Rattle.std.specs.Prelude.{◌≡◌, Bool, true, false, Option, Some, map}
+use Rattle.std.specs.Prelude.{◌≡◌, Bool, true, false, Some, map}
 use Rattle.cs_tx_form.specs.declared.entry.Entry.{Entry}
 use Rattle.cs_tx_form.specs.Session.{EntryFits}
 use Rattle.cs_wire_message.specs.declared.message.Message.{Message}
-use Rattle.cs_wire_message.specs.declared.message.Message.TheVariants as message
+use Rattle.cs_wire_message.specs.Classes.{Class, OfOrder, class_of}
 use Rattle.cs_wire_message.specs.Message.{MessageFits}
 use Rattle.cs_order.specs.declared.proposed.Proposed.{Proposed}
 use Rattle.cs_order.specs.Lists.{IsIn}
@@ -12,22 +12,13 @@ use Rattle.cs_node_rules.specs.Collisions.{entries_in}
 use Rattle.cs_node_rules.specs.Deployment.{proposed_of}
 use Rattle.cs_node_rules.specs.Site.{Carrier}
 
--- the kinds in which members of a shard agree
+abbrev pub is_of_order : Class → Bool
+is_of_order OfOrder = true
+is_of_order class = false
+
+-- the class in which members of a shard agree
 abbrev pub is_ordering : Message → Bool
-is_ordering (message.Submit x) = false
-is_ordering (message.Propose slot view entry) = true
-is_ordering (message.Echo slot view digest) = true
-is_ordering (message.Confirm slot view digest) = true
-is_ordering (message.Change slot view change) = true
-is_ordering (message.Voted vote asks x) = false
-is_ordering (message.Decided digest accepted) = false
-is_ordering (message.Want slot) = false
-is_ordering (message.Done slot entry) = true
-is_ordering (message.Ask key) = false
-is_ordering (message.Told key state) = false
-is_ordering (message.Head checkpoint) = false
-is_ordering (message.AskProof slot) = false
-is_ordering (message.Proof proof) = false
+is_ordering said = is_of_order (class_of said)
 
 -- an entry with its digest, as nodes propose it
 pub record IsEntry (proposed : Proposed) : Type 0 where

@@ -8,7 +8,7 @@ use Rattle.cs_tx_form.specs.declared.trace.Trace.{Trace}
 use Rattle.cs_tx_form.specs.declared.session.Session.{Session}
 use Rattle.cs_tx_form.specs.declared.entry.Entry.{Entry}
 use Rattle.cs_tx_form.specs.Transaction.{tx_encoding}
-use Rattle.cs_tx_form.specs.Session.{session_encoding, entry_encoding}
+use Rattle.cs_tx_form.specs.Session.{session_encoding, entry_encoding, session_in}
 use Rattle.cs_tx.specs.Digest.{digest_of_tx}
 use Rattle.cs_order.specs.Deeds.{Deed, Took_in, Advanced, Echoed, Proposing, Ticked, Resent, Replied, Cut}
 use Rattle.cs_base.specs.declared.node_id.NodeId.{NodeId}
@@ -16,7 +16,6 @@ use Rattle.cs_wire_message.specs.declared.message.Message.{Message}
 use Rattle.cs_wire_message.specs.declared.message.Message.TheVariants as message
 use Rattle.cs_wire.specs.Opened.{Opened}
 use Rattle.cs_ledger.specs.Ledger.{Bytes, IsIn}
-use Rattle.cs_node_state.specs.Setup.{session_in}
 use Rattle.cs_node_rules.specs.Site.{Datagram, Tick, Mark, In, Ordered, Plain, Site}
 use Rattle.cs_node_rules.specs.World.{Happening}
 

@@ -5,10 +5,7 @@ pub mod Site
 pub mod Trail
 pub mod Lines
 pub mod World
-pub mod Aborts
-pub mod Play
 pub mod Ready
 pub mod Collisions
 pub mod Deployment
 pub mod Carrying
-pub mod Dumps

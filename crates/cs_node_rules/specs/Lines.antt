@@ -1,14 +1,17 @@
--- The lines that a replay prints.
-use Rattle.std.specs.Prelude.{ℕ, suc, Bool, false, List, [], ◌∷◌, ◌++◌, length, Option, Some, None, codes, slice_get, if◌then◌else◌}
+-- The lines of what a node did, and the datagrams that it sent.
+use Rattle.std.specs.Prelude.{ℕ, Bool, false, List, [], ◌∷◌, ◌++◌, length, codes, if◌then◌else◌}
 use Rattle.std.specs.Fmt.{decimal}
 use Rattle.cs_base.specs.declared.node_id.NodeId.{NodeId}
 use Rattle.cs_base.specs.NodeId.{node_text}
 use Rattle.cs_base.specs.Codes.{bytes_text}
-use Rattle.cs_ledger.specs.Ledger.{Bytes, Transaction}
+use Rattle.cs_ledger.specs.Ledger.{Bytes}
+use Rattle.cs_wire.specs.declared.opening.OpenError.{OpenError}
+use Rattle.cs_wire.specs.declared.opening.OpenError.TheVariants as error
 use Rattle.cs_ledger.specs.Table.{Commit, Abort, Effect, Voted, Accepted, Aborted, Skipped, Void}
 use Rattle.cs_node_rules.specs.declared.cause.Cause.{Cause}
 use Rattle.cs_node_rules.specs.declared.cause.Cause.TheVariants as cause
-use Rattle.cs_node_state.specs.Setup.{Setup, digest_of, session_in}
+use Rattle.cs_node_state.specs.Setup.{Setup, digest_of}
+use Rattle.cs_tx_form.specs.Session.{session_in}
 use Rattle.cs_node_rules.specs.Net.{Net, sealed}
 use Rattle.cs_node_rules.specs.Signs.{Sign, Dropped, Took, Entered, Viewed, Did, Headed, Kept, Sent}
 
@@ -28,15 +31,19 @@ slot_line me slot digest effect =
     codes "node " ++ (node_text me ++ (codes " slot " ++ (decimal slot
     ++ (codes " " ++ (effect_text digest effect ++ codes "\n")))))
 
+abbrev pub error_text : OpenError → Bytes
+error_text error.Short = codes "short"
+error_text error.Magic = codes "magic"
+error_text error.Kind = codes "kind"
+error_text error.NotMine = codes "mine"
+error_text error.Stranger = codes "stranger"
+error_text error.Length = codes "length"
+error_text error.Tag = codes "tag"
+error_text error.Body = codes "body"
+
 abbrev pub cause_text : Cause → Bytes
-cause_text cause.Short = codes "short"
-cause_text cause.Magic = codes "magic"
-cause_text cause.Kind = codes "kind"
+cause_text (cause.Unopened error) = error_text error
 cause_text cause.Mine = codes "mine"
-cause_text cause.Stranger = codes "stranger"
-cause_text cause.Length = codes "length"
-cause_text cause.Tag = codes "tag"
-cause_text cause.Body = codes "body"
 cause_text cause.Role = codes "role"
 cause_text cause.Malformed = codes "malformed"
 cause_text cause.Old = codes "old"
@@ -103,51 +110,3 @@ parcels_of net me (Viewed slot view ∷ past) = parcels_of net me past
 parcels_of net me (Did slot entry effect ∷ past) = parcels_of net me past
 parcels_of net me (Headed number head ∷ past) = parcels_of net me past
 parcels_of net me (Kept index checkpoint ∷ past) = parcels_of net me past
-
--- the kind stands behind `CSP1`
-abbrev pub kind_or_none : Option ℕ → ℕ
-kind_or_none (Some kind) = kind
-kind_or_none None = 0
-
-abbrev pub kind_in : Bytes → ℕ
-kind_in bytes = kind_or_none (slice_get bytes 4)
-
--- the datagram of this number, whole
-abbrev pub sent_line : ℕ → Parcel → Bytes
-sent_line number parcel =
-    codes "sent " ++ (decimal number
-    ++ (codes " " ++ (node_text parcel.from ++ (codes " " ++ (node_text parcel.to ++ (codes " "
-    ++ (decimal (kind_in parcel.bytes) ++ (codes " " ++ (bytes_text parcel.bytes ++ codes "\n")))))))))
-
--- the first of which has this number
-abbrev pub sent_lines : ℕ → List Parcel → Bytes
-sent_lines number [] = []
-sent_lines number (parcel ∷ parcels) = sent_line number parcel ++ sent_lines (suc number) parcels
-
--- ---- an event, and the end
-
--- the event of this number, by the line of this number
-abbrev pub at_line : ℕ → ℕ → Bytes
-at_line event line = codes "at " ++ (decimal event ++ (codes " " ++ (decimal line ++ codes "\n")))
-
--- the event at a node: that it came, what the node did, what it sent
-abbrev pub event_lines : Setup → Bool → ℕ → ℕ → NodeId → List Sign → ℕ → List Parcel → Bytes
-event_lines setup traced event line me signs number parcels =
-    if_traced traced (at_line event line)
-    ++ (sign_lines setup traced me signs ++ if_traced traced (sent_lines number parcels))
-
--- what this line injects is forged
-abbrev pub forged_line : ℕ → Bytes
-forged_line line = codes "forged " ++ (decimal line ++ codes "\n")
-
--- an event by this line would have passed a limit
-abbrev pub limit_line : ℕ → Bytes
-limit_line line = codes "limit " ++ (decimal line ++ codes "\n")
-
-abbrev pub transaction_lines : List Transaction → Bytes
-transaction_lines [] = []
-transaction_lines (tx ∷ more) = codes "tx " ++ (bytes_text tx.digest ++ (codes "\n" ++ transaction_lines more))
-
--- the history after the last event
-abbrev pub history_text : List Transaction → Bytes
-history_text txs = codes "history " ++ (decimal (length txs) ++ (codes "\n" ++ transaction_lines txs))

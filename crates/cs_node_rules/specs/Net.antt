@@ -6,14 +6,10 @@ use Rattle.cs_base.specs.declared.node_id.NodeId.{NodeId}
 use Rattle.cs_base.specs.NodeId.{is_node, same_name}
 use Rattle.cs_wire_message.specs.declared.message.Message.{Message}
 use Rattle.cs_wire_message.specs.Message.{kind_of, body_of}
-use Rattle.cs_wire.specs.declared.opening.OpenError.{OpenError}
-use Rattle.cs_wire.specs.declared.opening.OpenError.TheVariants as error
 use Rattle.cs_wire.specs.Keys.{key_between}
 use Rattle.cs_wire.specs.Opened.{Opened, opened, keys_of_master}
 use Rattle.cs_wire.specs.Datagram.{datagram_with}
 use Rattle.cs_ledger.specs.Ledger.{Bytes}
-use Rattle.cs_node_rules.specs.declared.cause.Cause.{Cause}
-use Rattle.cs_node_rules.specs.declared.cause.Cause.TheVariants as cause
 
 -- how datagrams are made and opened, and who is honest
 pub record Net : Type 0 where
@@ -32,14 +28,3 @@ net_of config master liars = record {
   opened = λ me bytes. opened (keys_of_master config master me) bytes;
   is_honest = λ name. is_node config name && not (list_any (λ liar. same_name liar name) liars);
 }
-
--- the cause by which a datagram is dropped that can't be opened
-abbrev pub cause_of : OpenError → Cause
-cause_of error.Short = cause.Short
-cause_of error.Magic = cause.Magic
-cause_of error.Kind = cause.Kind
-cause_of error.NotMine = cause.Mine
-cause_of error.Stranger = cause.Stranger
-cause_of error.Length = cause.Length
-cause_of error.Tag = cause.Tag
-cause_of error.Body = cause.Body

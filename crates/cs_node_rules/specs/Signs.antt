@@ -19,7 +19,8 @@ use Rattle.cs_ledger.specs.Table.{Effect}
 use Rattle.cs_node_rules.specs.declared.cause.Cause.{Cause}
 use Rattle.cs_node_rules.specs.declared.cause.Cause.TheVariants.{Mine, Role, Malformed, Repeat, Unasked, Denied, Full, NoProof}
 use Rattle.cs_node_state.specs.declared.pooled.Pooled.{Pooled}
-use Rattle.cs_node_state.specs.Setup.{Setup, digest_of, concerns, concerned, is_fit, is_approved, session_in}
+use Rattle.cs_node_state.specs.Setup.{Setup, digest_of, concerns, concerned, is_fit, is_approved}
+use Rattle.cs_tx_form.specs.Session.{session_in}
 use Rattle.cs_node_state.specs.Evidence.{has_voted}
 use Rattle.cs_node_rules.specs.Members.{is_other_member, others}
 use Rattle.cs_node_state.specs.Pool.{Pool, found, is_pooled, changed, with_ballot, entered, has_room}
@@ -168,6 +169,17 @@ abbrev pub head_signs : Setup → NodeId → Bench → NodeId → Checkpoint →
 head_signs setup me b sender checkpoint =
     guarded (is_other_member setup.f me sender) Role
     (guarded (is_news sender.index checkpoint b.heads) Repeat (Kept sender.index checkpoint ∷ []))
+
+-- ---- what is said to a node
+
+-- what is said to a node, but for its order: a client asks, a node votes, a member tells its checkpoint
+abbrev pub said_signs : Setup → NodeId → Bench → NodeId → Message → List Sign
+said_signs setup me b sender (message.Submit x) = submit_signs setup me.shard b sender x
+said_signs setup me b sender (message.Ask asked) = ask_signs setup me.shard b sender asked
+said_signs setup me b sender (message.AskProof slot) = ask_proof_signs b sender slot
+said_signs setup me b sender (message.Voted vote asks x) = voted_signs setup me.shard b sender vote asks x
+said_signs setup me b sender (message.Head checkpoint) = head_signs setup me b sender checkpoint
+said_signs setup me b sender said = Dropped Role ∷ []
 
 -- ---- ticks
 

@@ -1,9 +1,11 @@
 -- The rules of a node: the marks that each input makes.
 use Rattle.std.specs.Prelude.{ℕ, zero, suc, ◌+◌, ◌-◌, ◌%◌, ◌^◌, ◌==◌, nat_lt, Bool, if◌then◌else◌, List, [], ◌∷◌, ◌++◌, length, Option, Some, None, is_some, Ok, Err}
 use Rattle.cs_base.specs.declared.node_id.NodeId.{NodeId}
+use Rattle.cs_tx_form.specs.declared.limits.TheConstants.{COVERED}
 use Rattle.cs_tx_form.specs.declared.entry.Entry.{Entry}
 use Rattle.cs_wire_message.specs.declared.message.Message.{Message}
 use Rattle.cs_wire_message.specs.declared.message.Message.TheVariants as message
+use Rattle.cs_wire_message.specs.Classes.{Class, OfOrder, class_of}
 use Rattle.cs_order.specs.declared.proposed.Proposed.{Proposed}
 use Rattle.cs_order.specs.declared.answers.Outgoing.{Outgoing}
 use Rattle.cs_order.specs.declared.answers.Took.{Took}
@@ -16,11 +18,10 @@ use Rattle.cs_order.specs.Deeds.{Deed, Took_in, Advanced, Echoed, Proposing, Tic
 use Rattle.cs_wire.specs.Opened.{Opened}
 use Rattle.cs_checkpoint.specs.Chain.{kept_slots}
 use Rattle.cs_node_rules.specs.declared.cause.Cause.{Cause}
-use Rattle.cs_node_rules.specs.declared.cause.Cause.TheVariants.{Role, Old, Far, Leader, Repeat}
+use Rattle.cs_node_rules.specs.declared.cause.Cause.TheVariants.{Unopened, Role, Old, Far, Leader, Repeat}
 use Rattle.cs_node_state.specs.Admission.{admits, due}
 use Rattle.cs_node_rules.specs.Members.{is_other_member, others}
-use Rattle.cs_node_rules.specs.Net.{cause_of}
-use Rattle.cs_node_rules.specs.Signs.{Sign, Dropped, Viewed, Sent, sends, submit_signs, voted_signs, ask_signs, ask_proof_signs, head_signs, execution_signs, asked_again}
+use Rattle.cs_node_rules.specs.Signs.{Sign, Dropped, Viewed, Sent, sends, execution_signs, said_signs, asked_again}
 use Rattle.cs_node_rules.specs.Site.{Input, Datagram, Tick, Mark, In, Ordered, Plain, Site, View, view_after, plain}
 
 -- what an order hands out goes to another member, or to all other members
@@ -82,7 +83,7 @@ echo_marks {M} site v (Some proposed) =
 
 -- After every 16th slot the order gives up the slots before the last 1,024.
 abbrev pub cut_marks : {M : Type 0} → ℕ → List (Mark M)
-cut_marks {M} slot = if (slot + 1) % 16 == 0 then Ordered (Cut (slot + 1 - kept_slots)) ∷ [] else []
+cut_marks {M} slot = if (slot + 1) % COVERED == 0 then Ordered (Cut (slot + 1 - kept_slots)) ∷ [] else []
 
 -- What is chosen is executed; else the order moves; else echoing.
 abbrev pub step_marks : {M : Type 0} → Site M → View M → Step → Option (List (Mark M))
@@ -140,34 +141,19 @@ want_marks {M} site v sender slot =
     then reply_marks site v slot sender.index (site.machine.replying v.member slot sender.index)
     else drops Role
 
--- what is said to a node
+-- what is said to a node, by its class: the order hears what is of it
+abbrev pub class_marks : {M : Type 0} → Site M → View M → NodeId → Message → Class → List (Mark M)
+class_marks {M} site v sender said OfOrder = member_marks site v sender (site.carrier.read said)
+class_marks {M} site v sender said class = plain (said_signs site.setup v.me v.bench sender said)
+
 abbrev pub message_marks : {M : Type 0} → Site M → View M → NodeId → Message → List (Mark M)
-message_marks {M} site v sender (message.Submit x) = plain (submit_signs site.setup v.me.shard v.bench sender x)
-message_marks {M} site v sender (message.Propose slot view entry) =
-    member_marks site v sender (site.carrier.read (message.Propose slot view entry))
-message_marks {M} site v sender (message.Echo slot view digest) =
-    member_marks site v sender (site.carrier.read (message.Echo slot view digest))
-message_marks {M} site v sender (message.Confirm slot view digest) =
-    member_marks site v sender (site.carrier.read (message.Confirm slot view digest))
-message_marks {M} site v sender (message.Change slot view change) =
-    member_marks site v sender (site.carrier.read (message.Change slot view change))
-message_marks {M} site v sender (message.Voted vote asks x) =
-    plain (voted_signs site.setup v.me.shard v.bench sender vote asks x)
-message_marks {M} site v sender (message.Decided digest accepted) = drops Role
 message_marks {M} site v sender (message.Want slot) = want_marks site v sender slot
-message_marks {M} site v sender (message.Done slot entry) =
-    member_marks site v sender (site.carrier.read (message.Done slot entry))
-message_marks {M} site v sender (message.Ask asked) = plain (ask_signs site.setup v.me.shard v.bench sender asked)
-message_marks {M} site v sender (message.Told key state) = drops Role
-message_marks {M} site v sender (message.Head checkpoint) =
-    plain (head_signs site.setup v.me v.bench sender checkpoint)
-message_marks {M} site v sender (message.AskProof slot) = plain (ask_proof_signs v.bench sender slot)
-message_marks {M} site v sender (message.Proof proof) = drops Role
+message_marks {M} site v sender said = class_marks site v sender said (class_of said)
 
 -- what a datagram says, or the first test that it fails
 abbrev pub opened_marks : {M : Type 0} → Site M → View M → Opened → List (Mark M)
 opened_marks {M} site v (Ok said) = message_marks site v said.0 said.1
-opened_marks {M} site v (Err error) = drops (cause_of error)
+opened_marks {M} site v (Err error) = drops (Unopened error)
 
 -- the order's messages of this view again; then the votes of locked sessions are asked for; then the open slot
 abbrev pub again_marks : {M : Type 0} → Site M → View M → List (Mark M)

@@ -1,25 +1,13 @@
 //! Why an input was dropped.
+use cs_wire::OpenError;
 
-/// The first test that an input failed. A dropped input changes nothing. The first eight are those
-/// of opening, in their order.
+/// The first test that an input failed. A dropped input changes nothing.
 #[derive(Clone, Copy, Debug, PartialEq, Eq)]
 pub enum Cause {
-    /// There are fewer than 49 bytes.
-    Short,
-    /// The first four bytes aren't `CSP1`.
-    Magic,
-    /// The kind isn't 1 to 14.
-    Kind,
-    /// It is for another, or asks for a key of another shard.
+    /// It can't be opened.
+    Unopened(OpenError),
+    /// The sender asks for a key of another shard.
     Mine,
-    /// There is no key for the sender.
-    Stranger,
-    /// The length of the body isn't that of the bytes, or there are more than 32,768 bytes.
-    Length,
-    /// The tag isn't that of the bytes before it.
-    Tag,
-    /// The body is none of its kind.
-    Body,
     /// The sender isn't one who may say this.
     Role,
     /// The session isn't well formed or doesn't concern the shard.

@@ -1,32 +1,30 @@
 -- Reading, and the keys that a master key gives.
-use Rattle.std.proofs.Common.{◌≡◌, ℕ, zero, suc, ◌+◌, ◌≤◌, ◌<◌, Bool, true, false, cond, List, [], ◌∷◌, ◌++◌, length, Option, Some, None, Ok, Err, refl, sym, ap, subst, ◌∙◌, arith, add-one}
-use Rattle.std.specs.Prelude.{◌&&◌, ◌||◌, not, ◌==◌, ◌*◌, nat_lt, nat_le, bytes_eq, codes}
-use Rattle.std.proofs.lemmas.Bool.{le-ltb}
-use Rattle.std.proofs.lemmas.Bool.Decides.{nat_tests}
+use Rattle.std.proofs.Common.{◌≡◌, ℕ, Bool, true, false, cond, List, [], ◌∷◌, length, Option, Some, None, Ok, Err, refl, sym, ap, ◌∙◌}
+use Rattle.std.specs.Prelude.{◌||◌, not, nat_lt, bytes_eq}
 use Rattle.cs_base.specs.declared.config.Config.{Config}
 use Rattle.cs_base.specs.declared.node_id.NodeId.{NodeId}
-use Rattle.cs_base.specs.declared.node_id.TheConstants.{CLIENT_SHARD, CLIENTS}
-use Rattle.cs_base.specs.NodeId.{is_node, is_client, is_named, same_name, members_below}
+use Rattle.cs_base.specs.NodeId.{is_named, same_name}
 use Rattle.cs_base.specs.Fields.{IsBytes}
-use Rattle.cs_base.proofs.Forms.{IsBytes-drop, IsBytes-take}
-use Rattle.cs_hash.specs.Hash.{hmac}
 use Rattle.cs_wire_message.specs.declared.message.Message.{Message}
-use Rattle.cs_wire_message.specs.Message.{kind_of, body_of}
+use Rattle.cs_wire_message.specs.Message.{kind_of, body_of, is_kind}
 use Rattle.cs_wire_message.specs.Body.{Has, message_whole}
 use Rattle.cs_wire_message.proofs.Wholes.{whole_has, has_whole}
 use Rattle.cs_wire.specs.declared.head.Head.{Head}
+use Rattle.cs_wire.specs.declared.head.TheConstants.{MAGIC}
 use Rattle.cs_wire.specs.declared.keys.Row.{Row}
 use Rattle.cs_wire.specs.declared.keys.Keys.{Keys}
 use Rattle.cs_wire.specs.declared.opening.OpenError.{OpenError}
 use Rattle.cs_wire.specs.declared.opening.OpenError.TheVariants as errors
 use Rattle.cs_wire.specs.declared.view.MessageView.{MessageView}
-use Rattle.cs_wire.specs.Datagram.{text_of, sealed, is_kind, body_in, text_with, datagram_with}
+use Rattle.cs_wire.specs.Datagram.{sealed, body_in, datagram_with}
 use Rattle.cs_wire.specs.Heads.{head_seen}
-use Rattle.cs_wire.specs.Keys.{row_in, row_of, has_name, row_between, row_expected, IsOfMaster}
-use Rattle.cs_wire.specs.Opens.{IsSealed, ShowsMessage, fault_of, head_fault, keyed_fault, HasNoBody, Opens, unless}
-use Rattle.cs_wire.specs.Opened.{Opened, opened, opened_body, said_by, unless_fault, nodes_below, names_of, rows_with, keys_of_master}
-use Rattle.cs_wire.proofs.Parts.{are_same, head_for}
-use Rattle.cs_wire.proofs.Rows.{member_more, shard_more, row_skipped}
+use Rattle.cs_wire.specs.Keys.{row_in, row_of, row_between, row_expected, IsOfMaster}
+use Rattle.cs_wire.specs.Opens.{ShowsMessage, fault_of, head_fault, keyed_fault, HasNoBody, Opens, unless}
+use Rattle.cs_wire.specs.Opened.{opened, opened_body, said_by, unless_fault, rows_with, keys_of_master}
+use Rattle.cs_wire.specs.AllNames.{names_of, has_name}
+use Rattle.cs_wire.proofs.Parts.{are_same}
+use Rattle.cs_wire.proofs.Named.{has_named}
+use Rattle.cs_wire.proofs.Rows.{row_skipped}
 use Rattle.cs_wire.proofs.Unsealed.{is_clear}
 
 -- ---- sealing
@@ -79,56 +77,13 @@ opened_err keys bytes errors.Body byte o =
     bodiless keys bytes (head_seen bytes) refl o.0 byte o.1
     ∙ sym (ap (λ (f : Option OpenError). unless_fault f (opened_body bytes (head_seen bytes))) o.0)
 
--- ---- names
+-- ---- rows
 
 or_comm : (a b : Bool) → (a || b) ≡ (b || a)
 or_comm true true = refl
 or_comm true false = refl
 or_comm false true = refl
 or_comm false false = refl
-
-or_assoc : (a b c : Bool) → (a || (b || c)) ≡ ((a || b) || c)
-or_assoc true b c = refl
-or_assoc false b c = refl
-
-and_false : (b : Bool) → false ≡ (b && false)
-and_false true = refl
-and_false false = refl
-
-has_both : (name : NodeId) (xs ys : List NodeId) → has_name name (xs ++ ys) ≡ (has_name name xs || has_name name ys)
-has_both name [] ys = refl
-has_both name (x ∷ xs) ys = ap (λ b. same_name x name || b) (has_both name xs ys) ∙ or_assoc (same_name x name) (has_name name xs) (has_name name ys)
-
-none_below : (k : ℕ) → nat_lt k 0 ≡ false
-none_below k = le-ltb k 0 (omega arith)
-
-has_members : (name : NodeId) (shard n : ℕ) → has_name name (members_below shard n) ≡ ((shard == name.shard) && nat_lt name.index n)
-has_members name shard zero = and_false (shard == name.shard) ∙ ap (λ b. (shard == name.shard) && b) (sym (none_below name.index))
-has_members name shard (suc n) =
-    member_more name shard n (members_below shard n) false (has_members name shard n)
-    ∙ ap (λ k. (shard == name.shard) && nat_lt name.index k) (add-one n)
-
-has_nodes : (name : NodeId) (members n : ℕ) → has_name name (nodes_below members n) ≡ (nat_lt name.shard n && nat_lt name.index members)
-has_nodes name members zero = sym (ap (λ b. b && nat_lt name.index members) (none_below name.shard))
-has_nodes name members (suc n) =
-    shard_more name n members (nodes_below members n) (nodes_below members n ++ members_below n members) (has_nodes name members n)
-    (has_both name (nodes_below members n) (members_below n members) ∙ ap (λ b. has_name name (nodes_below members n) || b) (has_members name n members))
-    ∙ ap (λ k. nat_lt name.shard k && nat_lt name.index members) (add-one n)
-
-turned : (a b : ℕ) → (a == b) ≡ (b == a)
-turned a b = grind (arith, nat_tests)
-
-upto : (k n : ℕ) → nat_lt k (n + 1) ≡ nat_le k n
-upto k n = grind (arith, nat_tests)
-
--- the names of a configuration are its nodes and the clients
-has_named : (config : Config) (name : NodeId) → has_name name (names_of config) ≡ is_named config name
-has_named config name =
-    has_both name (nodes_below (3 * config.f + 1) config.shards) (members_below CLIENT_SHARD CLIENTS)
-    ∙ ap (λ b. b || has_name name (members_below CLIENT_SHARD CLIENTS)) (has_nodes name (3 * config.f + 1) config.shards ∙ ap (λ b. nat_lt name.shard config.shards && b) (upto name.index (3 * config.f)))
-    ∙ ap (λ b. is_node config name || b) (has_members name CLIENT_SHARD CLIENTS ∙ ap (λ b. b && nat_lt name.index CLIENTS) (turned CLIENT_SHARD name.shard))
-
--- ---- rows
 
 row_seen : (master : List ℕ) (me peer name : NodeId) (rows : List Row) (one : Bool) → same_name name me ≡ false → row_in peer rows ≡ row_expected master me one peer
     → (same : Bool) → same_name name peer ≡ same → cond same (Some (row_between master me name)) (row_in peer rows) ≡ row_expected master me (same || one) peer
@@ -158,7 +113,7 @@ module _ (keys keys2 : Keys) (mine : keys.me ≡ keys2.me) (rows : (peer : NodeI
   head_alike None = refl
   head_alike (Some head) =
       let F : NodeId → Option Row → Option OpenError = λ me row.
-      unless (bytes_eq head.magic (codes "CSP1")) errors.Magic
+      unless (bytes_eq head.magic MAGIC) errors.Magic
       (unless (is_kind head.kind) errors.Kind
       (unless (same_name head.to me) errors.NotMine
       (keyed_fault head bytes row))) in

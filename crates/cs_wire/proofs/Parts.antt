@@ -1,6 +1,6 @@
 -- The parts of a datagram.
-use Rattle.std.proofs.Common.{◌≡◌, ℕ, ◌+◌, ◌-◌, ◌^◌, ◌<◌, ◌≤◌, Bool, true, false, List, [], ◌∷◌, ◌++◌, length, take, drop, Some, None, refl, sym, ap, ◌∙◌, append_assoc, arith}
-use Rattle.std.specs.Prelude.{◌&&◌, ◌==◌, codes}
+use Rattle.std.proofs.Common.{◌≡◌, ℕ, zero, suc, ◌+◌, ◌-◌, ◌^◌, ◌<◌, ◌≤◌, Bool, true, false, List, [], ◌∷◌, ◌++◌, length, take, drop, Some, None, refl, sym, ap, ◌∙◌, append_assoc, arith}
+use Rattle.std.specs.Prelude.{◌&&◌, ◌==◌}
 use Rattle.std.specs.Int.{w16, w32, to_be_bytes}
 use Rattle.std.proofs.lemmas.Bool.{eqb-true, eq-eqb}
 use Rattle.std.proofs.lemmas.List.{length-append, length-drop, take_at, drop_at, take-append-drop}
@@ -10,6 +10,7 @@ use Rattle.cs_base.proofs.Forms.{wide16, wide32, number_form, byte_form, bytes_f
 use Rattle.cs_wire_message.specs.declared.message.Message.{Message}
 use Rattle.cs_wire_message.specs.Message.{kind_of, body_of}
 use Rattle.cs_wire.specs.declared.head.Head.{Head}
+use Rattle.cs_wire.specs.declared.head.TheConstants.{MAGIC}
 use Rattle.cs_wire.specs.Datagram.{name_encoding, text_with, text_of, text_in, tag_in, body_in}
 use Rattle.cs_wire.specs.Heads.{name_of, name_at, head_from, head_at, first, head_seen}
 use Rattle.cs_base.specs.NodeId.{same_name}
@@ -39,9 +40,16 @@ pub first_some : (found : Found Head) (h : Head) → first found ≡ Some h → 
 first_some (Some x) h e = (x.1, ap (λ (k : Head). Some (k, x.1)) (some_is x.0 h e))
 first_some None h e = absurd cc
 
+pub magic_bytes : IsBytes MAGIC
+magic_bytes zero = omega arith
+magic_bytes (suc zero) = omega arith
+magic_bytes (suc (suc zero)) = omega arith
+magic_bytes (suc (suc (suc zero))) = omega arith
+magic_bytes (suc (suc (suc (suc i)))) = omega arith
+
 -- the head of a message's datagram
 abbrev pub head_for : NodeId → NodeId → Message → Head
-head_for from to m = record { magic = codes "CSP1"; kind = kind_of m; from = from; to = to; size = length (body_of m) }
+head_for from to m = record { magic = MAGIC; kind = kind_of m; from = from; to = to; size = length (body_of m) }
 
 pub text_parts : (from to : NodeId) (m : Message) → text_of from to m ≡ head_encoding (head_for from to m) ++ body_of m
 unfolding text_with
@@ -51,8 +59,8 @@ head_of_fields : (a : List ℕ) (b : ℕ) (c d : NodeId) (e : ℕ) (a2 : List �
     → ◌≡◌ {A = Head} (record { magic = a; kind = b; from = c; to = d; size = e }) (record { magic = a2; kind = b2; from = c2; to = d2; size = e2 })
 head_of_fields a b c d e a2 b2 c2 d2 e2 p q r s t = rw (p, q, r, s, t) refl
 
-pub same_head : (h : Head) (from to : NodeId) (m : Message) → h.magic ≡ codes "CSP1" → kind_of m ≡ h.kind → h.from ≡ from → h.to ≡ to → h.size ≡ length (body_of m) → h ≡ head_for from to m
-same_head h from to m magic kind is_from is_to size = head_of_fields h.magic h.kind h.from h.to h.size (codes "CSP1") (kind_of m) from to (length (body_of m)) magic (sym kind) is_from is_to size
+pub same_head : (h : Head) (from to : NodeId) (m : Message) → h.magic ≡ MAGIC → kind_of m ≡ h.kind → h.from ≡ from → h.to ≡ to → h.size ≡ length (body_of m) → h ≡ head_for from to m
+same_head h from to m magic kind is_from is_to size = head_of_fields h.magic h.kind h.from h.to h.size MAGIC (kind_of m) from to (length (body_of m)) magic (sym kind) is_from is_to size
 
 -- ---- head, body and tag
 

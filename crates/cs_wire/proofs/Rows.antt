@@ -7,7 +7,8 @@ use Rattle.std.proofs.lemmas.Bool.Decides.{eqb_tells}
 use Rattle.cs_base.specs.Options.{or_else}
 use Rattle.cs_base.specs.declared.node_id.NodeId.{NodeId}
 use Rattle.cs_wire.specs.declared.keys.Row.{Row}
-use Rattle.cs_wire.specs.Keys.{row_in, has_name, row_between, row_expected}
+use Rattle.cs_wire.specs.Keys.{row_in, row_between, row_expected}
+use Rattle.cs_wire.specs.AllNames.{has_name}
 use Rattle.cs_base.specs.NodeId.{same_name}
 use Rattle.cs_wire.proofs.Parts.{are_same}
 

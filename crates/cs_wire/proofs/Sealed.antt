@@ -1,19 +1,20 @@
 -- Datagrams that pass all tests are the sealed ones.
 use Rattle.std.proofs.Common.{◌≡◌, ℕ, ◌+◌, ◌≤◌, Bool, true, false, cond, List, ◌++◌, length, Option, Some, None, Err, refl, sym, ap, subst, ◌∙◌, arith}
-use Rattle.std.specs.Prelude.{◌==◌, codes, bytes_eq, nat_lt, nat_le}
+use Rattle.std.specs.Prelude.{◌==◌, bytes_eq, nat_lt, nat_le}
 use Rattle.std.proofs.lemmas.Bool.{eqb-true, le-ltb}
 use Rattle.std.proofs.lemmas.Slice.Eq.{bytes_eq-Decides}
 use Rattle.cs_base.specs.Fields.{IsBytes}
 use Rattle.cs_hash.specs.Hash.{hmac}
 use Rattle.cs_wire_message.specs.declared.message.Message.{Message}
-use Rattle.cs_wire_message.specs.Message.{body_of}
+use Rattle.cs_wire_message.specs.Message.{body_of, is_kind}
 use Rattle.cs_wire_message.specs.Body.{Has, IsBody}
 use Rattle.cs_wire.specs.declared.head.Head.{Head}
+use Rattle.cs_wire.specs.declared.head.TheConstants.{MAGIC}
 use Rattle.cs_wire.specs.declared.keys.Row.{Row}
 use Rattle.cs_wire.specs.declared.keys.Keys.{Keys}
 use Rattle.cs_wire.specs.declared.opening.OpenError.{OpenError}
 use Rattle.cs_wire.specs.declared.opening.OpenError.TheVariants as errors
-use Rattle.cs_wire.specs.Datagram.{text_of, is_kind, is_sized, has_tag, text_in, tag_in, body_in}
+use Rattle.cs_wire.specs.Datagram.{text_of, is_sized, has_tag, text_in, tag_in, body_in}
 use Rattle.cs_wire.specs.Heads.{head_seen}
 use Rattle.cs_wire.specs.Keys.{row_of}
 use Rattle.cs_base.specs.NodeId.{same_name}
@@ -47,7 +48,7 @@ is_sealed keys bytes h m byte long seen none has =
     let keyed_later = keyed_fault h bytes (row_of h.from keys) in
     let mine_later = unless (same_name h.to keys.me) errors.NotMine keyed_later in
     let kind_later = unless (is_kind h.kind) errors.Kind mine_later in
-    let magic = passed (bytes_eq h.magic (codes "CSP1")) errors.Magic kind_later clear in
+    let magic = passed (bytes_eq h.magic MAGIC) errors.Magic kind_later clear in
     let kind = passed (is_kind h.kind) errors.Kind mine_later magic.1 in
     let mine = passed (same_name h.to keys.me) errors.NotMine keyed_later kind.1 in
     let k = keyed h bytes (row_of h.from keys) mine.1 in
@@ -55,7 +56,7 @@ is_sealed keys bytes h m byte long seen none has =
     let total : length bytes ≡ h.size + 49 = eqb-true _ _ sized.0 in
     let body : c.body ≡ body_of m = sym c.parts.body ∙ sym has.body in
     let size : h.size ≡ length (body_of m) = omega (arith, total, c.parts.size) ∙ ap (λ (b : List ℕ). length b) body in
-    let is_head : h ≡ head_for h.from keys.me m = same_head h h.from keys.me m ((bytes_eq-Decides h.magic (codes "CSP1")).0 magic.0) has.kind refl (are_same h.to keys.me mine.0) size in
+    let is_head : h ≡ head_for h.from keys.me m = same_head h h.from keys.me m ((bytes_eq-Decides h.magic MAGIC).0 magic.0) has.kind refl (are_same h.to keys.me mine.0) size in
     let text : head_encoding h ++ c.body ≡ text_of h.from keys.me m = ap (λ (g : Head). head_encoding g ++ c.body) is_head ∙ ap (λ (b : List ℕ). head_encoding (head_for h.from keys.me m) ++ b) body ∙ sym (text_parts h.from keys.me m) in
     let tag : c.tag ≡ hmac k.row.from (text_of h.from keys.me m) = sym c.parts.tag ∙ (bytes_eq-Decides (tag_in bytes) (hmac k.row.from (text_in bytes))).0 k.tagged ∙ ap (hmac k.row.from) (c.parts.text ∙ text) in
     record {

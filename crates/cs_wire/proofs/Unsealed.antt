@@ -1,15 +1,14 @@
 -- Sealed datagrams pass all tests, and are those of one message alone.
-use Rattle.std.proofs.Common.{◌≡◌, ℕ, zero, suc, ◌+◌, ◌<◌, Bool, true, false, cond, List, [], ◌++◌, length, Some, None, Result, Ok, Err, refl, sym, ap, subst, ◌∙◌, append_assoc, arith}
-use Rattle.std.specs.Prelude.{not, ◌&&◌, codes, nat_lt}
+use Rattle.std.proofs.Common.{◌≡◌, ℕ, ◌+◌, Bool, true, false, cond, List, [], ◌++◌, length, Some, None, Result, Ok, Err, refl, sym, ap, subst, ◌∙◌, append_assoc, arith}
+use Rattle.std.specs.Prelude.{not, ◌&&◌, nat_lt}
 use Rattle.std.proofs.lemmas.Bool.{eq-eqb, le-ltb, le-leb}
 use Rattle.std.proofs.lemmas.Slice.Eq.{bytes_eq-Decides}
 use Rattle.sha2.proofs.Facts256.{length-sha256}
 use Rattle.cs_base.specs.declared.node_id.NodeId.{NodeId}
-use Rattle.cs_base.specs.Fields.{IsBytes}
 use Rattle.cs_hash.specs.Hash.{hmac}
 use Rattle.cs_wire_message.specs.declared.message.Message.{Message}
-use Rattle.cs_wire_message.specs.declared.message.Message.TheVariants as message
 use Rattle.cs_wire_message.specs.Message.{kind_of, body_of, MessageFits}
+use Rattle.cs_wire_message.specs.laws.Kinds.{kind_passes, kind_small}
 use Rattle.cs_wire_message.specs.Body.{Has}
 use Rattle.cs_wire_message.proofs.Short.{body_short}
 use Rattle.cs_wire.specs.declared.head.Head.{Head}
@@ -17,7 +16,7 @@ use Rattle.cs_wire.specs.declared.keys.Row.{Row}
 use Rattle.cs_wire.specs.declared.keys.Keys.{Keys}
 use Rattle.cs_wire.specs.declared.opening.OpenError.{OpenError}
 use Rattle.cs_wire.specs.declared.opening.OpenError.TheVariants as errors
-use Rattle.cs_wire.specs.Datagram.{text_of, sealed, is_kind, is_sized, has_tag, text_in, tag_in, body_in}
+use Rattle.cs_wire.specs.Datagram.{text_of, sealed, is_sized, has_tag, text_in, tag_in, body_in}
 use Rattle.cs_wire.specs.Heads.{head_at, first, head_seen}
 use Rattle.cs_wire.specs.Keys.{row_of, row_between, IsOfMaster}
 use Rattle.cs_base.specs.declared.config.Config.{Config}
@@ -25,7 +24,7 @@ use Rattle.cs_base.specs.NodeId.{is_named, same_name}
 use Rattle.cs_base.proofs.Forms.{some_is, when_some}
 use Rattle.cs_wire.specs.declared.view.MessageView.{MessageView}
 use Rattle.cs_wire.specs.Opens.{IsName, Seals, IsSealed, keyed_fault, head_fault, fault_of, HasNoBody, Opens, OpensAs, ShowsMessage}
-use Rattle.cs_wire.proofs.Parts.{head_encoding, HeadFits, head_form, head_for, head_length, text_parts, split, is_same}
+use Rattle.cs_wire.proofs.Parts.{head_encoding, HeadFits, head_form, head_for, head_length, magic_bytes, text_parts, split, is_same}
 
 pub record IsClear (keys : Keys) (bytes : List ℕ) (sender : NodeId) (m : Message) : Type 0 where
   pub seen : head_seen bytes ≡ Some (head_for sender keys.me m)
@@ -34,45 +33,6 @@ pub record IsClear (keys : Keys) (bytes : List ℕ) (sender : NodeId) (m : Messa
 
 tag_length : (key text : List ℕ) → length (hmac key text) ≡ 32
 tag_length key text = length-sha256 _
-
-kind_fits : (m : Message) → is_kind (kind_of m) ≡ true
-kind_fits (message.Submit x) = refl
-kind_fits (message.Propose slot view entry) = refl
-kind_fits (message.Echo slot view digest) = refl
-kind_fits (message.Confirm slot view digest) = refl
-kind_fits (message.Change slot view change) = refl
-kind_fits (message.Voted vote asks x) = refl
-kind_fits (message.Decided digest accepted) = refl
-kind_fits (message.Want slot) = refl
-kind_fits (message.Done slot entry) = refl
-kind_fits (message.Ask key) = refl
-kind_fits (message.Told key state) = refl
-kind_fits (message.Head checkpoint) = refl
-kind_fits (message.AskProof slot) = refl
-kind_fits (message.Proof proof) = refl
-
-kind_small : (m : Message) → kind_of m < 256
-kind_small (message.Submit x) = omega arith
-kind_small (message.Propose slot view entry) = omega arith
-kind_small (message.Echo slot view digest) = omega arith
-kind_small (message.Confirm slot view digest) = omega arith
-kind_small (message.Change slot view change) = omega arith
-kind_small (message.Voted vote asks x) = omega arith
-kind_small (message.Decided digest accepted) = omega arith
-kind_small (message.Want slot) = omega arith
-kind_small (message.Done slot entry) = omega arith
-kind_small (message.Ask key) = omega arith
-kind_small (message.Told key state) = omega arith
-kind_small (message.Head checkpoint) = omega arith
-kind_small (message.AskProof slot) = omega arith
-kind_small (message.Proof proof) = omega arith
-
-magic_bytes : IsBytes (codes "CSP1")
-magic_bytes zero = omega arith
-magic_bytes (suc zero) = omega arith
-magic_bytes (suc (suc zero)) = omega arith
-magic_bytes (suc (suc (suc zero))) = omega arith
-magic_bytes (suc (suc (suc (suc i)))) = omega arith
 
 pub is_clear : (keys : Keys) (bytes : List ℕ) (sender : NodeId) (m : Message) → IsSealed keys bytes sender m → IsClear keys bytes sender m
 is_clear keys bytes sender m s =
@@ -92,7 +52,7 @@ is_clear keys bytes sender m s =
     let sized : is_sized (length body) bytes ≡ true = rw (eq-eqb (length bytes) (length body + 49) parts.size, le-leb (length bytes) 32768 (omega (arith, parts.size, short))) refl in
     let tagged : has_tag key bytes ≡ true = (bytes_eq-Decides (tag_in bytes) (hmac key (text_in bytes))).1 (parts.tag ∙ sym (ap (hmac key) (parts.text ∙ sym (text_parts sender keys.me m)))) in
     let keyed : keyed_fault h bytes (row_of sender keys) ≡ None = ap (keyed_fault h bytes) s.held ∙ rw (sized, tagged) refl in
-    let clear : head_fault keys bytes (Some h) ≡ None = rw (kind_fits m, is_same keys.me) keyed in
+    let clear : head_fault keys bytes (Some h) ≡ None = rw (kind_passes m, is_same keys.me) keyed in
     record {
       seen = seen;
       none = ap (λ (b : Bool). cond b (Some errors.Short) (head_fault keys bytes (head_seen bytes))) not_short ∙ ap (head_fault keys bytes) seen ∙ clear;

@@ -1,20 +1,21 @@
 -- Datagrams, byte by byte.
-use Rattle.std.specs.Prelude.{ℕ, ◌+◌, ◌-◌, Bool, ◌&&◌, ◌==◌, nat_le, bytes_eq, codes, List, ◌∷◌, ◌++◌, length, take, drop}
+use Rattle.std.specs.Prelude.{ℕ, ◌+◌, ◌-◌, Bool, ◌&&◌, ◌==◌, nat_le, bytes_eq, List, ◌∷◌, ◌++◌, length, take, drop}
 use Rattle.std.specs.Int.{w16, w32, to_be_bytes}
 use Rattle.cs_base.specs.declared.limits.TheConstants.{LEAST_DATAGRAM, MOST_DATAGRAM}
 use Rattle.cs_base.specs.declared.node_id.NodeId.{NodeId}
 use Rattle.cs_hash.specs.Hash.{hmac}
 use Rattle.cs_wire_message.specs.declared.message.Message.{Message}
 use Rattle.cs_wire_message.specs.Message.{kind_of, body_of}
+use Rattle.cs_wire.specs.declared.head.TheConstants.{MAGIC}
 
 -- a name: shard and index
 abbrev pub name_encoding : NodeId → List ℕ
 name_encoding name = to_be_bytes w16 name.shard ++ to_be_bytes w16 name.index
 
--- what a tag is made of: `CSP1`, the kind, the sender, the receiver, the length of the body, the body
+-- what a tag is made of: the magic, the kind, the sender, the receiver, the length of the body, the body
 unfoldable pub text_with : NodeId → NodeId → ℕ → List ℕ → List ℕ
 text_with from to kind body =
-    codes "CSP1" ++ (kind ∷ (name_encoding from ++ (name_encoding to ++ (to_be_bytes w32 (length body) ++ body))))
+    MAGIC ++ (kind ∷ (name_encoding from ++ (name_encoding to ++ (to_be_bytes w32 (length body) ++ body))))
 
 -- the text, and its tag under the key from the sender to the receiver
 abbrev pub datagram_with : List ℕ → NodeId → NodeId → ℕ → List ℕ → List ℕ
@@ -28,9 +29,6 @@ abbrev pub sealed : List ℕ → NodeId → NodeId → Message → List ℕ
 sealed key from to m = datagram_with key from to (kind_of m) (body_of m)
 
 -- ---- tests of datagrams
-
-abbrev pub is_kind : ℕ → Bool
-is_kind kind = nat_le 1 kind && nat_le kind 14
 
 -- a body of this size stands between a head of 17 bytes and a tag of 32, and the datagram isn't too long
 abbrev pub is_sized : ℕ → List ℕ → Bool

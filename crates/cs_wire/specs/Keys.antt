@@ -1,5 +1,5 @@
 -- The keys of a node or a client.
-use Rattle.std.specs.Prelude.{◌≡◌, ℕ, ◌+◌, Bool, not, ◌&&◌, ◌||◌, ◌==◌, codes, List, [], ◌∷◌, ◌++◌, map, Option, Some, None, Result, Ok, Err, if◌then◌else◌}
+use Rattle.std.specs.Prelude.{◌≡◌, ℕ, ◌+◌, Bool, not, ◌&&◌, ◌||◌, codes, List, [], ◌∷◌, ◌++◌, map, Option, Some, None, Result, Ok, Err, if◌then◌else◌}
 use Rattle.std.specs.List.{list_any}
 use Rattle.cs_base.specs.declared.config.Config.{Config}
 use Rattle.cs_base.specs.declared.node_id.NodeId.{NodeId}
@@ -60,9 +60,6 @@ row_between master me peer = record { peer = peer; to = key_between master me pe
 abbrev pub row_expected : List ℕ → NodeId → Bool → NodeId → Option Row
 row_expected master me is_one peer =
     if is_one && not (same_name peer me) then Some (row_between master me peer) else None
-
-abbrev pub has_name : NodeId → List NodeId → Bool
-has_name name names = list_any (λ other. same_name other name) names
 
 -- keys for all nodes and clients of a configuration, but for me
 pub record IsOfMaster (config : Config) (master : List ℕ) (holder : NodeId) (keys : Keys) : Type 0 where

@@ -4,3 +4,4 @@ pub mod Keys
 pub mod Opens
 pub mod Opened
 pub mod Raw
+pub mod AllNames

@@ -1,8 +1,7 @@
 -- Opening as a function, and the keys of a master key as a value.
-use Rattle.std.specs.Prelude.{ℕ, zero, suc, ◌+◌, ◌*◌, List, [], ◌∷◌, ◌++◌, Option, Some, None, Result, Ok, Err, if◌then◌else◌}
+use Rattle.std.specs.Prelude.{ℕ, List, [], ◌∷◌, Option, Some, None, Result, Ok, Err, if◌then◌else◌}
 use Rattle.cs_base.specs.declared.config.Config.{Config}
 use Rattle.cs_base.specs.declared.node_id.NodeId.{NodeId}
-use Rattle.cs_base.specs.declared.node_id.TheConstants.{CLIENT_SHARD, CLIENTS}
 use Rattle.cs_wire_message.specs.declared.message.Message.{Message}
 use Rattle.cs_wire_message.specs.Body.{message_whole}
 use Rattle.cs_wire.specs.declared.head.Head.{Head}
@@ -13,8 +12,9 @@ use Rattle.cs_wire.specs.declared.opening.OpenError.TheVariants as errors
 use Rattle.cs_wire.specs.Datagram.{body_in}
 use Rattle.cs_wire.specs.Heads.{head_seen}
 use Rattle.cs_wire.specs.Keys.{row_between}
-use Rattle.cs_base.specs.NodeId.{same_name, members_below}
+use Rattle.cs_base.specs.NodeId.{same_name}
 use Rattle.cs_wire.specs.Opens.{fault_of}
+use Rattle.cs_wire.specs.AllNames.{names_of}
 
 -- ---- opening
 
@@ -39,15 +39,6 @@ abbrev pub opened : Keys → List ℕ → Opened
 opened keys bytes = unless_fault (fault_of keys bytes) (opened_body bytes (head_seen bytes))
 
 -- ---- the keys of a master key
-
--- the members, so many of each, of so many shards
-abbrev pub nodes_below : ℕ → ℕ → List NodeId
-nodes_below members zero = []
-nodes_below members (suc n) = nodes_below members n ++ members_below n members
-
--- all nodes and clients of a configuration
-abbrev pub names_of : Config → List NodeId
-names_of config = nodes_below (3 * config.f + 1) config.shards ++ members_below CLIENT_SHARD CLIENTS
 
 -- what I share with these, but for myself
 abbrev pub rows_with : List ℕ → NodeId → List NodeId → List Row

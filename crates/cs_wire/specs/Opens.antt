@@ -1,17 +1,18 @@
 -- What comes of a datagram at the one who is given it.
-use Rattle.std.specs.Prelude.{◌≡◌, ℕ, ◌<◌, ◌^◌, Bool, nat_lt, bytes_eq, codes, List, ◌++◌, length, Option, Some, None, Result, Ok, Err, if◌then◌else◌}
+use Rattle.std.specs.Prelude.{◌≡◌, ℕ, ◌<◌, ◌^◌, Bool, nat_lt, bytes_eq, List, ◌++◌, length, Option, Some, None, Result, Ok, Err, if◌then◌else◌}
 use Rattle.cs_base.specs.declared.limits.TheConstants.{LEAST_DATAGRAM}
 use Rattle.cs_base.specs.declared.node_id.NodeId.{NodeId}
 use Rattle.cs_wire_message.specs.declared.message.Message.{Message}
-use Rattle.cs_wire_message.specs.Message.{MessageFits}
+use Rattle.cs_wire_message.specs.Message.{is_kind, MessageFits}
 use Rattle.cs_wire_message.specs.Body.{Has, IsBody}
 use Rattle.cs_wire.specs.declared.head.Head.{Head}
+use Rattle.cs_wire.specs.declared.head.TheConstants.{MAGIC}
 use Rattle.cs_wire.specs.declared.keys.Row.{Row}
 use Rattle.cs_wire.specs.declared.keys.Keys.{Keys}
 use Rattle.cs_wire.specs.declared.opening.OpenError.{OpenError}
 use Rattle.cs_wire.specs.declared.opening.OpenError.TheVariants as errors
 use Rattle.cs_wire.specs.declared.view.MessageView.{MessageView}
-use Rattle.cs_wire.specs.Datagram.{sealed, is_kind, is_sized, has_tag, body_in}
+use Rattle.cs_wire.specs.Datagram.{sealed, is_sized, has_tag, body_in}
 use Rattle.cs_wire.specs.Heads.{head_seen}
 use Rattle.cs_wire.specs.Keys.{row_of}
 use Rattle.cs_base.specs.NodeId.{same_name}
@@ -52,7 +53,7 @@ keyed_fault head bytes (Some row) =
 abbrev pub head_fault : Keys → List ℕ → Option Head → Option OpenError
 head_fault keys bytes None = Some errors.Short
 head_fault keys bytes (Some head) =
-    unless (bytes_eq head.magic (codes "CSP1")) errors.Magic
+    unless (bytes_eq head.magic MAGIC) errors.Magic
     (unless (is_kind head.kind) errors.Kind
     (unless (same_name head.to keys.me) errors.NotMine
     (keyed_fault head bytes (row_of head.from keys))))

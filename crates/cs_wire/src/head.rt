@@ -10,6 +10,9 @@ ghost use Rattle.cs_wire.specs.Heads.{name_at, head_at, head_seen};
 use cs_base::{Cursor, Memory, NodeId, Writer};
 use cs_tx_value::FormError;
 
+/// The first bytes of a datagram.
+pub const MAGIC: [u8; 4] = *b"CSP1";
+
 /// What stands before the body of a datagram.
 #[derive(Clone, Copy, Debug, PartialEq, Eq)]
 pub struct Head {

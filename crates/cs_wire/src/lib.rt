@@ -13,9 +13,11 @@ mod sealing;
 mod view;
 
 pub use cs_wire_message::Message;
+pub use head::MAGIC;
 pub use input::{Input, Out};
 pub use keys::{Keys, KeysError};
 pub use laws::{names_of_one_master_understand_each_other, sealed_datagrams_are_opened};
+pub use names::{all_names, all_nodes, key_between};
 pub use opening::{OpenError, open};
 pub use raw::{a_message_is_sealed_by_kind_and_body, seal_with};
 pub use reading::{keys_of_a_master_open_alike, read};

@@ -1,8 +1,9 @@
 //! The names of a deployment, and the keys that a master key gives them.
-ghost use Rattle.std.specs.Prelude.{◌≡◌, ◌≤◌, ◌&&◌, ◌||◌, ◌==◌, nat_lt, Bool, IfOk, OnOk};
+ghost use Rattle.std.specs.Prelude.{◌≡◌, ◌++◌, ◌||◌, Bool, IfOk, OnOk};
 ghost use Rattle.cs_base.specs.declared.node_id.NodeId.{NodeId};
-ghost use Rattle.cs_base.specs.NodeId.{is_named, same_name as same_as};
-ghost use Rattle.cs_wire.specs.Keys.{has_name, pair_text, key_between, row_between, row_in, row_expected};
+ghost use Rattle.cs_base.specs.NodeId.{is_named, members_below, same_name as same_as};
+ghost use Rattle.cs_wire.specs.AllNames.{nodes_of, names_of, has_name};
+ghost use Rattle.cs_wire.specs.Keys.{pair_text, key_between, row_between, row_in, row_expected};
 
 use crate::head::write_name;
 use crate::keys::{Row, same_name};
@@ -14,11 +15,9 @@ use std::alloc::Global;
 /// The bytes of the text of a pair.
 const PAIR: usize = 11;
 
-// Adds the names of so many members of a shard.
+// Adds so many members of a shard.
 fn add_members(names: &mut Sequence<NodeId>, shard: u16, count: u16) -> Result<(), Memory>
-    ensures { OnOk result ((name : NodeId)
-        → has_name name names.new
-        ≡ (has_name name names.old || ((shard == name.shard) && nat_lt name.index count))) }
+    ensures { OnOk result (names.new ≡ names.old ++ members_below shard count) }
 {
     for index in 0..count {
         names.push(NodeId { shard, index })?;
@@ -26,23 +25,23 @@ fn add_members(names: &mut Sequence<NodeId>, shard: u16, count: u16) -> Result<(
     Ok(())
 }
 
-fn nodes(alloc: Global, shards: u16, members: u16) -> Result<Sequence<NodeId>, Memory>
-    ensures { IfOk result (λ names. (name : NodeId)
-        → has_name name names ≡ (nat_lt name.shard shards && nat_lt name.index members)) }
+/// All nodes of a configuration, by shard and index.
+pub fn all_nodes(alloc: Global, config: &Config) -> Result<Sequence<NodeId>, Memory>
+    ensures { IfOk result (λ nodes. nodes ≡ nodes_of config.now) }
 {
     let mut names = Sequence::new(alloc);
-    for shard in 0..shards {
+    let members = 3 * config.f + 1;
+    for shard in 0..config.shards {
         add_members(&mut names, shard, members)?;
     }
     Ok(names)
 }
 
-/// The names of all nodes of a configuration, and of all clients.
-fn all_names(alloc: Global, config: &Config) -> Result<Sequence<NodeId>, Memory>
-    ensures { IfOk result (λ names. (name : NodeId)
-        → has_name name names ≡ is_named config.now name) }
+/// All nodes of a configuration, by shard and index, and then the clients.
+pub fn all_names(alloc: Global, config: &Config) -> Result<Sequence<NodeId>, Memory>
+    ensures { IfOk result (λ names. names ≡ names_of config.now) }
 {
-    let mut names = nodes(alloc, config.shards, 3 * config.f + 1)?;
+    let mut names = all_nodes(alloc, config)?;
     add_members(&mut names, CLIENT_SHARD, CLIENTS)?;
     Ok(names)
 }
@@ -58,7 +57,13 @@ fn text_of_pair(alloc: Global, from: NodeId, to: NodeId) -> Result<Vec<u8>, Memo
     Ok(out.into_bytes())
 }
 
-fn key_of(alloc: Global, master: &Digest, from: NodeId, to: NodeId) -> Result<Digest, Memory>
+/// The key that a master key gives from one name to another.
+pub fn key_between(
+    alloc: Global,
+    master: &Digest,
+    from: NodeId,
+    to: NodeId,
+) -> Result<Digest, Memory>
     ensures { IfOk result (λ key. key ≡ key_between master.now from to) }
 {
     let text = text_of_pair(alloc, from, to)?;
@@ -68,8 +73,8 @@ fn key_of(alloc: Global, master: &Digest, from: NodeId, to: NodeId) -> Result<Di
 fn row_for(alloc: Global, master: &Digest, me: NodeId, peer: NodeId) -> Result<Row, Memory>
     ensures { IfOk result (λ row. row ≡ row_between master.now me peer) }
 {
-    let to = key_of(alloc, master, me, peer)?;
-    let from = key_of(alloc, master, peer, me)?;
+    let to = key_between(alloc, master, me, peer)?;
+    let from = key_between(alloc, master, peer, me)?;
     Ok(Row::new(peer, &to, &from))
 }
 

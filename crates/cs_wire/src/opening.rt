@@ -1,16 +1,17 @@
 //! Opening datagrams.
 ghost use Rattle.std.specs.Prelude.{◌≡◌, ◌≤◌, length, IfOk};
 ghost use Rattle.cs_base.specs.declared.limits.TheConstants.{LEAST_DATAGRAM};
-ghost use Rattle.cs_wire.specs.Datagram.{has_tag as tagged_so, is_sized as sized_so, is_kind as kind_so, body_in};
+ghost use Rattle.cs_wire.specs.Datagram.{has_tag as tagged_so, is_sized as sized_so, body_in};
 ghost use Rattle.cs_wire.specs.Opens.{fault_of, head_fault, Checks, Opens};
 ghost use Rattle.cs_wire.specs.Heads.{head_seen};
 
-use crate::head::{Head, head_of};
+use crate::head::{Head, MAGIC, head_of};
 use crate::keys::{Keys, same_name};
 use crate::view::MessageView;
 use cs_base::{LEAST_DATAGRAM, MOST_DATAGRAM, NodeId};
 use cs_hash::{TagKey, same};
 use cs_wire_message::has_form;
+use cs_wire_message::kinds::is_kind;
 
 /// The bytes of a head.
 const HEAD: usize = 17;
@@ -25,7 +26,7 @@ pub enum OpenError {
     Short,
     /// The first four bytes aren't `CSP1`.
     Magic,
-    /// The kind isn't 1 to 14.
+    /// There is no such kind.
     Kind,
     /// The datagram is for another.
     NotMine,
@@ -37,12 +38,6 @@ pub enum OpenError {
     Tag,
     /// The body is none of its kind.
     Body,
-}
-
-fn is_kind(kind: u8) -> bool
-    ensures { result ≡ kind_so kind }
-{
-    kind >= 1 && kind <= 14
 }
 
 fn is_sized(size: u32, bytes: &[u8]) -> bool
@@ -73,7 +68,7 @@ fn tested_head(keys: &Keys, bytes: &[u8]) -> Result<Head, OpenError>
     let Some(head) = head_of(bytes) else {
         return Err(OpenError::Short);
     };
-    if head.magic.as_slice() != b"CSP1".as_slice() {
+    if head.magic.as_slice() != MAGIC.as_slice() {
         return Err(OpenError::Magic);
     }
     if !is_kind(head.kind) {

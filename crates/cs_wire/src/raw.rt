@@ -9,7 +9,7 @@ ghost use Rattle.cs_wire.specs.Keys.{row_of};
 ghost use Rattle.cs_wire.specs.Raw.{SealsWith};
 ghost use Rattle.cs_wire.specs.declared.sealing.SealError.TheVariants.{NoKey};
 
-use crate::head::write_name;
+use crate::head::{MAGIC, write_name};
 use crate::keys::Keys;
 use crate::sealing::SealError;
 use cs_base::{LEAST_DATAGRAM, Memory, NodeId, Writer};
@@ -23,7 +23,7 @@ fn text(alloc: Global, from: NodeId, to: NodeId, kind: u8, body: &[u8]) -> Resul
     ensures { IfOk result (λ text. text.items ≡ text_with from to kind body.now) }
 {
     let mut out = Writer::with_room(alloc, LEAST_DATAGRAM + body.len())?;
-    out.take(b"CSP1".as_slice())?;
+    out.take(MAGIC.as_slice())?;
     out.u8(kind)?;
     write_name(from, &mut out)?;
     write_name(to, &mut out)?;

@@ -15,7 +15,7 @@ pub struct MessageView<'a> {
 }
 
 impl<'a> MessageView<'a> {
-    /// The number of the kind, from 1 to 14.
+    /// The number of the kind.
     pub fn kind(&self) -> u8
         ensures { result ≡ self.now.kind }
     {

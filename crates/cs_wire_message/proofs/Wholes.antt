@@ -40,38 +40,13 @@ key_bare (key.Object digest) = eqb-suc-zero (length digest)
 key_bare (key.Dummy shard serial) = refl
 
 whole_fits : (m : Message) → MessageFits m → message_whole (kind_of m) (body_of m) ≡ Some m
-whole_fits (message.Submit x) fits = from_long (message.Submit x) fits refl
-whole_fits (message.Propose slot view entry) fits = from_long (message.Propose slot view entry) fits refl
-whole_fits (message.Echo slot view digest) fits = from_long (message.Echo slot view digest) fits refl
-whole_fits (message.Confirm slot view digest) fits = from_long (message.Confirm slot view digest) fits refl
-whole_fits (message.Change slot view change) fits = from_long (message.Change slot view change) fits refl
-whole_fits (message.Voted vote asks x) fits = from_long (message.Voted vote asks x) fits refl
-whole_fits (message.Decided digest accepted) fits = from_long (message.Decided digest accepted) fits refl
-whole_fits (message.Want slot) fits = from_long (message.Want slot) fits refl
-whole_fits (message.Done slot entry) fits = from_long (message.Done slot entry) fits refl
-whole_fits (message.Ask (Some key)) fits = from_long (message.Ask (Some key)) fits (key_bare key)
-whole_fits (message.Told key state) fits = from_long (message.Told key state) fits refl
-whole_fits (message.Head checkpoint) fits = from_long (message.Head checkpoint) fits refl
-whole_fits (message.AskProof slot) fits = from_long (message.AskProof slot) fits refl
-whole_fits (message.Proof proof) fits = from_long (message.Proof proof) fits refl
 whole_fits (message.Ask None) fits = refl
+whole_fits (message.Ask (Some key)) fits = from_long (message.Ask (Some key)) fits (key_bare key)
+whole_fits m fits = from_long m fits refl
 
 long_fits : (m : Message) → IsLong m → MessageFits m
-long_fits (message.Submit x) long = long
-long_fits (message.Propose slot view entry) long = long
-long_fits (message.Echo slot view digest) long = long
-long_fits (message.Confirm slot view digest) long = long
-long_fits (message.Change slot view change) long = long
-long_fits (message.Voted vote asks x) long = long
-long_fits (message.Decided digest accepted) long = long
-long_fits (message.Want slot) long = long
-long_fits (message.Done slot entry) long = long
-long_fits (message.Ask (Some key)) long = long
-long_fits (message.Told key state) long = long
-long_fits (message.Head checkpoint) long = long
-long_fits (message.AskProof slot) long = long
-long_fits (message.Proof proof) long = long
 long_fits (message.Ask None) long = absurd long
+long_fits m long = long
 
 both_true : (a b : Bool) → (a && b) ≡ true → (a ≡ true) × (b ≡ true)
 both_true true b e = (refl, e)

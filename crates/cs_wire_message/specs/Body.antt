@@ -1,6 +1,7 @@
 -- Which bytes are the body of a message.
 use Rattle.std.specs.Prelude.{◌≡◌, ℕ, Bool, ◌&&◌, ◌==◌, List, length, Option, Some, None, if◌then◌else◌}
 use Rattle.cs_base.specs.Fields.{whole_at}
+use Rattle.cs_wire_message.specs.declared.kinds.TheConstants.{ASK}
 use Rattle.cs_wire_message.specs.declared.message.Message.{Message}
 use Rattle.cs_wire_message.specs.declared.message.Message.TheVariants as message
 use Rattle.cs_wire_message.specs.Message.{kind_of, body_of, MessageFits}
@@ -17,7 +18,7 @@ IsBody kind body = (m : Message) × Has kind body m
 
 -- the body of no byte is that of asking for a dummy
 abbrev pub is_bare : ℕ → List ℕ → Bool
-is_bare kind body = kind == 10 && length body == 0
+is_bare kind body = kind == ASK && length body == 0
 
 -- the message of this kind with this body
 abbrev pub message_whole : ℕ → List ℕ → Option Message

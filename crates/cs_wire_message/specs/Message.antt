@@ -1,5 +1,5 @@
 -- The kinds of messages, their bodies and limits.
-use Rattle.std.specs.Prelude.{◌≡◌, ℕ, ◌<◌, ◌≤◌, ◌^◌, Bool, true, if◌then◌else◌, List, [], ◌∷◌, ◌++◌, length, Option, Some, None}
+use Rattle.std.specs.Prelude.{◌≡◌, ℕ, ◌<◌, ◌≤◌, ◌^◌, Bool, true, ◌&&◌, nat_le, if◌then◌else◌, List, [], ◌∷◌, ◌++◌, length, Option, Some, None}
 use Rattle.std.specs.Ordering.{nat_cmp, is_lt}
 use Rattle.std.specs.Cmp.Lexicographic.{slice_cmp}
 use Rattle.std.specs.Int.{w16, w64, to_be_bytes}
@@ -12,24 +12,29 @@ use Rattle.cs_tx_form.specs.Session.{session_encoding, SessionFits, vote_encodin
 use Rattle.cs_tx_form.specs.State.{state_encoding, StateFits}
 use Rattle.cs_tx_form.specs.Log.{checkpoint_encoding, CheckpointFits, proof_encoding, ProofFits}
 use Rattle.cs_wire_message.specs.declared.change.Change.{Change}
+use Rattle.cs_wire_message.specs.declared.kinds.TheConstants.{SUBMIT, PROPOSE, ECHO, CONFIRM, CHANGE, VOTED, DECIDED, WANT, DONE, ASK, TOLD, HEAD, ASK_PROOF, PROOF}
 use Rattle.cs_wire_message.specs.declared.message.Message.{Message}
 use Rattle.cs_wire_message.specs.declared.message.Message.TheVariants as message
 
 abbrev pub kind_of : Message → ℕ
-kind_of (message.Submit x) = 1
-kind_of (message.Propose slot view entry) = 2
-kind_of (message.Echo slot view digest) = 3
-kind_of (message.Confirm slot view digest) = 4
-kind_of (message.Change slot view change) = 5
-kind_of (message.Voted vote asks x) = 6
-kind_of (message.Decided digest accepted) = 7
-kind_of (message.Want slot) = 8
-kind_of (message.Done slot entry) = 9
-kind_of (message.Ask key) = 10
-kind_of (message.Told key state) = 11
-kind_of (message.Head checkpoint) = 12
-kind_of (message.AskProof slot) = 13
-kind_of (message.Proof proof) = 14
+kind_of (message.Submit x) = SUBMIT
+kind_of (message.Propose slot view entry) = PROPOSE
+kind_of (message.Echo slot view digest) = ECHO
+kind_of (message.Confirm slot view digest) = CONFIRM
+kind_of (message.Change slot view change) = CHANGE
+kind_of (message.Voted vote asks x) = VOTED
+kind_of (message.Decided digest accepted) = DECIDED
+kind_of (message.Want slot) = WANT
+kind_of (message.Done slot entry) = DONE
+kind_of (message.Ask key) = ASK
+kind_of (message.Told key state) = TOLD
+kind_of (message.Head checkpoint) = HEAD
+kind_of (message.AskProof slot) = ASK_PROOF
+kind_of (message.Proof proof) = PROOF
+
+-- the numbers of kinds: from the first to the last of these
+abbrev pub is_kind : ℕ → Bool
+is_kind kind = nat_le SUBMIT kind && nat_le kind PROOF
 
 -- ---- what a member claims as it enters a view
 

@@ -3,6 +3,7 @@
 
 mod change;
 mod fitting;
+pub mod kinds;
 mod message;
 mod passing;
 mod reading;

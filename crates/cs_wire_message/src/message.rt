@@ -3,6 +3,10 @@ ghost use Rattle.std.specs.Prelude.{◌≡◌};
 ghost use Rattle.cs_wire_message.specs.Message.{kind_of};
 
 use crate::change::Change;
+use crate::kinds::{
+    ASK, ASK_PROOF, CHANGE, CONFIRM, DECIDED, DONE, ECHO, HEAD, PROOF, PROPOSE, SUBMIT, TOLD,
+    VOTED, WANT,
+};
 use cs_base::Key;
 use cs_tx_form::{Checkpoint, Entry, Proof, Session, State, Vote};
 use cs_tx_value::Digest;
@@ -75,25 +79,25 @@ pub enum Message {
 }
 
 impl Message {
-    /// The number of the kind, from 1 to 14.
+    /// The number of the kind.
     pub fn kind(&self) -> u8
         ensures { result ≡ kind_of self.now }
     {
         match self {
-            Message::Submit(_) => 1,
-            Message::Propose { .. } => 2,
-            Message::Echo { .. } => 3,
-            Message::Confirm { .. } => 4,
-            Message::Change { .. } => 5,
-            Message::Voted { .. } => 6,
-            Message::Decided { .. } => 7,
-            Message::Want { .. } => 8,
-            Message::Done { .. } => 9,
-            Message::Ask(_) => 10,
-            Message::Told { .. } => 11,
-            Message::Head(_) => 12,
-            Message::AskProof { .. } => 13,
-            Message::Proof(_) => 14,
+            Message::Submit(_) => SUBMIT,
+            Message::Propose { .. } => PROPOSE,
+            Message::Echo { .. } => ECHO,
+            Message::Confirm { .. } => CONFIRM,
+            Message::Change { .. } => CHANGE,
+            Message::Voted { .. } => VOTED,
+            Message::Decided { .. } => DECIDED,
+            Message::Want { .. } => WANT,
+            Message::Done { .. } => DONE,
+            Message::Ask(_) => ASK,
+            Message::Told { .. } => TOLD,
+            Message::Head(_) => HEAD,
+            Message::AskProof { .. } => ASK_PROOF,
+            Message::Proof(_) => PROOF,
         }
     }
 }

@@ -3,6 +3,10 @@ ghost use Rattle.std.specs.Prelude.{◌≡◌};
 ghost use Rattle.cs_tx_value.specs.Reading.{Passes};
 ghost use Rattle.cs_wire_message.specs.Reading.{propose_at, step_at, voted_at, decided_at, done_at, told_at, message_at};
 
+use crate::kinds::{
+    ASK, ASK_PROOF, CHANGE, CONFIRM, DECIDED, DONE, ECHO, HEAD, PROOF, PROPOSE, SUBMIT, TOLD,
+    VOTED, WANT,
+};
 use crate::rising::skip_claim;
 use crate::view::{skip_flag, skip_view};
 use cs_base::{Cursor, Key};
@@ -66,20 +70,20 @@ pub fn skip_message(cursor: &mut Cursor<'_>, kind: u8) -> Result<(), FormError>
     ensures { Passes result cursor.new (message_at kind cursor.old) }
 {
     match kind {
-        1 => Session::skip(cursor),
-        2 => skip_propose(cursor),
-        3 => skip_step(cursor),
-        4 => skip_step(cursor),
-        5 => skip_claim(cursor),
-        6 => skip_voted(cursor),
-        7 => skip_decided(cursor),
-        8 => skip_slot(cursor),
-        9 => skip_done(cursor),
-        10 => Key::skip(cursor),
-        11 => skip_told(cursor),
-        12 => Checkpoint::skip(cursor),
-        13 => skip_slot(cursor),
-        14 => Proof::skip(cursor),
+        SUBMIT => Session::skip(cursor),
+        PROPOSE => skip_propose(cursor),
+        ECHO => skip_step(cursor),
+        CONFIRM => skip_step(cursor),
+        CHANGE => skip_claim(cursor),
+        VOTED => skip_voted(cursor),
+        DECIDED => skip_decided(cursor),
+        WANT => skip_slot(cursor),
+        DONE => skip_done(cursor),
+        ASK => Key::skip(cursor),
+        TOLD => skip_told(cursor),
+        HEAD => Checkpoint::skip(cursor),
+        ASK_PROOF => skip_slot(cursor),
+        PROOF => Proof::skip(cursor),
         _ => Err(FormError::BadForm),
     }
 }

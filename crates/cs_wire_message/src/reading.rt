@@ -3,6 +3,10 @@ ghost use Rattle.std.specs.Prelude.{◌≡◌};
 ghost use Rattle.cs_tx_value.specs.Reading.{ReadsValue};
 ghost use Rattle.cs_wire_message.specs.Reading.{propose_at, step_at, voted_at, decided_at, done_at, told_at, message_at};
 
+use crate::kinds::{
+    ASK, ASK_PROOF, CHANGE, CONFIRM, DECIDED, DONE, ECHO, HEAD, PROOF, PROPOSE, SUBMIT, TOLD,
+    VOTED, WANT,
+};
 use crate::message::Message;
 use crate::rising::read_claim;
 use crate::view::{read_flag, read_view};
@@ -73,24 +77,24 @@ pub fn read_message(alloc: Global, cursor: &mut Cursor<'_>, kind: u8) -> Result<
     ensures { ReadsValue result cursor.new (message_at kind cursor.old) }
 {
     match kind {
-        1 => Ok(Message::Submit(Session::read(alloc, cursor)?)),
-        2 => {
+        SUBMIT => Ok(Message::Submit(Session::read(alloc, cursor)?)),
+        PROPOSE => {
             let (slot, (view, entry)) = read_propose(alloc, cursor)?;
             Ok(Message::Propose { slot, view, entry })
         }
-        3 => {
+        ECHO => {
             let (slot, (view, digest)) = read_step(alloc, cursor)?;
             Ok(Message::Echo { slot, view, digest })
         }
-        4 => {
+        CONFIRM => {
             let (slot, (view, digest)) = read_step(alloc, cursor)?;
             Ok(Message::Confirm { slot, view, digest })
         }
-        5 => {
+        CHANGE => {
             let (slot, (view, change)) = read_claim(alloc, cursor)?;
             Ok(Message::Change { slot, view, change })
         }
-        6 => {
+        VOTED => {
             let (vote, (asks, session)) = read_voted(alloc, cursor)?;
             Ok(Message::Voted {
                 vote,
@@ -98,27 +102,27 @@ pub fn read_message(alloc: Global, cursor: &mut Cursor<'_>, kind: u8) -> Result<
                 session,
             })
         }
-        7 => {
+        DECIDED => {
             let (session, accepted) = read_decided(alloc, cursor)?;
             Ok(Message::Decided { session, accepted })
         }
-        8 => Ok(Message::Want {
+        WANT => Ok(Message::Want {
             slot: read_slot(cursor)?,
         }),
-        9 => {
+        DONE => {
             let (slot, entry) = read_done(alloc, cursor)?;
             Ok(Message::Done { slot, entry })
         }
-        10 => Ok(Message::Ask(Some(Key::read(alloc, cursor)?))),
-        11 => {
+        ASK => Ok(Message::Ask(Some(Key::read(alloc, cursor)?))),
+        TOLD => {
             let (key, state) = read_told(alloc, cursor)?;
             Ok(Message::Told { key, state })
         }
-        12 => Ok(Message::Head(Checkpoint::read(alloc, cursor)?)),
-        13 => Ok(Message::AskProof {
+        HEAD => Ok(Message::Head(Checkpoint::read(alloc, cursor)?)),
+        ASK_PROOF => Ok(Message::AskProof {
             slot: read_slot(cursor)?,
         }),
-        14 => Ok(Message::Proof(Proof::read(alloc, cursor)?)),
+        PROOF => Ok(Message::Proof(Proof::read(alloc, cursor)?)),
         _ => Err(FormError::BadForm),
     }
 }

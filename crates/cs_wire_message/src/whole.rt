@@ -8,6 +8,7 @@ ghost use Rattle.cs_wire_message.specs.declared.message.Message.{Message};
 ghost use Rattle.cs_wire_message.specs.Message.{body_of, MessageFits};
 ghost use Rattle.cs_wire_message.specs.Body.{Has, IsBody, message_whole};
 
+use crate::kinds::ASK;
 use crate::message::Message;
 use crate::passing::skip_message;
 use crate::reading::read_message;
@@ -15,9 +16,7 @@ use cs_base::Cursor;
 use cs_tx_value::FormError;
 use std::alloc::Global;
 
-/// The kind of asking for a dummy, whose body has no byte.
-const ASK: u8 = 10;
-
+// Asking for a dummy has a body of no byte.
 fn passes(kind: u8, body: &[u8]) -> bool
     ensures { result ≡ is_some (message_whole kind body.now) }
 {

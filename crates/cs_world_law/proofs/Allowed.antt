@@ -19,7 +19,8 @@ use Rattle.cs_ledger.specs.Table as Shard
 use Rattle.cs_ledger.specs.Table.{Effect}
 use Rattle.cs_ledger.specs.ShardWorld.{Step, votes, IsAllowed, AllAllowed, sessions}
 use Rattle.cs_node_state.specs.declared.pooled.Pooled.{Pooled}
-use Rattle.cs_node_state.specs.Setup.{Setup, digest_of, concerns, concerned, is_fit, is_approved, session_in, entry_of}
+use Rattle.cs_node_state.specs.Setup.{Setup, digest_of, concerns, concerned, is_fit, is_approved, entry_of}
+use Rattle.cs_tx_form.specs.Session.{session_in}
 use Rattle.cs_node_state.specs.Evidence.{has_support, is_decided}
 use Rattle.cs_node_state.specs.Pool.{found}
 use Rattle.cs_node_state.specs.Admission.{admits, is_decided_in}

@@ -7,7 +7,8 @@ use Rattle.cs_ledger.specs.Table.{Commit, Abort, Table, Entry, Decide, Voted, Ac
 use Rattle.cs_ledger.specs.ShardWorld.{log, all_commit, sessions, IsAllowed, AreNamedApart}
 use Rattle.cs_ledger.proofs.Changes.{IsIdle, Nothing, Locks, Notes, Accepts, Aborts, change}
 use Rattle.cs_ledger.proofs.Decisions.{all_concerned}
-use Rattle.cs_node_state.specs.Setup.{entry_of, session_in}
+use Rattle.cs_node_state.specs.Setup.{entry_of}
+use Rattle.cs_tx_form.specs.Session.{session_in}
 use Rattle.cs_node_rules.specs.Site.{Site}
 use Rattle.cs_node_rules.specs.World.{Execution, steps_of}
 use Rattle.cs_world_law.specs.Steps.{IsComputed}

@@ -1,6 +1,6 @@
 -- The site of a deployment is sound, and its hashed strings are those that the ledger asks of.
-use Rattle.std.proofs.Common.{◌≡◌, inl, inr, ℕ, zero, suc, ◌+◌, ◌*◌, ◌<◌, ◌≤◌, ◌^◌, nat_lt, nat_le, Bool, true, false, List, [], ◌∷◌, ◌++◌, map, Option, Some, None, refl, sym, ap, ◌∙◌, subst, arith, append_assoc}
-use Rattle.std.specs.Prelude.{Ok, Err, ◌==◌, codes, length, slice_get}
+use Rattle.std.proofs.Common.{◌≡◌, inl, inr, ℕ, suc, ◌+◌, ◌*◌, ◌<◌, ◌≤◌, ◌^◌, nat_lt, nat_le, Bool, true, false, List, [], ◌∷◌, ◌++◌, map, Option, Some, None, refl, sym, ap, ◌∙◌, subst, arith, append_assoc}
+use Rattle.std.specs.Prelude.{Ok, Err, ◌==◌, length, slice_get}
 use Rattle.std.specs.Int.{w16, w32, w64, to_be_bytes}
 use Rattle.std.proofs.lemmas.Bool.{cases_Bool, and_parts, eqb-true, ltb-true}
 use Rattle.std.proofs.lemmas.Nat.{mod_below}
@@ -24,9 +24,11 @@ use Rattle.cs_tx_form.specs.Session.{SessionFits, entry_encoding, EntryFits}
 use Rattle.cs_tx.specs.Digest.{digest_of_tx}
 use Rattle.cs_tx_form.specs.Reading.{entry_at}
 use Rattle.cs_tx_form.specs.laws.Session.{entry_form}
+use Rattle.cs_wire_message.specs.declared.kinds.TheConstants.{WANT, HEAD}
 use Rattle.cs_wire_message.specs.declared.message.Message.{Message}
 use Rattle.cs_wire_message.specs.declared.message.Message.TheVariants as message
 use Rattle.cs_wire_message.specs.Message.{kind_of, body_of, MessageFits}
+use Rattle.cs_wire_message.specs.laws.Kinds.{kind_small}
 use Rattle.cs_wire_message.specs.Body.{message_whole}
 use Rattle.cs_wire_message.proofs.Wholes.{whole_has, has_whole}
 use Rattle.cs_wire_message.proofs.Short.{body_short}
@@ -38,7 +40,7 @@ use Rattle.cs_wire.specs.Datagram as wire
 use Rattle.cs_wire.specs.Heads.{head_at, first, head_seen}
 use Rattle.cs_wire.specs.Opens.{IsName, fault_of}
 use Rattle.cs_wire.specs.Opened.{Opened, said_by, opened_body, unless_fault, opened}
-use Rattle.cs_wire.proofs.Parts.{head_encoding, HeadFits, head_form, head_for, head_length, text_parts, split}
+use Rattle.cs_wire.proofs.Parts.{head_encoding, HeadFits, head_form, head_for, head_length, magic_bytes, text_parts, split}
 use Rattle.cs_wire.proofs.Masters.{sealed_is}
 use Rattle.cs_tx.specs.Sessions.{outputs_written_at, outputs_written, written_of, session_of}
 use Rattle.cs_tx.proofs.Faithful.{are-faithful}
@@ -71,29 +73,6 @@ use Rattle.cs_world_law.proofs.Stories.{InsFit, ins-fit}
 
 -- ---- datagrams of messages
 
-kind-small : (m : Message) → kind_of m < 256
-kind-small (message.Submit x) = omega arith
-kind-small (message.Propose slot view entry) = omega arith
-kind-small (message.Echo slot view digest) = omega arith
-kind-small (message.Confirm slot view digest) = omega arith
-kind-small (message.Change slot view change) = omega arith
-kind-small (message.Voted vote asks x) = omega arith
-kind-small (message.Decided digest accepted) = omega arith
-kind-small (message.Want slot) = omega arith
-kind-small (message.Done slot entry) = omega arith
-kind-small (message.Ask key) = omega arith
-kind-small (message.Told key state) = omega arith
-kind-small (message.Head checkpoint) = omega arith
-kind-small (message.AskProof slot) = omega arith
-kind-small (message.Proof proof) = omega arith
-
-magic-bytes : IsBytes (codes "CSP1")
-magic-bytes zero = omega arith
-magic-bytes (suc zero) = omega arith
-magic-bytes (suc (suc zero)) = omega arith
-magic-bytes (suc (suc (suc zero))) = omega arith
-magic-bytes (suc (suc (suc (suc i)))) = omega arith
-
 -- what a head and a body say
 said-whole : (from sender : NodeId) (said : Message) (o : Option Message) → said_by from o ≡ Ok (sender, said) → o ≡ Some said
 said-whole from sender said None e = absurd cc
@@ -113,7 +92,7 @@ opens-whole keys key from to sender m said of_from of_to short reads =
     let text = text_of from to m in
     let tag = hmac key text in
     let bytes = wire.sealed key from to m in
-    let fits : HeadFits h = ((refl, magic-bytes), (kind-small m, (of_from, (of_to, short)))) in
+    let fits : HeadFits h = ((refl, magic_bytes), (kind_small m, (of_from, (of_to, short)))) in
     let is : bytes ≡ (head_encoding h ++ body) ++ tag = ap (λ (t : Bytes). t ++ tag) (text_parts from to m) in
     let parts = split (head_encoding h) body tag bytes (head_length h refl) (length-sha256 _) is in
     let found : head_at bytes ≡ Some (h, body ++ tag) = ap head_at (is ∙ append_assoc (head_encoding h) body tag) ∙ head_form.again h (body ++ tag) fits in
@@ -122,37 +101,13 @@ opens-whole keys key from to sender m said of_from of_to short reads =
     let here : said_by h.from (message_whole h.kind (body_in bytes)) ≡ Ok (sender, said) = sym (ap (opened_body bytes) seen) ∙ clear in
     ap (message_whole (kind_of m)) (sym parts.body) ∙ said-whole h.from sender said (message_whole h.kind (body_in bytes)) here
 
-want-of : (m : Message) → kind_of m ≡ 8 → (slot : ℕ) × (m ≡ message.Want slot)
+want-of : (m : Message) → kind_of m ≡ WANT → (slot : ℕ) × (m ≡ message.Want slot)
 want-of (message.Want slot) e = (slot, refl)
-want-of (message.Submit x) e = absurd (omega (arith, e))
-want-of (message.Propose slot view entry) e = absurd (omega (arith, e))
-want-of (message.Echo slot view digest) e = absurd (omega (arith, e))
-want-of (message.Confirm slot view digest) e = absurd (omega (arith, e))
-want-of (message.Change slot view change) e = absurd (omega (arith, e))
-want-of (message.Voted vote asks x) e = absurd (omega (arith, e))
-want-of (message.Decided digest accepted) e = absurd (omega (arith, e))
-want-of (message.Done slot entry) e = absurd (omega (arith, e))
-want-of (message.Ask key) e = absurd (omega (arith, e))
-want-of (message.Told key state) e = absurd (omega (arith, e))
-want-of (message.Head checkpoint) e = absurd (omega (arith, e))
-want-of (message.AskProof slot) e = absurd (omega (arith, e))
-want-of (message.Proof proof) e = absurd (omega (arith, e))
+want-of m e = absurd (omega (arith, e))
 
-head-of : (m : Message) → kind_of m ≡ 12 → (c : Checkpoint) × (m ≡ message.Head c)
+head-of : (m : Message) → kind_of m ≡ HEAD → (c : Checkpoint) × (m ≡ message.Head c)
 head-of (message.Head checkpoint) e = (checkpoint, refl)
-head-of (message.Submit x) e = absurd (omega (arith, e))
-head-of (message.Propose slot view entry) e = absurd (omega (arith, e))
-head-of (message.Echo slot view digest) e = absurd (omega (arith, e))
-head-of (message.Confirm slot view digest) e = absurd (omega (arith, e))
-head-of (message.Change slot view change) e = absurd (omega (arith, e))
-head-of (message.Voted vote asks x) e = absurd (omega (arith, e))
-head-of (message.Decided digest accepted) e = absurd (omega (arith, e))
-head-of (message.Want slot) e = absurd (omega (arith, e))
-head-of (message.Done slot entry) e = absurd (omega (arith, e))
-head-of (message.Ask key) e = absurd (omega (arith, e))
-head-of (message.Told key state) e = absurd (omega (arith, e))
-head-of (message.AskProof slot) e = absurd (omega (arith, e))
-head-of (message.Proof proof) e = absurd (omega (arith, e))
+head-of m e = absurd (omega (arith, e))
 
 -- ---- nodes
 

@@ -19,7 +19,8 @@ use Rattle.cs_ledger.specs.Table as Shard
 use Rattle.cs_ledger.specs.Table.{Table, Outcome, State, exec}
 use Rattle.cs_ledger.proofs.Basics.{bytes_refl, first_is, anchor_used, in_left, in_right}
 use Rattle.cs_ledger.proofs.States.{ready_at}
-use Rattle.cs_node_state.specs.Setup.{concerned, session_in, is_fit}
+use Rattle.cs_node_state.specs.Setup.{concerned, is_fit}
+use Rattle.cs_tx_form.specs.Session.{session_in}
 use Rattle.cs_node_rules.specs.Members.{others}
 use Rattle.cs_node_state.specs.Bench.{locked_at, is_locked, executed, told_by, told_of}
 use Rattle.cs_node_rules.specs.Signs.{Did, Sent, sends, vote_signs}

@@ -4,7 +4,7 @@ use Rattle.std.specs.Prelude.{Ok, Err, slice_get}
 use Rattle.cs_base.specs.declared.node_id.NodeId.{NodeId}
 use Rattle.cs_tx_form.specs.declared.session.Session.{Session}
 use Rattle.cs_tx_form.specs.declared.entry.Entry.{Entry}
-use Rattle.cs_tx_form.specs.Session.{SessionFits, EntryFits}
+use Rattle.cs_tx_form.specs.Session.{SessionFits, EntryFits, session_in}
 use Rattle.cs_wire_message.specs.declared.message.Message.{Message}
 use Rattle.cs_wire_message.specs.declared.message.Message.TheVariants as message
 use Rattle.cs_wire.specs.Opened.{Opened}
@@ -15,7 +15,6 @@ use Rattle.cs_order.specs.Runs.{KeepsRules, IsKept, entries_in as entries_by, he
 use Rattle.cs_ledger.specs.Ledger.{Bytes, IsIn}
 use Rattle.cs_ledger.specs.Table.{Effect}
 use Rattle.cs_ledger.proofs.Basics.{in_either}
-use Rattle.cs_node_state.specs.Setup.{session_in}
 use Rattle.cs_node_rules.specs.Signs.{Dropped, Took, Entered, Viewed, Did, Headed, Kept, Sent}
 use Rattle.cs_node_rules.specs.Site.{Datagram, Tick, Mark, In, Ordered, Plain, Site, signs_of}
 use Rattle.cs_node_rules.specs.Collisions.{sessions_in, entries_in, in_opened}
@@ -47,18 +46,7 @@ entry-session (message.Propose slot view entry) e (inl is) = inl (ap session_in 
 entry-session (message.Propose slot view entry) e (inr none) = absurd none
 entry-session (message.Done slot entry) e (inl is) = inl (ap session_in is)
 entry-session (message.Done slot entry) e (inr none) = absurd none
-entry-session (message.Submit y) e i = absurd i
-entry-session (message.Echo slot view digest) e i = absurd i
-entry-session (message.Confirm slot view digest) e i = absurd i
-entry-session (message.Change slot view change) e i = absurd i
-entry-session (message.Voted vote asks y) e i = absurd i
-entry-session (message.Decided digest accepted) e i = absurd i
-entry-session (message.Want slot) e i = absurd i
-entry-session (message.Ask asked) e i = absurd i
-entry-session (message.Told key state) e i = absurd i
-entry-session (message.Head checkpoint) e i = absurd i
-entry-session (message.AskProof slot) e i = absurd i
-entry-session (message.Proof proof) e i = absurd i
+entry-session said e i = absurd i
 
 -- a known entry, as it is proposed
 pub record IsListed (known : Known) (p : Proposed) : Type 0 where

@@ -137,18 +137,8 @@ module _ {M : Type 0} (site : Site M) (sound : IsSoundSite site) (known : Known)
         ];
       })
   word-of me t to (message.Want slot) made within h = inr (inl (slot, refl))
-  word-of me t to (message.Submit x) made within h = inr (inr (inr h.0))
-  word-of me t to (message.Propose slot view entry) made within h = inr (inr (inr h.0))
-  word-of me t to (message.Echo slot view digest) made within h = inr (inr (inr h.0))
-  word-of me t to (message.Confirm slot view digest) made within h = inr (inr (inr h.0))
-  word-of me t to (message.Change slot view change) made within h = inr (inr (inr h.0))
-  word-of me t to (message.Decided digest accepted) made within h = inr (inr (inr h.0))
-  word-of me t to (message.Done slot entry) made within h = inr (inr (inr h.0))
-  word-of me t to (message.Ask asked) made within h = inr (inr (inr h.0))
-  word-of me t to (message.Told key state) made within h = inr (inr (inr h.0))
   word-of me t to (message.Head checkpoint) made within h = inr (inr (inl ((checkpoint, refl), h)))
-  word-of me t to (message.AskProof slot) made within h = inr (inr (inr h.0))
-  word-of me t to (message.Proof proof) made within h = inr (inr (inr h.0))
+  word-of me t to said made within h = inr (inr (inr h.0))
 
   -- what was sent was handed out for a member of the shard, or is the node's own word
   abbrev IsSaid : NodeId → List (Mark M) → NodeId → Message → Type 0

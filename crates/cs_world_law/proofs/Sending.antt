@@ -1,19 +1,17 @@
 -- Whatever a node executed, the votes that came of it were sent afterwards.
-use Rattle.std.proofs.Common.{◌≡◌, ◌⊎◌, inl, inr, ℕ, zero, suc, ◌+◌, ◌-◌, ◌%◌, ◌^◌, Bool, true, false, not, ◌&&◌, if◌then◌else◌, List, [], ◌∷◌, ◌++◌, length, Option, Some, None, refl, sym, ap, ◌∙◌, subst, append_assoc}
+use Rattle.std.proofs.Common.{◌≡◌, ◌⊎◌, inl, inr, ℕ, zero, suc, ◌+◌, ◌-◌, ◌%◌, ◌^◌, Bool, true, not, ◌&&◌, if◌then◌else◌, List, [], ◌∷◌, ◌++◌, length, Option, Some, None, refl, sym, ap, ◌∙◌, subst, append_assoc}
 use Rattle.std.specs.Prelude.{Ok, Err, ◌==◌, is_some, nat_lt}
 use Rattle.std.proofs.lemmas.Bool.{cond_both}
 use Rattle.cs_base.specs.declared.node_id.NodeId.{NodeId}
-use Rattle.cs_base.specs.NodeId.{is_client, same_name}
-use Rattle.cs_base.specs.declared.key.Key.{Key}
-use Rattle.cs_base.specs.Key.{shard_of_key}
+use Rattle.cs_base.specs.NodeId.{same_name}
 use Rattle.cs_tx_form.specs.declared.session.Session.{Session}
 use Rattle.cs_tx_form.specs.declared.vote.Vote.{Vote}
 use Rattle.cs_tx_form.specs.declared.vote.Vote.TheVariants.{Commit}
 use Rattle.cs_tx_form.specs.declared.checkpoint.Checkpoint.{Checkpoint}
 use Rattle.cs_tx_form.specs.declared.entry.Entry.{Entry}
-use Rattle.cs_tx_form.specs.declared.proof.Proof.{Proof}
 use Rattle.cs_wire_message.specs.declared.message.Message.{Message}
 use Rattle.cs_wire_message.specs.declared.message.Message.TheVariants as message
+use Rattle.cs_wire_message.specs.Classes.{Class, OfOrder, class_of}
 use Rattle.cs_order.specs.declared.proposed.Proposed.{Proposed}
 use Rattle.cs_order.specs.declared.answers.Outgoing.{Outgoing}
 use Rattle.cs_order.specs.declared.answers.Took.{Took as Answer}
@@ -27,22 +25,17 @@ use Rattle.cs_wire.specs.Opened.{Opened}
 use Rattle.cs_ledger.specs.Ledger.{IsIn}
 use Rattle.cs_ledger.specs.Table.{Effect}
 use Rattle.cs_ledger.proofs.Basics.{in_left, in_right}
-use Rattle.cs_node_rules.specs.declared.cause.Cause.{Cause}
-use Rattle.cs_node_rules.specs.declared.cause.Cause.TheVariants.{Mine, Role, Malformed, Repeat, Unasked, Denied, Full}
+use Rattle.cs_node_rules.proofs.Heard.{AllHeard, heard}
 use Rattle.cs_checkpoint.specs.Chain.{head_of, made_last, kept_slots}
-use Rattle.cs_check_rules.specs.Heads.{is_news}
-use Rattle.cs_check_rules.specs.Proofs.{proof_of}
-use Rattle.cs_node_state.specs.declared.pooled.Pooled.{Pooled}
-use Rattle.cs_node_state.specs.Setup.{Setup, digest_of, concerns, concerned, is_fit, is_approved, session_in}
-use Rattle.cs_node_state.specs.Evidence.{has_voted}
+use Rattle.cs_node_state.specs.Setup.{Setup, digest_of, concerned}
+use Rattle.cs_tx_form.specs.Session.{session_in}
 use Rattle.cs_node_state.specs.Admission.{due}
 use Rattle.cs_node_rules.specs.Members.{is_other_member, others}
-use Rattle.cs_node_state.specs.Pool.{Pool, found, is_pooled, has_room}
-use Rattle.cs_node_state.specs.Bench.{Bench, executed, slot_executed, decided, noted, told_of}
-use Rattle.cs_node_state.specs.Asked.{told_at, key_asked}
-use Rattle.cs_node_rules.specs.Signs.{Sign, Dropped, Took, Entered, Viewed, Did, Headed, Kept, Sent, guarded, entering_signs, submitted_signs, submit_signs, ask_signs, proof_signs, ask_proof_signs, head_signs, asking_signs, ballot_signs, voted_signs, sends, vote_signs, own_signs, entered_signs, ran_signs, headed_signs, execution_signs, asked_again}
+use Rattle.cs_node_state.specs.Pool.{Pool, is_pooled}
+use Rattle.cs_node_state.specs.Bench.{Bench, executed, slot_executed, told_of}
+use Rattle.cs_node_rules.specs.Signs.{Sign, Dropped, Took, Entered, Viewed, Did, Headed, Kept, Sent, sends, vote_signs, own_signs, entered_signs, ran_signs, headed_signs, execution_signs, asked_again, said_signs}
 use Rattle.cs_node_rules.specs.Site.{Input, Datagram, Tick, Mark, In, Ordered, Site, View, view_after, plain, signs_of}
-use Rattle.cs_node_rules.specs.Trail.{out_signs, handed, with_deed, moving, entered_view, admits_proposed, due_marks, candidate_marks, propose_marks, echo_marks, cut_marks, step_marks, turn_marks, continued, settled, taking_marks, member_marks, reply_marks, message_marks, opened_marks, again_marks, waiting_marks, input_marks, event_marks}
+use Rattle.cs_node_rules.specs.Trail.{out_signs, handed, with_deed, moving, entered_view, admits_proposed, due_marks, candidate_marks, propose_marks, echo_marks, cut_marks, step_marks, turn_marks, continued, settled, taking_marks, member_marks, reply_marks, class_marks, message_marks, opened_marks, again_marks, waiting_marks, input_marks, event_marks}
 use Rattle.cs_node_rules.specs.World.{Happening, trail_of, view_of, IsLife}
 use Rattle.cs_node_rules.specs.Ready.{bench_at}
 use Rattle.cs_node_law.specs.Made.{view_at}
@@ -98,10 +91,6 @@ no-sends : (names : List NodeId) (said : Message) → NoDid (sends names said)
 no-sends [] said = tt
 no-sends (to ∷ names) said = no-append (sends names said) (Sent to said ∷ []) (no-sends names said) tt
 
-no-guard : (b : Bool) (cause : Cause) (signs : List Sign) → NoDid signs → NoDid (guarded b cause signs)
-no-guard true cause signs h = h
-no-guard false cause signs h = tt
-
 no-own : (me : NodeId) (x : Session) (told : Option (Vote × Bool)) → NoDid (own_signs me x told)
 no-own me x None = tt
 no-own me x (Some told) = cond_both told.1 (Took me told.0 x ∷ []) [] NoDid (λ e. tt) (λ e. tt)
@@ -129,68 +118,17 @@ no-headed setup me (Some c) =
     let names = others setup.f me (me.shard ∷ []) in
     no-append (sends names (message.Head c)) (Headed c.number (head_of c) ∷ []) (no-sends names (message.Head c)) tt
 
--- ---- signs of inputs
-
-module _ (setup : Setup) (shard : ℕ) (b : Bench) (sender : NodeId) where
-  no-entering : (x : Session) → NoDid (entering_signs setup b x)
-  no-entering x =
-      let enters : List Sign = Entered x ∷ [] in
-      let full = guarded (has_room b.pool) Full enters in
-      let denied = guarded (is_approved setup x) Denied full in
-      no-guard (not (is_pooled (digest_of setup x) b.pool)) Repeat denied (no-guard (is_approved setup x) Denied full (no-guard (has_room b.pool) Full enters tt))
-
-  no-submitted : (x : Session) (o : Option Bool) → NoDid (submitted_signs setup b sender x o)
-  no-submitted x (Some accepted) = tt
-  no-submitted x None = no-entering x
-
-  no-submit : (x : Session) → NoDid (submit_signs setup shard b sender x)
-  no-submit x =
-      let o = decided setup shard b.table x in
-      let done = submitted_signs setup b sender x o in
-      let fits = guarded (is_fit setup shard x) Malformed done in
-      no-guard (is_client sender) Role fits (no-guard (is_fit setup shard x) Malformed done (no-submitted x o))
-
-  no-ask : (asked : Option Key) → NoDid (ask_signs setup shard b sender asked)
-  no-ask asked =
-      let key = key_asked b.table shard asked in
-      let mine = shard_of_key setup.shards key == shard in
-      let tells : List Sign = Sent sender (message.Told key (told_at b.table key)) ∷ [] in
-      no-guard (is_client sender) Role (guarded mine Mine tells) (no-guard mine Mine tells tt)
-
-  no-proof : (o : Option Proof) → NoDid (proof_signs sender o)
-  no-proof None = tt
-  no-proof (Some proof) = tt
-
-  no-ask-proof : (slot : ℕ) → NoDid (ask_proof_signs b sender slot)
-  no-ask-proof slot =
-      let o = proof_of b.log slot in
-      no-guard (is_client sender) Role (proof_signs sender o) (no-proof o)
-
-  no-head : (me : NodeId) (checkpoint : Checkpoint) → NoDid (head_signs setup me b sender checkpoint)
-  no-head me checkpoint =
-      let news = is_news sender.index checkpoint b.heads in
-      let keeps : List Sign = Kept sender.index checkpoint ∷ [] in
-      no-guard (is_other_member setup.f me sender) Role (guarded news Repeat keeps) (no-guard news Repeat keeps tt)
-
-  no-asking : (vote : Vote) (asks : Bool) (x : Session) (o : Option Vote) → NoDid (asking_signs setup b sender vote asks x o)
-  no-asking vote asks x (Some noted) = no-guard asks Unasked (Sent sender (message.Voted noted false x) ∷ []) tt
-  no-asking vote asks x None =
-      let enters : List Sign = Took sender vote x ∷ Entered x ∷ [] in
-      let full = guarded (has_room b.pool) Full enters in
-      let denied = guarded (is_approved setup x) Denied full in
-      no-guard asks Unasked denied (no-guard (is_approved setup x) Denied full (no-guard (has_room b.pool) Full enters tt))
-
-  no-ballot : (vote : Vote) (asks : Bool) (x : Session) (o : Option Pooled) → NoDid (ballot_signs setup shard b sender vote asks x o)
-  no-ballot vote asks x (Some p) = no-guard (not (has_voted sender p.ballots)) Repeat (Took sender vote x ∷ []) tt
-  no-ballot vote asks x None = no-asking vote asks x (noted setup shard b.table x)
-
-  no-voted : (vote : Vote) (asks : Bool) (x : Session) → NoDid (voted_signs setup shard b sender vote asks x)
-  no-voted vote asks x =
-      let o = found (digest_of setup x) b.pool in
-      let takes = ballot_signs setup shard b sender vote asks x o in
-      let role = guarded (concerns setup x sender.shard) Role takes in
-      let fits = guarded (is_fit setup shard x) Malformed role in
-      no-guard (not (is_client sender)) Role fits (no-guard (is_fit setup shard x) Malformed role (no-guard (concerns setup x sender.shard) Role takes (no-ballot vote asks x o)))
+-- what is said to a node, but for its order
+no-heard : (sender : NodeId) (signs : List Sign) → AllHeard sender signs → NoDid signs
+no-heard sender [] all = tt
+no-heard sender (Dropped cause ∷ signs) all = no-heard sender signs all
+no-heard sender (Took from vote x ∷ signs) all = no-heard sender signs all
+no-heard sender (Entered x ∷ signs) all = no-heard sender signs all
+no-heard sender (Viewed slot view ∷ signs) all = absurd all
+no-heard sender (Did slot entry effect ∷ signs) all = absurd all
+no-heard sender (Headed number head ∷ signs) all = absurd all
+no-heard sender (Kept index checkpoint ∷ signs) all = no-heard sender signs all
+no-heard sender (Sent to said ∷ signs) all = no-heard sender signs all.1
 
 -- ---- what the order hands out
 
@@ -461,23 +399,17 @@ module _ {M : Type 0} (site : Site M) (v : View M) where
   idle-reply slot to None = tt
   idle-reply slot to (Some out) = idle-deed (Replied slot to (out ∷ []))
 
+  idle-class : (sender : NodeId) (said : Message) (class : Class) → Idle (class_marks site v sender said class)
+  idle-class sender said OfOrder = idle-member sender (site.carrier.read said)
+  idle-class sender said class =
+      let signs = said_signs site.setup v.me v.bench sender said in
+      idle-plain signs (no-heard sender signs (heard site.setup v.me v.bench sender said))
+
   idle-message : (sender : NodeId) (said : Message) → Idle (message_marks site v sender said)
-  idle-message sender (message.Submit x) = idle-plain (submit_signs site.setup v.me.shard v.bench sender x) (no-submit site.setup v.me.shard v.bench sender x)
-  idle-message sender (message.Propose slot view entry) = idle-member sender (site.carrier.read (message.Propose slot view entry))
-  idle-message sender (message.Echo slot view digest) = idle-member sender (site.carrier.read (message.Echo slot view digest))
-  idle-message sender (message.Confirm slot view digest) = idle-member sender (site.carrier.read (message.Confirm slot view digest))
-  idle-message sender (message.Change slot view change) = idle-member sender (site.carrier.read (message.Change slot view change))
-  idle-message sender (message.Voted vote asks x) = idle-plain (voted_signs site.setup v.me.shard v.bench sender vote asks x) (no-voted site.setup v.me.shard v.bench sender vote asks x)
-  idle-message sender (message.Decided digest accepted) = tt
   idle-message sender (message.Want slot) =
       cond_both (is_other_member site.setup.f v.me sender) _ _ Idle
       (λ e. idle-reply slot sender.index (site.machine.replying v.member slot sender.index)) (λ e. tt)
-  idle-message sender (message.Done slot entry) = idle-member sender (site.carrier.read (message.Done slot entry))
-  idle-message sender (message.Ask asked) = idle-plain (ask_signs site.setup v.me.shard v.bench sender asked) (no-ask site.setup v.me.shard v.bench sender asked)
-  idle-message sender (message.Told key state) = tt
-  idle-message sender (message.Head checkpoint) = idle-plain (head_signs site.setup v.me v.bench sender checkpoint) (no-head site.setup v.me.shard v.bench sender v.me checkpoint)
-  idle-message sender (message.AskProof slot) = idle-plain (ask_proof_signs v.bench sender slot) (no-ask-proof site.setup v.me.shard v.bench sender slot)
-  idle-message sender (message.Proof proof) = tt
+  idle-message sender said = idle-class sender said (class_of said)
 
   idle-opened : (o : Opened) → Idle (opened_marks site v o)
   idle-opened (Ok said) = idle-message said.0 said.1

@@ -6,7 +6,8 @@ use Rattle.cs_tx_form.specs.declared.entry.Entry.{Entry}
 use Rattle.cs_ledger.specs.Ledger.{Bytes, IsIn}
 use Rattle.cs_ledger.specs.Table.{Vote, Effect, Accepted, table_of, exec}
 use Rattle.cs_ledger.specs.ShardWorld.{log, AllAllowed}
-use Rattle.cs_node_state.specs.Setup.{Setup, digest_of, concerns, entry_of, session_in}
+use Rattle.cs_node_state.specs.Setup.{Setup, digest_of, concerns, entry_of}
+use Rattle.cs_tx_form.specs.Session.{session_in}
 use Rattle.cs_node_rules.specs.Signs.{Sign, Dropped, Took, Entered, Viewed, Did, Headed, Kept, Sent}
 use Rattle.cs_node_rules.specs.Site.{Site}
 use Rattle.cs_node_rules.specs.World.{Happening, Execution, firsts_of, steps_of, slots_of, recorded, all_recorded, told, aborts_in}

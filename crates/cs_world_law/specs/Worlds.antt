@@ -8,7 +8,7 @@ use Rattle.cs_tx_value.specs.declared.object.Object.{Object}
 use Rattle.cs_tx_form.specs.declared.transaction.Tx.{Tx}
 use Rattle.cs_tx_form.specs.declared.session.Session.{Session}
 use Rattle.cs_tx_form.specs.declared.entry.Entry.{Entry}
-use Rattle.cs_tx_form.specs.Session.{EntryFits}
+use Rattle.cs_tx_form.specs.Session.{EntryFits, session_in}
 use Rattle.cs_tx.specs.Sessions.{session_of}
 use Rattle.cs_wire.specs.declared.keys.Row.{Row}
 use Rattle.cs_wire.specs.declared.keys.Keys.{Keys}
@@ -20,7 +20,7 @@ use Rattle.cs_order.specs.Runs.{FewLiars}
 use Rattle.cs_ledger.specs.Ledger.{Bytes, Transaction, IsIn, Serial, IsSpentOnce, genesis_ledger, ledger_of, uses_once}
 use Rattle.cs_ledger.specs.Session as Seen
 use Rattle.cs_ledger.specs.Table.{free_object}
-use Rattle.cs_node_state.specs.Setup.{digest_of, session_in}
+use Rattle.cs_node_state.specs.Setup.{digest_of}
 use Rattle.cs_node_rules.specs.Net.{Net}
 use Rattle.cs_node_rules.specs.Signs.{Sign}
 use Rattle.cs_node_rules.specs.Site.{Carrier, Site, signs_of}

@@ -9,6 +9,7 @@ use Rattle.cs_tx_form.specs.declared.entry.Entry.{Entry}
 use Rattle.cs_tx_form.specs.Session.{entry_encoding, EntryFits}
 use Rattle.cs_tx_form.specs.Reading.{entry_at}
 use Rattle.cs_tx_form.specs.laws.Session.{entry_form}
+use Rattle.cs_wire_message.specs.declared.change.Change.{Change}
 use Rattle.cs_wire_message.specs.declared.message.Message.{Message}
 use Rattle.cs_wire_message.specs.declared.message.Message.TheVariants as message
 use Rattle.cs_wire_message.specs.Message.{PreparedFits, is_above, Rise, IsSlot, IsView, MessageFits}
@@ -254,59 +255,35 @@ kind-back (order.Done slot p) entries =
 -- ---- what is read
 
 theirs : (said : Message) (m : OrderMessage) → slot_read said ≡ Some m → is_ordering said ≡ true
-theirs (message.Submit x) m is = (let q : None ≡ Some m = is in cc)
 theirs (message.Propose slot view entry) m is = refl
 theirs (message.Echo slot view digest) m is = refl
 theirs (message.Confirm slot view digest) m is = refl
 theirs (message.Change slot view change) m is = refl
-theirs (message.Voted vote asks x) m is = (let q : None ≡ Some m = is in cc)
-theirs (message.Decided digest accepted) m is = (let q : None ≡ Some m = is in cc)
-theirs (message.Want slot) m is = (let q : None ≡ Some m = is in cc)
 theirs (message.Done slot entry) m is = refl
-theirs (message.Ask key) m is = (let q : None ≡ Some m = is in cc)
-theirs (message.Told key state) m is = (let q : None ≡ Some m = is in cc)
-theirs (message.Head checkpoint) m is = (let q : None ≡ Some m = is in cc)
-theirs (message.AskProof slot) m is = (let q : None ≡ Some m = is in cc)
-theirs (message.Proof proof) m is = (let q : None ≡ Some m = is in cc)
+theirs said m is = (let q : None ≡ Some m = is in cc)
 
 module _ (m : OrderMessage) where
   abbrev IsProper : OrderMessage → Type 0
   IsProper k = proper k ≡ true
 
   read-proper : (said : Message) → MessageFits said → slot_read said ≡ Some m → proper m ≡ true
-  read-proper (message.Submit x) fits is = (let q : None ≡ Some m = is in cc)
   read-proper (message.Propose slot view entry) fits is = subst IsProper (some_is _ m is) (fits-place slot view fits.0 fits.1.0)
   read-proper (message.Echo slot view digest) fits is = subst IsProper (some_is _ m is) (fits-step slot view digest fits)
   read-proper (message.Confirm slot view digest) fits is = subst IsProper (some_is _ m is) (fits-step slot view digest fits)
   read-proper (message.Change slot view change) fits is = subst IsProper (some_is _ m is) (fits-change slot view (record { prepared = change.prepared; echoed = change.echoed }) fits)
-  read-proper (message.Voted vote asks x) fits is = (let q : None ≡ Some m = is in cc)
-  read-proper (message.Decided digest accepted) fits is = (let q : None ≡ Some m = is in cc)
-  read-proper (message.Want slot) fits is = (let q : None ≡ Some m = is in cc)
   read-proper (message.Done slot entry) fits is = subst IsProper (some_is _ m is) (fits-place slot 0 fits.0 (omega arith))
-  read-proper (message.Ask key) fits is = (let q : None ≡ Some m = is in cc)
-  read-proper (message.Told key state) fits is = (let q : None ≡ Some m = is in cc)
-  read-proper (message.Head checkpoint) fits is = (let q : None ≡ Some m = is in cc)
-  read-proper (message.AskProof slot) fits is = (let q : None ≡ Some m = is in cc)
-  read-proper (message.Proof proof) fits is = (let q : None ≡ Some m = is in cc)
+  read-proper said fits is = (let q : None ≡ Some m = is in cc)
 
   abbrev Holds : Message → OrderMessage → Type 0
   Holds said k = carried k ≡ map proposed_of (entries_in said)
 
   read-entries : (said : Message) → slot_read said ≡ Some m → carried m ≡ map proposed_of (entries_in said)
-  read-entries (message.Submit x) is = (let q : None ≡ Some m = is in cc)
   read-entries (message.Propose slot view entry) is = subst (Holds (message.Propose slot view entry)) (some_is _ m is) refl
   read-entries (message.Echo slot view digest) is = subst (Holds (message.Echo slot view digest)) (some_is _ m is) refl
   read-entries (message.Confirm slot view digest) is = subst (Holds (message.Confirm slot view digest)) (some_is _ m is) refl
   read-entries (message.Change slot view change) is = subst (Holds (message.Change slot view change)) (some_is _ m is) refl
-  read-entries (message.Voted vote asks x) is = (let q : None ≡ Some m = is in cc)
-  read-entries (message.Decided digest accepted) is = (let q : None ≡ Some m = is in cc)
-  read-entries (message.Want slot) is = (let q : None ≡ Some m = is in cc)
   read-entries (message.Done slot entry) is = subst (Holds (message.Done slot entry)) (some_is _ m is) refl
-  read-entries (message.Ask key) is = (let q : None ≡ Some m = is in cc)
-  read-entries (message.Told key state) is = (let q : None ≡ Some m = is in cc)
-  read-entries (message.Head checkpoint) is = (let q : None ≡ Some m = is in cc)
-  read-entries (message.AskProof slot) is = (let q : None ≡ Some m = is in cc)
-  read-entries (message.Proof proof) is = (let q : None ≡ Some m = is in cc)
+  read-entries said is = (let q : None ≡ Some m = is in cc)
 
 pub slot_carries : Carries slot_machine slot_carrier
 slot_carries = record {
@@ -317,6 +294,19 @@ slot_carries = record {
   proper = λ said m fits is. read-proper m said fits is;
   entries = λ said m is. read-entries m said is;
 }
+
+-- what is of none of these kinds isn't read
+pub other-read : (said : Message) → ((slot view : ℕ) (entry : Entry) → said ≡ message.Propose slot view entry → ⊥)
+    → ((slot view : ℕ) (digest : List ℕ) → said ≡ message.Echo slot view digest → ⊥)
+    → ((slot view : ℕ) (digest : List ℕ) → said ≡ message.Confirm slot view digest → ⊥)
+    → ((slot view : ℕ) (change : Change) → said ≡ message.Change slot view change → ⊥)
+    → ((slot : ℕ) (entry : Entry) → said ≡ message.Done slot entry → ⊥) → None ≡ slot_read said
+other-read (message.Propose slot view entry) propose echo confirm change done = absurd (propose slot view entry refl)
+other-read (message.Echo slot view digest) propose echo confirm change done = absurd (echo slot view digest refl)
+other-read (message.Confirm slot view digest) propose echo confirm change done = absurd (confirm slot view digest refl)
+other-read (message.Change slot view claim) propose echo confirm change done = absurd (change slot view claim refl)
+other-read (message.Done slot entry) propose echo confirm change done = absurd (done slot entry refl)
+other-read said propose echo confirm change done = refl
 
 -- the entry that was proposed, where its bytes are
 pub spelled-bytes : (p : Proposed) → IsBytes p.bytes → entry_read p ≡ entry_spelled p

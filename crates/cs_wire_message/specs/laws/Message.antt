@@ -200,20 +200,7 @@ spelled m = kind_of m ∷ body_of m
 -- a message that fits, and whose body isn't that of asking for a dummy, of no byte
 abbrev pub IsLong : Message → Type 0
 IsLong (message.Ask None) = ⊥
-IsLong (message.Ask (Some key)) = KeyFits key
-IsLong (message.Submit x) = SessionFits x
-IsLong (message.Propose slot view entry) = MessageFits (message.Propose slot view entry)
-IsLong (message.Echo slot view digest) = MessageFits (message.Echo slot view digest)
-IsLong (message.Confirm slot view digest) = MessageFits (message.Confirm slot view digest)
-IsLong (message.Change slot view change) = MessageFits (message.Change slot view change)
-IsLong (message.Voted vote asks x) = SessionFits x
-IsLong (message.Decided digest accepted) = DigestFits digest
-IsLong (message.Want slot) = MessageFits (message.Want slot)
-IsLong (message.Done slot entry) = MessageFits (message.Done slot entry)
-IsLong (message.Told key state) = MessageFits (message.Told key state)
-IsLong (message.Head checkpoint) = MessageFits (message.Head checkpoint)
-IsLong (message.AskProof slot) = MessageFits (message.AskProof slot)
-IsLong (message.Proof proof) = MessageFits (message.Proof proof)
+IsLong m = MessageFits m
 
 pub message_takes : (kind : ℕ) (bytes : List ℕ) (m : Message) (rest : List ℕ) → IsBytes bytes
     → message_at kind bytes ≡ Some (m, rest) → Splits (kind ∷ bytes) (spelled m) rest × IsLong m

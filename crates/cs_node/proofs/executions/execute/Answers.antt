@@ -1,4 +1,4 @@
-use Rattle.std.proofs.Common.{◌≡◌, false, ◌++◌, ◌∷◌, [], List, is_some, ap, sym, subst, ◌∙◌}
+use Rattle.std.proofs.Common.{◌≡◌, ◌++◌, ◌∷◌, [], List, is_some, ap, sym, subst, ◌∙◌}
 use Rattle.std.proofs.lemmas.Result.{on_ok_weaker}
 use Rattle.cs_tx_form.specs.declared.entry.Entry.{Entry}
 use Rattle.cs_archive.specs.Archives.{Archived}
@@ -34,28 +34,20 @@ returns-clause-made c = λ approves genesis log kept_is.
     let config_is = ap (λ (h : Held). h.config) c.forget_touched.ensures ∙ c.in_ok-made.ensures.config ∙ ran.config_stays in
     let me_is = ap (λ (h : Held). h.me) c.forget_touched.ensures ∙ c.in_ok-made.ensures.me ∙ ran.me_stays in
     let S : List Sign → Type 0 = λ signs. Tells signs c.args.draft.now c.say_vote.new.draft in
-    let said = subst S (λ i. vote_signs (deployed (ran.config_stays i) genesis approves) (ran.me_stays i) (c.session_in.ensures.session i) (ran.voted_is i)) (c.in_ok-say_vote.ensures.tells genesis approves) in
+    let said = subst S (λ i. vote_signs (deployed (ran.config_stays i) genesis approves) (ran.me_stays i) (c.session.ensures.is i) (ran.voted_is i)) (c.in_ok-say_vote.ensures.tells genesis approves) in
     let noted = c.in_ok-note_execution.ensures.notes ∙ ap (λ effect. c.say_vote.new.draft.notes ++ Executed c.args.slot entry effect ∷ []) result_is in
     let H : List Sign → Type 0 = λ signs. Tells signs c.note_execution.new.self c.say_made.new.draft in
-    let P : Entry → Type 0 = λ e. Leaves setup me (execution_signs setup me old c.args.slot e) old c.forget_touched.new.self c.args.draft.now c.say_made.new.draft in
+    let P : Entry → Type 0 = λ e. Leaves setup held (execution_signs setup me old c.args.slot e) old c.forget_touched.new.self c.args.draft.now c.say_made.new.draft in
     on_ok_weaker _
     (λ heads. subst P c.in_ok-entry.ensures.entry (record {
       log = after;
       kept_is = ap (λ (h : Held). h.archived.kept) c.forget_touched.ensures ∙ closing.kept_is;
+      config_is = config_is;
+      me_is = me_is;
       makes = execution-makes setup me old new c.args.slot entry c.args.draft.now c.say_vote.new.draft c.note_execution.new.self c.say_made.new.draft closed said noted c.in_ok-note_execution.ensures.said
           (subst H (λ i. headed_signs (deployed (config_is i) genesis approves) (me_is i) (c.in_ok-made.ensures.made log left i)) heads);
     }))
     (c.say_made.ensures.tells genesis approves)
-
-pub returns-clause-config : goal.returns-clause-config
-returns-clause-config c =
-    let is = ap (λ (h : Held). h.config) c.forget_touched.ensures ∙ c.in_ok-made.ensures.config ∙ (c.in_ok-outcome.ensures [] (λ tx. false) (empty_log 0)).config_stays in
-    on_ok_weaker _ (λ said. is) (c.say_made.ensures.tells [] (λ tx. false))
-
-pub returns-clause-me : goal.returns-clause-me
-returns-clause-me c =
-    let is = ap (λ (h : Held). h.me) c.forget_touched.ensures ∙ c.in_ok-made.ensures.me ∙ (c.in_ok-outcome.ensures [] (λ tx. false) (empty_log 0)).me_stays in
-    on_ok_weaker _ (λ said. is) (c.say_made.ensures.tells [] (λ tx. false))
 
 pub say_vote-requires-clause-fit : goal.say_vote-requires-clause-fit
 say_vote-requires-clause-fit c = λ some genesis approves.
@@ -64,4 +56,4 @@ say_vote-requires-clause-fit c = λ some genesis approves.
     let ran = c.in_ok-outcome.ensures genesis approves (empty_log 0) in
     let told = sym (ap is_some ran.voted_is) ∙ some in
     let fit = voted-fit setup me.shard (bench_of (empty_log 0) c.args.sbac.now) c.in_ok-entry.entry told in
-    (λ i. is_fit (deployed (ran.config_stays i) genesis approves) (ran.me_stays i).shard (c.session_in.ensures.session i)) ∙ fit
+    (λ i. is_fit (deployed (ran.config_stays i) genesis approves) (ran.me_stays i).shard (c.session.ensures.is i)) ∙ fit

@@ -16,7 +16,7 @@ returns-in-Some-clause-made g c = λ genesis log kept_is.
     let me = c.args.sbac.now.me in
     let bench = bench_of log c.args.sbac.now in
     let says : Bytes → List Sign = λ digest. Sent c.args.sender (message.Decided digest c.in-Some.accepted) ∷ [] in
-    on_ok_weaker _ (λ tells. stays setup me (submit_signs setup me.shard bench c.args.sender c.args.session) c.args.sbac.now log c.args.draft.now c.say.new.self kept_is
+    on_ok_weaker _ (λ tells. stays setup (submit_signs setup me.shard bench c.args.sender c.args.session) c.args.sbac.now log c.args.draft.now c.say.new.self kept_is
     (one-makes setup me bench (submit_signs setup me.shard bench c.args.sender c.args.session) (Sent c.args.sender (message.Decided c.in_ok-digest.digest c.in-Some.accepted)) c.args.draft.now c.say.new.self
     (standing setup me.shard bench c.args.sender c.args.session (Some c.in-Some.accepted) (sym c.is_client.ensures ∙ c.if-not-is_client.false) (sym (c.in_ok-is_fit_named.ensures genesis approves) ∙ c.if-not-branch.false)
     (sym (c.in_ok-accepted.ensures genesis approves) ∙ c.in-Some.is) ∙ ap says (sym c.in_ok-digest.ensures)) refl tells)) c.say.ensures.tells
@@ -27,7 +27,7 @@ returns-in-None-clause-made g c = λ genesis log kept_is.
     let setup = deployed c.args.sbac.now.config genesis approves in
     let me = c.args.sbac.now.me in
     let bench = bench_of log c.args.sbac.now in
-    let P : List Sign → Type 0 = λ signs. OnOk c.enter.result (Leaves setup me signs bench c.enter.new.sbac c.args.draft.now c.enter.new.draft) in
+    let P : List Sign → Type 0 = λ signs. OnOk c.enter.result (Leaves setup c.args.sbac.now signs bench c.enter.new.sbac c.args.draft.now c.enter.new.draft) in
     subst P (sym (standing setup me.shard bench c.args.sender c.args.session None (sym c.is_client.ensures ∙ c.if-not-is_client.false) (sym (c.in_ok-is_fit_named.ensures genesis approves) ∙ c.if-not-branch.false)
     (sym (c.in_ok-accepted.ensures genesis approves) ∙ c.in-None.is))) (c.enter.ensures.made genesis log kept_is)
 

@@ -20,7 +20,7 @@ returns-in-Repeat-clause-made g c = λ genesis log kept_is.
     let x = c.args.session in
     let counted = is-counted held c.vote.new.self ballot x _ _ c.in_ok-digest.ensures c.in_ok-vote.ensures.answer c.in_ok-vote.ensures.pool in
     let there = counted-again ballot.sender (found (digest_of_session x) held.pool) (sym counted.answered ∙ c.in-Repeat.is) in
-    on_ok_weaker _ (second-makes setup me held c.vote.new.self log kept_is ballot x (voted_signs setup me.shard (bench_of log held) ballot.sender ballot.vote c.args.asks x) c.args.draft.now c.drop_it-in-Repeat.new.self
+    on_ok_weaker _ (second-makes setup held c.vote.new.self log kept_is ballot x (voted_signs setup me.shard (bench_of log held) ballot.sender ballot.vote c.args.asks x) c.args.draft.now c.drop_it-in-Repeat.new.self
     (on-second setup me.shard (bench_of log held) ballot.sender ballot.vote c.args.asks x (sym c.is_client.ensures ∙ c.if-is_client.false) (sym (c.in_ok-is_fit_named.ensures genesis approves) ∙ c.if-not-branch.false) (sym (c.concerns.ensures genesis approves) ∙ c.if-not-concerns.false) there)
     counted.left there) c.drop_it-in-Repeat.ensures.tells
 
@@ -35,9 +35,9 @@ returns-in-NotPooled-clause-made g c = λ genesis log kept_is.
     let counted = is-counted held c.vote.new.self ballot x _ _ c.in_ok-digest.ensures c.in_ok-vote.ensures.answer c.in_ok-vote.ensures.pool in
     let alone = absent held c.vote.new.self ballot x _ counted c.in-NotPooled.is in
     let is = on-found setup me.shard (bench_of log held) ballot.sender ballot.vote c.args.asks x (sym c.is_client.ensures ∙ c.if-is_client.false) (sym (c.in_ok-is_fit_named.ensures genesis approves) ∙ c.if-not-branch.false) (sym (c.concerns.ensures genesis approves) ∙ c.if-not-concerns.false) None alone.none in
-    let P : Held → Type 0 = λ h. OnOk c.answer_vote.result (Leaves (deployed h.config genesis approves) h.me
+    let P : Held → Type 0 = λ h. OnOk c.answer_vote.result (Leaves (deployed h.config genesis approves) h
     (asking_signs (deployed h.config genesis approves) (bench_of log h) ballot.sender ballot.vote c.args.asks x (noted (deployed h.config genesis approves) h.me.shard (bench_of log h).table x)) (bench_of log h) c.answer_vote.new.sbac c.args.draft.now c.answer_vote.new.draft) in
-    let Q : List Sign → Type 0 = λ signs. OnOk c.answer_vote.result (Leaves setup me signs (bench_of log held) c.answer_vote.new.sbac c.args.draft.now c.answer_vote.new.draft) in
+    let Q : List Sign → Type 0 = λ signs. OnOk c.answer_vote.result (Leaves setup held signs (bench_of log held) c.answer_vote.new.sbac c.args.draft.now c.answer_vote.new.draft) in
     subst Q (sym is) (subst P alone.same (c.answer_vote.ensures.made genesis log (ap (λ (h : Held). h.archived.kept) alone.same ∙ kept_is)))
 
 pub concerns-requires : goal.concerns-requires
@@ -53,7 +53,7 @@ returns-in-Counted-clause-made g c = λ genesis log kept_is.
     let x = c.args.session in
     let counted = is-counted held c.vote.new.self ballot x _ _ c.in_ok-digest.ensures c.in_ok-vote.ensures.answer c.in_ok-vote.ensures.pool in
     let there = counted-first ballot.sender (found (digest_of_session x) held.pool) (sym counted.answered ∙ c.in-Counted.is) in
-    first-makes setup me held c.vote.new.self log kept_is ballot.sender ballot.vote x (voted_signs setup me.shard (bench_of log held) ballot.sender ballot.vote c.args.asks x) c.args.draft.now
+    first-makes setup held c.vote.new.self log kept_is ballot.sender ballot.vote x (voted_signs setup me.shard (bench_of log held) ballot.sender ballot.vote c.args.asks x) c.args.draft.now
     (on-first setup me.shard (bench_of log held) ballot.sender ballot.vote c.args.asks x (sym c.is_client.ensures ∙ c.if-is_client.false) (sym (c.in_ok-is_fit_named.ensures genesis approves) ∙ c.if-not-branch.false) (sym (c.concerns.ensures genesis approves) ∙ c.if-not-concerns.false) there)
     counted.left
 

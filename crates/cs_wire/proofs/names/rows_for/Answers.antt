@@ -1,5 +1,6 @@
 use Rattle.std.proofs.Common.{ap, sym, ◌∙◌, take}
-use Rattle.cs_wire.specs.Keys.{has_name, row_expected}
+use Rattle.cs_wire.specs.Keys.{row_expected}
+use Rattle.cs_wire.specs.AllNames.{has_name}
 use Rattle.cs_wire.proofs.Rows.{taken_more}
 use Rattle.cs_wire.proofs.names.rows_for.Goals as goal
 

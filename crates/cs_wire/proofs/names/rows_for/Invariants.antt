@@ -1,6 +1,7 @@
 use Rattle.std.proofs.Common.{◌≡◌, take}
 use Rattle.cs_base.specs.declared.node_id.NodeId.{NodeId}
-use Rattle.cs_wire.specs.Keys.{has_name, row_in, row_expected}
+use Rattle.cs_wire.specs.Keys.{row_in, row_expected}
+use Rattle.cs_wire.specs.AllNames.{has_name}
 use Rattle.cs_wire.proofs.names.rows_for.Given as goal
 
 abbrev pub invariant-loop-i : goal.invariant-loop-i

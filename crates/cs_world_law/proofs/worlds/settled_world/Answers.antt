@@ -12,7 +12,8 @@ use Rattle.cs_ledger.specs.Standing.{stands_aborted}
 use Rattle.cs_ledger.specs.ShardWorld.{log, sessions, sessions_of, votes_in, decided_in, all_commit}
 use Rattle.cs_ledger.specs.ShardWorld as World
 use Rattle.cs_ledger.proofs.Decisions.{decided_behind, all_concerned}
-use Rattle.cs_node_state.specs.Setup.{digest_of, is_fit, session_in}
+use Rattle.cs_node_state.specs.Setup.{digest_of, is_fit}
+use Rattle.cs_tx_form.specs.Session.{session_in}
 use Rattle.cs_node_rules.specs.Signs.{Sent}
 use Rattle.cs_node_rules.specs.Site.{signs_of}
 use Rattle.cs_node_rules.specs.World.{firsts_of, steps_of, slots_of, trail_of}
