@@ -19,7 +19,8 @@ use Rattle.cs_client.specs.Seen.{Client}
 use Rattle.cs_client.specs.Standing.{StandsFor}
 use Rattle.cs_attend.specs.declared.ending.Ending.{Ending}
 use Rattle.cs_attend.specs.declared.ending.Ending.TheVariants.{Knows, Refused, LinkFault, Memory}
-use Rattle.cs_attend.specs.Attending.{Side, is_tick, Takes, offers_by, offers_at, WasOpen, missed_past, Attends, Says, GoesBy, Answers, Goes}
+use Rattle.cs_outer.specs.Outside.{LinkTold}
+use Rattle.cs_attend.specs.Attending.{is_tick, Takes, offers_by, offers_at, WasOpen, missed_past, Attends, Says, GoesBy, Answers, Goes}
 use Rattle.cs_outer.specs.laws.Told.{stays-same, stays-both}
 use Rattle.cs_serve.specs.laws.Taken.{ticks-more, over-by, still-by}
 use Rattle.cs_serve.specs.laws.Offering.{adds-none, adds-more, adds-still, adds-later, front-later, front-more}
@@ -50,7 +51,7 @@ pub none-offered : (e : Errand) (past : List Input) (input : Input) (a : Option 
 none-offered e past input a = ([], offers_at e input past, refl, adds-none a)
 
 -- the first input that was left was taken and answered
-pub answered : (e : Errand) (past : List Input) (input : Input) (a b c : Side) (result : Result Client Ending) → Changes (λ (before now : List Input). before ≡ input ∷ now) a.left b.left → b.missed ≡ 0 → Stays a.offered b.offered
+pub answered : (e : Errand) (past : List Input) (input : Input) (a b c : LinkTold) (result : Result Client Ending) → Changes (λ (before now : List Input). before ≡ input ∷ now) a.left b.left → b.missed ≡ 0 → Stays a.offered b.offered
     → Stays b.left c.left → c.missed ≡ b.missed → GoesBy e past input b.offered c.offered result → Answers e past a c result
 answered e past input a b c result gone missed offered left same goes = record {
   input = input;
@@ -60,7 +61,7 @@ answered e past input a b c result gone missed offered left same goes = record {
 }
 
 -- and the run goes on
-pub went-on : (e : Errand) (past : List Input) (input : Input) (a b c : Side) (client : Client) (ticked : Bool) → ticked ≡ is_tick input → Changes (λ (before now : List Input). before ≡ input ∷ now) a.left b.left → b.missed ≡ 0
+pub went-on : (e : Errand) (past : List Input) (input : Input) (a b c : LinkTold) (client : Client) (ticked : Bool) → ticked ≡ is_tick input → Changes (λ (before now : List Input). before ≡ input ∷ now) a.left b.left → b.missed ≡ 0
     → Stays a.offered b.offered → Stays b.left c.left → c.missed ≡ b.missed → GoesBy e past input b.offered c.offered (Ok client) → Goes e past a c (Ok (client, ticked))
 went-on e past input a b c client ticked is gone missed offered left same goes = (
   record {
@@ -73,7 +74,7 @@ went-on e past input a b c client ticked is gone missed offered left same goes =
 )
 
 -- and that ended the run
-pub ended-so : (e : Errand) (past : List Input) (a c : Side) (ending : Ending) → Answers e past a c (Err ending) → Goes e past a c (Err ending)
+pub ended-so : (e : Errand) (past : List Input) (a c : LinkTold) (ending : Ending) → Answers e past a c (Err ending) → Goes e past a c (Err ending)
 ended-so e past a c (Knows known.Open) one = absurd (one.goes.1 refl)
 ended-so e past a c (Knows (known.Accepted digest)) one = one
 ended-so e past a c (Knows (known.Aborted digest)) one = one
@@ -84,7 +85,7 @@ ended-so e past a c Memory one = one
 -- ---- so many turns
 
 -- so many inputs were taken, so many of them ticks, none of them too many, and nothing is known yet
-pub record SoFar (e : Errand) (until : Until) (turns ticks : ℕ) (old new : Side) (client : Client) : Type 0 where
+pub record SoFar (e : Errand) (until : Until) (turns ticks : ℕ) (old new : LinkTold) (client : Client) : Type 0 where
   pub inputs : List Input
   pub all : length inputs ≡ turns
   pub ticked : count_by is_tick inputs ≡ ticks
@@ -96,7 +97,7 @@ pub record SoFar (e : Errand) (until : Until) (turns ticks : ℕ) (old new : Sid
   pub offered : Adds (offers_by e inputs) old.offered new.offered
   pub stands : StandsFor e inputs client
 
-pub begins : (e : Errand) (until : Until) (a : Side) (client : Client) → StandsFor e [] client → SoFar e until 0 0 a a client
+pub begins : (e : Errand) (until : Until) (a : LinkTold) (client : Client) → StandsFor e [] client → SoFar e until 0 0 a a client
 begins e until a client stands = record {
   inputs = [];
   all = refl;
@@ -118,7 +119,7 @@ offered-more e past input a b c first later =
 one-more : (input : Input) (past : List Input) (n : ℕ) → length past ≡ n → length (input ∷ past) ≡ n + 1
 one-more input past n is = omega arith
 
-pub goes-on : (e : Errand) (until : Until) (turns ticks : ℕ) (a b c : Side) (client next : Client) (ticked : Bool) (more : ℕ) → more ≡ from_bool ticked → (IsOver until turns ticks → ⊥) → SoFar e until turns ticks a b client
+pub goes-on : (e : Errand) (until : Until) (turns ticks : ℕ) (a b c : LinkTold) (client next : Client) (ticked : Bool) (more : ℕ) → more ≡ from_bool ticked → (IsOver until turns ticks → ⊥) → SoFar e until turns ticks a b client
     → ((past : List Input) → StandsFor e past client → Goes e past b c (Ok (next, ticked))) → SoFar e until (turns + 1) (ticks + more) a c next
 goes-on e until turns ticks a b c client next ticked more counted still so turn =
     let both = turn so.inputs so.stands in
@@ -139,7 +140,7 @@ goes-on e until turns ticks a b c client next ticked more counted still so turn 
 -- ---- how it ends
 
 -- want of memory before the first turn
-pub nothing : (e : Errand) (until : Until) (a : Side) → Attends e until a a Memory
+pub nothing : (e : Errand) (until : Until) (a : LinkTold) → Attends e until a a Memory
 nothing e until a = record {
   inputs = [];
   needed = tt;
@@ -149,7 +150,7 @@ nothing e until a = record {
 }
 
 -- they were enough
-pub over : (e : Errand) (until : Until) (turns ticks : ℕ) (a b : Side) (client : Client) → IsOver until turns ticks → SoFar e until turns ticks a b client → Attends e until a b (Knows known.Open)
+pub over : (e : Errand) (until : Until) (turns ticks : ℕ) (a b : LinkTold) (client : Client) → IsOver until turns ticks → SoFar e until turns ticks a b client → Attends e until a b (Knows known.Open)
 over e until turns ticks a b client enough so = record {
   inputs = so.inputs;
   needed = so.needed;
@@ -158,7 +159,7 @@ over e until turns ticks a b client enough so = record {
   ends = (so.still, λ open-yet. inl (over-by is_tick until so.inputs turns ticks so.all so.ticked enough), so.offered);
 }
 
-module _ (e : Errand) (until : Until) (turns ticks : ℕ) (a b c : Side) (client : Client) (still : IsOver until turns ticks → ⊥) (so : SoFar e until turns ticks a b client) where
+module _ (e : Errand) (until : Until) (turns ticks : ℕ) (a b c : LinkTold) (client : Client) (still : IsOver until turns ticks → ⊥) (so : SoFar e until turns ticks a b client) where
   one-needed : (input : Input) → AreNeeded is_tick until (input ∷ so.inputs)
   one-needed input = still-by is_tick until so.inputs turns ticks so.all so.ticked still
 

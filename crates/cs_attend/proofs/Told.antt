@@ -10,7 +10,8 @@ use Rattle.cs_serve.specs.Offering.{offers_in}
 use Rattle.cs_client.specs.declared.errand.Errand.{Errand}
 use Rattle.cs_client.specs.Inputs.{Input}
 use Rattle.cs_client.specs.Sayings.{says_at, says_by, out_of, outs_of}
-use Rattle.cs_attend.specs.Attending.{Side, Takes, offers_by, offers_at}
+use Rattle.cs_outer.specs.Outside.{LinkTold}
+use Rattle.cs_attend.specs.Attending.{Takes, offers_by, offers_at}
 
 -- ---- offers
 
@@ -25,7 +26,7 @@ offers-more e input past =
 abbrev Came : List Input → List Input → List Input → Type 0
 Came inputs before now = (taken : List Input) × (before ≡ taken ++ now) × (inputs ≡ reverse taken)
 
-pub takes-none : (a b : Side) → Stays a.left b.left → Takes [] a b
+pub takes-none : (a b : LinkTold) → Stays a.left b.left → Takes [] a b
 takes-none a b stays = none a.left b.left stays
   where
     none : (a b : Option (List Input)) → Stays a b → Changes (Came []) a b
@@ -33,10 +34,10 @@ takes-none a b stays = none a.left b.left stays
     none (Some x) None stays = absurd stays
     none (Some x) (Some y) stays = ([], sym stays, refl)
 
-pub takes-still : (a b c : Side) (inputs : List Input) → Takes inputs a b → Stays b.left c.left → Takes inputs a c
+pub takes-still : (a b c : LinkTold) (inputs : List Input) → Takes inputs a b → Stays b.left c.left → Takes inputs a c
 takes-still a b c inputs = changes-before (Came inputs) a.left b.left c.left
 
-pub takes-more : (a b c : Side) (first later : List Input) → Takes first a b → Takes later b c → Takes (later ++ first) a c
+pub takes-more : (a b c : LinkTold) (first later : List Input) → Takes first a b → Takes later b c → Takes (later ++ first) a c
 takes-more a b c first later p q = more a.left b.left c.left p q
   where
     both : (x y z : List Input) → Came first x y → Came later y z → Came (later ++ first) x z
@@ -53,7 +54,7 @@ takes-more a b c first later p q = more a.left b.left c.left p q
     more (Some x) (Some y) (Some z) p q = both x y z p q
 
 -- the first that was left
-pub takes-one : (a b c : Side) (first : Input) → Changes (λ (before now : List Input). before ≡ first ∷ now) a.left b.left → Stays b.left c.left → Takes (first ∷ []) a c
+pub takes-one : (a b c : LinkTold) (first : Input) → Changes (λ (before now : List Input). before ≡ first ∷ now) a.left b.left → Stays b.left c.left → Takes (first ∷ []) a c
 takes-one a b c first gone stays = changes-before (Came (first ∷ [])) a.left b.left c.left (one a.left b.left gone) stays
   where
     one : (a b : Option (List Input)) → Changes (λ (before now : List Input). before ≡ first ∷ now) a b → Changes (Came (first ∷ [])) a b

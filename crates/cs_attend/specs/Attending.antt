@@ -2,6 +2,7 @@
 use Rattle.std.specs.Prelude.{◌≡◌, ◌≢◌, ◌⊎◌, ℕ, ◌+◌, ◌-◌, ◌^◌, min, Bool, true, false, List, [], ◌∷◌, ◌++◌, reverse, Option, Result, Ok, Err, IfSome}
 use Rattle.cs_outer.specs.Told.{Changes, Stays}
 use Rattle.cs_outer.specs.Link.{Offers}
+use Rattle.cs_outer.specs.Outside.{LinkTold}
 use Rattle.cs_outer.specs.Until.{AreEnough, AreNeeded}
 use Rattle.cs_outer.specs.declared.until.Until.{Until}
 use Rattle.cs_outer.specs.declared.link.MemInput.TheVariants as came
@@ -18,21 +19,12 @@ use Rattle.cs_client.specs.Standing.{StandsFor, IsRefused}
 use Rattle.cs_attend.specs.declared.ending.Ending.{Ending}
 use Rattle.cs_attend.specs.declared.ending.Ending.TheVariants.{Knows, Refused, LinkFault, Memory}
 
--- what the link tells
-pub record Side : Type 0 where
-  pub left : Option (List Input)  -- the inputs that are left
-  pub offered : Option Offers
-  pub missed : ℕ  -- receives in a row that failed
-
-abbrev pub side : Option (List Input) → Option Offers → ℕ → Side
-side left offered missed = record { left = left; offered = offered; missed = missed }
-
 abbrev pub is_tick : Input → Bool
 is_tick (came.Datagram bytes) = false
 is_tick came.Tick = true
 
 -- the first inputs that were left are gone, and are these, the newest first
-abbrev pub Takes : List Input → Side → Side → Type 0
+abbrev pub Takes : List Input → LinkTold → LinkTold → Type 0
 Takes inputs old new =
     Changes (λ before now. (taken : List Input) × (before ≡ taken ++ now) × (inputs ≡ reverse taken)) old.left new.left
 
@@ -51,7 +43,7 @@ WasOpen e [] = Unit {0}
 WasOpen e (input ∷ past) = (knows e past ≡ known.Open) × WasOpen e past
 
 -- no more inputs were to be taken, or none was left
-abbrev pub IsOver : Until → List Input → Side → Type 0
+abbrev pub IsOver : Until → List Input → LinkTold → Type 0
 IsOver until inputs new = AreEnough is_tick until inputs ⊎ IfSome new.left (λ left. left ≡ [])
 
 -- so many receives in a row had failed, before the link was asked again
@@ -60,14 +52,14 @@ missed_past before [] = before
 missed_past before (input ∷ past) = 0
 
 -- the method is refused at the last of these inputs; of that one nothing is said
-abbrev pub EndsRefused : Errand → List Input → Side → Side → ProcError → Type 0
+abbrev pub EndsRefused : Errand → List Input → LinkTold → LinkTold → ProcError → Type 0
 EndsRefused e [] old new cause = ⊥
 EndsRefused e (input ∷ past) old new cause =
     IsRefused e past input cause × Adds (offers_by e past) old.offered new.offered
 
 -- Knows: so much is known; where it is nothing, the inputs are over. LinkFault: so many receives in a row failed. With
 -- these all that the client says was offered; for want of memory a front of it.
-abbrev pub Ends : Errand → Until → List Input → Side → Side → Ending → Type 0
+abbrev pub Ends : Errand → Until → List Input → LinkTold → LinkTold → Ending → Type 0
 Ends e until inputs old new (Knows so) =
     (knows e inputs ≡ so) × (so ≡ known.Open → IsOver until inputs new)
     × Adds (offers_by e inputs) old.offered new.offered
@@ -79,7 +71,7 @@ Ends e until inputs old new Memory = AddsFront (offers_by e inputs) old.offered 
 
 -- A client was run: these inputs were taken, none of them too many, and before the last of them nothing was known; and
 -- it ended so.
-pub record Attends (e : Errand) (until : Until) (old new : Side) (ending : Ending) : Type 0 where
+pub record Attends (e : Errand) (until : Until) (old new : LinkTold) (ending : Ending) : Type 0 where
   pub inputs : List Input
   pub needed : AreNeeded is_tick until inputs
   pub takes : Takes inputs old new
@@ -103,26 +95,26 @@ GoesBy e past input old new (Err (Refused cause)) = IsRefused e past input cause
 GoesBy e past input old new result = Says e (input ∷ past) (offers_at e input past) old new result
 
 -- the first input that was left is gone, and was answered
-pub record Answers (e : Errand) (past : List Input) (old new : Side) (result : Result Client Ending) : Type 0 where
+pub record Answers (e : Errand) (past : List Input) (old new : LinkTold) (result : Result Client Ending) : Type 0 where
   pub input : Input
   pub takes : Takes (input ∷ []) old new
   pub missed : new.missed ≡ 0
   pub goes : GoesBy e past input old.offered new.offered result
 
 -- nothing was left
-pub record HasNone (old new : Side) : Type 0 where
+pub record HasNone (old new : LinkTold) : Type 0 where
   pub none : IfSome new.left (λ left. left ≡ [])
   pub left : Stays old.left new.left
   pub offered : Stays old.offered new.offered
 
 -- too many receives failed
-pub record HasFailed (old new : Side) : Type 0 where
+pub record HasFailed (old new : LinkTold) : Type 0 where
   pub missed : new.missed ≡ min (old.missed + MOST_MISSED) (2 ^ 64 - 1)
   pub left : Stays old.left new.left
   pub offered : Stays old.offered new.offered
 
 -- what came of one turn, which tells whether its input was a tick
-abbrev pub Goes : Errand → List Input → Side → Side → Result (Client × Bool) Ending → Type 0
+abbrev pub Goes : Errand → List Input → LinkTold → LinkTold → Result (Client × Bool) Ending → Type 0
 Goes e past old new (Ok (client, ticked)) = (one : Answers e past old new (Ok client)) × (ticked ≡ is_tick one.input)
 Goes e past old new (Err (Knows known.Open)) = HasNone old new
 Goes e past old new (Err LinkFault) = HasFailed old new

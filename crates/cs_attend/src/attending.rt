@@ -7,7 +7,7 @@ ghost use Rattle.cs_client.specs.declared.errand.Errand.{Errand};
 ghost use Rattle.cs_client.specs.Inputs.{Input as Given, input_of};
 ghost use Rattle.cs_client.specs.Standing.{StandsFor};
 ghost use Rattle.cs_serve.specs.Offering.{offers_in};
-ghost use Rattle.cs_attend.specs.Attending.{side, Attends, Goes, GoesBy, Says};
+ghost use Rattle.cs_attend.specs.Attending.{Attends, Goes, GoesBy, Says};
 
 use crate::ending::Ending;
 use cs_base::{MOST_DATAGRAM, Sequence};
@@ -21,9 +21,8 @@ use std::alloc::Global;
 /// refused; else where the link has nothing left or fails too often in a row, or for want of memory.
 pub fn attend<L: Link>(alloc: Global, client: ClientCore, link: &mut L, until: Until) -> Ending
     ensures attends { (e : Errand) → StandsFor e [] client → Attends e until
-        (side (L.left link.old) (L.offered link.old) (L.missed link.old))
-        (side (L.left link.new) (L.offered link.new) (L.missed link.new)) result }
-    ensures bound { Stays (L.bound link.old) (L.bound link.new) }
+        (L.told link.old) (L.told link.new) result }
+    ensures bound { Stays (L.told link.old).bound (L.told link.new).bound }
     ensures cause { HasCause (L.faults link.old) (L.faults link.new) (result ≡ Ending.LinkFault) }
 {
     let Ok(mut room) = vec![in alloc; 0u8; MOST_DATAGRAM + 1] else {
@@ -56,9 +55,8 @@ fn take_turn<L: Link>(
 ) -> Result<(ClientCore, bool), Ending>
     requires { length buf.old ≡ MOST_DATAGRAM + 1 }
     ensures goes { (e : Errand) (past : List Given) → StandsFor e past client → Goes e past
-        (side (L.left link.old) (L.offered link.old) (L.missed link.old))
-        (side (L.left link.new) (L.offered link.new) (L.missed link.new)) result }
-    ensures bound { Stays (L.bound link.old) (L.bound link.new) }
+        (L.told link.old) (L.told link.new) result }
+    ensures bound { Stays (L.told link.old).bound (L.told link.new).bound }
     ensures cause { HasCause (L.faults link.old) (L.faults link.new)
         (IsErrOf result Ending.LinkFault) }
 {
@@ -85,11 +83,11 @@ fn answer<L: Link>(
     link: &mut L,
 ) -> Result<ClientCore, Ending>
     ensures goes { (e : Errand) (past : List Given) → StandsFor e past client →
-        GoesBy e past (input_of input.entry) (L.offered link.old) (L.offered link.new) result }
+        GoesBy e past (input_of input.entry) (L.told link.old).offered (L.told link.new).offered result }
     ensures only { IsErrOf result Ending.LinkFault → ⊥ }
-    ensures left { Stays (L.left link.old) (L.left link.new) }
-    ensures bound { Stays (L.bound link.old) (L.bound link.new) }
-    ensures missed { L.missed link.new ≡ L.missed link.old }
+    ensures left { Stays (L.told link.old).left (L.told link.new).left }
+    ensures bound { Stays (L.told link.old).bound (L.told link.new).bound }
+    ensures missed { (L.told link.new).missed ≡ (L.told link.old).missed }
     ensures faults { L.faults link.old ≤ L.faults link.new }
 {
     match client.step(alloc, input) {
@@ -102,11 +100,11 @@ fn answer<L: Link>(
 // Offers what the client says, and asks it what it knows.
 fn say<L: Link>(client: ClientCore, outs: Sequence<Out>, link: &mut L) -> Result<ClientCore, Ending>
     ensures says { (e : Errand) (inputs : List Given) → StandsFor e inputs client →
-        Says e inputs (offers_in outs) (L.offered link.old) (L.offered link.new) result }
+        Says e inputs (offers_in outs) (L.told link.old).offered (L.told link.new).offered result }
     ensures only { IsErrOf result Ending.LinkFault → ⊥ }
-    ensures left { Stays (L.left link.old) (L.left link.new) }
-    ensures bound { Stays (L.bound link.old) (L.bound link.new) }
-    ensures missed { L.missed link.new ≡ L.missed link.old }
+    ensures left { Stays (L.told link.old).left (L.told link.new).left }
+    ensures bound { Stays (L.told link.old).bound (L.told link.new).bound }
+    ensures missed { (L.told link.new).missed ≡ (L.told link.old).missed }
     ensures faults { L.faults link.old ≤ L.faults link.new }
 {
     let Ok(()) = offer(link, outs.as_slice()) else {

@@ -1,15 +1,16 @@
 -- What a command does, by what its words call for.
 use Rattle.std.proofs.Common.{◌≡◌, ℕ, List, Option, Some, sym, subst}
+use Rattle.cs_outer.specs.Outside.{Outside}
 use Rattle.cs_outer.specs.declared.until.Until.{Until}
 use Rattle.cs_cli.specs.declared.words.Command.{Command}
 use Rattle.cs_cli.specs.declared.words.Command.TheVariants.{ReadKeys}
 use Rattle.cs_cli.specs.declared.deployments.Deployment.{Deployment}
 use Rattle.cs_cli.specs.declared.deployments.Deployment.TheVariants.{Node, Client, Keys, Cluster}
 use Rattle.cs_cli.specs.Deployed.{word_at}
-use Rattle.cs_cli.specs.Done.{Around, AllAround, NodeDoes, ClientDoes, KeysDoes, ClusterDoes, Deploys, ReadKeysDoes, Does}
+use Rattle.cs_cli.specs.Done.{NodeDoes, ClientDoes, KeysDoes, ClusterDoes, Deploys, ReadKeysDoes, Does}
 use Rattle.cs_cli.proofs.Outcomes.{one-command}
 
-module _ (words : List (List ℕ)) (a b : AllAround) (status : ℕ) where
+module _ (words : List (List ℕ)) (a b : Outside) (status : ℕ) where
   pub does-as : (x y : Command) (command : Option Command) → Some x ≡ command → command ≡ Some y → Does x words a b status → Does y words a b status
   does-as x y command here there = subst (λ (z : Command). Does z words a b status) (one-command x y command here there)
 
@@ -20,7 +21,7 @@ module _ (words : List (List ℕ)) (a b : AllAround) (status : ℕ) where
   read-keys-does site s command is first does =
       does-so (ReadKeys site) command is (subst (λ (x : List ℕ). ReadKeysDoes x a b status) first does)
 
-module _ (words : List (List ℕ)) (a b : Around) (status : ℕ) where
+module _ (words : List (List ℕ)) (a b : Outside) (status : ℕ) where
   deploys-so : (x deployment : Deployment) → deployment ≡ x → Deploys x words a b status → Deploys deployment words a b status
   deploys-so x deployment is = subst (λ (z : Deployment). Deploys z words a b status) (sym is)
 

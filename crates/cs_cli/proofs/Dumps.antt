@@ -15,8 +15,8 @@ use Rattle.cs_audit_rules.specs.Sound.{SaysSound}
 use Rattle.cs_audit_rules.specs.Verdicts.{first_fault, verdict_by, verdict_of}
 use Rattle.cs_audit_rules.proofs.Unbroken.{unbroken_sound}
 use Rattle.cs_sched_types.specs.declared.schedule.Schedule.{Schedule}
-use Rattle.cs_node_rules.specs.Dumps.{dump_text}
-use Rattle.cs_node_rules.specs.Play.{Course, Goes, Stops, Forges, played_by}
+use Rattle.cs_replay_rules.specs.Dumps.{dump_text}
+use Rattle.cs_replay_rules.specs.Play.{Course, Goes, Stops, Forges, played_by}
 use Rattle.cs_node_rules.specs.Site.{Site}
 use Rattle.cs_replay.specs.Answers.{course_status, dump_behind}
 use Rattle.cs_replay.specs.Played.{course_of, world_of}

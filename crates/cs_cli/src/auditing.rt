@@ -16,7 +16,7 @@ use cs_audit::{Verdict, audit, verdict_status, verdict_text};
 use cs_base::{Sink, print};
 use cs_command::closing;
 use cs_dump_read::{Dump, parse_dump};
-use cs_sched::{Refusal, ScheduleError, refusal_line};
+use cs_text::{Refusal, TextError, refusal_line};
 use std::alloc::Global;
 
 /// A dump to which yes is answered is sound, with the history that is told. There is no premise.
@@ -34,8 +34,8 @@ pub fn audit_text<K: Sink>(alloc: Global, text: &[u8], output: &mut K) -> u8
 {
     match parse_dump(alloc, text) {
         Ok(dump) => audit_dump(alloc, &dump, output),
-        Err(ScheduleError::Line(refusal)) => refuse(alloc, refusal, output),
-        Err(ScheduleError::Memory) => 8,
+        Err(TextError::Line(refusal)) => refuse(alloc, refusal, output),
+        Err(TextError::Memory) => 8,
     }
 }
 

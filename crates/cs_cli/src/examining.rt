@@ -1,7 +1,8 @@
 //! Examining what the text of a source holds: a claim, or a dump.
 ghost use Rattle.std.specs.Prelude.{◌≡◌, ◌≢◌, ◌<◌, ◌^◌};
-ghost use Rattle.cs_base.specs.Outside.{HasCause, Rose};
+ghost use Rattle.cs_base.specs.Outside.{HasCause};
 ghost use Rattle.cs_base.specs.Answers.{Answers};
+ghost use Rattle.cs_outer.specs.Outside.{Faultless, Faulty};
 ghost use Rattle.cs_command.specs.Answers.{Gives, GivesWhole};
 ghost use Rattle.cs_cli.specs.Examined.{most_in, answer_to};
 
@@ -32,9 +33,8 @@ pub fn examine_source<S: Source, K: Sink>(
 ) -> u8
     ensures gives { Gives (most_in subject) (answer_to subject)
         (S.left input.old) (S.left input.new) (K.written output.old) (K.written output.new)
-        (Rose (S.faults input.old) (S.faults input.new)) result }
-    ensures whole { (Rose (S.faults input.old) (S.faults input.new) → ⊥)
-        → (Rose (K.faults output.old) (K.faults output.new) → ⊥)
+        (Faulty S.faults input.old input.new) result }
+    ensures whole { Faultless S.faults input.old input.new → Faultless K.faults output.old output.new
         → GivesWhole (most_in subject) (answer_to subject)
         (S.left input.old) (K.written output.old) (K.written output.new) result }
     ensures only { result ≢ 2 }

@@ -1,46 +1,34 @@
 //! The whole of the program, over the words and the outside that are handed in.
-ghost use Rattle.std.specs.Prelude.{◌≡◌, ◌≢◌, ◌≤◌, ℕ, Bool, List, Ok, Some, None};
+ghost use Rattle.std.specs.Prelude.{◌≡◌, ◌≢◌, ◌≤◌, ℕ, List, Option, Ok, Some, None};
 ghost use Rattle.std.specs.Io.KnownBytes.{Keeps};
-ghost use Rattle.cs_base.specs.Outside.{HasCause, Rose};
+ghost use Rattle.cs_base.specs.Outside.{HasCause};
 ghost use Rattle.cs_base.specs.Answers.{Answers};
 ghost use Rattle.cs_base.specs.declared.limits.TheConstants.{MOST_SCHEDULE};
 ghost use Rattle.cs_sched.specs.Text.{schedule_of};
 ghost use Rattle.cs_sched_types.specs.declared.schedule.Schedule.{Schedule};
 ghost use Rattle.cs_approve.specs.Approval.{is_approved_by};
 ghost use Rattle.cs_replay.specs.Sound.{IsSound};
-ghost use Rattle.cs_replay.specs.Answers.{Replays, Completes};
-ghost use Rattle.cs_replay.specs.declared.schedule.Mode.{Mode};
-ghost use Rattle.cs_cli.specs.Words.{command_of, texts_of, Node, Client, Keys, Cluster};
+ghost use Rattle.cs_cli.specs.Words.{command_of, texts_of};
 ghost use Rattle.cs_tx_form.specs.Log.{ProofFits};
 ghost use Rattle.cs_verify.specs.declared.claim.Claim.{Claim};
-ghost use Rattle.cs_verify.specs.Verdicts.{verify_answer, verdict_on, ShowsExactly, Tells as ProofTells};
-ghost use Rattle.cs_command.specs.Answers.{Gives, GivesWhole};
+ghost use Rattle.cs_verify.specs.Verdicts.{verdict_on, ShowsExactly, Tells as ProofTells};
 ghost use Rattle.cs_gen.specs.declared.limits.TheConstants.{MOST_SIZE};
 ghost use Rattle.cs_simulate.specs.Simulated.{simulate_answer, IsEnded};
-ghost use Rattle.cs_simulate.specs.Reports.{AnswersWhole};
 ghost use Rattle.cs_dump_read.specs.declared.dump.Dump.{Dump};
 ghost use Rattle.cs_dump_read.specs.declared.limits.TheConstants.{MOST_DUMP};
 ghost use Rattle.cs_dump_read.specs.Text.{dump_of};
 ghost use Rattle.cs_audit_rules.specs.Sound.{SaysSound};
-ghost use Rattle.cs_cli.specs.Audited.{audit_answer, dump_setup, dump_verdict, DumpsAreAnsweredYes};
+ghost use Rattle.cs_cli.specs.Audited.{dump_setup, dump_verdict, DumpsAreAnsweredYes};
 ghost use Rattle.cs_base.specs.declared.config.Config.{Config};
 ghost use Rattle.cs_wire.specs.declared.keys.Keys.{Keys as FileKeys};
 ghost use Rattle.cs_config_keys.specs.File.{keys_of};
 ghost use Rattle.cs_node.specs.Speaking.{Speaks};
 ghost use Rattle.cs_deploy.specs.Speaking.{net_of_keys};
-ghost use Rattle.cs_outer.specs.Told.{Stays};
-ghost use Rattle.cs_outer.specs.declared.until.Until.{Until};
-ghost use Rattle.cs_spawn.specs.Running.{outer};
-ghost use Rattle.cs_deploy_keys.specs.Keys.{KeysRuns};
-ghost use Rattle.cs_deploy_keys.specs.ReadKeys.{told, ReadKeysRuns};
-ghost use Rattle.cs_deploy_keys.specs.Cluster.{ClusterRuns};
-ghost use Rattle.cs_deploy.specs.Outside.{outside};
-ghost use Rattle.cs_deploy.specs.Node.{NodeRuns};
-ghost use Rattle.cs_deploy.specs.Client.{ClientRuns};
-ghost use Rattle.cs_cli.specs.Answers.{Tells, TellsWhole, words_answer};
-ghost use Rattle.cs_cli.specs.Deployed.{word_at};
-ghost use Rattle.cs_cli.specs.Done.{NodeDecided, ClientDecided, KeysDecided, ReadKeysDecided, ClusterDecided, around, all_around, Deploys, Does};
-ghost use Rattle.cs_cli.specs.declared.words.Command.TheVariants.{Replay, Contract, Verify, Audit, Simulate, ReadKeys};
+ghost use Rattle.cs_outer.specs.Outside.{Object, told_of, faults_of, outside};
+ghost use Rattle.cs_cli.specs.Answers.{words_answer};
+ghost use Rattle.cs_cli.specs.Done.{Deploys, Does};
+ghost use Rattle.cs_cli.specs.declared.words.Command.{Command};
+ghost use Rattle.cs_cli.specs.declared.words.Command.TheVariants.{Simulate};
 
 use crate::auditing::audited_dumps_are_sound;
 use crate::claims::shown_claims_are_covered;
@@ -87,164 +75,33 @@ pub fn run<S: Source, K: Sink, E: Store, L: Link, P: Spawner>(
         → Keeps (S.left input.old) (S.left input.new) }
     ensures only_words { result ≡ 2 → command_of (texts_of words.now) ≡ None }
 
-    // `replay` answers what the text of the source comes to.
-    ensures replay { (mode : Mode) → command_of (texts_of words.now) ≡ Some (Replay mode)
-        → Replays MOST_SCHEDULE mode
-        (S.left input.old) (S.left input.new) (K.written output.old) (K.written output.new)
-        (Rose (S.faults input.old) (S.faults input.new)) result }
-    ensures complete { (mode : Mode) → command_of (texts_of words.now) ≡ Some (Replay mode)
-        → (Rose (S.faults input.old) (S.faults input.new) → ⊥)
-        → (Rose (K.faults output.old) (K.faults output.new) → ⊥)
-        → Completes MOST_SCHEDULE mode
-        (S.left input.old) (K.written output.old) (K.written output.new) result }
+    // What each command does stands in `Does`, by what the outside told before and after.
+    ensures does { (command : Command) → command_of (texts_of words.now) ≡ Some command →
+        let told = outside S.left S.faults K.written K.faults E.files E.faults L.told L.faults
+        P.told P.faults in
+        Does command (texts_of words.now)
+        (told input.old output.old store.old link.old spawn.old)
+        (told input.new output.new store.new link.new spawn.new) result }
 
-    // `contract` tells of the contract that the text of the source is, or of its first fault.
-    ensures contract { (printing : Bool) → command_of (texts_of words.now) ≡ Some (Contract printing)
-        → Tells printing
-        (S.left input.old) (S.left input.new) (K.written output.old) (K.written output.new)
-        (Rose (S.faults input.old) (S.faults input.new)) result }
-    ensures contract_whole { (printing : Bool)
-        → command_of (texts_of words.now) ≡ Some (Contract printing)
-        → (Rose (S.faults input.old) (S.faults input.new) → ⊥)
-        → (Rose (K.faults output.old) (K.faults output.new) → ⊥)
-        → TellsWhole printing
-        (S.left input.old) (K.written output.old) (K.written output.new) result }
-
-    // `verify` answers what the claim comes to that the text of the source makes.
-    ensures verify { command_of (texts_of words.now) ≡ Some Verify
-        → Gives MOST_SCHEDULE (verify_answer MOST_SCHEDULE)
-        (S.left input.old) (S.left input.new) (K.written output.old) (K.written output.new)
-        (Rose (S.faults input.old) (S.faults input.new)) result }
-    ensures verify_whole { command_of (texts_of words.now) ≡ Some Verify
-        → (Rose (S.faults input.old) (S.faults input.new) → ⊥)
-        → (Rose (K.faults output.old) (K.faults output.new) → ⊥)
-        → GivesWhole MOST_SCHEDULE (verify_answer MOST_SCHEDULE)
-        (S.left input.old) (K.written output.old) (K.written output.new) result }
-    // It is `shown` exactly where the proof shows its leaf; then, where no strings collide, each
-    // checkpoint that has the head is the proof's, and has the leaf at its place.
+    // `verify` says `shown` exactly where the proof shows its leaf; then, where no strings collide,
+    // each checkpoint that has the head is the proof's, and has the leaf at its place.
     ensures shown { (claim : Claim) → ShowsExactly claim (verdict_on claim) }
     ensures covered { (claim : Claim) → ProofFits claim.proof
         → ProofTells claim.head (verdict_on claim) }
 
-    // `audit` answers what the dump comes to that the text of the source holds.
-    ensures audit { command_of (texts_of words.now) ≡ Some Audit
-        → Gives MOST_DUMP (audit_answer MOST_DUMP)
-        (S.left input.old) (S.left input.new) (K.written output.old) (K.written output.new)
-        (Rose (S.faults input.old) (S.faults input.new)) result }
-    ensures audit_whole { command_of (texts_of words.now) ≡ Some Audit
-        → (Rose (S.faults input.old) (S.faults input.new) → ⊥)
-        → (Rose (K.faults output.old) (K.faults output.new) → ⊥)
-        → GivesWhole MOST_DUMP (audit_answer MOST_DUMP)
-        (S.left input.old) (K.written output.old) (K.written output.new) result }
-    // A yes says that the dump is sound with that history. There is no premise.
+    // A yes of `audit` says that the dump is sound with that history. There is no premise.
     ensures sound_dump { (text : List ℕ) (dump : Dump) → dump_of MOST_DUMP text ≡ Ok dump
         → SaysSound (dump_setup dump) dump (dump_verdict dump) }
     // What a replay dumps is answered yes, with the history that it printed.
     ensures dumps_pass { (text : List ℕ) (schedule : Schedule)
         → schedule_of MOST_SCHEDULE text ≡ Ok schedule → DumpsAreAnsweredYes schedule }
 
-    // `simulate` answers what the schedule of its number and size comes to, and nothing is read.
-    ensures simulate { (number size : ℕ)
-        → command_of (texts_of words.now) ≡ Some (Simulate number size)
-        → Answers (simulate_answer number size)
-        (K.written output.old) (K.written output.new) result }
-    ensures simulate_whole { (number size : ℕ)
-        → command_of (texts_of words.now) ≡ Some (Simulate number size)
-        → (Rose (K.faults output.old) (K.faults output.new) → ⊥)
-        → AnswersWhole (simulate_answer number size)
-        (K.written output.old) (K.written output.new) result }
-    ensures simulate_unread { (number size : ℕ)
-        → command_of (texts_of words.now) ≡ Some (Simulate number size)
-        → Keeps (S.left input.old) (S.left input.new) }
-    // Nothing is injected in it, so it ends with 0, 3 or 13.
+    // Nothing is injected in the schedule of `simulate`, so it ends with 0, 3 or 13.
     ensures simulate_ends { (number size : ℕ) → IsEnded (simulate_answer number size) }
 
-    // `node` runs the node of its files, whose lines are printed.
-    ensures node { (site keys : ℕ) (until : Until)
-        → command_of (texts_of words.now) ≡ Some (Node site keys until)
-        → NodeRuns (word_at (texts_of words.now) site) (word_at (texts_of words.now) keys) until
-        (Rose (E.faults store.old) (E.faults store.new))
-        (Rose (L.faults link.old) (L.faults link.new)) (E.files store.old)
-        (outside (L.bound link.old) (L.left link.old) (L.offered link.old) (L.missed link.old)
-        (K.written output.old))
-        (outside (L.bound link.new) (L.left link.new) (L.offered link.new) (L.missed link.new)
-        (K.written output.new)) result }
-    ensures node_kept { (site keys : ℕ) (until : Until)
-        → command_of (texts_of words.now) ≡ Some (Node site keys until)
-        → Stays (E.files store.old) (E.files store.new) }
-    ensures node_whole { (site keys : ℕ) (until : Until)
-        → command_of (texts_of words.now) ≡ Some (Node site keys until)
-        → (Rose (E.faults store.old) (E.faults store.new) → ⊥)
-        → (Rose (L.faults link.old) (L.faults link.new) → ⊥)
-        → (Rose (K.faults output.old) (K.faults output.new) → ⊥)
-        → NodeDecided (word_at (texts_of words.now) site) (word_at (texts_of words.now) keys)
-        (E.files store.old) result }
     // The keys of each key file speak in a net, so of each node it is said what it sends.
     ensures keys_speak { (config : Config) (text : List ℕ) (keys : FileKeys)
         → keys_of config text ≡ Ok keys → Speaks config (net_of_keys keys) keys }
-
-    // `client` runs the client of its files, until it knows what has become of its call.
-    ensures client { (site keys call : ℕ) (until : Until)
-        → command_of (texts_of words.now) ≡ Some (Client site keys call until)
-        → ClientRuns (word_at (texts_of words.now) site) (word_at (texts_of words.now) keys)
-        (word_at (texts_of words.now) call) until
-        (Rose (E.faults store.old) (E.faults store.new))
-        (Rose (L.faults link.old) (L.faults link.new)) (E.files store.old)
-        (outside (L.bound link.old) (L.left link.old) (L.offered link.old) (L.missed link.old)
-        (K.written output.old))
-        (outside (L.bound link.new) (L.left link.new) (L.offered link.new) (L.missed link.new)
-        (K.written output.new)) result }
-    ensures client_kept { (site keys call : ℕ) (until : Until)
-        → command_of (texts_of words.now) ≡ Some (Client site keys call until)
-        → Stays (E.files store.old) (E.files store.new) }
-    ensures client_whole { (site keys call : ℕ) (until : Until)
-        → command_of (texts_of words.now) ≡ Some (Client site keys call until)
-        → (Rose (E.faults store.old) (E.faults store.new) → ⊥)
-        → (Rose (L.faults link.old) (L.faults link.new) → ⊥)
-        → (Rose (K.faults output.old) (K.faults output.new) → ⊥)
-        → ClientDecided (word_at (texts_of words.now) site) (word_at (texts_of words.now) keys)
-        (word_at (texts_of words.now) call) (E.files store.old) result }
-
-    // `keys` saves the key files that the master key gives the names of its site.
-    ensures keys { (site : ℕ) (master : List ℕ)
-        → command_of (texts_of words.now) ≡ Some (Keys site master)
-        → KeysRuns (word_at (texts_of words.now) site) master
-        (Rose (E.faults store.old) (E.faults store.new)) (E.files store.old) (E.files store.new)
-        (K.written output.old) (K.written output.new) result }
-    ensures keys_whole { (site : ℕ) (master : List ℕ)
-        → command_of (texts_of words.now) ≡ Some (Keys site master)
-        → (Rose (E.faults store.old) (E.faults store.new) → ⊥)
-        → (Rose (K.faults output.old) (K.faults output.new) → ⊥)
-        → KeysDecided (word_at (texts_of words.now) site) (E.files store.old) result }
-
-    // Where the words have `-` in its place, the master key is what the text of the source says.
-    ensures keys_read { (site : ℕ) → command_of (texts_of words.now) ≡ Some (ReadKeys site)
-        → ReadKeysRuns (word_at (texts_of words.now) site)
-        (Rose (E.faults store.old) (E.faults store.new))
-        (Rose (S.faults input.old) (S.faults input.new))
-        (told (S.left input.old) (E.files store.old) (K.written output.old))
-        (told (S.left input.new) (E.files store.new) (K.written output.new)) result }
-    ensures keys_read_whole { (site : ℕ) → command_of (texts_of words.now) ≡ Some (ReadKeys site)
-        → (Rose (E.faults store.old) (E.faults store.new) → ⊥)
-        → (Rose (S.faults input.old) (S.faults input.new) → ⊥)
-        → (Rose (K.faults output.old) (K.faults output.new) → ⊥)
-        → ReadKeysDecided (word_at (texts_of words.now) site) (S.left input.old)
-        (E.files store.old) result }
-
-    // `cluster` saves them too, and then runs the nodes of its plan and its calls.
-    ensures cluster { (plan : ℕ) → command_of (texts_of words.now) ≡ Some (Cluster plan)
-        → ClusterRuns (word_at (texts_of words.now) plan)
-        (Rose (E.faults store.old) (E.faults store.new))
-        (Rose (P.faults spawn.old) (P.faults spawn.new)) (E.files store.old) (E.files store.new)
-        (outer (P.started spawn.old) (P.children spawn.old) (P.statuses spawn.old)
-        (P.ended spawn.old) (K.written output.old))
-        (outer (P.started spawn.new) (P.children spawn.new) (P.statuses spawn.new)
-        (P.ended spawn.new) (K.written output.new)) result }
-    ensures cluster_whole { (plan : ℕ) → command_of (texts_of words.now) ≡ Some (Cluster plan)
-        → (Rose (E.faults store.old) (E.faults store.new) → ⊥)
-        → (Rose (P.faults spawn.old) (P.faults spawn.new) → ⊥)
-        → (Rose (K.faults output.old) (K.faults output.new) → ⊥)
-        → ClusterDecided (word_at (texts_of words.now) plan) (E.files store.old) result }
 
     // What is true of every schedule that is read, as far as it is played, whichever few nodes lie
     // in it: of its history, which is printed, and of the decisions of all honest nodes. A free
@@ -282,13 +139,11 @@ fn answer<S: Source, K: Sink, E: Store, L: Link, P: Spawner>(
     spawn: &mut P,
 ) -> u8
     requires { (number size : ℕ) → command ≡ Simulate number size → size ≤ MOST_SIZE }
-    ensures does { let told = around K.written K.faults E.files E.faults L.bound L.left L.offered
-        L.missed L.faults P.started P.children P.statuses P.ended P.faults in
+    ensures does { let told = outside S.left S.faults K.written K.faults E.files E.faults
+        L.told L.faults P.told P.faults in
         Does command (texts_of words.now)
-        (all_around (S.left input.old) (S.faults input.old)
-        (told output.old store.old link.old spawn.old))
-        (all_around (S.left input.new) (S.faults input.new)
-        (told output.new store.new link.new spawn.new)) result }
+        (told input.old output.old store.old link.old spawn.old)
+        (told input.new output.new store.new link.new spawn.new) result }
     ensures only { result ≢ 2 }
     ensures read_fault { HasCause (S.faults input.old) (S.faults input.new) (result ≡ 5) }
     ensures write_fault { HasCause (K.faults output.old) (K.faults output.new) (result ≡ 6) }
@@ -316,11 +171,12 @@ fn deploy<K: Sink, E: Store, L: Link, P: Spawner>(
     link: &mut L,
     spawn: &mut P,
 ) -> u8
-    ensures deploys { let told = around K.written K.faults E.files E.faults L.bound L.left L.offered
-        L.missed L.faults P.started P.children P.statuses P.ended P.faults in
+    ensures deploys { (source source' : Object (Option (List ℕ))) →
+        let told = outside told_of faults_of K.written K.faults E.files E.faults L.told L.faults
+        P.told P.faults in
         Deploys deployment (texts_of words.now)
-        (told output.old store.old link.old spawn.old)
-        (told output.new store.new link.new spawn.new) result }
+        (told source output.old store.old link.old spawn.old)
+        (told source' output.new store.new link.new spawn.new) result }
     ensures only { (result ≢ 2) × (result ≢ 5) }
     ensures write_fault { HasCause (K.faults output.old) (K.faults output.new) (result ≡ 6) }
 {

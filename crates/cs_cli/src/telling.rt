@@ -1,6 +1,7 @@
 //! Telling of the contract that a source holds.
 ghost use Rattle.std.specs.Prelude.{◌≡◌, ◌≢◌};
-ghost use Rattle.cs_base.specs.Outside.{HasCause, Rose};
+ghost use Rattle.cs_base.specs.Outside.{HasCause};
+ghost use Rattle.cs_outer.specs.Outside.{Faultless, Faulty};
 ghost use Rattle.cs_cli.specs.Answers.{Tells, TellsOf, TellsAccepted, TellsWhole};
 
 use cs_base::{ReadError, Sink, Source, print, read_text};
@@ -20,9 +21,8 @@ pub fn tell_source<S: Source, K: Sink>(
 ) -> u8
     ensures tells { Tells printing
         (S.left input.old) (S.left input.new) (K.written output.old) (K.written output.new)
-        (Rose (S.faults input.old) (S.faults input.new)) result }
-    ensures whole { (Rose (S.faults input.old) (S.faults input.new) → ⊥)
-        → (Rose (K.faults output.old) (K.faults output.new) → ⊥)
+        (Faulty S.faults input.old input.new) result }
+    ensures whole { Faultless S.faults input.old input.new → Faultless K.faults output.old output.new
         → TellsWhole printing
         (S.left input.old) (K.written output.old) (K.written output.new) result }
     ensures only { result ≢ 2 }

@@ -2,6 +2,7 @@
 use Rattle.std.specs.Prelude.{◌≡◌, ◌≢◌, ℕ, List, Option, Some, None, Ok}
 use Rattle.std.proofs.Common.{refl, sym, inl, inr, ◌∙◌}
 use Rattle.cs_outer.specs.Store.{Files}
+use Rattle.cs_outer.specs.Outside.{LinkTold, Beside}
 use Rattle.cs_outer.specs.declared.until.Until.{Until}
 use Rattle.cs_config.specs.declared.call.CallFile.{CallFile}
 use Rattle.cs_serve.specs.declared.ending.End.{End}
@@ -18,13 +19,13 @@ use Rattle.cs_take.specs.Calls.{ClientComes}
 use Rattle.cs_deploy_keys.specs.Untaken.{IsDecided}
 use Rattle.cs_deploy_keys.proofs.Answered.{answers-other}
 use Rattle.cs_deploy_keys.proofs.Decided.{untaken-decided, untaken-other}
-use Rattle.cs_deploy.specs.Outside.{Outside, Runs, link_answer}
+use Rattle.cs_deploy.specs.Binding.{Runs, link_answer}
 use Rattle.cs_deploy.specs.Node.{TellsEnd, NodeGoes, NodeRuns}
 use Rattle.cs_deploy.specs.Client.{known_status, known_answer, refused_answer, TellsEnding, ClientGoes, ClientRuns, IsToldOf}
 
 -- ---- files first
 
-module _ {A : Type 0} (Come : Files → Taken A → Type 0) (Goes : A → Outside → Outside → ℕ → Type 0) (Failed : Type 0) (files : Option Files) (old new : Outside) (status : ℕ) where
+module _ {A : Type 0} (Come : Files → Taken A → Type 0) (Goes : A → Beside LinkTold → Beside LinkTold → ℕ → Type 0) (Failed : Type 0) (files : Option Files) (old new : Beside LinkTold) (status : ℕ) where
   pub runs-decided : (Done : ℕ → Type 0) → Runs Come Goes Failed files old new status → (Failed → ⊥) → status ≢ 6 → ((taken : A) → Goes taken old new status → status ≢ 8 → Done status) → IsDecided Come Done files status
   runs-decided Done (inl is) stores writes each = untaken-decided Come Done Failed files old.written new.written status is.untaken stores writes
   runs-decided Done (inr (taken, takes, goes)) stores writes each = by files takes
@@ -39,7 +40,7 @@ module _ {A : Type 0} (Come : Files → Taken A → Type 0) (Goes : A → Outsid
 
 -- ---- `node`
 
-module _ (setup : Setup) (until : Until) (Failed : Type 0) (old new : Outside) (status : ℕ) where
+module _ (setup : Setup) (until : Until) (Failed : Type 0) (old new : Beside LinkTold) (status : ℕ) where
   pub node-done : NodeGoes setup until Failed old new status → (Failed → ⊥) → status ≢ 6 → status ≢ 8 → status ≡ 0
   node-done (inl is) links writes other = absurd (other is.silent.0)
   node-done (inr (inl is)) links writes other = absurd (links is.failed)
@@ -76,7 +77,7 @@ known-other known.Open n zero ten = ten
 known-other (known.Accepted digest) n zero ten = zero
 known-other (known.Aborted digest) n zero ten = zero
 
-module _ (setup : Setup) (call : CallFile) (until : Until) (Failed : Type 0) (old new : Outside) (status : ℕ) where
+module _ (setup : Setup) (call : CallFile) (until : Until) (Failed : Type 0) (old new : Beside LinkTold) (status : ℕ) where
   pub client-done : ClientGoes setup call until Failed old new status → (Failed → ⊥) → status ≢ 6 → status ≢ 8 → IsToldOf status
   client-done (inl is) links writes other = absurd (other is.silent.0)
   client-done (inr (inl is)) links writes other = absurd (links is.failed)
@@ -101,7 +102,7 @@ module _ (setup : Setup) (call : CallFile) (until : Until) (Failed : Type 0) (ol
 
 -- ---- both commands
 
-module _ (site keys : List ℕ) (until : Until) (Failed Linked : Type 0) (files : Option Files) (old new : Outside) (status : ℕ) where
+module _ (site keys : List ℕ) (until : Until) (Failed Linked : Type 0) (files : Option Files) (old new : Beside LinkTold) (status : ℕ) where
   pub node-runs-decided : NodeRuns site keys until Failed Linked files old new status → (Failed → ⊥) → (Linked → ⊥) → status ≢ 6 → IsDecided (Comes (setup_taken Node site keys)) (λ s. s ≡ 0) files status
   node-runs-decided runs stores links writes =
       runs-decided (Comes (setup_taken Node site keys)) (λ setup. NodeGoes setup until Linked) Failed files old new status (λ s. s ≡ 0) runs stores writes
@@ -112,7 +113,7 @@ module _ (site keys : List ℕ) (until : Until) (Failed Linked : Type 0) (files 
       runs-other (Comes (setup_taken Node site keys)) (λ setup. NodeGoes setup until Linked) Failed files old new status n runs twelve six eight
       (λ setup goes. node-other setup until Linked old new status n goes zero seven six eight)
 
-module _ (site keys call : List ℕ) (until : Until) (Failed Linked : Type 0) (files : Option Files) (old new : Outside) (status : ℕ) where
+module _ (site keys call : List ℕ) (until : Until) (Failed Linked : Type 0) (files : Option Files) (old new : Beside LinkTold) (status : ℕ) where
   pub client-runs-decided : ClientRuns site keys call until Failed Linked files old new status → (Failed → ⊥) → (Linked → ⊥) → status ≢ 6 → IsDecided (ClientComes site keys call) IsToldOf files status
   client-runs-decided runs stores links writes =
       runs-decided (ClientComes site keys call) (λ both. ClientGoes both.0 both.1 until Linked) Failed files old new status IsToldOf runs stores writes

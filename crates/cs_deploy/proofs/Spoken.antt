@@ -10,7 +10,7 @@ use Rattle.cs_base.specs.NodeId.{is_node, is_named, same_name, members_below}
 use Rattle.cs_wire.specs.declared.keys.Row.{Row}
 use Rattle.cs_wire.specs.declared.keys.Keys.{Keys}
 use Rattle.cs_wire.specs.Keys.{Listed, row_listed, row_in, row_of, stands, first_twice}
-use Rattle.cs_wire.specs.Opened.{nodes_below}
+use Rattle.cs_wire.specs.AllNames.{nodes_below}
 use Rattle.cs_config.specs.declared.error.ConfigError.{ConfigError}
 use Rattle.cs_config.specs.declared.error.FileField.TheVariants as field
 use Rattle.cs_config.specs.declared.error.ConfigError.TheVariants.{Field}

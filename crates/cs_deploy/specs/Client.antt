@@ -3,6 +3,7 @@ use Rattle.std.specs.Prelude.{◌≡◌, ◌⊎◌, ℕ, List, [], codes, ◌++�
 use Rattle.cs_base.specs.Answers.{Answer, Answers}
 use Rattle.cs_outer.specs.Store.{Files}
 use Rattle.cs_outer.specs.Link.{Binds}
+use Rattle.cs_outer.specs.Outside.{LinkTold, Beside}
 use Rattle.cs_outer.specs.declared.link.Bound.TheVariants as bind
 use Rattle.cs_outer.specs.declared.until.Until.{Until}
 use Rattle.cs_config.specs.declared.call.CallFile.{CallFile}
@@ -15,11 +16,11 @@ use Rattle.cs_client.specs.Lines.{known_line}
 use Rattle.cs_client.specs.Standing.{errand_for}
 use Rattle.cs_attend.specs.declared.ending.Ending.{Ending}
 use Rattle.cs_attend.specs.declared.ending.Ending.TheVariants.{Knows, Refused, LinkFault, Memory}
-use Rattle.cs_attend.specs.Attending.{side, Attends}
+use Rattle.cs_attend.specs.Attending.{Attends}
 use Rattle.cs_take.specs.declared.setups.Setup.{Setup}
 use Rattle.cs_take.specs.Calls.{ClientComes}
 use Rattle.cs_deploy_keys.specs.Untaken.{IsSilent}
-use Rattle.cs_deploy.specs.Outside.{Outside, IsShort, IsUnbound, Runs, link_answer}
+use Rattle.cs_deploy.specs.Binding.{IsShort, IsUnbound, Runs, link_answer}
 
 -- ---- the last line
 
@@ -57,23 +58,23 @@ abbrev pub errand_of : Setup → CallFile → Errand
 errand_of setup call = errand_for setup.site setup.keys setup.book call
 
 -- The link is bound as the client of these keys, and the client is run until it knows what has become of its session.
-pub record IsAttended (errand : Errand) (base_port : ℕ) (until : Until) (LinkFailed : Type 0) (old new : Outside)
+pub record IsAttended (errand : Errand) (base_port : ℕ) (until : Until) (LinkFailed : Type 0) (old new : Beside LinkTold)
     (status : ℕ) : Type 0 where
-  pub bound : Binds old.bound new.bound errand.keys.me base_port bind.Done
+  pub bound : Binds old.told.bound new.told.bound errand.keys.me base_port bind.Done
   pub ending : Ending
-  pub attends : Attends errand until (side old.left old.offered old.missed) (side new.left new.offered new.missed) ending
+  pub attends : Attends errand until old.told new.told ending
   pub failed : ending ≡ LinkFault → LinkFailed
   pub told : TellsEnding ending old.written new.written status
 
 -- what becomes of a client whose files are taken
-abbrev pub ClientGoes : Setup → CallFile → Until → Type 0 → Outside → Outside → ℕ → Type 0
+abbrev pub ClientGoes : Setup → CallFile → Until → Type 0 → Beside LinkTold → Beside LinkTold → ℕ → Type 0
 ClientGoes setup call until LinkFailed old new status =
     IsShort old new status
     ⊎ (IsUnbound setup.keys.me setup.site.base_port LinkFailed old new status
     ⊎ IsAttended (errand_of setup call) setup.site.base_port until LinkFailed old new status)
 
 -- what the command comes to
-abbrev pub ClientRuns : List ℕ → List ℕ → List ℕ → Until → Type 0 → Type 0 → Option Files → Outside → Outside → ℕ → Type 0
+abbrev pub ClientRuns : List ℕ → List ℕ → List ℕ → Until → Type 0 → Type 0 → Option Files → Beside LinkTold → Beside LinkTold → ℕ → Type 0
 ClientRuns site keys call until StoreFailed LinkFailed files old new status =
     Runs (ClientComes site keys call) (λ both. ClientGoes both.0 both.1 until LinkFailed) StoreFailed files old new status
 

@@ -1,4 +1,4 @@
-pub mod Outside
+pub mod Binding
 pub mod Node
 pub mod Client
 pub mod Speaking

@@ -4,6 +4,7 @@ use Rattle.std.specs.Io.KnownBytes.{Keeps}
 use Rattle.cs_base.specs.Answers.{Answers}
 use Rattle.cs_outer.specs.Store.{Files}
 use Rattle.cs_outer.specs.Link.{Binds}
+use Rattle.cs_outer.specs.Outside.{LinkTold, Beside}
 use Rattle.cs_outer.specs.declared.link.Bound.TheVariants as bind
 use Rattle.cs_outer.specs.declared.until.Until.{Until}
 use Rattle.cs_order_rules.specs.SlotMachine.{slot_machine}
@@ -17,14 +18,13 @@ use Rattle.cs_node_pool.specs.Deployed.{deployed}
 use Rattle.cs_node.specs.Speaking.{Speaks}
 use Rattle.cs_serve.specs.declared.ending.End.{End}
 use Rattle.cs_serve.specs.declared.ending.End.TheVariants.{Done, Ended, LinkFault, WriteFault, Memory}
-use Rattle.cs_serve.specs.Outer.{Outer, outer}
 use Rattle.cs_serve.specs.Serving.{Serves}
 use Rattle.cs_take.specs.declared.keys.Role.TheVariants as role
 use Rattle.cs_take.specs.declared.setups.Setup.{Setup}
 use Rattle.cs_take.specs.Taking.{Comes}
 use Rattle.cs_take.specs.Files.{setup_taken}
 use Rattle.cs_deploy_keys.specs.Untaken.{IsSilent}
-use Rattle.cs_deploy.specs.Outside.{Outside, IsShort, IsUnbound, Runs, link_answer}
+use Rattle.cs_deploy.specs.Binding.{IsShort, IsUnbound, Runs, link_answer}
 
 -- the site of a setup in a net: nodes in the order among 3f+1 members, which approve by the contracts
 abbrev pub site_in : Setup → Net → Site OrderMessage
@@ -37,7 +37,7 @@ AnyNode {M} core view = Unit {0}
 
 -- A node was served so: what it sends was offered and its lines were written, as its trail over the inputs that it took
 -- has them.
-abbrev pub ServesFrom : {M : Type 0} → Site M → View M → Until → Outer → Outer → End → Type 0
+abbrev pub ServesFrom : {M : Type 0} → Site M → View M → Until → Beside LinkTold → Beside LinkTold → End → Type 0
 ServesFrom {M} site v until old new end = Serves (AnyNode {M = M}) site v until old new (end, None)
 
 -- what is printed behind all that a node printed, and the status
@@ -49,25 +49,24 @@ TellsEnd WriteFault written written' status = (status ≡ 6) × Keeps written wr
 TellsEnd Memory written written' status = IsSilent written written' status
 
 -- The link is bound as the node of these keys, and the node is served, in whatever net its keys speak.
-pub record IsServed (setup : Setup) (until : Until) (LinkFailed : Type 0) (old new : Outside) (status : ℕ) : Type 0 where
-  pub bound : Binds old.bound new.bound setup.keys.me setup.site.base_port bind.Done
+pub record IsServed (setup : Setup) (until : Until) (LinkFailed : Type 0) (old new : Beside LinkTold) (status : ℕ) : Type 0 where
+  pub bound : Binds old.told.bound new.told.bound setup.keys.me setup.site.base_port bind.Done
   pub end : End
   pub written : Option (List ℕ)
   pub serves : (net : Net) → Speaks setup.site.config net setup.keys →
       let site = site_in setup net in
-      ServesFrom site (start_view site setup.keys.me) until
-      (outer old.left old.offered old.missed old.written) (outer new.left new.offered new.missed written) end
+      ServesFrom site (start_view site setup.keys.me) until old (record new { written = written }) end
   pub failed : end ≡ LinkFault → LinkFailed
   pub told : TellsEnd end written new.written status
 
 -- what becomes of a node whose files are taken
-abbrev pub NodeGoes : Setup → Until → Type 0 → Outside → Outside → ℕ → Type 0
+abbrev pub NodeGoes : Setup → Until → Type 0 → Beside LinkTold → Beside LinkTold → ℕ → Type 0
 NodeGoes setup until LinkFailed old new status =
     IsShort old new status
     ⊎ (IsUnbound setup.keys.me setup.site.base_port LinkFailed old new status
     ⊎ IsServed setup until LinkFailed old new status)
 
 -- what the command comes to
-abbrev pub NodeRuns : List ℕ → List ℕ → Until → Type 0 → Type 0 → Option Files → Outside → Outside → ℕ → Type 0
+abbrev pub NodeRuns : List ℕ → List ℕ → Until → Type 0 → Type 0 → Option Files → Beside LinkTold → Beside LinkTold → ℕ → Type 0
 NodeRuns site keys until StoreFailed LinkFailed files old new status =
     Runs (Comes (setup_taken role.Node site keys)) (λ setup. NodeGoes setup until LinkFailed) StoreFailed files old new status

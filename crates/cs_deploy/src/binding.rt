@@ -1,7 +1,8 @@
 //! The link of a node or a client, bound before its first turn.
 ghost use Rattle.std.specs.Prelude.{◌≡◌, ◌≤◌, Err};
-ghost use Rattle.cs_base.specs.Outside.{HasCause, Rose};
-ghost use Rattle.cs_deploy.specs.Outside.{outside, BindsOrTells};
+ghost use Rattle.cs_base.specs.Outside.{HasCause};
+ghost use Rattle.cs_outer.specs.Outside.{Faulty, beside};
+ghost use Rattle.cs_deploy.specs.Binding.{BindsOrTells};
 
 use cs_base::{NodeId, Sink};
 use cs_deploy_keys::tell;
@@ -14,12 +15,9 @@ pub(crate) fn bind_or_tell<L: Link, K: Sink>(
     base_port: u16,
     out: &mut K,
 ) -> Result<(), u8>
-    ensures binds { BindsOrTells me base_port (Rose (L.faults link.old) (L.faults link.new))
-        (outside (L.bound link.old) (L.left link.old) (L.offered link.old) (L.missed link.old)
-        (K.written out.old))
-        (outside (L.bound link.new) (L.left link.new) (L.offered link.new) (L.missed link.new)
-        (K.written out.new))
-        result }
+    ensures binds { BindsOrTells me base_port (Faulty L.faults link.old link.new)
+        (beside (L.told link.old) (K.written out.old))
+        (beside (L.told link.new) (K.written out.new)) result }
     ensures link { L.faults link.old ≤ L.faults link.new }
     ensures write_fault { HasCause (K.faults out.old) (K.faults out.new) (result ≡ Err 6) }
 {

@@ -1,11 +1,11 @@
 //! The command `client`.
 ghost use Rattle.std.specs.Prelude.{◌≡◌, ◌≢◌};
-ghost use Rattle.cs_base.specs.Outside.{HasCause, Rose};
+ghost use Rattle.cs_base.specs.Outside.{HasCause};
 ghost use Rattle.cs_base.specs.Answers.{Answers};
 ghost use Rattle.cs_outer.specs.Told.{Stays};
+ghost use Rattle.cs_outer.specs.Outside.{Faultless, Faulty, beside};
 ghost use Rattle.cs_take.specs.Calls.{ClientComes};
 ghost use Rattle.cs_deploy_keys.specs.Untaken.{IsDecided};
-ghost use Rattle.cs_deploy.specs.Outside.{outside};
 ghost use Rattle.cs_deploy.specs.Client.{ClientGoes, ClientRuns, IsToldOf, TellsEnding, known_answer, known_status, refused_answer};
 
 use crate::binding::bind_or_tell;
@@ -35,19 +35,13 @@ pub fn run_client<E: Store, L: Link, K: Sink>(
     out: &mut K,
 ) -> u8
     ensures runs { ClientRuns site_name.now keys_name.now call_name.now until
-        (Rose (E.faults store.old) (E.faults store.new))
-        (Rose (L.faults link.old) (L.faults link.new))
-        (E.files store.old)
-        (outside (L.bound link.old) (L.left link.old) (L.offered link.old) (L.missed link.old)
-        (K.written out.old))
-        (outside (L.bound link.new) (L.left link.new) (L.offered link.new) (L.missed link.new)
-        (K.written out.new))
-        result }
+        (Faulty E.faults store.old store.new) (Faulty L.faults link.old link.new)
+        (E.files store.old) (beside (L.told link.old) (K.written out.old))
+        (beside (L.told link.new) (K.written out.new)) result }
     ensures kept { Stays (E.files store.old) (E.files store.new) }
     // Where no fault came about, the files decide, and what the client comes to know.
-    ensures whole { (Rose (E.faults store.old) (E.faults store.new) → ⊥)
-        → (Rose (L.faults link.old) (L.faults link.new) → ⊥)
-        → (Rose (K.faults out.old) (K.faults out.new) → ⊥)
+    ensures whole { Faultless E.faults store.old store.new → Faultless L.faults link.old link.new
+        → Faultless K.faults out.old out.new
         → IsDecided (ClientComes site_name.now keys_name.now call_name.now) IsToldOf
         (E.files store.old) result }
     ensures only { (result ≢ 2) × (result ≢ 5) }
@@ -68,12 +62,9 @@ fn run_call<L: Link, K: Sink>(
     link: &mut L,
     out: &mut K,
 ) -> u8
-    ensures goes { ClientGoes setup call until (Rose (L.faults link.old) (L.faults link.new))
-        (outside (L.bound link.old) (L.left link.old) (L.offered link.old) (L.missed link.old)
-        (K.written out.old))
-        (outside (L.bound link.new) (L.left link.new) (L.offered link.new) (L.missed link.new)
-        (K.written out.new))
-        result }
+    ensures goes { ClientGoes setup call until (Faulty L.faults link.old link.new)
+        (beside (L.told link.old) (K.written out.old))
+        (beside (L.told link.new) (K.written out.new)) result }
     ensures write_fault { HasCause (K.faults out.old) (K.faults out.new) (result ≡ 6) }
 {
     let me = setup.keys.me();

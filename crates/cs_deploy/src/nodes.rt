@@ -1,13 +1,13 @@
 //! The command `node`.
 ghost use Rattle.std.specs.Prelude.{◌≡◌, ◌≢◌, ◌⊎◌, ◌≤◌};
-ghost use Rattle.cs_base.specs.Outside.{HasCause, Rose};
+ghost use Rattle.cs_base.specs.Outside.{HasCause};
 ghost use Rattle.cs_outer.specs.Told.{Stays};
+ghost use Rattle.cs_outer.specs.Outside.{Faultless, Faulty, beside};
 ghost use Rattle.cs_take.specs.Taking.{Comes};
 ghost use Rattle.cs_take.specs.Files.{setup_taken};
 ghost use Rattle.cs_take.specs.declared.keys.Role.TheVariants.{Node};
 ghost use Rattle.cs_take.specs.Setups.{IsSound};
 ghost use Rattle.cs_deploy_keys.specs.Untaken.{IsDecided};
-ghost use Rattle.cs_deploy.specs.Outside.{outside};
 ghost use Rattle.cs_deploy.specs.Node.{NodeGoes, NodeRuns, TellsEnd};
 
 use crate::binding::bind_or_tell;
@@ -31,19 +31,13 @@ pub fn run_node<E: Store, L: Link, K: Sink>(
     out: &mut K,
 ) -> u8
     ensures runs { NodeRuns site_name.now keys_name.now until
-        (Rose (E.faults store.old) (E.faults store.new))
-        (Rose (L.faults link.old) (L.faults link.new))
-        (E.files store.old)
-        (outside (L.bound link.old) (L.left link.old) (L.offered link.old) (L.missed link.old)
-        (K.written out.old))
-        (outside (L.bound link.new) (L.left link.new) (L.offered link.new) (L.missed link.new)
-        (K.written out.new))
-        result }
+        (Faulty E.faults store.old store.new) (Faulty L.faults link.old link.new)
+        (E.files store.old) (beside (L.told link.old) (K.written out.old))
+        (beside (L.told link.new) (K.written out.new)) result }
     ensures kept { Stays (E.files store.old) (E.files store.new) }
     // Where no fault came about, the files alone decide.
-    ensures whole { (Rose (E.faults store.old) (E.faults store.new) → ⊥)
-        → (Rose (L.faults link.old) (L.faults link.new) → ⊥)
-        → (Rose (K.faults out.old) (K.faults out.new) → ⊥)
+    ensures whole { Faultless E.faults store.old store.new → Faultless L.faults link.old link.new
+        → Faultless K.faults out.old out.new
         → IsDecided (Comes (setup_taken Node site_name.now keys_name.now))
         (λ status. status ≡ 0) (E.files store.old) result }
     ensures only { (result ≢ 2) × (result ≢ 5) }
@@ -64,12 +58,9 @@ fn run_setup<L: Link, K: Sink>(
     out: &mut K,
 ) -> u8
     requires { IsSound Node setup }
-    ensures goes { NodeGoes setup until (Rose (L.faults link.old) (L.faults link.new))
-        (outside (L.bound link.old) (L.left link.old) (L.offered link.old) (L.missed link.old)
-        (K.written out.old))
-        (outside (L.bound link.new) (L.left link.new) (L.offered link.new) (L.missed link.new)
-        (K.written out.new))
-        result }
+    ensures goes { NodeGoes setup until (Faulty L.faults link.old link.new)
+        (beside (L.told link.old) (K.written out.old))
+        (beside (L.told link.new) (K.written out.new)) result }
     ensures write_fault { HasCause (K.faults out.old) (K.faults out.new) (result ≡ 6) }
 {
     let me = setup.keys.me();
@@ -90,7 +81,7 @@ fn run_setup<L: Link, K: Sink>(
 fn tell_end<K: Sink>(end: End, out: &mut K) -> u8
     ensures tells { TellsEnd end (K.written out.old) (K.written out.new) result }
     ensures faults { K.faults out.old ≤ K.faults out.new }
-    ensures cause { result ≡ 6 → (end ≡ End.WriteFault) ⊎ Rose (K.faults out.old) (K.faults out.new) }
+    ensures cause { result ≡ 6 → (end ≡ End.WriteFault) ⊎ Faulty K.faults out.old out.new }
 {
     match end {
         End::Done | End::Ended => 0,

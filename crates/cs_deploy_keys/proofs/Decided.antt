@@ -2,11 +2,11 @@
 use Rattle.std.specs.Prelude.{◌≡◌, ◌≢◌, ℕ, List, Option, Some, None, Result, Ok, Err, IsErrOf}
 use Rattle.std.proofs.Common.{refl, sym, inl, inr, ◌∙◌}
 use Rattle.cs_outer.specs.Store.{Files}
+use Rattle.cs_outer.specs.Outside.{SpawnerTold, Beside}
 use Rattle.cs_key_files.specs.Names.{key_file}
 use Rattle.cs_key_files.specs.Saving.{ByFault}
 use Rattle.cs_key_files.specs.declared.saving.SaveError.{SaveError}
 use Rattle.cs_key_files.specs.declared.saving.SaveError.TheVariants as save
-use Rattle.cs_spawn.specs.Running.{Outer}
 use Rattle.cs_spawn.specs.declared.error.ClusterError.{ClusterError}
 use Rattle.cs_spawn.specs.declared.error.ClusterError.TheVariants as spawn
 use Rattle.cs_config.specs.declared.plan.Plan.{Plan}
@@ -90,7 +90,7 @@ ended-done (Err spawn.SpawnFault) Failed written written' status failed tells st
 ended-done (Err spawn.WriteFault) Failed written written' status failed tells starts writes other = absurd (writes tells.0)
 ended-done (Err spawn.Memory) Failed written written' status failed tells starts writes other = absurd (other tells.0)
 
-module _ (name : List ℕ) (Failed Spawn : Type 0) (files files' : Option Files) (old new : Outer) (status : ℕ) where
+module _ (name : List ℕ) (Failed Spawn : Type 0) (files files' : Option Files) (old new : Beside SpawnerTold) (status : ℕ) where
   going-done : (plan : Plan) (site : Site) → ClusterGoes plan site Failed Spawn files files' old new status → (Failed → ⊥) → (Spawn → ⊥) → status ≢ 6 → status ≢ 8 → status ≡ 0
   going-done plan site (inl is) stores starts writes other = saved-done (Err is.error) Failed old.written new.written status is.failed is.told stores other
   going-done plan site (inr (saved, is)) stores starts writes other = ended-done is.result Spawn is.written new.written status is.failed is.told starts writes other

@@ -1,26 +1,27 @@
 -- What becomes of a plan, from before its files were taken on.
-use Rattle.std.proofs.Common.{◌≡◌, ℕ, ◌+◌, ◌≤◌, inl, inr, Bool, List, [], Option, Some, None, Err, refl, sym, append-nil, arith}
+use Rattle.std.proofs.Common.{◌≡◌, ℕ, ◌+◌, ◌≤◌, inl, inr, List, [], Option, Some, None, Err, refl, sym, append-nil, arith}
 use Rattle.std.specs.Prelude.{◌++◌}
 use Rattle.cs_base.specs.Outside.{Rose}
 use Rattle.cs_outer.specs.Told.{Changes, Stays}
 use Rattle.cs_outer.specs.Store.{Files}
 use Rattle.cs_outer.specs.Spawner.{Children}
+use Rattle.cs_outer.specs.Outside.{SpawnerTold, Beside, beside}
 use Rattle.cs_config.specs.declared.plan.Plan.{Plan}
 use Rattle.cs_config.specs.declared.site.Site.{Site}
-use Rattle.cs_wire.specs.Opened.{names_of}
+use Rattle.cs_wire.specs.AllNames.{names_of}
 use Rattle.cs_key_files.specs.Saving.{SavesUpTo, Saves}
-use Rattle.cs_spawn.specs.Running.{Outer, outer, IsIdle}
+use Rattle.cs_spawn.specs.Running.{IsIdle}
 use Rattle.cs_deploy_keys.specs.Cluster.{ClusterGoes}
 use Rattle.cs_deploy_keys.proofs.Answered.{rose-later}
 use Rattle.cs_outer.specs.laws.Told.{stays-same, changes-after}
 
 -- no child was started, and none was told to end
-pub idle-same : (started : Option Children) (children : ℕ) (statuses : Option (ℕ → ℕ)) (ended : ℕ → Bool) (written written' : Option (List ℕ)) → IsIdle (outer started children statuses ended written) (outer started children statuses ended written')
-idle-same started children statuses ended written written' = record {
+pub idle-same : (told : SpawnerTold) (written written' : Option (List ℕ)) → IsIdle (beside told written) (beside told written')
+idle-same told written written' = record {
   starts = record {
-    started = none started;
-    children = let same : children ≡ children + 0 = omega arith in same;
-    statuses = stays-same statuses;
+    started = none told.started;
+    children = let same : told.children ≡ told.children + 0 = omega arith in same;
+    statuses = stays-same told.statuses;
   };
   ended = refl;
 }
@@ -30,7 +31,7 @@ idle-same started children statuses ended written written' = record {
     none (Some words) = sym (append-nil words)
 
 -- the store kept its files until then
-pub going-later : (plan : Plan) (site : Site) (first middle last : ℕ) (Spawn : Type 0) (files files' files'' : Option Files) (old new : Outer) (status : ℕ) → Stays files files' → first ≤ middle
+pub going-later : (plan : Plan) (site : Site) (first middle last : ℕ) (Spawn : Type 0) (files files' files'' : Option Files) (old new : Beside SpawnerTold) (status : ℕ) → Stays files files' → first ≤ middle
     → ClusterGoes plan site (Rose middle last) Spawn files' files'' old new status → ClusterGoes plan site (Rose first last) Spawn files files'' old new status
 going-later plan site first middle last Spawn files files' files'' old new status kept later (inl is) = inl (record {
   error = is.error;

@@ -4,13 +4,14 @@ use Rattle.std.specs.Io.KnownBytes.{Keeps}
 use Rattle.cs_base.specs.Answers.{Answer, Answers}
 use Rattle.cs_outer.specs.Told.{Changes, Stays}
 use Rattle.cs_outer.specs.Store.{Files}
+use Rattle.cs_outer.specs.Outside.{SpawnerTold, Beside}
 use Rattle.cs_config.specs.declared.plan.Plan.{Plan}
 use Rattle.cs_config.specs.declared.site.Site.{Site}
-use Rattle.cs_wire.specs.Opened.{names_of}
+use Rattle.cs_wire.specs.AllNames.{names_of}
 use Rattle.cs_key_files.specs.Saving.{SavesUpTo, Saves, ByFault}
 use Rattle.cs_key_files.specs.declared.saving.SaveError.{SaveError}
 use Rattle.cs_spawn.specs.Deeds.{cluster_deeds}
-use Rattle.cs_spawn.specs.Running.{Outer, IsIdle, Ends}
+use Rattle.cs_spawn.specs.Running.{IsIdle, Ends}
 use Rattle.cs_spawn.specs.declared.error.ClusterError.{ClusterError}
 use Rattle.cs_spawn.specs.declared.error.ClusterError.TheVariants.{SpawnFault, WriteFault, Memory}
 use Rattle.cs_take.specs.Taking.{Takes, Comes}
@@ -19,14 +20,14 @@ use Rattle.cs_deploy_keys.specs.Untaken.{IsSilent, IsUntaken}
 use Rattle.cs_deploy_keys.specs.Keys.{TellsUnsaved}
 
 -- A file isn't taken, and no child is started.
-pub record IsUnplanned (name : List ℕ) (StoreFailed : Type 0) (files files' : Option Files) (old new : Outer)
+pub record IsUnplanned (name : List ℕ) (StoreFailed : Type 0) (files files' : Option Files) (old new : Beside SpawnerTold)
     (status : ℕ) : Type 0 where
   pub kept : Stays files files'
   pub idle : IsIdle old new
   pub untaken : IsUntaken (Comes (cluster_taken name)) StoreFailed files old.written new.written status
 
 -- Not all key files are saved, and no child is started.
-pub record IsUnsaved (master : List ℕ) (site : Site) (StoreFailed : Type 0) (files files' : Option Files) (old new : Outer)
+pub record IsUnsaved (master : List ℕ) (site : Site) (StoreFailed : Type 0) (files files' : Option Files) (old new : Beside SpawnerTold)
     (status : ℕ) : Type 0 where
   pub error : SaveError
   pub saved : Changes (SavesUpTo site.config master (names_of site.config) (Err error)) files files'
@@ -45,22 +46,22 @@ TellsEnd (Err WriteFault) written written' status = (status ≡ 6) × Keeps writ
 TellsEnd (Err Memory) written written' status = IsSilent written written' status
 
 -- The plan is run, from its first child on.
-pub record PlanRuns (plan : Plan) (site : Site) (SpawnFailed : Type 0) (old new : Outer) (status : ℕ) : Type 0 where
+pub record PlanRuns (plan : Plan) (site : Site) (SpawnFailed : Type 0) (old new : Beside SpawnerTold) (status : ℕ) : Type 0 where
   pub result : Result Unit ClusterError
   pub written : Option (List ℕ)
-  pub ends : Ends (cluster_deeds plan site.config old.children) old (record new { written = written }) result
+  pub ends : Ends (cluster_deeds plan site.config old.told.children) old (record new { written = written }) result
   pub failed : IsErrOf result SpawnFault → SpawnFailed
   pub told : TellsEnd result written new.written status
 
 -- what becomes of a plan that is taken, with its site: not all key files are saved; or all are, and then the plan is run
-abbrev pub ClusterGoes : Plan → Site → Type 0 → Type 0 → Option Files → Option Files → Outer → Outer → ℕ → Type 0
+abbrev pub ClusterGoes : Plan → Site → Type 0 → Type 0 → Option Files → Option Files → Beside SpawnerTold → Beside SpawnerTold → ℕ → Type 0
 ClusterGoes plan site StoreFailed SpawnFailed files files' old new status =
     IsUnsaved plan.master site StoreFailed files files' old new status
     ⊎ (Changes (Saves site.config plan.master (names_of site.config)) files files'
     × PlanRuns plan site SpawnFailed old new status)
 
 -- what the command comes to
-abbrev pub ClusterRuns : List ℕ → Type 0 → Type 0 → Option Files → Option Files → Outer → Outer → ℕ → Type 0
+abbrev pub ClusterRuns : List ℕ → Type 0 → Type 0 → Option Files → Option Files → Beside SpawnerTold → Beside SpawnerTold → ℕ → Type 0
 ClusterRuns name StoreFailed SpawnFailed files files' old new status =
     IsUnplanned name StoreFailed files files' old new status
     ⊎ ((taken : Plan × Site) × Takes (Comes (cluster_taken name)) files (Ok taken)

@@ -5,7 +5,7 @@ use Rattle.cs_base.specs.Answers.{Answers}
 use Rattle.cs_outer.specs.Told.{Changes, Stays}
 use Rattle.cs_outer.specs.Store.{Files}
 use Rattle.cs_config.specs.declared.site.Site.{Site}
-use Rattle.cs_wire.specs.Opened.{names_of}
+use Rattle.cs_wire.specs.AllNames.{names_of}
 use Rattle.cs_key_files.specs.Names.{key_file}
 use Rattle.cs_key_files.specs.Saving.{SavesUpTo, ByFault}
 use Rattle.cs_key_files.specs.declared.saving.SaveError.{SaveError}

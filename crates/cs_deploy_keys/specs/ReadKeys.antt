@@ -5,6 +5,7 @@ use Rattle.cs_base.specs.Answers.{Answer, Answers, IsText}
 use Rattle.cs_command.specs.Answers.{read_fault_answer}
 use Rattle.cs_outer.specs.Told.{Stays}
 use Rattle.cs_outer.specs.Store.{Files}
+use Rattle.cs_outer.specs.Outside.{Beside}
 use Rattle.cs_config.specs.declared.site.Site.{Site}
 use Rattle.cs_take.specs.Taking.{Takes, Comes}
 use Rattle.cs_take.specs.Files.{site_taken}
@@ -13,42 +14,37 @@ use Rattle.cs_deploy_keys.specs.Untaken.{IsSilent, IsUntaken}
 use Rattle.cs_deploy_keys.specs.Keys.{IsSaved}
 use Rattle.cs_deploy_keys.specs.Master.{master_of}
 
--- what source, store and sink tell
-pub record Told : Type 0 where
-  pub left : Option (List ℕ)
-  pub files : Option Files
-  pub written : Option (List ℕ)
-
-abbrev pub told : Option (List ℕ) → Option Files → Option (List ℕ) → Told
-told left files written = record { left = left; files = files; written = written }
-
 abbrev pub refused_master : Answer
 refused_master = record { status = 3; printed = codes "refused master\n" }
 
 -- the key files of a site under this master key; or there is none, and all files stay
-abbrev pub SavesUnder : Option (List ℕ) → Site → Type 0 → Told → Told → ℕ → Type 0
-SavesUnder (Some master) site StoreFailed a b status =
-    IsSaved site master StoreFailed a.files b.files a.written b.written status
-SavesUnder None site StoreFailed a b status = Stays a.files b.files × Answers refused_master a.written b.written status
+abbrev pub SavesUnder : Option (List ℕ) → Site → Type 0 → Beside (Option Files) → Beside (Option Files) → ℕ → Type 0
+SavesUnder (Some master) site StoreFailed old new status =
+    IsSaved site master StoreFailed old.told new.told old.written new.written status
+SavesUnder None site StoreFailed old new status =
+    Stays old.told new.told × Answers refused_master old.written new.written status
 
 -- The source has failed, or memory ran out; all files stay.
-pub record IsUnread (ReadFailed : Type 0) (a b : Told) (status : ℕ) : Type 0 where
-  pub kept : Stays a.files b.files
-  pub told : (ReadFailed × Answers read_fault_answer a.written b.written status) ⊎ IsSilent a.written b.written status
+pub record IsUnread (ReadFailed : Type 0) (old new : Beside (Option Files)) (status : ℕ) : Type 0 where
+  pub kept : Stays old.told new.told
+  pub told : (ReadFailed × Answers read_fault_answer old.written new.written status)
+      ⊎ IsSilent old.written new.written status
 
 -- The text of the source says the master key, or none.
-pub record IsRead (site : Site) (StoreFailed : Type 0) (a b : Told) (status : ℕ) : Type 0 where
+pub record IsRead (site : Site) (StoreFailed : Type 0) (left left' : Option (List ℕ)) (old new : Beside (Option Files))
+    (status : ℕ) : Type 0 where
   pub text : List ℕ
-  pub is_text : IsText MOST_MASTER a.left b.left text
-  pub saves : SavesUnder (master_of text) site StoreFailed a b status
+  pub is_text : IsText MOST_MASTER left left' text
+  pub saves : SavesUnder (master_of text) site StoreFailed old new status
 
 -- what the command comes to: the site isn't taken, and nothing is read; or it is, and then the source is read
-abbrev pub ReadKeysRuns : List ℕ → Type 0 → Type 0 → Told → Told → ℕ → Type 0
-ReadKeysRuns name StoreFailed ReadFailed a b status =
-    (Stays a.files b.files × Keeps a.left b.left
-    × IsUntaken (Comes (site_taken name)) StoreFailed a.files a.written b.written status)
-    ⊎ ((site : Site) × Takes (Comes (site_taken name)) a.files (Ok site)
-    × (IsUnread ReadFailed a b status ⊎ IsRead site StoreFailed a b status))
+abbrev pub ReadKeysRuns : List ℕ → Type 0 → Type 0 → Option (List ℕ) → Option (List ℕ) → Beside (Option Files)
+    → Beside (Option Files) → ℕ → Type 0
+ReadKeysRuns name StoreFailed ReadFailed left left' old new status =
+    (Stays old.told new.told × Keeps left left'
+    × IsUntaken (Comes (site_taken name)) StoreFailed old.told old.written new.written status)
+    ⊎ ((site : Site) × Takes (Comes (site_taken name)) old.told (Ok site)
+    × (IsUnread ReadFailed old new status ⊎ IsRead site StoreFailed left left' old new status))
 
 -- ---- without faults
 

@@ -1,7 +1,7 @@
 //! The command `cluster`.
 ghost use Rattle.std.specs.Prelude.{◌≡◌, ◌≢◌, ◌≤◌};
-ghost use Rattle.cs_base.specs.Outside.{HasCause, Rose};
-ghost use Rattle.cs_spawn.specs.Running.{outer};
+ghost use Rattle.cs_base.specs.Outside.{HasCause};
+ghost use Rattle.cs_outer.specs.Outside.{Faultless, Faulty, beside};
 ghost use Rattle.cs_take.specs.Taking.{Comes};
 ghost use Rattle.cs_take.specs.Files.{cluster_taken};
 ghost use Rattle.cs_deploy_keys.specs.Untaken.{IsDecided};
@@ -29,18 +29,13 @@ pub fn run_cluster<E: Store, P: Spawner, K: Sink>(
     out: &mut K,
 ) -> u8
     ensures runs { ClusterRuns name.now
-        (Rose (E.faults store.old) (E.faults store.new))
-        (Rose (P.faults spawner.old) (P.faults spawner.new))
+        (Faulty E.faults store.old store.new) (Faulty P.faults spawner.old spawner.new)
         (E.files store.old) (E.files store.new)
-        (outer (P.started spawner.old) (P.children spawner.old) (P.statuses spawner.old)
-        (P.ended spawner.old) (K.written out.old))
-        (outer (P.started spawner.new) (P.children spawner.new) (P.statuses spawner.new)
-        (P.ended spawner.new) (K.written out.new))
-        result }
+        (beside (P.told spawner.old) (K.written out.old))
+        (beside (P.told spawner.new) (K.written out.new)) result }
     // Where no fault came about, the plan and the site file alone decide.
-    ensures whole { (Rose (E.faults store.old) (E.faults store.new) → ⊥)
-        → (Rose (P.faults spawner.old) (P.faults spawner.new) → ⊥)
-        → (Rose (K.faults out.old) (K.faults out.new) → ⊥)
+    ensures whole { Faultless E.faults store.old store.new → Faultless P.faults spawner.old spawner.new
+        → Faultless K.faults out.old out.new
         → IsDecided (Comes (cluster_taken name.now)) (λ status. status ≡ 0)
         (E.files store.old) result }
     ensures only { (result ≢ 2) × (result ≢ 5) }
@@ -62,14 +57,10 @@ fn run_taken<E: Store, P: Spawner, K: Sink>(
     out: &mut K,
 ) -> u8
     ensures goes { ClusterGoes plan.now site.now
-        (Rose (E.faults store.old) (E.faults store.new))
-        (Rose (P.faults spawner.old) (P.faults spawner.new))
+        (Faulty E.faults store.old store.new) (Faulty P.faults spawner.old spawner.new)
         (E.files store.old) (E.files store.new)
-        (outer (P.started spawner.old) (P.children spawner.old) (P.statuses spawner.old)
-        (P.ended spawner.old) (K.written out.old))
-        (outer (P.started spawner.new) (P.children spawner.new) (P.statuses spawner.new)
-        (P.ended spawner.new) (K.written out.new))
-        result }
+        (beside (P.told spawner.old) (K.written out.old))
+        (beside (P.told spawner.new) (K.written out.new)) result }
     ensures store { E.faults store.old ≤ E.faults store.new }
     ensures write_fault { HasCause (K.faults out.old) (K.faults out.new) (result ≡ 6) }
 {
@@ -87,12 +78,9 @@ fn run_plan<P: Spawner, K: Sink>(
     spawner: &mut P,
     out: &mut K,
 ) -> u8
-    ensures ends { PlanRuns plan.now site.now (Rose (P.faults spawner.old) (P.faults spawner.new))
-        (outer (P.started spawner.old) (P.children spawner.old) (P.statuses spawner.old)
-        (P.ended spawner.old) (K.written out.old))
-        (outer (P.started spawner.new) (P.children spawner.new) (P.statuses spawner.new)
-        (P.ended spawner.new) (K.written out.new))
-        result }
+    ensures ends { PlanRuns plan.now site.now (Faulty P.faults spawner.old spawner.new)
+        (beside (P.told spawner.old) (K.written out.old))
+        (beside (P.told spawner.new) (K.written out.new)) result }
     ensures write_fault { HasCause (K.faults out.old) (K.faults out.new) (result ≡ 6) }
 {
     match cluster(alloc, spawner, plan, site, out) {

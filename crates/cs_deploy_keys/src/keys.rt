@@ -1,11 +1,12 @@
 //! The command `keys`.
-ghost use Rattle.std.specs.Prelude.{◌≡◌, ◌≢◌, ◌≤◌, ◌⊎◌, ℕ, List, Option};
-ghost use Rattle.cs_base.specs.Outside.{HasCause, Rose};
+ghost use Rattle.std.specs.Prelude.{◌≡◌, ◌≢◌, ◌≤◌, ◌⊎◌};
+ghost use Rattle.cs_base.specs.Outside.{HasCause};
+ghost use Rattle.cs_outer.specs.Outside.{Faultless, Faulty, beside};
 ghost use Rattle.cs_take.specs.Taking.{Comes};
 ghost use Rattle.cs_take.specs.Files.{site_taken};
 ghost use Rattle.cs_deploy_keys.specs.Untaken.{IsDecided};
 ghost use Rattle.cs_deploy_keys.specs.Keys.{KeysRuns, IsSaved};
-ghost use Rattle.cs_deploy_keys.specs.ReadKeys.{told, SavesUnder, IsUnread, IsRead, ReadKeysRuns, EndsAsRead};
+ghost use Rattle.cs_deploy_keys.specs.ReadKeys.{SavesUnder, IsUnread, IsRead, ReadKeysRuns, EndsAsRead};
 
 use crate::limits::MOST_MASTER;
 use crate::master::master_of;
@@ -29,11 +30,10 @@ pub fn run_keys<E: Store, K: Sink>(
     out: &mut K,
 ) -> u8
     ensures runs { KeysRuns name.now master.now
-        (Rose (E.faults store.old) (E.faults store.new)) (E.files store.old) (E.files store.new)
+        (Faulty E.faults store.old store.new) (E.files store.old) (E.files store.new)
         (K.written out.old) (K.written out.new) result }
     // Where no fault came about, the site file alone decides.
-    ensures whole { (Rose (E.faults store.old) (E.faults store.new) → ⊥)
-        → (Rose (K.faults out.old) (K.faults out.new) → ⊥)
+    ensures whole { Faultless E.faults store.old store.new → Faultless K.faults out.old out.new
         → IsDecided (Comes (site_taken name.now)) (λ status. status ≡ 0)
         (E.files store.old) result }
     ensures only { (result ≢ 2) × (result ≢ 5) }
@@ -54,7 +54,7 @@ fn save_site<E: Store, K: Sink>(
     out: &mut K,
 ) -> u8
     ensures saved { IsSaved site.now master.now
-        (Rose (E.faults store.old) (E.faults store.new)) (E.files store.old) (E.files store.new)
+        (Faulty E.faults store.old store.new) (E.files store.old) (E.files store.new)
         (K.written out.old) (K.written out.new) result }
     ensures store { E.faults store.old ≤ E.faults store.new }
     ensures write_fault { HasCause (K.faults out.old) (K.faults out.new) (result ≡ 6) }
@@ -75,14 +75,12 @@ pub fn run_keys_read<S: Source, E: Store, K: Sink>(
     out: &mut K,
 ) -> u8
     ensures runs { ReadKeysRuns name.now
-        (Rose (E.faults store.old) (E.faults store.new))
-        (Rose (S.faults input.old) (S.faults input.new))
-        (told (S.left input.old) (E.files store.old) (K.written out.old))
-        (told (S.left input.new) (E.files store.new) (K.written out.new)) result }
+        (Faulty E.faults store.old store.new) (Faulty S.faults input.old input.new)
+        (S.left input.old) (S.left input.new) (beside (E.files store.old) (K.written out.old))
+        (beside (E.files store.new) (K.written out.new)) result }
     // Where no fault came about, the site file and the text of the input alone decide.
-    ensures whole { (Rose (E.faults store.old) (E.faults store.new) → ⊥)
-        → (Rose (S.faults input.old) (S.faults input.new) → ⊥)
-        → (Rose (K.faults out.old) (K.faults out.new) → ⊥)
+    ensures whole { Faultless E.faults store.old store.new → Faultless S.faults input.old input.new
+        → Faultless K.faults out.old out.new
         → IsDecided (Comes (site_taken name.now)) (EndsAsRead (S.left input.old))
         (E.files store.old) result }
     ensures only { result ≢ 2 }
@@ -103,10 +101,11 @@ fn save_read<S: Source, E: Store, K: Sink>(
     store: &mut E,
     out: &mut K,
 ) -> u8
-    ensures saves { let a = told (S.left input.old) (E.files store.old) (K.written out.old) in
-        let b = told (S.left input.new) (E.files store.new) (K.written out.new) in
-        IsUnread (Rose (S.faults input.old) (S.faults input.new)) a b result
-        ⊎ IsRead site.now (Rose (E.faults store.old) (E.faults store.new)) a b result }
+    ensures saves { let old = beside (E.files store.old) (K.written out.old) in
+        let new = beside (E.files store.new) (K.written out.new) in
+        IsUnread (Faulty S.faults input.old input.new) old new result
+        ⊎ IsRead site.now (Faulty E.faults store.old store.new) (S.left input.old)
+        (S.left input.new) old new result }
     ensures store { E.faults store.old ≤ E.faults store.new }
     ensures read_fault { HasCause (S.faults input.old) (S.faults input.new) (result ≡ 5) }
     ensures write_fault { HasCause (K.faults out.old) (K.faults out.new) (result ≡ 6) }
@@ -126,10 +125,9 @@ fn save_under<E: Store, K: Sink>(
     store: &mut E,
     out: &mut K,
 ) -> u8
-    ensures saves { (left left' : Option (List ℕ)) →
-        SavesUnder master site.now (Rose (E.faults store.old) (E.faults store.new))
-        (told left (E.files store.old) (K.written out.old))
-        (told left' (E.files store.new) (K.written out.new)) result }
+    ensures saves { SavesUnder master site.now (Faulty E.faults store.old store.new)
+        (beside (E.files store.old) (K.written out.old))
+        (beside (E.files store.new) (K.written out.new)) result }
     ensures store { E.faults store.old ≤ E.faults store.new }
     ensures other { result ≢ 5 }
     ensures write_fault { HasCause (K.faults out.old) (K.faults out.new) (result ≡ 6) }

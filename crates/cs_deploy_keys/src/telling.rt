@@ -1,6 +1,7 @@
 //! What a command prints last.
 ghost use Rattle.std.specs.Prelude.{◌≡◌, ◌≢◌, ◌≤◌};
-ghost use Rattle.cs_base.specs.Outside.{HasCause, Rose};
+ghost use Rattle.cs_base.specs.Outside.{HasCause};
+ghost use Rattle.cs_outer.specs.Outside.{Faulty};
 ghost use Rattle.cs_base.specs.Answers.{Answers};
 ghost use Rattle.cs_deploy_keys.specs.Untaken.{untaken_answer, TellsUntaken};
 ghost use Rattle.cs_key_files.specs.Names.{key_file};
@@ -18,7 +19,7 @@ pub fn tell<K: Sink>(out: &mut K, text: &[u8], status: u8) -> u8
     ensures answers { Answers (record { status = status; printed = text.now })
         (K.written out.old) (K.written out.new) result }
     ensures faults { K.faults out.old ≤ K.faults out.new }
-    ensures cause { status ≢ 6 → result ≡ 6 → Rose (K.faults out.old) (K.faults out.new) }
+    ensures cause { status ≢ 6 → result ≡ 6 → Faulty K.faults out.old out.new }
 {
     closing(print(out, text), status)
 }

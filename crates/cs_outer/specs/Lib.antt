@@ -3,6 +3,7 @@ pub mod Store
 pub mod Files
 pub mod Link
 pub mod Spawner
+pub mod Outside
 pub mod Until
 pub mod InMemory
 pub mod laws

@@ -30,10 +30,10 @@ impl MemLink {
     /// A link of these inputs, bound as nothing, whose calls of these numbers, counted from 0,
     /// fail.
     pub fn new(alloc: Global, inputs: Vec<MemInput>, fails: Vec<u32>) -> Self
-        ensures bound { ⟦<MemLink as Link>⟧.bound result ≡ Some None }
-        ensures left { ⟦<MemLink as Link>⟧.left result ≡ Some (map input_of inputs.items) }
-        ensures offered { ⟦<MemLink as Link>⟧.offered result ≡ Some [] }
-        ensures missed { ⟦<MemLink as Link>⟧.missed result ≡ 0 }
+        ensures bound { (⟦<MemLink as Link>⟧.told result).bound ≡ Some None }
+        ensures left { (⟦<MemLink as Link>⟧.told result).left ≡ Some (map input_of inputs.items) }
+        ensures offered { (⟦<MemLink as Link>⟧.told result).offered ≡ Some [] }
+        ensures missed { (⟦<MemLink as Link>⟧.told result).missed ≡ 0 }
         ensures faults { ⟦<MemLink as Link>⟧.faults result ≡ 0 }
         ensures failures { link_failures result ≡ uncalled fails.items }
     {
@@ -50,21 +50,21 @@ impl MemLink {
 
     /// What the link is bound as.
     pub fn bound(&self) -> Option<(NodeId, u16)>
-        ensures { ⟦<MemLink as Link>⟧.bound self.now ≡ Some result }
+        ensures { (⟦<MemLink as Link>⟧.told self.now).bound ≡ Some result }
     {
         self.bound
     }
 
     /// All that was offered to be sent, with its addressee.
     pub fn offered(&self) -> &[(NodeId, Sequence<u8>)]
-        ensures { ⟦<MemLink as Link>⟧.offered self.now ≡ Some result.now }
+        ensures { (⟦<MemLink as Link>⟧.told self.now).offered ≡ Some result.now }
     {
         self.offered.as_slice()
     }
 
     /// The inputs that are left, as they were given.
     pub fn left(&self) -> &[MemInput]
-        ensures { ⟦<MemLink as Link>⟧.left self.now ≡ Some (map input_of result.now) }
+        ensures { (⟦<MemLink as Link>⟧.told self.now).left ≡ Some (map input_of result.now) }
     {
         let (_, left) = self.inputs.split_at(self.taken);
         left
@@ -96,23 +96,17 @@ fn fill(buf: &mut [u8], bytes: &[u8]) -> usize
 
 impl Link for MemLink {
     ghost use Rattle.cs_base.specs.Failures.{CountsCall, is_listed};
-    ghost use Rattle.cs_outer.specs.InMemory.{link_bound, link_left, link_offered, link_missed, link_failures, link_faults};
+    ghost use Rattle.cs_outer.specs.InMemory.{link_told, link_failures, link_faults};
 
-    ghost bound = { link_bound };
-
-    ghost left = { link_left };
-
-    ghost offered = { link_offered };
-
-    ghost missed = { link_missed };
+    ghost told = { link_told };
 
     ghost faults = { link_faults };
 
     fn bind(&mut self, me: NodeId, base_port: u16) -> Bound
-        ensures place { Binds (link_bound self.old) (link_bound self.new) me base_port result }
-        ensures left { Stays (link_left self.old) (link_left self.new) }
-        ensures offered { Stays (link_offered self.old) (link_offered self.new) }
-        ensures missed { link_missed self.new ≡ link_missed self.old }
+        ensures place { Binds (link_told self.old).bound (link_told self.new).bound me base_port result }
+        ensures left { Stays (link_told self.old).left (link_told self.new).left }
+        ensures offered { Stays (link_told self.old).offered (link_told self.new).offered }
+        ensures missed { (link_told self.new).missed ≡ (link_told self.old).missed }
         ensures cause { HasCause (link_faults self.old) (link_faults self.new)
             (result ≡ Bound.Failed) }
 
@@ -130,10 +124,10 @@ impl Link for MemLink {
 
     fn receive(&mut self, buf: &mut [u8]) -> Arrived
         requires { length buf.old ≡ MOST_DATAGRAM + 1 }
-        ensures input { Receives (link_left self.old) (link_left self.new) buf.new result }
-        ensures bound { Stays (link_bound self.old) (link_bound self.new) }
-        ensures offered { Stays (link_offered self.old) (link_offered self.new) }
-        ensures missed { link_missed self.new ≡ missed_after (link_missed self.old) result }
+        ensures input { Receives (link_told self.old).left (link_told self.new).left buf.new result }
+        ensures bound { Stays (link_told self.old).bound (link_told self.new).bound }
+        ensures offered { Stays (link_told self.old).offered (link_told self.new).offered }
+        ensures missed { (link_told self.new).missed ≡ missed_after (link_told self.old).missed result }
         ensures cause { HasCause (link_faults self.old) (link_faults self.new)
             (result ≡ Arrived.Failed) }
 
@@ -158,10 +152,10 @@ impl Link for MemLink {
 
     fn send(&mut self, to: NodeId, bytes: &[u8]) -> Sent
         ensures datagram { Sends
-            (link_offered self.old) (link_offered self.new) to bytes.now result }
-        ensures bound { Stays (link_bound self.old) (link_bound self.new) }
-        ensures left { Stays (link_left self.old) (link_left self.new) }
-        ensures missed { link_missed self.new ≡ link_missed self.old }
+            (link_told self.old).offered (link_told self.new).offered to bytes.now result }
+        ensures bound { Stays (link_told self.old).bound (link_told self.new).bound }
+        ensures left { Stays (link_told self.old).left (link_told self.new).left }
+        ensures missed { (link_told self.new).missed ≡ (link_told self.old).missed }
         ensures cause { HasCause (link_faults self.old) (link_faults self.new)
             (result ≡ Sent.Failed) }
 

@@ -28,11 +28,11 @@ impl MemSpawner {
     /// A spawner without children, whose calls of these numbers, counted from 0, fail. Its child
     /// of number k ends with the status at place k, or with 0 where there is none.
     pub fn new(alloc: Global, statuses: Vec<u8>, fails: Vec<u32>) -> Self
-        ensures started { ⟦<MemSpawner as Spawner>⟧.started result ≡ Some [] }
-        ensures children { ⟦<MemSpawner as Spawner>⟧.children result ≡ 0 }
-        ensures statuses { ⟦<MemSpawner as Spawner>⟧.statuses result
+        ensures started { (⟦<MemSpawner as Spawner>⟧.told result).started ≡ Some [] }
+        ensures children { (⟦<MemSpawner as Spawner>⟧.told result).children ≡ 0 }
+        ensures statuses { (⟦<MemSpawner as Spawner>⟧.told result).statuses
             ≡ Some (slice_index statuses.items) }
-        ensures ended { ⟦<MemSpawner as Spawner>⟧.ended result ≡ (λ _. false) }
+        ensures ended { (⟦<MemSpawner as Spawner>⟧.told result).ended ≡ (λ _. false) }
         ensures faults { ⟦<MemSpawner as Spawner>⟧.faults result ≡ 0 }
         ensures failures { spawner_failures result ≡ uncalled fails.items }
     {
@@ -47,14 +47,14 @@ impl MemSpawner {
 
     /// The words of each child, in the order of their numbers.
     pub fn started(&self) -> &[Sequence<Text>]
-        ensures { ⟦<MemSpawner as Spawner>⟧.started self.now ≡ Some result.now }
+        ensures { (⟦<MemSpawner as Spawner>⟧.told self.now).started ≡ Some result.now }
     {
         self.started.as_slice()
     }
 
     /// Whether the child of this number was told to end.
     pub fn was_ended(&self, number: u64) -> bool
-        ensures { result ≡ ⟦<MemSpawner as Spawner>⟧.ended self.now number }
+        ensures { result ≡ (⟦<MemSpawner as Spawner>⟧.told self.now).ended number }
     {
         let flag = self.ended.get(number as usize).copied();
         flag.unwrap_or(false)
@@ -91,28 +91,22 @@ fn copy_words(alloc: Global, words: &[String]) -> Result<Sequence<Text>, Memory>
 impl Spawner for MemSpawner {
     ghost use Rattle.cs_base.specs.Failures.{CountsCall};
     ghost use Rattle.cs_outer.specs.laws.Flags.{spared_past};
-    ghost use Rattle.cs_outer.specs.InMemory.{spawner_started, spawner_children, spawner_statuses, spawner_ended, spawner_failures, spawner_faults};
+    ghost use Rattle.cs_outer.specs.InMemory.{spawner_told, spawner_failures, spawner_faults};
 
-    ghost started = { spawner_started };
-
-    ghost children = { spawner_children };
-
-    ghost statuses = { spawner_statuses };
-
-    ghost ended = { spawner_ended };
+    ghost told = { spawner_told };
 
     ghost faults = { spawner_faults };
 
     ghost spared = { λ s n past. spared_past s.ended.items (length s.started) n s.flagged past };
 
     fn start(&mut self, words: &[String]) -> Started
-        ensures words { Starts (spawner_started self.old) (spawner_started self.new)
+        ensures words { Starts (spawner_told self.old).started (spawner_told self.new).started
             (map string_bytes words.now) result }
-        ensures children { spawner_children self.new
-            ≡ children_after (spawner_children self.old) result }
-        ensures number { (n : ℕ) → result ≡ Started.Started n → n ≡ spawner_children self.old }
-        ensures statuses { Stays (spawner_statuses self.old) (spawner_statuses self.new) }
-        ensures ended { spawner_ended self.new ≡ spawner_ended self.old }
+        ensures children { (spawner_told self.new).children
+            ≡ children_after (spawner_told self.old).children result }
+        ensures number { (n : ℕ) → result ≡ Started.Started n → n ≡ (spawner_told self.old).children }
+        ensures statuses { Stays (spawner_told self.old).statuses (spawner_told self.new).statuses }
+        ensures ended { (spawner_told self.new).ended ≡ (spawner_told self.old).ended }
         ensures cause { HasCause (spawner_faults self.old) (spawner_faults self.new)
             (result ≡ Started.Failed) }
 
@@ -131,12 +125,12 @@ impl Spawner for MemSpawner {
     }
 
     fn wait(&mut self, number: u64) -> Waited
-        requires { number < spawner_children self.old }
-        ensures status { Waits (spawner_statuses self.old) number result }
-        ensures started { Stays (spawner_started self.old) (spawner_started self.new) }
-        ensures children { spawner_children self.new ≡ spawner_children self.old }
-        ensures statuses { Stays (spawner_statuses self.old) (spawner_statuses self.new) }
-        ensures ended { spawner_ended self.new ≡ spawner_ended self.old }
+        requires { number < (spawner_told self.old).children }
+        ensures status { Waits (spawner_told self.old).statuses number result }
+        ensures started { Stays (spawner_told self.old).started (spawner_told self.new).started }
+        ensures children { (spawner_told self.new).children ≡ (spawner_told self.old).children }
+        ensures statuses { Stays (spawner_told self.old).statuses (spawner_told self.new).statuses }
+        ensures ended { (spawner_told self.new).ended ≡ (spawner_told self.old).ended }
         ensures cause { HasCause (spawner_faults self.old) (spawner_faults self.new)
             (result ≡ Waited.Failed) }
 
@@ -152,12 +146,12 @@ impl Spawner for MemSpawner {
     }
 
     fn end(&mut self, number: u64) -> Stopped
-        requires { number < spawner_children self.old }
+        requires { number < (spawner_told self.old).children }
         ensures ended { EndsThese
-            (number ∷ []) (spawner_ended self.old) (spawner_ended self.new) }
-        ensures started { Stays (spawner_started self.old) (spawner_started self.new) }
-        ensures children { spawner_children self.new ≡ spawner_children self.old }
-        ensures statuses { Stays (spawner_statuses self.old) (spawner_statuses self.new) }
+            (number ∷ []) (spawner_told self.old).ended (spawner_told self.new).ended }
+        ensures started { Stays (spawner_told self.old).started (spawner_told self.new).started }
+        ensures children { (spawner_told self.new).children ≡ (spawner_told self.old).children }
+        ensures statuses { Stays (spawner_told self.old).statuses (spawner_told self.new).statuses }
         ensures cause { HasCause (spawner_faults self.old) (spawner_faults self.new)
             (result ≡ Stopped.Failed) }
 

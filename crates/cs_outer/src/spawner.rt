@@ -1,9 +1,10 @@
 //! What child programs are started by, by their words and their statuses, and by how often it
 //! failed.
-ghost use Rattle.std.specs.Prelude.{◌≡◌, ◌<◌, ◌≤◌, [], ◌∷◌, ℕ, Bool, false, List, Option, map, string_bytes};
+ghost use Rattle.std.specs.Prelude.{◌≡◌, ◌<◌, ◌≤◌, [], ◌∷◌, ℕ, false, map, string_bytes};
 ghost use Rattle.cs_base.specs.Outside.{HasCause};
 ghost use Rattle.cs_outer.specs.Told.{Stays};
 ghost use Rattle.cs_outer.specs.Spawner.{Starts, Waits, EndsThese, children_after};
+ghost use Rattle.cs_outer.specs.Outside.{SpawnerTold};
 
 /// What came of starting a child.
 #[derive(Clone, Copy, Debug, PartialEq, Eq)]
@@ -37,17 +38,9 @@ pub enum Stopped {
 /// What child programs are started by, waited for, and told to end. A child's number is that of the
 /// children that were started before it.
 pub trait Spawner {
-    /// The words of each child, in the order of their numbers, where the spawner tells them.
-    ghost started: { Self → Option (List (List (List ℕ))) };
-
-    /// How many children were started.
-    ghost children: { Self → ℕ };
-
-    /// The status with which the child of each number ends, where the spawner tells them.
-    ghost statuses: { Self → Option (ℕ → ℕ) };
-
-    /// Whether the child of each number was told to end, whatever came of it.
-    ghost ended: { Self → ℕ → Bool };
+    /// What the spawner has told so far: how many children were started and which of them were told
+    /// to end; and the words of each and the status with which it ends, where it tells that.
+    ghost told: { Self → SpawnerTold };
 
     /// How often the spawner has failed, up to 2^64 - 1.
     ghost faults: { Self → ℕ };
@@ -55,33 +48,33 @@ pub trait Spawner {
     /// Starts a child with these words.
     fn start(&mut self, words: &[String]) -> Started
         ensures words { Starts
-            (started self.old) (started self.new) (map string_bytes words.now) result }
-        ensures children { children self.new ≡ children_after (children self.old) result }
-        ensures number { (n : ℕ) → result ≡ Started.Started n → n ≡ children self.old }
-        ensures statuses { Stays (statuses self.old) (statuses self.new) }
-        ensures ended { ended self.new ≡ ended self.old }
+            (told self.old).started (told self.new).started (map string_bytes words.now) result }
+        ensures children { (told self.new).children ≡ children_after (told self.old).children result }
+        ensures number { (n : ℕ) → result ≡ Started.Started n → n ≡ (told self.old).children }
+        ensures statuses { Stays (told self.old).statuses (told self.new).statuses }
+        ensures ended { (told self.new).ended ≡ (told self.old).ended }
         ensures cause { HasCause (faults self.old) (faults self.new) (result ≡ Started.Failed) };
 
     /// Waits until the child of this number has ended.
     fn wait(&mut self, number: u64) -> Waited
-        requires { number < children self.old }
-        ensures status { Waits (statuses self.old) number result }
-        ensures started { Stays (started self.old) (started self.new) }
-        ensures children { children self.new ≡ children self.old }
-        ensures statuses { Stays (statuses self.old) (statuses self.new) }
-        ensures ended { ended self.new ≡ ended self.old }
+        requires { number < (told self.old).children }
+        ensures status { Waits (told self.old).statuses number result }
+        ensures started { Stays (told self.old).started (told self.new).started }
+        ensures children { (told self.new).children ≡ (told self.old).children }
+        ensures statuses { Stays (told self.old).statuses (told self.new).statuses }
+        ensures ended { (told self.new).ended ≡ (told self.old).ended }
         ensures cause { HasCause (faults self.old) (faults self.new) (result ≡ Waited.Failed) };
 
     /// Tells the child of this number to end, which wasn't told so before, and doesn't wait for it.
     fn end(&mut self, number: u64) -> Stopped
-        requires there { number < children self.old }
-        requires once { ended self.old number ≡ false }
-        ensures ended { EndsThese (number ∷ []) (ended self.old) (ended self.new) }
-        ensures started { Stays (started self.old) (started self.new) }
-        ensures children { children self.new ≡ children self.old }
-        ensures statuses { Stays (statuses self.old) (statuses self.new) }
+        requires there { number < (told self.old).children }
+        requires once { (told self.old).ended number ≡ false }
+        ensures ended { EndsThese (number ∷ []) (told self.old).ended (told self.new).ended }
+        ensures started { Stays (told self.old).started (told self.new).started }
+        ensures children { (told self.new).children ≡ (told self.old).children }
+        ensures statuses { Stays (told self.old).statuses (told self.new).statuses }
         ensures cause { HasCause (faults self.old) (faults self.new) (result ≡ Stopped.Failed) };
 
     /// No child is told to end before it is started.
-    ghost spared: { (s : Self) (n : ℕ) → children s ≤ n → ended s n ≡ false };
+    ghost spared: { (s : Self) (n : ℕ) → (told s).children ≤ n → (told s).ended n ≡ false };
 }

@@ -50,13 +50,12 @@ fn spawn<R: Processes>(
 }
 
 impl<R: Processes> Spawner for Children<'_, R> {
-    ghost started = { λ _. None };
-
-    ghost children = { λ s. vec_len s.children };
-
-    ghost statuses = { λ _. None };
-
-    ghost ended = { λ s. flag_at s.ended.items };
+    ghost told = { λ s. record {
+      started = None;
+      children = vec_len s.children;
+      statuses = None;
+      ended = flag_at s.ended.items;
+    } };
 
     ghost faults = { λ s. s.faults };
 

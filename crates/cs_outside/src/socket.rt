@@ -134,13 +134,12 @@ impl<R: Net + Clock> UdpLink<'_, R> {
 }
 
 impl<R: Net + Clock> Link for UdpLink<'_, R> {
-    ghost bound = { λ _. None };
-
-    ghost left = { λ _. None };
-
-    ghost offered = { λ _. None };
-
-    ghost missed = { λ l. l.missed };
+    ghost told = { λ l. record {
+      bound = None;
+      left = None;
+      offered = None;
+      missed = l.missed;
+    } };
 
     ghost faults = { λ l. l.faults };
 

@@ -1,4 +1,4 @@
-mod Outers
+mod Giving
 mod Trails
 mod Noted
 mod Answered

@@ -6,7 +6,8 @@ use Rattle.cs_base.specs.declared.node_id.NodeId.{NodeId}
 use Rattle.cs_tx.specs.Digest.{digest_of_session}
 use Rattle.cs_tx_form.specs.declared.session.Session.{Session}
 use Rattle.cs_ledger.specs.Table as Shard
-use Rattle.cs_node_state.specs.Setup.{Setup, digest_of, session_in}
+use Rattle.cs_node_state.specs.Setup.{Setup, digest_of}
+use Rattle.cs_tx_form.specs.Session.{session_in}
 use Rattle.cs_node_rules.specs.Net.{Net, sealed}
 use Rattle.cs_node_rules.specs.Signs.{Sign, Dropped, Took, Entered, Viewed, Did, Headed, Kept, Sent}
 use Rattle.cs_node_rules.specs.Lines.{Parcel, parcels_of, slot_line, head_line, sign_lines}

@@ -14,13 +14,14 @@ use Rattle.cs_outer.specs.declared.link.MemInput.{MemInput}
 use Rattle.cs_serve.specs.declared.ending.End.{End}
 use Rattle.cs_serve.specs.declared.ending.End.TheVariants.{Done, Ended, LinkFault, WriteFault, Memory}
 use Rattle.cs_serve.specs.declared.receiving.TheConstants.{MOST_MISSED}
-use Rattle.cs_serve.specs.Outer.{Outer, given_of, is_tick, Takes, Gives, GivesFront}
+use Rattle.cs_serve.specs.Giving.{given_of, is_tick, Takes, Gives, GivesFront}
 use Rattle.cs_serve.specs.Serving.{trail, offers_of, lines_of, GivesAll, GivesPart, missed_past, Ends, Passes, Serves, TakesTurn, GivesBy, Answers}
 use Rattle.cs_outer.specs.Until.{IsOver, AreEnough, AreNeeded}
 use Rattle.cs_outer.specs.declared.until.Until.{Until}
 use Rattle.cs_outer.specs.laws.Told.{stays-same, changes-after, changes-before}
+use Rattle.cs_outer.specs.Outside.{LinkTold, Beside}
 use Rattle.cs_serve.specs.laws.Taken.{ticks-more, over-by, still-by, needed-more}
-use Rattle.cs_serve.proofs.Outers.{Gives-nil, Gives-more, GivesFront-all, GivesFront-after, Takes-nil, Takes-more, Takes-one}
+use Rattle.cs_serve.proofs.Giving.{Gives-nil, Gives-more, GivesFront-all, GivesFront-after, Takes-nil, Takes-more, Takes-one}
 use Rattle.cs_serve.proofs.Trails.{me-same, offers-append, bytes-append, after, trail-append, after-append, trail-one}
 
 -- a fact of the node that is left
@@ -35,7 +36,7 @@ missed-more a b first (input ∷ later) is = refl
 module _ {C M : Type 0} (stands : C → View M → Type 0) (site : Site M) where
   -- ---- what is given
 
-  all-more : (v : View M) (first later : List Input) (a b c : Outer) → GivesAll site v (trail site v first) a b → GivesAll site (after site v first) (trail site (after site v first) later) b c → GivesAll site v (trail site v (later ++ first)) a c
+  all-more : (v : View M) (first later : List Input) (a b c : Beside LinkTold) → GivesAll site v (trail site v first) a b → GivesAll site (after site v first) (trail site (after site v first) later) b c → GivesAll site v (trail site v (later ++ first)) a c
   all-more v first later a b c p q =
       let w = after site v first in
       let P : List (Mark M) → Type 0 = λ marks. GivesAll site v marks a c in
@@ -47,7 +48,7 @@ module _ {C M : Type 0} (stands : C → View M → Type 0) (site : Site M) where
       (subst L (sym (bytes-append site v w (trail site w later) (trail site v first) me))
       (Gives-more a b c (offers_of site v (trail site v first)) (offers_of site w (trail site w later)) (lines_of site v (trail site v first)) (lines_of site w (trail site w later)) p q)))
 
-  part-more : (v : View M) (first later : List Input) (a b c : Outer) → GivesAll site v (trail site v first) a b → GivesPart site (after site v first) (trail site (after site v first) later) b c → GivesPart site v (trail site v (later ++ first)) a c
+  part-more : (v : View M) (first later : List Input) (a b c : Beside LinkTold) → GivesAll site v (trail site v first) a b → GivesPart site (after site v first) (trail site (after site v first) later) b c → GivesPart site v (trail site v (later ++ first)) a c
   part-more v first later a b c p q =
       let w = after site v first in
       let P : List (Mark M) → Type 0 = λ marks. GivesPart site v marks a c in
@@ -62,23 +63,23 @@ module _ {C M : Type 0} (stands : C → View M → Type 0) (site : Site M) where
   -- ---- turns
 
   -- none was taken yet
-  pub passes-none : (v : View M) (a b : Outer) (core : C) → stands core v → Stays a.left b.left → b.missed ≡ a.missed → Gives [] [] a b → Passes stands site v [] a b (Done, Some core)
+  pub passes-none : (v : View M) (a b : Beside LinkTold) (core : C) → stands core v → Stays a.told.left b.told.left → b.told.missed ≡ a.told.missed → Gives [] [] a b → Passes stands site v [] a b (Done, Some core)
   passes-none v a b core is left missed gives = record {
     takes = Takes-nil a b left;
     ends = (missed, gives);
     after = is;
   }
 
-  ends-more : (v : View M) (first later : List Input) (a b c : Outer) → Ends site v first a b Done → (end : End) → Ends site (after site v first) later b c end → Ends site v (later ++ first) a c end
-  ends-more v first later a b c p Done q = (q.0 ∙ missed-more a.missed b.missed first later p.0, all-more v first later a b c p.1 q.1)
+  ends-more : (v : View M) (first later : List Input) (a b c : Beside LinkTold) → Ends site v first a b Done → (end : End) → Ends site (after site v first) later b c end → Ends site v (later ++ first) a c end
+  ends-more v first later a b c p Done q = (q.0 ∙ missed-more a.told.missed b.told.missed first later p.0, all-more v first later a b c p.1 q.1)
   ends-more v first later a b c p Ended q = (q.0, all-more v first later a b c p.1 q.1)
   ends-more v first later a b c p LinkFault q =
-      (q.0 ∙ ap (λ k. min (k + MOST_MISSED) (2 ^ 64 - 1)) (missed-more a.missed b.missed first later p.0), all-more v first later a b c p.1 q.1)
+      (q.0 ∙ ap (λ k. min (k + MOST_MISSED) (2 ^ 64 - 1)) (missed-more a.told.missed b.told.missed first later p.0), all-more v first later a b c p.1 q.1)
   ends-more v first later a b c p WriteFault q = part-more v first later a b c p.1 q
   ends-more v first later a b c p Memory q = part-more v first later a b c p.1 q
 
   -- then some more
-  pub passes-more : (v : View M) (first later : List Input) (a b c : Outer) (core : C) (result : End × Option C) → Passes stands site v first a b (Done, Some core) → Passes stands site (after site v first) later b c result → Passes stands site v (later ++ first) a c result
+  pub passes-more : (v : View M) (first later : List Input) (a b c : Beside LinkTold) (core : C) (result : End × Option C) → Passes stands site v first a b (Done, Some core) → Passes stands site (after site v first) later b c result → Passes stands site v (later ++ first) a c result
   passes-more v first later a b c core result p q = record {
     takes = Takes-more a b c first later p.takes q.takes;
     ends = ends-more v first later a b c p.ends result.0 q.ends;
@@ -87,13 +88,13 @@ module _ {C M : Type 0} (stands : C → View M → Type 0) (site : Site M) where
   }
 
   -- nothing was taken, for want of memory
-  pub serves-nothing : (v : View M) (until : Until) (a : Outer) (core : C) → stands core v → Serves stands site v until a a (Memory, Some core)
+  pub serves-nothing : (v : View M) (until : Until) (a : Beside LinkTold) (core : C) → stands core v → Serves stands site v until a a (Memory, Some core)
   serves-nothing v until a core is = record {
     inputs = [];
     needed = tt;
     enough = λ done. absurd (let q : Memory ≡ Done = done in cc);
     passes = record {
-      takes = Takes-nil a a (stays-same a.left);
+      takes = Takes-nil a a (stays-same a.told.left);
       ends = GivesFront-all a a [] [] (Gives-nil a);
       after = is;
     };
@@ -102,7 +103,7 @@ module _ {C M : Type 0} (stands : C → View M → Type 0) (site : Site M) where
   -- ---- one turn
 
   -- nothing was left
-  pub turn-ended : (v : View M) (a b : Outer) (core : C) → stands core v → Stays a.left b.left → IfSome b.left (λ left. left ≡ []) → Gives [] [] a b → TakesTurn stands site v a b (Err (Ended, Some core))
+  pub turn-ended : (v : View M) (a b : Beside LinkTold) (core : C) → stands core v → Stays a.told.left b.told.left → IfSome b.told.left (λ left. left ≡ []) → Gives [] [] a b → TakesTurn stands site v a b (Err (Ended, Some core))
   turn-ended v a b core is left none gives = record {
     inputs = [];
     one = omega arith;
@@ -110,14 +111,14 @@ module _ {C M : Type 0} (stands : C → View M → Type 0) (site : Site M) where
   }
 
   -- too many receives failed
-  pub turn-failed : (v : View M) (a b : Outer) (core : C) → stands core v → Stays a.left b.left → b.missed ≡ min (a.missed + MOST_MISSED) (2 ^ 64 - 1) → Gives [] [] a b → TakesTurn stands site v a b (Err (LinkFault, Some core))
+  pub turn-failed : (v : View M) (a b : Beside LinkTold) (core : C) → stands core v → Stays a.told.left b.told.left → b.told.missed ≡ min (a.told.missed + MOST_MISSED) (2 ^ 64 - 1) → Gives [] [] a b → TakesTurn stands site v a b (Err (LinkFault, Some core))
   turn-failed v a b core is left missed gives = record {
     inputs = [];
     one = omega arith;
     passes = record { takes = Takes-nil a b left; ends = (missed, gives); after = is };
   }
 
-  ends-one : (v : View M) (input : Input) (a b : Outer) → b.missed ≡ 0 → (end : End) → GivesBy site v (event_marks site v input) a b end → Ends site v (input ∷ []) a b end
+  ends-one : (v : View M) (input : Input) (a b : Beside LinkTold) → b.told.missed ≡ 0 → (end : End) → GivesBy site v (event_marks site v input) a b end → Ends site v (input ∷ []) a b end
   ends-one v input a b missed Done gives = (missed, subst (λ (marks : List (Mark M)). GivesAll site v marks a b) (sym (trail-one site v input)) gives)
   ends-one v input a b missed Ended gives = absurd gives
   ends-one v input a b missed LinkFault gives = absurd gives
@@ -125,7 +126,7 @@ module _ {C M : Type 0} (stands : C → View M → Type 0) (site : Site M) where
   ends-one v input a b missed Memory gives = subst (λ (marks : List (Mark M)). GivesPart site v marks a b) (sym (trail-one site v input)) gives
 
   -- an input was taken and answered
-  passes-one : (v : View M) (input : Input) (a b : Outer) (result : End × Option C) → b.missed ≡ 0 → Takes (input ∷ []) a b → Answers stands site v input a b result → Passes stands site v (input ∷ []) a b result
+  passes-one : (v : View M) (input : Input) (a b : Beside LinkTold) (result : End × Option C) → b.told.missed ≡ 0 → Takes (input ∷ []) a b → Answers stands site v input a b result → Passes stands site v (input ∷ []) a b result
   passes-one v input a b result missed takes answers = record {
     takes = takes;
     ends = ends-one v input a b missed result.0 answers.gives;
@@ -134,17 +135,17 @@ module _ {C M : Type 0} (stands : C → View M → Type 0) (site : Site M) where
   }
 
   -- a link that takes an input was offered nothing
-  part-later : (v : View M) (marks : List (Mark M)) (a b c : Outer) → Stays a.offered b.offered → b.written ≡ a.written → GivesPart site v marks b c → GivesPart site v marks a c
+  part-later : (v : View M) (marks : List (Mark M)) (a b c : Beside LinkTold) → Stays a.told.offered b.told.offered → b.written ≡ a.written → GivesPart site v marks b c → GivesPart site v marks a c
   part-later v marks a b c stays same gives =
       let (front, rest, whole, adds) = gives.offered in
       record {
-        offered = (front, rest, whole, changes-after (λ (before now : Offers). now ≡ before ++ front) a.offered b.offered c.offered stays adds);
+        offered = (front, rest, whole, changes-after (λ (before now : Offers). now ≡ before ++ front) a.told.offered b.told.offered c.told.offered stays adds);
         written = subst (λ (w : Option Bytes). AppendsFront w c.written (lines_of site v marks)) same gives.written;
       }
 
-  gives-later : (v : View M) (marks : List (Mark M)) (a b c : Outer) → Stays a.offered b.offered → b.written ≡ a.written → (end : End) → GivesBy site v marks b c end → GivesBy site v marks a c end
+  gives-later : (v : View M) (marks : List (Mark M)) (a b c : Beside LinkTold) → Stays a.told.offered b.told.offered → b.written ≡ a.written → (end : End) → GivesBy site v marks b c end → GivesBy site v marks a c end
   gives-later v marks a b c stays same Done gives = record {
-    offered = changes-after (λ (before now : Offers). now ≡ before ++ offers_of site v marks) a.offered b.offered c.offered stays gives.offered;
+    offered = changes-after (λ (before now : Offers). now ≡ before ++ offers_of site v marks) a.told.offered b.told.offered c.told.offered stays gives.offered;
     written = subst (λ (w : Option Bytes). Appends w c.written (lines_of site v marks)) same gives.written;
   }
   gives-later v marks a b c stays same Ended gives = gives
@@ -152,26 +153,26 @@ module _ {C M : Type 0} (stands : C → View M → Type 0) (site : Site M) where
   gives-later v marks a b c stays same WriteFault gives = part-later v marks a b c stays same gives
   gives-later v marks a b c stays same Memory gives = part-later v marks a b c stays same gives
 
-  answers-later : (v : View M) (input : Input) (a b c : Outer) (result : End × Option C) → Stays a.offered b.offered → b.written ≡ a.written → Answers stands site v input b c result → Answers stands site v input a c result
+  answers-later : (v : View M) (input : Input) (a b c : Beside LinkTold) (result : End × Option C) → Stays a.told.offered b.told.offered → b.written ≡ a.written → Answers stands site v input b c result → Answers stands site v input a c result
   answers-later v input a b c result stays same answers = record {
     gives = gives-later v (event_marks site v input) a b c stays same result.0 answers.gives;
     after = answers.after;
   }
 
   -- the first that was left is gone
-  takes-later : (a b c : Outer) (first : MemInput) → Changes (λ (before now : List MemInput). before ≡ first ∷ now) a.left b.left → Stays b.left c.left → Takes (given_of first ∷ []) a c
-  takes-later a b c first gone stays = Takes-one a c first (changes-before (λ (before now : List MemInput). before ≡ first ∷ now) a.left b.left c.left gone stays)
+  takes-later : (a b c : Beside LinkTold) (first : MemInput) → Changes (λ (before now : List MemInput). before ≡ first ∷ now) a.told.left b.told.left → Stays b.told.left c.told.left → Takes (given_of first ∷ []) a c
+  takes-later a b c first gone stays = Takes-one a c first (changes-before (λ (before now : List MemInput). before ≡ first ∷ now) a.told.left b.told.left c.told.left gone stays)
 
   -- the first input that was left was taken and answered
-  pub passes-answer : (v : View M) (first : MemInput) (a b c : Outer) (result : End × Option C) → Changes (λ (before now : List MemInput). before ≡ first ∷ now) a.left b.left → b.missed ≡ 0 → Stays a.offered b.offered → b.written ≡ a.written
-      → Stays b.left c.left → c.missed ≡ b.missed → Answers stands site v (given_of first) b c result → Passes stands site v (given_of first ∷ []) a c result
+  pub passes-answer : (v : View M) (first : MemInput) (a b c : Beside LinkTold) (result : End × Option C) → Changes (λ (before now : List MemInput). before ≡ first ∷ now) a.told.left b.told.left → b.told.missed ≡ 0 → Stays a.told.offered b.told.offered → b.written ≡ a.written
+      → Stays b.told.left c.told.left → c.told.missed ≡ b.told.missed → Answers stands site v (given_of first) b c result → Passes stands site v (given_of first ∷ []) a c result
   passes-answer v first a b c result gone missed offered written left same answers =
       passes-one v (given_of first) a c result (same ∙ missed) (takes-later a b c first gone left) (answers-later v (given_of first) a b c result offered written answers)
 
 -- ---- so many turns
 
 -- so many inputs were taken, so many of them ticks, none of them too many
-pub record SoFar {C M : Type 0} (stands : C → View M → Type 0) (site : Site M) (v : View M) (until : Until) (turns ticks : ℕ) (old new : Outer) (core : C) : Type 0 where
+pub record SoFar {C M : Type 0} (stands : C → View M → Type 0) (site : Site M) (v : View M) (until : Until) (turns ticks : ℕ) (old new : Beside LinkTold) (core : C) : Type 0 where
   pub inputs : List Input
   pub all : length inputs ≡ turns
   pub ticked : count_by is_tick inputs ≡ ticks
@@ -179,17 +180,17 @@ pub record SoFar {C M : Type 0} (stands : C → View M → Type 0) (site : Site 
   pub passes : Passes stands site v inputs old new (Done, Some core)
 
 module _ {C M : Type 0} (stands : C → View M → Type 0) (site : Site M) (v : View M) (until : Until) where
-  pub begins : (a : Outer) (core : C) → stands core v → SoFar stands site v until 0 0 a a core
+  pub begins : (a : Beside LinkTold) (core : C) → stands core v → SoFar stands site v until 0 0 a a core
   begins a core is = record {
     inputs = [];
     all = refl;
     ticked = refl;
     needed = tt;
-    passes = passes-none stands site v a a core is (stays-same a.left) refl (Gives-nil a);
+    passes = passes-none stands site v a a core is (stays-same a.told.left) refl (Gives-nil a);
   }
 
   -- they were enough
-  pub done : (turns ticks : ℕ) (a b : Outer) (core : C) → IsOver until turns ticks → SoFar stands site v until turns ticks a b core → Serves stands site v until a b (Done, Some core)
+  pub done : (turns ticks : ℕ) (a b : Beside LinkTold) (core : C) → IsOver until turns ticks → SoFar stands site v until turns ticks a b core → Serves stands site v until a b (Done, Some core)
   done turns ticks a b core over so = record {
     inputs = so.inputs;
     needed = so.needed;
@@ -197,7 +198,7 @@ module _ {C M : Type 0} (stands : C → View M → Type 0) (site : Site M) (v : 
     passes = so.passes;
   }
 
-  module _ (turns ticks : ℕ) (a b c : Outer) (core : C) (still : IsOver until turns ticks → ⊥) (so : SoFar stands site v until turns ticks a b core) where
+  module _ (turns ticks : ℕ) (a b c : Beside LinkTold) (core : C) (still : IsOver until turns ticks → ⊥) (so : SoFar stands site v until turns ticks a b core) where
     more-needed : (later : List Input) → length later ≤ 1 → AreNeeded is_tick until (later ++ so.inputs)
     more-needed later few = needed-more is_tick until later so.inputs few so.needed (still-by is_tick until so.inputs turns ticks so.all so.ticked still)
 

@@ -1,6 +1,6 @@
 pub mod Receiving
 pub mod Offering
 pub mod Telling
-pub mod Outer
+pub mod Giving
 pub mod Serving
 pub mod laws

@@ -4,7 +4,7 @@ use Rattle.std.specs.List.{flat_map}
 use Rattle.cs_base.specs.declared.node_id.NodeId.{NodeId}
 use Rattle.cs_tx.specs.Digest.{digest_of_session}
 use Rattle.cs_ledger.specs.Ledger.{Bytes}
-use Rattle.cs_node_state.specs.Setup.{session_in}
+use Rattle.cs_tx_form.specs.Session.{session_in}
 use Rattle.cs_node_rules.specs.Lines.{slot_line, head_line}
 use Rattle.cs_table.specs.Effects.{effect_of}
 use Rattle.cs_node.specs.declared.draft.Note.{Note}

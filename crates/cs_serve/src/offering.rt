@@ -10,12 +10,12 @@ use cs_wire::Out;
 /// Offers these datagrams, one after the other. One whose sending fails is lost.
 pub fn offer<L: Link>(link: &mut L, outs: &[Out]) -> Result<(), Memory>
     ensures all { OnOk result
-        (Adds (offers_in outs.now) (L.offered link.old) (L.offered link.new)) }
+        (Adds (offers_in outs.now) (L.told link.old).offered (L.told link.new).offered) }
     ensures front { OnErr result
-        (AddsFront (offers_in outs.now) (L.offered link.old) (L.offered link.new)) }
-    ensures left { Stays (L.left link.old) (L.left link.new) }
-    ensures bound { Stays (L.bound link.old) (L.bound link.new) }
-    ensures missed { L.missed link.new ≡ L.missed link.old }
+        (AddsFront (offers_in outs.now) (L.told link.old).offered (L.told link.new).offered) }
+    ensures left { Stays (L.told link.old).left (L.told link.new).left }
+    ensures bound { Stays (L.told link.old).bound (L.told link.new).bound }
+    ensures missed { (L.told link.new).missed ≡ (L.told link.old).missed }
     ensures faults { L.faults link.old ≤ L.faults link.new }
 {
     for out in outs {

@@ -15,10 +15,10 @@ pub const MOST_MISSED: u64 = 64;
 /// a row have failed.
 pub fn receive<L: Link>(link: &mut L, buf: &mut [u8]) -> Arrived
     requires { length buf.old ≡ MOST_DATAGRAM + 1 }
-    ensures input { Receives (L.left link.old) (L.left link.new) buf.new result }
-    ensures bound { Stays (L.bound link.old) (L.bound link.new) }
-    ensures offered { Stays (L.offered link.old) (L.offered link.new) }
-    ensures missed { L.missed link.new ≡ missed_since (L.missed link.old) result }
+    ensures input { Receives (L.told link.old).left (L.told link.new).left buf.new result }
+    ensures bound { Stays (L.told link.old).bound (L.told link.new).bound }
+    ensures offered { Stays (L.told link.old).offered (L.told link.new).offered }
+    ensures missed { (L.told link.new).missed ≡ missed_since (L.told link.old).missed result }
     ensures cause { HasCause (L.faults link.old) (L.faults link.new) (result ≡ Arrived.Failed) }
 {
     let mut missed = 0;

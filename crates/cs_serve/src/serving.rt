@@ -3,6 +3,7 @@ ghost use Rattle.std.specs.Prelude.{◌≡◌, ◌≢◌, ◌⊎◌, ◌+◌, �
 ghost use Rattle.cs_base.specs.Outside.{HasCause};
 ghost use Rattle.cs_base.specs.declared.limits.TheConstants.{MOST_DATAGRAM};
 ghost use Rattle.cs_outer.specs.Told.{Stays};
+ghost use Rattle.cs_outer.specs.Outside.{beside};
 ghost use Rattle.cs_node_state.specs.Setup.{Setup};
 ghost use Rattle.cs_node_rules.specs.Net.{Net};
 ghost use Rattle.cs_node_rules.specs.Site.{View};
@@ -11,7 +12,7 @@ ghost use Rattle.cs_node.specs.Notes.{NotesFit};
 ghost use Rattle.cs_node.specs.Cores.{StandsFor};
 ghost use Rattle.cs_node.specs.Speaking.{input_of};
 ghost use Rattle.cs_serve.specs.Offering.{offers_in};
-ghost use Rattle.cs_serve.specs.Outer.{outer, Gives, GivesFront};
+ghost use Rattle.cs_serve.specs.Giving.{Gives, GivesFront};
 ghost use Rattle.cs_serve.specs.Telling.{notes_text};
 ghost use Rattle.cs_serve.specs.Serving.{Answers, Serves, TakesTurn, served, turned};
 
@@ -39,11 +40,10 @@ pub fn serve<O: Carried, J: Judge + Drop, L: Link, K: Sink>(
         let site = site_of setup net O.rules O.carrier in
         let stands = StandsFor O.stands J.is_approved site in
         stands core v → Serves stands site v until
-        (outer (L.left link.old) (L.offered link.old) (L.missed link.old) (K.written out.old))
-        (outer (L.left link.new) (L.offered link.new) (L.missed link.new) (K.written out.new))
-        result }
+        (beside (L.told link.old) (K.written out.old))
+        (beside (L.told link.new) (K.written out.new)) result }
     ensures kept { result.0 ≢ End.Memory → IsSome result.1 }
-    ensures bound { Stays (L.bound link.old) (L.bound link.new) }
+    ensures bound { Stays (L.told link.old).bound (L.told link.new).bound }
     ensures link { HasCause (L.faults link.old) (L.faults link.new) (result.0 ≡ End.LinkFault) }
     ensures sink { HasCause (K.faults out.old) (K.faults out.new) (result.0 ≡ End.WriteFault) }
 {
@@ -81,12 +81,11 @@ fn take_turn<O: Carried, J: Judge + Drop, L: Link, K: Sink>(
         let site = site_of setup net O.rules O.carrier in
         let stands = StandsFor O.stands J.is_approved site in
         stands core v → TakesTurn stands site v
-        (outer (L.left link.old) (L.offered link.old) (L.missed link.old) (K.written out.old))
-        (outer (L.left link.new) (L.offered link.new) (L.missed link.new) (K.written out.new))
-        result }
+        (beside (L.told link.old) (K.written out.old))
+        (beside (L.told link.new) (K.written out.new)) result }
     ensures ended { IfErr result (λ ended. ended.0 ≢ End.Done) }
     ensures kept { IfErr result (λ ended. ended.0 ≢ End.Memory → IsSome ended.1) }
-    ensures bound { Stays (L.bound link.old) (L.bound link.new) }
+    ensures bound { Stays (L.told link.old).bound (L.told link.new).bound }
     ensures link { HasCause (L.faults link.old) (L.faults link.new)
         ((turned result).0 ≡ End.LinkFault) }
     ensures sink { HasCause (K.faults out.old) (K.faults out.new)
@@ -119,15 +118,15 @@ fn answer<O: Carried, J: Judge + Drop, L: Link, K: Sink>(
         let site = site_of setup net O.rules O.carrier in
         let stands = StandsFor O.stands J.is_approved site in
         stands core v → Answers stands site v (input_of input.entry)
-        (outer (L.left link.old) (L.offered link.old) (L.missed link.old) (K.written out.old))
-        (outer (L.left link.new) (L.offered link.new) (L.missed link.new) (K.written out.new))
+        (beside (L.told link.old) (K.written out.old))
+        (beside (L.told link.new) (K.written out.new))
         (served result) }
     ensures ended { IfErr result (λ ended.
         (ended.0 ≡ End.WriteFault) ⊎ (ended.0 ≡ End.Memory)) }
     ensures kept { IfErr result (λ ended. ended.0 ≢ End.Memory → IsSome ended.1) }
-    ensures left { Stays (L.left link.old) (L.left link.new) }
-    ensures bound { Stays (L.bound link.old) (L.bound link.new) }
-    ensures missed { L.missed link.new ≡ L.missed link.old }
+    ensures left { Stays (L.told link.old).left (L.told link.new).left }
+    ensures bound { Stays (L.told link.old).bound (L.told link.new).bound }
+    ensures missed { (L.told link.new).missed ≡ (L.told link.old).missed }
     ensures link { L.faults link.old ≤ L.faults link.new }
     ensures sink { HasCause (K.faults out.old) (K.faults out.new)
         ((served result).0 ≡ End.WriteFault) }
@@ -154,15 +153,15 @@ fn give_out<L: Link, K: Sink>(
     requires { NotesFit made.now.notes }
     ensures all { OnOk result (Gives
         (offers_in made.now.outs) (notes_text me made.now.notes)
-        (outer (L.left link.old) (L.offered link.old) (L.missed link.old) (K.written out.old))
-        (outer (L.left link.new) (L.offered link.new) (L.missed link.new) (K.written out.new))) }
+        (beside (L.told link.old) (K.written out.old))
+        (beside (L.told link.new) (K.written out.new))) }
     ensures front { OnErr result (GivesFront
         (offers_in made.now.outs) (notes_text me made.now.notes)
-        (outer (L.left link.old) (L.offered link.old) (L.missed link.old) (K.written out.old))
-        (outer (L.left link.new) (L.offered link.new) (L.missed link.new) (K.written out.new))) }
-    ensures left { Stays (L.left link.old) (L.left link.new) }
-    ensures bound { Stays (L.bound link.old) (L.bound link.new) }
-    ensures missed { L.missed link.new ≡ L.missed link.old }
+        (beside (L.told link.old) (K.written out.old))
+        (beside (L.told link.new) (K.written out.new))) }
+    ensures left { Stays (L.told link.old).left (L.told link.new).left }
+    ensures bound { Stays (L.told link.old).bound (L.told link.new).bound }
+    ensures missed { (L.told link.new).missed ≡ (L.told link.old).missed }
     ensures link { L.faults link.old ≤ L.faults link.new }
     ensures sink { HasCause (K.faults out.old) (K.faults out.new)
         (IsErrOf result WriteError.Failed) }

@@ -8,9 +8,10 @@ use Rattle.cs_base.specs.Outside.{HasCause}
 use Rattle.cs_outer.specs.Told.{Changes, Stays}
 use Rattle.cs_outer.specs.laws.Told.{stays-same, stays-both}
 use Rattle.cs_outer.specs.Spawner.{Children}
+use Rattle.cs_outer.specs.Outside.{SpawnerTold, Beside}
 use Rattle.cs_spawn.specs.Words.{end_line}
 use Rattle.cs_spawn.specs.Deeds.{Deed, Start, Wait, words_in, left_after}
-use Rattle.cs_spawn.specs.Running.{Outer, EndsWith, AreLines, Starts, Does, DoesFront, BreaksOff, Fails, Leaves, Goes}
+use Rattle.cs_spawn.specs.Running.{EndsWith, AreLines, Starts, Does, DoesFront, BreaksOff, Fails, Leaves, Goes}
 use Rattle.cs_spawn.specs.declared.error.ClusterError.{ClusterError}
 use Rattle.cs_spawn.specs.declared.error.ClusterError.TheVariants.{SpawnFault, WriteFault, Memory}
 
@@ -31,18 +32,18 @@ grows-more (Some x) (Some y) None xs ys p q = absurd q
 grows-more (Some x) (Some y) (Some z) xs ys p q = q ∙ ap (λ l. l ++ ys) p ∙ append_assoc x xs ys
 
 -- no child was started
-pub starts-none : (a b : Outer) → Stays a.started b.started → b.children ≡ a.children → Stays a.statuses b.statuses → Starts [] a b
+pub starts-none : (a b : Beside SpawnerTold) → Stays a.told.started b.told.started → b.told.children ≡ a.told.children → Stays a.told.statuses b.told.statuses → Starts [] a b
 starts-none a b started children statuses = record {
-  started = grows-kept a.started b.started started;
+  started = grows-kept a.told.started b.told.started started;
   children = omega (arith, children);
   statuses = statuses;
 }
 
-pub starts-more : (a b c : Outer) (xs ys : Children) → Starts xs a b → Starts ys b c → Starts (xs ++ ys) a c
+pub starts-more : (a b c : Beside SpawnerTold) (xs ys : Children) → Starts xs a b → Starts ys b c → Starts (xs ++ ys) a c
 starts-more a b c xs ys p q = record {
-  started = grows-more a.started b.started c.started xs ys p.started q.started;
+  started = grows-more a.told.started b.told.started c.told.started xs ys p.started q.started;
   children = (let one = p.children in let two = q.children in let all = length-append xs ys in omega arith);
-  statuses = stays-both a.statuses b.statuses c.statuses p.statuses q.statuses;
+  statuses = stays-both a.told.statuses b.told.statuses c.told.statuses p.statuses q.statuses;
 }
 
 -- ---- lines
@@ -78,7 +79,7 @@ words_in-append (Start words ∷ xs) ys = ap (λ l. words ∷ l) (words_in-appen
 words_in-append (Wait title number ∷ xs) ys = words_in-append xs ys
 
 -- nothing was done
-pub does-none : (a b : Outer) → Starts [] a b → b.written ≡ a.written → Does [] a b
+pub does-none : (a b : Beside SpawnerTold) → Starts [] a b → b.written ≡ a.written → Does [] a b
 does-none a b starts written = record {
   starts = starts;
   lines = [];
@@ -86,14 +87,14 @@ does-none a b starts written = record {
   written = subst (λ (w : Option (List ℕ)). Appends a.written w []) (sym written) (Appends-nil a.written);
 }
 
-pub does-nil : (a : Outer) → Does [] a a
-does-nil a = does-none a a (starts-none a a (stays-same a.started) refl (stays-same a.statuses)) refl
+pub does-nil : (a : Beside SpawnerTold) → Does [] a a
+does-nil a = does-none a a (starts-none a a (stays-same a.told.started) refl (stays-same a.told.statuses)) refl
 
-pub does-more : (a b c : Outer) (xs ys : List Deed) → Does xs a b → Does ys b c → Does (xs ++ ys) a c
+pub does-more : (a b c : Beside SpawnerTold) (xs ys : List Deed) → Does xs a b → Does ys b c → Does (xs ++ ys) a c
 does-more a b c xs ys p q = record {
   starts = subst (λ (w : Children). Starts w a c) (sym (words_in-append xs ys)) (starts-more a b c (words_in xs) (words_in ys) p.starts q.starts);
   lines = p.lines ++ q.lines;
-  told = lines-more a.statuses xs ys p.lines q.lines p.told (lines-before a.statuses b.statuses p.starts.statuses ys q.lines q.told);
+  told = lines-more a.told.statuses xs ys p.lines q.lines p.told (lines-before a.told.statuses b.told.statuses p.starts.statuses ys q.lines q.told);
   written = Appends-trans a.written b.written c.written p.lines q.lines p.written q.written;
 }
 
@@ -108,26 +109,26 @@ left_after-append left next (Start words ∷ xs) ys =
 left_after-append left next (Wait title number ∷ xs) ys = left_after-append (filter (λ n. not (n == number)) left) next xs ys
 
 -- all of these deeds were done, with these children left before and after
-abbrev pub Done : List Deed → List ℕ → List ℕ → Outer → Outer → Type 0
+abbrev pub Done : List Deed → List ℕ → List ℕ → Beside SpawnerTold → Beside SpawnerTold → Type 0
 Done deeds left left' old new = Does deeds old new × Leaves left left' old new deeds
 
-leaves-after : (a b c : Outer) (l m n : List ℕ) (xs ys : List Deed) → Done xs l m a b → Leaves m n b c ys → Leaves l n a c (xs ++ ys)
+leaves-after : (a b c : Beside SpawnerTold) (l m n : List ℕ) (xs ys : List Deed) → Done xs l m a b → Leaves m n b c ys → Leaves l n a c (xs ++ ys)
 leaves-after a b c l m n xs ys p q = record {
   ended = q.ended ∙ p.1.ended;
   left = q.left ∙ ap (λ k. left_after m k ys) p.0.starts.children
-      ∙ ap (λ k. left_after k (a.children + length (words_in xs)) ys) p.1.left
-      ∙ sym (left_after-append l a.children xs ys);
+      ∙ ap (λ k. left_after k (a.told.children + length (words_in xs)) ys) p.1.left
+      ∙ sym (left_after-append l a.told.children xs ys);
 }
 
-pub done-nil : (left : List ℕ) (a : Outer) → Done [] left left a a
+pub done-nil : (left : List ℕ) (a : Beside SpawnerTold) → Done [] left left a a
 done-nil left a = (does-nil a, record { ended = refl; left = refl })
 
-pub done-more : (a b c : Outer) (l m n : List ℕ) (xs ys : List Deed) → Done xs l m a b → Done ys m n b c → Done (xs ++ ys) l n a c
+pub done-more : (a b c : Beside SpawnerTold) (l m n : List ℕ) (xs ys : List Deed) → Done xs l m a b → Done ys m n b c → Done (xs ++ ys) l n a c
 done-more a b c l m n xs ys p q = (does-more a b c xs ys p.0 q.0, leaves-after a b c l m n xs ys p q.1)
 
 -- ---- how it ends
 
-module _ (a b c : Outer) (l m n : List ℕ) (xs ys : List Deed) (p : Done xs l m a b) where
+module _ (a b c : Beside SpawnerTold) (l m n : List ℕ) (xs ys : List Deed) (p : Done xs l m a b) where
   front-after : DoesFront (Leaves m n b c) ys b c → DoesFront (Leaves l n a c) (xs ++ ys) a c
   front-after q = record {
     done = xs ++ q.done;
@@ -145,7 +146,7 @@ module _ (a b c : Outer) (l m n : List ℕ) (xs ys : List Deed) (p : Done xs l m
     rest = q.rest;
     front = ap (λ l. xs ++ l) q.front ∙ sym (append_assoc xs q.done (Wait q.title q.number ∷ q.rest));
     status = q.status;
-    ended = ends_with-before a.statuses b.statuses p.0.starts.statuses q.number q.status q.ended;
+    ended = ends_with-before a.told.statuses b.told.statuses p.0.starts.statuses q.number q.status q.ended;
     middle = q.middle;
     does = does-more a b q.middle xs q.done p.0 q.does;
     kept = q.kept;
@@ -166,7 +167,7 @@ module _ (a b c : Outer) (l m n : List ℕ) (xs ys : List Deed) (p : Done xs l m
   goes-after (Ok x) q = done-more a b c l m n xs ys p q
   goes-after (Err e) q = fails-after e q
 
-module _ (Left : List Deed → Type 0) (a b : Outer) (xs ys : List Deed) where
+module _ (Left : List Deed → Type 0) (a b : Beside SpawnerTold) (xs ys : List Deed) where
   front-early : DoesFront Left xs a b → DoesFront Left (xs ++ ys) a b
   front-early p = record {
     done = p.done;
@@ -200,25 +201,25 @@ module _ (Left : List Deed → Type 0) (a b : Outer) (xs ys : List Deed) where
   fails-early Memory (inr p) = inr (breaks-early p)
 
 -- the error is handed on
-pub goes-so : {A : Type 0} (a b : Outer) (l m : List ℕ) (deeds : List Deed) (e : ClusterError) (result : Result A ClusterError) → IsErrAnd result (λ x. x ≡ e) → Fails (Leaves l m a b) deeds a b e → Goes deeds l m a b result
+pub goes-so : {A : Type 0} (a b : Beside SpawnerTold) (l m : List ℕ) (deeds : List Deed) (e : ClusterError) (result : Result A ClusterError) → IsErrAnd result (λ x. x ≡ e) → Fails (Leaves l m a b) deeds a b e → Goes deeds l m a b result
 goes-so a b l m deeds e (Ok x) gives p = absurd gives
 goes-so a b l m deeds e (Err x) gives p = subst (λ (y : ClusterError). Fails (Leaves l m a b) deeds a b y) (sym gives) p
 
 -- memory ran out after these
-pub wants-there : {A : Type 0} (a b : Outer) (l m : List ℕ) (whole xs ys : List Deed) (result : Result A ClusterError) → whole ≡ xs ++ ys → Done xs l m a b → IsErrAnd result (λ x. x ≡ Memory) → Goes whole l m a b result
+pub wants-there : {A : Type 0} (a b : Beside SpawnerTold) (l m : List ℕ) (whole xs ys : List Deed) (result : Result A ClusterError) → whole ≡ xs ++ ys → Done xs l m a b → IsErrAnd result (λ x. x ≡ Memory) → Goes whole l m a b result
 wants-there a b l m whole xs ys result parts p gives =
     goes-so a b l m whole Memory result gives (inl (record { done = xs; rest = ys; front = parts; does = p.0; left = p.1 }))
 
 -- before any of these
-pub wants-at_once : {A : Type 0} (a : Outer) (l : List ℕ) (deeds : List Deed) (result : Result A ClusterError) → IsErrAnd result (λ x. x ≡ Memory) → Goes deeds l l a a result
+pub wants-at_once : {A : Type 0} (a : Beside SpawnerTold) (l : List ℕ) (deeds : List Deed) (result : Result A ClusterError) → IsErrAnd result (λ x. x ≡ Memory) → Goes deeds l l a a result
 wants-at_once a l deeds result gives = wants-there a a l l deeds [] deeds result refl (done-nil l a) gives
 
 -- these failed so, before the others
-pub stops-early : {A : Type 0} (a b : Outer) (l m : List ℕ) (xs ys : List Deed) (e : ClusterError) (result : Result A ClusterError) → Fails (Leaves l m a b) xs a b e → IsErrAnd result (λ x. x ≡ e) → Goes (xs ++ ys) l m a b result
+pub stops-early : {A : Type 0} (a b : Beside SpawnerTold) (l m : List ℕ) (xs ys : List Deed) (e : ClusterError) (result : Result A ClusterError) → Fails (Leaves l m a b) xs a b e → IsErrAnd result (λ x. x ≡ e) → Goes (xs ++ ys) l m a b result
 stops-early a b l m xs ys e result p gives = goes-so a b l m (xs ++ ys) e result gives (fails-early (Leaves l m a b) a b xs ys e p)
 
 -- the same, after some were done
-pub stops-there : {A : Type 0} (a b c : Outer) (l m n : List ℕ) (whole xs one ys : List Deed) (e : ClusterError) (result : Result A ClusterError) → whole ≡ (xs ++ one) ++ ys → Done xs l m a b → Fails (Leaves m n b c) one b c e
+pub stops-there : {A : Type 0} (a b c : Beside SpawnerTold) (l m n : List ℕ) (whole xs one ys : List Deed) (e : ClusterError) (result : Result A ClusterError) → whole ≡ (xs ++ one) ++ ys → Done xs l m a b → Fails (Leaves m n b c) one b c e
     → IsErrAnd result (λ x. x ≡ e) → Goes whole l n a c result
 stops-there a b c l m n whole xs one ys e result parts p q gives =
     goes-so a c l n whole e result gives (subst (λ (d : List Deed). Fails (Leaves l n a c) d a c e) (sym parts)
@@ -238,12 +239,12 @@ not-the-sink {A} e (Err x) before gives other = record {
 -- ---- one deed
 
 -- none was started, or the spawner failed at a wait
-pub front-kept : (a b : Outer) (l m : List ℕ) (deeds : List Deed) → Starts [] a b → b.ended ≡ a.ended → b.written ≡ a.written → m ≡ l → DoesFront (Leaves l m a b) deeds a b
+pub front-kept : (a b : Beside SpawnerTold) (l m : List ℕ) (deeds : List Deed) → Starts [] a b → b.told.ended ≡ a.told.ended → b.written ≡ a.written → m ≡ l → DoesFront (Leaves l m a b) deeds a b
 front-kept a b l m deeds starts ended written left =
     record { done = []; rest = deeds; front = refl; does = does-none a b starts written; left = record { ended = ended; left = left } }
 
 -- a child has ended, and isn't left; a front of its line was printed
-pub wait-broke : (a b : Outer) (l m title : List ℕ) (number status : ℕ) → EndsWith a.statuses number status → Starts [] a b → b.ended ≡ a.ended → m ≡ filter (λ n. not (n == number)) l
+pub wait-broke : (a b : Beside SpawnerTold) (l m title : List ℕ) (number status : ℕ) → EndsWith a.told.statuses number status → Starts [] a b → b.told.ended ≡ a.told.ended → m ≡ filter (λ n. not (n == number)) l
     → AppendsFront a.written b.written (end_line title status) → BreaksOff (Leaves l m a b) (Wait title number ∷ []) a b
 wait-broke a b l m title number status ends starts ended left written = record {
   done = [];
@@ -262,5 +263,5 @@ wait-broke a b l m title number status ends starts ended left written = record {
 
 -- ---- how many children there are
 
-pub more-children : (a b : Outer) (deeds : List Deed) → Does deeds a b → b.children ≡ a.children + length (words_in deeds)
+pub more-children : (a b : Beside SpawnerTold) (deeds : List Deed) → Does deeds a b → b.told.children ≡ a.told.children + length (words_in deeds)
 more-children a b deeds p = p.starts.children

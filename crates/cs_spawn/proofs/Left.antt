@@ -7,9 +7,10 @@ use Rattle.std.proofs.lemmas.Bool.Decides.{nat_tests}
 use Rattle.std.proofs.lemmas.List.Folds.{list_any-append}
 use Rattle.cs_base.specs.Answers.{AppendsFront}
 use Rattle.cs_outer.specs.Spawner.{EndsThese}
+use Rattle.cs_outer.specs.Outside.{SpawnerTold, Beside}
 use Rattle.cs_spawn.specs.Words.{end_line}
 use Rattle.cs_spawn.specs.Deeds.{Deed, Start, Wait, words_in, left_after}
-use Rattle.cs_spawn.specs.Running.{Outer, Starts, Does, DoesFront, BreaksOff, Fails, EndsLeft, Leaves, RiseBetween}
+use Rattle.cs_spawn.specs.Running.{Starts, Does, DoesFront, BreaksOff, Fails, EndsLeft, Leaves, RiseBetween}
 use Rattle.cs_spawn.specs.declared.error.ClusterError.{ClusterError}
 use Rattle.cs_spawn.specs.declared.error.ClusterError.TheVariants.{SpawnFault, WriteFault, Memory}
 use Rattle.cs_spawn.proofs.Plans.{next_taken}
@@ -98,49 +99,49 @@ spared-all first last (x ∷ xs) told rise spared =
 
 -- ---- a cluster that breaks off
 
-module _ (a m : Outer) (left : List ℕ) where
-  front-rises : (deeds : List Deed) → DoesFront (Leaves [] left a m) deeds a m → RiseBetween a.children m.children left
+module _ (a m : Beside SpawnerTold) (left : List ℕ) where
+  front-rises : (deeds : List Deed) → DoesFront (Leaves [] left a m) deeds a m → RiseBetween a.told.children m.told.children left
   front-rises deeds p =
-      subst (λ (n : ℕ). RiseBetween a.children n left) (sym p.does.starts.children)
-      (subst (λ (l : List ℕ). RiseBetween a.children (a.children + length (words_in p.done)) l) (sym p.left.left)
-      (rise-after a.children a.children [] p.done (omega arith) tt))
+      subst (λ (n : ℕ). RiseBetween a.told.children n left) (sym p.does.starts.children)
+      (subst (λ (l : List ℕ). RiseBetween a.told.children (a.told.children + length (words_in p.done)) l) (sym p.left.left)
+      (rise-after a.told.children a.told.children [] p.done (omega arith) tt))
 
-  break-rises : (deeds : List Deed) → BreaksOff (Leaves [] left a m) deeds a m → RiseBetween a.children m.children left
+  break-rises : (deeds : List Deed) → BreaksOff (Leaves [] left a m) deeds a m → RiseBetween a.told.children m.told.children left
   break-rises deeds p =
       let done : List Deed = p.done ++ Wait p.title p.number ∷ [] in
       let many : words_in done ≡ words_in p.done = words_in-append p.done (Wait p.title p.number ∷ []) ∙ append-nil (words_in p.done) in
       let one = p.does.starts.children in
       let two = p.kept.children in
       let all = ap length many in
-      let same : m.children ≡ a.children + length (words_in done) = omega (arith, one, two, all) in
-      subst (λ (n : ℕ). RiseBetween a.children n left) (sym same)
-      (subst (λ (l : List ℕ). RiseBetween a.children (a.children + length (words_in done)) l) (sym p.left.left)
-      (rise-after a.children a.children [] done (omega arith) tt))
+      let same : m.told.children ≡ a.told.children + length (words_in done) = omega (arith, one, two, all) in
+      subst (λ (n : ℕ). RiseBetween a.told.children n left) (sym same)
+      (subst (λ (l : List ℕ). RiseBetween a.told.children (a.told.children + length (words_in done)) l) (sym p.left.left)
+      (rise-after a.told.children a.told.children [] done (omega arith) tt))
 
   -- the numbers of the children that are left rise, from the first on
-  pub left-rises : (deeds : List Deed) (e : ClusterError) → Fails (Leaves [] left a m) deeds a m e → RiseBetween a.children m.children left
+  pub left-rises : (deeds : List Deed) (e : ClusterError) → Fails (Leaves [] left a m) deeds a m e → RiseBetween a.told.children m.told.children left
   left-rises deeds SpawnFault p = front-rises deeds p
   left-rises deeds WriteFault p = break-rises deeds p
   left-rises deeds Memory (inl p) = front-rises deeds p
   left-rises deeds Memory (inr p) = break-rises deeds p
 
-  kept-ended : (deeds : List Deed) (e : ClusterError) → Fails (Leaves [] left a m) deeds a m e → m.ended ≡ a.ended
+  kept-ended : (deeds : List Deed) (e : ClusterError) → Fails (Leaves [] left a m) deeds a m e → m.told.ended ≡ a.told.ended
   kept-ended deeds SpawnFault p = p.left.ended
   kept-ended deeds WriteFault p = p.left.ended
   kept-ended deeds Memory (inl p) = p.left.ended
   kept-ended deeds Memory (inr p) = p.left.ended
 
   -- they weren't told to end, since they weren't before they were started
-  pub left-spared : (deeds : List Deed) (e : ClusterError) → Fails (Leaves [] left a m) deeds a m e → ((n : ℕ) → a.children ≤ n → a.ended n ≡ false) → AllByRecursion (λ n. m.ended n ≡ false) left
+  pub left-spared : (deeds : List Deed) (e : ClusterError) → Fails (Leaves [] left a m) deeds a m e → ((n : ℕ) → a.told.children ≤ n → a.told.ended n ≡ false) → AllByRecursion (λ n. m.told.ended n ≡ false) left
   left-spared deeds e p spared =
-      spared-all a.children m.children left m.ended (left-rises deeds e p)
+      spared-all a.told.children m.told.children left m.told.ended (left-rises deeds e p)
       (λ n more. ap (λ (f : ℕ → Bool). f n) (kept-ended deeds e p) ∙ spared n more)
 
-  module _ (z : Outer) (kept : Starts [] m z) (written : z.written ≡ m.written) (ends : EndsThese left m.ended z.ended) where
+  module _ (z : Beside SpawnerTold) (kept : Starts [] m z) (written : z.written ≡ m.written) (ends : EndsThese left m.told.ended z.told.ended) where
     were_ended : (done : List Deed) → Leaves [] left a m done → EndsLeft a z done
     were_ended done p =
-        subst (λ (l : List ℕ). EndsThese l a.ended z.ended) p.left
-        (subst (λ (f : ℕ → Bool). EndsThese left f z.ended) p.ended ends)
+        subst (λ (l : List ℕ). EndsThese l a.told.ended z.told.ended) p.left
+        (subst (λ (f : ℕ → Bool). EndsThese left f z.told.ended) p.ended ends)
 
     front-ended : (deeds : List Deed) → DoesFront (Leaves [] left a m) deeds a m → DoesFront (EndsLeft a z) deeds a z
     front-ended deeds p = record {

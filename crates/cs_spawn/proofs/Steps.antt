@@ -1,10 +1,11 @@
 -- The deeds of a list, one after the other.
 use Rattle.std.proofs.Common.{◌≡◌, ℕ, ◌+◌, ◌<◌, List, [], ◌∷◌, ◌++◌, map, length, get_or, take, drop, Result, sym, ap, subst, ◌∙◌}
 use Rattle.std.specs.Prelude.{IsErrAnd}
+use Rattle.cs_outer.specs.Outside.{SpawnerTold, Beside}
 use Rattle.cs_config.specs.declared.plan.Plan.{Plan}
 use Rattle.cs_spawn.specs.Words.{client_words, client_title}
 use Rattle.cs_spawn.specs.Deeds.{Deed, Start, Wait, call_deeds}
-use Rattle.cs_spawn.specs.Running.{Outer, Fails, Leaves, Goes}
+use Rattle.cs_spawn.specs.Running.{Fails, Leaves, Goes}
 use Rattle.cs_spawn.specs.declared.error.ClusterError.{ClusterError}
 use Rattle.cs_spawn.specs.declared.error.ClusterError.TheVariants.{Memory}
 use Rattle.cs_spawn.proofs.Going.{Done, done-more, wants-there, stops-there}
@@ -12,10 +13,10 @@ use Rattle.cs_spawn.proofs.Plans.{map-next, map-split, calls-next, calls-split}
 
 -- ---- a deed for each item
 
-pub each-wants : {X A : Type 0} (f : X → Deed) (xs : List X) (n : ℕ) (a b : Outer) (l m : List ℕ) (result : Result A ClusterError) → Done (map f (take n xs)) l m a b → IsErrAnd result (λ x. x ≡ Memory) → Goes (map f xs) l m a b result
+pub each-wants : {X A : Type 0} (f : X → Deed) (xs : List X) (n : ℕ) (a b : Beside SpawnerTold) (l m : List ℕ) (result : Result A ClusterError) → Done (map f (take n xs)) l m a b → IsErrAnd result (λ x. x ≡ Memory) → Goes (map f xs) l m a b result
 each-wants f xs n a b l m result p gives = wants-there a b l m (map f xs) (map f (take n xs)) (map f (drop n xs)) result (map-split f xs n) p gives
 
-module _ {X : Type 0} (f : X → Deed) (xs : List X) (i : ℕ) (x none : X) (within : i < length xs) (is : x ≡ get_or xs i none) (one : Deed) (same : one ≡ f x) (a b c : Outer) (l m n : List ℕ) where
+module _ {X : Type 0} (f : X → Deed) (xs : List X) (i : ℕ) (x none : X) (within : i < length xs) (is : x ≡ get_or xs i none) (one : Deed) (same : one ≡ f x) (a b c : Beside SpawnerTold) (l m n : List ℕ) where
   one_more : map f (take (i + 1) xs) ≡ map f (take i xs) ++ one ∷ []
   one_more = map-next f xs i x none within is ∙ ap (λ (d : Deed). map f (take i xs) ++ d ∷ []) (sym same)
 
@@ -29,7 +30,7 @@ module _ {X : Type 0} (f : X → Deed) (xs : List X) (i : ℕ) (x none : X) (wit
 
 -- ---- calls
 
-module _ (plan : Plan) (first : ℕ) (calls : List (List ℕ)) (i child : ℕ) (call none text : List ℕ) (within : i < length calls) (is : call ≡ get_or calls i none) (same : text ≡ call) (number : child ≡ first + i) (a b c : Outer) (l m n : List ℕ) where
+module _ (plan : Plan) (first : ℕ) (calls : List (List ℕ)) (i child : ℕ) (call none text : List ℕ) (within : i < length calls) (is : call ≡ get_or calls i none) (same : text ≡ call) (number : child ≡ first + i) (a b c : Beside SpawnerTold) (l m n : List ℕ) where
   abbrev deeds : List Deed
   deeds = Start (client_words plan text) ∷ Wait (client_title i) child ∷ []
 

@@ -3,7 +3,7 @@ use Rattle.std.specs.Prelude.{ℕ, ◌+◌, not, ◌==◌, List, [], ◌∷◌, 
 use Rattle.cs_base.specs.declared.config.Config.{Config}
 use Rattle.cs_base.specs.declared.node_id.NodeId.{NodeId}
 use Rattle.cs_config.specs.declared.plan.Plan.{Plan}
-use Rattle.cs_key_files.specs.Names.{nodes_of}
+use Rattle.cs_wire.specs.AllNames.{nodes_of}
 use Rattle.cs_spawn.specs.Words.{node_words, client_words, node_title, client_title}
 
 -- a child is started with these words; or the child of this number, which is called so, is waited for, and its line

@@ -1,25 +1,14 @@
 -- What deeds leave at the spawner and the sink, and how the running of a cluster ends.
-use Rattle.std.specs.Prelude.{◌≡◌, ◌⊎◌, ℕ, ◌+◌, ◌<◌, ◌≤◌, Bool, List, [], ◌∷◌, ◌++◌, length, Option, IfSome, Result, Ok, Err}
+use Rattle.std.specs.Prelude.{◌≡◌, ◌⊎◌, ℕ, ◌+◌, ◌<◌, ◌≤◌, List, [], ◌∷◌, ◌++◌, length, Option, IfSome, Result, Ok, Err}
 use Rattle.std.specs.Io.KnownBytes.{Appends}
 use Rattle.cs_base.specs.Answers.{AppendsFront}
 use Rattle.cs_outer.specs.Told.{Changes, Stays}
 use Rattle.cs_outer.specs.Spawner.{Children, EndsThese}
+use Rattle.cs_outer.specs.Outside.{SpawnerTold, Beside}
 use Rattle.cs_spawn.specs.Words.{end_line}
 use Rattle.cs_spawn.specs.Deeds.{Deed, Start, Wait, words_in, left_after}
 use Rattle.cs_spawn.specs.declared.error.ClusterError.{ClusterError}
 use Rattle.cs_spawn.specs.declared.error.ClusterError.TheVariants.{SpawnFault, WriteFault, Memory}
-
--- what the spawner and the sink tell
-pub record Outer : Type 0 where
-  pub started : Option Children  -- the words of each child
-  pub children : ℕ  -- how many there are
-  pub statuses : Option (ℕ → ℕ)  -- with which each ends
-  pub ended : ℕ → Bool  -- whether each was told to end
-  pub written : Option (List ℕ)
-
-abbrev pub outer : Option Children → ℕ → Option (ℕ → ℕ) → (ℕ → Bool) → Option (List ℕ) → Outer
-outer started children statuses ended written =
-    record { started = started; children = children; statuses = statuses; ended = ended; written = written }
 
 -- the child of this number ends with this status, where the spawner tells that
 abbrev pub EndsWith : Option (ℕ → ℕ) → ℕ → ℕ → Type 0
@@ -34,25 +23,25 @@ AreLines statuses (Wait title number ∷ deeds) lines =
     × (lines ≡ end_line title status ++ later) × AreLines statuses deeds later
 
 -- these children were started, and their statuses stay
-pub record Starts (words : Children) (old new : Outer) : Type 0 where
-  pub started : Changes (λ before now. now ≡ before ++ words) old.started new.started
-  pub children : new.children ≡ old.children + length words
-  pub statuses : Stays old.statuses new.statuses
+pub record Starts (words : Children) (old new : Beside SpawnerTold) : Type 0 where
+  pub started : Changes (λ before now. now ≡ before ++ words) old.told.started new.told.started
+  pub children : new.told.children ≡ old.told.children + length words
+  pub statuses : Stays old.told.statuses new.told.statuses
 
 -- no child was started, and none was told to end
-pub record IsIdle (old new : Outer) : Type 0 where
+pub record IsIdle (old new : Beside SpawnerTold) : Type 0 where
   pub starts : Starts [] old new
-  pub ended : new.ended ≡ old.ended
+  pub ended : new.told.ended ≡ old.told.ended
 
 -- all of these deeds were done, and no others
-pub record Does (deeds : List Deed) (old new : Outer) : Type 0 where
+pub record Does (deeds : List Deed) (old new : Beside SpawnerTold) : Type 0 where
   pub starts : Starts (words_in deeds) old new
   pub lines : List ℕ
-  pub told : AreLines old.statuses deeds lines
+  pub told : AreLines old.told.statuses deeds lines
   pub written : Appends old.written new.written lines
 
 -- a front of these was done, with such children left
-pub record DoesFront (Left : List Deed → Type 0) (deeds : List Deed) (old new : Outer) : Type 0 where
+pub record DoesFront (Left : List Deed → Type 0) (deeds : List Deed) (old new : Beside SpawnerTold) : Type 0 where
   pub done : List Deed
   pub rest : List Deed
   pub front : deeds ≡ done ++ rest
@@ -61,15 +50,15 @@ pub record DoesFront (Left : List Deed → Type 0) (deeds : List Deed) (old new 
 
 -- All deeds before a wait were done; then the child had ended, and of its line a front was written. Such children are
 -- left.
-pub record BreaksOff (Left : List Deed → Type 0) (deeds : List Deed) (old new : Outer) : Type 0 where
+pub record BreaksOff (Left : List Deed → Type 0) (deeds : List Deed) (old new : Beside SpawnerTold) : Type 0 where
   pub done : List Deed
   pub title : List ℕ
   pub number : ℕ
   pub rest : List Deed
   pub front : deeds ≡ done ++ Wait title number ∷ rest
   pub status : ℕ
-  pub ended : EndsWith old.statuses number status
-  pub middle : Outer
+  pub ended : EndsWith old.told.statuses number status
+  pub middle : Beside SpawnerTold
   pub does : Does done old middle
   pub kept : Starts [] middle new
   pub written : AppendsFront middle.written new.written (end_line title status)
@@ -77,7 +66,7 @@ pub record BreaksOff (Left : List Deed → Type 0) (deeds : List Deed) (old new 
 
 -- Where the spawner failed, the deeds before were done; where the sink failed, all but the end of a line; and where memory
 -- ran out, one or the other.
-abbrev pub Fails : (List Deed → Type 0) → List Deed → Outer → Outer → ClusterError → Type 0
+abbrev pub Fails : (List Deed → Type 0) → List Deed → Beside SpawnerTold → Beside SpawnerTold → ClusterError → Type 0
 Fails Left deeds old new SpawnFault = DoesFront Left deeds old new
 Fails Left deeds old new WriteFault = BreaksOff Left deeds old new
 Fails Left deeds old new Memory = DoesFront Left deeds old new ⊎ BreaksOff Left deeds old new
@@ -85,21 +74,21 @@ Fails Left deeds old new Memory = DoesFront Left deeds old new ⊎ BreaksOff Lef
 -- ---- the children that are left
 
 -- those that were started and not waited for were told to end, and no others
-abbrev pub EndsLeft : Outer → Outer → List Deed → Type 0
-EndsLeft old new done = EndsThese (left_after [] old.children done) old.ended new.ended
+abbrev pub EndsLeft : Beside SpawnerTold → Beside SpawnerTold → List Deed → Type 0
+EndsLeft old new done = EndsThese (left_after [] old.told.children done) old.told.ended new.told.ended
 
 -- All deeds were done; or a part of them, and then the children that are left were told to end.
-abbrev pub Ends : {A : Type 0} → List Deed → Outer → Outer → Result A ClusterError → Type 0
-Ends {A} deeds old new (Ok x) = Does deeds old new × (new.ended ≡ old.ended)
+abbrev pub Ends : {A : Type 0} → List Deed → Beside SpawnerTold → Beside SpawnerTold → Result A ClusterError → Type 0
+Ends {A} deeds old new (Ok x) = Does deeds old new × (new.told.ended ≡ old.told.ended)
 Ends {A} deeds old new (Err error) = Fails (EndsLeft old new) deeds old new error
 
 -- none was told to end; these are left, of those that were left before and those that were started
-pub record Leaves (before now : List ℕ) (old new : Outer) (done : List Deed) : Type 0 where
-  pub ended : new.ended ≡ old.ended
-  pub left : now ≡ left_after before old.children done
+pub record Leaves (before now : List ℕ) (old new : Beside SpawnerTold) (done : List Deed) : Type 0 where
+  pub ended : new.told.ended ≡ old.told.ended
+  pub left : now ≡ left_after before old.told.children done
 
 -- all deeds were done, or a part of them
-abbrev pub Goes : {A : Type 0} → List Deed → List ℕ → List ℕ → Outer → Outer → Result A ClusterError → Type 0
+abbrev pub Goes : {A : Type 0} → List Deed → List ℕ → List ℕ → Beside SpawnerTold → Beside SpawnerTold → Result A ClusterError → Type 0
 Goes {A} deeds before now old new (Ok x) = Does deeds old new × Leaves before now old new deeds
 Goes {A} deeds before now old new (Err error) = Fails (Leaves before now old new) deeds old new error
 

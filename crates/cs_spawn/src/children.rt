@@ -4,8 +4,9 @@ ghost use Rattle.std.specs.List.{AllByRecursion};
 ghost use Rattle.cs_base.specs.Outside.{HasCause};
 ghost use Rattle.cs_outer.specs.Told.{Stays};
 ghost use Rattle.cs_outer.specs.Spawner.{EndsThese};
+ghost use Rattle.cs_outer.specs.Outside.{beside};
 ghost use Rattle.cs_spawn.specs.Deeds.{Start, Wait};
-ghost use Rattle.cs_spawn.specs.Running.{outer, Goes, RiseBetween};
+ghost use Rattle.cs_spawn.specs.Running.{Goes, RiseBetween};
 
 use crate::error::ClusterError;
 use crate::words::end_line;
@@ -21,12 +22,9 @@ pub fn start<P: Spawner>(
 ) -> Result<u64, ClusterError>
     ensures does { (written : Option (List ℕ)) →
         Goes (Start (map string_bytes words.now) ∷ []) left.old.items left.new.items
-        (outer (P.started spawner.old) (P.children spawner.old) (P.statuses spawner.old)
-        (P.ended spawner.old) written)
-        (outer (P.started spawner.new) (P.children spawner.new) (P.statuses spawner.new)
-        (P.ended spawner.new) written)
-        result }
-    ensures number { IfOk result (λ number. number ≡ P.children spawner.old) }
+        (beside (P.told spawner.old) written)
+        (beside (P.told spawner.new) written) result }
+    ensures number { IfOk result (λ number. number ≡ (P.told spawner.old).children) }
     ensures other { IfErr result (λ error. error ≢ ClusterError.WriteFault) }
     ensures cause { HasCause (P.faults spawner.old) (P.faults spawner.new)
         (IsErrOf result ClusterError.SpawnFault) }
@@ -62,13 +60,10 @@ pub fn await_end<P: Spawner, K: Sink>(
     left: &mut Vec<u64>,
     out: &mut K,
 ) -> Result<(), ClusterError>
-    requires { child < P.children spawner.old }
+    requires { child < (P.told spawner.old).children }
     ensures does { Goes (Wait title.now child ∷ []) left.old.items left.new.items
-        (outer (P.started spawner.old) (P.children spawner.old) (P.statuses spawner.old)
-        (P.ended spawner.old) (K.written out.old))
-        (outer (P.started spawner.new) (P.children spawner.new) (P.statuses spawner.new)
-        (P.ended spawner.new) (K.written out.new))
-        result }
+        (beside (P.told spawner.old) (K.written out.old))
+        (beside (P.told spawner.new) (K.written out.new)) result }
     ensures spawner { HasCause (P.faults spawner.old) (P.faults spawner.new)
         (IsErrOf result ClusterError.SpawnFault) }
     ensures sink { HasCause (K.faults out.old) (K.faults out.new)
@@ -89,12 +84,12 @@ pub fn await_end<P: Spawner, K: Sink>(
 
 /// Tells these children to end, whatever comes of it.
 pub fn end_all<P: Spawner>(spawner: &mut P, children: &[u64])
-    requires there { RiseBetween 0 (P.children spawner.old) children.now }
-    requires spared { AllByRecursion (λ child. P.ended spawner.old child ≡ false) children.now }
-    ensures ended { EndsThese children.now (P.ended spawner.old) (P.ended spawner.new) }
-    ensures started { Stays (P.started spawner.old) (P.started spawner.new) }
-    ensures children { P.children spawner.new ≡ P.children spawner.old }
-    ensures statuses { Stays (P.statuses spawner.old) (P.statuses spawner.new) }
+    requires there { RiseBetween 0 (P.told spawner.old).children children.now }
+    requires spared { AllByRecursion (λ child. (P.told spawner.old).ended child ≡ false) children.now }
+    ensures ended { EndsThese children.now (P.told spawner.old).ended (P.told spawner.new).ended }
+    ensures started { Stays (P.told spawner.old).started (P.told spawner.new).started }
+    ensures children { (P.told spawner.new).children ≡ (P.told spawner.old).children }
+    ensures statuses { Stays (P.told spawner.old).statuses (P.told spawner.new).statuses }
     ensures faults { P.faults spawner.old ≤ P.faults spawner.new }
 {
     for child in children {

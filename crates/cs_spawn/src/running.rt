@@ -2,17 +2,18 @@
 ghost use Rattle.std.specs.Prelude.{◌≡◌, ◌≢◌, ◌<◌, ℕ, List, [], ◌∷◌, Option, IfOk, IfErr, IsErrOf};
 ghost use Rattle.std.specs.List.{AllByRecursion};
 ghost use Rattle.cs_base.specs.Outside.{HasCause};
+ghost use Rattle.cs_outer.specs.Outside.{beside};
 ghost use Rattle.cs_spawn.specs.Words.{client_words, client_title};
 ghost use Rattle.cs_spawn.specs.Deeds.{Start, Wait, numbered, node_starts, call_deeds, node_waits, cluster_deeds};
-ghost use Rattle.cs_spawn.specs.Running.{outer, Ends, Goes};
+ghost use Rattle.cs_spawn.specs.Running.{Ends, Goes};
 
 use crate::children::{await_end, end_all, start};
 use crate::error::ClusterError;
 use crate::words::{client_title, client_words, node_title, node_words};
 use cs_base::{NodeId, Sequence, Sink};
 use cs_config::{Plan, Site};
-use cs_key_files::all_nodes;
 use cs_outer::Spawner;
+use cs_wire::all_nodes;
 use std::alloc::Global;
 
 /// Runs a plan: starts all nodes of the site, runs the calls one after the other, and waits for the
@@ -25,12 +26,9 @@ pub fn cluster<P: Spawner, K: Sink>(
     site: &Site,
     out: &mut K,
 ) -> Result<(), ClusterError>
-    ensures does { Ends (cluster_deeds plan.now site.now.config (P.children spawner.old))
-        (outer (P.started spawner.old) (P.children spawner.old) (P.statuses spawner.old)
-        (P.ended spawner.old) (K.written out.old))
-        (outer (P.started spawner.new) (P.children spawner.new) (P.statuses spawner.new)
-        (P.ended spawner.new) (K.written out.new))
-        result }
+    ensures does { Ends (cluster_deeds plan.now site.now.config (P.told spawner.old).children)
+        (beside (P.told spawner.old) (K.written out.old))
+        (beside (P.told spawner.new) (K.written out.new)) result }
     ensures spawner { HasCause (P.faults spawner.old) (P.faults spawner.new)
         (IsErrOf result ClusterError.SpawnFault) }
     ensures sink { HasCause (K.faults out.old) (K.faults out.new)
@@ -55,13 +53,10 @@ fn run_children<P: Spawner, K: Sink>(
     left: &mut Vec<u64>,
     out: &mut K,
 ) -> Result<(), ClusterError>
-    ensures does { Goes (cluster_deeds plan.now site.now.config (P.children spawner.old))
+    ensures does { Goes (cluster_deeds plan.now site.now.config (P.told spawner.old).children)
         left.old.items left.new.items
-        (outer (P.started spawner.old) (P.children spawner.old) (P.statuses spawner.old)
-        (P.ended spawner.old) (K.written out.old))
-        (outer (P.started spawner.new) (P.children spawner.new) (P.statuses spawner.new)
-        (P.ended spawner.new) (K.written out.new))
-        result }
+        (beside (P.told spawner.old) (K.written out.old))
+        (beside (P.told spawner.new) (K.written out.new)) result }
     ensures spawner { HasCause (P.faults spawner.old) (P.faults spawner.new)
         (IsErrOf result ClusterError.SpawnFault) }
     ensures sink { HasCause (K.faults out.old) (K.faults out.new)
@@ -83,13 +78,10 @@ fn start_nodes<P: Spawner>(
 ) -> Result<Sequence<(NodeId, u64)>, ClusterError>
     ensures does { (written : Option (List ℕ)) → Goes (node_starts plan.now nodes.now)
         left.old.items left.new.items
-        (outer (P.started spawner.old) (P.children spawner.old) (P.statuses spawner.old)
-        (P.ended spawner.old) written)
-        (outer (P.started spawner.new) (P.children spawner.new) (P.statuses spawner.new)
-        (P.ended spawner.new) written)
-        result }
+        (beside (P.told spawner.old) written)
+        (beside (P.told spawner.new) written) result }
     ensures running { IfOk result (λ running.
-        running ≡ numbered (P.children spawner.old) nodes.now) }
+        running ≡ numbered (P.told spawner.old).children nodes.now) }
     ensures other { IfErr result (λ error. error ≢ ClusterError.WriteFault) }
     ensures cause { HasCause (P.faults spawner.old) (P.faults spawner.new)
         (IsErrOf result ClusterError.SpawnFault) }
@@ -113,13 +105,10 @@ fn run_calls<P: Spawner, K: Sink>(
     left: &mut Vec<u64>,
     out: &mut K,
 ) -> Result<(), ClusterError>
-    ensures does { Goes (call_deeds plan.now 0 (P.children spawner.old) plan.now.calls)
+    ensures does { Goes (call_deeds plan.now 0 (P.told spawner.old).children plan.now.calls)
         left.old.items left.new.items
-        (outer (P.started spawner.old) (P.children spawner.old) (P.statuses spawner.old)
-        (P.ended spawner.old) (K.written out.old))
-        (outer (P.started spawner.new) (P.children spawner.new) (P.statuses spawner.new)
-        (P.ended spawner.new) (K.written out.new))
-        result }
+        (beside (P.told spawner.old) (K.written out.old))
+        (beside (P.told spawner.new) (K.written out.new)) result }
     ensures spawner { HasCause (P.faults spawner.old) (P.faults spawner.new)
         (IsErrOf result ClusterError.SpawnFault) }
     ensures sink { HasCause (K.faults out.old) (K.faults out.new)
@@ -143,13 +132,10 @@ fn run_call<P: Spawner, K: Sink>(
 ) -> Result<(), ClusterError>
     ensures does { Goes
         (Start (client_words plan.now call.now)
-        ∷ Wait (client_title number) (P.children spawner.old) ∷ [])
+        ∷ Wait (client_title number) (P.told spawner.old).children ∷ [])
         left.old.items left.new.items
-        (outer (P.started spawner.old) (P.children spawner.old) (P.statuses spawner.old)
-        (P.ended spawner.old) (K.written out.old))
-        (outer (P.started spawner.new) (P.children spawner.new) (P.statuses spawner.new)
-        (P.ended spawner.new) (K.written out.new))
-        result }
+        (beside (P.told spawner.old) (K.written out.old))
+        (beside (P.told spawner.new) (K.written out.new)) result }
     ensures spawner { HasCause (P.faults spawner.old) (P.faults spawner.new)
         (IsErrOf result ClusterError.SpawnFault) }
     ensures sink { HasCause (K.faults out.old) (K.faults out.new)
@@ -169,13 +155,10 @@ fn await_nodes<P: Spawner, K: Sink>(
     left: &mut Vec<u64>,
     out: &mut K,
 ) -> Result<(), ClusterError>
-    requires { AllByRecursion (λ node. node.1 < P.children spawner.old) running.now }
+    requires { AllByRecursion (λ node. node.1 < (P.told spawner.old).children) running.now }
     ensures does { Goes (node_waits running.now) left.old.items left.new.items
-        (outer (P.started spawner.old) (P.children spawner.old) (P.statuses spawner.old)
-        (P.ended spawner.old) (K.written out.old))
-        (outer (P.started spawner.new) (P.children spawner.new) (P.statuses spawner.new)
-        (P.ended spawner.new) (K.written out.new))
-        result }
+        (beside (P.told spawner.old) (K.written out.old))
+        (beside (P.told spawner.new) (K.written out.new)) result }
     ensures spawner { HasCause (P.faults spawner.old) (P.faults spawner.new)
         (IsErrOf result ClusterError.SpawnFault) }
     ensures sink { HasCause (K.faults out.old) (K.faults out.new)

@@ -5,8 +5,8 @@ use Rattle.std.specs.List.{AllPairs}
 use Rattle.std.proofs.lemmas.List.{take_more, length-take-le}
 use Rattle.cs_tx_value.specs.declared.object.Object.{Object}
 use Rattle.cs_tx.specs.Digest.{name_of_genesis}
-use Rattle.cs_sched.specs.Names.{is_known, genesis_names}
-use Rattle.cs_sched.proofs.Distinct.{names_differ, genesis_names-append}
+use Rattle.cs_tx.specs.GenesisNames.{is_known, genesis_names}
+use Rattle.cs_tx.proofs.GenesisNames.{names_differ, genesis_names-append}
 use Rattle.cs_take.specs.Files.{repeats}
 
 -- a name that was added is new

@@ -12,7 +12,7 @@ use Rattle.cs_config.specs.Plan.{plan_of}
 use Rattle.cs_config_keys.specs.File.{keys_of}
 use Rattle.cs_accept.specs.Accepting.{is_refused}
 use Rattle.cs_approve.specs.Books.{contracts_of}
-use Rattle.cs_sched.specs.Names.{is_known, genesis_names}
+use Rattle.cs_tx.specs.GenesisNames.{is_known, genesis_names}
 use Rattle.cs_wire.specs.declared.keys.Keys.{Keys}
 use Rattle.cs_take.specs.declared.cause.Cause.TheVariants as cause
 use Rattle.cs_take.specs.declared.keys.Role.{Role}

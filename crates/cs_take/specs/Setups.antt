@@ -3,7 +3,7 @@ use Rattle.std.specs.Prelude.{◌≡◌, ◌≢◌, ◌≤◌, true, length}
 use Rattle.std.specs.List.{All, AllPairs}
 use Rattle.cs_base.specs.declared.limits.TheConstants.{MOST_GENESIS}
 use Rattle.cs_tx_value.specs.Object.{ObjectFits}
-use Rattle.cs_sched.specs.Names.{genesis_names}
+use Rattle.cs_tx.specs.GenesisNames.{genesis_names}
 use Rattle.cs_take.specs.declared.keys.Role.{Role}
 use Rattle.cs_take.specs.declared.setups.Setup.{Setup}
 use Rattle.cs_take.specs.Files.{is_right}

@@ -3,7 +3,7 @@ ghost use Rattle.std.specs.Prelude.{◌≡◌, ◌≢◌, ◌≤◌, false, IfOk
 ghost use Rattle.std.specs.List.{All, AllPairs};
 ghost use Rattle.cs_base.specs.declared.limits.TheConstants.{MOST_GENESIS};
 ghost use Rattle.cs_tx_value.specs.Object.{ObjectFits};
-ghost use Rattle.cs_sched.specs.Names.{genesis_names};
+ghost use Rattle.cs_tx.specs.GenesisNames.{genesis_names};
 ghost use Rattle.cs_take.specs.Files.{repeats};
 
 use cs_base::Memory;

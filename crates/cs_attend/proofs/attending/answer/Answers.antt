@@ -10,13 +10,13 @@ pub returns-in-Ok-clause-goes : goal.returns-in-Ok-clause-goes
 returns-in-Ok-clause-goes g c = λ e past stands.
     let input = input_of c.args.input in
     let stepped = c.in-Ok.ensures e past stands in
-    goes-said e past input c.in-Ok.outs (g.L.Link.offered c.args.link.now) (g.L.Link.offered c.say.new.link) c.say.result stepped.says (c.say.ensures.says e _ stepped.stands)
+    goes-said e past input c.in-Ok.outs (g.L.Link.told c.args.link.now).offered (g.L.Link.told c.say.new.link).offered c.say.result stepped.says (c.say.ensures.says e _ stepped.stands)
 
 pub returns-in-Err-Refused-clause-goes : goal.returns-in-Err-Refused-clause-goes
 returns-in-Err-Refused-clause-goes g c = λ e past stands. (
   subst (λ (error : ClientError). Steps e past (input_of c.args.input) (Err error)) c.in-Err-Refused.field-0-is (c.in-Err-Refused.ensures e past stands),
-  stays-same (g.L.Link.offered c.args.link.now),
+  stays-same (g.L.Link.told c.args.link.now).offered,
 )
 
 pub returns-in-Err-Memory-clause-goes : goal.returns-in-Err-Memory-clause-goes
-returns-in-Err-Memory-clause-goes g c = λ e past stands. none-offered e past (input_of c.args.input) (g.L.Link.offered c.args.link.now)
+returns-in-Err-Memory-clause-goes g c = λ e past stands. none-offered e past (input_of c.args.input) (g.L.Link.told c.args.link.now).offered

@@ -2,7 +2,6 @@ use Rattle.std.proofs.Common.{◌≡◌, Err, sym, ap, subst, arith}
 use Rattle.cs_client.specs.Seen.{Client}
 use Rattle.cs_attend.specs.declared.ending.Ending.{Ending}
 use Rattle.cs_attend.specs.declared.ending.Ending.TheVariants.{LinkFault}
-use Rattle.cs_attend.specs.Attending.{side}
 use Rattle.cs_outer.specs.laws.Told.{stays-same, stays-both}
 use Rattle.std.proofs.lemmas.Bool.{iff_false}
 use Rattle.cs_serve.specs.laws.Taken.{few-more}
@@ -12,10 +11,10 @@ use Rattle.cs_attend.proofs.attending.attend.Goals as goal
 pub loop-buf-init : goal.loop-buf-init
 loop-buf-init g c = record {
   goes = λ e stands.
-      let a = side (g.L.Link.left c.args.link.now) (g.L.Link.offered c.args.link.now) (g.L.Link.missed c.args.link.now) in
+      let a = g.L.Link.told c.args.link.now in
       subst (λ (client : Client). SoFar e c.args.until 0 0 a a client) (sym c.client.view_is) (begins e c.args.until a c.args.client stands);
   few = omega arith;
-  bound = stays-same (g.L.Link.bound c.args.link.now);
+  bound = stays-same (g.L.Link.told c.args.link.now).bound;
   faults = le_same (g.L.Link.faults c.args.link.now);
 }
 
@@ -26,12 +25,12 @@ loop-buf-preserved g c =
     record {
       goes = λ e stands.
           goes-on e c.args.until c.loop-buf.turns c.loop-buf.ticks
-          (side (g.L.Link.left c.args.link.now) (g.L.Link.offered c.args.link.now) (g.L.Link.missed c.args.link.now))
-          (side (g.L.Link.left c.loop-buf.link) (g.L.Link.offered c.loop-buf.link) (g.L.Link.missed c.loop-buf.link))
-          (side (g.L.Link.left c.take_turn.new.link) (g.L.Link.offered c.take_turn.new.link) (g.L.Link.missed c.take_turn.new.link))
+          (g.L.Link.told c.args.link.now)
+          (g.L.Link.told c.loop-buf.link)
+          (g.L.Link.told c.take_turn.new.link)
           c.loop-buf.client c.in-Ok-take_turn.next c.in-Ok-take_turn.ticked c.from-ticks.result c.from-ticks.ensures (iff_false c.is_over.ensures.over c.loop-buf-test.true) (so_far.goes e stands) (turn.goes e);
       few = few-more c.loop-buf.turns c.loop-buf.ticks c.from-ticks.result c.in-Ok-take_turn.ticked c.from-ticks.ensures so_far.few;
-      bound = stays-both (g.L.Link.bound c.args.link.now) (g.L.Link.bound c.loop-buf.link) (g.L.Link.bound c.take_turn.new.link) so_far.bound turn.bound;
+      bound = stays-both (g.L.Link.told c.args.link.now).bound (g.L.Link.told c.loop-buf.link).bound (g.L.Link.told c.take_turn.new.link).bound so_far.bound turn.bound;
       faults = le_more (g.L.Link.faults c.args.link.now) (g.L.Link.faults c.loop-buf.link) (g.L.Link.faults c.take_turn.new.link) so_far.faults turn.cause.later;
     }
 
@@ -43,19 +42,19 @@ overflow_add-ticks g c =
 
 pub returns-in_default-clause-attends : goal.returns-in_default-clause-attends
 returns-in_default-clause-attends g c = λ e stands.
-    nothing e c.args.until (side (g.L.Link.left c.args.link.now) (g.L.Link.offered c.args.link.now) (g.L.Link.missed c.args.link.now))
+    nothing e c.args.until (g.L.Link.told c.args.link.now)
 
 pub returns-in-Err-clause-attends : goal.returns-in-Err-clause-attends
 returns-in-Err-clause-attends g c = λ e stands.
     ends-so e c.args.until c.loop-buf.turns c.loop-buf.ticks
-    (side (g.L.Link.left c.args.link.now) (g.L.Link.offered c.args.link.now) (g.L.Link.missed c.args.link.now))
-    (side (g.L.Link.left c.loop-buf.link) (g.L.Link.offered c.loop-buf.link) (g.L.Link.missed c.loop-buf.link))
-    (side (g.L.Link.left c.take_turn.new.link) (g.L.Link.offered c.take_turn.new.link) (g.L.Link.missed c.take_turn.new.link))
+    (g.L.Link.told c.args.link.now)
+    (g.L.Link.told c.loop-buf.link)
+    (g.L.Link.told c.take_turn.new.link)
     c.loop-buf.client (iff_false c.is_over.ensures.over c.loop-buf-test.true) (c.loop-buf.invariant.goes e stands) c.in-Err.ending (c.in-Err.ensures.goes e)
 
 pub returns-in-Err-clause-bound : goal.returns-in-Err-clause-bound
 returns-in-Err-clause-bound g c =
-    stays-both (g.L.Link.bound c.args.link.now) (g.L.Link.bound c.loop-buf.link) (g.L.Link.bound c.take_turn.new.link) c.loop-buf.invariant.bound c.in-Err.ensures.bound
+    stays-both (g.L.Link.told c.args.link.now).bound (g.L.Link.told c.loop-buf.link).bound (g.L.Link.told c.take_turn.new.link).bound c.loop-buf.invariant.bound c.in-Err.ensures.bound
 
 pub returns-in-Err-clause-cause : goal.returns-in-Err-clause-cause
 returns-in-Err-clause-cause g c =
@@ -65,8 +64,8 @@ returns-in-Err-clause-cause g c =
 pub returns-clause-attends : goal.returns-clause-attends
 returns-clause-attends g c = λ e stands.
     over e c.args.until c.loop-buf.turns c.loop-buf.ticks
-    (side (g.L.Link.left c.args.link.now) (g.L.Link.offered c.args.link.now) (g.L.Link.missed c.args.link.now))
-    (side (g.L.Link.left c.loop-buf.link) (g.L.Link.offered c.loop-buf.link) (g.L.Link.missed c.loop-buf.link))
+    (g.L.Link.told c.args.link.now)
+    (g.L.Link.told c.loop-buf.link)
     c.loop-buf.client (c.is_over.ensures.over.0 c.loop-buf-test.false)
     (c.loop-buf.invariant.goes e stands)
 

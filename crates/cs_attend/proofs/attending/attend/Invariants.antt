@@ -2,17 +2,15 @@ use Rattle.std.proofs.Common.{◌-◌, ◌^◌, ◌≤◌, []}
 use Rattle.cs_outer.specs.Told.{Stays}
 use Rattle.cs_client.specs.declared.errand.Errand.{Errand}
 use Rattle.cs_client.specs.Standing.{StandsFor}
-use Rattle.cs_attend.specs.Attending.{side}
 use Rattle.cs_attend.proofs.Runs.{SoFar}
 use Rattle.cs_attend.proofs.attending.attend.Given as goal
 
 abbrev pub invariant-loop-buf : goal.invariant-loop-buf
 invariant-loop-buf g l = record {
   goes : (e : Errand) → StandsFor e [] l.fn.client
-      → SoFar e l.until l.turns l.ticks (side (g.L.Link.left l.initial.link) (g.L.Link.offered l.initial.link) (g.L.Link.missed l.initial.link))
-      (side (g.L.Link.left l.link) (g.L.Link.offered l.link) (g.L.Link.missed l.link)) l.client;
+      → SoFar e l.until l.turns l.ticks (g.L.Link.told l.initial.link) (g.L.Link.told l.link) l.client;
   few : l.ticks ≤ l.turns;
-  bound : Stays (g.L.Link.bound l.initial.link) (g.L.Link.bound l.link);
+  bound : Stays (g.L.Link.told l.initial.link).bound (g.L.Link.told l.link).bound;
   faults : g.L.Link.faults l.initial.link ≤ g.L.Link.faults l.link;
 }
 

@@ -4,37 +4,36 @@ use Rattle.std.proofs.lemmas.Result.{err_from_is_err_and}
 use Rattle.cs_outer.specs.Told.{Changes}
 use Rattle.cs_outer.specs.declared.link.MemInput.TheVariants as came
 use Rattle.cs_client.specs.Inputs.{Input}
-use Rattle.cs_attend.specs.Attending.{side}
 use Rattle.cs_attend.proofs.Runs.{answered, went-on, ended-so, le_more}
 use Rattle.cs_attend.proofs.attending.take_turn.Goals as goal
 
 pub returns-in_ok-client-in-Datagram-clause-goes : goal.returns-in_ok-client-in-Datagram-clause-goes
 returns-in_ok-client-in-Datagram-clause-goes g c = λ e past stands.
     went-on e past (came.Datagram c.split_at.result.0.now)
-    (side (g.L.Link.left c.args.link.now) (g.L.Link.offered c.args.link.now) (g.L.Link.missed c.args.link.now))
-    (side (g.L.Link.left c.receive.new.link) (g.L.Link.offered c.receive.new.link) (g.L.Link.missed c.receive.new.link))
-    (side (g.L.Link.left c.answer.new.link) (g.L.Link.offered c.answer.new.link) (g.L.Link.missed c.answer.new.link))
-    c.in_ok-client-in-Datagram.client false refl (subst (λ (bytes : List ℕ). Changes (λ (before now : List Input). before ≡ came.Datagram bytes ∷ now) (g.L.Link.left c.args.link.now) (g.L.Link.left c.receive.new.link)) (sym c.split_at.ensures.front) c.in-Datagram.ensures.input.1)
+    (g.L.Link.told c.args.link.now)
+    (g.L.Link.told c.receive.new.link)
+    (g.L.Link.told c.answer.new.link)
+    c.in_ok-client-in-Datagram.client false refl (subst (λ (bytes : List ℕ). Changes (λ (before now : List Input). before ≡ came.Datagram bytes ∷ now) (g.L.Link.told c.args.link.now).left (g.L.Link.told c.receive.new.link).left) (sym c.split_at.ensures.front) c.in-Datagram.ensures.input.1)
     c.in-Datagram.ensures.missed c.in-Datagram.ensures.offered c.answer.ensures.left c.answer.ensures.missed (c.in_ok-client-in-Datagram.ensures.goes e past stands)
 
 pub returns-in_err-client-in-Datagram-clause-goes : goal.returns-in_err-client-in-Datagram-clause-goes
 returns-in_err-client-in-Datagram-clause-goes g c = λ e past stands.
     let p = err_from_is_err_and c.from_residual.result c.from_residual.ensures.1 in
     rw (p.1, p.2)
-    (ended-so e past (side (g.L.Link.left c.args.link.now) (g.L.Link.offered c.args.link.now) (g.L.Link.missed c.args.link.now)) (side (g.L.Link.left c.answer.new.link) (g.L.Link.offered c.answer.new.link) (g.L.Link.missed c.answer.new.link)) c.in_err-client-in-Datagram.field-0.0
+    (ended-so e past (g.L.Link.told c.args.link.now) (g.L.Link.told c.answer.new.link) c.in_err-client-in-Datagram.field-0.0
     (answered e past (came.Datagram c.split_at.result.0.now)
-    (side (g.L.Link.left c.args.link.now) (g.L.Link.offered c.args.link.now) (g.L.Link.missed c.args.link.now))
-    (side (g.L.Link.left c.receive.new.link) (g.L.Link.offered c.receive.new.link) (g.L.Link.missed c.receive.new.link))
-    (side (g.L.Link.left c.answer.new.link) (g.L.Link.offered c.answer.new.link) (g.L.Link.missed c.answer.new.link))
-    (Err c.in_err-client-in-Datagram.field-0.0) (subst (λ (bytes : List ℕ). Changes (λ (before now : List Input). before ≡ came.Datagram bytes ∷ now) (g.L.Link.left c.args.link.now) (g.L.Link.left c.receive.new.link)) (sym c.split_at.ensures.front) c.in-Datagram.ensures.input.1)
+    (g.L.Link.told c.args.link.now)
+    (g.L.Link.told c.receive.new.link)
+    (g.L.Link.told c.answer.new.link)
+    (Err c.in_err-client-in-Datagram.field-0.0) (subst (λ (bytes : List ℕ). Changes (λ (before now : List Input). before ≡ came.Datagram bytes ∷ now) (g.L.Link.told c.args.link.now).left (g.L.Link.told c.receive.new.link).left) (sym c.split_at.ensures.front) c.in-Datagram.ensures.input.1)
     c.in-Datagram.ensures.missed c.in-Datagram.ensures.offered c.answer.ensures.left c.answer.ensures.missed (c.in_err-client-in-Datagram.ensures.goes e past stands)))
 
 pub returns-in_ok-client-in-Tick-clause-goes : goal.returns-in_ok-client-in-Tick-clause-goes
 returns-in_ok-client-in-Tick-clause-goes g c = λ e past stands.
     went-on e past came.Tick
-    (side (g.L.Link.left c.args.link.now) (g.L.Link.offered c.args.link.now) (g.L.Link.missed c.args.link.now))
-    (side (g.L.Link.left c.receive.new.link) (g.L.Link.offered c.receive.new.link) (g.L.Link.missed c.receive.new.link))
-    (side (g.L.Link.left c.answer-in-Tick.new.link) (g.L.Link.offered c.answer-in-Tick.new.link) (g.L.Link.missed c.answer-in-Tick.new.link))
+    (g.L.Link.told c.args.link.now)
+    (g.L.Link.told c.receive.new.link)
+    (g.L.Link.told c.answer-in-Tick.new.link)
     c.in_ok-client-in-Tick.client true refl c.in-Tick.ensures.input
     c.in-Tick.ensures.missed c.in-Tick.ensures.offered c.answer-in-Tick.ensures.left c.answer-in-Tick.ensures.missed (c.in_ok-client-in-Tick.ensures.goes e past stands)
 
@@ -42,11 +41,11 @@ pub returns-in_err-client-in-Tick-clause-goes : goal.returns-in_err-client-in-Ti
 returns-in_err-client-in-Tick-clause-goes g c = λ e past stands.
     let p = err_from_is_err_and c.from_residual-in_err-client-in-Tick.result c.from_residual-in_err-client-in-Tick.ensures.1 in
     rw (p.1, p.2)
-    (ended-so e past (side (g.L.Link.left c.args.link.now) (g.L.Link.offered c.args.link.now) (g.L.Link.missed c.args.link.now)) (side (g.L.Link.left c.answer-in-Tick.new.link) (g.L.Link.offered c.answer-in-Tick.new.link) (g.L.Link.missed c.answer-in-Tick.new.link)) c.in_err-client-in-Tick.field-0.0
+    (ended-so e past (g.L.Link.told c.args.link.now) (g.L.Link.told c.answer-in-Tick.new.link) c.in_err-client-in-Tick.field-0.0
     (answered e past came.Tick
-    (side (g.L.Link.left c.args.link.now) (g.L.Link.offered c.args.link.now) (g.L.Link.missed c.args.link.now))
-    (side (g.L.Link.left c.receive.new.link) (g.L.Link.offered c.receive.new.link) (g.L.Link.missed c.receive.new.link))
-    (side (g.L.Link.left c.answer-in-Tick.new.link) (g.L.Link.offered c.answer-in-Tick.new.link) (g.L.Link.missed c.answer-in-Tick.new.link))
+    (g.L.Link.told c.args.link.now)
+    (g.L.Link.told c.receive.new.link)
+    (g.L.Link.told c.answer-in-Tick.new.link)
     (Err c.in_err-client-in-Tick.field-0.0) c.in-Tick.ensures.input
     c.in-Tick.ensures.missed c.in-Tick.ensures.offered c.answer-in-Tick.ensures.left c.answer-in-Tick.ensures.missed (c.in_err-client-in-Tick.ensures.goes e past stands)))
 

@@ -2,19 +2,19 @@ use Rattle.cs_cli.proofs.Doing.{node-does, client-does, keys-does, cluster-does}
 use Rattle.cs_cli.proofs.program.deploy.Goals as goal
 
 pub returns-in-Node-clause-deploys : goal.returns-in-Node-clause-deploys
-returns-in-Node-clause-deploys g c =
+returns-in-Node-clause-deploys g c = λ source source'.
     node-does _ _ _ _ c.in-Node.site c.in-Node.keys c.in-Node.until _ _ c.args.deployment c.in-Node.is c.word_at-site.ensures c.word_at-keys.ensures
-    (c.run_node.ensures.runs, c.run_node.ensures.kept, c.run_node.ensures.whole)
+    (record { runs = c.run_node.ensures.runs; kept = c.run_node.ensures.kept; whole = c.run_node.ensures.whole })
 
 pub returns-in-Client-clause-deploys : goal.returns-in-Client-clause-deploys
-returns-in-Client-clause-deploys g c =
+returns-in-Client-clause-deploys g c = λ source source'.
     client-does _ _ _ _ c.in-Client.site c.in-Client.keys c.in-Client.call c.in-Client.until _ _ _ c.args.deployment c.in-Client.is c.word_at-site-in-Client.ensures c.word_at-keys-in-Client.ensures c.word_at-call.ensures
-    (c.run_client.ensures.runs, c.run_client.ensures.kept, c.run_client.ensures.whole)
+    (record { runs = c.run_client.ensures.runs; kept = c.run_client.ensures.kept; whole = c.run_client.ensures.whole })
 
 pub returns-in-Keys-clause-deploys : goal.returns-in-Keys-clause-deploys
-returns-in-Keys-clause-deploys g c =
-    keys-does _ _ _ _ c.in-Keys.site c.in-Keys.master _ c.args.deployment c.in-Keys.is c.word_at.ensures (c.run_keys.ensures.runs, c.run_keys.ensures.whole)
+returns-in-Keys-clause-deploys g c = λ source source'.
+    keys-does _ _ _ _ c.in-Keys.site c.in-Keys.master _ c.args.deployment c.in-Keys.is c.word_at.ensures (record { runs = c.run_keys.ensures.runs; whole = c.run_keys.ensures.whole })
 
 pub returns-in-Cluster-clause-deploys : goal.returns-in-Cluster-clause-deploys
-returns-in-Cluster-clause-deploys g c =
-    cluster-does _ _ _ _ c.in-Cluster.plan _ c.args.deployment c.in-Cluster.is c.word_at-in-Cluster.ensures (c.run_cluster.ensures.runs, c.run_cluster.ensures.whole)
+returns-in-Cluster-clause-deploys g c = λ source source'.
+    cluster-does _ _ _ _ c.in-Cluster.plan _ c.args.deployment c.in-Cluster.is c.word_at-in-Cluster.ensures (record { runs = c.run_cluster.ensures.runs; whole = c.run_cluster.ensures.whole })

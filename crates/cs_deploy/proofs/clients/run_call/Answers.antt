@@ -9,10 +9,10 @@ use Rattle.cs_deploy.proofs.clients.run_call.Goals as goal
 pub returns-in_default-clause-goes : goal.returns-in_default-clause-goes
 returns-in_default-clause-goes g c = inl (record {
   untouched = record {
-    bound = stays-same (g.L.Link.bound c.args.link.now);
+    bound = stays-same (g.L.Link.told c.args.link.now).bound;
     quiet = record {
-      left = stays-same (g.L.Link.left c.args.link.now);
-      offered = stays-same (g.L.Link.offered c.args.link.now);
+      left = stays-same (g.L.Link.told c.args.link.now).left;
+      offered = stays-same (g.L.Link.told c.args.link.now).offered;
       missed = refl;
     };
   };
@@ -31,7 +31,7 @@ returns-in-Ok-bind_or_tell-clause-goes g c =
     inr (inr (record {
       bound = bound-later _ _ _ _ _ setup.site.base_port c.me-me.ensures bound.bound c.attend.ensures.bound;
       ending = c.attend.result;
-      attends = attends-later e c.args.until _ _ _ _ _ _ _ _ _ c.attend.result bound.quiet.left bound.quiet.offered bound.quiet.missed (c.attend.ensures.attends e c.in-Ok.ensures);
+      attends = attends-later e c.args.until (g.L.Link.told c.args.link.now) (g.L.Link.told c.bind_or_tell.new.link) (g.L.Link.told c.attend.new.link) c.attend.result bound.quiet.left bound.quiet.offered bound.quiet.missed (c.attend.ensures.attends e c.in-Ok.ensures);
       failed = λ is. rose-later _ _ _ c.in-Ok-bind_or_tell.ensures.link (c.attend.ensures.cause.cause is);
       told = subst (λ (written : Option (List ℕ)). TellsEnding c.attend.result written (g.K.Sink.written c.tell_ending.new.out) c.tell_ending.result) bound.unwritten c.tell_ending.ensures.tells;
     }))

@@ -24,10 +24,10 @@ returns-in-Ok-clause-only g c = (
 pub returns-in-Err-clause-runs : goal.returns-in-Err-clause-runs
 returns-in-Err-clause-runs g c = inl (record {
   untouched = record {
-    bound = stays-same (g.L.Link.bound c.args.link.now);
+    bound = stays-same (g.L.Link.told c.args.link.now).bound;
     quiet = record {
-      left = stays-same (g.L.Link.left c.args.link.now);
-      offered = stays-same (g.L.Link.offered c.args.link.now);
+      left = stays-same (g.L.Link.told c.args.link.now).left;
+      offered = stays-same (g.L.Link.told c.args.link.now).offered;
       missed = refl;
     };
   };

@@ -5,8 +5,8 @@ use Rattle.cs_node_pool.specs.Deployed.{deployed}
 use Rattle.cs_approve.specs.Approval.{is_approved}
 use Rattle.cs_node.specs.Cores.{StandsFor}
 use Rattle.cs_log.specs.contracts.slot_order.SlotOrderOrder.TheImpl as order
-use Rattle.cs_serve.specs.Outer.{outer}
 use Rattle.cs_deploy_keys.proofs.Answered.{keeps, rose-later, rose-sooner, cause-later}
+use Rattle.cs_outer.specs.Outside.{beside}
 use Rattle.cs_outer.specs.laws.Told.{stays-same}
 use Rattle.cs_deploy.specs.Node.{site_in}
 use Rattle.cs_deploy.proofs.Bound.{bound-later, unbound-as}
@@ -16,10 +16,10 @@ use Rattle.cs_deploy.proofs.nodes.run_setup.Goals as goal
 pub returns-in_default-clause-goes : goal.returns-in_default-clause-goes
 returns-in_default-clause-goes g c = inl (record {
   untouched = record {
-    bound = stays-same (g.L.Link.bound c.args.link.now);
+    bound = stays-same (g.L.Link.told c.args.link.now).bound;
     quiet = record {
-      left = stays-same (g.L.Link.left c.args.link.now);
-      offered = stays-same (g.L.Link.offered c.args.link.now);
+      left = stays-same (g.L.Link.told c.args.link.now).left;
+      offered = stays-same (g.L.Link.told c.args.link.now).offered;
       missed = refl;
     };
   };
@@ -34,7 +34,7 @@ pub returns-in-Ok-bind_or_tell-clause-goes : goal.returns-in-Ok-bind_or_tell-cla
 returns-in-Ok-bind_or_tell-clause-goes g c =
     let setup = c.args.setup in
     let bound = c.in-Ok-bind_or_tell.ensures.binds in
-    let new = outer (g.L.Link.left c.serve-end.new.link) (g.L.Link.offered c.serve-end.new.link) (g.L.Link.missed c.serve-end.new.link) (g.K.Sink.written c.serve-end.new.out) in
+    let new = beside (g.L.Link.told c.serve-end.new.link) (g.K.Sink.written c.serve-end.new.out) in
     inr (inr (record {
       bound = bound-later _ _ _ _ _ setup.site.base_port c.me-me.ensures bound.bound c.serve-end.ensures.bound;
       end = c.serve-end.result.0;
@@ -42,7 +42,7 @@ returns-in-Ok-bind_or_tell-clause-goes g c =
       serves = λ net speaks.
           let site = site_in setup net in
           let v = start_view site setup.keys.me in
-          serves-later site v c.args.until new _ _ _ _ _ _ _ _ c.serve-end.result.0 bound.quiet.left bound.quiet.offered bound.quiet.missed bound.unwritten
+          serves-later site v c.args.until new (g.L.Link.told c.args.link.now) (g.L.Link.told c.bind_or_tell.new.link) (g.K.Sink.written c.args.out.now) (g.K.Sink.written c.bind_or_tell.new.out) c.serve-end.result.0 bound.quiet.left bound.quiet.offered bound.quiet.missed bound.unwritten
           (serves-alone (StandsFor order.ghosts.stands judge.ghosts.is_approved site) site v c.args.until _ new c.serve-end.result
           (c.serve-end.ensures.serves (deployed setup.site.config setup.site.genesis (is_approved setup.book)) net v (c.in-Ok.ensures net speaks)));
       failed = λ is. rose-later _ _ _ c.in-Ok-bind_or_tell.ensures.link (c.serve-end.ensures.link.cause is);

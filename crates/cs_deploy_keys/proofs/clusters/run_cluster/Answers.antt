@@ -25,7 +25,7 @@ returns-in-Ok-clause-only g c = (
 pub returns-in-Err-clause-runs : goal.returns-in-Err-clause-runs
 returns-in-Err-clause-runs g c = inl (record {
   kept = c.in-Err.ensures.kept;
-  idle = idle-same _ _ _ _ _ _;
+  idle = idle-same _ _ _;
   untaken = record {
     why = c.in-Err.why;
     is_so = c.in-Err.ensures.taken;

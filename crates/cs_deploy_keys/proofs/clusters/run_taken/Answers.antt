@@ -13,7 +13,7 @@ returns-in-Err-clause-goes g c = inl (record {
   error = c.in-Err.error;
   saved = c.in-Err.ensures.saved;
   failed = c.in-Err.ensures.cause.cause;
-  idle = idle-same _ _ _ _ _ _;
+  idle = idle-same _ _ _;
   told = c.tell_unsaved.ensures.tells;
 })
 

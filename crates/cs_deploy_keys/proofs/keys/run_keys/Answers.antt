@@ -1,5 +1,5 @@
 use Rattle.std.proofs.Common.{inl, inr}
-use Rattle.cs_wire.specs.Opened.{names_of}
+use Rattle.cs_wire.specs.AllNames.{names_of}
 use Rattle.cs_key_files.specs.Saving.{SavesUpTo}
 use Rattle.cs_deploy_keys.proofs.Answered.{rose-later}
 use Rattle.cs_outer.specs.laws.Told.{changes-after}

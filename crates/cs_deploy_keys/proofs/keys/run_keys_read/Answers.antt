@@ -20,11 +20,11 @@ returns-in-Ok-clause-runs g c =
 
 pub returns-in-Ok-clause-whole : goal.returns-in-Ok-clause-whole
 returns-in-Ok-clause-whole g c = λ stores reads writes.
-    read-decided _ _ _ _ c.save_read.result c.args.name.now (returns-in-Ok-clause-runs g c) stores reads
+    read-decided _ _ _ _ _ _ c.save_read.result c.args.name.now (returns-in-Ok-clause-runs g c) stores reads
     (λ six. writes (c.save_read.ensures.write_fault.cause six))
 
 pub returns-in-Ok-clause-only : goal.returns-in-Ok-clause-only
-returns-in-Ok-clause-only g c = keys_read-other _ _ _ _ c.save_read.result c.args.name.now 2 (returns-in-Ok-clause-runs g c) (λ is. absurd (cc)) (λ is. absurd (cc)) (λ is. absurd (cc)) (λ is. absurd (cc)) (λ is. absurd (cc)) (λ is. absurd (cc))
+returns-in-Ok-clause-only g c = keys_read-other _ _ _ _ _ _ c.save_read.result c.args.name.now 2 (returns-in-Ok-clause-runs g c) (λ is. absurd (cc)) (λ is. absurd (cc)) (λ is. absurd (cc)) (λ is. absurd (cc)) (λ is. absurd (cc)) (λ is. absurd (cc))
 
 -- ---- it isn't
 
@@ -38,11 +38,11 @@ returns-in-Err-clause-runs g c =
 
 pub returns-in-Err-clause-whole : goal.returns-in-Err-clause-whole
 returns-in-Err-clause-whole g c = λ stores reads writes.
-    read-decided _ _ _ _ c.refuse.result c.args.name.now (returns-in-Err-clause-runs g c) stores reads
+    read-decided _ _ _ _ _ _ c.refuse.result c.args.name.now (returns-in-Err-clause-runs g c) stores reads
     (λ six. writes (c.refuse.ensures.cause.cause six))
 
 pub returns-in-Err-clause-only : goal.returns-in-Err-clause-only
-returns-in-Err-clause-only g c = keys_read-other _ _ _ _ c.refuse.result c.args.name.now 2 (returns-in-Err-clause-runs g c) (λ is. absurd (cc)) (λ is. absurd (cc)) (λ is. absurd (cc)) (λ is. absurd (cc)) (λ is. absurd (cc)) (λ is. absurd (cc))
+returns-in-Err-clause-only g c = keys_read-other _ _ _ _ _ _ c.refuse.result c.args.name.now 2 (returns-in-Err-clause-runs g c) (λ is. absurd (cc)) (λ is. absurd (cc)) (λ is. absurd (cc)) (λ is. absurd (cc)) (λ is. absurd (cc)) (λ is. absurd (cc))
 
 pub returns-in-Err-clause-read_fault : goal.returns-in-Err-clause-read_fault
 returns-in-Err-clause-read_fault g c =

@@ -1,23 +1,22 @@
 use Rattle.std.specs.Prelude.{Option}
 use Rattle.std.proofs.Common.{inl, inr, ℕ, List, Err, ap, refl, subst, ◌∙◌, arith}
 use Rattle.cs_base.specs.Outside.{Rose}
+use Rattle.cs_outer.specs.Outside.{beside}
 use Rattle.cs_outer.specs.laws.Told.{stays-same}
 use Rattle.cs_deploy_keys.specs.Master.{master_of}
-use Rattle.cs_deploy_keys.specs.ReadKeys.{told, SavesUnder}
+use Rattle.cs_deploy_keys.specs.ReadKeys.{SavesUnder}
 use Rattle.cs_deploy_keys.proofs.Answered.{keeps}
 use Rattle.cs_deploy_keys.proofs.keys.save_read.Goals as goal
 
 pub returns-in-Ok-clause-saves : goal.returns-in-Ok-clause-saves
 returns-in-Ok-clause-saves g c =
-    let left = g.S.Source.left c.args.input.now in
-    let left' = g.S.Source.left c.read_text.new.input in
     let Failed : Type 0 = Rose (g.E.Store.faults c.args.store.now) (g.E.Store.faults c.save_under.new.store) in
     inr (record {
       text = c.in-Ok.text.items;
       is_text = c.in-Ok.ensures.text;
       saves = subst (λ (master : Option (List ℕ)). SavesUnder master c.args.site.now Failed
-          (told left (g.E.Store.files c.args.store.now) (g.K.Sink.written c.args.out.now)) (told left' (g.E.Store.files c.save_under.new.store) (g.K.Sink.written c.save_under.new.out)) c.save_under.result)
-          (c.master_of.ensures ∙ ap master_of c.deref.ensures.value) (c.save_under.ensures.saves left left');
+          (beside (g.E.Store.files c.args.store.now) (g.K.Sink.written c.args.out.now)) (beside (g.E.Store.files c.save_under.new.store) (g.K.Sink.written c.save_under.new.out)) c.save_under.result)
+          (c.master_of.ensures ∙ ap master_of c.deref.ensures.value) c.save_under.ensures.saves;
     })
 
 pub returns-in-Ok-clause-store : goal.returns-in-Ok-clause-store

@@ -13,5 +13,5 @@ returns-in-Memory-clause-front g c =
       offers_in (take i outs),
       offers_in (drop i outs),
       ap offers_in (sym (take-append-drop i outs)) ∙ map-append (λ (out : Out). (out.to, out.bytes)) (take i outs) (drop i outs),
-      changes-before (λ (before now : Offers). now ≡ before ++ offers_in (take i outs)) (g.L.Link.offered c.args.link.now) (g.L.Link.offered c.loop-out.link) (g.L.Link.offered c.send.new.self) c.loop-out.invariant.offered c.in-Memory.ensures.datagram,
+      changes-before (λ (before now : Offers). now ≡ before ++ offers_in (take i outs)) (g.L.Link.told c.args.link.now).offered (g.L.Link.told c.loop-out.link).offered (g.L.Link.told c.send.new.self).offered c.loop-out.invariant.offered c.in-Memory.ensures.datagram,
     )

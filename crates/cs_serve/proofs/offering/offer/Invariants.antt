@@ -5,9 +5,9 @@ use Rattle.cs_serve.proofs.offering.offer.Given as goal
 
 abbrev pub invariant-loop-out : goal.invariant-loop-out
 invariant-loop-out g l = record {
-  offered : Adds (offers_in (take l.out-index l.outs)) (g.L.Link.offered l.initial.link) (g.L.Link.offered l.link);
-  left : Stays (g.L.Link.left l.initial.link) (g.L.Link.left l.link);
-  bound : Stays (g.L.Link.bound l.initial.link) (g.L.Link.bound l.link);
-  missed : g.L.Link.missed l.link ≡ g.L.Link.missed l.initial.link;
+  offered : Adds (offers_in (take l.out-index l.outs)) (g.L.Link.told l.initial.link).offered (g.L.Link.told l.link).offered;
+  left : Stays (g.L.Link.told l.initial.link).left (g.L.Link.told l.link).left;
+  bound : Stays (g.L.Link.told l.initial.link).bound (g.L.Link.told l.link).bound;
+  missed : (g.L.Link.told l.link).missed ≡ (g.L.Link.told l.initial.link).missed;
   faults : g.L.Link.faults l.initial.link ≤ g.L.Link.faults l.link;
 }

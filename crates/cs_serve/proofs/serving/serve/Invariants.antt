@@ -1,11 +1,11 @@
 use Rattle.std.proofs.Common.{◌-◌, ◌^◌, ◌≤◌}
 use Rattle.cs_outer.specs.Told.{Stays}
+use Rattle.cs_outer.specs.Outside.{beside}
 use Rattle.cs_node_state.specs.Setup.{Setup}
 use Rattle.cs_node_rules.specs.Net.{Net}
 use Rattle.cs_node_rules.specs.Site.{View}
 use Rattle.cs_node_rules.specs.Deployment.{site_of}
 use Rattle.cs_node.specs.Cores.{StandsFor}
-use Rattle.cs_serve.specs.Outer.{outer}
 use Rattle.cs_serve.proofs.Turns.{SoFar}
 use Rattle.cs_serve.proofs.serving.serve.Given as goal
 
@@ -14,11 +14,11 @@ invariant-loop-buf g l = record {
   so_far : (setup : Setup) (net : Net) (v : View g.row.O-Message.Denot)
       → StandsFor g.O.Order.stands g.J.Judge.is_approved (site_of setup net g.O.Order.rules g.O.Carried.carrier) l.fn.core v
       → SoFar (StandsFor g.O.Order.stands g.J.Judge.is_approved (site_of setup net g.O.Order.rules g.O.Carried.carrier)) (site_of setup net g.O.Order.rules g.O.Carried.carrier) v l.until l.turns l.ticks
-      (outer (g.L.Link.left l.initial.link) (g.L.Link.offered l.initial.link) (g.L.Link.missed l.initial.link) (g.K.Sink.written l.initial.out))
-      (outer (g.L.Link.left l.link) (g.L.Link.offered l.link) (g.L.Link.missed l.link) (g.K.Sink.written l.out))
+      (beside (g.L.Link.told l.initial.link) (g.K.Sink.written l.initial.out))
+      (beside (g.L.Link.told l.link) (g.K.Sink.written l.out))
       l.core;
   few : l.ticks ≤ l.turns;
-  bound : Stays (g.L.Link.bound l.initial.link) (g.L.Link.bound l.link);
+  bound : Stays (g.L.Link.told l.initial.link).bound (g.L.Link.told l.link).bound;
   link : g.L.Link.faults l.initial.link ≤ g.L.Link.faults l.link;
   sink : g.K.Sink.faults l.initial.out ≤ g.K.Sink.faults l.out;
 }

@@ -5,9 +5,9 @@ use Rattle.cs_spawn.proofs.children.end_all.Given as goal
 
 abbrev pub invariant-loop-child : goal.invariant-loop-child
 invariant-loop-child g l = record {
-  ended : EndsThese (take l.child-index l.children) (g.P.Spawner.ended l.initial.spawner) (g.P.Spawner.ended l.spawner);
-  started : Stays (g.P.Spawner.started l.initial.spawner) (g.P.Spawner.started l.spawner);
-  children : g.P.Spawner.children l.spawner ≡ g.P.Spawner.children l.initial.spawner;
-  statuses : Stays (g.P.Spawner.statuses l.initial.spawner) (g.P.Spawner.statuses l.spawner);
+  ended : EndsThese (take l.child-index l.children) (g.P.Spawner.told l.initial.spawner).ended (g.P.Spawner.told l.spawner).ended;
+  started : Stays (g.P.Spawner.told l.initial.spawner).started (g.P.Spawner.told l.spawner).started;
+  children : (g.P.Spawner.told l.spawner).children ≡ (g.P.Spawner.told l.initial.spawner).children;
+  statuses : Stays (g.P.Spawner.told l.initial.spawner).statuses (g.P.Spawner.told l.spawner).statuses;
   faults : g.P.Spawner.faults l.initial.spawner ≤ g.P.Spawner.faults l.spawner;
 }

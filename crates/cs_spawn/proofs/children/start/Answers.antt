@@ -1,26 +1,26 @@
 use Rattle.std.proofs.Common.{[], ◌∷◌, inl, refl, map, string_bytes}
 use Rattle.cs_outer.specs.laws.Told.{stays-same}
+use Rattle.cs_outer.specs.Outside.{SpawnerTold, Beside, beside}
 use Rattle.cs_spawn.specs.Deeds.{Start}
-use Rattle.cs_spawn.specs.Running.{Outer, outer}
 use Rattle.cs_spawn.proofs.Going.{starts-none, front-kept}
 use Rattle.cs_spawn.proofs.children.start.Goals as goal
 
 pub returns-then-is_err-clause-does : goal.returns-then-is_err-clause-does
 returns-then-is_err-clause-does g c = λ w.
-    let a : Outer = outer (g.P.Spawner.started c.args.spawner.now) (g.P.Spawner.children c.args.spawner.now) (g.P.Spawner.statuses c.args.spawner.now) (g.P.Spawner.ended c.args.spawner.now) w in
+    let a : Beside SpawnerTold = beside (g.P.Spawner.told c.args.spawner.now) w in
     inl (front-kept a a c.args.left.now.items c.reserve.new.self.items (Start (map string_bytes c.args.words.now) ∷ [])
-    (starts-none a a (stays-same a.started) refl (stays-same a.statuses)) refl refl c.reserve.ensures.items)
+    (starts-none a a (stays-same a.told.started) refl (stays-same a.told.statuses)) refl refl c.reserve.ensures.items)
 
 pub returns-in-Failed-clause-does : goal.returns-in-Failed-clause-does
 returns-in-Failed-clause-does g c = λ w.
-    let a : Outer = outer (g.P.Spawner.started c.args.spawner.now) (g.P.Spawner.children c.args.spawner.now) (g.P.Spawner.statuses c.args.spawner.now) (g.P.Spawner.ended c.args.spawner.now) w in
-    let b : Outer = outer (g.P.Spawner.started c.start.new.self) (g.P.Spawner.children c.start.new.self) (g.P.Spawner.statuses c.start.new.self) (g.P.Spawner.ended c.start.new.self) w in
+    let a : Beside SpawnerTold = beside (g.P.Spawner.told c.args.spawner.now) w in
+    let b : Beside SpawnerTold = beside (g.P.Spawner.told c.start.new.self) w in
     front-kept a b c.args.left.now.items c.reserve.new.self.items (Start (map string_bytes c.args.words.now) ∷ [])
     (starts-none a b c.in-Failed.ensures.words c.in-Failed.ensures.children c.in-Failed.ensures.statuses) c.in-Failed.ensures.ended refl c.reserve.ensures.items
 
 pub returns-in-Memory-clause-does : goal.returns-in-Memory-clause-does
 returns-in-Memory-clause-does g c = λ w.
-    let a : Outer = outer (g.P.Spawner.started c.args.spawner.now) (g.P.Spawner.children c.args.spawner.now) (g.P.Spawner.statuses c.args.spawner.now) (g.P.Spawner.ended c.args.spawner.now) w in
-    let b : Outer = outer (g.P.Spawner.started c.start.new.self) (g.P.Spawner.children c.start.new.self) (g.P.Spawner.statuses c.start.new.self) (g.P.Spawner.ended c.start.new.self) w in
+    let a : Beside SpawnerTold = beside (g.P.Spawner.told c.args.spawner.now) w in
+    let b : Beside SpawnerTold = beside (g.P.Spawner.told c.start.new.self) w in
     inl (front-kept a b c.args.left.now.items c.reserve.new.self.items (Start (map string_bytes c.args.words.now) ∷ [])
     (starts-none a b c.in-Memory.ensures.words c.in-Memory.ensures.children c.in-Memory.ensures.statuses) c.in-Memory.ensures.ended refl c.reserve.ensures.items)

@@ -1,8 +1,8 @@
 use Rattle.std.proofs.Common.{[], ◌∷◌, ◌≡◌, ◌<◌, ℕ, List, get_or, refl, ap, ◌∙◌, arith}
 use Rattle.cs_base.specs.declared.node_id.NodeId.{NodeId}
+use Rattle.cs_outer.specs.Outside.{SpawnerTold, Beside, beside}
 use Rattle.cs_spawn.specs.Words.{node_title}
 use Rattle.cs_spawn.specs.Deeds.{Deed, Wait}
-use Rattle.cs_spawn.specs.Running.{Outer, outer}
 use Rattle.cs_spawn.proofs.Going.{more-children}
 use Rattle.cs_spawn.proofs.Plans.{all_at}
 use Rattle.cs_spawn.proofs.Steps.{each-wants, each-next, each-stops}
@@ -11,8 +11,8 @@ use Rattle.cs_spawn.proofs.running.await_nodes.Goals as goal
 pub returns-in_err-title-clause-does : goal.returns-in_err-title-clause-does
 returns-in_err-title-clause-does g c =
     let f : NodeId × ℕ → Deed = λ node. Wait (node_title node.0) node.1 in
-    let a : Outer = outer (g.P.Spawner.started c.args.spawner.now) (g.P.Spawner.children c.args.spawner.now) (g.P.Spawner.statuses c.args.spawner.now) (g.P.Spawner.ended c.args.spawner.now) (g.K.Sink.written c.args.out.now) in
-    let b : Outer = outer (g.P.Spawner.started c.loop-node.spawner) (g.P.Spawner.children c.loop-node.spawner) (g.P.Spawner.statuses c.loop-node.spawner) (g.P.Spawner.ended c.loop-node.spawner) (g.K.Sink.written c.loop-node.out) in
+    let a : Beside SpawnerTold = beside (g.P.Spawner.told c.args.spawner.now) (g.K.Sink.written c.args.out.now) in
+    let b : Beside SpawnerTold = beside (g.P.Spawner.told c.loop-node.spawner) (g.K.Sink.written c.loop-node.out) in
     each-wants f c.args.running.now c.loop-node.node-index a b c.args.left.now.items c.loop-node.left.items c.from_residual.result c.loop-node.invariant.does c.from_residual.ensures.1
 
 pub await_end-requires : goal.await_end-requires
@@ -20,16 +20,16 @@ await_end-requires g c =
     let running = c.args.running.now in
     let i = c.loop-node.node-index in
     let none : NodeId × ℕ = (record { shard = 0; index = 0 }, 0) in
-    let below = all_at (λ (node : NodeId × ℕ). node.1 < g.P.Spawner.children c.args.spawner.now) running i (get_or running i none) none c.requires c.loop-node-test.true refl in
+    let below = all_at (λ (node : NodeId × ℕ). node.1 < (g.P.Spawner.told c.args.spawner.now).children) running i (get_or running i none) none c.requires c.loop-node-test.true refl in
     let same = c.loop-node.invariant.children in
     omega (arith, below, same)
 
 pub returns-in_err-await_end-clause-does : goal.returns-in_err-await_end-clause-does
 returns-in_err-await_end-clause-does g c =
     let f : NodeId × ℕ → Deed = λ node. Wait (node_title node.0) node.1 in
-    let a : Outer = outer (g.P.Spawner.started c.args.spawner.now) (g.P.Spawner.children c.args.spawner.now) (g.P.Spawner.statuses c.args.spawner.now) (g.P.Spawner.ended c.args.spawner.now) (g.K.Sink.written c.args.out.now) in
-    let b : Outer = outer (g.P.Spawner.started c.loop-node.spawner) (g.P.Spawner.children c.loop-node.spawner) (g.P.Spawner.statuses c.loop-node.spawner) (g.P.Spawner.ended c.loop-node.spawner) (g.K.Sink.written c.loop-node.out) in
-    let d : Outer = outer (g.P.Spawner.started c.await_end.new.spawner) (g.P.Spawner.children c.await_end.new.spawner) (g.P.Spawner.statuses c.await_end.new.spawner) (g.P.Spawner.ended c.await_end.new.spawner) (g.K.Sink.written c.await_end.new.out) in
+    let a : Beside SpawnerTold = beside (g.P.Spawner.told c.args.spawner.now) (g.K.Sink.written c.args.out.now) in
+    let b : Beside SpawnerTold = beside (g.P.Spawner.told c.loop-node.spawner) (g.K.Sink.written c.loop-node.out) in
+    let d : Beside SpawnerTold = beside (g.P.Spawner.told c.await_end.new.spawner) (g.K.Sink.written c.await_end.new.out) in
     let running = c.args.running.now in
     let i = c.loop-node.node-index in
     let none : NodeId × ℕ = (record { shard = 0; index = 0 }, 0) in
@@ -41,9 +41,9 @@ returns-in_err-await_end-clause-does g c =
 pub loop-node-preserved : goal.loop-node-preserved
 loop-node-preserved g c =
     let f : NodeId × ℕ → Deed = λ node. Wait (node_title node.0) node.1 in
-    let a : Outer = outer (g.P.Spawner.started c.args.spawner.now) (g.P.Spawner.children c.args.spawner.now) (g.P.Spawner.statuses c.args.spawner.now) (g.P.Spawner.ended c.args.spawner.now) (g.K.Sink.written c.args.out.now) in
-    let b : Outer = outer (g.P.Spawner.started c.loop-node.spawner) (g.P.Spawner.children c.loop-node.spawner) (g.P.Spawner.statuses c.loop-node.spawner) (g.P.Spawner.ended c.loop-node.spawner) (g.K.Sink.written c.loop-node.out) in
-    let d : Outer = outer (g.P.Spawner.started c.await_end.new.spawner) (g.P.Spawner.children c.await_end.new.spawner) (g.P.Spawner.statuses c.await_end.new.spawner) (g.P.Spawner.ended c.await_end.new.spawner) (g.K.Sink.written c.await_end.new.out) in
+    let a : Beside SpawnerTold = beside (g.P.Spawner.told c.args.spawner.now) (g.K.Sink.written c.args.out.now) in
+    let b : Beside SpawnerTold = beside (g.P.Spawner.told c.loop-node.spawner) (g.K.Sink.written c.loop-node.out) in
+    let d : Beside SpawnerTold = beside (g.P.Spawner.told c.await_end.new.spawner) (g.K.Sink.written c.await_end.new.out) in
     let running = c.args.running.now in
     let i = c.loop-node.node-index in
     let none : NodeId × ℕ = (record { shard = 0; index = 0 }, 0) in

@@ -1,6 +1,6 @@
 use Rattle.std.proofs.Common.{◌≡◌, ◌≢◌, [], take, drop}
 use Rattle.std.specs.List.{AllPairs}
-use Rattle.cs_sched.specs.Names.{genesis_names}
+use Rattle.cs_tx.specs.GenesisNames.{genesis_names}
 use Rattle.cs_take.specs.Files.{repeats}
 use Rattle.cs_take.proofs.genesis.has_twice.Given as goal
 

@@ -1,23 +1,15 @@
--- What the link and the sink of a node tell.
-use Rattle.std.specs.Prelude.{◌≡◌, ℕ, Bool, true, false, List, ◌++◌, map, reverse, Option}
+-- What a node takes of its link, and what it gives to link and sink.
+use Rattle.std.specs.Prelude.{◌≡◌, Bool, true, false, List, ◌++◌, map, reverse}
 use Rattle.std.specs.Io.KnownBytes.{Appends}
 use Rattle.cs_base.specs.Answers.{AppendsFront}
 use Rattle.cs_ledger.specs.Ledger.{Bytes}
 use Rattle.cs_node_rules.specs.Site.{Input, Datagram, Tick}
 use Rattle.cs_outer.specs.Told.{Changes}
 use Rattle.cs_outer.specs.Link.{Offers}
+use Rattle.cs_outer.specs.Outside.{LinkTold, Beside}
 use Rattle.cs_outer.specs.declared.link.MemInput.{MemInput}
 use Rattle.cs_outer.specs.declared.link.MemInput.TheVariants as came
 use Rattle.cs_serve.specs.Offering.{Adds, AddsFront}
-
-pub record Outer : Type 0 where
-  pub left : Option (List MemInput)  -- the inputs that are left
-  pub offered : Option Offers
-  pub missed : ℕ  -- receives in a row that failed
-  pub written : Option Bytes
-
-abbrev pub outer : Option (List MemInput) → Option Offers → ℕ → Option Bytes → Outer
-outer left offered missed written = record { left = left; offered = offered; missed = missed; written = written }
 
 -- what comes by a link, as a node is given it
 abbrev pub given_of : MemInput → Input
@@ -29,17 +21,17 @@ is_tick (Datagram bytes) = false
 is_tick Tick = true
 
 -- the first inputs that were left are gone, and are these, the newest first
-abbrev pub Takes : List Input → Outer → Outer → Type 0
+abbrev pub Takes : List Input → Beside LinkTold → Beside LinkTold → Type 0
 Takes inputs old new =
     Changes (λ before now. (taken : List MemInput)
-    × (before ≡ taken ++ now) × (inputs ≡ reverse (map given_of taken))) old.left new.left
+    × (before ≡ taken ++ now) × (inputs ≡ reverse (map given_of taken))) old.told.left new.told.left
 
 -- these were offered, and these lines written, and no more
-pub record Gives (offers : Offers) (lines : Bytes) (old new : Outer) : Type 0 where
-  pub offered : Adds offers old.offered new.offered
+pub record Gives (offers : Offers) (lines : Bytes) (old new : Beside LinkTold) : Type 0 where
+  pub offered : Adds offers old.told.offered new.told.offered
   pub written : Appends old.written new.written lines
 
 -- a front of each
-pub record GivesFront (offers : Offers) (lines : Bytes) (old new : Outer) : Type 0 where
-  pub offered : AddsFront offers old.offered new.offered
+pub record GivesFront (offers : Offers) (lines : Bytes) (old new : Beside LinkTold) : Type 0 where
+  pub offered : AddsFront offers old.told.offered new.told.offered
   pub written : AppendsFront old.written new.written lines

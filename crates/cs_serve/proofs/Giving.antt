@@ -10,8 +10,9 @@ use Rattle.cs_node_rules.specs.Site.{Input}
 use Rattle.cs_outer.specs.Told.{Changes, Stays}
 use Rattle.cs_outer.specs.Link.{Offers}
 use Rattle.cs_outer.specs.declared.link.MemInput.{MemInput}
+use Rattle.cs_outer.specs.Outside.{LinkTold, Beside}
 use Rattle.cs_serve.specs.Offering.{Adds}
-use Rattle.cs_serve.specs.Outer.{Outer, given_of, Takes, Gives, GivesFront}
+use Rattle.cs_serve.specs.Giving.{given_of, Takes, Gives, GivesFront}
 use Rattle.cs_serve.specs.laws.Offering.{adds-none, adds-more, front-all, front-more}
 
 -- ---- lines
@@ -28,13 +29,13 @@ AppendsFront-then a b c xs ys p (front, rest, whole, q) =
 
 -- ---- both
 
-pub Gives-nil : (a : Outer) → Gives [] [] a a
-Gives-nil a = record { offered = adds-none a.offered; written = Appends-nil a.written }
+pub Gives-nil : (a : Beside LinkTold) → Gives [] [] a a
+Gives-nil a = record { offered = adds-none a.told.offered; written = Appends-nil a.written }
 
 -- nothing more was offered or written
-pub Gives-kept : (a b : Outer) → Stays a.offered b.offered → b.written ≡ a.written → Gives [] [] a b
+pub Gives-kept : (a b : Beside LinkTold) → Stays a.told.offered b.told.offered → b.written ≡ a.written → Gives [] [] a b
 Gives-kept a b stays same = record {
-  offered = kept a.offered b.offered stays;
+  offered = kept a.told.offered b.told.offered stays;
   written = subst (λ (w : Option Bytes). Appends a.written w []) (sym same) (Appends-nil a.written);
 }
   where
@@ -43,21 +44,21 @@ Gives-kept a b stays same = record {
     kept (Some x) None stays = absurd stays
     kept (Some x) (Some y) stays = stays ∙ sym (append-nil x)
 
-pub Gives-more : (a b c : Outer) (xs ys : Offers) (one two : Bytes) → Gives xs one a b → Gives ys two b c → Gives (xs ++ ys) (one ++ two) a c
+pub Gives-more : (a b c : Beside LinkTold) (xs ys : Offers) (one two : Bytes) → Gives xs one a b → Gives ys two b c → Gives (xs ++ ys) (one ++ two) a c
 Gives-more a b c xs ys one two p q = record {
-  offered = adds-more a.offered b.offered c.offered xs ys p.offered q.offered;
+  offered = adds-more a.told.offered b.told.offered c.told.offered xs ys p.offered q.offered;
   written = Appends-trans a.written b.written c.written one two p.written q.written;
 }
 
-pub GivesFront-after : (a b c : Outer) (xs ys : Offers) (one two : Bytes) → Gives xs one a b → GivesFront ys two b c → GivesFront (xs ++ ys) (one ++ two) a c
+pub GivesFront-after : (a b c : Beside LinkTold) (xs ys : Offers) (one two : Bytes) → Gives xs one a b → GivesFront ys two b c → GivesFront (xs ++ ys) (one ++ two) a c
 GivesFront-after a b c xs ys one two p q = record {
-  offered = front-more a.offered b.offered c.offered xs ys p.offered q.offered;
+  offered = front-more a.told.offered b.told.offered c.told.offered xs ys p.offered q.offered;
   written = AppendsFront-then a.written b.written c.written one two p.written q.written;
 }
 
-pub GivesFront-all : (a b : Outer) (xs : Offers) (one : Bytes) → Gives xs one a b → GivesFront xs one a b
+pub GivesFront-all : (a b : Beside LinkTold) (xs : Offers) (one : Bytes) → Gives xs one a b → GivesFront xs one a b
 GivesFront-all a b xs one p = record {
-  offered = front-all a.offered b.offered xs p.offered;
+  offered = front-all a.told.offered b.told.offered xs p.offered;
   written = AppendsFront-all a.written b.written one p.written;
 }
 
@@ -66,16 +67,16 @@ GivesFront-all a b xs one p = record {
 abbrev Came : List Input → List MemInput → List MemInput → Type 0
 Came inputs before now = (taken : List MemInput) × (before ≡ taken ++ now) × (inputs ≡ reverse (map given_of taken))
 
-pub Takes-nil : (a b : Outer) → Stays a.left b.left → Takes [] a b
-Takes-nil a b stays = nil a.left b.left stays
+pub Takes-nil : (a b : Beside LinkTold) → Stays a.told.left b.told.left → Takes [] a b
+Takes-nil a b stays = nil a.told.left b.told.left stays
   where
     nil : (a b : Option (List MemInput)) → Stays a b → Changes (Came []) a b
     nil None b stays = tt
     nil (Some x) None stays = absurd stays
     nil (Some x) (Some y) stays = ([], sym stays, refl)
 
-pub Takes-more : (a b c : Outer) (first later : List Input) → Takes first a b → Takes later b c → Takes (later ++ first) a c
-Takes-more a b c first later p q = more a.left b.left c.left p q
+pub Takes-more : (a b c : Beside LinkTold) (first later : List Input) → Takes first a b → Takes later b c → Takes (later ++ first) a c
+Takes-more a b c first later p q = more a.told.left b.told.left c.told.left p q
   where
     both : (x y z : List MemInput) → Came first x y → Came later y z → Came (later ++ first) x z
     both x y z (one, before, is) (two, then, too) = (
@@ -92,8 +93,8 @@ Takes-more a b c first later p q = more a.left b.left c.left p q
     more (Some x) (Some y) (Some z) p q = both x y z p q
 
 -- the first that was left
-pub Takes-one : (a b : Outer) (first : MemInput) → Changes (λ (before now : List MemInput). before ≡ first ∷ now) a.left b.left → Takes (given_of first ∷ []) a b
-Takes-one a b first gone = one a.left b.left gone
+pub Takes-one : (a b : Beside LinkTold) (first : MemInput) → Changes (λ (before now : List MemInput). before ≡ first ∷ now) a.told.left b.told.left → Takes (given_of first ∷ []) a b
+Takes-one a b first gone = one a.told.left b.told.left gone
   where
     one : (a b : Option (List MemInput)) → Changes (λ (before now : List MemInput). before ≡ first ∷ now) a b → Changes (Came (given_of first ∷ [])) a b
     one None b gone = tt
