@@ -1,8 +1,7 @@
-use crate::proc_rows::{ROWS_0, ROWS_1, ROWS_2, ROWS_3, Row};
+//! What procedures make, and where they end.
 use cs_approve::Book;
 use cs_base::{Memory, Sequence, print_bytes};
 use cs_proc::{Call, ProcError, run_method};
-use cs_test_samples::TOKEN;
 use cs_tx::tx_digest;
 use cs_tx_form::{Trace, Tx};
 use cs_tx_value::{Digest, Encoded, Name, Object, Value};
@@ -43,14 +42,8 @@ fn object(alloc: Global, contract: Digest, type_name: &[u8], value: i64) -> Resu
 }
 
 /// What the method `m` of a contract comes to with so many boxes, each with its number, to be used
-/// up and to be read, and these arguments.
-fn outcome(
-    alloc: Global,
-    text: &str,
-    boxes: i64,
-    reads: i64,
-    arguments: &[i64],
-) -> Result<Tx, ProcError> {
+/// up and to be read.
+fn outcome(alloc: Global, text: &str, boxes: i64, reads: i64) -> Result<Tx, ProcError> {
     let id = Sha256::digest(text.as_bytes());
     let book = book_of(alloc, text.as_bytes())?;
     let mut call = call_of(alloc, id, "m")?;
@@ -62,46 +55,63 @@ fn outcome(
         call.reads
             .push(([2; 32], object(alloc, id, b"Box", number)?))?;
     }
-    for argument in arguments {
-        call.args.push(Value::Int(*argument))?;
-    }
     run_method(alloc, &book, &call)
 }
 
-fn is_as_expected(alloc: Global, row: &Row) -> bool {
-    let (text, boxes, reads, arguments, expected) = row;
-    match outcome(alloc, *text, *boxes, *reads, *arguments) {
-        Ok(_) => *expected == None,
-        Err(error) => *expected == Some(error),
-    }
-}
+/// Where a text traps: the place of the token, and the text.
+const TRAPS: [(usize, &str); 7] = [
+    (
+        51,
+        "\
+     type Box(n: int); method m { procedure { let k = 1 / 0; } check { answer true; } }",
+    ),
+    (
+        73,
+        "\
+     type Box(n: int); method m creates a: Box { procedure { make a = Box(1); make a = Box(2)\
+     ; } check { answer true; } }",
+    ),
+    (
+        88,
+        "\
+     type Box(n: int); method m creates a: Box { procedure { make a = Box(1); make a = Box(1 \
+     / 0); } check { answer true; } }",
+    ),
+    (
+        81,
+        "\
+     type Box(n: int); method m creates a: Box { procedure { } check { answer true; } }",
+    ),
+    (
+        221,
+        "\
+     type Box(n: int); method inner consumes a: Box reads b: Box takes n: int returns r: int \
+     { procedure { set r = a.n * 100 + b.n * 10 + n; } check { answer r == a.n * 100 + b.n * \
+     10 + n; } } method m { procedure { let k = 1 / 0; call s = inner(7); } check { answer tr\
+     ue; } }",
+    ),
+    (
+        228,
+        "\
+     type Box(n: int); method inner consumes a: Box reads b: Box takes n: int returns r: int \
+     { procedure { set r = a.n * 100 + b.n * 10 + n; } check { answer r == a.n * 100 + b.n * \
+     10 + n; } } method m { procedure { call s = inner(1 / 0); } check { answer true; } }",
+    ),
+    (
+        68,
+        "\
+     type Box(n: int); method inner takes n: int { procedure { let k = 1 / n; } check { answe\
+     r true; } } method m { procedure { call inner(0); } check { answer true; } }",
+    ),
+];
 
 #[test]
-fn calls_have_their_outcomes_0(rt: HostRuntime) {
-    for row in ROWS_0.iter() {
-        assert!(rt; is_as_expected(rt.alloc(), row));
+fn a_trap_has_its_place(rt: HostRuntime) -> Result<(), Fail> {
+    for (place, text) in TRAPS {
+        let trap = Some(ProcError::Trap(place));
+        assert_eq!(rt; outcome(rt.alloc(), text, 0, 0).err(), trap, "{text}");
     }
-}
-
-#[test]
-fn calls_have_their_outcomes_1(rt: HostRuntime) {
-    for row in ROWS_1.iter() {
-        assert!(rt; is_as_expected(rt.alloc(), row));
-    }
-}
-
-#[test]
-fn calls_have_their_outcomes_2(rt: HostRuntime) {
-    for row in ROWS_2.iter() {
-        assert!(rt; is_as_expected(rt.alloc(), row));
-    }
-}
-
-#[test]
-fn calls_have_their_outcomes_3(rt: HostRuntime) {
-    for row in ROWS_3.iter() {
-        assert!(rt; is_as_expected(rt.alloc(), row));
-    }
+    Ok(())
 }
 
 /// A method that pays an amount out of a coin.
@@ -155,87 +165,6 @@ fn a_coin_is_paid(rt: HostRuntime) -> Result<(), Fail> {
     Ok(())
 }
 
-/// The book that has no text, so `token` alone.
-fn book_of_token(alloc: Global) -> Result<Book, Memory> {
-    let texts = Sequence::new(alloc);
-    Book::new(alloc, texts.as_slice()).map_err(|_| Memory)
-}
-
-/// A call of a method of `token` with a coin under a contract, an object to read, and amounts.
-fn call_of_token(
-    alloc: Global,
-    contract: Digest,
-    method: &str,
-    value: i64,
-    amounts: &[i64],
-) -> Result<Call, Memory> {
-    let mut call = call_of(alloc, TOKEN, method)?;
-    let coin = object(alloc, contract, b"coin", value)?;
-    call.inputs.push(([9; 32], coin))?;
-    let other = object(alloc, contract, b"other", 1)?;
-    call.reads.push(([8; 32], other))?;
-    for amount in amounts {
-        call.args.push(Value::Int(*amount))?;
-    }
-    Ok(call)
-}
-
-/// What becomes of that call.
-fn transferred(
-    alloc: Global,
-    contract: Digest,
-    method: &str,
-    value: i64,
-    amounts: &[i64],
-) -> Result<Tx, ProcError> {
-    let book = book_of_token(alloc)?;
-    let call = call_of_token(alloc, contract, method, value, amounts)?;
-    run_method(alloc, &book, &call)
-}
-
-/// A method of `token`, what the coin is worth, the amounts, and the refusal.
-const TRANSFERS: [(&str, i64, &[i64], Option<ProcError>); 4] = [
-    ("transfer", 5, &[2, 3], None),
-    ("transfer", 5, &[2, 4], Some(ProcError::CheckerNo(0))),
-    // To the procedure an amount of any sign is an int.
-    ("transfer", 5, &[6, -1], Some(ProcError::CheckerNo(0))),
-    ("pay", 5, &[5], Some(ProcError::NoMethod)),
-];
-
-#[test]
-fn coins_of_token_are_transferred(rt: HostRuntime) {
-    let alloc = rt.alloc();
-    for (method, value, amounts, refusal) in TRANSFERS.iter() {
-        let made = transferred(alloc, TOKEN, *method, *value, *amounts);
-        assert!(rt; made.err() == *refusal);
-    }
-}
-
-#[test]
-fn what_does_not_fit_is_not_transferred(rt: HostRuntime) -> Result<(), Fail> {
-    let alloc = rt.alloc();
-    let foreign = transferred(alloc, [7; 32], "transfer", 5, &[5]);
-    assert_eq!(rt; foreign.err(), Some(ProcError::BadArgs));
-    let mut ones = Vec::new(alloc);
-    for _ in 0..65 {
-        ones.push(1)?;
-    }
-    let many = transferred(alloc, TOKEN, "transfer", 65, ones.as_slice());
-    assert_eq!(rt; many.err(), Some(ProcError::TooLarge));
-    Ok(())
-}
-
-#[test]
-fn amounts_are_no_parameters(rt: HostRuntime) -> Result<(), Fail> {
-    let tx = transferred(rt.alloc(), TOKEN, "transfer", 5, &[2, 3])?;
-    assert_eq!(rt; tx.traces.len(), 1);
-    if let [trace] = tx.traces.as_slice() {
-        assert!(rt; is_trace(trace, 1, 1, 2, &[]));
-        assert_eq!(rt; trace.parameters.len(), 0);
-    }
-    Ok(())
-}
-
 /// Calls two methods, one of which calls the other.
 const NESTED: &str = "type Box(n: int);
 method low consumes a: Box takes n: int returns r: int {
@@ -258,7 +187,7 @@ fn is_trace(trace: &Trace, inputs: usize, reads: usize, outputs: usize, deps: &[
 #[test]
 fn traces_come_behind_those_that_they_called(rt: HostRuntime) -> Result<(), Fail> {
     let alloc = rt.alloc();
-    let tx = outcome(alloc, NESTED, 5, 1, &[])?;
+    let tx = outcome(alloc, NESTED, 5, 1)?;
     assert_eq!(rt; tx.traces.len(), 5);
     if let [first, second, third, fourth, last] = tx.traces.as_slice() {
         assert!(rt; is_trace(first, 1, 0, 0, &[]));

@@ -94,15 +94,3 @@ fn digests_are_those_of_fips_180_4(rt: HostRuntime) -> Result<(), Fail> {
     assert!(rt; tagged(b'a', text.as_slice()) == two);
     Ok(())
 }
-
-#[test]
-fn digests_that_differ_in_one_bit_are_not_the_same(rt: HostRuntime) -> Result<(), Fail> {
-    let a = [7; 32];
-    assert!(rt; same(&a, &[7; 32]));
-    for i in 0..32 {
-        let mut b = [7; 32];
-        b[i] = 6;
-        assert!(rt; !same(&a, &b));
-    }
-    Ok(())
-}

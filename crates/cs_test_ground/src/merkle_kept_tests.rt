@@ -1,5 +1,5 @@
-//! Roots of leaves that are put one at a time and many at once, beside roots that others computed
-//! and the root from scratch.
+//! Roots of leaves that are put one at a time, beside roots that others computed and the root from
+//! scratch.
 ghost use Rattle.std.specs.Prelude.{◌≡◌, ◌<◌};
 
 use cs_base::{Memory, print_bytes};
@@ -80,76 +80,5 @@ fn root_kept_in_any_order(rt: HostRuntime) -> Result<(), Fail> {
     let none = print_bytes(rt.alloc(), &Incremental::new(rt.alloc()).root())?;
     assert_eq!(rt; none.as_str(), EMPTY_ROOT);
     assert!(rt; any_order_counted(rt.alloc())?);
-    Ok(())
-}
-
-// The root from scratch over the leaves of the rounds in which the keys were put last.
-fn root_of_rounds(alloc: Global, rounds: &[u8; 10]) -> Result<Digest, Memory> {
-    let mut leaves = Vec::new(alloc);
-    for key in 0..10u8 {
-        let round = rounds[key as usize];
-        if round > 0 {
-            leaves.push(Vec::from_slice(alloc, &[key, round])?)?;
-        }
-    }
-    Ok(root(leaves.as_slice()))
-}
-
-// Puts a leaf of this round under each of the keys, and tells whether the root is the one from
-// scratch.
-fn put_round<L: Ledger>(
-    alloc: Global,
-    tree: &mut Incremental,
-    rounds: &mut [u8; 10],
-    round: u8,
-    keys: &[u8],
-    steps: &mut Steps<L>,
-) -> Result<bool, Memory> {
-    let mut leaves = Vec::new(alloc);
-    for key in keys {
-        leaves.push(Leaf::new(alloc, &[*key], &[*key, round])?)?;
-        if *key < 10 {
-            rounds[*key as usize] = round;
-        }
-    }
-    if !are_rising(leaves.as_slice()) {
-        return Ok(false);
-    }
-    tree.put_all(alloc, leaves.as_slice(), steps)?;
-    Ok(tree.root() == root_of_rounds(alloc, rounds)?)
-}
-
-// Old and new keys in front, between and behind, old ones alone, and none.
-fn many_rounds<L: Ledger>(alloc: Global, blank: Blank) -> Result<bool, Memory>
-    requires name { blank.name ≡ L.name }
-    requires parts { blank.parts ≡ L.parts }
-    requires some { 0 < L.parts }
-{
-    let mut steps: Steps<L> = Steps::new(blank);
-    let mut tree = Incremental::new(alloc);
-    let mut rounds = [0; 10];
-    let lists: [(u8, &[u8]); 6] = [
-        (1, &[2, 4, 6]),
-        (2, &[4]),
-        (3, &[1, 2, 3, 6, 8]),
-        (4, &[0, 8]),
-        (5, &[]),
-        (6, &[1, 5, 7, 8, 9]),
-    ];
-    for (round, keys) in lists.iter() {
-        if !put_round(alloc, &mut tree, &mut rounds, *round, keys, &mut steps)? {
-            return Ok(false);
-        }
-    }
-    Ok(tree.len() == 10)
-}
-
-fn many_rounds_counted(alloc: Global) -> Result<bool, Memory> {
-    many_rounds::<Brand>(alloc, Blank::new(1))
-}
-
-#[test]
-fn many_at_once(rt: HostRuntime) -> Result<(), Fail> {
-    assert!(rt; many_rounds_counted(rt.alloc())?);
     Ok(())
 }

@@ -1,4 +1,4 @@
-//! Roots and paths that others computed, every place of small trees, and proofs with a bit changed.
+//! Roots and paths that others computed.
 use cs_base::{Memory, print_bytes};
 use cs_merkle::*;
 use std::alloc::Global;
@@ -37,15 +37,6 @@ fn first_leaves(alloc: Global, count: usize) -> Result<Vec<Vec<u8>>, Memory> {
     Ok(leaves)
 }
 
-// So many leaves of one byte.
-fn numbered(alloc: Global, count: u8) -> Result<Vec<Vec<u8>>, Memory> {
-    let mut leaves = Vec::new(alloc);
-    for number in 0..count {
-        leaves.push(Vec::from_slice(alloc, &[number])?)?;
-    }
-    Ok(leaves)
-}
-
 #[test]
 fn roots_of_the_reference_leaves(rt: HostRuntime) -> Result<(), Fail> {
     for (count, expected) in ROOTS.iter().enumerate() {
@@ -78,52 +69,5 @@ fn merkle_vectors(rt: HostRuntime) -> Result<(), Fail> {
     assert!(rt; verify(&top, 7, 6, LEAVES[6], proof.as_slice()));
     proof.push(top)?;
     assert!(rt; !verify(&top, 7, 6, LEAVES[6], proof.as_slice()));
-    Ok(())
-}
-
-#[test]
-fn every_place_is_shown(rt: HostRuntime) -> Result<(), Fail> {
-    for count in 1..=40u8 {
-        let leaves = numbered(rt.alloc(), count)?;
-        let top = root(leaves.as_slice());
-        for place in 0..count {
-            let proof = path(rt.alloc(), leaves.as_slice(), place as usize)?;
-            let n = u64::from(count);
-            assert!(rt; verify(&top, n, u64::from(place), &[place], proof.as_slice()));
-            assert!(rt; !verify(&top, n, u64::from(place), &[place + 1], proof.as_slice()));
-        }
-        assert!(rt; path(rt.alloc(), leaves.as_slice(), count as usize).is_err());
-    }
-    Ok(())
-}
-
-// The path, with another hash at one step.
-fn with_a_bit_changed(alloc: Global, proof: &[Digest], step: usize) -> Result<Vec<Digest>, Memory> {
-    let mut changed = Vec::from_slice(alloc, proof)?;
-    if step < changed.len() {
-        changed[step][0] ^= 0x80;
-    }
-    Ok(changed)
-}
-
-#[test]
-fn one_bit_changed_is_noticed(rt: HostRuntime) -> Result<(), Fail> {
-    let leaves = first_leaves(rt.alloc(), 7)?;
-    let mut top = root(leaves.as_slice());
-    let proof = path(rt.alloc(), leaves.as_slice(), 4)?;
-    let leaf = LEAVES[4];
-    assert!(rt; verify(&top, 7, 4, leaf, proof.as_slice()));
-    assert!(rt; !verify(&top, 7, 5, leaf, proof.as_slice()));
-    assert!(rt; !verify(&top, 7, 4, b"\x30\x30", proof.as_slice()));
-    assert!(rt; !verify(&top, 5, 4, leaf, proof.as_slice()));
-    assert!(rt; !verify(&top, 4, 4, leaf, proof.as_slice()));
-    top[31] ^= 1;
-    assert!(rt; !verify(&top, 7, 4, leaf, proof.as_slice()));
-    top[31] ^= 1;
-    for step in 0..proof.len() {
-        let changed = with_a_bit_changed(rt.alloc(), proof.as_slice(), step)?;
-        assert!(rt; !verify(&top, 7, 4, leaf, changed.as_slice()));
-    }
-    assert!(rt; verify(&top, 7, 4, leaf, proof.as_slice()));
     Ok(())
 }

@@ -5,7 +5,7 @@ use cs_node_rules::Cause;
 use cs_order::Solo;
 use cs_test_samples::{coin, spend};
 use cs_tx::{Encoded, Entry, Session, TokenJudge, Vote, genesis_key};
-use cs_wire::{Keys, read, seal};
+use cs_wire::{Keys, OpenError, read, seal};
 use cs_wire_message::Message;
 use std::alloc::Global;
 use std::process::Abort;
@@ -137,7 +137,7 @@ fn a_node_starts_without_keys_of_clients(rt: HostRuntime) -> Result<(), Fail> {
     let (core, name) = start_with(&rt, alloc, keys)?;
     let bytes = submitted(&rt, alloc, split(alloc, name, 6)?)?;
     let (_, made) = core.step(alloc, Input::Datagram(&bytes))?;
-    assert!(rt; is_dropped(made.notes.as_slice(), Cause::Stranger));
+    assert!(rt; is_dropped(made.notes.as_slice(), Cause::Unopened(OpenError::Stranger)));
     assert!(rt; made.outs.is_empty());
     Ok(())
 }

@@ -111,13 +111,6 @@ fn leave(
     Ok(())
 }
 
-fn session_in(entry: &Entry) -> &Session {
-    match entry {
-        Entry::Prepare(session) => session,
-        Entry::Decide(_, session) => session,
-    }
-}
-
 fn shown(entry: Entry) -> Due {
     match entry {
         Entry::Prepare(session) => Due {
@@ -141,7 +134,7 @@ fn are_alike(
     assert!(rt; pool.waiting()? == plain.waiting());
     let due = pool.due(alloc)?;
     if let Some(entry) = &due {
-        assert!(rt; pool.known(session_in(entry))?.is_some());
+        assert!(rt; pool.known(entry.session())?.is_some());
     }
     let due = due.map(shown);
     assert!(rt; due == plain.due());

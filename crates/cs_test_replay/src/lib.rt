@@ -1,21 +1,9 @@
-//! Tests of schedules and replays.
+//! Tests of schedules, and of commands whose outside fails.
 #![tactic(auto)]
 
 #[cfg(test)]
-mod cli_tests;
+mod failing_tests;
 #[cfg(test)]
 mod gen_tests;
 #[cfg(test)]
-mod play_post_tests;
-#[cfg(test)]
-mod replay_tests;
-#[cfg(test)]
-mod replay_trace_tests;
-#[cfg(test)]
-mod sched_contract_tests;
-#[cfg(test)]
 mod sched_printing_tests;
-#[cfg(test)]
-mod sched_tests;
-#[cfg(test)]
-mod verify_tests;

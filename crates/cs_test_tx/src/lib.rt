@@ -1,4 +1,5 @@
 //! Tests of transactions, and of the table of a shard.
+//! No file names `cs_tx_value`; its edge in crates.txt is there for the prover, which wants it in a goal.
 #![tactic(auto)]
 
 #[cfg(test)]

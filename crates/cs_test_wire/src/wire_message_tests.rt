@@ -126,6 +126,12 @@ fn change_fits(alloc: Global, view: u16, count: u8, first: u8) -> Result<bool, M
 }
 
 #[test]
+fn the_kinds_are_1_to_14(rt: HostRuntime) {
+    assert!(rt; kinds::is_kind(1) && kinds::is_kind(14));
+    assert!(rt; !kinds::is_kind(0) && !kinds::is_kind(15));
+}
+
+#[test]
 fn changes_past_a_limit_do_not_fit(rt: HostRuntime) -> Result<(), Fail> {
     let alloc = rt.alloc();
     let rows: [(u16, u8, u8, bool); 6] = [
