@@ -7,12 +7,12 @@ ghost use Rattle.cs_approve.specs.Approval.{is_trace_approved, is_approved};
 ghost use Rattle.cs_approve.specs.Seen.{view_of};
 
 use crate::book::Book;
-use crate::token::{id_of_token, is_transfer};
+use crate::token::is_transfer;
 use crate::views::lend_view;
 use cs_base::Memory;
 use cs_eval_check::check_lent;
 use cs_eval_values::Steps;
-use cs_tx::Judge;
+use cs_tx::{Judge, id_of_token};
 use cs_tx_form::{Trace, Tx};
 use cs_tx_value::Digest;
 use cs_types::Checked;

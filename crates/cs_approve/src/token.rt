@@ -1,20 +1,13 @@
 //! The rule of `token`, asked of one trace.
 ghost use Rattle.std.specs.Prelude.{◌≡◌, ◌≤◌, ◌<◌, ◌^◌, length, IfSome};
 ghost use Rattle.cs_tx_value.specs.declared.value.Value.{out-Value};
+ghost use Rattle.cs_tx_form.specs.declared.limits.TheConstants.{MOST_TRACE_OBJECTS};
 ghost use Rattle.cs_tx_form.specs.Transaction.{TraceFits};
-ghost use Rattle.cs_tx.specs.Token.{token_id, amount_of_layer, amount_of_coin, sum_from, is_transfer};
+ghost use Rattle.cs_tx.specs.Token.{amount_of_layer, amount_of_coin, sum_from, is_transfer};
 
 use cs_eval_values::Objects;
 use cs_tx_form::Trace;
-use cs_tx_value::{Digest, Object, Value};
-use sha2::{Digest as Hasher, Sha256};
-
-/// The id of `token`.
-pub fn id_of_token() -> Digest
-    ensures { result ≡ token_id }
-{
-    Sha256::digest(b"token")
-}
+use cs_tx_value::{Object, Value};
 
 fn amount(value: &Value) -> Option<u64>
     ensures amount { result ≡ amount_of_layer (out-Value value.now) }
@@ -38,7 +31,7 @@ fn amount_of_coin(coin: &Object) -> Option<u64>
 
 // What coins sum up to, each of them below 2^63.
 fn sum_of(coins: &Objects<'_>) -> Option<u128>
-    requires { length coins.now ≤ 64 }
+    requires { length coins.now ≤ MOST_TRACE_OBJECTS }
     ensures { result ≡ sum_from coins.now 0 }
 {
     let mut sum = 0;

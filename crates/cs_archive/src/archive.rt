@@ -10,11 +10,13 @@ ghost use Rattle.cs_check_rules.specs.Proofs.{proof_of};
 ghost use Rattle.cs_check_rules.specs.Heads.{is_news};
 ghost use Rattle.cs_archive.specs.Archives.{with_news};
 
-use crate::fitting::{checkpoint_fits, digests_fit};
+use crate::fitting::digests_fit;
 use cs_base::Memory;
 use cs_check::{Chain, ProveError, root_is_shown};
 use cs_checkpoint::{Checkpoint, Leaf, Proof, encode_leaf};
 use cs_table::Table;
+use cs_tx_form::checkpoint_fits;
+use cs_whole::Whole;
 use std::alloc::Global;
 use std::marker::Model;
 
@@ -25,7 +27,7 @@ use std::marker::Model;
 pub struct Archive {
     chain: Chain,
     heads: Vec<(u16, Checkpoint)>,
-    is_whole: bool,
+    whole: Whole,
 }
 
 impl Model for Archive {
@@ -36,7 +38,7 @@ impl Model for Archive {
 
     ghost view = { λ a. record { kept = a.chain.kept; hashed = a.chain.hashed; heads = a.heads.items } };
 
-    ghost invariant = { λ a. a.is_whole ≡ true → IsOfLog a.chain.kept };
+    ghost invariant = { λ a. a.whole ≡ true → IsOfLog a.chain.kept };
 }
 
 impl Archive {
@@ -50,7 +52,7 @@ impl Archive {
         Ok(Archive {
             chain,
             heads: Vec::new(alloc),
-            is_whole: true,
+            whole: Whole::new(),
         })
     }
 
@@ -88,14 +90,12 @@ impl Archive {
             made ≡ made_last (with_slot (leaf_encoding leaf.now) root log))) }
         ensures leaves { OnOk result (HasLeaves self.new.hashed (seen table.now)) }
     {
-        if !self.is_whole {
-            return Err(Memory);
-        }
+        self.whole.check()?;
         root_is_shown(table);
         let bytes = encode_leaf(alloc, leaf)?;
-        self.is_whole = false;
+        self.whole.begin()?;
         let made = self.chain.push(alloc, bytes, table)?;
-        self.is_whole = true;
+        self.whole.end();
         Ok(made)
     }
 
@@ -105,9 +105,7 @@ impl Archive {
             (λ log. IfOk result (λ found. found ≡ proof_of log slot)) }
         ensures fits { slot < 2 ^ 62 → IfOk result (λ found. IfSome found ProofFits) }
     {
-        if !self.is_whole {
-            return Err(Memory);
-        }
+        self.whole.check()?;
         match self.chain.prove(alloc, slot) {
             Ok(proof) => {
                 checkpoint_fits(&proof.checkpoint);

@@ -9,7 +9,8 @@ use Rattle.cs_tx_form.specs.declared.entry.Entry.{Entry}
 use Rattle.cs_tx_form.specs.declared.entry.Entry.TheVariants.{Prepare, Decide}
 use Rattle.cs_tx_form.specs.declared.leaf.Leaf.{Leaf}
 use Rattle.cs_tx_form.specs.declared.session.Session.{Session}
-use Rattle.cs_node_state.specs.Setup.{Setup, session_in}
+use Rattle.cs_node_state.specs.Setup.{Setup}
+use Rattle.cs_tx_form.specs.Session.{session_in}
 use Rattle.cs_dump_read.specs.declared.dump.Log.{Log}
 use Rattle.cs_audit_rules.specs.History.{prepared, sessions_in}
 use Rattle.cs_audit_rules.specs.Support.{all_commit}

@@ -1,6 +1,7 @@
 -- What the table became is what executing the entry gives, and what is stored then is what is known then.
 use Rattle.std.proofs.Common.{◌≡◌, Bool, true, ◌&&◌, List, Option, Some, None, IsSome, is_some, option_map, refl, ap, sym, subst, ◌∙◌}
 use Rattle.std.specs.Prelude.{if◌then◌else◌}
+use Rattle.cs_tx_form.specs.Session.{session_in}
 use Rattle.cs_tx_value.specs.declared.object.Object.{Object}
 use Rattle.cs_tx_form.specs.declared.transaction.Tx.{Tx}
 use Rattle.cs_tx_form.specs.declared.session.Session.{Session}
@@ -71,7 +72,7 @@ module _ (s : Stand) (placed : IsPlaced s) (genesis : List Object) (approves : T
       (subst (λ (t : Shard.Table). AreKnown after t) (sym shows)
       (exec_known setup.rules s.shard (seen s.table) (keys_in s.table.rows) e old_known))
 
-  pub executes : (entry : Entry) (new : Stored) (effect : Effect) → Setup.is_fit setup s.shard (Setup.session_in entry) ≡ true
+  pub executes : (entry : Entry) (new : Stored) (effect : Effect) → Setup.is_fit setup s.shard (session_in entry) ≡ true
       → AreKnown (keys_in s.table.rows) (seen s.table) → AreKnown (keys_in new.rows) (seen new)
       → ComesTo (acted s.table (entry_seen approves entry)) s.table new (effect_of effect)
       → Executes setup entry s (record s { table = new }) effect

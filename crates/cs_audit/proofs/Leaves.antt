@@ -13,7 +13,8 @@ use Rattle.cs_table.specs.Effects.{effect_of}
 use Rattle.cs_table.specs.Seen.{Stored, seen, forgotten}
 use Rattle.cs_check.specs.Leaves.{HasLeaves}
 use Rattle.cs_check.proofs.Hashing.{leaves_but}
-use Rattle.cs_node_state.specs.Setup.{Setup, is_fit, session_in}
+use Rattle.cs_node_state.specs.Setup.{Setup, is_fit}
+use Rattle.cs_tx_form.specs.Session.{session_in}
 use Rattle.cs_audit_rules.specs.declared.verdict.Rule.{Rule}
 use Rattle.cs_audit_rules.specs.declared.verdict.Rule.TheVariants as rule
 use Rattle.cs_audit_rules.specs.Slots.{is_judged, same_effect, is_result, is_head, broken_by}

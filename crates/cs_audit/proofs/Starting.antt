@@ -12,7 +12,7 @@ use Rattle.cs_table.specs.Seen.{seen}
 use Rattle.cs_check.specs.Root.{keys_in}
 use Rattle.cs_check_rules.specs.Keys.{AreKnown}
 use Rattle.cs_node_pool.specs.Deployed.{deployed}
-use Rattle.cs_sched.specs.Names.{genesis_names}
+use Rattle.cs_tx.specs.GenesisNames.{genesis_names}
 use Rattle.cs_audit_rules.specs.Stands as rules
 use Rattle.cs_audit.specs.declared.stand.Stand.{Stand}
 use Rattle.cs_audit.specs.Standing.{stand_of}

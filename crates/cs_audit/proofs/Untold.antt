@@ -14,7 +14,8 @@ use Rattle.cs_tx_form.specs.declared.transaction.Tx.{Tx}
 use Rattle.cs_tx.specs.Sessions.{session_of}
 use Rattle.cs_ledger.specs.Ledger.{Bytes, Transaction, Ledger as Plain, IsIn, has, is_well_formed, ledger_after, genesis_ledger}
 use Rattle.cs_ledger.specs.Session as Seen
-use Rattle.cs_node_state.specs.Setup.{Setup, is_fit, session_in}
+use Rattle.cs_node_state.specs.Setup.{Setup, is_fit}
+use Rattle.cs_tx_form.specs.Session.{session_in}
 use Rattle.cs_node_pool.specs.Deployed.{deployed}
 use Rattle.cs_dump_read.specs.declared.dump.Dump.{Dump}
 use Rattle.cs_dump_read.specs.declared.dump.Log.{Log}

@@ -17,7 +17,8 @@ use Rattle.cs_ledger.specs.ShardWorld.{is_vote}
 use Rattle.cs_ledger.specs.Table.{Vote, Commit, Abort}
 use Rattle.cs_ledger.proofs.Basics.{same_bytes}
 use Rattle.cs_table.specs.Effects.{effect_of}
-use Rattle.cs_node_state.specs.Setup.{Setup, session_in}
+use Rattle.cs_node_state.specs.Setup.{Setup}
+use Rattle.cs_tx_form.specs.Session.{session_in}
 use Rattle.cs_node_pool.specs.Deployed.{deployed}
 use Rattle.cs_dump_read.specs.declared.dump.Log.{Log}
 use Rattle.cs_audit_rules.specs.Support.{prepares, has_vote, log_at}

@@ -8,7 +8,8 @@ use Rattle.cs_tx_form.specs.declared.session.Session.{Session}
 use Rattle.cs_tx_form.specs.declared.transaction.Tx.{Tx}
 use Rattle.cs_tx.specs.Digest.{digest_of_tx}
 use Rattle.cs_ledger.specs.Ledger.{Bytes, Ledger as Plain, has, ledger_after}
-use Rattle.cs_node_state.specs.Setup.{Setup, session_in}
+use Rattle.cs_node_state.specs.Setup.{Setup}
+use Rattle.cs_tx_form.specs.Session.{session_in}
 use Rattle.cs_dump_read.specs.declared.dump.Log.{Log}
 use Rattle.cs_audit_rules.specs.Support.{all_commit}
 use Rattle.cs_audit.specs.declared.ledger.Ledger.{Ledger}

@@ -10,7 +10,8 @@ use Rattle.cs_tx_form.specs.declared.entry.Entry.TheVariants.{Prepare, Decide}
 use Rattle.cs_tx.specs.Digest.{digest_of_session}
 use Rattle.cs_ledger.specs.Ledger.{Bytes}
 use Rattle.cs_ledger.specs.Table.{Commit, Abort}
-use Rattle.cs_node_state.specs.Setup.{Setup, session_in}
+use Rattle.cs_node_state.specs.Setup.{Setup}
+use Rattle.cs_tx_form.specs.Session.{session_in}
 use Rattle.cs_dump_read.specs.declared.dump.Log.{Log}
 use Rattle.cs_audit_rules.specs.declared.verdict.Fault.{Fault}
 use Rattle.cs_audit_rules.specs.Slots.{leaves_fault, logs_fault}

@@ -7,7 +7,7 @@ ghost use Rattle.cs_tx_form.specs.declared.transaction.Tx.{Tx as AnyTx};
 ghost use Rattle.cs_tx_form.specs.Log.{LeafFits};
 ghost use Rattle.cs_tx_form.specs.Transaction.{TxFits};
 ghost use Rattle.cs_ledger.specs.Ledger.{Ledger as Plain};
-ghost use Rattle.cs_node_state.specs.Setup.{session_in};
+ghost use Rattle.cs_tx_form.specs.Session.{session_in};
 ghost use Rattle.cs_node_pool.specs.Deployed.{deployed};
 ghost use Rattle.cs_dump_read.specs.Formed.{IsFormed, IsFormedLog};
 ghost use Rattle.cs_dump_read.specs.declared.dump.Log.{Log as AnyLog};
@@ -22,7 +22,6 @@ ghost use Rattle.cs_audit.specs.Kept.{Keeps, digest_in, digests_of};
 
 use crate::ledger::Ledger;
 use crate::logs::Executed;
-use crate::stand::session_in;
 use crate::votes::Votes;
 use cs_audit_rules::{Fault, Rule};
 use cs_base::{Config, Key, Memory};
@@ -105,7 +104,7 @@ fn add_leaf(
     if !commits(alloc, config, votes, leaf, digest)? {
         return Ok(());
     }
-    add(alloc, found, &session_in(&leaf.entry).tx, place)?;
+    add(alloc, found, &leaf.entry.session().tx, place)?;
     Ok(())
 }
 
@@ -174,7 +173,7 @@ fn tx_at(logs: &[Log], place: (usize, usize)) -> Option<&Tx>
         None => return None,
     };
     match log.leaves.as_slice().get(place.1) {
-        Some(leaf) => Some(&session_in(&leaf.entry).tx),
+        Some(leaf) => Some(&leaf.entry.session().tx),
         None => None,
     }
 }

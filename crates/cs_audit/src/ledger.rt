@@ -1,6 +1,7 @@
 //! The plain ledger, which has no shards, votes, locks or sessions.
 ghost use Rattle.std.specs.Prelude.{◌≡◌, ◌≤◌, ◌++◌, ◌&&◌, Bool, List, [], IsTrue, IfOk, OnOk, All, map, length};
 ghost use Rattle.std.specs.List.{flat_map, AllByRecursion};
+ghost use Rattle.cs_tx_form.specs.declared.limits.TheConstants.{MOST_TRACE_OBJECTS};
 ghost use Rattle.cs_tx_form.specs.declared.transaction.Tx.{Tx as AnyTx};
 ghost use Rattle.cs_tx_form.specs.Transaction.{TxFits, TraceFits, Keyed, KeyedFits};
 ghost use Rattle.cs_tx_value.specs.Object.{ObjectFits, object_encoding};
@@ -33,7 +34,7 @@ fn add_outputs(
     trace: u16,
     outputs: &[Object],
 ) -> Result<(), Memory>
-    requires { length outputs.now ≤ 64 }
+    requires { length outputs.now ≤ MOST_TRACE_OBJECTS }
     ensures { OnOk result (found.new.items
         ≡ found.old.items ++ outputs_at digest.now trace 0 outputs.now) }
 {

@@ -11,7 +11,7 @@ ghost use Rattle.cs_genesis.specs.Genesis.{keyed_from};
 ghost use Rattle.cs_audit.specs.Kept.{TellsLog, Tells};
 ghost use Rattle.cs_audit.specs.Standing.{IsPlaced, stand_of};
 
-use crate::stand::{Stand, session_in};
+use crate::stand::Stand;
 use crate::votes::Votes;
 use cs_audit_rules::{Fault, Rule};
 use cs_base::{Key, Memory, Sequence};
@@ -61,7 +61,7 @@ fn execute_log<J: Judge>(
 {
     let mut digests = Sequence::new(alloc);
     for (slot, leaf) in log.leaves.as_slice().iter().enumerate() {
-        let digest = session_digest(alloc, session_in(&leaf.entry))?;
+        let digest = session_digest(alloc, leaf.entry.session())?;
         match stand.take(alloc, judge, log.heads.as_slice(), leaf, &digest)? {
             Some(rule) => return Ok(Err(fault(rule, shard, slot))),
             None => {}

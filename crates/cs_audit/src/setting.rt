@@ -4,7 +4,7 @@ ghost use Rattle.cs_tx_form.specs.Session.{SessionFits};
 ghost use Rattle.cs_tx.specs.Uses.{anchor_of};
 ghost use Rattle.cs_tx.specs.WellFormed.{fault_of};
 ghost use Rattle.cs_node_state.specs.Setup.{is_fit};
-ghost use Rattle.cs_node_pool.specs.Deployed.{AtAnySetup};
+ghost use Rattle.cs_node_pool.specs.Deployed.{AtEverySetup};
 
 use cs_base::{Config, Memory};
 use cs_tx::{Malformed, Session, anchor, well_formed};
@@ -35,7 +35,7 @@ pub(crate) fn is_fit(
     session: &Session,
 ) -> Result<bool, Memory>
     requires { SessionFits session.now }
-    ensures fit { AtAnySetup config.now (λ setup.
+    ensures fit { AtEverySetup config.now (λ setup.
         IfOk result (λ fit. fit ≡ is_fit setup shard session.now)) }
     // Then the shard has a key of the session, by which it is held.
     ensures anchored { IfOk result (λ fit.

@@ -4,7 +4,7 @@ ghost use Rattle.std.specs.List.{All};
 ghost use Rattle.cs_base.specs.declared.config.Config.{Config as AnyConfig};
 ghost use Rattle.cs_tx_form.specs.declared.transaction.Tx.{Tx as AnyTx};
 ghost use Rattle.cs_tx_form.specs.Log.{LeafFits};
-ghost use Rattle.cs_tx_form.specs.Session.{SessionFits, EntryFits};
+ghost use Rattle.cs_tx_form.specs.Session.{EntryFits, session_in};
 ghost use Rattle.cs_tx_value.specs.declared.object.Object.{Object as AnyObject};
 ghost use Rattle.cs_tx_value.specs.Object.{ObjectFits};
 ghost use Rattle.cs_tx.specs.Digest.{digest_of_session};
@@ -17,8 +17,8 @@ ghost use Rattle.cs_check.specs.Leaves.{HasLeaves, HasLeavesBut};
 ghost use Rattle.cs_table.specs.Calls.{anchor_in};
 ghost use Rattle.cs_table.specs.Effects.{effect_of, ComesTo};
 ghost use Rattle.cs_table.specs.Genesis.{twice};
-ghost use Rattle.cs_node_state.specs.Setup.{session_in, is_fit as fits_in};
-ghost use Rattle.cs_node_pool.specs.Deployed.{AtAnyGenesis, AtAnySetup, deployed};
+ghost use Rattle.cs_node_state.specs.Setup.{is_fit as fits_in};
+ghost use Rattle.cs_node_pool.specs.Deployed.{AtAnyGenesis, AtEverySetup, deployed};
 ghost use Rattle.cs_audit_rules.specs.Stands.{start_stand, told};
 ghost use Rattle.cs_audit_rules.specs.Slots.{is_judged as judged_in, is_head};
 ghost use Rattle.cs_genesis.specs.Genesis.{keyed_from};
@@ -30,7 +30,7 @@ use cs_base::{Config, Key, Memory};
 use cs_check::{Chain, root_is_shown};
 use cs_checkpoint::{Checkpoint, checkpoint_head, encode_leaf};
 use cs_table::{Table, TableError};
-use cs_tx::{Digest, Effect, Entry, Judge, Leaf, Object, Session};
+use cs_tx::{Digest, Effect, Entry, Judge, Leaf, Object};
 use std::alloc::Global;
 
 /// What the slots of a shard came to so far, by the same table and chain that nodes use.
@@ -40,17 +40,6 @@ pub(crate) struct Stand {
     shard: u16,
     table: Table,
     chain: Chain,
-}
-
-/// The session of an entry.
-pub(crate) fn session_in(entry: &Entry) -> &Session
-    ensures is { result.now ≡ session_in entry.now }
-    ensures fits { EntryFits entry.now → SessionFits result.now }
-{
-    match entry {
-        Entry::Prepare(session) => session,
-        Entry::Decide(_, session) => session,
-    }
 }
 
 // A vote is given on an approved transaction alone.
@@ -136,11 +125,11 @@ impl Stand {
         requires placed { IsPlaced self.old }
         requires fits { EntryFits entry.now }
         requires named { digest.now ≡ digest_of_session (session_in entry.now) }
-        requires fit { AtAnySetup self.old.config
+        requires fit { AtEverySetup self.old.config
             (λ setup. fits_in setup self.old.shard (session_in entry.now) ≡ true) }
         requires anchored { is_some
             (anchor_of self.old.config (session_in entry.now) self.old.shard) ≡ true }
-        ensures { AtAnySetup self.old.config (λ setup. IfOk result (λ effect.
+        ensures { AtEverySetup self.old.config (λ setup. IfOk result (λ effect.
             Executes setup entry.now self.old self.new effect)) }
     {
         root_is_shown(&self.table);
@@ -191,7 +180,7 @@ impl Stand {
         if leaf.slot != self.chain.slots() {
             return Ok(Some(Rule::Slot));
         }
-        if !is_fit(alloc, &self.config, self.shard, session_in(&leaf.entry))? {
+        if !is_fit(alloc, &self.config, self.shard, leaf.entry.session())? {
             return Ok(Some(Rule::Form));
         }
         if !is_judged(alloc, judge, &leaf.entry)? {

@@ -2,14 +2,13 @@
 ghost use Rattle.std.specs.Prelude.{◌≡◌, List, Bool, IfOk, map};
 ghost use Rattle.std.specs.List.{All};
 ghost use Rattle.cs_tx_form.specs.Log.{LeafFits};
-ghost use Rattle.cs_node_pool.specs.Deployed.{AtAnySetup};
+ghost use Rattle.cs_node_pool.specs.Deployed.{AtEverySetup};
 ghost use Rattle.cs_dump_read.specs.declared.dump.Log.{Log as AnyLog};
 ghost use Rattle.cs_dump_read.specs.Formed.{IsFormed};
 ghost use Rattle.cs_audit_rules.specs.Support.{is_supported, unsupported as unsupported_of, support_fault};
 ghost use Rattle.cs_audit.specs.Kept.{digest_in, digests_of, Keeps};
 
 use crate::logs::{Executed, unsupported};
-use crate::stand::session_in;
 use crate::votes::Votes;
 use cs_audit_rules::Fault;
 use cs_base::{Config, Memory};
@@ -28,17 +27,17 @@ fn is_supported(
 ) -> Result<bool, Memory>
     requires fits { LeafFits leaf.now }
     requires named { digest ≡ digest_in leaf.now }
-    ensures { (logs : List AnyLog) → AtAnySetup config.now (λ setup.
+    ensures { (logs : List AnyLog) → AtEverySetup config.now (λ setup.
         Keeps setup logs votes.now →
         IfOk result (λ supported. supported ≡ is_supported setup logs leaf.now)) }
 {
     match leaf.result {
         Effect::Accepted => {
-            let shards = concerned(alloc, session_in(&leaf.entry), config)?;
+            let shards = concerned(alloc, leaf.entry.session(), config)?;
             Ok(votes.all_commit(shards.as_slice(), digest))
         }
         Effect::Aborted => {
-            let shards = concerned(alloc, session_in(&leaf.entry), config)?;
+            let shards = concerned(alloc, leaf.entry.session(), config)?;
             Ok(votes.one_aborts(shards.as_slice(), digest))
         }
         Effect::Voted(_) | Effect::Skipped | Effect::Void => Ok(true),
@@ -56,7 +55,7 @@ fn unsupported_in(
 ) -> Result<Option<Fault>, Memory>
     requires fits { All LeafFits log.now.leaves }
     requires named { digests.now ≡ digests_of log.now }
-    ensures { (logs : List AnyLog) → AtAnySetup config.now (λ setup.
+    ensures { (logs : List AnyLog) → AtEverySetup config.now (λ setup.
         Keeps setup logs votes.now →
         IfOk result (λ fault. fault ≡ unsupported_of setup logs shard 0 log.now.leaves)) }
 {
@@ -77,7 +76,7 @@ pub(crate) fn first_unsupported(
 ) -> Result<Option<Fault>, Memory>
     requires formed { IsFormed dump.now }
     requires named { executed.now.digests ≡ map digests_of dump.now.logs }
-    ensures { AtAnySetup dump.now.config (λ setup.
+    ensures { AtEverySetup dump.now.config (λ setup.
         Keeps setup dump.now.logs executed.now.votes →
         IfOk result (λ fault. fault ≡ support_fault setup dump.now.logs 0 dump.now.logs)) }
 {

@@ -17,7 +17,8 @@ use Rattle.cs_ledger.specs.ShardWorld.{log, votes, IsAllowed}
 use Rattle.cs_ledger.proofs.Basics.{in_either}
 use Rattle.cs_ledger.proofs.Changes.{Nothing, Locks, Notes, Accepts, Aborts, IsIdle, change}
 use Rattle.cs_ledger.proofs.Votes.{one_at}
-use Rattle.cs_node_state.specs.Setup.{Setup, digest_of, concerned, entry_of, session_in}
+use Rattle.cs_node_state.specs.Setup.{Setup, digest_of, concerned, entry_of}
+use Rattle.cs_tx_form.specs.Session.{session_in}
 use Rattle.cs_node_state.specs.Bench.{effect_from}
 use Rattle.cs_node_rules.specs.World.{Execution, steps_of, recorded, all_recorded}
 use Rattle.cs_world_law.specs.Steps.{executions_of}

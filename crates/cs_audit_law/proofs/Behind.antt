@@ -6,7 +6,8 @@ use Rattle.cs_base.specs.Options.{or_else}
 use Rattle.cs_tx_form.specs.declared.leaf.Leaf.{Leaf}
 use Rattle.cs_ledger.specs.Ledger.{Bytes}
 use Rattle.cs_checkpoint.specs.Chain.{made_last}
-use Rattle.cs_node_state.specs.Setup.{Setup, session_in, is_fit}
+use Rattle.cs_node_state.specs.Setup.{Setup, is_fit}
+use Rattle.cs_tx_form.specs.Session.{session_in}
 use Rattle.cs_dump_read.specs.declared.dump.Log.{Log}
 use Rattle.cs_audit_rules.specs.declared.verdict.Rule.TheVariants as rule
 use Rattle.cs_audit_rules.specs.Stands.{Stand, after_leaf, after_leaves}

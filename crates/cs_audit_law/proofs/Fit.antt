@@ -11,7 +11,8 @@ use Rattle.cs_ledger.specs.Table as Shard
 use Rattle.cs_ledger.specs.Table.{Vote, Commit, Abort, table_of, exec, session_of}
 use Rattle.cs_ledger.specs.ShardWorld.{Step, log, is_vote, is_prepare_of, votes_in, votes, IsAllowed, AllAllowed, sessions}
 use Rattle.cs_ledger.proofs.Votes.{log_at, Prepares, prepares_is, all_at, one_at}
-use Rattle.cs_node_state.specs.Setup.{Setup, entry_of, session_in, is_fit}
+use Rattle.cs_node_state.specs.Setup.{Setup, entry_of, is_fit}
+use Rattle.cs_tx_form.specs.Session.{session_in}
 use Rattle.cs_world_law.proofs.Counting.{item-among}
 use Rattle.cs_audit_rules.specs.Slots.{is_judged}
 

@@ -6,7 +6,7 @@ use Rattle.cs_ledger.specs.Ledger.{Bytes}
 use Rattle.cs_ledger.proofs.Basics.{bytes_from}
 use Rattle.cs_checkpoint.specs.Chain.{Log, with_slot, head_of, checkpoint_of, made_last}
 use Rattle.cs_check.proofs.Chains.{checkpoint_stays}
-use Rattle.cs_node_rules.specs.Dumps.{heads_below}
+use Rattle.cs_replay_rules.specs.Dumps.{heads_below}
 use Rattle.cs_audit_rules.specs.Slots.{is_just, is_head}
 use Rattle.cs_audit_law.specs.Dumped.{all_heads}
 

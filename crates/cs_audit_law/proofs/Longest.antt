@@ -15,7 +15,7 @@ use Rattle.cs_ledger.proofs.Basics.{in_left, in_right, in_either}
 use Rattle.cs_checkpoint.specs.Chain.{Log, empty_log}
 use Rattle.cs_node_state.specs.Setup.{Setup, entry_of}
 use Rattle.cs_node_state.specs.Bench.{effect_from}
-use Rattle.cs_node_rules.specs.Dumps.{longest, logs_of, shard_log}
+use Rattle.cs_replay_rules.specs.Dumps.{longest, logs_of, shard_log}
 use Rattle.cs_node_rules.specs.Signs.{Dropped, Took, Entered, Viewed, Did, Headed, Kept, Sent}
 use Rattle.cs_node_rules.specs.Site.{Mark, In, Ordered, Plain, Site, signs_of}
 use Rattle.cs_node_rules.specs.World.{Happening, Execution, trail_of, view_of, slots_of}

@@ -16,11 +16,12 @@ use Rattle.cs_ledger.specs.Ledger.{Bytes, Item, Transaction}
 use Rattle.cs_checkpoint.specs.Chain.{Log as ChainLog}
 use Rattle.cs_node_state.specs.Deployed.{genesis_from}
 use Rattle.cs_node_state.specs.Setup.{Setup}
-use Rattle.cs_node_rules.specs.Dumps.{leaf_line, dumped_head, log_text, number_line, genesis_line, contract_line, shard_log, logs_text, dump_text}
-use Rattle.cs_node_rules.specs.Lines.{transaction_lines, history_text}
+use Rattle.cs_replay_rules.specs.Dumps.{leaf_line, dumped_head, log_text, number_line, genesis_line, contract_line, shard_log, logs_text, dump_text}
+use Rattle.cs_replay_rules.specs.Lines.{transaction_lines, history_text}
 use Rattle.cs_node_rules.specs.Site.{Site}
 use Rattle.cs_node_rules.specs.World.{Happening, Execution, firsts_of, history}
-use Rattle.cs_sched.specs.Printed.{line_text, number_words, bytes_words, contract_lines, genesis_lines}
+use Rattle.cs_text.specs.Printed.{line_text, number_words, bytes_words}
+use Rattle.cs_sched.specs.Printed.{contract_lines, genesis_lines}
 use Rattle.cs_dump_read.specs.Printed.{leaf_words, head_words, tx_words, log_words, log_lines, logs_lines, config_lines, history_lines, dump_lines, printed_dump}
 use Rattle.cs_dump_read.specs.declared.dump.Dump.{Dump}
 use Rattle.cs_dump_read.specs.declared.dump.Log.{Log}

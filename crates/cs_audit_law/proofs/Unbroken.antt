@@ -14,7 +14,8 @@ use Rattle.cs_check_rules.specs.Root.{root_under}
 use Rattle.cs_checkpoint.specs.Chain.{Log as ChainLog}
 use Rattle.cs_table.specs.Effects.{effect_of}
 use Rattle.cs_node_state.specs.Bench.{effect_from}
-use Rattle.cs_node_state.specs.Setup.{Setup, entry_of, session_in, is_fit}
+use Rattle.cs_node_state.specs.Setup.{Setup, entry_of, is_fit}
+use Rattle.cs_tx_form.specs.Session.{session_in}
 use Rattle.cs_node_rules.specs.World.{Execution, steps_of, slots_of}
 use Rattle.cs_world_law.specs.Steps.{effect_after, executions_of}
 use Rattle.cs_world_law.specs.Shown.{leaf_by, leaves_of}

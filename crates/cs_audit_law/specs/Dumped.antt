@@ -4,7 +4,7 @@ use Rattle.cs_tx_form.specs.declared.leaf.Leaf.{Leaf}
 use Rattle.cs_ledger.specs.Ledger.{Bytes}
 use Rattle.cs_checkpoint.specs.Chain.{Log as ChainLog}
 use Rattle.cs_node_state.specs.Setup.{Setup}
-use Rattle.cs_node_rules.specs.Dumps.{heads_below}
+use Rattle.cs_replay_rules.specs.Dumps.{heads_below}
 use Rattle.cs_node_rules.specs.World.{Execution}
 use Rattle.cs_world_law.specs.Steps.{executions_of}
 use Rattle.cs_world_law.specs.Shown.{leaves_of}

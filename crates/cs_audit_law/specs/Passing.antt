@@ -14,7 +14,7 @@ use Rattle.cs_audit_rules.specs.Slots.{logs_fault}
 use Rattle.cs_audit_rules.specs.Support.{support_fault}
 use Rattle.cs_audit_rules.specs.History.{transactions, history_fault}
 use Rattle.cs_audit_rules.specs.Verdicts.{first_fault}
-use Rattle.cs_node_rules.specs.Dumps.{shard_log}
+use Rattle.cs_replay_rules.specs.Dumps.{shard_log}
 use Rattle.cs_audit_law.specs.Dumped.{dumped_leaves, dumped_stand, dumped_logs}
 
 -- Each step may be taken after those before it, and its result is what it comes to. Digests tell sessions and

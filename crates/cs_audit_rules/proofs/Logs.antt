@@ -17,7 +17,8 @@ use Rattle.cs_check_rules.specs.Keys.{keys_after}
 use Rattle.cs_check_rules.specs.Root.{root_under}
 use Rattle.cs_check.proofs.Chains.{checkpoint_stays}
 use Rattle.cs_table.specs.Effects.{effect_of}
-use Rattle.cs_node_state.specs.Setup.{Setup, entry_of, session_in, is_fit, concerns}
+use Rattle.cs_node_state.specs.Setup.{Setup, entry_of, is_fit, concerns}
+use Rattle.cs_tx_form.specs.Session.{session_in}
 use Rattle.cs_dump_read.specs.declared.dump.Log.{Log}
 use Rattle.cs_audit_rules.specs.declared.verdict.Rule.TheVariants as rule
 use Rattle.cs_audit_rules.specs.Stands.{Stand, start_stand, outcome_of, after_leaf, after_leaves}

@@ -10,7 +10,8 @@ use Rattle.cs_ledger.specs.ShardWorld.{vote_eq}
 use Rattle.cs_ledger.specs.Table.{Effect, Voted, Accepted, Aborted, Skipped, Void}
 use Rattle.cs_checkpoint.specs.Chain.{head_of, made_last}
 use Rattle.cs_table.specs.Effects.{effect_of}
-use Rattle.cs_node_state.specs.Setup.{Setup, is_fit, is_approved, session_in}
+use Rattle.cs_node_state.specs.Setup.{Setup, is_fit, is_approved}
+use Rattle.cs_tx_form.specs.Session.{session_in}
 use Rattle.cs_dump_read.specs.declared.dump.Log.{Log}
 use Rattle.cs_audit_rules.specs.declared.verdict.Fault.{Fault}
 use Rattle.cs_audit_rules.specs.declared.verdict.Rule.{Rule}

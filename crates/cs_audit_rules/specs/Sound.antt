@@ -10,7 +10,8 @@ use Rattle.cs_ledger.specs.Session as Seen
 use Rattle.cs_ledger.specs.Table.{Table, exec, start, table_after}
 use Rattle.cs_checkpoint.specs.Chain.{chain_head}
 use Rattle.cs_table.specs.Effects.{effect_of}
-use Rattle.cs_node_state.specs.Setup.{Setup, entry_of, session_in, is_approved}
+use Rattle.cs_node_state.specs.Setup.{Setup, entry_of, is_approved}
+use Rattle.cs_tx_form.specs.Session.{session_in}
 use Rattle.cs_dump_read.specs.declared.dump.Dump.{Dump}
 use Rattle.cs_dump_read.specs.declared.dump.Log.{Log}
 use Rattle.cs_dump_read.specs.Formed.{IsFormed}

@@ -1,5 +1,6 @@
 -- What holds of what a chain keeps, and what the next checkpoint makes of it.
 use Rattle.std.specs.Prelude.{◌≡◌, ℕ, ◌+◌, ◌-◌, ◌*◌, ◌<◌, ◌≤◌, nat_lt, if◌then◌else◌, List, [], ◌∷◌, ◌++◌, length, drop, slice_get, slice_index_or, All, Some}
+use Rattle.cs_tx_form.specs.declared.limits.TheConstants.{COVERED}
 use Rattle.cs_tx_form.specs.declared.checkpoint.Checkpoint.{Checkpoint}
 use Rattle.cs_tx_form.specs.declared.proof.Proof.{Proof}
 use Rattle.cs_tx_form.specs.Log.{leaf_encoding, LeafFits}
@@ -10,7 +11,7 @@ use Rattle.cs_checkpoint.specs.Chain.{head_of, no_head, IsLeaf, Covered, KeptLog
 -- ---- a checkpoint and its leaves
 
 pub record AreAll (part : List (List ℕ)) : Type 0 where
-  pub all : length part ≡ 16
+  pub all : length part ≡ COVERED
   pub leaves : All IsLeaf part
 
 -- the proof of the leaf at a place
@@ -25,8 +26,8 @@ pub record IsProofAt (c : Covered) (at : ℕ) (proof : Proof) : Type 0 where
 
 -- so it is also where memory ran out
 pub record IsKept (kept : KeptLog) : Type 0 where
-  pub enough : 16 * length kept.heads + length kept.uncovered ≤ kept.slots
-  pub few : length kept.uncovered < 16
+  pub enough : COVERED * length kept.heads + length kept.uncovered ≤ kept.slots
+  pub few : length kept.uncovered < COVERED
   pub leaves : All IsLeaf kept.uncovered
   pub cut : length kept.covered ≤ length kept.heads
 

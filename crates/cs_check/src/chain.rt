@@ -1,5 +1,6 @@
 //! The chain of the checkpoints of a shard's log.
 ghost use Rattle.std.specs.Prelude.{◌≡◌, ◌+◌, ◌*◌, ◌≤◌, ◌<◌, ◌↔◌, ◌/◌, [], ◌∷◌, ◌++◌, length, IfOk, OnOk, IsErrOf};
+ghost use Rattle.cs_tx_form.specs.declared.limits.TheConstants.{COVERED, LAST_PLACE};
 ghost use Rattle.cs_merkle.specs.Tree.{leaves_of};
 ghost use Rattle.cs_checkpoint.specs.Chain.{empty_log, with_slot, made_last, chain_head, head_of, checkpoint_of, cut_slot, kept_of, AtItsLog, IsLeaf, IsProofOf};
 ghost use Rattle.cs_checkpoint.specs.Shown.{Shows};
@@ -14,16 +15,17 @@ use cs_base::Memory;
 use cs_checkpoint::{Checkpoint, Digest, KEPT_SLOTS, Proof, checkpoint_head};
 use cs_merkle::root;
 use cs_table::Table;
+use cs_tx_form::COVERED;
 use std::alloc::Global;
 use std::collections::VecDeque;
 use std::marker::Model;
 use std::mem;
 
-/// How many slots a checkpoint covers: a proof has a path of four hashes.
-const COVERED: usize = 16;
+/// The leaves that a checkpoint covers: one a slot.
+const LEAVES: usize = COVERED as usize;
 
 /// How many checkpoints keep their leaves.
-const KEPT: usize = KEPT_SLOTS as usize / COVERED;
+const KEPT: usize = (KEPT_SLOTS / COVERED) as usize;
 
 /// Why there is no proof.
 #[derive(Clone, Copy, Debug, PartialEq, Eq)]
@@ -145,8 +147,8 @@ impl Chain {
         table_root: Digest,
     ) -> Result<Checkpoint, Memory>
         requires leaf { IsLeaf leaf.items }
-        requires last { length self.old.kept.uncovered ≡ 15 }
-        requires slots { 16 * length self.old.kept.heads + 16 ≤ self.old.kept.slots }
+        requires last { length self.old.kept.uncovered ≡ LAST_PLACE }
+        requires slots { COVERED * length self.old.kept.heads + COVERED ≤ self.old.kept.slots }
         ensures checkpoint { IfOk result (λ made. made ≡ next_behind
             self.old.kept.shard self.old.kept.heads
             (self.old.kept.uncovered ++ leaf.items ∷ []) table_root) }
@@ -188,7 +190,7 @@ impl Chain {
         };
         self.hashes.take(alloc, table)?;
         self.slots = slots;
-        if self.uncovered.len() < COVERED - 1 {
+        if self.uncovered.len() < LEAVES - 1 {
             self.uncovered.push(leaf)?;
             return Ok(None);
         }
@@ -213,20 +215,20 @@ impl Chain {
         ensures proof { AtItsLog self.now.kept (λ log. IfOk result (IsProofOf log slot)) }
         // Where the leaf is of that slot, the proof shows it under the checkpoint's head.
         ensures shown { AtItsLog self.now.kept (λ log. IfOk result (λ proof. proof.leaf.slot ≡ slot →
-            Shows (head_of (checkpoint_of log (slot / 16))) proof)) }
+            Shows (head_of (checkpoint_of log (slot / COVERED))) proof)) }
         ensures not_yet { AtItsLog self.now.kept (λ log.
-            IsErrOf result ProveError.NotYet ↔ (16 * length log.table_roots ≤ slot)) }
+            IsErrOf result ProveError.NotYet ↔ (COVERED * length log.table_roots ≤ slot)) }
         ensures cut { AtItsLog self.now.kept (λ log.
             IsErrOf result ProveError.Cut ↔ (slot < cut_slot log)) }
     {
         let slot = slot as usize;
         let cut = self.heads.len() - self.covered.len();
-        let place = match (slot / COVERED).checked_sub(cut) {
+        let place = match (slot / LEAVES).checked_sub(cut) {
             Some(place) => place,
             None => return Err(ProveError::Cut),
         };
         match self.covered.get(place) {
-            Some(covered) => Ok(covered.prove(alloc, slot % COVERED)?),
+            Some(covered) => Ok(covered.prove(alloc, slot % LEAVES)?),
             None => Err(ProveError::NotYet),
         }
     }

@@ -1,5 +1,6 @@
 //! A checkpoint with the leaves that it covers.
 ghost use Rattle.std.specs.Prelude.{◌≡◌, ◌<◌, length, IfOk};
+ghost use Rattle.cs_tx_form.specs.declared.limits.TheConstants.{COVERED};
 ghost use Rattle.cs_merkle.specs.Tree.{leaves_of};
 ghost use Rattle.cs_merkle.specs.Path.{audit_path as path_in};
 ghost use Rattle.cs_check.specs.Kept.{AreAll, IsProofAt};
@@ -56,7 +57,7 @@ impl Covered {
 
     /// The leaf at a place with the checkpoint, and the path from the one to the other.
     pub(crate) fn prove(&self, alloc: Global, place: usize) -> Result<Proof, Memory>
-        requires { place < 16 }
+        requires { place < COVERED }
         ensures { IfOk result (IsProofAt self.now place) }
     {
         let leaves = self.leaves.as_slice();

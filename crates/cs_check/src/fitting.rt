@@ -1,7 +1,5 @@
 //! What a table stores has an encoding: what the table doesn't tell of its limits, the types do.
 ghost use Rattle.std.specs.List.{AllByRecursion};
-ghost use Rattle.cs_tx_value.specs.Object.{DigestFits};
-ghost use Rattle.cs_tx_value.specs.Key.{KeyFits};
 ghost use Rattle.cs_tx_form.specs.State.{StateFits};
 ghost use Rattle.cs_tx_form.specs.Record.{PlaceFits, StoredFits};
 ghost use Rattle.cs_table.specs.Seen.{HoldsFit, IsStored};
@@ -9,24 +7,7 @@ ghost use Rattle.cs_table.specs.Seen.{HoldsFit, IsStored};
 use cs_base::Key;
 use cs_table::Record;
 use cs_tx::{Digest, State, Vote};
-
-fn digest_fits(digest: &Digest)
-    ensures { DigestFits digest.now }
-{
-    let _bytes = digest.as_slice();
-}
-
-/// A key is within all limits.
-pub(crate) fn key_fits(key: &Key)
-    ensures { KeyFits key.now }
-{
-    match key {
-        Key::Object(digest) => digest_fits(digest),
-        Key::Dummy(shard, serial) => {
-            let _numbers = (*shard, *serial);
-        }
-    }
-}
+use cs_tx_form::{digest_fits, key_fits};
 
 fn state_fits(state: &State)
     requires { HoldsFit state.now }

@@ -10,12 +10,12 @@ ghost use Rattle.cs_table.specs.Seen.{IsStored, is_under, seen};
 ghost use Rattle.cs_check.specs.Leaves.{HasLeaves, HasLeavesBut, AreWaiting, hashes_of, taken};
 ghost use Rattle.cs_check.specs.Root.{table_root as root_of};
 
-use crate::fitting::key_fits;
 use crate::root::record_leaf;
 use cs_base::{Key, Memory};
 use cs_merkle_kept::{Incremental, Leaf, Steps};
 use cs_table::{Record, Table};
 use cs_tx::{Digest, Encoded};
+use cs_tx_form::key_fits;
 use std::alloc::Global;
 use std::collections::BTreeMap;
 use std::marker::{Brand, Model};

@@ -1,6 +1,7 @@
 -- The proof of a slot, as a function of the log.
 use Rattle.std.specs.Prelude.{ℕ, ◌*◌, ◌/◌, ◌%◌, nat_le, nat_lt, Bool, ◌&&◌, if◌then◌else◌, length, slice_get, Option, None, option_and_then, option_map}
 use Rattle.cs_base.specs.Fields.{whole_at}
+use Rattle.cs_tx_form.specs.declared.limits.TheConstants.{COVERED}
 use Rattle.cs_tx_form.specs.declared.leaf.Leaf.{Leaf}
 use Rattle.cs_tx_form.specs.declared.proof.Proof.{Proof}
 use Rattle.cs_tx_form.specs.Log.{leaf_at}
@@ -14,15 +15,15 @@ leaf_in log slot = option_and_then (whole_at leaf_at) (slice_get log.leaves slot
 -- with the checkpoint that covers it
 abbrev pub proof_with : Log → ℕ → Leaf → Proof
 proof_with log slot leaf = record {
-  checkpoint = checkpoint_of log (slot / 16);
-  place = slot % 16;
+  checkpoint = checkpoint_of log (slot / COVERED);
+  place = slot % COVERED;
   leaf = leaf;
-  path = audit_path (covered_leaves log (slot / 16)) (slot % 16);
+  path = audit_path (covered_leaves log (slot / COVERED)) (slot % COVERED);
 }
 
 -- a checkpoint covers the slot, and it isn't cut
 abbrev pub is_provable : Log → ℕ → Bool
-is_provable log slot = nat_le (cut_slot log) slot && nat_lt slot (16 * length log.table_roots)
+is_provable log slot = nat_le (cut_slot log) slot && nat_lt slot (COVERED * length log.table_roots)
 
 -- none of any other slot
 abbrev pub proof_of : Log → ℕ → Option Proof

@@ -1,12 +1,14 @@
 -- The checkpoints of a shard's log, one after every 16 slots, and their heads.
 use Rattle.std.specs.Prelude.{◌≡◌, ℕ, zero, suc, ◌+◌, ◌-◌, ◌*◌, ◌/◌, ◌%◌, ◌==◌, nat_lt, if◌then◌else◌, List, [], ◌∷◌, ◌++◌, length, map, take, drop, replicate, slice_get, slice_index_or, Option, Some, None}
 use Rattle.cs_hash.specs.Hash.{tagged_digest}
+use Rattle.cs_tx_form.specs.declared.limits.TheConstants.{COVERED}
 use Rattle.cs_tx_form.specs.declared.leaf.Leaf.{Leaf}
 use Rattle.cs_tx_form.specs.declared.checkpoint.Checkpoint.{Checkpoint}
 use Rattle.cs_tx_form.specs.declared.proof.Proof.{Proof}
 use Rattle.cs_tx_form.specs.Log.{leaf_encoding, LeafFits, checkpoint_encoding}
 use Rattle.cs_merkle.specs.Tree.{merkle_tree_hash}
 use Rattle.cs_merkle.specs.Path.{audit_path}
+use Rattle.cs_checkpoint.specs.declared.TheConstants.{KEPT_SLOTS}
 
 -- ---- what checkpoints are made of
 
@@ -26,7 +28,7 @@ with_slot leaf table_root log = record {
   shard = log.shard;
   leaves = log.leaves ++ leaf ∷ [];
   table_roots =
-      if (length log.leaves + 1) % 16 == 0 then log.table_roots ++ table_root ∷ [] else log.table_roots;
+      if (length log.leaves + 1) % COVERED == 0 then log.table_roots ++ table_root ∷ [] else log.table_roots;
 }
 
 -- the encoding of a leaf
@@ -39,7 +41,7 @@ pub record IsLeaf (bytes : List ℕ) : Type 0 where
 
 -- the leaves of the 16 slots that the checkpoint of a number covers
 abbrev pub covered_leaves : Log → ℕ → List (List ℕ)
-covered_leaves log number = take 16 (drop (16 * number) log.leaves)
+covered_leaves log number = take COVERED (drop (COVERED * number) log.leaves)
 
 -- SHA-256 of the letter C and the encoding
 abbrev pub head_of : Checkpoint → List ℕ
@@ -75,27 +77,27 @@ chain_head log number =
 -- the checkpoint that the last slot made: the last one after every 16th slot, else none
 abbrev pub made_last : Log → Option Checkpoint
 made_last log =
-    if length log.leaves % 16 == 0 then Some (checkpoint_of log (length log.table_roots - 1)) else None
+    if length log.leaves % COVERED == 0 then Some (checkpoint_of log (length log.table_roots - 1)) else None
 
 -- ---- proofs
 
 -- the proof of a slot that a checkpoint covers
 pub record IsProofOf (log : Log) (slot : ℕ) (proof : Proof) : Type 0 where
-  pub checkpoint : proof.checkpoint ≡ checkpoint_of log (slot / 16)
-  pub place : proof.place ≡ slot % 16
+  pub checkpoint : proof.checkpoint ≡ checkpoint_of log (slot / COVERED)
+  pub place : proof.place ≡ slot % COVERED
   pub leaf : slice_get log.leaves slot ≡ Some (leaf_encoding proof.leaf)
   pub leaf_fits : LeafFits proof.leaf
-  pub path : proof.path ≡ audit_path (covered_leaves log (slot / 16)) (slot % 16)
+  pub path : proof.path ≡ audit_path (covered_leaves log (slot / COVERED)) (slot % COVERED)
 
 -- ---- what a chain keeps
 
 -- how many slots up to the last checkpoint keep their leaves
 abbrev pub kept_slots : ℕ
-kept_slots = 1024
+kept_slots = KEPT_SLOTS
 
 -- The first slot that is kept: 0 up to the 64th checkpoint.
 abbrev pub cut_slot : Log → ℕ
-cut_slot log = 16 * length log.table_roots - kept_slots
+cut_slot log = COVERED * length log.table_roots - kept_slots
 
 -- a checkpoint, and the leaves that it covers
 pub record Covered : Type 0 where
@@ -126,8 +128,8 @@ abbrev pub kept_of : Log → KeptLog
 kept_of log = record {
   shard = log.shard;
   slots = length log.leaves;
-  covered = drop (cut_slot log / 16) (all_covered log);
-  uncovered = drop (16 * length log.table_roots) log.leaves;
+  covered = drop (cut_slot log / COVERED) (all_covered log);
+  uncovered = drop (COVERED * length log.table_roots) log.leaves;
   heads = map (λ c. head_of c.checkpoint) (all_covered log);
 }
 

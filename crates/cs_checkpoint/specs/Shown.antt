@@ -1,6 +1,7 @@
 -- What a proof shows to who knows the head of a checkpoint.
 use Rattle.std.specs.Prelude.{◌≡◌, ℕ, ◌+◌, ◌*◌, List, ◌∷◌, length, reverse, slice_get, Contains, Some}
 use Rattle.sha2.specs.Sha256.{sha256}
+use Rattle.cs_tx_form.specs.declared.limits.TheConstants.{COVERED}
 use Rattle.cs_tx_form.specs.declared.checkpoint.Checkpoint.{Checkpoint}
 use Rattle.cs_tx_form.specs.declared.proof.Proof.{Proof}
 use Rattle.cs_tx_form.specs.Log.{leaf_encoding, checkpoint_encoding, CheckpointFits}
@@ -13,13 +14,13 @@ use Rattle.cs_checkpoint.specs.Chain.{head_of}
 -- that place.
 pub record Shows (head : List ℕ) (proof : Proof) : Type 0 where
   pub checkpoint : head_of proof.checkpoint ≡ head
-  pub leads : ShowsLeaf proof.checkpoint.leaf_root 16 proof.place (leaf_encoding proof.leaf) proof.path
-  pub slot : proof.leaf.slot ≡ 16 * proof.checkpoint.number + proof.place
+  pub leads : ShowsLeaf proof.checkpoint.leaf_root COVERED proof.place (leaf_encoding proof.leaf) proof.path
+  pub slot : proof.leaf.slot ≡ COVERED * proof.checkpoint.number + proof.place
 
 -- a checkpoint that fits, over these leaves
 pub record IsOver (c : Checkpoint) (leaves : List (List ℕ)) : Type 0 where
   pub fits : CheckpointFits c
-  pub all : length leaves ≡ 16
+  pub all : length leaves ≡ COVERED
   pub root : c.leaf_root ≡ merkle_tree_hash leaves
 
 -- the strings that are hashed for a checkpoint over leaves, and for a proof
@@ -31,7 +32,7 @@ checkpoint_strings c leaves = head_string c ∷ strings_in (tree_of leaves)
 
 abbrev pub proof_strings : Proof → List (List ℕ)
 proof_strings p =
-    head_string p.checkpoint ∷ strings_by 16 p.place (leaf_encoding p.leaf) (reverse p.path)
+    head_string p.checkpoint ∷ strings_by COVERED p.place (leaf_encoding p.leaf) (reverse p.path)
 
 -- one of the first and one of the second with one hash are one string
 abbrev pub NoProofCollision : Checkpoint → List (List ℕ) → Proof → Type 0

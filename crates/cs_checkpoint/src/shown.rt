@@ -1,5 +1,6 @@
 //! The test of a proof.
 ghost use Rattle.std.specs.Prelude.{◌≡◌, ◌+◌, ◌*◌, ◌↔◌, IsTrue, IfOk};
+ghost use Rattle.cs_tx_form.specs.declared.limits.TheConstants.{COVERED};
 ghost use Rattle.cs_tx_form.specs.Log.{LeafFits};
 ghost use Rattle.cs_checkpoint.specs.Shown.{Shows};
 
@@ -9,14 +10,15 @@ use cs_base::Memory;
 use cs_hash::same;
 use cs_merkle::verify;
 use cs_tx::{Digest, Proof};
+use cs_tx_form::COVERED;
 use std::alloc::Global;
 
 // Whether a slot is the one at this place of the 16 that the checkpoint of this number covers.
 fn is_at(slot: u64, number: u64, place: u8) -> bool
-    ensures { IsTrue result ↔ (slot ≡ 16 * number + place) }
+    ensures { IsTrue result ↔ (slot ≡ COVERED * number + place) }
 {
     match slot.checked_sub(u64::from(place)) {
-        Some(first) => first % 16 == 0 && first / 16 == number,
+        Some(first) => first % COVERED == 0 && first / COVERED == number,
         None => false,
     }
 }
@@ -37,5 +39,5 @@ pub fn shows(alloc: Global, head: &Digest, proof: &Proof) -> Result<bool, Memory
     let leaf = encode_leaf(alloc, &proof.leaf)?;
     let place = u64::from(proof.place);
     let path = proof.path.as_slice();
-    Ok(verify(&checkpoint.leaf_root, 16, place, leaf.as_slice(), path))
+    Ok(verify(&checkpoint.leaf_root, COVERED, place, leaf.as_slice(), path))
 }

@@ -3,13 +3,13 @@ use Rattle.std.specs.Prelude.{ℕ, ◌==◌, List, [], ◌∷◌, length, codes,
 use Rattle.std.specs.Result.{result_ok}
 use Rattle.std.specs.Str.{bytes_eq}
 use Rattle.hex.specs.Hex.{decode_of}
-use Rattle.sha2.specs.Sha256.{sha256}
 use Rattle.toml.specs.Data.{Data, string, integer, float, boolean, datetime, array, table, Items, no_items, item, as_str}
 use Rattle.cs_base.specs.Fields.{whole_at}
 use Rattle.cs_tx_value.specs.declared.object.Object.{Object}
 use Rattle.cs_tx_value.specs.Object.{object_at}
 use Rattle.cs_tx_value.specs.declared.value.Value.{Value}
 use Rattle.cs_tx_value.specs.declared.value.Value.TheVariants as value
+use Rattle.cs_tx.specs.Token.{token_id}
 
 -- the bytes of hex digits of either case, in pairs
 abbrev pub hex_of : List ℕ → Option (List ℕ)
@@ -22,10 +22,6 @@ digest_in bytes = if length bytes == 32 then Some bytes else None
 -- a string of 64 hex digits
 abbrev pub digest_of : Data → Option (List ℕ)
 digest_of held = option_and_then digest_in (option_and_then hex_of (as_str held))
-
--- the id of the built-in contract
-abbrev pub token_id : List ℕ
-token_id = sha256 (codes "token")
 
 -- the contract of this text: its id, or `token`
 abbrev pub contract_in : List ℕ → Option (List ℕ)

@@ -2,12 +2,12 @@
 ghost use Rattle.std.specs.Prelude.{◌≡◌, IfOk, IfSome, option_map, option_and_then};
 ghost use Rattle.cs_base.specs.Fields.{whole_at};
 ghost use Rattle.cs_tx_value.specs.Object.{ObjectFits, object_at};
-ghost use Rattle.cs_config.specs.Items.{hex_of, digest_in, contract_in, token_id};
+ghost use Rattle.cs_config.specs.Items.{hex_of, digest_in, contract_in};
 
 use cs_base::Memory;
+use cs_tx::id_of_token;
 use cs_tx_value::{Digest, Encoded, FormError, Object};
 use hex::FromHexError;
-use sha2::{Digest as Hasher, Sha256};
 use std::alloc::Global;
 
 /// The bytes of hex digits of either case, in pairs.
@@ -41,12 +41,6 @@ pub fn read_digest(alloc: Global, text: &str) -> Result<Option<Digest>, Memory>
         Some(bytes) => Ok(digest_of(&bytes)),
         None => Ok(None),
     }
-}
-
-fn id_of_token() -> Digest
-    ensures { result ≡ token_id }
-{
-    Sha256::digest(b"token")
 }
 
 /// The contract's id of which the text is the hex; or that of `token`, by its name.

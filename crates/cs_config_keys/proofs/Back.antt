@@ -12,7 +12,7 @@ use Rattle.cs_base.specs.declared.node_id.NodeId.{NodeId}
 use Rattle.cs_base.specs.NodeId.{is_named, node_text}
 use Rattle.cs_base.proofs.NodeTexts.{node_of-node_text}
 use Rattle.cs_wire.specs.Keys.{Listed, row_listed, IsOfMaster}
-use Rattle.cs_wire.specs.Opened.{names_of}
+use Rattle.cs_wire.specs.AllNames.{names_of}
 use Rattle.cs_config.specs.Reading.{each}
 use Rattle.cs_config.specs.Items.{digest_of}
 use Rattle.cs_config.proofs.Tables.{table_of-text}

@@ -6,7 +6,7 @@ use Rattle.std.proofs.lemmas.Bool.Decides.{eqb_tells}
 use Rattle.std.proofs.lemmas.List.Folds.{list_all-append}
 use Rattle.cs_base.specs.declared.node_id.NodeId.{NodeId}
 use Rattle.cs_base.specs.NodeId.{members_below}
-use Rattle.cs_wire.specs.Opened.{nodes_below}
+use Rattle.cs_wire.specs.AllNames.{nodes_below}
 
 abbrev member : ℕ → ℕ → NodeId
 member shard index = record { shard = shard; index = index }

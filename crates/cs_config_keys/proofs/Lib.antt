@@ -1,5 +1,5 @@
 mod Counting
 mod Names
-mod Listed
+pub mod Listed
 mod Tables
 mod Back

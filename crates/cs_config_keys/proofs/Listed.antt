@@ -1,20 +1,21 @@
 -- The list of what a master key gives is complete, names no peer twice, and is that of its rows.
-use Rattle.std.proofs.Common.{◌≡◌, ℕ, ◌+◌, Bool, true, false, cond, List, [], ◌∷◌, ◌++◌, map, Some, None, refl, sym, ap, ◌∙◌, add-one, append_assoc, append-nil}
+use Rattle.std.proofs.Common.{◌≡◌, ℕ, ◌+◌, Bool, true, false, cond, List, [], ◌∷◌, ◌++◌, map, length, take, get_or, ◌<◌, Some, None, refl, sym, ap, ◌∙◌, add-one, append-nil}
 use Rattle.std.specs.Prelude.{◌&&◌, ◌||◌, not, ◌*◌}
 use Rattle.std.specs.List.{list_all}
+use Rattle.std.proofs.Math.Seq.{take-suc}
 use Rattle.std.proofs.lemmas.List.Folds.{list_any-append}
 use Rattle.cs_base.specs.declared.config.Config.{Config}
 use Rattle.cs_base.specs.declared.node_id.NodeId.{NodeId}
-use Rattle.cs_base.specs.declared.node_id.TheConstants.{CLIENT_SHARD, CLIENTS}
-use Rattle.cs_base.specs.NodeId.{is_named, same_name, members_below}
+use Rattle.cs_base.specs.NodeId.{is_named, same_name}
 use Rattle.cs_wire.specs.declared.keys.Row.{Row}
-use Rattle.cs_wire.specs.Keys.{Listed, has_name, stands, first_twice, row_in, row_listed, row_between, row_expected}
-use Rattle.cs_wire.specs.Opened.{nodes_below, names_of}
+use Rattle.cs_wire.specs.Keys.{Listed, stands, first_twice, row_in, row_listed, row_between, row_expected}
+use Rattle.cs_wire.specs.AllNames.{nodes_below, names_of, has_name}
 use Rattle.cs_wire.proofs.Parts.{are_same}
 use Rattle.cs_wire.proofs.Rows.{row_skipped}
 use Rattle.cs_config_keys.specs.Complete.{is_held, is_complete}
 use Rattle.cs_config_keys.specs.Printed.{listed_between, list_with, ListedFits, AllListedFit}
-use Rattle.cs_config_keys.proofs.Names.{Apart, or_true, neither, unlike, refuted, same_self, has_named, has_node, all_having, apart_named}
+use Rattle.cs_wire.proofs.Named.{has_named, has_node}
+use Rattle.cs_config_keys.proofs.Names.{Apart, or_true, neither, unlike, refuted, same_self, all_having, apart_named}
 
 pub list_with-append : (master : List ℕ) (me : NodeId) (xs ys : List NodeId) → list_with master me (xs ++ ys) ≡ list_with master me xs ++ list_with master me ys
 list_with-append master me [] ys = refl
@@ -131,39 +132,25 @@ module _ (master : List ℕ) (me : NodeId) where
 
 -- ---- one more
 
-pub fits-push : (list : List Listed) (x : Listed) → AllListedFit list → ListedFits x → AllListedFit (list ++ x ∷ [])
-fits-push [] x all here = (here, tt)
-fits-push (y ∷ list) x all here = (all.0, fits-push list x all.1 here)
+pub fits_push : (list : List Listed) (x : Listed) → AllListedFit list → ListedFits x → AllListedFit (list ++ x ∷ [])
+fits_push [] x all here = (here, tt)
+fits_push (y ∷ list) x all here = (all.0, fits_push list x all.1 here)
 
--- the next member is listed, or is me
-module _ (master : List ℕ) (me : NodeId) (shard n : ℕ) (before old new : List Listed) (so_far : old ≡ before ++ list_with master me (members_below shard n)) where
-  abbrev next : NodeId
-  next = record { shard = shard; index = n }
+-- one name more is listed, or is me
+pub listed_next : (master : List ℕ) (me : NodeId) (names : List NodeId) (i : ℕ) (d : NodeId) (old new : List Listed) → i < length names
+    → old ≡ list_with master me (take i names) → new ≡ old ++ list_with master me (get_or names i d ∷ []) → new ≡ list_with master me (take (i + 1) names)
+listed_next master me names i d old new within so_far grown =
+    let taken : take (i + 1) names ≡ take i names ++ get_or names i d ∷ [] = rw add-one (take-suc names i d within) in
+    grown ∙ ap (λ l. l ++ list_with master me (get_or names i d ∷ [])) so_far
+    ∙ sym (list_with-append master me (take i names) (get_or names i d ∷ []))
+    ∙ ap (list_with master me) (sym taken)
 
-  pushed : new ≡ old ++ list_with master me (next ∷ []) → new ≡ before ++ list_with master me (members_below shard (n + 1))
-  pushed grown =
-      grown ∙ ap (λ l. l ++ list_with master me (next ∷ [])) so_far
-      ∙ append_assoc before (list_with master me (members_below shard n)) (list_with master me (next ∷ []))
-      ∙ ap (λ l. before ++ l) (sym (list_with-append master me (members_below shard n) (next ∷ [])))
-      ∙ ap (λ k. before ++ list_with master me (members_below shard k)) (sym (add-one n))
+-- a name that isn't mine is listed, and mine isn't
+pub listed_other : (master : List ℕ) (me name : NodeId) (old new : List Listed) (listed : Listed) → same_name name me ≡ false → listed ≡ listed_between master me name
+    → new ≡ old ++ listed ∷ [] → new ≡ old ++ list_with master me (name ∷ [])
+listed_other master me name old new listed other is grown =
+    grown ∙ ap (λ y. old ++ y ∷ []) is ∙ ap (λ b. old ++ cond b [] (listed_between master me name ∷ [])) (sym other)
 
-  pub listed_next : same_name next me ≡ false → (x : Listed) → x ≡ listed_between master me next → new ≡ old ++ x ∷ [] → new ≡ before ++ list_with master me (members_below shard (n + 1))
-  listed_next other x is grown =
-      pushed (grown ∙ ap (λ y. old ++ y ∷ []) is ∙ ap (λ b. old ++ cond b [] (listed_between master me next ∷ [])) (sym other))
-
-  pub passed_next : same_name next me ≡ true → new ≡ old → new ≡ before ++ list_with master me (members_below shard (n + 1))
-  passed_next same kept =
-      pushed (kept ∙ sym (append-nil old) ∙ ap (λ b. old ++ cond b [] (listed_between master me next ∷ [])) (sym same))
-
--- the members of one more shard are listed
-pub shard_listed : (master : List ℕ) (me : NodeId) (members n : ℕ) (old new : List Listed) → old ≡ list_with master me (nodes_below members n) → new ≡ old ++ list_with master me (members_below n members) → new ≡ list_with master me (nodes_below members (n + 1))
-shard_listed master me members n old new so_far grown =
-    grown ∙ ap (λ l. l ++ list_with master me (members_below n members)) so_far
-    ∙ sym (list_with-append master me (nodes_below members n) (members_below n members))
-    ∙ ap (λ k. list_with master me (nodes_below members k)) (sym (add-one n))
-
--- the clients are listed behind the nodes
-pub clients_listed : (config : Config) (master : List ℕ) (me : NodeId) (old new : List Listed) → old ≡ list_with master me (nodes_below (3 * config.f + 1) config.shards) → new ≡ old ++ list_with master me (members_below CLIENT_SHARD CLIENTS) → new ≡ list_with master me (names_of config)
-clients_listed config master me old new so_far grown =
-    grown ∙ ap (λ l. l ++ list_with master me (members_below CLIENT_SHARD CLIENTS)) so_far
-    ∙ sym (list_with-append master me (nodes_below (3 * config.f + 1) config.shards) (members_below CLIENT_SHARD CLIENTS))
+pub listed_mine : (master : List ℕ) (me name : NodeId) (list : List Listed) → same_name name me ≡ true → list ≡ list ++ list_with master me (name ∷ [])
+listed_mine master me name list same =
+    sym (append-nil list) ∙ ap (λ b. list ++ cond b [] (listed_between master me name ∷ [])) (sym same)

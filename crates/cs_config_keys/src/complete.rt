@@ -3,7 +3,7 @@ ghost use Rattle.std.specs.Prelude.{◌≡◌};
 ghost use Rattle.std.specs.List.{list_all};
 ghost use Rattle.cs_base.specs.NodeId.{is_named, members_below};
 ghost use Rattle.cs_wire.specs.Keys.{stands};
-ghost use Rattle.cs_wire.specs.Opened.{nodes_below};
+ghost use Rattle.cs_wire.specs.AllNames.{nodes_below};
 ghost use Rattle.cs_config_keys.specs.Complete.{is_held, is_complete};
 
 use cs_base::{Config, NodeId};

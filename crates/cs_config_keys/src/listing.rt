@@ -1,34 +1,12 @@
 //! The keys that a master key gives a name, one peer after the other.
-ghost use Rattle.std.specs.Prelude.{◌≡◌, ◌++◌, IfOk, OnOk};
-ghost use Rattle.cs_base.specs.NodeId.{members_below};
-ghost use Rattle.cs_wire.specs.Keys.{pair_text, key_between};
-ghost use Rattle.cs_wire.specs.Opened.{nodes_below, names_of};
+ghost use Rattle.std.specs.Prelude.{◌≡◌, [], ◌∷◌, ◌++◌, IfOk, OnOk};
+ghost use Rattle.cs_wire.specs.AllNames.{names_of};
 ghost use Rattle.cs_config_keys.specs.Printed.{listed_between, list_with, ListedFits, AllListedFit};
 
-use cs_base::{CLIENT_SHARD, CLIENTS, Config, Memory, NodeId, Sequence, Writer};
-use cs_hash::tag;
+use cs_base::{Config, Memory, NodeId, Sequence};
 use cs_tx_value::Digest;
+use cs_wire::{all_names, key_between};
 use std::alloc::Global;
-
-#[tactic(auto, unfolding(cs_wire::specs::Keys::pair_text))]
-fn pair_text(alloc: Global, from: NodeId, to: NodeId) -> Result<Vec<u8>, Memory>
-    ensures { IfOk result (λ text. text.items ≡ pair_text from to) }
-{
-    let mut text = Writer::new(alloc);
-    text.take(b"key".as_slice())?;
-    text.u16(from.shard)?;
-    text.u16(from.index)?;
-    text.u16(to.shard)?;
-    text.u16(to.index)?;
-    Ok(text.into_bytes())
-}
-
-fn key_between(alloc: Global, master: &Digest, from: NodeId, to: NodeId) -> Result<Digest, Memory>
-    ensures { IfOk result (λ key. key ≡ key_between master.now from to) }
-{
-    let text = pair_text(alloc, from, to)?;
-    Ok(tag(master.as_slice(), &text))
-}
 
 fn listed_between(
     alloc: Global,
@@ -44,42 +22,38 @@ fn listed_between(
     Ok((peer, to, from))
 }
 
-// Adds what is shared with so many members of a shard, but for me.
-fn add_members(
+// Adds what is shared with a name, where it isn't me.
+#[tactic(auto, using(crate::proofs::Listed::listed_mine, crate::proofs::Listed::listed_other, crate::proofs::Listed::fits_push))]
+fn add_listed(
     alloc: Global,
     master: &Digest,
     me: NodeId,
-    shard: u16,
-    count: u16,
+    name: NodeId,
     list: &mut Sequence<(NodeId, Digest, Digest)>,
 ) -> Result<(), Memory>
-    ensures is { OnOk result
-        (list.new ≡ list.old ++ list_with master.now me (members_below shard count)) }
+    ensures is { OnOk result (list.new ≡ list.old ++ list_with master.now me (name ∷ [])) }
     ensures fits { AllListedFit list.old → OnOk result (AllListedFit list.new) }
 {
-    for index in 0..count {
-        let peer = NodeId { shard, index };
-        if peer != me {
-            list.push(listed_between(alloc, master, me, peer)?)?;
-        }
+    if name == me {
+        return Ok(());
     }
+    let listed = listed_between(alloc, master, me, name)?;
+    list.push(listed)?;
     Ok(())
 }
 
-fn list_nodes(
+fn list_with(
     alloc: Global,
     master: &Digest,
     me: NodeId,
-    members: u16,
-    shards: u16,
+    names: &[NodeId],
 ) -> Result<Sequence<(NodeId, Digest, Digest)>, Memory>
-    ensures is { IfOk result (λ list.
-        list ≡ list_with master.now me (nodes_below members shards)) }
+    ensures is { IfOk result (λ list. list ≡ list_with master.now me names.now) }
     ensures fits { IfOk result AllListedFit }
 {
     let mut list = Sequence::new(alloc);
-    for shard in 0..shards {
-        add_members(alloc, master, me, shard, members, &mut list)?;
+    for name in names {
+        add_listed(alloc, master, me, *name, &mut list)?;
     }
     Ok(list)
 }
@@ -94,7 +68,6 @@ pub fn list_with_all(
     ensures is { IfOk result (λ list. list ≡ list_with master.now me (names_of config.now)) }
     ensures fits { IfOk result AllListedFit }
 {
-    let mut list = list_nodes(alloc, master, me, 3 * config.f + 1, config.shards)?;
-    add_members(alloc, master, me, CLIENT_SHARD, CLIENTS, &mut list)?;
-    Ok(list)
+    let names = all_names(alloc, config)?;
+    list_with(alloc, master, me, names.as_slice())
 }

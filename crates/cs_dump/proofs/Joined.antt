@@ -5,7 +5,7 @@ use Rattle.std.specs.List.{flat_map}
 use Rattle.std.specs.Fmt.{decimal}
 use Rattle.cs_tx_value.specs.declared.object.Object.{Object}
 use Rattle.cs_node_state.specs.Deployed.{genesis_from}
-use Rattle.cs_node_rules.specs.Dumps.{number_line, genesis_line}
+use Rattle.cs_replay_rules.specs.Dumps.{number_line, genesis_line}
 use Rattle.cs_dump.specs.Lines.{settings_text, object_line}
 
 -- a line of a number in front of a text

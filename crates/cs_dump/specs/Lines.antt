@@ -6,7 +6,7 @@ use Rattle.std.specs.Fmt.{decimal}
 use Rattle.cs_base.specs.Codes.{bytes_text}
 use Rattle.cs_tx_value.specs.declared.object.Object.{Object}
 use Rattle.cs_tx_value.specs.Object.{object_encoding}
-use Rattle.cs_node_rules.specs.Dumps.{leaf_line, dumped_head}
+use Rattle.cs_replay_rules.specs.Dumps.{leaf_line, dumped_head}
 use Rattle.cs_play.specs.Logged.{Logged}
 
 abbrev pub settings_text : ℕ → ℕ → ℕ → List ℕ

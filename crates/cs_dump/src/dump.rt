@@ -2,7 +2,7 @@
 ghost use Rattle.std.specs.Prelude.{◌≡◌, ◌++◌, IfOk, string_bytes};
 ghost use Rattle.std.specs.List.{flat_map, All};
 ghost use Rattle.cs_tx_value.specs.Object.{ObjectFits};
-ghost use Rattle.cs_node_rules.specs.Dumps.{contract_line, logs_text, dump_text};
+ghost use Rattle.cs_replay_rules.specs.Dumps.{contract_line, logs_text, dump_text};
 ghost use Rattle.cs_play.specs.Standing.{site_in};
 ghost use Rattle.cs_play.specs.Ends.{WhereStands};
 ghost use Rattle.cs_dump.specs.Lines.{settings_text, object_line};

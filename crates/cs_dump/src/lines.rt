@@ -3,7 +3,7 @@ ghost use Rattle.std.specs.Prelude.{◌≡◌, IfOk, string_bytes, option_copied
 ghost use Rattle.std.specs.List.{flat_map, All};
 ghost use Rattle.cs_base.specs.Codes.{bytes_text};
 ghost use Rattle.cs_tx_value.specs.Object.{ObjectFits, object_encoding};
-ghost use Rattle.cs_node_rules.specs.Dumps.{leaf_line, dumped_head, contract_line};
+ghost use Rattle.cs_replay_rules.specs.Dumps.{leaf_line, dumped_head, contract_line};
 ghost use Rattle.cs_play.specs.Longest.{log_in};
 ghost use Rattle.cs_dump.specs.Lines.{settings_text, object_line, log_line, logged_text};
 

@@ -6,7 +6,8 @@ use Rattle.std.proofs.lemmas.List.{length-map}
 use Rattle.cs_base.specs.Fields.{each}
 use Rattle.cs_node_state.specs.Setup.{Setup}
 use Rattle.cs_node_rules.specs.World.{Execution}
-use Rattle.cs_sched.specs.Printed.{line_text, contract_lines, genesis_lines}
+use Rattle.cs_text.specs.Printed.{line_text}
+use Rattle.cs_sched.specs.Printed.{contract_lines, genesis_lines}
 use Rattle.cs_dump_read.specs.declared.dump.Dump.{Dump}
 use Rattle.cs_dump_read.specs.declared.dump.Log.{Log}
 use Rattle.cs_dump_read.specs.Printed.{leaf_words, head_words, tx_words, log_lines, logs_lines, config_lines, history_lines, dump_lines, printed_dump}

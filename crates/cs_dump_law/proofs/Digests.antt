@@ -11,7 +11,7 @@ use Rattle.cs_ledger.specs.Ledger.{Bytes, Transaction}
 use Rattle.cs_ledger.specs.ShardWorld.{is_listed}
 use Rattle.cs_ledger.specs.Table.{Effect}
 use Rattle.cs_node_state.specs.Setup.{Setup}
-use Rattle.cs_node_rules.specs.Dumps.{heads_below}
+use Rattle.cs_replay_rules.specs.Dumps.{heads_below}
 use Rattle.cs_node_rules.specs.World.{Execution, told, told_after, is_voted, all_recorded}
 use Rattle.cs_audit_law.specs.Passing.{told_digests}
 use Rattle.cs_dump_law.proofs.Bytes.{hashed}

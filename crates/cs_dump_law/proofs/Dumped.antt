@@ -4,7 +4,7 @@ use Rattle.cs_tx_form.specs.declared.session.Session.{Session}
 use Rattle.cs_tx_form.specs.declared.transaction.Tx.{Tx}
 use Rattle.cs_tx_value.specs.Object.{DigestFits}
 use Rattle.cs_order_rules.specs.declared.message.OrderMessage.{OrderMessage}
-use Rattle.cs_node_rules.specs.Dumps.{dump_text}
+use Rattle.cs_replay_rules.specs.Dumps.{dump_text}
 use Rattle.cs_node_rules.specs.Site.{Site}
 use Rattle.cs_node_rules.specs.World.{Happening, firsts_of, history}
 use Rattle.cs_world_law.specs.Worlds.{ExecutesFit}

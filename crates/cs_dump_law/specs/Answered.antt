@@ -4,7 +4,7 @@ use Rattle.cs_tx_form.specs.declared.transaction.Tx.{Tx}
 use Rattle.cs_ledger.specs.Ledger.{Bytes, Transaction}
 use Rattle.cs_sched_types.specs.declared.schedule.Schedule.{Schedule}
 use Rattle.cs_node_rules.specs.Collisions.{NoCollision}
-use Rattle.cs_node_rules.specs.Dumps.{dump_text}
+use Rattle.cs_replay_rules.specs.Dumps.{dump_text}
 use Rattle.cs_replay.specs.Site.{site_of_schedule}
 use Rattle.cs_replay.specs.Played.{world_of, history_of}
 use Rattle.cs_dump_read.specs.declared.dump.Dump.{Dump}

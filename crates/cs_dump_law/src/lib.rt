@@ -10,8 +10,8 @@ ghost use Rattle.cs_dump_law.specs.Answered.{IsAnsweredYes};
 use cs_audit_law::worlds_pass_audit;
 use cs_dump_read::printed_dumps_are_read;
 use cs_log::SlotOrder;
-use cs_node_law::schedules_play_worlds;
 use cs_replay::schedules_are_sound;
+use cs_replay_rules::schedules_play_worlds;
 
 /// What is answered to the dump of every schedule that can be played, whatever its judge approves
 /// of.

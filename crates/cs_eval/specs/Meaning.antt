@@ -12,6 +12,7 @@ use Rattle.cs_lang.specs.declared.tree.Access.TheOpen.{Access-F, Shape-F, Expr-F
 use Rattle.cs_lang.specs.declared.tree.Access.TheFolds.{fold-Access, fold-Shape, fold-Expr, fold-Link, fold-Step}
 use Rattle.cs_tx_value.specs.declared.value.Value.{Value}
 use Rattle.cs_tx_value.specs.declared.value.Value.TheVariants as value
+use Rattle.cs_types_kinds.specs.declared.expressions.TheConstants.{HASH_COST}
 use Rattle.cs_types_kinds.specs.declared.kind.Kind.{Kind}
 use Rattle.cs_types_kinds.specs.Kinds.{int as int_kind, bool as bool_kind, bytes as bytes_kind, item_of as item_kind, kind_of}
 use Rattle.cs_types_kinds.specs.Judging.{kind_of_rank}
@@ -145,9 +146,9 @@ shape_means sight (Shape-F.List items) place =
     meant (list_kind (map kind_of_meant items)) 1 (items_run place [] (map run_of items))
 shape_means sight (Shape-F.Empty k) place = meant (kind_of k) 1 (gives (Plain (value.List [])))
 shape_means sight (Shape-F.Len part) place = meant (Some int_kind) 1 (of_one one.Len place (run_of part))
-shape_means sight (Shape-F.Sha256 part) place = meant (Some bytes_kind) 17 (of_one one.Sha256 place (run_of part))
+shape_means sight (Shape-F.Sha256 part) place = meant (Some bytes_kind) HASH_COST (of_one one.Sha256 place (run_of part))
 shape_means sight (Shape-F.Concat front back) place =
-    meant front.kind 17 (of_two two.Concat place (run_of front) (run_of back))
+    meant front.kind HASH_COST (of_two two.Concat place (run_of front) (run_of back))
 shape_means sight (Shape-F.Called dep method) place =
     meant (Some bool_kind) 1 (gives (truth (is_called sight.view dep method.bytes)))
 shape_means sight (Shape-F.DepInt dep value) place = meant (Some int_kind) 1 (returned_int sight.view dep value place)

@@ -24,10 +24,8 @@ use cs_eval_values::{
 };
 use cs_lang::{Access, Expr, Link, Shape, Step};
 use cs_tx_value::Value;
+use cs_types_kinds::HASH_COST;
 use std::sync::ledger::Ledger;
-
-/// What hashing, joining and comparing bytes spend.
-const DEAR: u64 = 17;
 
 /// The value of a name.
 fn name<'a>(names: &Names<'a>, name: &[u8], place: usize) -> Result<Held<'a>, Stop>
@@ -241,8 +239,8 @@ fn own_units(scene: &Scene<'_, '_>, names: &Names<'_>, expr: &Expr) -> u64
     ensures { result ≡ (expr_meant (seen_from scene.now names.now) expr.now).units }
 {
     match &expr.shape {
-        Shape::Sha256(_) => DEAR,
-        Shape::Concat(_, _) => DEAR,
+        Shape::Sha256(_) => HASH_COST,
+        Shape::Concat(_, _) => HASH_COST,
         Shape::Compared(_, left, _) => comparing(kind_given(scene, names, left.get())),
         Shape::Path(_, steps) => steps.len() as u64,
         Shape::Chain(_, _, links) => links.len() as u64,

@@ -11,14 +11,14 @@ ghost use Rattle.cs_eval_values.specs.Namings.{Named};
 use crate::scene::Scene;
 use cs_eval_values::Names;
 use cs_lang::{Access, Expr, Rank, Shape, Step};
-use cs_types_kinds::{BOOL, BYTES, INT, Kind, field_kind, kind_of};
+use cs_types_kinds::{BOOL, BYTES, INT, Kind, comparing_cost, field_kind, kind_of};
 
 /// What it takes to compare two of a kind.
 pub fn comparing(kind: Option<Kind>) -> u64
     ensures { result ≡ comparing kind }
 {
     match kind {
-        Some(kind) => if kind.same(BYTES) { 17 } else { 1 },
+        Some(kind) => comparing_cost(kind),
         None => 1,
     }
 }

@@ -1,5 +1,5 @@
 -- The names of a configuration, and those of their key files.
-use Rattle.std.proofs.Common.{◌≡◌, ℕ, zero, suc, ◌+◌, ◌<◌, ◌≤◌, ◌^◌, ◌*◌, Bool, true, false, List, [], ◌∷◌, ◌++◌, Some, refl, sym, ap, ◌∙◌, arith, add-one, append_assoc}
+use Rattle.std.proofs.Common.{◌≡◌, ℕ, zero, suc, ◌+◌, ◌<◌, ◌≤◌, ◌^◌, ◌*◌, Bool, true, false, List, [], ◌∷◌, ◌++◌, Some, refl, sym, ap, ◌∙◌, arith}
 use Rattle.std.specs.Prelude.{codes, ◌&&◌, ◌||◌, ◌==◌, nat_lt, nat_le}
 use Rattle.std.specs.List.{AllByRecursion}
 use Rattle.std.proofs.lemmas.Bool.{lt-ltb, ltb-true, le-leb, leb-true, eqb-true}
@@ -9,20 +9,8 @@ use Rattle.cs_base.specs.declared.node_id.NodeId.{NodeId}
 use Rattle.cs_base.specs.declared.node_id.TheConstants.{CLIENT_SHARD, CLIENTS}
 use Rattle.cs_base.specs.NodeId.{is_client, is_node, is_named, node_text, node_of, members_below}
 use Rattle.cs_base.proofs.NodeTexts.{node_of-node_text}
-use Rattle.cs_wire.specs.Opened.{nodes_below, names_of}
+use Rattle.cs_wire.specs.AllNames.{nodes_below, names_of}
 use Rattle.cs_key_files.specs.Names.{key_file}
-
--- ---- the names, one more at a time
-
-pub members-next : (before list now : List NodeId) (shard n : ℕ) → list ≡ before ++ members_below shard n → now ≡ list ++ record { shard = shard; index = n } ∷ [] → now ≡ before ++ members_below shard (n + 1)
-members-next before list now shard n is pushed =
-    let one : List NodeId = record { shard = shard; index = n } ∷ [] in
-    pushed ∙ ap (λ l. l ++ one) is ∙ append_assoc before (members_below shard n) one
-    ∙ ap (λ k. before ++ members_below shard k) (sym (add-one n))
-
-pub nodes-next : (list now : List NodeId) (members n : ℕ) → list ≡ nodes_below members n → now ≡ list ++ members_below n members → now ≡ nodes_below members (n + 1)
-nodes-next list now members n is added =
-    added ∙ ap (λ l. l ++ members_below n members) is ∙ ap (λ k. nodes_below members k) (sym (add-one n))
 
 -- ---- what holds of all names
 

@@ -3,16 +3,16 @@ ghost use Rattle.std.specs.Prelude.{◌≡◌, true, [], ◌∷◌};
 ghost use Rattle.cs_base.specs.Outside.{HasCause};
 ghost use Rattle.cs_base.specs.NodeId.{is_named};
 ghost use Rattle.cs_outer.specs.Told.{Changes};
-ghost use Rattle.cs_wire.specs.Opened.{names_of};
+ghost use Rattle.cs_wire.specs.AllNames.{names_of};
 ghost use Rattle.cs_key_files.specs.Saving.{SavesUpTo, ByFault};
 
-use crate::listing::all_names;
 use crate::naming::key_file;
 use cs_base::{Memory, NodeId};
 use cs_config::Site;
 use cs_config_keys::print_keys;
 use cs_outer::{Saved, Store};
 use cs_tx_value::Digest;
+use cs_wire::all_names;
 use std::alloc::Global;
 
 /// Why not all key files were saved.

@@ -1,4 +1,4 @@
--- The order is its replica, where there is one.
+-- The order is its replica, where that is whole.
 use Rattle.std.proofs.Common.{◌≡◌, ℕ, ◌<◌, ◌≤◌, max, Bool, true, false, List, ◌++◌, length, Option, Some, None, IsSome, refl, sym, ap, ◌∙◌, subst}
 use Rattle.cs_order.specs.Deeds.{Member, did, chosen_in, kept_from}
 use Rattle.cs_order.specs.Deeds as deed
@@ -24,11 +24,15 @@ use Rattle.cs_log.proofs.Calling.{Outs, takes, advances, lowers, echoes, echo_lo
 abbrev pub Witness : KeptReplica → Type 0
 Witness k = (h : Member OrderMessage) × StandsFor k h
 
-pub led_as : (inside : Option Replica) (replica : Replica) → inside ≡ Some replica → IsLed (kept_if inside) → Witness (kept replica)
-led_as inside replica is led = subst (λ o. IsLed (kept_if o)) is led
+pub led_as : (whole : Bool) (replica : Replica) → whole ≡ true → IsLed (kept_if whole replica) → Witness (kept replica)
+led_as whole replica is led = subst (λ b. IsLed (kept_if b replica)) is led
 
-pub now_is : (inside : Option Replica) (replica : Replica) (now : Option KeptReplica) → inside ≡ Some replica → kept_if inside ≡ now → Some (kept replica) ≡ now
-now_is inside replica now is view = ap kept_if (sym is) ∙ view
+pub now_is : (whole : Bool) (replica : Replica) (now : Option KeptReplica) → whole ≡ true → kept_if whole replica ≡ now → Some (kept replica) ≡ now
+now_is whole replica now is view = ap (λ b. kept_if b replica) (sym is) ∙ view
+
+-- what holds of the replica holds of what is kept of it, where that is whole
+pub at_whole : (P : Option KeptReplica → Type 0) (whole : Bool) (replica : Replica) → whole ≡ true → P (Some (kept replica)) → P (kept_if whole replica)
+at_whole P whole replica is p = subst P (ap (λ b. kept_if b replica) (sym is)) p
 
 same_member : (k new : KeptReplica) (s t : Sight) → Mirrors k s → Mirrors new t → (t.f ≡ s.f) × (t.me ≡ s.me) → (new.f ≡ k.f) × (new.me ≡ k.me)
 same_member k new s t p q same = (q.f ∙ same.0 ∙ sym p.f, q.me ∙ same.1 ∙ sym p.me)

@@ -1,5 +1,5 @@
 -- Where a member's deeds have led it.
-use Rattle.std.specs.Prelude.{◌≡◌, ℕ, Option, Some, None}
+use Rattle.std.specs.Prelude.{◌≡◌, ℕ, Bool, if◌then◌else◌, Option, Some, None}
 use Rattle.cs_order.specs.Deeds.{Member, kept_from}
 use Rattle.cs_order.specs.declared.proposed.Proposed.{Proposed}
 use Rattle.cs_order.specs.declared.answers.May.{May}
@@ -10,10 +10,9 @@ use Rattle.cs_order_open.specs.Look.{look_of, pending_by, may_by}
 use Rattle.cs_log.specs.Replicas.{KeptReplica, kept, Mirrors, at_first, kept_rest}
 use Rattle.cs_log.specs.declared.replica.Replica.{Replica}
 
--- after a want of memory there is no replica
-abbrev pub kept_if : Option Replica → Option KeptReplica
-kept_if None = None
-kept_if (Some replica) = Some (kept replica)
+-- after a want of memory nothing is kept
+abbrev pub kept_if : Bool → Replica → Option KeptReplica
+kept_if whole replica = if whole then Some (kept replica) else None
 
 -- The deeds come to what is kept, and to the slot from which on the log is kept.
 pub record StandsFor (k : KeptReplica) (h : Member OrderMessage) : Type 0 where

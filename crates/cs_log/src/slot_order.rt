@@ -11,6 +11,7 @@ use crate::replica::Replica;
 use cs_base::Memory;
 use cs_order::{May, Order, Outgoing, Proposed, Step, Took};
 use cs_order_rules::OrderMessage;
+use cs_whole::Whole;
 use std::alloc::Global;
 use std::marker::Model;
 
@@ -19,7 +20,8 @@ use std::marker::Model;
 /// After a want of memory it does nothing more: its calls answer that again, or nothing.
 #[derive(Drop)]
 pub struct SlotOrder {
-    replica: Option<Replica>,
+    replica: Replica,
+    whole: Whole,
 }
 
 impl Model for SlotOrder {
@@ -29,9 +31,9 @@ impl Model for SlotOrder {
 
     ghost Value = { Option KeptReplica };
 
-    ghost view = { λ s. kept_if s.replica };
+    ghost view = { λ s. kept_if s.whole s.replica };
 
-    ghost invariant = { λ s. IsLed (kept_if s.replica) };
+    ghost invariant = { λ s. IsLed (kept_if s.whole s.replica) };
 }
 
 impl SlotOrder {
@@ -44,7 +46,8 @@ impl SlotOrder {
     {
         let replica = Replica::new(alloc, f, me)?;
         Ok(SlotOrder {
-            replica: Some(replica),
+            replica,
+            whole: Whole::new(),
         })
     }
 }
@@ -85,37 +88,26 @@ impl Order for SlotOrder {
     ghost bounded = { λ s. rest_bounded s };
 
     fn open_slot(&self) -> u64 {
-        match &self.replica {
-            Some(replica) => replica.open_slot(),
-            None => 0,
-        }
+        self.replica.open_slot()
     }
 
     fn view(&self) -> u16 {
-        match &self.replica {
-            Some(replica) => replica.view(),
-            None => 0,
-        }
+        self.replica.view()
     }
 
     fn take(&mut self, alloc: Global, from: u16, message: OrderMessage) -> Result<Took, Memory> {
-        let Some(mut replica) = self.replica.take() else {
-            return Err(Memory);
-        };
-        if from > 3 * replica.f() || from == replica.me() {
-            self.replica = Some(replica);
+        self.whole.check()?;
+        if from > 3 * self.replica.f() || from == self.replica.me() {
             return Ok(Took::Leader);
         }
-        let took = replica.take(alloc, from, message)?;
-        self.replica = Some(replica);
+        self.whole.begin()?;
+        let took = self.replica.take(alloc, from, message)?;
+        self.whole.end();
         Ok(took)
     }
 
     fn entry(&self, slot: u64) -> Option<&Proposed> {
-        match &self.replica {
-            Some(replica) => replica.entry(slot),
-            None => None,
-        }
+        self.replica.entry(slot)
     }
 
     fn advance(
@@ -123,35 +115,31 @@ impl Order for SlotOrder {
         alloc: Global,
         out: &mut Vec<Outgoing<OrderMessage>>,
     ) -> Result<Step, Memory> {
-        let Some(mut replica) = self.replica.take() else {
-            return Err(Memory);
-        };
-        let step = replica.advance(alloc, out)?;
-        self.replica = Some(replica);
+        self.whole.begin()?;
+        let step = self.replica.advance(alloc, out)?;
+        self.whole.end();
         Ok(step)
     }
 
     fn pending(&self) -> Option<&Proposed> {
-        match &self.replica {
-            Some(replica) => replica.pending(),
-            None => None,
+        if !self.whole.is_whole() {
+            return None;
         }
+        self.replica.pending()
     }
 
     fn echo(&mut self, alloc: Global, out: &mut Vec<Outgoing<OrderMessage>>) -> Result<(), Memory> {
-        let Some(mut replica) = self.replica.take() else {
-            return Err(Memory);
-        };
-        replica.echo(alloc, out)?;
-        self.replica = Some(replica);
+        self.whole.begin()?;
+        self.replica.echo(alloc, out)?;
+        self.whole.end();
         Ok(())
     }
 
     fn may_propose(&self, alloc: Global) -> Result<May, Memory> {
-        match &self.replica {
-            Some(replica) => replica.may_propose(alloc),
-            None => Ok(May::No),
+        if !self.whole.is_whole() {
+            return Ok(May::No);
         }
+        self.replica.may_propose(alloc)
     }
 
     fn propose(
@@ -160,19 +148,15 @@ impl Order for SlotOrder {
         entry: Proposed,
         out: &mut Vec<Outgoing<OrderMessage>>,
     ) -> Result<(), Memory> {
-        let Some(mut replica) = self.replica.take() else {
-            return Err(Memory);
-        };
-        replica.propose(alloc, entry, out)?;
-        self.replica = Some(replica);
+        self.whole.begin()?;
+        self.replica.propose(alloc, entry, out)?;
+        self.whole.end();
         Ok(())
     }
 
     fn resend(&self, alloc: Global, out: &mut Vec<Outgoing<OrderMessage>>) -> Result<(), Memory> {
-        match &self.replica {
-            Some(replica) => replica.resend(alloc, out),
-            None => Err(Memory),
-        }
+        self.whole.check()?;
+        self.replica.resend(alloc, out)
     }
 
     fn tick(
@@ -181,11 +165,9 @@ impl Order for SlotOrder {
         due: bool,
         out: &mut Vec<Outgoing<OrderMessage>>,
     ) -> Result<(), Memory> {
-        let Some(mut replica) = self.replica.take() else {
-            return Err(Memory);
-        };
-        replica.tick(alloc, due, out)?;
-        self.replica = Some(replica);
+        self.whole.begin()?;
+        self.replica.tick(alloc, due, out)?;
+        self.whole.end();
         Ok(())
     }
 
@@ -196,17 +178,14 @@ impl Order for SlotOrder {
         to: u16,
         out: &mut Vec<Outgoing<OrderMessage>>,
     ) -> Result<bool, Memory> {
-        match &self.replica {
-            Some(replica) => replica.reply(alloc, slot, to, out),
-            None => Err(Memory),
-        }
+        self.whole.check()?;
+        self.replica.reply(alloc, slot, to, out)
     }
 
     fn cut(&mut self, slot: u64) {
-        let Some(mut replica) = self.replica.take() else {
+        if !self.whole.is_whole() {
             return;
-        };
-        replica.cut(slot);
-        self.replica = Some(replica);
+        }
+        self.replica.cut(slot);
     }
 }

@@ -2,9 +2,8 @@
 #![tactic(auto)]
 
 ghost use Rattle.std.specs.Prelude.{◌≡◌, IfOk, string_bytes};
-ghost use Rattle.cs_tx_form.specs.Session.{SessionFits, EntryFits};
+ghost use Rattle.cs_tx_form.specs.Session.{EntryFits, session_in};
 ghost use Rattle.cs_tx.specs.Digest.{digest_of_session};
-ghost use Rattle.cs_node_state.specs.Setup.{session_in};
 ghost use Rattle.cs_node_rules.specs.Lines.{slot_line, effect_text, head_line};
 ghost use Rattle.cs_table.specs.Effects.{effect_of};
 ghost use Rattle.cs_table.specs.Seen.{vote_of};
@@ -12,7 +11,7 @@ ghost use Rattle.cs_ledger.specs.Table.{Voted};
 
 use cs_base::{Memory, NodeId, print_bytes};
 use cs_node::Effect;
-use cs_tx::{Digest, Entry, Session, Vote, session_digest};
+use cs_tx::{Digest, Entry, Vote, session_digest};
 use std::alloc::Global;
 
 /// The digest of the session of an entry.
@@ -20,7 +19,7 @@ pub fn digest_in(alloc: Global, entry: &Entry) -> Result<Digest, Memory>
     requires { EntryFits entry.now }
     ensures { IfOk result (λ digest. digest ≡ digest_of_session (session_in entry.now)) }
 {
-    session_digest(alloc, session_in(entry))
+    session_digest(alloc, entry.session())
 }
 
 /// The line of an execution of an entry, whose session has this digest.
@@ -78,14 +77,4 @@ fn vote_text(alloc: Global, digest: &Digest, vote: Vote) -> Result<String, Memor
         Vote::Commit => format!(in alloc; "prepare {digest} commit")?,
         Vote::Abort => format!(in alloc; "prepare {digest} abort")?,
     })
-}
-
-fn session_in(entry: &Entry) -> &Session
-    ensures is { result.now ≡ session_in entry.now }
-    ensures fits { EntryFits entry.now → SessionFits result.now }
-{
-    match entry {
-        Entry::Prepare(session) => session,
-        Entry::Decide(_, session) => session,
-    }
 }

@@ -7,7 +7,8 @@ use Rattle.cs_tx_form.specs.declared.session.Session.{Session}
 use Rattle.cs_tx_form.specs.declared.vote.Vote.{Vote}
 use Rattle.cs_tx_form.specs.declared.entry.Entry.{Entry}
 use Rattle.cs_tx_form.specs.declared.entry.Entry.TheVariants.{Prepare}
-use Rattle.cs_node_state.specs.Setup.{Setup, concerned, session_in}
+use Rattle.cs_node_state.specs.Setup.{Setup, concerned}
+use Rattle.cs_tx_form.specs.Session.{session_in}
 use Rattle.cs_node_state.specs.Admission.{due_vote, decide_due, first_decided, first_waiting}
 use Rattle.cs_node_pool.specs.Deployed.{deployed}
 use Rattle.cs_node_pool.specs.Calls.{IsNext}

@@ -13,8 +13,8 @@ deployed config genesis approves = setup_of config genesis (session_of approves)
 
 -- so at every setup of a deployment with this configuration: pool and table look at neither the genesis nor what the
 -- checks say
-abbrev pub AtAnySetup : Config → (Setup → Type 0) → Type 0
-AtAnySetup config Holds = (genesis : List Object) (approves : Tx → Bool) → Holds (deployed config genesis approves)
+abbrev pub AtEverySetup : Config → (Setup → Type 0) → Type 0
+AtEverySetup config Holds = (genesis : List Object) (approves : Tx → Bool) → Holds (deployed config genesis approves)
 
 -- the same where the checks say this
 abbrev pub AtAnyGenesis : Config → (Tx → Bool) → (Setup → Type 0) → Type 0

@@ -10,7 +10,7 @@ ghost use Rattle.cs_tx.specs.WellFormed.{IsWellFormed};
 ghost use Rattle.cs_tx_form.specs.Session.{SessionFits};
 ghost use Rattle.cs_node_state.specs.Pool.{found, without, changed, as_locked, with_ballot, waiting_count};
 ghost use Rattle.cs_node_state.specs.Admission.{first_decided, first_waiting, due};
-ghost use Rattle.cs_node_pool.specs.Deployed.{AtAnySetup};
+ghost use Rattle.cs_node_pool.specs.Deployed.{AtEverySetup};
 ghost use Rattle.cs_node_pool.specs.Fits.{PoolFits, AllFit, DueFits};
 ghost use Rattle.cs_node_pool.specs.declared.seat.Seat.{Seat};
 ghost use Rattle.cs_node_pool.specs.Calls.{counted_in, locked_in, session_under, IsNext};
@@ -129,7 +129,7 @@ impl Kept {
         ensures known { (config : Config) → AllRight config self.now.seats.entries →
             IfSome result (IsKnown config session.now) }
         ensures next { (config : Config) → AllRight config self.now.seats.entries →
-            AtAnySetup config (λ setup.
+            AtEverySetup config (λ setup.
             IsSome result ↔ IsNext setup (pool_in self.now) session.now) }
     {
         match known_as(self.first_at(&self.ready), session) {
@@ -338,7 +338,7 @@ impl Kept {
     fn decide_due(&self, alloc: Global) -> Result<Option<Entry>, Memory>
         requires placed { Placed self.now }
         ensures entry { (config : Config) → AllRight config self.now.seats.entries →
-            AtAnySetup config (λ setup.
+            AtEverySetup config (λ setup.
             IfOk result (λ entry. entry ≡ first_decided setup (pool_in self.now))) }
         ensures fits { (config : Config) → AllRight config self.now.seats.entries →
             IfOk result DueFits }
@@ -369,7 +369,7 @@ impl Kept {
     /// or else a vote on the first session that waits.
     pub fn due(&self, alloc: Global, config: &Config) -> Result<Option<Entry>, Memory>
         requires { SoundSeats config.now self.now }
-        ensures entry { AtAnySetup config.now (λ setup.
+        ensures entry { AtEverySetup config.now (λ setup.
             IfOk result (λ entry. entry ≡ due setup (pool_in self.now))) }
         ensures fits { IfOk result DueFits }
     {

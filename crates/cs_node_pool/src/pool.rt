@@ -6,7 +6,7 @@ ghost use Rattle.cs_tx.specs.WellFormed.{IsWellFormed};
 ghost use Rattle.cs_tx_form.specs.Session.{SessionFits};
 ghost use Rattle.cs_node_state.specs.Pool.{found, is_pooled, without, changed, as_locked, with_ballot, waiting_count};
 ghost use Rattle.cs_node_state.specs.Admission.{due};
-ghost use Rattle.cs_node_pool.specs.Deployed.{AtAnySetup};
+ghost use Rattle.cs_node_pool.specs.Deployed.{AtEverySetup};
 ghost use Rattle.cs_node_pool.specs.Fits.{DueFits, AllFit};
 ghost use Rattle.cs_node_pool.specs.Calls.{counted_in, locked_in, session_under, IsNext};
 ghost use Rattle.cs_node_pool.specs.Seats.{IsKnown};
@@ -16,6 +16,7 @@ use crate::kept::Kept;
 use cs_base::{Config, Memory};
 use cs_node_state::{Ballot, Pooled};
 use cs_tx::{Digest, Entry, Session};
+use cs_whole::Whole;
 use std::alloc::Global;
 use std::marker::Model;
 
@@ -27,7 +28,7 @@ use std::marker::Model;
 pub struct Pool {
     config: Config,
     kept: Kept,
-    is_whole: bool,
+    whole: Whole,
 }
 
 impl Model for Pool {
@@ -44,7 +45,7 @@ impl Model for Pool {
 
     ghost view = { λ p. record { config = p.config; sessions = pool_in p.kept } };
 
-    ghost invariant = { λ p. p.is_whole ≡ true → SoundSeats p.config p.kept };
+    ghost invariant = { λ p. p.whole ≡ true → SoundSeats p.config p.kept };
 }
 
 impl Pool {
@@ -55,7 +56,7 @@ impl Pool {
         Pool {
             config,
             kept: Kept::new(alloc),
-            is_whole: true,
+            whole: Whole::new(),
         }
     }
 
@@ -71,9 +72,7 @@ impl Pool {
         ensures { IfOk result (λ pooled.
             option_copied pooled ≡ found digest.now self.now.sessions) }
     {
-        if !self.is_whole {
-            return Err(Memory);
-        }
+        self.whole.check()?;
         Ok(self.kept.get(digest))
     }
 
@@ -89,9 +88,7 @@ impl Pool {
     pub fn waiting(&self) -> Result<usize, Memory>
         ensures { IfOk result (λ waiting. waiting ≡ waiting_count self.now.sessions) }
     {
-        if !self.is_whole {
-            return Err(Memory);
-        }
+        self.whole.check()?;
         Ok(self.kept.waiting())
     }
 
@@ -99,13 +96,11 @@ impl Pool {
     /// hashed for it.
     pub fn known(&self, session: &Session) -> Result<Option<Digest>, Memory>
         ensures known { IfOk result (λ found. IfSome found (IsKnown self.now.config session.now)) }
-        ensures next { AtAnySetup self.now.config (λ setup.
+        ensures next { AtEverySetup self.now.config (λ setup.
             IfOk result (λ found.
             IsSome found ↔ IsNext setup self.now.sessions session.now)) }
     {
-        if !self.is_whole {
-            return Err(Memory);
-        }
+        self.whole.check()?;
         Ok(self.kept.known(session))
     }
 
@@ -117,9 +112,7 @@ impl Pool {
         ensures formed { IfOk result (λ holds. holds ≡ true →
             IsWellFormed self.now.config session.now) }
     {
-        if !self.is_whole {
-            return Err(Memory);
-        }
+        self.whole.check()?;
         Ok(self.kept.holds(digest, session))
     }
 
@@ -134,12 +127,9 @@ impl Pool {
             ≡ self.old.sessions ++ (digest, pooled) ∷ []) }
         ensures config { self.new.config ≡ self.old.config }
     {
-        if !self.is_whole {
-            return Err(Memory);
-        }
-        self.is_whole = false;
+        self.whole.begin()?;
         self.kept.push(&self.config, digest, pooled, shards)?;
-        self.is_whole = true;
+        self.whole.end();
         Ok(())
     }
 
@@ -148,12 +138,9 @@ impl Pool {
         ensures sessions { OnOk result (self.new.sessions ≡ without digest.now self.old.sessions) }
         ensures config { self.new.config ≡ self.old.config }
     {
-        if !self.is_whole {
-            return Err(Memory);
-        }
-        self.is_whole = false;
+        self.whole.begin()?;
         self.kept.remove(digest)?;
-        self.is_whole = true;
+        self.whole.end();
         Ok(())
     }
 
@@ -165,12 +152,9 @@ impl Pool {
             ≡ changed digest.now (with_ballot ballot) self.old.sessions) }
         ensures config { self.new.config ≡ self.old.config }
     {
-        if !self.is_whole {
-            return Err(Memory);
-        }
-        self.is_whole = false;
+        self.whole.begin()?;
         let answer = self.kept.count(&self.config, digest, ballot)?;
-        self.is_whole = true;
+        self.whole.end();
         Ok(answer)
     }
 
@@ -180,12 +164,9 @@ impl Pool {
             ≡ changed digest.now as_locked self.old.sessions) }
         ensures config { self.new.config ≡ self.old.config }
     {
-        if !self.is_whole {
-            return Err(Memory);
-        }
-        self.is_whole = false;
+        self.whole.begin()?;
         self.kept.lock(&self.config, digest)?;
-        self.is_whole = true;
+        self.whole.end();
         Ok(())
     }
 
@@ -194,22 +175,18 @@ impl Pool {
         ensures sessions { IfOk result (λ sessions. sessions.items ≡ locked_in self.now.sessions) }
         ensures fits { IfOk result (λ sessions. AllFit sessions.items) }
     {
-        if !self.is_whole {
-            return Err(Memory);
-        }
+        self.whole.check()?;
         self.kept.locked(alloc)
     }
 
     /// The entry that is due: the first decision of a locked session, in the order of the pool,
     /// or else a vote on the first session that waits.
     pub fn due(&self, alloc: Global) -> Result<Option<Entry>, Memory>
-        ensures entry { AtAnySetup self.now.config (λ setup.
+        ensures entry { AtEverySetup self.now.config (λ setup.
             IfOk result (λ entry. entry ≡ due setup self.now.sessions)) }
         ensures fits { IfOk result DueFits }
     {
-        if !self.is_whole {
-            return Err(Memory);
-        }
+        self.whole.check()?;
         self.kept.due(alloc, &self.config)
     }
 }

@@ -18,7 +18,8 @@ use Rattle.cs_ledger.specs.Session.{Key, anchor}
 use Rattle.cs_ledger.specs.Table as Shard
 use Rattle.cs_ledger.specs.Table.{Table, Effect, Voted, Accepted, Aborted, Skipped, Void, Outcome, is_locked_by, exec, start}
 use Rattle.cs_ledger.specs.Standing.{stands_accepted, stands_aborted, recorded}
-use Rattle.cs_node_state.specs.Setup.{Setup, digest_of, entry_of, session_in, vote_from}
+use Rattle.cs_node_state.specs.Setup.{Setup, digest_of, entry_of, vote_from}
+use Rattle.cs_tx_form.specs.Session.{session_in}
 use Rattle.cs_node_state.specs.Pool.{Pool, changed, with_ballot, without, entered_locked}
 
 pub record Bench : Type 0 where

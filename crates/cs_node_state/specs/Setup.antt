@@ -48,7 +48,3 @@ vote_from Shard.Abort = Abort
 abbrev pub entry_of : Setup → Entry → Shard.Entry
 entry_of setup (Prepare x) = Shard.Prepare (setup.session_of x)
 entry_of setup (Decide vote x) = Shard.Decide (setup.session_of x) (vote_of vote)
-
-abbrev pub session_in : Entry → Session
-session_in (Prepare x) = x
-session_in (Decide vote x) = x

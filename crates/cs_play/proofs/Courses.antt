@@ -16,8 +16,9 @@ use Rattle.cs_sched_types.specs.declared.schedule.Event.TheVariants.{Say, Inject
 use Rattle.cs_node_rules.specs.Site as Given
 use Rattle.cs_node_rules.specs.Site.{Input, Datagram, Carrier, Site, signs_of}
 use Rattle.cs_node_rules.specs.World.{happens, is_genuine}
-use Rattle.cs_node_rules.specs.Lines.{Parcel, parcels_of, event_lines}
-use Rattle.cs_node_rules.specs.Play.{Played, Course, Goes, Stops, Forges, played_by, then_plays, size_of, most_events, most_sent, signs_of_last, plays, occurs, injects, with_arrived, comes, delivers, first_left, drains, drained, play, play_all}
+use Rattle.cs_node_rules.specs.Lines.{Parcel, parcels_of}
+use Rattle.cs_replay_rules.specs.Lines.{event_lines}
+use Rattle.cs_replay_rules.specs.Play.{Played, Course, Goes, Stops, Forges, played_by, then_plays, size_of, most_events, most_sent, signs_of_last, plays, occurs, injects, with_arrived, comes, delivers, first_left, drains, drained, play, play_all}
 use Rattle.cs_play.specs.declared.play.Replay.{Replay}
 use Rattle.cs_play.specs.declared.halt.Halt.{Halt}
 use Rattle.cs_play.specs.declared.halt.Halt.TheVariants as halt

@@ -5,7 +5,7 @@ use Rattle.cs_tx_form.specs.declared.transaction.Tx.{Tx}
 use Rattle.cs_order.specs.Deeds.{Member, Machine}
 use Rattle.cs_node_rules.specs.Site.{Carrier, Site, Datagram}
 use Rattle.cs_node_rules.specs.Lines.{Parcel}
-use Rattle.cs_node_rules.specs.Play.{Played, Course, Goes, then_plays, arrived, with_arrived, occurs, delivers, first_left, drains, drained}
+use Rattle.cs_replay_rules.specs.Play.{Played, Course, Goes, then_plays, arrived, with_arrived, occurs, delivers, first_left, drains, drained}
 use Rattle.cs_play.specs.Post as Kept
 use Rattle.cs_play.specs.declared.play.Replay.{Replay}
 use Rattle.cs_play.specs.declared.halt.Halt.{Halt}

@@ -7,7 +7,7 @@ use Rattle.cs_node_rules.specs.Net.{Net}
 use Rattle.cs_node_rules.specs.Site.{Datagram, Site}
 use Rattle.cs_node_rules.specs.World.{is_genuine, is_backed, was_sent}
 use Rattle.cs_node_rules.specs.Lines.{Parcel}
-use Rattle.cs_node_rules.specs.Play.{Played, Course, Stops, Forges, most_events, plays, within, occurs, injects}
+use Rattle.cs_replay_rules.specs.Play.{Played, Course, Stops, Forges, most_events, plays, within, occurs, injects}
 use Rattle.cs_node.specs.Speaking.{sender_of}
 use Rattle.cs_play.specs.Forging.{is_backed_by}
 

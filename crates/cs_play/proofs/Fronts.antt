@@ -1,7 +1,7 @@
 -- What is kept of the datagrams stays true as they are sent and come.
 use Rattle.std.proofs.Common.{◌≡◌, ℕ, zero, suc, ◌+◌, ◌<◌, ◌≤◌, true, false, List, [], ◌∷◌, ◌++◌, length, get_or, slice_get, slice_set, Some, None, bytes_eq, refl, ap, sym, subst, ◌∙◌, arith}
 use Rattle.cs_node_rules.specs.Lines.{Parcel}
-use Rattle.cs_node_rules.specs.Play.{arrived, size_of, most_sent, first_left}
+use Rattle.cs_replay_rules.specs.Play.{arrived, size_of, most_sent, first_left}
 use Rattle.indexmap.specs.IndexMap.{insert_entry}
 use Rattle.cs_play.specs.Post.{HaveArrived, IsKept, tail_of}
 use Rattle.cs_play.proofs.Tails.{all-push, all-later, all-arrived}

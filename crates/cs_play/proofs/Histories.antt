@@ -16,7 +16,7 @@ use Rattle.cs_ledger.specs.Ledger.{Bytes, Transaction}
 use Rattle.cs_ledger.specs.Table as Shard
 use Rattle.cs_ledger.specs.ShardWorld.{is_vote, is_listed}
 use Rattle.cs_node_state.specs.Setup.{Setup, digest_of}
-use Rattle.cs_node_rules.specs.Aborts.{with_digest}
+use Rattle.cs_replay_rules.specs.Aborts.{with_digest}
 use Rattle.cs_node_rules.specs.Signs.{Did}
 use Rattle.cs_node_rules.specs.World.{Execution, slots_of, first_of, recorded, all_recorded, is_voted, told}
 use Rattle.cs_play.specs.Digests.{digests_of}

@@ -4,17 +4,15 @@ use Rattle.std.specs.Prelude.{if◌then◌else◌, nat_lt, Ok, Err}
 use Rattle.std.proofs.lemmas.Bool.{cond_both, eqb-true}
 use Rattle.std.proofs.lemmas.List.{length_push}
 use Rattle.cs_base.specs.declared.node_id.NodeId.{NodeId}
-use Rattle.cs_base.specs.Key.{shard_of_key}
-use Rattle.cs_base.specs.NodeId.{is_client}
 use Rattle.cs_tx_form.specs.declared.session.Session.{Session}
 use Rattle.cs_tx_form.specs.declared.vote.Vote.{Vote}
 use Rattle.cs_tx_form.specs.declared.vote.Vote.TheVariants.{Commit}
 use Rattle.cs_tx_form.specs.declared.entry.Entry.{Entry}
 use Rattle.cs_tx_form.specs.declared.checkpoint.Checkpoint.{Checkpoint}
-use Rattle.cs_tx_form.specs.declared.proof.Proof.{Proof}
 use Rattle.cs_tx_form.specs.Log.{leaf_encoding}
 use Rattle.cs_wire_message.specs.declared.message.Message.{Message}
 use Rattle.cs_wire_message.specs.declared.message.Message.TheVariants as message
+use Rattle.cs_wire_message.specs.Classes.{Class, OfOrder, class_of}
 use Rattle.cs_order.specs.declared.proposed.Proposed.{Proposed}
 use Rattle.cs_order.specs.declared.answers.Outgoing.{Outgoing}
 use Rattle.cs_order.specs.declared.answers.Took.{Took as Answer}
@@ -27,25 +25,21 @@ use Rattle.cs_order.specs.Deeds.{Deed, Took_in, Advanced, Echoed, Proposing, Tic
 use Rattle.cs_wire.specs.Opened.{Opened}
 use Rattle.cs_checkpoint.specs.Chain.{Log, with_slot, head_of, checkpoint_of, made_last, kept_slots}
 use Rattle.cs_check.proofs.Chains.{checkpoint_stays}
-use Rattle.cs_check_rules.specs.Heads.{is_news}
-use Rattle.cs_check_rules.specs.Proofs.{proof_of}
 use Rattle.cs_check_rules.specs.Root.{root_under}
 use Rattle.cs_ledger.specs.Ledger.{Bytes}
 use Rattle.cs_node_rules.specs.declared.cause.Cause.{Cause}
-use Rattle.cs_node_rules.specs.declared.cause.Cause.TheVariants.{Mine, Role, Malformed, Old, Far, Leader, Repeat, Unasked, Denied, Full, NoProof}
-use Rattle.cs_node_state.specs.declared.pooled.Pooled.{Pooled}
-use Rattle.cs_node_state.specs.Setup.{Setup, digest_of, concerns, concerned, is_fit, is_approved, session_in}
+use Rattle.cs_node_rules.specs.declared.cause.Cause.TheVariants.{Role, Old, Far, Leader, Repeat, Unopened}
+use Rattle.cs_node_state.specs.Setup.{Setup, digest_of, concerned}
+use Rattle.cs_tx_form.specs.Session.{session_in}
 use Rattle.cs_node_state.specs.Admission.{due}
-use Rattle.cs_node_state.specs.Asked.{told_at, key_asked}
-use Rattle.cs_node_state.specs.Evidence.{has_voted}
-use Rattle.cs_node_state.specs.Pool.{Pool, found, is_pooled, has_room}
-use Rattle.cs_node_state.specs.Bench.{Bench, Ran, decided, noted, executed, slot_executed, effect_from, next_leaf, told_of}
-use Rattle.cs_node_rules.specs.Dumps.{heads_below}
+use Rattle.cs_node_state.specs.Pool.{Pool, is_pooled}
+use Rattle.cs_node_state.specs.Bench.{Bench, Ran, noted, executed, slot_executed, effect_from, next_leaf, told_of}
+use Rattle.cs_replay_rules.specs.Dumps.{heads_below}
+use Rattle.cs_node_rules.proofs.Heard.{AllHeard, heard}
 use Rattle.cs_node_rules.specs.Members.{is_other_member, others}
-use Rattle.cs_node_rules.specs.Net.{cause_of}
-use Rattle.cs_node_rules.specs.Signs.{Sign, Dropped, Took, Entered, Viewed, Did, Headed, Kept, Sent, bench_step, guarded, submitted_signs, submit_signs, ask_signs, asking_signs, ballot_signs, voted_signs, sends, vote_signs, own_signs, entered_signs, ran_signs, headed_signs, execution_signs, proof_signs, ask_proof_signs, head_signs, asked_again}
+use Rattle.cs_node_rules.specs.Signs.{Sign, Dropped, Took, Entered, Viewed, Did, Headed, Kept, Sent, bench_step, sends, vote_signs, own_signs, entered_signs, ran_signs, headed_signs, execution_signs, asked_again, said_signs}
 use Rattle.cs_node_rules.specs.Site.{Input, Datagram, Tick, Mark, In, Ordered, Plain, Site, View, view_after, plain, signs_of}
-use Rattle.cs_node_rules.specs.Trail.{out_signs, handed, with_deed, entered_view, admits_proposed, due_marks, candidate_marks, propose_marks, echo_marks, cut_marks, step_marks, turn_marks, continued, settled, taking_marks, member_marks, reply_marks, want_marks, message_marks, opened_marks, again_marks, waiting_marks, input_marks, event_marks}
+use Rattle.cs_node_rules.specs.Trail.{out_signs, handed, with_deed, entered_view, admits_proposed, due_marks, candidate_marks, propose_marks, echo_marks, cut_marks, step_marks, turn_marks, continued, settled, taking_marks, member_marks, reply_marks, want_marks, class_marks, message_marks, opened_marks, again_marks, waiting_marks, input_marks, event_marks}
 use Rattle.cs_play.specs.Logged.{Logged, with_leaf, with_head, logged_of}
 use Rattle.cs_play.proofs.Views.{after-append}
 
@@ -160,18 +154,12 @@ take-idle sender vote x = (record { tells = λ kept. refl; leaves = λ setup sha
 enter-idle : (x : Session) → AllIdle (Entered x ∷ [])
 enter-idle x = (record { tells = λ kept. refl; leaves = λ setup shard b. refl }, tt)
 
-keep-idle : (index : ℕ) (c : Checkpoint) → AllIdle (Kept index c ∷ [])
-keep-idle index c = (record { tells = λ kept. refl; leaves = λ setup shard b. refl }, tt)
-
 say-sent : (to : NodeId) (said : Message) → AllSent (Sent to said ∷ [])
 say-sent to said = (record { tells = λ kept. refl; leaves = λ setup shard b. refl }, tt)
 
 sent-idle : (signs : List Sign) → AllSent signs → AllIdle signs
 sent-idle [] all = tt
 sent-idle (sign ∷ signs) all = (record { tells = all.0.tells; leaves = λ setup shard b. ap (λ (c : Bench). c.log) (all.0.leaves setup shard b) }, sent-idle signs all.1)
-
-say-idle : (to : NodeId) (said : Message) → AllIdle (Sent to said ∷ [])
-say-idle to said = sent-idle (Sent to said ∷ []) (say-sent to said)
 
 sent-append : (a b : List Sign) → AllSent a → AllSent b → AllSent (a ++ b)
 sent-append [] b first later = later
@@ -202,26 +190,17 @@ entered-idle : (x : Session) (pooled : Bool) (o : Option (Vote × Bool)) → All
 entered-idle x pooled None = tt
 entered-idle x pooled (Some told) = cond_both (told.1 && not pooled) (Entered x ∷ []) [] AllIdle (λ new. enter-idle x) (λ not. tt)
 
-guarded-idle : (holds : Bool) (cause : Cause) (signs : List Sign) → AllIdle signs → AllIdle (guarded holds cause signs)
-guarded-idle holds cause signs idle = cond_both holds signs (Dropped cause ∷ []) AllIdle (λ passed. idle) (λ failed. drop-idle cause)
-
-submitted-idle : (setup : Setup) (b : Bench) (sender : NodeId) (x : Session) (o : Option Bool) → AllIdle (submitted_signs setup b sender x o)
-submitted-idle setup b sender x (Some accepted) = say-idle sender (message.Decided (digest_of setup x) accepted)
-submitted-idle setup b sender x None =
-    guarded-idle (not (is_pooled (digest_of setup x) b.pool)) Repeat _ (guarded-idle (is_approved setup x) Denied _ (guarded-idle (has_room b.pool) Full (Entered x ∷ []) (enter-idle x)))
-
-asking-idle : (setup : Setup) (b : Bench) (sender : NodeId) (vote : Vote) (asks : Bool) (x : Session) (o : Option Vote) → AllIdle (asking_signs setup b sender vote asks x o)
-asking-idle setup b sender vote asks x (Some before) = guarded-idle asks Unasked (Sent sender (message.Voted before false x) ∷ []) (say-idle sender (message.Voted before false x))
-asking-idle setup b sender vote asks x None =
-    guarded-idle asks Unasked _ (guarded-idle (is_approved setup x) Denied _ (guarded-idle (has_room b.pool) Full (Took sender vote x ∷ Entered x ∷ []) ((take-idle sender vote x).0, enter-idle x)))
-
-ballot-idle : (setup : Setup) (shard : ℕ) (b : Bench) (sender : NodeId) (vote : Vote) (asks : Bool) (x : Session) (o : Option Pooled) → AllIdle (ballot_signs setup shard b sender vote asks x o)
-ballot-idle setup shard b sender vote asks x (Some p) = guarded-idle (not (has_voted sender p.ballots)) Repeat (Took sender vote x ∷ []) (take-idle sender vote x)
-ballot-idle setup shard b sender vote asks x None = asking-idle setup b sender vote asks x (noted setup shard b.table x)
-
-proof-idle : (sender : NodeId) (o : Option Proof) → AllIdle (proof_signs sender o)
-proof-idle sender None = drop-idle NoProof
-proof-idle sender (Some proof) = say-idle sender (message.Proof proof)
+-- what is said to a node, but for its order
+heard-idle : (sender : NodeId) (signs : List Sign) → AllHeard sender signs → AllIdle signs
+heard-idle sender [] all = tt
+heard-idle sender (Dropped cause ∷ signs) all = (record { tells = λ kept. refl; leaves = λ setup shard b. refl }, heard-idle sender signs all)
+heard-idle sender (Took from vote x ∷ signs) all = (record { tells = λ kept. refl; leaves = λ setup shard b. refl }, heard-idle sender signs all)
+heard-idle sender (Entered x ∷ signs) all = (record { tells = λ kept. refl; leaves = λ setup shard b. refl }, heard-idle sender signs all)
+heard-idle sender (Viewed slot view ∷ signs) all = absurd all
+heard-idle sender (Did slot entry effect ∷ signs) all = absurd all
+heard-idle sender (Headed number head ∷ signs) all = absurd all
+heard-idle sender (Kept index checkpoint ∷ signs) all = (record { tells = λ kept. refl; leaves = λ setup shard b. refl }, heard-idle sender signs all)
+heard-idle sender (Sent to said ∷ signs) all = (record { tells = λ kept. refl; leaves = λ setup shard b. refl }, heard-idle sender signs all.1)
 
 -- ---- a node, and what is kept of its log
 
@@ -510,39 +489,19 @@ module _ {M : Type 0} (site : Site M) where
       (λ other. reply-leads v slot sender.index (site.machine.replying v.member slot sender.index))
       (λ not. not-leads v Role)
 
+  class-leads : (v : View M) (sender : NodeId) (said : Message) (class : Class) → Leads v (class_marks site v sender said class)
+  class-leads v sender said OfOrder = member-leads v sender (site.carrier.read said)
+  class-leads v sender said class =
+      let signs = said_signs site.setup v.me v.bench sender said in
+      idle-leads v signs (heard-idle sender signs (heard site.setup v.me v.bench sender said))
+
   message-leads : (v : View M) (sender : NodeId) (said : Message) → Leads v (message_marks site v sender said)
-  message-leads v sender (message.Submit x) =
-      idle-leads v (submit_signs site.setup v.me.shard v.bench sender x)
-      (guarded-idle (is_client sender) Role _ (guarded-idle (is_fit site.setup v.me.shard x) Malformed _
-      (submitted-idle site.setup v.bench sender x (decided site.setup v.me.shard v.bench.table x))))
-  message-leads v sender (message.Propose slot view entry) = member-leads v sender (site.carrier.read (message.Propose slot view entry))
-  message-leads v sender (message.Echo slot view digest) = member-leads v sender (site.carrier.read (message.Echo slot view digest))
-  message-leads v sender (message.Confirm slot view digest) = member-leads v sender (site.carrier.read (message.Confirm slot view digest))
-  message-leads v sender (message.Change slot view change) = member-leads v sender (site.carrier.read (message.Change slot view change))
-  message-leads v sender (message.Voted vote asks x) =
-      idle-leads v (voted_signs site.setup v.me.shard v.bench sender vote asks x)
-      (guarded-idle (not (is_client sender)) Role _ (guarded-idle (is_fit site.setup v.me.shard x) Malformed _ (guarded-idle (concerns site.setup x sender.shard) Role _
-      (ballot-idle site.setup v.me.shard v.bench sender vote asks x (found (digest_of site.setup x) v.bench.pool)))))
-  message-leads v sender (message.Decided digest accepted) = not-leads v Role
   message-leads v sender (message.Want slot) = want-leads v sender slot
-  message-leads v sender (message.Done slot entry) = member-leads v sender (site.carrier.read (message.Done slot entry))
-  message-leads v sender (message.Ask asked) =
-      idle-leads v (ask_signs site.setup v.me.shard v.bench sender asked)
-      (let key = key_asked v.bench.table v.me.shard asked in
-      let said : Message = message.Told key (told_at v.bench.table key) in
-      guarded-idle (is_client sender) Role _ (guarded-idle (shard_of_key site.setup.shards key == v.me.shard) Mine (Sent sender said ∷ []) (say-idle sender said)))
-  message-leads v sender (message.Told key state) = not-leads v Role
-  message-leads v sender (message.Head checkpoint) =
-      idle-leads v (head_signs site.setup v.me v.bench sender checkpoint)
-      (guarded-idle (is_other_member site.setup.f v.me sender) Role _ (guarded-idle (is_news sender.index checkpoint v.bench.heads) Repeat (Kept sender.index checkpoint ∷ []) (keep-idle sender.index checkpoint)))
-  message-leads v sender (message.AskProof slot) =
-      idle-leads v (ask_proof_signs v.bench sender slot)
-      (guarded-idle (is_client sender) Role _ (proof-idle sender (proof_of v.bench.log slot)))
-  message-leads v sender (message.Proof proof) = not-leads v Role
+  message-leads v sender said = class-leads v sender said (class_of said)
 
   opened-leads : (v : View M) (o : Opened) → Leads v (opened_marks site v o)
   opened-leads v (Ok said) = message-leads v said.0 said.1
-  opened-leads v (Err error) = not-leads v (cause_of error)
+  opened-leads v (Err error) = not-leads v (Unopened error)
 
   again-leads : (v : View M) → Leads v (again_marks site v)
   again-leads v =

@@ -5,7 +5,7 @@ use Rattle.std.proofs.lemmas.List.Elements.{filter-append}
 use Rattle.cs_base.specs.NodeId.{members_below}
 use Rattle.cs_base.specs.declared.node_id.NodeId.{NodeId}
 use Rattle.cs_checkpoint.specs.Chain.{Log, empty_log}
-use Rattle.cs_node_rules.specs.Dumps.{longer, longest, logs_of}
+use Rattle.cs_replay_rules.specs.Dumps.{longer, longest, logs_of}
 use Rattle.cs_node_rules.specs.Site.{Site}
 use Rattle.cs_node_rules.specs.World.{Happening, view_of}
 use Rattle.cs_play.specs.Logged.{Logged, logged_of}

@@ -6,10 +6,11 @@ use Rattle.cs_ledger.specs.Ledger.{Bytes}
 use Rattle.cs_base.specs.declared.config.Config.{Config}
 use Rattle.cs_base.specs.declared.node_id.NodeId.{NodeId}
 use Rattle.cs_ledger.specs.Table as Shard
-use Rattle.cs_node_state.specs.Setup.{Setup, digest_of, session_in}
+use Rattle.cs_node_state.specs.Setup.{Setup, digest_of}
+use Rattle.cs_tx_form.specs.Session.{session_in}
 use Rattle.cs_node_rules.specs.Net.{Net, sealed}
 use Rattle.cs_node_rules.specs.Signs.{Sign, Dropped, Took, Entered, Viewed, Did, Headed, Kept, Sent}
-use Rattle.cs_node_rules.specs.Aborts.{with_digest, aborted_after, aborted_by}
+use Rattle.cs_replay_rules.specs.Aborts.{with_digest, aborted_after, aborted_by}
 use Rattle.cs_node_rules.specs.World.{Execution, first_of, firsts_after}
 use Rattle.cs_node_rules.specs.Lines.{parcels_of, slot_line, drop_line, view_line, head_line, if_traced, sign_lines}
 use Rattle.cs_tx.specs.Digest.{digest_of_session}

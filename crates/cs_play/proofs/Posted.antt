@@ -3,8 +3,9 @@ use Rattle.std.proofs.Common.{◌≡◌, ℕ, zero, suc, ◌+◌, ◌<◌, ◌�
 use Rattle.std.proofs.lemmas.List.{take_more, length-take}
 use Rattle.cs_base.specs.declared.node_id.NodeId.{NodeId}
 use Rattle.cs_wire.specs.declared.input.Out.{Out}
-use Rattle.cs_node_rules.specs.Lines.{Parcel, sent_line, sent_lines}
-use Rattle.cs_node_rules.specs.Play.{size_of, most_sent}
+use Rattle.cs_node_rules.specs.Lines.{Parcel}
+use Rattle.cs_replay_rules.specs.Lines.{sent_line, sent_lines}
+use Rattle.cs_replay_rules.specs.Play.{size_of, most_sent}
 use Rattle.cs_play.specs.Ends.{parcels_from}
 
 size-append : (xs ys : List Parcel) → size_of (xs ++ ys) ≡ size_of xs + size_of ys

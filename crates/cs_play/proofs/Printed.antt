@@ -5,7 +5,7 @@ use Rattle.std.specs.List.{flat_map}
 use Rattle.std.specs.Fmt.{decimal}
 use Rattle.cs_base.specs.Codes.{bytes_text}
 use Rattle.cs_ledger.specs.Ledger.{Transaction}
-use Rattle.cs_node_rules.specs.Lines.{transaction_lines, history_text}
+use Rattle.cs_replay_rules.specs.Lines.{transaction_lines, history_text}
 use Rattle.cs_node_rules.specs.Site.{Site}
 use Rattle.cs_node_rules.specs.World.{Happening, told, firsts_of, history}
 use Rattle.cs_play.specs.Digests.{digests_of, tx_line, history_lines}

@@ -6,7 +6,7 @@ use Rattle.indexmap.specs.IndexMap.{insert_entry}
 use Rattle.cs_base.specs.declared.node_id.NodeId.{NodeId}
 use Rattle.cs_base.specs.NodeId.{same_name}
 use Rattle.cs_node_rules.specs.Lines.{Parcel}
-use Rattle.cs_node_rules.specs.Play.{arrived}
+use Rattle.cs_replay_rules.specs.Play.{arrived}
 use Rattle.cs_node_rules.specs.World.{was_sent}
 use Rattle.cs_play.specs.Post.{is_parcel, tail_of, IsNoted, AllNoted}
 

@@ -7,11 +7,12 @@ use Rattle.cs_order.specs.Deeds.{Member, Machine}
 use Rattle.cs_node_rules.specs.Site.{Input, Datagram, Carrier, Site, signs_of}
 use Rattle.cs_node_rules.specs.Signs.{Sign}
 use Rattle.cs_node_rules.specs.Trail.{event_marks}
-use Rattle.cs_node_rules.specs.Aborts.{aborted_by}
+use Rattle.cs_replay_rules.specs.Aborts.{aborted_by}
 use Rattle.cs_node_rules.specs.World.{Execution, view_of, happens, firsts_of}
 use Rattle.cs_node_rules.specs.Ready.{AllQuiet}
-use Rattle.cs_node_rules.specs.Lines.{Parcel, parcels_of, sign_lines, if_traced, at_line, sent_lines}
-use Rattle.cs_node_rules.specs.Play.{Played, Goes, Stops, size_of, most_events, most_sent, plays, within, occurs, arrived, with_arrived, comes}
+use Rattle.cs_node_rules.specs.Lines.{Parcel, parcels_of, sign_lines, if_traced}
+use Rattle.cs_replay_rules.specs.Lines.{at_line, sent_lines}
+use Rattle.cs_replay_rules.specs.Play.{Played, Goes, Stops, size_of, most_events, most_sent, plays, within, occurs, arrived, with_arrived, comes}
 use Rattle.cs_node.specs.declared.outs.Made.{Made}
 use Rattle.cs_node.specs.Notes.{notes_of}
 use Rattle.cs_node.specs.declared.nodes.Core.{Core}

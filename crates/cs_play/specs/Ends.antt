@@ -12,7 +12,7 @@ use Rattle.cs_ledger.specs.Ledger.{Bytes}
 use Rattle.cs_wire.specs.declared.input.Out.{Out}
 use Rattle.cs_node_rules.specs.Lines.{Parcel}
 use Rattle.cs_node_rules.specs.Site.{Carrier, Site}
-use Rattle.cs_node_rules.specs.Play.{Played, Course, Goes, Stops, Forges, played_by, size_of, most_sent}
+use Rattle.cs_replay_rules.specs.Play.{Played, Course, Goes, Stops, Forges, played_by, size_of, most_sent}
 use Rattle.cs_play.specs.declared.play.Replay.{Replay}
 use Rattle.cs_play.specs.declared.halt.Halt.{Halt}
 use Rattle.cs_play.specs.declared.halt.Halt.TheVariants as halt

@@ -9,7 +9,7 @@ use Rattle.cs_tx.specs.Digest.{digest_of_tx, digest_of_session}
 use Rattle.cs_ledger.specs.Ledger.{Bytes}
 use Rattle.cs_ledger.specs.Table as Shard
 use Rattle.cs_node_state.specs.Setup.{Setup, digest_of, concerned}
-use Rattle.cs_node_rules.specs.Aborts.{with_digest}
+use Rattle.cs_replay_rules.specs.Aborts.{with_digest}
 use Rattle.cs_node_rules.specs.World.{Execution, slots_of, recorded, told}
 use Rattle.cs_play.specs.Digests.{digests_of}
 use Rattle.cs_tx.specs.Uses.{concerned_shards}

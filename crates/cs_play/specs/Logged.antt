@@ -7,7 +7,7 @@ use Rattle.cs_order.specs.Deeds.{chosen_in}
 use Rattle.cs_ledger.specs.Ledger.{Bytes}
 use Rattle.cs_node_rules.specs.Site.{Site, View}
 use Rattle.cs_node_rules.specs.World.{Happening, view_of}
-use Rattle.cs_node_rules.specs.Dumps.{heads_below}
+use Rattle.cs_replay_rules.specs.Dumps.{heads_below}
 use Rattle.cs_node.specs.declared.draft.Note.{Note}
 use Rattle.cs_node.specs.declared.draft.Note.TheVariants as note
 

@@ -4,7 +4,7 @@ use Rattle.std.specs.Map.{lookup}
 use Rattle.cs_base.specs.declared.node_id.NodeId.{NodeId}
 use Rattle.cs_base.specs.NodeId.{same_name}
 use Rattle.cs_node_rules.specs.Lines.{Parcel}
-use Rattle.cs_node_rules.specs.Play.{arrived, size_of, most_sent}
+use Rattle.cs_replay_rules.specs.Play.{arrived, size_of, most_sent}
 
 -- the datagram of this number, if there is one, came to its addressee
 abbrev pub with_arrived : ℕ → Option Parcel → List Parcel → List Parcel

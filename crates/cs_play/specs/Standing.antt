@@ -15,8 +15,8 @@ use Rattle.cs_node_rules.specs.Net.{Net, net_of}
 use Rattle.cs_node_rules.specs.Site.{Input, Carrier, Site, View, signs_of}
 use Rattle.cs_node_rules.specs.Trail.{event_marks}
 use Rattle.cs_node_rules.specs.World.{Happening, view_of, happens, firsts_of}
-use Rattle.cs_node_rules.specs.Aborts.{aborted}
-use Rattle.cs_node_rules.specs.Play.{Played, size_of, most_sent}
+use Rattle.cs_replay_rules.specs.Aborts.{aborted}
+use Rattle.cs_replay_rules.specs.Play.{Played, size_of, most_sent}
 use Rattle.cs_node_rules.specs.Deployment.{site_of}
 use Rattle.cs_node.specs.declared.nodes.Core.{Core}
 use Rattle.cs_node.specs.declared.outs.Made.{Made}

@@ -4,10 +4,12 @@ use Rattle.std.specs.List.{flat_map}
 use Rattle.cs_base.specs.declared.node_id.NodeId.{NodeId}
 use Rattle.cs_tx.specs.Digest.{digest_of_session}
 use Rattle.cs_ledger.specs.Ledger.{Bytes}
-use Rattle.cs_node_state.specs.Setup.{Setup, session_in}
+use Rattle.cs_node_state.specs.Setup.{Setup}
+use Rattle.cs_tx_form.specs.Session.{session_in}
 use Rattle.cs_node_rules.specs.Signs.{Did}
 use Rattle.cs_node_rules.specs.World.{Execution, first_of}
-use Rattle.cs_node_rules.specs.Lines.{Parcel, slot_line, drop_line, view_line, head_line, if_traced, at_line, sent_lines}
+use Rattle.cs_node_rules.specs.Lines.{Parcel, slot_line, drop_line, view_line, head_line, if_traced}
+use Rattle.cs_replay_rules.specs.Lines.{at_line, sent_lines}
 use Rattle.cs_table.specs.Effects.{effect_of}
 use Rattle.cs_node.specs.declared.draft.Note.{Note}
 use Rattle.cs_node.specs.declared.draft.Note.TheVariants as note

@@ -1,8 +1,8 @@
 //! The history, kept from the executions as they come.
 ghost use Rattle.std.specs.Prelude.{◌≡◌, ◌<◌, ◌==◌, [], IfOk, OnOk, List, replicate};
-ghost use Rattle.cs_tx_form.specs.Session.{SessionFits, EntryFits};
-ghost use Rattle.cs_node_state.specs.Setup.{Setup, session_in};
-ghost use Rattle.cs_node_rules.specs.Aborts.{with_digest};
+ghost use Rattle.cs_tx_form.specs.Session.{SessionFits, EntryFits, session_in};
+ghost use Rattle.cs_node_state.specs.Setup.{Setup};
+ghost use Rattle.cs_replay_rules.specs.Aborts.{with_digest};
 ghost use Rattle.cs_node_rules.specs.World.{Execution, first_of};
 ghost use Rattle.cs_node_rules.specs.Signs.{Did};
 ghost use Rattle.cs_table.specs.Effects.{effect_of};

@@ -1,14 +1,32 @@
 //! The lines that are printed.
 ghost use Rattle.std.specs.Prelude.{◌≡◌, Some, IfOk, string_bytes};
-ghost use Rattle.cs_node_rules.specs.Lines.{cause_text, drop_line, at_line, kind_in, sent_line, limit_line, forged_line, view_line};
+ghost use Rattle.cs_node_rules.specs.Lines.{cause_text, drop_line, view_line, error_text};
+ghost use Rattle.cs_replay_rules.specs.Lines.{at_line, kind_in, sent_line, limit_line, forged_line};
 ghost use Rattle.cs_play.specs.Digests.{history_lines, sent_text};
 
 use crate::parcel::Parcel;
 use cs_base::{Memory, NodeId, print_bytes};
 use cs_node_rules::Cause;
 use cs_tx::Digest;
+use cs_wire::OpenError;
 use std::alloc::Global;
 use std::fmt;
+
+/// The word of the first test of opening that failed.
+fn error_word(error: OpenError) -> &'static str
+    ensures { result.now ≡ error_text error }
+{
+    match error {
+        OpenError::Short => "short",
+        OpenError::Magic => "magic",
+        OpenError::Kind => "kind",
+        OpenError::NotMine => "mine",
+        OpenError::Stranger => "stranger",
+        OpenError::Length => "length",
+        OpenError::Tag => "tag",
+        OpenError::Body => "body",
+    }
+}
 
 /// The word of a cause.
 #[derive(Clone, Copy)]
@@ -19,14 +37,8 @@ impl fmt::Display for Word {
 
     fn fmt<W: fmt::Write>(&self, f: &mut fmt::Formatter<W>) -> fmt::Result {
         f.write_str(match self.0 {
-            Cause::Short => "short",
-            Cause::Magic => "magic",
-            Cause::Kind => "kind",
+            Cause::Unopened(error) => error_word(error),
             Cause::Mine => "mine",
-            Cause::Stranger => "stranger",
-            Cause::Length => "length",
-            Cause::Tag => "tag",
-            Cause::Body => "body",
             Cause::Role => "role",
             Cause::Malformed => "malformed",
             Cause::Old => "old",

@@ -5,7 +5,7 @@ ghost use Rattle.cs_node_rules.specs.Net.{Net};
 ghost use Rattle.cs_node_rules.specs.Site.{Input};
 ghost use Rattle.cs_node_rules.specs.World.{Happening, happens};
 ghost use Rattle.cs_node_rules.specs.Deployment.{site_of};
-ghost use Rattle.cs_node_rules.specs.Dumps.{shard_log};
+ghost use Rattle.cs_replay_rules.specs.Dumps.{shard_log};
 ghost use Rattle.cs_node.specs.declared.outs.Made.{Made};
 ghost use Rattle.cs_node.specs.Notes.{NotesFit};
 ghost use Rattle.cs_play.specs.Logged.{AllLogged, logged_of};

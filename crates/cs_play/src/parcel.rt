@@ -1,6 +1,6 @@
 //! One datagram that was sent.
 ghost use Rattle.std.specs.Prelude.{◌≡◌, false};
-ghost use Rattle.cs_node_rules.specs.Play.{arrived};
+ghost use Rattle.cs_replay_rules.specs.Play.{arrived};
 ghost use Rattle.cs_play.specs.Post.{is_parcel};
 
 use cs_base::{NodeId, Sequence};

@@ -4,7 +4,7 @@ ghost use Rattle.cs_base.specs.Outside.{HasCause};
 ghost use Rattle.cs_base.specs.declared.limits.TheConstants.{MOST_BODY};
 ghost use Rattle.cs_sched_types.specs.declared.schedule.Event.TheVariants.{Say};
 ghost use Rattle.cs_node_rules.specs.World.{is_genuine};
-ghost use Rattle.cs_node_rules.specs.Play.{occurs, injects, delivers, drained, play, play_all};
+ghost use Rattle.cs_replay_rules.specs.Play.{occurs, injects, delivers, drained, play, play_all};
 ghost use Rattle.cs_node_rules.specs.Ready.{AllQuiet};
 ghost use Rattle.cs_node.specs.Notes.{NotesFit};
 ghost use Rattle.cs_node.specs.Speaking.{input_of};

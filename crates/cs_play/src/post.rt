@@ -1,6 +1,6 @@
 //! What was sent, by its numbers.
 ghost use Rattle.std.specs.Prelude.{◌≡◌, ◌≤◌, ◌<◌, ◌+◌, ◌^◌, ◌∷◌, ◌++◌, [], true, length, drop, option_copied, slice_get, OnOk, IsErrOf};
-ghost use Rattle.cs_node_rules.specs.Play.{first_left, size_of, most_sent};
+ghost use Rattle.cs_replay_rules.specs.Play.{first_left, size_of, most_sent};
 ghost use Rattle.cs_node_rules.specs.World.{was_sent};
 ghost use Rattle.cs_play.specs.Post.{with_arrived, tail_of};
 

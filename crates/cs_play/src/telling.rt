@@ -2,7 +2,8 @@
 ghost use Rattle.std.specs.Prelude.{◌≡◌, ◌+◌, ◌<◌, ◌≤◌, ◌^◌, length, IfOk, OnOk, List, string_bytes};
 ghost use Rattle.cs_node_state.specs.Setup.{Setup};
 ghost use Rattle.cs_node_rules.specs.World.{Execution};
-ghost use Rattle.cs_node_rules.specs.Lines.{if_traced, at_line, sent_lines};
+ghost use Rattle.cs_node_rules.specs.Lines.{if_traced};
+ghost use Rattle.cs_replay_rules.specs.Lines.{at_line, sent_lines};
 ghost use Rattle.cs_node.specs.Notes.{NoteFits, NotesFit};
 ghost use Rattle.cs_play.specs.Kept.{KeepsHistory};
 ghost use Rattle.cs_play.specs.Told.{note_text, notes_text, note_first, noted_firsts, note_aborted, noted_aborted};

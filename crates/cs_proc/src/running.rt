@@ -7,7 +7,7 @@ ghost use Rattle.cs_proc.specs.Answering.{Runs, Tells};
 
 use crate::call::Call;
 use crate::error::ProcError;
-use crate::token::{id_of_token, transfer};
+use crate::token::transfer;
 use cs_approve::Book;
 use cs_base::Sequence;
 use cs_eval::Scene;
@@ -15,6 +15,7 @@ use cs_eval_values::{LentView, Objects, Steps};
 use cs_lang::{ContractTree, Method};
 use cs_proc_parts::{Ending, Halt, Keyed, Progress};
 use cs_proc_run::run_procedure;
+use cs_tx::id_of_token;
 use cs_tx_form::Trace;
 use cs_tx_value::{Value, copy_each};
 use cs_types_kinds::method_number;

@@ -2,23 +2,15 @@
 ghost use Rattle.std.specs.Prelude.{◌≡◌, [], IfOk, map};
 ghost use Rattle.std.specs.List.{list_all};
 ghost use Rattle.cs_tx_value.specs.declared.value.Value.{out-Value};
-ghost use Rattle.cs_tx.specs.Token.{token_id};
 ghost use Rattle.cs_eval_values.specs.Lending.{object_in};
 ghost use Rattle.cs_proc.specs.Transfer.{is_int, are_amount, is_coin, coin_of, coins_made, transferred};
 
 use crate::call::Call;
 use cs_base::{Memory, Sequence};
+use cs_tx::id_of_token;
 use cs_tx_form::Trace;
 use cs_tx_value::{Digest, Encoded, Name, Object, Value, copy_each};
-use sha2::{Digest as Hasher, Sha256};
 use std::alloc::Global;
-
-/// The id of `token`.
-pub fn id_of_token() -> Digest
-    ensures { result ≡ token_id }
-{
-    Sha256::digest(b"token")
-}
 
 fn is_int(value: &Value) -> bool
     ensures { result ≡ is_int (out-Value value.now) }

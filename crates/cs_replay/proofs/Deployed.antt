@@ -26,7 +26,7 @@ use Rattle.cs_node_rules.specs.Site.{Site, View, start_view}
 use Rattle.cs_node_state.specs.Deployed.{rules_of, setup_of}
 use Rattle.cs_node.specs.declared.nodes.Core.{Core}
 use Rattle.cs_node.specs.Cores.{StandsFor}
-use Rattle.cs_node_law.specs.Given as Given
+use Rattle.cs_replay_rules.specs.PlayedWorlds as Given
 use Rattle.cs_sched.specs.Naming.{is_name, is_liar}
 use Rattle.cs_sched.specs.Playable.{IsHonest, IsSpeaker, IsPlayable, IsPlayableEvent}
 use Rattle.cs_play.specs.Kept.{Deploys}

@@ -9,8 +9,8 @@ use Rattle.cs_dump.specs.Settled.{IsSetupOf}
 use Rattle.cs_play.proofs.Printed.{same-count}
 use Rattle.cs_node_rules.specs.Site.{Site}
 use Rattle.cs_node_rules.specs.World.{history}
-use Rattle.cs_node_rules.specs.Lines.{history_text, limit_line, forged_line}
-use Rattle.cs_node_rules.specs.Play.{Played, Course, Goes, Stops, Forges, played_by, size_of, closed, unplayed, play_all, lines}
+use Rattle.cs_replay_rules.specs.Lines.{history_text, limit_line, forged_line}
+use Rattle.cs_replay_rules.specs.Play.{Played, Course, Goes, Stops, Forges, played_by, size_of, closed, unplayed, play_all, lines}
 use Rattle.cs_replay.specs.declared.outcome.Summary.{Summary}
 use Rattle.cs_replay.specs.declared.outcome.ReplayError.{ReplayError}
 use Rattle.cs_replay.specs.declared.outcome.ReplayError.TheVariants.{Forged, Limit, WriteFault, Memory}

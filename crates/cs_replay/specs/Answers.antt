@@ -3,14 +3,14 @@ use Rattle.std.specs.Prelude.{◌≡◌, ℕ, Bool, if◌then◌else◌, List, [
 use Rattle.cs_base.specs.Answers.{Answer}
 use Rattle.cs_command.specs.Answers.{Gives, GivesWhole}
 use Rattle.cs_sched.specs.Text.{schedule_of}
-use Rattle.cs_sched.specs.Refusals.{refusal_status, refusal_text}
-use Rattle.cs_sched.specs.declared.cause.Refusal.{Refusal}
+use Rattle.cs_text.specs.Refusals.{refusal_status, refusal_text}
+use Rattle.cs_text.specs.declared.cause.Refusal.{Refusal}
 use Rattle.cs_sched_types.specs.declared.schedule.Schedule.{Schedule}
 use Rattle.cs_tx_form.specs.declared.transaction.Tx.{Tx}
 use Rattle.cs_approve.specs.Approval.{is_approved_by}
 use Rattle.cs_ledger.specs.Ledger.{Bytes}
-use Rattle.cs_node_rules.specs.Dumps.{dump_text}
-use Rattle.cs_node_rules.specs.Play.{Course, Goes, Stops, Forges, played_by, lines}
+use Rattle.cs_replay_rules.specs.Dumps.{dump_text}
+use Rattle.cs_replay_rules.specs.Play.{Course, Goes, Stops, Forges, played_by, lines}
 use Rattle.cs_node_rules.specs.Site.{Site}
 use Rattle.cs_node_rules.specs.World.{Happening}
 use Rattle.cs_replay.specs.Site.{site_of_schedule}

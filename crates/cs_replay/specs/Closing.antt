@@ -6,11 +6,11 @@ use Rattle.cs_tx_form.specs.declared.transaction.Tx.{Tx}
 use Rattle.cs_ledger.specs.Ledger.{Bytes}
 use Rattle.cs_order.specs.Deeds.{Member, Machine}
 use Rattle.cs_sched_types.specs.declared.schedule.Schedule.{Schedule}
-use Rattle.cs_node_rules.specs.Aborts.{aborted}
+use Rattle.cs_replay_rules.specs.Aborts.{aborted}
 use Rattle.cs_node_rules.specs.Site.{Carrier, Site}
 use Rattle.cs_node_rules.specs.World.{Happening, history}
-use Rattle.cs_node_rules.specs.Lines.{history_text, limit_line, forged_line}
-use Rattle.cs_node_rules.specs.Play.{Played, Course, Goes, Stops, Forges, size_of, closed}
+use Rattle.cs_replay_rules.specs.Lines.{history_text, limit_line, forged_line}
+use Rattle.cs_replay_rules.specs.Play.{Played, Course, Goes, Stops, Forges, size_of, closed}
 use Rattle.cs_play.specs.declared.halt.Halt.{Halt}
 use Rattle.cs_play.specs.declared.halt.Halt.TheVariants as halt
 use Rattle.cs_play.specs.declared.play.Replay.{Replay}

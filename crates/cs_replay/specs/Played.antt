@@ -4,9 +4,9 @@ use Rattle.cs_tx_form.specs.declared.transaction.Tx.{Tx}
 use Rattle.cs_ledger.specs.Ledger.{Bytes, Transaction}
 use Rattle.cs_order_rules.specs.declared.message.OrderMessage.{OrderMessage}
 use Rattle.cs_sched_types.specs.declared.schedule.Schedule.{Schedule}
-use Rattle.cs_node_rules.specs.Aborts.{aborted}
+use Rattle.cs_replay_rules.specs.Aborts.{aborted}
 use Rattle.cs_node_rules.specs.Lines.{Parcel}
-use Rattle.cs_node_rules.specs.Play.{Course, unplayed, played_by, play_all}
+use Rattle.cs_replay_rules.specs.Play.{Course, unplayed, played_by, play_all}
 use Rattle.cs_node_rules.specs.World.{Happening, history}
 use Rattle.cs_replay.specs.Site.{setup_of_schedule, site_of_schedule}
 

@@ -5,7 +5,7 @@ ghost use Rattle.cs_base.specs.Answers.{Answers};
 ghost use Rattle.cs_base.specs.Outside.{HasCause};
 ghost use Rattle.cs_tx_value.specs.Object.{ObjectFits};
 ghost use Rattle.cs_order_rules.specs.SlotMachine.{slot_machine};
-ghost use Rattle.cs_node_rules.specs.Play.{unplayed, play_all, size_of};
+ghost use Rattle.cs_replay_rules.specs.Play.{unplayed, play_all, size_of};
 ghost use Rattle.cs_node_carried.specs.SlotCarried.{slot_carrier};
 ghost use Rattle.cs_sched.specs.Playable.{IsPlayable};
 ghost use Rattle.cs_play.specs.Standing.{Setting, site_in, Stands, AllShort, AllToOthers};

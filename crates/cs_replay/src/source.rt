@@ -11,7 +11,8 @@ use crate::schedule::{Mode, replay};
 use cs_approve::{Book, BookError};
 use cs_base::{MOST_SCHEDULE, ReadError, Sink, Source, print, read_text};
 use cs_command::closing;
-use cs_sched::{Refusal, Schedule, ScheduleError, parse, refusal_line};
+use cs_sched::{Schedule, parse};
+use cs_text::{Refusal, TextError, refusal_line};
 use std::alloc::Global;
 
 /// Replays the text of the source, by the book of its schedule's contracts, and answers the status
@@ -51,8 +52,8 @@ fn answer<K: Sink>(alloc: Global, mode: Mode, text: &[u8], output: &mut K) -> u8
 {
     match parse(alloc, text) {
         Ok(schedule) => play(alloc, mode, &schedule, output),
-        Err(ScheduleError::Line(refusal)) => refuse(alloc, refusal, output),
-        Err(ScheduleError::Memory) => 8,
+        Err(TextError::Line(refusal)) => refuse(alloc, refusal, output),
+        Err(TextError::Memory) => 8,
     }
 }
 

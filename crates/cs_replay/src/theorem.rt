@@ -6,8 +6,9 @@ ghost use Rattle.cs_sched.specs.Playable.{IsPlayable};
 ghost use Rattle.cs_replay.specs.Sound.{IsSound};
 
 use cs_log::SlotOrder;
-use cs_node_law::{events_end_quiet, schedules_play_worlds};
+use cs_node_law::events_end_quiet;
 use cs_phase_law::second_phase;
+use cs_replay_rules::schedules_play_worlds;
 use cs_world_law::{heads_show_executions, settled_world};
 
 /// What is true of every schedule that can be played, whatever its judge approves of.

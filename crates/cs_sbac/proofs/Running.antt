@@ -1,6 +1,7 @@
 -- What the table and the pool became is what the execution of the entry gives.
 use Rattle.std.proofs.Common.{◌≡◌, ℕ, Bool, true, false, ◌&&◌, List, Option, Some, None, IsSome, is_some, option_map, refl, ap, sym, subst, ◌∙◌}
 use Rattle.std.specs.Prelude.{if◌then◌else◌}
+use Rattle.cs_tx_form.specs.Session.{session_in}
 use Rattle.cs_base.specs.declared.config.Config.{Config}
 use Rattle.cs_base.specs.declared.key.Key as ours
 use Rattle.cs_base.specs.declared.node_id.NodeId.{NodeId}
@@ -179,7 +180,7 @@ module _ (config : Config) (me : NodeId) (told : Stored) (of : IsOfNode config m
         held_with table pool = record { config = config; me = me; table = table; pool = pool; archived = archived }
 
         pub executes : (entry : Entry) (tnew : Stored) (pold pnew : Pool) (answer : Outcome)
-            → Setup.is_fit setup me.shard (Setup.session_in entry) ≡ true → AreKnown (keys_in tnew.rows) (seen tnew)
+            → Setup.is_fit setup me.shard (session_in entry) ≡ true → AreKnown (keys_in tnew.rows) (seen tnew)
             → RunsEntry approves me entry told tnew pold pnew answer
             → Executes setup log entry (held_with told pold) (held_with tnew pnew) answer
         executes (Prepare x) tnew pold pnew answer fit known r =
@@ -220,7 +221,7 @@ module _ (config : Config) (me : NodeId) (told : Stored) (of : IsOfNode config m
             → Shard.exec setup.rules me.shard (seen told) (Setup.entry_of setup entry) ≡ record { table = seen told; effect = Shard.Void }
             → Nothing entry pool
         nothing-by entry pool e =
-            let x : Session = Setup.session_in entry in
+            let x : Session = session_in entry in
             let d : Bytes = Setup.digest_of setup x in
             let o = sym e in
             let keys = known-after (Setup.entry_of setup entry) told old_known (ap (λ (out : Shard.Outcome). out.table) o) in
@@ -244,7 +245,7 @@ module _ (config : Config) (me : NodeId) (told : Stored) (of : IsOfNode config m
         unfit t true o h = let q : true ≡ false = h in cc
         unfit t false o h = refl
 
-        pub executes-nothing : (entry : Entry) (pool : Pool) → Setup.is_fit setup me.shard (Setup.session_in entry) ≡ false → Nothing entry pool
+        pub executes-nothing : (entry : Entry) (pool : Pool) → Setup.is_fit setup me.shard (session_in entry) ≡ false → Nothing entry pool
         executes-nothing (Prepare x) pool misfit = nothing-by (Prepare x) pool (unfit (seen told) _ _ misfit)
         executes-nothing (Decide vote x) pool misfit = nothing-by (Decide vote x) pool (unfit (seen told) _ _ misfit)
 

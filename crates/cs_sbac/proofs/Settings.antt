@@ -17,7 +17,7 @@ use Rattle.cs_node_state.specs.declared.pooled.Pooled.{Pooled}
 use Rattle.cs_node_state.specs.Pool.{entering}
 use Rattle.cs_tx.specs.Digest.{digest_of_session}
 use Rattle.cs_ledger.specs.Ledger.{Bytes}
-use Rattle.cs_node_pool.specs.Deployed.{deployed, AtAnySetup}
+use Rattle.cs_node_pool.specs.Deployed.{deployed, AtEverySetup}
 use Rattle.cs_node_pool.specs.Seats.{IsKnown}
 use Rattle.cs_node_pool.proofs.Concerned.{concerns-session}
 use Rattle.cs_node_pool.proofs.Right as Right
@@ -41,7 +41,7 @@ none_from : {A : Type 0} (o : Option A) → is_none o ≡ true → o ≡ None
 none_from None h = refl
 none_from (Some a) h = let q : false ≡ true = h in cc
 
-pub formed : (config : Config) (shard : ℕ) (x : Session) → AtAnySetup config (λ setup. Setup.is_fit setup shard x ≡ true) → IsWellFormed config x
+pub formed : (config : Config) (shard : ℕ) (x : Session) → AtEverySetup config (λ setup. Setup.is_fit setup shard x ≡ true) → IsWellFormed config x
 formed config shard x fits =
     let setup : Setup.Setup = deployed config [] (λ tx. false) in
     let both = and_parts (Seen.well_formed setup.rules (setup.session_of x)) (Setup.concerns setup x shard) (fits [] (λ tx. false)) in

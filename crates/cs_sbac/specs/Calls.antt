@@ -19,7 +19,8 @@ use Rattle.cs_table.specs.Changes.{Becomes}
 use Rattle.cs_table.specs.Effects.{effect_of}
 use Rattle.cs_table.specs.Calls.{anchor_in, prepared, decided}
 use Rattle.cs_node_state.specs.declared.ballot.Ballot.{Ballot}
-use Rattle.cs_node_state.specs.Setup.{Setup, session_in}
+use Rattle.cs_node_state.specs.Setup.{Setup}
+use Rattle.cs_tx_form.specs.Session.{session_in}
 use Rattle.cs_node_state.specs.Pool.{Pool, has_room, pushed, changed, with_ballot, entered_locked, without}
 use Rattle.cs_node_state.specs.Bench.{executed, bench_executed, pool_after, told_by, told_of, own_pool, locked_at}
 use Rattle.cs_sbac.specs.Held.{Held, bench_of}

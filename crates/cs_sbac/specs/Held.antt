@@ -12,7 +12,7 @@ use Rattle.cs_node_state.specs.Pool.{Pool}
 use Rattle.cs_node_state.specs.Bench.{Bench}
 use Rattle.cs_tx_form.specs.declared.session.Session.{Session}
 use Rattle.cs_node_state.specs.Setup.{is_fit}
-use Rattle.cs_node_pool.specs.Deployed.{AtAnySetup}
+use Rattle.cs_node_pool.specs.Deployed.{AtEverySetup}
 use Rattle.cs_node_pool.specs.Gathered.{Gathered}
 
 pub record Held : Type 0 where
@@ -30,16 +30,16 @@ pub record IsOfNode (config : Config) (me : NodeId) (table : Stored) : Type 0 wh
 
 -- So, and the leaves of all keys that aren't touched are those of the table, unless memory ran out in the midst of a slot;
 -- and the pool has the same configuration.
-pub record IsSoundBench (is_whole : Bool) (config : Config) (me : NodeId)
+pub record IsSoundBench (whole : Bool) (config : Config) (me : NodeId)
     (table : Stored) (pool : Gathered) (archived : Archived) : Type 0 where
   pub node : is_node config me ≡ true
   pub same : pool.config ≡ config
-  pub placed : is_whole ≡ true → IsOfNode config me table
-  pub leaves : is_whole ≡ true → HasLeavesBut table.touched archived.hashed (seen table)
+  pub placed : whole ≡ true → IsOfNode config me table
+  pub leaves : whole ≡ true → HasLeavesBut table.touched archived.hashed (seen table)
 
 -- the session is well formed, and concerns the shard, whatever the genesis and the checks say
 abbrev pub IsFit : Held → Session → Type 0
-IsFit held x = AtAnySetup held.config (λ setup. is_fit setup held.me.shard x ≡ true)
+IsFit held x = AtEverySetup held.config (λ setup. is_fit setup held.me.shard x ≡ true)
 
 -- what the node works on, where this is its log
 abbrev pub bench_of : Log → Held → Bench

@@ -1,12 +1,11 @@
 //! Which entries a node admits, and the execution of one.
 ghost use Rattle.std.specs.Prelude.{◌≡◌, ◌↔◌, IsSome, IfOk, IfSome};
 ghost use Rattle.cs_tx_form.specs.declared.entry.Entry.TheVariants.{Prepare, Decide};
-ghost use Rattle.cs_tx_form.specs.Session.{SessionFits, EntryFits};
+ghost use Rattle.cs_tx_form.specs.Session.{SessionFits, EntryFits, session_in};
 ghost use Rattle.cs_checkpoint.specs.Chain.{Log};
 ghost use Rattle.cs_node_state.specs.Admission.{admits};
-ghost use Rattle.cs_node_state.specs.Setup.{session_in};
 ghost use Rattle.cs_tx.specs.Digest.{digest_of_session};
-ghost use Rattle.cs_node_pool.specs.Deployed.{AtAnySetup, AtAnyGenesis};
+ghost use Rattle.cs_node_pool.specs.Deployed.{AtEverySetup, AtAnyGenesis};
 ghost use Rattle.cs_node_pool.specs.Calls.{IsNext};
 ghost use Rattle.cs_node_pool.specs.Seats.{IsKnown};
 ghost use Rattle.cs_sbac.specs.Calls.{Executes};
@@ -26,7 +25,7 @@ use std::alloc::Global;
 fn known_in(pool: &Pool, entry: &Entry) -> Result<Option<Digest>, Memory>
     ensures known { IfOk result (λ found.
         IfSome found (IsKnown pool.now.config (session_in entry.now))) }
-    ensures next { AtAnySetup pool.now.config (λ setup.
+    ensures next { AtEverySetup pool.now.config (λ setup.
         IfOk result (λ found.
         IsSome found ↔ IsNext setup pool.now.sessions (session_in entry.now))) }
 {
@@ -84,7 +83,7 @@ impl Sbac {
 
     fn admits_decide(&self, alloc: Global, vote: Vote, session: &Session) -> Result<bool, Memory>
         requires { SessionFits session.now }
-        ensures { AtAnySetup self.now.config (λ setup.
+        ensures { AtEverySetup self.now.config (λ setup.
             IfOk result (λ admitted.
             admitted ≡ admits setup self.now.me.shard self.now.pool (Decide vote session.now))) }
     {
@@ -124,12 +123,10 @@ impl Sbac {
     /// is taken; or it leaves the pool, as does one on which a decision took effect.
     pub fn execute(&mut self, alloc: Global, entry: &Entry) -> Result<Outcome, Memory>
         requires { EntryFits entry.now }
-        ensures { AtAnySetup self.old.config (λ setup. (log : Log) →
+        ensures { AtEverySetup self.old.config (λ setup. (log : Log) →
             IfOk result (λ answer. Executes setup log entry.now self.old self.new answer)) }
     {
-        if !self.is_whole {
-            return Err(Memory);
-        }
+        self.whole.check()?;
         root_is_shown(&self.table);
         let known = known_in(&self.pool, entry)?;
         let fit = is_fit_entry(alloc, &self.config, self.me.shard, entry, known.is_some())?;
@@ -140,7 +137,7 @@ impl Sbac {
             });
         }
         let digest = digest_in(alloc, entry, known)?;
-        self.is_whole = false;
+        self.whole.begin()?;
         let outcome = run(
             alloc,
             self.me,
@@ -150,7 +147,7 @@ impl Sbac {
             &digest,
         )?;
         root_is_shown(&self.table);
-        self.is_whole = true;
+        self.whole.end();
         Ok(outcome)
     }
 }

@@ -1,13 +1,12 @@
 //! The execution of an entry on the table and the pool of a node.
 ghost use Rattle.std.specs.Prelude.{◌≡◌, Bool, true, Some, IsSome, OnOk, IfOk};
 ghost use Rattle.cs_tx_form.specs.declared.transaction.Tx.{Tx};
-ghost use Rattle.cs_tx_form.specs.Session.{SessionFits, EntryFits};
+ghost use Rattle.cs_tx_form.specs.Session.{SessionFits, EntryFits, session_in};
 ghost use Rattle.cs_tx.specs.Digest.{digest_of_session};
 ghost use Rattle.cs_tx.specs.Sessions.{session_of};
 ghost use Rattle.cs_tx.specs.WellFormed.{IsWellFormed};
 ghost use Rattle.cs_table.specs.Seen.{vote_of};
 ghost use Rattle.cs_table.specs.Calls.{anchor_in, prepared, decided};
-ghost use Rattle.cs_node_state.specs.Setup.{session_in};
 ghost use Rattle.cs_node_state.specs.Pool.{entering};
 ghost use Rattle.cs_node_state.specs.Bench.{own_pool};
 ghost use Rattle.cs_sbac.specs.Calls.{placed, left, Runs, RunsEntry};

@@ -45,12 +45,9 @@ impl Sbac {
         ensures config { OnOk result (self.new.config ≡ self.old.config) }
         ensures me { OnOk result (self.new.me ≡ self.old.me) }
     {
-        if !self.is_whole {
-            return Err(Memory);
-        }
-        self.is_whole = false;
+        self.whole.begin()?;
         let made = self.archive.push(alloc, leaf, &self.table)?;
-        self.is_whole = true;
+        self.whole.end();
         Ok(made)
     }
 

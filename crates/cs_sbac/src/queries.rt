@@ -1,6 +1,5 @@
 //! What is asked of the table and the pool of a node.
 ghost use Rattle.std.specs.Prelude.{◌≡◌, IfOk};
-ghost use Rattle.cs_tx_value.specs.Object.{DigestFits};
 ghost use Rattle.cs_tx_value.specs.Key.{KeyFits};
 ghost use Rattle.cs_tx_form.specs.State.{StateFits};
 ghost use Rattle.cs_tx_form.specs.Session.{SessionFits};
@@ -9,7 +8,7 @@ ghost use Rattle.cs_node_state.specs.Setup.{concerns, concerned, is_fit};
 ghost use Rattle.cs_table.specs.Seen.{seen, HoldsFit};
 ghost use Rattle.cs_node_state.specs.Asked.{told_at, least_dummy, key_asked};
 ghost use Rattle.cs_node_state.specs.Bench.{decided, noted};
-ghost use Rattle.cs_node_pool.specs.Deployed.{AtAnySetup};
+ghost use Rattle.cs_node_pool.specs.Deployed.{AtEverySetup};
 ghost use Rattle.cs_sbac.specs.Held.{IsFit};
 ghost use Rattle.cs_sbac.specs.Calls.{accepted_by};
 
@@ -18,6 +17,7 @@ use crate::setting::{concerned_shards, formed_shards, is_fit};
 use cs_base::{Key, Memory};
 use cs_table::Standing;
 use cs_tx::{Digest, Encoded, Session, State, Vote, anchor};
+use cs_tx_form::{digest_fits, key_fits};
 use std::alloc::Global;
 
 fn is_accepted(standing: Standing) -> Option<bool>
@@ -30,20 +30,6 @@ fn is_accepted(standing: Standing) -> Option<bool>
     }
 }
 
-// Each digest and each key has an encoding.
-fn digest_fits(digest: Digest)
-    ensures { DigestFits digest }
-{}
-
-fn key_fits(key: Key)
-    ensures { KeyFits key }
-{
-    match key {
-        Key::Object(digest) => digest_fits(digest),
-        Key::Dummy(_, _) => {}
-    }
-}
-
 fn copy_state(alloc: Global, state: &State) -> Result<State, Memory>
     requires { HoldsFit state.now }
     ensures copied { IfOk result (λ copied. copied ≡ state.now) }
@@ -53,11 +39,11 @@ fn copy_state(alloc: Global, state: &State) -> Result<State, Memory>
         State::Unknown => Ok(State::Unknown),
         State::Active(object) => Ok(State::Active(object.copy(alloc)?)),
         State::Locked(object, by) => {
-            digest_fits(*by);
+            digest_fits(by);
             Ok(State::Locked(object.copy(alloc)?, *by))
         }
         State::Inactive(by) => {
-            digest_fits(*by);
+            digest_fits(by);
             Ok(State::Inactive(*by))
         }
     }
@@ -67,7 +53,7 @@ impl Sbac {
     /// Whether a session is well formed and concerns the shard.
     pub fn is_fit(&self, alloc: Global, session: &Session) -> Result<bool, Memory>
         requires { SessionFits session.now }
-        ensures { AtAnySetup self.now.config (λ setup.
+        ensures { AtEverySetup self.now.config (λ setup.
             IfOk result (λ fit. fit ≡ is_fit setup self.now.me.shard session.now)) }
     {
         let fit = is_fit(alloc, &self.config, self.me.shard, session, false)?;
@@ -83,7 +69,7 @@ impl Sbac {
     ) -> Result<bool, Memory>
         requires fits { SessionFits session.now }
         requires named { digest.now ≡ digest_of_session session.now }
-        ensures { AtAnySetup self.now.config (λ setup.
+        ensures { AtEverySetup self.now.config (λ setup.
             IfOk result (λ fit. fit ≡ is_fit setup self.now.me.shard session.now)) }
     {
         let known = self.pool.holds(digest, session)?;
@@ -94,7 +80,7 @@ impl Sbac {
     /// The shards that a session concerns, in rising order.
     pub fn concerned(&self, alloc: Global, session: &Session) -> Result<Vec<u16>, Memory>
         requires { SessionFits session.now }
-        ensures { AtAnySetup self.now.config (λ setup.
+        ensures { AtEverySetup self.now.config (λ setup.
             IfOk result (λ shards. shards.items ≡ concerned setup session.now)) }
     {
         concerned_shards(alloc, &self.config, session, false)
@@ -103,7 +89,7 @@ impl Sbac {
     /// The same of a fit session, for which nothing is hashed.
     pub fn concerned_of_fit(&self, alloc: Global, session: &Session) -> Result<Vec<u16>, Memory>
         requires { IsFit self.now session.now }
-        ensures { AtAnySetup self.now.config (λ setup.
+        ensures { AtEverySetup self.now.config (λ setup.
             IfOk result (λ shards. shards.items ≡ concerned setup session.now)) }
     {
         let shards = formed_shards(alloc, &self.config, session)?;
@@ -113,7 +99,7 @@ impl Sbac {
     /// Whether a fit session concerns a shard.
     pub fn concerns(&self, session: &Session, shard: u16) -> bool
         requires { IsFit self.now session.now }
-        ensures { AtAnySetup self.now.config (λ setup. result ≡ concerns setup session.now shard) }
+        ensures { AtEverySetup self.now.config (λ setup. result ≡ concerns setup session.now shard) }
     {
         anchor(session, &self.config, shard).is_some()
     }
@@ -127,12 +113,10 @@ impl Sbac {
     ) -> Result<Option<Vote>, Memory>
         requires fits { SessionFits session.now }
         requires named { digest.now ≡ digest_of_session session.now }
-        ensures { AtAnySetup self.now.config (λ setup. IfOk result (λ vote.
+        ensures { AtEverySetup self.now.config (λ setup. IfOk result (λ vote.
             vote ≡ noted setup self.now.me.shard (seen self.now.table) session.now)) }
     {
-        if !self.is_whole {
-            return Err(Memory);
-        }
+        self.whole.check()?;
         let vote = self.table.recorded(alloc, session, digest)?;
         Ok(vote)
     }
@@ -146,12 +130,10 @@ impl Sbac {
     ) -> Result<Option<bool>, Memory>
         requires fits { SessionFits session.now }
         requires named { digest.now ≡ digest_of_session session.now }
-        ensures { AtAnySetup self.now.config (λ setup. IfOk result (λ answer.
+        ensures { AtEverySetup self.now.config (λ setup. IfOk result (λ answer.
             answer ≡ decided setup self.now.me.shard (seen self.now.table) session.now)) }
     {
-        if !self.is_whole {
-            return Err(Memory);
-        }
+        self.whole.check()?;
         let standing = self.table.standing(alloc, session, digest)?;
         Ok(is_accepted(standing))
     }
@@ -161,9 +143,7 @@ impl Sbac {
         ensures told { IfOk result (λ state. state ≡ told_at (seen self.now.table) key.now) }
         ensures fits { IfOk result StateFits }
     {
-        if !self.is_whole {
-            return Err(Memory);
-        }
+        self.whole.check()?;
         match self.table.record(key) {
             None => Ok(State::Unknown),
             Some(row) => copy_state(alloc, &row.state),
@@ -179,7 +159,7 @@ impl Sbac {
     {
         match key {
             Some(key) => {
-                key_fits(key);
+                key_fits(&key);
                 Ok(key)
             }
             None => self.least_dummy(),
@@ -191,11 +171,9 @@ impl Sbac {
             key ≡ least_dummy (seen self.now.table) self.now.me.shard) }
         ensures fits { IfOk result KeyFits }
     {
-        if !self.is_whole {
-            return Err(Memory);
-        }
+        self.whole.check()?;
         let key = self.table.least_dummy();
-        key_fits(key);
+        key_fits(&key);
         Ok(key)
     }
 }

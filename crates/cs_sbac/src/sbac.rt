@@ -4,7 +4,7 @@ ghost use Rattle.cs_tx_form.specs.Session.{SessionFits};
 ghost use Rattle.cs_tx.specs.Digest.{digest_of_session};
 ghost use Rattle.cs_node_state.specs.Pool.{found, is_pooled, changed, with_ballot};
 ghost use Rattle.cs_node_state.specs.Admission.{due};
-ghost use Rattle.cs_node_pool.specs.Deployed.{AtAnySetup};
+ghost use Rattle.cs_node_pool.specs.Deployed.{AtEverySetup};
 ghost use Rattle.cs_node_pool.specs.Fits.{DueFits, AllFit};
 ghost use Rattle.cs_node_pool.specs.Calls.{counted_in, locked_in};
 ghost use Rattle.cs_checkpoint.specs.Chain.{empty_log, kept_of};
@@ -20,6 +20,7 @@ use cs_node_pool::{Counted, Pool};
 use cs_node_state::Ballot;
 use cs_table::Table;
 use cs_tx::{Digest, Entry, Session, Vote};
+use cs_whole::Whole;
 use std::alloc::Global;
 use std::marker::Model;
 
@@ -32,7 +33,7 @@ pub struct Sbac {
     pub(crate) table: Table,
     pub(crate) pool: Pool,
     pub(crate) archive: Archive,
-    pub(crate) is_whole: bool,
+    pub(crate) whole: Whole,
 }
 
 impl Model for Sbac {
@@ -53,7 +54,7 @@ impl Model for Sbac {
       archived = s.archive;
     } };
 
-    ghost invariant = { λ s. IsSoundBench s.is_whole s.config s.me s.table s.pool s.archive };
+    ghost invariant = { λ s. IsSoundBench s.whole s.config s.me s.table s.pool s.archive };
 }
 
 impl Sbac {
@@ -79,7 +80,7 @@ impl Sbac {
             table,
             pool: Pool::new(alloc, config),
             archive,
-            is_whole: true,
+            whole: Whole::new(),
         })
     }
 
@@ -187,7 +188,7 @@ impl Sbac {
     /// The entry that is due: the first decision of a locked session that the votes carry, or else
     /// a vote on the first session that waits.
     pub fn due(&self, alloc: Global) -> Result<Option<Entry>, Memory>
-        ensures entry { AtAnySetup self.now.config (λ setup.
+        ensures entry { AtEverySetup self.now.config (λ setup.
             IfOk result (λ entry. entry ≡ due setup self.now.pool)) }
         ensures fits { IfOk result DueFits }
     {

@@ -1,10 +1,10 @@
 //! What the setup of a deployment says of a session.
 ghost use Rattle.std.specs.Prelude.{◌≡◌, true, IfOk, is_none, is_some};
-ghost use Rattle.cs_tx_form.specs.Session.{SessionFits, EntryFits};
+ghost use Rattle.cs_tx_form.specs.Session.{SessionFits, EntryFits, session_in};
 ghost use Rattle.cs_tx.specs.Uses.{anchor_of, concerned_shards};
 ghost use Rattle.cs_tx.specs.WellFormed.{IsWellFormed, fault_of};
-ghost use Rattle.cs_node_state.specs.Setup.{concerned, is_fit, session_in};
-ghost use Rattle.cs_node_pool.specs.Deployed.{AtAnySetup};
+ghost use Rattle.cs_node_state.specs.Setup.{concerned, is_fit};
+ghost use Rattle.cs_node_pool.specs.Deployed.{AtEverySetup};
 
 use cs_base::{Config, Memory};
 use cs_tx::{Entry, Malformed, Session, anchor, concerned, well_formed};
@@ -20,7 +20,7 @@ pub fn concerned_shards(
 ) -> Result<Vec<u16>, Memory>
     requires fits { SessionFits session.now }
     requires known { known ≡ true → IsWellFormed config.now session.now }
-    ensures { AtAnySetup config.now (λ setup.
+    ensures { AtEverySetup config.now (λ setup.
         IfOk result (λ shards. shards.items ≡ concerned setup session.now)) }
 {
     if known {
@@ -83,7 +83,7 @@ pub fn is_fit(
 ) -> Result<bool, Memory>
     requires fits { SessionFits session.now }
     requires known { known ≡ true → IsWellFormed config.now session.now }
-    ensures fit { AtAnySetup config.now (λ setup.
+    ensures fit { AtEverySetup config.now (λ setup.
         IfOk result (λ fit. fit ≡ is_fit setup shard session.now)) }
     // Then the shard has a key of the session, by which it is held.
     ensures anchored { IfOk result (λ fit.
@@ -105,7 +105,7 @@ pub fn is_fit_entry(
 ) -> Result<bool, Memory>
     requires fits { EntryFits entry.now }
     requires known { known ≡ true → IsWellFormed config.now (session_in entry.now) }
-    ensures fit { AtAnySetup config.now (λ setup.
+    ensures fit { AtEverySetup config.now (λ setup.
         IfOk result (λ fit. fit ≡ is_fit setup shard (session_in entry.now))) }
     ensures anchored { IfOk result (λ fit.
         fit ≡ true → is_some (anchor_of config.now (session_in entry.now) shard) ≡ true) }

@@ -7,7 +7,7 @@ use Rattle.cs_sched_types.specs.declared.schedule.Event.TheVariants.{Say, Inject
 use Rattle.cs_node_rules.specs.Lines.{Parcel}
 use Rattle.cs_node_rules.specs.Site as given
 use Rattle.cs_node_rules.specs.Site.{Input, Datagram, Site}
-use Rattle.cs_node_rules.specs.Play.{Played, Course, Goes, Stops, Forges, then_plays, within, occurs, comes, delivers, with_arrived, first_left, drains, drained, play, play_all, plays, most_events, most_sent, size_of}
+use Rattle.cs_replay_rules.specs.Play.{Played, Course, Goes, Stops, Forges, then_plays, within, occurs, comes, delivers, with_arrived, first_left, drains, drained, play, play_all, plays, most_events, most_sent, size_of}
 use Rattle.cs_simulate.specs.Unforged.{IsNoInjection}
 
 -- it goes on, or stops at a limit

@@ -3,8 +3,8 @@ use Rattle.std.proofs.Common.{◌≡◌, ◌≢◌, ℕ, ◌+◌, Bool, true, fa
 use Rattle.std.specs.List.{AllPairs}
 use Rattle.cs_tx_value.specs.declared.object.Object.{Object}
 use Rattle.cs_tx.specs.Digest.{name_of_genesis}
-use Rattle.cs_sched.specs.Names.{is_known, genesis_names}
-use Rattle.cs_sched.proofs.Distinct.{names_differ}
+use Rattle.cs_tx.specs.GenesisNames.{is_known, genesis_names}
+use Rattle.cs_tx.proofs.GenesisNames.{names_differ}
 use Rattle.cs_simulate.specs.Keys.{first_repeated, repeated_key}
 
 abbrev Differ : List (List ℕ) → Type 0

@@ -6,9 +6,9 @@ use Rattle.cs_tx_form.specs.declared.transaction.Tx.{Tx}
 use Rattle.cs_order_rules.specs.declared.message.OrderMessage.{OrderMessage}
 use Rattle.cs_approve.specs.Approval.{is_approved_by}
 use Rattle.cs_sched_types.specs.declared.schedule.Schedule.{Schedule}
-use Rattle.cs_sched.specs.declared.cause.Cause.TheVariants.{Key, Limit}
-use Rattle.cs_node_rules.specs.Lines.{forged_line}
-use Rattle.cs_node_rules.specs.Play.{Course, Goes, Stops, Forges}
+use Rattle.cs_text.specs.declared.cause.Cause.TheVariants.{Key, Limit}
+use Rattle.cs_replay_rules.specs.Lines.{forged_line}
+use Rattle.cs_replay_rules.specs.Play.{Course, Goes, Stops, Forges}
 use Rattle.cs_node_rules.specs.Site.{Site}
 use Rattle.cs_replay.specs.Answers.{refusal_answer}
 use Rattle.cs_replay.specs.Closing.{summary_of}

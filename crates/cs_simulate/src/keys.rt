@@ -4,7 +4,7 @@ ghost use Rattle.std.specs.List.{All};
 ghost use Rattle.cs_base.specs.declared.limits.TheConstants.{MOST_GENESIS};
 ghost use Rattle.cs_tx_value.specs.Object.{ObjectFits};
 ghost use Rattle.cs_tx.specs.Digest.{name_of_genesis};
-ghost use Rattle.cs_sched.specs.Names.{is_known};
+ghost use Rattle.cs_tx.specs.GenesisNames.{is_known};
 ghost use Rattle.cs_simulate.specs.Keys.{repeated_key};
 
 use cs_base::{Key, Memory};

@@ -13,8 +13,8 @@ use cs_approve::{Book, BookError};
 use cs_base::{Memory, NullSink};
 use cs_gen::{generated_schedules_are_playable, schedule_of};
 use cs_replay::{Mode, ReplayError, Summary, replay};
-use cs_sched::{Cause, Refusal, refusal_line};
 use cs_sched_types::Schedule;
+use cs_text::{Cause, Refusal, refusal_line};
 use std::alloc::Global;
 
 // A status, and the text that is printed with it.

@@ -7,7 +7,7 @@ use Rattle.cs_node.specs.declared.nodes.StartError.{StartError}
 use Rattle.cs_node.specs.declared.nodes.StartError.TheVariants.{Duplicate, Memory}
 use Rattle.cs_node.specs.Setups.{Starts}
 use Rattle.cs_genesis.specs.Genesis.{keyed_from, names_in}
-use Rattle.cs_sched.specs.Names.{genesis_names}
+use Rattle.cs_tx.specs.GenesisNames.{genesis_names}
 
 pub names-same : (number : ℕ) (objects : List Object) → genesis_names number objects ≡ names_in (keyed_from number objects)
 names-same number [] = refl

@@ -1,6 +1,7 @@
 //! The keys that a session has in a shard.
 ghost use Rattle.std.specs.Prelude.{◌≡◌, ◌≤◌, ◌++◌, [], ◌∷◌, length, IfOk, OnOk};
 ghost use Rattle.std.specs.List.{flat_map, AllByRecursion};
+ghost use Rattle.cs_tx_form.specs.declared.limits.TheConstants.{MOST_TRACES, MOST_TRACE_OBJECTS};
 ghost use Rattle.cs_tx_form.specs.Transaction.{TraceFits};
 ghost use Rattle.cs_tx_form.specs.Session.{SessionFits};
 ghost use Rattle.cs_tx.specs.Digest.{outputs_at, outputs_from};
@@ -125,7 +126,7 @@ fn add_outputs_at(
     trace: u16,
     outputs: &[Object],
 ) -> Result<(), Memory>
-    requires { length outputs.now ≤ 64 }
+    requires { length outputs.now ≤ MOST_TRACE_OBJECTS }
     ensures { OnOk result (pieces.new.items
         ≡ pieces.old.items
         ++ pieces_in config.now.shards shard (outputs_at digest.now trace 0 outputs.now)) }
@@ -145,7 +146,7 @@ fn add_outputs(
     digest: &Digest,
     traces: &[Trace],
 ) -> Result<(), Memory>
-    requires few { length traces.now ≤ 16 }
+    requires few { length traces.now ≤ MOST_TRACES }
     requires fit { AllByRecursion TraceFits traces.now }
     ensures { OnOk result (pieces.new.items
         ≡ pieces.old.items

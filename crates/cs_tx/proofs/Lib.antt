@@ -7,3 +7,4 @@ pub mod Outputs
 pub mod OutputsNamed
 pub mod ShardsSeen
 pub mod TestsSeen
+pub mod GenesisNames

@@ -4,3 +4,4 @@ pub mod WellFormed
 pub mod Token
 pub mod Sessions
 pub mod Dummies
+pub mod GenesisNames

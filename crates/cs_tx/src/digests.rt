@@ -2,6 +2,7 @@
 ghost use Rattle.std.specs.Prelude.{◌≡◌, ◌≤◌, ◌++◌, ◌∷◌, [], length, map, IfOk};
 ghost use Rattle.cs_tx_value.specs.Object.{ObjectFits};
 ghost use Rattle.std.specs.List.{AllByRecursion};
+ghost use Rattle.cs_tx_form.specs.declared.limits.TheConstants.{MOST_TRACES, MOST_TRACE_OBJECTS};
 ghost use Rattle.cs_tx_form.specs.Transaction.{TraceFits, TxFits};
 ghost use Rattle.cs_tx_form.specs.Session.{SessionFits, EntryFits};
 ghost use Rattle.cs_tx.specs.Digest.{digest_of_tx, digest_of_session, digest_of_entry, name_of_output, name_of_genesis, outputs_at, outputs_from, keys, keys_of_outputs};
@@ -69,7 +70,7 @@ fn trace_keys(
     trace: u16,
     outputs: &[Object],
 ) -> Result<Sequence<Key>, Memory>
-    requires { length outputs.now ≤ 64 }
+    requires { length outputs.now ≤ MOST_TRACE_OBJECTS }
     ensures { IfOk result (λ found. found ≡ keys (outputs_at digest.now trace 0 outputs.now)) }
 {
     let mut found = Sequence::new(alloc);
@@ -84,7 +85,7 @@ fn keys_of_traces(
     digest: &Digest,
     traces: &[Trace],
 ) -> Result<Sequence<Sequence<Key>>, Memory>
-    requires few { length traces.now ≤ 16 }
+    requires few { length traces.now ≤ MOST_TRACES }
     requires fit { AllByRecursion TraceFits traces.now }
     ensures { IfOk result (λ found. found ≡ map keys (outputs_from digest.now 0 traces.now)) }
 {

@@ -18,5 +18,5 @@ pub use digests::{entry_digest, genesis_key, output_keys, output_name, session_d
 pub use formation::well_formed;
 pub use judge::Judge;
 pub use malformed::Malformed;
-pub use token::TokenJudge;
+pub use token::{TokenJudge, id_of_token};
 pub use uses::{anchor, concerned};

@@ -2,6 +2,7 @@
 ghost use Rattle.std.specs.Prelude.{◌≡◌, ◌≤◌, ◌++◌, length, map, IfOk, OnOk};
 ghost use Rattle.std.specs.List.{flat_map};
 ghost use Rattle.std.specs.List.{AllByRecursion};
+ghost use Rattle.cs_tx_form.specs.declared.limits.TheConstants.{MOST_TRACES, MOST_TRACE_OBJECTS};
 ghost use Rattle.cs_tx_form.specs.Transaction.{TraceFits};
 ghost use Rattle.cs_tx.specs.Digest.{outputs_at, outputs_from};
 ghost use Rattle.cs_tx.specs.Uses.{names};
@@ -57,7 +58,7 @@ fn add_output_names(
     trace: u16,
     outputs: &[Object],
 ) -> Result<(), Memory>
-    requires { length outputs.now ≤ 64 }
+    requires { length outputs.now ≤ MOST_TRACE_OBJECTS }
     ensures { OnOk result
         (found.new ≡ found.old ++ names (outputs_at digest.now trace 0 outputs.now)) }
 {
@@ -72,7 +73,7 @@ fn output_names(
     digest: &Digest,
     traces: &[Trace],
 ) -> Result<Sequence<Digest>, Memory>
-    requires few { length traces.now ≤ 16 }
+    requires few { length traces.now ≤ MOST_TRACES }
     requires fit { AllByRecursion TraceFits traces.now }
     ensures { IfOk result (λ found.
         found ≡

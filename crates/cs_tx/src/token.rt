@@ -1,6 +1,7 @@
 //! The contract `token`.
 ghost use Rattle.std.specs.Prelude.{◌≡◌, ◌≤◌, ◌<◌, ◌^◌, length, map, IfSome};
 ghost use Rattle.cs_tx_value.specs.declared.value.Value.{out-Value};
+ghost use Rattle.cs_tx_form.specs.declared.limits.TheConstants.{MOST_TRACE_OBJECTS};
 ghost use Rattle.cs_tx_form.specs.Transaction.{TraceFits};
 ghost use Rattle.cs_tx.specs.Token.{token_id, amount_of_layer, amount_of, amount_of_coin, sum_from, is_balanced, is_transfer};
 
@@ -35,7 +36,7 @@ fn coin_amount(coin: &Object) -> Option<u64>
 }
 
 fn input_sum(items: &[(Digest, Object)]) -> Option<u128>
-    requires { length items.now ≤ 64 }
+    requires { length items.now ≤ MOST_TRACE_OBJECTS }
     ensures { result ≡ sum_from (map (λ item. item.1) items.now) 0 }
 {
     let mut sum = 0;
@@ -46,7 +47,7 @@ fn input_sum(items: &[(Digest, Object)]) -> Option<u128>
 }
 
 fn output_sum(objects: &[Object]) -> Option<u128>
-    requires { length objects.now ≤ 64 }
+    requires { length objects.now ≤ MOST_TRACE_OBJECTS }
     ensures { result ≡ sum_from objects.now 0 }
 {
     let mut sum = 0;
@@ -78,7 +79,8 @@ fn transfers(trace: &Trace) -> bool
         && balances(trace)
 }
 
-fn id_of_token() -> Digest
+/// The id of `token`, the contract that is known by name.
+pub fn id_of_token() -> Digest
     ensures { result ≡ token_id }
 {
     Sha256::digest(b"token")

@@ -6,6 +6,7 @@ use Rattle.cs_base.specs.Fields.{counted, Found, ◌<$>◌, number_at, bytes_at,
 use Rattle.cs_tx_value.specs.Encoding.{AtMost}
 use Rattle.cs_tx_value.specs.Kinds.{kinds_at}
 use Rattle.cs_tx_value.specs.Object.{DigestFits}
+use Rattle.cs_tx_form.specs.declared.limits.TheConstants.{LAST_PLACE, MOST_PATH}
 use Rattle.cs_tx_form.specs.declared.vote.Vote.TheVariants as vote
 use Rattle.cs_tx_form.specs.declared.entry.Entry.{Entry}
 use Rattle.cs_tx_form.specs.declared.effect.Effect.{Effect}
@@ -57,10 +58,10 @@ proof_encoding p =
 
 pub record ProofFits (p : Proof) : Type 0 where
   pub checkpoint : CheckpointFits p.checkpoint
-  pub place : p.place ≤ 15
+  pub place : p.place ≤ LAST_PLACE
   pub leaf : LeafFits p.leaf
   pub slot : p.leaf.slot < 2 ^ 62
-  pub path : AtMost 4 DigestFits p.path
+  pub path : AtMost MOST_PATH DigestFits p.path
 
 -- ---- what stands at the front of a list of bytes
 
@@ -97,7 +98,7 @@ slot_at = tested_at (λ n. nat_le n LAST_SLOT) (number_at w64)
 
 -- a place among 16
 abbrev pub index_at : List ℕ → Found ℕ
-index_at = tested_at (λ n. nat_le n 15) (number_at w8)
+index_at = tested_at (λ n. nat_le n LAST_PLACE) (number_at w8)
 
 unfoldable pub low_leaf_at : List ℕ → Found Leaf
 low_leaf_at bytes = leaf_of <$> pair_at slot_at (pair_at (sized_at entry_at) effect_at) bytes
@@ -111,4 +112,4 @@ proof_of p = record { checkpoint = p.0; place = p.1.0; leaf = p.1.1.0; path = p.
 
 unfoldable pub proof_at : List ℕ → Found Proof
 proof_at bytes =
-    proof_of <$> pair_at checkpoint_at (pair_at index_at (pair_at covered_at (counted_at 4 (bytes_at 32)))) bytes
+    proof_of <$> pair_at checkpoint_at (pair_at index_at (pair_at covered_at (counted_at MOST_PATH (bytes_at 32)))) bytes

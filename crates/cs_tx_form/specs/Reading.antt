@@ -9,6 +9,7 @@ use Rattle.cs_tx_value.specs.Kinds.{kinds_at}
 use Rattle.cs_tx_value.specs.Name.{name_at}
 use Rattle.cs_tx_value.specs.Object.{object_at}
 use Rattle.cs_tx_value.specs.Reading.{value_at}
+use Rattle.cs_tx_form.specs.declared.limits.TheConstants.{MOST_TRACES, MOST_TRACE_OBJECTS, MOST_TRACE_VALUES, MOST_DEPS, MOST_SESSION_DUMMIES}
 use Rattle.cs_tx_form.specs.declared.trace.Trace.{Trace}
 use Rattle.cs_tx_form.specs.declared.transaction.Tx.{Tx}
 use Rattle.cs_tx_form.specs.declared.session.Session.{Session}
@@ -44,12 +45,15 @@ trace_of p = record {
 }
 
 unfoldable pub front_at : List ℕ → Found Front
-front_at = pair_at (bytes_at 32) (pair_at name_at (pair_at (counted_at 64 keyed_at) (counted_at 64 keyed_at)))
+front_at =
+    pair_at (bytes_at 32)
+    (pair_at name_at (pair_at (counted_at MOST_TRACE_OBJECTS keyed_at) (counted_at MOST_TRACE_OBJECTS keyed_at)))
 
 unfoldable pub back_at : List ℕ → Found Back
 back_at =
-    pair_at (counted_at 16 (value_at 4))
-    (pair_at (counted_at 64 object_at) (pair_at (counted_at 16 (value_at 4)) (counted_at 15 (number_at w8))))
+    pair_at (counted_at MOST_TRACE_VALUES (value_at 4))
+    (pair_at (counted_at MOST_TRACE_OBJECTS object_at)
+    (pair_at (counted_at MOST_TRACE_VALUES (value_at 4)) (counted_at MOST_DEPS (number_at w8))))
 
 unfoldable pub trace_at : List ℕ → Found Trace
 trace_at bytes = trace_of <$> pair_at front_at back_at bytes
@@ -58,7 +62,7 @@ abbrev pub tx_of : List Trace → Tx
 tx_of traces = record { traces = traces }
 
 unfoldable pub tx_at : List ℕ → Found Tx
-tx_at = within_at MOST_TX (λ bytes. tx_of <$> some_at 16 trace_at bytes)
+tx_at = within_at MOST_TX (λ bytes. tx_of <$> some_at MOST_TRACES trace_at bytes)
 
 -- ---- sessions, votes and entries
 
@@ -69,7 +73,8 @@ abbrev pub session_from : Tx × (ℕ × List (ℕ × ℕ)) → Session
 session_from p = record { tx = p.0; number = p.1.0; dummies = p.1.1 }
 
 unfoldable pub session_at : List ℕ → Found Session
-session_at bytes = session_from <$> pair_at tx_at (pair_at (number_at w64) (counted_at 15 dummy_at)) bytes
+session_at bytes =
+    session_from <$> pair_at tx_at (pair_at (number_at w64) (counted_at MOST_SESSION_DUMMIES dummy_at)) bytes
 
 abbrev pub vote_kind_at : ℕ → List ℕ → Found Vote
 vote_kind_at zero bytes = Some (vote.Abort, bytes)

@@ -3,6 +3,7 @@ use Rattle.std.specs.Prelude.{ℕ, ◌<◌, ◌^◌, List, [], ◌∷◌, ◌++�
 use Rattle.std.specs.Int.{w16, w64, to_be_bytes}
 use Rattle.cs_base.specs.Fields.{counted}
 use Rattle.cs_tx_value.specs.Encoding.{AtMost}
+use Rattle.cs_tx_form.specs.declared.limits.TheConstants.{MOST_SESSION_DUMMIES}
 use Rattle.cs_tx_form.specs.declared.session.Session.{Session}
 use Rattle.cs_tx_form.specs.declared.vote.Vote.{Vote}
 use Rattle.cs_tx_form.specs.declared.vote.Vote.TheVariants.{Abort, Commit}
@@ -23,7 +24,7 @@ session_encoding x = tx_encoding x.tx ++ (to_be_bytes w64 x.number ++ counted du
 pub record SessionFits (x : Session) : Type 0 where
   pub tx : TxFits x.tx
   pub number : x.number < 2 ^ 64
-  pub dummies : AtMost 15 DummyFits x.dummies
+  pub dummies : AtMost MOST_SESSION_DUMMIES DummyFits x.dummies
 
 abbrev pub vote_encoding : Vote → List ℕ
 vote_encoding Abort = 0 ∷ []
@@ -36,3 +37,7 @@ entry_encoding (Decide vote x) = 1 ∷ (vote_encoding vote ++ session_encoding x
 abbrev pub EntryFits : Entry → Type 0
 EntryFits (Prepare x) = SessionFits x
 EntryFits (Decide vote x) = SessionFits x
+
+abbrev pub session_in : Entry → Session
+session_in (Prepare x) = x
+session_in (Decide vote x) = x

@@ -6,6 +6,7 @@ use Rattle.cs_tx_value.specs.declared.object.Object.{Object}
 use Rattle.cs_tx_value.specs.Encoding.{value_encoding, ValueFits, AtMost}
 use Rattle.cs_tx_value.specs.Name.{name_encoding, NameFits}
 use Rattle.cs_tx_value.specs.Object.{object_encoding, DigestFits, ObjectFits}
+use Rattle.cs_tx_form.specs.declared.limits.TheConstants.{MOST_TRACES, MOST_TRACE_OBJECTS, MOST_TRACE_VALUES, MOST_DEPS}
 use Rattle.cs_tx_form.specs.declared.trace.Trace.{Trace}
 use Rattle.cs_tx_form.specs.declared.transaction.Tx.{Tx}
 
@@ -36,17 +37,17 @@ trace_encoding t = trace_front t ++ trace_back t
 pub record TraceFits (t : Trace) : Type 0 where
   pub contract : DigestFits t.contract
   pub method : NameFits t.method
-  pub inputs : AtMost 64 KeyedFits t.inputs
-  pub references : AtMost 64 KeyedFits t.references
-  pub parameters : AtMost 16 ValueFits t.parameters
-  pub outputs : AtMost 64 ObjectFits t.outputs
-  pub returns : AtMost 16 ValueFits t.returns
-  pub deps : AtMost 15 (λ n. n < 256) t.deps
+  pub inputs : AtMost MOST_TRACE_OBJECTS KeyedFits t.inputs
+  pub references : AtMost MOST_TRACE_OBJECTS KeyedFits t.references
+  pub parameters : AtMost MOST_TRACE_VALUES ValueFits t.parameters
+  pub outputs : AtMost MOST_TRACE_OBJECTS ObjectFits t.outputs
+  pub returns : AtMost MOST_TRACE_VALUES ValueFits t.returns
+  pub deps : AtMost MOST_DEPS (λ n. n < 256) t.deps
 
 abbrev pub tx_encoding : Tx → List ℕ
 tx_encoding tx = counted trace_encoding tx.traces
 
 pub record TxFits (tx : Tx) : Type 0 where
   pub some : 1 ≤ length tx.traces
-  pub traces : AtMost 16 TraceFits tx.traces
+  pub traces : AtMost MOST_TRACES TraceFits tx.traces
   pub small : length (tx_encoding tx) ≤ MOST_TX

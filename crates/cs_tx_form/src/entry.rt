@@ -13,6 +13,22 @@ pub enum Entry {
     Decide(Vote, Session),
 }
 
+impl Entry {
+    ghost use Rattle.std.specs.Prelude.{◌≡◌};
+    ghost use Rattle.cs_tx_form.specs.Session.{session_in, EntryFits, SessionFits};
+
+    /// The session that it is about.
+    pub fn session(&self) -> &Session
+        ensures is { result.now ≡ session_in self.now }
+        ensures fits { EntryFits self.now → SessionFits result.now }
+    {
+        match self {
+            Entry::Prepare(session) => session,
+            Entry::Decide(_, session) => session,
+        }
+    }
+}
+
 impl Encoded for Entry {
     ghost use Rattle.cs_tx_form.specs.Session.{entry_encoding, EntryFits};
     ghost use Rattle.cs_tx_form.specs.Reading.{entry_at};

@@ -6,7 +6,9 @@ mod book;
 mod checkpoint;
 mod effect;
 mod entry;
+mod fitting;
 mod leaf;
+mod limits;
 mod proof;
 mod record;
 mod session;
@@ -21,7 +23,12 @@ mod vote;
 pub use checkpoint::Checkpoint;
 pub use effect::Effect;
 pub use entry::Entry;
+pub use fitting::{checkpoint_fits, digest_fits, key_fits};
 pub use leaf::Leaf;
+pub use limits::{
+    COVERED, LAST_PLACE, MOST_DEPS, MOST_PATH, MOST_SESSION_DUMMIES, MOST_TRACE_OBJECTS,
+    MOST_TRACE_VALUES, MOST_TRACES,
+};
 pub use proof::Proof;
 pub use record::Record;
 pub use session::Session;

@@ -7,6 +7,7 @@ use crate::checkpoint::Checkpoint;
 use crate::effect::Effect;
 use crate::entry::Entry;
 use crate::leaf::Leaf;
+use crate::limits::{LAST_PLACE, MOST_PATH};
 use crate::sized::{read_sized, room_sized, skip_sized, write_sized};
 use crate::slot::{read_slot, skip_slot};
 use cs_base::{Cursor, LAST_SLOT, Memory, Sequence, Writer};
@@ -32,7 +33,7 @@ fn read_index(cursor: &mut Cursor<'_>) -> Result<u8, FormError>
     ensures { ReadsValue result cursor.new (index_at cursor.old) }
 {
     let index = cursor.u8()?;
-    if index > 15 {
+    if index > LAST_PLACE {
         return Err(FormError::BadForm);
     }
     Ok(index)
@@ -42,7 +43,7 @@ fn read_index(cursor: &mut Cursor<'_>) -> Result<u8, FormError>
 fn skip_index(cursor: &mut Cursor<'_>) -> Result<(), FormError>
     ensures { Passes result cursor.new (index_at cursor.old) }
 {
-    if cursor.u8()? > 15 {
+    if cursor.u8()? > LAST_PLACE {
         return Err(FormError::BadForm);
     }
     Ok(())
@@ -110,7 +111,7 @@ impl Encoded for Proof {
         let checkpoint = Checkpoint::read(alloc, cursor)?;
         let place = read_index(cursor)?;
         let leaf = read_covered(alloc, cursor)?;
-        let path = read_counted(alloc, cursor, 4)?;
+        let path = read_counted(alloc, cursor, MOST_PATH)?;
         Ok(Proof {
             checkpoint,
             place,
@@ -124,7 +125,7 @@ impl Encoded for Proof {
         Checkpoint::skip(cursor)?;
         skip_index(cursor)?;
         skip_covered(cursor)?;
-        skip_counted::<Digest>(cursor, 4)
+        skip_counted::<Digest>(cursor, MOST_PATH)
     }
 
     #[tactic(auto, using(crate::specs::laws::Log::leaf_small))]
@@ -136,10 +137,10 @@ impl Encoded for Proof {
     }
 
     fn fits(&self) -> bool {
-        if !self.checkpoint.fits() || self.place > 15 || !self.leaf.fits() {
+        if !self.checkpoint.fits() || self.place > LAST_PLACE || !self.leaf.fits() {
             return false;
         }
-        self.leaf.slot <= LAST_SLOT && few_fit(&self.path, 4)
+        self.leaf.slot <= LAST_SLOT && few_fit(&self.path, MOST_PATH)
     }
 
     fn room(&self, room: usize) -> Option<usize> {

@@ -1,4 +1,5 @@
 //! Sessions.
+use crate::limits::MOST_SESSION_DUMMIES;
 use crate::transaction::Tx;
 use cs_base::{Cursor, MOST_SESSION, Memory, Sequence, Writer};
 use cs_tx_value::{
@@ -35,7 +36,7 @@ impl Encoded for Session {
     fn read(alloc: Global, cursor: &mut Cursor<'_>) -> Result<Session, FormError> {
         let tx = Tx::read(alloc, cursor)?;
         let number = cursor.u64()?;
-        let dummies = read_counted(alloc, cursor, 15)?;
+        let dummies = read_counted(alloc, cursor, MOST_SESSION_DUMMIES)?;
         Ok(Session {
             tx,
             number,
@@ -47,7 +48,7 @@ impl Encoded for Session {
     fn skip(cursor: &mut Cursor<'_>) -> Result<(), FormError> {
         Tx::skip(cursor)?;
         cursor.u64()?;
-        skip_counted::<(u16, u64)>(cursor, 15)
+        skip_counted::<(u16, u64)>(cursor, MOST_SESSION_DUMMIES)
     }
 
     fn encode(&self, out: &mut Writer) -> Result<(), Memory> {
@@ -60,7 +61,7 @@ impl Encoded for Session {
         if !self.tx.fits() || !self.number.fits() {
             return false;
         }
-        few_fit(&self.dummies, 15)
+        few_fit(&self.dummies, MOST_SESSION_DUMMIES)
     }
 
     fn room(&self, room: usize) -> Option<usize> {

@@ -4,6 +4,7 @@ ghost use Rattle.cs_tx_value.specs.Reading.{Passes, Begins};
 ghost use Rattle.cs_tx_form.specs.Transaction.{TraceFits, trace_front, trace_back};
 ghost use Rattle.cs_tx_form.specs.Reading.{front_at, back_at};
 
+use crate::limits::{MOST_DEPS, MOST_TRACE_OBJECTS, MOST_TRACE_VALUES};
 use cs_base::{Cursor, Memory, Sequence, Writer};
 use cs_tx_value::{
     Digest, Encoded, FormError, Name, Object, Value, copy_each, few_fit, read_counted,
@@ -32,18 +33,18 @@ fn skip_front(cursor: &mut Cursor<'_>) -> Result<(), FormError>
 {
     Digest::skip(cursor)?;
     Name::skip(cursor)?;
-    skip_counted::<(Digest, Object)>(cursor, 64)?;
-    skip_counted::<(Digest, Object)>(cursor, 64)
+    skip_counted::<(Digest, Object)>(cursor, MOST_TRACE_OBJECTS)?;
+    skip_counted::<(Digest, Object)>(cursor, MOST_TRACE_OBJECTS)
 }
 
 #[tactic(auto, using(cs_base::proofs::Many::behind_pair), unfolding(crate::specs::Reading::back_at))]
 fn skip_back(cursor: &mut Cursor<'_>) -> Result<(), FormError>
     ensures { Passes result cursor.new (back_at cursor.old) }
 {
-    skip_counted::<Value>(cursor, 16)?;
-    skip_counted::<Object>(cursor, 64)?;
-    skip_counted::<Value>(cursor, 16)?;
-    skip_counted::<u8>(cursor, 15)
+    skip_counted::<Value>(cursor, MOST_TRACE_VALUES)?;
+    skip_counted::<Object>(cursor, MOST_TRACE_OBJECTS)?;
+    skip_counted::<Value>(cursor, MOST_TRACE_VALUES)?;
+    skip_counted::<u8>(cursor, MOST_DEPS)
 }
 
 fn put_front(trace: &Trace, out: &mut Writer) -> Result<(), Memory>
@@ -88,12 +89,12 @@ impl Encoded for Trace {
     fn read(alloc: Global, cursor: &mut Cursor<'_>) -> Result<Trace, FormError> {
         let contract = Digest::read(alloc, cursor)?;
         let method = Name::read(alloc, cursor)?;
-        let inputs = read_counted(alloc, cursor, 64)?;
-        let references = read_counted(alloc, cursor, 64)?;
-        let parameters = read_counted(alloc, cursor, 16)?;
-        let outputs = read_counted(alloc, cursor, 64)?;
-        let returns = read_counted(alloc, cursor, 16)?;
-        let deps = read_counted(alloc, cursor, 15)?;
+        let inputs = read_counted(alloc, cursor, MOST_TRACE_OBJECTS)?;
+        let references = read_counted(alloc, cursor, MOST_TRACE_OBJECTS)?;
+        let parameters = read_counted(alloc, cursor, MOST_TRACE_VALUES)?;
+        let outputs = read_counted(alloc, cursor, MOST_TRACE_OBJECTS)?;
+        let returns = read_counted(alloc, cursor, MOST_TRACE_VALUES)?;
+        let deps = read_counted(alloc, cursor, MOST_DEPS)?;
         Ok(Trace {
             contract,
             method,
@@ -121,16 +122,20 @@ impl Encoded for Trace {
         if !self.contract.fits() || !self.method.fits() {
             return false;
         }
-        if !few_fit(&self.inputs, 64) || !few_fit(&self.references, 64) {
+        if !few_fit(&self.inputs, MOST_TRACE_OBJECTS)
+            || !few_fit(&self.references, MOST_TRACE_OBJECTS)
+        {
             return false;
         }
-        if !few_fit(&self.parameters, 16) || !few_fit(&self.outputs, 64) {
+        if !few_fit(&self.parameters, MOST_TRACE_VALUES)
+            || !few_fit(&self.outputs, MOST_TRACE_OBJECTS)
+        {
             return false;
         }
-        if !few_fit(&self.returns, 16) {
+        if !few_fit(&self.returns, MOST_TRACE_VALUES) {
             return false;
         }
-        few_fit(&self.deps, 15)
+        few_fit(&self.deps, MOST_DEPS)
     }
 
     fn room(&self, room: usize) -> Option<usize> {

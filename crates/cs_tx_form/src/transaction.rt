@@ -1,4 +1,5 @@
 //! Transactions.
+use crate::limits::MOST_TRACES;
 use crate::trace::Trace;
 use cs_base::{Cursor, MOST_TX, Memory, Sequence, Writer};
 use cs_tx_value::{
@@ -31,7 +32,7 @@ impl Encoded for Tx {
     #[tactic(auto, unfolding(crate::specs::Reading::tx_at, cs_base::specs::Fields::within_at))]
     fn read(alloc: Global, cursor: &mut Cursor<'_>) -> Result<Tx, FormError> {
         let before = cursor.len();
-        let traces = read_some(alloc, cursor, 16)?;
+        let traces = read_some(alloc, cursor, MOST_TRACES)?;
         if before.saturating_sub(cursor.len()) > MOST_TX {
             return Err(FormError::BadForm);
         }
@@ -41,7 +42,7 @@ impl Encoded for Tx {
     #[tactic(auto, unfolding(crate::specs::Reading::tx_at, cs_base::specs::Fields::within_at))]
     fn skip(cursor: &mut Cursor<'_>) -> Result<(), FormError> {
         let before = cursor.len();
-        skip_some::<Trace>(cursor, 16)?;
+        skip_some::<Trace>(cursor, MOST_TRACES)?;
         if before.saturating_sub(cursor.len()) > MOST_TX {
             return Err(FormError::BadForm);
         }
@@ -53,7 +54,7 @@ impl Encoded for Tx {
     }
 
     fn fits(&self) -> bool {
-        if self.traces.is_empty() || !few_fit(&self.traces, 16) {
+        if self.traces.is_empty() || !few_fit(&self.traces, MOST_TRACES) {
             return false;
         }
         self.room(MOST_TX).is_some()

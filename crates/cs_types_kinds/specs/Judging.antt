@@ -11,6 +11,7 @@ use Rattle.cs_lang.specs.declared.tree.Comparison.TheVariants as comparison
 use Rattle.cs_types_kinds.specs.declared.kind.Kind.{Kind}
 use Rattle.cs_types_kinds.specs.declared.kind.Kind.TheVariants as kind
 use Rattle.cs_types_kinds.specs.declared.scope.Seen.{Seen}
+use Rattle.cs_types_kinds.specs.declared.expressions.TheConstants.{HASH_COST}
 use Rattle.cs_types_kinds.specs.declared.expressions.Judged.{Judged}
 use Rattle.cs_types_kinds.specs.declared.expressions.Items.{Items}
 use Rattle.cs_types_kinds.specs.Told.{Told, mistyped, unbound, through, plus}
@@ -112,13 +113,13 @@ abbrev pub len_judged : Part → Told Judged
 len_judged part = part.found >>= λ j. if has_length j.kind then judged int (plus j.cost 1) else mistyped part.first
 
 abbrev pub sha256_judged : Part → Told Judged
-sha256_judged part = wanted bytes part >>= λ cost. judged bytes (plus cost 17)
+sha256_judged part = wanted bytes part >>= λ cost. judged bytes (plus cost HASH_COST)
 
 -- two that are joined, of which the first is judged and begins there
 abbrev pub concat_with : Judged → ℕ → Part → Told Judged
 concat_with j first back =
     if joins j.kind
-    then (wanted j.kind back >>= λ cost. judged j.kind (plus (plus j.cost cost) 17))
+    then (wanted j.kind back >>= λ cost. judged j.kind (plus (plus j.cost cost) HASH_COST))
     else mistyped first
 
 abbrev pub concat_of : Told Judged → ℕ → Part → Told Judged
@@ -144,7 +145,7 @@ compares c k = same_kind k int || is_equality c && (same_kind k bool || same_kin
 
 -- bytes are compared at the price of a hash
 abbrev pub comparing_cost : Kind → ℕ
-comparing_cost k = if same_kind k bytes then 17 else 1
+comparing_cost k = if same_kind k bytes then HASH_COST else 1
 
 -- two that are compared, of which the first is judged and begins there
 abbrev pub compared_with : Comparison → Judged → ℕ → Part → Told Judged

@@ -12,7 +12,7 @@ use cs_lang::{Access, Comparison, Expr, Link, Rank, Shape, Step, Text, ValueKind
 use cs_lang_token::MOST_ITEMS;
 
 /// What a hash costs, and what joins two or compares bytes: 16 more than another step.
-const HASH_COST: u64 = 17;
+pub const HASH_COST: u64 = 17;
 
 /// A kind, and what its expression costs.
 #[derive(Clone, Copy)]
@@ -308,7 +308,7 @@ fn compares(comparison: Comparison, kind: Kind) -> bool
 }
 
 /// What comparing two of the kind costs.
-fn comparing_cost(kind: Kind) -> u64
+pub fn comparing_cost(kind: Kind) -> u64
     ensures { result ≡ comparing_cost kind }
 {
     if kind.same(BYTES) { HASH_COST } else { 1 }

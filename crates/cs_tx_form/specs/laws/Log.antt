@@ -8,6 +8,7 @@ use Rattle.cs_base.specs.declared.limits.TheConstants.{LAST_SLOT}
 use Rattle.cs_base.specs.Fields.{IsBytes, IsForm, Splits}
 use Rattle.cs_base.proofs.Forms.{wide16, wide64, number_form, byte_form, bytes_form, pair_of, counted_of, tested_of, mapped_of, weaker_form}
 use Rattle.cs_tx_value.specs.laws.Kinds.{kinds_form, takes_bare, bare_kinded, Kinded}
+use Rattle.cs_tx_form.specs.declared.limits.TheConstants.{LAST_PLACE, MOST_PATH}
 use Rattle.cs_tx_form.specs.declared.vote.Vote.TheVariants as vote
 use Rattle.cs_tx_form.specs.declared.entry.Entry.{Entry}
 use Rattle.cs_tx_form.specs.declared.effect.Effect.{Effect}
@@ -106,11 +107,11 @@ slot_form =
     (tested_of (number_form w64 (2 ^ 64) wide64) (λ n. nat_le n LAST_SLOT)) (λ n. n < 2 ^ 62)
     (λ n h. omega (arith, leb-true n LAST_SLOT h.1)) (λ n h. (omega (arith, h), le-leb n LAST_SLOT (omega (arith, h))))
 
-index_form : IsForm (λ n. n ∷ []) (λ n. n ≤ 15) index_at
+index_form : IsForm (λ n. n ∷ []) (λ n. n ≤ LAST_PLACE) index_at
 index_form =
-    weaker_form (λ n. n ∷ []) (λ n. (n < 256) × (nat_le n 15 ≡ true)) index_at (tested_of byte_form (λ n. nat_le n 15))
-    (λ n. n ≤ 15)
-    (λ n h. leb-true n 15 h.1) (λ n h. (omega (arith, h), le-leb n 15 h))
+    weaker_form (λ n. n ∷ []) (λ n. (n < 256) × (nat_le n LAST_PLACE ≡ true)) index_at (tested_of byte_form (λ n. nat_le n LAST_PLACE))
+    (λ n. n ≤ LAST_PLACE)
+    (λ n h. leb-true n LAST_PLACE h.1) (λ n h. (omega (arith, h), le-leb n LAST_PLACE h))
 
 abbrev IsCovered : Leaf → Type 0
 IsCovered l = LeafFits l × (l.slot < 2 ^ 62)
@@ -129,7 +130,7 @@ pub proof_form : IsForm proof_encoding ProofFits proof_at
 unfolding proof_at
 proof_form =
     mapped_of
-    (pair_of checkpoint_form (pair_of index_form (pair_of covered_form (counted_of (bytes_form 32) 4 (omega arith)))))
+    (pair_of checkpoint_form (pair_of index_form (pair_of covered_form (counted_of (bytes_form 32) MOST_PATH (omega arith)))))
     proof_of (λ p. (p.checkpoint, (p.place, (p.leaf, p.path)))) ProofFits
     (λ p h. (refl, record { checkpoint = h.0; place = h.1.0; leaf = h.1.1.0.0; slot = h.1.1.0.1; path = h.1.1.1 }))
     (λ p h. (refl, (h.checkpoint, (h.place, ((h.leaf, h.slot), h.path)))))

@@ -12,6 +12,7 @@ use Rattle.cs_tx_value.specs.Name.{name_encoding, NameFits}
 use Rattle.cs_tx_value.specs.laws.Name.{name_form}
 use Rattle.cs_tx_value.specs.Object.{object_encoding, DigestFits, ObjectFits, object_at}
 use Rattle.cs_tx_value.specs.laws.Object.{object_form}
+use Rattle.cs_tx_form.specs.declared.limits.TheConstants.{MOST_TRACES, MOST_TRACE_OBJECTS, MOST_TRACE_VALUES, MOST_DEPS, MOST_SESSION_DUMMIES}
 use Rattle.cs_tx_form.specs.declared.transaction.Tx.{Tx}
 use Rattle.cs_tx_form.specs.declared.session.Session.{Session}
 use Rattle.cs_tx_form.specs.declared.vote.Vote.{Vote}
@@ -31,24 +32,24 @@ keyed_form : IsForm keyed_encoding KeyedFits keyed_at
 keyed_form = pair_of (bytes_form 32) object_form
 
 abbrev FrontFits : Front → Type 0
-FrontFits p = DigestFits p.0 × (NameFits p.1.0 × (AtMost 64 KeyedFits p.1.1.0 × AtMost 64 KeyedFits p.1.1.1))
+FrontFits p = DigestFits p.0 × (NameFits p.1.0 × (AtMost MOST_TRACE_OBJECTS KeyedFits p.1.1.0 × AtMost MOST_TRACE_OBJECTS KeyedFits p.1.1.1))
 
 front_form : IsForm (λ p. p.0 ++ (name_encoding p.1.0 ++ (counted keyed_encoding p.1.1.0 ++ counted keyed_encoding p.1.1.1))) FrontFits front_at
 unfolding front_at
 front_form =
     pair_of (bytes_form 32)
-    (pair_of name_form (pair_of (counted_of keyed_form 64 (omega arith)) (counted_of keyed_form 64 (omega arith))))
+    (pair_of name_form (pair_of (counted_of keyed_form MOST_TRACE_OBJECTS (omega arith)) (counted_of keyed_form MOST_TRACE_OBJECTS (omega arith))))
 
 abbrev BackFits : Back → Type 0
 BackFits p =
-    AtMost 16 ValueFits p.0 ×
-    (AtMost 64 ObjectFits p.1.0 × (AtMost 16 ValueFits p.1.1.0 × AtMost 15 (λ n. n < 256) p.1.1.1))
+    AtMost MOST_TRACE_VALUES ValueFits p.0 ×
+    (AtMost MOST_TRACE_OBJECTS ObjectFits p.1.0 × (AtMost MOST_TRACE_VALUES ValueFits p.1.1.0 × AtMost MOST_DEPS (λ n. n < 256) p.1.1.1))
 
 back_form : IsForm (λ p. counted value_encoding p.0 ++ (counted object_encoding p.1.0 ++ (counted value_encoding p.1.1.0 ++ counted (λ n. n ∷ []) p.1.1.1))) BackFits back_at
 unfolding back_at
 back_form =
-    pair_of (counted_of (value_form 4) 16 (omega arith))
-    (pair_of (counted_of object_form 64 (omega arith)) (pair_of (counted_of (value_form 4) 16 (omega arith)) (counted_of byte_form 15 (omega arith))))
+    pair_of (counted_of (value_form 4) MOST_TRACE_VALUES (omega arith))
+    (pair_of (counted_of object_form MOST_TRACE_OBJECTS (omega arith)) (pair_of (counted_of (value_form 4) MOST_TRACE_VALUES (omega arith)) (counted_of byte_form MOST_DEPS (omega arith))))
 
 pub trace_form : IsForm trace_encoding TraceFits trace_at
 unfolding trace_at
@@ -60,12 +61,12 @@ trace_form = mapped_of (pair_of front_form back_form)
     (λ t h. (refl, ((h.contract, (h.method, (h.inputs, h.references))), (h.parameters, (h.outputs, (h.returns, h.deps))))))
 
 abbrev TxParts : Tx → Type 0
-TxParts tx = (1 ≤ length tx.traces) × AtMost 16 TraceFits tx.traces
+TxParts tx = (1 ≤ length tx.traces) × AtMost MOST_TRACES TraceFits tx.traces
 
 pub tx_form : IsForm tx_encoding TxFits tx_at
 unfolding tx_at
 tx_form = weaker_form tx_encoding (λ tx. TxParts tx × (length (tx_encoding tx) ≤ MOST_TX)) tx_at
-    (within_of (mapped_of (some_of trace_form 16 (omega arith)) tx_of (λ tx. tx.traces) TxParts (λ p h. (refl, h)) (λ tx h. (refl, h))) MOST_TX)
+    (within_of (mapped_of (some_of trace_form MOST_TRACES (omega arith)) tx_of (λ tx. tx.traces) TxParts (λ p h. (refl, h)) (λ tx h. (refl, h))) MOST_TX)
     TxFits (λ tx h. record { some = h.0.0; traces = h.0.1; small = h.1 }) (λ tx h. ((h.some, h.traces), h.small))
 
 -- ---- sessions
@@ -74,7 +75,7 @@ pub session_form : IsForm session_encoding SessionFits session_at
 unfolding session_at
 session_form =
     mapped_of
-    (pair_of tx_form (pair_of (number_form w64 (2 ^ 64) wide64) (counted_of (pair_of (number_form w16 (2 ^ 16) wide16) (number_form w64 (2 ^ 64) wide64)) 15 (omega arith))))
+    (pair_of tx_form (pair_of (number_form w64 (2 ^ 64) wide64) (counted_of (pair_of (number_form w16 (2 ^ 16) wide16) (number_form w64 (2 ^ 64) wide64)) MOST_SESSION_DUMMIES (omega arith))))
     session_from (λ x. (x.tx, (x.number, x.dummies))) SessionFits
     (λ p h. (refl, record { tx = h.0; number = h.1.0; dummies = h.1.1 })) (λ x h. (refl, (h.tx, (h.number, h.dummies))))
 

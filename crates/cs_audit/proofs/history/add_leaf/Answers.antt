@@ -1,6 +1,6 @@
 use Rattle.std.proofs.Common.{◌≡◌, ◌∙◌, true, false, Some, sym, ap, rules}
 use Rattle.cs_tx_form.specs.declared.session.Session.{Session}
-use Rattle.cs_node_state.specs.Setup.{session_in}
+use Rattle.cs_tx_form.specs.Session.{session_in}
 use Rattle.cs_node_pool.specs.Deployed.{deployed}
 use Rattle.cs_audit.proofs.Collecting.{none-of, one-of}
 use Rattle.cs_audit.proofs.history.add_leaf.Goals as goal
@@ -13,6 +13,6 @@ returns-then-not-branch c objects approves logs sessions keeps at finds =
 pub returns : goal.returns
 returns c objects approves logs sessions keeps at finds =
     let yes : c.in_ok-commits.field-0 ≡ true = search rules in
-    let is : (session_in c.args.leaf.now.entry).tx ≡ c.session_in.result.now.tx = sym (ap (λ (x : Session). x.tx) c.session_in.ensures.is) in
+    let is : (session_in c.args.leaf.now.entry).tx ≡ c.session.result.now.tx = sym (ap (λ (x : Session). x.tx) c.session.ensures.is) in
     one-of (deployed c.args.config.now objects approves) logs c.args.leaf.now.entry sessions c.add.new.found.entries (sym (c.in_ok-commits.ensures objects approves logs keeps) ∙ yes)
     (c.in_ok-add.ensures logs sessions (session_in c.args.leaf.now.entry) is (at ∙ ap (λ tx. Some tx) is) finds)

@@ -1,6 +1,6 @@
 use Rattle.std.proofs.Common.{◌∙◌, ap, sym}
 use Rattle.cs_tx.specs.Digest.{digest_of_session}
-use Rattle.cs_node_state.specs.Setup.{session_in}
+use Rattle.cs_tx_form.specs.Session.{session_in}
 use Rattle.cs_node_pool.specs.Deployed.{deployed}
 use Rattle.cs_audit.specs.Committed.{commits}
 use Rattle.cs_audit.proofs.Supporting.{commits-all}

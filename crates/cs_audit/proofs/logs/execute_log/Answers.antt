@@ -35,4 +35,4 @@ loop-slot-preserved g c =
     (λ genesis.
     let T : List Bytes × Option Rule → Type 0 = λ x. TellsLeaf (deployed c.loop-slot.stand.config genesis approves) on.executed x.0 leaf c.loop-slot.stand c.take.new.self x.1 in
     subst T (λ i. (c.as_slice.ensures i, c.in-None.is i)) (c.in_ok-rule.ensures on.executed on.kept_is genesis))
-    (c.in_ok-digest.ensures ∙ ap digest_of_session c.session_in.ensures.is) c.in_ok-push.ensures.ok c.in_ok-note.ensures
+    (c.in_ok-digest.ensures ∙ ap digest_of_session c.session.ensures.is) c.in_ok-push.ensures.ok c.in_ok-note.ensures

@@ -7,7 +7,7 @@ use Rattle.cs_dump_read.specs.declared.dump.Log.{Log}
 use Rattle.cs_audit_rules.specs.declared.verdict.Fault.{Fault}
 use Rattle.cs_audit_rules.specs.Stands.{Stand}
 use Rattle.cs_audit.specs.Kept.{TellsLog}
-use Rattle.cs_sched.specs.Names.{genesis_names}
+use Rattle.cs_tx.specs.GenesisNames.{genesis_names}
 use Rattle.cs_genesis.proofs.Fit.{keyed-fit, all-fit}
 use Rattle.cs_genesis.proofs.Apart.{none-twice}
 use Rattle.cs_audit.proofs.Starting.{names-same}

@@ -1,6 +1,6 @@
 use Rattle.std.proofs.Common.{◌≡◌, true}
 use Rattle.std.specs.List.{list_all}
-use Rattle.cs_wire.specs.Opened.{nodes_below}
+use Rattle.cs_wire.specs.AllNames.{nodes_below}
 use Rattle.cs_config_keys.specs.Complete.{is_held}
 use Rattle.cs_config_keys.proofs.complete.nodes_held.Given as goal
 

@@ -1,5 +1,9 @@
-use Rattle.cs_config_keys.proofs.Listed.{clients_listed}
+use Rattle.std.proofs.Common.{ap, ◌∙◌}
+use Rattle.std.proofs.lemmas.Result.{IfOk-weaker}
+use Rattle.cs_config_keys.specs.Printed.{list_with}
 use Rattle.cs_config_keys.proofs.listing.list_with_all.Goals as goal
 
 pub returns-clause-is : goal.returns-clause-is
-returns-clause-is c = clients_listed c.args.config.now c.args.master.now c.args.me c.in_ok-list.list c.add_members.new.list c.in_ok-list.ensures.is c.in_ok-add_members.ensures.is
+returns-clause-is c =
+    let same = c.as_slice.ensures ∙ c.in_ok-names.ensures in
+    IfOk-weaker c.list_with.result _ _ (λ list is. is ∙ ap (list_with c.args.master.now c.args.me) same) c.list_with.ensures.is

@@ -2,8 +2,8 @@ use Rattle.std.proofs.Common.{◌≡◌, List, ℕ, ◌++◌, ap, sym, ◌∙◌
 use Rattle.std.specs.Prelude.{codes}
 use Rattle.std.specs.List.{flat_map}
 use Rattle.cs_node_state.specs.Setup.{Setup}
-use Rattle.cs_node_rules.specs.Dumps.{number_line, contract_line, genesis_line, logs_text}
-use Rattle.cs_node_rules.specs.Lines.{history_text}
+use Rattle.cs_replay_rules.specs.Dumps.{number_line, contract_line, genesis_line, logs_text}
+use Rattle.cs_replay_rules.specs.Lines.{history_text}
 use Rattle.cs_node_rules.specs.World.{history}
 use Rattle.cs_play.specs.Standing.{site_in}
 use Rattle.cs_play.specs.Digests.{history_lines}

@@ -1,5 +1,5 @@
 use Rattle.std.proofs.Common.{◌≡◌, suc, ◌+◌, ◌++◌, ap, sym, ◌∙◌, arith}
-use Rattle.cs_node_rules.specs.Dumps.{logs_text}
+use Rattle.cs_replay_rules.specs.Dumps.{logs_text}
 use Rattle.cs_play.specs.Standing.{site_in}
 use Rattle.cs_dump.specs.Lines.{logged_text}
 use Rattle.cs_dump.proofs.dump.logs_text.Goals as goal

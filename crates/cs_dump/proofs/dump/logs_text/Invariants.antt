@@ -1,6 +1,6 @@
 use Rattle.std.proofs.Common.{◌≡◌, string_bytes}
-use Rattle.cs_node_rules.specs.Dumps.{logs_text}
-use Rattle.cs_node_rules.specs.Play.{Played}
+use Rattle.cs_replay_rules.specs.Dumps.{logs_text}
+use Rattle.cs_replay_rules.specs.Play.{Played}
 use Rattle.cs_play.specs.Standing.{Setting, site_in, Stands}
 use Rattle.cs_dump.proofs.dump.logs_text.Given as goal
 

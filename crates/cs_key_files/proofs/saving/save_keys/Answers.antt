@@ -1,6 +1,6 @@
 use Rattle.std.proofs.Common.{◌≡◌, ◌<◌, List, length, get_or, ap, subst, ◌∙◌, arith}
 use Rattle.cs_base.specs.declared.node_id.NodeId.{NodeId}
-use Rattle.cs_wire.specs.Opened.{names_of}
+use Rattle.cs_wire.specs.AllNames.{names_of}
 use Rattle.cs_key_files.proofs.Named.{all_named}
 use Rattle.cs_key_files.proofs.Filed.{nothing, named_at, saved-next, ended-there}
 use Rattle.cs_key_files.proofs.saving.save_keys.Goals as goal

@@ -1,6 +1,6 @@
 use Rattle.std.proofs.Common.{◌≤◌, take}
 use Rattle.cs_outer.specs.Told.{Changes}
-use Rattle.cs_wire.specs.Opened.{names_of}
+use Rattle.cs_wire.specs.AllNames.{names_of}
 use Rattle.cs_key_files.specs.Saving.{Saves}
 use Rattle.cs_key_files.proofs.saving.save_keys.Given as goal
 

@@ -1,5 +1,5 @@
 use Rattle.std.proofs.Common.{◌≡◌, ◌+◌, ◌<◌, length, refl, ap, ◌∙◌, Err, arith, rules}
-use Rattle.cs_node_rules.specs.Play.{size_of, most_sent}
+use Rattle.cs_replay_rules.specs.Play.{size_of, most_sent}
 use Rattle.cs_play.proofs.Posted.{full-all}
 use Rattle.cs_play.proofs.play.send_all.Goals as goal
 

@@ -1,5 +1,5 @@
 use Rattle.std.proofs.Common.{◌≡◌, ◌++◌, ◌≤◌, take}
-use Rattle.cs_node_rules.specs.Play.{size_of, most_sent}
+use Rattle.cs_replay_rules.specs.Play.{size_of, most_sent}
 use Rattle.cs_play.specs.Ends.{parcels_from}
 use Rattle.cs_play.proofs.play.send_all.Given as goal
 

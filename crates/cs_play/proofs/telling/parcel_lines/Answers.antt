@@ -1,5 +1,5 @@
 use Rattle.std.proofs.Common.{◌++◌, take, sym, ap, ◌∙◌}
-use Rattle.cs_node_rules.specs.Lines.{sent_lines}
+use Rattle.cs_replay_rules.specs.Lines.{sent_lines}
 use Rattle.cs_play.proofs.Posted.{lines-more}
 use Rattle.cs_play.proofs.telling.parcel_lines.Goals as goal
 

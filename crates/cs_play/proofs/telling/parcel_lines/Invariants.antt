@@ -1,5 +1,5 @@
 use Rattle.std.proofs.Common.{◌≡◌, take, string_bytes}
-use Rattle.cs_node_rules.specs.Lines.{sent_lines}
+use Rattle.cs_replay_rules.specs.Lines.{sent_lines}
 use Rattle.cs_play.proofs.telling.parcel_lines.Given as goal
 
 abbrev pub invariant-loop-place : goal.invariant-loop-place

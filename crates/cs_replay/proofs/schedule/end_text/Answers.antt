@@ -1,5 +1,5 @@
 use Rattle.std.proofs.Common.{◌≡◌, ◌++◌, ap, ◌∙◌, string_bytes}
-use Rattle.cs_node_rules.specs.Lines.{history_text}
+use Rattle.cs_replay_rules.specs.Lines.{history_text}
 use Rattle.cs_node_rules.specs.World.{history}
 use Rattle.cs_play.specs.Digests.{history_lines}
 use Rattle.cs_play.specs.Standing.{site_in}

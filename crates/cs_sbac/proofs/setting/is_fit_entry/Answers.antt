@@ -1,6 +1,7 @@
 use Rattle.std.proofs.Common.{◌≡◌, IfOk, subst, sym}
 use Rattle.cs_tx_form.specs.declared.entry.Entry.{Entry}
-use Rattle.cs_node_state.specs.Setup.{is_fit, session_in}
+use Rattle.cs_node_state.specs.Setup.{is_fit}
+use Rattle.cs_tx_form.specs.Session.{session_in}
 use Rattle.cs_node_pool.specs.Deployed.{deployed}
 use Rattle.cs_sbac.proofs.setting.is_fit_entry.Goals as goal
 

@@ -2,7 +2,7 @@ use Rattle.std.proofs.Common.{false, Err, ap, subst, arith}
 use Rattle.std.specs.Prelude.{IfOk}
 use Rattle.cs_base.specs.Answers.{Answer}
 use Rattle.cs_approve.specs.Approval.{is_approved}
-use Rattle.cs_node_rules.specs.Play.{played_by}
+use Rattle.cs_replay_rules.specs.Play.{played_by}
 use Rattle.cs_replay.specs.Answers.{EndsAs}
 use Rattle.cs_replay.specs.Played.{course_of}
 use Rattle.cs_replay.specs.declared.outcome.ReplayError.{ReplayError}

@@ -1,5 +1,5 @@
 use Rattle.cs_table.specs.Genesis.{twice}
-use Rattle.cs_sched.specs.Names.{genesis_names}
+use Rattle.cs_tx.specs.GenesisNames.{genesis_names}
 use Rattle.cs_genesis.proofs.Fit.{keyed-fit}
 use Rattle.cs_genesis.proofs.Apart.{none-twice}
 use Rattle.cs_start.proofs.Apart.{names-same, never-refused}

@@ -25,7 +25,7 @@ returns-in-Ok-clause-proof c = λ log is.
 
 pub returns-in-Ok-clause-fits : goal.returns-in-Ok-clause-fits
 returns-in-Ok-clause-fits c = λ small.
-    let whole : c.self.inside.is_whole ≡ true = search rules in
+    let whole : c.self.inside.whole ≡ true = search rules in
     let of = c.self.invariant whole in
     proof_fits of.log c.args.slot c.in-Ok.proof of.in_place small (c.in-Ok.ensures.proof of.log of.kept_is)
     (c.in-Ok.ensures.shown of.log of.kept_is) c.checkpoint_fits.ensures

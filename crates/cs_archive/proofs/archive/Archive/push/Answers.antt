@@ -7,7 +7,7 @@ use Rattle.cs_archive.proofs.archive.Archive.push.Goals as goal
 
 pub invariant_of-self-2 : goal.invariant_of-self-2
 invariant_of-self-2 c = λ again.
-    let whole : c.self.inside.is_whole ≡ true = search rules in
+    let whole : c.self.inside.whole ≡ true = search rules in
     let of = c.self.invariant whole in
     let leaf = c.args.leaf.now in
     let next : leaf.slot ≡ length of.log.leaves =

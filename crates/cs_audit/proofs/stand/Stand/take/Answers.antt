@@ -1,7 +1,8 @@
 use Rattle.std.proofs.lemmas.Bool.{eq-eqb}
 use Rattle.std.proofs.Common.{◌≡◌, ◌∙◌, true, false, [], sym, ap, nat_eq, length, arith, rules}
 use Rattle.cs_tx_form.specs.declared.effect.Effect.{Effect}
-use Rattle.cs_node_state.specs.Setup.{Setup, is_fit, session_in}
+use Rattle.cs_node_state.specs.Setup.{Setup, is_fit}
+use Rattle.cs_tx_form.specs.Session.{session_in}
 use Rattle.cs_node_pool.specs.Deployed.{deployed}
 use Rattle.cs_checkpoint.specs.Chain.{KeptLog, kept_of}
 use Rattle.cs_check.specs.Leaves.{Chained}
@@ -29,7 +30,7 @@ returns g c log kept_is genesis =
     let count = ap (λ (k : KeptLog). k.slots) kept_is in
     let slot : nat_eq leaf.slot (length log.leaves) ≡ true = eq-eqb leaf.slot (length log.leaves) (omega (arith, count)) in
     let fits : c.in_ok-is_fit.field-0 ≡ true = search rules in
-    let form : is_fit setup s.shard (session_in leaf.entry) ≡ true = sym (ap (is_fit setup s.shard) c.session_in.ensures.is) ∙ sym (c.in_ok-is_fit.ensures.fit genesis approves) ∙ fits in
+    let form : is_fit setup s.shard (session_in leaf.entry) ≡ true = sym (ap (is_fit setup s.shard) c.session.ensures.is) ∙ sym (c.in_ok-is_fit.ensures.fit genesis approves) ∙ fits in
     let judged : c.in_ok-is_judged.field-0 ≡ true = search rules in
     let judge : is_judged setup leaf.entry ≡ true = sym (c.in_ok-is_judged.ensures c.args.self.now.config genesis) ∙ judged in
     let same : leaf.result ≡ effect = search rules in (

@@ -4,5 +4,5 @@ use Rattle.cs_node_pool.proofs.pool.Pool.locked.Goals as goal
 
 pub locked-requires : goal.locked-requires
 locked-requires c =
-    let whole : c.self.inside.is_whole ≡ true = search rules in
+    let whole : c.self.inside.whole ≡ true = search rules in
     right-fits c.self.inside.config c.self.inside.kept.seats.entries (c.self.invariant whole).right

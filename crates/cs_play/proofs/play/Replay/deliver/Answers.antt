@@ -3,7 +3,7 @@ use Rattle.std.proofs.lemmas.Result.{err_from_is_err_and}
 use Rattle.cs_node.specs.declared.nodes.Core.{Core}
 use Rattle.cs_node_rules.specs.World.{view_of}
 use Rattle.cs_base.specs.declared.node_id.NodeId.{NodeId}
-use Rattle.cs_node_rules.specs.Play.{Course, with_arrived}
+use Rattle.cs_replay_rules.specs.Play.{Course, with_arrived}
 use Rattle.cs_play.specs.Standing.{site_in, EachStands}
 use Rattle.cs_play.specs.Ends.{Ends}
 use Rattle.cs_play.proofs.Courses.{delivers-grows}

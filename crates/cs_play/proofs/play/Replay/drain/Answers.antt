@@ -1,6 +1,6 @@
 use Rattle.std.proofs.Common.{◌≡◌, ◌-◌, ap, ◌∙◌, arith}
 use Rattle.std.proofs.lemmas.Result.{err_from_is_err_and}
-use Rattle.cs_node_rules.specs.Play.{then_plays, drained}
+use Rattle.cs_replay_rules.specs.Play.{then_plays, drained}
 use Rattle.cs_play.specs.Standing.{site_in}
 use Rattle.cs_play.proofs.Courses.{drained-zero}
 use Rattle.cs_play.proofs.Deliveries.{same-post, none-left, one-left, ends-drained}

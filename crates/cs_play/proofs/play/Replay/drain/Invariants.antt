@@ -1,5 +1,5 @@
 use Rattle.std.proofs.Common.{◌≡◌, ◌≤◌}
-use Rattle.cs_node_rules.specs.Play.{Played, drained}
+use Rattle.cs_replay_rules.specs.Play.{Played, drained}
 use Rattle.cs_play.specs.Standing.{Setting, site_in, StandsPrinted}
 use Rattle.cs_play.proofs.play.Replay.drain.Given as goal
 

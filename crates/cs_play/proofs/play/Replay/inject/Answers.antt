@@ -1,5 +1,5 @@
 use Rattle.std.proofs.Common.{◌<◌, length, subst, arith}
-use Rattle.cs_node_rules.specs.Play.{Course, most_events}
+use Rattle.cs_replay_rules.specs.Play.{Course, most_events}
 use Rattle.cs_play.specs.Standing.{site_in}
 use Rattle.cs_play.specs.Ends.{Ends}
 use Rattle.cs_play.proofs.Forgeries.{no-more, is-forged, is-given}

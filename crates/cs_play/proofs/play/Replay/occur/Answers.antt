@@ -2,7 +2,7 @@ use Rattle.std.proofs.Common.{ℕ, List, subst, arith}
 use Rattle.std.specs.Io.KnownBytes.{Appends}
 use Rattle.std.proofs.lemmas.Result.{err_from_is_err_and}
 use Rattle.cs_base.specs.Answers.{AppendsFront}
-use Rattle.cs_node_rules.specs.Play.{occurs}
+use Rattle.cs_replay_rules.specs.Play.{occurs}
 use Rattle.cs_node.specs.Speaking.{input_of}
 use Rattle.cs_play.specs.Standing.{site_in}
 use Rattle.cs_play.proofs.Courses.{occurs-grows, takes-ends, ends-printed, ends-done}

@@ -1,7 +1,7 @@
 use Rattle.std.proofs.Common.{ℕ, List, sym, subst}
 use Rattle.cs_sched_types.specs.declared.schedule.Event.{Event}
 use Rattle.cs_sched_types.specs.declared.schedule.Event.TheVariants.{Say, Inject, Tick}
-use Rattle.cs_node_rules.specs.Play.{play}
+use Rattle.cs_replay_rules.specs.Play.{play}
 use Rattle.cs_play.specs.Standing.{site_in, IsToAnother}
 use Rattle.cs_play.specs.Ends.{Ends}
 use Rattle.cs_play.proofs.play.Replay.play.Goals as goal

@@ -1,7 +1,7 @@
 use Rattle.std.proofs.Common.{ℕ, ◌+◌, drop, Err, sym, ap, subst, ◌∙◌}
 use Rattle.std.proofs.lemmas.Result.{err_from_is_err_and}
 use Rattle.cs_sched_types.specs.declared.schedule.Event.{Event}
-use Rattle.cs_node_rules.specs.Play.{Course, play, play_all}
+use Rattle.cs_replay_rules.specs.Play.{Course, play, play_all}
 use Rattle.cs_play.specs.Standing.{site_in, IsToAnother}
 use Rattle.cs_play.specs.Ends.{Ends}
 use Rattle.cs_play.proofs.Courses.{drop-next, all-at, all-grows, ends-then}

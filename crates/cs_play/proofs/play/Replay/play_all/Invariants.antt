@@ -1,6 +1,6 @@
 use Rattle.std.proofs.Common.{◌≡◌, ◌≤◌, drop}
 use Rattle.std.specs.List.{All}
-use Rattle.cs_node_rules.specs.Play.{Played, play_all}
+use Rattle.cs_replay_rules.specs.Play.{Played, play_all}
 use Rattle.cs_play.specs.Standing.{Setting, site_in, StandsPrinted, IsToAnother}
 use Rattle.cs_play.proofs.play.Replay.play_all.Given as goal
 

@@ -1,7 +1,7 @@
 use Rattle.std.proofs.Common.{ℕ, List, subst, ◌∙◌}
 use Rattle.std.proofs.lemmas.Result.{err_from_is_err_and}
 use Rattle.cs_node_rules.specs.Site.{Datagram}
-use Rattle.cs_node_rules.specs.Play.{occurs}
+use Rattle.cs_replay_rules.specs.Play.{occurs}
 use Rattle.cs_play.specs.Standing.{site_in}
 use Rattle.cs_play.specs.Ends.{Ends}
 use Rattle.cs_play.proofs.Courses.{occurs-grows}

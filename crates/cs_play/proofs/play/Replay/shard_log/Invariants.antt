@@ -1,5 +1,5 @@
 use Rattle.std.proofs.Common.{◌≡◌, option_copied}
-use Rattle.cs_node_rules.specs.Play.{Played}
+use Rattle.cs_replay_rules.specs.Play.{Played}
 use Rattle.cs_play.specs.Logged.{logged_of}
 use Rattle.cs_play.specs.Longest.{log_in}
 use Rattle.cs_play.specs.Standing.{Setting, site_in, Stands}

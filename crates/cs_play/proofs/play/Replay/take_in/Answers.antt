@@ -1,6 +1,6 @@
 use Rattle.std.proofs.Common.{◌+◌, ◌<◌, ◌++◌, List, length, refl, sym, ap, subst, ◌∙◌, arith}
 use Rattle.std.proofs.lemmas.Result.{err_from_is_err_and}
-use Rattle.cs_node_rules.specs.Play.{occurs, size_of, most_sent, most_events}
+use Rattle.cs_replay_rules.specs.Play.{occurs, size_of, most_sent, most_events}
 use Rattle.cs_node_rules.specs.Lines.{Parcel}
 use Rattle.cs_node_rules.specs.World.{happens}
 use Rattle.cs_node.specs.declared.nodes.Core.{Core}

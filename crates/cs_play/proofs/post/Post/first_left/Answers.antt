@@ -1,5 +1,5 @@
 use Rattle.std.proofs.Common.{◌≡◌, true, false, sym, ap, ◌∙◌, arith, rules}
-use Rattle.cs_node_rules.specs.Play.{first_left}
+use Rattle.cs_replay_rules.specs.Play.{first_left}
 use Rattle.cs_play.proofs.Fronts.{front-more, left-next, left-none}
 use Rattle.cs_play.proofs.post.Post.first_left.Goals as goal
 

@@ -1,6 +1,6 @@
 use Rattle.std.proofs.Common.{◌≡◌, ◌≤◌, ◌+◌, length, bytes_eq, ap, ◌∙◌, arith}
 use Rattle.indexmap.specs.IndexMap.{insert_entry}
-use Rattle.cs_node_rules.specs.Play.{size_of, most_sent}
+use Rattle.cs_replay_rules.specs.Play.{size_of, most_sent}
 use Rattle.cs_play.specs.Post.{tail_of}
 use Rattle.cs_play.proofs.Fronts.{kept-push, kept-noted}
 use Rattle.cs_play.proofs.post.Post.send.Goals as goal

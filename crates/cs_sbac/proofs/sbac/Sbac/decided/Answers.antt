@@ -9,7 +9,7 @@ use Rattle.cs_sbac.proofs.sbac.Sbac.decided.Goals as goal
 
 pub returns : goal.returns
 returns c genesis approves =
-    let whole : c.self.inside.is_whole ≡ true = search rules in
+    let whole : c.self.inside.whole ≡ true = search rules in
     let Says : Held → Type 0 = λ held. c.is_accepted.result ≡ decided (deployed held.config genesis approves) held.me.shard (seen held.table) c.args.session.now in
     subst Says c.self.view_is
     (c.is_accepted.ensures ∙ ap accepted_by (c.in_ok-standing.ensures approves)

@@ -1,7 +1,7 @@
 use Rattle.std.proofs.Common.{◌≡◌, ◌∙◌, sym, subst, true, false, None, rules}
 use Rattle.cs_tx_form.specs.declared.session.Session.{Session}
 use Rattle.cs_tx.specs.WellFormed.{IsWellFormed}
-use Rattle.cs_node_state.specs.Setup.{session_in}
+use Rattle.cs_tx_form.specs.Session.{session_in}
 use Rattle.cs_sbac.specs.Held.{Held}
 use Rattle.cs_node_pool.specs.Deployed.{deployed}
 use Rattle.cs_sbac.specs.Calls.{Executes}
@@ -13,7 +13,7 @@ use Rattle.cs_sbac.proofs.sbac.Sbac.execute.Goals as goal
 
 pub run-requires-clause-anchored : goal.run-requires-clause-anchored
 run-requires-clause-anchored c =
-    let whole : c.self.inside.is_whole ≡ true = search rules in
+    let whole : c.self.inside.whole ≡ true = search rules in
     let fit : c.in_ok-fit.fit ≡ true = search rules in
     anchored c.self.inside.config c.self.inside.me c.self.inside.table (c.self.invariant.placed whole) (λ tx. true) (session_in c.args.entry.now) (c.in_ok-fit.ensures.anchored fit)
 
@@ -26,7 +26,7 @@ run-requires-clause-formed c =
 
 pub invariant_of-self-2 : goal.invariant_of-self-2
 invariant_of-self-2 c =
-    let whole : c.self.inside.is_whole ≡ true = search rules in
+    let whole : c.self.inside.whole ≡ true = search rules in
     record {
       node = c.self.invariant.node;
       same = c.run.ensures.config ∙ c.self.invariant.same;
@@ -39,7 +39,7 @@ invariant_of-self-2 c =
 
 pub returns-then-not-fit : goal.returns-then-not-fit
 returns-then-not-fit c genesis approves log =
-    let whole : c.self.inside.is_whole ≡ true = search rules in
+    let whole : c.self.inside.whole ≡ true = search rules in
     let unfit : c.in_ok-fit.fit ≡ false = search rules in
     let Does : Held → Type 0 = λ held. Executes (deployed held.config genesis approves) log c.args.entry.now held held (record { effect = Void; voted = None }) in
     subst Does c.self.view_is
@@ -48,7 +48,7 @@ returns-then-not-fit c genesis approves log =
 
 pub returns : goal.returns
 returns c genesis approves log =
-    let whole : c.self.inside.is_whole ≡ true = search rules in
+    let whole : c.self.inside.whole ≡ true = search rules in
     let fit : c.in_ok-fit.fit ≡ true = search rules in
     let after : Held = record { config = c.self.inside.config; me = c.self.inside.me; table = c.run.new.table; pool = c.run.new.pool.sessions; archived = c.self.inside.archive } in
     let Does : Held → Type 0 = λ held. Executes (deployed held.config genesis approves) log c.args.entry.now held after c.in_ok-outcome.outcome in

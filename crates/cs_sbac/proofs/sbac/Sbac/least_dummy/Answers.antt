@@ -7,7 +7,7 @@ use Rattle.cs_sbac.proofs.sbac.Sbac.least_dummy.Goals as goal
 
 pub returns-clause-key : goal.returns-clause-key
 returns-clause-key c =
-    let whole : c.self.inside.is_whole ≡ true = search rules in
+    let whole : c.self.inside.whole ≡ true = search rules in
     let table = c.self.inside.table in
     let Says : Held → Type 0 = λ held. c.least_dummy-key.result ≡ least_dummy (seen held.table) held.me.shard in
     subst Says c.self.view_is

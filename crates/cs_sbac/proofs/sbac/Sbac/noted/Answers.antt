@@ -8,7 +8,7 @@ use Rattle.cs_sbac.proofs.sbac.Sbac.noted.Goals as goal
 
 pub returns : goal.returns
 returns c genesis approves =
-    let whole : c.self.inside.is_whole ≡ true = search rules in
+    let whole : c.self.inside.whole ≡ true = search rules in
     let Says : Held → Type 0 = λ held. c.in_ok-vote.vote ≡ noted (deployed held.config genesis approves) held.me.shard (seen held.table) c.args.session.now in
     subst Says c.self.view_is
     (records c.self.inside.config c.self.inside.me c.self.inside.table (c.self.invariant.placed whole) genesis approves c.args.session.now c.in_ok-vote.vote (c.in_ok-vote.ensures approves))

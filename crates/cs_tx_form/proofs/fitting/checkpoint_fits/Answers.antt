@@ -1,4 +1,4 @@
-use Rattle.cs_archive.proofs.fitting.checkpoint_fits.Goals as goal
+use Rattle.cs_tx_form.proofs.fitting.checkpoint_fits.Goals as goal
 
 pub returns : goal.returns
 returns c =

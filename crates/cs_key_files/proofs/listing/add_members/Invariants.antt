@@ -1,6 +1,0 @@
-use Rattle.std.proofs.Common.{◌≡◌, ◌++◌}
-use Rattle.cs_base.specs.NodeId.{members_below}
-use Rattle.cs_key_files.proofs.listing.add_members.Given as goal
-
-abbrev pub invariant-loop-index : goal.invariant-loop-index
-invariant-loop-index l = l.list ≡ l.initial.list ++ members_below l.shard l.index

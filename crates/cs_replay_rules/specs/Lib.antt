@@ -1,0 +1,5 @@
+pub mod Lines
+pub mod Aborts
+pub mod Play
+pub mod Dumps
+pub mod PlayedWorlds
