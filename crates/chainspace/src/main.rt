@@ -2,7 +2,7 @@
 #![tactic(auto)]
 
 use cs_cli::{WordsError, words_or_status};
-use cs_outside::{Children, FileStore, StandardInput, StandardOutput, UdpLink};
+use cs_os::{Children, FileStore, StandardInput, StandardOutput, UdpLink};
 use std::env;
 use std::process::ExitCode;
 

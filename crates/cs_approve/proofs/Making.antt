@@ -2,7 +2,7 @@
 use Rattle.std.proofs.Common.{◌≡◌, ℕ, Bool, false, cond, List, [], ◌∷◌, ◌++◌, drop, fold, Option, Some, None, is_some, refl, sym, ap}
 use Rattle.std.specs.List.{position_from}
 use Rattle.cs_types.specs.Accepted.{Accepted}
-use Rattle.cs_accept.specs.Accepting.{is_refused}
+use Rattle.cs_types.specs.Accepting.{is_refused}
 use Rattle.cs_approve.specs.Books.{Contracts, contract_under, with_contract, with_text, contracts_of, first_refused}
 
 -- the book so far, and the first text that is refused, by the texts from this place on

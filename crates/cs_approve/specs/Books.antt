@@ -4,7 +4,7 @@ use Rattle.std.specs.List.{position_from}
 use Rattle.std.specs.Map.{lookup}
 use Rattle.sha2.specs.Sha256.{sha256}
 use Rattle.cs_types.specs.Accepted.{Accepted}
-use Rattle.cs_accept.specs.Accepting.{accepted_of, is_refused}
+use Rattle.cs_types.specs.Accepting.{accepted_of, is_refused}
 
 -- the contracts of a book, each under its id; `token` has no text, and isn't listed
 abbrev pub Contracts : Type 0
@@ -20,12 +20,12 @@ with_contract contracts id contract =
     if is_some (contract_under id contracts) then contracts else contracts ++ (id, contract) ∷ []
 
 -- the contract of one text more, whose id is the hash of the text
-abbrev pub with_accepted : Contracts → List ℕ → Option Accepted → Contracts
-with_accepted contracts text None = contracts
-with_accepted contracts text (Some contract) = with_contract contracts (sha256 text) contract
+abbrev pub with_text_accepted : Contracts → List ℕ → Option Accepted → Contracts
+with_text_accepted contracts text None = contracts
+with_text_accepted contracts text (Some contract) = with_contract contracts (sha256 text) contract
 
 abbrev pub with_text : Contracts → List ℕ → Contracts
-with_text contracts text = with_accepted contracts text (accepted_of text)
+with_text contracts text = with_text_accepted contracts text (accepted_of text)
 
 -- the contracts that texts are
 abbrev pub contracts_of : List (List ℕ) → Contracts

@@ -1,10 +1,10 @@
 -- How texts are refused.
 use Rattle.std.specs.Prelude.{◌≡◌, ℕ, List, [], get_or, Option, Some, None, Result, Ok, Err}
-use Rattle.cs_accept.specs.declared.judging.Unjudged.{Unjudged}
-use Rattle.cs_accept.specs.declared.judging.Unjudged.TheVariants as unjudged
-use Rattle.cs_accept.specs.Faults.{IsFault}
-use Rattle.cs_accept.specs.Accepting.{accepted_of}
-use Rattle.cs_accept.specs.Judging.{HasFault}
+use Rattle.cs_types.specs.declared.judging.Unjudged.{Unjudged}
+use Rattle.cs_types.specs.declared.judging.Unjudged.TheVariants as unjudged
+use Rattle.cs_types.specs.Faults.{IsFault}
+use Rattle.cs_types.specs.Accepting.{accepted_of}
+use Rattle.cs_types.specs.Judging.{HasFault}
 use Rattle.cs_types.specs.Accepted.{Accepted}
 use Rattle.cs_approve.specs.Books.{Contracts, with_text, first_refused}
 use Rattle.cs_approve.specs.declared.book.BookError.{BookError}
@@ -31,6 +31,6 @@ pub record AddsText (text : List ℕ) (before after : Contracts) : Type 0 where
   pub accepted : accepted_of text ≡ Some contract
   pub added : after ≡ with_text before text
 
-abbrev pub Adds : List ℕ → Contracts → Contracts → Result Unit Unjudged → Type 0
-Adds text before after (Ok done) = AddsText text before after
-Adds text before after (Err e) = AddsNothing text e
+abbrev pub AddsContract : List ℕ → Contracts → Contracts → Result Unit Unjudged → Type 0
+AddsContract text before after (Ok done) = AddsText text before after
+AddsContract text before after (Err e) = AddsNothing text e

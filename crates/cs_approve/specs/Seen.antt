@@ -1,9 +1,9 @@
 -- What the check of a trace looks at.
 use Rattle.std.specs.Prelude.{ℕ, List, [], map, slice_get, Option, Some, None}
-use Rattle.cs_tx_form.specs.declared.trace.Trace.{Trace}
+use Rattle.cs_tx_types.specs.declared.trace.Trace.{Trace}
 use Rattle.cs_eval_values.specs.declared.view.Dep.{Dep}
 use Rattle.cs_eval_values.specs.declared.view.View.{View}
-use Rattle.cs_eval_values.specs.Lending.{object_in}
+use Rattle.cs_eval_values.specs.Lending.{lent_object}
 
 -- A trace as one sees it that stands on it. Where there is none, checks see what they can't tell from a dep that
 -- isn't there: it has no method, since no method's name is empty, and returned nothing.
@@ -16,11 +16,11 @@ abbrev pub dep_at : List Trace → Trace → ℕ → Dep
 dep_at traces t number = dep_seen t.contract (slice_get traces number)
 
 -- what a trace among these shows to the check of its method
-abbrev pub view_of : List Trace → Trace → View
-view_of traces t = record {
+abbrev pub view_of_trace : List Trace → Trace → View
+view_of_trace traces t = record {
   contract = t.contract;
-  inputs = map object_in t.inputs;
-  reads = map object_in t.references;
+  inputs = map lent_object t.inputs;
+  reads = map lent_object t.references;
   params = t.parameters;
   outputs = t.outputs;
   returns = t.returns;

@@ -1,12 +1,11 @@
 //! Books of contracts.
 ghost use Rattle.std.specs.Prelude.{◌≡◌, [], None, option_copied, IfOk, IfErr, OnOk};
 ghost use Rattle.cs_approve.specs.Books.{contract_under, with_contract, contracts_of, first_refused};
-ghost use Rattle.cs_approve.specs.Refusing.{refusal_at, IsFirstRefused, Adds};
+ghost use Rattle.cs_approve.specs.Refusing.{refusal_at, IsFirstRefused, AddsContract};
 
-use cs_accept::{Fault, Unjudged, judged};
 use cs_base::{Memory, Sequence};
 use cs_tx_value::Digest;
-use cs_types::Checked;
+use cs_types::{Checked, Fault, Unjudged, judged};
 use indexmap::IndexMap;
 use sha2::{Digest as Hasher, Sha256};
 use std::alloc::Global;
@@ -69,7 +68,7 @@ impl Book {
 
     // Adds the contract that a text is.
     fn add_text(&mut self, alloc: Global, text: &[u8]) -> Result<(), Unjudged>
-        ensures { Adds text.now self.old self.new result }
+        ensures { AddsContract text.now self.old self.new result }
     {
         let contract = judged(alloc, text)?;
         match self.add(Sha256::digest(text), contract) {

@@ -1,10 +1,10 @@
 //! The judgement of a book on transactions.
 ghost use Rattle.std.specs.Prelude.{◌≡◌, ◌<◌, IfOk};
-ghost use Rattle.cs_tx_form.specs.Transaction.{TraceFits};
+ghost use Rattle.cs_tx_types.specs.Transaction.{TraceFits};
 ghost use Rattle.cs_tx.specs.Token.{token_id};
 ghost use Rattle.cs_eval_law.specs.Checks.{says};
 ghost use Rattle.cs_approve.specs.Approval.{is_trace_approved, is_approved};
-ghost use Rattle.cs_approve.specs.Seen.{view_of};
+ghost use Rattle.cs_approve.specs.Seen.{view_of_trace};
 
 use crate::book::Book;
 use crate::token::is_transfer;
@@ -13,7 +13,7 @@ use cs_base::Memory;
 use cs_eval_check::check_lent;
 use cs_eval_values::Steps;
 use cs_tx::{Judge, id_of_token};
-use cs_tx_form::{Trace, Tx};
+use cs_tx_types::{Trace, Tx};
 use cs_tx_value::Digest;
 use cs_types::Checked;
 use std::alloc::Global;
@@ -33,7 +33,7 @@ fn says_in<L: Ledger>(
     requires some { 0 < L.parts }
     requires fits { TraceFits trace.now }
     ensures { IfOk result (λ yes. yes
-        ≡ says checked.now.contract trace.now.method (view_of traces.now trace.now)) }
+        ≡ says checked.now.contract trace.now.method (view_of_trace traces.now trace.now)) }
 {
     let view = lend_view(alloc, traces, trace)?;
     let mut steps: Steps<L> = Steps::new(blank);
@@ -53,7 +53,7 @@ fn says_yes(
 ) -> Result<bool, Memory>
     requires { TraceFits trace.now }
     ensures { IfOk result (λ yes. yes
-        ≡ says checked.now.contract trace.now.method (view_of traces.now trace.now)) }
+        ≡ says checked.now.contract trace.now.method (view_of_trace traces.now trace.now)) }
 {
     says_in::<Brand>(alloc, checked, traces, trace, Blank::new(1))
 }

@@ -1,12 +1,12 @@
 //! The rule of `token`, asked of one trace.
 ghost use Rattle.std.specs.Prelude.{◌≡◌, ◌≤◌, ◌<◌, ◌^◌, length, IfSome};
 ghost use Rattle.cs_tx_value.specs.declared.value.Value.{out-Value};
-ghost use Rattle.cs_tx_form.specs.declared.limits.TheConstants.{MOST_TRACE_OBJECTS};
-ghost use Rattle.cs_tx_form.specs.Transaction.{TraceFits};
+ghost use Rattle.cs_tx_types.specs.declared.limits.TheConstants.{MOST_TRACE_OBJECTS};
+ghost use Rattle.cs_tx_types.specs.Transaction.{TraceFits};
 ghost use Rattle.cs_tx.specs.Token.{amount_of_layer, amount_of_coin, sum_from, is_transfer};
 
 use cs_eval_values::Objects;
-use cs_tx_form::Trace;
+use cs_tx_types::Trace;
 use cs_tx_value::{Object, Value};
 
 fn amount(value: &Value) -> Option<u64>

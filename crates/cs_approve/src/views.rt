@@ -1,11 +1,11 @@
 //! What the check of a trace looks at, lent from the trace.
 ghost use Rattle.std.specs.Prelude.{◌≡◌, map, IfOk};
 ghost use Rattle.cs_eval_values.specs.Lending.{dep_of};
-ghost use Rattle.cs_approve.specs.Seen.{dep_at, view_of};
+ghost use Rattle.cs_approve.specs.Seen.{dep_at, view_of_trace};
 
 use cs_base::Memory;
 use cs_eval_values::{LentDep, LentView, Objects};
-use cs_tx_form::Trace;
+use cs_tx_types::Trace;
 use std::alloc::Global;
 
 // The trace that another one stands on, by its number.
@@ -48,7 +48,7 @@ pub fn lend_view<'a>(
     traces: &'a [Trace],
     trace: &'a Trace,
 ) -> Result<LentView<'a>, Memory>
-    ensures { IfOk result (λ view. view ≡ view_of traces.now trace.now) }
+    ensures { IfOk result (λ view. view ≡ view_of_trace traces.now trace.now) }
 {
     let deps = lend_deps(alloc, traces, trace)?;
     Ok(LentView::new(

@@ -1,22 +1,22 @@
 -- What the table became is what executing the entry gives, and what is stored then is what is known then.
 use Rattle.std.proofs.Common.{◌≡◌, Bool, true, ◌&&◌, List, Option, Some, None, IsSome, is_some, option_map, refl, ap, sym, subst, ◌∙◌}
 use Rattle.std.specs.Prelude.{if◌then◌else◌}
-use Rattle.cs_tx_form.specs.Session.{session_in}
+use Rattle.cs_tx_types.specs.Session.{session_in}
 use Rattle.cs_tx_value.specs.declared.object.Object.{Object}
-use Rattle.cs_tx_form.specs.declared.transaction.Tx.{Tx}
-use Rattle.cs_tx_form.specs.declared.session.Session.{Session}
-use Rattle.cs_tx_form.specs.declared.vote.Vote.{Vote}
-use Rattle.cs_tx_form.specs.declared.vote.Vote.TheVariants.{Commit, Abort}
-use Rattle.cs_tx_form.specs.declared.effect.Effect.{Effect}
-use Rattle.cs_tx_form.specs.declared.entry.Entry.{Entry}
-use Rattle.cs_tx_form.specs.declared.entry.Entry.TheVariants.{Prepare, Decide}
+use Rattle.cs_tx_types.specs.declared.transaction.Tx.{Tx}
+use Rattle.cs_tx_types.specs.declared.session.Session.{Session}
+use Rattle.cs_tx_types.specs.declared.vote.Vote.{Vote}
+use Rattle.cs_tx_types.specs.declared.vote.Vote.TheVariants.{Commit, Abort}
+use Rattle.cs_tx_types.specs.declared.effect.Effect.{Effect}
+use Rattle.cs_tx_types.specs.declared.entry.Entry.{Entry}
+use Rattle.cs_tx_types.specs.declared.entry.Entry.TheVariants.{Prepare, Decide}
 use Rattle.cs_base.specs.declared.key.Key as ours
-use Rattle.cs_tx.specs.Sessions.{session_of, key_seen}
+use Rattle.cs_tx.specs.Sessions.{ledger_session, key_seen}
 use Rattle.cs_tx.specs.Uses.{anchor_of}
 use Rattle.cs_tx.proofs.AnchorSeen.{anchor-session_of}
 use Rattle.cs_ledger.specs.Session as Seen
 use Rattle.cs_ledger.specs.Table as Shard
-use Rattle.cs_table.specs.Calls.{anchor_in, decided}
+use Rattle.cs_table.specs.Calls.{anchor_in, decide_outcome}
 use Rattle.cs_table.specs.Effects.{ComesTo, effect_of}
 use Rattle.cs_table.specs.Pieces.{rules_in}
 use Rattle.cs_table.specs.Seen.{Stored, seen, vote_of}
@@ -27,14 +27,14 @@ use Rattle.cs_check_rules.proofs.Same.{one_list}
 use Rattle.cs_check_rules.proofs.Known.{exec_known}
 use Rattle.cs_node_state.specs.Setup as Setup
 use Rattle.cs_node_state.specs.Deployed.{genesis_from}
-use Rattle.cs_node_pool.specs.Deployed.{deployed}
+use Rattle.cs_node_pool.specs.Deployed.{deployed_setup}
 use Rattle.cs_sbac.proofs.RulesAlike.{acts}
 use Rattle.cs_audit.specs.declared.stand.Stand.{Stand}
-use Rattle.cs_audit.specs.Standing.{IsPlaced, entry_seen, acted, Executes}
+use Rattle.cs_audit.specs.Standing.{IsPlaced, entry_seen, acted, StandExecutes}
 
 -- a decision, as the table has it and as the setup has it
 pub decides : (told new : Stored) (y : Seen.Session) (vote : Vote) (effect : Shard.Effect)
-    → ComesTo (decided told y (vote_of vote)) told new effect → ComesTo (acted told (Shard.Decide y (Setup.vote_of vote))) told new effect
+    → ComesTo (decide_outcome told y (vote_of vote)) told new effect → ComesTo (acted told (Shard.Decide y (Setup.vote_of vote))) told new effect
 decides told new y Commit effect comes = comes
 decides told new y Abort effect comes = comes
 
@@ -43,16 +43,16 @@ some-still None = refl
 some-still (Some k) = refl
 
 -- the session is held by a key of the shard
-pub anchored : (s : Stand) → IsPlaced s → (approves : Tx → Bool) (x : Session) → is_some (anchor_of s.config x s.shard) ≡ true → IsSome (anchor_in s.table (session_of approves x))
+pub anchored : (s : Stand) → IsPlaced s → (approves : Tx → Bool) (x : Session) → is_some (anchor_of s.config x s.shard) ≡ true → IsSome (anchor_in s.table (ledger_session approves x))
 anchored s placed approves x has =
-    let y : Seen.Session = session_of approves x in
+    let y : Seen.Session = ledger_session approves x in
     let e : anchor_in s.table y ≡ option_map key_seen (anchor_of s.config x s.shard) =
     (λ i. Seen.anchor (rules_in (placed.shards i)) y (placed.shard i)) ∙ anchor-session_of (rules_in s.config.shards) s.config (λ name. refl) approves x s.shard in
     ap (λ (o : Option Seen.Key). is_some o) e ∙ some-still (anchor_of s.config x s.shard) ∙ has
 
 module _ (s : Stand) (placed : IsPlaced s) (genesis : List Object) (approves : Tx → Bool) where
   abbrev setup : Setup.Setup
-  setup = deployed s.config genesis approves
+  setup = deployed_setup s.config genesis approves
 
   abbrev ran : Shard.Entry → Shard.Outcome
   ran e = Shard.exec setup.rules s.shard (seen s.table) e
@@ -75,9 +75,9 @@ module _ (s : Stand) (placed : IsPlaced s) (genesis : List Object) (approves : T
   pub executes : (entry : Entry) (new : Stored) (effect : Effect) → Setup.is_fit setup s.shard (session_in entry) ≡ true
       → AreKnown (keys_in s.table.rows) (seen s.table) → AreKnown (keys_in new.rows) (seen new)
       → ComesTo (acted s.table (entry_seen approves entry)) s.table new (effect_of effect)
-      → Executes setup entry s (record s { table = new }) effect
+      → StandExecutes setup entry s (record s { table = new }) effect
   executes (Prepare x) new effect fit old_known new_known comes =
-      let e : Shard.Entry = Shard.Prepare (session_of approves x) in
+      let e : Shard.Entry = Shard.Prepare (ledger_session approves x) in
       let same : acted s.table e ≡ ran e = same-outcome e fit in
       let shows : seen new ≡ (ran e).table = comes.table_is.shows ∙ ap (λ (o : Shard.Outcome). o.table) same in
       record {
@@ -94,7 +94,7 @@ module _ (s : Stand) (placed : IsPlaced s) (genesis : List Object) (approves : T
         };
       }
   executes (Decide vote x) new effect fit old_known new_known comes =
-      let e : Shard.Entry = Shard.Decide (session_of approves x) (Setup.vote_of vote) in
+      let e : Shard.Entry = Shard.Decide (ledger_session approves x) (Setup.vote_of vote) in
       let same : acted s.table e ≡ ran e = same-outcome e fit in
       let shows : seen new ≡ (ran e).table = comes.table_is.shows ∙ ap (λ (o : Shard.Outcome). o.table) same in
       record {

@@ -5,14 +5,14 @@ use Rattle.std.proofs.Math.ListN.{drop_of_length-le}
 use Rattle.std.proofs.lemmas.List.{length-append, map-append, take_more}
 use Rattle.cs_base.specs.declared.config.Config.{Config}
 use Rattle.cs_tx_value.specs.declared.object.Object.{Object}
-use Rattle.cs_tx_form.specs.declared.leaf.Leaf.{Leaf}
-use Rattle.cs_tx_form.specs.declared.transaction.Tx.{Tx}
+use Rattle.cs_tx_types.specs.declared.leaf.Leaf.{Leaf}
+use Rattle.cs_tx_types.specs.declared.transaction.Tx.{Tx}
 use Rattle.cs_ledger.specs.Ledger.{Bytes}
-use Rattle.cs_checkpoint.specs.Chain as chain
-use Rattle.cs_checkpoint.specs.Chain.{empty_log, kept_of}
+use Rattle.cs_check_rules.specs.Chain as chain
+use Rattle.cs_check_rules.specs.Chain.{empty_log, kept_of}
 use Rattle.cs_node_state.specs.Setup.{Setup}
-use Rattle.cs_node_pool.specs.Deployed.{deployed}
-use Rattle.cs_dump_read.specs.declared.dump.Log.{Log}
+use Rattle.cs_node_pool.specs.Deployed.{deployed_setup}
+use Rattle.cs_audit_dump.specs.declared.dump.Log.{Log}
 use Rattle.cs_base.specs.Options.{or_else}
 use Rattle.cs_audit_rules.specs.declared.verdict.Fault.{Fault}
 use Rattle.cs_audit_rules.specs.declared.verdict.Rule.{Rule}
@@ -21,7 +21,7 @@ use Rattle.cs_audit_rules.specs.Stands as rules
 use Rattle.cs_audit.specs.declared.stand.Stand.{Stand}
 use Rattle.cs_audit.specs.Standing.{IsPlaced, stand_of, log_with, TellsLeaf}
 use Rattle.cs_audit.specs.Votes.{KeptVotes}
-use Rattle.cs_audit.specs.Kept.{no_votes, noted, digest_in, log_votes, logs_votes, digests_of, TellsLog, Tells}
+use Rattle.cs_audit.specs.Kept.{no_votes, votes_noted, digest_of_leaf, log_votes, logs_votes, digests_in_log, TellsLog, TellsFirstFault}
 use Rattle.cs_audit.specs.declared.logs.Executed.{Executed}
 use Rattle.cs_audit.proofs.Voting.{keeps}
 
@@ -58,17 +58,17 @@ pub record IsOn (approves : Tx → Bool) (config : Config) (shard : ℕ) (log : 
   pub executed : chain.Log
   pub kept_is : s.chain.kept ≡ kept_of executed
   pub slots : length executed.leaves ≡ slot
-  pub digests_are : digests ≡ map digest_in (take slot log.leaves)
+  pub digests_are : digests ≡ map digest_of_leaf (take slot log.leaves)
   pub votes_are : log_votes shard (drop slot log.leaves) votes ≡ log_votes shard log.leaves old
-  pub told : (genesis : List Object) → leaves_fault (deployed config genesis approves) shard log.heads (stand_of executed s) (drop slot log.leaves)
-      ≡ leaves_fault (deployed config genesis approves) shard log.heads first log.leaves
+  pub told : (genesis : List Object) → leaves_fault (deployed_setup config genesis approves) shard log.heads (stand_of executed s) (drop slot log.leaves)
+      ≡ leaves_fault (deployed_setup config genesis approves) shard log.heads first log.leaves
 
 module _ (approves : Tx → Bool) (config : Config) (shard : ℕ) (log : Log) (first : rules.Stand) (old : KeptVotes) where
   abbrev On : ℕ → Stand → List Bytes → KeptVotes → Type 0
   On = IsOn approves config shard log first old
 
   abbrev setup_at : List Object → Setup
-  setup_at genesis = deployed config genesis approves
+  setup_at genesis = deployed_setup config genesis approves
 
   pub begins : (s : Stand) → IsPlaced s → s.config ≡ config → s.shard ≡ shard → s.chain.kept ≡ kept_of (empty_log shard)
       → first ≡ stand_of (empty_log shard) s → On 0 s [] old
@@ -86,17 +86,17 @@ module _ (approves : Tx → Bool) (config : Config) (shard : ℕ) (log : Log) (f
 
   -- the shard's rules, by the names of the log
   none-here : (genesis : List Object) (slot : ℕ) (s new : Stand) (digests : List Bytes) (votes : KeptVotes) (leaf : Leaf) (on : On slot s digests votes)
-      → TellsLeaf (deployed s.config genesis approves) on.executed log.heads leaf s new None
+      → TellsLeaf (deployed_setup s.config genesis approves) on.executed log.heads leaf s new None
       → (broken_by (setup_at genesis) shard log.heads (stand_of on.executed s) leaf ≡ None)
       × (stand_of (log_with leaf on.executed new) new ≡ rules.after_leaf (setup_at genesis) shard (stand_of on.executed s) leaf)
   none-here genesis slot s new digests votes leaf on tells =
-      let P : Config × ℕ → Type 0 = λ at. (broken_by (deployed at.0 genesis approves) at.1 log.heads (stand_of on.executed s) leaf ≡ None)
-      × (stand_of (log_with leaf on.executed new) new ≡ rules.after_leaf (deployed at.0 genesis approves) at.1 (stand_of on.executed s) leaf) in
+      let P : Config × ℕ → Type 0 = λ at. (broken_by (deployed_setup at.0 genesis approves) at.1 log.heads (stand_of on.executed s) leaf ≡ None)
+      × (stand_of (log_with leaf on.executed new) new ≡ rules.after_leaf (deployed_setup at.0 genesis approves) at.1 (stand_of on.executed s) leaf) in
       subst P (λ i. (on.config_is i, on.shard_is i)) (tells.0, tells.1.stand_is)
 
   pub goes_on : (slot : ℕ) (s new : Stand) (digests : List Bytes) (votes : KeptVotes) (leaf : Leaf) (d : Bytes) (more : List Bytes) (later : KeptVotes) (on : On slot s digests votes)
-      → slot < length log.leaves → leaf ≡ get_or log.leaves slot leaf → ((genesis : List Object) → TellsLeaf (deployed s.config genesis approves) on.executed log.heads leaf s new None)
-      → d ≡ digest_in leaf → more ≡ digests ++ d ∷ [] → later ≡ noted shard leaf.entry leaf.result d votes → On (slot + 1) new more later
+      → slot < length log.leaves → leaf ≡ get_or log.leaves slot leaf → ((genesis : List Object) → TellsLeaf (deployed_setup s.config genesis approves) on.executed log.heads leaf s new None)
+      → d ≡ digest_of_leaf leaf → more ≡ digests ++ d ∷ [] → later ≡ votes_noted shard leaf.entry leaf.result d votes → On (slot + 1) new more later
   goes_on slot s new digests votes leaf d more later on less is tells named pushed noted_is =
       let follows = (tells []).1 in
       let left : drop slot log.leaves ≡ leaf ∷ drop (slot + 1) log.leaves = left-at log.leaves slot leaf less is in
@@ -107,8 +107,8 @@ module _ (approves : Tx → Bool) (config : Config) (shard : ℕ) (log : Log) (f
         executed = log_with leaf on.executed new;
         kept_is = follows.kept_is;
         slots = length-append on.executed.leaves _ ∙ ap (λ n. n + 1) on.slots;
-        digests_are = pushed ∙ (λ i. on.digests_are i ++ named i ∷ []) ∙ sym (ap (map digest_in) (take_more log.leaves slot leaf less ∙ ap (λ x. take slot log.leaves ++ x ∷ []) (sym is)) ∙ map-append digest_in (take slot log.leaves) (leaf ∷ []));
-        votes_are = ap (log_votes shard (drop (slot + 1) log.leaves)) (noted_is ∙ ap (λ x. noted shard leaf.entry leaf.result x votes) named)
+        digests_are = pushed ∙ (λ i. on.digests_are i ++ named i ∷ []) ∙ sym (ap (map digest_of_leaf) (take_more log.leaves slot leaf less ∙ ap (λ x. take slot log.leaves ++ x ∷ []) (sym is)) ∙ map-append digest_of_leaf (take slot log.leaves) (leaf ∷ []));
+        votes_are = ap (log_votes shard (drop (slot + 1) log.leaves)) (noted_is ∙ ap (λ x. votes_noted shard leaf.entry leaf.result x votes) named)
             ∙ sym (ap (λ xs. log_votes shard xs votes) left) ∙ on.votes_are;
         told = λ genesis.
             let here = none-here genesis slot s new digests votes leaf on (tells genesis) in
@@ -122,15 +122,15 @@ module _ (approves : Tx → Bool) (config : Config) (shard : ℕ) (log : Log) (f
   ends genesis slot s digests votes on over =
       let none : drop slot log.leaves ≡ [] = drop_of_length-le log.leaves over in (
         sym (on.told genesis) ∙ ap (leaves_fault (setup_at genesis) shard log.heads (stand_of on.executed s)) none,
-        on.digests_are ∙ ap (map digest_in) (whole log.leaves slot over),
+        on.digests_are ∙ ap (map digest_of_leaf) (whole log.leaves slot over),
         sym (ap (λ xs. log_votes shard xs votes) none) ∙ on.votes_are,
       )
 
   pub breaks : (genesis : List Object) (slot : ℕ) (s new : Stand) (digests : List Bytes) (votes later : KeptVotes) (leaf : Leaf) (rule : Rule) (fault : Fault) (on : On slot s digests votes)
-      → slot < length log.leaves → leaf ≡ get_or log.leaves slot leaf → TellsLeaf (deployed s.config genesis approves) on.executed log.heads leaf s new (Some rule) → fault ≡ fault_at shard slot rule
+      → slot < length log.leaves → leaf ≡ get_or log.leaves slot leaf → TellsLeaf (deployed_setup s.config genesis approves) on.executed log.heads leaf s new (Some rule) → fault ≡ fault_at shard slot rule
       → TellsLog (setup_at genesis) shard log first old later (Err fault)
   breaks genesis slot s new digests votes later leaf rule fault on less is tells fault_is =
-      let P : Config × ℕ → Type 0 = λ at. broken_by (deployed at.0 genesis approves) at.1 log.heads (stand_of on.executed s) leaf ≡ Some rule in
+      let P : Config × ℕ → Type 0 = λ at. broken_by (deployed_setup at.0 genesis approves) at.1 log.heads (stand_of on.executed s) leaf ≡ Some rule in
       let broken = subst P (λ i. (on.config_is i, on.shard_is i)) tells in
       sym (on.told genesis) ∙ ap (leaves_fault (setup_at genesis) shard log.heads (stand_of on.executed s)) (left-at log.leaves slot leaf less is)
       ∙ fault-here (setup_at genesis) shard log.heads (stand_of on.executed s) leaf (drop (slot + 1) log.leaves) rule broken
@@ -140,7 +140,7 @@ module _ (approves : Tx → Bool) (config : Config) (shard : ℕ) (log : Log) (f
 
 -- the logs of the shards below a place are executed
 pub record AreOn (setup : Setup) (logs : List Log) (place : ℕ) (digests : List (List Bytes)) (votes : KeptVotes) : Type 0 where
-  pub digests_are : digests ≡ map digests_of (take place logs)
+  pub digests_are : digests ≡ map digests_in_log (take place logs)
   pub votes_are : logs_votes place (drop place logs) votes ≡ logs_votes 0 logs no_votes
   pub told : logs_fault setup place (drop place logs) ≡ logs_fault setup 0 logs
 
@@ -162,7 +162,7 @@ module _ (setup : Setup) (logs : List Log) where
   logs_go_on place log digests more named votes later on less is tells pushed =
       let left : drop place logs ≡ log ∷ drop (place + 1) logs = log-at logs place log less is in
       record {
-        digests_are = pushed ∙ (λ i. on.digests_are i ++ tells.1 i ∷ []) ∙ sym (ap (map digests_of) (take_more logs place log less ∙ ap (λ x. take place logs ++ x ∷ []) (sym is)) ∙ map-append digests_of (take place logs) (log ∷ []));
+        digests_are = pushed ∙ (λ i. on.digests_are i ++ tells.1 i ∷ []) ∙ sym (ap (map digests_in_log) (take_more logs place log less ∙ ap (λ x. take place logs ++ x ∷ []) (sym is)) ∙ map-append digests_in_log (take place logs) (log ∷ []));
         votes_are = ap (logs_votes (place + 1) (drop (place + 1) logs)) tells.2 ∙ sym (ap (λ xs. logs_votes place xs votes) left) ∙ on.votes_are;
         told = ap (λ (o : Option Fault). or_else o (logs_fault setup (place + 1) (drop (place + 1) logs))) (sym tells.0) ∙ sym (ap (logs_fault setup place) left) ∙ on.told;
       }
@@ -173,11 +173,11 @@ module _ (setup : Setup) (logs : List Log) where
       sym on.told ∙ ap (logs_fault setup place) (log-at logs place log less is)
       ∙ ap (λ (o : Option Fault). or_else o (logs_fault setup (place + 1) (drop (place + 1) logs))) tells
 
-pub logs_end : (config : Config) (genesis : List Object) (approves : Tx → Bool) (logs : List Log) (place : ℕ) (executed : Executed) → AreOn (deployed config genesis approves) logs place executed.digests executed.votes
-    → length logs ≤ place → Tells (deployed config genesis approves) logs (Ok executed)
+pub logs_end : (config : Config) (genesis : List Object) (approves : Tx → Bool) (logs : List Log) (place : ℕ) (executed : Executed) → AreOn (deployed_setup config genesis approves) logs place executed.digests executed.votes
+    → length logs ≤ place → TellsFirstFault (deployed_setup config genesis approves) logs (Ok executed)
 logs_end config genesis approves logs place executed on over =
     let none : drop place logs ≡ [] = drop_of_length-le logs over in (
-      sym on.told ∙ ap (logs_fault (deployed config genesis approves) place) none,
-      on.digests_are ∙ ap (map digests_of) (all-logs logs place over),
+      sym on.told ∙ ap (logs_fault (deployed_setup config genesis approves) place) none,
+      on.digests_are ∙ ap (map digests_in_log) (all-logs logs place over),
       keeps config genesis approves logs executed.votes (sym (ap (λ xs. logs_votes place xs executed.votes) none) ∙ on.votes_are),
     )

@@ -1,26 +1,26 @@
 -- The rules of a leaf, one after the other, and the shard behind it.
 use Rattle.std.proofs.Common.{◌≡◌, Bool, true, false, not, ◌==◌, List, length, Option, Some, None, refl, ap, sym, subst, ◌∙◌}
 use Rattle.std.specs.Prelude.{if◌then◌else◌}
-use Rattle.cs_tx_form.specs.declared.checkpoint.Checkpoint.{Checkpoint}
-use Rattle.cs_tx_form.specs.declared.effect.Effect.{Effect}
-use Rattle.cs_tx_form.specs.declared.effect.Effect.TheVariants as effect
-use Rattle.cs_tx_form.specs.declared.vote.Vote.TheVariants as vote
-use Rattle.cs_tx_form.specs.declared.leaf.Leaf.{Leaf}
+use Rattle.cs_tx_types.specs.declared.checkpoint.Checkpoint.{Checkpoint}
+use Rattle.cs_tx_types.specs.declared.effect.Effect.{Effect}
+use Rattle.cs_tx_types.specs.declared.effect.Effect.TheVariants as effect
+use Rattle.cs_tx_types.specs.declared.vote.Vote.TheVariants as vote
+use Rattle.cs_tx_types.specs.declared.leaf.Leaf.{Leaf}
 use Rattle.cs_ledger.specs.Ledger.{Bytes}
-use Rattle.cs_checkpoint.specs.Chain.{Log, made_last, kept_of}
+use Rattle.cs_check_rules.specs.Chain.{Log, made_last, kept_of}
 use Rattle.cs_check.specs.Root.{keys_in}
 use Rattle.cs_table.specs.Effects.{effect_of}
 use Rattle.cs_table.specs.Seen.{Stored, seen, forgotten}
 use Rattle.cs_check.specs.Leaves.{HasLeaves}
 use Rattle.cs_check.proofs.Hashing.{leaves_but}
 use Rattle.cs_node_state.specs.Setup.{Setup, is_fit}
-use Rattle.cs_tx_form.specs.Session.{session_in}
+use Rattle.cs_tx_types.specs.Session.{session_in}
 use Rattle.cs_audit_rules.specs.declared.verdict.Rule.{Rule}
 use Rattle.cs_audit_rules.specs.declared.verdict.Rule.TheVariants as rule
 use Rattle.cs_audit_rules.specs.Slots.{is_judged, same_effect, is_result, is_head, broken_by}
 use Rattle.cs_audit_rules.specs.Stands as rules
 use Rattle.cs_audit.specs.declared.stand.Stand.{Stand}
-use Rattle.cs_audit.specs.Standing.{stand_of, log_with, Executes, Follows}
+use Rattle.cs_audit.specs.Standing.{stand_of, log_with, StandExecutes, StandFollows}
 
 -- ---- effects
 
@@ -91,7 +91,7 @@ module _ (setup : Setup) (log : Log) (heads : List Bytes) (leaf : Leaf) (s : Sta
 
   -- ---- what was executed
 
-  module _ (mid : Stand) (effect : Effect) (ran : Executes setup leaf.entry s mid effect) where
+  module _ (mid : Stand) (effect : Effect) (ran : StandExecutes setup leaf.entry s mid effect) where
     pub result_is : leaf.result ≡ effect → result ≡ true
     result_is e =
         ap (λ told. same_effect (effect_of told) (rules.outcome_of setup s.shard (stand_of log s).table leaf).effect) e
@@ -102,17 +102,17 @@ module _ (setup : Setup) (log : Log) (heads : List Bytes) (leaf : Leaf) (s : Sta
         ap (same_effect (effect_of leaf.result)) (sym ran.effect_is) ∙ differ leaf.result effect ne
 
     module _ (new : Stand) (table : new.table ≡ forgotten mid.table) (config : new.config ≡ mid.config) (shard : new.shard ≡ mid.shard)
-        (chain : new.chain.kept ≡ kept_of (rules.told leaf (keys_in mid.table.rows) (seen mid.table) log)) (leaves : HasLeaves new.chain.hashed (seen mid.table)) where
+        (chain : new.chain.kept ≡ kept_of (rules.log_behind_leaf leaf (keys_in mid.table.rows) (seen mid.table) log)) (leaves : HasLeaves new.chain.hashed (seen mid.table)) where
       -- what is told is told of what is stored then
-      same_log : rules.told leaf (keys_in mid.table.rows) (seen mid.table) log ≡ log_with leaf log new
-      same_log = λ i. rules.told leaf (keys_in (sym table i).rows) (seen (sym table i)) log
+      same_log : rules.log_behind_leaf leaf (keys_in mid.table.rows) (seen mid.table) log ≡ log_with leaf log new
+      same_log = λ i. rules.log_behind_leaf leaf (keys_in (sym table i).rows) (seen (sym table i)) log
 
       stand : stand_of (log_with leaf log new) new ≡ rules.after_leaf setup s.shard (stand_of log s) leaf
       stand =
           (λ i. record { table = seen (table i); keys = keys_in (table i).rows; log = sym same_log i })
-          ∙ (λ i. record { table = ran.table_is i; keys = ran.keys_are i; log = rules.told leaf (ran.keys_are i) (ran.table_is i) log })
+          ∙ (λ i. record { table = ran.table_is i; keys = ran.keys_are i; log = rules.log_behind_leaf leaf (ran.keys_are i) (ran.table_is i) log })
 
-      pub follows : Follows setup log leaf s new
+      pub follows : StandFollows setup log leaf s new
       follows = record {
         stand_is = stand;
         kept_is = chain ∙ ap kept_of same_log;
@@ -127,7 +127,7 @@ module _ (setup : Setup) (log : Log) (heads : List Bytes) (leaf : Leaf) (s : Sta
       }
 
       -- the checkpoint that the slot made
-      pub head_is : (made : Option Checkpoint) → made ≡ made_last (rules.told leaf (keys_in mid.table.rows) (seen mid.table) log) → head ≡ is_head heads made
+      pub head_is : (made : Option Checkpoint) → made ≡ made_last (rules.log_behind_leaf leaf (keys_in mid.table.rows) (seen mid.table) log) → head ≡ is_head heads made
       head_is made is =
           ap (λ (told : Log). is_head heads (made_last told)) (sym (ap (λ (x : rules.Stand). x.log) stand) ∙ sym same_log)
           ∙ ap (is_head heads) (sym is)

@@ -13,18 +13,18 @@ use Rattle.cs_base.specs.declared.key.Key.TheVariants as key
 use Rattle.cs_table.specs.Genesis.{keyed_of, with_keyed}
 use Rattle.cs_tx_value.specs.declared.object.Object.{Object}
 use Rattle.cs_tx_value.specs.Object.{object_encoding, ObjectFits}
-use Rattle.cs_tx_form.specs.Transaction.{Keyed, TraceFits}
-use Rattle.cs_tx_form.specs.declared.trace.Trace.{Trace}
+use Rattle.cs_tx_types.specs.Transaction.{Keyed, TraceFits}
+use Rattle.cs_tx_types.specs.declared.trace.Trace.{Trace}
 use Rattle.cs_tx.specs.Sessions.{item_of}
 use Rattle.cs_tx.specs.Digest.{outputs_at, outputs_from}
 use Rattle.cs_tx.specs.Uses.{names as names_in}
 use Rattle.cs_table.proofs.Objects.{same_encoding}
-use Rattle.cs_ledger.specs.Ledger.{Bytes, Item, Ledger as Plain, names, has, apart, all_differ, object_at, genesis_ledger}
+use Rattle.cs_ledger.specs.Ledger.{Bytes, Item, Ledger as Plain, names, has, apart, all_differ, object_named, genesis_ledger}
 use Rattle.cs_ledger.proofs.Basics.{same_bytes, bytes_from}
 use Rattle.cs_audit_rules.specs.Slots.{is_just}
 use Rattle.cs_audit_rules.specs.History.{holds_all}
 use Rattle.cs_audit.specs.declared.ledger.Ledger.{Ledger}
-use Rattle.cs_audit.specs.Ledgers.{Shows, without, with_names, with_objects, appeared}
+use Rattle.cs_audit.specs.Ledgers.{ShowsLedger, without, with_created, with_objects, with_appeared}
 
 -- ---- lists
 
@@ -41,11 +41,11 @@ has-append name (x ∷ xs) ys = ap (λ b. bytes_eq name x || b) (has-append name
     assoc true b c = refl
     assoc false b c = refl
 
-pub at-append : (name : Bytes) (xs ys : List Item) → object_at (xs ++ ys) name ≡ or_else (object_at xs name) (object_at ys name)
+pub at-append : (name : Bytes) (xs ys : List Item) → object_named (xs ++ ys) name ≡ or_else (object_named xs name) (object_named ys name)
 at-append name [] ys = refl
 at-append name (x ∷ xs) ys = by (bytes_eq name x.name) (at-append name xs ys)
   where
-    by : (test : Bool) → object_at (xs ++ ys) name ≡ or_else (object_at xs name) (object_at ys name) → (if test then Some x.object else object_at (xs ++ ys) name) ≡ or_else (if test then Some x.object else object_at xs name) (object_at ys name)
+    by : (test : Bool) → object_named (xs ++ ys) name ≡ or_else (object_named xs name) (object_named ys name) → (if test then Some x.object else object_named (xs ++ ys) name) ≡ or_else (if test then Some x.object else object_named xs name) (object_named ys name)
     by true rest = refl
     by false rest = rest
 
@@ -68,7 +68,7 @@ turned a b false is = by (bytes_eq b a) refl
 -- ---- the ledger as it is shown
 
 pub shows-same : (kept : Ledger) (ledger other : Plain) → ((name : Bytes) → ledger.active name ≡ other.active name) → ((name : Bytes) → has name ledger.created ≡ has name other.created)
-    → Shows kept ledger → Shows kept other
+    → ShowsLedger kept ledger → ShowsLedger kept other
 shows-same kept ledger other active created shows = record {
   active = λ name. shows.active name ∙ active name;
   created = λ name. shows.created name ∙ created name;
@@ -76,7 +76,7 @@ shows-same kept ledger other active created shows = record {
 }
 
 -- whether exactly an object is there
-pub held : (kept : Ledger) (ledger : Plain) (item : Keyed) (found : Object) (same : Bool) → Shows kept ledger → Some found ≡ lookup (bytes_eq item.0) kept.active.entries → ObjectFits item.1 → IsTrue same ↔ (found ≡ item.1)
+pub held : (kept : Ledger) (ledger : Plain) (item : Keyed) (found : Object) (same : Bool) → ShowsLedger kept ledger → Some found ≡ lookup (bytes_eq item.0) kept.active.entries → ObjectFits item.1 → IsTrue same ↔ (found ≡ item.1)
     → same ≡ is_just (object_encoding item.1) (ledger.active item.0)
 held kept ledger item found same shows is fits test =
     let fit : ObjectFits found = subst (λ (o : Option Object). IfSome o ObjectFits) (sym is) (shows.fits item.0) in
@@ -84,7 +84,7 @@ held kept ledger item found same shows is fits test =
     ∙ ap (λ (o : Option Object). is_just (object_encoding item.1) (option_map object_encoding o)) is
     ∙ ap (is_just (object_encoding item.1)) (shows.active item.0)
 
-pub not-held : (kept : Ledger) (ledger : Plain) (item : Keyed) → Shows kept ledger → None ≡ lookup (bytes_eq item.0) kept.active.entries → false ≡ is_just (object_encoding item.1) (ledger.active item.0)
+pub not-held : (kept : Ledger) (ledger : Plain) (item : Keyed) → ShowsLedger kept ledger → None ≡ lookup (bytes_eq item.0) kept.active.entries → false ≡ is_just (object_encoding item.1) (ledger.active item.0)
 not-held kept ledger item shows is =
     ap (λ (o : Option Object). is_just (object_encoding item.1) (option_map object_encoding o)) is
     ∙ ap (is_just (object_encoding item.1)) (shows.active item.0)
@@ -95,8 +95,8 @@ abbrev put : Bytes → Object → Option Object → Bool → Option Object
 put name object old same = cond same (Some object) old
 
 -- an object under a name, where another object may have been
-pub brings : (old new : Ledger) (ledger : Plain) (name : Bytes) (object : Object) → Shows old ledger → ObjectFits object → ((q : Bytes) → lookup (bytes_eq q) new.active.entries ≡ cond (bytes_eq name q) (Some object) (lookup (bytes_eq q) old.active.entries))
-    → new.created.keys ≡ old.created.keys → Shows new (record ledger { active = λ q. if bytes_eq name q then Some (object_encoding object) else ledger.active q })
+pub brings : (old new : Ledger) (ledger : Plain) (name : Bytes) (object : Object) → ShowsLedger old ledger → ObjectFits object → ((q : Bytes) → lookup (bytes_eq q) new.active.entries ≡ cond (bytes_eq name q) (Some object) (lookup (bytes_eq q) old.active.entries))
+    → new.created.keys ≡ old.created.keys → ShowsLedger new (record ledger { active = λ q. if bytes_eq name q then Some (object_encoding object) else ledger.active q })
 brings old new ledger name object shows fit updates same = record {
   active = λ q. ap (option_map object_encoding) (updates q) ∙ shown (bytes_eq name q) (lookup (bytes_eq q) old.active.entries) ∙ ap (λ o. if bytes_eq name q then Some (object_encoding object) else o) (shows.active q);
   created = λ q. ap (list_any (bytes_eq q)) same ∙ shows.created q;
@@ -112,8 +112,8 @@ brings old new ledger name object shows fit updates same = record {
     fitting false o h = h
 
 -- an object goes
-pub goes : (old new : Ledger) (ledger : Plain) (name : Bytes) → Shows old ledger → ((q : Bytes) → lookup (bytes_eq q) new.active.entries ≡ cond (bytes_eq name q) None (lookup (bytes_eq q) old.active.entries))
-    → new.created.keys ≡ old.created.keys → Shows new (record ledger { active = λ q. if bytes_eq name q then None else ledger.active q })
+pub goes : (old new : Ledger) (ledger : Plain) (name : Bytes) → ShowsLedger old ledger → ((q : Bytes) → lookup (bytes_eq q) new.active.entries ≡ cond (bytes_eq name q) None (lookup (bytes_eq q) old.active.entries))
+    → new.created.keys ≡ old.created.keys → ShowsLedger new (record ledger { active = λ q. if bytes_eq name q then None else ledger.active q })
 goes old new ledger name shows updates same = record {
   active = λ q. ap (option_map object_encoding) (updates q) ∙ shown (bytes_eq name q) (lookup (bytes_eq q) old.active.entries) ∙ ap (λ o. if bytes_eq name q then None else o) (shows.active q);
   created = λ q. ap (list_any (bytes_eq q)) same ∙ shows.created q;
@@ -137,8 +137,8 @@ any-append q (x ∷ xs) ys = ap (λ b. bytes_eq q x || b) (any-append q xs ys) �
     assoc false b c = refl
 
 -- a name is created
-pub creates : (old new : Ledger) (ledger : Plain) (name : Bytes) → Shows old ledger → new.created.keys ≡ (if list_any (bytes_eq name) old.created.keys then old.created.keys else old.created.keys ++ name ∷ [])
-    → new.active.entries ≡ old.active.entries → Shows new (with_names (name ∷ []) ledger)
+pub creates : (old new : Ledger) (ledger : Plain) (name : Bytes) → ShowsLedger old ledger → new.created.keys ≡ (if list_any (bytes_eq name) old.created.keys then old.created.keys else old.created.keys ++ name ∷ [])
+    → new.active.entries ≡ old.active.entries → ShowsLedger new (with_created (name ∷ []) ledger)
 creates old new ledger name shows keys same = record {
   active = λ q. ap (λ es. option_map object_encoding (lookup (bytes_eq q) es)) same ∙ shows.active q;
   created = λ q. ap (list_any (bytes_eq q)) keys ∙ more q (list_any (bytes_eq name) old.created.keys) refl ∙ ap (λ b. b || has q (name ∷ [])) (shows.created q) ∙ sym (has-append q ledger.created (name ∷ []));
@@ -160,11 +160,11 @@ creates old new ledger name shows keys same = record {
 
 -- ---- the genesis
 
-pub appears : (old new : Ledger) (ledger : Plain) (name : Bytes) (object : Object) → Shows old ledger → ObjectFits object → is_some (lookup (bytes_eq name) old.active.entries) ≡ false
+pub appears : (old new : Ledger) (ledger : Plain) (name : Bytes) (object : Object) → ShowsLedger old ledger → ObjectFits object → is_some (lookup (bytes_eq name) old.active.entries) ≡ false
     → ((q : Bytes) → lookup (bytes_eq q) new.active.entries ≡ cond (bytes_eq name q) (Some object) (lookup (bytes_eq q) old.active.entries)) → new.created.keys ≡ old.created.keys
-    → Shows new (appeared name (object_encoding object) ledger)
+    → ShowsLedger new (with_appeared name (object_encoding object) ledger)
 appears old new ledger name object shows fit none updates same =
-    shows-same new (record ledger { active = λ q. if bytes_eq name q then Some (object_encoding object) else ledger.active q }) (appeared name (object_encoding object) ledger)
+    shows-same new (record ledger { active = λ q. if bytes_eq name q then Some (object_encoding object) else ledger.active q }) (with_appeared name (object_encoding object) ledger)
     (λ q. at q (bytes_eq name q) refl) (λ q. refl) (brings old new ledger name object shows fit updates same)
   where
     missing : (o : Option Object) → is_some o ≡ false → None ≡ option_map object_encoding o
@@ -188,9 +188,9 @@ appears old new ledger name object shows fit none updates same =
         more (Some bytes) = refl
 
 -- one that is there already stays
-pub there_stays : (old : Ledger) (ledger : Plain) (name object : Bytes) → Shows old ledger → is_some (lookup (bytes_eq name) old.active.entries) ≡ true → Shows old (appeared name object ledger)
+pub there_stays : (old : Ledger) (ledger : Plain) (name object : Bytes) → ShowsLedger old ledger → is_some (lookup (bytes_eq name) old.active.entries) ≡ true → ShowsLedger old (with_appeared name object ledger)
 there_stays old ledger name object shows some =
-    shows-same old ledger (appeared name object ledger) (λ q. at q (bytes_eq q name) refl) (λ q. refl) shows
+    shows-same old ledger (with_appeared name object ledger) (λ q. at q (bytes_eq q name) refl) (λ q. refl) shows
   where
     found : (o : Option Object) (more : Option Bytes) → is_some o ≡ true → option_map object_encoding o ≡ or_else (option_map object_encoding o) more
     found None more is = absurd (true≢false (sym is))
@@ -213,15 +213,15 @@ names-append : (xs ys : List Item) → names (xs ++ ys) ≡ names xs ++ names ys
 names-append [] ys = refl
 names-append (x ∷ xs) ys = ap (λ zs. x.name ∷ zs) (names-append xs ys)
 
-pub begins : (mid new : Ledger) (items : List Keyed) (name : Bytes) (object : Object) → Shows mid (appeared name (object_encoding object) (genesis_ledger (map item_of items)))
+pub begins : (mid new : Ledger) (items : List Keyed) (name : Bytes) (object : Object) → ShowsLedger mid (with_appeared name (object_encoding object) (genesis_ledger (map item_of items)))
     → new.created.keys ≡ (if list_any (bytes_eq name) mid.created.keys then mid.created.keys else mid.created.keys ++ name ∷ []) → new.active.entries ≡ mid.active.entries
-    → Shows new (genesis_ledger (map item_of (items ++ (name, object) ∷ [])))
+    → ShowsLedger new (genesis_ledger (map item_of (items ++ (name, object) ∷ [])))
 begins mid new items name object shows keys same =
     let all : map item_of (items ++ (name, object) ∷ []) ≡ map item_of items ++ item_of (name, object) ∷ [] = map-append item_of items ((name, object) ∷ []) in
-    shows-same new (with_names (name ∷ []) (appeared name (object_encoding object) (genesis_ledger (map item_of items)))) (genesis_ledger (map item_of (items ++ (name, object) ∷ [])))
-    (λ q. sym (ap (λ xs. object_at xs q) all ∙ at-append q (map item_of items) (item_of (name, object) ∷ [])))
+    shows-same new (with_created (name ∷ []) (with_appeared name (object_encoding object) (genesis_ledger (map item_of items)))) (genesis_ledger (map item_of (items ++ (name, object) ∷ [])))
+    (λ q. sym (ap (λ xs. object_named xs q) all ∙ at-append q (map item_of items) (item_of (name, object) ∷ [])))
     (λ q. sym (ap (λ xs. has q (names xs)) all ∙ ap (has q) (names-append (map item_of items) (item_of (name, object) ∷ []))))
-    (creates mid new (appeared name (object_encoding object) (genesis_ledger (map item_of items))) name shows keys same)
+    (creates mid new (with_appeared name (object_encoding object) (genesis_ledger (map item_of items))) name shows keys same)
 
 keyed-append : (xs : List (Key × Object)) (x : Key × Object) → keyed_of (xs ++ x ∷ []) ≡ keyed_of xs ++ with_keyed x.0 x.1 []
 keyed-append [] x = refl
@@ -232,10 +232,10 @@ keyed-append (y ∷ xs) x = ap (with_keyed y.0 y.1) (keyed-append xs x) ∙ by y
     by (key.Dummy shard serial) more last = refl
 
 pub one-begun : (new : Ledger) (items : List (Key × Object)) (k : ℕ) (item : Key × Object) → k < length items → item ≡ get_or items k item
-    → Shows new (genesis_ledger (map item_of (keyed_of (take k items) ++ with_keyed item.0 item.1 []))) → Shows new (genesis_ledger (map item_of (keyed_of (take (k + 1) items))))
+    → ShowsLedger new (genesis_ledger (map item_of (keyed_of (take k items) ++ with_keyed item.0 item.1 []))) → ShowsLedger new (genesis_ledger (map item_of (keyed_of (take (k + 1) items))))
 one-begun new items k item less is shows =
     let more : take (k + 1) items ≡ take k items ++ item ∷ [] = take_more items k item less ∙ ap (λ x. take k items ++ x ∷ []) (sym is) in
-    subst (λ xs. Shows new (genesis_ledger (map item_of xs))) (sym (ap keyed_of more ∙ keyed-append (take k items) item)) shows
+    subst (λ xs. ShowsLedger new (genesis_ledger (map item_of xs))) (sym (ap keyed_of more ∙ keyed-append (take k items) item)) shows
 
 -- ---- what a transaction uses
 
@@ -348,11 +348,11 @@ is-old true is = refl
 is-old false is = absurd (true≢false is)
 
 pub one-created : (ledger : Plain) (new : Ledger) (outputs : List Keyed) (k : ℕ) (item : Keyed) → k < length outputs → item ≡ get_or outputs k item
-    → Shows new (with_names (item.0 ∷ []) (with_names (names_in (take k outputs)) ledger)) → Shows new (with_names (names_in (take (k + 1) outputs)) ledger)
+    → ShowsLedger new (with_created (item.0 ∷ []) (with_created (names_in (take k outputs)) ledger)) → ShowsLedger new (with_created (names_in (take (k + 1) outputs)) ledger)
 one-created ledger new outputs k item less is shows =
     let more : names_in (take (k + 1) outputs) ≡ names_in (take k outputs) ++ item.0 ∷ [] =
     ap names_in (take_more outputs k item less ∙ ap (λ x. take k outputs ++ x ∷ []) (sym is)) ∙ map-append (λ (x : Keyed). x.0) (take k outputs) (item ∷ []) in
-    shows-same new _ (with_names (names_in (take (k + 1) outputs)) ledger) (λ q. refl)
+    shows-same new _ (with_created (names_in (take (k + 1) outputs)) ledger) (λ q. refl)
     (λ q. ap (has q) (append_assoc ledger.created (names_in (take k outputs)) (item.0 ∷ []) ∙ ap (λ xs. ledger.created ++ xs) (sym more))) shows
 
 -- whether the rest is new
@@ -373,7 +373,7 @@ rest-old created outputs k item less is old =
 
 -- objects that are used up
 pub one-gone : (ledger : Plain) (new : Ledger) (items : List Keyed) (k : ℕ) (item : Keyed) → k < length items → item ≡ get_or items k item
-    → Shows new (record ledger { active = λ q. if bytes_eq item.0 q then None else (if has q (names_in (take k items)) then None else ledger.active q) }) → Shows new (without (names_in (take (k + 1) items)) ledger)
+    → ShowsLedger new (record ledger { active = λ q. if bytes_eq item.0 q then None else (if has q (names_in (take k items)) then None else ledger.active q) }) → ShowsLedger new (without (names_in (take (k + 1) items)) ledger)
 one-gone ledger new items k item less is shows =
     let more : names_in (take (k + 1) items) ≡ names_in (take k items) ++ item.0 ∷ [] =
     ap names_in (take_more items k item less ∙ ap (λ x. take k items ++ x ∷ []) (sym is)) ∙ map-append (λ (x : Keyed). x.0) (take k items) (item ∷ []) in
@@ -389,8 +389,8 @@ one-gone ledger new items k item less is shows =
     by false false o = refl
 
 pub trace-gone : (ledger : Plain) (new : Ledger) (traces : List Trace) (k : ℕ) (trace : Trace) → k < length traces → trace ≡ get_or traces k trace
-    → Shows new (without (names_in trace.inputs) (without (names_in (flat_map (λ trace. trace.inputs) (take k traces))) ledger))
-    → Shows new (without (names_in (flat_map (λ trace. trace.inputs) (take (k + 1) traces))) ledger)
+    → ShowsLedger new (without (names_in trace.inputs) (without (names_in (flat_map (λ trace. trace.inputs) (take k traces))) ledger))
+    → ShowsLedger new (without (names_in (flat_map (λ trace. trace.inputs) (take (k + 1) traces))) ledger)
 trace-gone ledger new traces k trace less is shows =
     let before : List Keyed = flat_map (λ trace. trace.inputs) (take k traces) in
     let more : names_in (flat_map (λ trace. trace.inputs) (take (k + 1) traces)) ≡ names_in before ++ names_in trace.inputs =
@@ -410,11 +410,11 @@ trace-gone ledger new traces k trace less is shows =
 
 -- objects that are brought, the last of them first
 pub one-brought : (ledger : Plain) (new : Ledger) (left done : List Keyed) (item : Keyed)
-    → Shows new (record ledger { active = λ q. if bytes_eq item.0 q then Some (object_encoding item.1) else or_else (object_at (map item_of done) q) (ledger.active q) }) → Shows new (with_objects (map item_of (item ∷ done)) ledger)
+    → ShowsLedger new (record ledger { active = λ q. if bytes_eq item.0 q then Some (object_encoding item.1) else or_else (object_named (map item_of done) q) (ledger.active q) }) → ShowsLedger new (with_objects (map item_of (item ∷ done)) ledger)
 one-brought ledger new left done item shows =
     shows-same new _ (with_objects (map item_of (item ∷ done)) ledger)
-    (λ q. by (bytes_eq item.0 q) (object_at (map item_of done) q) (ledger.active q)
-    ∙ sym (ap (λ (b : Bool). or_else (if b then Some (object_encoding item.1) else object_at (map item_of done) q) (ledger.active q)) (turned item.0 q (bytes_eq item.0 q) refl)))
+    (λ q. by (bytes_eq item.0 q) (object_named (map item_of done) q) (ledger.active q)
+    ∙ sym (ap (λ (b : Bool). or_else (if b then Some (object_encoding item.1) else object_named (map item_of done) q) (ledger.active q)) (turned item.0 q (bytes_eq item.0 q) refl)))
     (λ q. refl) shows
   where
     by : (b : Bool) (found old : Option Bytes) → (if b then Some (object_encoding item.1) else or_else found old) ≡ or_else (if b then Some (object_encoding item.1) else found) old

@@ -8,37 +8,37 @@ use Rattle.std.proofs.lemmas.Bool.{true≢false}
 use Rattle.cs_base.specs.Options.{or_else}
 use Rattle.cs_base.specs.declared.config.Config.{Config}
 use Rattle.cs_tx_value.specs.declared.object.Object.{Object}
-use Rattle.cs_tx_form.specs.declared.leaf.Leaf.{Leaf}
-use Rattle.cs_tx_form.specs.declared.session.Session.{Session}
-use Rattle.cs_tx_form.specs.declared.transaction.Tx.{Tx}
+use Rattle.cs_tx_types.specs.declared.leaf.Leaf.{Leaf}
+use Rattle.cs_tx_types.specs.declared.session.Session.{Session}
+use Rattle.cs_tx_types.specs.declared.transaction.Tx.{Tx}
 use Rattle.cs_tx.specs.Digest.{digest_of_session}
 use Rattle.cs_tx.specs.Uses.{concerned_shards}
 use Rattle.cs_ledger.specs.Ledger.{Bytes}
 use Rattle.cs_node_state.specs.Setup.{Setup, concerned}
-use Rattle.cs_node_pool.specs.Deployed.{deployed}
+use Rattle.cs_node_pool.specs.Deployed.{deployed_setup}
 use Rattle.cs_node_pool.proofs.Concerned.{concerned-session}
-use Rattle.cs_dump_read.specs.declared.dump.Log.{Log}
+use Rattle.cs_audit_dump.specs.declared.dump.Log.{Log}
 use Rattle.cs_audit_rules.specs.declared.verdict.Fault.{Fault}
 use Rattle.cs_audit_rules.specs.declared.verdict.Rule.TheVariants as rule
 use Rattle.cs_audit_rules.specs.Slots.{fault_at}
-use Rattle.cs_audit_rules.specs.Support.{all_commit, one_aborts, is_supported, unsupported, support_fault}
+use Rattle.cs_audit_rules.specs.Support.{all_logs_commit, one_log_aborts, is_supported, unsupported, support_fault}
 use Rattle.cs_audit.specs.Votes.{KeptVotes}
-use Rattle.cs_audit.specs.Kept.{is_kept, Keeps}
+use Rattle.cs_audit.specs.Kept.{is_kept, KeepsVotes}
 
-module _ (config : Config) (objects : List Object) (approves : Tx → Bool) (logs : List Log) (votes : KeptVotes) (keeps : Keeps (deployed config objects approves) logs votes) (x : Session) (shards : List ℕ) (d : Bytes)
+module _ (config : Config) (objects : List Object) (approves : Tx → Bool) (logs : List Log) (votes : KeptVotes) (keeps : KeepsVotes (deployed_setup config objects approves) logs votes) (x : Session) (shards : List ℕ) (d : Bytes)
     (concerns : shards ≡ concerned_shards config x) (named : d ≡ digest_of_session x) where
   abbrev setup : Setup
-  setup = deployed config objects approves
+  setup = deployed_setup config objects approves
 
   same : shards ≡ concerned setup x
   same = concerns ∙ sym (concerned-session config objects approves x)
 
-  pub commits-all : list_all (is_kept votes.commits d) shards ≡ all_commit setup logs x
+  pub commits-all : list_all (is_kept votes.commits d) shards ≡ all_logs_commit setup logs x
   commits-all =
       (λ i. list_all (is_kept votes.commits (named i)) (same i))
       ∙ (λ i. list_all (λ shard. keeps.commits (digest_of_session x) shard i) (concerned setup x))
 
-  pub aborts-one : list_any (is_kept votes.aborts d) shards ≡ one_aborts setup logs x
+  pub aborts-one : list_any (is_kept votes.aborts d) shards ≡ one_log_aborts setup logs x
   aborts-one =
       (λ i. list_any (is_kept votes.aborts (named i)) (same i))
       ∙ (λ i. list_any (λ shard. keeps.aborts (digest_of_session x) shard i) (concerned setup x))

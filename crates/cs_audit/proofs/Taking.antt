@@ -3,16 +3,16 @@ use Rattle.std.proofs.Common.{◌≡◌, Bool, ◌&&◌, ◌++◌, List, map, No
 use Rattle.std.specs.Prelude.{if◌then◌else◌}
 use Rattle.std.specs.List.{flat_map}
 use Rattle.cs_base.specs.Options.{or_else}
-use Rattle.cs_tx_form.specs.declared.transaction.Tx.{Tx}
-use Rattle.cs_tx_form.specs.Transaction.{Keyed}
+use Rattle.cs_tx_types.specs.declared.transaction.Tx.{Tx}
+use Rattle.cs_tx_types.specs.Transaction.{Keyed}
 use Rattle.cs_tx.specs.Digest.{digest_of_tx, outputs_from}
 use Rattle.cs_tx.specs.Sessions.{item_of}
 use Rattle.cs_tx.specs.Uses.{inputs_of, references_of, names as names_in}
 use Rattle.cs_tx.proofs.OutputsNamed.{named-from}
-use Rattle.cs_ledger.specs.Ledger.{Bytes, Item, Ledger as Plain, names, has, apart, all_differ, object_at, ledger_after}
+use Rattle.cs_ledger.specs.Ledger.{Bytes, Item, Ledger as Plain, names, has, apart, all_differ, object_named, ledger_after}
 use Rattle.cs_audit_rules.specs.History.{holds_all}
 use Rattle.cs_audit.specs.declared.ledger.Ledger.{Ledger}
-use Rattle.cs_audit.specs.Ledgers.{Shows, without, with_names, with_objects, has_room_for, seen_tx}
+use Rattle.cs_audit.specs.Ledgers.{ShowsLedger, without, with_created, with_objects, has_room_for, seen_tx}
 use Rattle.cs_audit.proofs.Shown.{names-items, shows-same}
 
 module _ (approves : Tx → Bool) (ledger : Plain) (tx : Tx) (digest : Bytes) (named : digest ≡ digest_of_tx tx) (outputs : List Keyed) (is : outputs ≡ flat_map (λ items. items) (outputs_from digest 0 tx.traces)) where
@@ -28,10 +28,10 @@ module _ (approves : Tx → Bool) (ledger : Plain) (tx : Tx) (digest : Bytes) (n
       (λ i. used_is i && new_is i)
       ∙ ap (λ xs. (holds_all ledger (map item_of (inputs_of tx)) && holds_all ledger (map item_of (references_of tx))) && (apart xs ledger.created && all_differ xs)) new-names
 
-  pub after : (kept : Ledger) → Shows kept (with_objects (map item_of outputs) (without (names_in (inputs_of tx)) (with_names (names_in outputs) ledger))) → Shows kept (ledger_after ledger (seen_tx approves tx))
+  pub after : (kept : Ledger) → ShowsLedger kept (with_objects (map item_of outputs) (without (names_in (inputs_of tx)) (with_created (names_in outputs) ledger))) → ShowsLedger kept (ledger_after ledger (seen_tx approves tx))
   after kept shows =
-      shows-same kept (with_objects (map item_of outputs) (without (names_in (inputs_of tx)) (with_names (names_in outputs) ledger))) (ledger_after ledger (seen_tx approves tx))
+      shows-same kept (with_objects (map item_of outputs) (without (names_in (inputs_of tx)) (with_created (names_in outputs) ledger))) (ledger_after ledger (seen_tx approves tx))
       (λ q.
-      ap (λ (xs : List Item). or_else (object_at xs q) (if has q (names_in (inputs_of tx)) then None else ledger.active q)) items
-      ∙ ap (λ xs. or_else (object_at (seen_tx approves tx).outputs q) (if has q xs then None else ledger.active q)) (sym (names-items (inputs_of tx))))
+      ap (λ (xs : List Item). or_else (object_named xs q) (if has q (names_in (inputs_of tx)) then None else ledger.active q)) items
+      ∙ ap (λ xs. or_else (object_named (seen_tx approves tx).outputs q) (if has q xs then None else ledger.active q)) (sym (names-items (inputs_of tx))))
       (λ q. ap (λ xs. has q (ledger.created ++ xs)) new-names) shows

@@ -5,15 +5,15 @@ use Rattle.std.specs.Map.{lookup}
 use Rattle.std.specs.Option.{option_and_then}
 use Rattle.std.proofs.lemmas.Bool.{true≢false}
 use Rattle.cs_base.specs.Options.{or_else}
-use Rattle.cs_tx_form.specs.declared.session.Session.{Session}
-use Rattle.cs_tx_form.specs.declared.transaction.Tx.{Tx}
+use Rattle.cs_tx_types.specs.declared.session.Session.{Session}
+use Rattle.cs_tx_types.specs.declared.transaction.Tx.{Tx}
 use Rattle.cs_tx.specs.Digest.{digest_of_tx}
 use Rattle.cs_ledger.specs.Ledger.{Bytes, Ledger as Plain, IsIn, has, ledger_after}
 use Rattle.cs_ledger.proofs.Basics.{same_bytes, bytes_refl, bytes_from}
-use Rattle.cs_dump_read.specs.declared.dump.Log.{Log}
+use Rattle.cs_audit_dump.specs.declared.dump.Log.{Log}
 use Rattle.cs_audit.specs.declared.ledger.Ledger.{Ledger}
-use Rattle.cs_audit.specs.Ledgers.{Shows, has_room_for, seen_tx}
-use Rattle.cs_audit.specs.Committed.{Places, tx_at, tx_found, first_tx, Finds, is_told, GoesOn, Told}
+use Rattle.cs_audit.specs.Ledgers.{ShowsLedger, has_room_for, seen_tx}
+use Rattle.cs_audit.specs.Committed.{Places, tx_in_logs, tx_found, first_tx, FindsTransactions, is_told, GoesOn, LedgerGoesOn}
 use Rattle.cs_audit.proofs.Shown.{has-append}
 
 abbrev pub is_of : Bytes → Session → Bool
@@ -76,8 +76,8 @@ missing (Some x) is = absurd (true≢false is)
 -- ---- a transaction is added
 
 module _ (logs : List Log) where
-  pub added : (places new : Places) (sessions : List Session) (x : Session) (place : ℕ × ℕ) → tx_at logs place ≡ Some x.tx → lookup (bytes_eq (digest_of_tx x.tx)) places ≡ None
-      → ((q : Bytes) → lookup (bytes_eq q) new ≡ cond (bytes_eq (digest_of_tx x.tx) q) (Some place) (lookup (bytes_eq q) places)) → Finds logs places sessions [] → Finds logs new (sessions ++ x ∷ []) []
+  pub added : (places new : Places) (sessions : List Session) (x : Session) (place : ℕ × ℕ) → tx_in_logs logs place ≡ Some x.tx → lookup (bytes_eq (digest_of_tx x.tx)) places ≡ None
+      → ((q : Bytes) → lookup (bytes_eq q) new ≡ cond (bytes_eq (digest_of_tx x.tx) q) (Some place) (lookup (bytes_eq q) places)) → FindsTransactions logs places sessions [] → FindsTransactions logs new (sessions ++ x ∷ []) []
   added places new sessions x place at none updates finds = record { found = λ q. found q (bytes_eq d q) refl; there = λ q. there q (bytes_eq d q) refl }
     where
       d : Bytes
@@ -85,24 +85,24 @@ module _ (logs : List Log) where
 
       found : (q : Bytes) (test : Bool) → bytes_eq d q ≡ test → tx_found logs new q ≡ first_tx q (sessions ++ x ∷ [])
       found q true same =
-          let missing : None ≡ first_tx q sessions = sym (ap (λ (o : Option (ℕ × ℕ)). option_and_then (tx_at logs) o) (subst (λ z. lookup (bytes_eq z) places ≡ None) (same_bytes d q same) none)) ∙ finds.found q in
-          ap (λ (o : Option (ℕ × ℕ)). option_and_then (tx_at logs) o) (updates q ∙ ap (λ b. cond b (Some place) (lookup (bytes_eq q) places)) same) ∙ at
+          let missing : None ≡ first_tx q sessions = sym (ap (λ (o : Option (ℕ × ℕ)). option_and_then (tx_in_logs logs) o) (subst (λ z. lookup (bytes_eq z) places ≡ None) (same_bytes d q same) none)) ∙ finds.found q in
+          ap (λ (o : Option (ℕ × ℕ)). option_and_then (tx_in_logs logs) o) (updates q ∙ ap (λ b. cond b (Some place) (lookup (bytes_eq q) places)) same) ∙ at
           ∙ ap (λ (o : Option Tx). or_else o (Some x.tx)) missing
           ∙ sym (ap (λ (b : Bool). or_else (first_tx q sessions) (if b then Some x.tx else None)) (swapped d q true same)) ∙ sym (first-append q sessions x)
       found q false other =
-          ap (λ (o : Option (ℕ × ℕ)). option_and_then (tx_at logs) o) (updates q ∙ ap (λ b. cond b (Some place) (lookup (bytes_eq q) places)) other) ∙ finds.found q
+          ap (λ (o : Option (ℕ × ℕ)). option_and_then (tx_in_logs logs) o) (updates q ∙ ap (λ b. cond b (Some place) (lookup (bytes_eq q) places)) other) ∙ finds.found q
           ∙ none-more (first_tx q sessions) ∙ sym (ap (λ (b : Bool). or_else (first_tx q sessions) (if b then Some x.tx else None)) (swapped d q false other)) ∙ sym (first-append q sessions x)
 
-      there : (q : Bytes) (test : Bool) → bytes_eq d q ≡ test → IfSome (lookup (bytes_eq q) new) (λ place. IsSome (tx_at logs place))
-      there q true same = subst (λ (o : Option (ℕ × ℕ)). IfSome o (λ place. IsSome (tx_at logs place))) (sym (updates q ∙ ap (λ b. cond b (Some place) (lookup (bytes_eq q) places)) same)) (ap (λ (o : Option Tx). is_some o) at)
-      there q false other = subst (λ (o : Option (ℕ × ℕ)). IfSome o (λ place. IsSome (tx_at logs place))) (sym (updates q ∙ ap (λ b. cond b (Some place) (lookup (bytes_eq q) places)) other)) (finds.there q)
+      there : (q : Bytes) (test : Bool) → bytes_eq d q ≡ test → IfSome (lookup (bytes_eq q) new) (λ place. IsSome (tx_in_logs logs place))
+      there q true same = subst (λ (o : Option (ℕ × ℕ)). IfSome o (λ place. IsSome (tx_in_logs logs place))) (sym (updates q ∙ ap (λ b. cond b (Some place) (lookup (bytes_eq q) places)) same)) (ap (λ (o : Option Tx). is_some o) at)
+      there q false other = subst (λ (o : Option (ℕ × ℕ)). IfSome o (λ place. IsSome (tx_in_logs logs place))) (sym (updates q ∙ ap (λ b. cond b (Some place) (lookup (bytes_eq q) places)) other)) (finds.there q)
 
   -- a place that leads to a transaction
-  leads : (o : Option (ℕ × ℕ)) → is_some o ≡ true → IfSome o (λ place. IsSome (tx_at logs place)) → is_some (option_and_then (tx_at logs) o) ≡ true
+  leads : (o : Option (ℕ × ℕ)) → is_some o ≡ true → IfSome o (λ place. IsSome (tx_in_logs logs place)) → is_some (option_and_then (tx_in_logs logs) o) ≡ true
   leads None is there = absurd (true≢false (sym is))
   leads (Some place) is there = there
 
-  pub stays : (places : Places) (sessions : List Session) (x : Session) → is_some (lookup (bytes_eq (digest_of_tx x.tx)) places) ≡ true → Finds logs places sessions [] → Finds logs places (sessions ++ x ∷ []) []
+  pub stays : (places : Places) (sessions : List Session) (x : Session) → is_some (lookup (bytes_eq (digest_of_tx x.tx)) places) ≡ true → FindsTransactions logs places sessions [] → FindsTransactions logs places (sessions ++ x ∷ []) []
   stays places sessions x some finds = record { found = λ q. found q (bytes_eq d q) refl; there = finds.there }
     where
       d : Bytes
@@ -118,23 +118,23 @@ module _ (logs : List Log) where
 
   -- ---- a digest is told
 
-  module _ (approves : Tx → Bool) (sessions : List Session) (plain : Plain) (earlier : List Bytes) (d : Bytes) (places : Places) (finds : Finds logs places sessions earlier) where
+  module _ (approves : Tx → Bool) (sessions : List Session) (plain : Plain) (earlier : List Bytes) (d : Bytes) (places : Places) (finds : FindsTransactions logs places sessions earlier) where
     pub not-found : lookup (bytes_eq d) places ≡ None → is_told approves plain earlier d (first_tx d sessions) ≡ false
-    not-found none = by (has d earlier) refl (first_tx d sessions) (sym (ap (λ (o : Option (ℕ × ℕ)). option_and_then (tx_at logs) o) none) ∙ finds.found d)
+    not-found none = by (has d earlier) refl (first_tx d sessions) (sym (ap (λ (o : Option (ℕ × ℕ)). option_and_then (tx_in_logs logs) o) none) ∙ finds.found d)
       where
         by : (told : Bool) → has d earlier ≡ told → (o : Option Tx) → None ≡ (if has d earlier then None else o) → is_told approves plain earlier d o ≡ false
         by told is None e = refl
         by true is (Some tx) e = ap (λ b. not b && has_room_for plain (seen_tx approves tx)) is
         by false is (Some tx) e = let q : None ≡ Some tx = e ∙ ap (λ b. if b then None else Some tx) is in cc
 
-    found-is : (place : ℕ × ℕ) (tx : Tx) → lookup (bytes_eq d) places ≡ Some place → tx_at logs place ≡ Some tx → Some tx ≡ (if has d earlier then None else first_tx d sessions)
-    found-is place tx at is = sym (ap (λ (o : Option (ℕ × ℕ)). option_and_then (tx_at logs) o) at ∙ is) ∙ finds.found d
+    found-is : (place : ℕ × ℕ) (tx : Tx) → lookup (bytes_eq d) places ≡ Some place → tx_in_logs logs place ≡ Some tx → Some tx ≡ (if has d earlier then None else first_tx d sessions)
+    found-is place tx at is = sym (ap (λ (o : Option (ℕ × ℕ)). option_and_then (tx_in_logs logs) o) at ∙ is) ∙ finds.found d
 
     chosen : (told : Bool) (tx : Tx) (o : Option Tx) → Some tx ≡ (if told then None else o) → (told ≡ false) × (o ≡ Some tx)
     chosen true tx o e = let q : Some tx ≡ None = e in cc
     chosen false tx o e = (refl, sym e)
 
-    module _ (place : ℕ × ℕ) (tx : Tx) (at : lookup (bytes_eq d) places ≡ Some place) (is : tx_at logs place ≡ Some tx) where
+    module _ (place : ℕ × ℕ) (tx : Tx) (at : lookup (bytes_eq d) places ≡ Some place) (is : tx_in_logs logs place ≡ Some tx) where
       pub is_new : has d earlier ≡ false
       is_new = (chosen (has d earlier) tx (first_tx d sessions) (found-is place tx at is)).0
 
@@ -152,7 +152,7 @@ module _ (logs : List Log) where
           none false = refl
 
       pub goes_on : (new : Places) (ledger : Ledger) → has_room_for plain (seen_tx approves tx) ≡ true → ((q : Bytes) → lookup (bytes_eq q) new ≡ cond (bytes_eq d q) None (lookup (bytes_eq q) places))
-          → Shows ledger (ledger_after plain (seen_tx approves tx)) → GoesOn logs approves sessions plain earlier d new ledger
+          → ShowsLedger ledger (ledger_after plain (seen_tx approves tx)) → GoesOn logs approves sessions plain earlier d new ledger
       goes_on new ledger room updates shows = record {
         tx = tx;
         first = is_first;
@@ -178,30 +178,30 @@ module _ (logs : List Log) where
 
           found : (q : Bytes) (test : Bool) → bytes_eq d q ≡ test → tx_found logs new q ≡ (if has q (earlier ++ d ∷ []) then None else first_tx q sessions)
           found q true same =
-              ap (λ (o : Option (ℕ × ℕ)). option_and_then (tx_at logs) o) (updates q ∙ ap (λ b. cond b None (lookup (bytes_eq q) places)) same)
+              ap (λ (o : Option (ℕ × ℕ)). option_and_then (tx_in_logs logs) o) (updates q ∙ ap (λ b. cond b None (lookup (bytes_eq q) places)) same)
               ∙ sym (ap (λ b. if b then None else first_tx q sessions) (told_more q true same ∙ or-true (has q earlier)))
           found q false other =
-              ap (λ (o : Option (ℕ × ℕ)). option_and_then (tx_at logs) o) (updates q ∙ ap (λ b. cond b None (lookup (bytes_eq q) places)) other) ∙ finds.found q
+              ap (λ (o : Option (ℕ × ℕ)). option_and_then (tx_in_logs logs) o) (updates q ∙ ap (λ b. cond b None (lookup (bytes_eq q) places)) other) ∙ finds.found q
               ∙ sym (ap (λ b. if b then None else first_tx q sessions) (told_more q false other ∙ or-false (has q earlier)))
 
-          there : (q : Bytes) (test : Bool) → bytes_eq d q ≡ test → IfSome (lookup (bytes_eq q) new) (λ place. IsSome (tx_at logs place))
-          there q true same = subst (λ (o : Option (ℕ × ℕ)). IfSome o (λ place. IsSome (tx_at logs place))) (sym (updates q ∙ ap (λ b. cond b None (lookup (bytes_eq q) places)) same)) tt
-          there q false other = subst (λ (o : Option (ℕ × ℕ)). IfSome o (λ place. IsSome (tx_at logs place))) (sym (updates q ∙ ap (λ b. cond b None (lookup (bytes_eq q) places)) other)) (finds.there q)
+          there : (q : Bytes) (test : Bool) → bytes_eq d q ≡ test → IfSome (lookup (bytes_eq q) new) (λ place. IsSome (tx_in_logs logs place))
+          there q true same = subst (λ (o : Option (ℕ × ℕ)). IfSome o (λ place. IsSome (tx_in_logs logs place))) (sym (updates q ∙ ap (λ b. cond b None (lookup (bytes_eq q) places)) same)) tt
+          there q false other = subst (λ (o : Option (ℕ × ℕ)). IfSome o (λ place. IsSome (tx_in_logs logs place))) (sym (updates q ∙ ap (λ b. cond b None (lookup (bytes_eq q) places)) other)) (finds.there q)
 
-      pub told-so : (new : Places) (ledger : Ledger) (taken : Bool) → taken ≡ has_room_for plain (seen_tx approves tx) → (taken ≡ true → Shows ledger (ledger_after plain (seen_tx approves tx)))
-          → ((q : Bytes) → lookup (bytes_eq q) new ≡ cond (bytes_eq d q) None (lookup (bytes_eq q) places)) → Told logs approves sessions plain earlier d new ledger taken
+      pub told-so : (new : Places) (ledger : Ledger) (taken : Bool) → taken ≡ has_room_for plain (seen_tx approves tx) → (taken ≡ true → ShowsLedger ledger (ledger_after plain (seen_tx approves tx)))
+          → ((q : Bytes) → lookup (bytes_eq q) new ≡ cond (bytes_eq d q) None (lookup (bytes_eq q) places)) → LedgerGoesOn logs approves sessions plain earlier d new ledger taken
       told-so new ledger true room shows updates = goes_on new ledger (sym room) updates (shows refl)
       told-so new ledger false room shows updates = refused (sym room)
 
     -- a place that is kept leads to a transaction
-    pub leads-on : (place : ℕ × ℕ) → lookup (bytes_eq d) places ≡ Some place → tx_at logs place ≡ None → ⊥
+    pub leads-on : (place : ℕ × ℕ) → lookup (bytes_eq d) places ≡ Some place → tx_in_logs logs place ≡ None → ⊥
     leads-on place at none =
-        let some : IsSome (tx_at logs place) = subst (λ (o : Option (ℕ × ℕ)). IfSome o (λ place. IsSome (tx_at logs place))) at (finds.there d) in
+        let some : IsSome (tx_in_logs logs place) = subst (λ (o : Option (ℕ × ℕ)). IfSome o (λ place. IsSome (tx_in_logs logs place))) at (finds.there d) in
         true≢false (sym some ∙ ap (λ (o : Option Tx). is_some o) none)
 
   -- ---- what is left when all is told
 
-  module _ (sessions : List Session) (told : List Bytes) (places : Places) (finds : Finds logs places sessions told) where
+  module _ (sessions : List Session) (told : List Bytes) (places : Places) (finds : FindsTransactions logs places sessions told) where
     pub all-told : places ≡ [] → (x : Session) → IsIn x sessions → has (digest_of_tx x.tx) told ≡ true
     all-told empty x among =
         by (has (digest_of_tx x.tx) told) refl (first_tx (digest_of_tx x.tx) sessions) (first-there x sessions among)
@@ -213,7 +213,7 @@ module _ (logs : List Log) where
         by false is (Some tx) some e = let q : None ≡ Some tx = e ∙ ap (λ b. if b then None else Some tx) is in cc
 
     pub one-untold : (first : Bytes × (ℕ × ℕ)) (more : Places) → places ≡ first ∷ more → (x : Session) × (IsIn x sessions) × (has (digest_of_tx x.tx) told ≡ false)
-    one-untold first more is = by (tx_at logs first.1) refl
+    one-untold first more is = by (tx_in_logs logs first.1) refl
       where
         d : Bytes
         d = first.0
@@ -221,9 +221,9 @@ module _ (logs : List Log) where
         at : lookup (bytes_eq d) places ≡ Some first.1
         at = ap (lookup (bytes_eq d)) is ∙ ap (λ b. cond b (Some first.1) (lookup (bytes_eq d) more)) (bytes_refl d)
 
-        by : (o : Option Tx) → tx_at logs first.1 ≡ o → (x : Session) × (IsIn x sessions) × (has (digest_of_tx x.tx) told ≡ false)
+        by : (o : Option Tx) → tx_in_logs logs first.1 ≡ o → (x : Session) × (IsIn x sessions) × (has (digest_of_tx x.tx) told ≡ false)
         by None leads_to =
-            let some : IsSome (tx_at logs first.1) = subst (λ (o : Option (ℕ × ℕ)). IfSome o (λ place. IsSome (tx_at logs place))) at (finds.there d) in
+            let some : IsSome (tx_in_logs logs first.1) = subst (λ (o : Option (ℕ × ℕ)). IfSome o (λ place. IsSome (tx_in_logs logs place))) at (finds.there d) in
             absurd (true≢false (sym some ∙ ap (λ (o : Option Tx). is_some o) leads_to))
         by (Some tx) leads_to =
             let new : has d told ≡ false = is_new (λ x. true) sessions (record { active = λ name. None; created = [] }) told d places finds first.1 tx at leads_to in

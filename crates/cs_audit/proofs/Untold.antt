@@ -6,31 +6,31 @@ use Rattle.std.proofs.Math.Seq.{drop-cons}
 use Rattle.std.proofs.Math.ListN.{drop_of_length-le}
 use Rattle.std.proofs.lemmas.List.{take_more, length-take-le}
 use Rattle.std.proofs.lemmas.Bool.{and_parts}
-use Rattle.cs_tx_form.specs.declared.entry.Entry.{Entry}
-use Rattle.cs_tx_form.specs.declared.entry.Entry.TheVariants.{Prepare, Decide}
-use Rattle.cs_tx_form.specs.declared.leaf.Leaf.{Leaf}
-use Rattle.cs_tx_form.specs.declared.session.Session.{Session}
-use Rattle.cs_tx_form.specs.declared.transaction.Tx.{Tx}
-use Rattle.cs_tx.specs.Sessions.{session_of}
+use Rattle.cs_tx_types.specs.declared.entry.Entry.{Entry}
+use Rattle.cs_tx_types.specs.declared.entry.Entry.TheVariants.{Prepare, Decide}
+use Rattle.cs_tx_types.specs.declared.leaf.Leaf.{Leaf}
+use Rattle.cs_tx_types.specs.declared.session.Session.{Session}
+use Rattle.cs_tx_types.specs.declared.transaction.Tx.{Tx}
+use Rattle.cs_tx.specs.Sessions.{ledger_session}
 use Rattle.cs_ledger.specs.Ledger.{Bytes, Transaction, Ledger as Plain, IsIn, has, is_well_formed, ledger_after, genesis_ledger}
 use Rattle.cs_ledger.specs.Session as Seen
 use Rattle.cs_node_state.specs.Setup.{Setup, is_fit}
-use Rattle.cs_tx_form.specs.Session.{session_in}
-use Rattle.cs_node_pool.specs.Deployed.{deployed}
-use Rattle.cs_dump_read.specs.declared.dump.Dump.{Dump}
-use Rattle.cs_dump_read.specs.declared.dump.Log.{Log}
+use Rattle.cs_tx_types.specs.Session.{session_in}
+use Rattle.cs_node_pool.specs.Deployed.{deployed_setup}
+use Rattle.cs_audit_dump.specs.declared.dump.Dump.{Dump}
+use Rattle.cs_audit_dump.specs.declared.dump.Log.{Log}
 use Rattle.cs_audit_rules.specs.declared.verdict.Fault.{Fault}
 use Rattle.cs_audit_rules.specs.Slots.{is_judged, is_result, is_head, fault_at, broken_by, leaves_fault, logs_fault, log_fault}
 use Rattle.cs_audit_rules.specs.declared.verdict.Rule.TheVariants as rule
-use Rattle.cs_checkpoint.specs.Chain.{made_last}
+use Rattle.cs_check_rules.specs.Chain.{made_last}
 use Rattle.cs_audit_rules.specs.Stands as rules
-use Rattle.cs_audit_rules.specs.History.{prepared, sessions_in, committed, transactions, with_digest, takes, history_fault_at, then_told, ends_whole, history_fault}
-use Rattle.cs_audit_rules.specs.Support.{all_commit}
+use Rattle.cs_audit_rules.specs.History.{prepared_session, sessions_in_logs, committed, transactions, first_with_digest, takes, history_fault_at, then_told, ends_whole, history_fault}
+use Rattle.cs_audit_rules.specs.Support.{all_logs_commit}
 use Rattle.cs_audit_rules.specs.Verdicts.{told_fault}
 use Rattle.cs_audit_rules.proofs.Parts.{neither_there, map_none, passed, of_flat, of_filter}
 use Rattle.cs_audit.specs.declared.ledger.Ledger.{Ledger}
-use Rattle.cs_audit.specs.Ledgers.{Shows, has_room_for, seen_tx}
-use Rattle.cs_audit.specs.Committed.{Places, first_tx, Finds, is_told, GoesOn}
+use Rattle.cs_audit.specs.Ledgers.{ShowsLedger, has_room_for, seen_tx}
+use Rattle.cs_audit.specs.Committed.{Places, first_tx, FindsTransactions, is_told, GoesOn}
 use Rattle.cs_audit.proofs.Telling.{is_of, first-is, all-told, one-untold}
 
 pub nothing-in : (places : Places) → length places ≡ 0 → places ≡ []
@@ -84,7 +84,7 @@ module _ (setup : Setup) where
 
 module _ (approves : Tx → Bool) (dump : Dump) where
   abbrev setup : Setup
-  setup = deployed dump.config dump.genesis approves
+  setup = deployed_setup dump.config dump.genesis approves
 
   abbrev sessions : List Session
   sessions = committed setup dump.logs
@@ -96,30 +96,30 @@ module _ (approves : Tx → Bool) (dump : Dump) where
   both-true true b c h k = k
   both-true false b c h k = h
 
-  prepared-good : (entry : Entry) (x : Session) → IsIn x (prepared entry) → (at : ℕ) → is_fit setup at (session_in entry) ≡ true → is_judged setup entry ≡ true → Good approves x.tx
+  prepared-good : (entry : Entry) (x : Session) → IsIn x (prepared_session entry) → (at : ℕ) → is_fit setup at (session_in entry) ≡ true → is_judged setup entry ≡ true → Good approves x.tx
   prepared-good (Prepare y) x (inl same) at fit judged =
       subst (λ (z : Session). Good approves z.tx) (sym same)
-      (both-true (is_well_formed (session_of approves y).transaction) (Seen.has_its_dummies setup.rules (session_of approves y)) (session_of approves y).transaction.approved
+      (both-true (is_well_formed (ledger_session approves y).transaction) (Seen.has_its_dummies setup.rules (ledger_session approves y)) (ledger_session approves y).transaction.approved
       (and_parts (Seen.well_formed setup.rules (setup.session_of y)) (Seen.concerns setup.rules (setup.session_of y) at) fit).0 judged)
   prepared-good (Prepare y) x (inr later) at fit judged = absurd later
   prepared-good (Decide vote y) x among at fit judged = absurd among
 
   pub good : logs_fault setup 0 dump.logs ≡ None → (x : Session) → IsIn x sessions → Good approves x.tx
   good none x among =
-      let of = of_filter (all_commit setup dump.logs) x (sessions_in dump.logs) among in
-      let log = of_flat (λ (log : Log). flat_map (λ (leaf : Leaf). prepared leaf.entry) log.leaves) x dump.logs of.0 in
-      let leaf = of_flat (λ (leaf : Leaf). prepared leaf.entry) x log.0.leaves log.2 in
+      let of = of_filter (all_logs_commit setup dump.logs) x (sessions_in_logs dump.logs) among in
+      let log = of_flat (λ (log : Log). flat_map (λ (leaf : Leaf). prepared_session leaf.entry) log.leaves) x dump.logs of.0 in
+      let leaf = of_flat (λ (leaf : Leaf). prepared_session leaf.entry) x log.0.leaves log.2 in
       let formed = logs-formed setup 0 dump.logs none log.0 leaf.0 log.1 leaf.1 in
       prepared-good leaf.0.entry x leaf.2 formed.0 formed.1 formed.2
 
   -- ---- one digest more
 
-  with-digest : (xs : List Session) (d : Bytes) → with_digest d (map (λ x. (session_of approves x).transaction) xs) ≡ option_map (seen_tx approves) (first_tx d xs)
+  with-digest : (xs : List Session) (d : Bytes) → first_with_digest d (map (λ x. (ledger_session approves x).transaction) xs) ≡ option_map (seen_tx approves) (first_tx d xs)
   with-digest [] d = refl
   with-digest (x ∷ xs) d = by (is_of d x) (with-digest xs d)
     where
-      by : (test : Bool) → with_digest d (map (λ x. (session_of approves x).transaction) xs) ≡ option_map (seen_tx approves) (first_tx d xs)
-          → (if test then Some (session_of approves x).transaction else find (λ tx. bytes_eq d tx.digest) (map (λ x. (session_of approves x).transaction) xs))
+      by : (test : Bool) → first_with_digest d (map (λ x. (ledger_session approves x).transaction) xs) ≡ option_map (seen_tx approves) (first_tx d xs)
+          → (if test then Some (ledger_session approves x).transaction else find (λ tx. bytes_eq d tx.digest) (map (λ x. (ledger_session approves x).transaction) xs))
           ≡ option_map (seen_tx approves) (option_map (λ (y : Session). y.tx) (if test then Some x else find (is_of d) xs))
       by true rest = refl
       by false rest = rest
@@ -127,11 +127,11 @@ module _ (approves : Tx → Bool) (dump : Dump) where
   -- what is told so far, and what is left
   pub record ToldSoFar (place : ℕ) (places : Places) (ledger : Ledger) : Type 0 where
     pub plain : Plain
-    pub finds : Finds dump.logs places sessions (take place dump.history)
-    pub shows : Shows ledger plain
+    pub finds : FindsTransactions dump.logs places sessions (take place dump.history)
+    pub shows : ShowsLedger ledger plain
     pub left : history_fault txs plain (take place dump.history) (drop place dump.history) ≡ told_fault setup dump
 
-  pub begins : (places : Places) (ledger : Ledger) → Finds dump.logs places sessions [] → Shows ledger (genesis_ledger setup.rules.genesis) → ToldSoFar 0 places ledger
+  pub begins : (places : Places) (ledger : Ledger) → FindsTransactions dump.logs places sessions [] → ShowsLedger ledger (genesis_ledger setup.rules.genesis) → ToldSoFar 0 places ledger
   begins places ledger finds shows = record { plain = genesis_ledger setup.rules.genesis; finds = finds; shows = shows; left = refl }
 
   module _ (none : logs_fault setup 0 dump.logs ≡ None) where
@@ -150,12 +150,12 @@ module _ (approves : Tx → Bool) (dump : Dump) where
         let after : Plain = ledger_after so_far.plain (seen_tx approves on.tx) in
         let more : take (place + 1) dump.history ≡ earlier ++ d ∷ [] = take_more dump.history place [] less ∙ ap (λ x. earlier ++ x ∷ []) (sym is) in
         let split : drop place dump.history ≡ d ∷ later = rw add-one (drop-cons dump.history place [] less) ∙ ap (λ x. x ∷ later) (sym is) in
-        let found : with_digest d txs ≡ Some (seen_tx approves on.tx) = with-digest sessions d ∙ ap (option_map (seen_tx approves)) on.first in
+        let found : first_with_digest d txs ≡ Some (seen_tx approves on.tx) = with-digest sessions d ∙ ap (option_map (seen_tx approves)) on.first in
         let taken : (not (has d earlier) && takes so_far.plain (seen_tx approves on.tx)) ≡ true =
         ap (λ b. not (has d earlier) && b) (took so_far.plain on.tx (fine-first d on.tx on.first)) ∙ on.told in
         record {
           plain = after;
-          finds = subst (Finds dump.logs new sessions) (sym more) on.finds;
+          finds = subst (FindsTransactions dump.logs new sessions) (sym more) on.finds;
           shows = on.shows;
           left =
               ap (λ xs. history_fault txs after xs later) more
@@ -186,14 +186,14 @@ module _ (approves : Tx → Bool) (dump : Dump) where
 
   -- ---- the end
 
-  all-from : (p : Transaction → Bool) (xs : List Session) → ((x : Session) → IsIn x xs → p (session_of approves x).transaction ≡ true) → list_all p (map (λ x. (session_of approves x).transaction) xs) ≡ true
+  all-from : (p : Transaction → Bool) (xs : List Session) → ((x : Session) → IsIn x xs → p (ledger_session approves x).transaction ≡ true) → list_all p (map (λ x. (ledger_session approves x).transaction) xs) ≡ true
   all-from p [] h = refl
-  all-from p (x ∷ xs) h = (λ i. h x (inl refl) i && list_all p (map (λ x. (session_of approves x).transaction) xs)) ∙ all-from p xs (λ y among. h y (inr among))
+  all-from p (x ∷ xs) h = (λ i. h x (inl refl) i && list_all p (map (λ x. (ledger_session approves x).transaction) xs)) ∙ all-from p xs (λ y among. h y (inr among))
 
-  one-not : (p : Transaction → Bool) (xs : List Session) (x : Session) → IsIn x xs → p (session_of approves x).transaction ≡ false → list_all p (map (λ x. (session_of approves x).transaction) xs) ≡ false
+  one-not : (p : Transaction → Bool) (xs : List Session) (x : Session) → IsIn x xs → p (ledger_session approves x).transaction ≡ false → list_all p (map (λ x. (ledger_session approves x).transaction) xs) ≡ false
   one-not p [] x among h = absurd among
-  one-not p (y ∷ xs) x (inl same) h = ap (λ b. b && list_all p (map (λ x. (session_of approves x).transaction) xs)) (ap (λ (z : Session). p (session_of approves z).transaction) (sym same) ∙ h)
-  one-not p (y ∷ xs) x (inr later) h = ap (λ b. p (session_of approves y).transaction && b) (one-not p xs x later h) ∙ zeros (p (session_of approves y).transaction)
+  one-not p (y ∷ xs) x (inl same) h = ap (λ b. b && list_all p (map (λ x. (ledger_session approves x).transaction) xs)) (ap (λ (z : Session). p (ledger_session approves z).transaction) (sym same) ∙ h)
+  one-not p (y ∷ xs) x (inr later) h = ap (λ b. p (ledger_session approves y).transaction && b) (one-not p xs x later h) ∙ zeros (p (ledger_session approves y).transaction)
     where
       zeros : (b : Bool) → (b && false) ≡ false
       zeros true = refl

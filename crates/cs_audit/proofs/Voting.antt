@@ -4,13 +4,13 @@ use Rattle.std.specs.Prelude.{if◌then◌else◌, bytes_eq}
 use Rattle.std.specs.List.{list_any}
 use Rattle.cs_base.specs.declared.config.Config.{Config}
 use Rattle.cs_tx_value.specs.declared.object.Object.{Object}
-use Rattle.cs_tx_form.specs.declared.effect.Effect.{Effect}
-use Rattle.cs_tx_form.specs.declared.effect.Effect.TheVariants as effect
-use Rattle.cs_tx_form.specs.declared.vote.Vote.TheVariants as vote
-use Rattle.cs_tx_form.specs.declared.entry.Entry.{Entry}
-use Rattle.cs_tx_form.specs.declared.entry.Entry.TheVariants.{Prepare, Decide}
-use Rattle.cs_tx_form.specs.declared.leaf.Leaf.{Leaf}
-use Rattle.cs_tx_form.specs.declared.transaction.Tx.{Tx}
+use Rattle.cs_tx_types.specs.declared.effect.Effect.{Effect}
+use Rattle.cs_tx_types.specs.declared.effect.Effect.TheVariants as effect
+use Rattle.cs_tx_types.specs.declared.vote.Vote.TheVariants as vote
+use Rattle.cs_tx_types.specs.declared.entry.Entry.{Entry}
+use Rattle.cs_tx_types.specs.declared.entry.Entry.TheVariants.{Prepare, Decide}
+use Rattle.cs_tx_types.specs.declared.leaf.Leaf.{Leaf}
+use Rattle.cs_tx_types.specs.declared.transaction.Tx.{Tx}
 use Rattle.cs_tx.specs.Digest.{digest_of_session}
 use Rattle.cs_ledger.specs.Ledger.{Bytes}
 use Rattle.cs_ledger.specs.ShardWorld.{is_vote}
@@ -18,12 +18,12 @@ use Rattle.cs_ledger.specs.Table.{Vote, Commit, Abort}
 use Rattle.cs_ledger.proofs.Basics.{same_bytes}
 use Rattle.cs_table.specs.Effects.{effect_of}
 use Rattle.cs_node_state.specs.Setup.{Setup}
-use Rattle.cs_tx_form.specs.Session.{session_in}
-use Rattle.cs_node_pool.specs.Deployed.{deployed}
-use Rattle.cs_dump_read.specs.declared.dump.Log.{Log}
+use Rattle.cs_tx_types.specs.Session.{session_in}
+use Rattle.cs_node_pool.specs.Deployed.{deployed_setup}
+use Rattle.cs_audit_dump.specs.declared.dump.Log.{Log}
 use Rattle.cs_audit_rules.specs.Support.{prepares, has_vote, log_at}
 use Rattle.cs_audit.specs.Votes.{KeptVotes}
-use Rattle.cs_audit.specs.Kept.{no_votes, is_kept, with_pair, noted, digest_in, log_votes, logs_votes, Keeps}
+use Rattle.cs_audit.specs.Kept.{no_votes, is_kept, with_shard_digest, votes_noted, digest_of_leaf, log_votes, logs_votes, KeepsVotes}
 
 -- ---- pairs
 
@@ -42,7 +42,7 @@ kept-append : (q : Bytes) (n : ℕ) (xs ys : List (ℕ × Bytes)) → is_kept (x
 kept-append q n [] ys = refl
 kept-append q n (x ∷ xs) ys = ap (λ b. is_pair n q x || b) (kept-append q n xs ys) ∙ sym (or-assoc (is_pair n q x) (is_kept xs q n) (is_kept ys q n))
 
-kept-with : (s : ℕ) (d q : Bytes) (n : ℕ) (pairs : List (ℕ × Bytes)) → is_kept (with_pair s d pairs) q n ≡ (is_kept pairs q n || ((n == s) && bytes_eq q d))
+kept-with : (s : ℕ) (d q : Bytes) (n : ℕ) (pairs : List (ℕ × Bytes)) → is_kept (with_shard_digest s d pairs) q n ≡ (is_kept pairs q n || ((n == s) && bytes_eq q d))
 kept-with s d q n pairs = by (is_kept pairs d s) refl
   where
     there : (a b : Bool) → is_kept pairs d s ≡ true → (n == s) ≡ a → bytes_eq q d ≡ b → is_kept pairs q n ≡ (is_kept pairs q n || (a && b))
@@ -68,7 +68,7 @@ kept_of Abort votes = votes.aborts
 
 module _ (config : Config) (objects : List Object) (approves : Tx → Bool) (way : Vote) (q : Bytes) (n : ℕ) where
   abbrev setup : Setup
-  setup = deployed config objects approves
+  setup = deployed_setup config objects approves
 
   abbrev is : KeptVotes → Bool
   is votes = is_kept (kept_of way votes) q n
@@ -98,12 +98,12 @@ module _ (config : Config) (objects : List Object) (approves : Tx → Bool) (way
   such k a true = refl
   such k a false = refl
 
-  one-noted : (s : ℕ) (entry : Entry) (result : Effect) (votes : KeptVotes) → is (noted s entry result (digest_of_session (session_in entry)) votes)
+  one-noted : (s : ℕ) (entry : Entry) (result : Effect) (votes : KeptVotes) → is (votes_noted s entry result (digest_of_session (session_in entry)) votes)
       ≡ (is votes || ((n == s) && (prepares setup q entry && is_vote way (effect_of result))))
   one-noted s (Decide v x) result votes = decided s (is_vote way (effect_of result)) votes
   one-noted s (Prepare x) (effect.Voted vote.Commit) votes = at way
     where
-      at : (v : Vote) → is_kept (kept_of v (noted s (Prepare x) (effect.Voted vote.Commit) (digest_of_session x) votes)) q n
+      at : (v : Vote) → is_kept (kept_of v (votes_noted s (Prepare x) (effect.Voted vote.Commit) (digest_of_session x) votes)) q n
           ≡ (is_kept (kept_of v votes) q n || ((n == s) && (prepares setup q (Prepare x) && is_vote v (effect_of (effect.Voted vote.Commit)))))
       at Commit = kept-with s (digest_of_session x) q n votes.commits ∙ such (is_kept votes.commits q n) (n == s) (bytes_eq q (digest_of_session x))
       at Abort = quiet (is_kept votes.aborts q n) (n == s) (bytes_eq q (digest_of_session x))
@@ -115,7 +115,7 @@ module _ (config : Config) (objects : List Object) (approves : Tx → Bool) (way
           quiet false false b = refl
   one-noted s (Prepare x) (effect.Voted vote.Abort) votes = at way
     where
-      at : (v : Vote) → is_kept (kept_of v (noted s (Prepare x) (effect.Voted vote.Abort) (digest_of_session x) votes)) q n
+      at : (v : Vote) → is_kept (kept_of v (votes_noted s (Prepare x) (effect.Voted vote.Abort) (digest_of_session x) votes)) q n
           ≡ (is_kept (kept_of v votes) q n || ((n == s) && (prepares setup q (Prepare x) && is_vote v (effect_of (effect.Voted vote.Abort)))))
       at Abort = kept-with s (digest_of_session x) q n votes.aborts ∙ such (is_kept votes.aborts q n) (n == s) (bytes_eq q (digest_of_session x))
       at Commit = quiet (is_kept votes.commits q n) (n == s) (bytes_eq q (digest_of_session x))
@@ -143,7 +143,7 @@ module _ (config : Config) (objects : List Object) (approves : Tx → Bool) (way
       none false true = refl
       none false false = refl
   of-leaves s (leaf ∷ leaves) votes =
-      of-leaves s leaves (noted s leaf.entry leaf.result (digest_in leaf) votes)
+      of-leaves s leaves (votes_noted s leaf.entry leaf.result (digest_of_leaf leaf) votes)
       ∙ ap (λ b. b || ((n == s) && list_any votes_so leaves)) (one-noted s leaf.entry leaf.result votes)
       ∙ spread (is votes) (n == s) (votes_so leaf) (list_any votes_so leaves)
 
@@ -191,10 +191,10 @@ module _ (config : Config) (objects : List Object) (approves : Tx → Bool) (way
           ∙ or-more (is votes) false
           ∙ sym (λ i. is votes || (low i && has_vote setup way q (log_at (log ∷ logs) (n - s))))
 
-pub keeps : (config : Config) (objects : List Object) (approves : Tx → Bool) (logs : List Log) (votes : KeptVotes) → votes ≡ logs_votes 0 logs no_votes → Keeps (deployed config objects approves) logs votes
+pub keeps : (config : Config) (objects : List Object) (approves : Tx → Bool) (logs : List Log) (votes : KeptVotes) → votes ≡ logs_votes 0 logs no_votes → KeepsVotes (deployed_setup config objects approves) logs votes
 keeps config objects approves logs votes is = record {
-  commits = λ d shard. ap (λ v. is_kept v.commits d shard) is ∙ of-logs config objects approves Commit d shard 0 logs no_votes ∙ whole (has_vote (deployed config objects approves) Commit d) shard;
-  aborts = λ d shard. ap (λ v. is_kept v.aborts d shard) is ∙ of-logs config objects approves Abort d shard 0 logs no_votes ∙ whole (has_vote (deployed config objects approves) Abort d) shard;
+  commits = λ d shard. ap (λ v. is_kept v.commits d shard) is ∙ of-logs config objects approves Commit d shard 0 logs no_votes ∙ whole (has_vote (deployed_setup config objects approves) Commit d) shard;
+  aborts = λ d shard. ap (λ v. is_kept v.aborts d shard) is ∙ of-logs config objects approves Abort d shard 0 logs no_votes ∙ whole (has_vote (deployed_setup config objects approves) Abort d) shard;
 }
   where
     whole : (f : Log → Bool) (shard : ℕ) → (nat_le 0 shard && f (log_at logs (shard - 0))) ≡ f (log_at logs shard)

@@ -23,8 +23,8 @@ abbrev pub shard_text : Option ℕ → List ℕ
 shard_text None = codes "-"
 shard_text (Some shard) = decimal shard
 
-abbrev pub fault_text : Fault → List ℕ
-fault_text fault =
+abbrev pub audit_fault_text : Fault → List ℕ
+audit_fault_text fault =
     codes "no " ++ (rule_word fault.rule ++ (codes " " ++ (shard_text fault.shard ++ (codes " "
     ++ (decimal fault.slot ++ codes "\n")))))
 
@@ -36,7 +36,7 @@ yes_text history = codes "yes " ++ (decimal (length history) ++ (codes "\n" ++ f
 
 abbrev pub verdict_text : Verdict → List ℕ
 verdict_text (Yes history) = yes_text history
-verdict_text (No fault) = fault_text fault
+verdict_text (No fault) = audit_fault_text fault
 
 abbrev pub verdict_status : Verdict → ℕ
 verdict_status (Yes history) = 0

@@ -1,22 +1,22 @@
 //! The audit.
 ghost use Rattle.std.specs.Prelude.{◌≡◌, Bool, None, IfOk, map};
 ghost use Rattle.cs_base.specs.Options.{or_else};
-ghost use Rattle.cs_tx_form.specs.declared.transaction.Tx.{Tx as AnyTx};
-ghost use Rattle.cs_dump_read.specs.Formed.{IsFormed};
+ghost use Rattle.cs_tx_types.specs.declared.transaction.Tx.{Tx as AnyTx};
+ghost use Rattle.cs_audit_dump.specs.Formed.{IsFormed};
 ghost use Rattle.cs_audit_rules.specs.Sound.{SaysSound};
 ghost use Rattle.cs_audit_rules.specs.Slots.{logs_fault};
 ghost use Rattle.cs_audit_rules.specs.Support.{support_fault};
 ghost use Rattle.cs_audit_rules.specs.Verdicts.{setup_in, told_fault, first_fault, verdict_of};
-ghost use Rattle.cs_genesis.specs.Genesis.{keyed_from};
-ghost use Rattle.cs_audit.specs.Kept.{Keeps, digests_of};
+ghost use Rattle.cs_sbac.specs.Genesis.{keyed_from};
+ghost use Rattle.cs_audit.specs.Kept.{KeepsVotes, digests_in_log};
 
 use crate::history::first_untold;
 use crate::logs::{Executed, execute_logs};
 use crate::support::first_unsupported;
+use cs_audit_dump::Dump;
 use cs_audit_rules::{Fault, Verdict, unbroken_dumps_are_sound};
 use cs_base::{Key, Memory, Sequence};
-use cs_dump_read::Dump;
-use cs_genesis::keyed;
+use cs_sbac::keyed;
 use cs_tx::{Digest, Judge, Object};
 use std::alloc::Global;
 
@@ -64,9 +64,9 @@ fn first_disagreement(
 ) -> Result<Option<Fault>, Memory>
     requires formed { IsFormed dump.now }
     requires genesis { genesis.now ≡ keyed_from 0 dump.now.genesis }
-    requires named { executed.now.digests ≡ map digests_of dump.now.logs }
+    requires named { executed.now.digests ≡ map digests_in_log dump.now.logs }
     ensures { (approves : AnyTx → Bool) → let setup = setup_in approves dump.now in
-        logs_fault setup 0 dump.now.logs ≡ None → Keeps setup dump.now.logs executed.now.votes →
+        logs_fault setup 0 dump.now.logs ≡ None → KeepsVotes setup dump.now.logs executed.now.votes →
         IfOk result (λ fault. fault ≡ or_else
         (support_fault setup dump.now.logs 0 dump.now.logs) (told_fault setup dump.now)) }
 {

@@ -2,30 +2,30 @@
 ghost use Rattle.std.specs.Prelude.{◌≡◌, ◌++◌, [], ◌∷◌, List, ℕ, Bool, None, Some, IfOk, OnOk, IfSome, map, option_copied, filter, slice_get};
 ghost use Rattle.std.specs.List.{All, flat_map};
 ghost use Rattle.cs_tx_value.specs.declared.object.Object.{Object as AnyObject};
-ghost use Rattle.cs_tx_form.specs.declared.session.Session.{Session as AnySession};
-ghost use Rattle.cs_tx_form.specs.declared.transaction.Tx.{Tx as AnyTx};
-ghost use Rattle.cs_tx_form.specs.Log.{LeafFits};
-ghost use Rattle.cs_tx_form.specs.Transaction.{TxFits};
+ghost use Rattle.cs_tx_types.specs.declared.session.Session.{Session as AnySession};
+ghost use Rattle.cs_tx_types.specs.declared.transaction.Tx.{Tx as AnyTx};
+ghost use Rattle.cs_tx_types.specs.Log.{LeafFits};
+ghost use Rattle.cs_tx_types.specs.Transaction.{TxFits};
 ghost use Rattle.cs_ledger.specs.Ledger.{Ledger as Plain};
-ghost use Rattle.cs_tx_form.specs.Session.{session_in};
-ghost use Rattle.cs_node_pool.specs.Deployed.{deployed};
-ghost use Rattle.cs_dump_read.specs.Formed.{IsFormed, IsFormedLog};
-ghost use Rattle.cs_dump_read.specs.declared.dump.Log.{Log as AnyLog};
-ghost use Rattle.cs_audit_rules.specs.History.{history_fault_at, prepared, committed as committed_in};
+ghost use Rattle.cs_tx_types.specs.Session.{session_in};
+ghost use Rattle.cs_node_pool.specs.Deployed.{deployed_setup};
+ghost use Rattle.cs_audit_dump.specs.Formed.{IsFormed, IsFormedLog};
+ghost use Rattle.cs_audit_dump.specs.declared.dump.Log.{Log as AnyLog};
+ghost use Rattle.cs_audit_rules.specs.History.{history_fault_at, prepared_session, committed as committed_in};
 ghost use Rattle.cs_audit_rules.specs.Slots.{logs_fault};
-ghost use Rattle.cs_audit_rules.specs.Support.{all_commit};
+ghost use Rattle.cs_audit_rules.specs.Support.{all_logs_commit};
 ghost use Rattle.cs_audit_rules.specs.Verdicts.{told_fault};
-ghost use Rattle.cs_audit.specs.Committed.{tx_at, commits, Finds, Told};
-ghost use Rattle.cs_genesis.specs.Genesis.{keyed_from};
-ghost use Rattle.cs_audit.specs.Ledgers.{Shows};
-ghost use Rattle.cs_audit.specs.Kept.{Keeps, digest_in, digests_of};
+ghost use Rattle.cs_audit.specs.Committed.{tx_in_logs, commits, FindsTransactions, LedgerGoesOn};
+ghost use Rattle.cs_sbac.specs.Genesis.{keyed_from};
+ghost use Rattle.cs_audit.specs.Ledgers.{ShowsLedger};
+ghost use Rattle.cs_audit.specs.Kept.{KeepsVotes, digest_of_leaf, digests_in_log};
 
 use crate::ledger::Ledger;
 use crate::logs::Executed;
 use crate::votes::Votes;
+use cs_audit_dump::{Dump, Log};
 use cs_audit_rules::{Fault, Rule};
 use cs_base::{Config, Key, Memory};
-use cs_dump_read::{Dump, Log};
 use cs_tx::{Digest, Entry, Leaf, Object, Tx, concerned, tx_digest};
 use indexmap::IndexMap;
 use std::alloc::Global;
@@ -53,9 +53,9 @@ fn commits(
     digest: Digest,
 ) -> Result<bool, Memory>
     requires fits { LeafFits leaf.now }
-    requires named { digest ≡ digest_in leaf.now }
+    requires named { digest ≡ digest_of_leaf leaf.now }
     ensures { (objects : List AnyObject) (approves : AnyTx → Bool) (logs : List AnyLog) →
-        let setup = deployed config.now objects approves in Keeps setup logs votes.now →
+        let setup = deployed_setup config.now objects approves in KeepsVotes setup logs votes.now →
         IfOk result (λ yes. yes ≡ commits setup logs leaf.now.entry) }
 {
     match &leaf.entry {
@@ -71,9 +71,9 @@ fn commits(
 fn add(alloc: Global, found: &mut Committed, tx: &Tx, place: (usize, usize)) -> Result<(), Memory>
     requires { TxFits tx.now }
     ensures { (logs : List AnyLog) (sessions : List AnySession) (session : AnySession) →
-        session.tx ≡ tx.now → tx_at logs place ≡ Some tx.now →
-        Finds logs found.old.entries sessions [] →
-        OnOk result (Finds logs found.new.entries (sessions ++ session ∷ []) []) }
+        session.tx ≡ tx.now → tx_in_logs logs place ≡ Some tx.now →
+        FindsTransactions logs found.old.entries sessions [] →
+        OnOk result (FindsTransactions logs found.new.entries (sessions ++ session ∷ []) []) }
 {
     let digest = tx_digest(alloc, tx)?;
     if found.contains_key(&digest) {
@@ -94,12 +94,12 @@ fn add_leaf(
     digest: Digest,
 ) -> Result<(), Memory>
     requires fits { LeafFits leaf.now }
-    requires named { digest ≡ digest_in leaf.now }
+    requires named { digest ≡ digest_of_leaf leaf.now }
     ensures { (objects : List AnyObject) (approves : AnyTx → Bool) (logs : List AnyLog)
-        (sessions : List AnySession) → let setup = deployed config.now objects approves in
-        Keeps setup logs votes.now → tx_at logs place ≡ Some (session_in leaf.now.entry).tx →
-        Finds logs found.old.entries sessions [] → OnOk result (Finds logs found.new.entries
-        (sessions ++ filter (all_commit setup logs) (prepared leaf.now.entry)) []) }
+        (sessions : List AnySession) → let setup = deployed_setup config.now objects approves in
+        KeepsVotes setup logs votes.now → tx_in_logs logs place ≡ Some (session_in leaf.now.entry).tx →
+        FindsTransactions logs found.old.entries sessions [] → OnOk result (FindsTransactions logs found.new.entries
+        (sessions ++ filter (all_logs_commit setup logs) (prepared_session leaf.now.entry)) []) }
 {
     if !commits(alloc, config, votes, leaf, digest)? {
         return Ok(());
@@ -119,13 +119,13 @@ fn add_log(
     digests: &[Digest],
 ) -> Result<(), Memory>
     requires fits { All LeafFits log.now.leaves }
-    requires named { digests.now ≡ digests_of log.now }
+    requires named { digests.now ≡ digests_in_log log.now }
     ensures { (objects : List AnyObject) (approves : AnyTx → Bool) (logs : List AnyLog)
-        (sessions : List AnySession) → let setup = deployed config.now objects approves in
-        Keeps setup logs votes.now → slice_get logs shard ≡ Some log.now →
-        Finds logs found.old.entries sessions [] → OnOk result (Finds logs found.new.entries
-        (sessions ++ filter (all_commit setup logs)
-        (flat_map (λ leaf. prepared leaf.entry) log.now.leaves)) []) }
+        (sessions : List AnySession) → let setup = deployed_setup config.now objects approves in
+        KeepsVotes setup logs votes.now → slice_get logs shard ≡ Some log.now →
+        FindsTransactions logs found.old.entries sessions [] → OnOk result (FindsTransactions logs found.new.entries
+        (sessions ++ filter (all_logs_commit setup logs)
+        (flat_map (λ leaf. prepared_session leaf.entry) log.now.leaves)) []) }
 {
     let leaves = log.leaves.as_slice();
     for slot in 0..leaves.len() {
@@ -146,11 +146,11 @@ fn add_log(
 // The committed transactions of all logs.
 fn committed(alloc: Global, dump: &Dump, executed: &Executed) -> Result<Committed, Memory>
     requires formed { IsFormed dump.now }
-    requires named { executed.now.digests ≡ map digests_of dump.now.logs }
+    requires named { executed.now.digests ≡ map digests_in_log dump.now.logs }
     ensures { (approves : AnyTx → Bool) →
-        let setup = deployed dump.now.config dump.now.genesis approves in
-        Keeps setup dump.now.logs executed.now.votes → IfOk result (λ found.
-        Finds dump.now.logs found.entries (committed_in setup dump.now.logs) []) }
+        let setup = deployed_setup dump.now.config dump.now.genesis approves in
+        KeepsVotes setup dump.now.logs executed.now.votes → IfOk result (λ found.
+        FindsTransactions dump.now.logs found.entries (committed_in setup dump.now.logs) []) }
 {
     let mut found = IndexMap::new(alloc);
     let logs = dump.logs.as_slice();
@@ -165,7 +165,7 @@ fn committed(alloc: Global, dump: &Dump, executed: &Executed) -> Result<Committe
 
 // The transaction of the leaf at a place.
 fn tx_at(logs: &[Log], place: (usize, usize)) -> Option<&Tx>
-    ensures is { option_copied result ≡ tx_at logs.now place }
+    ensures is { option_copied result ≡ tx_in_logs logs.now place }
     ensures fits { All IsFormedLog logs.now → IfSome result (λ tx. TxFits tx.now) }
 {
     let log = match logs.get(place.0) {
@@ -188,8 +188,8 @@ fn tell(
 ) -> Result<bool, Memory>
     requires { All IsFormedLog logs.now }
     ensures { (approves : AnyTx → Bool) (sessions : List AnySession) (plain : Plain)
-        (earlier : List (List ℕ)) → Finds logs.now found.old.entries sessions earlier →
-        Shows ledger.old plain → IfOk result (Told logs.now approves sessions plain earlier
+        (earlier : List (List ℕ)) → FindsTransactions logs.now found.old.entries sessions earlier →
+        ShowsLedger ledger.old plain → IfOk result (LedgerGoesOn logs.now approves sessions plain earlier
         digest.now found.new.entries ledger.new) }
 {
     let place = match found.swap_remove(digest) {
@@ -214,11 +214,11 @@ pub(crate) fn first_untold(
 ) -> Result<Option<Fault>, Memory>
     requires formed { IsFormed dump.now }
     requires genesis { genesis.now ≡ keyed_from 0 dump.now.genesis }
-    requires named { executed.now.digests ≡ map digests_of dump.now.logs }
+    requires named { executed.now.digests ≡ map digests_in_log dump.now.logs }
     // Each transaction is well formed and approved where the logs break no rule.
     ensures { (approves : AnyTx → Bool) →
-        let setup = deployed dump.now.config dump.now.genesis approves in
-        logs_fault setup 0 dump.now.logs ≡ None → Keeps setup dump.now.logs executed.now.votes →
+        let setup = deployed_setup dump.now.config dump.now.genesis approves in
+        logs_fault setup 0 dump.now.logs ≡ None → KeepsVotes setup dump.now.logs executed.now.votes →
         IfOk result (λ fault. fault ≡ told_fault setup dump.now) }
 {
     let mut found = committed(alloc, dump, executed)?;

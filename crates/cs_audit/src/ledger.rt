@@ -1,9 +1,9 @@
 //! The plain ledger, which has no shards, votes, locks or sessions.
 ghost use Rattle.std.specs.Prelude.{◌≡◌, ◌≤◌, ◌++◌, ◌&&◌, Bool, List, [], IsTrue, IfOk, OnOk, All, map, length};
 ghost use Rattle.std.specs.List.{flat_map, AllByRecursion};
-ghost use Rattle.cs_tx_form.specs.declared.limits.TheConstants.{MOST_TRACE_OBJECTS};
-ghost use Rattle.cs_tx_form.specs.declared.transaction.Tx.{Tx as AnyTx};
-ghost use Rattle.cs_tx_form.specs.Transaction.{TxFits, TraceFits, Keyed, KeyedFits};
+ghost use Rattle.cs_tx_types.specs.declared.limits.TheConstants.{MOST_TRACE_OBJECTS};
+ghost use Rattle.cs_tx_types.specs.declared.transaction.Tx.{Tx as AnyTx};
+ghost use Rattle.cs_tx_types.specs.Transaction.{TxFits, TraceFits, Keyed, KeyedFits};
 ghost use Rattle.cs_tx_value.specs.Object.{ObjectFits, object_encoding};
 ghost use Rattle.cs_tx.specs.Digest.{digest_of_tx, outputs_at, outputs_from};
 ghost use Rattle.cs_tx.specs.Sessions.{item_of};
@@ -12,7 +12,7 @@ ghost use Rattle.cs_table.specs.Genesis.{keyed_of, with_keyed};
 ghost use Rattle.cs_ledger.specs.Ledger.{Ledger as Plain, genesis_ledger, ledger_after, apart, all_differ};
 ghost use Rattle.cs_audit_rules.specs.History.{holds_all as holds_each};
 ghost use Rattle.cs_audit_rules.specs.Slots.{is_just};
-ghost use Rattle.cs_audit.specs.Ledgers.{Shows, appeared, without, with_names, with_objects, has_room_for, seen_tx};
+ghost use Rattle.cs_audit.specs.Ledgers.{ShowsLedger, with_appeared, without, with_created, with_objects, has_room_for, seen_tx};
 
 use cs_base::{Key, Memory};
 use cs_tx::{Digest, Encoded, Object, Trace, Tx, output_name};
@@ -67,7 +67,7 @@ impl Ledger {
     pub(crate) fn genesis(alloc: Global, items: &[(Key, Object)]) -> Result<Ledger, Memory>
         requires { All (λ item. ObjectFits item.1) items.now }
         ensures { IfOk result (λ ledger.
-            Shows ledger (genesis_ledger (map item_of (keyed_of items.now)))) }
+            ShowsLedger ledger (genesis_ledger (map item_of (keyed_of items.now)))) }
     {
         let mut ledger = Ledger {
             active: IndexMap::new(alloc),
@@ -83,8 +83,8 @@ impl Ledger {
     fn begin(&mut self, alloc: Global, key: &Key, object: &Object) -> Result<(), Memory>
         requires { ObjectFits object.now }
         ensures { (items : List Keyed) →
-            Shows self.old (genesis_ledger (map item_of items)) → OnOk result
-            (Shows self.new (genesis_ledger
+            ShowsLedger self.old (genesis_ledger (map item_of items)) → OnOk result
+            (ShowsLedger self.new (genesis_ledger
             (map item_of (items ++ with_keyed key.now object.now [])))) }
     {
         match key {
@@ -100,8 +100,8 @@ impl Ledger {
     // Brings an object, unless one is there under its name.
     fn appear(&mut self, alloc: Global, name: &Digest, object: &Object) -> Result<(), Memory>
         requires { ObjectFits object.now }
-        ensures { (ledger : Plain) → Shows self.old ledger → OnOk result (Shows self.new
-            (appeared name.now (object_encoding object.now) ledger)) }
+        ensures { (ledger : Plain) → ShowsLedger self.old ledger → OnOk result (ShowsLedger self.new
+            (with_appeared name.now (object_encoding object.now) ledger)) }
     {
         if self.active.contains_key(name) {
             return Ok(());
@@ -113,7 +113,7 @@ impl Ledger {
     // Whether exactly this object is under its name.
     fn holds(&self, item: &(Digest, Object)) -> bool
         requires { ObjectFits item.now.1 }
-        ensures { (ledger : Plain) → Shows self.now ledger →
+        ensures { (ledger : Plain) → ShowsLedger self.now ledger →
             result ≡ is_just (item_of item.now).object (ledger.active (item_of item.now).name) }
     {
         match self.active.get(&item.0) {
@@ -124,7 +124,7 @@ impl Ledger {
 
     fn holds_all(&self, items: &[(Digest, Object)]) -> bool
         requires { AllByRecursion KeyedFits items.now }
-        ensures { (ledger : Plain) → Shows self.now ledger →
+        ensures { (ledger : Plain) → ShowsLedger self.now ledger →
             result ≡ holds_each ledger (map item_of items.now) }
     {
         for item in items {
@@ -138,7 +138,7 @@ impl Ledger {
     // Whether each input and reference is there with exactly the carried object.
     fn holds_used(&self, traces: &[Trace]) -> bool
         requires { AllByRecursion TraceFits traces.now }
-        ensures { (ledger : Plain) → Shows self.now ledger → result ≡
+        ensures { (ledger : Plain) → ShowsLedger self.now ledger → result ≡
             (holds_each ledger (map item_of (flat_map (λ trace. trace.inputs) traces.now))
             && holds_each ledger
             (map item_of (flat_map (λ trace. trace.references) traces.now))) }
@@ -156,10 +156,10 @@ impl Ledger {
 
     // Creates names, or answers false where one was created before.
     fn create(&mut self, outputs: &[(Digest, Object)]) -> Result<bool, Memory>
-        ensures new { (ledger : Plain) → Shows self.old ledger → IfOk result (λ new. new ≡
+        ensures new { (ledger : Plain) → ShowsLedger self.old ledger → IfOk result (λ new. new ≡
             (apart (names_in outputs.now) ledger.created && all_differ (names_in outputs.now))) }
-        ensures shows { (ledger : Plain) → Shows self.old ledger → IfOk result (λ new.
-            IsTrue new → Shows self.new (with_names (names_in outputs.now) ledger)) }
+        ensures shows { (ledger : Plain) → ShowsLedger self.old ledger → IfOk result (λ new.
+            IsTrue new → ShowsLedger self.new (with_created (names_in outputs.now) ledger)) }
     {
         for item in outputs {
             if !self.created.insert(item.0)? {
@@ -170,8 +170,8 @@ impl Ledger {
     }
 
     fn use_up(&mut self, items: &[(Digest, Object)])
-        ensures { (ledger : Plain) → Shows self.old ledger →
-            Shows self.new (without (names_in items.now) ledger) }
+        ensures { (ledger : Plain) → ShowsLedger self.old ledger →
+            ShowsLedger self.new (without (names_in items.now) ledger) }
     {
         for item in items {
             let _ = self.active.swap_remove(&item.0);
@@ -179,7 +179,7 @@ impl Ledger {
     }
 
     fn use_inputs_up(&mut self, traces: &[Trace])
-        ensures { (ledger : Plain) → Shows self.old ledger → Shows self.new
+        ensures { (ledger : Plain) → ShowsLedger self.old ledger → ShowsLedger self.new
             (without (names_in (flat_map (λ trace. trace.inputs) traces.now)) ledger) }
     {
         for trace in traces {
@@ -190,8 +190,8 @@ impl Ledger {
     // Brings objects. Of several under one name the first counts, so it comes last.
     fn bring(&mut self, mut outputs: Vec<(Digest, Object)>) -> Result<(), Memory>
         requires { AllByRecursion (λ item. ObjectFits item.1) outputs.items }
-        ensures { (ledger : Plain) → Shows self.old ledger → OnOk result
-            (Shows self.new (with_objects (map item_of outputs.items) ledger)) }
+        ensures { (ledger : Plain) → ShowsLedger self.old ledger → OnOk result
+            (ShowsLedger self.new (with_objects (map item_of outputs.items) ledger)) }
     {
         while let Some(item) = outputs.pop() {
             let name = item.0;
@@ -205,11 +205,11 @@ impl Ledger {
     pub(crate) fn take(&mut self, alloc: Global, tx: &Tx, digest: &Digest) -> Result<bool, Memory>
         requires { TxFits tx.now }
         ensures takes { (approves : AnyTx → Bool) (ledger : Plain) →
-            digest.now ≡ digest_of_tx tx.now → Shows self.old ledger →
+            digest.now ≡ digest_of_tx tx.now → ShowsLedger self.old ledger →
             IfOk result (λ taken. taken ≡ has_room_for ledger (seen_tx approves tx.now)) }
         ensures after { (approves : AnyTx → Bool) (ledger : Plain) →
-            digest.now ≡ digest_of_tx tx.now → Shows self.old ledger → IfOk result (λ taken.
-            IsTrue taken → Shows self.new (ledger_after ledger (seen_tx approves tx.now))) }
+            digest.now ≡ digest_of_tx tx.now → ShowsLedger self.old ledger → IfOk result (λ taken.
+            IsTrue taken → ShowsLedger self.new (ledger_after ledger (seen_tx approves tx.now))) }
     {
         if !self.holds_used(tx.traces.as_slice()) {
             return Ok(false);

@@ -1,21 +1,21 @@
 //! The logs of all shards, executed one after the other.
 ghost use Rattle.std.specs.Prelude.{◌≡◌, IfOk};
 ghost use Rattle.std.specs.List.{All};
-ghost use Rattle.cs_tx_form.specs.Log.{LeafFits};
-ghost use Rattle.cs_checkpoint.specs.Chain.{empty_log, kept_of};
-ghost use Rattle.cs_node_pool.specs.Deployed.{AtAnyGenesis, deployed};
-ghost use Rattle.cs_dump_read.specs.Formed.{IsFormed};
+ghost use Rattle.cs_tx_types.specs.Log.{LeafFits};
+ghost use Rattle.cs_check_rules.specs.Chain.{empty_log, kept_of};
+ghost use Rattle.cs_node_pool.specs.Deployed.{AtAnyGenesis, deployed_setup};
+ghost use Rattle.cs_audit_dump.specs.Formed.{IsFormed};
 ghost use Rattle.cs_audit_rules.specs.declared.verdict.Rule.TheVariants as rule;
 ghost use Rattle.cs_audit_rules.specs.Slots.{fault_at};
-ghost use Rattle.cs_genesis.specs.Genesis.{keyed_from};
-ghost use Rattle.cs_audit.specs.Kept.{TellsLog, Tells};
+ghost use Rattle.cs_sbac.specs.Genesis.{keyed_from};
+ghost use Rattle.cs_audit.specs.Kept.{TellsLog, TellsFirstFault};
 ghost use Rattle.cs_audit.specs.Standing.{IsPlaced, stand_of};
 
 use crate::stand::Stand;
 use crate::votes::Votes;
+use cs_audit_dump::{Dump, Log};
 use cs_audit_rules::{Fault, Rule};
 use cs_base::{Key, Memory, Sequence};
-use cs_dump_read::{Dump, Log};
 use cs_tx::{Digest, Judge, Object, session_digest};
 use std::alloc::Global;
 
@@ -81,8 +81,8 @@ pub(crate) fn execute_logs<J: Judge>(
 ) -> Result<Result<Executed, Fault>, Memory>
     requires formed { IsFormed dump.now }
     requires named { genesis.now ≡ keyed_from 0 dump.now.genesis }
-    ensures { IfOk result (Tells
-        (deployed dump.now.config dump.now.genesis (J.is_approved judge.now)) dump.now.logs) }
+    ensures { IfOk result (TellsFirstFault
+        (deployed_setup dump.now.config dump.now.genesis (J.is_approved judge.now)) dump.now.logs) }
 {
     let mut digests = Sequence::new(alloc);
     let mut votes = Votes::new(alloc);

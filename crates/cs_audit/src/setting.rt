@@ -1,6 +1,6 @@
 //! Whether a session fits a shard.
 ghost use Rattle.std.specs.Prelude.{◌≡◌, IfOk, true, is_none, is_some};
-ghost use Rattle.cs_tx_form.specs.Session.{SessionFits};
+ghost use Rattle.cs_tx_types.specs.Session.{SessionFits};
 ghost use Rattle.cs_tx.specs.Uses.{anchor_of};
 ghost use Rattle.cs_tx.specs.WellFormed.{fault_of};
 ghost use Rattle.cs_node_state.specs.Setup.{is_fit};

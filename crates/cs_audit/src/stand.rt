@@ -2,33 +2,33 @@
 ghost use Rattle.std.specs.Prelude.{◌≡◌, List, Bool, true, IfOk, OnOk, IsSome, None, is_some};
 ghost use Rattle.std.specs.List.{All};
 ghost use Rattle.cs_base.specs.declared.config.Config.{Config as AnyConfig};
-ghost use Rattle.cs_tx_form.specs.declared.transaction.Tx.{Tx as AnyTx};
-ghost use Rattle.cs_tx_form.specs.Log.{LeafFits};
-ghost use Rattle.cs_tx_form.specs.Session.{EntryFits, session_in};
+ghost use Rattle.cs_tx_types.specs.declared.transaction.Tx.{Tx as AnyTx};
+ghost use Rattle.cs_tx_types.specs.Log.{LeafFits};
+ghost use Rattle.cs_tx_types.specs.Session.{EntryFits, session_in};
 ghost use Rattle.cs_tx_value.specs.declared.object.Object.{Object as AnyObject};
 ghost use Rattle.cs_tx_value.specs.Object.{ObjectFits};
 ghost use Rattle.cs_tx.specs.Digest.{digest_of_session};
-ghost use Rattle.cs_tx.specs.Sessions.{session_of};
+ghost use Rattle.cs_tx.specs.Sessions.{ledger_session};
 ghost use Rattle.cs_tx.specs.Uses.{anchor_of};
 ghost use Rattle.cs_check.specs.Root.{keys_in};
-ghost use Rattle.cs_checkpoint.specs.Chain.{empty_log, made_last, kept_of, AtItsLog};
+ghost use Rattle.cs_check_rules.specs.Chain.{empty_log, made_last, kept_of, AtItsLog};
 ghost use Rattle.cs_table.specs.Seen.{seen, forgotten};
 ghost use Rattle.cs_check.specs.Leaves.{HasLeaves, HasLeavesBut};
 ghost use Rattle.cs_table.specs.Calls.{anchor_in};
 ghost use Rattle.cs_table.specs.Effects.{effect_of, ComesTo};
 ghost use Rattle.cs_table.specs.Genesis.{twice};
 ghost use Rattle.cs_node_state.specs.Setup.{is_fit as fits_in};
-ghost use Rattle.cs_node_pool.specs.Deployed.{AtAnyGenesis, AtEverySetup, deployed};
-ghost use Rattle.cs_audit_rules.specs.Stands.{start_stand, told};
+ghost use Rattle.cs_node_pool.specs.Deployed.{AtAnyGenesis, AtEverySetup, deployed_setup};
+ghost use Rattle.cs_audit_rules.specs.Stands.{start_stand, log_behind_leaf};
 ghost use Rattle.cs_audit_rules.specs.Slots.{is_judged as judged_in, is_head};
-ghost use Rattle.cs_genesis.specs.Genesis.{keyed_from};
-ghost use Rattle.cs_audit.specs.Standing.{IsPlaced, stand_of, entry_seen, acted, Executes, TellsLeaf};
+ghost use Rattle.cs_sbac.specs.Genesis.{keyed_from};
+ghost use Rattle.cs_audit.specs.Standing.{IsPlaced, stand_of, entry_seen, acted, StandExecutes, TellsLeaf};
 
 use crate::setting::is_fit;
 use cs_audit_rules::Rule;
 use cs_base::{Config, Key, Memory};
 use cs_check::{Chain, root_is_shown};
-use cs_checkpoint::{Checkpoint, checkpoint_head, encode_leaf};
+use cs_check_rules::{Checkpoint, checkpoint_head, encode_leaf};
 use cs_table::{Table, TableError};
 use cs_tx::{Digest, Effect, Entry, Judge, Leaf, Object};
 use std::alloc::Global;
@@ -72,7 +72,7 @@ fn act(alloc: Global, table: &mut Table, entry: &Entry, digest: &Digest) -> Resu
     requires fits { EntryFits entry.now }
     requires named { digest.now ≡ digest_of_session (session_in entry.now) }
     requires anchored { IsSome
-        (anchor_in table.old (session_of (λ tx. true) (session_in entry.now))) }
+        (anchor_in table.old (ledger_session (λ tx. true) (session_in entry.now))) }
     ensures { (approves : AnyTx → Bool) → IfOk result (λ effect.
         ComesTo (acted table.old (entry_seen approves entry.now))
         table.old table.new (effect_of effect)) }
@@ -102,7 +102,7 @@ impl Stand {
         ensures chain { IfOk result (λ s. s.chain.kept ≡ kept_of (empty_log shard)) }
         ensures stand { (objects : List AnyObject) (approves : AnyTx → Bool) →
             genesis.now ≡ keyed_from 0 objects → IfOk result (λ s.
-            stand_of (empty_log shard) s ≡ start_stand (deployed config objects approves) shard) }
+            stand_of (empty_log shard) s ≡ start_stand (deployed_setup config objects approves) shard) }
     {
         match Table::genesis(alloc, config, shard, genesis) {
             Ok(table) => {
@@ -130,7 +130,7 @@ impl Stand {
         requires anchored { is_some
             (anchor_of self.old.config (session_in entry.now) self.old.shard) ≡ true }
         ensures { AtEverySetup self.old.config (λ setup. IfOk result (λ effect.
-            Executes setup entry.now self.old self.new effect)) }
+            StandExecutes setup entry.now self.old self.new effect)) }
     {
         root_is_shown(&self.table);
         let effect = act(alloc, &mut self.table, entry, digest)?;
@@ -144,9 +144,9 @@ impl Stand {
         requires leaves { HasLeavesBut
             self.old.table.touched self.old.chain.hashed (seen self.old.table) }
         ensures made { AtItsLog self.old.chain.kept (λ log. IfOk result (λ made. made ≡ made_last
-            (told leaf.now (keys_in self.old.table.rows) (seen self.old.table) log))) }
+            (log_behind_leaf leaf.now (keys_in self.old.table.rows) (seen self.old.table) log))) }
         ensures chain { AtItsLog self.old.chain.kept (λ log. OnOk result (self.new.chain.kept ≡
-            kept_of (told leaf.now (keys_in self.old.table.rows) (seen self.old.table) log))) }
+            kept_of (log_behind_leaf leaf.now (keys_in self.old.table.rows) (seen self.old.table) log))) }
         ensures leaves { OnOk result
             (HasLeaves self.new.chain.hashed (seen self.old.table)) }
         ensures table { OnOk result (self.new.table ≡ forgotten self.old.table) }

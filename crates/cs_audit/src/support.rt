@@ -1,18 +1,18 @@
 //! Decisions, and the votes that support them.
 ghost use Rattle.std.specs.Prelude.{◌≡◌, List, Bool, IfOk, map};
 ghost use Rattle.std.specs.List.{All};
-ghost use Rattle.cs_tx_form.specs.Log.{LeafFits};
+ghost use Rattle.cs_tx_types.specs.Log.{LeafFits};
 ghost use Rattle.cs_node_pool.specs.Deployed.{AtEverySetup};
-ghost use Rattle.cs_dump_read.specs.declared.dump.Log.{Log as AnyLog};
-ghost use Rattle.cs_dump_read.specs.Formed.{IsFormed};
+ghost use Rattle.cs_audit_dump.specs.declared.dump.Log.{Log as AnyLog};
+ghost use Rattle.cs_audit_dump.specs.Formed.{IsFormed};
 ghost use Rattle.cs_audit_rules.specs.Support.{is_supported, unsupported as unsupported_of, support_fault};
-ghost use Rattle.cs_audit.specs.Kept.{digest_in, digests_of, Keeps};
+ghost use Rattle.cs_audit.specs.Kept.{digest_of_leaf, digests_in_log, KeepsVotes};
 
 use crate::logs::{Executed, unsupported};
 use crate::votes::Votes;
+use cs_audit_dump::{Dump, Log};
 use cs_audit_rules::Fault;
 use cs_base::{Config, Memory};
-use cs_dump_read::{Dump, Log};
 use cs_tx::{Digest, Effect, Leaf, concerned};
 use std::alloc::Global;
 
@@ -26,9 +26,9 @@ fn is_supported(
     digest: Digest,
 ) -> Result<bool, Memory>
     requires fits { LeafFits leaf.now }
-    requires named { digest ≡ digest_in leaf.now }
+    requires named { digest ≡ digest_of_leaf leaf.now }
     ensures { (logs : List AnyLog) → AtEverySetup config.now (λ setup.
-        Keeps setup logs votes.now →
+        KeepsVotes setup logs votes.now →
         IfOk result (λ supported. supported ≡ is_supported setup logs leaf.now)) }
 {
     match leaf.result {
@@ -54,9 +54,9 @@ fn unsupported_in(
     digests: &[Digest],
 ) -> Result<Option<Fault>, Memory>
     requires fits { All LeafFits log.now.leaves }
-    requires named { digests.now ≡ digests_of log.now }
+    requires named { digests.now ≡ digests_in_log log.now }
     ensures { (logs : List AnyLog) → AtEverySetup config.now (λ setup.
-        Keeps setup logs votes.now →
+        KeepsVotes setup logs votes.now →
         IfOk result (λ fault. fault ≡ unsupported_of setup logs shard 0 log.now.leaves)) }
 {
     let leaves = log.leaves.as_slice();
@@ -75,9 +75,9 @@ pub(crate) fn first_unsupported(
     executed: &Executed,
 ) -> Result<Option<Fault>, Memory>
     requires formed { IsFormed dump.now }
-    requires named { executed.now.digests ≡ map digests_of dump.now.logs }
+    requires named { executed.now.digests ≡ map digests_in_log dump.now.logs }
     ensures { AtEverySetup dump.now.config (λ setup.
-        Keeps setup dump.now.logs executed.now.votes →
+        KeepsVotes setup dump.now.logs executed.now.votes →
         IfOk result (λ fault. fault ≡ support_fault setup dump.now.logs 0 dump.now.logs)) }
 {
     let logs = dump.logs.as_slice();

@@ -1,7 +1,7 @@
 //! What is printed of a verdict.
 ghost use Rattle.std.specs.Prelude.{◌≡◌, Some, IfOk, string_bytes};
 ghost use Rattle.std.specs.List.{flat_map};
-ghost use Rattle.cs_audit.specs.Printed.{rule_word, shard_text, fault_text, tx_line, yes_text, verdict_text as text_of, verdict_status as status_of};
+ghost use Rattle.cs_audit.specs.Printed.{rule_word, shard_text, audit_fault_text, tx_line, yes_text, verdict_text as text_of, verdict_status as status_of};
 
 use cs_audit_rules::{Fault, Rule, Verdict};
 use cs_base::{Memory, print_bytes};
@@ -59,7 +59,7 @@ fn shard_text(alloc: Global, shard: Option<u16>) -> Result<String, Memory>
 }
 
 fn fault_text(alloc: Global, fault: Fault) -> Result<String, Memory>
-    ensures { IfOk result (λ text. string_bytes text ≡ fault_text fault) }
+    ensures { IfOk result (λ text. string_bytes text ≡ audit_fault_text fault) }
 {
     let rule = RuleWord(fault.rule);
     let shard = shard_text(alloc, fault.shard)?;

@@ -1,7 +1,7 @@
 //! The votes that logs have.
 ghost use Rattle.std.specs.Prelude.{◌≡◌, OnOk};
 ghost use Rattle.std.specs.List.{list_any, list_all};
-ghost use Rattle.cs_audit.specs.Kept.{no_votes, is_kept, with_pair, noted};
+ghost use Rattle.cs_audit.specs.Kept.{no_votes, is_kept, with_shard_digest, votes_noted};
 
 use cs_base::Memory;
 use cs_tx::{Digest, Effect, Entry, Vote};
@@ -36,7 +36,7 @@ impl Votes {
 
     fn commit(&mut self, shard: u16, digest: Digest) -> Result<(), Memory>
         ensures { OnOk result (self.new ≡ record self.old {
-          commits = with_pair shard digest self.old.commits;
+          commits = with_shard_digest shard digest self.old.commits;
         }) }
     {
         self.commits.insert((shard, digest))?;
@@ -45,7 +45,7 @@ impl Votes {
 
     fn abort(&mut self, shard: u16, digest: Digest) -> Result<(), Memory>
         ensures { OnOk result (self.new ≡ record self.old {
-          aborts = with_pair shard digest self.old.aborts;
+          aborts = with_shard_digest shard digest self.old.aborts;
         }) }
     {
         self.aborts.insert((shard, digest))?;
@@ -60,7 +60,7 @@ impl Votes {
         came_to: Effect,
         digest: Digest,
     ) -> Result<(), Memory>
-        ensures { OnOk result (self.new ≡ noted shard entry.now came_to digest self.old) }
+        ensures { OnOk result (self.new ≡ votes_noted shard entry.now came_to digest self.old) }
     {
         match (entry, came_to) {
             (Entry::Prepare(_), Effect::Voted(Vote::Commit)) => self.commit(shard, digest),

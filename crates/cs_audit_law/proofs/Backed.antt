@@ -2,31 +2,31 @@
 use Rattle.std.proofs.Common.{◌≡◌, inl, inr, ℕ, zero, suc, ◌+◌, ◌<◌, ◌==◌, Bool, true, false, List, [], ◌∷◌, ◌++◌, None, refl, sym, ap, subst, ◌∙◌, append_assoc}
 use Rattle.std.specs.Prelude.{if◌then◌else◌}
 use Rattle.std.proofs.lemmas.Bool.{or_right, eqb-true}
-use Rattle.cs_tx_form.specs.declared.entry.Entry.{Entry}
-use Rattle.cs_tx_form.specs.declared.entry.Entry.TheVariants.{Prepare, Decide}
-use Rattle.cs_tx_form.specs.declared.vote.Vote.TheVariants as vote
-use Rattle.cs_tx_form.specs.declared.session.Session.{Session}
-use Rattle.cs_tx_form.specs.declared.leaf.Leaf.{Leaf}
+use Rattle.cs_tx_types.specs.declared.entry.Entry.{Entry}
+use Rattle.cs_tx_types.specs.declared.entry.Entry.TheVariants.{Prepare, Decide}
+use Rattle.cs_tx_types.specs.declared.vote.Vote.TheVariants as vote
+use Rattle.cs_tx_types.specs.declared.session.Session.{Session}
+use Rattle.cs_tx_types.specs.declared.leaf.Leaf.{Leaf}
 use Rattle.cs_ledger.specs.Ledger.{Bytes, IsIn}
 use Rattle.cs_ledger.specs.Session as Seen
 use Rattle.cs_ledger.specs.Session.{Rules, all_items}
 use Rattle.cs_ledger.specs.Table as Shard
 use Rattle.cs_ledger.specs.Table.{Vote, Commit, Abort, Effect, Voted, Accepted, Aborted, Skipped, Void, Table, Outcome, table_of, exec}
 use Rattle.cs_ledger.specs.ShardWorld as Steps
-use Rattle.cs_ledger.specs.ShardWorld.{log, votes, IsAllowed}
+use Rattle.cs_ledger.specs.ShardWorld.{log, shard_votes, IsAllowed}
 use Rattle.cs_ledger.proofs.Basics.{in_either}
 use Rattle.cs_ledger.proofs.Changes.{Nothing, Locks, Notes, Accepts, Aborts, IsIdle, change}
 use Rattle.cs_ledger.proofs.Votes.{one_at}
 use Rattle.cs_node_state.specs.Setup.{Setup, digest_of, concerned, entry_of}
-use Rattle.cs_tx_form.specs.Session.{session_in}
+use Rattle.cs_tx_types.specs.Session.{session_in}
 use Rattle.cs_node_state.specs.Bench.{effect_from}
-use Rattle.cs_node_rules.specs.World.{Execution, steps_of, recorded, all_recorded}
+use Rattle.cs_node_rules.specs.World.{Execution, steps_of, is_recorded, all_recorded}
 use Rattle.cs_world_law.specs.Steps.{executions_of}
 use Rattle.cs_world_law.specs.Shown.{leaf_by, leaves_of}
 use Rattle.cs_world_law.proofs.Counting.{all-in, all-from, in-concerned, among-item}
 use Rattle.cs_world_law.proofs.Told.{recorded-is, all-recorded-is}
 use Rattle.cs_world_law.proofs.Middle.{commit-later}
-use Rattle.cs_dump_read.specs.declared.dump.Log.{Log}
+use Rattle.cs_audit_dump.specs.declared.dump.Log.{Log}
 use Rattle.cs_audit_rules.specs.Support.{is_supported, supports, unsupported, support_fault}
 use Rattle.cs_audit_law.specs.Dumped.{dumped_leaves, dumped_log, dumped_logs}
 use Rattle.cs_audit_law.specs.Passing.{AreSteps}
@@ -70,15 +70,15 @@ aborts_so setup past shard (Decide vote.Abort x) allowed y is = allowed.1
 
 -- ---- votes that were recorded before
 
-recorded_later : (setup : Setup) (later earlier : List Execution) (d : Bytes) (v : Vote) (shard : ℕ) → recorded setup earlier d v shard ≡ true → recorded setup (later ++ earlier) d v shard ≡ true
+recorded_later : (setup : Setup) (later earlier : List Execution) (d : Bytes) (v : Vote) (shard : ℕ) → is_recorded setup earlier d v shard ≡ true → is_recorded setup (later ++ earlier) d v shard ≡ true
 recorded_later setup [] earlier d v shard is = is
 recorded_later setup (e ∷ later) earlier d v shard is = or_right _ _ (recorded_later setup later earlier d v shard is)
 
 pub recorded_all : (setup : Setup) (later earlier : List Execution) (x : Session) → all_recorded setup earlier x ≡ true → all_recorded setup (later ++ earlier) x ≡ true
 recorded_all setup later earlier x all =
     let d = digest_of setup x in
-    all-from (recorded setup (later ++ earlier) d Commit) (concerned setup x)
-    (λ shard within. recorded_later setup later earlier d Commit shard (all-in (recorded setup earlier d Commit) (concerned setup x) all shard within))
+    all-from (is_recorded setup (later ++ earlier) d Commit) (concerned setup x)
+    (λ shard within. recorded_later setup later earlier d Commit shard (all-in (is_recorded setup earlier d Commit) (concerned setup x) all shard within))
 
 module _ (setup : Setup) (bound : (name : Bytes) → setup.rules.shard_of name < setup.shards) (later : List Execution) (e : Execution) (earlier : List Execution) (are : AreSteps setup (later ++ e ∷ earlier)) where
   abbrev firsts : List Execution
@@ -102,7 +102,7 @@ module _ (setup : Setup) (bound : (name : Bytes) → setup.rules.shard_of name <
       all-recorded-is setup bound firsts x are.computed
       ∙ subst (λ (es : List Execution). Steps.all_commit setup.rules (steps_of setup es) seen ≡ true) same now
 
-  pub aborted_backed : e.effect ≡ Aborted → (shard : ℕ) × (IsIn shard (concerned setup (session_in e.entry))) × (recorded setup firsts (digest_of setup (session_in e.entry)) Abort shard ≡ true)
+  pub aborted_backed : e.effect ≡ Aborted → (shard : ℕ) × (IsIn shard (concerned setup (session_in e.entry))) × (is_recorded setup firsts (digest_of setup (session_in e.entry)) Abort shard ≡ true)
   aborted_backed is =
       let x = session_in e.entry in
       let seen = setup.session_of x in
@@ -110,12 +110,12 @@ module _ (setup : Setup) (bound : (name : Bytes) → setup.rules.shard_of name <
       let only = aborts_only setup.rules e.shard (table_of setup.rules e.shard (log e.shard (steps_of setup earlier))) (entry_of setup e.entry) (sym steps.computed.0.effect ∙ is) in
       let one = one_at setup.rules (steps_of setup earlier) seen Abort items (aborts_so setup (steps_of setup earlier) e.shard e.entry steps.allowed.0 only.0 only.1) in
       let shard = setup.rules.shard_of one.0.name in
-      let told : recorded setup earlier (digest_of setup x) Abort shard ≡ true = recorded-is setup bound earlier (digest_of setup x) Abort shard steps.computed.1 ∙ one.2 in
+      let told : is_recorded setup earlier (digest_of setup x) Abort shard ≡ true = recorded-is setup bound earlier (digest_of setup x) Abort shard steps.computed.1 ∙ one.2 in
       let now = recorded_later setup (later ++ e ∷ []) earlier (digest_of setup x) Abort shard told in
       let same : (later ++ e ∷ []) ++ earlier ≡ firsts = append_assoc later (e ∷ []) earlier in (
         shard,
         in-concerned setup x setup.shards shard (bound one.0.name) (among-item setup.rules one.0 items one.1),
-        subst (λ (es : List Execution). recorded setup es (digest_of setup x) Abort shard ≡ true) same now,
+        subst (λ (es : List Execution). is_recorded setup es (digest_of setup x) Abort shard ≡ true) same now,
       )
 
   supported_by : (f : Effect) → e.effect ≡ f → supports setup (dumped_logs setup firsts setup.shards) (session_in e.entry) (effect_from f) ≡ true

@@ -3,12 +3,12 @@ use Rattle.std.proofs.Common.{◌≡◌, ℕ, ◌+◌, ◌==◌, Bool, true, fal
 use Rattle.std.specs.Prelude.{not, if◌then◌else◌, option_map}
 use Rattle.std.proofs.lemmas.Bool.{eq-eqb}
 use Rattle.cs_base.specs.Options.{or_else}
-use Rattle.cs_tx_form.specs.declared.leaf.Leaf.{Leaf}
+use Rattle.cs_tx_types.specs.declared.leaf.Leaf.{Leaf}
 use Rattle.cs_ledger.specs.Ledger.{Bytes}
-use Rattle.cs_checkpoint.specs.Chain.{made_last}
+use Rattle.cs_check_rules.specs.Chain.{made_last}
 use Rattle.cs_node_state.specs.Setup.{Setup, is_fit}
-use Rattle.cs_tx_form.specs.Session.{session_in}
-use Rattle.cs_dump_read.specs.declared.dump.Log.{Log}
+use Rattle.cs_tx_types.specs.Session.{session_in}
+use Rattle.cs_audit_dump.specs.declared.dump.Log.{Log}
 use Rattle.cs_audit_rules.specs.declared.verdict.Rule.TheVariants as rule
 use Rattle.cs_audit_rules.specs.Stands.{Stand, after_leaf, after_leaves}
 use Rattle.cs_audit_rules.specs.Slots.{is_judged, is_result, is_head, broken_by, fault_at, leaves_fault, log_fault, logs_fault}

@@ -1,18 +1,18 @@
 -- The session of each step is well formed, and concerns its shard.
 use Rattle.std.proofs.Common.{◌≡◌, inl, inr, ℕ, true, false, ◌&&◌, List, [], ◌∷◌, refl, sym, ap, subst, ◌∙◌}
 use Rattle.std.proofs.lemmas.Bool.{and_parts, and_from, or_cases, both_ways}
-use Rattle.cs_tx_form.specs.declared.entry.Entry.{Entry}
-use Rattle.cs_tx_form.specs.declared.entry.Entry.TheVariants.{Prepare, Decide}
-use Rattle.cs_tx_form.specs.declared.vote.Vote.TheVariants as vote
+use Rattle.cs_tx_types.specs.declared.entry.Entry.{Entry}
+use Rattle.cs_tx_types.specs.declared.entry.Entry.TheVariants.{Prepare, Decide}
+use Rattle.cs_tx_types.specs.declared.vote.Vote.TheVariants as vote
 use Rattle.cs_ledger.specs.Ledger.{Bytes, IsIn}
 use Rattle.cs_ledger.specs.Session as Seen
 use Rattle.cs_ledger.specs.Session.{Rules, AreToldApart, all_items, well_formed}
 use Rattle.cs_ledger.specs.Table as Shard
 use Rattle.cs_ledger.specs.Table.{Vote, Commit, Abort, table_of, exec, session_of}
-use Rattle.cs_ledger.specs.ShardWorld.{Step, log, is_vote, is_prepare_of, votes_in, votes, IsAllowed, AllAllowed, sessions}
+use Rattle.cs_ledger.specs.ShardWorld.{Step, log, is_vote, is_prepare_of, votes_in, shard_votes, IsAllowed, AllAllowed, sessions}
 use Rattle.cs_ledger.proofs.Votes.{log_at, Prepares, prepares_is, all_at, one_at}
 use Rattle.cs_node_state.specs.Setup.{Setup, entry_of, is_fit}
-use Rattle.cs_tx_form.specs.Session.{session_in}
+use Rattle.cs_tx_types.specs.Session.{session_in}
 use Rattle.cs_world_law.proofs.Counting.{item-among}
 use Rattle.cs_audit_rules.specs.Slots.{is_judged}
 
@@ -45,7 +45,7 @@ voted_formed rules shard d v (step ∷ past) allowed h =
 
 module _ (rules : Rules) (past : List Step) (shard : ℕ) (x : Seen.Session) (v : Vote) (allowed : AllAllowed rules past)
     (apart : AreToldApart (sessions (record { shard = shard; entry = Shard.Decide x v } ∷ past))) where
-  decided_formed : (other : ℕ) (vote : Vote) → votes rules past other x vote ≡ true → well_formed rules x ≡ true
+  decided_formed : (other : ℕ) (vote : Vote) → shard_votes rules past other x vote ≡ true → well_formed rules x ≡ true
   decided_formed other vote voted =
       let has = voted_formed rules other x.digest vote past allowed voted in
       let same : x ≡ has.x = apart x has.x (inl refl) (inr has.within) has.digest in

@@ -5,10 +5,10 @@ use Rattle.std.specs.List.{All}
 use Rattle.std.proofs.lemmas.List.Elements.{All-nil, All-push}
 use Rattle.std.proofs.lemmas.Bool.{eqb-true}
 use Rattle.cs_base.specs.declared.node_id.NodeId.{NodeId}
-use Rattle.cs_tx_form.specs.declared.entry.Entry.{Entry}
-use Rattle.cs_tx_form.specs.declared.leaf.Leaf.{Leaf}
-use Rattle.cs_tx_form.specs.Log.{leaf_encoding, LeafFits}
-use Rattle.cs_tx_form.specs.Session.{EntryFits}
+use Rattle.cs_tx_types.specs.declared.entry.Entry.{Entry}
+use Rattle.cs_tx_types.specs.declared.leaf.Leaf.{Leaf}
+use Rattle.cs_tx_types.specs.Log.{leaf_encoding, LeafFits}
+use Rattle.cs_tx_types.specs.Session.{EntryFits}
 use Rattle.cs_ledger.specs.Ledger.{Bytes, IsIn}
 use Rattle.cs_node_state.specs.Setup.{Setup}
 use Rattle.cs_node_rules.specs.Signs.{Sign, Dropped, Took, Entered, Viewed, Did, Headed, Kept, Sent}
@@ -59,19 +59,19 @@ executed_at (Did s other effect ∷ past) slot entry is = by (slot == length (lo
 
 module _ (setup : Setup) (shard : ℕ) where
   pub leaves_fit : (firsts : List Execution) → AllComputed setup firsts
-      → ((slot : ℕ) (entry : Entry) → at_slot (Chain.shard_log shard firsts) slot ≡ Some entry → EntryFits entry)
-      → length (Chain.shard_log shard firsts) ≤ 2 ^ 64 → All LeafFits (dumped_leaves shard firsts)
+      → ((slot : ℕ) (entry : Entry) → at_slot (Chain.shard_entries shard firsts) slot ≡ Some entry → EntryFits entry)
+      → length (Chain.shard_entries shard firsts) ≤ 2 ^ 64 → All LeafFits (dumped_leaves shard firsts)
   leaves_fit [] computed fit few = All-nil LeafFits
   leaves_fit (e ∷ earlier) computed fit few = by (e.shard == shard) refl (leaves_fit earlier computed.1) fit few
     where
       by : (b : Bool) → (e.shard == shard) ≡ b
-          → (((slot : ℕ) (entry : Entry) → at_slot (Chain.shard_log shard earlier) slot ≡ Some entry → EntryFits entry) → length (Chain.shard_log shard earlier) ≤ 2 ^ 64 → All LeafFits (dumped_leaves shard earlier))
-          → ((slot : ℕ) (entry : Entry) → at_slot (if b then e.entry ∷ Chain.shard_log shard earlier else Chain.shard_log shard earlier) slot ≡ Some entry → EntryFits entry)
-          → length (if b then e.entry ∷ Chain.shard_log shard earlier else Chain.shard_log shard earlier) ≤ 2 ^ 64
+          → (((slot : ℕ) (entry : Entry) → at_slot (Chain.shard_entries shard earlier) slot ≡ Some entry → EntryFits entry) → length (Chain.shard_entries shard earlier) ≤ 2 ^ 64 → All LeafFits (dumped_leaves shard earlier))
+          → ((slot : ℕ) (entry : Entry) → at_slot (if b then e.entry ∷ Chain.shard_entries shard earlier else Chain.shard_entries shard earlier) slot ≡ Some entry → EntryFits entry)
+          → length (if b then e.entry ∷ Chain.shard_entries shard earlier else Chain.shard_entries shard earlier) ≤ 2 ^ 64
           → All LeafFits (leaves_of (if b then e ∷ executions_of shard earlier else executions_of shard earlier))
       by false other before fits small = before fits small
       by true is before fits small =
-          let log = Chain.shard_log shard earlier in
+          let log = Chain.shard_entries shard earlier in
           let here = eqb-true e.shard shard is in
           let next : e.slot ≡ slots_of shard earlier = subst (λ n. e.slot ≡ slots_of n earlier) here computed.0.next in
           let count : slots_of shard earlier ≡ length log = slots-log shard earlier in

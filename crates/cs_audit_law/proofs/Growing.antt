@@ -4,7 +4,7 @@ use Rattle.std.specs.Prelude.{if◌then◌else◌, slice_get}
 use Rattle.std.proofs.lemmas.Bool.{eqb-true, eqb-false, cases_lt}
 use Rattle.cs_ledger.specs.Ledger.{Bytes}
 use Rattle.cs_ledger.proofs.Basics.{bytes_from}
-use Rattle.cs_checkpoint.specs.Chain.{Log, with_slot, head_of, checkpoint_of, made_last}
+use Rattle.cs_check_rules.specs.Chain.{Log, with_slot, head_of, checkpoint_of, made_last}
 use Rattle.cs_check.proofs.Chains.{checkpoint_stays}
 use Rattle.cs_replay_rules.specs.Dumps.{heads_below}
 use Rattle.cs_audit_rules.specs.Slots.{is_just, is_head}

@@ -7,7 +7,7 @@ use Rattle.cs_ledger.proofs.Basics.{same_bytes, bytes_from}
 use Rattle.cs_world_law.proofs.Counting.{all-from}
 use Rattle.cs_audit_rules.specs.declared.verdict.Fault.{Fault}
 use Rattle.cs_audit_rules.specs.Slots.{is_just}
-use Rattle.cs_audit_rules.specs.History.{with_digest, holds_all, takes, then_told, history_fault}
+use Rattle.cs_audit_rules.specs.History.{first_with_digest, holds_all, takes, then_told, history_fault}
 use Rattle.cs_audit_rules.proofs.Told.{has_in}
 
 -- ---- names in lists
@@ -90,11 +90,11 @@ takes_from ledger tx is =
 
 -- a transaction of which no other has the digest
 pub found_first : (tx : Transaction) (txs : List Transaction) → IsIn tx txs → ((other : Transaction) → IsIn other txs → tx.digest ≡ other.digest → other ≡ tx)
-    → with_digest tx.digest txs ≡ Some tx
+    → first_with_digest tx.digest txs ≡ Some tx
 found_first tx [] within alone = absurd within
 found_first tx (first ∷ txs) within alone = by (bytes_eq tx.digest first.digest) refl (λ later. found_first tx txs later (λ other there same. alone other (inr there) same)) within
   where
-    by : (b : Bool) → bytes_eq tx.digest first.digest ≡ b → (IsIn tx txs → with_digest tx.digest txs ≡ Some tx) → IsIn tx (first ∷ txs)
+    by : (b : Bool) → bytes_eq tx.digest first.digest ≡ b → (IsIn tx txs → first_with_digest tx.digest txs ≡ Some tx) → IsIn tx (first ∷ txs)
         → (if b then Some first else find (λ (t : Transaction). bytes_eq tx.digest t.digest) txs) ≡ Some tx
     by true same more there = ap (λ t. Some t) (alone first (inl refl) (same_bytes tx.digest first.digest same))
     by false other more (inl is) = absurd (both_ways (bytes_eq tx.digest first.digest) other (bytes_from tx.digest first.digest (ap (λ (t : Transaction). t.digest) is)))
@@ -111,7 +111,7 @@ then_fine ledger d done tx more new taken none = rw (and_from _ _ (ap not new) t
 
 module _ (txs : List Transaction) where
   pub none_broken : (done : List Bytes) (ledger : Ledger) (rest : List Transaction) → Serial ledger rest
-      → ((tx : Transaction) → IsIn tx rest → with_digest tx.digest txs ≡ Some tx)
+      → ((tx : Transaction) → IsIn tx rest → first_with_digest tx.digest txs ≡ Some tx)
       → all_differ (done ++ digests rest) ≡ true
       → ((tx : Transaction) → IsIn tx txs → has tx.digest (done ++ digests rest) ≡ true)
       → history_fault txs ledger done (digests rest) ≡ None

@@ -11,3 +11,8 @@ pub mod Longest
 pub mod Fitting
 pub mod Worlds
 pub mod Texts
+pub mod Bytes
+pub mod Counts
+pub mod Digests
+pub mod Dumped
+pub mod Formed

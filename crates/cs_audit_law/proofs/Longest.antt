@@ -6,13 +6,13 @@ use Rattle.std.proofs.lemmas.Bool.{cases_lt, ltb-true, ltb-false, eqb-true}
 use Rattle.std.proofs.lemmas.List.{length_push}
 use Rattle.cs_base.specs.declared.node_id.NodeId.{NodeId}
 use Rattle.cs_base.specs.NodeId.{members_below}
-use Rattle.cs_tx_form.specs.declared.entry.Entry.{Entry}
-use Rattle.cs_tx_form.specs.declared.leaf.Leaf.{Leaf}
+use Rattle.cs_tx_types.specs.declared.entry.Entry.{Entry}
+use Rattle.cs_tx_types.specs.declared.leaf.Leaf.{Leaf}
 use Rattle.cs_ledger.specs.Ledger.{IsIn}
 use Rattle.cs_ledger.specs.Table.{Table, exec}
 use Rattle.cs_ledger.specs.ShardWorld.{log}
 use Rattle.cs_ledger.proofs.Basics.{in_left, in_right, in_either}
-use Rattle.cs_checkpoint.specs.Chain.{Log, empty_log}
+use Rattle.cs_check_rules.specs.Chain.{Log, empty_log}
 use Rattle.cs_node_state.specs.Setup.{Setup, entry_of}
 use Rattle.cs_node_state.specs.Bench.{effect_from}
 use Rattle.cs_replay_rules.specs.Dumps.{longest, logs_of, shard_log}
@@ -69,13 +69,13 @@ module _ (setup : Setup) (shard : ℕ) where
     result = effect_from (exec setup.rules shard core.0 (entry_of setup entry)).effect;
   }
 
-  pub stand_core : (firsts : List Execution) → AllComputed setup firsts → core_in (dumped_stand setup shard firsts) ≡ core_by setup shard (Chain.shard_log shard firsts)
+  pub stand_core : (firsts : List Execution) → AllComputed setup firsts → core_in (dumped_stand setup shard firsts) ≡ core_by setup shard (Chain.shard_entries shard firsts)
   stand_core [] computed = refl
   stand_core (e ∷ earlier) computed = by (e.shard == shard) refl (stand_core earlier computed.1)
     where
-      by : (b : Bool) → (e.shard == shard) ≡ b → core_in (dumped_stand setup shard earlier) ≡ core_by setup shard (Chain.shard_log shard earlier)
+      by : (b : Bool) → (e.shard == shard) ≡ b → core_in (dumped_stand setup shard earlier) ≡ core_by setup shard (Chain.shard_entries shard earlier)
           → core_in (after_leaves setup shard (start_stand setup shard) (leaves_of (if b then e ∷ executions_of shard earlier else executions_of shard earlier)))
-          ≡ core_by setup shard (if b then e.entry ∷ Chain.shard_log shard earlier else Chain.shard_log shard earlier)
+          ≡ core_by setup shard (if b then e.entry ∷ Chain.shard_entries shard earlier else Chain.shard_entries shard earlier)
       by false other same = same
       by true is same =
           let stand = dumped_stand setup shard earlier in

@@ -3,8 +3,8 @@ use Rattle.std.proofs.Common.{◌≡◌, List, [], None, sym, subst}
 use Rattle.cs_ledger.specs.Ledger.{Bytes, genesis_ledger}
 use Rattle.cs_node_state.specs.Setup.{Setup}
 use Rattle.cs_node_rules.specs.World.{Execution}
-use Rattle.cs_dump_read.specs.declared.dump.Dump.{Dump}
-use Rattle.cs_dump_read.specs.declared.dump.Log.{Log}
+use Rattle.cs_audit_dump.specs.declared.dump.Dump.{Dump}
+use Rattle.cs_audit_dump.specs.declared.dump.Log.{Log}
 use Rattle.cs_audit_rules.specs.Slots.{logs_fault}
 use Rattle.cs_audit_rules.specs.Support.{support_fault}
 use Rattle.cs_audit_rules.specs.History.{transactions, history_fault}

@@ -10,21 +10,21 @@ use Rattle.cs_base.proofs.Written.{each-append}
 use Rattle.cs_base.specs.declared.config.Config.{Config}
 use Rattle.cs_tx_value.specs.Object.{object_encoding}
 use Rattle.cs_tx_value.specs.declared.object.Object.{Object}
-use Rattle.cs_tx_form.specs.declared.leaf.Leaf.{Leaf}
-use Rattle.cs_tx_form.specs.Log.{leaf_encoding}
+use Rattle.cs_tx_types.specs.declared.leaf.Leaf.{Leaf}
+use Rattle.cs_tx_types.specs.Log.{leaf_encoding}
 use Rattle.cs_ledger.specs.Ledger.{Bytes, Item, Transaction}
-use Rattle.cs_checkpoint.specs.Chain.{Log as ChainLog}
+use Rattle.cs_check_rules.specs.Chain.{Log as ChainLog}
 use Rattle.cs_node_state.specs.Deployed.{genesis_from}
 use Rattle.cs_node_state.specs.Setup.{Setup}
-use Rattle.cs_replay_rules.specs.Dumps.{leaf_line, dumped_head, log_text, number_line, genesis_line, contract_line, shard_log, logs_text, dump_text}
+use Rattle.cs_replay_rules.specs.Dumps.{dumped_leaf, dumped_head, log_text, number_line, dumped_genesis, dumped_contract, shard_log, logs_text, dump_text}
 use Rattle.cs_replay_rules.specs.Lines.{transaction_lines, history_text}
 use Rattle.cs_node_rules.specs.Site.{Site}
 use Rattle.cs_node_rules.specs.World.{Happening, Execution, firsts_of, history}
 use Rattle.cs_text.specs.Printed.{line_text, number_words, bytes_words}
 use Rattle.cs_sched.specs.Printed.{contract_lines, genesis_lines}
-use Rattle.cs_dump_read.specs.Printed.{leaf_words, head_words, tx_words, log_words, log_lines, logs_lines, config_lines, history_lines, dump_lines, printed_dump}
-use Rattle.cs_dump_read.specs.declared.dump.Dump.{Dump}
-use Rattle.cs_dump_read.specs.declared.dump.Log.{Log}
+use Rattle.cs_audit_dump.specs.Printed.{leaf_words, head_words, tx_words, log_words, log_lines, logs_lines, config_lines, dump_history_lines, dump_lines, printed_dump}
+use Rattle.cs_audit_dump.specs.declared.dump.Dump.{Dump}
+use Rattle.cs_audit_dump.specs.declared.dump.Log.{Log}
 use Rattle.cs_audit_law.specs.Dumped.{dumped_leaves, dumped_stand, all_heads, dumped_log, dumped_logs}
 use Rattle.cs_audit_law.specs.Passing.{DumpsFirsts, told_digests}
 use Rattle.cs_audit_law.proofs.Unbroken.{count_logs}
@@ -47,13 +47,13 @@ number_same : (n : ℕ) → (line_text (number_words (codes "shards") n) ≡ num
     × (line_text (number_words (codes "dummies") n) ≡ number_line (codes "dummies ") n)
 number_same n = (one_field (codes "shards") (decimal n), one_field (codes "faulty") (decimal n), one_field (codes "dummies") (decimal n))
 
-leaf_same : (leaf : Leaf) → line_text (leaf_words leaf) ≡ leaf_line (leaf_encoding leaf)
+leaf_same : (leaf : Leaf) → line_text (leaf_words leaf) ≡ dumped_leaf (leaf_encoding leaf)
 leaf_same leaf = one_field (codes "leaf") (bytes_text (leaf_encoding leaf))
 
 head_same : (head : Bytes) → line_text (head_words head) ≡ dumped_head head
 head_same head = one_field (codes "head") (bytes_text head)
 
-contract_same : (text : Bytes) → line_text (bytes_words (codes "contract") text) ≡ contract_line text
+contract_same : (text : Bytes) → line_text (bytes_words (codes "contract") text) ≡ dumped_contract text
 contract_same text = one_field (codes "contract") (bytes_text text)
 
 flat-map : {X Y : Type 0} (line : Y → List ℕ) (change : X → Y) (xs : List X) → flat_map line (map change xs) ≡ flat_map (λ x. line (change x)) xs
@@ -65,18 +65,18 @@ flat-map line change (x ∷ xs) = ap (λ (text : List ℕ). line (change x) ++ t
 log_same : (shard : ℕ) (log : Log) (chain : ChainLog) → chain.leaves ≡ map leaf_encoding log.leaves → all_heads chain ≡ log.heads
     → each line_text (log_lines shard log) ≡ log_text shard chain
 log_same shard log chain leaves heads =
-    let leaf_part : each line_text (map leaf_words log.leaves) ≡ flat_map leaf_line chain.leaves =
-    each-same line_text leaf_words (λ leaf. leaf_line (leaf_encoding leaf)) leaf_same log.leaves ∙ sym (flat-map leaf_line leaf_encoding log.leaves) ∙ ap (flat_map leaf_line) (sym leaves) in
+    let leaf_part : each line_text (map leaf_words log.leaves) ≡ flat_map dumped_leaf chain.leaves =
+    each-same line_text leaf_words (λ leaf. dumped_leaf (leaf_encoding leaf)) leaf_same log.leaves ∙ sym (flat-map dumped_leaf leaf_encoding log.leaves) ∙ ap (flat_map dumped_leaf) (sym leaves) in
     let head_part : each line_text (map head_words log.heads) ≡ flat_map dumped_head (all_heads chain) =
     each-same line_text head_words dumped_head head_same log.heads ∙ ap (flat_map dumped_head) (sym heads) in
     let count : length log.leaves ≡ length chain.leaves = sym (length-map log.leaves leaf_encoding) ∙ ap length (sym leaves) in
-    let rest : each line_text (map leaf_words log.leaves ++ map head_words log.heads) ≡ flat_map leaf_line chain.leaves ++ flat_map dumped_head (all_heads chain) =
+    let rest : each line_text (map leaf_words log.leaves ++ map head_words log.heads) ≡ flat_map dumped_leaf chain.leaves ++ flat_map dumped_head (all_heads chain) =
     each-append line_text (map leaf_words log.leaves) (map head_words log.heads) ∙ (λ i. leaf_part i ++ head_part i) in
     let first : line_text (log_words shard (length log.leaves)) ≡ codes "log " ++ (decimal shard ++ (codes " " ++ (decimal (length log.leaves) ++ codes "\n"))) =
     ap (λ (text : List ℕ). codes "log " ++ text)
     (append_assoc (decimal shard) (32 ∷ (decimal (length log.leaves) ++ [])) (10 ∷ [])
     ∙ ap (λ (text : List ℕ). decimal shard ++ 32 ∷ (text ++ 10 ∷ [])) (append-nil (decimal (length log.leaves)))) in
-    let end = flat_map leaf_line chain.leaves ++ flat_map dumped_head (all_heads chain) in
+    let end = flat_map dumped_leaf chain.leaves ++ flat_map dumped_head (all_heads chain) in
     (λ i. first i ++ rest i)
     ∙ ap (λ (text : List ℕ). codes "log " ++ text)
     (append_assoc (decimal shard) (codes " " ++ (decimal (length log.leaves) ++ codes "\n")) end
@@ -115,21 +115,21 @@ module _ {M : Type 0} (site : Site M) (world : List (Happening M)) (dumps : Dump
       ∙ ap (λ (text : List ℕ). codes "tx " ++ text) (append_assoc (bytes_text tx.digest) (codes "\n") (transaction_lines txs))
 
   told_same : (txs : List Transaction) (digests : List Bytes) → digests ≡ map (λ (tx : Transaction). tx.digest) txs
-      → each line_text (history_lines digests ++ (codes "end" ∷ []) ∷ []) ≡ history_text txs ++ codes "end\n"
+      → each line_text (dump_history_lines digests ++ (codes "end" ∷ []) ∷ []) ≡ history_text txs ++ codes "end\n"
   told_same txs digests is =
       let ended : List (List (List ℕ)) = (codes "end" ∷ []) ∷ [] in
       let count : length digests ≡ length txs = ap length is ∙ length-map txs (λ (tx : Transaction). tx.digest) in
       let first : line_text (number_words (codes "history") (length digests)) ≡ codes "history " ++ (decimal (length txs) ++ codes "\n") =
       one_field (codes "history") (decimal (length digests)) ∙ ap (λ n. codes "history " ++ (decimal n ++ codes "\n")) count in
       let lines_are : each line_text (map tx_words digests) ≡ transaction_lines txs = ap (λ ds. each line_text (map tx_words ds)) is ∙ txs_same txs in
-      each-append line_text (history_lines digests) ended
+      each-append line_text (dump_history_lines digests) ended
       ∙ (λ i. (first i ++ lines_are i) ++ codes "end\n")
       ∙ ap (λ (text : List ℕ). text ++ codes "end\n")
       (ap (λ (text : List ℕ). codes "history " ++ text) (append_assoc (decimal (length txs)) (codes "\n") (transaction_lines txs)))
 
   -- ---- the whole
 
-  objects_same : (place : ℕ) (objects : List Object) → each line_text (genesis_lines objects) ≡ flat_map genesis_line (genesis_from place objects)
+  objects_same : (place : ℕ) (objects : List Object) → each line_text (genesis_lines objects) ≡ flat_map dumped_genesis (genesis_from place objects)
   objects_same place [] = refl
   objects_same place (object ∷ objects) = λ i. one_field (codes "genesis") (bytes_text (object_encoding object)) i ++ objects_same (place + 1) objects i
 
@@ -147,14 +147,14 @@ module _ {M : Type 0} (site : Site M) (world : List (Happening M)) (dumps : Dump
       → printed_dump (dump_in config contracts genesis) ≡ dump_text site contracts world
   dump_same config contracts genesis shards f dummies genesis_is =
       let logs = dumped_logs site.setup (firsts_of world) site.setup.shards in
-      let told_lines = history_lines (told_digests site.setup (firsts_of world)) ++ (codes "end" ∷ []) ∷ [] in
+      let told_lines = dump_history_lines (told_digests site.setup (firsts_of world)) ++ (codes "end" ∷ []) ∷ [] in
       let told_part = told_same (history site world) (told_digests site.setup (firsts_of world)) refl in
       let logs_part : each line_text (logs_lines 0 logs ++ told_lines) ≡ logs_text site world site.setup.shards ++ (history_text (history site world) ++ codes "end\n") =
       each-append line_text (logs_lines 0 logs) told_lines ∙ (λ i. logs_same site.setup.shards i ++ told_part i) in
-      let genesis_part : each line_text (genesis_lines genesis ++ (logs_lines 0 logs ++ told_lines)) ≡ flat_map genesis_line site.setup.rules.genesis ++ (logs_text site world site.setup.shards ++ (history_text (history site world) ++ codes "end\n")) =
+      let genesis_part : each line_text (genesis_lines genesis ++ (logs_lines 0 logs ++ told_lines)) ≡ flat_map dumped_genesis site.setup.rules.genesis ++ (logs_text site world site.setup.shards ++ (history_text (history site world) ++ codes "end\n")) =
       each-append line_text (genesis_lines genesis) (logs_lines 0 logs ++ told_lines)
-      ∙ (λ i. (objects_same 0 genesis ∙ ap (flat_map genesis_line) (sym genesis_is)) i ++ logs_part i) in
-      let contracts_same : each line_text (contract_lines contracts) ≡ flat_map contract_line contracts = each-same line_text (bytes_words (codes "contract")) contract_line contract_same contracts in
+      ∙ (λ i. (objects_same 0 genesis ∙ ap (flat_map dumped_genesis) (sym genesis_is)) i ++ logs_part i) in
+      let contracts_same : each line_text (contract_lines contracts) ≡ flat_map dumped_contract contracts = each-same line_text (bytes_words (codes "contract")) dumped_contract contract_same contracts in
       let contracts_part = each-append line_text (contract_lines contracts) (genesis_lines genesis ++ (logs_lines 0 logs ++ told_lines)) ∙ (λ i. contracts_same i ++ genesis_part i) in
       let shards_part = (number_same config.shards).0 ∙ ap (number_line (codes "shards ")) (sym shards) in
       let f_part = (number_same config.f).1 ∙ ap (number_line (codes "faulty ")) (sym f) in

@@ -3,19 +3,19 @@ use Rattle.std.proofs.Common.{◌≡◌, inr, ℕ, zero, suc, ◌+◌, ◌/◌, 
 use Rattle.std.specs.Prelude.{if◌then◌else◌}
 use Rattle.std.proofs.lemmas.Bool.{eqb-true}
 use Rattle.std.proofs.lemmas.List.{length_push}
-use Rattle.cs_tx_form.specs.declared.leaf.Leaf.{Leaf}
-use Rattle.cs_tx_form.specs.Log.{leaf_encoding}
+use Rattle.cs_tx_types.specs.declared.leaf.Leaf.{Leaf}
+use Rattle.cs_tx_types.specs.Log.{leaf_encoding}
 use Rattle.cs_ledger.specs.Session as Seen
 use Rattle.cs_ledger.proofs.Strings.{no_collision_within}
 use Rattle.cs_ledger.specs.Table.{Commit, Abort, Effect, Voted, Accepted, Aborted, Skipped, Void, Table, table_of, exec}
 use Rattle.cs_ledger.specs.ShardWorld.{log, sessions}
 use Rattle.cs_check_rules.specs.Keys.{keys_after}
 use Rattle.cs_check_rules.specs.Root.{root_under}
-use Rattle.cs_checkpoint.specs.Chain.{Log as ChainLog}
+use Rattle.cs_check_rules.specs.Chain.{Log as ChainLog}
 use Rattle.cs_table.specs.Effects.{effect_of}
 use Rattle.cs_node_state.specs.Bench.{effect_from}
 use Rattle.cs_node_state.specs.Setup.{Setup, entry_of, is_fit}
-use Rattle.cs_tx_form.specs.Session.{session_in}
+use Rattle.cs_tx_types.specs.Session.{session_in}
 use Rattle.cs_node_rules.specs.World.{Execution, steps_of, slots_of}
 use Rattle.cs_world_law.specs.Steps.{effect_after, executions_of}
 use Rattle.cs_world_law.specs.Shown.{leaf_by, leaves_of}

@@ -1,7 +1,7 @@
 -- What is dumped of a world are the logs of its first executions.
 use Rattle.std.proofs.Common.{◌≡◌, ℕ, ◌<◌, ◌-◌, true, List, [], length, refl, sym, ap, subst, ◌∙◌, arith, Some, ◌≤◌, ◌^◌}
 use Rattle.cs_base.specs.declared.node_id.NodeId.{NodeId}
-use Rattle.cs_tx_form.specs.declared.entry.Entry.{Entry}
+use Rattle.cs_tx_types.specs.declared.entry.Entry.{Entry}
 use Rattle.cs_order.specs.Deeds.{Machine}
 use Rattle.cs_node_rules.specs.Collisions.{NoCollision}
 use Rattle.cs_node_rules.specs.Site.{Mark, Site, signs_of}
@@ -15,8 +15,8 @@ use Rattle.cs_world_law.proofs.Older.{IsOlder, at-some, at-below}
 use Rattle.cs_world_law.proofs.Firsts.{own_log, are-first, slots-log}
 use Rattle.cs_world_law.proofs.SameHeads.{Core}
 use Rattle.cs_world_law.proofs.Whole.{IsPlace, At, Here, sound, story, came, lawful-here}
-use Rattle.cs_tx_form.specs.Log.{LeafFits}
-use Rattle.cs_tx_form.specs.Session.{EntryFits}
+use Rattle.cs_tx_types.specs.Log.{LeafFits}
+use Rattle.cs_tx_types.specs.Session.{EntryFits}
 use Rattle.cs_world_law.specs.Worlds.{ExecutesFit}
 use Rattle.cs_world_law.proofs.Older.{at_slot}
 use Rattle.std.specs.List.{All}
@@ -40,13 +40,13 @@ module _ {M : Type 0} (machine : Machine M) (p : IsPlace machine) (some : 0 < p.
   site = At machine p
 
   abbrev all_of : ℕ → List Entry
-  all_of shard = Chain.shard_log shard (firsts_of p.world)
+  all_of shard = Chain.shard_entries shard (firsts_of p.world)
 
   entries_same : (i : NodeId) → own_log i (moments p.world) ≡ log_in (signs_at i p.world)
   entries_same i = ap (λ (t : List (Mark M)). log_in (signs_of t)) (trail-same i p.world)
 
-  all_same : (shard : ℕ) → all_of shard ≡ Chain.shard_log shard (story_firsts (moments p.world))
-  all_same shard = ap (Chain.shard_log shard) (firsts-same p.world)
+  all_same : (shard : ℕ) → all_of shard ≡ Chain.shard_entries shard (story_firsts (moments p.world))
+  all_same shard = ap (Chain.shard_entries shard) (firsts-same p.world)
 
   parts : (shard : ℕ) (i : NodeId) → is_honest site i ≡ true → i.shard ≡ shard → IsOlder (log_in (signs_at i p.world)) (all_of shard)
   parts shard i honest here =
@@ -57,7 +57,7 @@ module _ {M : Type 0} (machine : Machine M) (p : IsPlace machine) (some : 0 < p.
   source : (shard : ℕ) → 0 < length (all_of shard) → HasAll site p.world shard (all_of shard)
   source shard some_entry =
       let first = are-first site (sound machine p some) (Here machine p) (lawful-here machine p some apart) shard (moments p.world) (story machine p some) in
-      let whole = Chain.shard_log shard (story_firsts (moments p.world)) in
+      let whole = Chain.shard_entries shard (story_firsts (moments p.world)) in
       let same : length (all_of shard) ≡ length whole = ap length (all_same shard) in
       let last = length whole - 1 in
       let found = at-some whole last (omega arith) in

@@ -1,14 +1,14 @@
 -- The logs that first executions make, as a dump has them.
 use Rattle.std.specs.Prelude.{ℕ, zero, suc, List, [], ◌∷◌, ◌++◌, length}
-use Rattle.cs_tx_form.specs.declared.leaf.Leaf.{Leaf}
+use Rattle.cs_tx_types.specs.declared.leaf.Leaf.{Leaf}
 use Rattle.cs_ledger.specs.Ledger.{Bytes}
-use Rattle.cs_checkpoint.specs.Chain.{Log as ChainLog}
+use Rattle.cs_check_rules.specs.Chain.{Log as ChainLog}
 use Rattle.cs_node_state.specs.Setup.{Setup}
 use Rattle.cs_replay_rules.specs.Dumps.{heads_below}
 use Rattle.cs_node_rules.specs.World.{Execution}
 use Rattle.cs_world_law.specs.Steps.{executions_of}
 use Rattle.cs_world_law.specs.Shown.{leaves_of}
-use Rattle.cs_dump_read.specs.declared.dump.Log.{Log}
+use Rattle.cs_audit_dump.specs.declared.dump.Log.{Log}
 use Rattle.cs_audit_rules.specs.Stands.{Stand, start_stand, after_leaves}
 
 abbrev pub dumped_leaves : ℕ → List Execution → List Leaf

@@ -1,15 +1,15 @@
 -- That such logs break no rule.
 use Rattle.std.specs.Prelude.{◌≡◌, ◌<◌, ◌≤◌, ◌^◌, ℕ, List, [], length, map, None}
 use Rattle.std.specs.List.{All}
-use Rattle.cs_tx_form.specs.Log.{LeafFits}
+use Rattle.cs_tx_types.specs.Log.{LeafFits}
 use Rattle.cs_ledger.specs.Ledger.{Bytes, genesis_ledger}
 use Rattle.cs_ledger.specs.ShardWorld.{AllAllowed, AreNamedApart, sessions}
 use Rattle.cs_node_state.specs.Setup.{Setup}
 use Rattle.cs_node_rules.specs.Site.{Site}
-use Rattle.cs_node_rules.specs.World.{Happening, Execution, steps_of, firsts_of, told}
+use Rattle.cs_node_rules.specs.World.{Happening, Execution, steps_of, firsts_of, told_transactions}
 use Rattle.cs_world_law.specs.Steps.{AllComputed}
 use Rattle.cs_world_law.specs.Worlds.{ExecutesFit}
-use Rattle.cs_dump_read.specs.declared.dump.Dump.{Dump}
+use Rattle.cs_audit_dump.specs.declared.dump.Dump.{Dump}
 use Rattle.cs_audit_rules.specs.Slots.{logs_fault}
 use Rattle.cs_audit_rules.specs.Support.{support_fault}
 use Rattle.cs_audit_rules.specs.History.{transactions, history_fault}
@@ -40,7 +40,7 @@ DecisionsHaveVotes =
 
 -- the digests of the transactions that they tell
 abbrev pub told_digests : Setup → List Execution → List Bytes
-told_digests setup firsts = map (λ tx. tx.digest) (told setup firsts)
+told_digests setup firsts = map (λ tx. tx.digest) (told_transactions setup firsts)
 
 abbrev pub HistoryIsWhole : Type 0
 HistoryIsWhole =

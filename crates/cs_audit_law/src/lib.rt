@@ -1,11 +1,15 @@
-//! What an auditor finds in the logs of a world in which few enough nodes lie: no broken rule.
+//! What an auditor finds in the logs of a world in which few enough nodes lie: no broken rule. So
+//! the dump of a replay is answered yes.
 #![tactic(auto)]
+
+mod dumps;
 
 ghost use Rattle.cs_world_law.specs.Worlds.{OfWorldsApart};
 ghost use Rattle.cs_audit_law.specs.Passing.{LogsBreakNoRule, DecisionsHaveVotes, HistoryIsWhole, PassesAudit, DumpsFirsts, LeavesFit};
 
 use cs_node_law::marks_are_made;
 use cs_order::Order;
+pub use dumps::dumps_are_answered_yes;
 
 /// What steps leave that may be taken one after the other, with computed results.
 pub fn steps_break_no_rule()

@@ -3,23 +3,23 @@ use Rattle.std.proofs.Common.{◌≡◌, inl, inr, ℕ, ◌+◌, ◌-◌, ◌*�
 use Rattle.std.specs.Prelude.{not, if◌then◌else◌, slice_get, option_map}
 use Rattle.std.proofs.lemmas.Bool.{and_parts, eqb-true, eqb-false, cases_lt, lt-ltb, le-ltb}
 use Rattle.std.proofs.lemmas.Option.{slice_get_past}
-use Rattle.cs_tx_form.specs.declared.entry.Entry.{Entry}
-use Rattle.cs_tx_form.specs.declared.entry.Entry.TheVariants.{Prepare, Decide}
-use Rattle.cs_tx_form.specs.declared.leaf.Leaf.{Leaf}
-use Rattle.cs_tx_form.specs.Log.{leaf_encoding}
+use Rattle.cs_tx_types.specs.declared.entry.Entry.{Entry}
+use Rattle.cs_tx_types.specs.declared.entry.Entry.TheVariants.{Prepare, Decide}
+use Rattle.cs_tx_types.specs.declared.leaf.Leaf.{Leaf}
+use Rattle.cs_tx_types.specs.Log.{leaf_encoding}
 use Rattle.cs_ledger.specs.Ledger.{Bytes}
 use Rattle.cs_ledger.specs.Session as Seen
 use Rattle.cs_ledger.specs.ShardWorld.{vote_eq}
 use Rattle.cs_ledger.specs.Table.{Vote, Commit, Abort, Effect, Voted, Accepted, Aborted, Skipped, Void, table_after}
 use Rattle.cs_ledger.proofs.Basics.{same_bytes}
-use Rattle.cs_checkpoint.specs.Chain.{Log as ChainLog, with_slot, head_of, checkpoint_of, made_last, chain_head}
+use Rattle.cs_check_rules.specs.Chain.{Log as ChainLog, with_slot, head_of, checkpoint_of, made_last, chain_head}
 use Rattle.cs_check_rules.specs.Keys.{keys_after}
 use Rattle.cs_check_rules.specs.Root.{root_under}
 use Rattle.cs_check.proofs.Chains.{checkpoint_stays}
 use Rattle.cs_table.specs.Effects.{effect_of}
-use Rattle.cs_node_state.specs.Setup.{Setup, entry_of, is_fit, concerns}
-use Rattle.cs_tx_form.specs.Session.{session_in}
-use Rattle.cs_dump_read.specs.declared.dump.Log.{Log}
+use Rattle.cs_node_state.specs.Setup.{Setup, entry_of, is_fit, is_concerned_shard}
+use Rattle.cs_tx_types.specs.Session.{session_in}
+use Rattle.cs_audit_dump.specs.declared.dump.Log.{Log}
 use Rattle.cs_audit_rules.specs.declared.verdict.Rule.TheVariants as rule
 use Rattle.cs_audit_rules.specs.Stands.{Stand, start_stand, outcome_of, after_leaf, after_leaves}
 use Rattle.cs_audit_rules.specs.Slots.{is_judged, same_effect, is_result, is_just, is_head, broken_by, fault_at, leaves_fault, log_fault}
@@ -128,7 +128,7 @@ module _ (setup : Setup) (shard : ℕ) where
   leaf_sound heads before leaf is =
       let start = start_stand setup shard in
       let x = setup.session_of (session_in leaf.entry) in
-      let fit = and_parts (Seen.well_formed setup.rules x) (concerns setup (session_in leaf.entry) shard) is.fit in
+      let fit = and_parts (Seen.well_formed setup.rules x) (is_concerned_shard setup (session_in leaf.entry) shard) is.fit in
       let same = table_stands start before in
       record {
         slot = is.slot ∙ count_stands start before ∙ (let zero_first : 0 + length before ≡ length before = omega arith in zero_first);

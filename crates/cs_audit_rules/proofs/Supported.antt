@@ -1,9 +1,9 @@
 -- Where no decision is found to lack its votes, each has them.
 use Rattle.std.proofs.Common.{◌≡◌, inl, inr, ℕ, ◌+◌, true, List, [], ◌∷◌, None, ap, subst, ◌∙◌}
-use Rattle.cs_tx_form.specs.declared.leaf.Leaf.{Leaf}
+use Rattle.cs_tx_types.specs.declared.leaf.Leaf.{Leaf}
 use Rattle.cs_ledger.specs.Ledger.{IsIn}
 use Rattle.cs_node_state.specs.Setup.{Setup}
-use Rattle.cs_dump_read.specs.declared.dump.Log.{Log}
+use Rattle.cs_audit_dump.specs.declared.dump.Log.{Log}
 use Rattle.cs_audit_rules.specs.declared.verdict.Rule.TheVariants as rule
 use Rattle.cs_audit_rules.specs.Slots.{fault_at}
 use Rattle.cs_audit_rules.specs.Support.{is_supported, unsupported, support_fault}

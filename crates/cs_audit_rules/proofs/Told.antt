@@ -3,18 +3,18 @@ use Rattle.std.proofs.Common.{◌≡◌, inl, inr, Bool, true, false, ◌&&◌, 
 use Rattle.std.specs.Prelude.{not, bytes_eq}
 use Rattle.std.specs.List.{list_all, flat_map}
 use Rattle.std.proofs.lemmas.Bool.{cases_Bool, and_parts, and_from, or_cases, or_left, or_right, both_ways, true≢false}
-use Rattle.cs_tx_form.specs.declared.entry.Entry.{Entry}
-use Rattle.cs_tx_form.specs.declared.entry.Entry.TheVariants.{Prepare, Decide}
-use Rattle.cs_tx_form.specs.declared.leaf.Leaf.{Leaf}
-use Rattle.cs_tx_form.specs.declared.session.Session.{Session}
+use Rattle.cs_tx_types.specs.declared.entry.Entry.{Entry}
+use Rattle.cs_tx_types.specs.declared.entry.Entry.TheVariants.{Prepare, Decide}
+use Rattle.cs_tx_types.specs.declared.leaf.Leaf.{Leaf}
+use Rattle.cs_tx_types.specs.declared.session.Session.{Session}
 use Rattle.cs_ledger.specs.Ledger.{Bytes, Item, Transaction, Ledger, IsIn, names, has, all_differ, apart, is_well_formed, ledger_after, Takes, HoldsAll, Serial, genesis_ledger}
 use Rattle.cs_ledger.proofs.Basics.{same_bytes, bytes_from}
 use Rattle.cs_node_state.specs.Setup.{Setup}
-use Rattle.cs_dump_read.specs.declared.dump.Log.{Log}
+use Rattle.cs_audit_dump.specs.declared.dump.Log.{Log}
 use Rattle.cs_audit_rules.specs.Slots.{is_just}
-use Rattle.cs_audit_rules.specs.Support.{all_commit}
-use Rattle.cs_audit_rules.specs.History.{prepared, sessions_in, committed, transactions, with_digest, holds_all, takes, history_fault_at, then_told, history_fault}
-use Rattle.cs_audit_rules.specs.Sound.{IsCommitted, IsTaken, IsHistory}
+use Rattle.cs_audit_rules.specs.Support.{all_logs_commit}
+use Rattle.cs_audit_rules.specs.History.{prepared_session, sessions_in_logs, committed, transactions, first_with_digest, holds_all, takes, history_fault_at, then_told, history_fault}
+use Rattle.cs_audit_rules.specs.Sound.{IsCommitted, IsTransactionTaken, IsHistory}
 use Rattle.cs_audit_rules.proofs.Parts.{held, in_map, of_map, in_flat, of_flat, in_filter, of_filter, of_find, of_all}
 use Rattle.cs_audit_rules.proofs.Logs.{just_same}
 
@@ -99,21 +99,21 @@ takes_so ledger tx is =
 
 -- ---- the committed transactions
 
-prepared_is : (entry : Entry) (x : Session) → IsIn x (prepared entry) → entry ≡ Prepare x
+prepared_is : (entry : Entry) (x : Session) → IsIn x (prepared_session entry) → entry ≡ Prepare x
 prepared_is (Prepare y) x (inl same) = ap Prepare (sym same)
 prepared_is (Prepare y) x (inr none) = absurd none
 prepared_is (Decide vote y) x none = absurd none
 
-is_prepared : (entry : Entry) (x : Session) → entry ≡ Prepare x → IsIn x (prepared entry)
-is_prepared entry x is = subst (λ e. IsIn x (prepared e)) (sym is) (inl refl)
+is_prepared : (entry : Entry) (x : Session) → entry ≡ Prepare x → IsIn x (prepared_session entry)
+is_prepared entry x is = subst (λ e. IsIn x (prepared_session e)) (sym is) (inl refl)
 
 module _ (setup : Setup) (logs : List Log) where
   abbrev of_leaf : Leaf → List Session
-  of_leaf leaf = prepared leaf.entry
+  of_leaf leaf = prepared_session leaf.entry
 
   committed_in : (x : Session) → IsIn x (committed setup logs) → IsCommitted setup logs x
   committed_in x within =
-      let passed = of_filter (all_commit setup logs) x (sessions_in logs) within in
+      let passed = of_filter (all_logs_commit setup logs) x (sessions_in_logs logs) within in
       let (log, listed, there) = of_flat (λ (log : Log). flat_map of_leaf log.leaves) x logs passed.0 in
       let (leaf, told, here) = of_flat of_leaf x log.leaves there in
       record { log = log; leaf = leaf; listed = listed; told = told; prepared = prepared_is leaf.entry x here; commits = passed.1 }
@@ -122,13 +122,13 @@ module _ (setup : Setup) (logs : List Log) where
   in_committed x is =
       let here = is_prepared is.leaf.entry x is.prepared in
       let there = in_flat of_leaf is.leaf x is.log.leaves is.told here in
-      in_filter (all_commit setup logs) x (sessions_in logs) (in_flat (λ (log : Log). flat_map of_leaf log.leaves) is.log x logs is.listed there) is.commits
+      in_filter (all_logs_commit setup logs) x (sessions_in_logs logs) (in_flat (λ (log : Log). flat_map of_leaf log.leaves) is.log x logs is.listed there) is.commits
 
   -- what was told of a history behind some digests
   record IsTold (ledger : Ledger) (earlier later : List Bytes) : Type 0 where
     pub txs : List Transaction
     pub named : map (λ (tx : Transaction). tx.digest) txs ≡ later
-    pub taken : (tx : Transaction) → IsIn tx txs → IsTaken setup logs tx
+    pub taken : (tx : Transaction) → IsIn tx txs → IsTransactionTaken setup logs tx
     pub serial : Serial ledger txs
     pub differ : all_differ (earlier ++ later) ≡ true
     pub whole : list_all (λ (tx : Transaction). has tx.digest (earlier ++ later)) (transactions setup logs) ≡ true
@@ -146,9 +146,9 @@ module _ (setup : Setup) (logs : List Log) where
         whole = subst (λ ds. list_all (λ (tx : Transaction). has tx.digest ds) (transactions setup logs) ≡ true) (sym (append-nil earlier)) ends.0;
       }
   told_so ledger earlier (d ∷ later) differ none =
-      by (with_digest d (transactions setup logs)) refl (λ next new rest. told_so next (earlier ++ d ∷ []) later new rest) none
+      by (first_with_digest d (transactions setup logs)) refl (λ next new rest. told_so next (earlier ++ d ∷ []) later new rest) none
     where
-      by : (found : Option Transaction) → with_digest d (transactions setup logs) ≡ found
+      by : (found : Option Transaction) → first_with_digest d (transactions setup logs) ≡ found
           → ((next : Ledger) → all_differ (earlier ++ d ∷ []) ≡ true → history_fault (transactions setup logs) next (earlier ++ d ∷ []) later ≡ None
           → IsTold next (earlier ++ d ∷ []) later)
           → then_told ledger d earlier found (λ next. history_fault (transactions setup logs) next (earlier ++ d ∷ []) later) ≡ None

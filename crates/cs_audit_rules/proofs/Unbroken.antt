@@ -4,8 +4,8 @@ use Rattle.std.specs.Prelude.{slice_get}
 use Rattle.std.specs.List.{All}
 use Rattle.std.proofs.lemmas.Option.{slice_get_within, get_or_from_slice_get}
 use Rattle.cs_node_state.specs.Setup.{Setup}
-use Rattle.cs_dump_read.specs.declared.dump.Log.{Log}
-use Rattle.cs_dump_read.specs.Formed.{IsFormedLog}
+use Rattle.cs_audit_dump.specs.declared.dump.Log.{Log}
+use Rattle.cs_audit_dump.specs.Formed.{IsFormedLog}
 use Rattle.cs_audit_rules.specs.Slots.{log_fault, logs_fault}
 use Rattle.cs_audit_rules.specs.Support.{support_fault}
 use Rattle.cs_audit_rules.specs.Verdicts.{setup_in, told_fault}

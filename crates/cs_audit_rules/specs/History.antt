@@ -1,36 +1,36 @@
 -- The history that a dump tells, tested against its logs and the plain ledger.
 use Rattle.std.specs.Prelude.{ℕ, Bool, not, ◌&&◌, bytes_eq, if◌then◌else◌, List, [], ◌∷◌, ◌++◌, length, map, filter, find, Option, Some, None}
 use Rattle.std.specs.List.{flat_map, list_all}
-use Rattle.cs_tx_form.specs.declared.entry.Entry.{Entry}
-use Rattle.cs_tx_form.specs.declared.entry.Entry.TheVariants.{Prepare, Decide}
-use Rattle.cs_tx_form.specs.declared.session.Session.{Session}
+use Rattle.cs_tx_types.specs.declared.entry.Entry.{Entry}
+use Rattle.cs_tx_types.specs.declared.entry.Entry.TheVariants.{Prepare, Decide}
+use Rattle.cs_tx_types.specs.declared.session.Session.{Session}
 use Rattle.cs_ledger.specs.Ledger.{Bytes, Item, Transaction, Ledger, names, has, all_differ, apart, is_well_formed, ledger_after}
 use Rattle.cs_node_state.specs.Setup.{Setup}
-use Rattle.cs_dump_read.specs.declared.dump.Log.{Log}
+use Rattle.cs_audit_dump.specs.declared.dump.Log.{Log}
 use Rattle.cs_audit_rules.specs.declared.verdict.Fault.{Fault}
 use Rattle.cs_audit_rules.specs.declared.verdict.Rule.TheVariants as rule
 use Rattle.cs_audit_rules.specs.Slots.{is_just}
-use Rattle.cs_audit_rules.specs.Support.{all_commit}
+use Rattle.cs_audit_rules.specs.Support.{all_logs_commit}
 
 -- ---- the transactions on which all concerned logs vote commit
 
-abbrev pub prepared : Entry → List Session
-prepared (Prepare x) = x ∷ []
-prepared (Decide vote x) = []
+abbrev pub prepared_session : Entry → List Session
+prepared_session (Prepare x) = x ∷ []
+prepared_session (Decide vote x) = []
 
 -- the sessions of all Prepares, in the order of shards and slots
-abbrev pub sessions_in : List Log → List Session
-sessions_in logs = flat_map (λ log. flat_map (λ leaf. prepared leaf.entry) log.leaves) logs
+abbrev pub sessions_in_logs : List Log → List Session
+sessions_in_logs logs = flat_map (λ log. flat_map (λ leaf. prepared_session leaf.entry) log.leaves) logs
 
 abbrev pub committed : Setup → List Log → List Session
-committed setup logs = filter (all_commit setup logs) (sessions_in logs)
+committed setup logs = filter (all_logs_commit setup logs) (sessions_in_logs logs)
 
 abbrev pub transactions : Setup → List Log → List Transaction
 transactions setup logs = map (λ x. (setup.session_of x).transaction) (committed setup logs)
 
 -- the first of this digest
-abbrev pub with_digest : Bytes → List Transaction → Option Transaction
-with_digest d txs = find (λ tx. bytes_eq d tx.digest) txs
+abbrev pub first_with_digest : Bytes → List Transaction → Option Transaction
+first_with_digest d txs = find (λ tx. bytes_eq d tx.digest) txs
 
 -- ---- the ledger
 
@@ -66,4 +66,4 @@ ends_whole txs earlier =
 abbrev pub history_fault : List Transaction → Ledger → List Bytes → List Bytes → Option Fault
 history_fault txs ledger earlier [] = ends_whole txs earlier
 history_fault txs ledger earlier (d ∷ later) =
-    then_told ledger d earlier (with_digest d txs) (λ next. history_fault txs next (earlier ++ d ∷ []) later)
+    then_told ledger d earlier (first_with_digest d txs) (λ next. history_fault txs next (earlier ++ d ∷ []) later)

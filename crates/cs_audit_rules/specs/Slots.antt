@@ -1,18 +1,18 @@
 -- The rules of a slot, and the first that a shard's log breaks.
 use Rattle.std.specs.Prelude.{ℕ, ◌+◌, ◌==◌, Bool, true, false, not, bytes_eq, if◌then◌else◌, List, [], ◌∷◌, length, slice_get, Option, Some, None, option_map}
 use Rattle.cs_base.specs.Options.{or_else}
-use Rattle.cs_tx_form.specs.declared.checkpoint.Checkpoint.{Checkpoint}
-use Rattle.cs_tx_form.specs.declared.entry.Entry.{Entry}
-use Rattle.cs_tx_form.specs.declared.entry.Entry.TheVariants.{Prepare, Decide}
-use Rattle.cs_tx_form.specs.declared.leaf.Leaf.{Leaf}
+use Rattle.cs_tx_types.specs.declared.checkpoint.Checkpoint.{Checkpoint}
+use Rattle.cs_tx_types.specs.declared.entry.Entry.{Entry}
+use Rattle.cs_tx_types.specs.declared.entry.Entry.TheVariants.{Prepare, Decide}
+use Rattle.cs_tx_types.specs.declared.leaf.Leaf.{Leaf}
 use Rattle.cs_ledger.specs.Ledger.{Bytes}
 use Rattle.cs_ledger.specs.ShardWorld.{vote_eq}
 use Rattle.cs_ledger.specs.Table.{Effect, Voted, Accepted, Aborted, Skipped, Void}
-use Rattle.cs_checkpoint.specs.Chain.{head_of, made_last}
+use Rattle.cs_check_rules.specs.Chain.{head_of, made_last}
 use Rattle.cs_table.specs.Effects.{effect_of}
 use Rattle.cs_node_state.specs.Setup.{Setup, is_fit, is_approved}
-use Rattle.cs_tx_form.specs.Session.{session_in}
-use Rattle.cs_dump_read.specs.declared.dump.Log.{Log}
+use Rattle.cs_tx_types.specs.Session.{session_in}
+use Rattle.cs_audit_dump.specs.declared.dump.Log.{Log}
 use Rattle.cs_audit_rules.specs.declared.verdict.Fault.{Fault}
 use Rattle.cs_audit_rules.specs.declared.verdict.Rule.{Rule}
 use Rattle.cs_audit_rules.specs.declared.verdict.Rule.TheVariants as rule

@@ -2,20 +2,20 @@
 use Rattle.std.specs.Prelude.{ℕ, ◌+◌, Bool, true, false, ◌&&◌, bytes_eq, if◌then◌else◌, List, [], ◌∷◌, Option, Some, None}
 use Rattle.std.specs.List.{list_any, list_all, slice_index_or}
 use Rattle.cs_base.specs.Options.{or_else}
-use Rattle.cs_tx_form.specs.declared.effect.Effect.{Effect}
-use Rattle.cs_tx_form.specs.declared.effect.Effect.TheVariants as effect
-use Rattle.cs_tx_form.specs.declared.entry.Entry.{Entry}
-use Rattle.cs_tx_form.specs.declared.entry.Entry.TheVariants.{Prepare, Decide}
-use Rattle.cs_tx_form.specs.declared.leaf.Leaf.{Leaf}
-use Rattle.cs_tx_form.specs.declared.session.Session.{Session}
+use Rattle.cs_tx_types.specs.declared.effect.Effect.{Effect}
+use Rattle.cs_tx_types.specs.declared.effect.Effect.TheVariants as effect
+use Rattle.cs_tx_types.specs.declared.entry.Entry.{Entry}
+use Rattle.cs_tx_types.specs.declared.entry.Entry.TheVariants.{Prepare, Decide}
+use Rattle.cs_tx_types.specs.declared.leaf.Leaf.{Leaf}
+use Rattle.cs_tx_types.specs.declared.session.Session.{Session}
 use Rattle.cs_ledger.specs.Ledger.{Bytes}
 use Rattle.cs_ledger.specs.ShardWorld.{is_vote}
 use Rattle.cs_ledger.specs.Table.{Vote, Commit, Abort}
 use Rattle.cs_table.specs.Effects.{effect_of}
 use Rattle.cs_node_state.specs.Setup.{Setup, digest_of, concerned}
-use Rattle.cs_tx_form.specs.Session.{session_in}
-use Rattle.cs_dump_read.specs.declared.dump.Log.{Log}
-use Rattle.cs_dump_read.specs.Drafts.{empty_log}
+use Rattle.cs_tx_types.specs.Session.{session_in}
+use Rattle.cs_audit_dump.specs.declared.dump.Log.{Log}
+use Rattle.cs_audit_dump.specs.Drafts.{empty_dump_log}
 use Rattle.cs_audit_rules.specs.declared.verdict.Fault.{Fault}
 use Rattle.cs_audit_rules.specs.declared.verdict.Rule.TheVariants as rule
 use Rattle.cs_audit_rules.specs.Slots.{fault_at}
@@ -33,16 +33,16 @@ has_vote setup vote d log =
     list_any (λ leaf. prepares setup d leaf.entry && is_vote vote (effect_of leaf.result)) log.leaves
 
 abbrev pub log_at : List Log → ℕ → Log
-log_at logs shard = slice_index_or logs shard empty_log
+log_at logs shard = slice_index_or logs shard empty_dump_log
 
 -- every concerned log has a vote commit on the session
-abbrev pub all_commit : Setup → List Log → Session → Bool
-all_commit setup logs x =
+abbrev pub all_logs_commit : Setup → List Log → Session → Bool
+all_logs_commit setup logs x =
     list_all (λ shard. has_vote setup Commit (digest_of setup x) (log_at logs shard)) (concerned setup x)
 
 -- a concerned log has a vote abort on it
-abbrev pub one_aborts : Setup → List Log → Session → Bool
-one_aborts setup logs x =
+abbrev pub one_log_aborts : Setup → List Log → Session → Bool
+one_log_aborts setup logs x =
     list_any (λ shard. has_vote setup Abort (digest_of setup x) (log_at logs shard)) (concerned setup x)
 
 -- ---- support
@@ -50,8 +50,8 @@ one_aborts setup logs x =
 -- an accepted session has all commit votes, an aborted one an abort vote
 abbrev pub supports : Setup → List Log → Session → Effect → Bool
 supports setup logs x (effect.Voted vote) = true
-supports setup logs x effect.Accepted = all_commit setup logs x
-supports setup logs x effect.Aborted = one_aborts setup logs x
+supports setup logs x effect.Accepted = all_logs_commit setup logs x
+supports setup logs x effect.Aborted = one_log_aborts setup logs x
 supports setup logs x effect.Skipped = true
 supports setup logs x effect.Void = true
 

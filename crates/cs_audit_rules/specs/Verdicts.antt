@@ -1,12 +1,12 @@
 -- What is to be answered to a dump.
 use Rattle.std.specs.Prelude.{Bool, List, [], Option, Some, None}
 use Rattle.cs_base.specs.Options.{or_else}
-use Rattle.cs_tx_form.specs.declared.transaction.Tx.{Tx}
-use Rattle.cs_tx.specs.Sessions.{session_of}
+use Rattle.cs_tx_types.specs.declared.transaction.Tx.{Tx}
+use Rattle.cs_tx.specs.Sessions.{ledger_session}
 use Rattle.cs_ledger.specs.Ledger.{Bytes, genesis_ledger}
 use Rattle.cs_node_state.specs.Setup.{Setup}
 use Rattle.cs_node_state.specs.Deployed.{setup_of}
-use Rattle.cs_dump_read.specs.declared.dump.Dump.{Dump}
+use Rattle.cs_audit_dump.specs.declared.dump.Dump.{Dump}
 use Rattle.cs_audit_rules.specs.declared.verdict.Fault.{Fault}
 use Rattle.cs_audit_rules.specs.declared.verdict.Verdict.{Verdict}
 use Rattle.cs_audit_rules.specs.declared.verdict.Verdict.TheVariants.{Yes, No}
@@ -16,7 +16,7 @@ use Rattle.cs_audit_rules.specs.History.{transactions, history_fault}
 
 -- what the configuration and the genesis of a dump fix, where these transactions are approved
 abbrev pub setup_in : (Tx → Bool) → Dump → Setup
-setup_in approves dump = setup_of dump.config dump.genesis (session_of approves)
+setup_in approves dump = setup_of dump.config dump.genesis (ledger_session approves)
 
 abbrev pub told_fault : Setup → Dump → Option Fault
 told_fault setup dump =

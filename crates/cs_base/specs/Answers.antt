@@ -3,7 +3,7 @@ use Rattle.std.specs.Prelude.{◌≡◌, ◌≢◌, ◌⊎◌, ℕ, ◌+◌, ◌
 use Rattle.std.specs.Io.KnownBytes.{Consumes, IsAtEnd, Appends}
 
 -- the text that is read of a source: all bytes left, or one more than the limit
-pub record IsText (limit : ℕ) (old new : Option (List ℕ)) (text : List ℕ) : Type 0 where
+pub record IsSourceText (limit : ℕ) (old new : Option (List ℕ)) (text : List ℕ) : Type 0 where
   pub taken : Consumes old new text
   pub bound : length text ≤ limit + 1
   pub at_end : length text ≤ limit → IsAtEnd new

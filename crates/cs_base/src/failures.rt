@@ -14,7 +14,7 @@ pub struct Failures {
 }
 
 impl Failures {
-    ghost use Rattle.cs_base.specs.Failures.{uncalled, is_listed, CountsCall};
+    ghost use Rattle.cs_base.specs.Failures.{uncalled, call_is_listed, CountsCall};
 
     /// No call has been made yet.
     pub fn new(numbers: Vec<u32>) -> Self
@@ -42,7 +42,7 @@ impl Failures {
 
     // Whether the next call is to fail.
     fn is_listed(&self) -> bool
-        ensures { result ≡ is_listed self.now }
+        ensures { result ≡ call_is_listed self.now }
     {
         let numbers = self.numbers.as_slice();
         numbers

@@ -1,5 +1,5 @@
-//! What every crate stands on: lists, fields of bytes, names of nodes and keys, text, and the
-//! outside.
+//! What every crate stands on: lists, fields of bytes, configuration, names of nodes and keys,
+//! lines of text, values that are changed in steps; and what a program reads from and prints to.
 #![tactic(auto)]
 
 mod compare;
@@ -19,6 +19,7 @@ mod outside;
 mod printing;
 mod reading;
 mod sequence;
+mod whole;
 mod writer;
 
 pub use config::{Config, ConfigField, OutOfRange};
@@ -42,4 +43,5 @@ pub use outside::{Got, Put, Sink, Source};
 pub use printing::{WriteError, print};
 pub use reading::{ReadError, read_text};
 pub use sequence::Sequence;
+pub use whole::Whole;
 pub use writer::Writer;

@@ -1,7 +1,7 @@
 //! Reading a source to its end.
 ghost use Rattle.std.specs.Prelude.{◌≡◌, ◌+◌, ◌<◌, ◌^◌, IfOk, IsErrOf};
 ghost use Rattle.cs_base.specs.Outside.{HasCause};
-ghost use Rattle.cs_base.specs.Answers.{IsText};
+ghost use Rattle.cs_base.specs.Answers.{IsSourceText};
 ghost use Rattle.cs_base.specs.declared.reading.ReadError.TheVariants.{Memory};
 
 use crate::outside::{Got, Source};
@@ -34,7 +34,7 @@ pub fn read_text<S: Source>(
 ) -> Result<Vec<u8>, ReadError>
     requires { limit < 2 ^ 32 }
     ensures text { IfOk result (λ text.
-        IsText limit (S.left input.old) (S.left input.new) text.items) }
+        IsSourceText limit (S.left input.old) (S.left input.new) text.items) }
     ensures cause { HasCause (S.faults input.old) (S.faults input.new)
         (IsErrOf result ReadError.Failed) }
 {

@@ -9,7 +9,7 @@ use Rattle.std.specs.Cmp.{both_tied, unsigned_ties}
 use Rattle.cs_order.specs.Counts.{when}
 use Rattle.cs_base.specs.Options.{or_else}
 use Rattle.cs_order_rules.specs.declared.message.Change.{Change}
-use Rattle.cs_change.specs.Kept.{Filed, Furthest, place_cmp, told_in, with_told, with_change, is_upto, reaches}
+use Rattle.cs_change.specs.Kept.{Filed, Furthest, place_cmp, change_in, with_told, with_change, is_upto, reaches}
 
 or_none : {A : Type 0} (o : Option A) → or_else o None ≡ o
 or_none None = refl
@@ -40,17 +40,17 @@ abbrev pub FiledAt : ℕ → ℕ → Change → Filed → Filed → Type 0
 FiledAt view member change old new =
     (p : ℕ × ℕ) → lookup (is_at (place_cmp p)) new ≡ cond (is_at (place_cmp (view, member)) p) (Some change) (lookup (is_at (place_cmp p)) old)
 
-pub change_added : (changes new : Filed) (view member : ℕ) (change : Change) → told_in changes view member ≡ None → FiledAt view member change changes new → told_in new ≡ with_told true (told_in changes) view member change
+pub change_added : (changes new : Filed) (view member : ℕ) (change : Change) → change_in changes view member ≡ None → FiledAt view member change changes new → change_in new ≡ with_told true (change_in changes) view member change
 change_added changes new view member change none filed =
     fun_ext (λ v. fun_ext (λ m.
     filed (v, m)
-    ∙ ap (λ b. cond b (Some change) (told_in changes v m)) (same_place view member v m)
-    ∙ put ((view == v) && (member == m)) (told_in changes v m) change (λ same. at v m same)))
+    ∙ ap (λ b. cond b (Some change) (change_in changes v m)) (same_place view member v m)
+    ∙ put ((view == v) && (member == m)) (change_in changes v m) change (λ same. at v m same)))
   where
-    at : (v m : ℕ) → ((view == v) && (member == m)) ≡ true → told_in changes v m ≡ None
+    at : (v m : ℕ) → ((view == v) && (member == m)) ≡ true → change_in changes v m ≡ None
     at v m same =
-        subst (λ w. told_in changes w m ≡ None) (eqb-true view v (and_left (view == v) (member == m) same))
-        (subst (λ j. told_in changes view j ≡ None) (eqb-true member m (and_right (view == v) (member == m) same)) none)
+        subst (λ w. change_in changes w m ≡ None) (eqb-true view v (and_left (view == v) (member == m) same))
+        (subst (λ j. change_in changes view j ≡ None) (eqb-true member m (and_right (view == v) (member == m) same)) none)
 
 same_number : (n : ℕ) → (n == n) ≡ true
 same_number n = grind arith
@@ -60,8 +60,8 @@ one_view : (fresh : Bool) (before : ℕ → ℕ → Option Change) (view member 
 one_view true before view member change m = rw (same_number view) refl
 one_view false before view member change m = refl
 
-pub told_added : (fresh : Bool) (changes new : Filed) (view member : ℕ) (change : Change) → told_in new ≡ with_told fresh (told_in changes) view member change → told_in new view ≡ with_change fresh (told_in changes view) member change
-told_added fresh changes new view member change e = ap (λ (found : ℕ → ℕ → Option Change). found view) e ∙ fun_ext (λ m. one_view fresh (told_in changes) view member change m)
+pub told_added : (fresh : Bool) (changes new : Filed) (view member : ℕ) (change : Change) → change_in new ≡ with_told fresh (change_in changes) view member change → change_in new view ≡ with_change fresh (change_in changes view) member change
+told_added fresh changes new view member change e = ap (λ (found : ℕ → ℕ → Option Change). found view) e ∙ fun_ext (λ m. one_view fresh (change_in changes) view member change m)
 
 -- A member that has reached a view has reached each earlier one.
 upto_less : (v w : ℕ) (last : Option ℕ) → v ≤ w → is_upto w last ≡ true → is_upto v last ≡ true

@@ -4,7 +4,7 @@ use Rattle.std.proofs.lemmas.Bool.{or_cases}
 use Rattle.cs_order.specs.Counts.{count_below, any_below}
 use Rattle.cs_order.proofs.Searches.{any_at}
 use Rattle.cs_order_rules.specs.declared.message.Change.{Change}
-use Rattle.cs_order_rules.specs.Safe.{says_none, says_allowed, says_echoed, is_free, is_safe_from, is_safe, SafeAt}
+use Rattle.cs_order_rules.specs.Safe.{says_none, says_allowed, says_echoed, is_free_view, is_safe_from, is_safe, SafeAt}
 use Rattle.cs_change.proofs.Splits.{one_passes}
 use Rattle.cs_change.proofs.Safety.{and_left, and_right, both, or_left, or_right}
 
@@ -17,7 +17,7 @@ module _ (f : ℕ) (changes : ℕ → Option Change) (view : ℕ) (digest : List
 
   safe_said : is_safe f changes view digest ≡ true → SafeAt f changes view digest
   safe_said is =
-      elim (or_cases (is_free f changes) (any_below view (is_safe_from f changes view digest)) is) [
+      elim (or_cases (is_free_view f changes) (any_below view (is_safe_from f changes view digest)) is) [
         | inl free ↦ inl (leb-true (2 * f + 1) (count_below (3 * f + 1) (λ m. says_none (changes m))) free)
         | inr some ↦
             let at = one_passes view (is_safe_from f changes view digest) some in
@@ -25,9 +25,9 @@ module _ (f : ℕ) (changes : ℕ → Option Change) (view : ℕ) (digest : List
       ]
 
   said_safe : SafeAt f changes view digest → is_safe f changes view digest ≡ true
-  said_safe (inl free) = or_left (is_free f changes) (any_below view (is_safe_from f changes view digest)) (le-leb (2 * f + 1) (count_below (3 * f + 1) (λ m. says_none (changes m))) free)
+  said_safe (inl free) = or_left (is_free_view f changes) (any_below view (is_safe_from f changes view digest)) (le-leb (2 * f + 1) (count_below (3 * f + 1) (λ m. says_none (changes m))) free)
   said_safe (inr at) =
-      or_right (is_free f changes) (any_below view (is_safe_from f changes view digest))
+      or_right (is_free_view f changes) (any_below view (is_safe_from f changes view digest))
       (any_at view at.0 (is_safe_from f changes view digest) at.1 (both _ _ (le-leb (2 * f + 1) (allowed at.0) at.2) (le-leb (f + 1) (echoed at.0) at.3)))
 
   pub safe_at : (result : Bool) → result ≡ is_safe f changes view digest → (result ≡ true) ↔ SafeAt f changes view digest

@@ -6,7 +6,7 @@ use Rattle.std.proofs.lemmas.Bool.Decides.{eqb_tells, leb_tells}
 use Rattle.cs_order.specs.Counts.{count_below, any_below, last_below}
 use Rattle.cs_order.proofs.Searches.{any_at}
 use Rattle.cs_order_rules.specs.declared.message.Change.{Change}
-use Rattle.cs_order_rules.specs.Safe.{pair_allows, says_allowed, is_listed, says_echoed, is_free, is_safe_from, is_safe}
+use Rattle.cs_order_rules.specs.Safe.{pair_allows, says_allowed, is_echo_listed, says_echoed, is_free_view, is_safe_from, is_safe}
 use Rattle.cs_change.specs.Kept.{is_echoed}
 use Rattle.cs_change.proofs.Counting.{enough_more, falls_back}
 use Rattle.cs_change.proofs.Splits.{IsLast, last_is, none_passes}
@@ -45,7 +45,7 @@ allowed_more v w digest (Some change) upto is =
     ]
 
 -- A line at a view on is one from each earlier view on.
-line_less : (v w below : ℕ) (digest : List ℕ) (line : List ℕ × ℕ) → v ≤ w → is_listed w below digest line ≡ true → is_listed v below digest line ≡ true
+line_less : (v w below : ℕ) (digest : List ℕ) (line : List ℕ × ℕ) → v ≤ w → is_echo_listed w below digest line ≡ true → is_echo_listed v below digest line ≡ true
 line_less v w below digest line upto is =
     let same = and_left (bytes_eq line.0 digest) (nat_le w line.1 && nat_lt line.1 below) is in
     let in_time = and_right (bytes_eq line.0 digest) (nat_le w line.1 && nat_lt line.1 below) is in
@@ -60,12 +60,12 @@ pub or_right : (a b : Bool) → b ≡ true → (a || b) ≡ true
 or_right true b h = refl
 or_right false b h = h
 
-lines_less : (v w below : ℕ) (digest : List ℕ) (lines : List (List ℕ × ℕ)) → v ≤ w → list_any (is_listed w below digest) lines ≡ true → list_any (is_listed v below digest) lines ≡ true
+lines_less : (v w below : ℕ) (digest : List ℕ) (lines : List (List ℕ × ℕ)) → v ≤ w → list_any (is_echo_listed w below digest) lines ≡ true → list_any (is_echo_listed v below digest) lines ≡ true
 lines_less v w below digest [] upto is = is
 lines_less v w below digest (line ∷ lines) upto is =
-    elim (or_cases (is_listed w below digest line) (list_any (is_listed w below digest) lines) is) [
-      | inl here ↦ or_left (is_listed v below digest line) (list_any (is_listed v below digest) lines) (line_less v w below digest line upto here)
-      | inr later ↦ or_right (is_listed v below digest line) (list_any (is_listed v below digest) lines) (lines_less v w below digest lines upto later)
+    elim (or_cases (is_echo_listed w below digest line) (list_any (is_echo_listed w below digest) lines) is) [
+      | inl here ↦ or_left (is_echo_listed v below digest line) (list_any (is_echo_listed v below digest) lines) (line_less v w below digest line upto here)
+      | inr later ↦ or_right (is_echo_listed v below digest line) (list_any (is_echo_listed v below digest) lines) (lines_less v w below digest lines upto later)
     ]
 
 says_less : (v w below : ℕ) (digest : List ℕ) (change : Option Change) → v ≤ w → says_echoed w below digest change ≡ true → says_echoed v below digest change ≡ true

@@ -36,8 +36,8 @@ pub record KeptChanges : Type 0 where
   pub changes : Filed
 
 -- the change of a member to a view
-abbrev pub told_in : Filed → ℕ → ℕ → Option Change
-told_in changes view member = lookup (is_at (place_cmp (view, member))) changes
+abbrev pub change_in : Filed → ℕ → ℕ → Option Change
+change_in changes view member = lookup (is_at (place_cmp (view, member))) changes
 
 -- the member gave a change to this view or a later one
 abbrev pub is_upto : ℕ → Option ℕ → Bool
@@ -58,8 +58,8 @@ EndsAt f furthest end =
     × ((v : ℕ) → v < end → is_joined f furthest v ≡ true)
     × ((v : ℕ) → end ≤ v → v < view_bound → is_joined f furthest v ≡ false)
 
-abbrev pub told : KeptChanges → ℕ → Option Change
-told k = told_in k.changes k.view
+abbrev pub told_change : KeptChanges → ℕ → Option Change
+told_change k = change_in k.changes k.view
 
 abbrev pub none_told : ℕ → Option Change
 none_told member = None

@@ -1,9 +1,9 @@
 //! Changes to one view.
 ghost use Rattle.std.specs.Prelude.{◌≡◌, ◌*◌, ◌≤◌, ◌<◌, ◌↔◌, IsTrue, not, is_some, IfOk};
 ghost use Rattle.cs_order.specs.Limits.{view_bound};
-ghost use Rattle.cs_order_rules.specs.Safe.{SafeAt, is_free, is_safe};
+ghost use Rattle.cs_order_rules.specs.Safe.{SafeAt, is_free_view, is_safe};
 ghost use Rattle.cs_order_rules.specs.Rules.{pair_of};
-ghost use Rattle.cs_change.specs.Kept.{told, with_change, none_told};
+ghost use Rattle.cs_change.specs.Kept.{told_change, with_change, none_told};
 
 use crate::slot_changes::SlotChanges;
 use cs_base::Memory;
@@ -36,7 +36,7 @@ impl Changes {
         requires above { 1 ≤ view }
         requires below { view < view_bound }
         ensures { IfOk result (λ changes.
-            (changes.f ≡ f) × (changes.view ≡ view) × (told changes ≡ none_told)) }
+            (changes.f ≡ f) × (changes.view ≡ view) × (told_change changes ≡ none_told)) }
     {
         Ok(Changes {
             view,
@@ -47,9 +47,9 @@ impl Changes {
     /// Takes the change of a member. It is false exactly where the member gave one already.
     pub fn add(&mut self, member: u16, change: Change) -> Result<bool, Memory>
         requires { member ≤ 3 * self.old.f }
-        ensures fresh { IfOk result (λ fresh. fresh ≡ not (is_some (told self.old member))) }
+        ensures fresh { IfOk result (λ fresh. fresh ≡ not (is_some (told_change self.old member))) }
         ensures now { IfOk result (λ fresh.
-            told self.new ≡ with_change fresh (told self.old) member change) }
+            told_change self.new ≡ with_change fresh (told_change self.old) member change) }
         ensures same { IfOk result (λ fresh.
             (self.new.f ≡ self.old.f) × (self.new.view ≡ self.old.view)) }
     {
@@ -59,23 +59,23 @@ impl Changes {
     /// An entry with this digest may be proposed in the view,
     /// whatever was chosen in an earlier one.
     pub fn safe(&self, digest: &[u8; 32]) -> bool
-        ensures test { result ≡ is_safe self.now.f (told self.now) self.now.view digest.now }
+        ensures test { result ≡ is_safe self.now.f (told_change self.now) self.now.view digest.now }
         ensures readable { IsTrue result
-            ↔ SafeAt self.now.f (told self.now) self.now.view digest.now }
+            ↔ SafeAt self.now.f (told_change self.now) self.now.view digest.now }
     {
         self.all.safe(self.view, digest)
     }
 
     /// 2f+1 members have no prepared pair, so any entry may be proposed.
     pub fn free(&self) -> bool
-        ensures { result ≡ is_free self.now.f (told self.now) }
+        ensures { result ≡ is_free_view self.now.f (told_change self.now) }
     {
         self.all.free(self.view)
     }
 
     /// The prepared pair of a member: none where it gave no change, or one without a pair.
     pub fn pair(&self, member: u16) -> Option<(u16, [u8; 32])>
-        ensures { result ≡ pair_of (told self.now member) }
+        ensures { result ≡ pair_of (told_change self.now member) }
     {
         self.all.pair(self.view, member)
     }

@@ -1,7 +1,7 @@
 //! What the change of a member claims, where it gave one.
 ghost use Rattle.std.specs.Prelude.{◌≡◌, option_copied};
 ghost use Rattle.std.specs.List.{list_any};
-ghost use Rattle.cs_order_rules.specs.Safe.{says_none, says_allowed, is_listed, says_echoed};
+ghost use Rattle.cs_order_rules.specs.Safe.{says_none, says_allowed, is_echo_listed, says_echoed};
 
 use cs_order_rules::Change;
 
@@ -39,7 +39,7 @@ pub fn lists_echo(change: Option<&Change>, from: u16, below: u16, digest: &[u8; 
 }
 
 fn lists(lines: &[([u8; 32], u16)], from: u16, below: u16, digest: &[u8; 32]) -> bool
-    ensures { result ≡ list_any (is_listed from below digest.now) lines.now }
+    ensures { result ≡ list_any (is_echo_listed from below digest.now) lines.now }
 {
     for line in lines {
         if line.0 == *digest && from <= line.1 && line.1 < below {

@@ -2,9 +2,9 @@
 ghost use Rattle.std.specs.Prelude.{◌≡◌, ℕ, ◌+◌, ◌*◌, ◌≤◌, ◌<◌, ◌==◌, nat_le, ◌&&◌, ◌||◌, [], not, is_some, IfOk, option_copied};
 ghost use Rattle.cs_order.specs.Counts.{count_below, last_below};
 ghost use Rattle.cs_order.specs.Limits.{view_bound};
-ghost use Rattle.cs_order_rules.specs.Safe.{says_none, says_allowed, says_echoed, is_free, is_safe};
+ghost use Rattle.cs_order_rules.specs.Safe.{says_none, says_allowed, says_echoed, is_free_view, is_safe};
 ghost use Rattle.cs_order_rules.specs.Rules.{pair_of};
-ghost use Rattle.cs_change.specs.Kept.{told_in, with_told, reaches, is_joined, is_echoed};
+ghost use Rattle.cs_change.specs.Kept.{change_in, with_told, reaches, is_joined, is_echoed};
 
 use crate::claims;
 use crate::reach::Reach;
@@ -64,10 +64,10 @@ impl SlotChanges {
     /// Takes the change of a member to a view. It is false exactly for a repeat.
     pub fn add(&mut self, view: u16, member: u16, change: Change) -> Result<bool, Memory>
         ensures fresh { IfOk result (λ fresh.
-            fresh ≡ not (is_some (told_in self.old.changes view member))) }
+            fresh ≡ not (is_some (change_in self.old.changes view member))) }
         ensures now { IfOk result (λ fresh.
-            told_in self.new.changes
-            ≡ with_told fresh (told_in self.old.changes) view member change) }
+            change_in self.new.changes
+            ≡ with_told fresh (change_in self.old.changes) view member change) }
         ensures reached { IfOk result (λ fresh. (v m : ℕ) →
             reaches self.new.furthest v m
             ≡ ((fresh && ((member == m) && nat_le v view)) || reaches self.old.furthest v m)) }
@@ -85,7 +85,7 @@ impl SlotChanges {
 
     /// The change of a member to a view.
     pub fn get(&self, view: u16, member: u16) -> Option<&Change>
-        ensures { option_copied result ≡ told_in self.now.changes view member }
+        ensures { option_copied result ≡ change_in self.now.changes view member }
     {
         self.changes.get(&(view, member))
     }
@@ -100,7 +100,7 @@ impl SlotChanges {
     /// An entry with this digest may be proposed in the view,
     /// whatever was chosen in an earlier one.
     pub fn safe(&self, view: u16, digest: &[u8; 32]) -> bool
-        ensures { result ≡ is_safe self.now.f (told_in self.now.changes view) view digest.now }
+        ensures { result ≡ is_safe self.now.f (change_in self.now.changes view) view digest.now }
     {
         if self.free(view) {
             return true;
@@ -114,7 +114,7 @@ impl SlotChanges {
     /// The greatest view below from which on f+1 members echoed the digest.
     fn last_echoed(&self, view: u16, digest: &[u8; 32]) -> Option<u16>
         ensures { result ≡ last_below view
-            (is_echoed self.now.f (told_in self.now.changes view) view digest.now) }
+            (is_echoed self.now.f (change_in self.now.changes view) view digest.now) }
     {
         let mut low = 0;
         let mut high = view;
@@ -131,14 +131,14 @@ impl SlotChanges {
 
     /// 2f+1 members have no prepared pair, so any entry may be proposed in the view.
     pub fn free(&self, view: u16) -> bool
-        ensures { result ≡ is_free self.now.f (told_in self.now.changes view) }
+        ensures { result ≡ is_free_view self.now.f (change_in self.now.changes view) }
     {
         self.count_free(view) > 2 * self.f
     }
 
     /// The prepared pair of a member's change to a view.
     pub fn pair(&self, view: u16, member: u16) -> Option<(u16, [u8; 32])>
-        ensures { result ≡ pair_of (told_in self.now.changes view member) }
+        ensures { result ≡ pair_of (change_in self.now.changes view member) }
     {
         let change = self.get(view, member)?;
         change.prepared
@@ -147,14 +147,14 @@ impl SlotChanges {
     /// f+1 members echoed the digest in a view from this one on.
     fn is_echoed(&self, view: u16, from: u16, digest: &[u8; 32]) -> bool
         ensures { result
-            ≡ is_echoed self.now.f (told_in self.now.changes view) view digest.now from }
+            ≡ is_echoed self.now.f (change_in self.now.changes view) view digest.now from }
     {
         self.count_echoed(view, from, digest) > self.f
     }
 
     fn count_free(&self, view: u16) -> u16
         ensures { result ≡ count_below (3 * self.now.f + 1)
-            (λ member. says_none (told_in self.now.changes view member)) }
+            (λ member. says_none (change_in self.now.changes view member)) }
     {
         let mut count = 0;
         for member in 0..3 * self.f + 1 {
@@ -165,7 +165,7 @@ impl SlotChanges {
 
     fn count_allowed(&self, view: u16, from: u16, digest: &[u8; 32]) -> u16
         ensures { result ≡ count_below (3 * self.now.f + 1)
-            (λ member. says_allowed from digest.now (told_in self.now.changes view member)) }
+            (λ member. says_allowed from digest.now (change_in self.now.changes view member)) }
     {
         let mut count = 0;
         for member in 0..3 * self.f + 1 {
@@ -176,7 +176,7 @@ impl SlotChanges {
 
     fn count_echoed(&self, view: u16, from: u16, digest: &[u8; 32]) -> u16
         ensures { result ≡ count_below (3 * self.now.f + 1)
-            (λ member. says_echoed from view digest.now (told_in self.now.changes view member)) }
+            (λ member. says_echoed from view digest.now (change_in self.now.changes view member)) }
     {
         let mut count = 0;
         for member in 0..3 * self.f + 1 {

@@ -1,7 +1,7 @@
 -- What was made of a log stays as slots come.
 use Rattle.std.proofs.Common.{◌≡◌, ℕ, zero, suc, ◌+◌, ◌*◌, ◌<◌, ◌≤◌, List, [], ◌∷◌, ◌++◌, length, take, drop, refl, ap, ◌∙◌, arith, length-drop}
 use Rattle.std.proofs.lemmas.List.{drop-append-le, take-append-le, get_or_append_left}
-use Rattle.cs_checkpoint.specs.Chain.{Log, head_of, checkpoint_behind, head_before, checkpoint_of, covered_of, covered_below}
+use Rattle.cs_check_rules.specs.Chain.{Log, head_of, checkpoint_behind, head_before, checkpoint_of, covered_of, covered_below}
 
 covered_stays : (number : ℕ) (leaves more : List (List ℕ)) → 16 * number + 16 ≤ length leaves →
     take 16 (drop (16 * number) (leaves ++ more)) ≡ take 16 (drop (16 * number) leaves)

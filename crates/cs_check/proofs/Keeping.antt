@@ -4,13 +4,13 @@ use Rattle.std.specs.Prelude.{◌==◌, slice_get, option_map}
 use Rattle.std.proofs.lemmas.Bool.{cases_lt, eq-eqb, ne_eqb, lt-ltb, le-ltb}
 use Rattle.std.proofs.lemmas.List.{drop-append-le, drop-drop, drop_all, take_all, get_or_append_left, get_or_push, get_or-take, get_or-drop, length_push, map_push, length-map}
 use Rattle.std.proofs.lemmas.Option.{slice_get-get_or, slice_get-map, slice_get_past, get_or_from_slice_get, slice_get_within}
-use Rattle.cs_tx_form.specs.declared.checkpoint.Checkpoint.{Checkpoint}
-use Rattle.cs_tx_form.specs.declared.proof.Proof.{Proof}
-use Rattle.cs_tx_form.specs.Log.{leaf_encoding}
+use Rattle.cs_tx_types.specs.declared.checkpoint.Checkpoint.{Checkpoint}
+use Rattle.cs_tx_types.specs.declared.proof.Proof.{Proof}
+use Rattle.cs_tx_types.specs.Log.{leaf_encoding}
 use Rattle.cs_merkle.specs.Tree.{merkle_tree_hash}
 use Rattle.cs_merkle.specs.Path.{audit_path}
-use Rattle.cs_checkpoint.specs.Chain.{Log, with_slot, head_of, no_head, head_before, checkpoint_of, chain_head, made_last, cut_slot, covered_leaves, IsProofOf, Covered, covered_of, covered_below, all_covered, KeptLog, kept_of}
-use Rattle.cs_check.specs.Kept.{IsProofAt, IsKept, with_leaf, last_head, next_behind, cut_first, with_checkpoint}
+use Rattle.cs_check_rules.specs.Chain.{Log, with_slot, head_of, no_head, head_before, checkpoint_of, chain_head, made_last, cut_slot, covered_leaves, IsProofOf, Covered, covered_of, covered_below, all_covered, KeptLog, kept_of}
+use Rattle.cs_check.specs.Kept.{IsProofAt, IsKeptChain, chain_with_leaf, last_head, next_behind, cut_first, with_checkpoint}
 use Rattle.cs_check.proofs.Chains.{head_stays, below_stays}
 
 -- ---- the checkpoints below a number
@@ -91,7 +91,7 @@ module _ (log : Log) (kept : KeptLog) (is : kept ≡ kept_of log) where
       sym (get_or_from_slice_get (drop k all) place c c here) ∙ get_or-drop k all place c
       ∙ get_or_from_slice_get all (k + place) (covered_of log (k + place)) c (below_at log (count log) (k + place) inside)
 
-  module _ (holds : IsKept kept) where
+  module _ (holds : IsKeptChain kept) where
     slots_are : kept.slots ≡ length log.leaves
     slots_are = ap (λ (k : KeptLog). k.slots) is
 
@@ -136,12 +136,12 @@ last_ones xs x k k' first next =
 
 -- ---- one slot more
 
-module _ (log : Log) (kept : KeptLog) (is : kept ≡ kept_of log) (holds : IsKept kept) (leaf root : List ℕ) where
+module _ (log : Log) (kept : KeptLog) (is : kept ≡ kept_of log) (holds : IsKeptChain kept) (leaf root : List ℕ) where
   abbrev longer : List (List ℕ)
   longer = log.leaves ++ leaf ∷ []
 
   abbrev more_kept : KeptLog
-  more_kept = record (with_leaf leaf kept) { slots = kept.slots + 1 }
+  more_kept = record (chain_with_leaf leaf kept) { slots = kept.slots + 1 }
 
   long : length longer ≡ length log.leaves + 1
   long = length_push log.leaves leaf

@@ -5,3 +5,6 @@ pub mod Every
 pub mod Shown
 pub mod Images
 pub mod Hashing
+pub mod ArchiveCovered
+pub mod Placed
+pub mod Told

@@ -10,14 +10,14 @@ use Rattle.cs_base.specs.Fields.{each}
 use Rattle.cs_base.specs.declared.key.Key.{Key}
 use Rattle.cs_base.specs.declared.key.Key.TheVariants as key
 use Rattle.cs_tx_value.specs.Key.{key_encoding}
-use Rattle.cs_tx_form.specs.declared.vote.Vote.{Vote}
-use Rattle.cs_tx_form.specs.declared.vote.Vote.TheVariants as vote
-use Rattle.cs_tx_form.specs.declared.state.State.{State}
-use Rattle.cs_tx_form.specs.declared.state.State.TheVariants as state
-use Rattle.cs_tx_form.specs.declared.record.Record.{Record}
-use Rattle.cs_tx_form.specs.Session.{vote_encoding}
-use Rattle.cs_tx_form.specs.State.{state_encoding}
-use Rattle.cs_tx_form.specs.Record.{place_encoding, record_encoding}
+use Rattle.cs_tx_types.specs.declared.vote.Vote.{Vote}
+use Rattle.cs_tx_types.specs.declared.vote.Vote.TheVariants as vote
+use Rattle.cs_tx_types.specs.declared.state.State.{State}
+use Rattle.cs_tx_types.specs.declared.state.State.TheVariants as state
+use Rattle.cs_tx_types.specs.declared.record.Record.{Record}
+use Rattle.cs_tx_types.specs.Session.{vote_encoding}
+use Rattle.cs_tx_types.specs.State.{state_encoding}
+use Rattle.cs_tx_types.specs.Record.{place_encoding, record_encoding}
 use Rattle.cs_merkle.specs.Tree.{merkle_tree_hash}
 use Rattle.cs_tx.specs.Sessions.{key_seen}
 use Rattle.cs_ledger.specs.Ledger.{IsIn}
@@ -26,8 +26,8 @@ use Rattle.cs_ledger.specs.Table as table
 use Rattle.cs_ledger.proofs.Basics.{same_key, key_refl}
 use Rattle.cs_table.specs.Seen.{Stored, IsStored, AllStored, vote_of, seen_state, seen_place, seen_record, seen_row, row_in, is_under, unknown_record, seen}
 use Rattle.cs_table.proofs.Rows.{key_cmp}
-use Rattle.cs_check_rules.specs.Keys.{key_order, IsRising, is_known, AreKnown}
-use Rattle.cs_check_rules.specs.Root.{key_bytes, state_bytes, vote_bytes, place_bytes, record_bytes, leaf_under, root_under}
+use Rattle.cs_check_rules.specs.Keys.{key_order, IsRising, is_known_record, AreKnown}
+use Rattle.cs_check_rules.specs.Root.{ledger_key_bytes, state_bytes, vote_bytes, place_bytes, record_bytes, leaf_under, root_under}
 use Rattle.cs_check_rules.proofs.Ordered.{key_order-total}
 use Rattle.cs_check.specs.Root.{record_leaves, keys_in, table_root}
 
@@ -36,7 +36,7 @@ Rows = List (Key × Record)
 
 -- ---- encodings of what is shown
 
-pub key_shown : (k : Key) → key_bytes (key_seen k) ≡ key_encoding k
+pub key_shown : (k : Key) → ledger_key_bytes (key_seen k) ≡ key_encoding k
 key_shown (key.Object name) = refl
 key_shown (key.Dummy shard serial) = refl
 
@@ -75,7 +75,7 @@ rising_seen [] sorted = tt
 rising_seen (row ∷ rows) sorted = (after_seen row.0 rows sorted.0, rising_seen rows sorted.1)
 
 -- the row of a key whose record is known
-known_in : (rows : Rows) (name : ledger.Key) → is_known (seen_row (row_in rows name)) ≡ true → IsIn name (keys_in rows)
+known_in : (rows : Rows) (name : ledger.Key) → is_known_record (seen_row (row_in rows name)) ≡ true → IsIn name (keys_in rows)
 known_in [] name known = absurd (both_ways _ refl known)
 known_in (row ∷ rows) name known =
     elim (cases_Bool (is_under name row.0)) [
@@ -111,26 +111,26 @@ all_found [] sorted = tt
 all_found (row ∷ rows) sorted =
     (rw (key_refl (key_seen row.0)) refl, still_found row rows rows sorted.0 (all_found rows sorted.1))
 
-unknown_is : (s : table.State) (book : table.Book) → is_known (record { state = s; book = book }) ≡ false → Path table.Record (record { state = s; book = book }) unknown_record
+unknown_is : (s : table.State) (book : table.Book) → is_known_record (record { state = s; book = book }) ≡ false → Path table.Record (record { state = s; book = book }) unknown_record
 unknown_is table.Unknown [] e = refl
 unknown_is table.Unknown (place ∷ book) e = absurd (both_ways _ e refl)
 unknown_is (table.Active object) book e = absurd (both_ways _ e refl)
 unknown_is (table.Locked object by) book e = absurd (both_ways _ e refl)
 unknown_is (table.Inactive by) book e = absurd (both_ways _ e refl)
 
-pub stored_known : (r : Record) → IsStored r → is_known (seen_record r) ≡ true
+pub stored_known : (r : Record) → IsStored r → is_known_record (seen_record r) ≡ true
 stored_known r stored =
-    elim (cases_Bool (is_known (seen_record r))) [
+    elim (cases_Bool (is_known_record (seen_record r))) [
       | inl known ↦ known
       | inr unknown ↦ absurd (stored.known (unknown_is (seen_state r.state) (map seen_place r.book) unknown))
     ]
 
 module _ (s : Stored) where
-  known_found : (some : Rows) → AreFound s.rows some → AllStored some → (name : ledger.Key) → IsIn name (keys_in some) → is_known ((seen s).at name) ≡ true
+  known_found : (some : Rows) → AreFound s.rows some → AllStored some → (name : ledger.Key) → IsIn name (keys_in some) → is_known_record ((seen s).at name) ≡ true
   known_found [] found stored name among = absurd among
   known_found (row ∷ some) found stored name (inl same) =
-      ap (λ (k : ledger.Key). is_known (seen_row (row_in s.rows k))) same
-      ∙ ap (λ o. is_known (seen_row o)) found.0 ∙ stored_known row.1 stored.0
+      ap (λ (k : ledger.Key). is_known_record (seen_row (row_in s.rows k))) same
+      ∙ ap (λ o. is_known_record (seen_row o)) found.0 ∙ stored_known row.1 stored.0
   known_found (row ∷ some) found stored name (inr later) = known_found some found.1 stored.1 name later
 
   -- the leaves of rows are those under their keys

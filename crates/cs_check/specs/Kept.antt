@@ -1,12 +1,12 @@
 -- What holds of what a chain keeps, and what the next checkpoint makes of it.
 use Rattle.std.specs.Prelude.{◌≡◌, ℕ, ◌+◌, ◌-◌, ◌*◌, ◌<◌, ◌≤◌, nat_lt, if◌then◌else◌, List, [], ◌∷◌, ◌++◌, length, drop, slice_get, slice_index_or, All, Some}
-use Rattle.cs_tx_form.specs.declared.limits.TheConstants.{COVERED}
-use Rattle.cs_tx_form.specs.declared.checkpoint.Checkpoint.{Checkpoint}
-use Rattle.cs_tx_form.specs.declared.proof.Proof.{Proof}
-use Rattle.cs_tx_form.specs.Log.{leaf_encoding, LeafFits}
+use Rattle.cs_tx_types.specs.declared.limits.TheConstants.{COVERED}
+use Rattle.cs_tx_types.specs.declared.checkpoint.Checkpoint.{Checkpoint}
+use Rattle.cs_tx_types.specs.declared.proof.Proof.{Proof}
+use Rattle.cs_tx_types.specs.Log.{leaf_encoding, LeafFits}
 use Rattle.cs_merkle.specs.Tree.{merkle_tree_hash}
 use Rattle.cs_merkle.specs.Path.{audit_path}
-use Rattle.cs_checkpoint.specs.Chain.{head_of, no_head, IsLeaf, Covered, KeptLog}
+use Rattle.cs_check_rules.specs.Chain.{head_of, no_head, IsLeaf, Covered, KeptLog}
 
 -- ---- a checkpoint and its leaves
 
@@ -25,7 +25,7 @@ pub record IsProofAt (c : Covered) (at : ℕ) (proof : Proof) : Type 0 where
 -- ---- all that is kept
 
 -- so it is also where memory ran out
-pub record IsKept (kept : KeptLog) : Type 0 where
+pub record IsKeptChain (kept : KeptLog) : Type 0 where
   pub enough : COVERED * length kept.heads + length kept.uncovered ≤ kept.slots
   pub few : length kept.uncovered < COVERED
   pub leaves : All IsLeaf kept.uncovered
@@ -42,8 +42,8 @@ kept_by shard slots covered uncovered heads = record {
 }
 
 -- a leaf more that no checkpoint covers yet
-abbrev pub with_leaf : List ℕ → KeptLog → KeptLog
-with_leaf leaf kept = record kept { uncovered = kept.uncovered ++ leaf ∷ [] }
+abbrev pub chain_with_leaf : List ℕ → KeptLog → KeptLog
+chain_with_leaf leaf kept = record kept { uncovered = kept.uncovered ++ leaf ∷ [] }
 
 -- ---- the next checkpoint
 

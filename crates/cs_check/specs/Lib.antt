@@ -1,3 +1,4 @@
 pub mod Root
 pub mod Leaves
 pub mod Kept
+pub mod Archives

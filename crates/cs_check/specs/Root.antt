@@ -1,9 +1,9 @@
 -- The root over the records of a table.
 use Rattle.std.specs.Prelude.{ℕ, List, map}
 use Rattle.cs_base.specs.declared.key.Key.{Key}
-use Rattle.cs_tx_form.specs.declared.record.Record.{Record}
-use Rattle.cs_tx_form.specs.declared.stored.Stored.{Stored}
-use Rattle.cs_tx_form.specs.Record.{stored_encoding}
+use Rattle.cs_tx_types.specs.declared.record.Record.{Record}
+use Rattle.cs_tx_types.specs.declared.stored.Stored.{Stored}
+use Rattle.cs_tx_types.specs.Record.{stored_encoding}
 use Rattle.cs_merkle.specs.Tree.{merkle_tree_hash}
 use Rattle.cs_tx.specs.Sessions.{key_seen}
 use Rattle.cs_ledger.specs.Session as ledger

@@ -1,10 +1,10 @@
 //! The chain of the checkpoints of a shard's log.
 ghost use Rattle.std.specs.Prelude.{◌≡◌, ◌+◌, ◌*◌, ◌≤◌, ◌<◌, ◌↔◌, ◌/◌, [], ◌∷◌, ◌++◌, length, IfOk, OnOk, IsErrOf};
-ghost use Rattle.cs_tx_form.specs.declared.limits.TheConstants.{COVERED, LAST_PLACE};
-ghost use Rattle.cs_merkle.specs.Tree.{leaves_of};
-ghost use Rattle.cs_checkpoint.specs.Chain.{empty_log, with_slot, made_last, chain_head, head_of, checkpoint_of, cut_slot, kept_of, AtItsLog, IsLeaf, IsProofOf};
-ghost use Rattle.cs_checkpoint.specs.Shown.{Shows};
-ghost use Rattle.cs_check.specs.Kept.{next_behind, cut_first, with_leaf, with_checkpoint};
+ghost use Rattle.cs_tx_types.specs.declared.limits.TheConstants.{COVERED, LAST_PLACE};
+ghost use Rattle.cs_merkle.specs.Tree.{leaves_of_vectors};
+ghost use Rattle.cs_check_rules.specs.Chain.{empty_log, with_slot, made_last, chain_head, head_of, checkpoint_of, cut_slot, kept_of, AtItsLog, IsLeaf, IsProofOf};
+ghost use Rattle.cs_check_rules.specs.Shown.{Shows};
+ghost use Rattle.cs_check.specs.Kept.{next_behind, cut_first, chain_with_leaf, with_checkpoint};
 ghost use Rattle.cs_check.specs.Leaves.{HasLeaves, HasLeavesBut};
 ghost use Rattle.cs_check.specs.Root.{table_root as root_of};
 ghost use Rattle.cs_table.specs.Seen.{seen};
@@ -12,10 +12,10 @@ ghost use Rattle.cs_table.specs.Seen.{seen};
 use crate::covered::Covered;
 use crate::hashes::Hashes;
 use cs_base::Memory;
-use cs_checkpoint::{Checkpoint, Digest, KEPT_SLOTS, Proof, checkpoint_head};
+use cs_check_rules::{Checkpoint, Digest, KEPT_SLOTS, Proof, checkpoint_head};
 use cs_merkle::root;
 use cs_table::Table;
-use cs_tx_form::COVERED;
+use cs_tx_types::COVERED;
 use std::alloc::Global;
 use std::collections::VecDeque;
 use std::marker::Model;
@@ -62,19 +62,19 @@ pub struct Chain {
 }
 
 impl Model for Chain {
-    ghost use Rattle.cs_merkle.specs.Tree.{leaves_of};
-    ghost use Rattle.cs_check.specs.Kept.{kept_by, IsKept};
+    ghost use Rattle.cs_merkle.specs.Tree.{leaves_of_vectors};
+    ghost use Rattle.cs_check.specs.Kept.{kept_by, IsKeptChain};
     ghost use Rattle.cs_check.specs.Leaves.{Chained};
 
     ghost Value = { Chained };
 
     ghost view = { λ c. record {
-      kept = kept_by c.shard c.slots c.covered.items (leaves_of c.uncovered.items) c.heads.items;
+      kept = kept_by c.shard c.slots c.covered.items (leaves_of_vectors c.uncovered.items) c.heads.items;
       hashed = c.hashes;
     } };
 
-    ghost invariant = { λ c. IsKept
-        (kept_by c.shard c.slots c.covered.items (leaves_of c.uncovered.items) c.heads.items) };
+    ghost invariant = { λ c. IsKeptChain
+        (kept_by c.shard c.slots c.covered.items (leaves_of_vectors c.uncovered.items) c.heads.items) };
 }
 
 // The checkpoint over these leaves, behind those that have these heads.
@@ -84,7 +84,7 @@ fn next_checkpoint(
     leaves: &[Vec<u8>],
     table_root: Digest,
 ) -> Checkpoint
-    ensures { result ≡ next_behind shard heads.now (leaves_of leaves.now) table_root }
+    ensures { result ≡ next_behind shard heads.now (leaves_of_vectors leaves.now) table_root }
 {
     let previous = match heads.last() {
         Some(head) => *head,
@@ -153,7 +153,7 @@ impl Chain {
             self.old.kept.shard self.old.kept.heads
             (self.old.kept.uncovered ++ leaf.items ∷ []) table_root) }
         ensures kept { IfOk result (λ made.
-            self.new.kept ≡ with_checkpoint made (with_leaf leaf.items self.old.kept)) }
+            self.new.kept ≡ with_checkpoint made (chain_with_leaf leaf.items self.old.kept)) }
         ensures hashed { self.new.hashed ≡ self.old.hashed }
     {
         let mut leaves = mem::replace(&mut self.uncovered, Vec::new(alloc));
@@ -167,9 +167,9 @@ impl Chain {
     }
 
     /// Takes the leaf of the next slot, whose entry was executed on the table last, and takes over
-    /// the leaves of the touched keys; no other record is encoded or hashed. Every 16th leaf makes a
-    /// checkpoint, for which no node is joined twice; from the 65th on one is cut then. After want of
-    /// memory no leaf is known.
+    /// the leaves of the touched keys. Every 16th leaf makes a checkpoint; from the 65th on one is
+    /// cut then. After want of memory no leaf is known. It is written so that no other record is
+    /// encoded or hashed, and no node joined twice for a checkpoint: no clause counts that.
     pub fn push(
         &mut self,
         alloc: Global,

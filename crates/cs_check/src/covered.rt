@@ -1,13 +1,13 @@
 //! A checkpoint with the leaves that it covers.
 ghost use Rattle.std.specs.Prelude.{◌≡◌, ◌<◌, length, IfOk};
-ghost use Rattle.cs_tx_form.specs.declared.limits.TheConstants.{COVERED};
-ghost use Rattle.cs_merkle.specs.Tree.{leaves_of};
+ghost use Rattle.cs_tx_types.specs.declared.limits.TheConstants.{COVERED};
+ghost use Rattle.cs_merkle.specs.Tree.{leaves_of_vectors};
 ghost use Rattle.cs_merkle.specs.Path.{audit_path as path_in};
 ghost use Rattle.cs_check.specs.Kept.{AreAll, IsProofAt};
 
 use crate::leaf::read_leaf;
 use cs_base::{Memory, Sequence};
-use cs_checkpoint::{Checkpoint, Digest, Proof};
+use cs_check_rules::{Checkpoint, Digest, Proof};
 use cs_merkle::path;
 use std::alloc::Global;
 use std::marker::Model;
@@ -20,23 +20,23 @@ pub(crate) struct Covered {
 }
 
 impl Model for Covered {
-    ghost use Rattle.cs_merkle.specs.Tree.{leaves_of};
-    ghost use Rattle.cs_checkpoint.specs.Chain as log;
+    ghost use Rattle.cs_merkle.specs.Tree.{leaves_of_vectors};
+    ghost use Rattle.cs_check_rules.specs.Chain as log;
     ghost use Rattle.cs_check.specs.Kept.{AreAll};
 
     ghost Value = { log.Covered };
 
     ghost view = { λ c. record {
       checkpoint = c.checkpoint;
-      leaves = leaves_of c.leaves.items;
+      leaves = leaves_of_vectors c.leaves.items;
     } };
 
-    ghost invariant = { λ c. AreAll (leaves_of c.leaves.items) };
+    ghost invariant = { λ c. AreAll (leaves_of_vectors c.leaves.items) };
 }
 
 fn audit_path(alloc: Global, leaves: &[Vec<u8>], place: usize) -> Result<Vec<Digest>, Memory>
     requires { place < length leaves.now }
-    ensures { IfOk result (λ hashes. hashes.items ≡ path_in (leaves_of leaves.now) place) }
+    ensures { IfOk result (λ hashes. hashes.items ≡ path_in (leaves_of_vectors leaves.now) place) }
 {
     match path(alloc, leaves, place) {
         Ok(hashes) => Ok(hashes),
@@ -46,10 +46,10 @@ fn audit_path(alloc: Global, leaves: &[Vec<u8>], place: usize) -> Result<Vec<Dig
 
 impl Covered {
     pub(crate) fn new(checkpoint: Checkpoint, leaves: Vec<Vec<u8>>) -> Covered
-        requires { AreAll (leaves_of leaves.items) }
+        requires { AreAll (leaves_of_vectors leaves.items) }
         ensures { result ≡ record {
           checkpoint = checkpoint;
-          leaves = leaves_of leaves.items;
+          leaves = leaves_of_vectors leaves.items;
         } }
     {
         Covered { checkpoint, leaves }

@@ -1,13 +1,13 @@
 //! What a table stores has an encoding: what the table doesn't tell of its limits, the types do.
 ghost use Rattle.std.specs.List.{AllByRecursion};
-ghost use Rattle.cs_tx_form.specs.State.{StateFits};
-ghost use Rattle.cs_tx_form.specs.Record.{PlaceFits, StoredFits};
+ghost use Rattle.cs_tx_types.specs.State.{StateFits};
+ghost use Rattle.cs_tx_types.specs.Record.{PlaceFits, StoredFits};
 ghost use Rattle.cs_table.specs.Seen.{HoldsFit, IsStored};
 
 use cs_base::Key;
 use cs_table::Record;
 use cs_tx::{Digest, State, Vote};
-use cs_tx_form::{digest_fits, key_fits};
+use cs_tx_types::{digest_fits, key_fits};
 
 fn state_fits(state: &State)
     requires { HoldsFit state.now }

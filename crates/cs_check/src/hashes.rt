@@ -2,12 +2,12 @@
 ghost use Rattle.std.specs.Prelude.{◌≡◌, ◌<◌, [], ◌∷◌, IfOk, OnOk};
 ghost use Rattle.std.specs.Map.{keys_of, values_of, lookup};
 ghost use Rattle.cs_tx_value.specs.Key.{key_encoding};
-ghost use Rattle.cs_tx_form.specs.Record.{stored_encoding};
+ghost use Rattle.cs_tx_types.specs.Record.{stored_encoding};
 ghost use Rattle.cs_merkle.specs.Tree.{leaf_hash};
-ghost use Rattle.cs_merkle_kept.specs.Leaves.{AreRising, all_put, entry_of, entries_of};
+ghost use Rattle.cs_merkle_kept.specs.Leaves.{AreRising, all_put, leaf_entry, leaf_entries};
 ghost use Rattle.cs_ledger.specs.Session.{Key as Name};
 ghost use Rattle.cs_table.specs.Seen.{IsStored, is_under, seen};
-ghost use Rattle.cs_check.specs.Leaves.{HasLeaves, HasLeavesBut, AreWaiting, hashes_of, taken};
+ghost use Rattle.cs_check.specs.Leaves.{HasLeaves, HasLeavesBut, AreWaiting, hashes_of, leaves_taken};
 ghost use Rattle.cs_check.specs.Root.{table_root as root_of};
 
 use crate::root::record_leaf;
@@ -15,7 +15,7 @@ use cs_base::{Key, Memory};
 use cs_merkle_kept::{Incremental, Leaf, Steps};
 use cs_table::{Record, Table};
 use cs_tx::{Digest, Encoded};
-use cs_tx_form::key_fits;
+use cs_tx_types::key_fits;
 use std::alloc::Global;
 use std::collections::BTreeMap;
 use std::marker::{Brand, Model};
@@ -30,13 +30,13 @@ pub struct Hashes {
 }
 
 impl Model for Hashes {
-    ghost use Rattle.cs_check.specs.Leaves.{Hashed, IsHashed, hashes_of};
+    ghost use Rattle.cs_check.specs.Leaves.{Hashed, LeavesAreHashed, hashes_of};
 
     ghost Value = { Hashed };
 
     ghost view = { λ h. record { tree = h.tree; waiting = hashes_of h.waiting.entries } };
 
-    ghost invariant = { λ h. IsHashed h.tree h.waiting.entries };
+    ghost invariant = { λ h. LeavesAreHashed h.tree h.waiting.entries };
 }
 
 fn key_bytes(alloc: Global, key: &Key) -> Result<Vec<u8>, Memory>
@@ -49,7 +49,7 @@ fn key_bytes(alloc: Global, key: &Key) -> Result<Vec<u8>, Memory>
 // The leaf of a record, under its encoded key.
 fn hashed(alloc: Global, key: &Key, row: &Record) -> Result<Leaf, Memory>
     requires { IsStored row.now }
-    ensures { IfOk result (λ leaf. entry_of leaf ≡ (
+    ensures { IfOk result (λ leaf. leaf_entry leaf ≡ (
       key_encoding key.now,
       leaf_hash (stored_encoding (record { key = key.now; value = row.now })),
     )) }
@@ -71,7 +71,7 @@ fn take_key(
     ensures fits { AreWaiting waiting.new.entries }
     ensures taken { OnOk result ((name : Name) →
         lookup (is_under name) (hashes_of waiting.new.entries)
-        ≡ taken (seen table.now) (key.now ∷ []) (hashes_of waiting.old.entries) name) }
+        ≡ leaves_taken (seen table.now) (key.now ∷ []) (hashes_of waiting.old.entries) name) }
 {
     match table.record(key) {
         Some(row) => {
@@ -94,7 +94,7 @@ fn take_touched(
     ensures fits { AreWaiting waiting.new.entries }
     ensures taken { OnOk result ((name : Name) →
         lookup (is_under name) (hashes_of waiting.new.entries)
-        ≡ taken (seen table.now) table.now.touched (hashes_of waiting.old.entries) name) }
+        ≡ leaves_taken (seen table.now) table.now.touched (hashes_of waiting.old.entries) name) }
 {
     for key in table.touched() {
         take_key(alloc, waiting, table, key)?;
@@ -108,7 +108,7 @@ fn take_all(alloc: Global, waiting: &mut BTreeMap<Key, Leaf>, table: &Table) -> 
     ensures fits { AreWaiting waiting.new.entries }
     ensures taken { OnOk result ((name : Name) →
         lookup (is_under name) (hashes_of waiting.new.entries)
-        ≡ taken (seen table.now) (keys_of table.now.rows) (hashes_of waiting.old.entries) name) }
+        ≡ leaves_taken (seen table.now) (keys_of table.now.rows) (hashes_of waiting.old.entries) name) }
 {
     for (key, _) in table.records() {
         take_key(alloc, waiting, table, key)?;
@@ -120,7 +120,7 @@ fn take_all(alloc: Global, waiting: &mut BTreeMap<Key, Leaf>, table: &Table) -> 
 fn leaves_of(alloc: Global, waiting: BTreeMap<Key, Leaf>) -> Result<Vec<Leaf>, Memory>
     requires { AreWaiting waiting.entries }
     ensures leaves { IfOk result (λ leaves. leaves.items ≡ values_of waiting.entries) }
-    ensures rising { IfOk result (λ leaves. AreRising (keys_of (entries_of leaves.items))) }
+    ensures rising { IfOk result (λ leaves. AreRising (keys_of (leaf_entries leaves.items))) }
 {
     let mut leaves = Vec::new(alloc);
     for (_, leaf) in waiting {
@@ -136,11 +136,11 @@ fn put_counted<L: Ledger>(
     leaves: Vec<Leaf>,
     blank: Blank,
 ) -> Result<Incremental, Memory>
-    requires rising { AreRising (keys_of (entries_of leaves.items)) }
+    requires rising { AreRising (keys_of (leaf_entries leaves.items)) }
     requires name { blank.name ≡ L.name }
     requires parts { blank.parts ≡ L.parts }
     requires some { 0 < L.parts }
-    ensures { IfOk result (λ new. new ≡ all_put tree (entries_of leaves.items)) }
+    ensures { IfOk result (λ new. new ≡ all_put tree (leaf_entries leaves.items)) }
 {
     let mut tree = tree;
     let mut steps: Steps<L> = Steps::new(blank);
@@ -155,9 +155,9 @@ fn joined(
 ) -> Result<Incremental, Memory>
     requires { AreWaiting waiting.entries }
     ensures new { IfOk result
-        (λ new. new ≡ all_put tree (entries_of (values_of waiting.entries))) }
+        (λ new. new ≡ all_put tree (leaf_entries (values_of waiting.entries))) }
     ensures rising { IfOk result
-        (λ new. AreRising (keys_of (entries_of (values_of waiting.entries)))) }
+        (λ new. AreRising (keys_of (leaf_entries (values_of waiting.entries)))) }
 {
     let leaves = leaves_of(alloc, waiting)?;
     put_counted::<Brand>(alloc, tree, leaves, Blank::new(1))
@@ -176,7 +176,8 @@ impl Hashes {
         })
     }
 
-    /// Takes over the leaves of the touched keys; no other record is encoded or hashed.
+    /// Takes over the leaves of the touched keys. It is written so that no other record is encoded or
+    /// hashed: no clause counts that.
     pub fn take(&mut self, alloc: Global, table: &Table) -> Result<(), Memory>
         requires { HasLeavesBut table.now.touched self.old (seen table.now) }
         ensures { OnOk result (HasLeaves self.new (seen table.now)) }

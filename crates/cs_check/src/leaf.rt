@@ -1,8 +1,8 @@
 //! Leaves, read again.
 ghost use Rattle.std.specs.Prelude.{◌≡◌, ◌<◌, All, length, slice_get, IfOk};
-ghost use Rattle.cs_merkle.specs.Tree.{leaves_of};
-ghost use Rattle.cs_tx_form.specs.Log.{leaf_encoding, LeafFits};
-ghost use Rattle.cs_checkpoint.specs.Chain.{IsLeaf};
+ghost use Rattle.cs_merkle.specs.Tree.{leaves_of_vectors};
+ghost use Rattle.cs_tx_types.specs.Log.{leaf_encoding, LeafFits};
+ghost use Rattle.cs_check_rules.specs.Chain.{IsLeaf};
 
 use cs_base::Memory;
 use cs_tx::{Encoded, Leaf};
@@ -22,10 +22,10 @@ fn decode_leaf(alloc: Global, bytes: &[u8]) -> Result<Leaf, Memory>
 /// The leaf of a slot.
 pub(crate) fn read_leaf(alloc: Global, leaves: &[Vec<u8>], slot: usize) -> Result<Leaf, Memory>
     requires within { slot < length leaves.now }
-    requires leaves { All IsLeaf (leaves_of leaves.now) }
+    requires leaves { All IsLeaf (leaves_of_vectors leaves.now) }
     ensures fits { IfOk result LeafFits }
     ensures leaf { IfOk result (λ leaf.
-        slice_get (leaves_of leaves.now) slot ≡ Some (leaf_encoding leaf)) }
+        slice_get (leaves_of_vectors leaves.now) slot ≡ Some (leaf_encoding leaf)) }
 {
     let leaf = decode_leaf(alloc, leaves[slot].as_slice())?;
     Ok(leaf)

@@ -1,7 +1,7 @@
 //! The root over the records of a table.
 ghost use Rattle.std.specs.Prelude.{◌≡◌, IfOk};
-ghost use Rattle.cs_tx_form.specs.Record.{stored_encoding};
-ghost use Rattle.cs_merkle.specs.Tree.{leaves_of};
+ghost use Rattle.cs_tx_types.specs.Record.{stored_encoding};
+ghost use Rattle.cs_merkle.specs.Tree.{leaves_of_vectors};
 ghost use Rattle.cs_table.specs.Seen.{IsStored, AllStored, seen};
 ghost use Rattle.cs_check_rules.specs.Keys.{AreKnown};
 ghost use Rattle.cs_check_rules.specs.Root.{root_under};
@@ -29,7 +29,7 @@ pub(crate) fn record_leaf(alloc: Global, key: &Key, row: &Record) -> Result<Vec<
 
 fn record_leaves(alloc: Global, rows: Records<'_>) -> Result<Vec<Vec<u8>>, Memory>
     requires { AllStored rows }
-    ensures { IfOk result (λ leaves. leaves_of leaves.items ≡ record_leaves rows.entry) }
+    ensures { IfOk result (λ leaves. leaves_of_vectors leaves.items ≡ record_leaves rows.entry) }
 {
     let mut leaves = Vec::new(alloc);
     for (key, row) in rows {

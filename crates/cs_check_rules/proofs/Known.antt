@@ -7,7 +7,7 @@ use Rattle.cs_ledger.specs.Session.{Session, Rules, Key, Object, Dummy, Piece, k
 use Rattle.cs_ledger.specs.Table.{Vote, Abort, Unknown, Active, Table, Entry, Outcome, made, with_locks, with_vote, with_accepted, with_aborted, new_pieces, session_of, exec, start}
 use Rattle.cs_ledger.proofs.Basics.{same_key, anchor_used}
 use Rattle.cs_ledger.proofs.Changes.{Change, Nothing, Locks, Notes, Accepts, Aborts, change}
-use Rattle.cs_check_rules.specs.Keys.{first_keys, start_keys, with_named, keys_after, is_known, AreKnown}
+use Rattle.cs_check_rules.specs.Keys.{first_keys, start_keys, with_session_keys, keys_after, is_known_record, AreKnown}
 use Rattle.cs_check_rules.proofs.Ordered.{first_rise, named_rise}
 use Rattle.cs_check_rules.proofs.Same.{Covers, are_known}
 use Rattle.cs_check_rules.proofs.Named.{comes, dummies_stay, dummy_comes, named_before, named_used, named_read, named_made}
@@ -23,17 +23,17 @@ none_under (piece ∷ pieces) key without =
 
 -- ---- at the start
 
-start_object : (rules : Rules) (shard : ℕ) (name : Bytes) → is_known ((start rules shard).at (Object name)) ≡ true →
+start_object : (rules : Rules) (shard : ℕ) (name : Bytes) → is_known_record ((start rules shard).at (Object name)) ≡ true →
     IsIn (Object name) (first_keys rules shard)
 start_object rules shard name known =
     elim (cases_Bool (has_key (Object name) (objects_in rules shard rules.genesis))) [
       | inl has ↦ dummies_stay (Object name) shard rules.dummies _ (comes (Object name) (objects_in rules shard rules.genesis) [] has)
       | inr without ↦
           let none = none_under (objects_in rules shard rules.genesis) (Object name) without in
-          absurd (both_ways _ (ap (λ o. is_known (record { state = made o Unknown; book = [] })) none) known)
+          absurd (both_ways _ (ap (λ o. is_known_record (record { state = made o Unknown; book = [] })) none) known)
     ]
 
-start_dummy : (rules : Rules) (shard s serial : ℕ) → is_known ((start rules shard).at (Dummy s serial)) ≡ true →
+start_dummy : (rules : Rules) (shard s serial : ℕ) → is_known_record ((start rules shard).at (Dummy s serial)) ≡ true →
     IsIn (Dummy s serial) (first_keys rules shard)
 start_dummy rules shard s serial known =
     elim (cases_Bool (s == shard && nat_lt serial rules.dummies)) [
@@ -42,7 +42,7 @@ start_dummy rules shard s serial known =
           subst (λ (n : ℕ). IsIn (Dummy n serial) (first_keys rules shard)) (sym (eqb-true s shard parts.0))
           (dummy_comes shard serial rules.dummies _ (ltb-true serial rules.dummies parts.1))
       | inr later ↦
-          absurd (both_ways _ (ap (λ b. is_known (record { state = if b then Active rules.dummy_object else Unknown; book = [] })) later) known)
+          absurd (both_ways _ (ap (λ b. is_known_record (record { state = if b then Active rules.dummy_object else Unknown; book = [] })) later) known)
     ]
 
 start_covered : (rules : Rules) (shard : ℕ) → Covers (first_keys rules shard) (start rules shard)
@@ -58,7 +58,7 @@ start_known rules shard =
 -- a key is named now, or its record stays as it was
 abbrev NamedOrKept : Rules → ℕ → Table → Session → List Key → Table → Type 0
 NamedOrKept rules shard t x keys after =
-    (key : Key) → IsIn key (with_named rules shard t x keys) ⊎ (after.at key ≡ t.at key)
+    (key : Key) → IsIn key (with_session_keys rules shard t x keys) ⊎ (after.at key ≡ t.at key)
 
 module _ (rules : Rules) (shard : ℕ) (t : Table) (x : Session) (keys : List Key) where
   abbrev used : Key → Bool
@@ -71,7 +71,7 @@ module _ (rules : Rules) (shard : ℕ) (t : Table) (x : Session) (keys : List Ke
   new key = has_key key (new_pieces rules shard t x)
 
   -- one of the keys that the session names, or none of them
-  named_or_not : (key : Key) → IsIn key (with_named rules shard t x keys) ⊎ (used key ≡ false) × (read key ≡ false)
+  named_or_not : (key : Key) → IsIn key (with_session_keys rules shard t x keys) ⊎ (used key ≡ false) × (read key ≡ false)
   named_or_not key =
       elim (cases_Bool (used key)) [
         | inl is ↦ inl (named_used rules shard t x keys key is)
@@ -89,7 +89,7 @@ module _ (rules : Rules) (shard : ℕ) (t : Table) (x : Session) (keys : List Ke
       ]
 
   module _ (key : Key) (is : anchor rules x shard ≡ Some key) where
-    at_anchor : (name : Key) → key_eq name key ≡ true → IsIn name (with_named rules shard t x keys)
+    at_anchor : (name : Key) → key_eq name key ≡ true → IsIn name (with_session_keys rules shard t x keys)
     at_anchor name same =
         named_used rules shard t x keys name
         (subst (λ (k : Key). used k ≡ true) (sym (same_key name key same)) (anchor_used rules x shard key is))
@@ -141,17 +141,17 @@ module _ (rules : Rules) (shard : ℕ) (t : Table) (keys : List Key) where
       (subst (λ (o : Outcome). KeptBy x o.table) (sym to) (aborted_or_kept rules shard t x keys key is))
 
   exec_covered : (entry : Entry) → Covers keys t →
-      Covers (with_named rules shard t (session_of entry) keys) (exec rules shard t entry).table
+      Covers (with_session_keys rules shard t (session_of entry) keys) (exec rules shard t entry).table
   exec_covered entry covers key known =
       elim (by_change entry (exec rules shard t entry) (change rules shard t entry) key) [
         | inl named ↦ named
         | inr same ↦
             named_before rules shard t (session_of entry) keys key
-            (covers key (ap is_known (sym same) ∙ known))
+            (covers key (ap is_known_record (sym same) ∙ known))
       ]
 
   pub exec_known : (entry : Entry) → AreKnown keys t →
       AreKnown (keys_after rules shard t entry keys) (exec rules shard t entry).table
   exec_known entry known =
-      are_known (exec rules shard t entry).table (with_named rules shard t (session_of entry) keys)
+      are_known (exec rules shard t entry).table (with_session_keys rules shard t (session_of entry) keys)
       (named_rise rules shard t (session_of entry) keys known.rising) (exec_covered entry known.all)

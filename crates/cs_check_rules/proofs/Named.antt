@@ -5,7 +5,7 @@ use Rattle.cs_ledger.specs.Ledger.{IsIn}
 use Rattle.cs_ledger.specs.Session.{Rules, Session, Key, Dummy, Piece, key_eq, has_key, used_up, read_only}
 use Rattle.cs_ledger.specs.Table.{Table, new_pieces}
 use Rattle.cs_ledger.proofs.Basics.{same_key}
-use Rattle.cs_check_rules.specs.Keys.{key_order, put_by, with_key, with_keys_of, with_dummies, with_named}
+use Rattle.cs_check_rules.specs.Keys.{key_order, put_by, with_key, with_keys_of, with_dummy_keys, with_session_keys}
 use Rattle.cs_check_rules.proofs.Ordered.{one_key}
 
 put_itself : (key first : Key) (o : Ordering) (keys with_others : List Key) → key_order key first ≡ o →
@@ -44,33 +44,33 @@ comes a (piece ∷ pieces) keys has =
       | inr later ↦ comes a pieces (with_key piece.key keys) later
     ]
 
-pub dummies_stay : (a : Key) (shard n : ℕ) (keys : List Key) → IsIn a keys → IsIn a (with_dummies shard n keys)
+pub dummies_stay : (a : Key) (shard n : ℕ) (keys : List Key) → IsIn a keys → IsIn a (with_dummy_keys shard n keys)
 dummies_stay a shard zero keys among = among
-dummies_stay a shard (suc n) keys among = with_others a (Dummy shard n) (with_dummies shard n keys) (dummies_stay a shard n keys among)
+dummies_stay a shard (suc n) keys among = with_others a (Dummy shard n) (with_dummy_keys shard n keys) (dummies_stay a shard n keys among)
 
-pub dummy_comes : (shard serial n : ℕ) (keys : List Key) → serial < n → IsIn (Dummy shard serial) (with_dummies shard n keys)
+pub dummy_comes : (shard serial n : ℕ) (keys : List Key) → serial < n → IsIn (Dummy shard serial) (with_dummy_keys shard n keys)
 dummy_comes shard serial zero keys less = absurd (omega arith)
 dummy_comes shard serial (suc n) keys less =
     elim (cases_lt serial n) [
-      | inl below ↦ with_others (Dummy shard serial) (Dummy shard n) (with_dummies shard n keys) (dummy_comes shard serial n keys below)
+      | inl below ↦ with_others (Dummy shard serial) (Dummy shard n) (with_dummy_keys shard n keys) (dummy_comes shard serial n keys below)
       | inr last ↦
           let at : n ≡ serial = omega arith in
-          subst (λ (k : ℕ). IsIn (Dummy shard k) (with_key (Dummy shard n) (with_dummies shard n keys))) at (with_itself (Dummy shard n) (with_dummies shard n keys))
+          subst (λ (k : ℕ). IsIn (Dummy shard k) (with_key (Dummy shard n) (with_dummy_keys shard n keys))) at (with_itself (Dummy shard n) (with_dummy_keys shard n keys))
     ]
 
 -- ---- the keys that a session names
 
 module _ (rules : Rules) (shard : ℕ) (t : Table) (x : Session) (keys : List Key) (a : Key) where
-  pub named_before : IsIn a keys → IsIn a (with_named rules shard t x keys)
+  pub named_before : IsIn a keys → IsIn a (with_session_keys rules shard t x keys)
   named_before among =
       stays a (used_up rules x shard) _ (stays a (read_only rules x shard) _ (stays a (new_pieces rules shard t x) keys among))
 
-  pub named_used : has_key a (used_up rules x shard) ≡ true → IsIn a (with_named rules shard t x keys)
+  pub named_used : has_key a (used_up rules x shard) ≡ true → IsIn a (with_session_keys rules shard t x keys)
   named_used used = comes a (used_up rules x shard) _ used
 
-  pub named_read : has_key a (read_only rules x shard) ≡ true → IsIn a (with_named rules shard t x keys)
+  pub named_read : has_key a (read_only rules x shard) ≡ true → IsIn a (with_session_keys rules shard t x keys)
   named_read read = stays a (used_up rules x shard) _ (comes a (read_only rules x shard) _ read)
 
-  pub named_made : has_key a (new_pieces rules shard t x) ≡ true → IsIn a (with_named rules shard t x keys)
+  pub named_made : has_key a (new_pieces rules shard t x) ≡ true → IsIn a (with_session_keys rules shard t x keys)
   named_made new =
       stays a (used_up rules x shard) _ (stays a (read_only rules x shard) _ (comes a (new_pieces rules shard t x) keys new))

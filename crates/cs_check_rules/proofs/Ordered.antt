@@ -8,7 +8,7 @@ use Rattle.std.specs.List.{AllByRecursion}
 use Rattle.std.specs.List.Sorted.{IsStrictlySortedBy}
 use Rattle.cs_ledger.specs.Session.{Rules, Session, Key, Object, Dummy, Piece, objects_in, used_up, read_only}
 use Rattle.cs_ledger.specs.Table.{Table, new_pieces}
-use Rattle.cs_check_rules.specs.Keys.{key_order, IsRising, put_by, with_key, with_keys_of, with_dummies, first_keys, with_named}
+use Rattle.cs_check_rules.specs.Keys.{key_order, IsRising, put_by, with_key, with_keys_of, with_dummy_keys, first_keys, with_session_keys}
 
 -- ---- the order
 
@@ -103,9 +103,9 @@ rising_of : (pieces : List Piece) (keys : List Key) → IsRising keys → IsRisi
 rising_of [] keys rising = rising
 rising_of (piece ∷ pieces) keys rising = rising_of pieces (with_key piece.key keys) (rising_with piece.key keys rising)
 
-rising_dummies : (shard n : ℕ) (keys : List Key) → IsRising keys → IsRising (with_dummies shard n keys)
+rising_dummies : (shard n : ℕ) (keys : List Key) → IsRising keys → IsRising (with_dummy_keys shard n keys)
 rising_dummies shard zero keys rising = rising
-rising_dummies shard (suc n) keys rising = rising_with (Dummy shard n) (with_dummies shard n keys) (rising_dummies shard n keys rising)
+rising_dummies shard (suc n) keys rising = rising_with (Dummy shard n) (with_dummy_keys shard n keys) (rising_dummies shard n keys rising)
 
 nothing_rises : IsRising []
 unfolding IsStrictlySortedBy
@@ -116,7 +116,7 @@ first_rise rules shard =
     rising_dummies shard rules.dummies (with_keys_of (objects_in rules shard rules.genesis) [])
     (rising_of (objects_in rules shard rules.genesis) [] nothing_rises)
 
-pub named_rise : (rules : Rules) (shard : ℕ) (t : Table) (x : Session) (keys : List Key) → IsRising keys → IsRising (with_named rules shard t x keys)
+pub named_rise : (rules : Rules) (shard : ℕ) (t : Table) (x : Session) (keys : List Key) → IsRising keys → IsRising (with_session_keys rules shard t x keys)
 named_rise rules shard t x keys rising =
     rising_of (used_up rules x shard) _
     (rising_of (read_only rules x shard) _ (rising_of (new_pieces rules shard t x) keys rising))

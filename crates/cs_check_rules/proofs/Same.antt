@@ -8,7 +8,7 @@ use Rattle.std.proofs.lemmas.List.Kept.{IsStrictlySortedBy-filter}
 use Rattle.cs_ledger.specs.Ledger.{IsIn}
 use Rattle.cs_ledger.specs.Session.{Key}
 use Rattle.cs_ledger.specs.Table.{Table}
-use Rattle.cs_check_rules.specs.Keys.{key_order, IsRising, is_known, AreKnown, known_among}
+use Rattle.cs_check_rules.specs.Keys.{key_order, IsRising, is_known_record, AreKnown, known_among}
 use Rattle.cs_check_rules.proofs.Ordered.{After, key_order-total}
 
 -- ---- what passes a test
@@ -87,11 +87,11 @@ one_list t keys others a b =
 
 -- keys among which each known one is
 abbrev pub Covers : List Key → Table → Type 0
-Covers keys t = (key : Key) → is_known (t.at key) ≡ true → IsIn key keys
+Covers keys t = (key : Key) → is_known_record (t.at key) ≡ true → IsIn key keys
 
 pub are_known : (t : Table) (keys : List Key) → IsRising keys → Covers keys t → AreKnown (known_among t keys) t
 are_known t keys rising covers = record {
-  rising = IsStrictlySortedBy-filter key_order (λ key. is_known (t.at key)) keys rising;
-  known = λ key among. passed key (λ k. is_known (t.at k)) keys among;
-  all = λ key known. in_filter key (λ k. is_known (t.at k)) keys (covers key known) known;
+  rising = IsStrictlySortedBy-filter key_order (λ key. is_known_record (t.at key)) keys rising;
+  known = λ key among. passed key (λ k. is_known_record (t.at k)) keys among;
+  all = λ key known. in_filter key (λ k. is_known_record (t.at k)) keys (covers key known) known;
 }

@@ -1,6 +1,6 @@
 -- The checkpoints that other members of a shard told a node.
 use Rattle.std.specs.Prelude.{ℕ, ◌==◌, nat_lt, Bool, true, if◌then◌else◌, List, [], ◌∷◌, Option, Some, None}
-use Rattle.cs_tx_form.specs.declared.checkpoint.Checkpoint.{Checkpoint}
+use Rattle.cs_tx_types.specs.declared.checkpoint.Checkpoint.{Checkpoint}
 
 -- the last one of each member that told one, under its index
 abbrev pub Heads : Type 0

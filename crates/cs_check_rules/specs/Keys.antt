@@ -46,38 +46,38 @@ abbrev pub is_unknown : State → Bool
 is_unknown Unknown = true
 is_unknown _ = false
 
-abbrev pub is_known : Record → Bool
-is_known r = not (is_unknown r.state && is_empty r.book)
+abbrev pub is_known_record : Record → Bool
+is_known_record r = not (is_unknown r.state && is_empty r.book)
 
 -- exactly those of which the table knows something, in order
 pub record AreKnown (keys : List Key) (t : Table) : Type 0 where
   pub rising : IsRising keys
-  pub known : (key : Key) → IsIn key keys → is_known (t.at key) ≡ true
-  pub all : (key : Key) → is_known (t.at key) ≡ true → IsIn key keys
+  pub known : (key : Key) → IsIn key keys → is_known_record (t.at key) ≡ true
+  pub all : (key : Key) → is_known_record (t.at key) ≡ true → IsIn key keys
 
 -- those of which it knows something, of these
 abbrev pub known_among : Table → List Key → List Key
-known_among t keys = filter (λ key. is_known (t.at key)) keys
+known_among t keys = filter (λ key. is_known_record (t.at key)) keys
 
 -- ---- the known keys as entries come
 
-abbrev pub with_dummies : ℕ → ℕ → List Key → List Key
-with_dummies shard zero keys = keys
-with_dummies shard (suc n) keys = with_key (Dummy shard n) (with_dummies shard n keys)
+abbrev pub with_dummy_keys : ℕ → ℕ → List Key → List Key
+with_dummy_keys shard zero keys = keys
+with_dummy_keys shard (suc n) keys = with_key (Dummy shard n) (with_dummy_keys shard n keys)
 
 -- the keys of the shard's genesis objects and of its first dummies
 abbrev pub first_keys : Rules → ℕ → List Key
-first_keys rules shard = with_dummies shard rules.dummies (with_keys_of (objects_in rules shard rules.genesis) [])
+first_keys rules shard = with_dummy_keys shard rules.dummies (with_keys_of (objects_in rules shard rules.genesis) [])
 
 abbrev pub start_keys : Rules → ℕ → List Key
 start_keys rules shard = known_among (start rules shard) (first_keys rules shard)
 
 -- with those that a session names in a shard, or brings into being there
-abbrev pub with_named : Rules → ℕ → Table → Session → List Key → List Key
-with_named rules shard t x keys =
+abbrev pub with_session_keys : Rules → ℕ → Table → Session → List Key → List Key
+with_session_keys rules shard t x keys =
     with_keys_of (used_up rules x shard)
     (with_keys_of (read_only rules x shard) (with_keys_of (new_pieces rules shard t x) keys))
 
 abbrev pub keys_after : Rules → ℕ → Table → Entry → List Key → List Key
 keys_after rules shard t entry keys =
-    known_among (exec rules shard t entry).table (with_named rules shard t (session_of entry) keys)
+    known_among (exec rules shard t entry).table (with_session_keys rules shard t (session_of entry) keys)

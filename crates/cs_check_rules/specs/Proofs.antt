@@ -1,12 +1,12 @@
 -- The proof of a slot, as a function of the log.
 use Rattle.std.specs.Prelude.{ℕ, ◌*◌, ◌/◌, ◌%◌, nat_le, nat_lt, Bool, ◌&&◌, if◌then◌else◌, length, slice_get, Option, None, option_and_then, option_map}
 use Rattle.cs_base.specs.Fields.{whole_at}
-use Rattle.cs_tx_form.specs.declared.limits.TheConstants.{COVERED}
-use Rattle.cs_tx_form.specs.declared.leaf.Leaf.{Leaf}
-use Rattle.cs_tx_form.specs.declared.proof.Proof.{Proof}
-use Rattle.cs_tx_form.specs.Log.{leaf_at}
+use Rattle.cs_tx_types.specs.declared.limits.TheConstants.{COVERED}
+use Rattle.cs_tx_types.specs.declared.leaf.Leaf.{Leaf}
+use Rattle.cs_tx_types.specs.declared.proof.Proof.{Proof}
+use Rattle.cs_tx_types.specs.Log.{leaf_at}
 use Rattle.cs_merkle.specs.Path.{audit_path}
-use Rattle.cs_checkpoint.specs.Chain.{Log, covered_leaves, checkpoint_of, cut_slot}
+use Rattle.cs_check_rules.specs.Chain.{Log, covered_leaves, checkpoint_of, cut_slot}
 
 -- the leaf of a slot, read of its bytes
 abbrev pub leaf_in : Log → ℕ → Option Leaf

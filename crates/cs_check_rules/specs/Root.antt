@@ -9,9 +9,9 @@ use Rattle.cs_ledger.specs.Table.{Vote, Commit, Abort, State, Unknown, Active, L
 
 -- ---- encodings, where objects are encoded already
 
-abbrev pub key_bytes : Key → Bytes
-key_bytes (Object name) = 0 ∷ name
-key_bytes (Dummy shard serial) = 1 ∷ (to_be_bytes w16 shard ++ to_be_bytes w64 serial)
+abbrev pub ledger_key_bytes : Key → Bytes
+ledger_key_bytes (Object name) = 0 ∷ name
+ledger_key_bytes (Dummy shard serial) = 1 ∷ (to_be_bytes w16 shard ++ to_be_bytes w64 serial)
 
 abbrev pub state_bytes : State → Bytes
 state_bytes Unknown = 0 ∷ []
@@ -33,7 +33,7 @@ record_bytes r = state_bytes r.state ++ (to_be_bytes w16 (length r.book) ++ each
 -- ---- the root
 
 abbrev pub leaf_under : Table → Key → Bytes
-leaf_under t key = key_bytes key ++ record_bytes (t.at key)
+leaf_under t key = ledger_key_bytes key ++ record_bytes (t.at key)
 
 -- the Merkle tree hash over the records of these keys, each behind its key
 abbrev pub root_under : List Key → Table → Bytes

@@ -1,47 +1,47 @@
 -- What a command does, by what its words call for.
 use Rattle.std.proofs.Common.{◌≡◌, ℕ, List, Option, Some, sym, subst}
-use Rattle.cs_outer.specs.Outside.{Outside}
-use Rattle.cs_outer.specs.declared.until.Until.{Until}
+use Rattle.cs_io.specs.Outside.{Outside}
+use Rattle.cs_io.specs.declared.until.Until.{Until}
 use Rattle.cs_cli.specs.declared.words.Command.{Command}
 use Rattle.cs_cli.specs.declared.words.Command.TheVariants.{ReadKeys}
 use Rattle.cs_cli.specs.declared.deployments.Deployment.{Deployment}
 use Rattle.cs_cli.specs.declared.deployments.Deployment.TheVariants.{Node, Client, Keys, Cluster}
 use Rattle.cs_cli.specs.Deployed.{word_at}
-use Rattle.cs_cli.specs.Done.{NodeDoes, ClientDoes, KeysDoes, ClusterDoes, Deploys, ReadKeysDoes, Does}
+use Rattle.cs_cli.specs.Done.{NodeDoes, ClientDoes, KeysDoes, ClusterDoes, DeploymentDoes, ReadKeysDoes, CommandDoes}
 use Rattle.cs_cli.proofs.Outcomes.{one-command}
 
 module _ (words : List (List ℕ)) (a b : Outside) (status : ℕ) where
-  pub does-as : (x y : Command) (command : Option Command) → Some x ≡ command → command ≡ Some y → Does x words a b status → Does y words a b status
-  does-as x y command here there = subst (λ (z : Command). Does z words a b status) (one-command x y command here there)
+  pub does-as : (x y : Command) (command : Option Command) → Some x ≡ command → command ≡ Some y → CommandDoes x words a b status → CommandDoes y words a b status
+  does-as x y command here there = subst (λ (z : Command). CommandDoes z words a b status) (one-command x y command here there)
 
-  pub does-so : (x command : Command) → command ≡ x → Does x words a b status → Does command words a b status
-  does-so x command is = subst (λ (z : Command). Does z words a b status) (sym is)
+  pub does-so : (x command : Command) → command ≡ x → CommandDoes x words a b status → CommandDoes command words a b status
+  does-so x command is = subst (λ (z : Command). CommandDoes z words a b status) (sym is)
 
-  pub read-keys-does : (site : ℕ) (s : List ℕ) (command : Command) → command ≡ ReadKeys site → s ≡ word_at words site → ReadKeysDoes s a b status → Does command words a b status
+  pub read-keys-does : (site : ℕ) (s : List ℕ) (command : Command) → command ≡ ReadKeys site → s ≡ word_at words site → ReadKeysDoes s a b status → CommandDoes command words a b status
   read-keys-does site s command is first does =
       does-so (ReadKeys site) command is (subst (λ (x : List ℕ). ReadKeysDoes x a b status) first does)
 
 module _ (words : List (List ℕ)) (a b : Outside) (status : ℕ) where
-  deploys-so : (x deployment : Deployment) → deployment ≡ x → Deploys x words a b status → Deploys deployment words a b status
-  deploys-so x deployment is = subst (λ (z : Deployment). Deploys z words a b status) (sym is)
+  deploys-so : (x deployment : Deployment) → deployment ≡ x → DeploymentDoes x words a b status → DeploymentDoes deployment words a b status
+  deploys-so x deployment is = subst (λ (z : Deployment). DeploymentDoes z words a b status) (sym is)
 
-  pub node-does : (site keys : ℕ) (until : Until) (s k : List ℕ) (deployment : Deployment) → deployment ≡ Node site keys until → s ≡ word_at words site → k ≡ word_at words keys → NodeDoes s k until a b status → Deploys deployment words a b status
+  pub node-does : (site keys : ℕ) (until : Until) (s k : List ℕ) (deployment : Deployment) → deployment ≡ Node site keys until → s ≡ word_at words site → k ≡ word_at words keys → NodeDoes s k until a b status → DeploymentDoes deployment words a b status
   node-does site keys until s k deployment is first second does =
       deploys-so (Node site keys until) deployment is
       (subst (λ (x : List ℕ). NodeDoes x (word_at words keys) until a b status) first
       (subst (λ (x : List ℕ). NodeDoes s x until a b status) second does))
 
-  pub client-does : (site keys call : ℕ) (until : Until) (s k c : List ℕ) (deployment : Deployment) → deployment ≡ Client site keys call until → s ≡ word_at words site → k ≡ word_at words keys → c ≡ word_at words call → ClientDoes s k c until a b status → Deploys deployment words a b status
+  pub client-does : (site keys call : ℕ) (until : Until) (s k c : List ℕ) (deployment : Deployment) → deployment ≡ Client site keys call until → s ≡ word_at words site → k ≡ word_at words keys → c ≡ word_at words call → ClientDoes s k c until a b status → DeploymentDoes deployment words a b status
   client-does site keys call until s k c deployment is first second third does =
       deploys-so (Client site keys call until) deployment is
       (subst (λ (x : List ℕ). ClientDoes x (word_at words keys) (word_at words call) until a b status) first
       (subst (λ (x : List ℕ). ClientDoes s x (word_at words call) until a b status) second
       (subst (λ (x : List ℕ). ClientDoes s k x until a b status) third does)))
 
-  pub keys-does : (site : ℕ) (master s : List ℕ) (deployment : Deployment) → deployment ≡ Keys site master → s ≡ word_at words site → KeysDoes s master a b status → Deploys deployment words a b status
+  pub keys-does : (site : ℕ) (master s : List ℕ) (deployment : Deployment) → deployment ≡ Keys site master → s ≡ word_at words site → KeysDoes s master a b status → DeploymentDoes deployment words a b status
   keys-does site master s deployment is first does =
       deploys-so (Keys site master) deployment is (subst (λ (x : List ℕ). KeysDoes x master a b status) first does)
 
-  pub cluster-does : (plan : ℕ) (s : List ℕ) (deployment : Deployment) → deployment ≡ Cluster plan → s ≡ word_at words plan → ClusterDoes s a b status → Deploys deployment words a b status
+  pub cluster-does : (plan : ℕ) (s : List ℕ) (deployment : Deployment) → deployment ≡ Cluster plan → s ≡ word_at words plan → ClusterDoes s a b status → DeploymentDoes deployment words a b status
   cluster-does plan s deployment is first does =
       deploys-so (Cluster plan) deployment is (subst (λ (x : List ℕ). ClusterDoes x a b status) first does)

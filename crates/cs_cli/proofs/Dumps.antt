@@ -2,27 +2,27 @@
 use Rattle.std.proofs.Common.{◌≡◌, ℕ, ◌+◌, cond, List, [], ◌∷◌, length, Option, Some, None, Ok, ◌≤◌, true, refl, sym, ap, subst, ◌∙◌, arith}
 use Rattle.std.specs.List.{AllByRecursion, position_from}
 use Rattle.std.proofs.lemmas.List.Elements.{recursion_from_All}
-use Rattle.cs_accept.specs.Accepting.{is_refused}
+use Rattle.cs_types.specs.Accepting.{is_refused}
 use Rattle.cs_sched.specs.Playable.{IsContractText}
 use Rattle.cs_approve.specs.Approval.{is_approved_by}
 use Rattle.cs_approve.specs.Books.{first_refused}
-use Rattle.cs_dump_read.specs.declared.dump.Dump.{Dump}
-use Rattle.cs_dump_read.specs.Formed.{IsFormed}
-use Rattle.cs_dump_read.specs.Text.{dump_of}
-use Rattle.cs_dump_read.proofs.Whole.{given_formed}
+use Rattle.cs_audit_dump.specs.declared.dump.Dump.{Dump}
+use Rattle.cs_audit_dump.specs.Formed.{IsFormed}
+use Rattle.cs_audit_dump.specs.Text.{dump_of}
+use Rattle.cs_audit_dump.proofs.Whole.{given_formed}
 use Rattle.cs_audit_rules.specs.declared.verdict.Fault.{Fault}
 use Rattle.cs_audit_rules.specs.Sound.{SaysSound}
 use Rattle.cs_audit_rules.specs.Verdicts.{first_fault, verdict_by, verdict_of}
 use Rattle.cs_audit_rules.proofs.Unbroken.{unbroken_sound}
-use Rattle.cs_sched_types.specs.declared.schedule.Schedule.{Schedule}
+use Rattle.cs_sched.specs.declared.schedule.Schedule.{Schedule}
 use Rattle.cs_replay_rules.specs.Dumps.{dump_text}
 use Rattle.cs_replay_rules.specs.Play.{Course, Goes, Stops, Forges, played_by}
 use Rattle.cs_node_rules.specs.Site.{Site}
 use Rattle.cs_replay.specs.Answers.{course_status, dump_behind}
 use Rattle.cs_replay.specs.Played.{course_of, world_of}
 use Rattle.cs_replay.specs.Site.{site_of_schedule}
-use Rattle.cs_dump_read.specs.declared.limits.TheConstants.{MOST_DUMP}
-use Rattle.cs_dump_law.specs.Answered.{IsAnsweredYes}
+use Rattle.cs_audit_dump.specs.declared.limits.TheConstants.{MOST_DUMP}
+use Rattle.cs_audit_law.specs.Answered.{IsAnsweredYes}
 use Rattle.cs_cli.specs.Audited.{dump_setup, dump_verdict, verdict_answer, audited, audit_answer, DumpsAreAnsweredYes}
 
 none_refused : (place : ℕ) (texts : List (List ℕ)) → AllByRecursion IsContractText texts → position_from is_refused place texts ≡ None

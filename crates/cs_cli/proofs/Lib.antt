@@ -5,5 +5,13 @@ pub mod Sources
 pub mod Told
 pub mod Dumps
 pub mod Doing
+pub mod Leaving
+pub mod LimitNumbers
 pub mod Longer
 pub mod Subjects
+pub mod Lines
+pub mod ToldOfText
+pub mod Courses
+pub mod Ended
+pub mod Generated
+pub mod Repeats

@@ -3,11 +3,11 @@ use Rattle.std.proofs.Common.{◌≡◌, ℕ, ◌≤◌, Bool, true, false, cond
 use Rattle.std.specs.Prelude.{codes, option_map}
 use Rattle.std.specs.Str.{bytes_eq}
 use Rattle.std.proofs.lemmas.Bool.Decides.{nat_tests}
-use Rattle.cs_command.specs.Numbers.{short_number}
+use Rattle.cs_io.specs.Numbers.{short_number}
 use Rattle.cs_gen.specs.declared.limits.TheConstants.{MOST_SIZE}
-use Rattle.cs_cli.specs.Numbers.{size_in, both, simulated}
-use Rattle.cs_cli.specs.Deployed.{reads_master, deployed}
-use Rattle.cs_cli.specs.Words.{plain_mode, mode_from, flagged, plain, command_of}
+use Rattle.cs_cli.specs.Numbers.{size_in, both_numbers, simulated}
+use Rattle.cs_cli.specs.Deployed.{reads_master, deployment_of_word}
+use Rattle.cs_cli.specs.Words.{plain_mode, mode_from, flagged, plain_command, command_of}
 use Rattle.cs_cli.specs.declared.words.Command.{Command}
 use Rattle.cs_cli.specs.declared.words.Command.TheVariants.{Replay, Contract, Verify, Audit, Simulate, ReadKeys, Deploy}
 
@@ -29,7 +29,7 @@ abbrev size_of_both : Option (ℕ × ℕ) → ℕ
 size_of_both None = 0
 size_of_both (Some said) = said.1
 
-both-small : (number size : Option ℕ) (n s : ℕ) → ((k : ℕ) → size ≡ Some k → k ≤ MOST_SIZE) → both number size ≡ Some (n, s) → s ≤ MOST_SIZE
+both-small : (number size : Option ℕ) (n s : ℕ) → ((k : ℕ) → size ≡ Some k → k ≤ MOST_SIZE) → both_numbers number size ≡ Some (n, s) → s ≤ MOST_SIZE
 both-small None size n s small is = absurd (let q : None ≡ Some (n, s) = is in cc)
 both-small (Some number) None n s small is = absurd (let q : None ≡ Some (n, s) = is in cc)
 both-small (Some number) (Some size) n s small is = subst (λ (k : ℕ). k ≤ MOST_SIZE) (ap size_of_both is) (small size refl)
@@ -60,7 +60,7 @@ other-small : {A : Type 0} (number size : ℕ) (made : A → Command) → ((x : 
 other-small number size made other None is = none-small number size is
 other-small number size made other (Some x) is = absurd (other x (let q : Some (made x) ≡ Some (Simulate number size) = is in cc))
 
-no-plain : (command : Command) (options : List (List ℕ)) (number size : ℕ) → (command ≡ Simulate number size → ⊥) → plain command options ≡ Some (Simulate number size) → size ≤ MOST_SIZE
+no-plain : (command : Command) (options : List (List ℕ)) (number size : ℕ) → (command ≡ Simulate number size → ⊥) → plain_command command options ≡ Some (Simulate number size) → size ≤ MOST_SIZE
 no-plain command [] number size other is = absurd (other (let q : Some command ≡ Some (Simulate number size) = is in cc))
 no-plain command (option ∷ options) number size other is = absurd (let q : None ≡ Some (Simulate number size) = is in cc)
 
@@ -84,4 +84,4 @@ command-small (word ∷ options) number size =
     (either-small number size (bytes_eq word (codes "audit")) _ _ (no-plain Audit options number size (λ q. cc))
     (either-small number size (bytes_eq word (codes "simulate")) _ _ (said-small (simulated options) number size (simulated-small options))
     (either-small number size (bytes_eq word (codes "keys") && reads_master options) _ _ (keys-small number size)
-    (other-small number size Deploy (λ deployment q. cc) (deployed word options)))))))
+    (other-small number size Deploy (λ deployment q. cc) (deployment_of_word word options)))))))

@@ -2,25 +2,25 @@
 use Rattle.std.specs.Prelude.{◌≡◌, ◌≢◌, ℕ, ◌+◌, Bool, List, take, Option, None, Some}
 use Rattle.std.specs.Io.KnownBytes.{Keeps, Appends}
 use Rattle.std.proofs.Common.{refl, inl, inr, subst}
-use Rattle.cs_base.specs.Answers.{Answer, IsText}
+use Rattle.cs_base.specs.Answers.{Answer, IsSourceText}
 use Rattle.cs_base.proofs.Outcomes.{some_text}
 use Rattle.cs_lang_token.specs.declared.limits.TheConstants.{MOST_TEXT}
-use Rattle.cs_contract.specs.Reports.{IsReport}
-use Rattle.cs_cli.specs.Answers.{TellsOf, TellsAccepted, Tells, TellsWhole}
-use Rattle.cs_command.proofs.Sources.{text-read}
+use Rattle.cs_cli.specs.Reports.{IsReport}
+use Rattle.cs_cli.specs.Answers.{TellsOf, TellsContractAccepted, TellsSource, TellsWhole}
+use Rattle.cs_io.proofs.Sources.{text-read}
 
 pub kept : (written : Option (List ℕ)) → Keeps written written
 kept None = tt
 kept (Some bytes) = refl
 
 pub tells-text : (printing : Bool) (left left' written written' : Option (List ℕ)) (Failed : Type 0) (text : List ℕ) (status : ℕ)
-    → IsText MOST_TEXT left left' text → TellsOf printing text written written' status → (status ≢ 8 → TellsAccepted printing text written written' status)
-    → Tells printing left left' written written' Failed status
+    → IsSourceText MOST_TEXT left left' text → TellsOf printing text written written' status → (status ≢ 8 → TellsContractAccepted printing text written written' status)
+    → TellsSource printing left left' written written' Failed status
 tells-text printing left left' written written' Failed text status is told accepted =
     inr (record { text = text; is_text = text-read MOST_TEXT left left' text is; whole = λ other. is; told = told; accepted = accepted })
 
 -- memory ran out before the text was read
-pub untold : (printing : Bool) (left left' written : Option (List ℕ)) (Failed : Type 0) → Tells printing left left' written written Failed 8
+pub untold : (printing : Bool) (left left' written : Option (List ℕ)) (Failed : Type 0) → TellsSource printing left left' written written Failed 8
 untold printing left left' written Failed =
     let (text, is_text) = some_text MOST_TEXT left in
     inr (record {
@@ -32,7 +32,7 @@ untold printing left left' written Failed =
     })
 
 pub tells-whole : (printing : Bool) (left left' written written' : Option (List ℕ)) (Failed : Type 0) (status : ℕ)
-    → Tells printing left left' written written' Failed status → (Failed → ⊥) → status ≢ 6 → TellsWhole printing left written written' status
+    → TellsSource printing left left' written written' Failed status → (Failed → ⊥) → status ≢ 6 → TellsWhole printing left written written' status
 tells-whole printing left left' written written' Failed status (inl (failed, answers)) reads writes = absurd (reads failed)
 tells-whole printing None left' written written' Failed status (inr tells) reads writes = λ other. tt
 tells-whole printing (Some bytes) left' written written' Failed status (inr tells) reads writes = λ other. told-whole tells.text tells.is_text tells.told other

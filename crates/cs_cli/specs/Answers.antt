@@ -1,14 +1,14 @@
 -- What the program answers.
 use Rattle.std.specs.Prelude.{◌≡◌, ◌≢◌, ◌⊎◌, ℕ, ◌+◌, Bool, List, take, codes, Option, IfSome, Ok}
 use Rattle.std.specs.Io.KnownBytes.{Keeps, Appends}
-use Rattle.cs_base.specs.Answers.{Answer, Answers, IsText, IsTextOf}
+use Rattle.cs_base.specs.Answers.{Answer, Answers, IsSourceText, IsTextOf}
 use Rattle.cs_lang_token.specs.declared.limits.TheConstants.{MOST_TEXT}
 use Rattle.cs_lang.specs.declared.tree.ContractTree.{ContractTree}
 use Rattle.cs_lang.specs.Texts.{IsContract}
 use Rattle.cs_types_kinds.specs.declared.scope.Costs.{Costs}
 use Rattle.cs_types.specs.Accepted.{accepted_costs}
-use Rattle.cs_contract.specs.Reports.{IsReport, accepted_answer}
-use Rattle.cs_command.specs.Answers.{read_fault_answer}
+use Rattle.cs_cli.specs.Reports.{IsReport, accepted_answer}
+use Rattle.cs_io.specs.Answers.{read_fault_answer}
 
 abbrev pub words_answer : Answer
 words_answer = record { status = 2; printed = codes "words\n" }
@@ -20,8 +20,8 @@ TellsOf printing text written written' status =
     ⊎ ((status ≡ 8) × Keeps written written')
 
 -- what is accepted by its definition is told so
-abbrev pub TellsAccepted : Bool → List ℕ → Option (List ℕ) → Option (List ℕ) → ℕ → Type 0
-TellsAccepted printing text written written' status =
+abbrev pub TellsContractAccepted : Bool → List ℕ → Option (List ℕ) → Option (List ℕ) → ℕ → Type 0
+TellsContractAccepted printing text written written' status =
     (contract : ContractTree) (costs : List Costs) → IsContract text contract → accepted_costs contract ≡ Ok costs
     → Answers (accepted_answer printing text contract costs) written written' status
 
@@ -29,13 +29,13 @@ TellsAccepted printing text written written' status =
 pub record TellsText (printing : Bool) (left left' written written' : Option (List ℕ)) (status : ℕ) : Type 0 where
   pub text : List ℕ
   pub is_text : IsTextOf MOST_TEXT left text
-  pub whole : status ≢ 8 → IsText MOST_TEXT left left' text
+  pub whole : status ≢ 8 → IsSourceText MOST_TEXT left left' text
   pub told : TellsOf printing text written written' status
-  pub accepted : status ≢ 8 → TellsAccepted printing text written written' status
+  pub accepted : status ≢ 8 → TellsContractAccepted printing text written written' status
 
 -- the source has failed, or its text is told of
-abbrev pub Tells : Bool → Option (List ℕ) → Option (List ℕ) → Option (List ℕ) → Option (List ℕ) → Type 0 → ℕ → Type 0
-Tells printing left left' written written' ReadFailed status =
+abbrev pub TellsSource : Bool → Option (List ℕ) → Option (List ℕ) → Option (List ℕ) → Option (List ℕ) → Type 0 → ℕ → Type 0
+TellsSource printing left left' written written' ReadFailed status =
     (ReadFailed × Answers read_fault_answer written written' status)
     ⊎ TellsText printing left left' written written' status
 

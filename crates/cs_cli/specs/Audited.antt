@@ -4,19 +4,19 @@ use Rattle.cs_base.specs.Answers.{Answer}
 use Rattle.cs_node_state.specs.Setup.{Setup}
 use Rattle.cs_approve.specs.Approval.{is_approved_by}
 use Rattle.cs_text.specs.declared.cause.Refusal.{Refusal}
-use Rattle.cs_sched_types.specs.declared.schedule.Schedule.{Schedule}
+use Rattle.cs_sched.specs.declared.schedule.Schedule.{Schedule}
 use Rattle.cs_node_rules.specs.Collisions.{NoCollision}
 use Rattle.cs_replay.specs.Answers.{refusal_answer, course_status, dump_behind}
 use Rattle.cs_replay.specs.Played.{course_of, world_of, history_of}
 use Rattle.cs_replay.specs.Site.{site_of_schedule}
-use Rattle.cs_dump_read.specs.declared.limits.TheConstants.{MOST_DUMP}
-use Rattle.cs_dump_read.specs.declared.dump.Dump.{Dump}
-use Rattle.cs_dump_read.specs.Text.{dump_of}
+use Rattle.cs_audit_dump.specs.declared.limits.TheConstants.{MOST_DUMP}
+use Rattle.cs_audit_dump.specs.declared.dump.Dump.{Dump}
+use Rattle.cs_audit_dump.specs.Text.{dump_of}
 use Rattle.cs_audit_rules.specs.declared.verdict.Verdict.{Verdict}
 use Rattle.cs_audit_rules.specs.declared.verdict.Verdict.TheVariants.{Yes}
 use Rattle.cs_audit_rules.specs.Verdicts.{setup_in, verdict_of}
 use Rattle.cs_audit.specs.Printed.{verdict_text, verdict_status}
-use Rattle.cs_dump_law.specs.Answered.{digests}
+use Rattle.cs_audit_law.specs.Answered.{digests}
 
 -- what a dump fixes
 abbrev pub dump_setup : Dump → Setup

@@ -1,10 +1,10 @@
 -- The words of the commands of a deployment. Where `--turns N` or `--ticks N` stands among the files is free.
 use Rattle.std.specs.Prelude.{ℕ, Bool, false, not, ◌&&◌, ◌||◌, ◌==◌, List, [], ◌∷◌, codes, slice_index_or, Option, Some, None, option_map, if◌then◌else◌}
 use Rattle.std.specs.Str.{bytes_eq}
-use Rattle.cs_command.specs.Numbers.{short_number}
-use Rattle.cs_deploy_keys.specs.Master.{master_in}
-use Rattle.cs_outer.specs.declared.until.Until.{Until}
-use Rattle.cs_outer.specs.declared.until.Until.TheVariants.{Turns, Ticks}
+use Rattle.cs_io.specs.Numbers.{short_number}
+use Rattle.cs_deploy.specs.Master.{master_in}
+use Rattle.cs_io.specs.declared.until.Until.{Until}
+use Rattle.cs_io.specs.declared.until.Until.TheVariants.{Turns, Ticks}
 use Rattle.cs_cli.specs.declared.deployments.Deployment.{Deployment}
 use Rattle.cs_cli.specs.declared.deployments.Deployment.TheVariants.{Node, Client, Keys, Cluster}
 
@@ -36,14 +36,14 @@ until_in word number =
 -- ---- `node FILE FILE`, with one of them once
 
 -- the places of the site and the keys, and how long it runs
-abbrev pub node_at : ℕ → ℕ → List ℕ → List ℕ → Option Deployment
-node_at site keys limit number = option_map (Node site keys) (until_in limit number)
+abbrev pub node_deployment : ℕ → ℕ → List ℕ → List ℕ → Option Deployment
+node_deployment site keys limit number = option_map (Node site keys) (until_in limit number)
 
 abbrev pub node_called : List (List ℕ) → Option Deployment
 node_called (a ∷ b ∷ c ∷ d ∷ []) =
-    if is_limit c && are_files a b then node_at 1 2 c d
-    else if is_limit b && are_files a d then node_at 1 4 b c
-    else if is_limit a && are_files c d then node_at 3 4 a b
+    if is_limit c && are_files a b then node_deployment 1 2 c d
+    else if is_limit b && are_files a d then node_deployment 1 4 b c
+    else if is_limit a && are_files c d then node_deployment 3 4 a b
     else None
 node_called _ = None
 
@@ -78,8 +78,8 @@ cluster_called (a ∷ []) = if is_file a then Some (Cluster 1) else None
 cluster_called _ = None
 
 -- the command of a deployment of this word, with the words behind it
-abbrev pub deployed : List ℕ → List (List ℕ) → Option Deployment
-deployed word options =
+abbrev pub deployment_of_word : List ℕ → List (List ℕ) → Option Deployment
+deployment_of_word word options =
     if bytes_eq word (codes "node") then node_called options
     else if bytes_eq word (codes "client") then client_called options
     else if bytes_eq word (codes "keys") then keys_called options

@@ -3,27 +3,27 @@ use Rattle.std.specs.Prelude.{◌≡◌, ℕ, Bool, List, Option}
 use Rattle.std.specs.Io.KnownBytes.{Keeps}
 use Rattle.cs_base.specs.Answers.{Answers}
 use Rattle.cs_base.specs.declared.limits.TheConstants.{MOST_SCHEDULE}
-use Rattle.cs_command.specs.Answers.{Gives, GivesWhole}
-use Rattle.cs_outer.specs.Told.{Stays}
-use Rattle.cs_outer.specs.Store.{Files}
-use Rattle.cs_outer.specs.Outside.{Outside, beside, faults_of, Faulty, Faultless}
-use Rattle.cs_outer.specs.declared.until.Until.{Until}
+use Rattle.cs_io.specs.Answers.{SourceGives, GivesWhole}
+use Rattle.cs_io.specs.Told.{Stays}
+use Rattle.cs_io.specs.Store.{Files}
+use Rattle.cs_io.specs.Outside.{Outside, beside, faults_of, Faulty, Faultless}
+use Rattle.cs_io.specs.declared.until.Until.{Until}
 use Rattle.cs_replay.specs.Answers.{Replays, Completes}
 use Rattle.cs_replay.specs.declared.schedule.Mode.{Mode}
-use Rattle.cs_simulate.specs.Simulated.{simulate_answer}
-use Rattle.cs_simulate.specs.Reports.{AnswersWhole}
-use Rattle.cs_take.specs.declared.keys.Role.TheVariants as role
-use Rattle.cs_take.specs.Taking.{Comes}
-use Rattle.cs_take.specs.Files.{setup_taken, site_taken, cluster_taken}
-use Rattle.cs_take.specs.Calls.{ClientComes}
-use Rattle.cs_deploy_keys.specs.Untaken.{IsDecided}
-use Rattle.cs_deploy_keys.specs.Keys.{KeysRuns}
-use Rattle.cs_deploy_keys.specs.ReadKeys.{ReadKeysRuns, EndsAsRead}
-use Rattle.cs_deploy_keys.specs.Cluster.{ClusterRuns}
+use Rattle.cs_cli.specs.Simulated.{simulate_answer}
+use Rattle.cs_cli.specs.SimulatedReports.{AnswersWhole}
+use Rattle.cs_deploy.specs.declared.keys.Role.TheVariants as role
+use Rattle.cs_deploy.specs.Taking.{FilesCome}
+use Rattle.cs_deploy.specs.Files.{setup_taken, site_taken, cluster_taken}
+use Rattle.cs_deploy.specs.Calls.{ClientComes}
+use Rattle.cs_deploy.specs.Untaken.{IsDecided}
+use Rattle.cs_deploy.specs.Keys.{KeysRuns}
+use Rattle.cs_deploy.specs.ReadKeys.{ReadKeysRuns, EndsAsRead}
+use Rattle.cs_deploy.specs.Cluster.{ClusterRuns}
 use Rattle.cs_deploy.specs.Node.{NodeRuns}
 use Rattle.cs_deploy.specs.Client.{ClientRuns, IsToldOf}
-use Rattle.cs_cli.specs.Answers.{Tells, TellsWhole}
-use Rattle.cs_cli.specs.Examined.{most_in, answer_to}
+use Rattle.cs_cli.specs.Answers.{TellsSource, TellsWhole}
+use Rattle.cs_cli.specs.Examined.{most_in, examined_answer}
 use Rattle.cs_cli.specs.Deployed.{word_at}
 use Rattle.cs_cli.specs.declared.examining.Subject.{Subject}
 use Rattle.cs_cli.specs.declared.examining.Subject.TheVariants.{Claim, Dump}
@@ -35,19 +35,19 @@ use Rattle.cs_cli.specs.declared.words.Command.TheVariants.{Replay, Contract, Ve
 -- ---- what decides where no fault came about
 
 abbrev pub NodeDecided : List ℕ → List ℕ → Option Files → ℕ → Type 0
-NodeDecided site keys = IsDecided (Comes (setup_taken role.Node site keys)) (λ status. status ≡ 0)
+NodeDecided site keys = IsDecided (FilesCome (setup_taken role.Node site keys)) (λ status. status ≡ 0)
 
 abbrev pub ClientDecided : List ℕ → List ℕ → List ℕ → Option Files → ℕ → Type 0
 ClientDecided site keys call = IsDecided (ClientComes site keys call) IsToldOf
 
 abbrev pub KeysDecided : List ℕ → Option Files → ℕ → Type 0
-KeysDecided site = IsDecided (Comes (site_taken site)) (λ status. status ≡ 0)
+KeysDecided site = IsDecided (FilesCome (site_taken site)) (λ status. status ≡ 0)
 
 abbrev pub ClusterDecided : List ℕ → Option Files → ℕ → Type 0
-ClusterDecided plan = IsDecided (Comes (cluster_taken plan)) (λ status. status ≡ 0)
+ClusterDecided plan = IsDecided (FilesCome (cluster_taken plan)) (λ status. status ≡ 0)
 
 abbrev pub ReadKeysDecided : List ℕ → Option (List ℕ) → Option Files → ℕ → Type 0
-ReadKeysDecided site left = IsDecided (Comes (site_taken site)) (EndsAsRead left)
+ReadKeysDecided site left = IsDecided (FilesCome (site_taken site)) (EndsAsRead left)
 
 -- ---- commands of a text
 
@@ -60,17 +60,17 @@ pub record ReplayDoes (mode : Mode) (old new : Outside) (status : ℕ) : Type 0 
 
 -- `contract` tells of the contract that the source holds, or of its first fault
 pub record ContractDoes (printing : Bool) (old new : Outside) (status : ℕ) : Type 0 where
-  pub tells : Tells printing old.source.told new.source.told old.sink.told new.sink.told
+  pub tells : TellsSource printing old.source.told new.source.told old.sink.told new.sink.told
       (Faulty faults_of old.source new.source) status
   pub whole : Faultless faults_of old.source new.source → Faultless faults_of old.sink new.sink
       → TellsWhole printing old.source.told old.sink.told new.sink.told status
 
 -- `verify` and `audit` answer what the claim or the dump comes to that the source holds
 pub record ExamineDoes (subject : Subject) (old new : Outside) (status : ℕ) : Type 0 where
-  pub gives : Gives (most_in subject) (answer_to subject) old.source.told new.source.told old.sink.told new.sink.told
+  pub gives : SourceGives (most_in subject) (examined_answer subject) old.source.told new.source.told old.sink.told new.sink.told
       (Faulty faults_of old.source new.source) status
   pub whole : Faultless faults_of old.source new.source → Faultless faults_of old.sink new.sink
-      → GivesWhole (most_in subject) (answer_to subject) old.source.told old.sink.told new.sink.told status
+      → GivesWhole (most_in subject) (examined_answer subject) old.source.told old.sink.told new.sink.told status
 
 -- `simulate` answers what the schedule of its number and size comes to, and nothing is read
 pub record SimulateDoes (number size : ℕ) (old new : Outside) (status : ℕ) : Type 0 where
@@ -121,19 +121,19 @@ pub record ClusterDoes (plan : List ℕ) (old new : Outside) (status : ℕ) : Ty
 
 -- ---- all commands
 
-abbrev pub Deploys : Deployment → List (List ℕ) → Outside → Outside → ℕ → Type 0
-Deploys (Node site keys until) words = NodeDoes (word_at words site) (word_at words keys) until
-Deploys (Client site keys call until) words =
+abbrev pub DeploymentDoes : Deployment → List (List ℕ) → Outside → Outside → ℕ → Type 0
+DeploymentDoes (Node site keys until) words = NodeDoes (word_at words site) (word_at words keys) until
+DeploymentDoes (Client site keys call until) words =
     ClientDoes (word_at words site) (word_at words keys) (word_at words call) until
-Deploys (Keys site master) words = KeysDoes (word_at words site) master
-Deploys (Cluster plan) words = ClusterDoes (word_at words plan)
+DeploymentDoes (Keys site master) words = KeysDoes (word_at words site) master
+DeploymentDoes (Cluster plan) words = ClusterDoes (word_at words plan)
 
 -- what a command does, whose files are among the words
-abbrev pub Does : Command → List (List ℕ) → Outside → Outside → ℕ → Type 0
-Does (Replay mode) words = ReplayDoes mode
-Does (Contract printing) words = ContractDoes printing
-Does Verify words = ExamineDoes Claim
-Does Audit words = ExamineDoes Dump
-Does (Simulate number size) words = SimulateDoes number size
-Does (ReadKeys site) words = ReadKeysDoes (word_at words site)
-Does (Deploy deployment) words = Deploys deployment words
+abbrev pub CommandDoes : Command → List (List ℕ) → Outside → Outside → ℕ → Type 0
+CommandDoes (Replay mode) words = ReplayDoes mode
+CommandDoes (Contract printing) words = ContractDoes printing
+CommandDoes Verify words = ExamineDoes Claim
+CommandDoes Audit words = ExamineDoes Dump
+CommandDoes (Simulate number size) words = SimulateDoes number size
+CommandDoes (ReadKeys site) words = ReadKeysDoes (word_at words site)
+CommandDoes (Deploy deployment) words = DeploymentDoes deployment words

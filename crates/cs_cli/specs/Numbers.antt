@@ -1,6 +1,6 @@
 -- The number and the size of a simulation, as words.
 use Rattle.std.specs.Prelude.{ℕ, nat_lt, nat_le, ◌&&◌, List, [], ◌∷◌, Option, Some, None, if◌then◌else◌}
-use Rattle.cs_command.specs.Numbers.{short_number}
+use Rattle.cs_io.specs.Numbers.{short_number}
 use Rattle.cs_gen.specs.declared.limits.TheConstants.{MOST_SIZE}
 
 -- a number that is the size of a simulation
@@ -9,14 +9,14 @@ size_in None = None
 size_in (Some size) = if nat_lt 0 size && nat_le size MOST_SIZE then Some size else None
 
 -- two of them
-abbrev pub both : Option ℕ → Option ℕ → Option (ℕ × ℕ)
-both None size = None
-both (Some number) None = None
-both (Some number) (Some size) = Some (number, size)
+abbrev pub both_numbers : Option ℕ → Option ℕ → Option (ℕ × ℕ)
+both_numbers None size = None
+both_numbers (Some number) None = None
+both_numbers (Some number) (Some size) = Some (number, size)
 
 -- they are all words behind the command
 abbrev pub simulated : List (List ℕ) → Option (ℕ × ℕ)
 simulated [] = None
 simulated (number ∷ []) = None
-simulated (number ∷ size ∷ []) = both (short_number number) (size_in (short_number size))
+simulated (number ∷ size ∷ []) = both_numbers (short_number number) (size_in (short_number size))
 simulated (number ∷ size ∷ other ∷ options) = None

@@ -2,13 +2,13 @@
 use Rattle.std.specs.Prelude.{ℕ, Bool, true, false, not, ◌&&◌, List, [], ◌∷◌, Option, Some, None, codes, if◌then◌else◌, map, option_map, String, string_bytes}
 use Rattle.std.specs.declared.alloc.Global.{Global}
 use Rattle.std.specs.Str.{bytes_eq}
-use Rattle.cs_outer.specs.declared.until.Until.{Until}
+use Rattle.cs_io.specs.declared.until.Until.{Until}
 use Rattle.cs_replay.specs.declared.schedule.Mode.{Mode}
 use Rattle.cs_cli.specs.declared.words.Command.{Command}
 use Rattle.cs_cli.specs.declared.words.Command.TheVariants.{Replay, Contract, Verify, Audit, Simulate, ReadKeys, Deploy}
 use Rattle.cs_cli.specs.declared.deployments.Deployment.TheVariants as deployment
 use Rattle.cs_cli.specs.Numbers.{simulated}
-use Rattle.cs_cli.specs.Deployed.{reads_master, deployed}
+use Rattle.cs_cli.specs.Deployed.{reads_master, deployment_of_word}
 
 -- what the words say, each as its bytes
 abbrev pub texts_of : List (String Global) → List (List ℕ)
@@ -43,9 +43,9 @@ flagged flag (option ∷ []) = if bytes_eq option flag then Some true else None
 flagged flag (option ∷ other ∷ options) = None
 
 -- a command without options
-abbrev pub plain : Command → List (List ℕ) → Option Command
-plain command [] = Some command
-plain command (option ∷ options) = None
+abbrev pub plain_command : Command → List (List ℕ) → Option Command
+plain_command command [] = Some command
+plain_command command (option ∷ options) = None
 
 -- the commands of a deployment
 abbrev pub Node : ℕ → ℕ → Until → Command
@@ -61,17 +61,17 @@ abbrev pub Cluster : ℕ → Command
 Cluster plan = Deploy (deployment.Cluster plan)
 
 -- the command of a word and the words behind it
-abbrev pub called : List ℕ → List (List ℕ) → Option Command
-called word options =
+abbrev pub command_of_word : List ℕ → List (List ℕ) → Option Command
+command_of_word word options =
     if bytes_eq word (codes "replay") then option_map Replay (mode_from plain_mode options)
     else if bytes_eq word (codes "contract") then option_map Contract (flagged (codes "--print") options)
-    else if bytes_eq word (codes "verify") then plain Verify options
-    else if bytes_eq word (codes "audit") then plain Audit options
+    else if bytes_eq word (codes "verify") then plain_command Verify options
+    else if bytes_eq word (codes "audit") then plain_command Audit options
     else if bytes_eq word (codes "simulate") then option_map (λ said. Simulate said.0 said.1) (simulated options)
     else if bytes_eq word (codes "keys") && reads_master options then Some (ReadKeys 1)
-    else option_map Deploy (deployed word options)
+    else option_map Deploy (deployment_of_word word options)
 
 -- the command that the words call for, or none where they are outside the grammar
 abbrev pub command_of : List (List ℕ) → Option Command
 command_of [] = None
-command_of (word ∷ options) = called word options
+command_of (word ∷ options) = command_of_word word options

@@ -3,26 +3,29 @@ ghost use Rattle.std.specs.Prelude.{◌≡◌, ◌≢◌, ℕ, List, Ok, Err};
 ghost use Rattle.cs_base.specs.Outside.{HasCause};
 ghost use Rattle.cs_base.specs.Answers.{Answers};
 ghost use Rattle.cs_approve.specs.Approval.{is_approved};
-ghost use Rattle.cs_dump_read.specs.Formed.{IsFormed};
-ghost use Rattle.cs_dump_read.specs.Text.{dump_of};
-ghost use Rattle.cs_dump_read.specs.declared.dump.Dump.{Dump as AnyDump};
-ghost use Rattle.cs_dump_read.specs.declared.limits.TheConstants.{MOST_DUMP};
+ghost use Rattle.cs_audit_dump.specs.Formed.{IsFormed};
+ghost use Rattle.cs_audit_dump.specs.Text.{dump_of};
+ghost use Rattle.cs_audit_dump.specs.declared.dump.Dump.{Dump as AnyDump};
+ghost use Rattle.cs_audit_dump.specs.declared.limits.TheConstants.{MOST_DUMP};
 ghost use Rattle.cs_audit_rules.specs.Sound.{SaysSound};
 ghost use Rattle.cs_audit_rules.specs.Verdicts.{verdict_of};
 ghost use Rattle.cs_cli.specs.Audited.{audited, audit_answer, dump_setup, dump_verdict, verdict_answer};
 
 use cs_approve::{Book, BookError};
 use cs_audit::{Verdict, audit, verdict_status, verdict_text};
+use cs_audit_dump::{Dump, parse_dump};
 use cs_base::{Sink, print};
-use cs_command::closing;
-use cs_dump_read::{Dump, parse_dump};
+use cs_io::closing;
 use cs_text::{Refusal, TextError, refusal_line};
 use std::alloc::Global;
 
 /// A dump to which yes is answered is sound, with the history that is told. There is no premise.
 pub fn audited_dumps_are_sound()
-    ensures { (text : List ℕ) (dump : AnyDump) → dump_of MOST_DUMP text ≡ Ok dump
+    ensures sound { (text : List ℕ) (dump : AnyDump) → dump_of MOST_DUMP text ≡ Ok dump
         → SaysSound (dump_setup dump) dump (dump_verdict dump) }
+    // Each shard has one log in it, in their order.
+    ensures formed { (text : List ℕ) (dump : AnyDump) → dump_of MOST_DUMP text ≡ Ok dump
+        → IsFormed dump }
 {}
 
 /// Audits the dump of a text, by the book of its contracts.

@@ -1,11 +1,10 @@
 //! The words of the commands of a deployment: files, by their places, how long it runs, a key.
 ghost use Rattle.std.specs.Prelude.{◌≡◌, ◌∷◌, []};
 ghost use Rattle.cs_cli.specs.Words.{texts_of};
-ghost use Rattle.cs_cli.specs.Deployed.{word_at, is_file, are_files, is_limit, until_in, node_at, node_called, client_at, client_called, keys_called, reads_master, cluster_called, deployed};
+ghost use Rattle.cs_cli.specs.Deployed.{word_at, is_file, are_files, is_limit, until_in, node_deployment, node_called, client_at, client_called, keys_called, reads_master, cluster_called, deployment_of_word};
 
-use cs_command::read_short_number;
-use cs_deploy_keys::master_in;
-use cs_outer::Until;
+use cs_deploy::master_in;
+use cs_io::{Until, read_short_number};
 use cs_tx_value::Digest;
 
 /// A command of a deployment. Its files stand at these places among the words.
@@ -87,7 +86,7 @@ fn until_in(word: &str, number: &str) -> Option<Until>
 }
 
 fn node_at(site: usize, keys: usize, limit: &str, number: &str) -> Option<Deployment>
-    ensures { result ≡ node_at site keys limit.now number.now }
+    ensures { result ≡ node_deployment site keys limit.now number.now }
 {
     let until = until_in(limit, number)?;
     Some(Deployment::Node { site, keys, until })
@@ -219,7 +218,7 @@ fn read_cluster(options: &[String]) -> Option<Deployment>
 
 /// The command of a deployment of this word, with the words behind it.
 pub(crate) fn read_deployment(word: &str, options: &[String]) -> Option<Deployment>
-    ensures { result ≡ deployed word.now (texts_of options.now) }
+    ensures { result ≡ deployment_of_word word.now (texts_of options.now) }
 {
     match word {
         "node" => read_node(options),

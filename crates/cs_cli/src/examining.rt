@@ -2,15 +2,15 @@
 ghost use Rattle.std.specs.Prelude.{◌≡◌, ◌≢◌, ◌<◌, ◌^◌};
 ghost use Rattle.cs_base.specs.Outside.{HasCause};
 ghost use Rattle.cs_base.specs.Answers.{Answers};
-ghost use Rattle.cs_outer.specs.Outside.{Faultless, Faulty};
-ghost use Rattle.cs_command.specs.Answers.{Gives, GivesWhole};
-ghost use Rattle.cs_cli.specs.Examined.{most_in, answer_to};
+ghost use Rattle.cs_io.specs.Outside.{Faultless, Faulty};
+ghost use Rattle.cs_io.specs.Answers.{SourceGives, GivesWhole};
+ghost use Rattle.cs_cli.specs.Examined.{most_in, examined_answer};
 
 use crate::auditing::audit_text;
 use crate::verifying::verify_text;
+use cs_audit_dump::MOST_DUMP;
 use cs_base::{MOST_SCHEDULE, ReadError, Sink, Source, print, read_text};
-use cs_command::closing;
-use cs_dump_read::MOST_DUMP;
+use cs_io::closing;
 use std::alloc::Global;
 
 /// What a text is examined as.
@@ -31,11 +31,11 @@ pub fn examine_source<S: Source, K: Sink>(
     input: &mut S,
     output: &mut K,
 ) -> u8
-    ensures gives { Gives (most_in subject) (answer_to subject)
+    ensures gives { SourceGives (most_in subject) (examined_answer subject)
         (S.left input.old) (S.left input.new) (K.written output.old) (K.written output.new)
         (Faulty S.faults input.old input.new) result }
     ensures whole { Faultless S.faults input.old input.new → Faultless K.faults output.old output.new
-        → GivesWhole (most_in subject) (answer_to subject)
+        → GivesWhole (most_in subject) (examined_answer subject)
         (S.left input.old) (K.written output.old) (K.written output.new) result }
     ensures only { result ≢ 2 }
     ensures read_fault { HasCause (S.faults input.old) (S.faults input.new) (result ≡ 5) }
@@ -61,7 +61,7 @@ fn most_in(subject: Subject) -> usize
 
 // Answers what a text comes to.
 fn examine<K: Sink>(alloc: Global, subject: Subject, text: &[u8], output: &mut K) -> u8
-    ensures answers { Answers (answer_to subject text.now)
+    ensures answers { Answers (examined_answer subject text.now)
         (K.written output.old) (K.written output.new) result }
     ensures only { (result ≢ 2) × (result ≢ 5) }
     ensures write_fault { HasCause (K.faults output.old) (K.faults output.new) (result ≡ 6) }

@@ -1,11 +1,11 @@
 //! The number and the size of a simulation, as words.
 ghost use Rattle.std.specs.Prelude.{◌≡◌};
-ghost use Rattle.cs_command.specs.Numbers.{short_number};
-ghost use Rattle.cs_cli.specs.Numbers.{both, size_in, simulated};
+ghost use Rattle.cs_io.specs.Numbers.{short_number};
+ghost use Rattle.cs_cli.specs.Numbers.{both_numbers, size_in, simulated};
 ghost use Rattle.cs_cli.specs.Words.{texts_of};
 
-use cs_command::read_short_number;
-use cs_simulate::MOST_SIZE;
+use crate::MOST_SIZE;
+use cs_io::read_short_number;
 
 // The size of a simulation.
 fn read_size(word: &str) -> Option<u32>
@@ -20,7 +20,7 @@ fn read_size(word: &str) -> Option<u32>
 }
 
 fn read_both(number: &str, size: &str) -> Option<(u64, u32)>
-    ensures { result ≡ both (short_number number.now) (size_in (short_number size.now)) }
+    ensures { result ≡ both_numbers (short_number number.now) (size_in (short_number size.now)) }
 {
     let number = read_short_number(number)?;
     let size = read_size(size)?;

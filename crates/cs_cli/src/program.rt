@@ -1,32 +1,52 @@
 //! The whole of the program, over the words and the outside that are handed in.
-ghost use Rattle.std.specs.Prelude.{◌≡◌, ◌≢◌, ◌≤◌, ℕ, List, Option, Ok, Some, None};
+ghost use Rattle.std.specs.Prelude.{◌≡◌, ◌≢◌, ◌≤◌, ◌↔◌, Bool, ℕ, List, Option, Ok, Some, None};
 ghost use Rattle.std.specs.Io.KnownBytes.{Keeps};
 ghost use Rattle.cs_base.specs.Outside.{HasCause};
 ghost use Rattle.cs_base.specs.Answers.{Answers};
+ghost use Rattle.cs_base.specs.Fields.{IsBytes, IsForm};
 ghost use Rattle.cs_base.specs.declared.limits.TheConstants.{MOST_SCHEDULE};
 ghost use Rattle.cs_sched.specs.Text.{schedule_of};
-ghost use Rattle.cs_sched_types.specs.declared.schedule.Schedule.{Schedule};
+ghost use Rattle.cs_sched.specs.declared.schedule.Schedule.{Schedule};
 ghost use Rattle.cs_approve.specs.Approval.{is_approved_by};
-ghost use Rattle.cs_replay.specs.Sound.{IsSound};
+ghost use Rattle.cs_replay.specs.Sound.{IsSound, IsSoundWorld, AfterEach};
 ghost use Rattle.cs_cli.specs.Words.{command_of, texts_of};
-ghost use Rattle.cs_tx_form.specs.Log.{ProofFits};
+ghost use Rattle.cs_tx_value.specs.Object.{object_encoding, ObjectFits, object_at};
+ghost use Rattle.cs_tx_types.specs.Session.{entry_encoding, EntryFits};
+ghost use Rattle.cs_tx_types.specs.Reading.{entry_at};
+ghost use Rattle.cs_tx_types.specs.Log.{ProofFits};
+ghost use Rattle.cs_wire.specs.Opened.{Opened, opened};
+ghost use Rattle.cs_wire.specs.OpenedAs.{IsOpenedAs};
+ghost use Rattle.cs_lang.specs.declared.tree.ContractTree.{ContractTree};
+ghost use Rattle.cs_lang.specs.Texts.{IsContract};
+ghost use Rattle.cs_types.specs.Accepting.{contract_of};
 ghost use Rattle.cs_verify.specs.declared.claim.Claim.{Claim};
-ghost use Rattle.cs_verify.specs.Verdicts.{verdict_on, ShowsExactly, Tells as ProofTells};
+ghost use Rattle.cs_verify.specs.Verdicts.{verdict_on, ShowsExactly, VerdictTells as ProofTells};
 ghost use Rattle.cs_gen.specs.declared.limits.TheConstants.{MOST_SIZE};
-ghost use Rattle.cs_simulate.specs.Simulated.{simulate_answer, IsEnded};
-ghost use Rattle.cs_dump_read.specs.declared.dump.Dump.{Dump};
-ghost use Rattle.cs_dump_read.specs.declared.limits.TheConstants.{MOST_DUMP};
-ghost use Rattle.cs_dump_read.specs.Text.{dump_of};
+ghost use Rattle.cs_cli.specs.Simulated.{simulate_answer, IsEndOfReplay};
+ghost use Rattle.cs_audit_dump.specs.declared.dump.Dump.{Dump};
+ghost use Rattle.cs_audit_dump.specs.declared.limits.TheConstants.{MOST_DUMP};
+ghost use Rattle.cs_audit_dump.specs.Formed.{IsFormed};
+ghost use Rattle.cs_audit_dump.specs.Text.{dump_of};
 ghost use Rattle.cs_audit_rules.specs.Sound.{SaysSound};
 ghost use Rattle.cs_cli.specs.Audited.{dump_setup, dump_verdict, DumpsAreAnsweredYes};
 ghost use Rattle.cs_base.specs.declared.config.Config.{Config};
+ghost use Rattle.cs_base.specs.declared.node_id.NodeId.{NodeId};
+ghost use Rattle.cs_tx_value.specs.declared.object.Object.{Object as AnyObject};
+ghost use Rattle.cs_tx_types.specs.declared.transaction.Tx.{Tx};
+ghost use Rattle.cs_order_rules.specs.declared.message.OrderMessage.{OrderMessage};
+ghost use Rattle.cs_node_rules.specs.Site.{Site, start_view};
+ghost use Rattle.cs_node_rules.specs.World.{trail_of};
 ghost use Rattle.cs_wire.specs.declared.keys.Keys.{Keys as FileKeys};
-ghost use Rattle.cs_config_keys.specs.File.{keys_of};
+ghost use Rattle.cs_config.specs.File.{keys_of};
 ghost use Rattle.cs_node.specs.Speaking.{Speaks};
-ghost use Rattle.cs_deploy.specs.Speaking.{net_of_keys};
-ghost use Rattle.cs_outer.specs.Outside.{Object, told_of, faults_of, outside};
+ghost use Rattle.cs_world_law.specs.Worlds.{net_of_keys};
+ghost use Rattle.cs_serve.specs.Serving.{trail};
+ghost use Rattle.cs_run_law.specs.Running.{Given, inputs_at, world_given, site_of_keys, IsTraffic};
+ghost use Rattle.cs_io.specs.Outside.{Object, told_of, faults_of, outside};
 ghost use Rattle.cs_cli.specs.Answers.{words_answer};
-ghost use Rattle.cs_cli.specs.Done.{Deploys, Does};
+ghost use Rattle.cs_cli.specs.Done.{DeploymentDoes, CommandDoes};
+ghost use Rattle.cs_cli.specs.Alone.{DeploymentLeaves, CommandLeaves, LeavesAlone};
+ghost use Rattle.cs_cli.specs.Limits.{DeploymentLimitsAre, TextLimitsAre};
 ghost use Rattle.cs_cli.specs.declared.words.Command.{Command};
 ghost use Rattle.cs_cli.specs.declared.words.Command.TheVariants.{Simulate};
 
@@ -34,16 +54,16 @@ use crate::auditing::audited_dumps_are_sound;
 use crate::claims::shown_claims_are_covered;
 use crate::deployments::{Deployment, word_at};
 use crate::examining::{Subject, examine_source};
+use crate::readings::what_is_read_was_written;
+use crate::simulate;
 use crate::telling::tell_source;
 use crate::words::{Command, read_words};
+use cs_audit_law::dumps_are_answered_yes;
 use cs_base::{Sink, Source, print};
-use cs_command::closing;
-use cs_deploy::{keys_of_files_speak, run_client, run_node};
-use cs_deploy_keys::{run_cluster, run_keys, run_keys_read};
-use cs_dump_law::dumps_are_answered_yes;
-use cs_outer::{Link, Spawner, Store};
+use cs_deploy::{run_client, run_cluster, run_keys, run_keys_read, run_node};
+use cs_io::{Link, Spawner, Store, closing};
 use cs_replay::{replay_source, schedules_are_sound};
-use cs_simulate::simulate;
+use cs_run_law::{keys_of_files_speak, nodes_serve_their_trails, running_nodes_are_sound};
 use std::alloc::Global;
 
 /// Does what the words call for, and answers the status that the process ends with: 0 where it is
@@ -79,9 +99,17 @@ pub fn run<S: Source, K: Sink, E: Store, L: Link, P: Spawner>(
     ensures does { (command : Command) → command_of (texts_of words.now) ≡ Some command →
         let told = outside S.left S.faults K.written K.faults E.files E.faults L.told L.faults
         P.told P.faults in
-        Does command (texts_of words.now)
+        CommandDoes command (texts_of words.now)
         (told input.old output.old store.old link.old spawn.old)
         (told input.new output.new store.new link.new spawn.new) result }
+
+    // What the words call for has no other effect: a file, a link, a spawner or a source that it
+    // isn't handed tells what it told, and has failed no more often.
+    ensures alone { let told = outside S.left S.faults K.written K.faults E.files E.faults
+        L.told L.faults P.told P.faults in
+        LeavesAlone (command_of (texts_of words.now))
+        (told input.old output.old store.old link.old spawn.old)
+        (told input.new output.new store.new link.new spawn.new) }
 
     // `verify` says `shown` exactly where the proof shows its leaf; then, where no strings collide,
     // each checkpoint that has the head is the proof's, and has the leaf at its place.
@@ -92,35 +120,66 @@ pub fn run<S: Source, K: Sink, E: Store, L: Link, P: Spawner>(
     // A yes of `audit` says that the dump is sound with that history. There is no premise.
     ensures sound_dump { (text : List ℕ) (dump : Dump) → dump_of MOST_DUMP text ≡ Ok dump
         → SaysSound (dump_setup dump) dump (dump_verdict dump) }
+    // Each shard has one log in a dump that is read, in their order.
+    ensures formed_dump { (text : List ℕ) (dump : Dump) → dump_of MOST_DUMP text ≡ Ok dump
+        → IsFormed dump }
     // What a replay dumps is answered yes, with the history that it printed.
     ensures dumps_pass { (text : List ℕ) (schedule : Schedule)
         → schedule_of MOST_SCHEDULE text ≡ Ok schedule → DumpsAreAnsweredYes schedule }
 
     // Nothing is injected in the schedule of `simulate`, so it ends with 0, 3 or 13.
-    ensures simulate_ends { (number size : ℕ) → IsEnded (simulate_answer number size) }
+    ensures simulate_ends { (number size : ℕ) → IsEndOfReplay (simulate_answer number size) }
 
-    // The keys of each key file speak in a net, so of each node it is said what it sends.
-    ensures keys_speak { (config : Config) (text : List ℕ) (keys : FileKeys)
-        → keys_of config text ≡ Ok keys → Speaks config (net_of_keys keys) keys }
+    // The keys of each key file speak in the net of any names of which their holder is one, so of
+    // each node it is said what it sends there.
+    ensures keys_speak { (config : Config) (text : List ℕ) (keys : NodeId → FileKeys)
+        (liars : List NodeId) (i : NodeId) → keys_of config text ≡ Ok (keys i) → (keys i).me ≡ i
+        → Speaks config (net_of_keys config keys liars) (keys i) }
+    // Nodes that run make a world of what they are given: each does in it what it does where it is
+    // served. Where nothing is forged, what is true of the worlds of schedules is true of it.
+    ensures trails { (site : Site OrderMessage) (given : List Given) (i : NodeId)
+        → trail_of i (world_given site given) ≡ trail site (start_view site i) (inputs_at i given) }
+    ensures running { (config : Config) (keys : NodeId → FileKeys) (liars : List NodeId)
+        (genesis : List AnyObject) (approves : Tx → Bool) (given : List Given) →
+        let site = site_of_keys config keys liars genesis approves in
+        IsTraffic site given → AfterEach (IsSoundWorld site genesis) (world_given site given) }
 
-    // What is true of every schedule that is read, as far as it is played, whichever few nodes lie
-    // in it: of its history, which is printed, and of the decisions of all honest nodes. A free
-    // session is voted commit and the vote is sent; what a node can echo, confirm or choose it has;
-    // a session that holds its lock is accepted when commit is decided. What is shown under a head
-    // that an honest node noted is what it executed.
+    // What is true of every schedule that is read, as far as it is played, after each of its events
+    // and whichever few nodes lie in it: of its history, which is printed, and of the decisions of
+    // all honest nodes. A free session is voted commit and the vote is sent; what a node can echo or
+    // confirm it has, and has told the others; what its order chose it has executed; a session that
+    // holds its lock is accepted when commit is decided. What is shown under a head that an honest
+    // node noted is what it executed.
     ensures sound { (text : List ℕ) (schedule : Schedule)
         → schedule_of MOST_SCHEDULE text ≡ Ok schedule
         → IsSound (is_approved_by schedule.contracts) schedule }
+
+    // The limits that clauses have by name are these numbers.
+    ensures deployment_limits { DeploymentLimitsAre }
+    ensures text_limits { TextLimitsAre }
+
+    // What is read is what was written so. Bytes open as a message exactly where they are its
+    // datagram, sealed under the key that is held, and else the first test that fails is told;
+    // entries and objects are read from their encodings; contracts are what the grammar spells.
+    ensures datagrams { (keys : FileKeys) (bytes : List ℕ) (said : Opened) → IsBytes bytes
+        → (opened keys bytes ≡ said) ↔ IsOpenedAs keys bytes said }
+    ensures entries { IsForm entry_encoding EntryFits entry_at }
+    ensures objects { IsForm object_encoding ObjectFits object_at }
+    ensures contracts { (text : List ℕ) (contract : ContractTree)
+        → (contract_of text ≡ Some contract) ↔ IsContract text contract }
 
     // A fault is answered only where one of that object came about in this call.
     ensures read_fault { HasCause (S.faults input.old) (S.faults input.new) (result ≡ 5) }
     ensures write_fault { HasCause (K.faults output.old) (K.faults output.new) (result ≡ 6) }
 {
+    what_is_read_was_written();
     schedules_are_sound();
     dumps_are_answered_yes();
     shown_claims_are_covered();
     audited_dumps_are_sound();
     keys_of_files_speak();
+    nodes_serve_their_trails();
+    running_nodes_are_sound();
     match read_words(words) {
         Some(command) => answer(alloc, words, command, input, output, store, link, spawn),
         None => closing(print(output, b"words\n"), 2),
@@ -141,9 +200,13 @@ fn answer<S: Source, K: Sink, E: Store, L: Link, P: Spawner>(
     requires { (number size : ℕ) → command ≡ Simulate number size → size ≤ MOST_SIZE }
     ensures does { let told = outside S.left S.faults K.written K.faults E.files E.faults
         L.told L.faults P.told P.faults in
-        Does command (texts_of words.now)
+        CommandDoes command (texts_of words.now)
         (told input.old output.old store.old link.old spawn.old)
         (told input.new output.new store.new link.new spawn.new) result }
+    ensures alone { let told = outside S.left S.faults K.written K.faults E.files E.faults
+        L.told L.faults P.told P.faults in
+        CommandLeaves command (told input.old output.old store.old link.old spawn.old)
+        (told input.new output.new store.new link.new spawn.new) }
     ensures only { result ≢ 2 }
     ensures read_fault { HasCause (S.faults input.old) (S.faults input.new) (result ≡ 5) }
     ensures write_fault { HasCause (K.faults output.old) (K.faults output.new) (result ≡ 6) }
@@ -174,9 +237,14 @@ fn deploy<K: Sink, E: Store, L: Link, P: Spawner>(
     ensures deploys { (source source' : Object (Option (List ℕ))) →
         let told = outside told_of faults_of K.written K.faults E.files E.faults L.told L.faults
         P.told P.faults in
-        Deploys deployment (texts_of words.now)
+        DeploymentDoes deployment (texts_of words.now)
         (told source output.old store.old link.old spawn.old)
         (told source' output.new store.new link.new spawn.new) result }
+    ensures alone { (source : Object (Option (List ℕ))) →
+        let told = outside told_of faults_of K.written K.faults E.files E.faults L.told L.faults
+        P.told P.faults in
+        DeploymentLeaves deployment (told source output.old store.old link.old spawn.old)
+        (told source output.new store.new link.new spawn.new) }
     ensures only { (result ≢ 2) × (result ≢ 5) }
     ensures write_fault { HasCause (K.faults output.old) (K.faults output.new) (result ≡ 6) }
 {

@@ -1,12 +1,12 @@
 //! Telling of the contract that a source holds.
 ghost use Rattle.std.specs.Prelude.{◌≡◌, ◌≢◌};
 ghost use Rattle.cs_base.specs.Outside.{HasCause};
-ghost use Rattle.cs_outer.specs.Outside.{Faultless, Faulty};
-ghost use Rattle.cs_cli.specs.Answers.{Tells, TellsOf, TellsAccepted, TellsWhole};
+ghost use Rattle.cs_io.specs.Outside.{Faultless, Faulty};
+ghost use Rattle.cs_cli.specs.Answers.{TellsSource, TellsOf, TellsContractAccepted, TellsWhole};
 
+use crate::report_on;
 use cs_base::{ReadError, Sink, Source, print, read_text};
-use cs_command::closing;
-use cs_contract::report_on;
+use cs_io::closing;
 use cs_lang_token::MOST_TEXT;
 use std::alloc::Global;
 
@@ -19,7 +19,7 @@ pub fn tell_source<S: Source, K: Sink>(
     input: &mut S,
     output: &mut K,
 ) -> u8
-    ensures tells { Tells printing
+    ensures tells { TellsSource printing
         (S.left input.old) (S.left input.new) (K.written output.old) (K.written output.new)
         (Faulty S.faults input.old input.new) result }
     ensures whole { Faultless S.faults input.old input.new → Faultless K.faults output.old output.new
@@ -40,7 +40,7 @@ pub fn tell_source<S: Source, K: Sink>(
 fn tell<K: Sink>(alloc: Global, printing: bool, text: &[u8], output: &mut K) -> u8
     ensures tells { TellsOf printing text.now (K.written output.old) (K.written output.new) result }
     ensures accepted { result ≢ 8
-        → TellsAccepted printing text.now (K.written output.old) (K.written output.new) result }
+        → TellsContractAccepted printing text.now (K.written output.old) (K.written output.new) result }
     ensures only { (result ≢ 2) × (result ≢ 5) }
     ensures write_fault { HasCause (K.faults output.old) (K.faults output.new) (result ≡ 6) }
 {

@@ -6,7 +6,7 @@ ghost use Rattle.cs_base.specs.declared.limits.TheConstants.{MOST_SCHEDULE};
 ghost use Rattle.cs_verify.specs.Verdicts.{verify_answer};
 
 use cs_base::{Sink, print};
-use cs_command::closing;
+use cs_io::closing;
 use cs_verify::{judge, verdict_text};
 use std::alloc::Global;
 

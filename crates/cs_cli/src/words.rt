@@ -2,7 +2,7 @@
 ghost use Rattle.std.specs.Prelude.{◌≡◌, ◌↔◌, [], IfOk, IsOkAnd};
 ghost use Rattle.std.specs.IoError.{error_kind};
 ghost use Rattle.std.specs.declared.io.ErrorKind.TheVariants.{InvalidData};
-ghost use Rattle.cs_cli.specs.Words.{called, command_of, flagged, plain, plain_mode, mode_from, with_option, texts_of};
+ghost use Rattle.cs_cli.specs.Words.{command_of_word, command_of, flagged, plain_command, plain_mode, mode_from, with_option, texts_of};
 ghost use Rattle.cs_cli.specs.declared.words.WordsError.TheVariants.{NotText, Memory};
 
 use crate::deployments::{Deployment, read_deployment, reads_master};
@@ -93,7 +93,7 @@ pub fn read_words(words: &[String]) -> Option<Command>
 
 // The command of a word and the words behind it.
 fn read_command(word: &str, options: &[String]) -> Option<Command>
-    ensures { result ≡ called word.now (texts_of options.now) }
+    ensures { result ≡ command_of_word word.now (texts_of options.now) }
 {
     match word {
         "replay" => {
@@ -151,7 +151,7 @@ fn with_option(mode: Mode, option: &str) -> Option<Mode>
 
 // A command that has no option.
 fn read_plain(command: Command, options: &[String]) -> Option<Command>
-    ensures { result ≡ plain command (texts_of options.now) }
+    ensures { result ≡ plain_command command (texts_of options.now) }
 {
     if options.is_empty() {
         Some(command)

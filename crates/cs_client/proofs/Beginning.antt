@@ -10,14 +10,14 @@ use Rattle.cs_base.specs.declared.node_id.NodeId.{NodeId}
 use Rattle.cs_base.specs.Key.{shard_of_key}
 use Rattle.cs_base.specs.NodeId.{is_node, members_below}
 use Rattle.cs_tx_value.specs.declared.object.Object.{Object}
-use Rattle.cs_tx_form.specs.declared.state.State.{State}
-use Rattle.cs_tx_form.specs.declared.state.State.TheVariants as state
-use Rattle.cs_tx_form.specs.State.{StateFits}
+use Rattle.cs_tx_types.specs.declared.state.State.{State}
+use Rattle.cs_tx_types.specs.declared.state.State.TheVariants as state
+use Rattle.cs_tx_types.specs.State.{StateFits}
 use Rattle.cs_client.specs.declared.beliefs.Asked.{Asked}
 use Rattle.cs_client.specs.declared.errand.Errand.{Errand}
 use Rattle.cs_client.specs.Objects.{active, word_on, words_on, first_believed, shard_of_name}
 use Rattle.cs_client.specs.Dummies.{serial_by, serials_in}
-use Rattle.cs_client.specs.Kept.{Told, told_by, asked_with, asked_on, shards_below, unheard_on, unheard, with_word, with_told, serials_kept, with_state, heard_of, WordFits, AskedFits, HasAll, ToldFits, IsMarked, ToldMarked}
+use Rattle.cs_client.specs.Kept.{Told, told_by_inputs, asked_with, asked_on, shards_below, unheard_on, unheard, with_word, word_of_name, serials_kept, told_with_state, heard_of, WordFits, AskedFits, HasAll, ToldFits, FlagsSayWords, ToldMarked}
 use Rattle.cs_client.proofs.Members.{node_at, same-each}
 use Rattle.cs_client.proofs.Telling.{is_in, is-one, isn't, told-eq}
 
@@ -45,7 +45,7 @@ none-believed : (f n : ℕ) (all : List (Option Object)) → first_believed f al
 none-believed f zero all = refl
 none-believed f (suc n) all = none-believed f n all
 
-pub nothing-told : (e : Errand) → told_by e [] ≡ unheard e.config e.call.inputs e.call.reads
+pub nothing-told : (e : Errand) → told_by_inputs e [] ≡ unheard e.config e.call.inputs e.call.reads
 nothing-told e =
     let n = 3 * e.config.f + 1 in
     let words : (name : List ℕ) → words_on e.config e.keys name [] ≡ replicate n None = λ name.
@@ -57,7 +57,7 @@ nothing-told e =
     let reads = same-each (asked_on e.config e.keys []) (unheard_on n) e.call.reads asked in
     let serials : map (serials_in e.config e.keys []) (shards_below e.config.shards) ≡ replicate e.config.shards (replicate n None) =
     none-shards (serials_in e.config e.keys []) (replicate n None) e.config.shards (λ shard. none-members (serial_by e.keys []) None shard n (λ node. refl)) in
-    told-eq (told_by e []) (unheard e.config e.call.inputs e.call.reads) inputs reads serials
+    told-eq (told_by_inputs e []) (unheard e.config e.call.inputs e.call.reads) inputs reads serials
 
 -- ---- its form
 
@@ -99,8 +99,8 @@ unheard-fits config inputs reads =
 pub unheard-marked : (config : Config) (inputs reads : List (List ℕ)) → ToldMarked config.f (unheard config inputs reads)
 unheard-marked config inputs reads =
     let n = 3 * config.f + 1 in
-    let one : (name : List ℕ) → IsMarked config.f (unheard_on n name) = λ name. sym (ap is_some (none-believed config.f n (replicate n None))) in
-    record { inputs = all-map (IsMarked config.f) (unheard_on n) inputs one; reads = all-map (IsMarked config.f) (unheard_on n) reads one }
+    let one : (name : List ℕ) → FlagsSayWords config.f (unheard_on n name) = λ name. sym (ap is_some (none-believed config.f n (replicate n None))) in
+    record { inputs = all-map (FlagsSayWords config.f) (unheard_on n) inputs one; reads = all-map (FlagsSayWords config.f) (unheard_on n) reads one }
 
 pub active-fits : (s : State) → StateFits s → WordFits (active s)
 active-fits state.Unknown fits = tt
@@ -108,15 +108,15 @@ active-fits (state.Active object) fits = fits
 active-fits (state.Locked object session) fits = tt
 active-fits (state.Inactive session) fits = tt
 
-told-fits : (n f : ℕ) (name : List ℕ) (index : ℕ) (word : Option Object) → WordFits word → (asked : Asked) → AskedFits n asked → AskedFits n (with_told f name index word asked)
+told-fits : (n f : ℕ) (name : List ℕ) (index : ℕ) (word : Option Object) → WordFits word → (asked : Asked) → AskedFits n asked → AskedFits n (word_of_name f name index word asked)
 told-fits n f name index word fits asked before = by (bytes_eq asked.name name) where
   by : (here : Bool) → AskedFits n (if here then with_word f index word asked else asked)
   by true = record { all = length-set asked.words index word ∙ before.all; fit = all-set WordFits asked.words index word before.fit fits }
   by false = before
 
-told-marked : (f : ℕ) (name : List ℕ) (index : ℕ) (word : Option Object) (asked : Asked) → IsMarked f asked → IsMarked f (with_told f name index word asked)
+told-marked : (f : ℕ) (name : List ℕ) (index : ℕ) (word : Option Object) (asked : Asked) → FlagsSayWords f asked → FlagsSayWords f (word_of_name f name index word asked)
 told-marked f name index word asked before = by (bytes_eq asked.name name) where
-  by : (here : Bool) → IsMarked f (if here then with_word f index word asked else asked)
+  by : (here : Bool) → FlagsSayWords f (if here then with_word f index word asked else asked)
   by true = refl
   by false = before
 
@@ -135,24 +135,24 @@ has-words config from told known fits =
     omega arith
 
 -- what is told of a key of this shard, and of one of another
-pub heard-here : (config : Config) (from : NodeId) (k : Key) (s : State) (told : Told) → shard_of_key config.shards k ≡ from.shard → heard_of config from k s told ≡ with_state config.f from k (active s) told
+pub heard-here : (config : Config) (from : NodeId) (k : Key) (s : State) (told : Told) → shard_of_key config.shards k ≡ from.shard → heard_of config from k s told ≡ told_with_state config.f from k (active s) told
 heard-here config from k s told here =
-    ap (λ t. if t then with_state config.f from k (active s) told else told) (is-one (shard_of_key config.shards k) from.shard here)
+    ap (λ t. if t then told_with_state config.f from k (active s) told else told) (is-one (shard_of_key config.shards k) from.shard here)
 
 pub heard-apart : (config : Config) (from : NodeId) (k : Key) (s : State) (told : Told) → (shard_of_key config.shards k ≡ from.shard → ⊥) → heard_of config from k s told ≡ told
 heard-apart config from k s told apart =
-    ap (λ t. if t then with_state config.f from k (active s) told else told) (isn't (shard_of_key config.shards k) from.shard apart)
+    ap (λ t. if t then told_with_state config.f from k (active s) told else told) (isn't (shard_of_key config.shards k) from.shard apart)
 
 pub heard-fits : (config : Config) (from : NodeId) (k : Key) (s : State) (told : Told) → is_node config from ≡ true → StateFits s → ToldFits config told → ToldFits config (heard_of config from k s told)
 heard-fits config from k s told known fits before = by (shard_of_key config.shards k == from.shard) k where
-  by : (here : Bool) (k : Key) → ToldFits config (if here then with_state config.f from k (active s) told else told)
+  by : (here : Bool) (k : Key) → ToldFits config (if here then told_with_state config.f from k (active s) told else told)
   by false k = before
   by true (key.Object name) =
       let n = 3 * config.f + 1 in
       let one = told-fits n config.f name from.index (active s) (active-fits s fits) in
       record {
-        inputs = all-changed (AskedFits n) (with_told config.f name from.index (active s)) told.inputs one before.inputs;
-        reads = all-changed (AskedFits n) (with_told config.f name from.index (active s)) told.reads one before.reads;
+        inputs = all-changed (AskedFits n) (word_of_name config.f name from.index (active s)) told.inputs one before.inputs;
+        reads = all-changed (AskedFits n) (word_of_name config.f name from.index (active s)) told.reads one before.reads;
         shards = before.shards;
         serials = before.serials;
       }
@@ -172,12 +172,12 @@ heard-fits config from k s told known fits before = by (shard_of_key config.shar
 
 pub heard-marked : (config : Config) (from : NodeId) (k : Key) (s : State) (told : Told) → ToldMarked config.f told → ToldMarked config.f (heard_of config from k s told)
 heard-marked config from k s told before = by (shard_of_key config.shards k == from.shard) k where
-  by : (here : Bool) (k : Key) → ToldMarked config.f (if here then with_state config.f from k (active s) told else told)
+  by : (here : Bool) (k : Key) → ToldMarked config.f (if here then told_with_state config.f from k (active s) told else told)
   by false k = before
   by true (key.Object name) =
       let one = told-marked config.f name from.index (active s) in
       record {
-        inputs = all-changed (IsMarked config.f) (with_told config.f name from.index (active s)) told.inputs one before.inputs;
-        reads = all-changed (IsMarked config.f) (with_told config.f name from.index (active s)) told.reads one before.reads;
+        inputs = all-changed (FlagsSayWords config.f) (word_of_name config.f name from.index (active s)) told.inputs one before.inputs;
+        reads = all-changed (FlagsSayWords config.f) (word_of_name config.f name from.index (active s)) told.reads one before.reads;
       }
   by true (key.Dummy shard serial) = record { inputs = before.inputs; reads = before.reads }

@@ -4,12 +4,12 @@ use Rattle.std.specs.Prelude.{◌&&◌, is_some, option_map, option_and_then, sl
 use Rattle.std.specs.List.{AllByRecursion}
 use Rattle.std.proofs.lemmas.List.{append_assoc, map-append, length-map, set_at, get_or_at, take_more, drop_more, length-take-le}
 use Rattle.cs_tx_value.specs.declared.object.Object.{Object}
-use Rattle.cs_tx_form.specs.Transaction.{Keyed}
+use Rattle.cs_tx_types.specs.Transaction.{Keyed}
 use Rattle.cs_client.specs.declared.beliefs.Asked.{Asked}
 use Rattle.cs_client.specs.declared.beliefs.Objects.{Objects}
 use Rattle.cs_client.specs.Objects.{believed_in}
-use Rattle.cs_client.specs.Calls.{with_object}
-use Rattle.cs_client.specs.Kept.{Told, IsMarked, ToldMarked, are_settled, objects_in, objects_kept}
+use Rattle.cs_client.specs.Calls.{objects_with}
+use Rattle.cs_client.specs.Kept.{Told, FlagsSayWords, ToldMarked, are_settled, objects_believed, objects_kept}
 
 abbrev objects : List Keyed → List Keyed → Objects
 objects i r = record { inputs = i; reads = r }
@@ -19,13 +19,13 @@ objects i r = record { inputs = i; reads = r }
 map-none : {A B : Type 0} (f : A → B) (o : Option A) → o ≡ None → option_map f o ≡ None
 map-none f o none = ap (option_map f) none
 
-none-in : (f : ℕ) (asked : List Asked) → AllByRecursion (IsMarked f) asked → are_settled asked ≡ false → objects_in f asked ≡ None
+none-in : (f : ℕ) (asked : List Asked) → AllByRecursion (FlagsSayWords f) asked → are_settled asked ≡ false → objects_believed f asked ≡ None
 none-in f [] marked unsettled = let e : true ≡ false = unsettled in absurd cc
 none-in f (a ∷ more) marked unsettled = by (believed_in f a.words) marked.0 (none-in f more marked.1) where
-  by : (found : Option Object) → a.settled ≡ is_some found → (are_settled more ≡ false → objects_in f more ≡ None) → with_object a.name found (objects_in f more) ≡ None
+  by : (found : Option Object) → a.settled ≡ is_some found → (are_settled more ≡ false → objects_believed f more ≡ None) → objects_with a.name found (objects_believed f more) ≡ None
   by None is rest = refl
   by (Some object) is rest =
-      map-none (λ items. (a.name, object) ∷ items) (objects_in f more) (rest (ap (λ t. t && are_settled more) (sym is) ∙ unsettled))
+      map-none (λ items. (a.name, object) ∷ items) (objects_believed f more) (rest (ap (λ t. t && are_settled more) (sym is) ∙ unsettled))
 
 none-then : {A B : Type 0} (f : A → Option B) (o : Option A) → ((x : A) → f x ≡ None) → option_and_then f o ≡ None
 none-then f None h = refl
@@ -33,12 +33,12 @@ none-then f (Some x) h = h x
 
 pub inputs-unsettled : (f : ℕ) (told : Told) → ToldMarked f told → are_settled told.inputs ≡ false → None ≡ objects_kept f told
 inputs-unsettled f told marked unsettled =
-    sym (ap (option_and_then (λ i. option_map (λ r. objects i r) (objects_in f told.reads))) (none-in f told.inputs marked.inputs unsettled))
+    sym (ap (option_and_then (λ i. option_map (λ r. objects i r) (objects_believed f told.reads))) (none-in f told.inputs marked.inputs unsettled))
 
 pub reads-unsettled : (f : ℕ) (told : Told) → ToldMarked f told → are_settled told.reads ≡ false → None ≡ objects_kept f told
 reads-unsettled f told marked unsettled =
-    sym (none-then (λ i. option_map (objects i) (objects_in f told.reads)) (objects_in f told.inputs)
-    (λ i. map-none (objects i) (objects_in f told.reads) (none-in f told.reads marked.reads unsettled)))
+    sym (none-then (λ i. option_map (objects i) (objects_believed f told.reads)) (objects_believed f told.inputs)
+    (λ i. map-none (objects i) (objects_believed f told.reads) (none-in f told.reads marked.reads unsettled)))
 
 -- ---- one element after the other
 

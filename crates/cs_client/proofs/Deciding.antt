@@ -7,7 +7,7 @@ use Rattle.std.proofs.lemmas.Bool.Decides.{nat_tests}
 use Rattle.cs_base.specs.declared.config.Config.{Config}
 use Rattle.cs_base.specs.declared.node_id.NodeId.{NodeId}
 use Rattle.cs_base.specs.NodeId.{same_name, is_node}
-use Rattle.cs_tx_form.specs.declared.session.Session.{Session}
+use Rattle.cs_tx_types.specs.declared.session.Session.{Session}
 use Rattle.cs_tx.specs.Digest.{digest_of_session}
 use Rattle.cs_tx.specs.Uses.{concerns, concerned_below, concerned_shards}
 use Rattle.cs_wire_message.specs.declared.message.Message.{Message}
@@ -20,7 +20,7 @@ use Rattle.cs_client.specs.declared.phases.Phase.TheVariants as kept
 use Rattle.cs_client.specs.declared.phases.Submission.{Submission}
 use Rattle.cs_client.specs.Inputs.{Input, heard, from_node, said_from}
 use Rattle.cs_client.specs.Phases.{Submitting, phase}
-use Rattle.cs_client.specs.Knowing.{decides, has_decided}
+use Rattle.cs_client.specs.Knowing.{says_decided, has_decided}
 use Rattle.cs_client.specs.Voices.{Pairwise, Marked, Heard, HeardThere, HeardFrom}
 use Rattle.cs_client.specs.Seen.{VoicesAfter, CountsIn}
 use Rattle.cs_client.specs.Hearing.{KeepsTally, KeepsVoices, KeepsHeard}
@@ -53,7 +53,7 @@ two-nodes config from node other is =
 module _ (e : Errand) (past : List Input) (input : Input) where
   -- what a node says by the input of the session that is submitted
   abbrev now : Bool → NodeId → Bool
-  now accepted node = option_map_or (decides (phase e past) accepted) (said_from e.keys node input) false
+  now accepted node = option_map_or (says_decided (phase e past) accepted) (said_from e.keys node input) false
 
   -- no node decides
   pub silent-heard : (kept : Kept) → ((accepted : Bool) (node : NodeId) → is_node e.config node ≡ true → now accepted node ≡ false) → KeepsHeard e past kept → KeepsHeard e (input ∷ past) kept
@@ -77,21 +77,21 @@ module _ (e : Errand) (past : List Input) (input : Input) where
   -- what doesn't open decides nothing
   pub unheard-heard : (kept : Kept) → heard e.keys input ≡ None → KeepsHeard e past kept → KeepsHeard e (input ∷ past) kept
   unheard-heard kept none old =
-      silent-heard kept (λ accepted node is. ap (λ s. option_map_or (decides (phase e past) accepted) (from_node node s) false) none) old
+      silent-heard kept (λ accepted node is. ap (λ s. option_map_or (says_decided (phase e past) accepted) (from_node node s) false) none) old
 
   module _ (from : NodeId) (m : Message) (said : heard e.keys input ≡ Some (from, m)) where
-    now-here : (accepted : Bool) (node : NodeId) → same_name from node ≡ true → now accepted node ≡ decides (phase e past) accepted m
+    now-here : (accepted : Bool) (node : NodeId) → same_name from node ≡ true → now accepted node ≡ says_decided (phase e past) accepted m
     now-here accepted node same =
-        ap (λ s. option_map_or (decides (phase e past) accepted) (from_node node s) false) said
-        ∙ ap (λ t. option_map_or (decides (phase e past) accepted) (if t then Some m else None) false) same
+        ap (λ s. option_map_or (says_decided (phase e past) accepted) (from_node node s) false) said
+        ∙ ap (λ t. option_map_or (says_decided (phase e past) accepted) (if t then Some m else None) false) same
 
     now-not : (accepted : Bool) (node : NodeId) → same_name from node ≡ false → now accepted node ≡ false
     now-not accepted node other =
-        ap (λ s. option_map_or (decides (phase e past) accepted) (from_node node s) false) said
-        ∙ ap (λ t. option_map_or (decides (phase e past) accepted) (if t then Some m else None) false) other
+        ap (λ s. option_map_or (says_decided (phase e past) accepted) (from_node node s) false) said
+        ∙ ap (λ t. option_map_or (says_decided (phase e past) accepted) (if t then Some m else None) false) other
 
     -- nor does a message that is no decision on it
-    pub other-heard : (kept : Kept) → ((accepted : Bool) → decides (phase e past) accepted m ≡ false) → KeepsHeard e past kept → KeepsHeard e (input ∷ past) kept
+    pub other-heard : (kept : Kept) → ((accepted : Bool) → says_decided (phase e past) accepted m ≡ false) → KeepsHeard e past kept → KeepsHeard e (input ∷ past) kept
     other-heard kept none old =
         silent-heard kept
         (λ accepted node is. elim (cases_Bool (same_name from node)) [
@@ -129,7 +129,7 @@ module _ (e : Errand) (past : List Input) (input : Input) (from : NodeId) (diges
       elim (cases_Bool (same_name from node)) [
         | inl here ↦
             now-here e past input from (message.Decided digest so) said accepted node here
-            ∙ (ap (λ p. decides p accepted (message.Decided digest so)) at ∙ (ap (λ t. t && sense accepted) same
+            ∙ (ap (λ p. says_decided p accepted (message.Decided digest so)) at ∙ (ap (λ t. t && sense accepted) same
             ∙ sym (ap (λ t. if t then sense accepted else false) here)))
         | inr other ↦ now-not e past input from (message.Decided digest so) said accepted node other ∙ sym (ap (λ t. if t then sense accepted else false) other)
       ]
@@ -188,7 +188,7 @@ module _ (e : Errand) (past : List Input) (input : Input) (from : NodeId) (diges
       by false is after =
           subst (λ vs. Pairwise (KeepsVoices e (input ∷ past)) (concerned_shards e.config old.session) vs) (sym after)
           (other-heard e past input from (message.Decided digest so) said (kept.Submitting old)
-          (λ accepted. ap (λ p. decides p accepted (message.Decided digest so)) at ∙ ap (λ d. bytes_eq d digest && sense accepted) (sym own) ∙ ap (λ t. t && sense accepted) is)
+          (λ accepted. ap (λ p. says_decided p accepted (message.Decided digest so)) at ∙ ap (λ d. bytes_eq d digest && sense accepted) (sym own) ∙ ap (λ t. t && sense accepted) is)
           before)
       by true is after = record {
         many = after.many ∙ before.many;

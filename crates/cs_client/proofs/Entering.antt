@@ -4,17 +4,17 @@ use Rattle.std.specs.Prelude.{filter, option_map, option_and_then, IfOk}
 use Rattle.std.proofs.lemmas.List.{append_assoc, append-nil}
 use Rattle.std.proofs.lemmas.List.Concat.{flat_map-append}
 use Rattle.cs_base.specs.declared.config.Config.{Config}
-use Rattle.cs_outer.specs.declared.link.MemInput.TheVariants as came
-use Rattle.cs_tx_form.specs.Transaction.{Keyed}
-use Rattle.cs_tx_form.specs.declared.transaction.Tx.{Tx}
-use Rattle.cs_tx_form.specs.declared.session.Session.{Session}
+use Rattle.cs_io.specs.declared.link.MemInput.TheVariants as came
+use Rattle.cs_tx_types.specs.Transaction.{Keyed}
+use Rattle.cs_tx_types.specs.declared.transaction.Tx.{Tx}
+use Rattle.cs_tx_types.specs.declared.session.Session.{Session}
 use Rattle.cs_tx.specs.Uses.{concerns, concerned_below}
 use Rattle.cs_wire.specs.declared.input.Out.{Out}
 use Rattle.cs_wire_message.specs.declared.message.Message.TheVariants as message
 use Rattle.cs_proc.specs.declared.call.Call.{Call}
 use Rattle.cs_proc.specs.declared.error.ProcError.{ProcError}
 use Rattle.cs_proc.specs.declared.error.ProcError.TheVariants as refusal
-use Rattle.cs_proc.specs.Answering.{Answers, IsMade}
+use Rattle.cs_proc.specs.Answering.{AnswersCall, IsMadeTransaction}
 use Rattle.cs_client.specs.declared.beliefs.Objects.{Objects}
 use Rattle.cs_client.specs.declared.errand.Errand.{Errand}
 use Rattle.cs_client.specs.declared.error.ClientError.{ClientError}
@@ -23,19 +23,19 @@ use Rattle.cs_client.specs.declared.phases.Phase.{Phase as Kept}
 use Rattle.cs_client.specs.declared.phases.Phase.TheVariants as kept
 use Rattle.cs_client.specs.declared.phases.Wanted.{Wanted}
 use Rattle.cs_client.specs.declared.phases.Submission.{Submission}
-use Rattle.cs_client.specs.Nodes.{nodes_of}
+use Rattle.cs_client.specs.Nodes.{nodes_of_shards}
 use Rattle.cs_client.specs.Inputs.{Input}
 use Rattle.cs_client.specs.Dummies.{dummies_for}
 use Rattle.cs_client.specs.Calls.{call_on, call_with, ran_with}
 use Rattle.cs_client.specs.Endings.{ending_of}
 use Rattle.cs_client.specs.Sessions.{has_input, bare, with_dummies, is_bare, bare_shards}
-use Rattle.cs_client.specs.Phases.{Phase, Asking, Wanting, Submitting, Idle, provided, wanting, begun, called, phase}
+use Rattle.cs_client.specs.Phases.{Phase, Asking, Wanting, Submitting, Idle, provided, wanting, after_method, after_call, phase}
 use Rattle.cs_client.specs.Knowing.{knows}
-use Rattle.cs_client.specs.Sayings.{to_each, wants, submits, again, on_entering, out_of, outs_of}
-use Rattle.cs_client.specs.Kept.{Told, objects_in, objects_kept}
-use Rattle.cs_client.specs.Seen.{Client, phase_seen, PhaseFits, IsSound, known_kept, dummies_kept, ready_kept, next_kept, IsFresh, Enters, HasMoved, IsRefusedNow, Moves}
-use Rattle.cs_client.specs.Hearing.{Keeps, Hears, TakesIn}
-use Rattle.cs_client.specs.Standing.{StandsFor, HasStepped, Steps}
+use Rattle.cs_client.specs.Sayings.{say_to_each, wants, submits, again, on_entering, out_of, outs_of_sayings}
+use Rattle.cs_client.specs.Kept.{Told, objects_believed, objects_kept}
+use Rattle.cs_client.specs.Seen.{Client, phase_seen, PhaseFits, IsSoundClient, known_kept, dummies_kept, ready_kept, next_kept, IsFresh, Enters, HasMoved, IsRefusedNow, ClientMoves}
+use Rattle.cs_client.specs.Hearing.{Keeps, Hears, ClientTakesIn}
+use Rattle.cs_client.specs.Standing.{ClientStandsFor, HasStepped, Steps}
 use Rattle.cs_client.proofs.Knows.{known-so}
 use Rattle.cs_client.proofs.Taking.{unheard-taken}
 use Rattle.cs_client.proofs.Moving.{moved-keeps, moved-says, moved-made, moved-refused}
@@ -52,7 +52,7 @@ concerned-same config x dummies (suc n) = ap (λ xs. xs ++ (if concerns config x
 
 wants-same : (e : Errand) (x : Session) (dummies : List (ℕ × ℕ)) → wants e (with_dummies x dummies) ≡ wants e x
 wants-same e x dummies =
-    ap (λ shards. to_each (nodes_of e.config.f (filter (is_bare e.config x) shards)) (message.Ask None)) (concerned-same e.config x dummies e.config.shards)
+    ap (λ shards. say_to_each (nodes_of_shards e.config.f (filter (is_bare e.config x) shards)) (message.Ask None)) (concerned-same e.config x dummies e.config.shards)
 
 entered-asking : (e : Errand) (x : Session) (o : Option (List (ℕ × ℕ))) → on_entering e Asking (provided x o) ≡ wants e x ++ on_entering e (Wanting x) (provided x o)
 entered-asking e x None = sym (append-nil (wants e x))
@@ -72,31 +72,31 @@ not-asking p asking later = absurd (subst IsLater asking later)
 -- ---- from the first phase to those after it
 
 entered-bare : (e : Errand) (dummy : ℕ → Option ℕ) (tx : Tx) (next : Kept) (before mid after : List Out) → has_input tx ≡ true
-    → mid ≡ before ++ outs_of e.keys (wants e (bare tx e.call.number))
+    → mid ≡ before ++ outs_of_sayings e.keys (wants e (bare tx e.call.number))
     → Enters e (Wanting (bare tx e.call.number)) (wanting e.config dummy (bare tx e.call.number)) next mid after
-    → Enters e Asking (begun e dummy (Ok tx.traces)) next before after
+    → Enters e Asking (after_method e dummy (Ok tx.traces)) next before after
 entered-bare e dummy tx next before mid after some said enters =
     let x = bare tx e.call.number in
     let new = wanting e.config dummy x in
-    let is : begun e dummy (Ok tx.traces) ≡ new = ap (λ t. if t then new else Idle) some in
+    let is : after_method e dummy (Ok tx.traces) ≡ new = ap (λ t. if t then new else Idle) some in
     subst (λ p. Enters e Asking p next before after) (sym is) (record {
       seen = enters.seen;
       fits = enters.fits;
       said =
           enters.said
-          ∙ (ap (λ outs. outs ++ outs_of e.keys (on_entering e (Wanting x) new)) said
-          ∙ (append_assoc before (outs_of e.keys (wants e x)) (outs_of e.keys (on_entering e (Wanting x) new))
+          ∙ (ap (λ outs. outs ++ outs_of_sayings e.keys (on_entering e (Wanting x) new)) said
+          ∙ (append_assoc before (outs_of_sayings e.keys (wants e x)) (outs_of_sayings e.keys (on_entering e (Wanting x) new))
           ∙ ap (λ outs. before ++ outs)
           (sym (flat_map-append (out_of e.keys) (wants e x) (on_entering e (Wanting x) new))
-          ∙ ap (outs_of e.keys) (sym (entered-asking e x (dummies_for dummy (bare_shards e.config x)))))));
+          ∙ ap (outs_of_sayings e.keys) (sym (entered-asking e x (dummies_for dummy (bare_shards e.config x)))))));
     })
 
 pub entered : (e : Errand) (dummy : ℕ → Option ℕ) (tx : Tx) (x : Session) (next : Kept) (before mid after : List Out) → has_input tx ≡ true → x ≡ bare tx e.call.number
-    → mid ≡ before ++ outs_of e.keys (wants e x) → Enters e (Wanting x) (wanting e.config dummy x) next mid after
-    → Enters e Asking (begun e dummy (Ok tx.traces)) next before after
+    → mid ≡ before ++ outs_of_sayings e.keys (wants e x) → Enters e (Wanting x) (wanting e.config dummy x) next mid after
+    → Enters e Asking (after_method e dummy (Ok tx.traces)) next before after
 entered e dummy tx x next before mid after some is said enters =
     entered-bare e dummy tx next before mid after some
-    (subst (λ y. mid ≡ before ++ outs_of e.keys (wants e y)) is said)
+    (subst (λ y. mid ≡ before ++ outs_of_sayings e.keys (wants e y)) is said)
     (subst (λ y. Enters e (Wanting y) (wanting e.config dummy y) next mid after) is enters)
 
 -- ---- the call of the objects that are believed
@@ -105,7 +105,7 @@ abbrev both : List Keyed → List Keyed → Objects
 both i r = record { inputs = i; reads = r }
 
 ready-from : (e : Errand) (told : Told) (o : Objects) → objects_kept e.config.f told ≡ Some o → ready_kept e told ≡ Some (call_on e.call o.inputs o.reads)
-ready-from e told o is = by (objects_in e.config.f told.inputs) (objects_in e.config.f told.reads) is where
+ready-from e told o is = by (objects_believed e.config.f told.inputs) (objects_believed e.config.f told.reads) is where
   by : (inputs reads : Option (List Keyed)) → option_and_then (λ i. option_map (both i) reads) inputs ≡ Some o → call_with e.call inputs reads ≡ Some (call_on e.call o.inputs o.reads)
   by None reads is = absurd cc
   by (Some i) None is = absurd cc
@@ -115,21 +115,21 @@ same-call : (a b : Call) → Some a ≡ Some b → a ≡ b
 same-call a b is = cc
 
 pub called-moves : (e : Errand) (told : Told) (o : Objects) (tx : Tx) (next : Kept) (before after : List Out) → objects_kept e.config.f told ≡ Some o
-    → IsMade e.book tx (ran_with e (call_on e.call o.inputs o.reads)) → Enters e Asking (begun e (dummies_kept e told) (Ok tx.traces)) next before after → IsFresh e.config next
+    → IsMadeTransaction e.book tx (ran_with e (call_on e.call o.inputs o.reads)) → Enters e Asking (after_method e (dummies_kept e told) (Ok tx.traces)) next before after → IsFresh e.config next
     → HasMoved e told kept.Asking next before after
 called-moves e told o tx next before after is made enters fresh =
     let call = call_on e.call o.inputs o.reads in
     let ready = ready-from e told o is in
-    let new : next_kept e told Asking ≡ begun e (dummies_kept e told) (Ok tx.traces) =
-    ap (called e (dummies_kept e told)) ready ∙ ap (begun e (dummies_kept e told)) made.ran in
+    let new : next_kept e told Asking ≡ after_method e (dummies_kept e told) (Ok tx.traces) =
+    ap (after_call e (dummies_kept e told)) ready ∙ ap (after_method e (dummies_kept e told)) made.ran in
     record {
       enters = subst (λ p. Enters e Asking p next before after) (sym new) enters;
       voices = fresh;
-      made = λ other asking has. (tx, subst (λ c. IsMade e.book tx (ran_with e c)) (same-call call other (sym ready ∙ has)) made);
+      made = λ other asking has. (tx, subst (λ c. IsMadeTransaction e.book tx (ran_with e c)) (same-call call other (sym ready ∙ has)) made);
     }
 
 called-refused : (e : Errand) (told : Told) (o : Objects) (cause : ProcError) → objects_kept e.config.f told ≡ Some o
-    → Answers e.book (ran_with e (call_on e.call o.inputs o.reads)) (Err cause) → (cause ≡ refusal.Memory → ⊥) → IsRefusedNow e told kept.Asking cause
+    → AnswersCall e.book (ran_with e (call_on e.call o.inputs o.reads)) (Err cause) → (cause ≡ refusal.Memory → ⊥) → IsRefusedNow e told kept.Asking cause
 called-refused e told o cause is refused other = record {
   asking = refl;
   call = call_on e.call o.inputs o.reads;
@@ -140,7 +140,7 @@ called-refused e told o cause is refused other = record {
 
 -- however the run of the method ended without a transaction
 pub called-ended : (e : Errand) (told : Told) (o : Objects) (cause : ProcError) (before after : List Out) → objects_kept e.config.f told ≡ Some o
-    → Answers e.book (ran_with e (call_on e.call o.inputs o.reads)) (Err cause) → Moves e told kept.Asking (Err (ending_of cause)) before after
+    → AnswersCall e.book (ran_with e (call_on e.call o.inputs o.reads)) (Err cause) → ClientMoves e told kept.Asking (Err (ending_of cause)) before after
 called-ended e told o refusal.Memory before after is refused = tt
 called-ended e told o refusal.NoMethod before after is refused = called-refused e told o refusal.NoMethod is refused (λ q. cc)
 called-ended e told o refusal.BadArgs before after is refused = called-refused e told o refusal.BadArgs is refused (λ q. cc)
@@ -177,23 +177,23 @@ idle-stays e told outs = record {
 -- ---- inputs
 
 pub takes-datagram : (e : Errand) (past : List Input) (bytes : List ℕ) (told : Told) (now : Kept) (told' : Told) (now' : Kept) (outs : List Out)
-    → Hears e past (came.Datagram bytes) told now told' now' → outs ≡ [] → TakesIn e past (came.Datagram bytes) told now told' now' outs
+    → Hears e past (came.Datagram bytes) told now told' now' → outs ≡ [] → ClientTakesIn e past (came.Datagram bytes) told now told' now' outs
 takes-datagram e past bytes told now told' now' outs hears none = record { hears = hears; says = λ keeps. none }
 
-pub takes-tick : (e : Errand) (past : List Input) (told : Told) (now : Kept) (outs : List Out) → IsSound e told now
-    → outs ≡ outs_of e.keys (again e (known_kept e.config.f now) (phase_seen now)) → TakesIn e past came.Tick told now told now outs
+pub takes-tick : (e : Errand) (past : List Input) (told : Told) (now : Kept) (outs : List Out) → IsSoundClient e told now
+    → outs ≡ outs_of_sayings e.keys (again e (known_kept e.config.f now) (phase_seen now)) → ClientTakesIn e past came.Tick told now told now outs
 takes-tick e past told now outs sound said = record {
   hears = unheard-taken e past came.Tick told now sound refl;
   says = λ keeps.
       said
-      ∙ (ap (λ n. outs_of e.keys (again e n (phase_seen now))) (known-so e past now sound.phase_fits keeps.phase_is keeps.heard)
-      ∙ ap (λ p. outs_of e.keys (again e (knows e past) p)) keeps.phase_is);
+      ∙ (ap (λ n. outs_of_sayings e.keys (again e n (phase_seen now))) (known-so e past now sound.phase_fits keeps.phase_is keeps.heard)
+      ∙ ap (λ p. outs_of_sayings e.keys (again e (knows e past) p)) keeps.phase_is);
 }
 
 -- ---- a step
 
 module _ (e : Errand) (past : List Input) (input : Input) (told : Told) (now : Kept) (told' : Told) (now' : Kept) (first after : List Out)
-    (keeps : Keeps e past (phase e past) told now) (takes : TakesIn e past input told now told' now' first) where
+    (keeps : Keeps e past (phase e past) told now) (takes : ClientTakesIn e past input told now told' now' first) where
   stepped : (next : Kept) → HasMoved e told' now' next first after → HasStepped e past input (record { errand = e; beliefs = told'; phase = next }) after
   stepped next goes =
       let after-it = takes.hears.keeps keeps in
@@ -203,31 +203,31 @@ module _ (e : Errand) (past : List Input) (input : Input) (told : Told) (now : K
         made = moved-made e past input told' now' after-it next first after goes;
       }
 
-  failed : (err : ClientError) → Moves e told' now' (Err err) first after → Steps e past input (Err err)
+  failed : (err : ClientError) → ClientMoves e told' now' (Err err) first after → Steps e past input (Err err)
   failed error.Memory moves = tt
   failed (error.Refused cause) moves = moved-refused e past input told' now' (takes.hears.keeps keeps) cause moves
 
 -- a client that stands for inputs, by its parts
 pub has-stepped : (e held : Errand) (past : List Input) (input : Input) (client : Client) (told : Told) (now : Kept) (told' : Told) (now' next : Kept) (first after : List Out)
-    → record { errand = held; beliefs = told; phase = now } ≡ client → StandsFor e past client → TakesIn held past input told now told' now' first
+    → record { errand = held; beliefs = told; phase = now } ≡ client → ClientStandsFor e past client → ClientTakesIn held past input told now told' now' first
     → HasMoved held told' now' next first after → HasStepped e past input (record { errand = held; beliefs = told'; phase = next }) after
 has-stepped e held past input client told now told' now' next first after is stands takes goes = by held (ap (λ (c : Client). c.errand) is ∙ stands.errand_is) takes goes where
   keeps : Keeps e past (phase e past) told now
   keeps = subst (λ (c : Client). Keeps e past (phase e past) c.beliefs c.phase) (sym is) stands.keeps
 
-  by : (held : Errand) → held ≡ e → TakesIn held past input told now told' now' first → HasMoved held told' now' next first after → HasStepped e past input (record { errand = held; beliefs = told'; phase = next }) after
+  by : (held : Errand) → held ≡ e → ClientTakesIn held past input told now told' now' first → HasMoved held told' now' next first after → HasStepped e past input (record { errand = held; beliefs = told'; phase = next }) after
   by held own takes goes =
       subst (λ h. HasStepped e past input (record { errand = h; beliefs = told'; phase = next }) after) (sym own)
       (stepped e past input told now told' now' first after keeps
-      (subst (λ h. TakesIn h past input told now told' now' first) own takes) next
+      (subst (λ h. ClientTakesIn h past input told now told' now' first) own takes) next
       (subst (λ h. HasMoved h told' now' next first after) own goes))
 
 pub has-failed : (e held : Errand) (past : List Input) (input : Input) (client : Client) (told : Told) (now : Kept) (told' : Told) (now' : Kept) (first after : List Out) (err : ClientError)
-    → record { errand = held; beliefs = told; phase = now } ≡ client → StandsFor e past client → TakesIn held past input told now told' now' first
-    → Moves held told' now' (Err err) first after → Steps e past input (Err err)
+    → record { errand = held; beliefs = told; phase = now } ≡ client → ClientStandsFor e past client → ClientTakesIn held past input told now told' now' first
+    → ClientMoves held told' now' (Err err) first after → Steps e past input (Err err)
 has-failed e held past input client told now told' now' first after err is stands takes moves =
     let own = ap (λ (c : Client). c.errand) is ∙ stands.errand_is in
     failed e past input told now told' now' first after
     (subst (λ (c : Client). Keeps e past (phase e past) c.beliefs c.phase) (sym is) stands.keeps)
-    (subst (λ h. TakesIn h past input told now told' now' first) own takes) err
-    (subst (λ h. Moves h told' now' (Err err) first after) own moves)
+    (subst (λ h. ClientTakesIn h past input told now told' now' first) own takes) err
+    (subst (λ h. ClientMoves h told' now' (Err err) first after) own moves)

@@ -6,15 +6,15 @@ use Rattle.cs_base.specs.declared.config.Config.{Config}
 use Rattle.cs_base.specs.declared.key.Key.TheVariants as key
 use Rattle.cs_base.specs.declared.node_id.NodeId.{NodeId}
 use Rattle.cs_tx_value.specs.declared.object.Object.{Object}
-use Rattle.cs_tx_form.specs.declared.trace.Trace.{Trace}
-use Rattle.cs_tx_form.specs.declared.session.Session.{Session}
-use Rattle.cs_tx_form.specs.declared.state.State.TheVariants as state
+use Rattle.cs_tx_types.specs.declared.trace.Trace.{Trace}
+use Rattle.cs_tx_types.specs.declared.session.Session.{Session}
+use Rattle.cs_tx_types.specs.declared.state.State.TheVariants as state
 use Rattle.cs_tx.specs.Uses.{concerned_shards}
 use Rattle.cs_wire_message.specs.declared.message.Message.TheVariants as message
 use Rattle.cs_client.specs.declared.known.Known.TheVariants as known
-use Rattle.cs_client.specs.Nodes.{nodes_of}
+use Rattle.cs_client.specs.Nodes.{nodes_of_shards}
 use Rattle.cs_client.specs.Objects.{told_in, believed_in}
-use Rattle.cs_client.specs.Dummies.{dummy_in, least_named}
+use Rattle.cs_client.specs.Dummies.{dummy_word_in, least_named}
 use Rattle.cs_client.specs.Sessions.{bare_shards, with_dummies}
 use Rattle.cs_client.specs.Phases.{Wanting, Submitting, wanting}
 use Rattle.cs_client.specs.Knowing.{is_decision, outcome}
@@ -48,7 +48,7 @@ what_is_locked_is_taken_back = refl
 another_name_is_not_told_of : told_in (1 ∷ []) (message.Told (key.Object (2 ∷ [])) (state.Active (coin 5))) ≡ None
 another_name_is_not_told_of = refl
 
-a_dummy_of_another_shard_is_not_told_of : dummy_in 0 (message.Told (key.Dummy 1 3) (state.Active (coin 1))) ≡ None
+a_dummy_of_another_shard_is_not_told_of : dummy_word_in 0 (message.Told (key.Dummy 1 3) (state.Active (coin 1))) ≡ None
 a_dummy_of_another_shard_is_not_told_of = refl
 
 an_abort_is_no_acceptance : is_decision (1 ∷ []) true (message.Decided (1 ∷ []) false) ≡ false
@@ -103,7 +103,7 @@ without_it_waits = refl
 its_shard_is_asked : asks_on three (name 2) ≡ (node 2, message.Ask (Some (key.Object (name 2)))) ∷ []
 its_shard_is_asked = refl
 
-nodes_come_in_rising_order : nodes_of 0 (0 ∷ 2 ∷ []) ≡ node 0 ∷ node 2 ∷ []
+nodes_come_in_rising_order : nodes_of_shards 0 (0 ∷ 2 ∷ []) ≡ node 0 ∷ node 2 ∷ []
 nodes_come_in_rising_order = refl
 
 -- ---- what is known

@@ -9,11 +9,11 @@ use Rattle.std.proofs.lemmas.Bool.Decides.{nat_tests}
 use Rattle.std.proofs.lemmas.List.Elements.{filter-append}
 use Rattle.cs_base.specs.declared.config.Config.{Config}
 use Rattle.cs_base.specs.declared.limits.TheConstants.{MOST_SHARDS}
-use Rattle.cs_tx_form.specs.declared.trace.Trace.{Trace}
-use Rattle.cs_tx_form.specs.declared.transaction.Tx.{Tx}
-use Rattle.cs_tx_form.specs.declared.session.Session.{Session}
-use Rattle.cs_tx_form.specs.Transaction.{Keyed, TxFits}
-use Rattle.cs_tx_form.specs.Session.{SessionFits, DummyFits}
+use Rattle.cs_tx_types.specs.declared.trace.Trace.{Trace}
+use Rattle.cs_tx_types.specs.declared.transaction.Tx.{Tx}
+use Rattle.cs_tx_types.specs.declared.session.Session.{Session}
+use Rattle.cs_tx_types.specs.Transaction.{Keyed, TxFits}
+use Rattle.cs_tx_types.specs.Session.{SessionFits, DummyFits}
 use Rattle.cs_tx.specs.Uses.{names, is_in, is_among, concerns, concerned_below}
 use Rattle.cs_client.specs.Objects.{shard_of_name}
 use Rattle.cs_client.specs.Dummies.{with_dummy, dummies_for}

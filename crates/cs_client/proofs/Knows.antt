@@ -11,14 +11,14 @@ use Rattle.cs_client.specs.declared.phases.Phase.{Phase as Kept}
 use Rattle.cs_client.specs.declared.phases.Phase.TheVariants as kept
 use Rattle.cs_client.specs.Inputs.{Input}
 use Rattle.cs_client.specs.Phases.{phase}
-use Rattle.cs_client.specs.Knowing.{has_decided, is_decided, outcome, known_in, knows}
+use Rattle.cs_client.specs.Knowing.{has_decided, knows_decided, outcome, known_in, knows}
 use Rattle.cs_client.specs.Voices.{is_enough}
 use Rattle.cs_client.specs.Seen.{phase_seen, PhaseFits, known_kept}
 use Rattle.cs_client.specs.Hearing.{KeepsTally, KeepsVoices, KeepsHeard}
 use Rattle.cs_client.proofs.Members.{node_at}
 use Rattle.cs_client.proofs.Counted.{counts-alike, all-paired, any-paired}
 
-enough : (e : Errand) (accepted : Bool) (inputs : List Input) (shard : ℕ) (tally : Marks) → KeepsTally e accepted inputs shard tally → is_enough e.config.f tally ≡ is_decided e accepted inputs shard
+enough : (e : Errand) (accepted : Bool) (inputs : List Input) (shard : ℕ) (tally : Marks) → KeepsTally e accepted inputs shard tally → is_enough e.config.f tally ≡ knows_decided e accepted inputs shard
 enough e accepted inputs shard tally keeps =
     ap (nat_lt e.config.f)
     (ap (λ n. count_below n (is_marked tally)) keeps.members
@@ -30,14 +30,14 @@ kept-known e inputs (kept.Wanting wanted) fits heard = refl
 kept-known e inputs kept.Idle fits heard = refl
 kept-known e inputs (kept.Submitting s) fits heard =
     let shards = concerned_shards e.config s.session in
-    let accepted = all-paired (KeepsVoices e inputs) (is_decided e true inputs) (λ one. is_enough e.config.f one.accepted)
+    let accepted = all-paired (KeepsVoices e inputs) (knows_decided e true inputs) (λ one. is_enough e.config.f one.accepted)
     (λ shard v keeps. enough e true inputs shard v.accepted keeps.accepted) shards s.voices.items heard in
-    let aborted = any-paired (KeepsVoices e inputs) (is_decided e false inputs) (λ one. is_enough e.config.f one.aborted)
+    let aborted = any-paired (KeepsVoices e inputs) (knows_decided e false inputs) (λ one. is_enough e.config.f one.aborted)
     (λ shard v keeps. enough e false inputs shard v.aborted keeps.aborted) shards s.voices.items heard in
     let digest = digest_of_session s.session in
     ap (λ d. outcome d (list_all (λ one. is_enough e.config.f one.accepted) s.voices.items) (list_any (λ one. is_enough e.config.f one.aborted) s.voices.items)) fits.digest_is
     ∙ (ap (λ a. outcome digest a (list_any (λ one. is_enough e.config.f one.aborted) s.voices.items)) accepted
-    ∙ ap (outcome digest (list_all (is_decided e true inputs) shards)) aborted)
+    ∙ ap (outcome digest (list_all (knows_decided e true inputs) shards)) aborted)
 
 -- what is known in a phase that is kept of these inputs
 pub known-so : (e : Errand) (inputs : List Input) (now : Kept) → PhaseFits e.config now → phase_seen now ≡ phase e inputs → KeepsHeard e inputs now → known_kept e.config.f now ≡ knows e inputs

@@ -6,7 +6,7 @@ use Rattle.std.specs.Option.{option_map_or}
 use Rattle.std.proofs.lemmas.List.Concat.{flat_map-append}
 use Rattle.cs_base.specs.declared.config.Config.{Config}
 use Rattle.cs_base.specs.declared.node_id.NodeId.{NodeId}
-use Rattle.cs_tx_form.specs.declared.session.Session.{Session}
+use Rattle.cs_tx_types.specs.declared.session.Session.{Session}
 use Rattle.cs_tx.specs.Uses.{concerns, concerned_below, concerned_shards}
 use Rattle.cs_wire.specs.declared.keys.Keys.{Keys}
 use Rattle.cs_wire.specs.declared.input.Out.{Out}
@@ -14,7 +14,7 @@ use Rattle.cs_wire_message.specs.declared.message.Message.{Message}
 use Rattle.cs_quorum.specs.Marks.{Marks}
 use Rattle.cs_proc.specs.declared.call.Call.{Call}
 use Rattle.cs_proc.specs.declared.error.ProcError.{ProcError}
-use Rattle.cs_proc.specs.Calling.{Ran}
+use Rattle.cs_proc.specs.Calling.{CallRan}
 use Rattle.cs_proc.specs.Answering.{tx_of}
 use Rattle.cs_client.specs.declared.errand.Errand.{Errand}
 use Rattle.cs_client.specs.declared.phases.Phase.{Phase as Kept}
@@ -22,30 +22,30 @@ use Rattle.cs_client.specs.declared.phases.Phase.TheVariants as kept
 use Rattle.cs_client.specs.Inputs.{Input, said_from}
 use Rattle.cs_client.specs.Objects.{believed}
 use Rattle.cs_client.specs.Dummies.{serials_in, least_named, dummy_believed, with_dummy, dummies_for}
-use Rattle.cs_client.specs.Calls.{with_object, objects_for, call_with, ready, ran_with}
+use Rattle.cs_client.specs.Calls.{objects_with, objects_for, call_with, ready, ran_with}
 use Rattle.cs_client.specs.Sessions.{has_input, bare, is_bare, bare_shards}
-use Rattle.cs_client.specs.Phases.{Phase, Asking, Wanting, Submitting, Idle, provided, wanting, begun, moved, phase}
-use Rattle.cs_client.specs.Knowing.{decides, has_decided, knows}
-use Rattle.cs_client.specs.Sayings.{again, at_tick, on_entering, says_at, out_of, outs_of}
-use Rattle.cs_client.specs.Kept.{Told, told_by, asked_on, objects_in}
+use Rattle.cs_client.specs.Phases.{Phase, Asking, Wanting, Submitting, Idle, provided, wanting, after_method, moved, phase}
+use Rattle.cs_client.specs.Knowing.{says_decided, has_decided, knows}
+use Rattle.cs_client.specs.Sayings.{again, at_tick, on_entering, says_at, out_of, outs_of_sayings}
+use Rattle.cs_client.specs.Kept.{Told, told_by_inputs, asked_on, objects_believed}
 use Rattle.cs_client.specs.Voices.{IsBlank}
 use Rattle.cs_client.specs.Seen.{phase_seen, dummies_kept, ready_kept, next_kept, IsFresh, StaysOrFresh, IsApproved, HasMoved, IsRefusedNow}
 use Rattle.cs_client.specs.Hearing.{KeepsTally, KeepsHeard, Keeps}
-use Rattle.cs_client.specs.Standing.{IsRefused}
+use Rattle.cs_client.specs.Standing.{MethodIsRefused}
 use Rattle.cs_client.proofs.Members.{node_at, get-shards}
 
 -- ---- the call and the dummies that are believed
 
-objects-kept : (config : Config) (keys : Keys) (inputs : List Input) (names : List (List ℕ)) → objects_in config.f (map (asked_on config keys inputs) names) ≡ objects_for (believed config keys inputs) names
+objects-kept : (config : Config) (keys : Keys) (inputs : List Input) (names : List (List ℕ)) → objects_believed config.f (map (asked_on config keys inputs) names) ≡ objects_for (believed config keys inputs) names
 objects-kept config keys inputs [] = refl
-objects-kept config keys inputs (name ∷ names) = ap (with_object name (believed config keys inputs name)) (objects-kept config keys inputs names)
+objects-kept config keys inputs (name ∷ names) = ap (objects_with name (believed config keys inputs name)) (objects-kept config keys inputs names)
 
-ready-so : (e : Errand) (inputs : List Input) → ready_kept e (told_by e inputs) ≡ ready e inputs
+ready-so : (e : Errand) (inputs : List Input) → ready_kept e (told_by_inputs e inputs) ≡ ready e inputs
 ready-so e inputs =
-    ap (λ i. call_with e.call i (objects_in e.config.f (told_by e inputs).reads)) (objects-kept e.config e.keys inputs e.call.inputs)
+    ap (λ i. call_with e.call i (objects_believed e.config.f (told_by_inputs e inputs).reads)) (objects-kept e.config e.keys inputs e.call.inputs)
     ∙ ap (λ r. call_with e.call (objects_for (believed e.config e.keys inputs) e.call.inputs) r) (objects-kept e.config e.keys inputs e.call.reads)
 
-dummy-so : (e : Errand) (inputs : List Input) (shard : ℕ) → shard < e.config.shards → dummies_kept e (told_by e inputs) shard ≡ dummy_believed e.config e.keys inputs shard
+dummy-so : (e : Errand) (inputs : List Input) (shard : ℕ) → shard < e.config.shards → dummies_kept e (told_by_inputs e inputs) shard ≡ dummy_believed e.config e.keys inputs shard
 dummy-so e inputs shard low =
     ap (λ o. least_named e.config.f (unwrap_or o [])) (get-shards (serials_in e.config e.keys inputs) e.config.shards shard low)
 
@@ -83,7 +83,7 @@ wanting-alike config d d' x same =
     ap (provided x) (dummies-alike d d' (bare_shards config x)
     (all-filter (λ s. d s ≡ d' s) (is_bare config x) (concerned_shards config x) (all-concerned (λ s. d s ≡ d' s) config x config.shards same)))
 
-begun-alike : (e : Errand) (d d' : ℕ → Option ℕ) (run : Ran) → ((s : ℕ) → s < e.config.shards → d s ≡ d' s) → begun e d run ≡ begun e d' run
+begun-alike : (e : Errand) (d d' : ℕ → Option ℕ) (run : CallRan) → ((s : ℕ) → s < e.config.shards → d s ≡ d' s) → after_method e d run ≡ after_method e d' run
 begun-alike e d d' (Err error) same = refl
 begun-alike e d d' (Ok traces) same =
     ap (λ p. if has_input (tx_of traces) then p else Idle) (wanting-alike e.config d d' (bare (tx_of traces) e.call.number) same)
@@ -96,12 +96,12 @@ moved-alike e d d' call (Submitting x) same = refl
 moved-alike e d d' call Idle same = refl
 
 -- the phase that follows by what is kept of the inputs is that by the inputs
-pub next-so : (e : Errand) (past : List Input) (input : Input) (told : Told) (before : Phase) → told ≡ told_by e (input ∷ past) → before ≡ phase e past → next_kept e told before ≡ phase e (input ∷ past)
+pub next-so : (e : Errand) (past : List Input) (input : Input) (told : Told) (before : Phase) → told ≡ told_by_inputs e (input ∷ past) → before ≡ phase e past → next_kept e told before ≡ phase e (input ∷ past)
 next-so e past input told before is at =
     ap (λ t. next_kept e t before) is
-    ∙ (ap (next_kept e (told_by e (input ∷ past))) at
-    ∙ (ap (λ c. moved e (dummies_kept e (told_by e (input ∷ past))) c (phase e past)) (ready-so e (input ∷ past))
-    ∙ moved-alike e (dummies_kept e (told_by e (input ∷ past))) (dummy_believed e.config e.keys (input ∷ past)) (ready e (input ∷ past)) (phase e past) (dummy-so e (input ∷ past))))
+    ∙ (ap (next_kept e (told_by_inputs e (input ∷ past))) at
+    ∙ (ap (λ c. moved e (dummies_kept e (told_by_inputs e (input ∷ past))) c (phase e past)) (ready-so e (input ∷ past))
+    ∙ moved-alike e (dummies_kept e (told_by_inputs e (input ∷ past))) (dummy_believed e.config e.keys (input ∷ past)) (ready e (input ∷ past)) (phase e past) (dummy-so e (input ∷ past))))
 
 -- ---- before submission nothing is decided
 
@@ -117,7 +117,7 @@ before-moved e d call (Wanting x) h = tt
 before-moved e d call (Submitting x) h = h
 before-moved e d call Idle h = tt
 
-decides-nothing : (p : Phase) (accepted : Bool) (said : Option Message) → IsBefore p → option_map_or (decides p accepted) said false ≡ false
+decides-nothing : (p : Phase) (accepted : Bool) (said : Option Message) → IsBefore p → option_map_or (says_decided p accepted) said false ≡ false
 decides-nothing p accepted None h = refl
 decides-nothing Asking accepted (Some m) h = refl
 decides-nothing (Wanting x) accepted (Some m) h = refl
@@ -174,18 +174,18 @@ module _ (e : Errand) (past : List Input) (input : Input) (told : Told) (old : K
       heard = next-heard e past input old new keeps.phase_is keeps.heard goes.voices;
     }
 
-    pub moved-says : before ≡ outs_of e.keys (at_tick input (again e (knows e past) (phase e past))) → after ≡ outs_of e.keys (says_at e input past)
+    pub moved-says : before ≡ outs_of_sayings e.keys (at_tick input (again e (knows e past) (phase e past))) → after ≡ outs_of_sayings e.keys (says_at e input past)
     moved-says first =
         goes.enters.said
-        ∙ (ap (λ outs. outs ++ outs_of e.keys (on_entering e (phase_seen old) (next_kept e told (phase_seen old)))) first
-        ∙ (ap (λ p. outs_of e.keys (at_tick input (again e (knows e past) (phase e past))) ++ outs_of e.keys (on_entering e p (next_kept e told (phase_seen old)))) keeps.phase_is
-        ∙ (ap (λ p. outs_of e.keys (at_tick input (again e (knows e past) (phase e past))) ++ outs_of e.keys (on_entering e (phase e past) p)) next-is
+        ∙ (ap (λ outs. outs ++ outs_of_sayings e.keys (on_entering e (phase_seen old) (next_kept e told (phase_seen old)))) first
+        ∙ (ap (λ p. outs_of_sayings e.keys (at_tick input (again e (knows e past) (phase e past))) ++ outs_of_sayings e.keys (on_entering e p (next_kept e told (phase_seen old)))) keeps.phase_is
+        ∙ (ap (λ p. outs_of_sayings e.keys (at_tick input (again e (knows e past) (phase e past))) ++ outs_of_sayings e.keys (on_entering e (phase e past) p)) next-is
         ∙ sym (flat_map-append (out_of e.keys) (at_tick input (again e (knows e past) (phase e past))) (on_entering e (phase e past) (phase e (input ∷ past)))))))
 
     pub moved-made : (call : Call) → phase e past ≡ Asking → ready e (input ∷ past) ≡ Some call → IsApproved e.book (ran_with e call)
     moved-made call asking is = goes.made call (keeps.phase_is ∙ asking) (ready-is ∙ is)
 
-  pub moved-refused : (cause : ProcError) → IsRefusedNow e told old cause → IsRefused e past input cause
+  pub moved-refused : (cause : ProcError) → IsRefusedNow e told old cause → MethodIsRefused e past input cause
   moved-refused cause refused = record {
     asking = sym keeps.phase_is ∙ refused.asking;
     call = refused.call;

@@ -5,9 +5,9 @@ use Rattle.cs_base.specs.declared.config.Config.{Config}
 use Rattle.cs_base.specs.declared.key.Key.{Key}
 use Rattle.cs_base.specs.declared.node_id.NodeId.{NodeId}
 use Rattle.cs_base.specs.NodeId.{is_node}
-use Rattle.cs_tx_form.specs.Session.{SessionFits}
-use Rattle.cs_tx_form.specs.declared.state.State.{State}
-use Rattle.cs_tx_form.specs.State.{StateFits}
+use Rattle.cs_tx_types.specs.Session.{SessionFits}
+use Rattle.cs_tx_types.specs.declared.state.State.{State}
+use Rattle.cs_tx_types.specs.State.{StateFits}
 use Rattle.cs_tx.specs.Digest.{digest_of_session}
 use Rattle.cs_tx.specs.Uses.{concerned_shards}
 use Rattle.cs_wire_message.specs.declared.message.Message.{Message}
@@ -17,15 +17,15 @@ use Rattle.cs_client.specs.declared.errand.Errand.{Errand}
 use Rattle.cs_client.specs.declared.phases.Phase.{Phase as Kept}
 use Rattle.cs_client.specs.declared.phases.Phase.TheVariants as kept
 use Rattle.cs_client.specs.declared.phases.Submission.{Submission}
-use Rattle.cs_client.specs.Nodes.{nodes_of}
+use Rattle.cs_client.specs.Nodes.{nodes_of_shards}
 use Rattle.cs_client.specs.Inputs.{Input, heard}
 use Rattle.cs_client.specs.Objects.{told_in}
-use Rattle.cs_client.specs.Dummies.{dummy_in}
+use Rattle.cs_client.specs.Dummies.{dummy_word_in}
 use Rattle.cs_client.specs.Phases.{Phase, Asking, Wanting, Submitting, Idle, phase}
-use Rattle.cs_client.specs.Knowing.{is_decision, decides}
-use Rattle.cs_client.specs.Kept.{Told, told_by, heard_of, ToldFits, ToldMarked}
+use Rattle.cs_client.specs.Knowing.{is_decision, says_decided}
+use Rattle.cs_client.specs.Kept.{Told, told_by_inputs, heard_of, ToldFits, ToldMarked}
 use Rattle.cs_client.specs.Voices.{Pairwise, HeardThere, HeardFrom, VoicesFit, EachFits}
-use Rattle.cs_client.specs.Seen.{phase_seen, SubmissionFits, IsSound, VoicesAfter, CountsIn, Counts}
+use Rattle.cs_client.specs.Seen.{phase_seen, SubmissionFits, IsSoundClient, VoicesAfter, CountsIn, Counts}
 use Rattle.cs_client.specs.Hearing.{KeepsHeard, Hears}
 use Rattle.cs_client.proofs.Telling.{unheard-told, stranger-told, other-told, told-heard}
 use Rattle.cs_client.proofs.Deciding.{unheard-heard, other-heard, stranger-heard, decided-heard}
@@ -39,34 +39,34 @@ on-ok (Err e) P Q follows h = tt
 
 -- ---- nothing changes
 
-pub nothing-taken : (e : Errand) (past : List Input) (input : Input) (told : Told) (now : Kept) → IsSound e told now → told_by e (input ∷ past) ≡ told_by e past
+pub nothing-taken : (e : Errand) (past : List Input) (input : Input) (told : Told) (now : Kept) → IsSoundClient e told now → told_by_inputs e (input ∷ past) ≡ told_by_inputs e past
     → (KeepsHeard e past now → KeepsHeard e (input ∷ past) now) → Hears e past input told now told now
 nothing-taken e past input told now sound same heard = record {
   sound = sound;
   keeps = λ k. record { told_is = k.told_is ∙ sym same; phase_is = k.phase_is; heard = heard k.heard };
 }
 
-pub unheard-taken : (e : Errand) (past : List Input) (input : Input) (told : Told) (now : Kept) → IsSound e told now → heard e.keys input ≡ None → Hears e past input told now told now
+pub unheard-taken : (e : Errand) (past : List Input) (input : Input) (told : Told) (now : Kept) → IsSoundClient e told now → heard e.keys input ≡ None → Hears e past input told now told now
 unheard-taken e past input told now sound none =
     nothing-taken e past input told now sound (unheard-told e input past none) (unheard-heard e past input now none)
 
-pub stranger-taken : (e : Errand) (past : List Input) (input : Input) (told : Told) (now : Kept) (from : NodeId) (m : Message) → IsSound e told now → heard e.keys input ≡ Some (from, m) → is_node e.config from ≡ false → Hears e past input told now told now
+pub stranger-taken : (e : Errand) (past : List Input) (input : Input) (told : Told) (now : Kept) (from : NodeId) (m : Message) → IsSoundClient e told now → heard e.keys input ≡ Some (from, m) → is_node e.config from ≡ false → Hears e past input told now told now
 stranger-taken e past input told now from m sound said other =
     nothing-taken e past input told now sound (stranger-told e input past from m said other) (stranger-heard e past input from m said now other)
 
 -- a message that tells of no key and decides nothing
 pub record IsOther (m : Message) : Type 0 where
   pub names : (name : List ℕ) → told_in name m ≡ None
-  pub dummies : (shard : ℕ) → dummy_in shard m ≡ None
-  pub decisions : (p : Phase) (accepted : Bool) → decides p accepted m ≡ false
+  pub dummies : (shard : ℕ) → dummy_word_in shard m ≡ None
+  pub decisions : (p : Phase) (accepted : Bool) → says_decided p accepted m ≡ false
 
-decides-none : (p : Phase) (accepted : Bool) (m : Message) → ((digest : List ℕ) → is_decision digest accepted m ≡ false) → decides p accepted m ≡ false
+decides-none : (p : Phase) (accepted : Bool) (m : Message) → ((digest : List ℕ) → is_decision digest accepted m ≡ false) → says_decided p accepted m ≡ false
 decides-none Asking accepted m none = refl
 decides-none (Wanting x) accepted m none = refl
 decides-none (Submitting x) accepted m none = none (digest_of_session x)
 decides-none Idle accepted m none = refl
 
-plain : (m : Message) → ((name : List ℕ) → told_in name m ≡ None) → ((shard : ℕ) → dummy_in shard m ≡ None) → ((digest : List ℕ) (accepted : Bool) → is_decision digest accepted m ≡ false) → IsOther m
+plain : (m : Message) → ((name : List ℕ) → told_in name m ≡ None) → ((shard : ℕ) → dummy_word_in shard m ≡ None) → ((digest : List ℕ) (accepted : Bool) → is_decision digest accepted m ≡ false) → IsOther m
 plain m names dummies none = record { names = names; dummies = dummies; decisions = λ p accepted. decides-none p accepted m (λ digest. none digest accepted) }
 
 pub is-other : (m : Message) → ((k : Key) (s : State) → m ≡ message.Told k s → ⊥) → ((digest : List ℕ) (so : Bool) → m ≡ message.Decided digest so → ⊥) → IsOther m
@@ -74,20 +74,20 @@ is-other (message.Told k s) tells says = absurd (tells k s refl)
 is-other (message.Decided digest so) tells says = absurd (says digest so refl)
 is-other m tells says = plain m (λ n. refl) (λ n. refl) (λ d a. refl)
 
-pub other-taken : (e : Errand) (past : List Input) (input : Input) (told : Told) (now : Kept) (from : NodeId) (m : Message) → IsSound e told now → heard e.keys input ≡ Some (from, m) → IsOther m → Hears e past input told now told now
+pub other-taken : (e : Errand) (past : List Input) (input : Input) (told : Told) (now : Kept) (from : NodeId) (m : Message) → IsSoundClient e told now → heard e.keys input ≡ Some (from, m) → IsOther m → Hears e past input told now told now
 other-taken e past input told now from m sound said other =
     nothing-taken e past input told now sound (other-told e input past from m said other.names other.dummies)
     (other-heard e past input from m said now (other.decisions (phase e past)))
 
 -- ---- a node tells of a key
 
-told-decides : (k : Key) (s : State) (p : Phase) (accepted : Bool) → decides p accepted (message.Told k s) ≡ false
+told-decides : (k : Key) (s : State) (p : Phase) (accepted : Bool) → says_decided p accepted (message.Told k s) ≡ false
 told-decides k s Asking accepted = refl
 told-decides k s (Wanting x) accepted = refl
 told-decides k s (Submitting x) accepted = refl
 told-decides k s Idle accepted = refl
 
-pub told-taken : (e : Errand) (past : List Input) (input : Input) (told told' : Told) (now : Kept) (from : NodeId) (k : Key) (s : State) → IsSound e told now
+pub told-taken : (e : Errand) (past : List Input) (input : Input) (told told' : Told) (now : Kept) (from : NodeId) (k : Key) (s : State) → IsSoundClient e told now
     → heard e.keys input ≡ Some (from, message.Told k s) → is_node e.config from ≡ true → StateFits s → told' ≡ heard_of e.config from k s told → Hears e past input told now told' now
 told-taken e past input told told' now from k s sound said known fits is = record {
   sound = record {
@@ -126,13 +126,13 @@ counts-fit : (config : Config) (from : NodeId) (digest : List ℕ) (so : Bool) (
 counts-fit config from digest so old new counts fits = record {
   fits = subst SessionFits (sym counts.session_is) fits.fits;
   digest_is = counts.digest_is ∙ (fits.digest_is ∙ ap digest_of_session (sym counts.session_is));
-  nodes_are = counts.nodes_are ∙ (fits.nodes_are ∙ ap (λ x. nodes_of config.f (concerned_shards config x)) (sym counts.session_is));
+  nodes_are = counts.nodes_are ∙ (fits.nodes_are ∙ ap (λ x. nodes_of_shards config.f (concerned_shards config x)) (sym counts.session_is));
   voices = voices-fit config.f (bytes_eq old.digest digest) from so old.voices.items new.voices.items counts.voices fits.voices;
 }
 
 -- where nothing is submitted yet
-idle-counted : (e : Errand) (past : List Input) (input : Input) (told : Told) (old new : Kept) (from : NodeId) (digest : List ℕ) (so : Bool) → IsSound e told old
-    → heard e.keys input ≡ Some (from, message.Decided digest so) → ((accepted : Bool) → decides (phase_seen old) accepted (message.Decided digest so) ≡ false) → new ≡ old → Hears e past input told old told new
+idle-counted : (e : Errand) (past : List Input) (input : Input) (told : Told) (old new : Kept) (from : NodeId) (digest : List ℕ) (so : Bool) → IsSoundClient e told old
+    → heard e.keys input ≡ Some (from, message.Decided digest so) → ((accepted : Bool) → says_decided (phase_seen old) accepted (message.Decided digest so) ≡ false) → new ≡ old → Hears e past input told old told new
 idle-counted e past input told old new from digest so sound said none still =
     subst (λ now. Hears e past input told old told now) (sym still) (record {
       sound = sound;
@@ -140,11 +140,11 @@ idle-counted e past input told old new from digest so sound said none still =
         told_is = k.told_is ∙ sym (other-told e input past from (message.Decided digest so) said (λ name. refl) (λ shard. refl));
         phase_is = k.phase_is;
         heard = other-heard e past input from (message.Decided digest so) said old
-            (λ accepted. ap (λ p. decides p accepted (message.Decided digest so)) (sym k.phase_is) ∙ none accepted) k.heard;
+            (λ accepted. ap (λ p. says_decided p accepted (message.Decided digest so)) (sym k.phase_is) ∙ none accepted) k.heard;
       };
     })
 
-pub decided-taken : (e : Errand) (past : List Input) (input : Input) (told : Told) (old new : Kept) (from : NodeId) (digest : List ℕ) (so : Bool) → IsSound e told old
+pub decided-taken : (e : Errand) (past : List Input) (input : Input) (told : Told) (old new : Kept) (from : NodeId) (digest : List ℕ) (so : Bool) → IsSoundClient e told old
     → heard e.keys input ≡ Some (from, message.Decided digest so) → Counts from digest so old new → Hears e past input told old told new
 decided-taken e past input told kept.Asking new from digest so sound said counts = idle-counted e past input told kept.Asking new from digest so sound said (λ accepted. refl) counts
 decided-taken e past input told (kept.Wanting wanted) new from digest so sound said counts = idle-counted e past input told (kept.Wanting wanted) new from digest so sound said (λ accepted. refl) counts

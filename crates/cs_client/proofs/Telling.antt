@@ -14,15 +14,15 @@ use Rattle.cs_base.specs.Key.{shard_of_key}
 use Rattle.cs_base.specs.NodeId.{same_name, is_node}
 use Rattle.cs_base.specs.Options.{or_else}
 use Rattle.cs_tx_value.specs.declared.object.Object.{Object}
-use Rattle.cs_tx_form.specs.declared.state.State.{State}
+use Rattle.cs_tx_types.specs.declared.state.State.{State}
 use Rattle.cs_wire.specs.declared.keys.Keys.{Keys}
 use Rattle.cs_wire_message.specs.declared.message.Message.{Message}
 use Rattle.cs_wire_message.specs.declared.message.Message.TheVariants as message
 use Rattle.cs_client.specs.declared.errand.Errand.{Errand}
 use Rattle.cs_client.specs.Inputs.{Input, heard, from_node, said_from, latest, or_none}
-use Rattle.cs_client.specs.Objects.{active, told_of, told_in, word_on, shard_of_name, words_on}
-use Rattle.cs_client.specs.Dummies.{serial_told, dummy_of, dummy_in, serial_by, serials_in}
-use Rattle.cs_client.specs.Kept.{Told, told_by, asked_on, asked_with, shards_below, with_word, with_told, with_state, heard_of, serials_kept}
+use Rattle.cs_client.specs.Objects.{active, object_told, told_in, word_on, shard_of_name, words_on}
+use Rattle.cs_client.specs.Dummies.{serial_told, dummy_told, dummy_word_in, serial_by, serials_in}
+use Rattle.cs_client.specs.Kept.{Told, told_by_inputs, asked_on, asked_with, shards_below, with_word, word_of_name, told_with_state, heard_of, serials_kept}
 use Rattle.cs_client.proofs.Members.{node_at, same-members, same-shards, same-each, set-members, set-shards, each-changed, get-shards}
 
 -- ---- names of nodes
@@ -66,7 +66,7 @@ module _ (config : Config) (keys : Keys) (input : Input) (past : List Input) whe
   word name node = option_and_then (told_in name) (said_from keys node input)
 
   abbrev serial : NodeId → Option (Option ℕ)
-  serial node = option_and_then (dummy_in node.shard) (said_from keys node input)
+  serial node = option_and_then (dummy_word_in node.shard) (said_from keys node input)
 
   word-none : (name : List ℕ) (node : NodeId) → word name node ≡ None → word_on keys name (input ∷ past) node ≡ word_on keys name past node
   word-none name node none = ap or_none (latest-none (λ i. option_and_then (told_in name) (said_from keys node i)) input past none)
@@ -75,10 +75,10 @@ module _ (config : Config) (keys : Keys) (input : Input) (past : List Input) whe
   word-some name node w some = ap or_none (latest-some (λ i. option_and_then (told_in name) (said_from keys node i)) input past w some)
 
   serial-none : (node : NodeId) → serial node ≡ None → serial_by keys (input ∷ past) node ≡ serial_by keys past node
-  serial-none node none = ap or_none (latest-none (λ i. option_and_then (dummy_in node.shard) (said_from keys node i)) input past none)
+  serial-none node none = ap or_none (latest-none (λ i. option_and_then (dummy_word_in node.shard) (said_from keys node i)) input past none)
 
   serial-some : (node : NodeId) (w : Option ℕ) → serial node ≡ Some w → serial_by keys (input ∷ past) node ≡ w
-  serial-some node w some = ap or_none (latest-some (λ i. option_and_then (dummy_in node.shard) (said_from keys node i)) input past w some)
+  serial-some node w some = ap or_none (latest-some (λ i. option_and_then (dummy_word_in node.shard) (said_from keys node i)) input past w some)
 
   -- ---- nothing is told
 
@@ -115,12 +115,12 @@ module _ (config : Config) (keys : Keys) (input : Input) (past : List Input) whe
         ]
 
     serial-not : (node : NodeId) → same_name from node ≡ false → serial node ≡ None
-    serial-not node other = ap (option_and_then (dummy_in node.shard)) (said-not node other)
+    serial-not node other = ap (option_and_then (dummy_word_in node.shard)) (said-not node other)
 
-    serial-here : (node : NodeId) → same_name from node ≡ true → serial node ≡ dummy_in node.shard m
-    serial-here node same = ap (option_and_then (dummy_in node.shard)) (said-here node same)
+    serial-here : (node : NodeId) → same_name from node ≡ true → serial node ≡ dummy_word_in node.shard m
+    serial-here node same = ap (option_and_then (dummy_word_in node.shard)) (said-here node same)
 
-    serial-nothing : (node : NodeId) → dummy_in node.shard m ≡ None → serial node ≡ None
+    serial-nothing : (node : NodeId) → dummy_word_in node.shard m ≡ None → serial node ≡ None
     serial-nothing node none =
         elim (cases_Bool (same_name from node)) [
           | inl same ↦ serial-here node same ∙ none
@@ -135,21 +135,21 @@ told-eq a b i r s = λ k. record { inputs = i k; reads = r k; serials = s k }
 pub silent : (e : Errand) (input : Input) (past : List Input)
     → ((name : List ℕ) (i : ℕ) → i < 3 * e.config.f + 1 → word e.config e.keys input past name (node_at (shard_of_name e.config name) i) ≡ None)
     → ((shard : ℕ) → shard < e.config.shards → (i : ℕ) → i < 3 * e.config.f + 1 → serial e.config e.keys input past (node_at shard i) ≡ None)
-    → told_by e (input ∷ past) ≡ told_by e past
+    → told_by_inputs e (input ∷ past) ≡ told_by_inputs e past
 silent e input past words serials =
     let asked = λ (name : List ℕ). asked-none e.config e.keys input past name (words name) in
-    told-eq (told_by e (input ∷ past)) (told_by e past)
+    told-eq (told_by_inputs e (input ∷ past)) (told_by_inputs e past)
     (same-each (asked_on e.config e.keys (input ∷ past)) (asked_on e.config e.keys past) e.call.inputs asked)
     (same-each (asked_on e.config e.keys (input ∷ past)) (asked_on e.config e.keys past) e.call.reads asked)
     (same-shards (serials_in e.config e.keys (input ∷ past)) (serials_in e.config e.keys past) e.config.shards
     (λ shard less. serials-none e.config e.keys input past shard (serials shard less)))
 
 -- what doesn't open tells nothing
-pub unheard-told : (e : Errand) (input : Input) (past : List Input) → heard e.keys input ≡ None → told_by e (input ∷ past) ≡ told_by e past
+pub unheard-told : (e : Errand) (input : Input) (past : List Input) → heard e.keys input ≡ None → told_by_inputs e (input ∷ past) ≡ told_by_inputs e past
 unheard-told e input past none =
     silent e input past
     (λ name i less. ap (λ s. option_and_then (told_in name) (from_node (node_at (shard_of_name e.config name) i) s)) none)
-    (λ shard low i less. ap (λ s. option_and_then (dummy_in shard) (from_node (node_at shard i) s)) none)
+    (λ shard low i less. ap (λ s. option_and_then (dummy_word_in shard) (from_node (node_at shard i) s)) none)
 
 name-low : (config : Config) (name : List ℕ) → shard_of_name config name < config.shards
 name-low config name = let some : 0 < config.shards = config.some_shard in mod_below (from_be_bytes w32 (drop 28 name)) config.shards some
@@ -158,7 +158,7 @@ name-low config name = let some : 0 < config.shards = config.some_shard in mod_b
 pub stranger : (config : Config) (from : NodeId) (shard i : ℕ) → is_node config from ≡ false → shard < config.shards → i < 3 * config.f + 1 → same_name from (node_at shard i) ≡ false
 stranger config from shard i other low less = grind (arith, nat_tests)
 
-pub stranger-told : (e : Errand) (input : Input) (past : List Input) (from : NodeId) (m : Message) → heard e.keys input ≡ Some (from, m) → is_node e.config from ≡ false → told_by e (input ∷ past) ≡ told_by e past
+pub stranger-told : (e : Errand) (input : Input) (past : List Input) (from : NodeId) (m : Message) → heard e.keys input ≡ Some (from, m) → is_node e.config from ≡ false → told_by_inputs e (input ∷ past) ≡ told_by_inputs e past
 stranger-told e input past from m said other =
     silent e input past
     (λ name i less. word-not e.config e.keys input past from m said name (node_at (shard_of_name e.config name) i) (stranger e.config from (shard_of_name e.config name) i other (name-low e.config name) less))
@@ -166,7 +166,7 @@ stranger-told e input past from m said other =
 
 -- nor does a message that tells of no key
 pub other-told : (e : Errand) (input : Input) (past : List Input) (from : NodeId) (m : Message) → heard e.keys input ≡ Some (from, m)
-    → ((name : List ℕ) → told_in name m ≡ None) → ((shard : ℕ) → dummy_in shard m ≡ None) → told_by e (input ∷ past) ≡ told_by e past
+    → ((name : List ℕ) → told_in name m ≡ None) → ((shard : ℕ) → dummy_word_in shard m ≡ None) → told_by_inputs e (input ∷ past) ≡ told_by_inputs e past
 other-told e input past from m said names dummies =
     silent e input past
     (λ name i less. word-nothing e.config e.keys input past from m said name (names name) (node_at (shard_of_name e.config name) i))
@@ -186,7 +186,7 @@ module _ (e : Errand) (input : Input) (past : List Input) (from : NodeId) (k : K
       word-not e.config e.keys input past from (message.Told k s) said name node (other-shard from node apart)
 
   -- it isn't told of
-  untold : (name : List ℕ) → told_of name k s ≡ None → NoWord name
+  untold : (name : List ℕ) → object_told name k s ≡ None → NoWord name
   untold name none i less = word-nothing e.config e.keys input past from (message.Told k s) said name none (node_at (shard_of_name e.config name) i)
 
   abbrev NoSerial : ℕ → Type 0
@@ -196,11 +196,11 @@ module _ (e : Errand) (input : Input) (past : List Input) (from : NodeId) (k : K
   serial-elsewhere shard apart i less =
       serial-not e.config e.keys input past from (message.Told k s) said (node_at shard i) (other-shard from (node_at shard i) apart)
 
-  serial-untold : (shard : ℕ) → dummy_of shard k s ≡ None → NoSerial shard
+  serial-untold : (shard : ℕ) → dummy_told shard k s ≡ None → NoSerial shard
   serial-untold shard none i less = serial-nothing e.config e.keys input past from (message.Told k s) said (node_at shard i) none
 
   -- the words of the name's nodes, of which this one's is another
-  words-set : (name : List ℕ) (w : Option Object) → from.shard ≡ shard_of_name e.config name → from.index < 3 * e.config.f + 1 → told_of name k s ≡ Some w
+  words-set : (name : List ℕ) (w : Option Object) → from.shard ≡ shard_of_name e.config name → from.index < 3 * e.config.f + 1 → object_told name k s ≡ Some w
       → words_on e.config e.keys name (input ∷ past) ≡ slice_set (words_on e.config e.keys name past) from.index w
   words-set name w at low tells =
       let shard = shard_of_name e.config name in
@@ -210,7 +210,7 @@ module _ (e : Errand) (input : Input) (past : List Input) (from : NodeId) (k : K
       (λ i less apart. word-none e.config e.keys input past name (node_at shard i)
       (word-not e.config e.keys input past from (message.Told k s) said name (node_at shard i) (other-index from (node_at shard i) (λ q. apart (sym q)))))
 
-  serials-set : (w : Option ℕ) → from.index < 3 * e.config.f + 1 → dummy_of from.shard k s ≡ Some w
+  serials-set : (w : Option ℕ) → from.index < 3 * e.config.f + 1 → dummy_told from.shard k s ≡ Some w
       → serials_in e.config e.keys (input ∷ past) from.shard ≡ slice_set (serials_in e.config e.keys past from.shard) from.index w
   serials-set w low tells =
       set-members (serial_by e.keys past) (serial_by e.keys (input ∷ past)) from.shard (3 * e.config.f + 1) from.index w low
@@ -221,7 +221,7 @@ module _ (e : Errand) (input : Input) (past : List Input) (from : NodeId) (k : K
 
 -- who isn't of the key's shard tells nothing
 told-elsewhere : (e : Errand) (input : Input) (past : List Input) (from : NodeId) (k : Key) (s : State) → heard e.keys input ≡ Some (from, message.Told k s)
-    → (shard_of_key e.config.shards k ≡ from.shard → ⊥) → told_by e (input ∷ past) ≡ told_by e past
+    → (shard_of_key e.config.shards k ≡ from.shard → ⊥) → told_by_inputs e (input ∷ past) ≡ told_by_inputs e past
 told-elsewhere e input past from (key.Dummy other number) s said apart =
     silent e input past
     (λ name. untold e input past from (key.Dummy other number) s said name refl)
@@ -241,11 +241,11 @@ told-elsewhere e input past from (key.Object told) s said apart =
 
 told-object : (e : Errand) (input : Input) (past : List Input) (from : NodeId) (told : List ℕ) (s : State) → heard e.keys input ≡ Some (from, message.Told (key.Object told) s)
     → from.index < 3 * e.config.f + 1 → shard_of_name e.config told ≡ from.shard
-    → told_by e (input ∷ past) ≡ with_state e.config.f from (key.Object told) (active s) (told_by e past)
+    → told_by_inputs e (input ∷ past) ≡ told_with_state e.config.f from (key.Object told) (active s) (told_by_inputs e past)
 told-object e input past from told s said low at =
     let before = asked_on e.config e.keys past in
     let after = asked_on e.config e.keys (input ∷ past) in
-    let change = with_told e.config.f told from.index (active s) in
+    let change = word_of_name e.config.f told from.index (active s) in
     let each : (name : List ℕ) → after name ≡ change (before name) = λ name.
     elim (cases_Bool (bytes_eq name told)) [
       | inl same ↦
@@ -259,7 +259,7 @@ told-object e input past from told s said low at =
           (untold e input past from (key.Object told) s said name (ap (λ t. if t then Some (active s) else None) other))
           ∙ sym (ap (λ t. if t then with_word e.config.f from.index (active s) (before name) else before name) other)
     ] in
-    told-eq (told_by e (input ∷ past)) (with_state e.config.f from (key.Object told) (active s) (told_by e past))
+    told-eq (told_by_inputs e (input ∷ past)) (told_with_state e.config.f from (key.Object told) (active s) (told_by_inputs e past))
     (each-changed before after change e.call.inputs each)
     (each-changed before after change e.call.reads each)
     (same-shards (serials_in e.config e.keys (input ∷ past)) (serials_in e.config e.keys past) e.config.shards
@@ -267,7 +267,7 @@ told-object e input past from told s said low at =
 
 told-dummy : (e : Errand) (input : Input) (past : List Input) (from : NodeId) (other number : ℕ) (s : State) → heard e.keys input ≡ Some (from, message.Told (key.Dummy other number) s)
     → from.shard < e.config.shards → from.index < 3 * e.config.f + 1 → other ≡ from.shard
-    → told_by e (input ∷ past) ≡ with_state e.config.f from (key.Dummy other number) (active s) (told_by e past)
+    → told_by_inputs e (input ∷ past) ≡ told_with_state e.config.f from (key.Dummy other number) (active s) (told_by_inputs e past)
 told-dummy e input past from other number s said here low at =
     let k = key.Dummy other number in
     let w = serial_told number s in
@@ -277,7 +277,7 @@ told-dummy e input past from other number s said here low at =
     ap (λ o. unwrap_or o []) (get-shards before e.config.shards from.shard here) in
     let asked : (name : List ℕ) → asked_on e.config e.keys (input ∷ past) name ≡ asked_on e.config e.keys past name = λ name.
     asked-none e.config e.keys input past name (untold e input past from k s said name refl) in
-    told-eq (told_by e (input ∷ past)) (with_state e.config.f from k (active s) (told_by e past))
+    told-eq (told_by_inputs e (input ∷ past)) (told_with_state e.config.f from k (active s) (told_by_inputs e past))
     (same-each (asked_on e.config e.keys (input ∷ past)) (asked_on e.config e.keys past) e.call.inputs asked)
     (same-each (asked_on e.config e.keys (input ∷ past)) (asked_on e.config e.keys past) e.call.reads asked)
     (set-shards before after e.config.shards from.shard (slice_set (serials_kept (map before (shards_below e.config.shards)) from.shard) from.index w) here
@@ -287,17 +287,17 @@ told-dummy e input past from other number s said here low at =
 
 -- what a node tells of a key
 pub told-heard : (e : Errand) (input : Input) (past : List Input) (from : NodeId) (k : Key) (s : State) → heard e.keys input ≡ Some (from, message.Told k s)
-    → is_node e.config from ≡ true → told_by e (input ∷ past) ≡ heard_of e.config from k s (told_by e past)
+    → is_node e.config from ≡ true → told_by_inputs e (input ∷ past) ≡ heard_of e.config from k s (told_by_inputs e past)
 told-heard e input past from k s said known =
     elim (cases_eq (shard_of_key e.config.shards k) from.shard) [
-      | inl same ↦ here k s said same ∙ sym (ap (λ t. if t then with_state e.config.f from k (active s) (told_by e past) else told_by e past) (is-one (shard_of_key e.config.shards k) from.shard same))
-      | inr apart ↦ told-elsewhere e input past from k s said apart ∙ sym (ap (λ t. if t then with_state e.config.f from k (active s) (told_by e past) else told_by e past) (isn't (shard_of_key e.config.shards k) from.shard apart))
+      | inl same ↦ here k s said same ∙ sym (ap (λ t. if t then told_with_state e.config.f from k (active s) (told_by_inputs e past) else told_by_inputs e past) (is-one (shard_of_key e.config.shards k) from.shard same))
+      | inr apart ↦ told-elsewhere e input past from k s said apart ∙ sym (ap (λ t. if t then told_with_state e.config.f from k (active s) (told_by_inputs e past) else told_by_inputs e past) (isn't (shard_of_key e.config.shards k) from.shard apart))
     ]
   where
     place : (from.shard < e.config.shards) × (from.index < 3 * e.config.f + 1)
     place = is_in e.config from known
 
     here : (k : Key) (s : State) → heard e.keys input ≡ Some (from, message.Told k s) → shard_of_key e.config.shards k ≡ from.shard
-        → told_by e (input ∷ past) ≡ with_state e.config.f from k (active s) (told_by e past)
+        → told_by_inputs e (input ∷ past) ≡ told_with_state e.config.f from k (active s) (told_by_inputs e past)
     here (key.Object told) s said at = told-object e input past from told s said place.1 at
     here (key.Dummy other number) s said at = told-dummy e input past from other number s said place.0 place.1 at

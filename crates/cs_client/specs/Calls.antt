@@ -1,22 +1,22 @@
 -- The call of the method, on the objects that are believed.
 use Rattle.std.specs.Prelude.{ℕ, List, [], ◌∷◌, Option, Some, None, option_map, option_and_then}
 use Rattle.cs_tx_value.specs.declared.object.Object.{Object}
-use Rattle.cs_tx_form.specs.Transaction.{Keyed}
+use Rattle.cs_tx_types.specs.Transaction.{Keyed}
 use Rattle.cs_config.specs.declared.call.CallFile.{CallFile}
 use Rattle.cs_proc.specs.declared.call.Call.{Call}
-use Rattle.cs_proc.specs.Calling.{Ran, ran}
+use Rattle.cs_proc.specs.Calling.{CallRan, ran}
 use Rattle.cs_client.specs.declared.errand.Errand.{Errand}
 use Rattle.cs_client.specs.Inputs.{Input}
 use Rattle.cs_client.specs.Objects.{believed}
 
 -- these names, each with its object, where each has one
-abbrev pub with_object : List ℕ → Option Object → Option (List Keyed) → Option (List Keyed)
-with_object name (Some object) more = option_map (λ items. (name, object) ∷ items) more
-with_object name None more = None
+abbrev pub objects_with : List ℕ → Option Object → Option (List Keyed) → Option (List Keyed)
+objects_with name (Some object) more = option_map (λ items. (name, object) ∷ items) more
+objects_with name None more = None
 
 abbrev pub objects_for : (List ℕ → Option Object) → List (List ℕ) → Option (List Keyed)
 objects_for object [] = Some []
-objects_for object (name ∷ names) = with_object name (object name) (objects_for object names)
+objects_for object (name ∷ names) = objects_with name (object name) (objects_for object names)
 
 -- the call on these objects to be used up, and these to be read
 abbrev pub call_on : CallFile → List Keyed → List Keyed → Call
@@ -39,5 +39,5 @@ ready e inputs =
     call_with e.call (objects_for object e.call.inputs) (objects_for object e.call.reads)
 
 -- what the method comes to
-abbrev pub ran_with : Errand → Call → Ran
+abbrev pub ran_with : Errand → Call → CallRan
 ran_with e call = ran e.book call

@@ -10,10 +10,10 @@ use Rattle.cs_client.specs.declared.phases.Phase.TheVariants as kept
 use Rattle.cs_client.specs.Inputs.{Input}
 use Rattle.cs_client.specs.Phases.{Phase, phase}
 use Rattle.cs_client.specs.Knowing.{has_decided, knows}
-use Rattle.cs_client.specs.Sayings.{again, at_tick, outs_of}
-use Rattle.cs_client.specs.Kept.{Told, told_by}
+use Rattle.cs_client.specs.Sayings.{again, at_tick, outs_of_sayings}
+use Rattle.cs_client.specs.Kept.{Told, told_by_inputs}
 use Rattle.cs_client.specs.Voices.{Pairwise}
-use Rattle.cs_client.specs.Seen.{phase_seen, IsSound}
+use Rattle.cs_client.specs.Seen.{phase_seen, IsSoundClient}
 
 -- of each node of a shard whether it has said so
 pub record KeepsTally (e : Errand) (accepted : Bool) (inputs : List Input) (shard : ℕ) (tally : Marks) : Type 0 where
@@ -36,19 +36,19 @@ KeepsHeard e inputs kept.Idle = Unit {0}
 
 -- beliefs and phase are kept of these inputs; the phase may be one that is to move on
 pub record Keeps (e : Errand) (inputs : List Input) (now : Phase) (told : Told) (kept : Kept) : Type 0 where
-  pub told_is : told ≡ told_by e inputs
+  pub told_is : told ≡ told_by_inputs e inputs
   pub phase_is : phase_seen kept ≡ now
   pub heard : KeepsHeard e inputs kept
 
 -- an input was heard, and the phase hasn't moved on yet
 pub record Hears (e : Errand) (past : List Input) (input : Input)
     (told : Told) (kept : Kept) (told' : Told) (kept' : Kept) : Type 0 where
-  pub sound : IsSound e told' kept'
+  pub sound : IsSoundClient e told' kept'
   pub keeps : Keeps e past (phase e past) told kept → Keeps e (input ∷ past) (phase e past) told' kept'
 
 -- an input was taken, and this was said of it
-pub record TakesIn (e : Errand) (past : List Input) (input : Input)
+pub record ClientTakesIn (e : Errand) (past : List Input) (input : Input)
     (told : Told) (kept : Kept) (told' : Told) (kept' : Kept) (outs : List Out) : Type 0 where
   pub hears : Hears e past input told kept told' kept'
   pub says : Keeps e past (phase e past) told kept
-      → outs ≡ outs_of e.keys (at_tick input (again e (knows e past) (phase e past)))
+      → outs ≡ outs_of_sayings e.keys (at_tick input (again e (knows e past) (phase e past)))

@@ -3,8 +3,8 @@ use Rattle.std.specs.Prelude.{List, [], ◌∷◌, Option, Some, None, Ok, Err, 
 use Rattle.cs_base.specs.Options.{or_else}
 use Rattle.cs_base.specs.declared.node_id.NodeId.{NodeId}
 use Rattle.cs_base.specs.NodeId.{same_name}
-use Rattle.cs_outer.specs.declared.link.MemInput.{MemInput}
-use Rattle.cs_outer.specs.declared.link.MemInput.TheVariants as came
+use Rattle.cs_io.specs.declared.link.MemInput.{MemInput}
+use Rattle.cs_io.specs.declared.link.MemInput.TheVariants as came
 use Rattle.cs_wire.specs.declared.input.Input.{Input as Given}
 use Rattle.cs_wire.specs.declared.input.Input.TheVariants as given
 use Rattle.cs_wire.specs.declared.keys.Keys.{Keys}
@@ -23,13 +23,13 @@ input_of given.Tick = came.Tick
 abbrev pub Said : Type 0
 Said = Option (NodeId × Message)
 
-abbrev pub said_by : Opened → Said
-said_by (Ok said) = Some said
-said_by (Err error) = None
+abbrev pub said_by_opened : Opened → Said
+said_by_opened (Ok said) = Some said
+said_by_opened (Err error) = None
 
 -- a datagram says what it opens to
 abbrev pub heard : Keys → Input → Said
-heard keys (came.Datagram bytes) = said_by (opened keys bytes)
+heard keys (came.Datagram bytes) = said_by_opened (opened keys bytes)
 heard keys came.Tick = None
 
 -- what is said, where this node says it

@@ -8,8 +8,8 @@ use Rattle.cs_base.specs.declared.node_id.NodeId.{NodeId}
 use Rattle.cs_base.specs.Key.{shard_of_key}
 use Rattle.cs_tx_value.specs.declared.object.Object.{Object}
 use Rattle.cs_tx_value.specs.Object.{ObjectFits}
-use Rattle.cs_tx_form.specs.Transaction.{Keyed}
-use Rattle.cs_tx_form.specs.declared.state.State.{State}
+use Rattle.cs_tx_types.specs.Transaction.{Keyed}
+use Rattle.cs_tx_types.specs.declared.state.State.{State}
 use Rattle.cs_wire.specs.declared.keys.Keys.{Keys}
 use Rattle.cs_client.specs.declared.beliefs.Asked.{Asked}
 use Rattle.cs_client.specs.declared.beliefs.Objects.{Objects}
@@ -17,7 +17,7 @@ use Rattle.cs_client.specs.declared.errand.Errand.{Errand}
 use Rattle.cs_client.specs.Inputs.{Input}
 use Rattle.cs_client.specs.Objects.{active, words_on, believed_in}
 use Rattle.cs_client.specs.Dummies.{serials_in, least_named}
-use Rattle.cs_client.specs.Calls.{with_object}
+use Rattle.cs_client.specs.Calls.{objects_with}
 
 -- the last words of nodes on all that a client is to know
 pub record Told : Type 0 where
@@ -37,8 +37,8 @@ abbrev pub shards_below : ℕ → List ℕ
 shards_below zero = []
 shards_below (suc n) = shards_below n ++ n ∷ []
 
-abbrev pub told_by : Errand → List Input → Told
-told_by e inputs = record {
+abbrev pub told_by_inputs : Errand → List Input → Told
+told_by_inputs e inputs = record {
   inputs = map (asked_on e.config e.keys inputs) e.call.inputs;
   reads = map (asked_on e.config e.keys inputs) e.call.reads;
   serials = map (serials_in e.config e.keys inputs) (shards_below e.config.shards);
@@ -62,8 +62,8 @@ abbrev pub with_word : ℕ → ℕ → Option Object → Asked → Asked
 with_word f index word asked = asked_with f asked.name (slice_set asked.words index word)
 
 -- where it is on this name
-abbrev pub with_told : ℕ → List ℕ → ℕ → Option Object → Asked → Asked
-with_told f name index word asked = if bytes_eq asked.name name then with_word f index word asked else asked
+abbrev pub word_of_name : ℕ → List ℕ → ℕ → Option Object → Asked → Asked
+word_of_name f name index word asked = if bytes_eq asked.name name then with_word f index word asked else asked
 
 -- the words of the nodes of a shard
 abbrev pub serials_kept : List (List (Option ℕ)) → ℕ → List (Option ℕ)
@@ -74,13 +74,13 @@ abbrev pub with_serial : ℕ → ℕ → Option ℕ → List (List (Option ℕ))
 with_serial shard index word serials = slice_set serials shard (slice_set (serials_kept serials shard) index word)
 
 -- a node of the key's shard told of it
-abbrev pub with_state : ℕ → NodeId → Key → Option Object → Told → Told
-with_state f from (key.Object name) word told =
+abbrev pub told_with_state : ℕ → NodeId → Key → Option Object → Told → Told
+told_with_state f from (key.Object name) word told =
     record told {
-      inputs = map (with_told f name from.index word) told.inputs;
-      reads = map (with_told f name from.index word) told.reads;
+      inputs = map (word_of_name f name from.index word) told.inputs;
+      reads = map (word_of_name f name from.index word) told.reads;
     }
-with_state f from (key.Dummy shard serial) word told =
+told_with_state f from (key.Dummy shard serial) word told =
     record told {
       serials = with_serial from.shard from.index (option_map (λ object. serial) word) told.serials;
     }
@@ -88,7 +88,7 @@ with_state f from (key.Dummy shard serial) word told =
 -- what a node told of a key, where it is one of the key's shard
 abbrev pub heard_of : Config → NodeId → Key → State → Told → Told
 heard_of config from key state told =
-    if shard_of_key config.shards key == from.shard then with_state config.f from key (active state) told else told
+    if shard_of_key config.shards key == from.shard then told_with_state config.f from key (active state) told else told
 
 -- ---- its form
 
@@ -120,16 +120,16 @@ pub record ToldFits (config : Config) (told : Told) : Type 0 where
 
 -- ---- what is believed of what is kept
 
-abbrev pub objects_in : ℕ → List Asked → Option (List Keyed)
-objects_in f [] = Some []
-objects_in f (asked ∷ more) = with_object asked.name (believed_in f asked.words) (objects_in f more)
+abbrev pub objects_believed : ℕ → List Asked → Option (List Keyed)
+objects_believed f [] = Some []
+objects_believed f (asked ∷ more) = objects_with asked.name (believed_in f asked.words) (objects_believed f more)
 
 abbrev pub are_settled : List Asked → Bool
 are_settled asked = list_all (λ one. one.settled) asked
 
 -- the flags say what the words do
-abbrev pub IsMarked : ℕ → Asked → Type 0
-IsMarked f asked = asked.settled ≡ is_some (believed_in f asked.words)
+abbrev pub FlagsSayWords : ℕ → Asked → Type 0
+FlagsSayWords f asked = asked.settled ≡ is_some (believed_in f asked.words)
 
 abbrev pub dummy_kept : ℕ → List (List (Option ℕ)) → ℕ → Option ℕ
 dummy_kept f serials shard = least_named f (serials_kept serials shard)
@@ -137,10 +137,10 @@ dummy_kept f serials shard = least_named f (serials_kept serials shard)
 -- the objects of both, where there are both
 abbrev pub objects_kept : ℕ → Told → Option Objects
 objects_kept f told =
-    option_and_then (λ i. option_map (λ r. record { inputs = i; reads = r }) (objects_in f told.reads))
-    (objects_in f told.inputs)
+    option_and_then (λ i. option_map (λ r. record { inputs = i; reads = r }) (objects_believed f told.reads))
+    (objects_believed f told.inputs)
 
 -- all flags say what the words do
 pub record ToldMarked (f : ℕ) (told : Told) : Type 0 where
-  pub inputs : AllByRecursion (IsMarked f) told.inputs
-  pub reads : AllByRecursion (IsMarked f) told.reads
+  pub inputs : AllByRecursion (FlagsSayWords f) told.inputs
+  pub reads : AllByRecursion (FlagsSayWords f) told.reads

@@ -4,7 +4,7 @@ use Rattle.std.specs.List.{list_all, list_any}
 use Rattle.std.specs.Option.{option_map_or}
 use Rattle.cs_order.specs.Counts.{count_below}
 use Rattle.cs_base.specs.declared.node_id.NodeId.{NodeId}
-use Rattle.cs_tx_form.specs.declared.session.Session.{Session}
+use Rattle.cs_tx_types.specs.declared.session.Session.{Session}
 use Rattle.cs_tx.specs.Digest.{digest_of_session}
 use Rattle.cs_tx.specs.Uses.{concerned_shards}
 use Rattle.cs_wire_message.specs.declared.message.Message.{Message}
@@ -22,17 +22,17 @@ is_decision digest accepted (message.Decided other so) =
 is_decision digest accepted m = false
 
 -- it says so of the session that is submitted
-abbrev pub decides : Phase → Bool → Message → Bool
-decides Asking accepted m = false
-decides (Wanting x) accepted m = false
-decides (Submitting x) accepted m = is_decision (digest_of_session x) accepted m
-decides Idle accepted m = false
+abbrev pub says_decided : Phase → Bool → Message → Bool
+says_decided Asking accepted m = false
+says_decided (Wanting x) accepted m = false
+says_decided (Submitting x) accepted m = is_decision (digest_of_session x) accepted m
+says_decided Idle accepted m = false
 
 -- a node has said so since submission began
 abbrev pub has_decided : Errand → Bool → List Input → NodeId → Bool
 has_decided e accepted [] node = false
 has_decided e accepted (input ∷ past) node =
-    option_map_or (decides (phase e past) accepted) (said_from e.keys node input) false
+    option_map_or (says_decided (phase e past) accepted) (said_from e.keys node input) false
     || has_decided e accepted past node
 
 -- how many nodes of a shard have said so
@@ -41,8 +41,8 @@ deciders e accepted inputs shard =
     count_below (3 * e.config.f + 1) (λ index. has_decided e accepted inputs (record { shard = shard; index = index }))
 
 -- f+1 of them have
-abbrev pub is_decided : Errand → Bool → List Input → ℕ → Bool
-is_decided e accepted inputs shard = nat_lt e.config.f (deciders e accepted inputs shard)
+abbrev pub knows_decided : Errand → Bool → List Input → ℕ → Bool
+knows_decided e accepted inputs shard = nat_lt e.config.f (deciders e accepted inputs shard)
 
 -- accepted, where f+1 nodes of each shard say so; else aborted, where f+1 nodes of one say so
 abbrev pub outcome : List ℕ → Bool → Bool → Known
@@ -52,8 +52,8 @@ outcome digest accepted aborted =
 abbrev pub known_of : Errand → List Input → Session → Known
 known_of e inputs x =
     outcome (digest_of_session x)
-    (list_all (is_decided e true inputs) (concerned_shards e.config x))
-    (list_any (is_decided e false inputs) (concerned_shards e.config x))
+    (list_all (knows_decided e true inputs) (concerned_shards e.config x))
+    (list_any (knows_decided e false inputs) (concerned_shards e.config x))
 
 abbrev pub known_in : Errand → List Input → Phase → Known
 known_in e inputs Asking = known.Open

@@ -7,5 +7,5 @@ use Rattle.cs_base.specs.NodeId.{members_below}
 abbrev pub nodes_in : ℕ → ℕ → List NodeId
 nodes_in f shard = members_below shard (3 * f + 1)
 
-abbrev pub nodes_of : ℕ → List ℕ → List NodeId
-nodes_of f shards = flat_map (nodes_in f) shards
+abbrev pub nodes_of_shards : ℕ → List ℕ → List NodeId
+nodes_of_shards f shards = flat_map (nodes_in f) shards

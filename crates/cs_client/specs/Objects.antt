@@ -7,8 +7,8 @@ use Rattle.cs_base.specs.declared.node_id.NodeId.{NodeId}
 use Rattle.cs_base.specs.Key.{shard_of_key}
 use Rattle.cs_tx_value.specs.declared.object.Object.{Object}
 use Rattle.cs_tx_value.specs.Object.{object_encoding}
-use Rattle.cs_tx_form.specs.declared.state.State.{State}
-use Rattle.cs_tx_form.specs.declared.state.State.TheVariants as state
+use Rattle.cs_tx_types.specs.declared.state.State.{State}
+use Rattle.cs_tx_types.specs.declared.state.State.TheVariants as state
 use Rattle.cs_wire.specs.declared.keys.Keys.{Keys}
 use Rattle.cs_wire_message.specs.declared.message.Message.{Message}
 use Rattle.cs_wire_message.specs.declared.message.Message.TheVariants as message
@@ -25,12 +25,12 @@ active (state.Locked object session) = None
 active (state.Inactive session) = None
 
 -- what is told of the object of this name: an object with which it is active, or that it isn't
-abbrev pub told_of : List ℕ → Key → State → Option (Option Object)
-told_of name (key.Object told) s = if bytes_eq name told then Some (active s) else None
-told_of name (key.Dummy shard serial) s = None
+abbrev pub object_told : List ℕ → Key → State → Option (Option Object)
+object_told name (key.Object told) s = if bytes_eq name told then Some (active s) else None
+object_told name (key.Dummy shard serial) s = None
 
 abbrev pub told_in : List ℕ → Message → Option (Option Object)
-told_in name (message.Told key state) = told_of name key state
+told_in name (message.Told key state) = object_told name key state
 told_in name m = None
 
 -- a node's last word on a name: an object with which it is active, or none
@@ -48,12 +48,12 @@ words_on config keys name inputs = map (word_on keys name inputs) (nodes_in conf
 -- ---- what is believed
 
 -- the word is this object, byte for byte
-abbrev pub says : Object → Option Object → Bool
-says object (Some other) = bytes_eq (object_encoding object) (object_encoding other)
-says object None = false
+abbrev pub word_is : Object → Option Object → Bool
+word_is object (Some other) = bytes_eq (object_encoding object) (object_encoding other)
+word_is object None = false
 
 abbrev pub voices : Object → List (Option Object) → ℕ
-voices object words = count_by (says object) words
+voices object words = count_by (word_is object) words
 
 -- the first of these words that more than f of all are
 abbrev pub first_believed : ℕ → List (Option Object) → List (Option Object) → Option Object

@@ -1,9 +1,9 @@
 -- The phase of a client, by its inputs.
 use Rattle.std.specs.Prelude.{ℕ, List, [], ◌∷◌, Option, Some, None, Ok, Err, if◌then◌else◌}
 use Rattle.cs_base.specs.declared.config.Config.{Config}
-use Rattle.cs_tx_form.specs.declared.session.Session.{Session}
+use Rattle.cs_tx_types.specs.declared.session.Session.{Session}
 use Rattle.cs_proc.specs.declared.call.Call.{Call}
-use Rattle.cs_proc.specs.Calling.{Ran}
+use Rattle.cs_proc.specs.Calling.{CallRan}
 use Rattle.cs_proc.specs.Answering.{tx_of}
 use Rattle.cs_client.specs.declared.errand.Errand.{Errand}
 use Rattle.cs_client.specs.Inputs.{Input}
@@ -31,19 +31,19 @@ abbrev pub wanting : Config → Dummies → Session → Phase
 wanting config dummy x = provided x (dummies_for dummy (bare_shards config x))
 
 -- what the method came to: a transaction with an input goes on; after a refusal nothing comes
-abbrev pub begun : Errand → Dummies → Ran → Phase
-begun e dummy (Ok traces) =
+abbrev pub after_method : Errand → Dummies → CallRan → Phase
+after_method e dummy (Ok traces) =
     if has_input (tx_of traces) then wanting e.config dummy (bare (tx_of traces) e.call.number) else Idle
-begun e dummy (Err error) = Idle
+after_method e dummy (Err error) = Idle
 
 -- the method is run, where all objects of the call are believed
-abbrev pub called : Errand → Dummies → Option Call → Phase
-called e dummy (Some call) = begun e dummy (ran_with e call)
-called e dummy None = Asking
+abbrev pub after_call : Errand → Dummies → Option Call → Phase
+after_call e dummy (Some call) = after_method e dummy (ran_with e call)
+after_call e dummy None = Asking
 
 -- the phase after an input, by the one before it, and by the call and the dummies that are believed now
 abbrev pub moved : Errand → Dummies → Option Call → Phase → Phase
-moved e dummy call Asking = called e dummy call
+moved e dummy call Asking = after_call e dummy call
 moved e dummy call (Wanting x) = wanting e.config dummy x
 moved e dummy call (Submitting x) = Submitting x
 moved e dummy call Idle = Idle

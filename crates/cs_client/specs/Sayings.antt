@@ -4,8 +4,8 @@ use Rattle.std.specs.List.{flat_map}
 use Rattle.cs_base.specs.declared.config.Config.{Config}
 use Rattle.cs_base.specs.declared.key.Key.TheVariants as key
 use Rattle.cs_base.specs.declared.node_id.NodeId.{NodeId}
-use Rattle.cs_outer.specs.declared.link.MemInput.TheVariants as came
-use Rattle.cs_tx_form.specs.declared.session.Session.{Session}
+use Rattle.cs_io.specs.declared.link.MemInput.TheVariants as came
+use Rattle.cs_tx_types.specs.declared.session.Session.{Session}
 use Rattle.cs_tx.specs.Uses.{concerned_shards}
 use Rattle.cs_wire_message.specs.declared.message.Message.{Message}
 use Rattle.cs_wire_message.specs.declared.message.Message.TheVariants as message
@@ -18,7 +18,7 @@ use Rattle.cs_wire.specs.Datagram.{datagram_with}
 use Rattle.cs_client.specs.declared.errand.Errand.{Errand}
 use Rattle.cs_client.specs.declared.known.Known.{Known}
 use Rattle.cs_client.specs.declared.known.Known.TheVariants as known
-use Rattle.cs_client.specs.Nodes.{nodes_in, nodes_of}
+use Rattle.cs_client.specs.Nodes.{nodes_in, nodes_of_shards}
 use Rattle.cs_client.specs.Inputs.{Input}
 use Rattle.cs_client.specs.Objects.{shard_of_name}
 use Rattle.cs_client.specs.Sessions.{bare_shards}
@@ -29,15 +29,15 @@ use Rattle.cs_client.specs.Knowing.{knows}
 abbrev pub Saying : Type 0
 Saying = NodeId × Message
 
-abbrev pub to_each : List NodeId → Message → List Saying
-to_each nodes m = map (λ to. (to, m)) nodes
+abbrev pub say_to_each : List NodeId → Message → List Saying
+say_to_each nodes m = map (λ to. (to, m)) nodes
 
 -- ---- the sayings of the phases
 
 -- it asks the nodes of its shard for an object
 abbrev pub asks_on : Config → List ℕ → List Saying
 asks_on config name =
-    to_each (nodes_in config.f (shard_of_name config name)) (message.Ask (Some (key.Object name)))
+    say_to_each (nodes_in config.f (shard_of_name config name)) (message.Ask (Some (key.Object name)))
 
 -- the inputs are asked for before what is read
 abbrev pub asks : Errand → List Saying
@@ -45,11 +45,11 @@ asks e = flat_map (asks_on e.config) e.call.inputs ++ flat_map (asks_on e.config
 
 -- it asks the nodes of the concerned shards without an input for any dummy
 abbrev pub wants : Errand → Session → List Saying
-wants e x = to_each (nodes_of e.config.f (bare_shards e.config x)) (message.Ask None)
+wants e x = say_to_each (nodes_of_shards e.config.f (bare_shards e.config x)) (message.Ask None)
 
 -- it submits the session to the nodes of all concerned shards
 abbrev pub submits : Errand → Session → List Saying
-submits e x = to_each (nodes_of e.config.f (concerned_shards e.config x)) (message.Submit x)
+submits e x = say_to_each (nodes_of_shards e.config.f (concerned_shards e.config x)) (message.Submit x)
 
 -- ---- at an input
 
@@ -100,5 +100,5 @@ outs_with keys kind body nodes = flat_map (λ to. out_by keys.me to kind body (r
 abbrev pub out_of : Keys → Saying → List Out
 out_of keys said = out_by keys.me said.0 (kind_of said.1) (body_of said.1) (row_of said.0 keys)
 
-abbrev pub outs_of : Keys → List Saying → List Out
-outs_of keys sayings = flat_map (out_of keys) sayings
+abbrev pub outs_of_sayings : Keys → List Saying → List Out
+outs_of_sayings keys sayings = flat_map (out_of keys) sayings

@@ -2,8 +2,8 @@
 use Rattle.std.specs.Prelude.{◌≡◌, ℕ, Bool, true, false, bytes_eq, List, Option, Some, Result, Ok, Err, ◌++◌}
 use Rattle.std.specs.List.{list_all, list_any}
 use Rattle.cs_base.specs.declared.config.Config.{Config}
-use Rattle.cs_tx_form.specs.Session.{SessionFits}
-use Rattle.cs_tx_form.specs.declared.transaction.Tx.{Tx}
+use Rattle.cs_tx_types.specs.Session.{SessionFits}
+use Rattle.cs_tx_types.specs.declared.transaction.Tx.{Tx}
 use Rattle.cs_tx.specs.Digest.{digest_of_session}
 use Rattle.cs_tx.specs.Uses.{concerned_shards}
 use Rattle.cs_wire.specs.declared.input.Out.{Out}
@@ -11,8 +11,8 @@ use Rattle.cs_approve.specs.Books.{Contracts}
 use Rattle.cs_proc.specs.declared.call.Call.{Call}
 use Rattle.cs_proc.specs.declared.error.ProcError.{ProcError}
 use Rattle.cs_proc.specs.declared.error.ProcError.TheVariants as refusal
-use Rattle.cs_proc.specs.Calling.{Ran}
-use Rattle.cs_proc.specs.Answering.{Answers, IsMade}
+use Rattle.cs_proc.specs.Calling.{CallRan}
+use Rattle.cs_proc.specs.Answering.{AnswersCall, IsMadeTransaction}
 use Rattle.cs_base.specs.declared.node_id.NodeId.{NodeId}
 use Rattle.cs_client.specs.declared.counting.Voices.{Voices}
 use Rattle.cs_client.specs.declared.errand.Errand.{Errand}
@@ -24,13 +24,13 @@ use Rattle.cs_client.specs.declared.phases.Phase.{Phase as Kept}
 use Rattle.cs_client.specs.declared.phases.Phase.TheVariants as kept
 use Rattle.cs_client.specs.declared.phases.Wanted.{Wanted}
 use Rattle.cs_client.specs.declared.phases.Submission.{Submission}
-use Rattle.cs_client.specs.Nodes.{nodes_of}
+use Rattle.cs_client.specs.Nodes.{nodes_of_shards}
 use Rattle.cs_client.specs.Calls.{call_with, ran_with}
 use Rattle.cs_client.specs.Sessions.{has_input, bare_shards}
 use Rattle.cs_client.specs.Phases.{Phase, Asking, Wanting, Submitting, Idle, moved}
 use Rattle.cs_client.specs.Knowing.{outcome}
-use Rattle.cs_client.specs.Sayings.{on_entering, outs_of}
-use Rattle.cs_client.specs.Kept.{Told, ToldFits, ToldMarked, objects_in, dummy_kept}
+use Rattle.cs_client.specs.Sayings.{on_entering, outs_of_sayings}
+use Rattle.cs_client.specs.Kept.{Told, ToldFits, ToldMarked, objects_believed, dummy_kept}
 use Rattle.cs_client.specs.Voices.{is_enough, AreUnheard, EachFits, EachHeard}
 
 abbrev pub phase_seen : Kept → Phase
@@ -51,7 +51,7 @@ pub record WantedFits (config : Config) (wanted : Wanted) : Type 0 where
 pub record SubmissionFits (config : Config) (s : Submission) : Type 0 where
   pub fits : SessionFits s.session
   pub digest_is : s.digest ≡ digest_of_session s.session
-  pub nodes_are : s.nodes ≡ nodes_of config.f (concerned_shards config s.session)
+  pub nodes_are : s.nodes ≡ nodes_of_shards config.f (concerned_shards config s.session)
   pub voices : EachFits config.f s.voices.items
 
 abbrev pub PhaseFits : Config → Kept → Type 0
@@ -68,7 +68,7 @@ pub record Client : Type 0 where
   pub phase : Kept
 
 -- what is kept has its form
-pub record IsSound (e : Errand) (told : Told) (phase : Kept) : Type 0 where
+pub record IsSoundClient (e : Errand) (told : Told) (phase : Kept) : Type 0 where
   pub told_fits : ToldFits e.config told
   pub told_marked : ToldMarked e.config.f told
   pub phase_fits : PhaseFits e.config phase
@@ -114,7 +114,7 @@ dummies_kept e told = dummy_kept e.config.f told.serials
 
 -- the call on the objects that are believed
 abbrev pub ready_kept : Errand → Told → Option Call
-ready_kept e told = call_with e.call (objects_in e.config.f told.inputs) (objects_in e.config.f told.reads)
+ready_kept e told = call_with e.call (objects_believed e.config.f told.inputs) (objects_believed e.config.f told.reads)
 
 abbrev pub next_kept : Errand → Told → Phase → Phase
 next_kept e told old = moved e (dummies_kept e told) (ready_kept e told) old
@@ -137,11 +137,11 @@ StaysOrFresh config kept.Idle new = IsFresh config new
 pub record Enters (e : Errand) (old new : Phase) (next : Kept) (before after : List Out) : Type 0 where
   pub seen : phase_seen next ≡ new
   pub fits : PhaseFits e.config next
-  pub said : after ≡ before ++ outs_of e.keys (on_entering e old new)
+  pub said : after ≡ before ++ outs_of_sayings e.keys (on_entering e old new)
 
 -- the method gives a transaction that the book approves
-abbrev pub IsApproved : Contracts → Ran → Type 0
-IsApproved contracts run = (tx : Tx) × IsMade contracts tx run
+abbrev pub IsApproved : Contracts → CallRan → Type 0
+IsApproved contracts run = (tx : Tx) × IsMadeTransaction contracts tx run
 
 -- the phase moved on; where the first one ended, the method was run
 pub record HasMoved (e : Errand) (told : Told) (old next : Kept) (before after : List Out) : Type 0 where
@@ -155,11 +155,11 @@ pub record IsRefusedNow (e : Errand) (told : Told) (old : Kept) (cause : ProcErr
   pub asking : phase_seen old ≡ Asking
   pub call : Call
   pub ready_is : ready_kept e told ≡ Some call
-  pub refused : Answers e.book (ran_with e call) (Err cause)
+  pub refused : AnswersCall e.book (ran_with e call) (Err cause)
   pub cause_is : cause ≡ refusal.Memory → ⊥
 
 -- what moving on comes to; memory may run out
-abbrev pub Moves : Errand → Told → Kept → Result Kept ClientError → List Out → List Out → Type 0
-Moves e told old (Ok next) before after = HasMoved e told old next before after
-Moves e told old (Err (error.Refused cause)) before after = IsRefusedNow e told old cause
-Moves e told old (Err error.Memory) before after = Unit {0}
+abbrev pub ClientMoves : Errand → Told → Kept → Result Kept ClientError → List Out → List Out → Type 0
+ClientMoves e told old (Ok next) before after = HasMoved e told old next before after
+ClientMoves e told old (Err (error.Refused cause)) before after = IsRefusedNow e told old cause
+ClientMoves e told old (Err error.Memory) before after = Unit {0}

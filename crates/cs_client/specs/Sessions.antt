@@ -2,8 +2,8 @@
 use Rattle.std.specs.Prelude.{ℕ, nat_lt, Bool, not, List, [], length, filter}
 use Rattle.std.specs.List.{list_any}
 use Rattle.cs_base.specs.declared.config.Config.{Config}
-use Rattle.cs_tx_form.specs.declared.transaction.Tx.{Tx}
-use Rattle.cs_tx_form.specs.declared.session.Session.{Session}
+use Rattle.cs_tx_types.specs.declared.transaction.Tx.{Tx}
+use Rattle.cs_tx_types.specs.declared.session.Session.{Session}
 use Rattle.cs_tx.specs.Uses.{inputs_of, names, is_among, concerned_shards}
 
 -- one of its traces uses up an object

@@ -1,11 +1,11 @@
 //! What nodes told a client last, of the objects of its call and of dummies.
 ghost use Rattle.std.specs.Prelude.{◌≡◌, ◌+◌, ◌*◌, ◌≤◌, map, replicate, None, option_map, OnOk, IfOk};
-ghost use Rattle.cs_client.specs.Kept.{unheard_on, with_word, with_told, WordFits, AskedFits, EachFits, are_settled, objects_in};
+ghost use Rattle.cs_client.specs.Kept.{unheard_on, with_word, word_of_name, WordFits, AskedFits, EachFits, are_settled, objects_believed};
 
 use crate::dummies::least_named;
 use crate::objects::{active, believed, copy_word, put_word};
 use cs_base::{Config, Key, Memory, NodeId, Sequence, shard_of};
-use cs_tx_form::State;
+use cs_tx_types::State;
 use cs_tx_value::{Digest, Encoded, Object};
 use std::alloc::Global;
 use std::marker::Model;
@@ -137,7 +137,7 @@ fn hear_words(
     requires asked { EachFits (3 * config.now.f + 1) asked.old }
     requires word { WordFits word.now }
     ensures { OnOk result
-        (asked.new ≡ map (with_told config.now.f name.now index word.now) asked.old) }
+        (asked.new ≡ map (word_of_name config.now.f name.now index word.now) asked.old) }
 {
     for i in 0..asked.len() {
         if asked[i].name == *name {
@@ -160,7 +160,7 @@ fn objects_in(
     asked: &[Asked],
 ) -> Result<Option<Sequence<(Digest, Object)>>, Memory>
     requires { EachFits (3 * config.now.f + 1) asked.now }
-    ensures { IfOk result (λ objects. objects ≡ objects_in config.now.f asked.now) }
+    ensures { IfOk result (λ objects. objects ≡ objects_believed config.now.f asked.now) }
 {
     let mut objects = Sequence::new(alloc);
     for one in asked {
@@ -175,11 +175,11 @@ fn objects_in(
 impl Beliefs {
     ghost use Rattle.std.specs.Prelude.{◌≡◌, ◌<◌, ◌≤◌, ◌*◌, true, length, OnOk, IfOk, IfSome};
     ghost use Rattle.std.specs.List.{AllByRecursion};
-    ghost use Rattle.cs_tx_form.specs.Session.{DummyFits};
+    ghost use Rattle.cs_tx_types.specs.Session.{DummyFits};
     ghost use Rattle.cs_base.specs.NodeId.{is_node};
-    ghost use Rattle.cs_tx_form.specs.State.{StateFits};
+    ghost use Rattle.cs_tx_types.specs.State.{StateFits};
     ghost use Rattle.cs_client.specs.Dummies.{dummies_for};
-    ghost use Rattle.cs_client.specs.Kept.{unheard, ToldFits, ToldMarked, WordFits, with_serial, with_state, heard_of, objects_kept, serials_kept, dummy_kept};
+    ghost use Rattle.cs_client.specs.Kept.{unheard, ToldFits, ToldMarked, WordFits, with_serial, told_with_state, heard_of, objects_kept, serials_kept, dummy_kept};
 
     /// What a client has been told before its first input: nothing.
     pub fn new(
@@ -223,7 +223,7 @@ impl Beliefs {
         requires place { from.index < length (serials_kept self.old.serials from.shard) }
         requires told { ToldFits config.now self.old }
         requires word { WordFits word.now }
-        ensures { OnOk result (self.new ≡ with_state config.now.f from key word.now self.old) }
+        ensures { OnOk result (self.new ≡ told_with_state config.now.f from key word.now self.old) }
     {
         match key {
             Key::Object(name) => {

@@ -1,7 +1,7 @@
 //! Running the method of a call.
 ghost use Rattle.std.specs.Prelude.{◌≡◌, IfOk};
 ghost use Rattle.cs_proc.specs.Calling.{ran};
-ghost use Rattle.cs_proc.specs.Answering.{Answers};
+ghost use Rattle.cs_proc.specs.Answering.{AnswersCall};
 ghost use Rattle.cs_client.specs.Calls.{call_on};
 
 use crate::beliefs::Objects;
@@ -9,7 +9,7 @@ use crate::errand::Errand;
 use cs_base::{Memory, Sequence};
 use cs_config::CallFile;
 use cs_proc::{Call, ProcError, run_method};
-use cs_tx_form::Tx;
+use cs_tx_types::Tx;
 use cs_tx_value::copy_each;
 use std::alloc::Global;
 
@@ -29,7 +29,7 @@ fn call_on(alloc: Global, call: &CallFile, objects: Objects) -> Result<Call, Mem
 
 /// Runs the method on the objects that are believed.
 pub fn run_on(alloc: Global, errand: &Errand, objects: Objects) -> Result<Tx, ProcError>
-    ensures { Answers errand.now.book
+    ensures { AnswersCall errand.now.book
         (ran errand.now.book (call_on errand.now.call objects.inputs objects.reads)) result }
 {
     let call = call_on(alloc, &errand.call, objects)?;

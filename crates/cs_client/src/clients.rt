@@ -1,13 +1,13 @@
 //! Clients.
 ghost use Rattle.std.specs.Prelude.{◌≡◌, ◌≤◌, ◌*◌, true, List, Some, OnOk, IfOk};
 ghost use Rattle.cs_base.specs.NodeId.{is_node};
-ghost use Rattle.cs_outer.specs.declared.link.MemInput.TheVariants as came;
+ghost use Rattle.cs_io.specs.declared.link.MemInput.TheVariants as came;
 ghost use Rattle.cs_wire_message.specs.Message.{MessageFits};
 ghost use Rattle.cs_client.specs.Inputs.{Input as Given, heard, input_of};
 ghost use Rattle.cs_client.specs.Phases.{phase as phase_after};
 ghost use Rattle.cs_client.specs.Kept.{ToldFits, ToldMarked};
 ghost use Rattle.cs_client.specs.Seen.{PhaseFits, Counts};
-ghost use Rattle.cs_client.specs.Hearing.{Hears, TakesIn};
+ghost use Rattle.cs_client.specs.Hearing.{Hears, ClientTakesIn};
 
 use crate::beliefs::Beliefs;
 use crate::counting;
@@ -36,7 +36,7 @@ impl Model for ClientCore {
     ghost use Rattle.cs_client.specs.contracts.errand.Errand as errands;
     ghost use Rattle.cs_client.specs.contracts.beliefs.Beliefs as beliefs_told;
     ghost use Rattle.cs_client.specs.contracts.phases.Phase as phases_kept;
-    ghost use Rattle.cs_client.specs.Seen.{Client, IsSound};
+    ghost use Rattle.cs_client.specs.Seen.{Client, IsSoundClient};
 
     ghost Value = { Client };
 
@@ -53,7 +53,7 @@ impl Model for ClientCore {
       phase = c.phase;
     } };
 
-    ghost invariant = { λ c. IsSound c.errand c.beliefs c.phase };
+    ghost invariant = { λ c. IsSoundClient c.errand c.beliefs c.phase };
 }
 
 // Counts what a node says of a session, where it is the one that is submitted.
@@ -136,7 +136,7 @@ fn take_in(
     requires phase { PhaseFits errand.now.config phase.old }
     ensures { (past : List Given) →
         let given = input_of input.entry in
-        IfOk result (TakesIn errand.now past given beliefs.old phase.old beliefs.new phase.new) }
+        IfOk result (ClientTakesIn errand.now past given beliefs.old phase.old beliefs.new phase.new) }
 {
     match input {
         Input::Datagram(bytes) => {
@@ -156,7 +156,7 @@ impl ClientCore {
     ghost use Rattle.cs_client.specs.declared.errand.Errand.{Errand as AnyErrand};
     ghost use Rattle.cs_client.specs.Inputs.{Input as Given, input_of};
     ghost use Rattle.cs_client.specs.Knowing.{knows};
-    ghost use Rattle.cs_client.specs.Standing.{errand_for, StandsFor, Steps};
+    ghost use Rattle.cs_client.specs.Standing.{errand_for, ClientStandsFor, Steps};
 
     /// The client that makes this call, before its first input. To a peer for whom there is no key
     /// nothing is said; a key file holds all nodes of its site.
@@ -167,7 +167,7 @@ impl ClientCore {
         book: Book,
         call: CallFile,
     ) -> Result<ClientCore, Memory>
-        ensures { IfOk result (StandsFor (errand_for site keys book call) []) }
+        ensures { IfOk result (ClientStandsFor (errand_for site keys book call) []) }
     {
         let config = site.config;
         let beliefs = Beliefs::new(
@@ -196,7 +196,7 @@ impl ClientCore {
         alloc: Global,
         input: Input<'_>,
     ) -> Result<(ClientCore, Sequence<Out>), ClientError>
-        ensures { (e : AnyErrand) (past : List Given) → StandsFor e past self →
+        ensures { (e : AnyErrand) (past : List Given) → ClientStandsFor e past self →
             Steps e past (input_of input.entry) result }
     {
         let ClientCore {
@@ -216,7 +216,7 @@ impl ClientCore {
 
     /// What the client knows of its session.
     pub fn known(&self) -> Known
-        ensures { (e : AnyErrand) (inputs : List Given) → StandsFor e inputs self.now →
+        ensures { (e : AnyErrand) (inputs : List Given) → ClientStandsFor e inputs self.now →
             result ≡ knows e inputs }
     {
         known_in(&self.errand, &self.phase)

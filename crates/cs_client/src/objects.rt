@@ -1,11 +1,11 @@
 //! What nodes say of objects, and what is believed of it.
 ghost use Rattle.std.specs.Prelude.{◌≡◌, ◌<◌, ℕ, length, slice_set, count_by, option_copied, IfOk};
 ghost use Rattle.cs_tx_value.specs.Object.{ObjectFits};
-ghost use Rattle.cs_client.specs.Objects.{active, says, voices, believed_in};
+ghost use Rattle.cs_client.specs.Objects.{active, word_is, voices, believed_in};
 ghost use Rattle.cs_client.specs.Kept.{WordFits, WordsFit};
 
 use cs_base::{Memory, Sequence};
-use cs_tx_form::State;
+use cs_tx_types::State;
 use cs_tx_value::{Encoded, Object};
 use std::alloc::Global;
 use std::mem;
@@ -49,7 +49,7 @@ pub fn copy_word(alloc: Global, word: &Option<Object>) -> Result<Option<Object>,
 fn says(object: &Object, word: &Option<Object>) -> bool
     requires object { ObjectFits object.now }
     requires word { WordFits word.now }
-    ensures { result ≡ says object.now word.now }
+    ensures { result ≡ word_is object.now word.now }
 {
     match word {
         Some(other) => other.same(object),

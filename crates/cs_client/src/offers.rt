@@ -3,7 +3,7 @@ ghost use Rattle.std.specs.Prelude.{◌≡◌, ◌≤◌, ◌++◌, length, OnOk
 ghost use Rattle.cs_base.specs.declared.limits.TheConstants.{MOST_BODY};
 ghost use Rattle.cs_wire.specs.Keys.{row_of};
 ghost use Rattle.cs_wire_message.specs.Message.{MessageFits};
-ghost use Rattle.cs_client.specs.Sayings.{to_each, out_by, outs_with, outs_of};
+ghost use Rattle.cs_client.specs.Sayings.{say_to_each, out_by, outs_with, outs_of_sayings};
 
 use cs_base::{Memory, NodeId, Sequence};
 use cs_wire::{Keys, Out, SealError, seal_with};
@@ -66,7 +66,7 @@ pub fn say(
 ) -> Result<(), Memory>
     requires { MessageFits message.now }
     ensures { OnOk result
-        (outs.new ≡ outs.old ++ outs_of keys.now (to_each to.now message.now)) }
+        (outs.new ≡ outs.old ++ outs_of_sayings keys.now (say_to_each to.now message.now)) }
 {
     let body = body_of(alloc, message)?;
     say_body(alloc, keys, to, message.kind(), &body, outs)

@@ -1,13 +1,13 @@
 //! The phases of a client, and how one follows on another.
 ghost use Rattle.std.specs.Prelude.{◌≡◌, ◌++◌, true, Some, OnOk, IfOk};
 ghost use Rattle.cs_tx.specs.Uses.{concerned_shards};
-ghost use Rattle.cs_tx_form.specs.Session.{SessionFits};
-ghost use Rattle.cs_tx_form.specs.Transaction.{TxFits};
+ghost use Rattle.cs_tx_types.specs.Session.{SessionFits};
+ghost use Rattle.cs_tx_types.specs.Transaction.{TxFits};
 ghost use Rattle.cs_client.specs.declared.phases.Phase.TheVariants as kept;
-ghost use Rattle.cs_client.specs.Phases.{Asking, Wanting, wanting, begun};
-ghost use Rattle.cs_client.specs.Sayings.{submits, again, outs_of};
+ghost use Rattle.cs_client.specs.Phases.{Asking, Wanting, wanting, after_method};
+ghost use Rattle.cs_client.specs.Sayings.{submits, again, outs_of_sayings};
 ghost use Rattle.cs_client.specs.Kept.{ToldFits, ToldMarked};
-ghost use Rattle.cs_client.specs.Seen.{phase_seen, WantedFits, SubmissionFits, PhaseFits, known_kept, dummies_kept, IsFresh, Enters, Moves};
+ghost use Rattle.cs_client.specs.Seen.{phase_seen, WantedFits, SubmissionFits, PhaseFits, known_kept, dummies_kept, IsFresh, Enters, ClientMoves};
 
 use crate::beliefs::Beliefs;
 use crate::calling::run_on;
@@ -20,7 +20,7 @@ use crate::sayings::{ask_each, submit_to, want_dummies};
 use crate::sessions::{bare, bare_shards, has_input, with_dummies};
 use cs_base::{Memory, NodeId, Sequence};
 use cs_tx::{concerned, session_digest};
-use cs_tx_form::{Session, Tx};
+use cs_tx_types::{Session, Tx};
 use cs_tx_value::Digest;
 use cs_wire::Out;
 use std::alloc::Global;
@@ -84,7 +84,7 @@ fn submit(
 ) -> Result<(), Memory>
     requires { SubmissionFits errand.now.config submission.now }
     ensures { let sayings = submits errand.now submission.now.session in
-        OnOk result (outs.new ≡ outs.old ++ outs_of errand.now.keys sayings) }
+        OnOk result (outs.new ≡ outs.old ++ outs_of_sayings errand.now.keys sayings) }
 {
     let nodes = submission.nodes.as_slice();
     submit_to(alloc, &errand.keys, nodes, &submission.session, outs)
@@ -125,7 +125,7 @@ fn begun(
 ) -> Result<Phase, Memory>
     requires { TxFits tx }
     ensures enters { let dummy = dummies_kept errand.now beliefs.now in
-        let next = begun errand.now dummy (Ok tx.traces) in
+        let next = after_method errand.now dummy (Ok tx.traces) in
         IfOk result (λ phase. Enters errand.now Asking next phase outs.old outs.new) }
     ensures fresh { IfOk result (IsFresh errand.now.config) }
 {
@@ -147,7 +147,7 @@ fn called(
 ) -> Result<Phase, ClientError>
     requires fits { ToldFits errand.now.config beliefs.now }
     requires marked { ToldMarked errand.now.config.f beliefs.now }
-    ensures { Moves errand.now beliefs.now kept.Asking result outs.old outs.new }
+    ensures { ClientMoves errand.now beliefs.now kept.Asking result outs.old outs.new }
 {
     let Some(objects) = beliefs.ready(alloc, &errand.config)? else {
         return Ok(Phase::Asking);
@@ -170,7 +170,7 @@ pub fn moved(
     requires fits { ToldFits errand.now.config beliefs.now }
     requires marked { ToldMarked errand.now.config.f beliefs.now }
     requires phase { PhaseFits errand.now.config phase }
-    ensures { Moves errand.now beliefs.now phase result outs.old outs.new }
+    ensures { ClientMoves errand.now beliefs.now phase result outs.old outs.new }
 {
     match phase {
         Phase::Asking => called(alloc, errand, beliefs, outs),
@@ -202,7 +202,7 @@ pub fn say_again(
     requires { PhaseFits errand.now.config phase.now }
     ensures { let known = known_kept errand.now.config.f phase.now in
         let sayings = again errand.now known (phase_seen phase.now) in
-        OnOk result (outs.new ≡ outs.old ++ outs_of errand.now.keys sayings) }
+        OnOk result (outs.new ≡ outs.old ++ outs_of_sayings errand.now.keys sayings) }
 {
     let config = &errand.config;
     match phase {

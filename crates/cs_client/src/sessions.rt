@@ -1,13 +1,13 @@
 //! The session of a client, and the shards that need a dummy for it.
 ghost use Rattle.std.specs.Prelude.{◌≡◌, IfOk};
-ghost use Rattle.cs_tx_form.specs.Session.{SessionFits};
-ghost use Rattle.cs_tx_form.specs.Transaction.{TxFits};
+ghost use Rattle.cs_tx_types.specs.Session.{SessionFits};
+ghost use Rattle.cs_tx_types.specs.Transaction.{TxFits};
 ghost use Rattle.cs_tx.specs.Uses.{inputs_of, names, is_among};
 ghost use Rattle.cs_client.specs.Sessions.{has_input, bare, with_dummies, bare_shards};
 
 use cs_base::{Config, Key, Memory, Sequence, shard_of};
 use cs_tx::concerned;
-use cs_tx_form::{Session, Tx};
+use cs_tx_types::{Session, Tx};
 use cs_tx_value::{Digest, Object};
 use std::alloc::Global;
 

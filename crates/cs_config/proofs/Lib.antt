@@ -3,3 +3,10 @@ mod Steps
 pub mod Tables
 mod Objects
 mod Configs
+mod Back
+mod Counting
+pub mod Listed
+mod Names
+mod KeyTables
+mod Filed
+mod Named

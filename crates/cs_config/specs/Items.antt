@@ -16,21 +16,21 @@ abbrev pub hex_of : List ℕ → Option (List ℕ)
 hex_of text = result_ok (decode_of text)
 
 -- 32 bytes
-abbrev pub digest_in : List ℕ → Option (List ℕ)
-digest_in bytes = if length bytes == 32 then Some bytes else None
+abbrev pub whole_digest : List ℕ → Option (List ℕ)
+whole_digest bytes = if length bytes == 32 then Some bytes else None
 
 -- a string of 64 hex digits
-abbrev pub digest_of : Data → Option (List ℕ)
-digest_of held = option_and_then digest_in (option_and_then hex_of (as_str held))
+abbrev pub hex_digest : Data → Option (List ℕ)
+hex_digest held = option_and_then whole_digest (option_and_then hex_of (as_str held))
 
 -- the contract of this text: its id, or `token`
-abbrev pub contract_in : List ℕ → Option (List ℕ)
-contract_in text =
-    if bytes_eq text (codes "token") then Some token_id else option_and_then digest_in (hex_of text)
+abbrev pub contract_id_in : List ℕ → Option (List ℕ)
+contract_id_in text =
+    if bytes_eq text (codes "token") then Some token_id else option_and_then whole_digest (hex_of text)
 
 -- a string of the hex of an object's encoding
-abbrev pub object_of : Data → Option Object
-object_of held = option_and_then (whole_at object_at) (option_and_then hex_of (as_str held))
+abbrev pub hex_object : Data → Option Object
+hex_object held = option_and_then (whole_at object_at) (option_and_then hex_of (as_str held))
 
 -- the bytes of hex digits, as an argument
 abbrev pub bytes_arg_of : List ℕ → Option Value

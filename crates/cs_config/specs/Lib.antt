@@ -5,3 +5,10 @@ pub mod Site
 pub mod Contract
 pub mod Call
 pub mod Plan
+pub mod Complete
+pub mod File
+pub mod Named
+pub mod Peer
+pub mod Printed
+pub mod FileNames
+pub mod Saving

@@ -8,18 +8,18 @@ use Rattle.toml.specs.Data.{Data, Items, no_items, item, Members, get_member, as
 use Rattle.toml.specs.Parse.{parse_document}
 use Rattle.toml.specs.View.{table_view}
 use Rattle.toml.specs.declared.value.Value.{Value}
-use Rattle.cs_config.specs.Names.{name_of}
+use Rattle.cs_config.specs.Names.{field_name}
 use Rattle.cs_config.specs.declared.error.FileField.{FileField}
 use Rattle.cs_config.specs.declared.error.ConfigError.{ConfigError}
 use Rattle.cs_config.specs.declared.error.ConfigError.TheVariants.{Toml, Field, Limit, Memory}
 
 -- what a call answered is what stands in the file, unless memory ran out
-abbrev pub Gives : {A : Type 0} → Result A ConfigError → Result A ConfigError → Type 0
-Gives (Ok x) meant = meant ≡ Ok x
-Gives (Err Memory) meant = Unit {0}
-Gives (Err Toml) meant = meant ≡ Err Toml
-Gives (Err (Field field)) meant = meant ≡ Err (Field field)
-Gives (Err (Limit field)) meant = meant ≡ Err (Limit field)
+abbrev pub FileGives : {A : Type 0} → Result A ConfigError → Result A ConfigError → Type 0
+FileGives (Ok x) meant = meant ≡ Ok x
+FileGives (Err Memory) meant = Unit {0}
+FileGives (Err Toml) meant = meant ≡ Err Toml
+FileGives (Err (Field field)) meant = meant ≡ Err (Field field)
+FileGives (Err (Limit field)) meant = meant ≡ Err (Limit field)
 
 -- a step, and the next one with what it gave; the first refusal decides
 infixl 10 ◌>>=◌
@@ -28,29 +28,29 @@ abbrev pub ◌>>=◌ : {A B : Type 0} → Result A ConfigError → (A → Result
 (Err refusal) >>= f = Err refusal
 
 -- the members of the table that the bytes are
-abbrev pub table_of : List ℕ → Result Members ConfigError
-table_of bytes = if is_utf8 bytes then ok_or (parse_document bytes) Toml else Err Toml
+abbrev pub toml_table_of : List ℕ → Result Members ConfigError
+toml_table_of bytes = if is_utf8 bytes then ok_or (parse_document bytes) Toml else Err Toml
 
 -- the same of a table that was read
 abbrev pub GivesTable : Result (BTreeMap (String Global) Value) ConfigError → List ℕ → Type 0
-GivesTable (Ok table) bytes = table_of bytes ≡ Ok (table_view table)
+GivesTable (Ok table) bytes = toml_table_of bytes ≡ Ok (table_view table)
 GivesTable (Err Memory) bytes = Unit {0}
-GivesTable (Err Toml) bytes = table_of bytes ≡ Err Toml
+GivesTable (Err Toml) bytes = toml_table_of bytes ≡ Err Toml
 GivesTable (Err (Field field)) bytes = ⊥
 GivesTable (Err (Limit field)) bytes = ⊥
 
 -- what the field holds, if it is there and can be read
 abbrev pub one_of : {A : Type 0} → (Data → Option A) → FileField → Members → Result A ConfigError
-one_of read field members = ok_or (option_and_then read (get_member (name_of field) members)) (Field field)
+one_of read field members = ok_or (option_and_then read (get_member (field_name field) members)) (Field field)
 
 -- each item, if all can be read
-abbrev pub each : {A : Type 0} → (Data → Option A) → Items → Option (List A)
-each read no_items = Some []
-each read (item first rest) = option_and_then (λ x. option_map (λ xs. x ∷ xs) (each read rest)) (read first)
+abbrev pub each_item : {A : Type 0} → (Data → Option A) → Items → Option (List A)
+each_item read no_items = Some []
+each_item read (item first rest) = option_and_then (λ x. option_map (λ xs. x ∷ xs) (each_item read rest)) (read first)
 
 -- the items of the array that the field holds, if it is one and all can be read
 abbrev pub each_of : {A : Type 0} → (Data → Option A) → FileField → Members → Result (List A) ConfigError
-each_of read = one_of (λ held. option_and_then (each read) (as_array held))
+each_of read = one_of (λ held. option_and_then (each_item read) (as_array held))
 
 -- a number from the least to the most
 abbrev pub number_within : FileField → ℕ → ℕ → ℤ → Result ℕ ConfigError

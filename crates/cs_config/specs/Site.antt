@@ -4,8 +4,8 @@ use Rattle.cs_base.specs.Config.{config_of}
 use Rattle.cs_base.specs.declared.config.Config.{Config}
 use Rattle.cs_base.specs.declared.limits.TheConstants.{MOST_SHARDS, MOST_LIARS, MOST_DUMMIES, MOST_GENESIS}
 use Rattle.toml.specs.Data.{Members, as_integer, as_str}
-use Rattle.cs_config.specs.Reading.{◌>>=◌, table_of, one_of, each_of, number_within, few_of}
-use Rattle.cs_config.specs.Items.{object_of}
+use Rattle.cs_config.specs.Reading.{◌>>=◌, toml_table_of, one_of, each_of, number_within, few_of}
+use Rattle.cs_config.specs.Items.{hex_object}
 use Rattle.cs_config.specs.declared.limits.TheConstants.{LEAST_BASE_PORT, MOST_BASE_PORT, MOST_CONTRACTS}
 use Rattle.cs_config.specs.declared.error.FileField.TheVariants as field
 use Rattle.cs_config.specs.declared.error.ConfigError.{ConfigError}
@@ -20,7 +20,7 @@ site_draft_of members = do
   dummies ← one_of as_integer field.Dummies members
   base_port ← one_of as_integer field.BasePort members
   contracts ← each_of as_str field.Contracts members
-  genesis ← each_of object_of field.Genesis members
+  genesis ← each_of hex_object field.Genesis members
   Ok (record {
     shards = shards;
     faulty = faulty;
@@ -48,8 +48,8 @@ site_within draft = do
   Ok (record { config = config; base_port = base_port; contracts = contracts; genesis = genesis })
 
 -- what a site file says, or why it is refused
-abbrev pub site_of : List ℕ → Result Site ConfigError
-site_of bytes = do
-  members ← table_of bytes
+abbrev pub site_of_file : List ℕ → Result Site ConfigError
+site_of_file bytes = do
+  members ← toml_table_of bytes
   draft ← site_draft_of members
   site_within draft

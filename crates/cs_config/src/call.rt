@@ -3,8 +3,8 @@ ghost use Rattle.std.specs.Prelude.{IfOk};
 ghost use Rattle.std.specs.List.{AllByRecursion};
 ghost use Rattle.toml.specs.View.{table_view};
 ghost use Rattle.cs_tx_value.specs.Encoding.{ValueFits};
-ghost use Rattle.cs_config.specs.Reading.{Gives};
-ghost use Rattle.cs_config.specs.Call.{call_draft_of, IsWithin, GivesCall};
+ghost use Rattle.cs_config.specs.Reading.{FileGives};
+ghost use Rattle.cs_config.specs.Call.{call_draft_of, IsCallWithin, GivesCall};
 
 use crate::document::read_table;
 use crate::error::{ConfigError, FileField};
@@ -14,7 +14,7 @@ use crate::limits::LAST_NUMBER;
 use crate::numbers::within;
 use crate::readable::Readable;
 use cs_base::{Memory, Sequence};
-use cs_outer::Text;
+use cs_io::Text;
 use cs_tx_value::{Digest, Value, each_fits};
 use std::alloc::Global;
 use toml::Table;
@@ -49,9 +49,9 @@ pub(crate) struct CallDraft {
 pub(crate) struct ContractId(pub(crate) Digest);
 
 impl Readable for ContractId {
-    ghost use Rattle.cs_config.specs.Contract.{contract_of};
+    ghost use Rattle.cs_config.specs.Contract.{contract_id_of};
 
-    ghost meaning = { contract_of };
+    ghost meaning = { contract_id_of };
 
     ghost Fits = { λ _. Unit {0} };
 
@@ -77,7 +77,7 @@ pub fn read_call(alloc: Global, bytes: &[u8]) -> Result<CallFile, ConfigError>
 }
 
 fn call_draft(alloc: Global, table: &Table) -> Result<CallDraft, ConfigError>
-    ensures { Gives result (call_draft_of (table_view table.now)) }
+    ensures { FileGives result (call_draft_of (table_view table.now)) }
 {
     let contract = one_at(alloc, table, FileField::Contract)?;
     let method = one_at(alloc, table, FileField::Method)?;
@@ -96,7 +96,7 @@ fn call_draft(alloc: Global, table: &Table) -> Result<CallDraft, ConfigError>
 }
 
 fn call_within(draft: CallDraft) -> Result<CallFile, ConfigError>
-    ensures { IsWithin draft result }
+    ensures { IsCallWithin draft result }
 {
     if !each_fits(draft.args.as_slice()) {
         return Err(ConfigError::Limit(FileField::Args));

@@ -1,6 +1,6 @@
 //! Why a file is refused.
 ghost use Rattle.std.specs.Prelude.{◌≡◌};
-ghost use Rattle.cs_config.specs.Names.{name_of};
+ghost use Rattle.cs_config.specs.Names.{field_name};
 ghost use Rattle.cs_config.specs.declared.error.ConfigError.TheVariants.{Memory as NoMemory};
 
 use cs_base::Memory;
@@ -45,7 +45,7 @@ pub enum ConfigError {
 impl FileField {
     /// The key under which the field stands.
     pub fn name(self) -> &'static str
-        ensures { result.now ≡ name_of self }
+        ensures { result.now ≡ field_name self }
     {
         match self {
             FileField::Shards => "shards",

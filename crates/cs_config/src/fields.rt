@@ -3,8 +3,8 @@ ghost use Rattle.std.specs.Prelude.{◌≡◌, IfOk, option_map};
 ghost use Rattle.std.specs.List.{AllByRecursion};
 ghost use Rattle.toml.specs.Data.{get_member};
 ghost use Rattle.toml.specs.View.{view, table_view};
-ghost use Rattle.cs_config.specs.Names.{name_of};
-ghost use Rattle.cs_config.specs.Reading.{Gives, one_of, each_of};
+ghost use Rattle.cs_config.specs.Names.{field_name};
+ghost use Rattle.cs_config.specs.Reading.{FileGives, one_of, each_of};
 
 use crate::error::{ConfigError, FileField};
 use crate::readable::{Readable, read_each};
@@ -21,14 +21,14 @@ pub fn held_under<'a>(table: &'a Table, key: &str) -> Option<&'a Value>
 
 fn value_at(table: &Table, field: FileField) -> Option<&Value>
     ensures { option_map (λ v. view v.now) result
-        ≡ get_member (name_of field) (table_view table.now) }
+        ≡ get_member (field_name field) (table_view table.now) }
 {
     held_under(table, field.name())
 }
 
 /// What the field says.
 pub fn one_at<T: Readable>(alloc: Global, table: &Table, field: FileField) -> Result<T, ConfigError>
-    ensures given { Gives result (one_of T.meaning field (table_view table.now)) }
+    ensures given { FileGives result (one_of T.meaning field (table_view table.now)) }
     ensures fits { IfOk result T.Fits }
 {
     let Some(value) = value_at(table, field) else {
@@ -46,7 +46,7 @@ pub fn each_at<T: Readable>(
     table: &Table,
     field: FileField,
 ) -> Result<Sequence<T>, ConfigError>
-    ensures given { Gives result (each_of T.meaning field (table_view table.now)) }
+    ensures given { FileGives result (each_of T.meaning field (table_view table.now)) }
     ensures fits { IfOk result (AllByRecursion T.Fits) }
 {
     let Some(value) = value_at(table, field) else {

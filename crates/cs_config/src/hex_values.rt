@@ -2,7 +2,7 @@
 ghost use Rattle.std.specs.Prelude.{◌≡◌, IfOk, IfSome, option_map, option_and_then};
 ghost use Rattle.cs_base.specs.Fields.{whole_at};
 ghost use Rattle.cs_tx_value.specs.Object.{ObjectFits, object_at};
-ghost use Rattle.cs_config.specs.Items.{hex_of, digest_in, contract_in};
+ghost use Rattle.cs_config.specs.Items.{hex_of, whole_digest, contract_id_in};
 
 use cs_base::Memory;
 use cs_tx::id_of_token;
@@ -23,7 +23,7 @@ pub fn read_hex(alloc: Global, text: &str) -> Result<Option<Vec<u8>>, Memory>
 
 // The digest of so many bytes, where they are 32.
 fn digest_of(bytes: &[u8]) -> Option<Digest>
-    ensures { result ≡ digest_in bytes.now }
+    ensures { result ≡ whole_digest bytes.now }
 {
     if bytes.len() != 32 {
         return None;
@@ -35,7 +35,7 @@ fn digest_of(bytes: &[u8]) -> Option<Digest>
 
 /// The digest of which the text is the hex.
 pub fn read_digest(alloc: Global, text: &str) -> Result<Option<Digest>, Memory>
-    ensures { IfOk result (λ digest. digest ≡ option_and_then digest_in (hex_of text.now)) }
+    ensures { IfOk result (λ digest. digest ≡ option_and_then whole_digest (hex_of text.now)) }
 {
     match read_hex(alloc, text)? {
         Some(bytes) => Ok(digest_of(&bytes)),
@@ -45,7 +45,7 @@ pub fn read_digest(alloc: Global, text: &str) -> Result<Option<Digest>, Memory>
 
 /// The contract's id of which the text is the hex; or that of `token`, by its name.
 pub fn read_contract(alloc: Global, text: &str) -> Result<Option<Digest>, Memory>
-    ensures { IfOk result (λ contract. contract ≡ contract_in text.now) }
+    ensures { IfOk result (λ contract. contract ≡ contract_id_in text.now) }
 {
     if text == "token" {
         return Ok(Some(id_of_token()));

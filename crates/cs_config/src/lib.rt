@@ -1,16 +1,25 @@
-//! The files of a deployment, in TOML: the site, a client's call, and the plan of a cluster.
+//! The files of a deployment, in TOML: the site, a client's call and the plan of a cluster; and
+//! the key files: whose there are, by what name, the keys shared with each peer, and the saving
+//! of all of them.
 #![tactic(auto)]
 
 mod args;
 mod call;
+mod complete;
 mod document;
 mod error;
 mod fields;
 mod hex_values;
 mod limits;
+mod listing;
+mod naming;
 mod numbers;
+mod peer;
 mod plan;
+mod printing;
 mod readable;
+mod reading;
+mod saving;
 mod site;
 
 pub use call::{CallFile, read_call};
@@ -20,6 +29,10 @@ pub use fields::{each_at, held_under, one_at};
 pub use limits::{
     LAST_NUMBER, LEAST_BASE_PORT, MOST_BASE_PORT, MOST_CALLS, MOST_CONTRACTS, MOST_TURNS,
 };
+pub use naming::key_file;
 pub use plan::{Plan, read_plan};
+pub use printing::print_keys;
 pub use readable::Readable;
+pub use reading::read_keys;
+pub use saving::{SaveError, save_keys};
 pub use site::{Site, read_site};

@@ -1,7 +1,7 @@
 //! Plan files.
 ghost use Rattle.std.specs.Prelude.{◌≡◌};
 ghost use Rattle.toml.specs.View.{table_view};
-ghost use Rattle.cs_config.specs.Reading.{Gives};
+ghost use Rattle.cs_config.specs.Reading.{FileGives};
 ghost use Rattle.cs_config.specs.Plan.{plan_of, plan_draft_of, plan_within};
 
 use crate::document::read_table;
@@ -10,7 +10,7 @@ use crate::fields::{each_at, one_at};
 use crate::limits::{MOST_CALLS, MOST_TURNS};
 use crate::numbers::{few, within};
 use cs_base::Sequence;
-use cs_outer::Text;
+use cs_io::Text;
 use cs_tx_value::Digest;
 use std::alloc::Global;
 use toml::Table;
@@ -38,7 +38,7 @@ pub(crate) struct PlanDraft {
 
 /// What a plan file says.
 pub fn read_plan(alloc: Global, bytes: &[u8]) -> Result<Plan, ConfigError>
-    ensures { Gives result (plan_of bytes.now) }
+    ensures { FileGives result (plan_of bytes.now) }
 {
     let table = read_table(alloc, bytes)?;
     let draft = plan_draft(alloc, &table)?;
@@ -46,7 +46,7 @@ pub fn read_plan(alloc: Global, bytes: &[u8]) -> Result<Plan, ConfigError>
 }
 
 fn plan_draft(alloc: Global, table: &Table) -> Result<PlanDraft, ConfigError>
-    ensures { Gives result (plan_draft_of (table_view table.now)) }
+    ensures { FileGives result (plan_draft_of (table_view table.now)) }
 {
     let site = one_at(alloc, table, FileField::Site)?;
     let master = one_at(alloc, table, FileField::Master)?;

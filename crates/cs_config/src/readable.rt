@@ -3,13 +3,13 @@ ghost use Rattle.std.specs.Prelude.{◌≡◌, Option, IfOk, IfSome};
 ghost use Rattle.std.specs.List.{AllByRecursion};
 ghost use Rattle.toml.specs.Data.{Data, as_integer, as_str};
 ghost use Rattle.toml.specs.View.{view, items_view};
-ghost use Rattle.cs_config.specs.Reading.{each};
-ghost use Rattle.cs_config.specs.Items.{digest_of, object_of};
+ghost use Rattle.cs_config.specs.Reading.{each_item};
+ghost use Rattle.cs_config.specs.Items.{hex_digest, hex_object};
 ghost use Rattle.cs_tx_value.specs.Object.{ObjectFits};
 
 use crate::hex_values::{read_digest, read_object};
 use cs_base::{Memory, Sequence};
-use cs_outer::Text;
+use cs_io::Text;
 use cs_tx_value::Object;
 use std::alloc::Global;
 use toml::Value;
@@ -30,7 +30,7 @@ pub trait Readable: Sized + Drop {
 
 /// Reads each item; None where one can't be read.
 pub fn read_each<T: Readable>(alloc: Global, items: &[Value]) -> Result<Option<Sequence<T>>, Memory>
-    ensures given { IfOk result (λ read. read ≡ each T.meaning (items_view items.now)) }
+    ensures given { IfOk result (λ read. read ≡ each_item T.meaning (items_view items.now)) }
     ensures fits { IfOk result (λ read. IfSome read (AllByRecursion T.Fits)) }
 {
     let mut found = Sequence::new(alloc);
@@ -67,7 +67,7 @@ impl Readable for Text {
 }
 
 impl Readable for [u8; 32] {
-    ghost meaning = { digest_of };
+    ghost meaning = { hex_digest };
 
     ghost Fits = { λ _. Unit {0} };
 
@@ -80,7 +80,7 @@ impl Readable for [u8; 32] {
 }
 
 impl Readable for Object {
-    ghost meaning = { object_of };
+    ghost meaning = { hex_object };
 
     ghost Fits = { ObjectFits };
 

@@ -3,8 +3,8 @@ ghost use Rattle.std.specs.Prelude.{◌≡◌, IfOk};
 ghost use Rattle.std.specs.List.{AllByRecursion};
 ghost use Rattle.toml.specs.View.{table_view};
 ghost use Rattle.cs_tx_value.specs.Object.{ObjectFits};
-ghost use Rattle.cs_config.specs.Reading.{Gives};
-ghost use Rattle.cs_config.specs.Site.{site_of, site_draft_of, site_within, config_within};
+ghost use Rattle.cs_config.specs.Reading.{FileGives};
+ghost use Rattle.cs_config.specs.Site.{site_of_file, site_draft_of, site_within, config_within};
 
 use crate::document::read_table;
 use crate::error::{ConfigError, FileField};
@@ -12,7 +12,7 @@ use crate::fields::{each_at, one_at};
 use crate::limits::{LEAST_BASE_PORT, MOST_BASE_PORT, MOST_CONTRACTS};
 use crate::numbers::{few, within};
 use cs_base::{Config, MOST_DUMMIES, MOST_GENESIS, MOST_LIARS, MOST_SHARDS, Sequence};
-use cs_outer::Text;
+use cs_io::Text;
 use cs_tx_value::Object;
 use std::alloc::Global;
 use toml::Table;
@@ -42,7 +42,7 @@ pub(crate) struct SiteDraft {
 
 /// What a site file says.
 pub fn read_site(alloc: Global, bytes: &[u8]) -> Result<Site, ConfigError>
-    ensures given { Gives result (site_of bytes.now) }
+    ensures given { FileGives result (site_of_file bytes.now) }
     ensures fits { IfOk result (λ site. AllByRecursion ObjectFits site.genesis) }
 {
     let table = read_table(alloc, bytes)?;
@@ -51,7 +51,7 @@ pub fn read_site(alloc: Global, bytes: &[u8]) -> Result<Site, ConfigError>
 }
 
 fn site_draft(alloc: Global, table: &Table) -> Result<SiteDraft, ConfigError>
-    ensures given { Gives result (site_draft_of (table_view table.now)) }
+    ensures given { FileGives result (site_draft_of (table_view table.now)) }
     ensures fits { IfOk result (λ draft. AllByRecursion ObjectFits draft.genesis) }
 {
     let shards = one_at(alloc, table, FileField::Shards)?;

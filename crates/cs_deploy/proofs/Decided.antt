@@ -1,24 +1,24 @@
 -- What decides where no fault came about, and which statuses there are.
 use Rattle.std.specs.Prelude.{◌≡◌, ◌≢◌, ℕ, List, Option, Some, None, Ok}
 use Rattle.std.proofs.Common.{refl, sym, inl, inr, ◌∙◌}
-use Rattle.cs_outer.specs.Store.{Files}
-use Rattle.cs_outer.specs.Outside.{LinkTold, Beside}
-use Rattle.cs_outer.specs.declared.until.Until.{Until}
+use Rattle.cs_io.specs.Store.{Files}
+use Rattle.cs_io.specs.Outside.{LinkTold, Beside}
+use Rattle.cs_io.specs.declared.until.Until.{Until}
 use Rattle.cs_config.specs.declared.call.CallFile.{CallFile}
 use Rattle.cs_serve.specs.declared.ending.End.{End}
 use Rattle.cs_serve.specs.declared.ending.End.TheVariants as end
-use Rattle.cs_attend.specs.declared.ending.Ending.{Ending}
-use Rattle.cs_attend.specs.declared.ending.Ending.TheVariants as ending
+use Rattle.cs_serve.specs.declared.client_ending.Ending.{Ending}
+use Rattle.cs_serve.specs.declared.client_ending.Ending.TheVariants as ending
 use Rattle.cs_client.specs.declared.known.Known.{Known}
 use Rattle.cs_client.specs.declared.known.Known.TheVariants as known
-use Rattle.cs_take.specs.declared.setups.Setup.{Setup}
-use Rattle.cs_take.specs.Taking.{Taken, Takes, Comes}
-use Rattle.cs_take.specs.declared.keys.Role.TheVariants.{Node}
-use Rattle.cs_take.specs.Files.{setup_taken}
-use Rattle.cs_take.specs.Calls.{ClientComes}
-use Rattle.cs_deploy_keys.specs.Untaken.{IsDecided}
-use Rattle.cs_deploy_keys.proofs.Answered.{answers-other}
-use Rattle.cs_deploy_keys.proofs.Decided.{untaken-decided, untaken-other}
+use Rattle.cs_deploy.specs.declared.setups.Setup.{Setup}
+use Rattle.cs_deploy.specs.Taking.{Taken, TakesFiles, FilesCome}
+use Rattle.cs_deploy.specs.declared.keys.Role.TheVariants.{Node}
+use Rattle.cs_deploy.specs.Files.{setup_taken}
+use Rattle.cs_deploy.specs.Calls.{ClientComes}
+use Rattle.cs_deploy.specs.Untaken.{IsDecided}
+use Rattle.cs_deploy.proofs.Answered.{answers-other}
+use Rattle.cs_deploy.proofs.DecidedKeys.{untaken-decided, untaken-other}
 use Rattle.cs_deploy.specs.Binding.{Runs, link_answer}
 use Rattle.cs_deploy.specs.Node.{TellsEnd, NodeGoes, NodeRuns}
 use Rattle.cs_deploy.specs.Client.{known_status, known_answer, refused_answer, TellsEnding, ClientGoes, ClientRuns, IsToldOf}
@@ -30,7 +30,7 @@ module _ {A : Type 0} (Come : Files → Taken A → Type 0) (Goes : A → Beside
   runs-decided Done (inl is) stores writes each = untaken-decided Come Done Failed files old.written new.written status is.untaken stores writes
   runs-decided Done (inr (taken, takes, goes)) stores writes each = by files takes
     where
-      by : (files : Option Files) → Takes Come files (Ok taken) → IsDecided Come Done files status
+      by : (files : Option Files) → TakesFiles Come files (Ok taken) → IsDecided Come Done files status
       by None takes = λ other. tt
       by (Some told) takes = λ other. (Ok taken, takes, each taken goes other)
 
@@ -103,14 +103,14 @@ module _ (setup : Setup) (call : CallFile) (until : Until) (Failed : Type 0) (ol
 -- ---- both commands
 
 module _ (site keys : List ℕ) (until : Until) (Failed Linked : Type 0) (files : Option Files) (old new : Beside LinkTold) (status : ℕ) where
-  pub node-runs-decided : NodeRuns site keys until Failed Linked files old new status → (Failed → ⊥) → (Linked → ⊥) → status ≢ 6 → IsDecided (Comes (setup_taken Node site keys)) (λ s. s ≡ 0) files status
+  pub node-runs-decided : NodeRuns site keys until Failed Linked files old new status → (Failed → ⊥) → (Linked → ⊥) → status ≢ 6 → IsDecided (FilesCome (setup_taken Node site keys)) (λ s. s ≡ 0) files status
   node-runs-decided runs stores links writes =
-      runs-decided (Comes (setup_taken Node site keys)) (λ setup. NodeGoes setup until Linked) Failed files old new status (λ s. s ≡ 0) runs stores writes
+      runs-decided (FilesCome (setup_taken Node site keys)) (λ setup. NodeGoes setup until Linked) Failed files old new status (λ s. s ≡ 0) runs stores writes
       (λ setup goes other. node-done setup until Linked old new status goes links writes other)
 
   pub node-runs-other : (n : ℕ) → NodeRuns site keys until Failed Linked files old new status → 0 ≢ n → 7 ≢ n → 12 ≢ n → 6 ≢ n → 8 ≢ n → status ≢ n
   node-runs-other n runs zero seven twelve six eight =
-      runs-other (Comes (setup_taken Node site keys)) (λ setup. NodeGoes setup until Linked) Failed files old new status n runs twelve six eight
+      runs-other (FilesCome (setup_taken Node site keys)) (λ setup. NodeGoes setup until Linked) Failed files old new status n runs twelve six eight
       (λ setup goes. node-other setup until Linked old new status n goes zero seven six eight)
 
 module _ (site keys call : List ℕ) (until : Until) (Failed Linked : Type 0) (files : Option Files) (old new : Beside LinkTold) (status : ℕ) where

@@ -5,24 +5,24 @@ use Rattle.std.proofs.Common.{◌≡◌, ◌+◌, ◌-◌, ◌^◌, ◌++◌, Li
 use Rattle.cs_base.specs.Answers.{AppendsFront}
 use Rattle.cs_ledger.specs.Ledger.{Bytes}
 use Rattle.cs_node_rules.specs.Site.{Input as Given, Site, View}
-use Rattle.cs_outer.specs.Told.{Stays}
-use Rattle.cs_outer.specs.Link.{Offers}
-use Rattle.cs_outer.specs.Outside.{LinkTold, Beside, beside}
-use Rattle.cs_outer.specs.declared.link.MemInput.{MemInput}
-use Rattle.cs_outer.specs.declared.until.Until.{Until}
+use Rattle.cs_io.specs.Told.{Stays}
+use Rattle.cs_io.specs.Link.{Offers}
+use Rattle.cs_io.specs.Outside.{LinkTold, Beside, beside}
+use Rattle.cs_io.specs.declared.link.MemInput.{MemInput}
+use Rattle.cs_io.specs.declared.until.Until.{Until}
 use Rattle.cs_serve.specs.declared.ending.End.{End}
 use Rattle.cs_serve.specs.declared.ending.End.TheVariants as end
 use Rattle.cs_serve.specs.declared.receiving.TheConstants.{MOST_MISSED}
 use Rattle.cs_serve.specs.Giving.{given_of, Gives, GivesFront}
-use Rattle.cs_serve.specs.Serving.{missed_past, Ends, Serves}
+use Rattle.cs_serve.specs.Serving.{missed_past, NodeEnds, Serves}
 use Rattle.cs_client.specs.declared.errand.Errand.{Errand}
 use Rattle.cs_client.specs.Inputs.{Input}
 use Rattle.cs_proc.specs.declared.error.ProcError.{ProcError}
-use Rattle.cs_attend.specs.declared.ending.Ending.{Ending}
-use Rattle.cs_attend.specs.declared.ending.Ending.TheVariants.{Knows, Refused, LinkFault, Memory}
-use Rattle.cs_attend.specs.Attending as attend
+use Rattle.cs_serve.specs.declared.client_ending.Ending.{Ending}
+use Rattle.cs_serve.specs.declared.client_ending.Ending.TheVariants.{Knows, Refused, LinkFault, Memory}
+use Rattle.cs_serve.specs.Attending as attend
 use Rattle.cs_serve.specs.laws.Offering.{adds-later, front-later}
-use Rattle.cs_outer.specs.laws.Told.{changes-after}
+use Rattle.cs_io.specs.laws.Told.{changes-after}
 use Rattle.cs_deploy.specs.Node.{ServesFrom}
 
 -- ---- a node
@@ -58,7 +58,7 @@ serves-later site v until b a a' w w' ending stays kept same unwritten serves = 
   };
 }
   where
-    by : (ending : End) (inputs : List Given) → Ends site v inputs (beside a' w') b ending → Ends site v inputs (beside a w) b ending
+    by : (ending : End) (inputs : List Given) → NodeEnds site v inputs (beside a' w') b ending → NodeEnds site v inputs (beside a w) b ending
     by end.Done inputs (missed, gives) = (missed ∙ ap (λ n. missed_past n inputs) same, gives-later a a' w w' b kept unwritten _ _ gives)
     by end.Ended inputs (left, gives) = (left, gives-later a a' w w' b kept unwritten _ _ gives)
     by end.LinkFault inputs (missed, gives) = (missed ∙ ap (λ n. min (missed_past n inputs + MOST_MISSED) (2 ^ 64 - 1)) same, gives-later a a' w w' b kept unwritten _ _ gives)
@@ -92,7 +92,7 @@ attends-later e until a b c ending stays kept same attends = record {
     refused [] cause ends = ends
     refused (input ∷ past) cause (is, adds) = (is, adds-later a.offered b.offered c.offered _ kept adds)
 
-    by : (ending : Ending) (inputs : List Input) → attend.Ends e until inputs b c ending → attend.Ends e until inputs a c ending
+    by : (ending : Ending) (inputs : List Input) → attend.ClientEnds e until inputs b c ending → attend.ClientEnds e until inputs a c ending
     by (Knows so) inputs (is, over, adds) = (is, over, adds-later a.offered b.offered c.offered _ kept adds)
     by (Refused cause) inputs ends = refused inputs cause ends
     by LinkFault inputs (missing, is, adds) =

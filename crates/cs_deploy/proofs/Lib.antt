@@ -1,4 +1,10 @@
 pub mod Bound
 pub mod Later
 pub mod Decided
-pub mod Spoken
+mod Names
+mod Steps
+mod Texts
+pub mod Answered
+pub mod DecidedKeys
+pub mod Going
+pub mod Reading

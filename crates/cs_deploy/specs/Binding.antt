@@ -2,13 +2,13 @@
 use Rattle.std.specs.Prelude.{◌≡◌, ◌⊎◌, ℕ, codes, Option, Result, Ok, Err}
 use Rattle.cs_base.specs.Answers.{Answer, Answers}
 use Rattle.cs_base.specs.declared.node_id.NodeId.{NodeId}
-use Rattle.cs_outer.specs.Told.{Stays}
-use Rattle.cs_outer.specs.Store.{Files}
-use Rattle.cs_outer.specs.Link.{Binds}
-use Rattle.cs_outer.specs.Outside.{LinkTold, Beside}
-use Rattle.cs_outer.specs.declared.link.Bound.TheVariants as bind
-use Rattle.cs_take.specs.Taking.{Taken, Takes}
-use Rattle.cs_deploy_keys.specs.Untaken.{IsSilent, IsUntaken}
+use Rattle.cs_io.specs.Told.{Stays}
+use Rattle.cs_io.specs.Store.{Files}
+use Rattle.cs_io.specs.Link.{Binds}
+use Rattle.cs_io.specs.Outside.{LinkTold, Beside}
+use Rattle.cs_io.specs.declared.link.Bound.TheVariants as bind
+use Rattle.cs_deploy.specs.Taking.{Taken, TakesFiles}
+use Rattle.cs_deploy.specs.Untaken.{IsSilent, IsUntaken}
 
 -- The link was left alone, but for what it is bound as.
 pub record IsQuiet (old new : LinkTold) : Type 0 where
@@ -60,4 +60,4 @@ abbrev pub Runs : {A : Type 0} → (Files → Taken A → Type 0) → (A → Bes
     → Option Files → Beside LinkTold → Beside LinkTold → ℕ → Type 0
 Runs {A} Come Goes StoreFailed files old new status =
     IsRefused Come StoreFailed files old new status
-    ⊎ ((taken : A) × Takes Come files (Ok taken) × Goes taken old new status)
+    ⊎ ((taken : A) × TakesFiles Come files (Ok taken) × Goes taken old new status)

@@ -1,11 +1,11 @@
 -- The command `client`.
 use Rattle.std.specs.Prelude.{◌≡◌, ◌⊎◌, ℕ, List, [], codes, ◌++◌, Option}
 use Rattle.cs_base.specs.Answers.{Answer, Answers}
-use Rattle.cs_outer.specs.Store.{Files}
-use Rattle.cs_outer.specs.Link.{Binds}
-use Rattle.cs_outer.specs.Outside.{LinkTold, Beside}
-use Rattle.cs_outer.specs.declared.link.Bound.TheVariants as bind
-use Rattle.cs_outer.specs.declared.until.Until.{Until}
+use Rattle.cs_io.specs.Store.{Files}
+use Rattle.cs_io.specs.Link.{Binds}
+use Rattle.cs_io.specs.Outside.{LinkTold, Beside}
+use Rattle.cs_io.specs.declared.link.Bound.TheVariants as bind
+use Rattle.cs_io.specs.declared.until.Until.{Until}
 use Rattle.cs_config.specs.declared.call.CallFile.{CallFile}
 use Rattle.cs_proc.specs.declared.error.ProcError.{ProcError}
 use Rattle.cs_proc.specs.declared.error.ProcError.TheVariants as refusal
@@ -14,12 +14,12 @@ use Rattle.cs_client.specs.declared.known.Known.{Known}
 use Rattle.cs_client.specs.declared.known.Known.TheVariants as known
 use Rattle.cs_client.specs.Lines.{known_line}
 use Rattle.cs_client.specs.Standing.{errand_for}
-use Rattle.cs_attend.specs.declared.ending.Ending.{Ending}
-use Rattle.cs_attend.specs.declared.ending.Ending.TheVariants.{Knows, Refused, LinkFault, Memory}
-use Rattle.cs_attend.specs.Attending.{Attends}
-use Rattle.cs_take.specs.declared.setups.Setup.{Setup}
-use Rattle.cs_take.specs.Calls.{ClientComes}
-use Rattle.cs_deploy_keys.specs.Untaken.{IsSilent}
+use Rattle.cs_serve.specs.declared.client_ending.Ending.{Ending}
+use Rattle.cs_serve.specs.declared.client_ending.Ending.TheVariants.{Knows, Refused, LinkFault, Memory}
+use Rattle.cs_serve.specs.Attending.{Attends}
+use Rattle.cs_deploy.specs.declared.setups.Setup.{Setup}
+use Rattle.cs_deploy.specs.Calls.{ClientComes}
+use Rattle.cs_deploy.specs.Untaken.{IsSilent}
 use Rattle.cs_deploy.specs.Binding.{IsShort, IsUnbound, Runs, link_answer}
 
 -- ---- the last line

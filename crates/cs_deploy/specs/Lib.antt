@@ -1,4 +1,14 @@
 pub mod Binding
 pub mod Node
 pub mod Client
-pub mod Speaking
+pub mod Calls
+pub mod Causes
+pub mod Files
+pub mod Refusing
+pub mod Setups
+pub mod Taking
+pub mod Cluster
+pub mod Keys
+pub mod Master
+pub mod ReadKeys
+pub mod Untaken

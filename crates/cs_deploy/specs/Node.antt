@@ -2,34 +2,34 @@
 use Rattle.std.specs.Prelude.{◌≡◌, ◌⊎◌, ℕ, List, Option, None}
 use Rattle.std.specs.Io.KnownBytes.{Keeps}
 use Rattle.cs_base.specs.Answers.{Answers}
-use Rattle.cs_outer.specs.Store.{Files}
-use Rattle.cs_outer.specs.Link.{Binds}
-use Rattle.cs_outer.specs.Outside.{LinkTold, Beside}
-use Rattle.cs_outer.specs.declared.link.Bound.TheVariants as bind
-use Rattle.cs_outer.specs.declared.until.Until.{Until}
+use Rattle.cs_io.specs.Store.{Files}
+use Rattle.cs_io.specs.Link.{Binds}
+use Rattle.cs_io.specs.Outside.{LinkTold, Beside}
+use Rattle.cs_io.specs.declared.link.Bound.TheVariants as bind
+use Rattle.cs_io.specs.declared.until.Until.{Until}
 use Rattle.cs_order_rules.specs.SlotMachine.{slot_machine}
 use Rattle.cs_order_rules.specs.declared.message.OrderMessage.{OrderMessage}
 use Rattle.cs_approve.specs.Approval.{is_approved}
 use Rattle.cs_node_rules.specs.Net.{Net}
 use Rattle.cs_node_rules.specs.Site.{Site, View, start_view}
 use Rattle.cs_node_rules.specs.Deployment.{site_of}
-use Rattle.cs_node_carried.specs.SlotCarried.{slot_carrier}
-use Rattle.cs_node_pool.specs.Deployed.{deployed}
+use Rattle.cs_node_wire.specs.SlotCarried.{slot_carrier}
+use Rattle.cs_node_pool.specs.Deployed.{deployed_setup}
 use Rattle.cs_node.specs.Speaking.{Speaks}
 use Rattle.cs_serve.specs.declared.ending.End.{End}
 use Rattle.cs_serve.specs.declared.ending.End.TheVariants.{Done, Ended, LinkFault, WriteFault, Memory}
 use Rattle.cs_serve.specs.Serving.{Serves}
-use Rattle.cs_take.specs.declared.keys.Role.TheVariants as role
-use Rattle.cs_take.specs.declared.setups.Setup.{Setup}
-use Rattle.cs_take.specs.Taking.{Comes}
-use Rattle.cs_take.specs.Files.{setup_taken}
-use Rattle.cs_deploy_keys.specs.Untaken.{IsSilent}
+use Rattle.cs_deploy.specs.declared.keys.Role.TheVariants as role
+use Rattle.cs_deploy.specs.declared.setups.Setup.{Setup}
+use Rattle.cs_deploy.specs.Taking.{FilesCome}
+use Rattle.cs_deploy.specs.Files.{setup_taken}
+use Rattle.cs_deploy.specs.Untaken.{IsSilent}
 use Rattle.cs_deploy.specs.Binding.{IsShort, IsUnbound, Runs, link_answer}
 
 -- the site of a setup in a net: nodes in the order among 3f+1 members, which approve by the contracts
-abbrev pub site_in : Setup → Net → Site OrderMessage
-site_in setup net =
-    site_of (deployed setup.site.config setup.site.genesis (is_approved setup.book)) net slot_machine slot_carrier
+abbrev pub site_of_setup : Setup → Net → Site OrderMessage
+site_of_setup setup net =
+    site_of (deployed_setup setup.site.config setup.site.genesis (is_approved setup.book)) net slot_machine slot_carrier
 
 -- nothing is said of the node that is left
 abbrev pub AnyNode : {M : Type 0} → Unit {0} → View M → Type 0
@@ -54,7 +54,7 @@ pub record IsServed (setup : Setup) (until : Until) (LinkFailed : Type 0) (old n
   pub end : End
   pub written : Option (List ℕ)
   pub serves : (net : Net) → Speaks setup.site.config net setup.keys →
-      let site = site_in setup net in
+      let site = site_of_setup setup net in
       ServesFrom site (start_view site setup.keys.me) until old (record new { written = written }) end
   pub failed : end ≡ LinkFault → LinkFailed
   pub told : TellsEnd end written new.written status
@@ -69,4 +69,4 @@ NodeGoes setup until LinkFailed old new status =
 -- what the command comes to
 abbrev pub NodeRuns : List ℕ → List ℕ → Until → Type 0 → Type 0 → Option Files → Beside LinkTold → Beside LinkTold → ℕ → Type 0
 NodeRuns site keys until StoreFailed LinkFailed files old new status =
-    Runs (Comes (setup_taken role.Node site keys)) (λ setup. NodeGoes setup until LinkFailed) StoreFailed files old new status
+    Runs (FilesCome (setup_taken role.Node site keys)) (λ setup. NodeGoes setup until LinkFailed) StoreFailed files old new status

@@ -1,12 +1,12 @@
 //! The link of a node or a client, bound before its first turn.
 ghost use Rattle.std.specs.Prelude.{◌≡◌, ◌≤◌, Err};
 ghost use Rattle.cs_base.specs.Outside.{HasCause};
-ghost use Rattle.cs_outer.specs.Outside.{Faulty, beside};
+ghost use Rattle.cs_io.specs.Outside.{Faulty, beside};
 ghost use Rattle.cs_deploy.specs.Binding.{BindsOrTells};
 
+use crate::tell;
 use cs_base::{NodeId, Sink};
-use cs_deploy_keys::tell;
-use cs_outer::{Bound, Link};
+use cs_io::{Bound, Link};
 
 /// Binds the link; or tells that it can't be, and answers the status that a program ends with.
 pub(crate) fn bind_or_tell<L: Link, K: Sink>(

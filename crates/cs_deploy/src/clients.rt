@@ -2,22 +2,21 @@
 ghost use Rattle.std.specs.Prelude.{◌≡◌, ◌≢◌};
 ghost use Rattle.cs_base.specs.Outside.{HasCause};
 ghost use Rattle.cs_base.specs.Answers.{Answers};
-ghost use Rattle.cs_outer.specs.Told.{Stays};
-ghost use Rattle.cs_outer.specs.Outside.{Faultless, Faulty, beside};
-ghost use Rattle.cs_take.specs.Calls.{ClientComes};
-ghost use Rattle.cs_deploy_keys.specs.Untaken.{IsDecided};
+ghost use Rattle.cs_io.specs.Told.{Stays};
+ghost use Rattle.cs_io.specs.Outside.{Faultless, Faulty, beside};
+ghost use Rattle.cs_deploy.specs.Calls.{ClientComes};
+ghost use Rattle.cs_deploy.specs.Untaken.{IsDecided};
 ghost use Rattle.cs_deploy.specs.Client.{ClientGoes, ClientRuns, IsToldOf, TellsEnding, known_answer, known_status, refused_answer};
 
 use crate::binding::bind_or_tell;
 use crate::refusals::refusal_line;
-use cs_attend::{Ending, attend};
+use crate::{Setup, refuse, take_client, tell};
 use cs_base::Sink;
 use cs_client::{ClientCore, Known, known_line};
 use cs_config::CallFile;
-use cs_deploy_keys::{refuse, tell};
-use cs_outer::{Link, Store, Until};
+use cs_io::{Link, Store, Until};
 use cs_proc::ProcError;
-use cs_take::{Setup, take_client};
+use cs_serve::{Ending, attend};
 use std::alloc::Global;
 
 /// Runs the client of a site file, a key file and a call file for so long at most, and answers

@@ -1,13 +1,37 @@
-//! The commands that run one node of a deployment, or one client, by the files that name it.
+//! The commands of a deployment: `node` and `client`, which run one by the files that name it,
+//! `keys`, which saves the key files of a site, and `cluster`, which saves these and runs all
+//! nodes and the calls of a plan. Files are taken in their order; of the first that isn't taken
+//! it is told why.
 #![tactic(auto)]
 
 mod binding;
+mod calls;
+mod cause;
 mod clients;
+mod clusters;
+mod contracts;
+mod genesis;
+mod keys;
+mod keys_command;
+mod limits;
+mod loading;
+mod master;
 mod nodes;
 mod refusals;
-mod speaking;
+mod setups;
+mod sites;
 mod starting;
+mod telling;
 
+pub use calls::take_client;
+pub use cause::{Cause, Untaken, refusal_line};
 pub use clients::run_client;
+pub use clusters::run_cluster;
+pub use keys_command::{run_keys, run_keys_read};
+pub use limits::{MASTER_DIGITS, MOST_MASTER};
+pub use loading::MOST_FILE;
+pub use master::{master_in, master_of};
 pub use nodes::run_node;
-pub use speaking::keys_of_files_speak;
+pub use setups::{Setup, take_node};
+pub use sites::{take_cluster, take_site};
+pub use telling::{refuse, tell};

@@ -1,22 +1,21 @@
 //! The command `node`.
 ghost use Rattle.std.specs.Prelude.{◌≡◌, ◌≢◌, ◌⊎◌, ◌≤◌};
 ghost use Rattle.cs_base.specs.Outside.{HasCause};
-ghost use Rattle.cs_outer.specs.Told.{Stays};
-ghost use Rattle.cs_outer.specs.Outside.{Faultless, Faulty, beside};
-ghost use Rattle.cs_take.specs.Taking.{Comes};
-ghost use Rattle.cs_take.specs.Files.{setup_taken};
-ghost use Rattle.cs_take.specs.declared.keys.Role.TheVariants.{Node};
-ghost use Rattle.cs_take.specs.Setups.{IsSound};
-ghost use Rattle.cs_deploy_keys.specs.Untaken.{IsDecided};
+ghost use Rattle.cs_io.specs.Told.{Stays};
+ghost use Rattle.cs_io.specs.Outside.{Faultless, Faulty, beside};
+ghost use Rattle.cs_deploy.specs.Taking.{FilesCome};
+ghost use Rattle.cs_deploy.specs.Files.{setup_taken};
+ghost use Rattle.cs_deploy.specs.declared.keys.Role.TheVariants.{Node};
+ghost use Rattle.cs_deploy.specs.Setups.{IsSoundSetup};
+ghost use Rattle.cs_deploy.specs.Untaken.{IsDecided};
 ghost use Rattle.cs_deploy.specs.Node.{NodeGoes, NodeRuns, TellsEnd};
 
 use crate::binding::bind_or_tell;
 use crate::starting::start_node;
+use crate::{Setup, refuse, take_node, tell};
 use cs_base::Sink;
-use cs_deploy_keys::{refuse, tell};
-use cs_outer::{Link, Store, Until};
+use cs_io::{Link, Store, Until};
 use cs_serve::{End, serve};
-use cs_take::{Setup, take_node};
 use std::alloc::Global;
 
 /// Runs the node of a site file and a key file for so long, and answers the status that a program
@@ -38,7 +37,7 @@ pub fn run_node<E: Store, L: Link, K: Sink>(
     // Where no fault came about, the files alone decide.
     ensures whole { Faultless E.faults store.old store.new → Faultless L.faults link.old link.new
         → Faultless K.faults out.old out.new
-        → IsDecided (Comes (setup_taken Node site_name.now keys_name.now))
+        → IsDecided (FilesCome (setup_taken Node site_name.now keys_name.now))
         (λ status. status ≡ 0) (E.files store.old) result }
     ensures only { (result ≢ 2) × (result ≢ 5) }
     ensures write_fault { HasCause (K.faults out.old) (K.faults out.new) (result ≡ 6) }
@@ -57,7 +56,7 @@ fn run_setup<L: Link, K: Sink>(
     link: &mut L,
     out: &mut K,
 ) -> u8
-    requires { IsSound Node setup }
+    requires { IsSoundSetup Node setup }
     ensures goes { NodeGoes setup until (Faulty L.faults link.old link.new)
         (beside (L.told link.old) (K.written out.old))
         (beside (L.told link.new) (K.written out.new)) result }

@@ -3,29 +3,29 @@ ghost use Rattle.std.specs.Prelude.{IfOk};
 ghost use Rattle.cs_node_rules.specs.Net.{Net};
 ghost use Rattle.cs_node_rules.specs.Site.{start_view};
 ghost use Rattle.cs_node.specs.Speaking.{Speaks};
-ghost use Rattle.cs_node.specs.Cores.{StandsFor};
-ghost use Rattle.cs_take.specs.declared.keys.Role.TheVariants.{Node};
-ghost use Rattle.cs_take.specs.Setups.{IsSound};
-ghost use Rattle.cs_deploy.specs.Node.{site_in};
+ghost use Rattle.cs_node.specs.Cores.{CoreStandsFor};
+ghost use Rattle.cs_deploy.specs.declared.keys.Role.TheVariants.{Node};
+ghost use Rattle.cs_deploy.specs.Setups.{IsSoundSetup};
+ghost use Rattle.cs_deploy.specs.Node.{site_of_setup};
 
+use crate::Setup;
 use cs_approve::Book;
 use cs_base::Memory;
-use cs_genesis::keyed;
 use cs_log::SlotOrder;
 use cs_node::Core;
+use cs_node_run::start;
 use cs_order::Order;
-use cs_start::start;
-use cs_take::Setup;
+use cs_sbac::keyed;
 use cs_tx::Judge;
 use std::alloc::Global;
 
 // The node of a setup, before its first input.
 pub(crate) fn start_node(alloc: Global, setup: Setup) -> Result<Core<SlotOrder, Book>, Memory>
-    requires { IsSound Node setup }
+    requires { IsSoundSetup Node setup }
     ensures { (net : Net) → Speaks setup.site.config net setup.keys →
-        let site = site_in setup net in
+        let site = site_of_setup setup net in
         IfOk result (λ core.
-        StandsFor ⟦<SlotOrder as Order>⟧.stands ⟦<Book as Judge>⟧.is_approved site core
+        CoreStandsFor ⟦<SlotOrder as Order>⟧.stands ⟦<Book as Judge>⟧.is_approved site core
         (start_view site setup.keys.me)) }
 {
     let Setup { site, book, keys } = setup;

@@ -2,7 +2,7 @@
 use Rattle.std.proofs.Common.{◌≡◌, ℕ, Bool, List, [], ◌∷◌, map, length, get_or, ◌≤◌, ◌<◌, Option, None, refl, sym, ap, ◌∙◌, arith}
 use Rattle.std.specs.Prelude.{option_and_then}
 use Rattle.std.proofs.lemmas.List.{length-map}
-use Rattle.cs_types_kinds.specs.Kinds.{list_of}
+use Rattle.cs_types_kinds.specs.Kinds.{list_kind_of}
 use Rattle.cs_eval_values.specs.Namings.{Named, kind_named}
 use Rattle.cs_eval_values.specs.Operators.{truth}
 use Rattle.cs_eval_values.specs.Views.{is_called, returned_int}
@@ -240,12 +240,12 @@ pub kind_of_name : (scene : Scene) (names : List Named) (e : Expr) (name : List 
 kind_of_name scene names e name is = kind_name (seen_from scene names) e name is
 
 kinds_first : (sight : Sight) (items : List Expr) (first : Expr) → 1 ≤ length items → first ≡ get_or items 0 first
-    → list_kind (map kind_of_meant (map (expr_meant sight) items)) ≡ option_and_then list_of (expr_meant sight first).kind
+    → list_kind (map kind_of_meant (map (expr_meant sight) items)) ≡ option_and_then list_kind_of (expr_meant sight first).kind
 kinds_first sight [] first some is = absurd (omega arith)
-kinds_first sight (x ∷ xs) first some is = ap (λ (y : Expr). option_and_then list_of (expr_meant sight y).kind) (sym is)
+kinds_first sight (x ∷ xs) first some is = ap (λ (y : Expr). option_and_then list_kind_of (expr_meant sight y).kind) (sym is)
 
 pub kind_of_list : (sight : Sight) (e : Expr) (items : List Expr) (first : Expr) → (out-Expr e).shape ≡ shape.List items
-    → 1 ≤ length items → first ≡ get_or items 0 first → (expr_meant sight e).kind ≡ option_and_then list_of (expr_meant sight first).kind
+    → 1 ≤ length items → first ≡ get_or items 0 first → (expr_meant sight e).kind ≡ option_and_then list_kind_of (expr_meant sight first).kind
 kind_of_list sight e items first is some at = kind_list sight e items is ∙ kinds_first sight items first some at
 
 kinds_none : (sight : Sight) (items : List Expr) → length items < 1 → list_kind (map kind_of_meant (map (expr_meant sight) items)) ≡ None

@@ -5,7 +5,7 @@ use Rattle.cs_lang.specs.declared.tree.ContractTree.{ContractTree}
 use Rattle.cs_types_kinds.specs.declared.kind.Kind.{Kind}
 use Rattle.cs_types_kinds.specs.declared.kind.Kind.TheVariants as kind
 use Rattle.cs_types_kinds.specs.Told.{Told}
-use Rattle.cs_types_kinds.specs.Kinds.{list_of}
+use Rattle.cs_types_kinds.specs.Kinds.{list_kind_of}
 use Rattle.cs_types_kinds.specs.Lookups.{field_kind}
 use Rattle.cs_types_kinds.specs.Judging.{comparing_cost}
 
@@ -21,9 +21,9 @@ field_of_kind contract name k = None
 -- the kind of a list, from those of its items
 abbrev pub list_kind : List (Option Kind) → Option Kind
 list_kind [] = None
-list_kind (k ∷ ks) = option_and_then list_of k
+list_kind (k ∷ ks) = option_and_then list_kind_of k
 
 -- what it takes to compare two of a kind
-abbrev pub comparing : Option Kind → ℕ
-comparing None = 1
-comparing (Some k) = comparing_cost k
+abbrev pub cost_of_comparing : Option Kind → ℕ
+cost_of_comparing None = 1
+cost_of_comparing (Some k) = comparing_cost k

@@ -4,3 +4,5 @@ pub mod Stacked
 pub mod Work
 pub mod Room
 pub mod Machine
+pub mod Blocks
+pub mod Places

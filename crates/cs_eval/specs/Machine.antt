@@ -47,9 +47,9 @@ module _ (sight : Sight) where
 -- ---- what calls answer
 
 -- so much was spent, and the rest is what is done next
-abbrev pub Moves : Sight → Result Next Stop → ℕ → Run Datum → List Frame → Type 0
-Moves sight (Ok n) units run fs = run ≡ spend units (continued sight n fs)
-Moves sight (Err e) units run fs = Stops e units run
+abbrev pub MachineMoves : Sight → Result Next Stop → ℕ → Run Datum → List Frame → Type 0
+MachineMoves sight (Ok n) units run fs = run ≡ spend units (continued sight n fs)
+MachineMoves sight (Err e) units run fs = Stops e units run
 
 -- the value, with nothing left to do
 abbrev pub Evaluates : Result Datum Stop → ℕ → Run Datum → List Frame → Type 0

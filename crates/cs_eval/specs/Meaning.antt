@@ -14,7 +14,7 @@ use Rattle.cs_tx_value.specs.declared.value.Value.{Value}
 use Rattle.cs_tx_value.specs.declared.value.Value.TheVariants as value
 use Rattle.cs_types_kinds.specs.declared.expressions.TheConstants.{HASH_COST}
 use Rattle.cs_types_kinds.specs.declared.kind.Kind.{Kind}
-use Rattle.cs_types_kinds.specs.Kinds.{int as int_kind, bool as bool_kind, bytes as bytes_kind, item_of as item_kind, kind_of}
+use Rattle.cs_types_kinds.specs.Kinds.{int_kind as int_kind, bool as bool_kind, bytes_kind as bytes_kind, item_kind as item_kind, spelled_kind}
 use Rattle.cs_types_kinds.specs.Judging.{kind_of_rank}
 use Rattle.cs_eval_values.specs.declared.stop.Cause.TheVariants as cause
 use Rattle.cs_eval_values.specs.declared.operators.Unary.{Unary}
@@ -24,10 +24,10 @@ use Rattle.cs_eval_values.specs.declared.operators.Binary.TheVariants as two
 use Rattle.cs_eval_values.specs.declared.view.View.{View}
 use Rattle.cs_eval_values.specs.Runs.{Run, gives, spend, ◌>>=◌, through, or_trap}
 use Rattle.cs_eval_values.specs.Datums.{Datum, Plain}
-use Rattle.cs_eval_values.specs.Operators.{int, truth, text, unary, binary, decides, list_of, with_item, number}
+use Rattle.cs_eval_values.specs.Operators.{int, truth, text, unary, binary, left_decides, list_of, with_item, int_number}
 use Rattle.cs_eval_values.specs.Views.{field_of, is_called, returned_int}
 use Rattle.cs_eval_values.specs.Namings.{Named, datum_named, kind_named}
-use Rattle.cs_eval.specs.Kinds.{field_of_kind, list_kind, comparing}
+use Rattle.cs_eval.specs.Kinds.{field_of_kind, list_kind, cost_of_comparing}
 
 -- where an expression stands: the contract, what is looked at, and the names in sight
 pub record Sight : Type 0 where
@@ -89,7 +89,7 @@ items_run place items parts = through (item_run place) items parts >>= λ all. l
 -- an operator behind what stands left of it
 abbrev pub link_run : Datum → Linking → Run Datum
 link_run left l =
-    if decides l.operator left then gives left else of_right (two.Linked l.operator) l.place left (run_of l.right)
+    if left_decides l.operator left then gives left else of_right (two.Linked l.operator) l.place left (run_of l.right)
 
 abbrev pub links_run : List Linking → Datum → Run Datum
 links_run links left = through link_run left links
@@ -138,13 +138,13 @@ expr_means sight e = e.shape e.place
 -- hashing, joining and comparing bytes count 16 more; the operators of a chain and the steps of a
 -- path are nodes of their own
 abbrev pub shape_means : Sight → Shape-F (ℕ → Stepping) (ℕ → Meant) Meant Linking Stepping → ℕ → Meant
-shape_means sight (Shape-F.Number n) place = meant (Some int_kind) 1 (number n place)
+shape_means sight (Shape-F.Number n) place = meant (Some int_kind) 1 (int_number n place)
 shape_means sight (Shape-F.Bytes bytes) place = meant (Some bytes_kind) 1 (gives (text bytes))
 shape_means sight (Shape-F.Truth b) place = meant (Some bool_kind) 1 (gives (truth b))
 shape_means sight (Shape-F.Name name) place = meant (kind_named name sight.names) 1 (named_run sight.names name place)
 shape_means sight (Shape-F.List items) place =
     meant (list_kind (map kind_of_meant items)) 1 (items_run place [] (map run_of items))
-shape_means sight (Shape-F.Empty k) place = meant (kind_of k) 1 (gives (Plain (value.List [])))
+shape_means sight (Shape-F.Empty k) place = meant (spelled_kind k) 1 (gives (Plain (value.List [])))
 shape_means sight (Shape-F.Len part) place = meant (Some int_kind) 1 (of_one one.Len place (run_of part))
 shape_means sight (Shape-F.Sha256 part) place = meant (Some bytes_kind) HASH_COST (of_one one.Sha256 place (run_of part))
 shape_means sight (Shape-F.Concat front back) place =
@@ -157,7 +157,7 @@ shape_means sight (Shape-F.Path start steps) place =
 shape_means sight (Shape-F.Not part) place = meant (Some bool_kind) 1 (of_one one.Not place (run_of part))
 shape_means sight (Shape-F.Negative part) place = meant (Some int_kind) 1 (of_one one.Negative place (run_of part))
 shape_means sight (Shape-F.Compared c left right) place =
-    meant (Some bool_kind) (comparing left.kind) (of_two (two.Compared c) place (run_of left) (run_of right))
+    meant (Some bool_kind) (cost_of_comparing left.kind) (of_two (two.Compared c) place (run_of left) (run_of right))
 shape_means sight (Shape-F.Chain rank start links) place =
     meant (Some (kind_of_rank rank)) (length links) (chain_run (run_of start) links)
 

@@ -1,6 +1,6 @@
 -- How many places the frames of an expression fill at most.
 use Rattle.std.specs.Prelude.{ℕ, ◌+◌, ◌≤◌, max, List, [], ◌∷◌, map, length}
-use Rattle.cs_places.specs.Places.{in_turn, places, places_of_link, places_of_step}
+use Rattle.cs_eval.specs.Places.{in_turn, places, places_of_link, places_of_step}
 use Rattle.cs_eval.specs.declared.frame.Frame.{Frame}
 use Rattle.cs_eval.specs.declared.frame.Frame.TheVariants as frame
 use Rattle.cs_eval.specs.declared.frame.Next.{Next}

@@ -1,17 +1,17 @@
 //! Evaluating expressions. Nothing goes down a tree by calls of functions: what is left to do
 //! stands on a stack.
 ghost use Rattle.std.specs.Prelude.{◌≡◌, ◌+◌, ◌-◌, ◌<◌, ◌≤◌, ◌∷◌, [], List, map, max, Ok, IfOk};
-ghost use Rattle.cs_eval_values.specs.Answers.{Ends};
+ghost use Rattle.cs_eval_values.specs.Answers.{RunEnds};
 ghost use Rattle.cs_tx_value.specs.declared.value.Value.TheVariants as value;
 ghost use Rattle.cs_eval_values.specs.Datums.{Plain};
 ghost use Rattle.cs_eval_values.specs.Runs.{gives};
 ghost use Rattle.cs_eval_values.specs.Operators.{with_item as item_added};
 ghost use Rattle.cs_eval_values.specs.Namings.{Named};
 ghost use Rattle.cs_eval.specs.Meaning.{Sight, named_run, of_one, of_right, of_two, items_run, link_run, links_run, steps_run, chain_run, path_run, expr_meant, link_meant, step_meant, meaning};
-ghost use Rattle.cs_places.specs.Places.{in_turn, in_front, places, places_of_link, places_of_step};
+ghost use Rattle.cs_eval.specs.Places.{in_turn, in_front, places, places_of_link, places_of_step};
 ghost use Rattle.cs_eval.specs.Work.{all_work, work, work_of_link, work_of_step, frame_work, frames_work, left_work};
 ghost use Rattle.cs_eval.specs.Room.{frame_places, HasRoomFor, HasRoom};
-ghost use Rattle.cs_eval.specs.Machine.{seen_from, resumed, then_resumed, items_resumed, Moves, Evaluates};
+ghost use Rattle.cs_eval.specs.Machine.{seen_from, resumed, then_resumed, items_resumed, MachineMoves, Evaluates};
 
 use crate::frame::{Frame, Next};
 use crate::kinds::{comparing, kind_given};
@@ -29,7 +29,7 @@ use std::sync::ledger::Ledger;
 
 /// The value of a name.
 fn name<'a>(names: &Names<'a>, name: &[u8], place: usize) -> Result<Held<'a>, Stop>
-    ensures { Ends result (named_run names.now name.now place) }
+    ensures { RunEnds result (named_run names.now name.now place) }
 {
     match names.find(name)? {
         Some(held) => Ok(held),
@@ -39,7 +39,7 @@ fn name<'a>(names: &Names<'a>, name: &[u8], place: usize) -> Result<Held<'a>, St
 
 /// The empty list.
 fn empty_list<'a>(scene: &Scene<'_, 'a>) -> Result<Held<'a>, Stop>
-    ensures { Ends result (gives (Plain (value.List []))) }
+    ensures { RunEnds result (gives (Plain (value.List []))) }
 {
     let empty = Value::List(Sequence::new(scene.alloc));
     Ok(Held::own(scene.alloc, empty)?)
@@ -54,7 +54,7 @@ fn open_one<'a>(
     place: usize,
 ) -> Next<'a>
     requires { HasRoomFor (places part.now + 1) frames.old }
-    ensures moves { (sight : Sight) → Moves sight (Ok result) 0
+    ensures moves { (sight : Sight) → MachineMoves sight (Ok result) 0
         (then_resumed sight frames.old.items
         (of_one operation place (meaning sight part.now))) frames.new.items }
     ensures smaller { left_work result frames.new.items
@@ -76,7 +76,7 @@ fn open_two<'a>(
     place: usize,
 ) -> Next<'a>
     requires { HasRoomFor (max (places left.now) (places right.now) + 1) frames.old }
-    ensures moves { (sight : Sight) → Moves sight (Ok result) 0
+    ensures moves { (sight : Sight) → MachineMoves sight (Ok result) 0
         (then_resumed sight frames.old.items
         (of_two operation place (meaning sight left.now) (meaning sight right.now)))
         frames.new.items }
@@ -98,7 +98,7 @@ fn open_right<'a>(
     place: usize,
 ) -> Next<'a>
     requires { HasRoomFor (places right.now + 1) frames.old }
-    ensures moves { (sight : Sight) → Moves sight (Ok result) 0
+    ensures moves { (sight : Sight) → MachineMoves sight (Ok result) 0
         (then_resumed sight frames.old.items
         (of_right operation place left.entry (meaning sight right.now))) frames.new.items }
     ensures smaller { left_work result frames.new.items
@@ -111,11 +111,11 @@ fn open_right<'a>(
 }
 
 /// The leftmost operand of operators is evaluated first.
-#[tactic(auto, using(crate::proofs::Turns::then_first, crate::proofs::Turns::chain_none, cs_places::proofs::Layers::chain_front))]
+#[tactic(auto, using(crate::proofs::Turns::then_first, crate::proofs::Turns::chain_none, crate::proofs::PlacesLayers::chain_front))]
 fn open_chain<'a>(frames: &mut Stack<Frame<'a>>, start: &'a Expr, links: &'a [Link]) -> Next<'a>
     requires { HasRoomFor
         (in_front (places start.now) (map places_of_link links.now)) frames.old }
-    ensures moves { (sight : Sight) → Moves sight (Ok result) 0
+    ensures moves { (sight : Sight) → MachineMoves sight (Ok result) 0
         (then_resumed sight frames.old.items
         (chain_run (meaning sight start.now) (map (link_meant sight) links.now))) frames.new.items }
     ensures smaller { left_work result frames.new.items
@@ -133,11 +133,11 @@ fn open_chain<'a>(frames: &mut Stack<Frame<'a>>, start: &'a Expr, links: &'a [Li
 }
 
 /// What steps lead into is evaluated first.
-#[tactic(auto, using(crate::proofs::Turns::then_first, crate::proofs::Turns::path_none, cs_places::proofs::Layers::path_front))]
+#[tactic(auto, using(crate::proofs::Turns::then_first, crate::proofs::Turns::path_none, crate::proofs::PlacesLayers::path_front))]
 fn open_path<'a>(frames: &mut Stack<Frame<'a>>, start: &'a Expr, steps: &'a [Step]) -> Next<'a>
     requires { HasRoomFor
         (in_front (places start.now) (map places_of_step steps.now)) frames.old }
-    ensures moves { (sight : Sight) → Moves sight (Ok result) 0
+    ensures moves { (sight : Sight) → MachineMoves sight (Ok result) 0
         (then_resumed sight frames.old.items
         (path_run (meaning sight start.now) (map (step_meant sight) steps.now))) frames.new.items }
     ensures smaller { left_work result frames.new.items
@@ -164,7 +164,7 @@ fn on_items<'a>(
     place: usize,
 ) -> Result<Next<'a>, Stop>
     requires { HasRoomFor (in_turn (map places items.now)) frames.old }
-    ensures moves { (sight : Sight) → Moves sight result 0
+    ensures moves { (sight : Sight) → MachineMoves sight result 0
         (then_resumed sight frames.old.items
         (items_run place values (map (meaning sight) items.now))) frames.new.items }
     ensures smaller { IfOk result (λ n. left_work n frames.new.items
@@ -182,7 +182,7 @@ fn on_items<'a>(
 }
 
 /// Begins an expression, of which the own units are spent.
-#[tactic(auto, using(crate::proofs::Layers::bodies, crate::proofs::WorkLayers::works, cs_places::proofs::Layers::shapes))]
+#[tactic(auto, using(crate::proofs::Layers::bodies, crate::proofs::WorkLayers::works, crate::proofs::PlacesLayers::shapes))]
 fn open<'a>(
     scene: &Scene<'_, 'a>,
     names: &Names<'a>,
@@ -190,7 +190,7 @@ fn open<'a>(
     expr: &'a Expr,
 ) -> Result<Next<'a>, Stop>
     requires { HasRoomFor (places expr.now) frames.old }
-    ensures moves { let sight = seen_from scene.now names.now in Moves sight result 0
+    ensures moves { let sight = seen_from scene.now names.now in MachineMoves sight result 0
         (then_resumed sight frames.old.items
         ((expr_meant sight expr.now).body)) frames.new.items }
     ensures smaller { IfOk result (λ n. left_work n frames.new.items
@@ -269,7 +269,7 @@ fn begin<'a, L: Ledger>(
 ) -> Result<Next<'a>, Stop>
     requires { HasRoomFor (places expr.now) frames.old }
     ensures moves { let sight = seen_from scene.now names.now in
-        Moves sight result (steps.new - steps.old)
+        MachineMoves sight result (steps.new - steps.old)
         (then_resumed sight frames.old.items (meaning sight expr.now)) frames.new.items }
     ensures smaller { IfOk result (λ n. left_work n frames.new.items
         < work expr.now + frames_work frames.old.items) }
@@ -282,14 +282,14 @@ fn begin<'a, L: Ledger>(
 }
 
 /// On with an operator behind what stands left of it.
-#[tactic(auto, using(crate::proofs::Turns::linking, crate::proofs::WorkLayers::link_left, cs_places::proofs::Layers::link_is))]
+#[tactic(auto, using(crate::proofs::Turns::linking, crate::proofs::WorkLayers::link_left, crate::proofs::PlacesLayers::link_is))]
 fn on_link<'a>(
     frames: &mut Stack<Frame<'a>>,
     link: &'a Link,
     left: Held<'a>,
 ) -> Result<Next<'a>, Stop>
     requires { HasRoomFor (places_of_link link.now) frames.old }
-    ensures moves { (sight : Sight) → Moves sight result 0
+    ensures moves { (sight : Sight) → MachineMoves sight result 0
         (then_resumed sight frames.old.items
         (link_run left.entry (link_meant sight link.now))) frames.new.items }
     ensures smaller { IfOk result (λ n. left_work n frames.new.items
@@ -312,7 +312,7 @@ fn on_chain<'a>(
     left: Held<'a>,
 ) -> Result<Next<'a>, Stop>
     requires { HasRoomFor (in_turn (map places_of_link links.now)) frames.old }
-    ensures moves { (sight : Sight) → Moves sight result 0
+    ensures moves { (sight : Sight) → MachineMoves sight result 0
         (then_resumed sight frames.old.items
         (links_run (map (link_meant sight) links.now) left.entry)) frames.new.items }
     ensures smaller { IfOk result (λ n. left_work n frames.new.items
@@ -330,7 +330,7 @@ fn on_chain<'a>(
 }
 
 /// On with a step into something.
-#[tactic(auto, using(crate::proofs::Layers::stepping, crate::proofs::WorkLayers::step_left, cs_places::proofs::Layers::steps))]
+#[tactic(auto, using(crate::proofs::Layers::stepping, crate::proofs::WorkLayers::step_left, crate::proofs::PlacesLayers::steps))]
 fn on_step<'a>(
     scene: &Scene<'_, 'a>,
     frames: &mut Stack<Frame<'a>>,
@@ -339,7 +339,7 @@ fn on_step<'a>(
 ) -> Result<Next<'a>, Stop>
     requires { HasRoomFor (places_of_step step.now) frames.old }
     ensures moves { (names : List Named) → let sight = seen_from scene.now names in
-        Moves sight result 0
+        MachineMoves sight result 0
         (then_resumed sight frames.old.items
         ((step_meant sight step.now).run held.entry)) frames.new.items }
     ensures smaller { IfOk result (λ n. left_work n frames.new.items
@@ -367,7 +367,7 @@ fn on_path<'a>(
 ) -> Result<Next<'a>, Stop>
     requires { HasRoomFor (in_turn (map places_of_step steps.now)) frames.old }
     ensures moves { (names : List Named) → let sight = seen_from scene.now names in
-        Moves sight result 0
+        MachineMoves sight result 0
         (then_resumed sight frames.old.items
         (steps_run (map (step_meant sight) steps.now) held.entry)) frames.new.items }
     ensures smaller { IfOk result (λ n. left_work n frames.new.items
@@ -395,7 +395,7 @@ fn on_item<'a>(
     place: usize,
 ) -> Result<Next<'a>, Stop>
     requires { HasRoomFor (in_turn (map places rest.now)) frames.old }
-    ensures moves { (sight : Sight) → Moves sight result 0
+    ensures moves { (sight : Sight) → MachineMoves sight result 0
         (items_resumed sight frames.old.items place (map (meaning sight) rest.now)
         (item_added place items item.entry)) frames.new.items }
     ensures smaller { IfOk result (λ n. left_work n frames.new.items
@@ -416,7 +416,7 @@ fn resume<'a>(
 ) -> Result<Next<'a>, Stop>
     requires { HasRoomFor (frame_places frame) frames.old }
     ensures moves { (names : List Named) → let sight = seen_from scene.now names in
-        Moves sight result 0
+        MachineMoves sight result 0
         (resumed sight (frame.entry ∷ frames.old.items) held.entry) frames.new.items }
     ensures smaller { IfOk result (λ n. left_work n frames.new.items
         < frame_work frame.entry + frames_work frames.old.items) }

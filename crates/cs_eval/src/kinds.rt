@@ -1,9 +1,9 @@
 //! The kind of an expression, from the kinds of names: what is looked at is only what is evaluated
 //! first, so it takes no longer than that.
 ghost use Rattle.std.specs.Prelude.{◌≡◌, List, map, option_and_then};
-ghost use Rattle.cs_types_kinds.specs.Kinds.{list_of};
+ghost use Rattle.cs_types_kinds.specs.Kinds.{list_kind_of};
 ghost use Rattle.cs_types_kinds.specs.Judging.{kind_of_rank};
-ghost use Rattle.cs_eval.specs.Kinds.{comparing};
+ghost use Rattle.cs_eval.specs.Kinds.{cost_of_comparing};
 ghost use Rattle.cs_eval.specs.Meaning.{kind_given as kind_meant, step_kind as kind_stepped, steps_kind as kinds_stepped, step_meant};
 ghost use Rattle.cs_eval.specs.Machine.{seen_from};
 ghost use Rattle.cs_eval_values.specs.Namings.{Named};
@@ -15,7 +15,7 @@ use cs_types_kinds::{BOOL, BYTES, INT, Kind, comparing_cost, field_kind, kind_of
 
 /// What it takes to compare two of a kind.
 pub fn comparing(kind: Option<Kind>) -> u64
-    ensures { result ≡ comparing kind }
+    ensures { result ≡ cost_of_comparing kind }
 {
     match kind {
         Some(kind) => comparing_cost(kind),
@@ -64,7 +64,7 @@ fn steps_kind(scene: &Scene<'_, '_>, start: Option<Kind>, steps: &[Step]) -> Opt
 
 /// The kind of a list whose first item has the kind.
 fn listed(first: Option<Kind>) -> Option<Kind>
-    ensures { result ≡ option_and_then list_of first }
+    ensures { result ≡ option_and_then list_kind_of first }
 {
     first?.list_of()
 }

@@ -10,7 +10,7 @@ use Rattle.cs_lang.specs.declared.tree.Expr.{Expr}
 use Rattle.cs_lang.specs.declared.tree.Block.{Block, out-Block}
 use Rattle.cs_lang.specs.declared.tree.Statement.{Statement, out-Statement}
 use Rattle.cs_types_kinds.specs.declared.kind.Kind.{Kind}
-use Rattle.cs_types_kinds.specs.Kinds.{int as int_kind, item_of as item_kind}
+use Rattle.cs_types_kinds.specs.Kinds.{int_kind as int_kind, item_kind as item_kind}
 use Rattle.cs_eval_values.specs.declared.stop.Stop.{Stop}
 use Rattle.cs_eval_values.specs.declared.stop.Stop.TheVariants as stop
 use Rattle.cs_eval_values.specs.declared.stop.Cause.TheVariants as cause
@@ -19,7 +19,7 @@ use Rattle.cs_eval_values.specs.Answers.{Stops}
 use Rattle.cs_eval_values.specs.Runs.{Run, Gave, Answered, Trapped, gives, answers, spend, ◌>>=◌, through, or_trap}
 use Rattle.cs_tx_value.specs.declared.value.Value.{Value, out-Value}
 use Rattle.cs_tx_value.specs.declared.value.Value.TheOpen.{Value-F}
-use Rattle.cs_eval_values.specs.Datums.{Datum, Plain, One, Many, item_in, values_in, plain_each, items_of, item_of, bool_of}
+use Rattle.cs_eval_values.specs.Datums.{Datum, Plain, One, Many, item_in, values_in, plain_each, items_of, item_of_datum, bool_of}
 use Rattle.cs_eval_values.specs.Operators.{int, given_bool}
 use Rattle.cs_eval_values.proofs.Items.{plain_at, object_at}
 use Rattle.cs_eval_values.specs.Namings.{Named, named, with_named, with_datum}
@@ -33,7 +33,7 @@ use Rattle.cs_eval_check.specs.declared.task.Task.{Task}
 use Rattle.cs_eval_check.specs.declared.task.Task.TheVariants as task
 use Rattle.cs_eval_check.specs.declared.running.Running.{Running}
 use Rattle.cs_eval_law.specs.Acting.{numbers, value_run, value_kind, let_run, set_run, condition, if_run, answer_run, turn_run, turns_run, for_in_run, for_to_run, one_run, all_run, block_run, statement_run, action_run}
-use Rattle.cs_eval_check.specs.Tasks.{left_of, left_in, first_of, loop_run, finished, other_run, choice_run, left_to, then_left, Acts}
+use Rattle.cs_eval_check.specs.Tasks.{left_of, left_in, first_datum, loop_run, finished, other_run, choice_run, left_to, then_left, TasksAct}
 use Rattle.cs_eval.specs.Work.{all_work}
 use Rattle.cs_eval_check.specs.TaskWork.{turns_work, most_turns, loop_work, tasks_work, work_of_block, work_of_statement, work_of_action}
 use Rattle.cs_eval_check.proofs.Actions.{statement_is, block_is}
@@ -53,11 +53,11 @@ gives_more r x n g f is =
 -- ---- what calls answer
 
 module _ (scene : Scene) where
-  pub acts_is : (answer : Result Unit Stop) (n : ℕ) (r s : Run (List Named)) (after : Running) → r ≡ s → Acts scene answer n s after → Acts scene answer n r after
-  acts_is answer n r s after is h = let P : Run (List Named) → Type 0 = λ x. Acts scene answer n x after in subst P (sym is) h
+  pub acts_is : (answer : Result Unit Stop) (n : ℕ) (r s : Run (List Named)) (after : Running) → r ≡ s → TasksAct scene answer n s after → TasksAct scene answer n r after
+  acts_is answer n r s after is h = let P : Run (List Named) → Type 0 = λ x. TasksAct scene answer n x after in subst P (sym is) h
 
   -- so much is spent before
-  pub acts_spent : (answer : Result Unit Stop) (k m n : ℕ) (r s : Run (List Named)) (after : Running) → n ≡ k + m → r ≡ spend k s → Acts scene answer m s after → Acts scene answer n r after
+  pub acts_spent : (answer : Result Unit Stop) (k m n : ℕ) (r s : Run (List Named)) (after : Running) → n ≡ k + m → r ≡ spend k s → TasksAct scene answer m s after → TasksAct scene answer n r after
   acts_spent (Ok done) k m n r s after more is h = (
     is ∙ ap (spend k) h.0 ∙ spend_spend k m (left_to scene after.tasks.items after.names)
         ∙ ap (λ (j : ℕ). spend j (left_to scene after.tasks.items after.names)) (sym more),
@@ -227,11 +227,11 @@ opened_front {A} (y ∷ ys) x some is =
 some_is : (x d : Datum) → Some x ≡ Some d → x ≡ d
 some_is x d is = ap (λ (o : Option Datum). unwrap_or o x) is
 
-head_next : (ds : List Datum) (d : Datum) → first_of ds ≡ Some d → ds ≡ d ∷ drop 1 ds
+head_next : (ds : List Datum) (d : Datum) → first_datum ds ≡ Some d → ds ≡ d ∷ drop 1 ds
 head_next [] d is = absurd cc
 head_next (x ∷ xs) d is = ap (λ (e : Datum). e ∷ xs) (some_is x d is)
 
-head_none : (ds : List Datum) → first_of ds ≡ None → ds ≡ []
+head_none : (ds : List Datum) → first_datum ds ≡ None → ds ≡ []
 head_none [] is = refl
 head_none (x ∷ xs) is = absurd cc
 
@@ -243,7 +243,7 @@ drop_more zero ds = refl
 drop_more (suc at) [] = let e : suc (at + 1) ≡ suc at + 1 = omega arith in ap (λ (n : ℕ). drop n no_data) e
 drop_more (suc at) (x ∷ xs) = let e : suc (at + 1) ≡ suc at + 1 = omega arith in drop_more at xs ∙ ap (λ (n : ℕ). drop n (x ∷ xs)) e
 
-numbers_next : (n from : ℕ) (d : Datum) → first_of (numbers n from) ≡ Some d → drop 1 (numbers n from) ≡ numbers (n - 1) (from + 1)
+numbers_next : (n from : ℕ) (d : Datum) → first_datum (numbers n from) ≡ Some d → drop 1 (numbers n from) ≡ numbers (n - 1) (from + 1)
 numbers_next zero from d is = absurd cc
 numbers_next (suc n) from d is = let e : n ≡ suc n - 1 = omega arith in ap (λ (k : ℕ). numbers k (from + 1)) e
 
@@ -251,28 +251,28 @@ behind_items : (o : Option (List Datum)) (at : ℕ) → drop 1 (left_of at o) �
 behind_items None at = refl
 behind_items (Some items) at = drop_more at (take MOST_ITEMS items)
 
-behind : (s : Source) (at : ℕ) (d : Datum) → first_of (left_in s at) ≡ Some d → drop 1 (left_in s at) ≡ left_in s (at + 1)
+behind : (s : Source) (at : ℕ) (d : Datum) → first_datum (left_in s at) ≡ Some d → drop 1 (left_in s at) ≡ left_in s (at + 1)
 behind (source.Numbers end) at d is =
     numbers_next (end - at) at d is ∙ ap (λ (n : ℕ). numbers n (at + 1)) (omega arith)
 behind (source.Items list) at d is = behind_items (items_of list) at
 
 -- one more, and those behind it
-pub one_more : (s : Source) (at : ℕ) (d : Datum) → Some d ≡ first_of (left_in s at) → left_in s at ≡ d ∷ left_in s (at + 1)
+pub one_more : (s : Source) (at : ℕ) (d : Datum) → Some d ≡ first_datum (left_in s at) → left_in s at ≡ d ∷ left_in s (at + 1)
 one_more s at d is =
     head_next (left_in s at) d (sym is) ∙ ap (λ (ds : List Datum). d ∷ ds) (behind s at d (sym is))
 
-pub no_more : (s : Source) (at : ℕ) → None ≡ first_of (left_in s at) → left_in s at ≡ []
+pub no_more : (s : Source) (at : ℕ) → None ≡ first_datum (left_in s at) → left_in s at ≡ []
 no_more s at is = head_none (left_in s at) (sym is)
 
 -- the first of what is left is the one at the place
-first_left : (xs : List Datum) (at most : ℕ) → at < most → first_of (drop at (take most xs)) ≡ slice_get xs at
+first_left : (xs : List Datum) (at most : ℕ) → at < most → first_datum (drop at (take most xs)) ≡ slice_get xs at
 first_left xs at zero lt = absurd (omega arith)
 first_left [] zero (suc most) lt = refl
 first_left [] (suc at) (suc most) lt = refl
 first_left (x ∷ xs) zero (suc most) lt = refl
 first_left (x ∷ xs) (suc at) (suc most) lt = first_left xs at most (omega arith)
 
-past_left : (xs : List Datum) (at most : ℕ) → most ≤ at → first_of (drop at (take most xs)) ≡ None
+past_left : (xs : List Datum) (at most : ℕ) → most ≤ at → first_datum (drop at (take most xs)) ≡ None
 past_left xs zero zero le = refl
 past_left xs (suc at) zero le = refl
 past_left [] zero (suc most) le = refl
@@ -280,41 +280,41 @@ past_left [] (suc at) (suc most) le = refl
 past_left (x ∷ xs) zero (suc most) le = absurd (omega arith)
 past_left (x ∷ xs) (suc at) (suc most) le = past_left xs at most (omega arith)
 
-layer_item : (v : Value-F Value) (at : ℕ) → at < MOST_ITEMS → first_of (left_of at (plain_each (values_in v))) ≡ item_in v at
+layer_item : (v : Value-F Value) (at : ℕ) → at < MOST_ITEMS → first_datum (left_of at (plain_each (values_in v))) ≡ item_in v at
 layer_item (Value-F.Int n) at lt = refl
 layer_item (Value-F.Bool b) at lt = refl
 layer_item (Value-F.Bytes bytes) at lt = refl
 layer_item (Value-F.List vs) at lt = first_left (map (λ v. Plain v) vs) at MOST_ITEMS lt ∙ plain_at vs at
 
 -- the item at a place is the first of those that are left there
-pub item_left : (d : Datum) (at : ℕ) → at < MOST_ITEMS → item_of d at ≡ first_of (left_of at (items_of d))
+pub item_left : (d : Datum) (at : ℕ) → at < MOST_ITEMS → item_of_datum d at ≡ first_datum (left_of at (items_of d))
 item_left (Plain v) at lt = sym (layer_item (out-Value v) at lt)
 item_left (One o) at lt = refl
 item_left (Many os) at lt = sym (first_left (map (λ o. One o) os) at MOST_ITEMS lt ∙ object_at os at)
 
-none_past : (o : Option (List Datum)) (at : ℕ) → MOST_ITEMS ≤ at → None ≡ first_of (left_of at o)
+none_past : (o : Option (List Datum)) (at : ℕ) → MOST_ITEMS ≤ at → None ≡ first_datum (left_of at o)
 none_past None at le = refl
 none_past (Some items) at le = sym (past_left items at MOST_ITEMS le)
 
-pub no_item : (d : Datum) (at : ℕ) → MOST_ITEMS ≤ at → None ≡ first_of (left_of at (items_of d))
+pub no_item : (d : Datum) (at : ℕ) → MOST_ITEMS ≤ at → None ≡ first_datum (left_of at (items_of d))
 no_item d at le = none_past (items_of d) at le
 
-first_number : (n from : ℕ) → 0 < n → Some (int (pos from)) ≡ first_of (numbers n from)
+first_number : (n from : ℕ) → 0 < n → Some (int (pos from)) ≡ first_datum (numbers n from)
 first_number zero from lt = absurd (omega arith)
 first_number (suc n) from lt = refl
 
 -- the number at a place
-pub number_left : (end at : ℕ) → at < end → Some (int (pos at)) ≡ first_of (numbers (end - at) at)
+pub number_left : (end at : ℕ) → at < end → Some (int (pos at)) ≡ first_datum (numbers (end - at) at)
 number_left end at lt = first_number (end - at) at (omega arith)
 
-pub no_number : (end at : ℕ) → end ≤ at → None ≡ first_of (numbers (end - at) at)
-no_number end at le = let e : 0 ≡ end - at = omega arith in ap (λ (n : ℕ). first_of (numbers n at)) e
+pub no_number : (end at : ℕ) → end ≤ at → None ≡ first_datum (numbers (end - at) at)
+no_number end at le = let e : 0 ≡ end - at = omega arith in ap (λ (n : ℕ). first_datum (numbers n at)) e
 
 -- ---- turns
 
 module _ (contract : ContractTree) (view : View) where
   -- a loop that is over
-  pub loop_over : (l : Loop) (names : List Named) (ts : List Task) → None ≡ first_of (left_in l.source l.at)
+  pub loop_over : (l : Loop) (names : List Named) (ts : List Task) → None ≡ first_datum (left_in l.source l.at)
       → finished contract view (task.Loop l ∷ ts) names ≡ spend 0 (finished contract view ts names)
   loop_over l names ts is =
       ap (λ (ds : List Datum). turns_run contract view l.name.now l.kind (block_run contract view l.each.now) ds names >>= finished contract view ts) (no_more l.source l.at is)
@@ -328,7 +328,7 @@ module _ (contract : ContractTree) (view : View) where
 
   -- a turn with what comes next
   pub loop_turn : (l next : Loop) (ss : Bor (List Statement)) (d : Datum) (names : List Named) (ts : List Task)
-      → Some d ≡ first_of (left_in l.source l.at) → next ≡ record l { at = l.at + 1 } → ss.now ≡ (out-Block l.each.now).statements
+      → Some d ≡ first_datum (left_in l.source l.at) → next ≡ record l { at = l.at + 1 } → ss.now ≡ (out-Block l.each.now).statements
       → finished contract view (task.Loop l ∷ ts) names
       ≡ spend 1 (finished contract view (task.Statements ss ∷ task.Leave (length names) ∷ task.Loop next ∷ ts) (with_named names l.name.now l.kind d))
   loop_turn l next ss d names ts is behind_it opened =
@@ -440,7 +440,7 @@ module _ (scene : Scene) where
   -- a block is done next
   pub block_acts : (done : Unit) (b : Block) (ss : Bor (List Statement)) (n : ℕ) (before after : Running) → before.frames.items ≡ [] → ss.now ≡ (out-Block b).statements → n ≡ length before.names
       → after.tasks.items ≡ task.Statements ss ∷ task.Leave n ∷ before.tasks.items → after.names ≡ before.names → after.frames.items ≡ before.frames.items
-      → Acts scene (Ok done) 0 (then_left scene before.tasks.items (block_run scene.contract.now scene.view.now b before.names)) after
+      → TasksAct scene (Ok done) 0 (then_left scene before.tasks.items (block_run scene.contract.now scene.view.now b before.names)) after
   block_acts done b ss n before after idle opened count tasks names frames = (
     entered scene.contract.now scene.view.now b ss before.names before.tasks.items opened
         ∙ ap (λ (i : ℕ). finished scene.contract.now scene.view.now (task.Statements ss ∷ task.Leave i ∷ before.tasks.items) before.names) (sym count)
@@ -453,8 +453,8 @@ module _ (scene : Scene) where
   -- one of two blocks is done next
   pub one_chosen : (answer : Result Unit Stop) (e : Expr) (b : Block) (other : Option (Bor Block)) (place n : ℕ) (before mid after : Running)
       → condition scene.contract.now scene.view.now e place before.names ≡ Gave true n → mid.names ≡ before.names → mid.tasks.items ≡ before.tasks.items
-      → Acts scene answer 0 (then_left scene mid.tasks.items (block_run scene.contract.now scene.view.now b mid.names)) after
-      → Acts scene answer n (then_left scene before.tasks.items (choice_run scene.contract.now scene.view.now e b other place before.names)) after
+      → TasksAct scene answer 0 (then_left scene mid.tasks.items (block_run scene.contract.now scene.view.now b mid.names)) after
+      → TasksAct scene answer n (then_left scene before.tasks.items (choice_run scene.contract.now scene.view.now e b other place before.names)) after
   one_chosen answer e b other place n before mid after holds names tasks h =
       acts_spent scene answer n 0 n _ (then_left scene mid.tasks.items (block_run scene.contract.now scene.view.now b mid.names)) after (omega arith)
       (choice_one scene.contract.now scene.view.now e b other place before.names before.tasks.items n holds
@@ -463,8 +463,8 @@ module _ (scene : Scene) where
 
   pub other_chosen : (answer : Result Unit Stop) (e : Expr) (b : Block) (o : Bor Block) (other : Option (Bor Block)) (place n : ℕ) (before mid after : Running)
       → other ≡ Some o → condition scene.contract.now scene.view.now e place before.names ≡ Gave false n → mid.names ≡ before.names → mid.tasks.items ≡ before.tasks.items
-      → Acts scene answer 0 (then_left scene mid.tasks.items (block_run scene.contract.now scene.view.now o.now mid.names)) after
-      → Acts scene answer n (then_left scene before.tasks.items (choice_run scene.contract.now scene.view.now e b other place before.names)) after
+      → TasksAct scene answer 0 (then_left scene mid.tasks.items (block_run scene.contract.now scene.view.now o.now mid.names)) after
+      → TasksAct scene answer n (then_left scene before.tasks.items (choice_run scene.contract.now scene.view.now e b other place before.names)) after
   other_chosen answer e b o other place n before mid after is holds names tasks h =
       acts_spent scene answer n 0 n _ (then_left scene mid.tasks.items (block_run scene.contract.now scene.view.now o.now mid.names)) after (omega arith)
       (choice_other scene.contract.now scene.view.now e b o other place before.names before.tasks.items n is holds
@@ -482,8 +482,8 @@ module _ (scene : Scene) where
   -- the next of statements begins
   pub statement_acts : (answer : Result Unit Stop) (ss : List Statement) (s : Statement) (rest : Bor (List Statement)) (m n : ℕ) (before mid after : Running)
       → 1 ≤ length ss → s ≡ get_or ss 0 s → rest.now ≡ take (length ss - 1) (drop 1 ss) → n ≡ 1 + m → mid.tasks.items ≡ task.Statements rest ∷ before.tasks.items → mid.names ≡ before.names
-      → Acts scene answer m (then_left scene mid.tasks.items (action_run scene.contract.now scene.view.now (out-Statement s).action (out-Statement s).place mid.names)) after
-      → Acts scene answer n (then_left scene before.tasks.items (all_run scene.contract.now scene.view.now (map (statement_run scene.contract.now scene.view.now) ss) before.names)) after
+      → TasksAct scene answer m (then_left scene mid.tasks.items (action_run scene.contract.now scene.view.now (out-Statement s).action (out-Statement s).place mid.names)) after
+      → TasksAct scene answer n (then_left scene before.tasks.items (all_run scene.contract.now scene.view.now (map (statement_run scene.contract.now scene.view.now) ss) before.names)) after
   statement_acts answer ss s rest m n before mid after some first behind_it more tasks names h =
       acts_spent scene answer 1 m n _ (then_left scene mid.tasks.items (action_run scene.contract.now scene.view.now (out-Statement s).action (out-Statement s).place mid.names)) after more
       (next_statement scene.contract.now scene.view.now ss s rest before.names before.tasks.items some first behind_it
@@ -492,10 +492,10 @@ module _ (scene : Scene) where
 
   -- a turn begins
   pub turn_acts : (done : Unit) (l next : Loop) (ss : Bor (List Statement)) (d : Datum) (count n : ℕ) (before mid after : Running)
-      → Some d ≡ first_of (left_in l.source l.at) → next ≡ record l { at = l.at + 1 } → ss.now ≡ (out-Block l.each.now).statements → count ≡ length before.names → n ≡ 1
+      → Some d ≡ first_datum (left_in l.source l.at) → next ≡ record l { at = l.at + 1 } → ss.now ≡ (out-Block l.each.now).statements → count ≡ length before.names → n ≡ 1
       → mid.tasks.items ≡ task.Loop next ∷ before.tasks.items → mid.names ≡ with_named before.names l.name.now l.kind d → mid.frames.items ≡ []
       → after.tasks.items ≡ task.Statements ss ∷ task.Leave count ∷ mid.tasks.items → after.names ≡ mid.names → after.frames.items ≡ mid.frames.items
-      → Acts scene (Ok done) n (left_to scene (task.Loop l ∷ before.tasks.items) before.names) after
+      → TasksAct scene (Ok done) n (left_to scene (task.Loop l ∷ before.tasks.items) before.names) after
   turn_acts done l next ss d count n before mid after is behind_it opened counted one tasks names idle tasks2 names2 frames2 = (
     loop_turn scene.contract.now scene.view.now l next ss d before.names before.tasks.items is behind_it opened
         ∙ ap (λ (i : ℕ). spend 1 (finished scene.contract.now scene.view.now (task.Statements ss ∷ task.Leave i ∷ task.Loop next ∷ before.tasks.items) (with_named before.names l.name.now l.kind d))) (sym counted)

@@ -2,7 +2,7 @@
 use denote.Ref.{Bor}
 use Rattle.std.specs.Prelude.{◌≡◌, ℕ, ◌+◌, ◌≤◌, max, List, [], ◌∷◌, map, length, Option, Some, None}
 use Rattle.cs_lang.specs.declared.tree.Block.{Block}
-use Rattle.cs_places.specs.Blocks.{one_by_one, turns_places, places_of_block, places_of_statement}
+use Rattle.cs_eval.specs.Blocks.{one_by_one, turns_places, places_of_block, places_of_statement}
 use Rattle.cs_eval_check.specs.declared.task.Loop.{Loop}
 use Rattle.cs_eval_check.specs.declared.task.Task.{Task}
 use Rattle.cs_eval_check.specs.declared.task.Task.TheVariants as task
@@ -28,10 +28,10 @@ tasks_places [] = 0
 tasks_places (t ∷ ts) = max (length ts + task_places t) (tasks_places ts)
 
 -- with so many above them first
-abbrev pub places_above : ℕ → List Task → ℕ
-places_above more ts = max (length ts + more) (tasks_places ts)
+abbrev pub task_places_above : ℕ → List Task → ℕ
+task_places_above more ts = max (length ts + more) (tasks_places ts)
 
 -- there is room for so many above what stands there, and for all that is left to do then; the
 -- frames have as much
-abbrev pub HasRoomFor : ℕ → Running → Type 0
-HasRoomFor more r = (places_above more r.tasks.items ≤ r.tasks.most) × (r.frames.most ≡ r.tasks.most)
+abbrev pub TasksHaveRoom : ℕ → Running → Type 0
+TasksHaveRoom more r = (task_places_above more r.tasks.items ≤ r.tasks.most) × (r.frames.most ≡ r.tasks.most)

@@ -32,9 +32,9 @@ abbrev pub left_in : Source → ℕ → List Datum
 left_in (source.Numbers end) at = numbers (end - at) at
 left_in (source.Items d) at = left_of at (items_of d)
 
-abbrev pub first_of : List Datum → Option Datum
-first_of [] = None
-first_of (d ∷ ds) = Some d
+abbrev pub first_datum : List Datum → Option Datum
+first_datum [] = None
+first_datum (d ∷ ds) = Some d
 
 -- ---- what the tasks make of the names
 
@@ -73,11 +73,11 @@ Decides (Ok b) units run fs = (run ≡ Gave b units) × (fs ≡ [])
 Decides (Err e) units run fs = Stops e units run
 
 -- so much was spent, and the rest is what the tasks make of the names
-abbrev pub Acts : Scene → Result Unit Stop → ℕ → Run (List Named) → Running → Type 0
-Acts scene (Ok done) units run r = (run ≡ spend units (left_to scene r.tasks.items r.names)) × (r.frames.items ≡ [])
-Acts scene (Err e) units run r = Stops e units run
+abbrev pub TasksAct : Scene → Result Unit Stop → ℕ → Run (List Named) → Running → Type 0
+TasksAct scene (Ok done) units run r = (run ≡ spend units (left_to scene r.tasks.items r.names)) × (r.frames.items ≡ [])
+TasksAct scene (Err e) units run r = Stops e units run
 
 -- all is done
-abbrev pub Ran : Result Unit Stop → ℕ → Run (List Named) → Running → Type 0
-Ran (Ok done) units run r = run ≡ Gave r.names units
-Ran (Err e) units run r = Stops e units run
+abbrev pub TasksRan : Result Unit Stop → ℕ → Run (List Named) → Running → Type 0
+TasksRan (Ok done) units run r = run ≡ Gave r.names units
+TasksRan (Err e) units run r = Stops e units run

@@ -6,10 +6,10 @@ ghost use Rattle.cs_eval.specs.declared.scene.Scene.{Scene as Seeing};
 ghost use Rattle.cs_eval.specs.Work.{all_work};
 ghost use Rattle.cs_eval_check.specs.declared.task.Task.TheVariants as task_is;
 ghost use Rattle.cs_eval_law.specs.Acting.{let_run, set_run, condition as condition_run, for_in_run, for_to_run, answer_run, block_run, all_run, statement_run, action_run};
-ghost use Rattle.cs_eval_check.specs.Tasks.{left_in, first_of, choice_run, left_to, then_left, Decides, Acts, Ran};
-ghost use Rattle.cs_places.specs.Places.{places};
-ghost use Rattle.cs_places.specs.Blocks.{one_by_one, turns_places, places_of_action, places_of_block, places_of_statement};
-ghost use Rattle.cs_eval_check.specs.TaskRoom.{loop_places, places_of_other, task_places, HasRoomFor};
+ghost use Rattle.cs_eval_check.specs.Tasks.{left_in, first_datum, choice_run, left_to, then_left, Decides, TasksAct, TasksRan};
+ghost use Rattle.cs_eval.specs.Places.{places};
+ghost use Rattle.cs_eval.specs.Blocks.{one_by_one, turns_places, places_of_action, places_of_block, places_of_statement};
+ghost use Rattle.cs_eval_check.specs.TaskRoom.{loop_places, places_of_other, task_places, TasksHaveRoom};
 ghost use Rattle.cs_eval_check.specs.TaskWork.{most_turns, turns_work, work_of_block, work_of_other, work_of_statement, work_of_action, task_work, loop_work, tasks_work};
 
 use crate::running::Running;
@@ -29,7 +29,7 @@ pub fn item<'a>(
     source: &Source<'a>,
     at: u16,
 ) -> Result<Option<Held<'a>>, Memory>
-    ensures found { IfOk result (λ found. found ≡ first_of (left_in source.now at)) }
+    ensures found { IfOk result (λ found. found ≡ first_datum (left_in source.now at)) }
     ensures more { IfOk result (λ found. IfSome found (λ _. at < most_turns source.now)) }
     ensures few { IfOk result (λ found. IfSome found (λ _. at < 65535)) }
 {
@@ -50,30 +50,30 @@ pub fn item<'a>(
 }
 
 /// Statements are done next, and then all but so many names end.
-#[tactic(auto, using(cs_places::proofs::Actions::one_at_least))]
+#[tactic(auto, using(cs_eval::proofs::Actions::one_at_least))]
 fn enter<'a>(running: &mut Running<'a>, statements: &'a [Statement], names: usize)
-    requires { HasRoomFor (one_by_one (map places_of_statement statements.now) + 1) running.old }
+    requires { TasksHaveRoom (one_by_one (map places_of_statement statements.now) + 1) running.old }
     ensures tasks { running.new.tasks.items
         ≡ task_is.Statements statements.entry ∷ task_is.Leave names ∷ running.old.tasks.items }
     ensures names { running.new.names ≡ running.old.names }
     ensures frames { running.new.frames ≡ running.old.frames }
-    ensures room { HasRoomFor 0 running.new }
+    ensures room { TasksHaveRoom 0 running.new }
 {
     running.tasks.push(Task::Leave(names));
     running.tasks.push(Task::Statements(statements));
 }
 
 /// A block is done next.
-#[tactic(auto, using(cs_places::proofs::Actions::block_is))]
+#[tactic(auto, using(cs_eval::proofs::Actions::block_is))]
 fn enter_block<'a>(running: &mut Running<'a>, block: &'a Block)
     requires idle { running.old.frames.items ≡ [] }
-    requires room { HasRoomFor (places_of_block block.now) running.old }
-    ensures acts { (scene : Seeing) → Acts scene (Ok result) 0
+    requires room { TasksHaveRoom (places_of_block block.now) running.old }
+    ensures acts { (scene : Seeing) → TasksAct scene (Ok result) 0
         (then_left scene running.old.tasks.items
         (block_run scene.contract.now scene.view.now block.now running.old.names)) running.new }
     ensures smaller { tasks_work running.new.tasks.items
         ≡ work_of_block block.now + tasks_work running.old.tasks.items }
-    ensures room { HasRoomFor 0 running.new }
+    ensures room { TasksHaveRoom 0 running.new }
 {
     let names = running.names.len();
     enter(running, block.statements.as_slice(), names);
@@ -88,14 +88,14 @@ fn let_name<'a, L: Ledger>(
     steps: &mut Steps<L>,
 ) -> Result<(), Stop>
     requires idle { running.old.frames.items ≡ [] }
-    requires room { HasRoomFor (places value.now) running.old }
-    ensures acts { Acts scene.now result (steps.new - steps.old)
+    requires room { TasksHaveRoom (places value.now) running.old }
+    ensures acts { TasksAct scene.now result (steps.new - steps.old)
         (then_left scene.now running.old.tasks.items
         (let_run scene.now.contract.now scene.now.view.now
         name.now value.now running.old.names)) running.new }
     ensures counted { steps.old ≤ steps.new }
     ensures tasks { running.new.tasks.items ≡ running.old.tasks.items }
-    ensures room { OnOk result (HasRoomFor 0 running.new) }
+    ensures room { OnOk result (TasksHaveRoom 0 running.new) }
 {
     let Some(kind) = kind_given(scene, &running.names, value) else {
         return Err(Stop::Trap(Cause::Misfit, name.place));
@@ -114,14 +114,14 @@ fn set_name<'a, L: Ledger>(
     steps: &mut Steps<L>,
 ) -> Result<(), Stop>
     requires idle { running.old.frames.items ≡ [] }
-    requires room { HasRoomFor (places value.now) running.old }
-    ensures acts { Acts scene.now result (steps.new - steps.old)
+    requires room { TasksHaveRoom (places value.now) running.old }
+    ensures acts { TasksAct scene.now result (steps.new - steps.old)
         (then_left scene.now running.old.tasks.items
         (set_run scene.now.contract.now scene.now.view.now
         name.now value.now running.old.names)) running.new }
     ensures counted { steps.old ≤ steps.new }
     ensures tasks { running.new.tasks.items ≡ running.old.tasks.items }
-    ensures room { OnOk result (HasRoomFor 0 running.new) }
+    ensures room { OnOk result (TasksHaveRoom 0 running.new) }
 {
     let held = evaluate(scene, &running.names, &mut running.frames, value, steps)?;
     running.names.set(name.bytes.as_slice(), held);
@@ -137,7 +137,7 @@ fn holds<'a, L: Ledger>(
     steps: &mut Steps<L>,
 ) -> Result<bool, Stop>
     requires idle { running.old.frames.items ≡ [] }
-    requires room { HasRoomFor (places condition.now) running.old }
+    requires room { TasksHaveRoom (places condition.now) running.old }
     ensures decides { Decides result (steps.new - steps.old)
         (condition_run scene.now.contract.now scene.now.view.now
         condition.now place running.old.names) running.new.frames.items }
@@ -165,8 +165,8 @@ fn for_in<'a, L: Ledger>(
     steps: &mut Steps<L>,
 ) -> Result<(), Stop>
     requires idle { running.old.frames.items ≡ [] }
-    requires room { HasRoomFor (max (places list.now) (places_of_block each.now + 1)) running.old }
-    ensures acts { Acts scene.now result (steps.new - steps.old)
+    requires room { TasksHaveRoom (max (places list.now) (places_of_block each.now + 1)) running.old }
+    ensures acts { TasksAct scene.now result (steps.new - steps.old)
         (then_left scene.now running.old.tasks.items
         (for_in_run scene.now.contract.now scene.now.view.now name.now list.now
         (block_run scene.now.contract.now scene.now.view.now each.now)
@@ -174,7 +174,7 @@ fn for_in<'a, L: Ledger>(
     ensures counted { steps.old ≤ steps.new }
     ensures smaller { OnOk result (tasks_work running.new.tasks.items
         ≡ turns_work MOST_ITEMS (work_of_block each.now) + tasks_work running.old.tasks.items) }
-    ensures room { OnOk result (HasRoomFor 0 running.new) }
+    ensures room { OnOk result (TasksHaveRoom 0 running.new) }
 {
     let kind = match kind_given(scene, &running.names, list) {
         Some(kind) => kind.item_of(),
@@ -198,7 +198,7 @@ fn for_in<'a, L: Ledger>(
 }
 
 /// A turn of a loop, where there is one more.
-#[tactic(auto, using(crate::proofs::Rooms::turns_some, cs_places::proofs::Actions::block_is))]
+#[tactic(auto, using(crate::proofs::Rooms::turns_some, cs_eval::proofs::Actions::block_is))]
 fn turn<'a, L: Ledger>(
     scene: &Scene<'_, 'a>,
     running: &mut Running<'a>,
@@ -206,14 +206,14 @@ fn turn<'a, L: Ledger>(
     steps: &mut Steps<L>,
 ) -> Result<(), Stop>
     requires idle { running.old.frames.items ≡ [] }
-    requires room { HasRoomFor (loop_places looping) running.old }
-    ensures acts { Acts scene.now result (steps.new - steps.old)
+    requires room { TasksHaveRoom (loop_places looping) running.old }
+    ensures acts { TasksAct scene.now result (steps.new - steps.old)
         (left_to scene.now (task_is.Loop looping.entry ∷ running.old.tasks.items) running.old.names)
         running.new }
     ensures counted { steps.old ≤ steps.new }
     ensures smaller { OnOk result (tasks_work running.new.tasks.items
         < loop_work looping.entry + tasks_work running.old.tasks.items) }
-    ensures room { OnOk result (HasRoomFor 0 running.new) }
+    ensures room { OnOk result (TasksHaveRoom 0 running.new) }
 {
     let Some(held) = item(scene, &looping.source, looping.at)? else {
         return Ok(());
@@ -250,16 +250,16 @@ fn choose<'a, L: Ledger>(
     steps: &mut Steps<L>,
 ) -> Result<(), Stop>
     requires idle { running.old.frames.items ≡ [] }
-    requires room { HasRoomFor (max (places condition.now)
+    requires room { TasksHaveRoom (max (places condition.now)
         (max (places_of_block block.now) (places_of_other other))) running.old }
-    ensures acts { Acts scene.now result (steps.new - steps.old)
+    ensures acts { TasksAct scene.now result (steps.new - steps.old)
         (then_left scene.now running.old.tasks.items
         (choice_run scene.now.contract.now scene.now.view.now
         condition.now block.now other.entry place running.old.names)) running.new }
     ensures counted { steps.old ≤ steps.new }
     ensures smaller { OnOk result (tasks_work running.new.tasks.items
         ≤ work_of_block block.now + work_of_other other.entry + tasks_work running.old.tasks.items) }
-    ensures room { OnOk result (HasRoomFor 0 running.new) }
+    ensures room { OnOk result (TasksHaveRoom 0 running.new) }
 {
     if holds(scene, running, condition, place, steps)? {
         enter_block(running, block);
@@ -278,8 +278,8 @@ fn choose<'a, L: Ledger>(
 #[tactic(auto, using(crate::proofs::Rooms::turns_fewer))]
 fn for_to<'a>(running: &mut Running<'a>, name: &'a Text, count: u64, each: &'a Block)
     requires idle { running.old.frames.items ≡ [] }
-    requires room { HasRoomFor (turns_places count (places_of_block each.now)) running.old }
-    ensures acts { (scene : Seeing) → Acts scene (Ok result) 0
+    requires room { TasksHaveRoom (turns_places count (places_of_block each.now)) running.old }
+    ensures acts { (scene : Seeing) → TasksAct scene (Ok result) 0
         (then_left scene running.old.tasks.items
         (for_to_run scene.contract.now scene.view.now name.now count
         (block_run scene.contract.now scene.view.now each.now)
@@ -287,7 +287,7 @@ fn for_to<'a>(running: &mut Running<'a>, name: &'a Text, count: u64, each: &'a B
     ensures smaller { tasks_work running.new.tasks.items
         ≡ turns_work (min count MOST_TURNS) (work_of_block each.now)
         + tasks_work running.old.tasks.items }
-    ensures room { HasRoomFor 0 running.new }
+    ensures room { TasksHaveRoom 0 running.new }
 {
     running.tasks.push(Task::Loop(Loop {
         name: name.bytes.as_slice(),
@@ -307,7 +307,7 @@ fn answer<'a, L: Ledger>(
     steps: &mut Steps<L>,
 ) -> Stop
     requires idle { running.old.frames.items ≡ [] }
-    requires room { HasRoomFor (places value.now) running.old }
+    requires room { TasksHaveRoom (places value.now) running.old }
     ensures stops { Stops result (steps.new - steps.old)
         (answer_run scene.now.contract.now scene.now.view.now
         value.now place running.old.names) }
@@ -320,7 +320,7 @@ fn answer<'a, L: Ledger>(
 }
 
 /// Begins what a statement does.
-#[tactic(auto, using(crate::proofs::Actions::actions, crate::proofs::ActionWork::works, cs_places::proofs::Actions::actions))]
+#[tactic(auto, using(crate::proofs::Actions::actions, crate::proofs::ActionWork::works, cs_eval::proofs::Actions::actions))]
 fn act<'a, L: Ledger>(
     scene: &Scene<'_, 'a>,
     running: &mut Running<'a>,
@@ -329,15 +329,15 @@ fn act<'a, L: Ledger>(
     steps: &mut Steps<L>,
 ) -> Result<(), Stop>
     requires idle { running.old.frames.items ≡ [] }
-    requires room { HasRoomFor (places_of_action action.now) running.old }
-    ensures acts { Acts scene.now result (steps.new - steps.old)
+    requires room { TasksHaveRoom (places_of_action action.now) running.old }
+    ensures acts { TasksAct scene.now result (steps.new - steps.old)
         (then_left scene.now running.old.tasks.items
         (action_run scene.now.contract.now scene.now.view.now
         action.now place running.old.names)) running.new }
     ensures counted { steps.old ≤ steps.new }
     ensures smaller { OnOk result (tasks_work running.new.tasks.items
         < work_of_action action.now + tasks_work running.old.tasks.items) }
-    ensures room { OnOk result (HasRoomFor 0 running.new) }
+    ensures room { OnOk result (TasksHaveRoom 0 running.new) }
 {
     match action {
         Action::Let(name, value) => let_name(scene, running, name, value, steps),
@@ -360,7 +360,7 @@ fn act<'a, L: Ledger>(
 }
 
 /// The next of statements.
-#[tactic(auto, using(cs_places::proofs::Actions::one_at_least, cs_places::proofs::Actions::statement_is))]
+#[tactic(auto, using(cs_eval::proofs::Actions::one_at_least, cs_eval::proofs::Actions::statement_is))]
 fn on_statements<'a, L: Ledger>(
     scene: &Scene<'_, 'a>,
     running: &mut Running<'a>,
@@ -368,8 +368,8 @@ fn on_statements<'a, L: Ledger>(
     steps: &mut Steps<L>,
 ) -> Result<(), Stop>
     requires idle { running.old.frames.items ≡ [] }
-    requires room { HasRoomFor (one_by_one (map places_of_statement statements.now)) running.old }
-    ensures acts { Acts scene.now result (steps.new - steps.old)
+    requires room { TasksHaveRoom (one_by_one (map places_of_statement statements.now)) running.old }
+    ensures acts { TasksAct scene.now result (steps.new - steps.old)
         (then_left scene.now running.old.tasks.items
         (all_run scene.now.contract.now scene.now.view.now
         (map (statement_run scene.now.contract.now scene.now.view.now) statements.now)
@@ -377,7 +377,7 @@ fn on_statements<'a, L: Ledger>(
     ensures counted { steps.old ≤ steps.new }
     ensures smaller { OnOk result (tasks_work running.new.tasks.items
         < all_work (map work_of_statement statements.now) + tasks_work running.old.tasks.items) }
-    ensures room { OnOk result (HasRoomFor 0 running.new) }
+    ensures room { OnOk result (TasksHaveRoom 0 running.new) }
 {
     match statements {
         [statement, rest @ ..] => {
@@ -397,13 +397,13 @@ fn go_on<'a, L: Ledger>(
     steps: &mut Steps<L>,
 ) -> Result<(), Stop>
     requires idle { running.old.frames.items ≡ [] }
-    requires room { HasRoomFor (task_places task) running.old }
-    ensures acts { Acts scene.now result (steps.new - steps.old)
+    requires room { TasksHaveRoom (task_places task) running.old }
+    ensures acts { TasksAct scene.now result (steps.new - steps.old)
         (left_to scene.now (task.entry ∷ running.old.tasks.items) running.old.names) running.new }
     ensures counted { steps.old ≤ steps.new }
     ensures smaller { OnOk result (tasks_work running.new.tasks.items
         < task_work task.entry + tasks_work running.old.tasks.items) }
-    ensures room { OnOk result (HasRoomFor 0 running.new) }
+    ensures room { OnOk result (TasksHaveRoom 0 running.new) }
 {
     match task {
         Task::Statements(statements) => on_statements(scene, running, statements, steps),
@@ -422,8 +422,8 @@ pub fn run<'a, L: Ledger>(
     steps: &mut Steps<L>,
 ) -> Result<(), Stop>
     requires idle { running.old.frames.items ≡ [] }
-    requires room { HasRoomFor 0 running.old }
-    ensures ran { Ran result (steps.new - steps.old)
+    requires room { TasksHaveRoom 0 running.old }
+    ensures ran { TasksRan result (steps.new - steps.old)
         (left_to scene.now running.old.tasks.items running.old.names) running.new }
     ensures counted { steps.old ≤ steps.new }
 {

@@ -14,10 +14,10 @@ use Rattle.cs_types_kinds.specs.declared.scope.Use.TheVariants as usage
 use Rattle.cs_types_kinds.specs.declared.scope.Seen.{Seen}
 use Rattle.cs_types_kinds.specs.declared.scope.Entry.{Entry}
 use Rattle.cs_types_kinds.specs.declared.expressions.Judged.{Judged}
-use Rattle.cs_types_kinds.specs.Told.{Told, mistyped, unbound, through as told_through, plus}
-use Rattle.cs_types_kinds.specs.Kinds.{int as int_kind, bool as bool_kind, item_of as item_kind}
-use Rattle.cs_types_kinds.specs.Scopes.{InSight, seen, in_sight, with_name, with_names}
-use Rattle.cs_types_kinds.specs.Judging.{Part, wanted, or_first}
+use Rattle.cs_types_kinds.specs.Told.{Told, mistyped, unbound, told_through as told_through, plus}
+use Rattle.cs_types_kinds.specs.Kinds.{int_kind as int_kind, bool as bool_kind, item_kind as item_kind}
+use Rattle.cs_types_kinds.specs.Scopes.{InSight, name_seen, in_sight, with_name, sight_with_names}
+use Rattle.cs_types_kinds.specs.Judging.{JudgedPart, wanted, or_first}
 use Rattle.cs_types_kinds.specs.Parts.{part_of}
 use Rattle.cs_types.specs.Stating.{Added, Blocked, Stated, SoFar, statement_added, block_judged, turns, turn_judged, is_taken, is_value, let_judged, can_be_set, set_seen, set_judged, if_told, if_judged, if_else_judged, for_in_told, for_in_judged, for_to_judged, make_judged, call_judged, answer_judged, stated}
 use Rattle.cs_eval_values.specs.declared.stop.Cause.TheVariants as cause
@@ -96,22 +96,22 @@ module _ (sight : InSight) where
       let P : Added → Type 0 = λ b. Extends sight.names b.1 in
       subst P (ok_is (c, with_name sight.names name k u) a (Ok (c, with_name sight.names name k u)) refl is) (_, refl)
 
-  pub let_kept : (name : Text) (value : InSight → Part) → Keeps sight (let_judged name value sight)
+  pub let_kept : (name : Text) (value : InSight → JudgedPart) → Keeps sight (let_judged name value sight)
   let_kept name value =
       unless_kept (is_taken sight name) name.place _
       (bind_kept (value sight).found _ (λ j. where_kept (is_value j.kind) (value sight).first _ (named_kept j.cost name.bytes j.kind usage.Set)))
 
-  pub set_kept : (name : Text) (value : InSight → Part) → Keeps sight (set_judged name value sight)
-  set_kept name value = bind_kept (set_seen (seen name.bytes sight.names) name (value sight)) _ (λ c. same_kept c)
+  pub set_kept : (name : Text) (value : InSight → JudgedPart) → Keeps sight (set_judged name value sight)
+  set_kept name value = bind_kept (set_seen (name_seen name.bytes sight.names) name (value sight)) _ (λ c. same_kept c)
 
-  pub if_kept : (value : InSight → Part) (block : Blocked) → Keeps sight (if_judged value block sight)
+  pub if_kept : (value : InSight → JudgedPart) (block : Blocked) → Keeps sight (if_judged value block sight)
   if_kept value block = bind_kept (wanted bool_kind (value sight)) _ (λ c. bind_kept (block sight) _ (λ d. same_kept (plus c d)))
 
-  pub if_else_kept : (value : InSight → Part) (block other : Blocked) → Keeps sight (if_else_judged value block other sight)
+  pub if_else_kept : (value : InSight → JudgedPart) (block other : Blocked) → Keeps sight (if_else_judged value block other sight)
   if_else_kept value block other =
       bind_kept (wanted bool_kind (value sight)) _ (λ c. bind_kept (block sight) _ (λ d. bind_kept (other sight) _ (λ e. same_kept (plus c (max d e)))))
 
-  pub for_in_kept : (name : Text) (value : InSight → Part) (block : Blocked) → Keeps sight (for_in_judged name value block sight)
+  pub for_in_kept : (name : Text) (value : InSight → JudgedPart) (block : Blocked) → Keeps sight (for_in_judged name value block sight)
   for_in_kept name value block =
       unless_kept (is_taken sight name) name.place _
       (bind_kept (value sight).found _ (λ j. bind_kept (or_first (value sight).first (item_kind j.kind)) _
@@ -122,7 +122,7 @@ module _ (sight : InSight) where
       unless_kept (nat_lt MOST_TURNS count) place _
       (unless_kept (is_taken sight name) name.place _ (bind_kept (turn_judged name int_kind block sight) _ (λ d. same_kept (turns count d))))
 
-  pub answer_kept : (value : InSight → Part) (place : ℕ) → Keeps sight (answer_judged value place sight)
+  pub answer_kept : (value : InSight → JudgedPart) (place : ℕ) → Keeps sight (answer_judged value place sight)
   answer_kept value place = where_kept sight.in_check place _ (bind_kept (wanted bool_kind (value sight)) _ (λ c. same_kept c))
 
   -- in a check nothing is made or called
@@ -164,15 +164,15 @@ module _ (sight : InSight) (view : View) (names : List Named) (alike : Alike sig
                 (λ d _. alike_more sight.names names name.bytes k usage.Set d refl alike)),
           )
 
-  seen_set : (o : Option Seen) (name : Text) (value : Part) (c : ℕ) → set_seen o name value ≡ Ok c → (k : Kind) × (wanted k value ≡ Ok c)
+  seen_set : (o : Option Seen) (name : Text) (value : JudgedPart) (c : ℕ) → set_seen o name value ≡ Ok c → (k : Kind) × (wanted k value ≡ Ok c)
   seen_set None name value c is = absurd cc
   seen_set (Some s) name value c is = (s.kind, where_is (can_be_set s.usage) name.place (wanted s.kind value) c is)
 
   pub set_fits : (name : Text) (e : Expr) → Fits (part_of sight e).found (expr_meant here e)
       → ActFits (set_judged name (λ s. part_of s e) sight) (set_run sight.contract view name e names)
   set_fits name e h a is =
-      let told = told_bind (set_seen (seen name.bytes sight.names) name (part_of sight e)) (λ c. Ok (c, sight.names)) a is in
-      let want = seen_set (seen name.bytes sight.names) name (part_of sight e) told.0 told.1 in
+      let told = told_bind (set_seen (name_seen name.bytes sight.names) name (part_of sight e)) (λ c. Ok (c, sight.names)) a is in
+      let want = seen_set (name_seen name.bytes sight.names) name (part_of sight e) told.0 told.1 in
       stays sight told.0 a (set_run sight.contract view name e names) told.2 (
         within_less _ (spent (value_run sight.contract view e names)) told.0
             (omega (arith, spent_bind (value_run sight.contract view e names) (λ d. gives (with_datum name.bytes d names)) 0 (λ d. omega arith)))
@@ -264,11 +264,11 @@ more_turns m count x le = omega (arith, mul-le-mul_right x le)
 
 -- a block with one name more, wherever it stands for something
 abbrev pub TurnFits : InSight → List ℕ → Kind → Blocked → Naming → Type 0
-TurnFits sight name k block each = EachFits block (with_names sight (with_name sight.names name k usage.Read)) each
+TurnFits sight name k block each = EachFits block (sight_with_names sight (with_name sight.names name k usage.Read)) each
 
 module _ (sight : InSight) (view : View) where
   turn_costs : (name : List ℕ) (k : Kind) (block : Blocked) (each : Naming) (c : ℕ) → TurnFits sight name k block each
-      → block (with_names sight (with_name sight.names name k usage.Read)) ≡ Ok c
+      → block (sight_with_names sight (with_name sight.names name k usage.Read)) ≡ Ok c
       → (names : List Named) (d : Datum) → Alike sight.names names → Costs sight.names (plus c 1) (turn_run sight.contract view name k each names d)
   turn_costs name k block each c h is names d a =
       let more : List Named = with_named names name k d in
@@ -283,7 +283,7 @@ module _ (sight : InSight) (view : View) where
       )
 
   turns_costs : (name : List ℕ) (k : Kind) (block : Blocked) (each : Naming) (c count : ℕ) → TurnFits sight name k block each
-      → block (with_names sight (with_name sight.names name k usage.Read)) ≡ Ok c
+      → block (sight_with_names sight (with_name sight.names name k usage.Read)) ≡ Ok c
       → (ds : List Datum) → length ds ≤ count → (names : List Named) → Alike sight.names names → Costs sight.names (turns count c) (turns_run sight.contract view name k each ds names)
   turns_costs name k block each c count h is ds few names a =
       let all = turns_within sight.names (turn_run sight.contract view name k each) (plus c 1) (turn_costs name k block each c h is) ds names a in
@@ -386,9 +386,9 @@ sum_grows : (ts : List Stated) (cost n : ℕ) (sight : InSight) (total : SoFar) 
 sum_grows [] cost n sight total is w = omega (arith, w, ap (λ (t : SoFar). t.0) (ok_is (cost, sight) total (Ok (cost, sight)) refl is))
 sum_grows (t ∷ ts) cost n sight total is w =
     let first = told_bind (statement_added (cost, sight) t) (λ b. told_through statement_added b ts) total is in
-    let added = told_bind (t sight) (λ d. Ok (plus cost d.0, with_names sight d.1)) first.0 first.1 in
-    let made : (plus cost added.0.0, with_names sight added.0.1) ≡ first.0 = ok_is _ first.0 _ refl added.2 in
-    sum_grows ts (plus cost added.0.0) n (with_names sight added.0.1) total (ap (λ (b : SoFar). told_through statement_added b ts) made ∙ first.2) (omega (arith, w))
+    let added = told_bind (t sight) (λ d. Ok (plus cost d.0, sight_with_names sight d.1)) first.0 first.1 in
+    let made : (plus cost added.0.0, sight_with_names sight added.0.1) ≡ first.0 = ok_is _ first.0 _ refl added.2 in
+    sum_grows ts (plus cost added.0.0) n (sight_with_names sight added.0.1) total (ap (λ (b : SoFar). told_through statement_added b ts) made ∙ first.2) (omega (arith, w))
 
 module _ (contract : ContractTree) (view : View) where
   pub all_kept : (ts : List Stated) (rs : List Naming) → AllOnes contract ts rs → (cost : ℕ) (sight : InSight) → sight.contract ≡ contract → sight.in_check ≡ true
@@ -400,10 +400,10 @@ module _ (contract : ContractTree) (view : View) where
   all_kept (t ∷ ts) [] all cost sight of checks total is = absurd all
   all_kept (t ∷ ts) (r ∷ rs) all cost sight of checks total is =
       let first = told_bind (statement_added (cost, sight) t) (λ b. told_through statement_added b ts) total is in
-      let added = told_bind (t sight) (λ d. Ok (plus cost d.0, with_names sight d.1)) first.0 first.1 in
-      let made : (plus cost added.0.0, with_names sight added.0.1) ≡ first.0 = ok_is _ first.0 _ refl added.2 in
+      let added = told_bind (t sight) (λ d. Ok (plus cost d.0, sight_with_names sight d.1)) first.0 first.1 in
+      let made : (plus cost added.0.0, sight_with_names sight added.0.1) ≡ first.0 = ok_is _ first.0 _ refl added.2 in
       extends_on sight.names added.0.1 total.1.names ((all.0 sight of checks).0 added.0 added.1)
-      (all_kept ts rs all.1 (plus cost added.0.0) (with_names sight added.0.1) of checks total (ap (λ (b : SoFar). told_through statement_added b ts) made ∙ first.2))
+      (all_kept ts rs all.1 (plus cost added.0.0) (sight_with_names sight added.0.1) of checks total (ap (λ (b : SoFar). told_through statement_added b ts) made ∙ first.2))
 
   all_within : (ts : List Stated) (rs : List Naming) → AllOnes contract ts rs → (cost : ℕ) (sight : InSight) → sight.contract ≡ contract → sight.in_check ≡ true
       → (names : List Named) → Alike sight.names names → (total : SoFar) → told_through statement_added (cost, sight) ts ≡ Ok total
@@ -415,15 +415,15 @@ module _ (contract : ContractTree) (view : View) where
   all_within (t ∷ ts) [] all cost sight of checks names a total is n w = absurd all
   all_within (t ∷ ts) (r ∷ rs) all cost sight of checks names a total is n w =
       let first = told_bind (statement_added (cost, sight) t) (λ b. told_through statement_added b ts) total is in
-      let added = told_bind (t sight) (λ d. Ok (plus cost d.0, with_names sight d.1)) first.0 first.1 in
-      let made : (plus cost added.0.0, with_names sight added.0.1) ≡ first.0 = ok_is _ first.0 _ refl added.2 in
+      let added = told_bind (t sight) (λ d. Ok (plus cost d.0, sight_with_names sight d.1)) first.0 first.1 in
+      let made : (plus cost added.0.0, sight_with_names sight added.0.1) ≡ first.0 = ok_is _ first.0 _ refl added.2 in
       let told = ap (λ (b : SoFar). told_through statement_added b ts) made ∙ first.2 in
       let fits = (all.0 sight of checks).1 names a added.0 added.1 in
       let sum : Within (n + spent (r names)) (plus cost added.0.0) = within_plus n (spent (r names)) cost added.0.0 w fits.0 in
       let next : (b : List Named) → Alike added.0.1 b → Within (n + spent (r names) + spent (all_run contract view rs b)) total.0 × After (Alike total.1.names) (all_run contract view rs b) =
-      λ b like. all_within ts rs all.1 (plus cost added.0.0) (with_names sight added.0.1) of checks b like total told (n + spent (r names)) sum in (
+      λ b like. all_within ts rs all.1 (plus cost added.0.0) (sight_with_names sight added.0.1) of checks b like total told (n + spent (r names)) sum in (
         within_after (Alike added.0.1) (r names) (λ b. all_run contract view rs b) n total.0 fits.1
-            (sum_grows ts (plus cost added.0.0) (n + spent (r names)) (with_names sight added.0.1) total told sum)
+            (sum_grows ts (plus cost added.0.0) (n + spent (r names)) (sight_with_names sight added.0.1) total told sum)
             (λ b like. (next b like).0),
         after_bind (Alike added.0.1) (Alike total.1.names) (r names) (λ b. all_run contract view rs b) fits.1 (λ b like. (next b like).1),
       )

@@ -12,10 +12,10 @@ use Rattle.cs_types_kinds.specs.declared.scope.Use.TheVariants as usage
 use Rattle.cs_types_kinds.specs.declared.scope.Seen.{Seen}
 use Rattle.cs_types_kinds.specs.declared.scope.Entry.{Entry}
 use Rattle.cs_types_kinds.specs.declared.expressions.Judged.{Judged}
-use Rattle.cs_types_kinds.specs.Told.{Told, mistyped, unbound, through as told_through, plus}
-use Rattle.cs_types_kinds.specs.Kinds.{int as int_kind, bool as bool_kind, item_of as item_kind}
-use Rattle.cs_types_kinds.specs.Scopes.{InSight, seen, with_name, with_names}
-use Rattle.cs_types_kinds.specs.Judging.{Part, wanted, or_first}
+use Rattle.cs_types_kinds.specs.Told.{Told, mistyped, unbound, told_through as told_through, plus}
+use Rattle.cs_types_kinds.specs.Kinds.{int_kind as int_kind, bool as bool_kind, item_kind as item_kind}
+use Rattle.cs_types_kinds.specs.Scopes.{InSight, name_seen, with_name, sight_with_names}
+use Rattle.cs_types_kinds.specs.Judging.{JudgedPart, wanted, or_first}
 use Rattle.cs_types_kinds.specs.Parts.{part_of}
 use Rattle.cs_types.specs.Stating.{Added, Blocked, Stated, SoFar, statement_added, block_judged, turns, turn_judged, is_taken, is_value, let_judged, can_be_set, set_seen, set_judged, if_judged, if_else_judged, for_in_judged, for_to_judged, answer_judged, stated}
 use Rattle.cs_eval_values.specs.declared.stop.Cause.TheVariants as cause
@@ -23,7 +23,7 @@ use Rattle.cs_eval_values.specs.declared.view.View.{View}
 use Rattle.cs_eval_values.specs.Runs.{Run, gives, answers, spend, ◌>>=◌, through, or_trap}
 use Rattle.cs_eval_values.specs.Datums.{Datum, items_of, bool_of}
 use Rattle.cs_eval_values.specs.Operators.{int, given_bool}
-use Rattle.cs_eval_values.specs.Namings.{Named, named, is_named, find_named, kind_in, kind_named, with_named, with_datum}
+use Rattle.cs_eval_values.specs.Namings.{Named, named, is_of_name, find_named, kind_in, kind_named, with_named, with_datum}
 use Rattle.cs_eval.specs.Meaning.{Meant, run_of, expr_meant}
 use Rattle.cs_eval_law.specs.Acting.{Naming, numbers, seen_with, value_run, value_kind, let_run, set_run, condition, if_run, answer_run, turn_run, turns_run, for_in_run, for_to_run, one_run, all_run}
 use Rattle.cs_eval_law.proofs.Within.{ok_is, some_is}
@@ -49,7 +49,7 @@ kinded_cut types (suc i) (n ∷ ns) all = (all.0, kinded_cut types i ns all.1)
 
 kinded_set : (types : List TypeDef) (ns : List Named) (name : List ℕ) (k : Kind) (d : Datum) → AreKinded types ns → kind_named name ns ≡ Some k → HasKind types k d → AreKinded types (with_datum name d ns)
 kinded_set types [] name k d all is h = tt
-kinded_set types (n ∷ ns) name k d all is h = by_test (λ e. kinded_set types ns name k d all.1 e h) (is_named name n) is
+kinded_set types (n ∷ ns) name k d all is h = by_test (λ e. kinded_set types ns name k d all.1 e h) (is_of_name name n) is
   where
     by_test : (kind_named name ns ≡ Some k → AreKinded types (with_datum name d ns)) → (b : Bool) → kind_in (cond b (Some n) (find_named name ns)) ≡ Some k
         → AreKinded types (cond b (named n.name n.kind d ∷ ns) (n ∷ with_datum name d ns))
@@ -102,15 +102,15 @@ module _ (sight : InSight) (view : View) (names : List Named) (good : Good sight
       (sound_bind (HasKind types found.0.kind) Q (value_run sight.contract view e names) (λ d. gives (with_named names name.bytes found.0.kind d)) (h found.0 found.1)
       (λ d has. (alike_more sight.names names name.bytes found.0.kind usage.Set d refl good.0, kinded_more types names name.bytes found.0.kind d good.1 has))))
 
-  seen_set : (o : Option Seen) (name : Text) (value : Part) (c : ℕ) → set_seen o name value ≡ Ok c → (s : Seen) × (o ≡ Some s) × (wanted s.kind value ≡ Ok c)
+  seen_set : (o : Option Seen) (name : Text) (value : JudgedPart) (c : ℕ) → set_seen o name value ≡ Ok c → (s : Seen) × (o ≡ Some s) × (wanted s.kind value ≡ Ok c)
   seen_set None name value c is = absurd cc
   seen_set (Some s) name value c is = (s, refl, where_is (can_be_set s.usage) name.place (wanted s.kind value) c is)
 
   pub set_sound : (name : Text) (e : Expr) → Yields types (part_of sight e).found (means e)
       → ActSound types (set_judged name (λ s. part_of s e) sight) (set_run sight.contract view name e names)
   set_sound name e h a is =
-      let told = told_bind (set_seen (seen name.bytes sight.names) name (part_of sight e)) (λ c. Ok (c, sight.names)) a is in
-      let want = seen_set (seen name.bytes sight.names) name (part_of sight e) told.0 told.1 in
+      let told = told_bind (set_seen (name_seen name.bytes sight.names) name (part_of sight e)) (λ c. Ok (c, sight.names)) a is in
+      let want = seen_set (name_seen name.bytes sight.names) name (part_of sight e) told.0 told.1 in
       same_names sight told.0 a (set_run sight.contract view name e names) told.2
       (sound_bind (HasKind types want.0.kind) (Good types sight.names) (value_run sight.contract view e names) (λ d. gives (with_datum name.bytes d names))
       (yields_wanted types want.0.kind (part_of sight e) (means e) told.0 h want.2)
@@ -180,11 +180,11 @@ module _ (types : List TypeDef) where
 abbrev pub TurnSound : InSight → List ℕ → Kind → Blocked → Naming → Type 0
 TurnSound sight name k block each =
     (names : List Named) → Good sight.contract.types (with_name sight.names name k usage.Read) names
-    → BlockSound (with_names sight (with_name sight.names name k usage.Read)) (block (with_names sight (with_name sight.names name k usage.Read))) (each names)
+    → BlockSound (sight_with_names sight (with_name sight.names name k usage.Read)) (block (sight_with_names sight (with_name sight.names name k usage.Read))) (each names)
 
 module _ (sight : InSight) (view : View) where
   turn_good : (name : List ℕ) (k : Kind) (block : Blocked) (each : Naming) (c : ℕ) → TurnSound sight name k block each
-      → block (with_names sight (with_name sight.names name k usage.Read)) ≡ Ok c
+      → block (sight_with_names sight (with_name sight.names name k usage.Read)) ≡ Ok c
       → (names : List Named) (d : Datum) → Good sight.contract.types sight.names names → HasKind sight.contract.types k d → Sound (Good sight.contract.types sight.names) (turn_run sight.contract view name k each names d)
   turn_good name k block each c h is names d good has =
       let more : List Named = with_named names name k d in
@@ -196,7 +196,7 @@ module _ (sight : InSight) (view : View) where
       (subst P (alike_length sight.names names good.0) (alike_cut sight.names _ after better.0), kinded_cut sight.contract.types (length names) after better.1)))
 
   turns_sound : (name : List ℕ) (k : Kind) (block : Blocked) (each : Naming) (c : ℕ) → TurnSound sight name k block each
-      → block (with_names sight (with_name sight.names name k usage.Read)) ≡ Ok c
+      → block (sight_with_names sight (with_name sight.names name k usage.Read)) ≡ Ok c
       → (ds : List Datum) → AllHave sight.contract.types k ds → (names : List Named) → Good sight.contract.types sight.names names
       → Sound (Good sight.contract.types sight.names) (turns_run sight.contract view name k each ds names)
   turns_sound name k block each c h is ds have names good =
@@ -265,11 +265,11 @@ module _ (contract : ContractTree) (view : View) where
   all_sound (t ∷ ts) [] all cost sight of checks names good total is = absurd all
   all_sound (t ∷ ts) (r ∷ rs) all cost sight of checks names good total is =
       let first = told_bind (statement_added (cost, sight) t) (λ b. told_through statement_added b ts) total is in
-      let added = told_bind (t sight) (λ d. Ok (plus cost d.0, with_names sight d.1)) first.0 first.1 in
-      let made : (plus cost added.0.0, with_names sight added.0.1) ≡ first.0 = ok_is _ first.0 _ refl added.2 in
+      let added = told_bind (t sight) (λ d. Ok (plus cost d.0, sight_with_names sight d.1)) first.0 first.1 in
+      let made : (plus cost added.0.0, sight_with_names sight added.0.1) ≡ first.0 = ok_is _ first.0 _ refl added.2 in
       let told = ap (λ (b : SoFar). told_through statement_added b ts) made ∙ first.2 in
       sound_bind (Good contract.types added.0.1) (Good contract.types total.1.names) (r names) (λ b. all_run contract view rs b) (all.0 sight of checks names good added.0 added.1)
-      (λ b better. all_sound ts rs all.1 (plus cost added.0.0) (with_names sight added.0.1) of checks b better total told)
+      (λ b better. all_sound ts rs all.1 (plus cost added.0.0) (sight_with_names sight added.0.1) of checks b better total told)
 
   -- the names of a block end with it
   pub block_sound : (ts : List Stated) (rs : List Naming) → AllSound contract ts rs → AllOnes contract ts rs → (sight : InSight) → sight.contract ≡ contract → sight.in_check ≡ true

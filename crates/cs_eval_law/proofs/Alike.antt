@@ -6,9 +6,9 @@ use Rattle.cs_types_kinds.specs.declared.kind.Kind.{Kind}
 use Rattle.cs_types_kinds.specs.declared.scope.Use.{Use}
 use Rattle.cs_types_kinds.specs.declared.scope.Seen.{Seen}
 use Rattle.cs_types_kinds.specs.declared.scope.Entry.{Entry}
-use Rattle.cs_types_kinds.specs.Scopes.{in_sight, is_seen, seen, with_name}
+use Rattle.cs_types_kinds.specs.Scopes.{in_sight, is_seen, name_seen, with_name}
 use Rattle.cs_eval_values.specs.Datums.{Datum}
-use Rattle.cs_eval_values.specs.Namings.{Named, named, is_named, find_named, kind_in, kind_named, with_named, with_datum}
+use Rattle.cs_eval_values.specs.Namings.{Named, named, is_of_name, find_named, kind_in, kind_named, with_named, with_datum}
 
 abbrev pub Alike : List Entry → List Named → Type 0
 Alike [] [] = Unit {0}
@@ -53,23 +53,23 @@ pub alike_set : (es : List Entry) (ns : List Named) (name : List ℕ) (d : Datum
 alike_set [] [] name d a = tt
 alike_set [] (n ∷ ns) name d a = absurd a
 alike_set (e ∷ es) [] name d a = absurd a
-alike_set (e ∷ es) (n ∷ ns) name d a = by_cases (alike_set es ns name d a.3) (is_named name n)
+alike_set (e ∷ es) (n ∷ ns) name d a = by_cases (alike_set es ns name d a.3) (is_of_name name n)
   where
     by_cases : Alike es (with_datum name d ns) → (b : Bool) → Alike (e ∷ es) (cond b (named n.name n.kind d ∷ ns) (n ∷ with_datum name d ns))
     by_cases behind true = (a.0, a.1, a.2, a.3)
     by_cases behind false = (a.0, a.1, a.2, behind)
 
-pub alike_seen : (es : List Entry) (ns : List Named) (name : List ℕ) (s : Seen) → Alike es ns → seen name es ≡ Some s → kind_named name ns ≡ Some s.kind
+pub alike_seen : (es : List Entry) (ns : List Named) (name : List ℕ) (s : Seen) → Alike es ns → name_seen name es ≡ Some s → kind_named name ns ≡ Some s.kind
 alike_seen [] [] name s a is = absurd cc
 alike_seen [] (n ∷ ns) name s a is = absurd a
 alike_seen (e ∷ es) [] name s a is = absurd a
 alike_seen (e ∷ es) (n ∷ ns) name s a is =
-    by_cases (λ h. alike_seen es ns name s a.3 h) (bytes_eq n.name name) (sym (ap (λ b. cond b (Some e.seen) (seen name es)) same_test) ∙ is)
+    by_cases (λ h. alike_seen es ns name s a.3 h) (bytes_eq n.name name) (sym (ap (λ b. cond b (Some e.seen) (name_seen name es)) same_test) ∙ is)
   where
     same_test : is_seen name e ≡ bytes_eq n.name name
     same_test = ap (λ b. b && bytes_eq e.name name) a.0 ∙ ap (λ (text : List ℕ). bytes_eq text name) a.1
 
-    by_cases : (seen name es ≡ Some s → kind_named name ns ≡ Some s.kind) → (b : Bool)
-        → cond b (Some e.seen) (seen name es) ≡ Some s → kind_in (cond b (Some n) (find_named name ns)) ≡ Some s.kind
+    by_cases : (name_seen name es ≡ Some s → kind_named name ns ≡ Some s.kind) → (b : Bool)
+        → cond b (Some e.seen) (name_seen name es) ≡ Some s → kind_in (cond b (Some n) (find_named name ns)) ≡ Some s.kind
     by_cases behind true h = ap (λ (k : Kind). Some k) (sym a.2) ∙ ap (λ (o : Option Seen). Some (unwrap_or o e.seen).kind) h
     by_cases behind false h = behind h

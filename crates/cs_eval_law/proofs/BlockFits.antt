@@ -12,8 +12,8 @@ use Rattle.cs_lang.specs.declared.tree.Action.TheFolds.{ind-Block, ind-Statement
 use Rattle.cs_types_kinds.specs.declared.kind.Kind.{Kind}
 use Rattle.cs_types_kinds.specs.declared.scope.Use.TheVariants as usage
 use Rattle.cs_types_kinds.specs.Told.{Told}
-use Rattle.cs_types_kinds.specs.Kinds.{int as int_kind}
-use Rattle.cs_types_kinds.specs.Scopes.{InSight, with_name, with_names}
+use Rattle.cs_types_kinds.specs.Kinds.{int_kind as int_kind}
+use Rattle.cs_types_kinds.specs.Scopes.{InSight, with_name, sight_with_names}
 use Rattle.cs_types.specs.Stating.{Added, Blocked, Stated, make_judged, call_judged}
 use Rattle.cs_types.specs.Blocks.{Acted, part, parts, action_from_parts, block_told, statement_told, action_told}
 use Rattle.cs_eval_values.specs.declared.stop.Cause.TheVariants as cause
@@ -72,7 +72,7 @@ fits_along sight t u r s is same h =
 
 -- a block in a loop, whose name stands for anything
 turn_claim : (b : B) (view : View) (sight : InSight) → sight.in_check ≡ true → (name : List ℕ) (k : Kind) → TurnFits sight name k (block_told b.0) (block_run sight.contract view b.0)
-turn_claim b view sight checks name k names a = b.1 view (with_names sight (with_name sight.names name k usage.Read)) checks names a
+turn_claim b view sight checks name k names a = b.1 view (sight_with_names sight (with_name sight.names name k usage.Read)) checks names a
 
 pub one_claim : (s : S) (contract : ContractTree) (view : View) → OneFits contract (statement_told s.0) (statement_run contract view s.0)
 one_claim s contract view sight of checks =

@@ -18,15 +18,15 @@ use Rattle.cs_types_kinds.specs.declared.scope.Seen.{Seen}
 use Rattle.cs_types_kinds.specs.declared.scope.Costs.{Costs as Priced}
 use Rattle.cs_types_kinds.specs.declared.scope.Use.TheVariants as usage
 use Rattle.cs_types_kinds.specs.declared.expressions.Judged.{Judged}
-use Rattle.cs_types_kinds.specs.Told.{Told, mistyped, unbound, through as told_through, plus}
-use Rattle.cs_types_kinds.specs.Kinds.{int as int_kind, bool as bool_kind, item_of as item_kind}
-use Rattle.cs_types_kinds.specs.Scopes.{InSight, seen, with_name, with_names}
-use Rattle.cs_types_kinds.specs.Judging.{Part, wanted, or_first}
+use Rattle.cs_types_kinds.specs.Told.{Told, mistyped, unbound, told_through as told_through, plus}
+use Rattle.cs_types_kinds.specs.Kinds.{int_kind as int_kind, bool as bool_kind, item_kind as item_kind}
+use Rattle.cs_types_kinds.specs.Scopes.{InSight, name_seen, with_name, sight_with_names}
+use Rattle.cs_types_kinds.specs.Judging.{JudgedPart, wanted, or_first}
 use Rattle.cs_types_kinds.specs.Parts.{part_of}
 use Rattle.cs_types.specs.Stating.{Added, Blocked, Stated, SoFar, statement_added, block_judged, turns, turn_judged, is_taken, is_value, let_judged, can_be_set, set_seen, set_judged, if_judged, if_else_judged, for_in_judged, for_to_judged, answer_judged, stated}
 use Rattle.cs_types.specs.Blocks.{Acted, part, action_from_parts, block_told, statement_told, action_told}
-use Rattle.cs_places.specs.Places.{places}
-use Rattle.cs_places.specs.Blocks.{one_by_one, turns_places, action_places, block_places, statement_places, places_of_action, places_of_block, places_of_statement}
+use Rattle.cs_eval.specs.Places.{places}
+use Rattle.cs_eval.specs.Blocks.{one_by_one, turns_places, action_places, block_places, statement_places, places_of_action, places_of_block, places_of_statement}
 use Rattle.cs_eval_law.proofs.Within.{ok_is}
 use Rattle.cs_eval_law.proofs.ExprFits.{told_bind}
 use Rattle.cs_eval_law.proofs.ExprRoom.{Roomy, RoomyAbove, Sized, sized_wanted, expr_roomy}
@@ -73,15 +73,15 @@ let_sized sight name e n h d is =
     let same : (found.0.cost, with_name sight.names name.bytes found.0.kind usage.Set) ≡ d = value_of (is_value found.0.kind) _ d (part_of sight e).first found.2 in
     omega (arith, h found.0 found.1, ap (λ (x : Added). x.0) same)
 
-set_seen_sized : (o : Option Seen) (name : Text) (p : Part) (n c : ℕ) → Sized p.found n → set_seen o name p ≡ Ok c → Roomy n c
+set_seen_sized : (o : Option Seen) (name : Text) (p : JudgedPart) (n c : ℕ) → Sized p.found n → set_seen o name p ≡ Ok c → Roomy n c
 set_seen_sized None name p n c h is = absurd cc
 set_seen_sized (Some s) name p n c h is = sized_wanted s.kind p n c h (passed (can_be_set s.usage) (wanted s.kind p) c name.place is)
 
 set_sized : (sight : InSight) (name : Text) (e : Expr) (n : ℕ) → Sized (part_of sight e).found n → ActSized (set_judged name (part e) sight) n
 set_sized sight name e n h d is =
-    let cost = told_bind (set_seen (seen name.bytes sight.names) name (part_of sight e)) (λ c. Ok (c, sight.names)) d is in
+    let cost = told_bind (set_seen (name_seen name.bytes sight.names) name (part_of sight e)) (λ c. Ok (c, sight.names)) d is in
     let same : (cost.0, sight.names) ≡ d = ok_is _ d _ refl cost.2 in
-    omega (arith, set_seen_sized (seen name.bytes sight.names) name (part_of sight e) n cost.0 h cost.1, ap (λ (x : Added). x.0) same)
+    omega (arith, set_seen_sized (name_seen name.bytes sight.names) name (part_of sight e) n cost.0 h cost.1, ap (λ (x : Added). x.0) same)
 
 answer_sized : (sight : InSight) (e : Expr) (place n : ℕ) → Sized (part_of sight e).found n → ActSized (answer_judged (part e) place sight) n
 answer_sized sight e place n h d is =
@@ -156,8 +156,8 @@ all_sized [] (n ∷ ns) all before behind is m w = absurd all
 all_sized (s ∷ ss) [] all before behind is m w = absurd all
 all_sized (s ∷ ss) (n ∷ ns) all before behind is m w =
     let first = told_bind (statement_added before s) (λ b. told_through statement_added b ss) behind is in
-    let one = told_bind (s before.1) (λ d. Ok (plus before.0 d.0, with_names before.1 d.1)) first.0 first.1 in
-    let made : (plus before.0 one.0.0, with_names before.1 one.0.1) ≡ first.0 = ok_is _ first.0 _ refl one.2 in
+    let one = told_bind (s before.1) (λ d. Ok (plus before.0 d.0, sight_with_names before.1 d.1)) first.0 first.1 in
+    let made : (plus before.0 one.0.0, sight_with_names before.1 one.0.1) ≡ first.0 = ok_is _ first.0 _ refl one.2 in
     omega (
       arith,
       all_sized ss ns all.1 first.0 behind first.2 (max m (n + 1))
@@ -232,7 +232,7 @@ block_along t u m n is same h =
     subst P (sym is) (subst Q (sym same) h)
 
 turn_claim : (b : B) (sight : InSight) (name : Text) (k : Kind) → BlockSized (turn_judged name k (block_told b.0) sight) (places_of_block b.0)
-turn_claim b sight name k = b.1 (with_names sight (with_name sight.names name.bytes k usage.Read))
+turn_claim b sight name k = b.1 (sight_with_names sight (with_name sight.names name.bytes k usage.Read))
 
 all_claims : (ss : List S) → AllOnes (map statement_told (map (λ e. e.0) ss)) (map places_of_statement (map (λ e. e.0) ss))
 all_claims [] = tt

@@ -10,13 +10,13 @@ use Rattle.cs_lang.specs.declared.tree.Statement.{Statement, roll-Statement, map
 use Rattle.cs_lang.specs.declared.tree.Action.{Action, roll-Action, map-Action}
 use Rattle.cs_lang.specs.declared.tree.Action.TheOpen.{Block-F, Statement-F, Action-F}
 use Rattle.cs_lang.specs.declared.tree.Action.TheFolds.{ind-Block}
-use Rattle.cs_lang.specs.Fits.{every, itself, number_fits, expr_fits, layer_action, action_fits, block_fits, statement_fits}
+use Rattle.cs_lang.specs.Fits.{every, itself, number_fits, expr_fits, action_layer_fits, action_fits, block_fits, statement_fits}
 use Rattle.cs_types_kinds.specs.declared.kind.Kind.{Kind}
 use Rattle.cs_types_kinds.specs.declared.scope.Use.TheVariants as usage
 use Rattle.cs_types_kinds.specs.declared.expressions.Judged.{Judged}
 use Rattle.cs_types_kinds.specs.Told.{Told}
-use Rattle.cs_types_kinds.specs.Kinds.{int as int_kind}
-use Rattle.cs_types_kinds.specs.Scopes.{InSight, with_name, with_names}
+use Rattle.cs_types_kinds.specs.Kinds.{int_kind as int_kind}
+use Rattle.cs_types_kinds.specs.Scopes.{InSight, with_name, sight_with_names}
 use Rattle.cs_types_kinds.specs.Parts.{part_of}
 use Rattle.cs_types.specs.Stating.{Added, Blocked, Stated}
 use Rattle.cs_types.specs.Blocks.{Acted, action_from_parts, block_told, statement_told, action_told}
@@ -76,7 +76,7 @@ block_along sight t u r s is same h =
     subst P (sym is) (subst Q (sym same) h)
 
 turn_claim : (b : B) → block_fits b.0 ≡ true → (view : View) (sight : InSight) → sight.in_check ≡ true → (name : List ℕ) (k : Kind) → TurnSound sight name k (block_told b.0) (block_run sight.contract view b.0)
-turn_claim b fit view sight checks name k names good = b.1 fit view (with_names sight (with_name sight.names name k usage.Read)) checks names good
+turn_claim b fit view sight checks name k names good = b.1 fit view (sight_with_names sight (with_name sight.names name k usage.Read)) checks names good
 
 kind_is : (e : Expr) (sight : InSight) (view : View) (names : List Named) → Good sight.contract.types sight.names names → (j : Judged) → (part_of sight e).found ≡ Ok j → value_kind sight.contract view e names ≡ Some j.kind
 kind_is e sight view names good j is = (fits.expr_fits e sight view names good.0 j is).0
@@ -99,7 +99,7 @@ all_ones (s ∷ ss) contract view = (one_claim (s, statement_costs s) contract v
 
 module _ (place : ℕ) (view : View) (sight : InSight) (checks : sight.in_check ≡ true) (names : List Named) (good : Good sight.contract.types sight.names names) where
   -- an action whose parts are sound
-  actions : (y : Action-F A B S) → layer_action (action_fit (action_below y)) ≡ true
+  actions : (y : Action-F A B S) → action_layer_fits (action_fit (action_below y)) ≡ true
       → ActSound sight.contract.types (action_from_parts (action_parts (action_below y)) place sight) (action_means sight.contract view (action_from sight.contract view (action_below y)) place names)
   actions (Action-F.Let name e) ok = let_sound sight view names good name e (expr_yields e ok sight view names good.0 good.1) (kind_is e sight view names good)
   actions (Action-F.Set name e) ok = set_sound sight view names good name e (expr_yields e ok sight view names good.0 good.1)

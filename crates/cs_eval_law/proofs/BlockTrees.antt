@@ -6,7 +6,7 @@ use Rattle.cs_lang.specs.declared.tree.Statement.{Statement, roll-Statement, map
 use Rattle.cs_lang.specs.declared.tree.Action.{Action, roll-Action, map-Action}
 use Rattle.cs_lang.specs.declared.tree.Action.TheOpen.{Block-F, Statement-F, Action-F}
 use Rattle.cs_lang.specs.declared.tree.Action.TheFolds.{fold-roll-Action, fold-roll-Block, fold-roll-Statement}
-use Rattle.cs_lang.specs.Fits.{layer_action, layer_block, layer_statement, action_fits, block_fits, statement_fits}
+use Rattle.cs_lang.specs.Fits.{action_layer_fits, block_layer_fits, statement_layer_fits, action_fits, block_fits, statement_fits}
 use Rattle.cs_types.specs.Stating.{Blocked, Stated}
 use Rattle.cs_types.specs.Blocks.{Acted, action_from_parts, block_from_parts, statement_from_parts, action_told, block_told, statement_told}
 use Rattle.cs_eval_values.specs.declared.view.View.{View}
@@ -49,14 +49,14 @@ module _ (contract : ContractTree) (view : View) where
 abbrev pub action_fit : Action-F Action Block Statement → Action-F Bool Bool Bool
 action_fit x = map-Action Action Block Statement Bool Bool Bool action_fits block_fits statement_fits x
 
-pub fit_action : (x : Action-F Action Block Statement) → action_fits (roll-Action x) ≡ layer_action (action_fit x)
+pub fit_action : (x : Action-F Action Block Statement) → action_fits (roll-Action x) ≡ action_layer_fits (action_fit x)
 unfolding action_fits block_fits statement_fits
-fit_action x = fold-roll-Action Bool Bool Bool layer_action layer_block layer_statement x
+fit_action x = fold-roll-Action Bool Bool Bool action_layer_fits block_layer_fits statement_layer_fits x
 
-pub fit_block : (x : Block-F Action Block Statement) → block_fits (roll-Block x) ≡ layer_block (map-Block Action Block Statement Bool Bool Bool action_fits block_fits statement_fits x)
+pub fit_block : (x : Block-F Action Block Statement) → block_fits (roll-Block x) ≡ block_layer_fits (map-Block Action Block Statement Bool Bool Bool action_fits block_fits statement_fits x)
 unfolding action_fits block_fits statement_fits
-fit_block x = fold-roll-Block Bool Bool Bool layer_action layer_block layer_statement x
+fit_block x = fold-roll-Block Bool Bool Bool action_layer_fits block_layer_fits statement_layer_fits x
 
-pub fit_statement : (x : Statement-F Action Block Statement) → statement_fits (roll-Statement x) ≡ layer_statement (map-Statement Action Block Statement Bool Bool Bool action_fits block_fits statement_fits x)
+pub fit_statement : (x : Statement-F Action Block Statement) → statement_fits (roll-Statement x) ≡ statement_layer_fits (map-Statement Action Block Statement Bool Bool Bool action_fits block_fits statement_fits x)
 unfolding action_fits block_fits statement_fits
-fit_statement x = fold-roll-Statement Bool Bool Bool layer_action layer_block layer_statement x
+fit_statement x = fold-roll-Statement Bool Bool Bool action_layer_fits block_layer_fits statement_layer_fits x

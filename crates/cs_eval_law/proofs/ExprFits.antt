@@ -16,11 +16,11 @@ use Rattle.cs_types_kinds.specs.declared.scope.Seen.{Seen}
 use Rattle.cs_types_kinds.specs.declared.scope.Entry.{Entry}
 use Rattle.cs_types_kinds.specs.declared.expressions.Judged.{Judged}
 use Rattle.cs_types_kinds.specs.declared.expressions.Items.{Items}
-use Rattle.cs_types_kinds.specs.Told.{Told, mistyped, unbound, through as told_through, plus}
-use Rattle.cs_types_kinds.specs.Kinds.{int as int_kind, bool as bool_kind, bytes as bytes_kind, same_kind, list_of as list_of_kind, item_of as item_kind, is_list, joins, has_length, kind_of}
-use Rattle.cs_types_kinds.specs.Scopes.{InSight, in_sight, seen}
+use Rattle.cs_types_kinds.specs.Told.{Told, mistyped, unbound, told_through as told_through, plus}
+use Rattle.cs_types_kinds.specs.Kinds.{int_kind as int_kind, bool as bool_kind, bytes_kind as bytes_kind, same_kind, list_kind_of as list_of_kind, item_kind as item_kind, is_list, joins, has_length, spelled_kind}
+use Rattle.cs_types_kinds.specs.Scopes.{InSight, in_sight, name_seen}
 use Rattle.cs_types_kinds.specs.Lookups.{method_number, field_kind}
-use Rattle.cs_types_kinds.specs.Judging.{Part, judged, wanted, seen_judged, name_judged, empty_of, empty_judged, method_judged, called_judged, depint_judged, or_first, kind_of_list, first_item, next_item, any_item, all_items, items_judged, list_judged, len_judged, sha256_judged, concat_with, concat_judged, not_judged, negative_judged, compares, comparing_cost, compared_with, compared_judged, kind_of_rank, link_added, chained, chain_judged, field_of_kind, field_judged, index_judged, step_taken, path_judged}
+use Rattle.cs_types_kinds.specs.Judging.{JudgedPart, judged, wanted, seen_judged, name_judged, empty_of, empty_judged, method_judged, called_judged, depint_judged, or_first, kind_of_list, first_item, next_item, any_item, items_of_parts, items_judged, list_judged, len_judged, sha256_judged, concat_with, concat_judged, not_judged, negative_judged, compares, comparing_cost, compared_with, compared_judged, kind_of_rank, link_added, chained, chain_judged, field_of_kind, field_judged, index_judged, step_taken, path_judged}
 use Rattle.cs_eval_values.specs.declared.stop.Cause.TheVariants as cause
 use Rattle.cs_eval_values.specs.declared.operators.Unary.{Unary}
 use Rattle.cs_eval_values.specs.declared.operators.Unary.TheVariants as one
@@ -28,10 +28,10 @@ use Rattle.cs_eval_values.specs.declared.operators.Binary.{Binary}
 use Rattle.cs_eval_values.specs.declared.operators.Binary.TheVariants as two
 use Rattle.cs_eval_values.specs.Runs.{Run, gives, spend, ◌>>=◌, through, or_trap, spent}
 use Rattle.cs_eval_values.specs.Datums.{Datum, Plain}
-use Rattle.cs_eval_values.specs.Operators.{unary, binary, decides, list_of, with_item, number}
+use Rattle.cs_eval_values.specs.Operators.{unary, binary, left_decides, list_of, with_item, int_number}
 use Rattle.cs_eval_values.specs.Views.{field_of, is_called, returned_int}
 use Rattle.cs_eval_values.specs.Namings.{Named, datum_named, kind_named}
-use Rattle.cs_eval.specs.Kinds.{told_kind, field_of_kind as field_kind_given, list_kind, comparing}
+use Rattle.cs_eval.specs.Kinds.{told_kind, field_of_kind as field_kind_given, list_kind, cost_of_comparing}
 use Rattle.cs_eval.specs.Meaning.{Sight, Meant, Linking, Stepping, run_of, meant, kind_of_meant, named_run, of_one, of_right, of_two, item_run, items_run, link_run, links_run, chain_run, step_run, steps_run, path_run, steps_kind}
 use Rattle.cs_eval_law.proofs.Within.{Within, within_less, within_plus, spent_spend, spent_bind, within_bind, free_or, ok_is}
 use Rattle.cs_eval_law.proofs.Free.{free_unary, free_binary, free_item, free_list, free_field, free_returned, free_leaf}
@@ -71,7 +71,7 @@ cost_of : (b : Bool) (x c : ℕ) (place : ℕ) → cond b (Ok x) (mistyped place
 cost_of true x c place is = ok_is x c (Ok x) refl is
 cost_of false x c place is = absurd cc
 
-pub fits_wanted : (k : Kind) (part : Part) (m : Meant) (c : ℕ) → Fits part.found m → wanted k part ≡ Ok c → Within (spent (run_of m)) c
+pub fits_wanted : (k : Kind) (part : JudgedPart) (m : Meant) (c : ℕ) → Fits part.found m → wanted k part ≡ Ok c → Within (spent (run_of m)) c
 fits_wanted k part m c h is =
     let t = told_bind part.found (λ j. cond (same_kind j.kind k) (Ok j.cost) (mistyped part.first)) c is in
     omega (arith, (h t.0 t.1).1, cost_of (same_kind t.0.kind k) t.0.cost c part.first t.2)
@@ -81,17 +81,17 @@ fits_wanted k part m c h is =
 leaf : (k : Kind) (body : Run Datum) → spent body ≡ 0 → Fits (judged k 1) (meant (Some k) 1 body)
 leaf k body free = fits_judged (meant (Some k) 1 body) k 1 refl (omega (arith, spent_spend 1 body, free))
 
-pub fits_number : (n place : ℕ) → Fits (judged int_kind 1) (meant (Some int_kind) 1 (number n place))
-fits_number n place = leaf int_kind (number n place) (free_leaf n place)
+pub fits_number : (n place : ℕ) → Fits (judged int_kind 1) (meant (Some int_kind) 1 (int_number n place))
+fits_number n place = leaf int_kind (int_number n place) (free_leaf n place)
 
 pub fits_given : (k : Kind) (d : Datum) → Fits (judged k 1) (meant (Some k) 1 (gives d))
 fits_given k d = leaf k (gives d) refl
 
 -- a name, whose kind is the one in sight
 pub fits_name : (sight : InSight) (names : List Named) (name : List ℕ) (place : ℕ)
-    → ((s : Seen) → seen name sight.names ≡ Some s → kind_named name names ≡ Some s.kind)
+    → ((s : Seen) → name_seen name sight.names ≡ Some s → kind_named name names ≡ Some s.kind)
     → Fits (name_judged sight name place) (meant (kind_named name names) 1 (named_run names name place))
-fits_name sight names name place h = seen_fits (seen name sight.names) h
+fits_name sight names name place h = seen_fits (name_seen name sight.names) h
   where
     seen_fits : (o : Option Seen) → ((s : Seen) → o ≡ Some s → kind_named name names ≡ Some s.kind)
         → Fits (seen_judged place o) (meant (kind_named name names) 1 (named_run names name place))
@@ -100,8 +100,8 @@ fits_name sight names name place h = seen_fits (seen name sight.names) h
         fits_judged (meant (kind_named name names) 1 (named_run names name place)) s.kind 1 (h s refl)
         (omega (arith, spent_spend 1 (named_run names name place), free_or cause.Misfit place (datum_named name names)))
 
-pub fits_empty : (k : ValueKind) (place : ℕ) → Fits (empty_judged k place) (meant (kind_of k) 1 (gives (Plain (value.List []))))
-fits_empty k place = empty_fits (kind_of k)
+pub fits_empty : (k : ValueKind) (place : ℕ) → Fits (empty_judged k place) (meant (spelled_kind k) 1 (gives (Plain (value.List []))))
+fits_empty k place = empty_fits (spelled_kind k)
   where
     empty_fits : (o : Option Kind) → Fits (empty_of place o) (meant o 1 (gives (Plain (value.List []))))
     empty_fits None = λ j is. absurd cc
@@ -139,29 +139,29 @@ two_within units op place left right a b v w =
     ))
     (within_plus (spent left + spent right) units (plus a b) units (within_plus (spent left) (spent right) a b v w) (omega arith))
 
-pub fits_len : (part : Part) (m : Meant) (place : ℕ) → Fits part.found m → Fits (len_judged part) (meant (Some int_kind) 1 (of_one one.Len place (run_of m)))
+pub fits_len : (part : JudgedPart) (m : Meant) (place : ℕ) → Fits part.found m → Fits (len_judged part) (meant (Some int_kind) 1 (of_one one.Len place (run_of m)))
 fits_len part m place h =
     let n : Meant = meant (Some int_kind) 1 (of_one one.Len place (run_of m)) in
     fits_bind part.found (λ j. cond (has_length j.kind) (judged int_kind (plus j.cost 1)) (mistyped part.first)) n
     (λ j is. fits_cond (has_length j.kind) (judged int_kind (plus j.cost 1)) part.first n (fits_judged n int_kind (plus j.cost 1) refl (one_within 1 one.Len place (run_of m) j.cost (h j is).1)))
 
-of_wanted : (k : Kind) (units : ℕ) (op : Unary) (result : Kind) (part : Part) (m : Meant) (place : ℕ) → Fits part.found m
+of_wanted : (k : Kind) (units : ℕ) (op : Unary) (result : Kind) (part : JudgedPart) (m : Meant) (place : ℕ) → Fits part.found m
     → Fits (wanted k part >>- λ c. judged result (plus c units)) (meant (Some result) units (of_one op place (run_of m)))
 of_wanted k units op result part m place h =
     let n : Meant = meant (Some result) units (of_one op place (run_of m)) in
     fits_bind (wanted k part) (λ c. judged result (plus c units)) n
     (λ c is. fits_judged n result (plus c units) refl (one_within units op place (run_of m) c (fits_wanted k part m c h is)))
 
-pub fits_sha256 : (part : Part) (m : Meant) (place : ℕ) → Fits part.found m → Fits (sha256_judged part) (meant (Some bytes_kind) 17 (of_one one.Sha256 place (run_of m)))
+pub fits_sha256 : (part : JudgedPart) (m : Meant) (place : ℕ) → Fits part.found m → Fits (sha256_judged part) (meant (Some bytes_kind) 17 (of_one one.Sha256 place (run_of m)))
 fits_sha256 part m place h = of_wanted bytes_kind 17 one.Sha256 bytes_kind part m place h
 
-pub fits_not : (part : Part) (m : Meant) (place : ℕ) → Fits part.found m → Fits (not_judged part) (meant (Some bool_kind) 1 (of_one one.Not place (run_of m)))
+pub fits_not : (part : JudgedPart) (m : Meant) (place : ℕ) → Fits part.found m → Fits (not_judged part) (meant (Some bool_kind) 1 (of_one one.Not place (run_of m)))
 fits_not part m place h = of_wanted bool_kind 1 one.Not bool_kind part m place h
 
-pub fits_negative : (part : Part) (m : Meant) (place : ℕ) → Fits part.found m → Fits (negative_judged part) (meant (Some int_kind) 1 (of_one one.Negative place (run_of m)))
+pub fits_negative : (part : JudgedPart) (m : Meant) (place : ℕ) → Fits part.found m → Fits (negative_judged part) (meant (Some int_kind) 1 (of_one one.Negative place (run_of m)))
 fits_negative part m place h = of_wanted int_kind 1 one.Negative int_kind part m place h
 
-pub fits_concat : (front back : Part) (m n : Meant) (place : ℕ) → Fits front.found m → Fits back.found n
+pub fits_concat : (front back : JudgedPart) (m n : Meant) (place : ℕ) → Fits front.found m → Fits back.found n
     → Fits (concat_judged front back) (meant m.kind 17 (of_two two.Concat place (run_of m) (run_of n)))
 fits_concat front back m n place h g =
     let w : Meant = meant m.kind 17 (of_two two.Concat place (run_of m) (run_of n)) in
@@ -171,28 +171,28 @@ fits_concat front back m n place h g =
     (λ c told. fits_judged w j.kind (plus (plus j.cost c) 17) (h j is).0
     (two_within 17 two.Concat place (run_of m) (run_of n) j.cost c (h j is).1 (fits_wanted j.kind back n c g told)))))
 
-pub fits_compared : (c : Comparison) (left right : Part) (m n : Meant) (place : ℕ) → Fits left.found m → Fits right.found n
-    → Fits (compared_judged c left right) (meant (Some bool_kind) (comparing m.kind) (of_two (two.Compared c) place (run_of m) (run_of n)))
+pub fits_compared : (c : Comparison) (left right : JudgedPart) (m n : Meant) (place : ℕ) → Fits left.found m → Fits right.found n
+    → Fits (compared_judged c left right) (meant (Some bool_kind) (cost_of_comparing m.kind) (of_two (two.Compared c) place (run_of m) (run_of n)))
 fits_compared c left right m n place h g =
-    let w : Meant = meant (Some bool_kind) (comparing m.kind) (of_two (two.Compared c) place (run_of m) (run_of n)) in
+    let w : Meant = meant (Some bool_kind) (cost_of_comparing m.kind) (of_two (two.Compared c) place (run_of m) (run_of n)) in
     fits_bind left.found (λ j. compared_with c j left.first right) w
     (λ j is. fits_cond (compares c j.kind) (wanted j.kind right >>- λ d. judged bool_kind (plus (plus j.cost d) (comparing_cost j.kind))) left.first w
     (fits_bind (wanted j.kind right) (λ d. judged bool_kind (plus (plus j.cost d) (comparing_cost j.kind))) w
     (λ d told. fits_judged w bool_kind (plus (plus j.cost d) (comparing_cost j.kind)) refl
-    (let P : Option Kind → Type 0 = λ k. Within (spent (spend (comparing k) (of_two (two.Compared c) place (run_of m) (run_of n)))) (plus (plus j.cost d) (comparing_cost j.kind)) in
+    (let P : Option Kind → Type 0 = λ k. Within (spent (spend (cost_of_comparing k) (of_two (two.Compared c) place (run_of m) (run_of n)))) (plus (plus j.cost d) (comparing_cost j.kind)) in
     subst P (sym (h j is).0) (two_within (comparing_cost j.kind) (two.Compared c) place (run_of m) (run_of n) j.cost d (h j is).1 (fits_wanted j.kind right n d g told))))))
 
 -- ---- lists
 
 -- each part with its meaning
-abbrev pub AllFit : List Part → List Meant → Type 0
+abbrev pub AllFit : List JudgedPart → List Meant → Type 0
 AllFit [] [] = Unit {0}
 AllFit [] (m ∷ ms) = ⊥
 AllFit (p ∷ ps) [] = ⊥
 AllFit (p ∷ ps) (m ∷ ms) = Fits p.found m × AllFit ps ms
 
 -- items behind others
-behind_fit : (place : ℕ) (parts : List Part) (ms : List Meant) → AllFit parts ms → (so_far : Items) (o : Option Items)
+behind_fit : (place : ℕ) (parts : List JudgedPart) (ms : List Meant) → AllFit parts ms → (so_far : Items) (o : Option Items)
     → told_through (any_item place) (Some so_far) parts ≡ Ok o
     → (items : Items) × (o ≡ Some items) × (items.list ≡ so_far.list)
     × ((n : ℕ) (vs : List Value) → Within n so_far.sum → Within (n + spent (through (item_run place) vs (map run_of ms))) items.sum)
@@ -225,13 +225,13 @@ list_of_kind_is (kind.Value b lists) first place l is = some_told (list_of_kind 
 list_of_kind_is (kind.Object n) first place l is = absurd cc
 list_of_kind_is (kind.Objects n) first place l is = absurd cc
 
-items_fit : (place : ℕ) (parts : List Part) (ms : List Meant) → AllFit parts ms
-    → Fits (all_items place parts >>- items_judged place) (meant (list_kind (map kind_of_meant ms)) 1 (items_run place [] (map run_of ms)))
+items_fit : (place : ℕ) (parts : List JudgedPart) (ms : List Meant) → AllFit parts ms
+    → Fits (items_of_parts place parts >>- items_judged place) (meant (list_kind (map kind_of_meant ms)) 1 (items_run place [] (map run_of ms)))
 items_fit place [] [] all = λ j is. absurd cc
 items_fit place [] (m ∷ ms) all = absurd all
 items_fit place (p ∷ ps) [] all = absurd all
 items_fit place (p ∷ ps) (m ∷ ms) all = λ j is.
-    let outer = told_bind (all_items place (p ∷ ps)) (items_judged place) j is in
+    let outer = told_bind (items_of_parts place (p ∷ ps)) (items_judged place) j is in
     let first = told_bind (any_item place None p) (λ b. told_through (any_item place) b ps) outer.0 outer.1 in
     let begun = told_bind (first_item place p) (λ items. Ok (Some items)) first.0 first.1 in
     let found = told_bind p.found (λ i. kind_of_list i.kind p.first place >>- λ k. Ok (record { item = i.kind; list = k; sum = i.cost })) begun.0 begun.1 in
@@ -257,29 +257,29 @@ items_fit place (p ∷ ps) (m ∷ ms) all = λ j is.
         (omega (arith, spent_spend 1 (items_run place [] (map run_of (m ∷ ms))), spent_bind (through (item_run place) [] (map run_of (m ∷ ms))) (λ all. list_of all place) 0 (λ all. omega (arith, free_list all place))))
         (omega (arith, w, is))
 
-pub fits_list : (place : ℕ) (parts : List Part) (ms : List Meant) → AllFit parts ms
+pub fits_list : (place : ℕ) (parts : List JudgedPart) (ms : List Meant) → AllFit parts ms
     → Fits (list_judged parts place) (meant (list_kind (map kind_of_meant ms)) 1 (items_run place [] (map run_of ms)))
 fits_list place parts ms all =
-    fits_unless (nat_lt MOST_ITEMS (length parts)) (all_items place parts >>- items_judged place) place
+    fits_unless (nat_lt MOST_ITEMS (length parts)) (items_of_parts place parts >>- items_judged place) place
     (meant (list_kind (map kind_of_meant ms)) 1 (items_run place [] (map run_of ms))) (items_fit place parts ms all)
 
 -- ---- chains
 
 -- each right operand with its link
-abbrev pub AllLinked : List Part → List Linking → Type 0
+abbrev pub AllLinked : List JudgedPart → List Linking → Type 0
 AllLinked [] [] = Unit {0}
 AllLinked [] (l ∷ ls) = ⊥
 AllLinked (p ∷ ps) [] = ⊥
 AllLinked (p ∷ ps) (l ∷ ls) = Fits p.found l.right × AllLinked ps ls
 
 link_spends : (left : Datum) (l : Linking) → spent (link_run left l) ≤ spent (run_of l.right)
-link_spends left l = by_cases (decides l.operator left)
+link_spends left l = by_cases (left_decides l.operator left)
   where
     by_cases : (b : Bool) → spent (cond b (gives left) (of_right (two.Linked l.operator) l.place left (run_of l.right))) ≤ spent (run_of l.right)
     by_cases true = omega arith
     by_cases false = omega (arith, spent_bind (run_of l.right) (binary (two.Linked l.operator) l.place left) 0 (λ d. omega (arith, free_binary (two.Linked l.operator) l.place left d)))
 
-links_within : (k : Kind) (parts : List Part) (ls : List Linking) → AllLinked parts ls → (c sum : ℕ) → told_through (link_added k) c parts ≡ Ok sum
+links_within : (k : Kind) (parts : List JudgedPart) (ls : List Linking) → AllLinked parts ls → (c sum : ℕ) → told_through (link_added k) c parts ≡ Ok sum
     → (n : ℕ) (left : Datum) → Within n c → Within (n + length ls + spent (links_run ls left)) sum
 links_within k [] [] all c sum is n left w = omega (arith, w, ok_is c sum (Ok c) refl is)
 links_within k [] (l ∷ ls) all c sum is n left w = absurd all
@@ -296,7 +296,7 @@ links_within k (p ∷ ps) (l ∷ ls) all c sum is n left w =
     (omega (arith, link_spends left l))
     (links_within k ps ls all.1 first.0 sum first.2 (n + (spent (run_of l.right) + 1)) d (omega (arith, here, made)))))
 
-pub fits_chain : (r : Rank) (start : Part) (m : Meant) (parts : List Part) (ls : List Linking) → Fits start.found m → AllLinked parts ls
+pub fits_chain : (r : Rank) (start : JudgedPart) (m : Meant) (parts : List JudgedPart) (ls : List Linking) → Fits start.found m → AllLinked parts ls
     → Fits (chain_judged r start parts) (meant (Some (kind_of_rank r)) (length ls) (chain_run (run_of m) ls))
 fits_chain r start m parts ls h all =
     let k : Kind = kind_of_rank r in
@@ -340,7 +340,7 @@ steps_within (t ∷ ts) (s ∷ ss) all j i is =
           (rest.1 (n + 1 + spent (s.run d)) e (here.1 n d w)))),
     )
 
-pub fits_path : (start : Part) (m : Meant) (ts : List (Judged → Told Judged)) (ss : List Stepping) → Fits start.found m → AllStep ts ss
+pub fits_path : (start : JudgedPart) (m : Meant) (ts : List (Judged → Told Judged)) (ss : List Stepping) → Fits start.found m → AllStep ts ss
     → Fits (path_judged start ts) (meant (steps_kind m.kind ss) (length ss) (path_run (run_of m) ss))
 fits_path start m ts ss h all i is =
     let found = told_bind start.found (λ j. told_through step_taken j ts) i is in
@@ -372,7 +372,7 @@ item_kind_is : (o : Option Kind) (first : ℕ) (l : Kind) → or_first first o �
 item_kind_is None first l is = absurd cc
 item_kind_is (Some k) first l is = ap (λ (x : Kind). Some x) (ok_is k l (Ok k) refl is)
 
-pub fits_index : (index : Part) (m : Meant) (first place : ℕ) → Fits index.found m
+pub fits_index : (index : JudgedPart) (m : Meant) (first place : ℕ) → Fits index.found m
     → StepFits (index_judged index first) (record { kind = item_kind; run = λ d. of_right two.Index place d (run_of m) })
 fits_index index m first place h j i is =
     let item = told_bind (or_first first (item_kind j.kind)) (λ k. wanted int_kind index >>- λ c. judged k (plus (plus j.cost c) 1)) i is in

@@ -16,12 +16,12 @@ use Rattle.cs_lang.specs.declared.tree.Access.TheFolds.{ind-Expr, fold-roll-Acce
 use Rattle.cs_types_kinds.specs.declared.kind.Kind.{Kind}
 use Rattle.cs_types_kinds.specs.declared.expressions.Judged.{Judged}
 use Rattle.cs_types_kinds.specs.declared.expressions.Items.{Items}
-use Rattle.cs_types_kinds.specs.Told.{Told, mistyped, through as told_through, plus}
-use Rattle.cs_types_kinds.specs.Kinds.{int as int_kind, bool as bool_kind, bytes as bytes_kind, same_kind, joins, has_length, item_of as item_kind}
+use Rattle.cs_types_kinds.specs.Told.{Told, mistyped, told_through as told_through, plus}
+use Rattle.cs_types_kinds.specs.Kinds.{int_kind as int_kind, bool as bool_kind, bytes_kind as bytes_kind, same_kind, joins, has_length, item_kind as item_kind}
 use Rattle.cs_types_kinds.specs.Scopes.{InSight}
-use Rattle.cs_types_kinds.specs.Judging.{Part, Stepped, judged, wanted, or_first, kind_of_list, first_item, next_item, any_item, all_items, items_judged, list_judged, len_judged, sha256_judged, concat_with, concat_judged, not_judged, negative_judged, compares, comparing_cost, compared_with, compared_judged, kind_of_rank, link_added, chained, chain_judged, field_of_kind, field_judged, index_judged, step_taken, path_judged}
+use Rattle.cs_types_kinds.specs.Judging.{JudgedPart, Stepped, judged, wanted, or_first, kind_of_list, first_item, next_item, any_item, items_of_parts, items_judged, list_judged, len_judged, sha256_judged, concat_with, concat_judged, not_judged, negative_judged, compares, comparing_cost, compared_with, compared_judged, kind_of_rank, link_added, chained, chain_judged, field_of_kind, field_judged, index_judged, step_taken, path_judged}
 use Rattle.cs_types_kinds.specs.Parts.{Shaped, access_from_parts, shape_from_parts, part_of, shape_part, link_part, step_part}
-use Rattle.cs_places.specs.Places.{in_turn, in_front, access_places, shape_places, expr_places, link_places, step_places, places, places_of_shape, places_of_link, places_of_step, places_of_access}
+use Rattle.cs_eval.specs.Places.{in_turn, in_front, access_places, shape_places, expr_places, link_places, step_places, places, places_of_shape, places_of_link, places_of_step, places_of_access}
 use Rattle.cs_eval_law.proofs.Within.{ok_is}
 use Rattle.cs_eval_law.proofs.ExprFits.{told_bind}
 use Rattle.cs_eval_law.proofs.Trees.{access_part, shape_told, access_told, told_shape, told_access, told_expr, told_link, told_step}
@@ -67,7 +67,7 @@ cost_of : (b : Bool) (x c place : ℕ) → cond b (Ok x) (mistyped place) ≡ Ok
 cost_of true x c place is = ok_is x c (Ok x) refl is
 cost_of false x c place is = absurd cc
 
-pub sized_wanted : (k : Kind) (part : Part) (n c : ℕ) → Sized part.found n → wanted k part ≡ Ok c → Roomy n c
+pub sized_wanted : (k : Kind) (part : JudgedPart) (n c : ℕ) → Sized part.found n → wanted k part ≡ Ok c → Roomy n c
 sized_wanted k part n c h is =
     let t = told_bind part.found (λ j. cond (same_kind j.kind k) (Ok j.cost) (mistyped part.first)) c is in
     omega (arith, h t.0 t.1, cost_of (same_kind t.0.kind k) t.0.cost c part.first t.2)
@@ -77,18 +77,18 @@ sized_wanted k part n c h is =
 sized_leaf : (t : Told Judged) → Sized t 0
 sized_leaf t = λ j is. omega arith
 
-sized_len : (part : Part) (n : ℕ) → Sized part.found n → Sized (len_judged part) (n + 1)
+sized_len : (part : JudgedPart) (n : ℕ) → Sized part.found n → Sized (len_judged part) (n + 1)
 sized_len part n h =
     sized_bind part.found (λ j. cond (has_length j.kind) (judged int_kind (plus j.cost 1)) (mistyped part.first)) (n + 1)
     (λ j is. sized_cond (has_length j.kind) (judged int_kind (plus j.cost 1)) part.first (n + 1) (sized_judged (n + 1) int_kind (plus j.cost 1) (roomy_one n j.cost 1 (omega arith) (h j is))))
 
-of_wanted : (k : Kind) (units : ℕ) (result : Kind) (part : Part) (n : ℕ) → 1 ≤ units → Sized part.found n
+of_wanted : (k : Kind) (units : ℕ) (result : Kind) (part : JudgedPart) (n : ℕ) → 1 ≤ units → Sized part.found n
     → Sized (wanted k part >>- λ c. judged result (plus c units)) (n + 1)
 of_wanted k units result part n some h =
     sized_bind (wanted k part) (λ c. judged result (plus c units)) (n + 1)
     (λ c is. sized_judged (n + 1) result (plus c units) (roomy_one n c units some (sized_wanted k part n c h is)))
 
-sized_concat : (front back : Part) (m n : ℕ) → Sized front.found m → Sized back.found n → Sized (concat_judged front back) (max m n + 1)
+sized_concat : (front back : JudgedPart) (m n : ℕ) → Sized front.found m → Sized back.found n → Sized (concat_judged front back) (max m n + 1)
 sized_concat front back m n h g =
     sized_bind front.found (λ j. concat_with j front.first back) (max m n + 1)
     (λ j is. sized_cond (joins j.kind) (wanted j.kind back >>- λ c. judged j.kind (plus (plus j.cost c) 17)) front.first (max m n + 1)
@@ -102,7 +102,7 @@ comparing_some k = by_cases (same_kind k bytes_kind)
     by_cases true = omega arith
     by_cases false = omega arith
 
-sized_compared : (c : Comparison) (left right : Part) (m n : ℕ) → Sized left.found m → Sized right.found n → Sized (compared_judged c left right) (max m n + 1)
+sized_compared : (c : Comparison) (left right : JudgedPart) (m n : ℕ) → Sized left.found m → Sized right.found n → Sized (compared_judged c left right) (max m n + 1)
 sized_compared c left right m n h g =
     sized_bind left.found (λ j. compared_with c j left.first right) (max m n + 1)
     (λ j is. sized_cond (compares c j.kind) (wanted j.kind right >>- λ d. judged bool_kind (plus (plus j.cost d) (comparing_cost j.kind))) left.first (max m n + 1)
@@ -111,14 +111,14 @@ sized_compared c left right m n h g =
 
 -- ---- lists
 
-abbrev pub AllSized : List Part → List ℕ → Type 0
+abbrev pub AllSized : List JudgedPart → List ℕ → Type 0
 AllSized [] [] = Unit {0}
 AllSized [] (n ∷ ns) = ⊥
 AllSized (p ∷ ps) [] = ⊥
 AllSized (p ∷ ps) (n ∷ ns) = Sized p.found n × AllSized ps ns
 
 -- items behind others
-behind_sized : (place : ℕ) (parts : List Part) (ns : List ℕ) → AllSized parts ns → (so_far : Items) (o : Option Items)
+behind_sized : (place : ℕ) (parts : List JudgedPart) (ns : List ℕ) → AllSized parts ns → (so_far : Items) (o : Option Items)
     → told_through (any_item place) (Some so_far) parts ≡ Ok o
     → (items : Items) × (o ≡ Some items) × ((m : ℕ) → RoomyAbove m so_far.sum → RoomyAbove (max m (in_turn ns)) items.sum)
 behind_sized place [] [] all so_far o is = (so_far, sym (ok_is (Some so_far) o (Ok (Some so_far)) refl is), λ m w. omega (arith, w))
@@ -136,12 +136,12 @@ behind_sized place (p ∷ ps) (n ∷ ns) all so_far o is =
       λ m w. omega (arith, rest.2 (max m (n + 1)) (omega (arith, w, sized_wanted so_far.item p n want.0 all.0 want.1, ap (λ (i : Items). i.sum) made))),
     )
 
-items_sized : (place : ℕ) (parts : List Part) (ns : List ℕ) → AllSized parts ns → Sized (all_items place parts >>- items_judged place) (in_turn ns)
+items_sized : (place : ℕ) (parts : List JudgedPart) (ns : List ℕ) → AllSized parts ns → Sized (items_of_parts place parts >>- items_judged place) (in_turn ns)
 items_sized place [] [] all = λ j is. absurd cc
 items_sized place [] (n ∷ ns) all = absurd all
 items_sized place (p ∷ ps) [] all = absurd all
 items_sized place (p ∷ ps) (n ∷ ns) all = λ j is.
-    let outer = told_bind (all_items place (p ∷ ps)) (items_judged place) j is in
+    let outer = told_bind (items_of_parts place (p ∷ ps)) (items_judged place) j is in
     let first = told_bind (any_item place None p) (λ b. told_through (any_item place) b ps) outer.0 outer.1 in
     let begun = told_bind (first_item place p) (λ items. Ok (Some items)) first.0 first.1 in
     let found = told_bind p.found (λ i. kind_of_list i.kind p.first place >>- λ k. Ok (record { item = i.kind; list = k; sum = i.cost })) begun.0 begun.1 in
@@ -156,19 +156,19 @@ items_sized place (p ∷ ps) (n ∷ ns) all = λ j is.
       ap (λ (i : Judged). i.cost) whole,
     )
 
-sized_list : (place : ℕ) (parts : List Part) (ns : List ℕ) → AllSized parts ns → Sized (list_judged parts place) (in_turn ns)
+sized_list : (place : ℕ) (parts : List JudgedPart) (ns : List ℕ) → AllSized parts ns → Sized (list_judged parts place) (in_turn ns)
 sized_list place parts ns all =
-    sized_unless (nat_lt MOST_ITEMS (length parts)) (all_items place parts >>- items_judged place) place (in_turn ns) (items_sized place parts ns all)
+    sized_unless (nat_lt MOST_ITEMS (length parts)) (items_of_parts place parts >>- items_judged place) place (in_turn ns) (items_sized place parts ns all)
 
 -- ---- chains: a right operand waits for two places
 
-abbrev pub AllLinked : List Part → List ℕ → Type 0
+abbrev pub AllLinked : List JudgedPart → List ℕ → Type 0
 AllLinked [] [] = Unit {0}
 AllLinked [] (n ∷ ns) = ⊥
 AllLinked (p ∷ ps) [] = ⊥
 AllLinked (p ∷ ps) (n ∷ ns) = ((m : ℕ) × (n ≡ m + 1) × Sized p.found m) × AllLinked ps ns
 
-links_sized : (k : Kind) (parts : List Part) (ns : List ℕ) → AllLinked parts ns → (c sum : ℕ) → told_through (link_added k) c parts ≡ Ok sum
+links_sized : (k : Kind) (parts : List JudgedPart) (ns : List ℕ) → AllLinked parts ns → (c sum : ℕ) → told_through (link_added k) c parts ≡ Ok sum
     → (m : ℕ) → Roomy m c → Roomy (max m (in_turn ns)) sum
 links_sized k [] [] all c sum is m w = omega (arith, w, ok_is c sum (Ok c) refl is)
 links_sized k [] (n ∷ ns) all c sum is m w = absurd all
@@ -181,7 +181,7 @@ links_sized k (p ∷ ps) (n ∷ ns) all c sum is m w =
     omega (arith, links_sized k ps ns all.1 first.0 sum first.2 (max m (n + 1)) (omega (arith, w, right, made, all.0.1)))
 
 -- the leftmost operand waits for a place where an operator stands behind it
-front_linked : (k : Kind) (parts : List Part) (ns : List ℕ) → AllLinked parts ns → (start c sum : ℕ) → Roomy start c → told_through (link_added k) c parts ≡ Ok sum
+front_linked : (k : Kind) (parts : List JudgedPart) (ns : List ℕ) → AllLinked parts ns → (start c sum : ℕ) → Roomy start c → told_through (link_added k) c parts ≡ Ok sum
     → Roomy (in_front start ns) sum
 front_linked k [] [] all start c sum w is = omega (arith, w, ok_is c sum (Ok c) refl is)
 front_linked k [] (n ∷ ns) all start c sum w is = absurd all
@@ -193,7 +193,7 @@ front_linked k (p ∷ ps) (n ∷ ns) all start c sum w is =
     let right : Roomy all.0.0 want.0 = sized_wanted k p all.0.0 want.0 all.0.2 want.1 in
     omega (arith, links_sized k ps ns all.1 first.0 sum first.2 (max (start + 1) (n + 1)) (omega (arith, w, right, made, all.0.1)))
 
-sized_chain : (r : Rank) (start : Part) (m : ℕ) (parts : List Part) (ns : List ℕ) → Sized start.found m → AllLinked parts ns → Sized (chain_judged r start parts) (in_front m ns)
+sized_chain : (r : Rank) (start : JudgedPart) (m : ℕ) (parts : List JudgedPart) (ns : List ℕ) → Sized start.found m → AllLinked parts ns → Sized (chain_judged r start parts) (in_front m ns)
 sized_chain r start m parts ns h all =
     let k : Kind = kind_of_rank r in
     sized_bind (wanted k start) (λ c. chained k c parts) (in_front m ns)
@@ -232,7 +232,7 @@ front_stepped (t ∷ ts) (n ∷ ns) all start j i w is =
     let here = all.0 j first.0 first.1 in
     omega (arith, steps_sized ts ns all.1 first.0 i first.2 (max (start + 1) (n + 1)) (omega (arith, here.0, here.1 (start + 1) (omega (arith, w)))))
 
-sized_path : (start : Part) (m : ℕ) (ts : List (Judged → Told Judged)) (ns : List ℕ) → Sized start.found m → AllStep ts ns → Sized (path_judged start ts) (in_front m ns)
+sized_path : (start : JudgedPart) (m : ℕ) (ts : List (Judged → Told Judged)) (ns : List ℕ) → Sized start.found m → AllStep ts ns → Sized (path_judged start ts) (in_front m ns)
 sized_path start m ts ns h all i is =
     let found = told_bind start.found (λ j. told_through step_taken j ts) i is in
     front_stepped ts ns all m found.0 i (h found.0 found.1) found.2
@@ -244,7 +244,7 @@ sized_field sight name first j i is =
     let cost : plus j.cost 1 ≡ i.cost = ap (λ (x : Judged). x.cost) made in
     (omega (arith, cost), λ m w. omega (arith, w, cost))
 
-sized_index : (index : Part) (n first : ℕ) → Sized index.found n → StepSized (index_judged index first) (n + 1)
+sized_index : (index : JudgedPart) (n first : ℕ) → Sized index.found n → StepSized (index_judged index first) (n + 1)
 sized_index index n first h j i is =
     let item = told_bind (or_first first (item_kind j.kind)) (λ k. wanted int_kind index >>- λ c. judged k (plus (plus j.cost c) 1)) i is in
     let want = told_bind (wanted int_kind index) (λ c. judged item.0 (plus (plus j.cost c) 1)) i item.2 in
@@ -382,13 +382,13 @@ access_step x y is = subst (λ z. AccessClaim (roll-Access z)) is (λ sight firs
 
 expr_step : (x : Expr-F Access Shape Expr Link Step) (y : Expr-F A S E L T) → expr_below y ≡ x → ExprClaim (roll-Expr x)
 expr_step x y is = subst (λ z. ExprClaim (roll-Expr z)) is (λ sight.
-    sized_along _ _ _ _ (ap (λ (p : Part). p.found) (told_expr sight (expr_below y))) (counted_expr (expr_below y)) (y.shape.1 sight y.place))
+    sized_along _ _ _ _ (ap (λ (p : JudgedPart). p.found) (told_expr sight (expr_below y))) (counted_expr (expr_below y)) (y.shape.1 sight y.place))
 
 link_step : (x : Link-F Access Shape Expr Link Step) (y : Link-F A S E L T) → link_below y ≡ x → LinkClaim (roll-Link x)
 link_step x y is = subst (λ z. LinkClaim (roll-Link z)) is (λ sight. (
   places y.right.0,
   counted_link (link_below y),
-  sized_along _ _ _ _ (ap (λ (p : Part). p.found) (told_link sight (link_below y))) refl (y.right.1 sight),
+  sized_along _ _ _ _ (ap (λ (p : JudgedPart). p.found) (told_link sight (link_below y))) refl (y.right.1 sight),
 ))
 
 step_step : (x : Step-F Access Shape Expr Link Step) (y : Step-F A S E L T) → step_below y ≡ x → StepClaim (roll-Step x)

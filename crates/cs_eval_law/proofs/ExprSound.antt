@@ -21,11 +21,11 @@ use Rattle.cs_types_kinds.specs.declared.kind.Base.{Base}
 use Rattle.cs_types_kinds.specs.declared.scope.Seen.{Seen}
 use Rattle.cs_types_kinds.specs.declared.expressions.Judged.{Judged}
 use Rattle.cs_types_kinds.specs.declared.expressions.Items.{Items}
-use Rattle.cs_types_kinds.specs.Told.{Told, mistyped, unbound, through as told_through, plus}
-use Rattle.cs_types_kinds.specs.Kinds.{int as int_kind, bool as bool_kind, bytes as bytes_kind, same_kind, list_of as list_of_kind, item_of as item_kind, is_list, joins, has_length, kind_of}
-use Rattle.cs_types_kinds.specs.Scopes.{InSight, seen}
-use Rattle.cs_types_kinds.specs.Lookups.{method_number, or_mistyped, declared_kind, is_named_field, named_field, field_in as told_field, field_kind}
-use Rattle.cs_types_kinds.specs.Judging.{Part, judged, wanted, seen_judged, name_judged, empty_of, empty_judged, method_judged, called_judged, depint_judged, or_first, kind_of_list, first_item, next_item, any_item, all_items, items_judged, list_judged, len_judged, sha256_judged, concat_with, concat_judged, not_judged, negative_judged, compares, comparing_cost, compared_with, compared_judged, kind_of_rank, link_added, chained, chain_judged, field_of_kind, field_judged, index_judged, step_taken, path_judged}
+use Rattle.cs_types_kinds.specs.Told.{Told, mistyped, unbound, told_through as told_through, plus}
+use Rattle.cs_types_kinds.specs.Kinds.{int_kind as int_kind, bool as bool_kind, bytes_kind as bytes_kind, same_kind, list_kind_of as list_of_kind, item_kind as item_kind, is_list, joins, has_length, spelled_kind}
+use Rattle.cs_types_kinds.specs.Scopes.{InSight, name_seen}
+use Rattle.cs_types_kinds.specs.Lookups.{method_number, or_mistyped, declared_kind, is_named_field, named_field, field_kind_in as told_field, field_kind}
+use Rattle.cs_types_kinds.specs.Judging.{JudgedPart, judged, wanted, seen_judged, name_judged, empty_of, empty_judged, method_judged, called_judged, depint_judged, or_first, kind_of_list, first_item, next_item, any_item, items_of_parts, items_judged, list_judged, len_judged, sha256_judged, concat_with, concat_judged, not_judged, negative_judged, compares, comparing_cost, compared_with, compared_judged, kind_of_rank, link_added, chained, chain_judged, field_of_kind, field_judged, index_judged, step_taken, path_judged}
 use Rattle.cs_eval_values.specs.declared.stop.Cause.TheVariants as cause
 use Rattle.cs_eval_values.specs.declared.operators.Unary.{Unary}
 use Rattle.cs_eval_values.specs.declared.operators.Unary.TheVariants as one
@@ -33,12 +33,12 @@ use Rattle.cs_eval_values.specs.declared.operators.Binary.{Binary}
 use Rattle.cs_eval_values.specs.declared.operators.Binary.TheVariants as two
 use Rattle.cs_eval_values.specs.declared.view.View.{View}
 use Rattle.cs_eval_values.specs.Runs.{Run, gives, spend, ◌>>=◌, through, or_trap}
-use Rattle.cs_eval_values.specs.Datums.{Datum, Plain, One, Many, object_of}
-use Rattle.cs_eval_values.specs.Operators.{int, truth, text, unary, binary, decides, list_of, with_item, number}
-use Rattle.cs_eval_values.specs.Filling.{is_of, has_kind, values_fit}
-use Rattle.cs_eval_values.specs.Views.{is_field, place_of, value_at, type_named, field_in, field_of, is_called, int_of_value, returned, returned_int}
-use Rattle.cs_eval_values.specs.Namings.{Named, is_named, find_named, datum_in, kind_in, datum_named, kind_named}
-use Rattle.cs_eval.specs.Kinds.{field_of_kind as field_kind_given, list_kind, comparing}
+use Rattle.cs_eval_values.specs.Datums.{Datum, Plain, One, Many, object_of_datum}
+use Rattle.cs_eval_values.specs.Operators.{int, truth, text, unary, binary, left_decides, list_of, with_item, int_number}
+use Rattle.cs_eval_values.specs.Filling.{is_list_of, has_kind, values_fit}
+use Rattle.cs_eval_values.specs.Views.{is_field, field_place, field_value, type_named, field_in, field_of, is_called, int_of_value, returned, returned_int}
+use Rattle.cs_eval_values.specs.Namings.{Named, is_of_name, find_named, datum_in, kind_in, datum_named, kind_named}
+use Rattle.cs_eval.specs.Kinds.{field_of_kind as field_kind_given, list_kind, cost_of_comparing}
 use Rattle.cs_eval.specs.Meaning.{Meant, Linking, Stepping, run_of, meant, kind_of_meant, named_run, of_one, of_right, of_two, item_run, items_run, link_run, links_run, chain_run, steps_run, path_run, steps_kind}
 use Rattle.cs_eval_law.proofs.Within.{ok_is, some_is}
 use Rattle.cs_eval_law.proofs.ExprFits.{told_bind}
@@ -59,7 +59,7 @@ Yields types told m = (j : Judged) → told ≡ Ok j → Sound (HasKind types j.
 pub found_kinded : (types : List TypeDef) (ns : List Named) (name : List ℕ) (k : Kind) → AreKinded types ns → kind_named name ns ≡ Some k
     → (d : Datum) × (datum_named name ns ≡ Some d) × HasKind types k d
 found_kinded types [] name k all is = absurd cc
-found_kinded types (n ∷ ns) name k all is = by_test (λ h. found_kinded types ns name k all.1 h) (is_named name n) is
+found_kinded types (n ∷ ns) name k all is = by_test (λ h. found_kinded types ns name k all.1 h) (is_of_name name n) is
   where
     by_test : (kind_named name ns ≡ Some k → (d : Datum) × (datum_named name ns ≡ Some d) × HasKind types k d) → (b : Bool)
         → kind_in (cond b (Some n) (find_named name ns)) ≡ Some k → (d : Datum) × (datum_in (cond b (Some n) (find_named name ns)) ≡ Some d) × HasKind types k d
@@ -90,7 +90,7 @@ module _ (types : List TypeDef) where
   kind_wanted true x c place is = refl
   kind_wanted false x c place is = absurd cc
 
-  pub yields_wanted : (k : Kind) (part : Part) (m : Meant) (c : ℕ) → Yields types part.found m → wanted k part ≡ Ok c → Sound (HasKind types k) (run_of m)
+  pub yields_wanted : (k : Kind) (part : JudgedPart) (m : Meant) (c : ℕ) → Yields types part.found m → wanted k part ≡ Ok c → Sound (HasKind types k) (run_of m)
   yields_wanted k part m c h is =
       let t = told_bind part.found (λ j. cond (same_kind j.kind k) (Ok j.cost) (mistyped part.first)) c is in
       let P : Kind → Type 0 = λ i. Sound (HasKind types i) (run_of m) in
@@ -98,16 +98,16 @@ module _ (types : List TypeDef) where
 
   -- ---- leaves
 
-  pub yields_number : (n place : ℕ) → Yields types (judged int_kind 1) (meant (Some int_kind) 1 (number n place))
-  yields_number n place = yields_judged (meant (Some int_kind) 1 (number n place)) int_kind 1 (sound_spend (HasKind types int_kind) 1 (number n place) (number_sound types n place))
+  pub yields_number : (n place : ℕ) → Yields types (judged int_kind 1) (meant (Some int_kind) 1 (int_number n place))
+  yields_number n place = yields_judged (meant (Some int_kind) 1 (int_number n place)) int_kind 1 (sound_spend (HasKind types int_kind) 1 (int_number n place) (number_sound types n place))
 
   pub yields_given : (o : Option Kind) (k : Kind) (d : Datum) → HasKind types k d → Yields types (judged k 1) (meant o 1 (gives d))
   yields_given o k d h = yields_judged (meant o 1 (gives d)) k 1 h
 
   pub yields_name : (sight : InSight) (names : List Named) (name : List ℕ) (place : ℕ) → AreKinded types names
-      → ((s : Seen) → seen name sight.names ≡ Some s → kind_named name names ≡ Some s.kind)
+      → ((s : Seen) → name_seen name sight.names ≡ Some s → kind_named name names ≡ Some s.kind)
       → Yields types (name_judged sight name place) (meant (kind_named name names) 1 (named_run names name place))
-  yields_name sight names name place all h = by_seen (seen name sight.names) h
+  yields_name sight names name place all h = by_seen (name_seen name sight.names) h
     where
       by_seen : (o : Option Seen) → ((s : Seen) → o ≡ Some s → kind_named name names ≡ Some s.kind)
           → Yields types (seen_judged place o) (meant (kind_named name names) 1 (named_run names name place))
@@ -118,8 +118,8 @@ module _ (types : List TypeDef) where
           (sound_spend (HasKind types s.kind) 1 (named_run names name place)
           (let P : Option Datum → Type 0 = λ o. Sound (HasKind types s.kind) (or_trap cause.Misfit place o) in subst P (sym found.1) found.2))
 
-  pub yields_empty : (k : ValueKind) (place : ℕ) → Yields types (empty_judged k place) (meant (kind_of k) 1 (gives (Plain (value.List []))))
-  yields_empty k place = by_kind (kind_of k)
+  pub yields_empty : (k : ValueKind) (place : ℕ) → Yields types (empty_judged k place) (meant (spelled_kind k) 1 (gives (Plain (value.List []))))
+  yields_empty k place = by_kind (spelled_kind k)
     where
       by_kind : (o : Option Kind) → Yields types (empty_of place o) (meant o 1 (gives (Plain (value.List []))))
       by_kind None = λ j is. absurd cc
@@ -161,14 +161,14 @@ module _ (types : List TypeDef) where
       (sound_bind (HasKind types k) (HasKind types result) (run_of m) (λ a. of_right op place a (run_of n)) h
       (λ a ha. sound_bind (HasKind types l) (HasKind types result) (run_of n) (binary op place a) g (λ b hb. f a b ha hb)))
 
-  pub yields_len : (part : Part) (m : Meant) (place : ℕ) → Yields types part.found m → Yields types (len_judged part) (meant (Some int_kind) 1 (of_one one.Len place (run_of m)))
+  pub yields_len : (part : JudgedPart) (m : Meant) (place : ℕ) → Yields types part.found m → Yields types (len_judged part) (meant (Some int_kind) 1 (of_one one.Len place (run_of m)))
   yields_len part m place h =
       let n : Meant = meant (Some int_kind) 1 (of_one one.Len place (run_of m)) in
       yields_bind part.found (λ j. cond (has_length j.kind) (judged int_kind (plus j.cost 1)) (mistyped part.first)) n
       (λ j is. yields_where (has_length j.kind) (judged int_kind (plus j.cost 1)) part.first n
       (λ long. yields_judged n int_kind (plus j.cost 1) (one_sound (Some int_kind) j.kind int_kind 1 one.Len place m (h j is) (λ d has. len_sound types j.kind place d long has))))
 
-  of_wanted : (k : Kind) (units : ℕ) (op : Unary) (result : Kind) (part : Part) (m : Meant) (place : ℕ) → Yields types part.found m
+  of_wanted : (k : Kind) (units : ℕ) (op : Unary) (result : Kind) (part : JudgedPart) (m : Meant) (place : ℕ) → Yields types part.found m
       → ((d : Datum) → HasKind types k d → Sound (HasKind types result) (unary op place d))
       → Yields types (wanted k part >>- λ c. judged result (plus c units)) (meant (Some result) units (of_one op place (run_of m)))
   of_wanted k units op result part m place h g =
@@ -176,16 +176,16 @@ module _ (types : List TypeDef) where
       yields_bind (wanted k part) (λ c. judged result (plus c units)) n
       (λ c is. yields_judged n result (plus c units) (one_sound (Some result) k result units op place m (yields_wanted k part m c h is) g))
 
-  pub yields_sha256 : (part : Part) (m : Meant) (place : ℕ) → Yields types part.found m → Yields types (sha256_judged part) (meant (Some bytes_kind) 17 (of_one one.Sha256 place (run_of m)))
+  pub yields_sha256 : (part : JudgedPart) (m : Meant) (place : ℕ) → Yields types part.found m → Yields types (sha256_judged part) (meant (Some bytes_kind) 17 (of_one one.Sha256 place (run_of m)))
   yields_sha256 part m place h = of_wanted bytes_kind 17 one.Sha256 bytes_kind part m place h (λ d has. hash_sound types place d has)
 
-  pub yields_not : (part : Part) (m : Meant) (place : ℕ) → Yields types part.found m → Yields types (not_judged part) (meant (Some bool_kind) 1 (of_one one.Not place (run_of m)))
+  pub yields_not : (part : JudgedPart) (m : Meant) (place : ℕ) → Yields types part.found m → Yields types (not_judged part) (meant (Some bool_kind) 1 (of_one one.Not place (run_of m)))
   yields_not part m place h = of_wanted bool_kind 1 one.Not bool_kind part m place h (λ d has. not_sound types place d has)
 
-  pub yields_negative : (part : Part) (m : Meant) (place : ℕ) → Yields types part.found m → Yields types (negative_judged part) (meant (Some int_kind) 1 (of_one one.Negative place (run_of m)))
+  pub yields_negative : (part : JudgedPart) (m : Meant) (place : ℕ) → Yields types part.found m → Yields types (negative_judged part) (meant (Some int_kind) 1 (of_one one.Negative place (run_of m)))
   yields_negative part m place h = of_wanted int_kind 1 one.Negative int_kind part m place h (λ d has. negative_sound types place d has)
 
-  pub yields_concat : (front back : Part) (m n : Meant) (place : ℕ) → Yields types front.found m → Yields types back.found n
+  pub yields_concat : (front back : JudgedPart) (m n : Meant) (place : ℕ) → Yields types front.found m → Yields types back.found n
       → Yields types (concat_judged front back) (meant m.kind 17 (of_two two.Concat place (run_of m) (run_of n)))
   yields_concat front back m n place h g =
       let w : Meant = meant m.kind 17 (of_two two.Concat place (run_of m) (run_of n)) in
@@ -196,27 +196,27 @@ module _ (types : List TypeDef) where
       (two_sound m.kind j.kind j.kind j.kind 17 two.Concat place m n (h j is) (yields_wanted j.kind back n c g told)
       (λ a b ha hb. concat_sound types j.kind place a b can ha hb)))))
 
-  pub yields_compared : (c : Comparison) (left right : Part) (m n : Meant) (place : ℕ) → Yields types left.found m → Yields types right.found n
-      → Yields types (compared_judged c left right) (meant (Some bool_kind) (comparing m.kind) (of_two (two.Compared c) place (run_of m) (run_of n)))
+  pub yields_compared : (c : Comparison) (left right : JudgedPart) (m n : Meant) (place : ℕ) → Yields types left.found m → Yields types right.found n
+      → Yields types (compared_judged c left right) (meant (Some bool_kind) (cost_of_comparing m.kind) (of_two (two.Compared c) place (run_of m) (run_of n)))
   yields_compared c left right m n place h g =
-      let w : Meant = meant (Some bool_kind) (comparing m.kind) (of_two (two.Compared c) place (run_of m) (run_of n)) in
+      let w : Meant = meant (Some bool_kind) (cost_of_comparing m.kind) (of_two (two.Compared c) place (run_of m) (run_of n)) in
       yields_bind left.found (λ j. compared_with c j left.first right) w
       (λ j is. yields_where (compares c j.kind) (wanted j.kind right >>- λ d. judged bool_kind (plus (plus j.cost d) (comparing_cost j.kind))) left.first w
       (λ can. yields_bind (wanted j.kind right) (λ d. judged bool_kind (plus (plus j.cost d) (comparing_cost j.kind))) w
       (λ d told. yields_judged w bool_kind (plus (plus j.cost d) (comparing_cost j.kind))
-      (two_sound (Some bool_kind) j.kind j.kind bool_kind (comparing m.kind) (two.Compared c) place m n (h j is) (yields_wanted j.kind right n d g told)
+      (two_sound (Some bool_kind) j.kind j.kind bool_kind (cost_of_comparing m.kind) (two.Compared c) place m n (h j is) (yields_wanted j.kind right n d g told)
       (λ a b ha hb. compared_sound types c j.kind place a b can ha hb)))))
 
   -- ---- chains
 
   -- each right operand with its link, whose operator is of the rank
-  abbrev pub AllLinks : Rank → List Part → List Linking → Type 0
+  abbrev pub AllLinks : Rank → List JudgedPart → List Linking → Type 0
   AllLinks r [] [] = Unit {0}
   AllLinks r [] (l ∷ ls) = ⊥
   AllLinks r (p ∷ ps) [] = ⊥
   AllLinks r (p ∷ ps) (l ∷ ls) = (Yields types p.found l.right × (is_of_rank r l.operator ≡ true)) × AllLinks r ps ls
 
-  links_sound : (r : Rank) (parts : List Part) (ls : List Linking) → AllLinks r parts ls → (c sum : ℕ) → told_through (link_added (kind_of_rank r)) c parts ≡ Ok sum
+  links_sound : (r : Rank) (parts : List JudgedPart) (ls : List Linking) → AllLinks r parts ls → (c sum : ℕ) → told_through (link_added (kind_of_rank r)) c parts ≡ Ok sum
       → (left : Datum) → HasKind types (kind_of_rank r) left → Sound (HasKind types (kind_of_rank r)) (links_run ls left)
   links_sound r [] [] all c sum is left h = h
   links_sound r [] (l ∷ ls) all c sum is left h = absurd all
@@ -226,12 +226,12 @@ module _ (types : List TypeDef) where
       let first = told_bind (link_added k c p) (λ b. told_through (link_added k) b ps) sum is in
       let want = told_bind (wanted k p) (λ d. Ok (plus c (plus d 1))) first.0 first.1 in
       sound_bind (HasKind types k) (HasKind types k) (link_run left l) (λ d. links_run ls d)
-      (sound_cond (HasKind types k) (decides l.operator left) (gives left) (of_right (two.Linked l.operator) l.place left (run_of l.right)) h
+      (sound_cond (HasKind types k) (left_decides l.operator left) (gives left) (of_right (two.Linked l.operator) l.place left (run_of l.right)) h
       (sound_bind (HasKind types k) (HasKind types k) (run_of l.right) (binary (two.Linked l.operator) l.place left) (yields_wanted k p l.right want.0 all.0.0 want.1)
       (λ d hd. linked_sound types r l.operator l.place left d all.0.1 h hd)))
       (λ d hd. links_sound r ps ls all.1 first.0 sum first.2 d hd)
 
-  pub yields_chain : (r : Rank) (start : Part) (m : Meant) (parts : List Part) (ls : List Linking) → Yields types start.found m → AllLinks r parts ls
+  pub yields_chain : (r : Rank) (start : JudgedPart) (m : Meant) (parts : List JudgedPart) (ls : List Linking) → Yields types start.found m → AllLinks r parts ls
       → Yields types (chain_judged r start parts) (meant (Some (kind_of_rank r)) (length ls) (chain_run (run_of m) ls))
   yields_chain r start m parts ls h all =
       let k : Kind = kind_of_rank r in
@@ -263,7 +263,7 @@ module _ (types : List TypeDef) where
       sound_bind (HasKind types first.0.kind) (HasKind types i.kind) (s.run d) (λ e. steps_run ss e) (all.0 j first.0 first.1 d h)
       (λ e he. steps_sound ts ss all.1 first.0 i first.2 e he)
 
-  pub yields_path : (start : Part) (m : Meant) (ts : List (Judged → Told Judged)) (ss : List Stepping) → Yields types start.found m → AllSteps ts ss
+  pub yields_path : (start : JudgedPart) (m : Meant) (ts : List (Judged → Told Judged)) (ss : List Stepping) → Yields types start.found m → AllSteps ts ss
       → Yields types (path_judged start ts) (meant (steps_kind m.kind ss) (length ss) (path_run (run_of m) ss))
   yields_path start m ts ss h all i is =
       let found = told_bind start.found (λ j. told_through step_taken j ts) i is in
@@ -274,7 +274,7 @@ module _ (types : List TypeDef) where
   some_first None first l is = absurd cc
   some_first (Some k) first l is = ap (λ (x : Kind). Some x) (ok_is k l (Ok k) refl is)
 
-  pub yields_index : (index : Part) (m : Meant) (first place : ℕ) → Yields types index.found m
+  pub yields_index : (index : JudgedPart) (m : Meant) (first place : ℕ) → Yields types index.found m
       → StepYields (index_judged index first) (record { kind = item_kind; run = λ d. of_right two.Index place d (run_of m) })
   yields_index index m first place h j i is d hd =
       let item = told_bind (or_first first (item_kind j.kind)) (λ k. wanted int_kind index >>- λ c. judged k (plus (plus j.cost c) 1)) i is in
@@ -300,26 +300,26 @@ field_at : (name : Text) (fs : List Field) (vs : List Value) (k : Kind) → name
 field_at name [] vs k told fit = absurd cc
 field_at name (f ∷ fs) [] k told fit = absurd cc
 field_at name (f ∷ fs) (v ∷ vs) k told fit =
-    let both_fit = and_both (has_kind (kind_of f.kind) v) (values_fit fs vs) fit in
+    let both_fit = and_both (has_kind (spelled_kind f.kind) v) (values_fit fs vs) fit in
     by_test (λ h. field_at name fs vs k h both_fit.1) both_fit.0 (is_named_field name f) told
   where
     Found : List Value → ℕ → ℕ → Type 0
     Found ws n most = (w : Value) × (slice_get ws n ≡ Some w) × (n < most) × (has_kind (Some k) w ≡ true)
 
-    by_test : (named_field name fs ≡ Ok k → Found vs (position_or_len (is_field name.bytes) fs) (length fs)) → has_kind (kind_of f.kind) v ≡ true → (b : Bool)
+    by_test : (named_field name fs ≡ Ok k → Found vs (position_or_len (is_field name.bytes) fs) (length fs)) → has_kind (spelled_kind f.kind) v ≡ true → (b : Bool)
         → cond b (declared_kind name.place f.kind) (named_field name fs) ≡ Ok k → Found (v ∷ vs) (cond (not b) (1 + position_or_len (is_field name.bytes) fs) 0) (length (f ∷ fs))
-    by_test behind has true h = (v, refl, omega arith, ap (λ o. has_kind o v) (sym (declared_is (kind_of f.kind) name.place k h)) ∙ has)
+    by_test behind has true h = (v, refl, omega arith, ap (λ o. has_kind o v) (sym (declared_is (spelled_kind f.kind) name.place k h)) ∙ has)
     by_test behind has false h =
         let rest = behind h in
         let e : suc (position_or_len (is_field name.bytes) fs) ≡ 1 + position_or_len (is_field name.bytes) fs = omega arith in
         (rest.0, ap (λ (i : ℕ). slice_get (v ∷ vs) i) (sym e) ∙ rest.1, omega (arith, rest.2), rest.3)
 
 field_there : (name : Text) (fs : List Field) (vs : List Value) (k : Kind) → named_field name fs ≡ Ok k → values_fit fs vs ≡ true
-    → (v : Value) × (value_at vs (position (is_field name.bytes) fs) ≡ Some v) × (has_kind (Some k) v ≡ true)
+    → (v : Value) × (field_value vs (position (is_field name.bytes) fs) ≡ Some v) × (has_kind (Some k) v ≡ true)
 field_there name fs vs k told fit =
     let found = field_at name fs vs k told fit in
     let within : nat_lt (position_or_len (is_field name.bytes) fs) (length fs) ≡ true = grind (arith, nat_tests, found.2) in
-    (found.0, ap (λ b. value_at vs (cond b (Some (position_or_len (is_field name.bytes) fs)) None)) within ∙ found.1, found.3)
+    (found.0, ap (λ b. field_value vs (cond b (Some (position_or_len (is_field name.bytes) fs)) None)) within ∙ found.1, found.3)
 
 pub value_kinded : (types : List TypeDef) (k : Kind) (v : Value) → has_kind (Some k) v ≡ true → HasKind types k (Plain v)
 value_kinded types (kind.Value b lists) v is = is
@@ -347,22 +347,22 @@ yields_field sight name first place j i is d hd =
         let t = h.0 in
         let there = field_there name t.fields o.values l (told_of name (slice_get sight.contract.types n) t l h.1 told) h.3 in
         let at : field_in sight.contract.types name.bytes o ≡ Some there.0 =
-        ap (λ (p : Option TypeDef). value_at o.values (place_of name.bytes p)) h.2 ∙ there.1 in
-        sound_there (HasKind sight.contract.types l) cause.Misfit place (object_of (One o)) o
+        ap (λ (p : Option TypeDef). field_value o.values (field_place name.bytes p)) h.2 ∙ there.1 in
+        sound_there (HasKind sight.contract.types l) cause.Misfit place (object_of_datum (One o)) o
         (λ p. or_trap cause.Misfit place (field_in sight.contract.types name.bytes p) >>= λ v. gives (Plain v)) refl
         (sound_there (HasKind sight.contract.types l) cause.Misfit place (field_in sight.contract.types name.bytes o) there.0 (λ v. gives (Plain v)) at
         (value_kinded sight.contract.types l there.0 there.2))
 
 -- ---- lists
 
-abbrev pub AllYield : List TypeDef → List Part → List Meant → Type 0
+abbrev pub AllYield : List TypeDef → List JudgedPart → List Meant → Type 0
 AllYield types [] [] = Unit {0}
 AllYield types [] (m ∷ ms) = ⊥
 AllYield types (p ∷ ps) [] = ⊥
 AllYield types (p ∷ ps) (m ∷ ms) = Yields types p.found m × AllYield types ps ms
 
 -- the kind of a list is told by its first item
-list_kept : (place : ℕ) (parts : List Part) (so_far : Items) (o : Option Items) → told_through (any_item place) (Some so_far) parts ≡ Ok o
+list_kept : (place : ℕ) (parts : List JudgedPart) (so_far : Items) (o : Option Items) → told_through (any_item place) (Some so_far) parts ≡ Ok o
     → (items : Items) × (o ≡ Some items) × (items.list ≡ so_far.list)
 list_kept place [] so_far o is = (so_far, sym (ok_is (Some so_far) o (Ok (Some so_far)) refl is), refl)
 list_kept place (p ∷ ps) so_far o is =
@@ -375,13 +375,13 @@ list_kept place (p ∷ ps) so_far o is =
 
 module _ (types : List TypeDef) (b : Base) (lists place : ℕ) where
   abbrev Listed : List Value → Type 0
-  Listed vs = list_all (is_of b lists) vs ≡ true
+  Listed vs = list_all (is_list_of b lists) vs ≡ true
 
   item_sound : (vs : List Value) (m : Meant) → Listed vs → Sound (HasKind types (kind.Value b lists)) (run_of m) → Sound Listed (item_run place vs (run_of m))
   item_sound vs m all h =
       sound_bind (HasKind types (kind.Value b lists)) Listed (run_of m) (with_item place vs) h (λ d hd. with_item_sound types b lists place vs d all hd)
 
-  items_sound : (parts : List Part) (ms : List Meant) → AllYield types parts ms → (so_far : Items) → so_far.item ≡ kind.Value b lists → (o : Option Items)
+  items_sound : (parts : List JudgedPart) (ms : List Meant) → AllYield types parts ms → (so_far : Items) → so_far.item ≡ kind.Value b lists → (o : Option Items)
       → told_through (any_item place) (Some so_far) parts ≡ Ok o → (vs : List Value) → Listed vs → Sound Listed (through (item_run place) vs (map run_of ms))
   items_sound [] [] yields so_far of o is vs all = all
   items_sound [] (m ∷ ms) yields so_far of o is vs all = absurd yields
@@ -408,13 +408,13 @@ of_list (kind.Value b lists) first place l is = (b, lists, refl, by_depth (nat_l
 of_list (kind.Object n) first place l is = absurd cc
 of_list (kind.Objects n) first place l is = absurd cc
 
-list_made : (types : List TypeDef) (place : ℕ) (parts : List Part) (ms : List Meant) → AllYield types parts ms
-    → Yields types (all_items place parts >>- items_judged place) (meant (list_kind (map kind_of_meant ms)) 1 (items_run place [] (map run_of ms)))
+list_made : (types : List TypeDef) (place : ℕ) (parts : List JudgedPart) (ms : List Meant) → AllYield types parts ms
+    → Yields types (items_of_parts place parts >>- items_judged place) (meant (list_kind (map kind_of_meant ms)) 1 (items_run place [] (map run_of ms)))
 list_made types place [] [] yields = λ j is. absurd cc
 list_made types place [] (m ∷ ms) yields = absurd yields
 list_made types place (p ∷ ps) [] yields = absurd yields
 list_made types place (p ∷ ps) (m ∷ ms) yields = λ j is.
-    let outer = told_bind (all_items place (p ∷ ps)) (items_judged place) j is in
+    let outer = told_bind (items_of_parts place (p ∷ ps)) (items_judged place) j is in
     let first = told_bind (any_item place None p) (λ c. told_through (any_item place) c ps) outer.0 outer.1 in
     let begun = told_bind (first_item place p) (λ items. Ok (Some items)) first.0 first.1 in
     let found = told_bind p.found (λ i. kind_of_list i.kind p.first place >>- λ k. Ok (record { item = i.kind; list = k; sum = i.cost })) begun.0 begun.1 in
@@ -436,8 +436,8 @@ list_made types place (p ∷ ps) (m ∷ ms) yields = λ j is.
     (λ more every. items_sound types of.0 of.1 place ps ms yields.1 begun.0 (sym (ap (λ (i : Items). i.item) made) ∙ of.2) outer.0 told more every))
     (λ vs every. listed_sound types of.0 of.1 vs place every)))
 
-pub yields_list : (types : List TypeDef) (place : ℕ) (parts : List Part) (ms : List Meant) → AllYield types parts ms
+pub yields_list : (types : List TypeDef) (place : ℕ) (parts : List JudgedPart) (ms : List Meant) → AllYield types parts ms
     → Yields types (list_judged parts place) (meant (list_kind (map kind_of_meant ms)) 1 (items_run place [] (map run_of ms)))
 yields_list types place parts ms yields =
-    yields_unless types (nat_lt MOST_ITEMS (length parts)) (all_items place parts >>- items_judged place) place
+    yields_unless types (nat_lt MOST_ITEMS (length parts)) (items_of_parts place parts >>- items_judged place) place
     (meant (list_kind (map kind_of_meant ms)) 1 (items_run place [] (map run_of ms))) (list_made types place parts ms yields)

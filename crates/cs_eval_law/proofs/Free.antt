@@ -20,21 +20,21 @@ use Rattle.cs_eval_values.specs.declared.operators.Binary.{Binary}
 use Rattle.cs_eval_values.specs.declared.operators.Binary.TheVariants as two
 use Rattle.cs_eval_values.specs.declared.view.View.{View}
 use Rattle.cs_eval_values.specs.Runs.{Run, gives, traps, ◌>>=◌, or_trap, spent}
-use Rattle.cs_eval_values.specs.Datums.{Datum, Plain, int_of, bool_of, bytes_of, length_of, plain_of, items_of, object_of}
+use Rattle.cs_eval_values.specs.Datums.{Datum, Plain, int_of, bool_of, bytes_of_datum, length_of, plain_of, items_of, object_of_datum}
 use Rattle.cs_eval_values.specs.Ints.{in_range, ranged, divided, computed, negated}
-use Rattle.cs_eval_values.specs.Operators.{int, truth, text, given_int, given_bool, given_bytes, given_value, given_items, list_of, with_item, number, unary, joined_bytes, joined_lists, joined_layers, joined, compared_in, compared, right_bool, arithmetic, linked, item_at, indexed, binary}
+use Rattle.cs_eval_values.specs.Operators.{int, truth, text, given_int, given_bool, given_bytes, given_value, given_items, list_of, with_item, int_number, unary, joined_bytes, joined_lists, joined_layers, joined, compared_in, compared, right_bool, arithmetic, linked, item_at, indexed, binary}
 use Rattle.cs_eval_values.specs.Views.{field_in, field_of, int_of_value, returned, returned_int}
 use Rattle.cs_eval_law.proofs.Within.{free_bind, free_or, free_cond}
 
 free_ranged : (z : ℤ) (place : ℕ) → spent (ranged z place) ≡ 0
 free_ranged z place = free_or cause.Range place (in_range z)
 
-free_number : (n place : ℕ) → spent (number n place) ≡ 0
+free_number : (n place : ℕ) → spent (int_number n place) ≡ 0
 free_number n place = free_bind (ranged (pos n) place) (λ m. gives (int m)) (free_ranged (pos n) place) (λ m. refl)
 
 pub free_unary : (op : Unary) (place : ℕ) (d : Datum) → spent (unary op place d) ≡ 0
-free_unary one.Len place d = free_bind (or_trap cause.Misfit place (length_of d)) (λ n. number n place) (free_or cause.Misfit place (length_of d)) (λ n. free_number n place)
-free_unary one.Sha256 place d = free_bind (given_bytes place d) (λ bytes. gives (text (sha256 bytes))) (free_or cause.Misfit place (bytes_of d)) (λ bytes. refl)
+free_unary one.Len place d = free_bind (or_trap cause.Misfit place (length_of d)) (λ n. int_number n place) (free_or cause.Misfit place (length_of d)) (λ n. free_number n place)
+free_unary one.Sha256 place d = free_bind (given_bytes place d) (λ bytes. gives (text (sha256 bytes))) (free_or cause.Misfit place (bytes_of_datum d)) (λ bytes. refl)
 free_unary one.Not place d = free_bind (given_bool place d) (λ b. gives (truth (not b))) (free_or cause.Misfit place (bool_of d)) (λ b. refl)
 free_unary one.Negative place d =
     free_bind (given_int place d) (λ n. negated n place >>= λ m. gives (int m)) (free_or cause.Misfit place (int_of d))
@@ -113,12 +113,12 @@ free_list items place = free_list_of items place
 
 pub free_field : (types : List TypeDef) (name : List ℕ) (place : ℕ) (d : Datum) → spent (field_of types name place d) ≡ 0
 free_field types name place d =
-    free_bind (or_trap cause.Misfit place (object_of d)) (λ o. or_trap cause.Misfit place (field_in types name o) >>= λ v. gives (Plain v)) (free_or cause.Misfit place (object_of d))
+    free_bind (or_trap cause.Misfit place (object_of_datum d)) (λ o. or_trap cause.Misfit place (field_in types name o) >>= λ v. gives (Plain v)) (free_or cause.Misfit place (object_of_datum d))
     (λ o. free_bind (or_trap cause.Misfit place (field_in types name o)) (λ v. gives (Plain v)) (free_or cause.Misfit place (field_in types name o)) (λ v. refl))
 
 pub free_returned : (view : View) (dep value place : ℕ) → spent (returned_int view dep value place) ≡ 0
 free_returned view dep value place = free_bind (or_trap cause.Dep place (int_of_value (returned (slice_get view.deps dep) value))) (λ n. gives (int n))
     (free_or cause.Dep place (int_of_value (returned (slice_get view.deps dep) value))) (λ n. refl)
 
-pub free_leaf : (n place : ℕ) → spent (number n place) ≡ 0
+pub free_leaf : (n place : ℕ) → spent (int_number n place) ≡ 0
 free_leaf n place = free_number n place

@@ -27,17 +27,17 @@ use Rattle.cs_types_kinds.specs.declared.kind.Base.{Base}
 use Rattle.cs_types_kinds.specs.declared.kind.Base.TheVariants as base
 use Rattle.cs_types_kinds.specs.declared.kind.Kind.{Kind}
 use Rattle.cs_types_kinds.specs.declared.kind.Kind.TheVariants as kind
-use Rattle.cs_types_kinds.specs.Kinds.{int as int_kind, bool as bool_kind, bytes as bytes_kind, same_base, same_kind, list_of as list_of_kind, item_of as item_kind, joins, has_length}
+use Rattle.cs_types_kinds.specs.Kinds.{int_kind as int_kind, bool as bool_kind, bytes_kind as bytes_kind, same_base, same_kind, list_kind_of as list_of_kind, item_kind as item_kind, joins, has_length}
 use Rattle.cs_types_kinds.specs.Judging.{is_equality, compares, kind_of_rank}
 use Rattle.cs_eval_values.specs.declared.limits.TheConstants.{MOST_VALUE}
 use Rattle.cs_eval_values.specs.declared.stop.Cause.TheVariants as cause
 use Rattle.cs_eval_values.specs.declared.operators.Unary.TheVariants as one
 use Rattle.cs_eval_values.specs.declared.operators.Binary.TheVariants as two
 use Rattle.cs_eval_values.specs.Runs.{Run, gives, traps, ◌>>=◌, or_trap}
-use Rattle.cs_eval_values.specs.Datums.{Datum, Plain, One, Many, int_in, bool_in, bytes_in, length_in, values_in, plain_each, int_of, bool_of, bytes_of, length_of, plain_of, items_of}
+use Rattle.cs_eval_values.specs.Datums.{Datum, Plain, One, Many, int_in, bool_in, bytes_in, length_in, values_in, plain_each, int_of, bool_of, bytes_of_datum, length_of, plain_of, items_of}
 use Rattle.cs_eval_values.specs.Ints.{in_range, ranged, divided, remainder, computed, negated, compared_ints}
-use Rattle.cs_eval_values.specs.Operators.{int, truth, text, given_int, given_bool, given_bytes, given_value, list_of, with_item, number, unary, joined_bytes, joined_lists, joined_layers, joined, same_bool, equality, both, same_in, compared_in, compared, right_bool, arithmetic, linked, item_at, indexed, binary}
-use Rattle.cs_eval_values.specs.Filling.{is_of_base, items_pass, is_of, values_fit}
+use Rattle.cs_eval_values.specs.Operators.{int, truth, text, given_int, given_bool, given_bytes, given_value, list_of, with_item, int_number, unary, joined_bytes, joined_lists, joined_layers, joined, same_bool, equality, both, same_in, compared_in, compared, right_bool, arithmetic, linked, item_at, indexed, binary}
+use Rattle.cs_eval_values.specs.Filling.{is_of_base, items_pass, is_list_of, values_fit}
 use Rattle.cs_eval_values.specs.Views.{type_named}
 use Rattle.cs_eval_law.proofs.Within.{some_is}
 use Rattle.cs_eval_law.proofs.Sound.{Sound, sound_spend, sound_bind, sound_there, sound_other, sound_cond}
@@ -54,7 +54,7 @@ AreObjects types n [] = Unit {0}
 AreObjects types n (o ∷ os) = IsObject types n o × AreObjects types n os
 
 abbrev pub HasKind : List TypeDef → Kind → Datum → Type 0
-HasKind types (kind.Value b lists) (Plain v) = is_of b lists v ≡ true
+HasKind types (kind.Value b lists) (Plain v) = is_list_of b lists v ≡ true
 HasKind types (kind.Value b lists) (One o) = ⊥
 HasKind types (kind.Value b lists) (Many os) = ⊥
 HasKind types (kind.Object n) (Plain v) = ⊥
@@ -117,7 +117,7 @@ bytes_there (Value-F.Bool b) is = absurd cc
 bytes_there (Value-F.Bytes bytes) is = (bytes, refl)
 bytes_there (Value-F.List vs) is = absurd cc
 
-list_there : (b : Base) (lists : ℕ) (v : Value-F Value) → items_pass (is_of b lists) v ≡ true → (vs : List Value) × (v ≡ Value-F.List vs) × (list_all (is_of b lists) vs ≡ true)
+list_there : (b : Base) (lists : ℕ) (v : Value-F Value) → items_pass (is_list_of b lists) v ≡ true → (vs : List Value) × (v ≡ Value-F.List vs) × (list_all (is_list_of b lists) vs ≡ true)
 list_there b lists (Value-F.Int n) is = absurd cc
 list_there b lists (Value-F.Bool c) is = absurd cc
 list_there b lists (Value-F.Bytes bytes) is = absurd cc
@@ -134,12 +134,12 @@ module _ (types : List TypeDef) where
   bool_given (One o) h = absurd h
   bool_given (Many os) h = absurd h
 
-  bytes_given : (d : Datum) → HasKind types bytes_kind d → (text : List ℕ) × (bytes_of d ≡ Some text)
+  bytes_given : (d : Datum) → HasKind types bytes_kind d → (text : List ℕ) × (bytes_of_datum d ≡ Some text)
   bytes_given (Plain v) h = let t = bytes_there (out-Value v) h in (t.0, ap bytes_in t.1)
   bytes_given (One o) h = absurd h
   bytes_given (Many os) h = absurd h
 
-  value_given : (b : Base) (lists : ℕ) (d : Datum) → HasKind types (kind.Value b lists) d → (v : Value) × (plain_of d ≡ Some v) × (is_of b lists v ≡ true)
+  value_given : (b : Base) (lists : ℕ) (d : Datum) → HasKind types (kind.Value b lists) d → (v : Value) × (plain_of d ≡ Some v) × (is_list_of b lists v ≡ true)
   value_given b lists (Plain v) h = (v, refl, h)
   value_given b lists (One o) h = absurd h
   value_given b lists (Many os) h = absurd h
@@ -155,8 +155,8 @@ module _ (types : List TypeDef) where
   pub bytes_has : (bytes : List ℕ) → HasKind types bytes_kind (text bytes)
   bytes_has bytes = ap (is_of_base base.Bytes) (out-Bytes bytes)
 
-  list_has : (b : Base) (lists : ℕ) (vs : List Value) → list_all (is_of b lists) vs ≡ true → HasKind types (kind.Value b (suc lists)) (Plain (value.List vs))
-  list_has b lists vs all = ap (items_pass (is_of b lists)) (out-List vs) ∙ all
+  list_has : (b : Base) (lists : ℕ) (vs : List Value) → list_all (is_list_of b lists) vs ≡ true → HasKind types (kind.Value b (suc lists)) (Plain (value.List vs))
+  list_has b lists vs all = ap (items_pass (is_list_of b lists)) (out-List vs) ∙ all
 
   ranged_sound : (z : ℤ) (place : ℕ) → Sound (λ n. Unit {0}) (ranged z place)
   ranged_sound z place = sound_other (λ n. Unit {0}) cause.Range place (in_range z) (λ is. cc) (λ n is. tt)
@@ -164,10 +164,10 @@ module _ (types : List TypeDef) where
   int_sound : (r : Run ℤ) → Sound (λ n. Unit {0}) r → Sound (HasKind types int_kind) (r >>= λ n. gives (int n))
   int_sound r h = sound_bind (λ n. Unit {0}) (HasKind types int_kind) r (λ n. gives (int n)) h (λ n _. int_has n)
 
-  pub number_sound : (n place : ℕ) → Sound (HasKind types int_kind) (number n place)
+  pub number_sound : (n place : ℕ) → Sound (HasKind types int_kind) (int_number n place)
   number_sound n place = int_sound (ranged (pos n) place) (ranged_sound (pos n) place)
 
-  list_of_sound : (b : Base) (lists : ℕ) (vs : List Value) (place : ℕ) → list_all (is_of b lists) vs ≡ true → Sound (HasKind types (kind.Value b (suc lists))) (list_of vs place)
+  list_of_sound : (b : Base) (lists : ℕ) (vs : List Value) (place : ℕ) → list_all (is_list_of b lists) vs ≡ true → Sound (HasKind types (kind.Value b (suc lists))) (list_of vs place)
   list_of_sound b lists vs place all =
       sound_cond (HasKind types (kind.Value b (suc lists))) (nat_le (length (value_encoding (value.List vs))) MOST_VALUE) (gives (Plain (value.List vs))) (traps cause.Size place) (list_has b lists vs all) (λ is. cc)
 
@@ -191,12 +191,12 @@ module _ (types : List TypeDef) where
   pub len_sound : (k : Kind) (place : ℕ) (d : Datum) → has_length k ≡ true → HasKind types k d → Sound (HasKind types int_kind) (unary one.Len place d)
   len_sound k place d long h =
       let n = length_there k d long h in
-      sound_there (HasKind types int_kind) cause.Misfit place (length_of d) n.0 (λ m. number m place) n.1 (number_sound n.0 place)
+      sound_there (HasKind types int_kind) cause.Misfit place (length_of d) n.0 (λ m. int_number m place) n.1 (number_sound n.0 place)
 
   pub hash_sound : (place : ℕ) (d : Datum) → HasKind types bytes_kind d → Sound (HasKind types bytes_kind) (unary one.Sha256 place d)
   hash_sound place d h =
       let t = bytes_given d h in
-      sound_there (HasKind types bytes_kind) cause.Misfit place (bytes_of d) t.0 (λ bytes. gives (text (sha256 bytes))) t.1 (bytes_has (sha256 t.0))
+      sound_there (HasKind types bytes_kind) cause.Misfit place (bytes_of_datum d) t.0 (λ bytes. gives (text (sha256 bytes))) t.1 (bytes_has (sha256 t.0))
 
   pub not_sound : (place : ℕ) (d : Datum) → HasKind types bool_kind d → Sound (HasKind types bool_kind) (unary one.Not place d)
   not_sound place d h =
@@ -218,15 +218,15 @@ module _ (types : List TypeDef) where
       (sound_cond (HasKind types bytes_kind) (nat_le (length a + length b) MOST_BYTES) (gives (text (a ++ b))) (traps cause.Length place) (bytes_has (a ++ b)) (λ is. cc)))
 
   lists_joined : (c : Base) (lists : ℕ) (v w : Value-F Value) (place : ℕ) (a b : List Value) → v ≡ Value-F.List a → w ≡ Value-F.List b
-      → list_all (is_of c lists) a ≡ true → list_all (is_of c lists) b ≡ true → Sound (HasKind types (kind.Value c (suc lists))) (joined_layers v w place)
+      → list_all (is_list_of c lists) a ≡ true → list_all (is_list_of c lists) b ≡ true → Sound (HasKind types (kind.Value c (suc lists))) (joined_layers v w place)
   lists_joined c lists v w place a b is same all every =
       let P : Value-F Value → Type 0 = λ x. Sound (HasKind types (kind.Value c (suc lists))) (joined_layers x w place) in
       let Q : Value-F Value → Type 0 = λ x. Sound (HasKind types (kind.Value c (suc lists))) (joined_layers (Value-F.List a) x place) in
       subst P (sym is) (subst Q (sym same)
       (sound_cond (HasKind types (kind.Value c (suc lists))) (nat_le (length a + length b) MOST_ITEMS) (list_of (a ++ b) place) (traps cause.Length place)
-      (list_of_sound c lists (a ++ b) place (list_all-append (is_of c lists) a b ∙ ap (λ (x : Bool). x && list_all (is_of c lists) b) all ∙ every)) (λ is. cc)))
+      (list_of_sound c lists (a ++ b) place (list_all-append (is_list_of c lists) a b ∙ ap (λ (x : Bool). x && list_all (is_list_of c lists) b) all ∙ every)) (λ is. cc)))
 
-  layers_sound : (c : Base) (lists : ℕ) (v w : Value) (place : ℕ) → joins (kind.Value c lists) ≡ true → is_of c lists v ≡ true → is_of c lists w ≡ true
+  layers_sound : (c : Base) (lists : ℕ) (v w : Value) (place : ℕ) → joins (kind.Value c lists) ≡ true → is_list_of c lists v ≡ true → is_list_of c lists w ≡ true
       → Sound (HasKind types (kind.Value c lists)) (joined_layers (out-Value v) (out-Value w) place)
   layers_sound base.Int zero v w place can a b = absurd cc
   layers_sound base.Bool zero v w place can a b = absurd cc
@@ -284,13 +284,13 @@ module _ (types : List TypeDef) where
   bools_same a b h g =
       let x = bool_given a h in
       let y = bool_given b g in
-      (same_bool x.0 y.0, ap (λ o. or_else o (both bytes_eq (bytes_of a) (bytes_of b))) (both_there same_bool (bool_of a) (bool_of b) x.0 y.0 x.1 y.1))
+      (same_bool x.0 y.0, ap (λ o. or_else o (both bytes_eq (bytes_of_datum a) (bytes_of_datum b))) (both_there same_bool (bool_of a) (bool_of b) x.0 y.0 x.1 y.1))
 
   bytes_same : (a b : Datum) → HasKind types bytes_kind a → HasKind types bytes_kind b → (x : Bool) × (same_in a b ≡ Some x)
   bytes_same a b h g =
       let x = bytes_given a h in
       let y = bytes_given b g in
-      else_there (both same_bool (bool_of a) (bool_of b)) (both bytes_eq (bytes_of a) (bytes_of b)) (bytes_eq x.0 y.0) (both_there bytes_eq (bytes_of a) (bytes_of b) x.0 y.0 x.1 y.1)
+      else_there (both same_bool (bool_of a) (bool_of b)) (both bytes_eq (bytes_of_datum a) (bytes_of_datum b)) (bytes_eq x.0 y.0) (both_there bytes_eq (bytes_of_datum a) (bytes_of_datum b) x.0 y.0 x.1 y.1)
 
   compared_there : (c : Comparison) (k : Kind) (a b : Datum) → compares c k ≡ true → HasKind types k a → HasKind types k b → (x : Bool) × (compared_in c a b ≡ Some x)
   compared_there c k a b can h g = by_int (same_kind k int_kind) refl can
@@ -381,14 +381,14 @@ module _ (types : List TypeDef) where
 
   -- ---- lists that are made
 
-  pub with_item_sound : (b : Base) (lists place : ℕ) (vs : List Value) (d : Datum) → list_all (is_of b lists) vs ≡ true → HasKind types (kind.Value b lists) d
-      → Sound (λ more. list_all (is_of b lists) more ≡ true) (with_item place vs d)
+  pub with_item_sound : (b : Base) (lists place : ℕ) (vs : List Value) (d : Datum) → list_all (is_list_of b lists) vs ≡ true → HasKind types (kind.Value b lists) d
+      → Sound (λ more. list_all (is_list_of b lists) more ≡ true) (with_item place vs d)
   with_item_sound b lists place vs d all h =
       let v = value_given b lists d h in
-      sound_there (λ more. list_all (is_of b lists) more ≡ true) cause.Misfit place (plain_of d) v.0 (λ w. gives (vs ++ w ∷ [])) v.1
-      (list_all-append (is_of b lists) vs (v.0 ∷ []) ∙ ap (λ (x : Bool). x && (is_of b lists v.0 && true)) all ∙ ap (λ (x : Bool). x && true) v.2)
+      sound_there (λ more. list_all (is_list_of b lists) more ≡ true) cause.Misfit place (plain_of d) v.0 (λ w. gives (vs ++ w ∷ [])) v.1
+      (list_all-append (is_list_of b lists) vs (v.0 ∷ []) ∙ ap (λ (x : Bool). x && (is_list_of b lists v.0 && true)) all ∙ ap (λ (x : Bool). x && true) v.2)
 
-  pub listed_sound : (b : Base) (lists : ℕ) (vs : List Value) (place : ℕ) → list_all (is_of b lists) vs ≡ true → Sound (HasKind types (kind.Value b (lists + 1))) (list_of vs place)
+  pub listed_sound : (b : Base) (lists : ℕ) (vs : List Value) (place : ℕ) → list_all (is_list_of b lists) vs ≡ true → Sound (HasKind types (kind.Value b (lists + 1))) (list_of vs place)
   listed_sound b lists vs place all =
       let e : suc lists ≡ lists + 1 = omega arith in
       let P : ℕ → Type 0 = λ n. Sound (HasKind types (kind.Value b n)) (list_of vs place) in
@@ -410,9 +410,9 @@ module _ (types : List TypeDef) where
   have_at k (d ∷ ds) zero x all at = let P : Datum → Type 0 = λ y. HasKind types k y in subst P (some_is d x at) all.0
   have_at k (d ∷ ds) (suc n) x all at = have_at k ds n x all.1 at
 
-  plain_have : (b : Base) (lists : ℕ) (vs : List Value) → list_all (is_of b lists) vs ≡ true → AllHave (kind.Value b lists) (map (λ v. Plain v) vs)
+  plain_have : (b : Base) (lists : ℕ) (vs : List Value) → list_all (is_list_of b lists) vs ≡ true → AllHave (kind.Value b lists) (map (λ v. Plain v) vs)
   plain_have b lists [] all = tt
-  plain_have b lists (v ∷ vs) all = let two_are = true_and (is_of b lists v) (list_all (is_of b lists) vs) all in (two_are.0, plain_have b lists vs two_are.1)
+  plain_have b lists (v ∷ vs) all = let two_are = true_and (is_list_of b lists v) (list_all (is_list_of b lists) vs) all in (two_are.0, plain_have b lists vs two_are.1)
 
   objects_have : (n : ℕ) (os : List Object) → AreObjects types n os → AllHave (kind.Object n) (map (λ o. One o) os)
   objects_have n [] all = tt

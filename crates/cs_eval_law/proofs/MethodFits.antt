@@ -20,8 +20,8 @@ use Rattle.cs_types_kinds.specs.declared.scope.Use.{Use}
 use Rattle.cs_types_kinds.specs.declared.scope.Use.TheVariants as usage
 use Rattle.cs_types_kinds.specs.declared.scope.Entry.{Entry}
 use Rattle.cs_types_kinds.specs.declared.scope.Costs.{Costs as Priced}
-use Rattle.cs_types_kinds.specs.Told.{Told, mistyped, unbound, through as told_through}
-use Rattle.cs_types_kinds.specs.Kinds.{kind_of}
+use Rattle.cs_types_kinds.specs.Told.{Told, mistyped, unbound, told_through as told_through}
+use Rattle.cs_types_kinds.specs.Kinds.{spelled_kind}
 use Rattle.cs_types_kinds.specs.Scopes.{in_sight, is_declared, with_name}
 use Rattle.cs_types_kinds.specs.Lookups.{type_number, method_number, or_mistyped}
 use Rattle.cs_types.specs.Declaring.{slot_kind, slot_of_type, is_nil, slot_told, slots_told, name_told, names_told, method_names, types_told}
@@ -127,7 +127,7 @@ module _ (u : Use) (can : in_sight u ≡ true) where
       let first = told_bind (name_told u es f) (λ e. told_through (name_told u) e fs) more told in
       let one = some_bind (field_filled f v ns) (fields_filled fs vs) names is in
       fields_alike fs vs first.0 more one.0 names
-      (field_alike f v es first.0 ns one.0 a (kind_of f.kind) (unless_is (is_declared f.name.bytes es) f.name.place _ first.0 first.1) one.1)
+      (field_alike f v es first.0 ns one.0 a (spelled_kind f.kind) (unless_is (is_declared f.name.bytes es) f.name.place _ first.0 first.1) one.1)
       first.2 one.2
 
 -- the names of a method, as its check sees them and as a view fills them

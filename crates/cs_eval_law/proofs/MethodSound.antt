@@ -15,7 +15,7 @@ use Rattle.cs_tx_value.specs.declared.object.Object.{Object}
 use Rattle.cs_tx_value.specs.declared.value.Value.{Value}
 use Rattle.cs_types_kinds.specs.declared.kind.Kind.{Kind}
 use Rattle.cs_types_kinds.specs.declared.kind.Kind.TheVariants as kind
-use Rattle.cs_types_kinds.specs.Kinds.{kind_of}
+use Rattle.cs_types_kinds.specs.Kinds.{spelled_kind}
 use Rattle.cs_types_kinds.specs.Lookups.{is_type, type_number}
 use Rattle.cs_eval_values.specs.declared.view.View.{View}
 use Rattle.cs_eval_values.specs.Datums.{Datum, Plain, One, Many}
@@ -135,7 +135,7 @@ module _ (types : List TypeDef) where
   fields_kinded (f ∷ fs) [] ns names all is = absurd cc
   fields_kinded (f ∷ fs) (v ∷ vs) ns names all is =
       let one = some_bind (field_filled f v ns) (fields_filled fs vs) names is in
-      fields_kinded fs vs one.0 names (field_kinded f v ns one.0 all (kind_of f.kind) one.1) one.2
+      fields_kinded fs vs one.0 names (field_kinded f v ns one.0 all (spelled_kind f.kind) one.1) one.2
 
 pub filled_kinded : (contract : ContractTree) (m : Method) (view : View) (names : List Named) → filled contract m view ≡ Some names → AreKinded contract.types names
 filled_kinded contract m view names is =

@@ -10,7 +10,7 @@ use Rattle.cs_types_kinds.specs.Lookups.{method_number}
 use Rattle.cs_types.specs.Stating.{takes_many}
 use Rattle.cs_types.specs.Declaring.{method_names}
 use Rattle.cs_types.specs.Accepted.{Accepted, IsAccepted}
-use Rattle.cs_places.specs.Blocks.{places_of_block}
+use Rattle.cs_eval.specs.Blocks.{places_of_block}
 use Rattle.cs_eval_law.specs.Checks.{method_at, check_cost_in, check_cost_at, check_cost, places_in, check_places}
 use Rattle.cs_eval_law.proofs.ExprFits.{told_bind}
 use Rattle.cs_eval_law.proofs.MethodFits.{CheckTold, accepted_check}

@@ -11,9 +11,9 @@ use Rattle.cs_lang.specs.declared.tree.Access.TheOpen.{Access-F, Shape-F, Expr-F
 use Rattle.cs_lang.specs.declared.tree.Access.TheFolds.{ind-Expr}
 use Rattle.cs_types_kinds.specs.declared.expressions.Judged.{Judged}
 use Rattle.cs_types_kinds.specs.Told.{Told}
-use Rattle.cs_types_kinds.specs.Kinds.{bool as bool_kind, bytes as bytes_kind}
+use Rattle.cs_types_kinds.specs.Kinds.{bool as bool_kind, bytes_kind as bytes_kind}
 use Rattle.cs_types_kinds.specs.Scopes.{InSight}
-use Rattle.cs_types_kinds.specs.Judging.{Part, Stepped}
+use Rattle.cs_types_kinds.specs.Judging.{JudgedPart, Stepped}
 use Rattle.cs_types_kinds.specs.Parts.{Shaped, access_from_parts, shape_from_parts, part_of, shape_part, link_part, step_part}
 use Rattle.cs_eval_values.specs.declared.view.View.{View}
 use Rattle.cs_eval_values.specs.Namings.{Named}
@@ -138,12 +138,12 @@ access_step x y is = subst (λ z. AccessClaim (roll-Access z)) is (λ first plac
 
 expr_step : (x : Expr-F Access Shape Expr Link Step) (y : Expr-F A S E L T) → expr_below y ≡ x → ExprClaim (roll-Expr x)
 expr_step x y is = subst (λ z. ExprClaim (roll-Expr z)) is (λ sight view names alike.
-    fits_along _ _ _ _ (ap (λ (p : Part). p.found) (told_expr sight (expr_below y)))
+    fits_along _ _ _ _ (ap (λ (p : JudgedPart). p.found) (told_expr sight (expr_below y)))
     (meant_expr (seen_with sight.contract view names) (expr_below y)) (y.shape.1 y.place sight view names alike))
 
 link_step : (x : Link-F Access Shape Expr Link Step) (y : Link-F A S E L T) → link_below y ≡ x → LinkClaim (roll-Link x)
 link_step x y is = subst (λ z. LinkClaim (roll-Link z)) is (λ sight view names alike.
-    fits_along _ _ _ _ (ap (λ (p : Part). p.found) (told_link sight (link_below y)))
+    fits_along _ _ _ _ (ap (λ (p : JudgedPart). p.found) (told_link sight (link_below y)))
     (ap (λ (l : Linking). l.right) (meant_link (seen_with sight.contract view names) (link_below y))) (y.right.1 sight view names alike))
 
 step_step : (x : Step-F Access Shape Expr Link Step) (y : Step-F A S E L T) → step_below y ≡ x → StepClaim (roll-Step x)

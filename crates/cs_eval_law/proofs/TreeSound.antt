@@ -10,12 +10,12 @@ use Rattle.cs_lang.specs.declared.tree.Step.{Step, roll-Step, map-Step}
 use Rattle.cs_lang.specs.declared.tree.Access.{Access, roll-Access, map-Access}
 use Rattle.cs_lang.specs.declared.tree.Access.TheOpen.{Access-F, Shape-F, Expr-F, Link-F, Step-F}
 use Rattle.cs_lang.specs.declared.tree.Access.TheFolds.{ind-Expr}
-use Rattle.cs_lang.specs.Fits.{LinkFits, every, itself, in_rank, is_of_rank, layer_access, layer_shape, expr_fits, shape_fits, link_fits, step_fits, access_fits}
+use Rattle.cs_lang.specs.Fits.{LinkFits, every, itself, in_rank, is_of_rank, access_layer_fits, shape_layer_fits, expr_fits, shape_fits, link_fits, step_fits, access_fits}
 use Rattle.cs_types_kinds.specs.declared.expressions.Judged.{Judged}
 use Rattle.cs_types_kinds.specs.Told.{Told}
-use Rattle.cs_types_kinds.specs.Kinds.{bool as bool_kind, bytes as bytes_kind}
+use Rattle.cs_types_kinds.specs.Kinds.{bool as bool_kind, bytes_kind as bytes_kind}
 use Rattle.cs_types_kinds.specs.Scopes.{InSight}
-use Rattle.cs_types_kinds.specs.Judging.{Part, Stepped}
+use Rattle.cs_types_kinds.specs.Judging.{JudgedPart, Stepped}
 use Rattle.cs_types_kinds.specs.Parts.{Shaped, access_from_parts, shape_from_parts, part_of, shape_part, link_part, step_part}
 use Rattle.cs_eval_values.specs.declared.view.View.{View}
 use Rattle.cs_eval_values.specs.Namings.{Named}
@@ -111,7 +111,7 @@ module _ (sight : InSight) (view : View) (names : List Named) (alike : Alike sig
       (s.1 t.0 sight view names alike kinded, steps_yield ss t.1)
 
   -- a shape, and an access, whose parts yield
-  shapes : (place : ℕ) (y : Shape-F A S E L T) → layer_shape (shape_fit (shape_below y)) ≡ true
+  shapes : (place : ℕ) (y : Shape-F A S E L T) → shape_layer_fits (shape_fit (shape_below y)) ≡ true
       → Yields sight.contract.types (shape_from_parts sight (shape_told sight (shape_below y)) place) (shape_means w (shape_from w (shape_below y)) place)
   shapes place (Shape-F.Number n) ok = yields_number sight.contract.types n place
   shapes place (Shape-F.Bytes b) ok = yields_given sight.contract.types (Some bytes_kind) bytes_kind (text b) (bytes_has sight.contract.types b)
@@ -138,7 +138,7 @@ module _ (sight : InSight) (view : View) (names : List Named) (alike : Alike sig
       let t = true_and (expr_fits p.0) (every (in_rank r) (map link_fits (map (λ e. e.0) ls))) ok in
       yields_chain sight.contract.types r (part_of sight p.0) (expr_meant w p.0) (map (link_part sight) (map (λ e. e.0) ls)) (map (link_meant w) (map (λ e. e.0) ls)) (p.1 t.0 sight view names alike kinded) (links_yield r ls t.1)
 
-  accesses : (first place : ℕ) (y : Access-F A S E L T) → layer_access (access_fit (access_below y)) ≡ true
+  accesses : (first place : ℕ) (y : Access-F A S E L T) → access_layer_fits (access_fit (access_below y)) ≡ true
       → StepYields sight.contract.types (access_from_parts sight (access_told sight (access_below y)) first) (access_means w (access_from w (access_below y)) place)
   accesses first place (Access-F.Field name) ok = yields_field sight name first place
   accesses first place (Access-F.Index p) ok = yields_index sight.contract.types (part_of sight p.0) (expr_meant w p.0) first place (p.1 ok sight view names alike kinded)
@@ -157,14 +157,14 @@ access_step x y is = subst (λ z. AccessClaim (roll-Access z)) is (λ fit first 
 
 expr_step : (x : Expr-F Access Shape Expr Link Step) (y : Expr-F A S E L T) → expr_below y ≡ x → ExprYields (roll-Expr x)
 expr_step x y is = subst (λ z. ExprYields (roll-Expr z)) is (λ fit sight view names alike kinded.
-    yields_along sight _ _ _ _ (ap (λ (p : Part). p.found) (told_expr sight (expr_below y))) (meant_expr (seen_with sight.contract view names) (expr_below y))
+    yields_along sight _ _ _ _ (ap (λ (p : JudgedPart). p.found) (told_expr sight (expr_below y))) (meant_expr (seen_with sight.contract view names) (expr_below y))
     (y.shape.1 (sym (fit_expr (expr_below y)) ∙ fit) y.place sight view names alike kinded))
 
 link_step : (x : Link-F Access Shape Expr Link Step) (y : Link-F A S E L T) → link_below y ≡ x → LinkClaim (roll-Link x)
 link_step x y is = subst (λ z. LinkClaim (roll-Link z)) is (λ r fit sight view names alike kinded.
     let w : Sight = seen_with sight.contract view names in
     let t = true_and (is_of_rank r y.operator) (expr_fits y.right.0) (sym (ap (λ (f : LinkFits). f r) (fit_link (link_below y))) ∙ fit) in (
-      yields_along sight _ _ _ _ (ap (λ (p : Part). p.found) (told_link sight (link_below y))) (ap (λ (l : Linking). l.right) (meant_link w (link_below y)))
+      yields_along sight _ _ _ _ (ap (λ (p : JudgedPart). p.found) (told_link sight (link_below y))) (ap (λ (l : Linking). l.right) (meant_link w (link_below y)))
           (y.right.1 t.1 sight view names alike kinded),
       ap (λ (l : Linking). is_of_rank r l.operator) (meant_link w (link_below y)) ∙ t.0,
     ))

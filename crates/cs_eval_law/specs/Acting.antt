@@ -10,7 +10,7 @@ use Rattle.cs_lang.specs.declared.tree.Action.{Action}
 use Rattle.cs_lang.specs.declared.tree.Action.TheOpen.{Block-F, Statement-F, Action-F}
 use Rattle.cs_lang.specs.declared.tree.Action.TheFolds.{fold-Block, fold-Statement, fold-Action}
 use Rattle.cs_types_kinds.specs.declared.kind.Kind.{Kind}
-use Rattle.cs_types_kinds.specs.Kinds.{int as int_kind, item_of as item_kind}
+use Rattle.cs_types_kinds.specs.Kinds.{int_kind as int_kind, item_kind as item_kind}
 use Rattle.cs_eval_values.specs.declared.stop.Cause.TheVariants as cause
 use Rattle.cs_eval_values.specs.declared.view.View.{View}
 use Rattle.cs_eval_values.specs.Runs.{Run, gives, answers, traps, spend, ◌>>=◌, through, or_trap}

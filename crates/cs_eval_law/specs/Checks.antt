@@ -2,7 +2,7 @@
 use Rattle.std.specs.Prelude.{◌≢◌, ℕ, Bool, false, List, [], slice_get, Option, Some, None}
 use Rattle.cs_lang.specs.declared.tree.ContractTree.{ContractTree}
 use Rattle.cs_lang.specs.declared.tree.Method.{Method}
-use Rattle.cs_places.specs.Blocks.{places_of_block}
+use Rattle.cs_eval.specs.Blocks.{places_of_block}
 use Rattle.cs_types_kinds.specs.declared.scope.Costs.{Costs}
 use Rattle.cs_types_kinds.specs.Lookups.{method_number}
 use Rattle.cs_types.specs.Accepted.{Accepted}

@@ -4,7 +4,7 @@ use Rattle.std.specs.Prelude.{slice_get}
 use Rattle.cs_tx_value.specs.declared.object.Object.{Object}
 use Rattle.cs_tx_value.specs.declared.value.Value.{Value, out-Value}
 use Rattle.cs_tx_value.specs.declared.value.Value.TheOpen.{Value-F}
-use Rattle.cs_eval_values.specs.Datums.{Datum, Plain, One, Many, plain_item, object_item, item_in, values_in, plain_each, items_of, item_of}
+use Rattle.cs_eval_values.specs.Datums.{Datum, Plain, One, Many, plain_item, object_item, item_in, values_in, plain_each, items_of, item_of_datum}
 
 some_is : {A : Type 0} (x y : A) → Some x ≡ Some y → x ≡ y
 some_is x y is = cc
@@ -26,7 +26,7 @@ layer_among (Value-F.Bytes bytes) items at is = absurd cc
 layer_among (Value-F.List vs) items at is =
     sym (plain_at vs at) ∙ ap (λ (ds : List Datum). slice_get ds at) (some_is (map (λ v. Plain v) vs) items is)
 
-pub item_among : (d : Datum) (items : List Datum) (at : ℕ) → items_of d ≡ Some items → item_of d at ≡ slice_get items at
+pub item_among : (d : Datum) (items : List Datum) (at : ℕ) → items_of d ≡ Some items → item_of_datum d at ≡ slice_get items at
 item_among (Plain v) items at is = layer_among (out-Value v) items at is
 item_among (One o) items at is = absurd cc
 item_among (Many os) items at is =

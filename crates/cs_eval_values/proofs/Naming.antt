@@ -10,7 +10,7 @@ use Rattle.cs_types_kinds.proofs.Loops.{opened}
 use Rattle.cs_eval_values.specs.declared.names.Entry.{Entry}
 use Rattle.cs_eval_values.specs.Datums.{Datum}
 use Rattle.cs_eval_values.specs.Entries.{named_of}
-use Rattle.cs_eval_values.specs.Namings.{Named, named, is_named, place_named, find_named, with_datum}
+use Rattle.cs_eval_values.specs.Namings.{Named, named, is_of_name, place_named, find_named, with_datum}
 
 -- ---- going over the names
 
@@ -41,7 +41,7 @@ module _ (name : List ℕ) where
   pub find_at : (ns : List Named) → slice_get ns (place_named name ns) ≡ find_named name ns
   find_at [] = refl
   find_at (n ∷ ns) =
-      elim (is_named name n) as (λ b. slice_get (n ∷ ns) (cond b 0 (suc (place_named name ns))) ≡ cond b (Some n) (find_named name ns)) [
+      elim (is_of_name name n) as (λ b. slice_get (n ∷ ns) (cond b 0 (suc (place_named name ns))) ≡ cond b (Some n) (find_named name ns)) [
         | true ↦ refl
         | false ↦ find_at ns
       ]
@@ -50,7 +50,7 @@ module _ (name : List ℕ) where
       → set ns (place_named name ns) (named n.name n.kind d) ≡ with_datum name d ns
   set_at d [] n is = refl
   set_at d (m ∷ ns) n is =
-      (elim (is_named name m) as (λ b. n ≡ get_or (m ∷ ns) (cond b 0 (suc (place_named name ns))) n
+      (elim (is_of_name name m) as (λ b. n ≡ get_or (m ∷ ns) (cond b 0 (suc (place_named name ns))) n
       → set (m ∷ ns) (cond b 0 (suc (place_named name ns))) (named n.name n.kind d) ≡ cond b (named m.name m.kind d ∷ ns) (m ∷ with_datum name d ns)) [
         | true ↦ λ first. ap (λ (k : Named). named k.name k.kind d ∷ ns) first
         | false ↦ λ later. ap (λ (r : List Named). m ∷ r) (set_at d ns n later)
@@ -59,7 +59,7 @@ module _ (name : List ℕ) where
   pub set_past : (d : Datum) (ns : List Named) → length ns ≤ place_named name ns → ns ≡ with_datum name d ns
   set_past d [] le = refl
   set_past d (m ∷ ns) le =
-      (elim (is_named name m) as (λ b. suc (length ns) ≤ cond b 0 (suc (place_named name ns)) → m ∷ ns ≡ cond b (named m.name m.kind d ∷ ns) (m ∷ with_datum name d ns)) [
+      (elim (is_of_name name m) as (λ b. suc (length ns) ≤ cond b 0 (suc (place_named name ns)) → m ∷ ns ≡ cond b (named m.name m.kind d ∷ ns) (m ∷ with_datum name d ns)) [
         | true ↦ λ first. absurd (omega (arith, first))
         | false ↦ λ later. ap (λ (r : List Named). m ∷ r) (set_past d ns (omega (arith, later)))
       ]) le

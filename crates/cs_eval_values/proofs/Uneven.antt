@@ -4,7 +4,7 @@ use Rattle.std.specs.Prelude.{◌&&◌}
 use Rattle.cs_base.specs.Fields.{◌>>=◌}
 use Rattle.cs_lang.specs.declared.tree.Field.{Field}
 use Rattle.cs_tx_value.specs.declared.value.Value.{Value}
-use Rattle.cs_types_kinds.specs.Kinds.{kind_of}
+use Rattle.cs_types_kinds.specs.Kinds.{spelled_kind}
 use Rattle.cs_eval_values.specs.Namings.{Named}
 use Rattle.cs_eval_values.specs.Filling.{has_kind, values_fit, field_filled, fields_filled}
 
@@ -17,8 +17,8 @@ uneven_values [] [] ne = absurd (ne refl)
 uneven_values [] (v ∷ vs) ne = refl
 uneven_values (f ∷ fs) [] ne = refl
 uneven_values (f ∷ fs) (v ∷ vs) ne =
-    ap (λ (b : Bool). has_kind (kind_of f.kind) v && b) (uneven_values fs vs (λ e. ne (omega (arith, e))))
-    ∙ and_false (has_kind (kind_of f.kind) v)
+    ap (λ (b : Bool). has_kind (spelled_kind f.kind) v && b) (uneven_values fs vs (λ e. ne (omega (arith, e))))
+    ∙ and_false (has_kind (spelled_kind f.kind) v)
 
 bind_none : {A B : Type 0} (o : Option A) (f : A → Option B) → ((x : A) → f x ≡ None) → (o >>= f) ≡ None
 bind_none None f none = refl

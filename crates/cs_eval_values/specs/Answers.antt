@@ -11,6 +11,6 @@ Stops (stop.Trap why place) n run = run ≡ Trapped why place n
 Stops stop.Memory n run = Unit {0}
 
 -- a call that spends nothing
-abbrev pub Ends : {X : Type 0} → Result X Stop → Run X → Type 0
-Ends (Ok x) run = run ≡ Gave x 0
-Ends (Err e) run = Stops e 0 run
+abbrev pub RunEnds : {X : Type 0} → Result X Stop → Run X → Type 0
+RunEnds (Ok x) run = run ≡ Gave x 0
+RunEnds (Err e) run = Stops e 0 run

@@ -62,15 +62,15 @@ bool_of (Plain v) = bool_in (out-Value v)
 bool_of (One o) = None
 bool_of (Many os) = None
 
-abbrev pub bytes_of : Datum → Option (List ℕ)
-bytes_of (Plain v) = bytes_in (out-Value v)
-bytes_of (One o) = None
-bytes_of (Many os) = None
+abbrev pub bytes_of_datum : Datum → Option (List ℕ)
+bytes_of_datum (Plain v) = bytes_in (out-Value v)
+bytes_of_datum (One o) = None
+bytes_of_datum (Many os) = None
 
-abbrev pub object_of : Datum → Option Object
-object_of (Plain v) = None
-object_of (One o) = Some o
-object_of (Many os) = None
+abbrev pub object_of_datum : Datum → Option Object
+object_of_datum (Plain v) = None
+object_of_datum (One o) = Some o
+object_of_datum (Many os) = None
 
 -- of bytes, a list or objects
 abbrev pub length_of : Datum → Option ℕ
@@ -79,10 +79,10 @@ length_of (One o) = None
 length_of (Many os) = Some (length os)
 
 -- of a list or objects
-abbrev pub item_of : Datum → ℕ → Option Datum
-item_of (Plain v) place = item_in (out-Value v) place
-item_of (One o) place = None
-item_of (Many os) place = object_item (slice_get os place)
+abbrev pub item_of_datum : Datum → ℕ → Option Datum
+item_of_datum (Plain v) place = item_in (out-Value v) place
+item_of_datum (One o) place = None
+item_of_datum (Many os) place = object_item (slice_get os place)
 
 abbrev pub plain_of : Datum → Option Value
 plain_of (Plain v) = Some v

@@ -17,7 +17,7 @@ use Rattle.cs_types_kinds.specs.declared.kind.Base.{Base}
 use Rattle.cs_types_kinds.specs.declared.kind.Base.TheVariants as base
 use Rattle.cs_types_kinds.specs.declared.kind.Kind.{Kind}
 use Rattle.cs_types_kinds.specs.declared.kind.Kind.TheVariants as kind
-use Rattle.cs_types_kinds.specs.Kinds.{kind_of}
+use Rattle.cs_types_kinds.specs.Kinds.{spelled_kind}
 use Rattle.cs_types_kinds.specs.Lookups.{type_number}
 use Rattle.cs_eval_values.specs.declared.view.View.{View}
 use Rattle.cs_eval_values.specs.Datums.{Datum, Plain, One, Many}
@@ -38,12 +38,12 @@ items_pass test (Value-F.List items) = list_all test items
 items_pass test v = false
 
 -- lists so deep of a base
-abbrev pub is_of : Base → ℕ → Value → Bool
-is_of b zero v = is_of_base b (out-Value v)
-is_of b (suc lists) v = items_pass (is_of b lists) (out-Value v)
+abbrev pub is_list_of : Base → ℕ → Value → Bool
+is_list_of b zero v = is_of_base b (out-Value v)
+is_list_of b (suc lists) v = items_pass (is_list_of b lists) (out-Value v)
 
 abbrev pub has_kind : Option Kind → Value → Bool
-has_kind (Some (kind.Value b lists)) v = is_of b lists v
+has_kind (Some (kind.Value b lists)) v = is_list_of b lists v
 has_kind k v = false
 
 -- as many values as fields, each of the declared kind
@@ -51,7 +51,7 @@ abbrev pub values_fit : List Field → List Value → Bool
 values_fit [] [] = true
 values_fit [] (v ∷ vs) = false
 values_fit (f ∷ fs) [] = false
-values_fit (f ∷ fs) (v ∷ vs) = has_kind (kind_of f.kind) v && values_fit fs vs
+values_fit (f ∷ fs) (v ∷ vs) = has_kind (spelled_kind f.kind) v && values_fit fs vs
 
 -- ---- objects of slots
 
@@ -106,7 +106,7 @@ slots_filled contract types slots objects names = each_filled contract types slo
 
 abbrev pub field_filled : Field → Value → List Named → Option (List Named)
 field_filled f v names = do
-  k ← kind_of f.kind
+  k ← spelled_kind f.kind
   if has_kind (Some k) v then Some (with_named names f.name.bytes k (Plain v)) else None
 
 abbrev pub fields_filled : List Field → List Value → List Named → Option (List Named)

@@ -13,18 +13,18 @@ pub record Named : Type 0 where
 abbrev pub named : List ℕ → Kind → Datum → Named
 named name kind datum = record { name = name; kind = kind; datum = datum }
 
-abbrev pub is_named : List ℕ → Named → Bool
-is_named name n = bytes_eq n.name name
+abbrev pub is_of_name : List ℕ → Named → Bool
+is_of_name name n = bytes_eq n.name name
 
 -- the place of the first of this name, or the number of names where there is none
 abbrev pub place_named : List ℕ → List Named → ℕ
 place_named name [] = 0
-place_named name (n ∷ ns) = if is_named name n then 0 else suc (place_named name ns)
+place_named name (n ∷ ns) = if is_of_name name n then 0 else suc (place_named name ns)
 
 -- the first of this name
 abbrev pub find_named : List ℕ → List Named → Option Named
 find_named name [] = None
-find_named name (n ∷ ns) = if is_named name n then Some n else find_named name ns
+find_named name (n ∷ ns) = if is_of_name name n then Some n else find_named name ns
 
 abbrev pub datum_in : Option Named → Option Datum
 datum_in None = None
@@ -45,7 +45,7 @@ kind_named name names = kind_in (find_named name names)
 -- with something else under the first of this name
 abbrev pub with_datum : List ℕ → Datum → List Named → List Named
 with_datum name d [] = []
-with_datum name d (n ∷ ns) = if is_named name n then named n.name n.kind d ∷ ns else n ∷ with_datum name d ns
+with_datum name d (n ∷ ns) = if is_of_name name n then named n.name n.kind d ∷ ns else n ∷ with_datum name d ns
 
 -- with one name more
 abbrev pub with_named : List Named → List ℕ → Kind → Datum → List Named

@@ -20,7 +20,7 @@ use Rattle.cs_eval_values.specs.declared.operators.Binary.{Binary}
 use Rattle.cs_eval_values.specs.declared.operators.Binary.TheVariants as binary_op
 use Rattle.cs_eval_values.specs.Runs.{Run, gives, traps, or_trap, ◌>>=◌}
 use Rattle.cs_eval_values.specs.Ints.{ranged, computed, negated, compared_ints}
-use Rattle.cs_eval_values.specs.Datums.{Datum, Plain, int_of, bool_of, bytes_of, length_of, plain_of, items_of}
+use Rattle.cs_eval_values.specs.Datums.{Datum, Plain, int_of, bool_of, bytes_of_datum, length_of, plain_of, items_of}
 
 abbrev pub int : ℤ → Datum
 int n = Plain (value.Int n)
@@ -40,7 +40,7 @@ abbrev pub given_bool : ℕ → Datum → Run Bool
 given_bool place d = or_trap cause.Misfit place (bool_of d)
 
 abbrev pub given_bytes : ℕ → Datum → Run (List ℕ)
-given_bytes place d = or_trap cause.Misfit place (bytes_of d)
+given_bytes place d = or_trap cause.Misfit place (bytes_of_datum d)
 
 abbrev pub given_value : ℕ → Datum → Run Value
 given_value place d = or_trap cause.Misfit place (plain_of d)
@@ -63,11 +63,11 @@ with_item place items d = given_value place d >>= λ v. gives (items ++ v ∷ []
 -- ---- of one part
 
 -- a number, where it is an int
-abbrev pub number : ℕ → ℕ → Run Datum
-number n place = ranged (pos n) place >>= λ m. gives (int m)
+abbrev pub int_number : ℕ → ℕ → Run Datum
+int_number n place = ranged (pos n) place >>= λ m. gives (int m)
 
 abbrev pub unary : Unary → ℕ → Datum → Run Datum
-unary unary_op.Len place d = or_trap cause.Misfit place (length_of d) >>= λ n. number n place
+unary unary_op.Len place d = or_trap cause.Misfit place (length_of d) >>= λ n. int_number n place
 unary unary_op.Sha256 place d = given_bytes place d >>= λ bytes. gives (text (sha256 bytes))
 unary unary_op.Not place d = given_bool place d >>= λ b. gives (truth (not b))
 unary unary_op.Negative place d = given_int place d >>= λ n. negated n place >>= λ m. gives (int m)
@@ -108,7 +108,7 @@ both test x y = None
 
 -- whether two bools or two bytes are one
 abbrev pub same_in : Datum → Datum → Option Bool
-same_in a b = or_else (both same_bool (bool_of a) (bool_of b)) (both bytes_eq (bytes_of a) (bytes_of b))
+same_in a b = or_else (both same_bool (bool_of a) (bool_of b)) (both bytes_eq (bytes_of_datum a) (bytes_of_datum b))
 
 -- two ints are compared in any way, two bools or two bytes for equality
 abbrev pub compared_in : Comparison → Datum → Datum → Option Bool
@@ -122,10 +122,10 @@ is_bool b None = false
 is_bool b (Some c) = same_bool b c
 
 -- whether the left side is all that counts: an `or` after a true one, an `and` after a false one
-abbrev pub decides : Operator → Datum → Bool
-decides operator.Or left = is_bool true (bool_of left)
-decides operator.And left = is_bool false (bool_of left)
-decides op left = false
+abbrev pub left_decides : Operator → Datum → Bool
+left_decides operator.Or left = is_bool true (bool_of left)
+left_decides operator.And left = is_bool false (bool_of left)
+left_decides op left = false
 
 -- the left side decided nothing, and both are bools
 abbrev pub right_bool : ℕ → Datum → Datum → Run Datum

@@ -3,8 +3,8 @@ use Rattle.std.specs.Prelude.{List, map}
 use Rattle.cs_tx_value.specs.declared.object.Object.{Object}
 use Rattle.cs_eval_values.specs.declared.objects.Placed.{Placed}
 use Rattle.cs_eval_values.specs.declared.objects.Placed.TheVariants as placed
-use Rattle.cs_eval_values.specs.Lending.{object_in}
+use Rattle.cs_eval_values.specs.Lending.{lent_object}
 
-abbrev pub objects_in : Placed → List Object
-objects_in (placed.Alone os) = os.now
-objects_in (placed.Keyed os) = map object_in os.now
+abbrev pub placed_objects : Placed → List Object
+placed_objects (placed.Alone os) = os.now
+placed_objects (placed.Keyed os) = map lent_object os.now

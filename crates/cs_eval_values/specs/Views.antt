@@ -10,7 +10,7 @@ use Rattle.cs_eval_values.specs.declared.stop.Cause.TheVariants as cause
 use Rattle.cs_eval_values.specs.declared.view.View.{View}
 use Rattle.cs_eval_values.specs.declared.view.Dep.{Dep}
 use Rattle.cs_eval_values.specs.Runs.{Run, gives, or_trap, ◌>>=◌}
-use Rattle.cs_eval_values.specs.Datums.{Datum, Plain, int_in, object_of}
+use Rattle.cs_eval_values.specs.Datums.{Datum, Plain, int_in, object_of_datum}
 use Rattle.cs_eval_values.specs.Operators.{int, truth}
 
 -- ---- fields of objects
@@ -18,13 +18,13 @@ use Rattle.cs_eval_values.specs.Operators.{int, truth}
 abbrev pub is_field : List ℕ → Field → Bool
 is_field name f = bytes_eq f.name.bytes name
 
-abbrev pub place_of : List ℕ → Option TypeDef → Option ℕ
-place_of name None = None
-place_of name (Some t) = position (is_field name) t.fields
+abbrev pub field_place : List ℕ → Option TypeDef → Option ℕ
+field_place name None = None
+field_place name (Some t) = position (is_field name) t.fields
 
-abbrev pub value_at : List Value → Option ℕ → Option Value
-value_at values None = None
-value_at values (Some place) = slice_get values place
+abbrev pub field_value : List Value → Option ℕ → Option Value
+field_value values None = None
+field_value values (Some place) = slice_get values place
 
 abbrev pub type_named : List ℕ → List TypeDef → Option TypeDef
 type_named name [] = None
@@ -32,11 +32,11 @@ type_named name (t ∷ ts) = if is_type name t then Some t else type_named name 
 
 -- the value of the field of this name
 abbrev pub field_in : List TypeDef → List ℕ → Object → Option Value
-field_in types name o = value_at o.values (place_of name (type_named o.type_name types))
+field_in types name o = field_value o.values (field_place name (type_named o.type_name types))
 
 abbrev pub field_of : List TypeDef → List ℕ → ℕ → Datum → Run Datum
 field_of types name place d =
-    or_trap cause.Misfit place (object_of d) >>= λ o.
+    or_trap cause.Misfit place (object_of_datum d) >>= λ o.
     or_trap cause.Misfit place (field_in types name o) >>= λ v. gives (Plain v)
 
 -- ---- deps

@@ -1,7 +1,7 @@
 //! Arithmetic of ints of 64 bits, which stops where one leaves its range.
 ghost use Rattle.std.specs.Prelude.{◌≡◌, ◌+ℤ◌, ◌-ℤ◌, ◌*ℤ◌, neg_ℤ, int_div};
 ghost use Rattle.cs_eval_values.specs.Ints.{in_range, compared_ints, divided, remainder, computed, negated};
-ghost use Rattle.cs_eval_values.specs.Answers.{Ends};
+ghost use Rattle.cs_eval_values.specs.Answers.{RunEnds};
 ghost use Rattle.cs_eval_values.specs.Runs.{or_trap};
 ghost use Rattle.cs_eval_values.specs.declared.stop.Cause.TheVariants as cause;
 
@@ -31,7 +31,7 @@ fn product(x: i64, y: i64) -> Option<i64>
 
 /// The quotient toward zero.
 fn quotient(x: i64, y: i64, place: usize) -> Result<i64, Stop>
-    ensures { Ends result (divided x y place) }
+    ensures { RunEnds result (divided x y place) }
 {
     if y == 0 {
         return Err(Stop::Trap(Cause::Divisor, place));
@@ -44,7 +44,7 @@ fn quotient(x: i64, y: i64, place: usize) -> Result<i64, Stop>
 
 /// The remainder, with the sign of the left side.
 fn rest(x: i64, y: i64, place: usize) -> Result<i64, Stop>
-    ensures { Ends result (remainder x y place) }
+    ensures { RunEnds result (remainder x y place) }
 {
     if y == 0 {
         return Err(Stop::Trap(Cause::Divisor, place));
@@ -57,7 +57,7 @@ fn rest(x: i64, y: i64, place: usize) -> Result<i64, Stop>
 
 /// The number, or the trap of one out of range.
 fn or_range(number: Option<i64>, place: usize) -> Result<i64, Stop>
-    ensures { Ends result (or_trap cause.Range place number) }
+    ensures { RunEnds result (or_trap cause.Range place number) }
 {
     match number {
         Some(number) => Ok(number),
@@ -67,7 +67,7 @@ fn or_range(number: Option<i64>, place: usize) -> Result<i64, Stop>
 
 /// What an operator makes of two ints.
 pub fn compute(operator: Operator, x: i64, y: i64, place: usize) -> Result<i64, Stop>
-    ensures { Ends result (computed operator x y place) }
+    ensures { RunEnds result (computed operator x y place) }
 {
     match operator {
         Operator::Plus => or_range(sum(x, y), place),
@@ -81,7 +81,7 @@ pub fn compute(operator: Operator, x: i64, y: i64, place: usize) -> Result<i64, 
 
 /// The int with the other sign.
 pub fn negate(x: i64, place: usize) -> Result<i64, Stop>
-    ensures { Ends result (negated x place) }
+    ensures { RunEnds result (negated x place) }
 {
     match x.checked_neg() {
         Some(number) => Ok(number),

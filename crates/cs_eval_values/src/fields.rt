@@ -1,7 +1,7 @@
 //! Fields of objects, and deps.
 ghost use Rattle.std.specs.Prelude.{◌≡◌, position, slice_get};
 ghost use Rattle.std.specs.Option.{option_copied};
-ghost use Rattle.cs_eval_values.specs.Answers.{Ends};
+ghost use Rattle.cs_eval_values.specs.Answers.{RunEnds};
 ghost use Rattle.cs_eval_values.specs.Datums.{int_in};
 ghost use Rattle.cs_eval_values.specs.Views.{is_field, type_named, field_in, field_of as field_run, is_called as is_called_in, int_of_value, returned, returned_int as returned_run};
 
@@ -48,7 +48,7 @@ pub fn field_of<'a>(
     held: &Held<'a>,
     place: usize,
 ) -> Result<Held<'a>, Stop>
-    ensures { Ends result (field_run types.now name.now place held.now) }
+    ensures { RunEnds result (field_run types.now name.now place held.now) }
 {
     match held.as_object() {
         Some(object) => match field_in(types, name, object) {
@@ -89,7 +89,7 @@ pub fn returned_int<'a>(
     value: u64,
     place: usize,
 ) -> Result<Held<'a>, Stop>
-    ensures { Ends result (returned_run view.now dep value place) }
+    ensures { RunEnds result (returned_run view.now dep value place) }
 {
     match int_returned(view, dep, value) {
         Some(number) => Ok(Held::int(number)),

@@ -2,8 +2,8 @@
 ghost use Rattle.std.specs.Prelude.{◌≡◌, IfOk};
 ghost use Rattle.std.specs.List.{list_all};
 ghost use Rattle.cs_tx_value.specs.declared.value.Value.{out-Value};
-ghost use Rattle.cs_types_kinds.specs.Kinds.{kind_of as declared};
-ghost use Rattle.cs_eval_values.specs.Filling.{is_of_base, is_of, items_pass, has_kind, values_fit, fields_fit, object_fits, Fills, FillsSlot, many_filled, one_filled, slot_filled, slots_filled, field_filled, fields_filled, filled};
+ghost use Rattle.cs_types_kinds.specs.Kinds.{spelled_kind as declared};
+ghost use Rattle.cs_eval_values.specs.Filling.{is_of_base, is_list_of, items_pass, has_kind, values_fit, fields_fit, object_fits, Fills, FillsSlot, many_filled, one_filled, slot_filled, slots_filled, field_filled, fields_filled, filled};
 
 use crate::fields::type_named;
 use crate::held::Held;
@@ -30,7 +30,7 @@ fn is_of_base(base: Base, value: &Value) -> bool
 
 #[cycle(kinds)]
 fn each_is_of(base: Base, lists: u8, values: &[Value]) -> bool
-    ensures { result ≡ list_all (is_of base lists) values.now }
+    ensures { result ≡ list_all (is_list_of base lists) values.now }
 {
     for value in values {
         if !is_of(base, lists, value) {
@@ -43,7 +43,7 @@ fn each_is_of(base: Base, lists: u8, values: &[Value]) -> bool
 /// Whether it is lists so deep of the base.
 #[cycle(kinds)]
 fn is_of(base: Base, lists: u8, value: &Value) -> bool
-    ensures { result ≡ is_of base lists value.now }
+    ensures { result ≡ is_list_of base lists value.now }
 {
     if lists == 0 {
         return is_of_base(base, value);

@@ -1,7 +1,7 @@
 //! What a name stands for and an expression gives.
 ghost use Rattle.std.specs.Prelude.{◌≡◌, is_some, IfOk};
 ghost use Rattle.std.specs.Option.{option_copied};
-ghost use Rattle.cs_eval_values.specs.Datums.{Plain, One, Many, int_of, bool_of, bytes_of, object_of, length_of, items_of, item_of, plain_of};
+ghost use Rattle.cs_eval_values.specs.Datums.{Plain, One, Many, int_of, bool_of, bytes_of_datum, object_of_datum, length_of, items_of, item_of_datum, plain_of};
 ghost use Rattle.cs_tx_value.specs.declared.value.Value.TheVariants as value;
 
 use crate::objects::Objects;
@@ -157,7 +157,7 @@ impl<'a> Held<'a> {
 
     /// The bytes that it is.
     pub fn as_bytes(&self) -> Option<&[u8]>
-        ensures { option_copied result ≡ bytes_of self.now }
+        ensures { option_copied result ≡ bytes_of_datum self.now }
     {
         match &self.inner {
             Inner::Text(bytes) => Some(*bytes),
@@ -169,7 +169,7 @@ impl<'a> Held<'a> {
 
     /// The object that it is.
     pub fn as_object(&self) -> Option<&'a Object>
-        ensures { option_copied result ≡ object_of self.now }
+        ensures { option_copied result ≡ object_of_datum self.now }
     {
         match &self.inner {
             Inner::One(object) => Some(*object),
@@ -204,7 +204,7 @@ impl<'a> Held<'a> {
 
     /// The item at a place, where it is a list or objects and has one there.
     pub fn item(&self, alloc: Global, place: usize) -> Result<Option<Held<'a>>, Memory>
-        ensures { IfOk result (λ item. item ≡ item_of self.now place) }
+        ensures { IfOk result (λ item. item ≡ item_of_datum self.now place) }
     {
         match &self.inner {
             Inner::Lent(value) => Ok(lent_item(*value, place)),

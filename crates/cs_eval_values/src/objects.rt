@@ -1,7 +1,7 @@
 //! Objects, wherever they stand.
 ghost use Rattle.std.specs.Prelude.{◌≡◌, length, map, slice_get, take, drop};
 ghost use Rattle.std.specs.Option.{option_copied};
-ghost use Rattle.cs_eval_values.specs.Lending.{object_in};
+ghost use Rattle.cs_eval_values.specs.Lending.{lent_object};
 
 use cs_tx_value::{Digest, Object};
 use std::marker::Model;
@@ -29,9 +29,9 @@ impl<'a> Model for Objects<'a> {
 
     ghost coded = { coded_list objects.the_row.coded };
 
-    ghost use Rattle.cs_eval_values.specs.Placing.{objects_in};
+    ghost use Rattle.cs_eval_values.specs.Placing.{placed_objects};
 
-    ghost view = { λ s. objects_in s.placed };
+    ghost view = { λ s. placed_objects s.placed };
 }
 
 impl<'a> Objects<'a> {
@@ -46,7 +46,7 @@ impl<'a> Objects<'a> {
 
     /// Those that stand beside their keys.
     pub fn keyed(objects: &'a [(Digest, Object)]) -> Objects<'a>
-        ensures { result ≡ map object_in objects.now }
+        ensures { result ≡ map lent_object objects.now }
     {
         Objects {
             placed: Placed::Keyed(objects),

@@ -2,11 +2,11 @@
 ghost use Rattle.std.specs.Prelude.{◌≡◌, OnOk};
 ghost use Rattle.std.specs.Str.{bytes_eq};
 ghost use Rattle.cs_tx_value.specs.declared.value.Value.{out-Value};
-ghost use Rattle.cs_eval_values.specs.Datums.{bool_of, bytes_of, int_of};
+ghost use Rattle.cs_eval_values.specs.Datums.{bool_of, bytes_of_datum, int_of};
 ghost use Rattle.cs_eval_values.specs.Runs.{traps};
-ghost use Rattle.cs_eval_values.specs.Answers.{Ends};
+ghost use Rattle.cs_eval_values.specs.Answers.{RunEnds};
 ghost use Rattle.cs_base.specs.Options.{or_else};
-ghost use Rattle.cs_eval_values.specs.Operators.{given_int, given_bool, given_value, list_of as list_run, with_item as item_run, number as number_run, unary, joined_bytes, joined_lists, joined_layers, joined, same_bool, equality, both, same_in, compared_in, compared, decides as decides_all, right_bool, arithmetic, linked, indexed, binary};
+ghost use Rattle.cs_eval_values.specs.Operators.{given_int, given_bool, given_value, list_of as list_run, with_item as item_run, int_number as number_run, unary, joined_bytes, joined_lists, joined_layers, joined, same_bool, equality, both, same_in, compared_in, compared, left_decides as decides_all, right_bool, arithmetic, linked, indexed, binary};
 
 use crate::arithmetic::{compare, compute, negate};
 use crate::held::Held;
@@ -39,7 +39,7 @@ pub enum Binary {
 }
 
 fn given_int(held: &Held<'_>, place: usize) -> Result<i64, Stop>
-    ensures { Ends result (given_int place held.now) }
+    ensures { RunEnds result (given_int place held.now) }
 {
     match held.as_int() {
         Some(number) => Ok(number),
@@ -48,7 +48,7 @@ fn given_int(held: &Held<'_>, place: usize) -> Result<i64, Stop>
 }
 
 fn given_bool(held: &Held<'_>, place: usize) -> Result<bool, Stop>
-    ensures { Ends result (given_bool place held.now) }
+    ensures { RunEnds result (given_bool place held.now) }
 {
     match held.as_bool() {
         Some(truth) => Ok(truth),
@@ -57,7 +57,7 @@ fn given_bool(held: &Held<'_>, place: usize) -> Result<bool, Stop>
 }
 
 fn given_value(alloc: Global, held: Held<'_>, place: usize) -> Result<Value, Stop>
-    ensures { Ends result (given_value place held.entry) }
+    ensures { RunEnds result (given_value place held.entry) }
 {
     match held.value(alloc)? {
         Some(value) => Ok(value),
@@ -67,7 +67,7 @@ fn given_value(alloc: Global, held: Held<'_>, place: usize) -> Result<Value, Sto
 
 /// The list of the items, where its encoding isn't too long.
 pub fn list_of<'a>(alloc: Global, items: Sequence<Value>, place: usize) -> Result<Held<'a>, Stop>
-    ensures { Ends result (list_run items place) }
+    ensures { RunEnds result (list_run items place) }
 {
     let list = Value::List(items);
     if list.room(MOST_VALUE).is_none() {
@@ -83,7 +83,7 @@ pub fn with_item(
     item: Held<'_>,
     place: usize,
 ) -> Result<Sequence<Value>, Stop>
-    ensures { Ends result (item_run place items item.entry) }
+    ensures { RunEnds result (item_run place items item.entry) }
 {
     let mut items = items;
     items.push(given_value(alloc, item, place)?)?;
@@ -92,7 +92,7 @@ pub fn with_item(
 
 /// A number, where it is an int.
 pub fn number<'a>(number: u64, place: usize) -> Result<Held<'a>, Stop>
-    ensures { Ends result (number_run number place) }
+    ensures { RunEnds result (number_run number place) }
 {
     match i64::try_from(number) {
         Ok(number) => Ok(Held::int(number)),
@@ -102,7 +102,7 @@ pub fn number<'a>(number: u64, place: usize) -> Result<Held<'a>, Stop>
 
 /// The length of bytes, a list or objects.
 fn length<'a>(held: &Held<'a>, place: usize) -> Result<Held<'a>, Stop>
-    ensures { Ends result (unary Unary.Len place held.now) }
+    ensures { RunEnds result (unary Unary.Len place held.now) }
 {
     match held.length() {
         Some(length) => number(length as u64, place),
@@ -112,7 +112,7 @@ fn length<'a>(held: &Held<'a>, place: usize) -> Result<Held<'a>, Stop>
 
 /// The hash of bytes.
 fn hash<'a>(alloc: Global, held: &Held<'a>, place: usize) -> Result<Held<'a>, Stop>
-    ensures { Ends result (unary Unary.Sha256 place held.now) }
+    ensures { RunEnds result (unary Unary.Sha256 place held.now) }
 {
     match held.as_bytes() {
         Some(bytes) => Ok(Held::own(alloc, bytes_value(alloc, &Sha256::digest(bytes))?)?),
@@ -127,7 +127,7 @@ pub fn apply_unary<'a>(
     held: &Held<'a>,
     place: usize,
 ) -> Result<Held<'a>, Stop>
-    ensures { Ends result (unary operation place held.now) }
+    ensures { RunEnds result (unary operation place held.now) }
 {
     match operation {
         Unary::Len => length(held, place),
@@ -144,7 +144,7 @@ fn join_bytes<'a>(
     back: &[u8],
     place: usize,
 ) -> Result<Held<'a>, Stop>
-    ensures { Ends result (joined_bytes front back.now place) }
+    ensures { RunEnds result (joined_bytes front back.now place) }
 {
     if back.len() > MOST_BYTES || front.len() > MOST_BYTES - back.len() {
         return Err(Stop::Trap(Cause::Length, place));
@@ -161,7 +161,7 @@ fn join_lists<'a>(
     back: Sequence<Value>,
     place: usize,
 ) -> Result<Held<'a>, Stop>
-    ensures { Ends result (joined_lists front back place) }
+    ensures { RunEnds result (joined_lists front back place) }
 {
     if back.len() > MOST_ITEMS || front.len() > MOST_ITEMS - back.len() {
         return Err(Stop::Trap(Cause::Length, place));
@@ -173,7 +173,7 @@ fn join_lists<'a>(
 }
 
 fn join_values<'a>(alloc: Global, front: Value, back: Value, place: usize) -> Result<Held<'a>, Stop>
-    ensures { Ends result (joined_layers (out-Value front) (out-Value back) place) }
+    ensures { RunEnds result (joined_layers (out-Value front) (out-Value back) place) }
 {
     match (front, back) {
         (Value::Bytes(front), Value::Bytes(back)) => {
@@ -186,7 +186,7 @@ fn join_values<'a>(alloc: Global, front: Value, back: Value, place: usize) -> Re
 
 /// Bytes with bytes, or a list with a list.
 fn join<'a>(alloc: Global, front: Held<'a>, back: Held<'a>, place: usize) -> Result<Held<'a>, Stop>
-    ensures { Ends result (joined place front.entry back.entry) }
+    ensures { RunEnds result (joined place front.entry back.entry) }
 {
     let front = given_value(alloc, front, place)?;
     let back = given_value(alloc, back, place)?;
@@ -195,7 +195,7 @@ fn join<'a>(alloc: Global, front: Held<'a>, back: Held<'a>, place: usize) -> Res
 
 /// Whether two bytes are one.
 fn same_bytes(left: &Held<'_>, right: &Held<'_>) -> Option<bool>
-    ensures { result ≡ both bytes_eq (bytes_of left.now) (bytes_of right.now) }
+    ensures { result ≡ both bytes_eq (bytes_of_datum left.now) (bytes_of_datum right.now) }
 {
     match (left.as_bytes(), right.as_bytes()) {
         (Some(left), Some(right)) => Some(left == right),
@@ -240,7 +240,7 @@ fn comparison_of<'a>(
     right: &Held<'a>,
     place: usize,
 ) -> Result<Held<'a>, Stop>
-    ensures { Ends result (compared comparison place left.now right.now) }
+    ensures { RunEnds result (compared comparison place left.now right.now) }
 {
     match holds(comparison, left, right) {
         Some(truth) => Ok(Held::truth(truth)),
@@ -261,7 +261,7 @@ pub fn decides(operator: Operator, left: &Held<'_>) -> bool
 
 /// The right side, where the left one decided nothing.
 fn right_bool<'a>(left: &Held<'a>, right: &Held<'a>, place: usize) -> Result<Held<'a>, Stop>
-    ensures { Ends result (right_bool place left.now right.now) }
+    ensures { RunEnds result (right_bool place left.now right.now) }
 {
     given_bool(left, place)?;
     Ok(Held::truth(given_bool(right, place)?))
@@ -273,7 +273,7 @@ fn arithmetic<'a>(
     right: &Held<'a>,
     place: usize,
 ) -> Result<Held<'a>, Stop>
-    ensures { Ends result (arithmetic operator place left.now right.now) }
+    ensures { RunEnds result (arithmetic operator place left.now right.now) }
 {
     let x = given_int(left, place)?;
     let y = given_int(right, place)?;
@@ -287,7 +287,7 @@ fn link<'a>(
     right: &Held<'a>,
     place: usize,
 ) -> Result<Held<'a>, Stop>
-    ensures { Ends result (linked operator place left.now right.now) }
+    ensures { RunEnds result (linked operator place left.now right.now) }
 {
     match operator {
         Operator::Or => right_bool(left, right, place),
@@ -299,7 +299,7 @@ fn link<'a>(
 /// The item at a place.
 #[tactic(auto, using(crate::proofs::Items::item_among))]
 fn index<'a>(alloc: Global, held: &Held<'a>, at: &Held<'a>, place: usize) -> Result<Held<'a>, Stop>
-    ensures { Ends result (indexed place held.now at.now) }
+    ensures { RunEnds result (indexed place held.now at.now) }
 {
     if !held.has_items() {
         return Err(Stop::Trap(Cause::Misfit, place));
@@ -322,7 +322,7 @@ pub fn apply_binary<'a>(
     right: Held<'a>,
     place: usize,
 ) -> Result<Held<'a>, Stop>
-    ensures { Ends result (binary operation place left.entry right.entry) }
+    ensures { RunEnds result (binary operation place left.entry right.entry) }
 {
     match operation {
         Binary::Concat => join(alloc, left, right, place),

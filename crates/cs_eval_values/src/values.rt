@@ -3,7 +3,7 @@ ghost use Rattle.std.specs.Prelude.{◌≡◌, is_some, slice_get, IfOk};
 ghost use Rattle.std.specs.Option.{option_copied};
 ghost use Rattle.cs_tx_value.specs.declared.value.Value.{out-Value};
 ghost use Rattle.cs_tx_value.specs.declared.value.Value.TheVariants as value;
-ghost use Rattle.cs_eval_values.specs.Datums.{int_in, bool_in, bytes_in, length_in, values_in, plain_item, Plain, Many, item_of};
+ghost use Rattle.cs_eval_values.specs.Datums.{int_in, bool_in, bytes_in, length_in, values_in, plain_item, Plain, Many, item_of_datum};
 
 use crate::held::Held;
 use crate::objects::Objects;
@@ -74,7 +74,7 @@ fn lent_at(items: &[Value], place: usize) -> Option<Held<'_>>
 
 /// The item of a list at a place, lent.
 pub fn lent_item(value: &Value, place: usize) -> Option<Held<'_>>
-    ensures { result ≡ item_of (Plain value.now) place }
+    ensures { result ≡ item_of_datum (Plain value.now) place }
 {
     match value {
         Value::List(items) => lent_at(items.as_slice(), place),
@@ -98,7 +98,7 @@ pub fn shared_item<'a>(
     value: &Value,
     place: usize,
 ) -> Result<Option<Held<'a>>, Memory>
-    ensures { IfOk result (λ item. item ≡ item_of (Plain value.now) place) }
+    ensures { IfOk result (λ item. item ≡ item_of_datum (Plain value.now) place) }
 {
     match value {
         Value::List(items) => copied_at(alloc, items.as_slice(), place),
@@ -119,7 +119,7 @@ fn copied<'a>(alloc: Global, value: &Value) -> Result<Held<'a>, Memory>
 
 /// The object at a place.
 pub fn object_at<'a>(objects: &Objects<'a>, place: usize) -> Option<Held<'a>>
-    ensures { result ≡ item_of (Many objects.now) place }
+    ensures { result ≡ item_of_datum (Many objects.now) place }
 {
     match objects.get(place) {
         Some(object) => Some(Held::one(object)),

@@ -15,16 +15,16 @@ use Rattle.cs_tx_value.specs.Encoding.{value_encoding, AtMost}
 use Rattle.cs_tx_value.specs.Name.{name_encoding, NameFits}
 use Rattle.cs_tx_value.specs.Object.{object_encoding, DigestFits, ObjectFits}
 use Rattle.cs_tx_value.specs.laws.Layers.{encoding_int, int_fits}
-use Rattle.cs_tx_form.specs.declared.session.Session.{Session}
-use Rattle.cs_tx_form.specs.declared.trace.Trace.{Trace}
-use Rattle.cs_tx_form.specs.declared.transaction.Tx.{Tx}
-use Rattle.cs_tx_form.specs.Transaction.{keyed_encoding, trace_front, trace_back, TraceFits, tx_encoding, TxFits}
-use Rattle.cs_tx_form.specs.Session.{DummyFits, SessionFits}
+use Rattle.cs_tx_types.specs.declared.session.Session.{Session}
+use Rattle.cs_tx_types.specs.declared.trace.Trace.{Trace}
+use Rattle.cs_tx_types.specs.declared.transaction.Tx.{Tx}
+use Rattle.cs_tx_types.specs.Transaction.{keyed_encoding, trace_front, trace_back, TraceFits, tx_encoding, TxFits}
+use Rattle.cs_tx_types.specs.Session.{DummyFits, SessionFits}
 use Rattle.cs_tx.specs.Digest.{name_of_genesis}
 use Rattle.cs_tx.specs.Token.{token_id}
 use Rattle.cs_wire_message.proofs.Bytes.{bytes-nil, bytes-append, bytes-32}
 use Rattle.cs_gen.specs.Coins.{coin}
-use Rattle.cs_gen.specs.Rounds.{transfer, split, session}
+use Rattle.cs_gen.specs.Rounds.{transfer, split_tx, session}
 
 bytes-digest : (words : List ℕ) (n : ℕ) → IsBytes (digest_bytes words n)
 unfolding digest_bytes
@@ -157,19 +157,19 @@ module _ (name : List ℕ) (worth first second : ℕ) (of_name : DigestFits name
   }
 
 -- the transaction of a round
-pub split_fits : (place worth share : ℕ) → worth < 2 ^ 63 → share ≤ worth → TxFits (split place worth share)
+pub split_fits : (place worth share : ℕ) → worth < 2 ^ 63 → share ≤ worth → TxFits (split_tx place worth share)
 split_fits place worth share small part =
     transfer_fits (name_of_genesis place (coin worth)) worth share (worth - share) (hash_fits _) small (omega arith) (omega arith)
 
 pub session_fits : (place worth share number : ℕ) (dummies : List (ℕ × ℕ)) → worth < 2 ^ 63 → share ≤ worth → number < 2 ^ 64 → AtMost 15 DummyFits dummies
-    → SessionFits (session (split place worth share) number dummies)
+    → SessionFits (session (split_tx place worth share) number dummies)
 session_fits place worth share number dummies small part low fit = record { tx = split_fits place worth share small part; number = low; dummies = fit }
 
 -- so is the session that is made of one, before it has dummies
-pub made_fits : (place worth share : ℕ) (x : Session) → x ≡ session (split place worth share) place [] → worth < 2 ^ 63 → share ≤ worth → place < 2 ^ 32 → SessionFits x
+pub made_fits : (place worth share : ℕ) (x : Session) → x ≡ session (split_tx place worth share) place [] → worth < 2 ^ 63 → share ≤ worth → place < 2 ^ 32 → SessionFits x
 made_fits place worth share x is small part low = rw is (session_fits place worth share place [] small part (omega arith) (omega arith, tt))
 
 pub split_is : (place worth share : ℕ) (name : List ℕ) (spent : Object) (made : Tx) → spent ≡ coin worth → name ≡ name_of_genesis place spent → made ≡ transfer (name, spent) share (worth - share)
-    → made ≡ split place worth share
+    → made ≡ split_tx place worth share
 split_is place worth share name spent made of_coin of_name is =
     is ∙ ap (λ (n : List ℕ). transfer (n, spent) share (worth - share)) of_name ∙ ap (λ (object : Object). transfer (name_of_genesis place object, object) share (worth - share)) of_coin

@@ -7,18 +7,18 @@ use Rattle.std.proofs.lemmas.List.Elements.{All-from_recursion, recursion_from_A
 use Rattle.cs_base.specs.NodeId.{is_node, members_below}
 use Rattle.cs_base.specs.declared.node_id.NodeId.{NodeId}
 use Rattle.cs_tx_value.specs.Object.{ObjectFits}
-use Rattle.cs_tx_form.specs.declared.session.Session.{Session}
-use Rattle.cs_tx_form.specs.Session.{SessionFits}
+use Rattle.cs_tx_types.specs.declared.session.Session.{Session}
+use Rattle.cs_tx_types.specs.Session.{SessionFits}
 use Rattle.cs_wire_message.specs.declared.message.Message.TheVariants.{Submit}
 use Rattle.cs_wire_message.proofs.Spelled.{bytes-body}
 use Rattle.cs_wire_message.proofs.Short.{body_short}
-use Rattle.cs_sched_types.specs.declared.schedule.Event.{Event}
-use Rattle.cs_sched_types.specs.declared.schedule.Event.TheVariants.{Drain}
-use Rattle.cs_sched.specs.Again.{numbered}
+use Rattle.cs_sched.specs.declared.schedule.Event.{Event}
+use Rattle.cs_sched.specs.declared.schedule.Event.TheVariants.{Drain}
+use Rattle.cs_sched.specs.Again.{numbered_events}
 use Rattle.cs_sched.specs.Playable.{IsPlayableEvent}
 use Rattle.cs_gen.specs.Draws.{state_after}
 use Rattle.cs_gen.specs.Coins.{coin, worths_below}
-use Rattle.cs_gen.specs.Rounds.{layout, tx_of, session_of, concerned_by, second_number, submitted, submitted_to, submitted_again, round_with, events_of, events_below}
+use Rattle.cs_gen.specs.Rounds.{layout, round_tx, round_session, concerned_by, second_number, submitted, submitted_to, submitted_again, round_with, events_of, events_below}
 use Rattle.cs_gen.specs.Schedules.{schedule_of}
 use Rattle.cs_gen.specs.Sound.{IsPlayableUnlessTwice, HasOwnLines}
 use Rattle.cs_gen.specs.declared.limits.TheConstants.{MOST_SIZE}
@@ -90,8 +90,8 @@ module _ (state : ℕ) (worths : List ℕ) (small : All (λ worth. worth < 2 ^ 6
   plays-own : (round : ℕ) → round < length worths → AllPlay (events_of state worths round)
   plays-own round within =
       let low : slice_index worths round < 2 ^ 63 = small round 0 within in
-      plays-round (session_of state worths round) (concerned_by (tx_of state worths round)) (second_number state worths round)
-      (round_fits state worths round low (omega (arith, within, few))) (concerned_by-below (tx_of state worths round))
+      plays-round (round_session state worths round) (concerned_by (round_tx state worths round)) (second_number state worths round)
+      (round_fits state worths round low (omega (arith, within, few))) (concerned_by-below (round_tx state worths round))
       (λ number is. number_fits state worths round number low (omega (arith, within, few)) is (omega (arith, within, few)))
 
   plays-below : (n : ℕ) → n ≤ length worths → AllPlay (events_below state worths n)
@@ -100,7 +100,7 @@ module _ (state : ℕ) (worths : List ℕ) (small : All (λ worth. worth < 2 ^ 6
       subst AllPlay (sym (events-more state worths n (suc n) (omega arith)))
       (play-append (events_below state worths n) (events_of state worths n) (plays-below n (omega arith)) (plays-own n (omega arith)))
 
-plays-numbered : (n : ℕ) (events : List Event) → AllPlay events → AllByRecursion (λ numbered. CanPlay numbered.1) (enumerate_from n events)
+plays-numbered : (n : ℕ) (events : List Event) → AllPlay events → AllByRecursion (λ numbered_events. CanPlay numbered_events.1) (enumerate_from n events)
 plays-numbered n [] all = tt
 plays-numbered n (event ∷ events) all = (all.0, plays-numbered (n + 1) events all.1)
 
@@ -128,13 +128,13 @@ playable number size few differ =
       few_objects = omega (arith, length-map worths coin, within);
       keys_differ = differ;
       events =
-          All-from_recursion (λ numbered. CanPlay numbered.1) (enumerate_from (6 + length worths) events)
+          All-from_recursion (λ numbered_events. CanPlay numbered_events.1) (enumerate_from (6 + length worths) events)
           (plays-numbered (6 + length worths) events (plays-below (state_after first size) worths (worths-fit first size) within (length worths) (omega arith)));
     }
 
 -- ---- lines
 
-numbered-again : (n : ℕ) (events : List Event) → numbered n (enumerate_from n events) ≡ enumerate_from n events
+numbered-again : (n : ℕ) (events : List Event) → numbered_events n (enumerate_from n events) ≡ enumerate_from n events
 numbered-again n [] = refl
 numbered-again n (event ∷ events) = ap (λ (rest : List (ℕ × Event)). (n, event) ∷ rest) (numbered-again (n + 1) events)
 
@@ -145,6 +145,6 @@ own_lines number size =
     let worths = worths_below first size in
     let plain = events_below (state_after first size) worths (length worths) in
     let before : 6 + (0 + (0 + length (map coin worths))) ≡ 6 + length worths = omega (arith, length-map worths coin) in
-    let same : numbered (6 + (0 + (0 + length (map coin worths)))) (enumerate_from (6 + length worths) plain) ≡ enumerate_from (6 + length worths) plain =
-    ap (λ (n : ℕ). numbered n (enumerate_from (6 + length worths) plain)) before ∙ numbered-again (6 + length worths) plain in
+    let same : numbered_events (6 + (0 + (0 + length (map coin worths)))) (enumerate_from (6 + length worths) plain) ≡ enumerate_from (6 + length worths) plain =
+    ap (λ (n : ℕ). numbered_events n (enumerate_from (6 + length worths) plain)) before ∙ numbered-again (6 + length worths) plain in
     λ i. record (schedule_of number size) { events = same i }

@@ -6,10 +6,10 @@ use Rattle.std.proofs.lemmas.List.{length-append}
 use Rattle.std.proofs.lemmas.List.Elements.{All-from_recursion}
 use Rattle.std.proofs.lemmas.List.Sums.{length-filter}
 use Rattle.cs_base.specs.declared.config.Config.{Config}
-use Rattle.cs_tx_form.specs.declared.session.Session.{Session}
-use Rattle.cs_tx_form.specs.declared.transaction.Tx.{Tx}
+use Rattle.cs_tx_types.specs.declared.session.Session.{Session}
+use Rattle.cs_tx_types.specs.declared.transaction.Tx.{Tx}
 use Rattle.cs_tx.specs.Uses.{inputs_of, names, is_among, concerns, concerned_below}
-use Rattle.cs_gen.specs.Rounds.{layout, session, concerned_by, wanting}
+use Rattle.cs_gen.specs.Rounds.{layout, session, concerned_by, wanting_dummies}
 
 abbrev pub AreBelow : ℕ → List ℕ → Type 0
 AreBelow n shards = AllByRecursion (λ shard. shard < n) shards
@@ -64,16 +64,16 @@ counted-few p shards = subst (λ (n : ℕ). n ≤ length shards) (length-filter 
 pub concerned_by-below : (tx : Tx) → AreBelow 3 (concerned_by tx)
 concerned_by-below tx = concerned-below layout (session tx 0 []) 3
 
-pub wanting-below : (tx : Tx) → AreBelow 3 (wanting tx)
+pub wanting-below : (tx : Tx) → AreBelow 3 (wanting_dummies tx)
 wanting-below tx = filtered-below 3 (λ shard. not (is_among layout shard (names (inputs_of tx)))) (concerned_by tx) (concerned_by-below tx)
 
-pub wanting-few : (tx : Tx) → length (wanting tx) ≤ 3
+pub wanting-few : (tx : Tx) → length (wanting_dummies tx) ≤ 3
 wanting-few tx =
     let few : length (concerned_by tx) ≤ 3 = concerned-few layout (session tx 0 []) 3 in
     omega (arith, few, filtered-few (λ shard. not (is_among layout shard (names (inputs_of tx)))) (concerned_by tx))
 
-pub wanting-counted : (p : ℕ → Bool) (tx : Tx) → count_by p (wanting tx) ≤ 3
-wanting-counted p tx = omega (arith, counted-few p (wanting tx), wanting-few tx)
+pub wanting-counted : (p : ℕ → Bool) (tx : Tx) → count_by p (wanting_dummies tx) ≤ 3
+wanting-counted p tx = omega (arith, counted-few p (wanting_dummies tx), wanting-few tx)
 
-pub wanting-all : (tx : Tx) → All (λ shard. shard < 3) (wanting tx)
-wanting-all tx = All-from_recursion (λ shard. shard < 3) (wanting tx) (wanting-below tx)
+pub wanting-all : (tx : Tx) → All (λ shard. shard < 3) (wanting_dummies tx)
+wanting-all tx = All-from_recursion (λ shard. shard < 3) (wanting_dummies tx) (wanting-below tx)

@@ -8,16 +8,16 @@ use Rattle.cs_base.specs.NodeId.{members_below}
 use Rattle.cs_base.specs.declared.config.Config.{Config}
 use Rattle.cs_base.specs.declared.node_id.NodeId.{NodeId}
 use Rattle.cs_base.specs.declared.node_id.TheConstants.{CLIENT_SHARD}
-use Rattle.cs_tx_form.specs.declared.transaction.Tx.{Tx}
-use Rattle.cs_tx_form.specs.declared.session.Session.{Session}
-use Rattle.cs_tx_form.specs.Transaction.{Keyed}
+use Rattle.cs_tx_types.specs.declared.transaction.Tx.{Tx}
+use Rattle.cs_tx_types.specs.declared.session.Session.{Session}
+use Rattle.cs_tx_types.specs.Transaction.{Keyed}
 use Rattle.cs_tx.specs.Digest.{name_of_genesis}
 use Rattle.cs_tx.specs.Token.{token_id}
 use Rattle.cs_tx.specs.Uses.{inputs_of, names, is_among, concerned_shards}
 use Rattle.cs_wire_message.specs.Message.{kind_of, body_of}
 use Rattle.cs_wire_message.specs.declared.message.Message.TheVariants.{Submit}
-use Rattle.cs_sched_types.specs.declared.schedule.Event.{Event}
-use Rattle.cs_sched_types.specs.declared.schedule.Event.TheVariants.{Say, Drain}
+use Rattle.cs_sched.specs.declared.schedule.Event.{Event}
+use Rattle.cs_sched.specs.declared.schedule.Event.TheVariants.{Say, Drain}
 use Rattle.cs_gen.specs.Draws.{draw}
 use Rattle.cs_gen.specs.Coins.{coin}
 
@@ -45,14 +45,14 @@ transfer input first second = record {
 }
 
 -- the coin of this place and worth becomes one of this share and one of what is left
-abbrev pub split : ℕ → ℕ → ℕ → Tx
-split place worth share = transfer (name_of_genesis place (coin worth), coin worth) share (worth - share)
+abbrev pub split_tx : ℕ → ℕ → ℕ → Tx
+split_tx place worth share = transfer (name_of_genesis place (coin worth), coin worth) share (worth - share)
 
 -- The transaction of the round of this number, in which the coin of that place is split. Each round has two draws, and
 -- the first round's are made from this state: the first decides the share.
-abbrev pub tx_of : ℕ → List ℕ → ℕ → Tx
-tx_of state worths round =
-    let worth = slice_index worths round in split round worth (draw state (2 * round) % (worth + 1))
+abbrev pub round_tx : ℕ → List ℕ → ℕ → Tx
+round_tx state worths round =
+    let worth = slice_index worths round in split_tx round worth (draw state (2 * round) % (worth + 1))
 
 -- the second draw decides whether a second session is said, which then has this number: it is counted on behind the
 -- first sessions of all rounds
@@ -70,23 +70,23 @@ abbrev pub concerned_by : Tx → List ℕ
 concerned_by tx = concerned_shards layout (session tx 0 [])
 
 -- those of them that want a dummy, since no input is there
-abbrev pub wanting : Tx → List ℕ
-wanting tx = filter (λ shard. not (is_among layout shard (names (inputs_of tx)))) (concerned_by tx)
+abbrev pub wanting_dummies : Tx → List ℕ
+wanting_dummies tx = filter (λ shard. not (is_among layout shard (names (inputs_of tx)))) (concerned_by tx)
 
 -- how many dummies of a shard the rounds before this one used: each shard counts its own
 unfoldable pub serial : ℕ → List ℕ → ℕ → ℕ → ℕ
 serial state worths shard zero = 0
 serial state worths shard (suc round) =
-    serial state worths shard round + count_by (λ other. other == shard) (wanting (tx_of state worths round))
+    serial state worths shard round + count_by (λ other. other == shard) (wanting_dummies (round_tx state worths round))
 
 -- the dummies of a round
 abbrev pub dummies_of : ℕ → List ℕ → ℕ → List (ℕ × ℕ)
 dummies_of state worths round =
-    map (λ shard. (shard, serial state worths shard round)) (wanting (tx_of state worths round))
+    map (λ shard. (shard, serial state worths shard round)) (wanting_dummies (round_tx state worths round))
 
 -- the session of a round, which has its number
-abbrev pub session_of : ℕ → List ℕ → ℕ → Session
-session_of state worths round = session (tx_of state worths round) round (dummies_of state worths round)
+abbrev pub round_session : ℕ → List ℕ → ℕ → Session
+round_session state worths round = session (round_tx state worths round) round (dummies_of state worths round)
 
 -- ---- what is said of them
 
@@ -114,7 +114,7 @@ round_with x shards second = submitted_to x shards ++ (submitted_again x shards 
 -- the events of a round
 abbrev pub events_of : ℕ → List ℕ → ℕ → List Event
 events_of state worths round =
-    round_with (session_of state worths round) (concerned_by (tx_of state worths round))
+    round_with (round_session state worths round) (concerned_by (round_tx state worths round))
     (second_number state worths round)
 
 -- the events of the first so many rounds

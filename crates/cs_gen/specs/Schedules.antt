@@ -2,7 +2,7 @@
 use Rattle.std.specs.Prelude.{ℕ, ◌+◌, List, [], ◌++◌, length, map}
 use Rattle.std.specs.Int.{w64, to_be_bytes}
 use Rattle.std.specs.List.{enumerate_from}
-use Rattle.cs_sched_types.specs.declared.schedule.Schedule.{Schedule}
+use Rattle.cs_sched.specs.declared.schedule.Schedule.{Schedule}
 use Rattle.cs_gen.specs.Draws.{state_after}
 use Rattle.cs_gen.specs.Coins.{coin, worths_below}
 use Rattle.cs_gen.specs.Rounds.{layout, events_below}

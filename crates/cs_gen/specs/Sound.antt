@@ -1,7 +1,7 @@
 -- What every generated schedule meets.
 use Rattle.std.specs.Prelude.{◌≡◌, ◌≢◌, ℕ}
 use Rattle.std.specs.List.{AllPairs}
-use Rattle.cs_sched_types.specs.declared.schedule.Schedule.{Schedule}
+use Rattle.cs_sched.specs.declared.schedule.Schedule.{Schedule}
 use Rattle.cs_tx.specs.GenesisNames.{genesis_names}
 use Rattle.cs_sched.specs.Playable.{IsPlayable}
 use Rattle.cs_sched.specs.Again.{renumbered}

@@ -2,9 +2,9 @@
 ghost use Rattle.std.specs.Prelude.{◌≡◌, ◌+◌, ◌*◌, ◌/◌, ◌%◌, ◌<◌, ◌≤◌, ◌^◌, ◌==◌, ◌++◌, Some, length, map, IfOk, OnOk, if◌then◌else◌};
 ghost use Rattle.std.specs.List.{All};
 ghost use Rattle.cs_base.specs.NodeId.{members_below};
-ghost use Rattle.cs_tx_form.specs.Session.{SessionFits};
+ghost use Rattle.cs_tx_types.specs.Session.{SessionFits};
 ghost use Rattle.cs_tx.specs.Token.{token_id};
-ghost use Rattle.cs_sched_types.specs.declared.schedule.Event.TheVariants.{Say};
+ghost use Rattle.cs_sched.specs.declared.schedule.Event.TheVariants.{Say};
 ghost use Rattle.cs_gen.specs.Draws.{next_state};
 ghost use Rattle.cs_gen.specs.Rounds.{client, submitted_to, round_with, events_below};
 
@@ -13,7 +13,7 @@ use crate::limits::MOST_SIZE;
 use crate::serials::Serials;
 use crate::sessions::{Offer, make_offer};
 use cs_base::{CLIENT_SHARD, Memory, NodeId, Sequence};
-use cs_sched_types::Event;
+use cs_sched::Event;
 use cs_tx::{Digest, Encoded, Session};
 use std::alloc::Global;
 

@@ -10,7 +10,7 @@ use crate::limits::MOST_SIZE;
 use crate::rounds::draw_events;
 use crate::sessions::layout;
 use cs_base::{Memory, Sequence, Writer};
-use cs_sched_types::{Event, Schedule};
+use cs_sched::{Event, Schedule};
 use cs_tx::Digest;
 use std::alloc::Global;
 

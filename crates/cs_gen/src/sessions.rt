@@ -5,7 +5,7 @@ ghost use Rattle.cs_tx.specs.Digest.{name_of_genesis};
 ghost use Rattle.cs_tx.specs.Token.{token_id};
 ghost use Rattle.cs_tx.specs.Uses.{is_among};
 ghost use Rattle.cs_gen.specs.Coins.{coin};
-ghost use Rattle.cs_gen.specs.Rounds.{layout, transfer, split, session, concerned_by, wanting};
+ghost use Rattle.cs_gen.specs.Rounds.{layout, transfer, split_tx, session, concerned_by, wanting_dummies};
 
 use crate::coins::coin;
 use cs_base::{Config, Key, Memory, Sequence, shard_of};
@@ -101,9 +101,9 @@ pub(crate) fn make_offer(
     requires worth { worth < 2 ^ 63 }
     requires share { share ≤ worth }
     ensures { IfOk result (λ offer. offer ≡ record {
-      session = session (split place worth share) place [];
-      shards = concerned_by (split place worth share);
-      wanting = wanting (split place worth share);
+      session = session (split_tx place worth share) place [];
+      shards = concerned_by (split_tx place worth share);
+      wanting = wanting_dummies (split_tx place worth share);
     }) }
 {
     let spent = coin(alloc, token, worth)?;

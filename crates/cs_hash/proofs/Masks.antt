@@ -2,7 +2,7 @@
 use Rattle.std.proofs.Common.{add-one, ◌≡◌, ℕ, zero, suc, ◌+◌, ◌-◌, ◌<◌, ◌≤◌, List, [], ◌∷◌, ◌++◌, length, set, get_or, take, replicate, refl, ap, arith}
 use Rattle.std.specs.Prelude.{bit_xor}
 use Rattle.std.proofs.lemmas.List.{take_all}
-use Rattle.cs_hash.specs.Hash.{masked, filled}
+use Rattle.cs_hash.specs.Hash.{masked, filled_block}
 
 -- the first i bytes are masked
 abbrev pub masked_up : ℕ → ℕ → List ℕ → List ℕ
@@ -36,7 +36,7 @@ filled_more key i n lt small =
 pub masked_on : (pad i : ℕ) (block now : List ℕ) → i < length block → now ≡ masked_up pad i block → set now i (bit_xor (get_or now i 0) pad) ≡ masked_up pad (i + 1) block
 masked_on pad i block now lt is = rw (is, add-one) (masked_more pad i block lt)
 
-pub filled_whole : (key block : List ℕ) (i : ℕ) → block ≡ take i key ++ replicate (64 - i) 0 → length key ≤ i → i ≤ length key → block ≡ filled key
+pub filled_whole : (key block : List ℕ) (i : ℕ) → block ≡ take i key ++ replicate (64 - i) 0 → length key ≤ i → i ≤ length key → block ≡ filled_block key
 filled_whole key block i is long short =
     let all : take i key ≡ key = take_all i key long in
     let so_many : i ≡ length key = omega (arith, long, short) in

@@ -13,11 +13,11 @@ abbrev pub short_key : List ℕ → List ℕ
 short_key key = if nat_lt 64 (length key) then sha256 key else key
 
 -- with zeros behind it, as long as a block
-abbrev pub filled : List ℕ → List ℕ
-filled key = key ++ replicate (64 - length key) 0
+abbrev pub filled_block : List ℕ → List ℕ
+filled_block key = key ++ replicate (64 - length key) 0
 
 abbrev pub key_block : List ℕ → List ℕ
-key_block key = filled (short_key key)
+key_block key = filled_block (short_key key)
 
 -- each byte xor the pad
 abbrev pub masked : ℕ → List ℕ → List ℕ

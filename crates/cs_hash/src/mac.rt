@@ -2,7 +2,7 @@
 ghost use Rattle.std.specs.Prelude.{◌≡◌, ◌≤◌, ◌++◌, length};
 ghost use Rattle.sha2.specs.Sha256.{sha256};
 ghost use Rattle.sha2.specs.Hashers.{Holds256};
-ghost use Rattle.cs_hash.specs.Hash.{filled, key_block, masked, hmac};
+ghost use Rattle.cs_hash.specs.Hash.{filled_block, key_block, masked, hmac};
 
 use crate::Digest;
 use sha2::{Digest as Hasher, Sha256};
@@ -20,7 +20,7 @@ pub const OUTER: u8 = 0x5c;
 #[tactic(auto, using(crate::proofs::Masks::filled_more))]
 fn with_zeros(key: &[u8]) -> [u8; 64]
     requires { length key.now ≤ 64 }
-    ensures { result ≡ filled key.now }
+    ensures { result ≡ filled_block key.now }
 {
     let mut block = [0; 64];
     for i in 0..key.len() {

@@ -13,7 +13,7 @@ use Rattle.cs_lang.specs.declared.tree.Step.{Step, roll-Step}
 use Rattle.cs_lang.specs.declared.tree.Access.{Access}
 use Rattle.cs_lang.specs.declared.tree.Access.TheViews.{the_lemmas}
 use Rattle.cs_lang.specs.declared.tree.Access.TheOpen.{Shape-F}
-use Rattle.cs_lang.specs.Trees.{tree, first_of, shape_of, Opened, same_rank, shape_is_chain, is_chain, chain_begun, chain_extended, with_link, shape_is_path, is_path, path_begun, path_extended, with_step}
+use Rattle.cs_lang.specs.Trees.{tree, first_token_of, shape_of, OpenedTree, same_rank, shape_is_chain, is_chain, chain_begun, chain_extended, with_link, shape_is_path, is_path, path_begun, path_extended, with_step}
 use Rattle.cs_lang.proofs.Opened.{out_path, out_chain}
 
 pub rolled : (s : Shape) → roll-Shape (out-Shape s) ≡ s
@@ -52,20 +52,20 @@ tree_is e = refl
 
 -- ---- chains
 
-chain_seen : (r : Rank) (o : Opened) → shape_is_chain r o ≡ true → (s : Expr) × (ls : List Link) × (roll-Shape o ≡ shape.Chain r s ls)
+chain_seen : (r : Rank) (o : OpenedTree) → shape_is_chain r o ≡ true → (s : Expr) × (ls : List Link) × (roll-Shape o ≡ shape.Chain r s ls)
 chain_seen r (Shape-F.Chain old s ls) e = (s, ls, rolls-Chain old s ls ∙ ap (λ (q : Rank). shape.Chain q s ls) (same_ranks old r e))
 chain_seen r o e = absurd cc
 
-pub chain_view : (r : Rank) (e : Expr) → is_chain r e ≡ true → (s : Expr) × (ls : List Link) × (e ≡ tree (first_of e) (out-Expr e).place (shape.Chain r s ls))
+pub chain_view : (r : Rank) (e : Expr) → is_chain r e ≡ true → (s : Expr) × (ls : List Link) × (e ≡ tree (first_token_of e) (out-Expr e).place (shape.Chain r s ls))
 chain_view r e is =
     let v = chain_seen r (out-Shape (shape_of e)) is in
-    (v.0, v.1, ap (tree (first_of e) (out-Expr e).place) (sym (rolled (shape_of e)) ∙ v.2))
+    (v.0, v.1, ap (tree (first_token_of e) (out-Expr e).place) (sym (rolled (shape_of e)) ∙ v.2))
 
 abbrev pub Item : Type 0
 Item = (Operator × ℕ) × Expr
 
 abbrev pub link_of : Expr → Item → Link
-link_of left p = roll-Link (record { operator = p.0.0; first = first_of left; place = p.0.1; right = p.1 })
+link_of left p = roll-Link (record { operator = p.0.0; first = first_token_of left; place = p.0.1; right = p.1 })
 
 -- behind a chain
 pub link_joins : (r : Rank) (f place : ℕ) (s : Expr) (ls : List Link) (p : Item) → with_link r (tree f place (shape.Chain r s ls)) p ≡ tree f p.0.1 (shape.Chain r s (ls ++ link_of (tree f place (shape.Chain r s ls)) p ∷ []))
@@ -76,22 +76,22 @@ link_joins r f place s ls p =
     ∙ ap (chain_extended r left p.0.1 (link_of left p)) (out_chain r s ls)
 
 -- behind anything else
-pub link_begins : (r : Rank) (e : Expr) (p : Item) → is_chain r e ≡ false → with_link r e p ≡ tree (first_of e) p.0.1 (shape.Chain r e (link_of e p ∷ []))
+pub link_begins : (r : Rank) (e : Expr) (p : Item) → is_chain r e ≡ false → with_link r e p ≡ tree (first_token_of e) p.0.1 (shape.Chain r e (link_of e p ∷ []))
 link_begins r e p test = ap (λ (b : Bool). if b then chain_extended r e p.0.1 (link_of e p) (out-Shape (shape_of e)) else chain_begun r e p.0.1 (link_of e p)) test
 
 -- ---- paths
 
-path_seen : (o : Opened) → shape_is_path o ≡ true → (s : Expr) × (ls : List Step) × (roll-Shape o ≡ shape.Path s ls)
+path_seen : (o : OpenedTree) → shape_is_path o ≡ true → (s : Expr) × (ls : List Step) × (roll-Shape o ≡ shape.Path s ls)
 path_seen (Shape-F.Path s ls) e = (s, ls, rolls-Path s ls)
 path_seen o e = absurd cc
 
-pub path_view : (e : Expr) → is_path e ≡ true → (s : Expr) × (ls : List Step) × (e ≡ tree (first_of e) (out-Expr e).place (shape.Path s ls))
+pub path_view : (e : Expr) → is_path e ≡ true → (s : Expr) × (ls : List Step) × (e ≡ tree (first_token_of e) (out-Expr e).place (shape.Path s ls))
 path_view e is =
     let v = path_seen (out-Shape (shape_of e)) is in
-    (v.0, v.1, ap (tree (first_of e) (out-Expr e).place) (sym (rolled (shape_of e)) ∙ v.2))
+    (v.0, v.1, ap (tree (first_token_of e) (out-Expr e).place) (sym (rolled (shape_of e)) ∙ v.2))
 
 abbrev pub step_of : Expr → ℕ × Access → Step
-step_of left p = roll-Step (record { first = first_of left; place = p.0; access = p.1 })
+step_of left p = roll-Step (record { first = first_token_of left; place = p.0; access = p.1 })
 
 pub step_joins : (f place : ℕ) (s : Expr) (ls : List Step) (p : ℕ × Access) → with_step (tree f place (shape.Path s ls)) p ≡ tree f p.0 (shape.Path s (ls ++ step_of (tree f place (shape.Path s ls)) p ∷ []))
 step_joins f place s ls p =
@@ -100,5 +100,5 @@ step_joins f place s ls p =
     ap (λ (b : Bool). if b then path_extended left p.0 (step_of left p) (out-Shape (shape_of left)) else path_begun left p.0 (step_of left p)) test
     ∙ ap (path_extended left p.0 (step_of left p)) (out_path s ls)
 
-pub step_begins : (e : Expr) (p : ℕ × Access) → is_path e ≡ false → with_step e p ≡ tree (first_of e) p.0 (shape.Path e (step_of e p ∷ []))
+pub step_begins : (e : Expr) (p : ℕ × Access) → is_path e ≡ false → with_step e p ≡ tree (first_token_of e) p.0 (shape.Path e (step_of e p ∷ []))
 step_begins e p test = ap (λ (b : Bool). if b then path_extended e p.0 (step_of e p) (out-Shape (shape_of e)) else path_begun e p.0 (step_of e p)) test

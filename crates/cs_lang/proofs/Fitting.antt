@@ -7,7 +7,7 @@ use Rattle.cs_lang_token.specs.declared.token.Number.{Number}
 use Rattle.cs_lang_token.specs.declared.kind.Kind.{Kind}
 use Rattle.cs_lang_token.specs.declared.kind.Kind.TheVariants as kind
 use Rattle.cs_lang_token.specs.Grammar.{Rule, pair, mapped, either, nothing, many}
-use Rattle.cs_lang_token.specs.Rules.{sign, name, bytes, number, room_of, less_one, joined, joined_pair}
+use Rattle.cs_lang_token.specs.Rules.{sign, name, bytes, number, room_of, less_one, joined_left, joined_pair}
 use Rattle.cs_lang_token.proofs.Spans.{AllBytes, and_first, and_second}
 use Rattle.cs_lang_token.proofs.Gives.{Gives, Every, gives_mapped, gives_pair, gives_either, gives_nothing, gives_many, gives_links, gives_sign, gives_name, gives_number, gives_bytes, gives_commas}
 use Rattle.cs_lang_token.proofs.Sources.{source_fine}
@@ -39,10 +39,10 @@ use Rattle.cs_lang.specs.declared.tree.Action.TheFolds.{fold-roll-Action, fold_o
 use Rattle.cs_lang.specs.declared.tree.Method.{Method}
 use Rattle.cs_lang.specs.declared.tree.ContractTree.{ContractTree}
 use Rattle.cs_lang.specs.declared.methods.Body.{Body}
-use Rattle.cs_lang.specs.Trees.{tree, first_of, shape_of, is_chain, with_link, is_path, with_step, field_step, index_step, number_expr, bytes_expr, name_expr, truth_expr, grouped, listed, empty_expr, len_expr, sha256_expr, concat_expr, called_expr, depint_expr, negative_expr, not_expr, operation, compared_expr, statement, let_of, set_of, if_of, else_of, Range, Items, Numbers, items_of, numbers_of, for_of, inner, make_of, CallRest, Arguments, Binds, binds_of, names_of, call_of, answer_of, block_of, body_of, method_of, first_and_others, contract_of}
-use Rattle.cs_lang.specs.Rules.{word, kinds, group, bracket, concat, called, depint, worded, primary, access as access_rule, post, operators, chain, signed, comparisons, compared, Part, Whole, Negated, Signed, product, no, rule_of, expression, arguments, if_rule, range, for_rule, make_rule, call_rest, call_rule, statement_rule, braces, statements, typedef, head, body, method, contract}
+use Rattle.cs_lang.specs.Trees.{tree, first_token_of, shape_of, is_chain, with_link, is_path, with_step, field_step, index_step, number_expr, bytes_expr, name_expr, truth_expr, grouped, listed, empty_expr, len_expr, sha256_expr, concat_expr, called_expr, depint_expr, negative_expr, not_expr, operation, compared_expr, statement, let_of, set_of, if_of, else_of, Range, Items, Numbers, range_of, numbers_of, for_of, inner, make_of, CallRest, Arguments, Binds, binds_of, names_in_list, call_of, answer_of, block_of, body_of_parts, method_of, first_and_others, contract_tree_of}
+use Rattle.cs_lang.specs.Rules.{keyword, kinds, group, bracket, concat, called, depint, worded, primary, access as access_rule, post, operators, chain, signed, comparisons, comparison_rule, Part, Whole, Negated, Signed, product, no, rule_of, expression, arguments, if_rule, range, for_rule, make_rule, call_rest, call_rule, statement_rule, braces, statements, typedef, head, body, method, contract}
 use Rattle.cs_lang.specs.Texts.{IsContract, HasText}
-use Rattle.cs_lang.specs.Fits.{every, is_of_rank, number_fits, bytes_fit, LinkFits, itself, in_rank, layer_access, layer_step, layer_link, layer_expr, layer_shape, expr_fits, shape_fits, link_fits, step_fits, access_fits, layer_action, layer_statement, layer_block, block_fits, statement_fits, action_fits, method_fits, contract_fits}
+use Rattle.cs_lang.specs.Fits.{every, is_of_rank, number_fits, bytes_fit, LinkFits, itself, in_rank, access_layer_fits, step_layer_fits, link_layer_fits, expr_layer_fits, shape_layer_fits, expr_fits, shape_fits, link_fits, step_fits, access_fits, action_layer_fits, statement_layer_fits, block_layer_fits, block_fits, statement_fits, action_fits, method_fits, contract_fits}
 use Rattle.cs_lang.proofs.Chains.{chain_view, Item, link_of, link_joins, link_begins, path_view, step_of, step_joins, step_begins}
 
 abbrev Fit : Expr → Type 0
@@ -77,93 +77,93 @@ every_more test (y ∷ xs) x h t = both (test y) (every test (xs ++ x ∷ [])) (
 
 expr_is : (e : Expr) → expr_fits e ≡ shape_fits (shape_of e)
 unfolding expr_fits shape_fits
-expr_is e = fold_out-Expr Bool Bool Bool LinkFits Bool layer_access layer_shape layer_expr layer_link layer_step e
+expr_is e = fold_out-Expr Bool Bool Bool LinkFits Bool access_layer_fits shape_layer_fits expr_layer_fits link_layer_fits step_layer_fits e
 
 tree_is : (first place : ℕ) (s : Shape) → expr_fits (tree first place s) ≡ shape_fits s
 tree_is first place s = expr_is (tree first place s)
 
 link_is : (l : Link) (r : Rank) → link_fits l r ≡ (is_of_rank r (out-Link l).operator && expr_fits (out-Link l).right)
 unfolding link_fits expr_fits
-link_is l r = ap (λ (f : LinkFits). f r) (fold_out-Link Bool Bool Bool LinkFits Bool layer_access layer_shape layer_expr layer_link layer_step l)
+link_is l r = ap (λ (f : LinkFits). f r) (fold_out-Link Bool Bool Bool LinkFits Bool access_layer_fits shape_layer_fits expr_layer_fits link_layer_fits step_layer_fits l)
 
 step_is : (s : Step) → step_fits s ≡ access_fits (out-Step s).access
 unfolding step_fits access_fits
-step_is s = fold_out-Step Bool Bool Bool LinkFits Bool layer_access layer_shape layer_expr layer_link layer_step s
+step_is s = fold_out-Step Bool Bool Bool LinkFits Bool access_layer_fits shape_layer_fits expr_layer_fits link_layer_fits step_layer_fits s
 
 field_is : (name : Text) → access_fits (access.Field name) ≡ true
 unfolding access_fits
-field_is name = ap access_fits (sym (rolls-Field name)) ∙ fold-roll-Access Bool Bool Bool LinkFits Bool layer_access layer_shape layer_expr layer_link layer_step (Access-F.Field name)
+field_is name = ap access_fits (sym (rolls-Field name)) ∙ fold-roll-Access Bool Bool Bool LinkFits Bool access_layer_fits shape_layer_fits expr_layer_fits link_layer_fits step_layer_fits (Access-F.Field name)
 
 index_is : (index : Expr) → access_fits (access.Index index) ≡ expr_fits index
 unfolding access_fits expr_fits
-index_is index = ap access_fits (sym (rolls-Index index)) ∙ fold-roll-Access Bool Bool Bool LinkFits Bool layer_access layer_shape layer_expr layer_link layer_step (Access-F.Index index)
+index_is index = ap access_fits (sym (rolls-Index index)) ∙ fold-roll-Access Bool Bool Bool LinkFits Bool access_layer_fits shape_layer_fits expr_layer_fits link_layer_fits step_layer_fits (Access-F.Index index)
 
 number_is : (n : ℕ) → shape_fits (shape.Number n) ≡ number_fits n
 unfolding shape_fits
-number_is n = ap shape_fits (sym (rolls-Number n)) ∙ fold-roll-Shape Bool Bool Bool LinkFits Bool layer_access layer_shape layer_expr layer_link layer_step (Shape-F.Number n)
+number_is n = ap shape_fits (sym (rolls-Number n)) ∙ fold-roll-Shape Bool Bool Bool LinkFits Bool access_layer_fits shape_layer_fits expr_layer_fits link_layer_fits step_layer_fits (Shape-F.Number n)
 
 bytes_is : (b : List ℕ) → shape_fits (shape.Bytes b) ≡ bytes_fit b
 unfolding shape_fits
-bytes_is b = ap shape_fits (sym (rolls-Bytes b)) ∙ fold-roll-Shape Bool Bool Bool LinkFits Bool layer_access layer_shape layer_expr layer_link layer_step (Shape-F.Bytes b)
+bytes_is b = ap shape_fits (sym (rolls-Bytes b)) ∙ fold-roll-Shape Bool Bool Bool LinkFits Bool access_layer_fits shape_layer_fits expr_layer_fits link_layer_fits step_layer_fits (Shape-F.Bytes b)
 
 truth_is : (b : Bool) → shape_fits (shape.Truth b) ≡ true
 unfolding shape_fits
-truth_is b = ap shape_fits (sym (rolls-Truth b)) ∙ fold-roll-Shape Bool Bool Bool LinkFits Bool layer_access layer_shape layer_expr layer_link layer_step (Shape-F.Truth b)
+truth_is b = ap shape_fits (sym (rolls-Truth b)) ∙ fold-roll-Shape Bool Bool Bool LinkFits Bool access_layer_fits shape_layer_fits expr_layer_fits link_layer_fits step_layer_fits (Shape-F.Truth b)
 
 name_is : (n : List ℕ) → shape_fits (shape.Name n) ≡ true
 unfolding shape_fits
-name_is n = ap shape_fits (sym (rolls-Name n)) ∙ fold-roll-Shape Bool Bool Bool LinkFits Bool layer_access layer_shape layer_expr layer_link layer_step (Shape-F.Name n)
+name_is n = ap shape_fits (sym (rolls-Name n)) ∙ fold-roll-Shape Bool Bool Bool LinkFits Bool access_layer_fits shape_layer_fits expr_layer_fits link_layer_fits step_layer_fits (Shape-F.Name n)
 
 list_is : (items : List Expr) → shape_fits (shape.List items) ≡ every expr_fits items
 unfolding shape_fits expr_fits
-list_is items = ap shape_fits (sym (rolls-List items)) ∙ fold-roll-Shape Bool Bool Bool LinkFits Bool layer_access layer_shape layer_expr layer_link layer_step (Shape-F.List items) ∙ every_mapped itself expr_fits items
+list_is items = ap shape_fits (sym (rolls-List items)) ∙ fold-roll-Shape Bool Bool Bool LinkFits Bool access_layer_fits shape_layer_fits expr_layer_fits link_layer_fits step_layer_fits (Shape-F.List items) ∙ every_mapped itself expr_fits items
 
 empty_is : (k : ValueKind) → shape_fits (shape.Empty k) ≡ true
 unfolding shape_fits
-empty_is k = ap shape_fits (sym (rolls-Empty k)) ∙ fold-roll-Shape Bool Bool Bool LinkFits Bool layer_access layer_shape layer_expr layer_link layer_step (Shape-F.Empty k)
+empty_is k = ap shape_fits (sym (rolls-Empty k)) ∙ fold-roll-Shape Bool Bool Bool LinkFits Bool access_layer_fits shape_layer_fits expr_layer_fits link_layer_fits step_layer_fits (Shape-F.Empty k)
 
 len_is : (part : Expr) → shape_fits (shape.Len part) ≡ expr_fits part
 unfolding shape_fits expr_fits
-len_is part = ap shape_fits (sym (rolls-Len part)) ∙ fold-roll-Shape Bool Bool Bool LinkFits Bool layer_access layer_shape layer_expr layer_link layer_step (Shape-F.Len part)
+len_is part = ap shape_fits (sym (rolls-Len part)) ∙ fold-roll-Shape Bool Bool Bool LinkFits Bool access_layer_fits shape_layer_fits expr_layer_fits link_layer_fits step_layer_fits (Shape-F.Len part)
 
 sha256_is : (part : Expr) → shape_fits (shape.Sha256 part) ≡ expr_fits part
 unfolding shape_fits expr_fits
-sha256_is part = ap shape_fits (sym (rolls-Sha256 part)) ∙ fold-roll-Shape Bool Bool Bool LinkFits Bool layer_access layer_shape layer_expr layer_link layer_step (Shape-F.Sha256 part)
+sha256_is part = ap shape_fits (sym (rolls-Sha256 part)) ∙ fold-roll-Shape Bool Bool Bool LinkFits Bool access_layer_fits shape_layer_fits expr_layer_fits link_layer_fits step_layer_fits (Shape-F.Sha256 part)
 
 concat_is : (front back : Expr) → shape_fits (shape.Concat front back) ≡ (expr_fits front && expr_fits back)
 unfolding shape_fits expr_fits
-concat_is front back = ap shape_fits (sym (rolls-Concat front back)) ∙ fold-roll-Shape Bool Bool Bool LinkFits Bool layer_access layer_shape layer_expr layer_link layer_step (Shape-F.Concat front back)
+concat_is front back = ap shape_fits (sym (rolls-Concat front back)) ∙ fold-roll-Shape Bool Bool Bool LinkFits Bool access_layer_fits shape_layer_fits expr_layer_fits link_layer_fits step_layer_fits (Shape-F.Concat front back)
 
 called_is : (dep : ℕ) (n : Text) → shape_fits (shape.Called dep n) ≡ number_fits dep
 unfolding shape_fits
-called_is dep n = ap shape_fits (sym (rolls-Called dep n)) ∙ fold-roll-Shape Bool Bool Bool LinkFits Bool layer_access layer_shape layer_expr layer_link layer_step (Shape-F.Called dep n)
+called_is dep n = ap shape_fits (sym (rolls-Called dep n)) ∙ fold-roll-Shape Bool Bool Bool LinkFits Bool access_layer_fits shape_layer_fits expr_layer_fits link_layer_fits step_layer_fits (Shape-F.Called dep n)
 
 depint_is : (dep value : ℕ) → shape_fits (shape.DepInt dep value) ≡ (number_fits dep && number_fits value)
 unfolding shape_fits
-depint_is dep value = ap shape_fits (sym (rolls-DepInt dep value)) ∙ fold-roll-Shape Bool Bool Bool LinkFits Bool layer_access layer_shape layer_expr layer_link layer_step (Shape-F.DepInt dep value)
+depint_is dep value = ap shape_fits (sym (rolls-DepInt dep value)) ∙ fold-roll-Shape Bool Bool Bool LinkFits Bool access_layer_fits shape_layer_fits expr_layer_fits link_layer_fits step_layer_fits (Shape-F.DepInt dep value)
 
 path_is : (start : Expr) (steps : List Step) → shape_fits (shape.Path start steps) ≡ (expr_fits start && every step_fits steps)
 unfolding shape_fits expr_fits step_fits
-path_is start steps = ap shape_fits (sym (rolls-Path start steps)) ∙ fold-roll-Shape Bool Bool Bool LinkFits Bool layer_access layer_shape layer_expr layer_link layer_step (Shape-F.Path start steps) ∙ ap (λ (b : Bool). expr_fits start && b) (every_mapped itself step_fits steps)
+path_is start steps = ap shape_fits (sym (rolls-Path start steps)) ∙ fold-roll-Shape Bool Bool Bool LinkFits Bool access_layer_fits shape_layer_fits expr_layer_fits link_layer_fits step_layer_fits (Shape-F.Path start steps) ∙ ap (λ (b : Bool). expr_fits start && b) (every_mapped itself step_fits steps)
 
 not_is : (part : Expr) → shape_fits (shape.Not part) ≡ expr_fits part
 unfolding shape_fits expr_fits
-not_is part = ap shape_fits (sym (rolls-Not part)) ∙ fold-roll-Shape Bool Bool Bool LinkFits Bool layer_access layer_shape layer_expr layer_link layer_step (Shape-F.Not part)
+not_is part = ap shape_fits (sym (rolls-Not part)) ∙ fold-roll-Shape Bool Bool Bool LinkFits Bool access_layer_fits shape_layer_fits expr_layer_fits link_layer_fits step_layer_fits (Shape-F.Not part)
 
 negative_is : (part : Expr) → shape_fits (shape.Negative part) ≡ expr_fits part
 unfolding shape_fits expr_fits
-negative_is part = ap shape_fits (sym (rolls-Negative part)) ∙ fold-roll-Shape Bool Bool Bool LinkFits Bool layer_access layer_shape layer_expr layer_link layer_step (Shape-F.Negative part)
+negative_is part = ap shape_fits (sym (rolls-Negative part)) ∙ fold-roll-Shape Bool Bool Bool LinkFits Bool access_layer_fits shape_layer_fits expr_layer_fits link_layer_fits step_layer_fits (Shape-F.Negative part)
 
 compared_is : (c : Comparison) (left right : Expr) → shape_fits (shape.Compared c left right) ≡ (expr_fits left && expr_fits right)
 unfolding shape_fits expr_fits
-compared_is c left right = ap shape_fits (sym (rolls-Compared c left right)) ∙ fold-roll-Shape Bool Bool Bool LinkFits Bool layer_access layer_shape layer_expr layer_link layer_step (Shape-F.Compared c left right)
+compared_is c left right = ap shape_fits (sym (rolls-Compared c left right)) ∙ fold-roll-Shape Bool Bool Bool LinkFits Bool access_layer_fits shape_layer_fits expr_layer_fits link_layer_fits step_layer_fits (Shape-F.Compared c left right)
 
 abbrev at_rank : Rank → Link → Bool
 at_rank r l = link_fits l r
 
 chain_is : (r : Rank) (start : Expr) (links : List Link) → shape_fits (shape.Chain r start links) ≡ (expr_fits start && every (at_rank r) links)
 unfolding shape_fits expr_fits link_fits
-chain_is r start links = ap shape_fits (sym (rolls-Chain r start links)) ∙ fold-roll-Shape Bool Bool Bool LinkFits Bool layer_access layer_shape layer_expr layer_link layer_step (Shape-F.Chain r start links) ∙ ap (λ (b : Bool). expr_fits start && b) (every_mapped (in_rank r) link_fits links)
+chain_is r start links = ap shape_fits (sym (rolls-Chain r start links)) ∙ fold-roll-Shape Bool Bool Bool LinkFits Bool access_layer_fits shape_layer_fits expr_layer_fits link_layer_fits step_layer_fits (Shape-F.Chain r start links) ∙ ap (λ (b : Bool). expr_fits start && b) (every_mapped (in_rank r) link_fits links)
 
 -- ---- chains and paths
 
@@ -185,13 +185,13 @@ link_fit : (r : Rank) (e : Expr) (p : Item) → Fit e → is_of_rank r p.0.0 ≡
 link_fit r e p h o q = elim (bool_cases (is_chain r e)) [
   | inl is ↦
       let v = chain_view r e is in
-      ap (λ (x : Expr). expr_fits (with_link r x p)) v.2 ∙ joins_fits r (first_of e) (out-Expr e).place v.0 v.1 p (sym (ap expr_fits v.2) ∙ h) o q
+      ap (λ (x : Expr). expr_fits (with_link r x p)) v.2 ∙ joins_fits r (first_token_of e) (out-Expr e).place v.0 v.1 p (sym (ap expr_fits v.2) ∙ h) o q
   | inr is ↦
       ap expr_fits (link_begins r e p is)
-      ∙ chain_fits r (first_of e) p.0.1 e (link_of e p ∷ []) h (both (link_fits (link_of e p) r) true (new_link r e p o q) refl)
+      ∙ chain_fits r (first_token_of e) p.0.1 e (link_of e p ∷ []) h (both (link_fits (link_of e p) r) true (new_link r e p o q) refl)
 ]
 
-links_fit : (r : Rank) (ps : List Item) (e : Expr) → Fit e → Every (λ (p : Item). (is_of_rank r p.0.0 ≡ true) × Fit p.1) ps → Fit (joined (with_link r) e ps)
+links_fit : (r : Rank) (ps : List Item) (e : Expr) → Fit e → Every (λ (p : Item). (is_of_rank r p.0.0 ≡ true) × Fit p.1) ps → Fit (joined_left (with_link r) e ps)
 links_fit r [] e h each = h
 links_fit r (p ∷ ps) e h each = links_fit r ps (with_link r e p) (link_fit r e p h each.0.0 each.0.1) each.1
 
@@ -210,13 +210,13 @@ step_fit : (e : Expr) (p : ℕ × Access) → Fit e → access_fits p.1 ≡ true
 step_fit e p h q = elim (bool_cases (is_path e)) [
   | inl is ↦
       let v = path_view e is in
-      ap (λ (x : Expr). expr_fits (with_step x p)) v.2 ∙ steps_on_fit (first_of e) (out-Expr e).place v.0 v.1 p (sym (ap expr_fits v.2) ∙ h) q
+      ap (λ (x : Expr). expr_fits (with_step x p)) v.2 ∙ steps_on_fit (first_token_of e) (out-Expr e).place v.0 v.1 p (sym (ap expr_fits v.2) ∙ h) q
   | inr is ↦
       ap expr_fits (step_begins e p is)
-      ∙ path_fits (first_of e) p.0 e (step_of e p ∷ []) h (both (step_fits (step_of e p)) true (step_is (step_of e p) ∙ q) refl)
+      ∙ path_fits (first_token_of e) p.0 e (step_of e p ∷ []) h (both (step_fits (step_of e p)) true (step_is (step_of e p) ∙ q) refl)
 ]
 
-steps_fit : (ps : List (ℕ × Access)) (e : Expr) → Fit e → Every (λ (p : ℕ × Access). access_fits p.1 ≡ true) ps → Fit (joined with_step e ps)
+steps_fit : (ps : List (ℕ × Access)) (e : Expr) → Fit e → Every (λ (p : ℕ × Access). access_fits p.1 ≡ true) ps → Fit (joined_left with_step e ps)
 steps_fit [] e h each = h
 steps_fit (p ∷ ps) e h each = steps_fit ps (with_step e p) (step_fit e p h each.0) each.1
 
@@ -276,20 +276,20 @@ module _ (room : Bool) (I : Part → Rule Expr) (K : Rule ValueKind) (whole : Gi
   bracket_fit = gives_mapped Fit listed (gives_pair (gives_sign kind.OpenList room) (gives_pair (gives_commas whole) (gives_sign kind.CloseList true)))
       (λ p h. tree_is p.0 p.0 (shape.List p.1.0) ∙ list_is p.1.0 ∙ every_of expr_fits p.1.0 h.1.0)
 
-  empty_fit : Gives (mapped empty_expr (pair (word kind.Empty) K)) Fit
+  empty_fit : Gives (mapped empty_expr (pair (keyword kind.Empty) K)) Fit
   empty_fit = gives_mapped Fit empty_expr (gives_pair (gives_sign kind.Empty true) (any_of K)) (λ p h. tree_is p.0 p.0 (shape.Empty p.1) ∙ empty_is p.1)
 
-  true_fit : Gives (mapped (truth_expr true) (word kind.True)) Fit
+  true_fit : Gives (mapped (truth_expr true) (keyword kind.True)) Fit
   true_fit = gives_mapped Fit (truth_expr true) (gives_sign kind.True true) (λ place h. tree_is place place (shape.Truth true) ∙ truth_is true)
 
-  false_fit : Gives (mapped (truth_expr false) (word kind.False)) Fit
+  false_fit : Gives (mapped (truth_expr false) (keyword kind.False)) Fit
   false_fit = gives_mapped Fit (truth_expr false) (gives_sign kind.False true) (λ place h. tree_is place place (shape.Truth false) ∙ truth_is false)
 
-  len_fit : Gives (mapped len_expr (pair (word kind.Len) (pair (sign kind.Open room) (pair (I Whole) (word kind.Close))))) Fit
+  len_fit : Gives (mapped len_expr (pair (keyword kind.Len) (pair (sign kind.Open room) (pair (I Whole) (keyword kind.Close))))) Fit
   len_fit = gives_mapped Fit len_expr (gives_pair (gives_sign kind.Len true) (gives_pair (gives_sign kind.Open room) (gives_pair whole (gives_sign kind.Close true))))
       (λ p h. tree_is p.0 p.0 (shape.Len p.1.1.0) ∙ len_is p.1.1.0 ∙ h.1.1.0)
 
-  sha256_fit : Gives (mapped sha256_expr (pair (word kind.Sha256) (pair (sign kind.Open room) (pair (I Whole) (word kind.Close))))) Fit
+  sha256_fit : Gives (mapped sha256_expr (pair (keyword kind.Sha256) (pair (sign kind.Open room) (pair (I Whole) (keyword kind.Close))))) Fit
   sha256_fit = gives_mapped Fit sha256_expr (gives_pair (gives_sign kind.Sha256 true) (gives_pair (gives_sign kind.Open room) (gives_pair whole (gives_sign kind.Close true))))
       (λ p h. tree_is p.0 p.0 (shape.Sha256 p.1.1.0) ∙ sha256_is p.1.1.0 ∙ h.1.1.0)
 
@@ -316,7 +316,7 @@ module _ (room : Bool) (I : Part → Rule Expr) (K : Rule ValueKind) (whole : Gi
   field_fit : Gives (mapped field_step (pair (sign kind.Dot true) name)) AccessFit
   field_fit = gives_mapped AccessFit field_step (gives_pair (gives_sign kind.Dot true) gives_name) (λ p h. field_is p.1)
 
-  index_fit : Gives (mapped index_step (pair (sign kind.OpenList room) (pair (I Whole) (word kind.CloseList)))) AccessFit
+  index_fit : Gives (mapped index_step (pair (sign kind.OpenList room) (pair (I Whole) (keyword kind.CloseList)))) AccessFit
   index_fit = gives_mapped AccessFit index_step (gives_pair (gives_sign kind.OpenList room) (gives_pair whole (gives_sign kind.CloseList true))) (λ p h. index_is p.1.0 ∙ h.1.0)
 
   no_access : Gives (access_rule (I Whole) room false) (λ x. ⊥)
@@ -339,9 +339,9 @@ module _ (room : Bool) (I : Part → Rule Expr) (K : Rule ValueKind) (whole : Gi
 
   compared_with : (x : Expr) (o : Option ((Comparison × ℕ) × Expr)) → Fit x → Sided o → Fit (compared_expr (x, o))
   compared_with x None g h = g
-  compared_with x (Some q) g h = tree_is (first_of x) q.0.1 (shape.Compared q.0.0 x q.1) ∙ compared_is q.0.0 x q.1 ∙ both (expr_fits x) (expr_fits q.1) g h
+  compared_with x (Some q) g h = tree_is (first_token_of x) q.0.1 (shape.Compared q.0.0 x q.1) ∙ compared_is q.0.0 x q.1 ∙ both (expr_fits x) (expr_fits q.1) g h
 
-  compared_fit : (R : Rule Expr) → Gives R Fit → Gives (compared R) Fit
+  compared_fit : (R : Rule Expr) → Gives R Fit → Gives (comparison_rule R) Fit
   compared_fit R g = gives_mapped Fit compared_expr (gives_pair g (gives_either (gives_mapped Sided Some (gives_pair (any_of comparisons) g) (λ q h. h.1)) (gives_nothing None tt))) (λ z h. compared_with z.0 z.1 h.0 h.1)
 
   not_fit : Gives (mapped not_expr (pair (sign kind.Not room) (I Negated))) Fit
@@ -369,50 +369,50 @@ BlockFit b = block_fits b ≡ true
 
 statement_is : (place : ℕ) (a : Action) → statement_fits (statement place a) ≡ action_fits a
 unfolding statement_fits action_fits
-statement_is place a = fold_out-Statement Bool Bool Bool layer_action layer_block layer_statement (statement place a)
+statement_is place a = fold_out-Statement Bool Bool Bool action_layer_fits block_layer_fits statement_layer_fits (statement place a)
 
 block_is : (b : Block) → block_fits b ≡ every statement_fits (out-Block b).statements
 unfolding block_fits statement_fits
-block_is b = fold_out-Block Bool Bool Bool layer_action layer_block layer_statement b ∙ every_mapped itself statement_fits (out-Block b).statements
+block_is b = fold_out-Block Bool Bool Bool action_layer_fits block_layer_fits statement_layer_fits b ∙ every_mapped itself statement_fits (out-Block b).statements
 
 out_statements : (p : ℕ × (List Statement × ℕ)) → (out-Block (block_of p)).statements ≡ p.1.0
 out_statements p = search (rules, the_lemmas)
 
 let_is : (n : Text) (value : Expr) → action_fits (action.Let n value) ≡ expr_fits value
 unfolding action_fits block_fits
-let_is n value = ap action_fits (sym (rolls-Let n value)) ∙ fold-roll-Action Bool Bool Bool layer_action layer_block layer_statement (Action-F.Let n value)
+let_is n value = ap action_fits (sym (rolls-Let n value)) ∙ fold-roll-Action Bool Bool Bool action_layer_fits block_layer_fits statement_layer_fits (Action-F.Let n value)
 
 set_is : (n : Text) (value : Expr) → action_fits (action.Set n value) ≡ expr_fits value
 unfolding action_fits block_fits
-set_is n value = ap action_fits (sym (rolls-Set n value)) ∙ fold-roll-Action Bool Bool Bool layer_action layer_block layer_statement (Action-F.Set n value)
+set_is n value = ap action_fits (sym (rolls-Set n value)) ∙ fold-roll-Action Bool Bool Bool action_layer_fits block_layer_fits statement_layer_fits (Action-F.Set n value)
 
 if_is : (condition : Expr) (b : Block) → action_fits (action.If condition b) ≡ (expr_fits condition && block_fits b)
 unfolding action_fits block_fits
-if_is condition b = ap action_fits (sym (rolls-If condition b)) ∙ fold-roll-Action Bool Bool Bool layer_action layer_block layer_statement (Action-F.If condition b)
+if_is condition b = ap action_fits (sym (rolls-If condition b)) ∙ fold-roll-Action Bool Bool Bool action_layer_fits block_layer_fits statement_layer_fits (Action-F.If condition b)
 
 if_else_is : (condition : Expr) (b other : Block) → action_fits (action.IfElse condition b other) ≡ (expr_fits condition && block_fits b && block_fits other)
 unfolding action_fits block_fits
-if_else_is condition b other = ap action_fits (sym (rolls-IfElse condition b other)) ∙ fold-roll-Action Bool Bool Bool layer_action layer_block layer_statement (Action-F.IfElse condition b other)
+if_else_is condition b other = ap action_fits (sym (rolls-IfElse condition b other)) ∙ fold-roll-Action Bool Bool Bool action_layer_fits block_layer_fits statement_layer_fits (Action-F.IfElse condition b other)
 
 for_in_is : (n : Text) (list : Expr) (b : Block) → action_fits (action.ForIn n list b) ≡ (expr_fits list && block_fits b)
 unfolding action_fits block_fits
-for_in_is n list b = ap action_fits (sym (rolls-ForIn n list b)) ∙ fold-roll-Action Bool Bool Bool layer_action layer_block layer_statement (Action-F.ForIn n list b)
+for_in_is n list b = ap action_fits (sym (rolls-ForIn n list b)) ∙ fold-roll-Action Bool Bool Bool action_layer_fits block_layer_fits statement_layer_fits (Action-F.ForIn n list b)
 
 for_to_is : (n : Text) (count : ℕ) (b : Block) → action_fits (action.ForTo n count b) ≡ (number_fits count && block_fits b)
 unfolding action_fits block_fits
-for_to_is n count b = ap action_fits (sym (rolls-ForTo n count b)) ∙ fold-roll-Action Bool Bool Bool layer_action layer_block layer_statement (Action-F.ForTo n count b)
+for_to_is n count b = ap action_fits (sym (rolls-ForTo n count b)) ∙ fold-roll-Action Bool Bool Bool action_layer_fits block_layer_fits statement_layer_fits (Action-F.ForTo n count b)
 
 make_is : (slot object : Text) (values : List Expr) → action_fits (action.Make slot object values) ≡ every expr_fits values
 unfolding action_fits block_fits
-make_is slot object values = ap action_fits (sym (rolls-Make slot object values)) ∙ fold-roll-Action Bool Bool Bool layer_action layer_block layer_statement (Action-F.Make slot object values)
+make_is slot object values = ap action_fits (sym (rolls-Make slot object values)) ∙ fold-roll-Action Bool Bool Bool action_layer_fits block_layer_fits statement_layer_fits (Action-F.Make slot object values)
 
 call_is : (names : List Text) (m : Text) (es : List Expr) → action_fits (action.Call names m es) ≡ every expr_fits es
 unfolding action_fits block_fits
-call_is names m es = ap action_fits (sym (rolls-Call names m es)) ∙ fold-roll-Action Bool Bool Bool layer_action layer_block layer_statement (Action-F.Call names m es)
+call_is names m es = ap action_fits (sym (rolls-Call names m es)) ∙ fold-roll-Action Bool Bool Bool action_layer_fits block_layer_fits statement_layer_fits (Action-F.Call names m es)
 
 answer_is : (value : Expr) → action_fits (action.Answer value) ≡ expr_fits value
 unfolding action_fits block_fits
-answer_is value = ap action_fits (sym (rolls-Answer value)) ∙ fold-roll-Action Bool Bool Bool layer_action layer_block layer_statement (Action-F.Answer value)
+answer_is value = ap action_fits (sym (rolls-Answer value)) ∙ fold-roll-Action Bool Bool Bool action_layer_fits block_layer_fits statement_layer_fits (Action-F.Answer value)
 
 three : (a b c : Bool) → a ≡ true → b ≡ true → c ≡ true → (a && b && c) ≡ true
 three true true c p q r = r
@@ -425,11 +425,11 @@ module _ (room : Bool) (E F : Rule Expr) (B : Rule Block) (whole : Gives E Fit) 
   arguments_fit : Gives (arguments F room) (Every Fit)
   arguments_fit = gives_mapped (Every Fit) inner (gives_pair (gives_sign kind.Open room) (gives_pair (gives_either (gives_commas inside) (gives_nothing [] tt)) (gives_sign kind.Close true))) (λ p h. h.1.0)
 
-  let_fit : Gives (mapped let_of (pair (word kind.Let) (pair name (pair (word kind.Becomes) (pair E (word kind.Semicolon)))))) StatementFit
+  let_fit : Gives (mapped let_of (pair (keyword kind.Let) (pair name (pair (keyword kind.Becomes) (pair E (keyword kind.Semicolon)))))) StatementFit
   let_fit = gives_mapped StatementFit let_of (gives_pair (gives_sign kind.Let true) (gives_pair gives_name (gives_pair (gives_sign kind.Becomes true) (gives_pair whole (gives_sign kind.Semicolon true)))))
       (λ p h. statement_is p.0 (action.Let p.1.0 p.1.1.1.0) ∙ let_is p.1.0 p.1.1.1.0 ∙ h.1.1.1.0)
 
-  set_fit : Gives (mapped set_of (pair (word kind.Set) (pair name (pair (word kind.Becomes) (pair E (word kind.Semicolon)))))) StatementFit
+  set_fit : Gives (mapped set_of (pair (keyword kind.Set) (pair name (pair (keyword kind.Becomes) (pair E (keyword kind.Semicolon)))))) StatementFit
   set_fit = gives_mapped StatementFit set_of (gives_pair (gives_sign kind.Set true) (gives_pair gives_name (gives_pair (gives_sign kind.Becomes true) (gives_pair whole (gives_sign kind.Semicolon true)))))
       (λ p h. statement_is p.0 (action.Set p.1.0 p.1.1.1.0) ∙ set_is p.1.0 p.1.1.1.0 ∙ h.1.1.1.0)
 
@@ -454,7 +454,7 @@ module _ (room : Bool) (E F : Rule Expr) (B : Rule Block) (whole : Gives E Fit) 
   for_fits place n (Numbers count) b g h = statement_is place (action.ForTo n count b) ∙ for_to_is n count b ∙ both (number_fits count) (block_fits b) (at_most count 9223372036854775807 g) h
 
   for_fit : Gives (for_rule E B) StatementFit
-  for_fit = gives_mapped StatementFit for_of (gives_pair (gives_sign kind.For true) (gives_pair gives_name (gives_pair (gives_either (gives_mapped RangeFit items_of (gives_pair (gives_sign kind.In true) whole) (λ p h. h.1)) (gives_mapped RangeFit numbers_of (gives_pair (gives_sign kind.To true) gives_number) (λ p h. h.1))) block)))
+  for_fit = gives_mapped StatementFit for_of (gives_pair (gives_sign kind.For true) (gives_pair gives_name (gives_pair (gives_either (gives_mapped RangeFit range_of (gives_pair (gives_sign kind.In true) whole) (λ p h. h.1)) (gives_mapped RangeFit numbers_of (gives_pair (gives_sign kind.To true) gives_number) (λ p h. h.1))) block)))
       (λ p h. for_fits p.0 p.1.0 p.1.1.0 p.1.1.1 h.1.1.0 h.1.1.1)
 
   make_fit : Gives (make_rule F room) StatementFit
@@ -471,12 +471,12 @@ module _ (room : Bool) (E F : Rule Expr) (B : Rule Block) (whole : Gives E Fit) 
 
   rest_fit : Gives (call_rest F room) RestFit
   rest_fit = gives_either (gives_mapped RestFit Arguments arguments_fit (λ es h. h))
-      (gives_mapped RestFit binds_of (gives_pair (any_of (mapped names_of (many (pair (word kind.Comma) name)))) (gives_pair (gives_sign kind.Becomes true) (gives_pair gives_name arguments_fit))) (λ p h. h.1.1.1))
+      (gives_mapped RestFit binds_of (gives_pair (any_of (mapped names_in_list (many (pair (keyword kind.Comma) name)))) (gives_pair (gives_sign kind.Becomes true) (gives_pair gives_name arguments_fit))) (λ p h. h.1.1.1))
 
   call_fit : Gives (call_rule F room) StatementFit
   call_fit = gives_mapped StatementFit call_of (gives_pair (gives_sign kind.Call true) (gives_pair gives_name (gives_pair rest_fit (gives_sign kind.Semicolon true)))) (λ p h. call_fits p.0 p.1.0 p.1.1.0 p.1.1.1 h.1.1.0)
 
-  answer_fit : Gives (mapped answer_of (pair (word kind.Answer) (pair E (word kind.Semicolon)))) StatementFit
+  answer_fit : Gives (mapped answer_of (pair (keyword kind.Answer) (pair E (keyword kind.Semicolon)))) StatementFit
   answer_fit = gives_mapped StatementFit answer_of (gives_pair (gives_sign kind.Answer true) (gives_pair whole (gives_sign kind.Semicolon true))) (λ p h. statement_is p.0 (action.Answer p.1.0) ∙ answer_is p.1.0 ∙ h.1.0)
 
   statement_fit : Gives (statement_rule B E F room) StatementFit
@@ -502,7 +502,7 @@ MethodFit m = method_fits m ≡ true
 body_fit : (n : ℕ) → Gives (body (braces (statements n 62) true)) BodyFit
 body_fit n =
     let block = braces_fit true (statements n 62) (statements_fit n 62) in
-    gives_mapped BodyFit body_of (gives_pair (gives_sign kind.OpenBlock true) (gives_pair (gives_sign kind.Procedure true) (gives_pair block (gives_pair (gives_sign kind.Check true) (gives_pair block (gives_sign kind.CloseBlock true)))))) (λ p h. (h.1.1.0, h.1.1.1.1.0))
+    gives_mapped BodyFit body_of_parts (gives_pair (gives_sign kind.OpenBlock true) (gives_pair (gives_sign kind.Procedure true) (gives_pair block (gives_pair (gives_sign kind.Check true) (gives_pair block (gives_sign kind.CloseBlock true)))))) (λ p h. (h.1.1.0, h.1.1.1.1.0))
 
 method_fit : (n : ℕ) → Gives (method (kinds n 64) (braces (statements n 62) true)) MethodFit
 method_fit n = gives_mapped MethodFit method_of (gives_pair (gives_sign kind.Method true) (gives_pair gives_name (gives_pair (any_of (head (kinds n 64))) (body_fit n))))
@@ -512,7 +512,7 @@ abbrev ContractFit : ContractTree → Type 0
 ContractFit c = contract_fits c ≡ true
 
 contract_fit : (n : ℕ) → Gives (contract n) ContractFit
-contract_fit n = gives_mapped ContractFit contract_of (gives_pair (gives_many (any_of (typedef (kinds n 63)))) (gives_mapped (Every MethodFit) first_and_others (gives_pair (method_fit n) (gives_many (method_fit n))) (λ p h. h)))
+contract_fit n = gives_mapped ContractFit contract_tree_of (gives_pair (gives_many (any_of (typedef (kinds n 63)))) (gives_mapped (Every MethodFit) first_and_others (gives_pair (method_fit n) (gives_many (method_fit n))) (λ p h. h)))
     (λ p h. every_of method_fits p.1 h.1)
 
 -- what a text spells fits

@@ -6,8 +6,8 @@ use Rattle.cs_lang_token.specs.declared.token.Text.{Text}
 use Rattle.cs_lang_token.specs.declared.kind.Kind.{Kind}
 use Rattle.cs_lang_token.specs.declared.kind.Kind.TheVariants as kind
 use Rattle.cs_lang_token.specs.Kinds.{is}
-use Rattle.cs_lang_token.specs.Grammar.{Mark, plain, Rule, Reader, begins, pair, mapped, either, nothing, links, many, pair_at, mapped_at, either_at, nothing_at, refused_at, links_at, many_at, IsReader}
-use Rattle.cs_lang_token.specs.Rules.{sign, sign_at, name, name_at, number, number_at, bytes, room_of, less_one, joined_pair, commas}
+use Rattle.cs_lang_token.specs.Grammar.{TokenMark, without_marks, Rule, Reader, begins, pair, mapped, either, nothing, links, many, pair_read, mapped_at, either_at, nothing_at, refused_at, links_at, many_read, IsReader}
+use Rattle.cs_lang_token.specs.Rules.{sign, sign_at, name, name_token_at, number, number_token_at, bytes, room_of, less_one, joined_pair, commas}
 use Rattle.cs_lang_token.proofs.RuleLaws.{Law, Leads, Past, fits, rows, pair_law, then_law, mapped_law, sign_law, name_law, bytes_law, number_law, wider_law, weaker_law, nothing_law, either_law, many_law, links_law, commas_law, gate_law, gate_past, gate_leads, Some', some_of, some_pair, some_mapped, some_sign, some_many, some_left, some_right, in_first, in_second}
 use Rattle.cs_lang_token.proofs.KindTests.{disjoint, within}
 use Rattle.cs_lang_token.proofs.Grammars.{Implies, begins_implies, begins_more, plain_append}
@@ -28,9 +28,9 @@ use Rattle.cs_lang.specs.declared.tree.Field.{Field}
 use Rattle.cs_lang.specs.declared.tree.TypeDef.{TypeDef}
 use Rattle.cs_lang.specs.declared.tree.Slot.{Slot}
 use Rattle.cs_lang.specs.declared.tree.Method.{Method}
-use Rattle.cs_lang.specs.Trees.{with_link, with_step, field_step, index_step, number_expr, bytes_expr, name_expr, truth_expr, grouped, listed, empty_expr, len_expr, sha256_expr, concat_expr, called_expr, depint_expr, negative_expr, not_expr, operation, comparing, compared_expr, plain_kind, list_kind}
-use Rattle.cs_lang.specs.Rules.{word, kind_rule, kinds, in_parentheses, group, bracket, concat, called, depint, worded, primary, access, post, operators, chain, signed, comparisons, compared, Part, Whole, Negated, Signed, product, no, rule_of, expression}
-use Rattle.cs_lang.specs.Readers.{word_at, commas_at, kind_reader, kinds_at, kind_level, inside_kind, in_parentheses_at, group_at, bracket_at, concat_at, called_at, depint_at, empty_at, len_at, sha256_at, worded_at, primary_at, access_at, step_kinds, post_at, kinds_of, operators_at, chain_at, signed_at, comparison_kinds, comparisons_at, compared_at, no_at, reader_of, nowhere, expression_at, expression_kinds}
+use Rattle.cs_lang.specs.Trees.{with_link, with_step, field_step, index_step, number_expr, bytes_expr, name_expr, truth_expr, grouped, listed, empty_expr, len_expr, sha256_expr, concat_expr, called_expr, depint_expr, negative_expr, not_expr, operation, comparing, compared_expr, plain_kind, list_value_kind}
+use Rattle.cs_lang.specs.Rules.{keyword, kind_rule, kinds, in_parentheses, group, bracket, concat, called, depint, worded, primary, access, post, operators, chain, signed, comparisons, comparison_rule, Part, Whole, Negated, Signed, product, no, rule_of, expression}
+use Rattle.cs_lang.specs.Readers.{keyword_at, commas_at, kind_reader, value_kind_at, kind_level, inside_kind, in_parentheses_at, group_at, bracket_at, concat_at, called_at, depint_at, empty_at, len_at, sha256_at, worded_at, primary_at, access_at, step_kinds, post_at, kinds_of, operators_at, chain_at, signed_at, comparison_kinds, comparisons_at, compared_at, no_at, reader_of, nowhere, expression_at, expression_kinds}
 
 -- ---- kinds
 
@@ -40,7 +40,7 @@ module _ {E : Type 0} {I : Rule ValueKind} {i : Reader ValueKind} (room : Bool) 
       either_law (mapped_law (plain_kind value_kind.Int) (sign_law kind.IntKind refl))
       (either_law (mapped_law (plain_kind value_kind.Bool) (sign_law kind.BoolKind refl))
       (either_law (mapped_law (plain_kind value_kind.Bytes) (sign_law kind.BytesKind refl))
-      (mapped_law list_kind (gate_law room kind.OpenList refl (λ e. then_law (inside e) (sign_law kind.CloseList refl)) (λ e. some_pair {S = word kind.CloseList} (some e) (some_sign kind.CloseList refl))))
+      (mapped_law list_value_kind (gate_law room kind.OpenList refl (λ e. then_law (inside e) (sign_law kind.CloseList refl)) (λ e. some_pair {S = keyword kind.CloseList} (some e) (some_sign kind.CloseList refl))))
       refl) refl) refl
 
 abbrev pub kind_heads : List Kind
@@ -48,7 +48,7 @@ kind_heads = kind.IntKind ∷ kind.BoolKind ∷ kind.BytesKind ∷ kind.OpenList
 
 pub some_kind : (n left : ℕ) → 1 ≤ n → Some' (kinds n left)
 some_kind zero left le = absurd (omega (arith, le))
-some_kind (suc n) left le = some_left {R = mapped (plain_kind value_kind.Int) (word kind.IntKind)} (some_mapped {R = word kind.IntKind} (plain_kind value_kind.Int) (some_sign kind.IntKind refl))
+some_kind (suc n) left le = some_left {R = mapped (plain_kind value_kind.Int) (keyword kind.IntKind)} (some_mapped {R = keyword kind.IntKind} (plain_kind value_kind.Int) (some_sign kind.IntKind refl))
 
 pub no_law : {X : Type 0} {E : Type 0} {hs gos : List Kind} (r : Reader X) → (E → ⊥) → Law E (λ x ms. ⊥) false hs gos r
 no_law r never = record {
@@ -67,9 +67,9 @@ no_law r never = record {
 pub no_room : {X : Type 0} {E : Type 0} {R : Rule X} {m : Bool} {hs gos : List Kind} {r : Reader X} → false ≡ true → Law E R m hs gos r
 no_room e = absurd cc
 
-pub kinds_law : (n left : ℕ) → Law (left + 2 ≤ n) (kinds n left) false kind_heads [] (kinds_at left)
-unfolding kinds_at
-kinds_law zero left = no_law (kinds_at left) (λ e. omega (arith, e))
+pub kinds_law : (n left : ℕ) → Law (left + 2 ≤ n) (kinds n left) false kind_heads [] (value_kind_at left)
+unfolding value_kind_at
+kinds_law zero left = no_law (value_kind_at left) (λ e. omega (arith, e))
 kinds_law (suc n) zero = kind_law {i = refused_at} false (λ e. no_room e) (λ e. some_kind n zero (omega (arith, e)))
 kinds_law (suc n) (suc left) =
     let less : suc left + 2 ≤ suc n → left + 2 ≤ n = λ e. omega (arith, e) in
@@ -113,7 +113,7 @@ heads Signed = signed_heads
 module _ {E : Type 0} {I : Rule Expr} {i : Reader Expr} (room : Bool) (inside : room ≡ true → Law E I false expression_kinds goes_whole i) (some : E → Some' I) where
   -- between parentheses
   held_law : (t : E → Some' I) → Law E (in_parentheses I room) false (kind.Open ∷ []) [] (in_parentheses_at i room)
-  held_law t = gate_law room kind.Open refl (λ e. pair_law (inside e) (sign_law kind.Close refl) refl) (λ e. some_pair {S = word kind.Close} (t e) (some_sign kind.Close refl))
+  held_law t = gate_law room kind.Open refl (λ e. pair_law (inside e) (sign_law kind.Close refl) refl) (λ e. some_pair {S = keyword kind.Close} (t e) (some_sign kind.Close refl))
 
   group_law : Law E (group I room) false (kind.Open ∷ []) [] (group_at i room)
   group_law = mapped_law grouped (held_law some)
@@ -125,29 +125,29 @@ module _ {E : Type 0} {I : Rule Expr} {i : Reader Expr} (room : Bool) (inside : 
   some_items e = let a = some e in (a.0 ∷ [], a.1, ((a.0, []), refl, (a.1, [], sym (append-nil a.1), a.2, refl)))
 
   bracket_law : Law E (bracket I room) false (kind.OpenList ∷ []) [] (bracket_at (commas_at i) room)
-  bracket_law = mapped_law listed (gate_law room kind.OpenList refl (λ e. pair_law (items_law e) (sign_law kind.CloseList refl) refl) (λ e. some_pair {S = word kind.CloseList} (some_items e) (some_sign kind.CloseList refl)))
+  bracket_law = mapped_law listed (gate_law room kind.OpenList refl (λ e. pair_law (items_law e) (sign_law kind.CloseList refl) refl) (λ e. some_pair {S = keyword kind.CloseList} (some_items e) (some_sign kind.CloseList refl)))
 
-  two_law : room ≡ true → Law E (pair I (pair (word kind.Comma) I)) false expression_kinds goes_whole (pair_at i (pair_at (word_at kind.Comma) i))
+  two_law : room ≡ true → Law E (pair I (pair (keyword kind.Comma) I)) false expression_kinds goes_whole (pair_read i (pair_read (keyword_at kind.Comma) i))
   two_law e = pair_law (inside e) (then_law (sign_law kind.Comma refl) (inside e)) refl
 
-  some_two : E → Some' (pair I (pair (word kind.Comma) I))
-  some_two e = some_pair {S = pair (word kind.Comma) I} (some e) (some_pair {R = word kind.Comma} {S = I} (some_sign kind.Comma refl) (some e))
+  some_two : E → Some' (pair I (pair (keyword kind.Comma) I))
+  some_two e = some_pair {S = pair (keyword kind.Comma) I} (some e) (some_pair {R = keyword kind.Comma} {S = I} (some_sign kind.Comma refl) (some e))
 
   concat_law : Law E (concat I room) false (kind.Concat ∷ []) [] (concat_at i room)
   concat_law = mapped_law concat_expr (then_law (sign_law kind.Concat refl)
-      (gate_law room kind.Open refl (λ e. pair_law (two_law e) (sign_law kind.Close refl) refl) (λ e. some_pair {S = word kind.Close} (some_two e) (some_sign kind.Close refl))))
+      (gate_law room kind.Open refl (λ e. pair_law (two_law e) (sign_law kind.Close refl) refl) (λ e. some_pair {S = keyword kind.Close} (some_two e) (some_sign kind.Close refl))))
 
   called_law : Law E (called room) false (kind.Called ∷ []) [] (called_at room)
   called_law =
-      let parts : Law E (pair number (pair (word kind.Comma) name)) false (kind.Number ∷ []) [] (pair_at number_at (pair_at (word_at kind.Comma) name_at)) = then_law number_law (then_law (sign_law kind.Comma refl) name_law) in
+      let parts : Law E (pair number (pair (keyword kind.Comma) name)) false (kind.Number ∷ []) [] (pair_read number_token_at (pair_read (keyword_at kind.Comma) name_token_at)) = then_law number_law (then_law (sign_law kind.Comma refl) name_law) in
       mapped_law called_expr (then_law (sign_law kind.Called refl)
-      (gate_law room kind.Open refl (λ e. then_law parts (sign_law kind.Close refl)) (λ e. some_pair {S = word kind.Close} (some_of parts e) (some_sign kind.Close refl))))
+      (gate_law room kind.Open refl (λ e. then_law parts (sign_law kind.Close refl)) (λ e. some_pair {S = keyword kind.Close} (some_of parts e) (some_sign kind.Close refl))))
 
   depint_law : Law E (depint room) false (kind.DepInt ∷ []) [] (depint_at room)
   depint_law =
-      let parts : Law E (pair number (pair (word kind.Comma) number)) false (kind.Number ∷ []) [] (pair_at number_at (pair_at (word_at kind.Comma) number_at)) = then_law number_law (then_law (sign_law kind.Comma refl) number_law) in
+      let parts : Law E (pair number (pair (keyword kind.Comma) number)) false (kind.Number ∷ []) [] (pair_read number_token_at (pair_read (keyword_at kind.Comma) number_token_at)) = then_law number_law (then_law (sign_law kind.Comma refl) number_law) in
       mapped_law depint_expr (then_law (sign_law kind.DepInt refl)
-      (gate_law room kind.Open refl (λ e. then_law parts (sign_law kind.Close refl)) (λ e. some_pair {S = word kind.Close} (some_of parts e) (some_sign kind.Close refl))))
+      (gate_law room kind.Open refl (λ e. then_law parts (sign_law kind.Close refl)) (λ e. some_pair {S = keyword kind.Close} (some_of parts e) (some_sign kind.Close refl))))
 
   module _ {K : Rule ValueKind} {k : Reader ValueKind} (kinds' : Law E K false kind_heads [] k) where
     worded_law : Law E (worded I K room) false (kind.True ∷ kind.False ∷ kind.Empty ∷ kind.Len ∷ kind.Sha256 ∷ kind.Concat ∷ kind.Called ∷ kind.DepInt ∷ []) [] (worded_at i k room)
@@ -164,8 +164,8 @@ module _ {E : Type 0} {I : Rule Expr} {i : Reader Expr} (room : Bool) (inside : 
         either_law group_law (either_law bracket_law (either_law (mapped_law number_expr number_law)
         (either_law (mapped_law bytes_expr bytes_law) (either_law (mapped_law name_expr name_law) worded_law refl) refl) refl) refl) refl
 
-    index_law : Law E (pair (sign kind.OpenList room) (pair I (word kind.CloseList))) false (kind.OpenList ∷ []) [] (pair_at (sign_at kind.OpenList room) (pair_at i (word_at kind.CloseList)))
-    index_law = gate_law room kind.OpenList refl (λ e. pair_law (inside e) (sign_law kind.CloseList refl) refl) (λ e. some_pair {S = word kind.CloseList} (some e) (some_sign kind.CloseList refl))
+    index_law : Law E (pair (sign kind.OpenList room) (pair I (keyword kind.CloseList))) false (kind.OpenList ∷ []) [] (pair_read (sign_at kind.OpenList room) (pair_read i (keyword_at kind.CloseList)))
+    index_law = gate_law room kind.OpenList refl (λ e. pair_law (inside e) (sign_law kind.CloseList refl) refl) (λ e. some_pair {S = keyword kind.CloseList} (some e) (some_sign kind.CloseList refl))
 
     access_law : Law E (access I room true) false step_kinds [] (access_at i room)
     access_law = either_law (mapped_law field_step (then_law (sign_law kind.Dot refl) name_law)) (mapped_law index_step index_law) refl
@@ -173,18 +173,18 @@ module _ {E : Type 0} {I : Rule Expr} {i : Reader Expr} (room : Bool) (inside : 
     access_leads : (more : Bool) → Leads (access I room more) false step_kinds
     access_leads more x ms (inl (p, same, q)) = first (gate_leads kind.Dot more name p ms q)
       where
-        first : (begins (is (kind.Dot ∷ [])) (plain ms) ≡ true) ⊎ ((false ≡ true) × (ms ≡ [])) → (begins (is step_kinds) (plain ms) ≡ true) ⊎ ((false ≡ true) × (ms ≡ []))
-        first (inl h) = inl (begins_implies (is (kind.Dot ∷ [])) (is step_kinds) (plain ms) (in_first (kind.Dot ∷ []) (kind.OpenList ∷ [])) h)
+        first : (begins (is (kind.Dot ∷ [])) (without_marks ms) ≡ true) ⊎ ((false ≡ true) × (ms ≡ [])) → (begins (is step_kinds) (without_marks ms) ≡ true) ⊎ ((false ≡ true) × (ms ≡ []))
+        first (inl h) = inl (begins_implies (is (kind.Dot ∷ [])) (is step_kinds) (without_marks ms) (in_first (kind.Dot ∷ []) (kind.OpenList ∷ [])) h)
         first (inr h) = inr h
-    access_leads more x ms (inr (p, same, q)) = second (gate_leads kind.OpenList (if more then room else false) (pair I (word kind.CloseList)) p ms q)
+    access_leads more x ms (inr (p, same, q)) = second (gate_leads kind.OpenList (if more then room else false) (pair I (keyword kind.CloseList)) p ms q)
       where
-        second : (begins (is (kind.OpenList ∷ [])) (plain ms) ≡ true) ⊎ ((false ≡ true) × (ms ≡ [])) → (begins (is step_kinds) (plain ms) ≡ true) ⊎ ((false ≡ true) × (ms ≡ []))
-        second (inl h) = inl (begins_implies (is (kind.OpenList ∷ [])) (is step_kinds) (plain ms) (in_second (kind.Dot ∷ []) (kind.OpenList ∷ [])) h)
+        second : (begins (is (kind.OpenList ∷ [])) (without_marks ms) ≡ true) ⊎ ((false ≡ true) × (ms ≡ [])) → (begins (is step_kinds) (without_marks ms) ≡ true) ⊎ ((false ≡ true) × (ms ≡ []))
+        second (inl h) = inl (begins_implies (is (kind.OpenList ∷ [])) (is step_kinds) (without_marks ms) (in_second (kind.Dot ∷ []) (kind.OpenList ∷ [])) h)
         second (inr h) = inr h
 
     access_past : Past (access I room false) step_kinds
     access_past x ms (inl (p, same, q)) = let k = gate_past kind.Dot name p ms q in (k.0, k.1, k.2, in_first (kind.Dot ∷ []) (kind.OpenList ∷ []) k.0 k.3)
-    access_past x ms (inr (p, same, q)) = let k = gate_past kind.OpenList (pair I (word kind.CloseList)) p ms q in (k.0, k.1, k.2, in_second (kind.Dot ∷ []) (kind.OpenList ∷ []) k.0 k.3)
+    access_past x ms (inr (p, same, q)) = let k = gate_past kind.OpenList (pair I (keyword kind.CloseList)) p ms q in (k.0, k.1, k.2, in_second (kind.Dot ∷ []) (kind.OpenList ∷ []) k.0 k.3)
 
     post_law : Law E (post I K room) false primary_heads step_kinds (post_at i k room)
     post_law = mapped_law (joined_pair with_step) (pair_law primary_law (links_law (access I room) step_kinds 64 refl access_law access_leads access_past) refl)
@@ -195,7 +195,7 @@ one_past : {X : Type 0} (f : ℕ → X) (k : Kind) (ks : List Kind) → Implies 
 one_past f k ks i x ms (place, same, (t, same', p)) = (t, [], p.0, i t p.1)
 
 one_leads : {X : Type 0} (f : ℕ → X) (k : Kind) (room : Bool) (ks : List Kind) → Implies (is (k ∷ [])) (is ks) → Leads (mapped f (sign k room)) false ks
-one_leads f k room ks i x ms (place, same, (t, same', p)) = inl (ap (λ (l : List Mark). begins (is ks) (plain l)) p.0 ∙ i t p.1)
+one_leads f k room ks i x ms (place, same, (t, same', p)) = inl (ap (λ (l : List TokenMark). begins (is ks) (without_marks l)) p.0 ∙ i t p.1)
 
 operators_past : (rank : Rank) → Past (operators rank false) (kinds_of rank)
 operators_past rank.Or x ms p = one_past (operation operator.Or) kind.Or (kinds_of rank.Or) (λ t e. e) x ms p
@@ -236,11 +236,11 @@ comparisons_law =
 -- ---- chains
 
 link_past : {Y : Type 0} (rank : Rank) (R : Rule Y) → Past (pair (operators rank false) R) (kinds_of rank)
-link_past rank R x ms (a, b, at, p, q) = let k = operators_past rank x.0 a p in (k.0, k.1 ++ b, at ∙ ap (λ (l : List Mark). l ++ b) k.2, k.3)
+link_past rank R x ms (a, b, at, p, q) = let k = operators_past rank x.0 a p in (k.0, k.1 ++ b, at ∙ ap (λ (l : List TokenMark). l ++ b) k.2, k.3)
 
 link_leads : {Y : Type 0} (rank : Rank) (R : Rule Y) (room : Bool) → Leads (pair (operators rank room) R) false (kinds_of rank)
 link_leads rank R room x ms (a, b, at, p, q) = elim (operators_leads rank room x.0 a p) [
-  | inl h ↦ inl (ap (λ (l : List Mark). begins (is (kinds_of rank)) (plain l)) at ∙ ap (begins (is (kinds_of rank))) (plain_append a b) ∙ begins_more (is (kinds_of rank)) (plain a) (plain b) h)
+  | inl h ↦ inl (ap (λ (l : List TokenMark). begins (is (kinds_of rank)) (without_marks l)) at ∙ ap (begins (is (kinds_of rank))) (plain_append a b) ∙ begins_more (is (kinds_of rank)) (without_marks a) (without_marks b) h)
   | inr (e, nil) ↦ absurd cc
 ]
 
@@ -248,7 +248,7 @@ pub chain_law : {E : Type 0} {R : Rule Expr} {r : Reader Expr} {hs gos : List Ki
 chain_law {R = R} rank stays row fit a =
     mapped_law (joined_pair (with_link rank)) (pair_law a (links_law (λ more. pair (operators rank more) R) stays 64 row (then_law (operators_law rank) a) (link_leads rank R) (link_past rank R)) fit)
 
-compared_law : {E : Type 0} {R : Rule Expr} {r : Reader Expr} {hs : List Kind} → Law E R false hs goes_sum r → Law E (compared R) false hs goes_no (compared_at r)
+compared_law : {E : Type 0} {R : Rule Expr} {r : Reader Expr} {hs : List Kind} → Law E R false hs goes_sum r → Law E (comparison_rule R) false hs goes_no (compared_at r)
 compared_law a =
     mapped_law compared_expr (pair_law a
     (either_law (mapped_law Some (wider_law goes_no refl (then_law comparisons_law a))) (nothing_law None goes_no) refl) refl)
@@ -306,8 +306,8 @@ some_expression (suc n) left part le = some_of_part part (expression n (less_one
 
 -- ---- all levels
 
-pub kind_level_is : (left : ℕ) → kind_level left ≡ kinds_at left
-unfolding kind_level kinds_at inside_kind
+pub kind_level_is : (left : ℕ) → kind_level left ≡ value_kind_at left
+unfolding kind_level value_kind_at inside_kind
 kind_level_is zero = refl
 kind_level_is (suc left) = refl
 

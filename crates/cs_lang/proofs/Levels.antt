@@ -9,7 +9,7 @@ use Rattle.cs_lang.specs.declared.tree.ValueKind.{ValueKind}
 use Rattle.cs_lang.specs.declared.tree.Expr.{Expr}
 use Rattle.cs_lang.specs.declared.tree.Statement.{Statement}
 use Rattle.cs_lang.specs.Rules.{Part, Whole, Negated, Signed}
-use Rattle.cs_lang.specs.Readers.{commas_at, optional_at, two_at, kinds_at, kind_level, inside_kind, reader_of, expression_at, inside_expr, inside_items, items_level, inside_two, two_level, side_level, optional_items, inside_optional, group_level, bracket_level, empty_level, len_level, sha256_level, concat_level, called_level, depint_level, worded_level, primary_level, access_level, post_level, signed_level, ranked_product, ranked_sum, compared_level, no_level, ranked_and, below, ranked, arguments_level, statements_at, inside_statements, block_level, let_level, set_level, if_level, for_level, make_level, call_level, answer_level, statement_level, statements_level}
+use Rattle.cs_lang.specs.Readers.{commas_at, optional_at, two_at, value_kind_at, kind_level, inside_kind, reader_of, expression_at, inside_expr, inside_items, items_level, inside_two, two_level, side_level, optional_items, inside_optional, group_level, bracket_level, empty_level, len_level, sha256_level, concat_level, called_level, depint_level, worded_level, primary_level, access_level, post_level, signed_level, ranked_product, ranked_sum, compared_level, no_level, ranked_and, below, ranked, arguments_level, statements_at, inside_statements, block_level, let_level, set_level, if_level, for_level, make_level, call_level, answer_level, statement_level, statements_level}
 
 expression_is : (left : ℕ) (part : Part) → expression_at left part ≡ reader_of part (inside_expr left) (kind_level left) (room_of left)
 unfolding expression_at inside_expr
@@ -29,8 +29,8 @@ signed_signed : (left : ℕ) → expression_at left Signed ≡ signed_level left
 unfolding ranked below ranked_and no_level compared_level side_level ranked_sum ranked_product signed_level post_level access_level primary_level worded_level group_level bracket_level inside_items inside_two empty_level len_level sha256_level concat_level called_level depint_level
 signed_signed left = expression_is left Signed
 
-kinds_is : (left : ℕ) → kinds_at left ≡ kind_level left
-unfolding kinds_at kind_level inside_kind
+kinds_is : (left : ℕ) → value_kind_at left ≡ kind_level left
+unfolding value_kind_at kind_level inside_kind
 kinds_is zero = refl
 kinds_is (suc left) = refl
 

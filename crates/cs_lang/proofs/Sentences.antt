@@ -5,7 +5,7 @@ use Rattle.cs_lang_token.specs.declared.token.Token.{Token}
 use Rattle.cs_lang_token.specs.declared.kind.Kind.TheVariants as kind
 use Rattle.cs_lang_token.specs.Grammar.{Reader, IsReader, ◌>>=◌}
 use Rattle.cs_lang_token.specs.Kinds.{is}
-use Rattle.cs_lang_token.specs.Texts.{IsText, CanBegin, IsRefused, all_or_bad, all_at}
+use Rattle.cs_lang_token.specs.Texts.{IsText, CanBegin, IsNoText, all_or_bad, all_at}
 use Rattle.cs_lang_token.specs.Tokens.{tokens_of}
 use Rattle.cs_lang_token.specs.Answers.{place_of}
 use Rattle.cs_lang_token.proofs.Grammars.{Answer, went}
@@ -47,11 +47,11 @@ text_only ts x c s t = ok_same x c (sym (only_one x ts s) ∙ only_one c ts t)
 pub only_all : (ts cs rest : List Token) (x c : ContractTree) → cs ≡ ts → contract_level cs ≡ Ok (x, rest) → length rest ≤ 0 → IsText contract c ts → x ≡ c
 only_all ts cs rest x c same h le t = text_only ts x c (took_all ts cs rest x same h le) t
 
-pub went_on : (ts cs rest : List Token) (x : ContractTree) → cs ≡ ts → contract_level cs ≡ Ok (x, rest) → 0 < length rest → IsRefused contract ts rest
+pub went_on : (ts cs rest : List Token) (x : ContractTree) → cs ≡ ts → contract_level cs ≡ Ok (x, rest) → 0 < length rest → IsNoText contract ts rest
 went_on ts cs [] x same h lt = absurd (omega (arith, lt))
 went_on ts cs (t ∷ rest) x same h lt = read_refused contract 70 (is (kind.Method ∷ [])) contract_level law ts (t ∷ rest) (ap (λ (a : Answer ContractTree). a >>= all_or_bad) (ap contract_level (sym same) ∙ h))
 
-pub stopped : (ts cs bad : List Token) → cs ≡ ts → contract_level cs ≡ Err bad → IsRefused contract ts bad
+pub stopped : (ts cs bad : List Token) → cs ≡ ts → contract_level cs ≡ Err bad → IsNoText contract ts bad
 stopped ts cs bad same h = read_refused contract 70 (is (kind.Method ∷ [])) contract_level law ts bad (ap (λ (a : Answer ContractTree). a >>= all_or_bad) (ap contract_level (sym same) ∙ h))
 
 -- ---- from tokens to texts
@@ -75,13 +75,13 @@ no_tokens text c place bad is = not_both is.tokens place (tokens_of text) is.rea
 pub its_tokens : (text : List ℕ) (ts : List Token) (c : ContractTree) → tokens_of text ≡ Ok ts → IsContract text c → IsText contract c ts
 its_tokens text ts c read is = subst (λ (l : List Token). IsText contract c l) (list_of is.tokens ts (sym is.read ∙ read)) is.spells
 
-pub refusal_of : (text : List ℕ) (ts : List Token) (e : LangError) → length text ≤ 65536 → tokens_of text ≡ Ok ts → IfSyntax e (λ place. (bad : List Token) × IsRefused contract ts bad × (place ≡ place_of (length text) bad)) → IsRefusal text e
+pub refusal_of : (text : List ℕ) (ts : List Token) (e : LangError) → length text ≤ 65536 → tokens_of text ≡ Ok ts → IfSyntax e (λ place. (bad : List Token) × IsNoText contract ts bad × (place ≡ place_of (length text) bad)) → IsRefusal text e
 refusal_of text ts error.Memory short read h = tt
 refusal_of text ts error.TooLong short read h = absurd h
 refusal_of text ts (error.Lex place) short read h = absurd h
 refusal_of text ts (error.Syntax place) short read h = record { short = short; tokens = ts; read = read; bad = h.0; refused = h.1; at = h.2 }
 
-pub refusal_if : (text : List ℕ) (ts : List Token) (r : Result ContractTree LangError) → length text ≤ 65536 → tokens_of text ≡ Ok ts → IfErr r (λ e. IfSyntax e (λ place. (bad : List Token) × IsRefused contract ts bad × (place ≡ place_of (length text) bad))) → IfErr r (IsRefusal text)
+pub refusal_if : (text : List ℕ) (ts : List Token) (r : Result ContractTree LangError) → length text ≤ 65536 → tokens_of text ≡ Ok ts → IfErr r (λ e. IfSyntax e (λ place. (bad : List Token) × IsNoText contract ts bad × (place ≡ place_of (length text) bad))) → IfErr r (IsRefusal text)
 refusal_if text ts (Ok c) short read h = h
 refusal_if text ts (Err e) short read h = refusal_of text ts e short read h
 

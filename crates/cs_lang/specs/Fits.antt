@@ -56,79 +56,79 @@ itself fits = fits
 abbrev pub in_rank : Rank → LinkFits → Bool
 in_rank rank link = link rank
 
-abbrev pub layer_access : Access-F Bool Bool Bool LinkFits Bool → Bool
-layer_access (Access-F.Field name) = true
-layer_access (Access-F.Index index) = index
+abbrev pub access_layer_fits : Access-F Bool Bool Bool LinkFits Bool → Bool
+access_layer_fits (Access-F.Field name) = true
+access_layer_fits (Access-F.Index index) = index
 
-abbrev pub layer_step : Step-F Bool Bool Bool LinkFits Bool → Bool
-layer_step step = step.access
+abbrev pub step_layer_fits : Step-F Bool Bool Bool LinkFits Bool → Bool
+step_layer_fits step = step.access
 
-abbrev pub layer_link : Link-F Bool Bool Bool LinkFits Bool → LinkFits
-layer_link link rank = is_of_rank rank link.operator && link.right
+abbrev pub link_layer_fits : Link-F Bool Bool Bool LinkFits Bool → LinkFits
+link_layer_fits link rank = is_of_rank rank link.operator && link.right
 
-abbrev pub layer_expr : Expr-F Bool Bool Bool LinkFits Bool → Bool
-layer_expr e = e.shape
+abbrev pub expr_layer_fits : Expr-F Bool Bool Bool LinkFits Bool → Bool
+expr_layer_fits e = e.shape
 
-abbrev pub layer_shape : Shape-F Bool Bool Bool LinkFits Bool → Bool
-layer_shape (Shape-F.Number n) = number_fits n
-layer_shape (Shape-F.Bytes bytes) = bytes_fit bytes
-layer_shape (Shape-F.Truth b) = true
-layer_shape (Shape-F.Name name) = true
-layer_shape (Shape-F.List items) = every itself items
-layer_shape (Shape-F.Empty k) = true
-layer_shape (Shape-F.Len part) = part
-layer_shape (Shape-F.Sha256 part) = part
-layer_shape (Shape-F.Concat front back) = front && back
-layer_shape (Shape-F.Called dep name) = number_fits dep
-layer_shape (Shape-F.DepInt dep value) = number_fits dep && number_fits value
-layer_shape (Shape-F.Path start steps) = start && every itself steps
-layer_shape (Shape-F.Not part) = part
-layer_shape (Shape-F.Negative part) = part
-layer_shape (Shape-F.Compared c left right) = left && right
-layer_shape (Shape-F.Chain rank start links) = start && every (in_rank rank) links
+abbrev pub shape_layer_fits : Shape-F Bool Bool Bool LinkFits Bool → Bool
+shape_layer_fits (Shape-F.Number n) = number_fits n
+shape_layer_fits (Shape-F.Bytes bytes) = bytes_fit bytes
+shape_layer_fits (Shape-F.Truth b) = true
+shape_layer_fits (Shape-F.Name name) = true
+shape_layer_fits (Shape-F.List items) = every itself items
+shape_layer_fits (Shape-F.Empty k) = true
+shape_layer_fits (Shape-F.Len part) = part
+shape_layer_fits (Shape-F.Sha256 part) = part
+shape_layer_fits (Shape-F.Concat front back) = front && back
+shape_layer_fits (Shape-F.Called dep name) = number_fits dep
+shape_layer_fits (Shape-F.DepInt dep value) = number_fits dep && number_fits value
+shape_layer_fits (Shape-F.Path start steps) = start && every itself steps
+shape_layer_fits (Shape-F.Not part) = part
+shape_layer_fits (Shape-F.Negative part) = part
+shape_layer_fits (Shape-F.Compared c left right) = left && right
+shape_layer_fits (Shape-F.Chain rank start links) = start && every (in_rank rank) links
 
 unfoldable pub expr_fits : Expr → Bool
-expr_fits = fold-Expr Bool Bool Bool LinkFits Bool layer_access layer_shape layer_expr layer_link layer_step
+expr_fits = fold-Expr Bool Bool Bool LinkFits Bool access_layer_fits shape_layer_fits expr_layer_fits link_layer_fits step_layer_fits
 
 unfoldable pub shape_fits : Shape → Bool
-shape_fits = fold-Shape Bool Bool Bool LinkFits Bool layer_access layer_shape layer_expr layer_link layer_step
+shape_fits = fold-Shape Bool Bool Bool LinkFits Bool access_layer_fits shape_layer_fits expr_layer_fits link_layer_fits step_layer_fits
 
 unfoldable pub link_fits : Link → LinkFits
-link_fits = fold-Link Bool Bool Bool LinkFits Bool layer_access layer_shape layer_expr layer_link layer_step
+link_fits = fold-Link Bool Bool Bool LinkFits Bool access_layer_fits shape_layer_fits expr_layer_fits link_layer_fits step_layer_fits
 
 unfoldable pub step_fits : Step → Bool
-step_fits = fold-Step Bool Bool Bool LinkFits Bool layer_access layer_shape layer_expr layer_link layer_step
+step_fits = fold-Step Bool Bool Bool LinkFits Bool access_layer_fits shape_layer_fits expr_layer_fits link_layer_fits step_layer_fits
 
 unfoldable pub access_fits : Access → Bool
-access_fits = fold-Access Bool Bool Bool LinkFits Bool layer_access layer_shape layer_expr layer_link layer_step
+access_fits = fold-Access Bool Bool Bool LinkFits Bool access_layer_fits shape_layer_fits expr_layer_fits link_layer_fits step_layer_fits
 
 -- ---- statements, from their parts
 
-abbrev pub layer_action : Action-F Bool Bool Bool → Bool
-layer_action (Action-F.Let name value) = expr_fits value
-layer_action (Action-F.Set name value) = expr_fits value
-layer_action (Action-F.If condition block) = expr_fits condition && block
-layer_action (Action-F.IfElse condition block other) = expr_fits condition && block && other
-layer_action (Action-F.ForIn name list block) = expr_fits list && block
-layer_action (Action-F.ForTo name count block) = number_fits count && block
-layer_action (Action-F.Make slot object values) = every expr_fits values
-layer_action (Action-F.Call names method arguments) = every expr_fits arguments
-layer_action (Action-F.Answer value) = expr_fits value
+abbrev pub action_layer_fits : Action-F Bool Bool Bool → Bool
+action_layer_fits (Action-F.Let name value) = expr_fits value
+action_layer_fits (Action-F.Set name value) = expr_fits value
+action_layer_fits (Action-F.If condition block) = expr_fits condition && block
+action_layer_fits (Action-F.IfElse condition block other) = expr_fits condition && block && other
+action_layer_fits (Action-F.ForIn name list block) = expr_fits list && block
+action_layer_fits (Action-F.ForTo name count block) = number_fits count && block
+action_layer_fits (Action-F.Make slot object values) = every expr_fits values
+action_layer_fits (Action-F.Call names method arguments) = every expr_fits arguments
+action_layer_fits (Action-F.Answer value) = expr_fits value
 
-abbrev pub layer_statement : Statement-F Bool Bool Bool → Bool
-layer_statement s = s.action
+abbrev pub statement_layer_fits : Statement-F Bool Bool Bool → Bool
+statement_layer_fits s = s.action
 
-abbrev pub layer_block : Block-F Bool Bool Bool → Bool
-layer_block b = every itself b.statements
+abbrev pub block_layer_fits : Block-F Bool Bool Bool → Bool
+block_layer_fits b = every itself b.statements
 
 unfoldable pub block_fits : Block → Bool
-block_fits = fold-Block Bool Bool Bool layer_action layer_block layer_statement
+block_fits = fold-Block Bool Bool Bool action_layer_fits block_layer_fits statement_layer_fits
 
 unfoldable pub statement_fits : Statement → Bool
-statement_fits = fold-Statement Bool Bool Bool layer_action layer_block layer_statement
+statement_fits = fold-Statement Bool Bool Bool action_layer_fits block_layer_fits statement_layer_fits
 
 unfoldable pub action_fits : Action → Bool
-action_fits = fold-Action Bool Bool Bool layer_action layer_block layer_statement
+action_fits = fold-Action Bool Bool Bool action_layer_fits block_layer_fits statement_layer_fits
 
 -- ---- contracts
 

@@ -32,8 +32,8 @@ use Rattle.cs_lang.specs.declared.methods.Body.{Body}
 abbrev pub tree : ℕ → ℕ → Shape → Expr
 tree first place shape = roll-Expr (record { first = first; place = place; shape = shape })
 
-abbrev pub first_of : Expr → ℕ
-first_of e = (out-Expr e).first
+abbrev pub first_token_of : Expr → ℕ
+first_token_of e = (out-Expr e).first
 
 abbrev pub shape_of : Expr → Shape
 shape_of e = (out-Expr e).shape
@@ -48,10 +48,10 @@ same_rank rank.Product rank.Product = true
 same_rank _ _ = false
 
 -- Shape-F is a shape whose parts are seen
-abbrev pub Opened : Type 0
-Opened = Shape-F Access Shape Expr Link Step
+abbrev pub OpenedTree : Type 0
+OpenedTree = Shape-F Access Shape Expr Link Step
 
-abbrev pub shape_is_chain : Rank → Opened → Bool
+abbrev pub shape_is_chain : Rank → OpenedTree → Bool
 shape_is_chain rank (Shape-F.Chain old start links) = same_rank old rank
 shape_is_chain rank _ = false
 
@@ -59,22 +59,22 @@ abbrev pub is_chain : Rank → Expr → Bool
 is_chain rank e = shape_is_chain rank (out-Shape (shape_of e))
 
 abbrev pub chain_begun : Rank → Expr → ℕ → Link → Expr
-chain_begun rank left place link = tree (first_of left) place (shape.Chain rank left (link ∷ []))
+chain_begun rank left place link = tree (first_token_of left) place (shape.Chain rank left (link ∷ []))
 
-abbrev pub chain_extended : Rank → Expr → ℕ → Link → Opened → Expr
+abbrev pub chain_extended : Rank → Expr → ℕ → Link → OpenedTree → Expr
 chain_extended rank left place link (Shape-F.Chain old start links) =
-    tree (first_of left) place (shape.Chain rank start (links ++ link ∷ []))
+    tree (first_token_of left) place (shape.Chain rank start (links ++ link ∷ []))
 chain_extended rank left place link _ = left
 
 -- an operator and its right operand behind a chain of its rank join it; behind anything else they begin one
 abbrev pub with_link : Rank → Expr → (Operator × ℕ) × Expr → Expr
 with_link rank left p =
-    let link = roll-Link (record { operator = p.0.0; first = first_of left; place = p.0.1; right = p.1 }) in
+    let link = roll-Link (record { operator = p.0.0; first = first_token_of left; place = p.0.1; right = p.1 }) in
     if is_chain rank left
     then chain_extended rank left p.0.1 link (out-Shape (shape_of left))
     else chain_begun rank left p.0.1 link
 
-abbrev pub shape_is_path : Opened → Bool
+abbrev pub shape_is_path : OpenedTree → Bool
 shape_is_path (Shape-F.Path start steps) = true
 shape_is_path _ = false
 
@@ -82,17 +82,17 @@ abbrev pub is_path : Expr → Bool
 is_path e = shape_is_path (out-Shape (shape_of e))
 
 abbrev pub path_begun : Expr → ℕ → Step → Expr
-path_begun left place step = tree (first_of left) place (shape.Path left (step ∷ []))
+path_begun left place step = tree (first_token_of left) place (shape.Path left (step ∷ []))
 
-abbrev pub path_extended : Expr → ℕ → Step → Opened → Expr
+abbrev pub path_extended : Expr → ℕ → Step → OpenedTree → Expr
 path_extended left place step (Shape-F.Path start steps) =
-    tree (first_of left) place (shape.Path start (steps ++ step ∷ []))
+    tree (first_token_of left) place (shape.Path start (steps ++ step ∷ []))
 path_extended left place step _ = left
 
 -- a step behind a path joins it; behind anything else it begins one
 abbrev pub with_step : Expr → ℕ × Access → Expr
 with_step left p =
-    let step = roll-Step (record { first = first_of left; place = p.0; access = p.1 }) in
+    let step = roll-Step (record { first = first_token_of left; place = p.0; access = p.1 }) in
     if is_path left then path_extended left p.0 step (out-Shape (shape_of left)) else path_begun left p.0 step
 
 abbrev pub field_step : ℕ × Text → ℕ × Access
@@ -154,21 +154,21 @@ comparing c place = (c, place)
 
 abbrev pub compared_expr : Expr × Option ((Comparison × ℕ) × Expr) → Expr
 compared_expr (left, None) = left
-compared_expr (left, Some p) = tree (first_of left) p.0.1 (shape.Compared p.0.0 left p.1)
+compared_expr (left, Some p) = tree (first_token_of left) p.0.1 (shape.Compared p.0.0 left p.1)
 
 -- ---- kinds, fields, slots
 
 abbrev pub plain_kind : ValueKind → ℕ → ValueKind
 plain_kind kind place = kind
 
-abbrev pub list_kind : ℕ × (ValueKind × ℕ) → ValueKind
-list_kind p = value_kind.List p.1.0
+abbrev pub list_value_kind : ℕ × (ValueKind × ℕ) → ValueKind
+list_value_kind p = value_kind.List p.1.0
 
-abbrev pub field_of : Text × (ℕ × ValueKind) → Field
-field_of p = record { name = p.0; kind = p.1.1 }
+abbrev pub field_of_parts : Text × (ℕ × ValueKind) → Field
+field_of_parts p = record { name = p.0; kind = p.1.1 }
 
-abbrev pub slot_of : Text × (ℕ × (Text × Bool)) → Slot
-slot_of p = record { name = p.0; object = p.1.1.0; many = p.1.1.1 }
+abbrev pub slot_of_parts : Text × (ℕ × (Text × Bool)) → Slot
+slot_of_parts p = record { name = p.0; object = p.1.1.0; many = p.1.1.1 }
 
 abbrev pub starred : ℕ → Bool
 starred place = true
@@ -199,8 +199,8 @@ pub data Range : Type 0 where
   Items : Expr → Range
   Numbers : ℕ → Range
 
-abbrev pub items_of : ℕ × Expr → Range
-items_of p = Items p.1
+abbrev pub range_of : ℕ × Expr → Range
+range_of p = Items p.1
 
 abbrev pub numbers_of : ℕ × Number → Range
 numbers_of p = Numbers p.1.value
@@ -228,9 +228,9 @@ abbrev pub binds_of : List Text × (ℕ × (Text × List Expr)) → CallRest
 binds_of p = Binds p.0 p.1.1.0 p.1.1.1
 
 -- without the commas
-abbrev pub names_of : List (ℕ × Text) → List Text
-names_of [] = []
-names_of (p ∷ ps) = p.1 ∷ names_of ps
+abbrev pub names_in_list : List (ℕ × Text) → List Text
+names_in_list [] = []
+names_in_list (p ∷ ps) = p.1 ∷ names_in_list ps
 
 abbrev pub call_action : Text → CallRest → Action
 call_action name (Arguments arguments) = action.Call [] name arguments
@@ -253,11 +253,11 @@ typedef_of p = record { name = p.1.0; fields = p.1.1.1.0 }
 abbrev pub after_word : {X : Type 0} → ℕ × X → X
 after_word p = p.1
 
-abbrev pub head_of : List Slot × (List Slot × (List Field × (List Slot × List Field))) → Head
-head_of p = record { consumes = p.0; reads = p.1.0; takes = p.1.1.0; creates = p.1.1.1.0; returns = p.1.1.1.1 }
+abbrev pub method_head_of : List Slot × (List Slot × (List Field × (List Slot × List Field))) → Head
+method_head_of p = record { consumes = p.0; reads = p.1.0; takes = p.1.1.0; creates = p.1.1.1.0; returns = p.1.1.1.1 }
 
-abbrev pub body_of : ℕ × (ℕ × (Block × (ℕ × (Block × ℕ)))) → Body
-body_of p = record { procedure = p.1.1.0; check = p.1.1.1.1.0; end = p.1.1.1.1.1 }
+abbrev pub body_of_parts : ℕ × (ℕ × (Block × (ℕ × (Block × ℕ)))) → Body
+body_of_parts p = record { procedure = p.1.1.0; check = p.1.1.1.1.0; end = p.1.1.1.1.1 }
 
 abbrev pub method_of : ℕ × (Text × (Head × Body)) → Method
 method_of p = let head = p.1.1.0 in let body = p.1.1.1 in
@@ -276,5 +276,5 @@ method_of p = let head = p.1.1.0 in let body = p.1.1.1 in
 abbrev pub first_and_others : {X : Type 0} → X × List X → List X
 first_and_others p = p.0 ∷ p.1
 
-abbrev pub contract_of : List TypeDef × List Method → ContractTree
-contract_of p = record { types = p.0; methods = p.1 }
+abbrev pub contract_tree_of : List TypeDef × List Method → ContractTree
+contract_tree_of p = record { types = p.0; methods = p.1 }

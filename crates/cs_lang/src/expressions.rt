@@ -1,13 +1,13 @@
 //! Reading expressions.
 ghost use Rattle.std.specs.Prelude.{◌≡◌, length, true};
-ghost use Rattle.cs_lang_token.specs.Answers.{Gives};
+ghost use Rattle.cs_lang_token.specs.Answers.{ReaderGives};
 ghost use Rattle.cs_lang_token.specs.Kinds.{is};
-ghost use Rattle.cs_lang_token.specs.Grammar.{begins, mapped_at, pair_at};
-ghost use Rattle.cs_lang_token.specs.Rules.{sign_at, name_at};
+ghost use Rattle.cs_lang_token.specs.Grammar.{begins, mapped_at, pair_read};
+ghost use Rattle.cs_lang_token.specs.Rules.{sign_at, name_token_at};
 ghost use Rattle.cs_lang_token.specs.declared.kind.Kind.TheVariants as kind;
 ghost use Rattle.cs_lang.specs.declared.tree.Rank.TheVariants as rank;
 ghost use Rattle.cs_lang.specs.Trees.{tree, field_step};
-ghost use Rattle.cs_lang.specs.Readers.{Closes, word_at, kinds_of, side_level, two_level, operators_at, comparisons_at, comparison_kinds, ranked, ranked_onward, ranked_turn, below, no_level, compared_level, signed_level, post_level, post_onward, post_turn, step_kinds, access_level, primary_level, worded_level, group_level, bracket_level, empty_level, len_level, sha256_level, concat_level, called_level, depint_level, items_level, items_onward, items_turn};
+ghost use Rattle.cs_lang.specs.Readers.{Closes, keyword_at, kinds_of, side_level, two_level, operators_at, comparisons_at, comparison_kinds, ranked, ranked_onward, ranked_turn, below, no_level, compared_level, signed_level, post_level, post_onward, post_turn, step_kinds, access_level, primary_level, worded_level, group_level, bracket_level, empty_level, len_level, sha256_level, concat_level, called_level, depint_level, items_level, items_onward, items_turn};
 
 use crate::kinds::value_kind;
 use crate::nodes::{boxed, grouped, with_comparison, with_link, with_step};
@@ -31,7 +31,7 @@ fn at_rank(cursor: &Cursor<'_>, rank: Rank) -> bool
 /// An operator of the rank, and its place.
 #[tactic(auto, unfolding(crate::specs::Readers::operators_at))]
 fn operator(cursor: &mut Cursor<'_>, rank: Rank) -> Result<(Operator, usize), Stop>
-    ensures { Gives result cursor.new (operators_at rank cursor.old) }
+    ensures { ReaderGives result cursor.new (operators_at rank cursor.old) }
 {
     match rank {
         Rank::Or => Ok((Operator::Or, cursor.sign(Kind::Or)?)),
@@ -71,7 +71,7 @@ fn at_comparison(cursor: &Cursor<'_>) -> bool
 /// A comparison, and its place.
 #[tactic(auto, unfolding(crate::specs::Readers::comparisons_at))]
 fn comparison(cursor: &mut Cursor<'_>) -> Result<(Comparison, usize), Stop>
-    ensures { Gives result cursor.new (comparisons_at cursor.old) }
+    ensures { ReaderGives result cursor.new (comparisons_at cursor.old) }
 {
     if cursor.at(Kind::Equal) {
         return Ok((Comparison::Equal, cursor.sign(Kind::Equal)?));
@@ -106,7 +106,7 @@ pub fn closed<T: Drop>(cursor: &mut Cursor<'_>, sign: Kind, held: T) -> Result<(
 #[cycle(expression)]
 #[tactic(auto, unfolding(crate::specs::Readers::below), using(crate::proofs::Onward::below_and, crate::proofs::Onward::below_product))]
 fn operand(alloc: Global, cursor: &mut Cursor<'_>, left: u8, rank: Rank) -> Result<Expr, Stop>
-    ensures { Gives result cursor.new (below rank left cursor.old) }
+    ensures { ReaderGives result cursor.new (below rank left cursor.old) }
 {
     match rank {
         Rank::Or => chain(alloc, cursor, left, Rank::And),
@@ -120,7 +120,7 @@ fn operand(alloc: Global, cursor: &mut Cursor<'_>, left: u8, rank: Rank) -> Resu
 #[cycle(expression)]
 #[tactic(auto, using(crate::proofs::Onward::ranked_is))]
 pub fn chain(alloc: Global, cursor: &mut Cursor<'_>, left: u8, rank: Rank) -> Result<Expr, Stop>
-    ensures { Gives result cursor.new (ranked rank left cursor.old) }
+    ensures { ReaderGives result cursor.new (ranked rank left cursor.old) }
 {
     let first = operand(alloc, cursor, left, rank)?;
     rights(alloc, cursor, left, rank, first)
@@ -135,7 +135,7 @@ fn rights(
     rank: Rank,
     first: Expr,
 ) -> Result<Expr, Stop>
-    ensures { Gives result cursor.new (ranked_onward rank left MOST_OPERATORS first cursor.old) }
+    ensures { ReaderGives result cursor.new (ranked_onward rank left MOST_OPERATORS first cursor.old) }
 {
     let mut all = first;
     for _ in 0..MOST_OPERATORS {
@@ -160,7 +160,7 @@ fn right(
     rank: Rank,
     all: Expr,
 ) -> Result<Expr, Stop>
-    ensures { Gives result cursor.new (ranked_turn rank left all cursor.old) }
+    ensures { ReaderGives result cursor.new (ranked_turn rank left all cursor.old) }
 {
     let ((operator, place), right) = link(alloc, cursor, left, rank)?;
     Ok(with_link(alloc, all, rank, operator, place, right)?)
@@ -174,8 +174,8 @@ fn link(
     left: u8,
     rank: Rank,
 ) -> Result<((Operator, usize), Expr), Stop>
-    ensures { Gives result cursor.new
-        (pair_at (operators_at rank) (below rank left) cursor.old) }
+    ensures { ReaderGives result cursor.new
+        (pair_read (operators_at rank) (below rank left) cursor.old) }
 {
     let operator = operator(cursor, rank)?;
     let right = operand(alloc, cursor, left, rank)?;
@@ -186,7 +186,7 @@ fn link(
 #[cycle(expression)]
 #[tactic(auto, unfolding(crate::specs::Readers::no_level), using(crate::proofs::Levels::inside_negated_is))]
 fn negated(alloc: Global, cursor: &mut Cursor<'_>, left: u8) -> Result<Expr, Stop>
-    ensures { Gives result cursor.new (no_level left cursor.old) }
+    ensures { ReaderGives result cursor.new (no_level left cursor.old) }
 {
     if !cursor.at(Kind::Not) {
         return compared(alloc, cursor, left);
@@ -204,7 +204,7 @@ fn negated(alloc: Global, cursor: &mut Cursor<'_>, left: u8) -> Result<Expr, Sto
 #[cycle(expression)]
 #[tactic(auto, unfolding(crate::specs::Readers::compared_level), using(crate::proofs::Onward::sum_is))]
 fn compared(alloc: Global, cursor: &mut Cursor<'_>, left: u8) -> Result<Expr, Stop>
-    ensures { Gives result cursor.new (compared_level left cursor.old) }
+    ensures { ReaderGives result cursor.new (compared_level left cursor.old) }
 {
     let first = chain(alloc, cursor, left, Rank::Sum)?;
     if !at_comparison(cursor) {
@@ -222,7 +222,7 @@ fn other_side(
     cursor: &mut Cursor<'_>,
     left: u8,
 ) -> Result<((Comparison, usize), Expr), Stop>
-    ensures { Gives result cursor.new (side_level left cursor.old) }
+    ensures { ReaderGives result cursor.new (side_level left cursor.old) }
 {
     let comparison = comparison(cursor)?;
     let second = chain(alloc, cursor, left, Rank::Sum)?;
@@ -233,7 +233,7 @@ fn other_side(
 #[cycle(expression)]
 #[tactic(auto, unfolding(crate::specs::Readers::signed_level), using(crate::proofs::Levels::inside_signed_is))]
 fn signed(alloc: Global, cursor: &mut Cursor<'_>, left: u8) -> Result<Expr, Stop>
-    ensures { Gives result cursor.new (signed_level left cursor.old) }
+    ensures { ReaderGives result cursor.new (signed_level left cursor.old) }
 {
     if !cursor.at(Kind::Minus) {
         return postfix(alloc, cursor, left);
@@ -251,7 +251,7 @@ fn signed(alloc: Global, cursor: &mut Cursor<'_>, left: u8) -> Result<Expr, Stop
 #[cycle(expression)]
 #[tactic(auto, using(crate::proofs::Onward::post_is))]
 fn postfix(alloc: Global, cursor: &mut Cursor<'_>, left: u8) -> Result<Expr, Stop>
-    ensures { Gives result cursor.new (post_level left cursor.old) }
+    ensures { ReaderGives result cursor.new (post_level left cursor.old) }
 {
     let first = primary(alloc, cursor, left)?;
     steps(alloc, cursor, left, first)
@@ -267,7 +267,7 @@ fn at_step(cursor: &Cursor<'_>) -> bool
 /// Steps behind an expression.
 #[cycle(expression)]
 fn steps(alloc: Global, cursor: &mut Cursor<'_>, left: u8, first: Expr) -> Result<Expr, Stop>
-    ensures { Gives result cursor.new (post_onward left MOST_STEPS first cursor.old) }
+    ensures { ReaderGives result cursor.new (post_onward left MOST_STEPS first cursor.old) }
 {
     let mut all = first;
     for _ in 0..MOST_STEPS {
@@ -286,7 +286,7 @@ fn steps(alloc: Global, cursor: &mut Cursor<'_>, left: u8, first: Expr) -> Resul
 #[cycle(expression)]
 #[tactic(auto, unfolding(crate::specs::Readers::post_turn))]
 fn step(alloc: Global, cursor: &mut Cursor<'_>, left: u8, all: Expr) -> Result<Expr, Stop>
-    ensures { Gives result cursor.new (post_turn left all cursor.old) }
+    ensures { ReaderGives result cursor.new (post_turn left all cursor.old) }
 {
     let (place, access) = access(alloc, cursor, left)?;
     Ok(with_step(alloc, all, place, access)?)
@@ -296,7 +296,7 @@ fn step(alloc: Global, cursor: &mut Cursor<'_>, left: u8, all: Expr) -> Result<E
 #[cycle(expression)]
 #[tactic(auto, unfolding(crate::specs::Readers::access_level), using(crate::proofs::Levels::inside_whole_is))]
 fn access(alloc: Global, cursor: &mut Cursor<'_>, left: u8) -> Result<(usize, Access), Stop>
-    ensures { Gives result cursor.new (access_level left cursor.old) }
+    ensures { ReaderGives result cursor.new (access_level left cursor.old) }
 {
     if cursor.at(Kind::Dot) {
         return field_access(alloc, cursor);
@@ -309,8 +309,8 @@ fn access(alloc: Global, cursor: &mut Cursor<'_>, left: u8) -> Result<(usize, Ac
 
 /// A field's name behind a dot, and the place of the dot.
 fn field_access(alloc: Global, cursor: &mut Cursor<'_>) -> Result<(usize, Access), Stop>
-    ensures { Gives result cursor.new
-        (mapped_at field_step (pair_at (word_at kind.Dot) name_at) cursor.old) }
+    ensures { ReaderGives result cursor.new
+        (mapped_at field_step (pair_read (keyword_at kind.Dot) name_token_at) cursor.old) }
 {
     let place = cursor.sign(Kind::Dot)?;
     let name = cursor.name(alloc)?;
@@ -321,7 +321,7 @@ fn field_access(alloc: Global, cursor: &mut Cursor<'_>) -> Result<(usize, Access
 #[cycle(expression)]
 #[tactic(auto, unfolding(crate::specs::Readers::primary_level))]
 fn primary(alloc: Global, cursor: &mut Cursor<'_>, left: u8) -> Result<Expr, Stop>
-    ensures { Gives result cursor.new (primary_level left cursor.old) }
+    ensures { ReaderGives result cursor.new (primary_level left cursor.old) }
 {
     if cursor.at(Kind::Open) {
         return group(alloc, cursor, left);
@@ -359,7 +359,7 @@ fn leaf(place: usize, shape: Shape) -> Expr
 #[cycle(expression)]
 #[tactic(auto, unfolding(crate::specs::Readers::worded_level))]
 fn worded(alloc: Global, cursor: &mut Cursor<'_>, left: u8) -> Result<Expr, Stop>
-    ensures { Gives result cursor.new (worded_level left cursor.old) }
+    ensures { ReaderGives result cursor.new (worded_level left cursor.old) }
 {
     if cursor.at(Kind::True) {
         let place = cursor.sign(Kind::True)?;
@@ -391,7 +391,7 @@ fn worded(alloc: Global, cursor: &mut Cursor<'_>, left: u8) -> Result<Expr, Stop
 #[cycle(expression)]
 #[tactic(auto, unfolding(crate::specs::Readers::group_level), using(crate::proofs::Levels::inside_whole_is))]
 fn group(alloc: Global, cursor: &mut Cursor<'_>, left: u8) -> Result<Expr, Stop>
-    ensures { Gives result cursor.new (group_level left cursor.old) }
+    ensures { ReaderGives result cursor.new (group_level left cursor.old) }
 {
     let opening = cursor.open(Kind::Open, left)?;
     let inner = chain(alloc, cursor, left - 1, Rank::Or)?;
@@ -403,7 +403,7 @@ fn group(alloc: Global, cursor: &mut Cursor<'_>, left: u8) -> Result<Expr, Stop>
 #[cycle(expression)]
 #[tactic(auto, unfolding(crate::specs::Readers::bracket_level), using(crate::proofs::Levels::inside_items_is))]
 fn bracket(alloc: Global, cursor: &mut Cursor<'_>, left: u8) -> Result<Expr, Stop>
-    ensures { Gives result cursor.new (bracket_level left cursor.old) }
+    ensures { ReaderGives result cursor.new (bracket_level left cursor.old) }
 {
     let place = cursor.open(Kind::OpenList, left)?;
     let items = items(alloc, cursor, left - 1)?;
@@ -414,7 +414,7 @@ fn bracket(alloc: Global, cursor: &mut Cursor<'_>, left: u8) -> Result<Expr, Sto
 /// The empty list of a kind.
 #[tactic(auto, unfolding(crate::specs::Readers::empty_level))]
 fn empty(alloc: Global, cursor: &mut Cursor<'_>, left: u8) -> Result<Expr, Stop>
-    ensures { Gives result cursor.new (empty_level left cursor.old) }
+    ensures { ReaderGives result cursor.new (empty_level left cursor.old) }
 {
     let place = cursor.sign(Kind::Empty)?;
     let kind = value_kind(alloc, cursor, left)?;
@@ -425,7 +425,7 @@ fn empty(alloc: Global, cursor: &mut Cursor<'_>, left: u8) -> Result<Expr, Stop>
 #[cycle(expression)]
 #[tactic(auto, unfolding(crate::specs::Readers::len_level), using(crate::proofs::Levels::inside_whole_is))]
 fn length_of(alloc: Global, cursor: &mut Cursor<'_>, left: u8) -> Result<Expr, Stop>
-    ensures { Gives result cursor.new (len_level left cursor.old) }
+    ensures { ReaderGives result cursor.new (len_level left cursor.old) }
 {
     let place = cursor.sign(Kind::Len)?;
     cursor.open(Kind::Open, left)?;
@@ -438,7 +438,7 @@ fn length_of(alloc: Global, cursor: &mut Cursor<'_>, left: u8) -> Result<Expr, S
 #[cycle(expression)]
 #[tactic(auto, unfolding(crate::specs::Readers::sha256_level), using(crate::proofs::Levels::inside_whole_is))]
 fn hash_of(alloc: Global, cursor: &mut Cursor<'_>, left: u8) -> Result<Expr, Stop>
-    ensures { Gives result cursor.new (sha256_level left cursor.old) }
+    ensures { ReaderGives result cursor.new (sha256_level left cursor.old) }
 {
     let place = cursor.sign(Kind::Sha256)?;
     cursor.open(Kind::Open, left)?;
@@ -451,7 +451,7 @@ fn hash_of(alloc: Global, cursor: &mut Cursor<'_>, left: u8) -> Result<Expr, Sto
 #[cycle(expression)]
 #[tactic(auto, unfolding(crate::specs::Readers::concat_level), using(crate::proofs::Levels::inside_two_is))]
 fn concat(alloc: Global, cursor: &mut Cursor<'_>, left: u8) -> Result<Expr, Stop>
-    ensures { Gives result cursor.new (concat_level left cursor.old) }
+    ensures { ReaderGives result cursor.new (concat_level left cursor.old) }
 {
     let place = cursor.sign(Kind::Concat)?;
     cursor.open(Kind::Open, left)?;
@@ -465,7 +465,7 @@ fn concat(alloc: Global, cursor: &mut Cursor<'_>, left: u8) -> Result<Expr, Stop
 #[cycle(expression)]
 #[tactic(auto, unfolding(crate::specs::Readers::two_level))]
 fn two(alloc: Global, cursor: &mut Cursor<'_>, left: u8) -> Result<(Expr, (usize, Expr)), Stop>
-    ensures { Gives result cursor.new (two_level left cursor.old) }
+    ensures { ReaderGives result cursor.new (two_level left cursor.old) }
 {
     let front = chain(alloc, cursor, left, Rank::Or)?;
     let back = behind_comma(alloc, cursor, left)?;
@@ -475,8 +475,8 @@ fn two(alloc: Global, cursor: &mut Cursor<'_>, left: u8) -> Result<(Expr, (usize
 /// A comma's place, and an expression.
 #[cycle(expression)]
 fn behind_comma(alloc: Global, cursor: &mut Cursor<'_>, left: u8) -> Result<(usize, Expr), Stop>
-    ensures { Gives result cursor.new
-        (pair_at (word_at kind.Comma) (ranked rank.Or left) cursor.old) }
+    ensures { ReaderGives result cursor.new
+        (pair_read (keyword_at kind.Comma) (ranked rank.Or left) cursor.old) }
 {
     let comma = cursor.sign(Kind::Comma)?;
     let one = chain(alloc, cursor, left, Rank::Or)?;
@@ -486,7 +486,7 @@ fn behind_comma(alloc: Global, cursor: &mut Cursor<'_>, left: u8) -> Result<(usi
 /// Whether a dep called a method.
 #[tactic(auto, unfolding(crate::specs::Readers::called_level))]
 fn called(alloc: Global, cursor: &mut Cursor<'_>, left: u8) -> Result<Expr, Stop>
-    ensures { Gives result cursor.new (called_level left cursor.old) }
+    ensures { ReaderGives result cursor.new (called_level left cursor.old) }
 {
     let place = cursor.sign(Kind::Called)?;
     cursor.open(Kind::Open, left)?;
@@ -500,7 +500,7 @@ fn called(alloc: Global, cursor: &mut Cursor<'_>, left: u8) -> Result<Expr, Stop
 /// A returned value of a dep.
 #[tactic(auto, unfolding(crate::specs::Readers::depint_level))]
 fn depint(cursor: &mut Cursor<'_>, left: u8) -> Result<Expr, Stop>
-    ensures { Gives result cursor.new (depint_level left cursor.old) }
+    ensures { ReaderGives result cursor.new (depint_level left cursor.old) }
 {
     let place = cursor.sign(Kind::DepInt)?;
     cursor.open(Kind::Open, left)?;
@@ -515,7 +515,7 @@ fn depint(cursor: &mut Cursor<'_>, left: u8) -> Result<Expr, Stop>
 #[cycle(expression)]
 #[tactic(auto, using(crate::proofs::Onward::items_is))]
 pub fn items(alloc: Global, cursor: &mut Cursor<'_>, left: u8) -> Result<Sequence<Expr>, Stop>
-    ensures { Gives result cursor.new (items_level left cursor.old) }
+    ensures { ReaderGives result cursor.new (items_level left cursor.old) }
 {
     let first = chain(alloc, cursor, left, Rank::Or)?;
     let mut all = Sequence::new(alloc);
@@ -531,7 +531,7 @@ fn other_items(
     left: u8,
     first: Sequence<Expr>,
 ) -> Result<Sequence<Expr>, Stop>
-    ensures { Gives result cursor.new (items_onward left (length cursor.old) first cursor.old) }
+    ensures { ReaderGives result cursor.new (items_onward left (length cursor.old) first cursor.old) }
 {
     let mut all = first;
     for _ in 0..cursor.len() {
@@ -555,7 +555,7 @@ fn other_item(
     left: u8,
     others: Sequence<Expr>,
 ) -> Result<Sequence<Expr>, Stop>
-    ensures { Gives result cursor.new (items_turn left others cursor.old) }
+    ensures { ReaderGives result cursor.new (items_turn left others cursor.old) }
 {
     let (_comma, one) = behind_comma(alloc, cursor, left)?;
     let mut all = others;

@@ -1,6 +1,6 @@
 //! Reading kinds, fields and slots.
 ghost use Rattle.std.specs.Prelude.{◌≡◌, length};
-ghost use Rattle.cs_lang_token.specs.Answers.{Gives};
+ghost use Rattle.cs_lang_token.specs.Answers.{ReaderGives};
 ghost use Rattle.cs_lang.specs.Readers.{kind_level, field_level, fields_level, fields_onward, fields_turn, slot_level, slots_level, slots_onward, slots_turn};
 
 use crate::tree::{Field, Slot, ValueKind};
@@ -11,7 +11,7 @@ use std::alloc::Global;
 /// A kind, where so many more levels may be opened.
 #[tactic(auto, unfolding(crate::specs::Readers::kind_level), using(crate::proofs::Levels::inside_kind_is))]
 pub fn value_kind(alloc: Global, cursor: &mut Cursor<'_>, left: u8) -> Result<ValueKind, Stop>
-    ensures { Gives result cursor.new (kind_level left cursor.old) }
+    ensures { ReaderGives result cursor.new (kind_level left cursor.old) }
 {
     if cursor.at(Kind::IntKind) {
         cursor.sign(Kind::IntKind)?;
@@ -34,7 +34,7 @@ pub fn value_kind(alloc: Global, cursor: &mut Cursor<'_>, left: u8) -> Result<Va
 /// A name and a kind.
 #[tactic(auto, unfolding(crate::specs::Readers::field_level))]
 pub fn field(alloc: Global, cursor: &mut Cursor<'_>, left: u8) -> Result<Field, Stop>
-    ensures { Gives result cursor.new (field_level left cursor.old) }
+    ensures { ReaderGives result cursor.new (field_level left cursor.old) }
 {
     let name = cursor.name(alloc)?;
     cursor.sign(Kind::Colon)?;
@@ -45,7 +45,7 @@ pub fn field(alloc: Global, cursor: &mut Cursor<'_>, left: u8) -> Result<Field, 
 /// Fields with commas between them.
 #[tactic(auto, using(crate::proofs::Onward::fields_is))]
 pub fn fields(alloc: Global, cursor: &mut Cursor<'_>, left: u8) -> Result<Sequence<Field>, Stop>
-    ensures { Gives result cursor.new (fields_level left cursor.old) }
+    ensures { ReaderGives result cursor.new (fields_level left cursor.old) }
 {
     let first = field(alloc, cursor, left)?;
     let mut all = Sequence::new(alloc);
@@ -60,7 +60,7 @@ fn other_fields(
     left: u8,
     first: Sequence<Field>,
 ) -> Result<Sequence<Field>, Stop>
-    ensures { Gives result cursor.new (fields_onward left (length cursor.old) first cursor.old) }
+    ensures { ReaderGives result cursor.new (fields_onward left (length cursor.old) first cursor.old) }
 {
     let mut all = first;
     for _ in 0..cursor.len() {
@@ -83,7 +83,7 @@ fn other_field(
     left: u8,
     others: Sequence<Field>,
 ) -> Result<Sequence<Field>, Stop>
-    ensures { Gives result cursor.new (fields_turn left others cursor.old) }
+    ensures { ReaderGives result cursor.new (fields_turn left others cursor.old) }
 {
     let mut all = others;
     cursor.sign(Kind::Comma)?;
@@ -95,7 +95,7 @@ fn other_field(
 /// A name and a type, with a star where it takes any number of objects.
 #[tactic(auto, unfolding(crate::specs::Readers::slot_level))]
 pub fn slot(alloc: Global, cursor: &mut Cursor<'_>) -> Result<Slot, Stop>
-    ensures { Gives result cursor.new (slot_level cursor.old) }
+    ensures { ReaderGives result cursor.new (slot_level cursor.old) }
 {
     let name = cursor.name(alloc)?;
     cursor.sign(Kind::Colon)?;
@@ -110,7 +110,7 @@ pub fn slot(alloc: Global, cursor: &mut Cursor<'_>) -> Result<Slot, Stop>
 /// Slots with commas between them.
 #[tactic(auto, using(crate::proofs::Onward::slots_is))]
 pub fn slots(alloc: Global, cursor: &mut Cursor<'_>) -> Result<Sequence<Slot>, Stop>
-    ensures { Gives result cursor.new (slots_level cursor.old) }
+    ensures { ReaderGives result cursor.new (slots_level cursor.old) }
 {
     let first = slot(alloc, cursor)?;
     let mut all = Sequence::new(alloc);
@@ -124,7 +124,7 @@ fn other_slots(
     cursor: &mut Cursor<'_>,
     first: Sequence<Slot>,
 ) -> Result<Sequence<Slot>, Stop>
-    ensures { Gives result cursor.new (slots_onward (length cursor.old) first cursor.old) }
+    ensures { ReaderGives result cursor.new (slots_onward (length cursor.old) first cursor.old) }
 {
     let mut all = first;
     for _ in 0..cursor.len() {
@@ -146,7 +146,7 @@ fn other_slot(
     cursor: &mut Cursor<'_>,
     others: Sequence<Slot>,
 ) -> Result<Sequence<Slot>, Stop>
-    ensures { Gives result cursor.new (slots_turn others cursor.old) }
+    ensures { ReaderGives result cursor.new (slots_turn others cursor.old) }
 {
     let mut all = others;
     cursor.sign(Kind::Comma)?;

@@ -1,6 +1,6 @@
 //! Reading types, methods and whole texts.
 ghost use Rattle.std.specs.Prelude.{◌≡◌, length};
-ghost use Rattle.cs_lang_token.specs.Answers.{Gives};
+ghost use Rattle.cs_lang_token.specs.Answers.{ReaderGives};
 ghost use Rattle.cs_lang.specs.Readers.{optional_fields, typedef_level, slots_section, fields_section, head_level, body_level, method_level, typedefs_level, typedefs_onward, typedefs_turn, methods_level, methods_onward, methods_turn, contract_level};
 
 use crate::kinds::{fields, slots};
@@ -31,7 +31,7 @@ pub struct Body {
 /// A type of objects.
 #[tactic(auto, unfolding(crate::specs::Readers::typedef_level))]
 fn typedef(alloc: Global, cursor: &mut Cursor<'_>) -> Result<TypeDef, Stop>
-    ensures { Gives result cursor.new (typedef_level cursor.old) }
+    ensures { ReaderGives result cursor.new (typedef_level cursor.old) }
 {
     cursor.sign(Kind::Type)?;
     let name = cursor.name(alloc)?;
@@ -45,7 +45,7 @@ fn typedef(alloc: Global, cursor: &mut Cursor<'_>) -> Result<TypeDef, Stop>
 /// The fields of a type, of which there may be none.
 #[tactic(auto, unfolding(crate::specs::Readers::optional_fields))]
 fn optional_fields(alloc: Global, cursor: &mut Cursor<'_>) -> Result<Sequence<Field>, Stop>
-    ensures { Gives result cursor.new (optional_fields cursor.old) }
+    ensures { ReaderGives result cursor.new (optional_fields cursor.old) }
 {
     if cursor.at(Kind::Name) {
         return fields(alloc, cursor, MOST_LEVELS - 1);
@@ -56,7 +56,7 @@ fn optional_fields(alloc: Global, cursor: &mut Cursor<'_>) -> Result<Sequence<Fi
 /// Slots behind the word, or none where it isn't there.
 #[tactic(auto, unfolding(crate::specs::Readers::slots_section))]
 fn slots_behind(alloc: Global, cursor: &mut Cursor<'_>, word: Kind) -> Result<Sequence<Slot>, Stop>
-    ensures { Gives result cursor.new (slots_section word cursor.old) }
+    ensures { ReaderGives result cursor.new (slots_section word cursor.old) }
 {
     if !cursor.at(word) {
         return Ok(Sequence::new(alloc));
@@ -72,7 +72,7 @@ fn fields_behind(
     cursor: &mut Cursor<'_>,
     word: Kind,
 ) -> Result<Sequence<Field>, Stop>
-    ensures { Gives result cursor.new (fields_section word cursor.old) }
+    ensures { ReaderGives result cursor.new (fields_section word cursor.old) }
 {
     if !cursor.at(word) {
         return Ok(Sequence::new(alloc));
@@ -84,7 +84,7 @@ fn fields_behind(
 /// What a method takes and gives.
 #[tactic(auto, unfolding(crate::specs::Readers::head_level))]
 fn read_head(alloc: Global, cursor: &mut Cursor<'_>) -> Result<Head, Stop>
-    ensures { Gives result cursor.new (head_level cursor.old) }
+    ensures { ReaderGives result cursor.new (head_level cursor.old) }
 {
     let consumes = slots_behind(alloc, cursor, Kind::Consumes)?;
     let reads = slots_behind(alloc, cursor, Kind::Reads)?;
@@ -103,7 +103,7 @@ fn read_head(alloc: Global, cursor: &mut Cursor<'_>) -> Result<Head, Stop>
 /// What a method does.
 #[tactic(auto, unfolding(crate::specs::Readers::body_level))]
 fn read_body(alloc: Global, cursor: &mut Cursor<'_>) -> Result<Body, Stop>
-    ensures { Gives result cursor.new (body_level cursor.old) }
+    ensures { ReaderGives result cursor.new (body_level cursor.old) }
 {
     cursor.sign(Kind::OpenBlock)?;
     cursor.sign(Kind::Procedure)?;
@@ -121,7 +121,7 @@ fn read_body(alloc: Global, cursor: &mut Cursor<'_>) -> Result<Body, Stop>
 /// A method.
 #[tactic(auto, unfolding(crate::specs::Readers::method_level))]
 fn method(alloc: Global, cursor: &mut Cursor<'_>) -> Result<Method, Stop>
-    ensures { Gives result cursor.new (method_level cursor.old) }
+    ensures { ReaderGives result cursor.new (method_level cursor.old) }
 {
     cursor.sign(Kind::Method)?;
     let name = cursor.name(alloc)?;
@@ -143,7 +143,7 @@ fn method(alloc: Global, cursor: &mut Cursor<'_>) -> Result<Method, Stop>
 /// The types at the front of a text.
 #[tactic(auto, using(crate::proofs::Onward::typedefs_is))]
 fn typedefs(alloc: Global, cursor: &mut Cursor<'_>) -> Result<Sequence<TypeDef>, Stop>
-    ensures { Gives result cursor.new (typedefs_level cursor.old) }
+    ensures { ReaderGives result cursor.new (typedefs_level cursor.old) }
 {
     other_typedefs(alloc, cursor, Sequence::new(alloc))
 }
@@ -154,7 +154,7 @@ fn other_typedefs(
     cursor: &mut Cursor<'_>,
     first: Sequence<TypeDef>,
 ) -> Result<Sequence<TypeDef>, Stop>
-    ensures { Gives result cursor.new (typedefs_onward (length cursor.old) first cursor.old) }
+    ensures { ReaderGives result cursor.new (typedefs_onward (length cursor.old) first cursor.old) }
 {
     let mut all = first;
     for _ in 0..cursor.len() {
@@ -176,7 +176,7 @@ fn other_typedef(
     cursor: &mut Cursor<'_>,
     others: Sequence<TypeDef>,
 ) -> Result<Sequence<TypeDef>, Stop>
-    ensures { Gives result cursor.new (typedefs_turn others cursor.old) }
+    ensures { ReaderGives result cursor.new (typedefs_turn others cursor.old) }
 {
     let mut all = others;
     let one = typedef(alloc, cursor)?;
@@ -187,7 +187,7 @@ fn other_typedef(
 /// The methods, of which there is one at least.
 #[tactic(auto, using(crate::proofs::Onward::methods_is))]
 fn methods(alloc: Global, cursor: &mut Cursor<'_>) -> Result<Sequence<Method>, Stop>
-    ensures { Gives result cursor.new (methods_level cursor.old) }
+    ensures { ReaderGives result cursor.new (methods_level cursor.old) }
 {
     let first = method(alloc, cursor)?;
     let mut all = Sequence::new(alloc);
@@ -201,7 +201,7 @@ fn other_methods(
     cursor: &mut Cursor<'_>,
     first: Sequence<Method>,
 ) -> Result<Sequence<Method>, Stop>
-    ensures { Gives result cursor.new (methods_onward (length cursor.old) first cursor.old) }
+    ensures { ReaderGives result cursor.new (methods_onward (length cursor.old) first cursor.old) }
 {
     let mut all = first;
     for _ in 0..cursor.len() {
@@ -223,7 +223,7 @@ fn other_method(
     cursor: &mut Cursor<'_>,
     others: Sequence<Method>,
 ) -> Result<Sequence<Method>, Stop>
-    ensures { Gives result cursor.new (methods_turn others cursor.old) }
+    ensures { ReaderGives result cursor.new (methods_turn others cursor.old) }
 {
     let mut all = others;
     let one = method(alloc, cursor)?;
@@ -234,7 +234,7 @@ fn other_method(
 /// A whole text.
 #[tactic(auto, unfolding(crate::specs::Readers::contract_level))]
 pub fn contract(alloc: Global, cursor: &mut Cursor<'_>) -> Result<ContractTree, Stop>
-    ensures { Gives result cursor.new (contract_level cursor.old) }
+    ensures { ReaderGives result cursor.new (contract_level cursor.old) }
 {
     let types = typedefs(alloc, cursor)?;
     let methods = methods(alloc, cursor)?;

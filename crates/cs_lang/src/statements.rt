@@ -1,6 +1,6 @@
 //! Reading statements.
 ghost use Rattle.std.specs.Prelude.{◌≡◌, length};
-ghost use Rattle.cs_lang_token.specs.Answers.{Gives};
+ghost use Rattle.cs_lang_token.specs.Answers.{ReaderGives};
 ghost use Rattle.cs_lang_token.specs.Kinds.{is};
 ghost use Rattle.cs_lang_token.specs.Grammar.{begins};
 ghost use Rattle.cs_lang.specs.Readers.{expression_kinds, statement_kinds, optional_items, arguments_level, let_level, set_level, if_level, for_level, make_level, names_at, names_onward, names_turn, call_level, answer_level, statement_level, statements_level, statements_onward, statements_turn, block_level};
@@ -52,7 +52,7 @@ fn at_statement(cursor: &Cursor<'_>) -> bool
 /// Expressions with commas between them, of which there may be none.
 #[tactic(auto, unfolding(crate::specs::Readers::optional_items))]
 fn optional_items(alloc: Global, cursor: &mut Cursor<'_>, left: u8) -> Result<Sequence<Expr>, Stop>
-    ensures { Gives result cursor.new (optional_items left cursor.old) }
+    ensures { ReaderGives result cursor.new (optional_items left cursor.old) }
 {
     if at_expression(cursor) {
         return items(alloc, cursor, left);
@@ -63,7 +63,7 @@ fn optional_items(alloc: Global, cursor: &mut Cursor<'_>, left: u8) -> Result<Se
 /// Arguments in their parentheses.
 #[tactic(auto, unfolding(crate::specs::Readers::arguments_level), using(crate::proofs::Levels::inside_optional_is))]
 fn arguments(alloc: Global, cursor: &mut Cursor<'_>, left: u8) -> Result<Sequence<Expr>, Stop>
-    ensures { Gives result cursor.new (arguments_level left cursor.old) }
+    ensures { ReaderGives result cursor.new (arguments_level left cursor.old) }
 {
     cursor.open(Kind::Open, left)?;
     let items = optional_items(alloc, cursor, left - 1)?;
@@ -74,7 +74,7 @@ fn arguments(alloc: Global, cursor: &mut Cursor<'_>, left: u8) -> Result<Sequenc
 /// A name for a value.
 #[tactic(auto, unfolding(crate::specs::Readers::let_level))]
 fn let_statement(alloc: Global, cursor: &mut Cursor<'_>, left: u8) -> Result<Statement, Stop>
-    ensures { Gives result cursor.new (let_level left cursor.old) }
+    ensures { ReaderGives result cursor.new (let_level left cursor.old) }
 {
     let place = cursor.sign(Kind::Let)?;
     let name = cursor.name(alloc)?;
@@ -90,7 +90,7 @@ fn let_statement(alloc: Global, cursor: &mut Cursor<'_>, left: u8) -> Result<Sta
 /// A new value for a name.
 #[tactic(auto, unfolding(crate::specs::Readers::set_level))]
 fn set_statement(alloc: Global, cursor: &mut Cursor<'_>, left: u8) -> Result<Statement, Stop>
-    ensures { Gives result cursor.new (set_level left cursor.old) }
+    ensures { ReaderGives result cursor.new (set_level left cursor.old) }
 {
     let place = cursor.sign(Kind::Set)?;
     let name = cursor.name(alloc)?;
@@ -107,7 +107,7 @@ fn set_statement(alloc: Global, cursor: &mut Cursor<'_>, left: u8) -> Result<Sta
 #[cycle(statement)]
 #[tactic(auto, unfolding(crate::specs::Readers::if_level))]
 fn if_statement(alloc: Global, cursor: &mut Cursor<'_>, left: u8) -> Result<Statement, Stop>
-    ensures { Gives result cursor.new (if_level left cursor.old) }
+    ensures { ReaderGives result cursor.new (if_level left cursor.old) }
 {
     let place = cursor.sign(Kind::If)?;
     let condition = chain(alloc, cursor, left, Rank::Or)?;
@@ -130,7 +130,7 @@ fn if_statement(alloc: Global, cursor: &mut Cursor<'_>, left: u8) -> Result<Stat
 #[cycle(statement)]
 #[tactic(auto, unfolding(crate::specs::Readers::for_level))]
 fn for_statement(alloc: Global, cursor: &mut Cursor<'_>, left: u8) -> Result<Statement, Stop>
-    ensures { Gives result cursor.new (for_level left cursor.old) }
+    ensures { ReaderGives result cursor.new (for_level left cursor.old) }
 {
     let place = cursor.sign(Kind::For)?;
     let name = cursor.name(alloc)?;
@@ -155,7 +155,7 @@ fn for_statement(alloc: Global, cursor: &mut Cursor<'_>, left: u8) -> Result<Sta
 /// A new object.
 #[tactic(auto, unfolding(crate::specs::Readers::make_level))]
 fn make_statement(alloc: Global, cursor: &mut Cursor<'_>, left: u8) -> Result<Statement, Stop>
-    ensures { Gives result cursor.new (make_level left cursor.old) }
+    ensures { ReaderGives result cursor.new (make_level left cursor.old) }
 {
     let place = cursor.sign(Kind::Make)?;
     let slot = cursor.name(alloc)?;
@@ -172,7 +172,7 @@ fn make_statement(alloc: Global, cursor: &mut Cursor<'_>, left: u8) -> Result<St
 /// Names, each behind a comma.
 #[tactic(auto, using(crate::proofs::Onward::names_is))]
 fn names(alloc: Global, cursor: &mut Cursor<'_>) -> Result<Sequence<Text>, Stop>
-    ensures { Gives result cursor.new (names_at cursor.old) }
+    ensures { ReaderGives result cursor.new (names_at cursor.old) }
 {
     other_names(alloc, cursor, Sequence::new(alloc))
 }
@@ -183,7 +183,7 @@ fn other_names(
     cursor: &mut Cursor<'_>,
     first: Sequence<Text>,
 ) -> Result<Sequence<Text>, Stop>
-    ensures { Gives result cursor.new (names_onward (length cursor.old) first cursor.old) }
+    ensures { ReaderGives result cursor.new (names_onward (length cursor.old) first cursor.old) }
 {
     let mut all = first;
     for _ in 0..cursor.len() {
@@ -205,7 +205,7 @@ fn other_name(
     cursor: &mut Cursor<'_>,
     others: Sequence<Text>,
 ) -> Result<Sequence<Text>, Stop>
-    ensures { Gives result cursor.new (names_turn others cursor.old) }
+    ensures { ReaderGives result cursor.new (names_turn others cursor.old) }
 {
     let mut all = others;
     cursor.sign(Kind::Comma)?;
@@ -217,7 +217,7 @@ fn other_name(
 /// A call of a method, with names for what it returns.
 #[tactic(auto, unfolding(crate::specs::Readers::call_level))]
 fn call_statement(alloc: Global, cursor: &mut Cursor<'_>, left: u8) -> Result<Statement, Stop>
-    ensures { Gives result cursor.new (call_level left cursor.old) }
+    ensures { ReaderGives result cursor.new (call_level left cursor.old) }
 {
     let place = cursor.sign(Kind::Call)?;
     let first = cursor.name(alloc)?;
@@ -244,7 +244,7 @@ fn call_statement(alloc: Global, cursor: &mut Cursor<'_>, left: u8) -> Result<St
 /// The answer of a check.
 #[tactic(auto, unfolding(crate::specs::Readers::answer_level))]
 fn answer_statement(alloc: Global, cursor: &mut Cursor<'_>, left: u8) -> Result<Statement, Stop>
-    ensures { Gives result cursor.new (answer_level left cursor.old) }
+    ensures { ReaderGives result cursor.new (answer_level left cursor.old) }
 {
     let place = cursor.sign(Kind::Answer)?;
     let value = chain(alloc, cursor, left, Rank::Or)?;
@@ -259,7 +259,7 @@ fn answer_statement(alloc: Global, cursor: &mut Cursor<'_>, left: u8) -> Result<
 #[cycle(statement)]
 #[tactic(auto, unfolding(crate::specs::Readers::statement_level))]
 fn statement(alloc: Global, cursor: &mut Cursor<'_>, left: u8) -> Result<Statement, Stop>
-    ensures { Gives result cursor.new (statement_level left cursor.old) }
+    ensures { ReaderGives result cursor.new (statement_level left cursor.old) }
 {
     if cursor.at(Kind::Let) {
         return let_statement(alloc, cursor, left);
@@ -286,7 +286,7 @@ fn statement(alloc: Global, cursor: &mut Cursor<'_>, left: u8) -> Result<Stateme
 #[cycle(statement)]
 #[tactic(auto, using(crate::proofs::Onward::statements_is))]
 fn statements(alloc: Global, cursor: &mut Cursor<'_>, left: u8) -> Result<Sequence<Statement>, Stop>
-    ensures { Gives result cursor.new (statements_level left cursor.old) }
+    ensures { ReaderGives result cursor.new (statements_level left cursor.old) }
 {
     other_statements(alloc, cursor, left, Sequence::new(alloc))
 }
@@ -299,7 +299,7 @@ fn other_statements(
     left: u8,
     first: Sequence<Statement>,
 ) -> Result<Sequence<Statement>, Stop>
-    ensures { Gives result cursor.new
+    ensures { ReaderGives result cursor.new
         (statements_onward left (length cursor.old) first cursor.old) }
 {
     let mut all = first;
@@ -324,7 +324,7 @@ fn other_statement(
     left: u8,
     others: Sequence<Statement>,
 ) -> Result<Sequence<Statement>, Stop>
-    ensures { Gives result cursor.new (statements_turn left others cursor.old) }
+    ensures { ReaderGives result cursor.new (statements_turn left others cursor.old) }
 {
     let mut all = others;
     let one = statement(alloc, cursor, left)?;
@@ -336,7 +336,7 @@ fn other_statement(
 #[cycle(statement)]
 #[tactic(auto, unfolding(crate::specs::Readers::block_level), using(crate::proofs::Levels::inside_statements_is))]
 pub fn block(alloc: Global, cursor: &mut Cursor<'_>, left: u8) -> Result<Block, Stop>
-    ensures { Gives result cursor.new (block_level left cursor.old) }
+    ensures { ReaderGives result cursor.new (block_level left cursor.old) }
 {
     cursor.open(Kind::OpenBlock, left)?;
     let statements = statements(alloc, cursor, left - 1)?;

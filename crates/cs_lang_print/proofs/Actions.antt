@@ -10,7 +10,7 @@ use Rattle.cs_lang.specs.declared.tree.Action.TheVariants as action
 use Rattle.cs_lang.specs.declared.tree.Action.TheVariants.{rolls-Let, rolls-Set, rolls-If, rolls-IfElse, rolls-ForIn, rolls-ForTo, rolls-Make, rolls-Call, rolls-Answer}
 use Rattle.cs_lang.specs.declared.tree.Action.TheOpen.{Action-F}
 use Rattle.cs_lang.specs.declared.tree.Action.TheFolds.{fold-roll-Action, fold_out-Block, fold_out-Statement}
-use Rattle.cs_lang_print.specs.Words.{word, ending, each}
+use Rattle.cs_lang_print.specs.Words.{word, ending, each_text}
 use Rattle.cs_lang_print.specs.Expressions.{expr_text}
 use Rattle.cs_lang_print.specs.Statements.{name_text, arguments_text, bound_text, assigned, block_until, block_text, layer_action, layer_statement, layer_block, statements_text, statement_text, action_text}
 use Rattle.cs_lang_print.proofs.RunTexts.{each-map}
@@ -19,11 +19,11 @@ pub statement_is : (s : Statement) → statement_text s ≡ action_text (out-Sta
 unfolding statement_text action_text
 statement_is s = fold_out-Statement (List ℕ) (List ℕ) (List ℕ) layer_action layer_block layer_statement s
 
-block_is : (b : Block) → statements_text b ≡ each (λ (t : List ℕ). t) (map statement_text (out-Block b).statements)
+block_is : (b : Block) → statements_text b ≡ each_text (λ (t : List ℕ). t) (map statement_text (out-Block b).statements)
 unfolding statements_text statement_text
 block_is b = fold_out-Block (List ℕ) (List ℕ) (List ℕ) layer_action layer_block layer_statement b
 
-pub statements_are : (b : Block) → statements_text b ≡ each statement_text (out-Block b).statements
+pub statements_are : (b : Block) → statements_text b ≡ each_text statement_text (out-Block b).statements
 statements_are b = block_is b ∙ each-map (λ (t : List ℕ). t) statement_text (out-Block b).statements
 
 pub action_let : (name : Text) (value : Expr) → action_text (action.Let name value) ≡ assigned (codes "let") name value

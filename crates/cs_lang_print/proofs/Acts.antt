@@ -11,7 +11,7 @@ use Rattle.cs_lang.specs.declared.tree.Action.TheVariants.{rolls-Let, rolls-Set,
 use Rattle.cs_lang.specs.declared.tree.Action.TheViews.{the_lemmas}
 use Rattle.cs_lang.specs.declared.tree.Action.TheOpen.{Action-F}
 use Rattle.cs_lang.specs.declared.tree.Action.TheFolds.{fold-roll-Action, fold_out-Block, fold_out-Statement}
-use Rattle.cs_lang.specs.Trees.{statement, let_of, set_of, if_action, if_of, Range, Items, Numbers, for_action, for_of, make_of, CallRest, Arguments, Binds, names_of, call_action, call_of, answer_of, block_of}
+use Rattle.cs_lang.specs.Trees.{statement, let_of, set_of, if_action, if_of, Range, Items, Numbers, for_action, for_of, make_of, CallRest, Arguments, Binds, names_in_list, call_action, call_of, answer_of, block_of}
 use Rattle.cs_lang_print.specs.Places.{bare_text, bare, action_layer, statement_layer, block_layer, bare_block, bare_statement, bare_action}
 use Rattle.cs_lang_print.proofs.Says.{both, no_place}
 use Rattle.cs_lang_print.proofs.Moves.{if_some}
@@ -109,7 +109,7 @@ abbrev pub bare_rest : CallRest → CallRest
 bare_rest (Arguments es) = Arguments (map bare es)
 bare_rest (Binds names method es) = Binds (map bare_text names) (bare_text method) (map bare es)
 
-pub move_names : (ps : List (ℕ × Text)) → map bare_text (names_of ps) ≡ names_of (map (both no_place bare_text) ps)
+pub move_names : (ps : List (ℕ × Text)) → map bare_text (names_in_list ps) ≡ names_in_list (map (both no_place bare_text) ps)
 move_names [] = refl
 move_names (p ∷ ps) = ap (λ (l : List Text). bare_text p.1 ∷ l) (move_names ps)
 

@@ -17,7 +17,7 @@ use Rattle.cs_lang.specs.declared.tree.Access.TheVariants as access
 use Rattle.cs_lang.specs.declared.tree.Access.TheVariants.{rolls-Field, rolls-Index}
 use Rattle.cs_lang.specs.declared.tree.Access.TheOpen.{Access-F, Shape-F}
 use Rattle.cs_lang.specs.declared.tree.Access.TheFolds.{fold-roll-Access, fold-roll-Shape, fold_out-Expr, fold_out-Link, fold_out-Step}
-use Rattle.cs_lang.specs.Trees.{tree, shape_of, Opened, same_rank, shape_is_chain, is_chain, shape_is_path, is_path}
+use Rattle.cs_lang.specs.Trees.{tree, shape_of, OpenedTree, same_rank, shape_is_chain, is_chain, shape_is_path, is_path}
 use Rattle.cs_lang.proofs.Chains.{rolled}
 use Rattle.cs_lang.proofs.Opened.{out_number, out_bytes, out_truth, out_name, out_list, out_empty, out_len, out_sha256, out_concat, out_called, out_depint, out_path, out_not, out_negative, out_compared, out_chain}
 use Rattle.cs_lang_print.specs.Places.{bare_text, access_layer, shape_layer, expr_layer, link_layer, step_layer, bare, bare_shape, bare_link, bare_step, bare_access}
@@ -106,7 +106,7 @@ pub bare_chain : (r : Rank) (start : Expr) (links : List Link) → bare_shape (s
 unfolding bare bare_shape bare_link bare_step
 bare_chain r start links = ap bare_shape (sym (rolls-Chain r start links)) ∙ fold-roll-Shape Access Shape Expr Link Step access_layer shape_layer expr_layer link_layer step_layer (Shape-F.Chain r start links)
 
-chain_of_bare : (r : Rank) (o : Opened) → shape_is_chain r (out-Shape (bare_shape (roll-Shape o))) ≡ shape_is_chain r o
+chain_of_bare : (r : Rank) (o : OpenedTree) → shape_is_chain r (out-Shape (bare_shape (roll-Shape o))) ≡ shape_is_chain r o
 chain_of_bare r' (Shape-F.Number n) = ap (λ (s : Shape). shape_is_chain r' (out-Shape s)) (ap bare_shape (rolls-Number n) ∙ bare_number n) ∙ ap (shape_is_chain r') (out_number n)
 chain_of_bare r' (Shape-F.Bytes text) = ap (λ (s : Shape). shape_is_chain r' (out-Shape s)) (ap bare_shape (rolls-Bytes text) ∙ bare_bytes text) ∙ ap (shape_is_chain r') (out_bytes text)
 chain_of_bare r' (Shape-F.Truth b) = ap (λ (s : Shape). shape_is_chain r' (out-Shape s)) (ap bare_shape (rolls-Truth b) ∙ bare_truth b) ∙ ap (shape_is_chain r') (out_truth b)
@@ -124,7 +124,7 @@ chain_of_bare r' (Shape-F.Negative inner) = ap (λ (s : Shape). shape_is_chain r
 chain_of_bare r' (Shape-F.Compared c left right) = ap (λ (s : Shape). shape_is_chain r' (out-Shape s)) (ap bare_shape (rolls-Compared c left right) ∙ bare_compared c left right) ∙ ap (shape_is_chain r') (out_compared c (bare left) (bare right))
 chain_of_bare r' (Shape-F.Chain r start links) = ap (λ (s : Shape). shape_is_chain r' (out-Shape s)) (ap bare_shape (rolls-Chain r start links) ∙ bare_chain r start links) ∙ ap (shape_is_chain r') (out_chain r (bare start) (map bare_link links))
 
-path_of_bare : (o : Opened) → shape_is_path (out-Shape (bare_shape (roll-Shape o))) ≡ shape_is_path o
+path_of_bare : (o : OpenedTree) → shape_is_path (out-Shape (bare_shape (roll-Shape o))) ≡ shape_is_path o
 path_of_bare (Shape-F.Number n) = ap (λ (s : Shape). shape_is_path (out-Shape s)) (ap bare_shape (rolls-Number n) ∙ bare_number n) ∙ ap shape_is_path (out_number n)
 path_of_bare (Shape-F.Bytes text) = ap (λ (s : Shape). shape_is_path (out-Shape s)) (ap bare_shape (rolls-Bytes text) ∙ bare_bytes text) ∙ ap shape_is_path (out_bytes text)
 path_of_bare (Shape-F.Truth b) = ap (λ (s : Shape). shape_is_path (out-Shape s)) (ap bare_shape (rolls-Truth b) ∙ bare_truth b) ∙ ap shape_is_path (out_truth b)

@@ -9,9 +9,9 @@ use Rattle.cs_lang_token.specs.Rules.{sign, name, room_of, less_one, commas}
 use Rattle.cs_lang.specs.declared.tree.Expr.{Expr}
 use Rattle.cs_lang.specs.declared.tree.Block.{Block}
 use Rattle.cs_lang.specs.declared.tree.Statement.{Statement}
-use Rattle.cs_lang.specs.Trees.{let_of, set_of, if_of, else_of, Range, Items, Numbers, items_of, numbers_of, for_of, inner, make_of, CallRest, Arguments, Binds, binds_of, names_of, call_of, answer_of, block_of}
-use Rattle.cs_lang.specs.Rules.{word as word_rule, Whole, expression, arguments, if_rule, for_rule, make_rule, call_rule, statement_rule, braces, statements}
-use Rattle.cs_lang_print.specs.Words.{word, ending, each, behind_comma, with_commas}
+use Rattle.cs_lang.specs.Trees.{let_of, set_of, if_of, else_of, Range, Items, Numbers, range_of, numbers_of, for_of, inner, make_of, CallRest, Arguments, Binds, binds_of, names_in_list, call_of, answer_of, block_of}
+use Rattle.cs_lang.specs.Rules.{keyword as word_rule, Whole, expression, arguments, if_rule, for_rule, make_rule, call_rule, statement_rule, braces, statements}
+use Rattle.cs_lang_print.specs.Words.{word, ending, each_text, behind_comma, with_commas}
 use Rattle.cs_lang_print.specs.Expressions.{expr_text}
 use Rattle.cs_lang_print.specs.Statements.{name_text, arguments_text, block_until, statements_text, statement_text}
 use Rattle.cs_lang_print.specs.Places.{bare_text, bare, bare_block, bare_statement}
@@ -59,7 +59,7 @@ says_arguments left es room g n le =
 
 -- the statements of a block, with room for so many levels
 abbrev pub StatementsGood : ℕ → List Statement → Type 0
-StatementsGood left ss = (n : ℕ) → left + 3 ≤ n → Says (map bare_statement) (statements n left) ss (each statement_text ss)
+StatementsGood left ss = (n : ℕ) → left + 3 ≤ n → Says (map bare_statement) (statements n left) ss (each_text statement_text ss)
 
 -- a block whose brace closes in either way
 abbrev pub BlockGood : ℕ → Block → Type 0
@@ -74,7 +74,7 @@ says_before_else = says_sign kind.CloseBlock (codes "}") (omega arith) (λ place
 says_block : (left : ℕ) (p : ℕ × (List Statement × ℕ)) → room_of left ≡ true → StatementsGood (less_one left) p.1.0 → BlockGood left (block_of p)
 says_block left p room g n le closing close =
     let one = room_one left room in
-    says_text (block_until closing (statements_text (block_of p))) (ap (block_until closing) (sym (statements_are (block_of p) ∙ ap (each statement_text) (out_statements p))))
+    says_text (block_until closing (statements_text (block_of p))) (ap (block_until closing) (sym (statements_are (block_of p) ∙ ap (each_text statement_text) (out_statements p))))
     (says_same (block_of p) (move_block (0, (p.1.0, 0)) ∙ sym (move_block p))
     (says_mapped {B = both no_place (both (map bare_statement) no_place)} {x = (0, (p.1.0, 0))} bare_block block_of move_block
     (says_pair (says_gate kind.OpenBlock (room_of left) (ending (codes "{")) room (says_ending kind.OpenBlock (codes "{") (omega arith) (λ place rest. refl)))
@@ -90,17 +90,17 @@ comma_names : List Text → List (ℕ × Text)
 comma_names [] = []
 comma_names (n ∷ ns) = (0, n) ∷ comma_names ns
 
-names_back : (ns : List Text) → names_of (comma_names ns) ≡ ns
+names_back : (ns : List Text) → names_in_list (comma_names ns) ≡ ns
 unfolding comma_names
 names_back [] = refl
 names_back (n ∷ ns) = ap (λ (l : List Text). n ∷ l) (names_back ns)
 
-says_names : (ns : List Text) → Every (λ (t : Text). IsWord t.bytes kind.Name) ns → Says (map (both no_place bare_text)) (many (pair (word_rule kind.Comma) name)) (comma_names ns) (each (behind_comma name_text) ns)
+says_names : (ns : List Text) → Every (λ (t : Text). IsWord t.bytes kind.Name) ns → Says (map (both no_place bare_text)) (many (pair (word_rule kind.Comma) name)) (comma_names ns) (each_text (behind_comma name_text) ns)
 unfolding comma_names
 says_names [] h = says_many_none (map (both no_place bare_text))
 says_names (n ∷ ns) h = says_many_more (says_pair says_comma (says_name n h.0)) (says_names ns h.1)
 
-named_each : (ps : List (ℕ × Text)) → Every (λ (p : ℕ × Text). (true ≡ true) × IsWord p.1.bytes kind.Name) ps → Every (λ (t : Text). IsWord t.bytes kind.Name) (names_of ps)
+named_each : (ps : List (ℕ × Text)) → Every (λ (p : ℕ × Text). (true ≡ true) × IsWord p.1.bytes kind.Name) ps → Every (λ (t : Text). IsWord t.bytes kind.Name) (names_in_list ps)
 named_each [] h = tt
 named_each (p ∷ ps) h = (h.0.1, named_each ps h.1)
 
@@ -160,7 +160,7 @@ module _ (left : ℕ) (E F : Rule Expr) (B : Rule Block) (whole : Gives E (Good 
       says_text (statement_text (for_of (place, (name', (Items e, b))))) (sym (statement_is (for_of (place, (name', (Items e, b)))) ∙ action_forin name' e b)) (says_right (says_right (says_right (says_left (says_same (for_of (place, (name', (Items e, b)))) (move_for (0, (name', (Items e, b))) ∙ sym (move_for (place, (name', (Items e, b)))))
       (says_mapped {B = bare_for} {x = (0, (name', (Items e, b)))} bare_statement for_of move_for
       (says_pair says_for (says_pair (says_name name' is) (says_pair
-      (says_left (says_mapped {B = both no_place bare} {x = (0, e)} bare_range items_of (λ z. refl) (says_pair (says_word kind.In (codes "in") (record { letter = refl; all = refl; short = omega arith; kind = refl })) (says_whole left e g n le))))
+      (says_left (says_mapped {B = both no_place bare} {x = (0, e)} bare_range range_of (λ z. refl) (says_pair (says_word kind.In (codes "in") (record { letter = refl; all = refl; short = omega arith; kind = refl })) (says_whole left e g n le))))
       (h n le (ending (codes "}")) says_closed))))))))))
   for_says place name' (Numbers k) b is g h n le =
       says_text (statement_text (for_of (place, (name', (Numbers k, b))))) (sym (statement_is (for_of (place, (name', (Numbers k, b)))) ∙ action_forto name' k b)) (says_right (says_right (says_right (says_left (says_same (for_of (place, (name', (Numbers k, b)))) (move_for (0, (name', (Numbers k, b))) ∙ sym (move_for (place, (name', (Numbers k, b)))))
@@ -170,7 +170,7 @@ module _ (left : ℕ) (E F : Rule Expr) (B : Rule Block) (whole : Gives E (Good 
       (h n le (ending (codes "}")) says_closed))))))))))
 
   for_good : Gives (for_rule E B) (StatementGood left)
-  for_good = gives_mapped (StatementGood left) for_of (gives_pair (gives_sign kind.For true) (gives_pair gives_name (gives_pair (gives_either (gives_mapped RangeGood items_of (gives_pair (gives_sign kind.In true) whole) (λ p h. h.1)) (gives_mapped RangeGood numbers_of (gives_pair (gives_sign kind.To true) gives_number) (λ p h. h.1))) block)))
+  for_good = gives_mapped (StatementGood left) for_of (gives_pair (gives_sign kind.For true) (gives_pair gives_name (gives_pair (gives_either (gives_mapped RangeGood range_of (gives_pair (gives_sign kind.In true) whole) (λ p h. h.1)) (gives_mapped RangeGood numbers_of (gives_pair (gives_sign kind.To true) gives_number) (λ p h. h.1))) block)))
       (λ p h. for_says p.0 p.1.0 p.1.1.0 p.1.1.1 h.1.0 h.1.1.0 h.1.1.1)
 
   make_good : Gives (make_rule F (room_of left)) (StatementGood left)
@@ -194,19 +194,19 @@ module _ (left : ℕ) (E F : Rule Expr) (B : Rule Block) (whole : Gives E (Good 
       (says_pair says_call (says_pair (says_name name' is) (says_pair (says_left (says_mapped {B = map bare} {x = es} bare_rest Arguments (λ z. refl) (says_arguments left es g.0 g.1 n le))) says_semicolon)))))))))))
   call_says place name' (Binds names method es) end is g n le =
       says_text (statement_text (call_of (place, (name', (Binds names method es, end)))))
-      (call_text (name_text name') (each (behind_comma name_text) names) (name_text method) (arguments_text es) ∙ sym (statement_is (call_of (place, (name', (Binds names method es, end)))) ∙ action_call (name' ∷ names) method es))
+      (call_text (name_text name') (each_text (behind_comma name_text) names) (name_text method) (arguments_text es) ∙ sym (statement_is (call_of (place, (name', (Binds names method es, end)))) ∙ action_call (name' ∷ names) method es))
       (says_right (says_right (says_right (says_right (says_right (says_left (says_same (call_of (place, (name', (Binds names method es, end)))) (move_call (0, (name', (Binds names method es, 0))) ∙ sym (move_call (place, (name', (Binds names method es, end)))))
       (says_mapped {B = bare_call} {x = (0, (name', (Binds names method es, 0)))} bare_statement call_of move_call
       (says_pair says_call (says_pair (says_name name' is) (says_pair
       (says_right (says_mapped {B = both (map bare_text) (both no_place (both bare_text (map bare)))} {x = (names, (0, (method, es)))} bare_rest binds_of (λ z. refl)
-      (says_pair (says_same names (ap (map bare_text) (names_back names)) (says_mapped {B = map (both no_place bare_text)} {x = comma_names names} (map bare_text) names_of move_names (says_names names g.0)))
+      (says_pair (says_same names (ap (map bare_text) (names_back names)) (says_mapped {B = map (both no_place bare_text)} {x = comma_names names} (map bare_text) names_in_list move_names (says_names names g.0)))
       (says_pair says_becomes (says_pair (says_name method g.1) (says_arguments left es g.2.0 g.2.1 n le))))))
       says_semicolon)))))))))))
 
   call_good : Gives (call_rule F (room_of left)) (StatementGood left)
   call_good = gives_mapped (StatementGood left) call_of (gives_pair (gives_sign kind.Call true) (gives_pair gives_name (gives_pair
       (gives_either (gives_mapped RestGood Arguments arguments_good (λ es h. h))
-      (gives_mapped RestGood binds_of (gives_pair (gives_mapped (Every (λ (t : Text). IsWord t.bytes kind.Name)) names_of (gives_many (gives_pair (gives_sign kind.Comma true) gives_name)) named_each) (gives_pair (gives_sign kind.Becomes true) (gives_pair gives_name arguments_good))) (λ p h. (h.0, h.1.1.0, h.1.1.1))))
+      (gives_mapped RestGood binds_of (gives_pair (gives_mapped (Every (λ (t : Text). IsWord t.bytes kind.Name)) names_in_list (gives_many (gives_pair (gives_sign kind.Comma true) gives_name)) named_each) (gives_pair (gives_sign kind.Becomes true) (gives_pair gives_name arguments_good))) (λ p h. (h.0, h.1.1.0, h.1.1.1))))
       (gives_sign kind.Semicolon true)))) (λ p h. call_says p.0 p.1.0 p.1.1.0 p.1.1.1 h.1.0 h.1.1.0)
 
   answer_good : Gives (mapped answer_of (pair (word_rule kind.Answer) (pair E (word_rule kind.Semicolon)))) (StatementGood left)

@@ -6,7 +6,7 @@ use Rattle.std.specs.Fmt.{decimal}
 use Rattle.cs_lang_token.specs.declared.kind.Kind.{Kind}
 use Rattle.cs_lang_token.specs.declared.kind.Kind.TheVariants as kind
 use Rattle.cs_lang_token.specs.Grammar.{Rule, pair, mapped, many, links}
-use Rattle.cs_lang_token.specs.Rules.{sign, name, bytes, number, room_of, less_one, joined, joined_pair, with_item, all_of, commas}
+use Rattle.cs_lang_token.specs.Rules.{sign, name, bytes, number, room_of, less_one, joined_left, joined_pair, item_behind, first_and_rest, commas}
 use Rattle.cs_lang.specs.declared.tree.ValueKind.{ValueKind}
 use Rattle.cs_lang.specs.declared.tree.ValueKind.TheVariants as value_kind
 use Rattle.cs_lang.specs.declared.tree.Rank.{Rank}
@@ -18,9 +18,9 @@ use Rattle.cs_lang.specs.declared.tree.Comparison.TheVariants as comparison
 use Rattle.cs_lang.specs.declared.tree.Expr.{Expr}
 use Rattle.cs_lang.specs.declared.tree.Access.{Access}
 use Rattle.cs_lang.specs.declared.tree.Access.TheVariants as access
-use Rattle.cs_lang.specs.Trees.{shape_is_chain, is_chain, with_link, shape_is_path, is_path, with_step, field_step, index_step, number_expr, bytes_expr, name_expr, truth_expr, grouped, listed, empty_expr, len_expr, sha256_expr, concat_expr, called_expr, depint_expr, negative_expr, not_expr, operation, comparing, compared_expr, plain_kind, list_kind}
-use Rattle.cs_lang.specs.Rules.{word as word_rule, kinds, in_parentheses as parenthesized, group, bracket, concat, called, depint, primary, access as access_rule, post, operators, chain, signed, comparisons, compared, Part as Whose, Whole, Negated, Signed, product, no, rule_of, expression}
-use Rattle.cs_lang_print.specs.Words.{word, quoted, each, behind_comma, with_commas, operator_text, comparison_text}
+use Rattle.cs_lang.specs.Trees.{shape_is_chain, is_chain, with_link, shape_is_path, is_path, with_step, field_step, index_step, number_expr, bytes_expr, name_expr, truth_expr, grouped, listed, empty_expr, len_expr, sha256_expr, concat_expr, called_expr, depint_expr, negative_expr, not_expr, operation, comparing, compared_expr, plain_kind, list_value_kind}
+use Rattle.cs_lang.specs.Rules.{keyword as word_rule, kinds, in_parentheses as parenthesized, group, bracket, concat, called, depint, primary, access as access_rule, post, operators, chain, signed, comparisons, comparison_rule, Part as Whose, Whole, Negated, Signed, product, no, rule_of, expression}
+use Rattle.cs_lang_print.specs.Words.{word, quoted, each_text, behind_comma, with_commas, operator_text, comparison_text}
 use Rattle.cs_lang_print.specs.Spelling.{Spelled, tightness_of, operand_tightness}
 use Rattle.cs_lang_print.specs.Expressions.{spelled, kind_text, access_text, expr_text}
 use Rattle.cs_lang_print.specs.Places.{bare_text, bare}
@@ -75,25 +75,25 @@ kinds_good (suc n) left =
     says_text (kind_text value_kind.Bool) (sym kind_bool) (says_right (says_left (says_mapped {B = no_place} same_as (plain_kind value_kind.Bool) (λ z. refl) (says_word kind.BoolKind (codes "bool") (record { letter = refl; all = refl; short = omega arith; kind = refl }))))))))
     (gives_either (gives_mapped (KindGood left) (plain_kind value_kind.Bytes) (gives_sign kind.BytesKind true) (λ x h. plain_good value_kind.Bytes left (λ m rest.
     says_text (kind_text value_kind.Bytes) (sym kind_bytes) (says_right (says_right (says_left (says_mapped {B = no_place} same_as (plain_kind value_kind.Bytes) (λ z. refl) (says_word kind.BytesKind (codes "bytes") (record { letter = refl; all = refl; short = omega arith; kind = refl })))))))))
-    (gives_mapped (KindGood left) list_kind (gives_pair (gives_sign kind.OpenList (room_of left)) (gives_pair (kinds_good n (less_one left)) (gives_sign kind.CloseList true))) (λ p h.
+    (gives_mapped (KindGood left) list_value_kind (gives_pair (gives_sign kind.OpenList (room_of left)) (gives_pair (kinds_good n (less_one left)) (gives_sign kind.CloseList true))) (λ p h.
     let l = h.1.0.0 in
     let le = h.1.0.1 in
     let one = room_one left h.0 in (
       suc l,
       omega arith,
-      λ m rest a b. opened (λ m rest. Says same_as (kinds (suc m) rest) (list_kind p) (kind_text (list_kind p))) h.1.0.0
-          (λ m rest a b. says_text (kind_text (list_kind p)) (sym (kind_list p.1.0)) (says_right (says_right (says_right
-          (says_mapped {B = both no_place (both same_as no_place)} {x = (0, (p.1.0, 0))} same_as list_kind (λ z. refl) (says_pair says_open_list (says_pair (h.1.0.2 m rest a b) says_close_list)))))))
+      λ m rest a b. opened (λ m rest. Says same_as (kinds (suc m) rest) (list_value_kind p) (kind_text (list_value_kind p))) h.1.0.0
+          (λ m rest a b. says_text (kind_text (list_value_kind p)) (sym (kind_list p.1.0)) (says_right (says_right (says_right
+          (says_mapped {B = both no_place (both same_as no_place)} {x = (0, (p.1.0, 0))} same_as list_value_kind (λ z. refl) (says_pair says_open_list (says_pair (h.1.0.2 m rest a b) says_close_list)))))))
           m rest a b,
     )))))
 
 -- ---- rows
 
-rows_of : {X : Type 0} (x : X) (xs : List X) (acc : List X) → joined with_item acc (map (λ (y : X). (0, y)) xs) ≡ acc ++ xs
+rows_of : {X : Type 0} (x : X) (xs : List X) (acc : List X) → joined_left item_behind acc (map (λ (y : X). (0, y)) xs) ≡ acc ++ xs
 rows_of x [] acc = sym (append-nil acc)
 rows_of x (y ∷ xs) acc = rows_of x xs (acc ++ y ∷ []) ∙ append_assoc acc (y ∷ []) xs
 
-says_others : {X : Type 0} (B : X → X) (R : Rule X) (text : X → List ℕ) (xs : List X) → Every (λ (x : X). Says B R x (text x)) xs → Says (map (both no_place B)) (many (pair (sign kind.Comma true) R)) (map (λ (y : X). (0, y)) xs) (each (behind_comma text) xs)
+says_others : {X : Type 0} (B : X → X) (R : Rule X) (text : X → List ℕ) (xs : List X) → Every (λ (x : X). Says B R x (text x)) xs → Says (map (both no_place B)) (many (pair (sign kind.Comma true) R)) (map (λ (y : X). (0, y)) xs) (each_text (behind_comma text) xs)
 says_others B R text [] h = says_many_none (map (both no_place B))
 says_others B R text (x ∷ xs) h = says_many_more (says_pair says_comma h.0) (says_others B R text xs h.1)
 
@@ -101,7 +101,7 @@ pub says_row : {X : Type 0} (B : X → X) (R : Rule X) (text : X → List ℕ) (
 says_row B R text [] some h = absurd (omega (arith, some))
 says_row {X} B R text (x ∷ xs) some h =
     says_same (x ∷ xs) (ap (map B) (rows_of x xs (x ∷ [])))
-    (says_mapped {B = both B (map (both no_place B))} {x = (x, map (λ (y : X). (0, y)) xs)} (map B) all_of (move_all B) (says_pair h.0 (says_others B R text xs h.1)))
+    (says_mapped {B = both B (map (both no_place B))} {x = (x, map (λ (y : X). (0, y)) xs)} (map B) first_and_rest (move_all B) (says_pair h.0 (says_others B R text xs h.1)))
 
 -- the levels of all of them
 pub all_good : (m : ℕ) (xs : List Expr) → Every (Good 0 m) xs → (l : ℕ) × (l ≤ m) × ((n rest : ℕ) → l ≤ n → l ≤ rest → Every (λ (e : Expr). Says bare (at0 n rest) e (expr_text e)) xs)
@@ -270,15 +270,15 @@ module _ (left : ℕ) (I : Whose → Rule Expr) (K : Rule ValueKind) (whole : Gi
       (gives_mapped (λ x. ⊥) field_step (gives_pair (gives_sign kind.Dot false) gives_name) (λ p h. (let e = h.0 in absurd cc)))
       (gives_mapped (λ x. ⊥) index_step (gives_pair (gives_sign kind.OpenList false) (gives_pair whole (gives_sign kind.CloseList true))) (λ p h. (let e = h.0 in absurd cc)))
 
-  path_good : (x : Expr) (xs : List (ℕ × Access)) → Good 8 left x → Every (IsItem bare_way path_link path_text left) xs → length xs ≤ 64 → Good 7 left (joined with_step x xs)
-  path_good x [] g each few = (let down = levels_down 7 8 x g.0 (omega arith) in let le = g.1 in (g.0, omega arith, g.2))
-  path_good x (y ∷ ys) g each few =
-      let k = grown with_step bare_way move_step path_link path_text 7 8 (omega arith) (omega arith) (λ e s n rest a. a) PathBuilt path_add path_is left x g.0 g.2.spelt g.1 (is_path x) g.2.paths (λ no p. path_new x p no) y ys each.0 each.1 few in
+  path_good : (x : Expr) (xs : List (ℕ × Access)) → Good 8 left x → Every (IsItem bare_way path_link path_text left) xs → length xs ≤ 64 → Good 7 left (joined_left with_step x xs)
+  path_good x [] g each_text few = (let down = levels_down 7 8 x g.0 (omega arith) in let le = g.1 in (g.0, omega arith, g.2))
+  path_good x (y ∷ ys) g each_text few =
+      let k = grown with_step bare_way move_step path_link path_text 7 8 (omega arith) (omega arith) (λ e s n rest a. a) PathBuilt path_add path_is left x g.0 g.2.spelt g.1 (is_path x) g.2.paths (λ no p. path_new x p no) y ys each_text.0 each_text.1 few in
       let r = k.3 in
-      let tight : (spelled (joined with_step x (y ∷ ys))).tightness ≡ 7 = ap (λ (s : Spelled). s.tightness) (path_is (joined with_step x (y ∷ ys)) k.3.start _ k.3.at.built) in
-      let same : levels_within 7 (joined with_step x (y ∷ ys)) k.0 ≡ k.0 = levels_tight 7 (joined with_step x (y ∷ ys)) k.0 7 tight (omega arith) in
+      let tight : (spelled (joined_left with_step x (y ∷ ys))).tightness ≡ 7 = ap (λ (s : Spelled). s.tightness) (path_is (joined_left with_step x (y ∷ ys)) k.3.start _ k.3.at.built) in
+      let same : levels_within 7 (joined_left with_step x (y ∷ ys)) k.0 ≡ k.0 = levels_tight 7 (joined_left with_step x (y ∷ ys)) k.0 7 tight (omega arith) in
       let le = k.1 in
-      (k.0, omega arith, known_path (joined with_step x (y ∷ ys)) k.0 k.2 k.3)
+      (k.0, omega arith, known_path (joined_left with_step x (y ∷ ys)) k.0 k.2 k.3)
 
   good7 : Gives (post (I Whole) K (room_of left)) (Good 7 left)
   good7 = gives_mapped (Good 7 left) (joined_pair with_step) (gives_pair good8 (gives_links (access_rule (I Whole) (room_of left)) 64 (gives_either field_good index_good) no_access)) (λ z h. path_good z.0 z.1 h.0 h.1.0 h.1.1)
@@ -359,14 +359,14 @@ module _ (left : ℕ) (I : Whose → Rule Expr) (K : Rule ValueKind) (whole : Gi
   chain_folds rank.Sum e s n rest a = a
   chain_folds rank.Product e s n rest a = a
 
-  chained_good : (r : Rank) (x : Expr) (xs : List Item) → Good (operand_tightness r) left x → Every (IsItem bare_item (chain_link r) (chain_text r) left) xs → length xs ≤ 64 → Good (tightness_of r) left (joined (with_link r) x xs)
-  chained_good r x [] g each few = (let more = operand_more r in let down = levels_down (tightness_of r) (operand_tightness r) x g.0 (omega arith) in let le = g.1 in (g.0, omega arith, g.2))
-  chained_good r x (y ∷ ys) g each few =
-      let k = grown (with_link r) bare_item (move_link r) (chain_link r) (chain_text r) (tightness_of r) (operand_tightness r) (operand_most r) (operand_more r) (chain_folds r) (ChainBuilt r) (chain_add r) (chain_is r) left x g.0 g.2.spelt g.1 (is_chain r x) (g.2.chains r) (λ no p. chain_new r x p no) y ys each.0 each.1 few in
-      let tight : (spelled (joined (with_link r) x (y ∷ ys))).tightness ≡ tightness_of r = ap (λ (s : Spelled). s.tightness) (chain_is r (joined (with_link r) x (y ∷ ys)) k.3.start _ k.3.at.built) in
-      let same : levels_within (tightness_of r) (joined (with_link r) x (y ∷ ys)) k.0 ≡ k.0 = levels_tight (tightness_of r) (joined (with_link r) x (y ∷ ys)) k.0 (tightness_of r) tight (omega arith) in
+  chained_good : (r : Rank) (x : Expr) (xs : List Item) → Good (operand_tightness r) left x → Every (IsItem bare_item (chain_link r) (chain_text r) left) xs → length xs ≤ 64 → Good (tightness_of r) left (joined_left (with_link r) x xs)
+  chained_good r x [] g each_text few = (let more = operand_more r in let down = levels_down (tightness_of r) (operand_tightness r) x g.0 (omega arith) in let le = g.1 in (g.0, omega arith, g.2))
+  chained_good r x (y ∷ ys) g each_text few =
+      let k = grown (with_link r) bare_item (move_link r) (chain_link r) (chain_text r) (tightness_of r) (operand_tightness r) (operand_most r) (operand_more r) (chain_folds r) (ChainBuilt r) (chain_add r) (chain_is r) left x g.0 g.2.spelt g.1 (is_chain r x) (g.2.chains r) (λ no p. chain_new r x p no) y ys each_text.0 each_text.1 few in
+      let tight : (spelled (joined_left (with_link r) x (y ∷ ys))).tightness ≡ tightness_of r = ap (λ (s : Spelled). s.tightness) (chain_is r (joined_left (with_link r) x (y ∷ ys)) k.3.start _ k.3.at.built) in
+      let same : levels_within (tightness_of r) (joined_left (with_link r) x (y ∷ ys)) k.0 ≡ k.0 = levels_tight (tightness_of r) (joined_left (with_link r) x (y ∷ ys)) k.0 (tightness_of r) tight (omega arith) in
       let le = k.1 in
-      (k.0, omega arith, known_chain r (joined (with_link r) x (y ∷ ys)) k.0 k.2 k.3)
+      (k.0, omega arith, known_chain r (joined_left (with_link r) x (y ∷ ys)) k.0 k.2 k.3)
 
   chain_good : (r : Rank) (R : Rule Expr) → Gives R (Good (operand_tightness r) left) → Gives (chain r R) (Good (tightness_of r) left)
   chain_good r R g = gives_mapped (Good (tightness_of r) left) (joined_pair (with_link r)) (gives_pair g (gives_links (λ more. pair (operators r more) R) 64
@@ -415,7 +415,7 @@ module _ (left : ℕ) (I : Whose → Rule Expr) (K : Rule ValueKind) (whole : Gi
             (λ r. ap (shape_is_chain r) (out_compared q.0.0 x q.1)) (ap shape_is_path (out_compared q.0.0 x q.1)),
       )
 
-  compared_good : (R : Rule Expr) → Gives R (Good 4 left) → Gives (compared R) (Good 3 left)
+  compared_good : (R : Rule Expr) → Gives R (Good 4 left) → Gives (comparison_rule R) (Good 3 left)
   compared_good R g = gives_mapped (Good 3 left) compared_expr (gives_pair g (gives_either (gives_mapped Sided Some (gives_pair comparisons_good g) (λ q h. h)) (gives_nothing None tt))) (λ z h. compared_with z.0 z.1 h.0 h.1)
 
   not_good : Gives (mapped not_expr (pair (sign kind.Not (room_of left)) (I Negated))) (Good 2 left)
@@ -434,7 +434,7 @@ module _ (left : ℕ) (I : Whose → Rule Expr) (K : Rule ValueKind) (whole : Gi
             (λ r. ap (shape_is_chain r) (out_not p.1)) (ap shape_is_path (out_not p.1)),
       ))
 
-  sums_good : Gives (compared (chain rank.Sum (product I K (room_of left)))) (Good 2 left)
+  sums_good : Gives (comparison_rule (chain rank.Sum (product I K (room_of left)))) (Good 2 left)
   sums_good = gives_weaker (Good 2 left) (λ x g. (let down = levels_down 2 3 x g.0 (omega arith) in let le = g.1 in (g.0, omega arith, g.2)))
       (compared_good (chain rank.Sum (product I K (room_of left))) (chain_good rank.Sum (product I K (room_of left)) (chain_good rank.Product (signed (I Whole) (I Signed) K (room_of left)) good6)))
 

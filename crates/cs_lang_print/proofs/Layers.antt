@@ -16,7 +16,7 @@ use Rattle.cs_lang.specs.declared.tree.Access.TheVariants.{rolls-Field, rolls-In
 use Rattle.cs_lang.specs.declared.tree.Access.TheOpen.{Access-F, Shape-F}
 use Rattle.cs_lang.specs.declared.tree.Access.TheFolds.{fold-roll-Access, fold-roll-Shape, fold_out-Expr, fold_out-Link, fold_out-Step}
 use Rattle.cs_lang_print.specs.Words.{word, quoted, operator_text, comparison_text, with_commas}
-use Rattle.cs_lang_print.specs.Spelling.{Spelled, tightness_of, operand_tightness, within, run_text}
+use Rattle.cs_lang_print.specs.Spelling.{Spelled, tightness_of, operand_tightness, held_together, run_text}
 use Rattle.cs_lang_print.specs.Expressions.{Linked, layer_access, layer_shape, layer_expr, layer_link, layer_step, spelled, spelled_shape, spelled_link, step_text, access_text, expr_text, spelled_text, truth_text, applied, kind_text}
 use Rattle.cs_lang_print.specs.Runs.{openings, parts_text}
 use Rattle.cs_lang_print.proofs.RunTexts.{with_commas-map, run_is, runs_map}
@@ -25,11 +25,11 @@ pub spelled_is : (e : Expr) → spelled e ≡ spelled_shape (out-Expr e).shape
 unfolding spelled spelled_shape
 spelled_is e = fold_out-Expr (List ℕ) Spelled Spelled Linked (List ℕ) layer_access layer_shape layer_expr layer_link layer_step e
 
-link_spelled : (l : Link) (tight : ℕ) → spelled_link l tight ≡ word (operator_text (out-Link l).operator) ++ within tight (spelled (out-Link l).right)
+link_spelled : (l : Link) (tight : ℕ) → spelled_link l tight ≡ word (operator_text (out-Link l).operator) ++ held_together tight (spelled (out-Link l).right)
 unfolding spelled spelled_link
 link_spelled l tight = ap (λ (f : Linked). f tight) (fold_out-Link (List ℕ) Spelled Spelled Linked (List ℕ) layer_access layer_shape layer_expr layer_link layer_step l)
 
-pub link_is : (l : Link) (tight : ℕ) → spelled_link l tight ≡ word (operator_text (out-Link l).operator) ++ within tight (spelled (out-Link l).right)
+pub link_is : (l : Link) (tight : ℕ) → spelled_link l tight ≡ word (operator_text (out-Link l).operator) ++ held_together tight (spelled (out-Link l).right)
 link_is = link_spelled
 
 pub step_is : (s : Step) → step_text s ≡ access_text (out-Step s).access
@@ -146,55 +146,55 @@ tightness_depint e dep value is = ap (λ (s : Spelled). s.tightness) (spelled_is
 pub text_depint : (e : Expr) (dep value : ℕ) → (out-Expr e).shape ≡ shape.DepInt dep value → (spelled e).text ≡ applied (codes "depint") (word (decimal dep) ++ (word (codes ",") ++ word (decimal value)))
 text_depint e dep value is = ap (λ (s : Spelled). s.text) (spelled_is e ∙ ap spelled_shape is ∙ shape_depint dep value)
 
-pub shape_path : (start : Expr) (steps : List Step) → spelled_shape (shape.Path start steps) ≡ record { tightness = 7; text = run_text (within 8 (spelled start)) (map step_text steps) }
+pub shape_path : (start : Expr) (steps : List Step) → spelled_shape (shape.Path start steps) ≡ record { tightness = 7; text = run_text (held_together 8 (spelled start)) (map step_text steps) }
 unfolding spelled spelled_shape spelled_link step_text
 shape_path start steps = ap spelled_shape (sym (rolls-Path start steps)) ∙ fold-roll-Shape (List ℕ) Spelled Spelled Linked (List ℕ) layer_access layer_shape layer_expr layer_link layer_step (Shape-F.Path start steps)
 
 pub tightness_path : (e : Expr) (start : Expr) (steps : List Step) → (out-Expr e).shape ≡ shape.Path start steps → (spelled e).tightness ≡ 7
 tightness_path e start steps is = ap (λ (s : Spelled). s.tightness) (spelled_is e ∙ ap spelled_shape is ∙ shape_path start steps)
 
-pub text_path : (e : Expr) (start : Expr) (steps : List Step) → (out-Expr e).shape ≡ shape.Path start steps → (spelled e).text ≡ openings (length steps) ++ (within 8 (spelled start) ++ parts_text step_text false steps)
-text_path e start steps is = ap (λ (s : Spelled). s.text) (spelled_is e ∙ ap spelled_shape is ∙ shape_path start steps) ∙ run_is step_text (within 8 (spelled start)) steps
+pub text_path : (e : Expr) (start : Expr) (steps : List Step) → (out-Expr e).shape ≡ shape.Path start steps → (spelled e).text ≡ openings (length steps) ++ (held_together 8 (spelled start) ++ parts_text step_text false steps)
+text_path e start steps is = ap (λ (s : Spelled). s.text) (spelled_is e ∙ ap spelled_shape is ∙ shape_path start steps) ∙ run_is step_text (held_together 8 (spelled start)) steps
 
-pub shape_not : (inner : Expr) → spelled_shape (shape.Not inner) ≡ record { tightness = 2; text = word (codes "not") ++ within 2 (spelled inner) }
+pub shape_not : (inner : Expr) → spelled_shape (shape.Not inner) ≡ record { tightness = 2; text = word (codes "not") ++ held_together 2 (spelled inner) }
 unfolding spelled spelled_shape spelled_link step_text
 shape_not inner = ap spelled_shape (sym (rolls-Not inner)) ∙ fold-roll-Shape (List ℕ) Spelled Spelled Linked (List ℕ) layer_access layer_shape layer_expr layer_link layer_step (Shape-F.Not inner)
 
 pub tightness_not : (e : Expr) (inner : Expr) → (out-Expr e).shape ≡ shape.Not inner → (spelled e).tightness ≡ 2
 tightness_not e inner is = ap (λ (s : Spelled). s.tightness) (spelled_is e ∙ ap spelled_shape is ∙ shape_not inner)
 
-pub text_not : (e : Expr) (inner : Expr) → (out-Expr e).shape ≡ shape.Not inner → (spelled e).text ≡ word (codes "not") ++ within 2 (spelled inner)
+pub text_not : (e : Expr) (inner : Expr) → (out-Expr e).shape ≡ shape.Not inner → (spelled e).text ≡ word (codes "not") ++ held_together 2 (spelled inner)
 text_not e inner is = ap (λ (s : Spelled). s.text) (spelled_is e ∙ ap spelled_shape is ∙ shape_not inner)
 
-pub shape_negative : (inner : Expr) → spelled_shape (shape.Negative inner) ≡ record { tightness = 6; text = word (codes "-") ++ within 6 (spelled inner) }
+pub shape_negative : (inner : Expr) → spelled_shape (shape.Negative inner) ≡ record { tightness = 6; text = word (codes "-") ++ held_together 6 (spelled inner) }
 unfolding spelled spelled_shape spelled_link step_text
 shape_negative inner = ap spelled_shape (sym (rolls-Negative inner)) ∙ fold-roll-Shape (List ℕ) Spelled Spelled Linked (List ℕ) layer_access layer_shape layer_expr layer_link layer_step (Shape-F.Negative inner)
 
 pub tightness_negative : (e : Expr) (inner : Expr) → (out-Expr e).shape ≡ shape.Negative inner → (spelled e).tightness ≡ 6
 tightness_negative e inner is = ap (λ (s : Spelled). s.tightness) (spelled_is e ∙ ap spelled_shape is ∙ shape_negative inner)
 
-pub text_negative : (e : Expr) (inner : Expr) → (out-Expr e).shape ≡ shape.Negative inner → (spelled e).text ≡ word (codes "-") ++ within 6 (spelled inner)
+pub text_negative : (e : Expr) (inner : Expr) → (out-Expr e).shape ≡ shape.Negative inner → (spelled e).text ≡ word (codes "-") ++ held_together 6 (spelled inner)
 text_negative e inner is = ap (λ (s : Spelled). s.text) (spelled_is e ∙ ap spelled_shape is ∙ shape_negative inner)
 
-pub shape_compared : (c : Comparison) (left right : Expr) → spelled_shape (shape.Compared c left right) ≡ record { tightness = 3; text = within 4 (spelled left) ++ (word (comparison_text c) ++ within 4 (spelled right)) }
+pub shape_compared : (c : Comparison) (left right : Expr) → spelled_shape (shape.Compared c left right) ≡ record { tightness = 3; text = held_together 4 (spelled left) ++ (word (comparison_text c) ++ held_together 4 (spelled right)) }
 unfolding spelled spelled_shape spelled_link step_text
 shape_compared c left right = ap spelled_shape (sym (rolls-Compared c left right)) ∙ fold-roll-Shape (List ℕ) Spelled Spelled Linked (List ℕ) layer_access layer_shape layer_expr layer_link layer_step (Shape-F.Compared c left right)
 
 pub tightness_compared : (e : Expr) (c : Comparison) (left right : Expr) → (out-Expr e).shape ≡ shape.Compared c left right → (spelled e).tightness ≡ 3
 tightness_compared e c left right is = ap (λ (s : Spelled). s.tightness) (spelled_is e ∙ ap spelled_shape is ∙ shape_compared c left right)
 
-pub text_compared : (e : Expr) (c : Comparison) (left right : Expr) → (out-Expr e).shape ≡ shape.Compared c left right → (spelled e).text ≡ within 4 (spelled left) ++ (word (comparison_text c) ++ within 4 (spelled right))
+pub text_compared : (e : Expr) (c : Comparison) (left right : Expr) → (out-Expr e).shape ≡ shape.Compared c left right → (spelled e).text ≡ held_together 4 (spelled left) ++ (word (comparison_text c) ++ held_together 4 (spelled right))
 text_compared e c left right is = ap (λ (s : Spelled). s.text) (spelled_is e ∙ ap spelled_shape is ∙ shape_compared c left right)
 
-pub shape_chain : (r : Rank) (start : Expr) (links : List Link) → spelled_shape (shape.Chain r start links) ≡ record { tightness = tightness_of r; text = run_text (within (operand_tightness r) (spelled start)) (map (λ (link : Linked). link (operand_tightness r)) (map spelled_link links)) }
+pub shape_chain : (r : Rank) (start : Expr) (links : List Link) → spelled_shape (shape.Chain r start links) ≡ record { tightness = tightness_of r; text = run_text (held_together (operand_tightness r) (spelled start)) (map (λ (link : Linked). link (operand_tightness r)) (map spelled_link links)) }
 unfolding spelled spelled_shape spelled_link step_text
 shape_chain r start links = ap spelled_shape (sym (rolls-Chain r start links)) ∙ fold-roll-Shape (List ℕ) Spelled Spelled Linked (List ℕ) layer_access layer_shape layer_expr layer_link layer_step (Shape-F.Chain r start links)
 
 pub tightness_chain : (e : Expr) (r : Rank) (start : Expr) (links : List Link) → (out-Expr e).shape ≡ shape.Chain r start links → (spelled e).tightness ≡ tightness_of r
 tightness_chain e r start links is = ap (λ (s : Spelled). s.tightness) (spelled_is e ∙ ap spelled_shape is ∙ shape_chain r start links)
 
-pub text_chain : (e : Expr) (r : Rank) (start : Expr) (links : List Link) → (out-Expr e).shape ≡ shape.Chain r start links → (spelled e).text ≡ openings (length links) ++ (within (operand_tightness r) (spelled start) ++ parts_text (λ (link : Link). spelled_link link (operand_tightness r)) false links)
-text_chain e r start links is = ap (λ (s : Spelled). s.text) (spelled_is e ∙ ap spelled_shape is ∙ shape_chain r start links) ∙ ap (run_text (within (operand_tightness r) (spelled start))) (runs_map (λ (link : Linked). link (operand_tightness r)) spelled_link links) ∙ run_is (λ (link : Link). spelled_link link (operand_tightness r)) (within (operand_tightness r) (spelled start)) links
+pub text_chain : (e : Expr) (r : Rank) (start : Expr) (links : List Link) → (out-Expr e).shape ≡ shape.Chain r start links → (spelled e).text ≡ openings (length links) ++ (held_together (operand_tightness r) (spelled start) ++ parts_text (λ (link : Link). spelled_link link (operand_tightness r)) false links)
+text_chain e r start links is = ap (λ (s : Spelled). s.text) (spelled_is e ∙ ap spelled_shape is ∙ shape_chain r start links) ∙ ap (run_text (held_together (operand_tightness r) (spelled start))) (runs_map (λ (link : Linked). link (operand_tightness r)) spelled_link links) ∙ run_is (λ (link : Link). spelled_link link (operand_tightness r)) (held_together (operand_tightness r) (spelled start)) links
 
 pub access_field : (name : Text) → access_text (access.Field name) ≡ word (codes ".") ++ word name.bytes
 unfolding access_text
@@ -211,13 +211,13 @@ pub step_index : (s : Step) (index : Expr) → (out-Step s).access ≡ access.In
 step_index s index is = step_is s ∙ ap access_text is ∙ access_index index
 
 pub chain_cited : (e : Expr) (r : Rank) (start first : Expr) (links others : List Link) (tight count : ℕ) → tight ≡ operand_tightness r → count ≡ length links → first ≡ start → others ≡ links → (out-Expr e).shape ≡ shape.Chain r start links
-    → (spelled e).text ≡ openings count ++ (within tight (spelled first) ++ parts_text (λ (link : Link). spelled_link link tight) false others)
+    → (spelled e).text ≡ openings count ++ (held_together tight (spelled first) ++ parts_text (λ (link : Link). spelled_link link tight) false others)
 chain_cited e r start first links others tight count same_tight same_count same_first same_others is =
     text_chain e r start links is
-    ∙ ap (λ (k : ℕ). openings k ++ (within (operand_tightness r) (spelled start) ++ parts_text (λ (link : Link). spelled_link link (operand_tightness r)) false links)) (sym same_count)
-    ∙ ap (λ (t : ℕ). openings count ++ (within t (spelled start) ++ parts_text (λ (link : Link). spelled_link link t) false links)) (sym same_tight)
-    ∙ ap (λ (x : Expr). openings count ++ (within tight (spelled x) ++ parts_text (λ (link : Link). spelled_link link tight) false links)) (sym same_first)
-    ∙ ap (λ (l : List Link). openings count ++ (within tight (spelled first) ++ parts_text (λ (link : Link). spelled_link link tight) false l)) (sym same_others)
+    ∙ ap (λ (k : ℕ). openings k ++ (held_together (operand_tightness r) (spelled start) ++ parts_text (λ (link : Link). spelled_link link (operand_tightness r)) false links)) (sym same_count)
+    ∙ ap (λ (t : ℕ). openings count ++ (held_together t (spelled start) ++ parts_text (λ (link : Link). spelled_link link t) false links)) (sym same_tight)
+    ∙ ap (λ (x : Expr). openings count ++ (held_together tight (spelled x) ++ parts_text (λ (link : Link). spelled_link link tight) false links)) (sym same_first)
+    ∙ ap (λ (l : List Link). openings count ++ (held_together tight (spelled first) ++ parts_text (λ (link : Link). spelled_link link tight) false l)) (sym same_others)
 
 pub ruleset tightnesses = (tightness_number, tightness_bytes, tightness_truth, tightness_name, tightness_list, tightness_empty, tightness_len, tightness_sha256, tightness_concat, tightness_called, tightness_depint, tightness_path, tightness_not, tightness_negative, tightness_compared, tightness_chain)
 

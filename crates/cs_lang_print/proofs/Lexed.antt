@@ -12,7 +12,7 @@ use Rattle.std.proofs.lemmas.Fmt.{digits_decimal, digits_value-decimal, decimal_
 use Rattle.cs_lang_token.specs.declared.kind.Kind.{Kind}
 use Rattle.cs_lang_token.specs.declared.kind.Kind.TheVariants as kind
 use Rattle.cs_lang_token.specs.declared.lexeme.Lexeme.{Lexeme}
-use Rattle.cs_lang_token.specs.Tokens.{is_blank, is_digit, is_letter, is_name_character, is_hex, run_length, kind_of_word, word_at, number_from, number_at, hex_value, hex_bytes, is_first, starts, quoted_at, byte_text_at, lexeme_at, sign_at, blank_length}
+use Rattle.cs_lang_token.specs.Tokens.{is_blank, is_digit, is_letter, is_name_character, is_hex, run_length, kind_of_word, name_lexeme, number_from, number_lexeme, hex_value, hex_bytes, is_first, starts, quoted_at, byte_text_at, lexeme_at, sign_at, blank_length}
 use Rattle.cs_lang_token.proofs.Spans.{and_first, and_second, and_false, all_pass, run_is, IsWord, AllBytes}
 use Rattle.cs_base.specs.Options.{or_else}
 use Rattle.cs_lang_print.specs.Words.{hex_digit, hex_text}
@@ -48,7 +48,7 @@ byte_none c (d ∷ w) b rest all ends =
 made : ℕ → List ℕ → Lexeme
 made n word = record { kind = kind_of_word word; number = 0; bytes = word; length = n }
 
-word_is : (w : List ℕ) (k : Kind) (b : ℕ) (rest : List ℕ) → IsWord w k → Ends b → word_at (w ++ b ∷ rest) ≡ record { kind = k; number = 0; bytes = w; length = length w }
+word_is : (w : List ℕ) (k : Kind) (b : ℕ) (rest : List ℕ) → IsWord w k → Ends b → name_lexeme (w ++ b ∷ rest) ≡ record { kind = k; number = 0; bytes = w; length = length w }
 unfolding made
 word_is w k b rest is ends =
     let n : run_length is_name_character (take 32 (w ++ b ∷ rest)) ≡ length w = run_is is_name_character w 32 b rest is.all ends.no_name is.short in
@@ -60,8 +60,8 @@ word_is w k b rest is ends =
 pub lexed_word : (w : List ℕ) (k : Kind) (b : ℕ) (rest : List ℕ) → IsWord w k → Ends b → lexeme_at (w ++ b ∷ rest) ≡ Some (record { kind = k; number = 0; bytes = w; length = length w })
 lexed_word [] k b rest is ends = (let e = is.letter in absurd cc)
 lexed_word (c ∷ w) k b rest is ends =
-    ap (λ (t : Bool). if t then or_else (byte_text_at (c ∷ (w ++ b ∷ rest))) (Some (word_at (c ∷ (w ++ b ∷ rest)))) else (if is_digit c then Some (number_at c (w ++ b ∷ rest)) else sign_at c (w ++ b ∷ rest))) is.letter
-    ∙ ap (λ (o : Option Lexeme). or_else o (Some (word_at (c ∷ (w ++ b ∷ rest))))) (byte_none c w b rest (and_second (is_name_character c) (all_pass is_name_character w) is.all) ends)
+    ap (λ (t : Bool). if t then or_else (byte_text_at (c ∷ (w ++ b ∷ rest))) (Some (name_lexeme (c ∷ (w ++ b ∷ rest)))) else (if is_digit c then Some (number_lexeme c (w ++ b ∷ rest)) else sign_at c (w ++ b ∷ rest))) is.letter
+    ∙ ap (λ (o : Option Lexeme). or_else o (Some (name_lexeme (c ∷ (w ++ b ∷ rest))))) (byte_none c w b rest (and_second (is_name_character c) (all_pass is_name_character w) is.all) ends)
     ∙ ap (λ (x : Lexeme). some x) (word_is (c ∷ w) k b rest is ends)
   where
     some : Lexeme → Option Lexeme
@@ -136,7 +136,7 @@ digit_letter : (c : ℕ) → is_digit c ≡ true → is_letter c ≡ false
 digit_letter c e = grind (arith, nat_tests)
 
 lexed_digits : (c : ℕ) (cs : List ℕ) (n b : ℕ) (rest : List ℕ) → all_digits (c ∷ cs) ≡ true → value_on 0 (c ∷ cs) ≡ n → (c ≡ 48 → cs ≡ []) → n ≤ 9223372036854775807 → Ends b
-    → number_at c (cs ++ b ∷ rest) ≡ record { kind = kind.Number; number = n; bytes = []; length = suc (length cs) }
+    → number_lexeme c (cs ++ b ∷ rest) ≡ record { kind = kind.Number; number = n; bytes = []; length = suc (length cs) }
 unfolding number_made
 lexed_digits c cs n b rest all is alone small ends = elim (bool_cases (c == 48)) [
   | inl e ↦
@@ -184,8 +184,8 @@ pub lexed_number : (ds : List ℕ) (n b : ℕ) (rest : List ℕ) → IsDecimal d
 lexed_number [] n b rest is small ends = (let h = is.some in absurd (omega arith))
 lexed_number (c ∷ cs) n b rest is small ends =
     let digit : is_digit c ≡ true = and_first (is_digit c) (all_digits cs) is.digits in
-    ap (λ (t : Bool). if t then or_else (byte_text_at (c ∷ (cs ++ b ∷ rest))) (Some (word_at (c ∷ (cs ++ b ∷ rest)))) else (if is_digit c then Some (number_at c (cs ++ b ∷ rest)) else sign_at c (cs ++ b ∷ rest))) (digit_letter c digit)
-    ∙ ap (λ (t : Bool). if t then Some (number_at c (cs ++ b ∷ rest)) else sign_at c (cs ++ b ∷ rest)) digit
+    ap (λ (t : Bool). if t then or_else (byte_text_at (c ∷ (cs ++ b ∷ rest))) (Some (name_lexeme (c ∷ (cs ++ b ∷ rest)))) else (if is_digit c then Some (number_lexeme c (cs ++ b ∷ rest)) else sign_at c (cs ++ b ∷ rest))) (digit_letter c digit)
+    ∙ ap (λ (t : Bool). if t then Some (number_lexeme c (cs ++ b ∷ rest)) else sign_at c (cs ++ b ∷ rest)) digit
     ∙ ap (λ (x : Lexeme). some x) (lexed_digits c cs n b rest is.digits is.value (λ e. none_left cs (is.alone e)) small ends)
   where
     some : Lexeme → Option Lexeme

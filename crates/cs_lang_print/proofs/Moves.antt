@@ -4,7 +4,7 @@ use Rattle.std.specs.Prelude.{Option, None, Some, if◌then◌else◌, ◌⊎◌
 use Rattle.std.proofs.Common.{inl, inr}
 use Rattle.cs_lang_token.specs.declared.token.Text.{Text}
 use Rattle.cs_lang_token.specs.declared.token.Number.{Number}
-use Rattle.cs_lang_token.specs.Rules.{joined, with_item, all_of}
+use Rattle.cs_lang_token.specs.Rules.{joined_left, item_behind, first_and_rest}
 use Rattle.cs_lang.specs.declared.tree.ValueKind.{ValueKind}
 use Rattle.cs_lang.specs.declared.tree.Rank.{Rank}
 use Rattle.cs_lang.specs.declared.tree.Operator.{Operator}
@@ -17,7 +17,7 @@ use Rattle.cs_lang.specs.declared.tree.Link.{Link, roll-Link}
 use Rattle.cs_lang.specs.declared.tree.Step.{Step, roll-Step}
 use Rattle.cs_lang.specs.declared.tree.Access.{Access}
 use Rattle.cs_lang.specs.declared.tree.Access.TheOpen.{Shape-F}
-use Rattle.cs_lang.specs.Trees.{tree, first_of, shape_of, Opened, shape_is_chain, is_chain, chain_begun, chain_extended, with_link, shape_is_path, is_path, path_begun, path_extended, with_step, field_step, index_step, number_expr, bytes_expr, name_expr, truth_expr, grouped, listed, empty_expr, len_expr, sha256_expr, concat_expr, called_expr, depint_expr, negative_expr, not_expr, compared_expr}
+use Rattle.cs_lang.specs.Trees.{tree, first_token_of, shape_of, OpenedTree, shape_is_chain, is_chain, chain_begun, chain_extended, with_link, shape_is_path, is_path, path_begun, path_extended, with_step, field_step, index_step, number_expr, bytes_expr, name_expr, truth_expr, grouped, listed, empty_expr, len_expr, sha256_expr, concat_expr, called_expr, depint_expr, negative_expr, not_expr, compared_expr}
 use Rattle.cs_lang_print.specs.Places.{bare_text, bare, bare_shape, bare_link, bare_step, bare_access}
 use Rattle.cs_lang_print.proofs.Says.{both, no_place, unplaced}
 use Rattle.cs_lang.proofs.Opened.{out_path, out_chain}
@@ -34,8 +34,8 @@ if_some f (Some x) = Some (f x)
 pub tree_bare : (first place : ℕ) (s : Shape) → bare (tree first place s) ≡ tree 0 0 (bare_shape s)
 tree_bare first place s = bare_is (tree first place s)
 
-pub first_bare : (e : Expr) → first_of (bare e) ≡ 0
-first_bare e = ap first_of (bare_is e)
+pub first_bare : (e : Expr) → first_token_of (bare e) ≡ 0
+first_bare e = ap first_token_of (bare_is e)
 
 -- a tree and its shape without places
 made : (first place : ℕ) (s t : Shape) → bare_shape s ≡ t → bare (tree first place s) ≡ tree 0 0 t
@@ -89,7 +89,7 @@ move_not p = made p.0 p.0 (shape.Not p.1) (shape.Not (bare p.1)) (bare_not p.1)
 pub move_compared : (p : Expr × Option ((Comparison × ℕ) × Expr)) → bare (compared_expr p) ≡ compared_expr (both bare (if_some (both (both same_as no_place) bare)) p)
 move_compared (left, None) = refl
 move_compared (left, Some q) =
-    made (first_of left) q.0.1 (shape.Compared q.0.0 left q.1) (shape.Compared q.0.0 (bare left) (bare q.1)) (bare_compared q.0.0 left q.1)
+    made (first_token_of left) q.0.1 (shape.Compared q.0.0 left q.1) (shape.Compared q.0.0 (bare left) (bare q.1)) (bare_compared q.0.0 left q.1)
     ∙ ap (λ (n : ℕ). tree n 0 (shape.Compared q.0.0 (bare left) (bare q.1))) (sym (first_bare left))
 
 pub move_field : (p : ℕ × Text) → both no_place bare_access (field_step p) ≡ field_step (both no_place bare_text p)
@@ -110,11 +110,11 @@ map_append f (x ∷ xs) ys = ap (λ l. f x ∷ l) (map_append f xs ys)
 
 -- ---- rows
 
-pub move_items : {X : Type 0} (B : X → X) (ps : List (ℕ × X)) (acc : List X) → map B (joined with_item acc ps) ≡ joined with_item (map B acc) (map (both no_place B) ps)
+pub move_items : {X : Type 0} (B : X → X) (ps : List (ℕ × X)) (acc : List X) → map B (joined_left item_behind acc ps) ≡ joined_left item_behind (map B acc) (map (both no_place B) ps)
 move_items B [] acc = refl
-move_items B (p ∷ ps) acc = move_items B ps (acc ++ p.1 ∷ []) ∙ ap (λ l. joined with_item l (map (both no_place B) ps)) (map_append B acc (p.1 ∷ []))
+move_items B (p ∷ ps) acc = move_items B ps (acc ++ p.1 ∷ []) ∙ ap (λ l. joined_left item_behind l (map (both no_place B) ps)) (map_append B acc (p.1 ∷ []))
 
-pub move_all : {X : Type 0} (B : X → X) (p : X × List (ℕ × X)) → map B (all_of p) ≡ all_of (both B (map (both no_place B)) p)
+pub move_all : {X : Type 0} (B : X → X) (p : X × List (ℕ × X)) → map B (first_and_rest p) ≡ first_and_rest (both B (map (both no_place B)) p)
 move_all B p = move_items B p.1 (p.0 ∷ [])
 
 -- ---- chains and paths
@@ -147,10 +147,10 @@ pub move_link : (r : Rank) (e : Expr) (p : Item) → bare (with_link r e p) ≡ 
 move_link r e p = elim (bool_cases (is_chain r e)) [
   | inl is ↦
       let v = chain_view r e is in
-      ap (λ (x : Expr). bare (with_link r x p)) v.2 ∙ move_joins r (first_of e) (out-Expr e).place v.0 v.1 p ∙ sym (ap (λ (x : Expr). with_link r (bare x) (bare_item p)) v.2)
+      ap (λ (x : Expr). bare (with_link r x p)) v.2 ∙ move_joins r (first_token_of e) (out-Expr e).place v.0 v.1 p ∙ sym (ap (λ (x : Expr). with_link r (bare x) (bare_item p)) v.2)
   | inr is ↦
       ap bare (link_begins r e p is)
-      ∙ chain_bared r (first_of e) p.0.1 e (link_of e p ∷ [])
+      ∙ chain_bared r (first_token_of e) p.0.1 e (link_of e p ∷ [])
       ∙ ap (λ (l : Link). tree 0 0 (shape.Chain r (bare e) (l ∷ []))) (bare_link_of e p)
       ∙ ap (λ (n : ℕ). tree n 0 (shape.Chain r (bare e) (link_of (bare e) (bare_item p) ∷ []))) (sym (first_bare e))
       ∙ sym (link_begins r (bare e) (bare_item p) (chain_bare r e ∙ is))
@@ -181,16 +181,16 @@ pub move_step : (e : Expr) (p : ℕ × Access) → bare (with_step e p) ≡ with
 move_step e p = elim (bool_cases (is_path e)) [
   | inl is ↦
       let v = path_view e is in
-      ap (λ (x : Expr). bare (with_step x p)) v.2 ∙ move_steps_on (first_of e) (out-Expr e).place v.0 v.1 p ∙ sym (ap (λ (x : Expr). with_step (bare x) (bare_way p)) v.2)
+      ap (λ (x : Expr). bare (with_step x p)) v.2 ∙ move_steps_on (first_token_of e) (out-Expr e).place v.0 v.1 p ∙ sym (ap (λ (x : Expr). with_step (bare x) (bare_way p)) v.2)
   | inr is ↦
       ap bare (step_begins e p is)
-      ∙ path_bared (first_of e) p.0 e (step_of e p ∷ [])
+      ∙ path_bared (first_token_of e) p.0 e (step_of e p ∷ [])
       ∙ ap (λ (l : Step). tree 0 0 (shape.Path (bare e) (l ∷ []))) (bare_step_of e p)
       ∙ ap (λ (n : ℕ). tree n 0 (shape.Path (bare e) (step_of (bare e) (bare_way p) ∷ []))) (sym (first_bare e))
       ∙ sym (step_begins (bare e) (bare_way p) (path_bare e ∙ is))
 ]
 
 -- one after the other
-pub move_joined : {X : Type 0} (f : Expr → X → Expr) (B : X → X) → ((e : Expr) (x : X) → bare (f e x) ≡ f (bare e) (B x)) → (xs : List X) (e : Expr) → bare (joined f e xs) ≡ joined f (bare e) (map B xs)
+pub move_joined : {X : Type 0} (f : Expr → X → Expr) (B : X → X) → ((e : Expr) (x : X) → bare (f e x) ≡ f (bare e) (B x)) → (xs : List X) (e : Expr) → bare (joined_left f e xs) ≡ joined_left f (bare e) (map B xs)
 move_joined f B moves [] e = refl
-move_joined f B moves (x ∷ xs) e = move_joined f B moves xs (f e x) ∙ ap (λ (z : Expr). joined f z (map B xs)) (moves e x)
+move_joined f B moves (x ∷ xs) e = move_joined f B moves xs (f e x) ∙ ap (λ (z : Expr). joined_left f z (map B xs)) (moves e x)

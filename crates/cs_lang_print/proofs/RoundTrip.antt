@@ -4,7 +4,7 @@ use Rattle.std.proofs.Common.{arith}
 use Rattle.cs_lang.specs.declared.tree.ContractTree.{ContractTree}
 use Rattle.cs_lang.specs.Texts.{IsContract, HasText}
 use Rattle.cs_lang_print.specs.Texts.{contract_text}
-use Rattle.cs_lang_print.specs.Again.{IsReadAgain}
+use Rattle.cs_lang_print.specs.Again.{ContractIsReadAgain}
 use Rattle.cs_lang_print.proofs.Puts.{all_tokens}
 use Rattle.cs_lang_print.proofs.Says.{allowed, plain_allowed, within_allowed}
 use Rattle.cs_lang_token.proofs.Sources.{source_fine}
@@ -17,7 +17,7 @@ is_enough : 65 ≤ enough
 unfolding enough
 is_enough = omega arith
 
-again_of : (text : List ℕ) (c : ContractTree) → IsContract text c → length (contract_text c) ≤ 65536 → IsReadAgain c
+again_of : (text : List ℕ) (c : ContractTree) → IsContract text c → length (contract_text c) ≤ 65536 → ContractIsReadAgain c
 again_of text c is short =
     let s = is.spells in
     let fine = source_fine text is.tokens s.marks is.read s.tokens in
@@ -40,5 +40,5 @@ again_of text c is short =
       same = spoken.same;
     }
 
-pub read_again : (c : ContractTree) → HasText c → length (contract_text c) ≤ 65536 → IsReadAgain c
+pub read_again : (c : ContractTree) → HasText c → length (contract_text c) ≤ 65536 → ContractIsReadAgain c
 read_again c h short = again_of h.text c h.is short

@@ -5,13 +5,13 @@ use Rattle.std.specs.Prelude.{Result, OnOk, codes, ◌/◌, ◌%◌, ◌==◌, i
 use Rattle.std.proofs.Math.Seq.{drop-cons}
 use Rattle.std.proofs.lemmas.List.{append-nil, drop_all}
 use Rattle.std.proofs.lemmas.Bool.Decides.{Decides-eqb}
-use Rattle.cs_lang_print.specs.Words.{word, each, behind_comma, with_commas}
-use Rattle.cs_lang_print.specs.Spelling.{in_parentheses, held, run_on, run_text}
+use Rattle.cs_lang_print.specs.Words.{word, each_text, behind_comma, with_commas}
+use Rattle.cs_lang_print.specs.Spelling.{parenthesized, held, run_on, run_text}
 use Rattle.cs_lang_print.specs.Expressions.{applied}
 use Rattle.cs_lang_print.specs.Statements.{block_until, block_text}
 use Rattle.cs_lang_print.specs.Runs.{times, openings, closing, parts_text, comma_text, items_text}
 
-pub each-map : {X Y : Type 0} (text : Y → List ℕ) (f : X → Y) (xs : List X) → each text (map f xs) ≡ each (λ x. text (f x)) xs
+pub each-map : {X Y : Type 0} (text : Y → List ℕ) (f : X → Y) (xs : List X) → each_text text (map f xs) ≡ each_text (λ x. text (f x)) xs
 each-map text f [] = refl
 each-map text f (x ∷ xs) = ap (λ t. text (f x) ++ t) (each-map text f xs)
 
@@ -39,7 +39,7 @@ more_other : (m : ℕ) → (suc m % 64 ≡ 0 → ⊥) → suc m / 64 ≡ m / 64
 more_other m e = omega arith
 
 step_on : (full : Bool) (m : ℕ) (before part rest : List ℕ) → (full ≡ true → suc m / 64 ≡ suc (m / 64)) → (full ≡ false → suc m / 64 ≡ m / 64)
-    → times (m / 64) (word (codes "(")) ++ (((if full then in_parentheses before else before) ++ part) ++ rest)
+    → times (m / 64) (word (codes "(")) ++ (((if full then parenthesized before else before) ++ part) ++ rest)
     ≡ times (suc m / 64) (word (codes "(")) ++ (before ++ (((if full then word (codes ")") else []) ++ part) ++ rest))
 step_on true m before part rest more same =
     let open' = word (codes "(") in
@@ -80,7 +80,7 @@ run_is text start (x ∷ xs) = run_on_is text (start ++ text x) xs
 opened : {X : Type 0} (xs : List X) (i : ℕ) (x : X) → i < length xs → x ≡ get_or xs i x → drop i xs ≡ x ∷ drop (i + 1) xs
 opened xs i x lt is = rw add-one (drop-cons xs i x lt ∙ ap (λ (y : _). y ∷ drop (suc i) xs) (sym is))
 
-items_behind : {X : Type 0} (text : X → List ℕ) (xs : List X) → each (behind_comma text) xs ≡ items_text text true xs
+items_behind : {X : Type 0} (text : X → List ℕ) (xs : List X) → each_text (behind_comma text) xs ≡ items_text text true xs
 items_behind text [] = refl
 items_behind text (x ∷ xs) = ap (λ t. (word (codes ",") ++ text x) ++ t) (items_behind text xs)
 

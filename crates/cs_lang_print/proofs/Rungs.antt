@@ -9,8 +9,8 @@ use Rattle.cs_lang.specs.declared.tree.Rank.TheVariants as rank
 use Rattle.cs_lang.specs.declared.tree.Comparison.{Comparison}
 use Rattle.cs_lang.specs.declared.tree.Expr.{Expr}
 use Rattle.cs_lang.specs.Trees.{with_link, with_step, grouped, negative_expr, not_expr, compared_expr}
-use Rattle.cs_lang.specs.Rules.{kinds, primary, access, operators, chain, comparisons, compared, Whole, Negated, Signed, expression}
-use Rattle.cs_lang_print.specs.Spelling.{in_parentheses as around}
+use Rattle.cs_lang.specs.Rules.{kinds, primary, access, operators, chain, comparisons, comparison_rule, Whole, Negated, Signed, expression}
+use Rattle.cs_lang_print.specs.Spelling.{parenthesized as around}
 use Rattle.cs_lang_print.specs.Places.{bare}
 use Rattle.cs_lang_print.proofs.Says.{Says, both, no_place, says_pair, says_mapped, says_left, says_right, says_nothing, says_same, says_then_nothing, says_links_none, says_sign}
 use Rattle.cs_lang_print.proofs.Moves.{bare_item, bare_way, same_as, if_some, move_link, move_step, move_joined, move_compared, move_grouped, grouped_bare}
@@ -31,7 +31,7 @@ abbrev pub at4 : ℕ → ℕ → Rule Expr
 at4 n left = chain rank.Sum (at5 n left)
 
 abbrev pub at3 : ℕ → ℕ → Rule Expr
-at3 n left = compared (at4 n left)
+at3 n left = comparison_rule (at4 n left)
 
 abbrev pub at2 : ℕ → ℕ → Rule Expr
 at2 n left = either (mapped not_expr (pair (sign kind.Not (room_of left)) (expression (suc n) (less_one left) Negated))) (at3 n left)
@@ -66,7 +66,7 @@ up_chain r R a =
 abbrev pub bare_side : (Comparison × ℕ) × Expr → (Comparison × ℕ) × Expr
 bare_side = both (both same_as no_place) bare
 
-up_compared : {e : Expr} {s : List ℕ} (R : Rule Expr) → Says bare R e s → Says bare (compared R) e s
+up_compared : {e : Expr} {s : List ℕ} (R : Rule Expr) → Says bare R e s → Says bare (comparison_rule R) e s
 up_compared R a =
     says_mapped {B = both bare (if_some bare_side)} bare compared_expr move_compared
     (says_then_nothing (if_some bare_side) (either (mapped Some (pair comparisons R)) (nothing None)) None (says_right (says_nothing (if_some bare_side) None)) a)

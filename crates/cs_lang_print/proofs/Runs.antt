@@ -4,10 +4,10 @@ use Rattle.std.specs.Prelude.{◌/◌, ◌%◌, ◌==◌, if◌then◌else◌, �
 use Rattle.std.proofs.lemmas.List.{append-nil, length-append}
 use Rattle.std.proofs.lemmas.Bool.Decides.{Decides-eqb}
 use Rattle.cs_lang_token.specs.Grammar.{Rule, pair, mapped, links}
-use Rattle.cs_lang_token.specs.Rules.{joined, joined_pair}
+use Rattle.cs_lang_token.specs.Rules.{joined_left, joined_pair}
 use Rattle.cs_lang.specs.declared.tree.Expr.{Expr}
-use Rattle.cs_lang_print.specs.Words.{each}
-use Rattle.cs_lang_print.specs.Spelling.{in_parentheses, held, run_on, run_text}
+use Rattle.cs_lang_print.specs.Words.{each_text}
+use Rattle.cs_lang_print.specs.Spelling.{parenthesized, held, run_on, run_text}
 use Rattle.cs_lang_print.specs.Places.{bare}
 use Rattle.cs_lang_print.proofs.Says.{Says, both, says_pair, says_mapped, says_same, says_text, says_links_none, says_links_more}
 use Rattle.cs_lang_print.proofs.Moves.{move_joined}
@@ -34,13 +34,13 @@ length_map : {X Y : Type 0} (f : X → Y) (xs : List X) → length (map f xs) �
 length_map f [] = refl
 length_map f (x ∷ xs) = ap suc (length_map f xs)
 
-joined_last : {A X : Type 0} (f : A → X → A) (xs : List X) (e : A) (x : X) → joined f e (xs ++ x ∷ []) ≡ f (joined f e xs) x
+joined_last : {A X : Type 0} (f : A → X → A) (xs : List X) (e : A) (x : X) → joined_left f e (xs ++ x ∷ []) ≡ f (joined_left f e xs) x
 joined_last f [] e x = refl
 joined_last f (y ∷ xs) e x = joined_last f xs (f e y) x
 
-each_last : {X : Type 0} (text : X → List ℕ) (xs : List X) (x : X) → each text (xs ++ x ∷ []) ≡ each text xs ++ text x
+each_last : {X : Type 0} (text : X → List ℕ) (xs : List X) (x : X) → each_text text (xs ++ x ∷ []) ≡ each_text text xs ++ text x
 each_last text [] x = append-nil (text x)
-each_last text (y ∷ xs) x = ap (λ t. text y ++ t) (each_last text xs x) ∙ sym (append_assoc (text y) (each text xs) (text x))
+each_last text (y ∷ xs) x = ap (λ t. text y ++ t) (each_last text xs x) ∙ sym (append_assoc (text y) (each_text text xs) (text x))
 
 module _ {X : Type 0} (f : Expr → X → Expr) (B : X → X) (moves : (e : Expr) (x : X) → bare (f e x) ≡ f (bare e) (B x)) (link : ℕ → ℕ → Bool → Rule X) (text : X → List ℕ) where
   -- each level is at most this
@@ -95,7 +95,7 @@ module _ {X : Type 0} (f : Expr → X → Expr) (B : X → X) (moves : (e : Expr
       let more : length (ps ++ qs) / 64 ≤ length ps / 64 + 1 = subst (λ (k : ℕ). k / 64 ≤ length ps / 64 + 1) (sym len) (few_more (length ps) (length qs) few) in
       omega (arith, less)
 
-  says_parts : (k n left : ℕ) (ps : List (Part B link text)) → Low n ps → Low left ps → length ps ≤ k → Says (map B) (links (link n left) k) (map item_of ps) (each part_text ps)
+  says_parts : (k n left : ℕ) (ps : List (Part B link text)) → Low n ps → Low left ps → length ps ≤ k → Says (map B) (links (link n left) k) (map item_of ps) (each_text part_text ps)
   says_parts k n left [] low high few = says_links_none (map B) (link n left) k
   says_parts zero n left (p ∷ ps) low high few = absurd (omega (arith, few))
   says_parts (suc k) n left (p ∷ ps) low high few = says_links_more (link n left) (p.says n left low.0 high.0) (says_parts k n left ps low.1 high.1 (omega (arith, few)))
@@ -108,8 +108,8 @@ pub record Half {X : Type 0} (f : Expr → X → Expr) (B : X → X) (moves : (e
   pub parts : List (Part B link text)
   pub low : Low f B moves link text n parts
   pub high : Low f B moves link text left parts
-  pub same : bare whole ≡ bare (joined f start (map (item_of f B moves link text) parts))
-  pub written : before ≡ begins ++ each (part_text f B moves link text) parts
+  pub same : bare whole ≡ bare (joined_left f start (map (item_of f B moves link text) parts))
+  pub written : before ≡ begins ++ each_text (part_text f B moves link text) parts
   pub room : length parts + more % 64 ≤ 64
 
 module _ {X : Type 0} (f : Expr → X → Expr) (B : X → X) (moves : (e : Expr) (x : X) → bare (f e x) ≡ f (bare e) (B x)) (link : ℕ → ℕ → Bool → Rule X) (text : X → List ℕ)
@@ -135,28 +135,28 @@ module _ {X : Type 0} (f : Expr → X → Expr) (B : X → X) (moves : (e : Expr
         parts = h.parts ++ p ∷ [];
         low = low_last f B moves link text n h.parts p h.low low;
         high = low_last f B moves link text left h.parts p h.high high;
-        same = moves whole p.item ∙ ap (λ (e : Expr). f e (B p.item)) h.same ∙ sym (moves (joined f h.start its) p.item) ∙ ap bare (sym (joined_last f its h.start p.item))
-            ∙ ap (λ (l : List X). bare (joined f h.start l)) (sym (map_append (item_of f B moves link text) h.parts (p ∷ [])));
-        written = ap (λ (t : List ℕ). t ++ text p.item) h.written ∙ append_assoc h.begins (each (part_text f B moves link text) h.parts) (text p.item)
+        same = moves whole p.item ∙ ap (λ (e : Expr). f e (B p.item)) h.same ∙ sym (moves (joined_left f h.start its) p.item) ∙ ap bare (sym (joined_last f its h.start p.item))
+            ∙ ap (λ (l : List X). bare (joined_left f h.start l)) (sym (map_append (item_of f B moves link text) h.parts (p ∷ [])));
+        written = ap (λ (t : List ℕ). t ++ text p.item) h.written ∙ append_assoc h.begins (each_text (part_text f B moves link text) h.parts) (text p.item)
             ∙ ap (λ (t : List ℕ). h.begins ++ t) (sym (each_last (part_text f B moves link text) h.parts p));
         room = omega arith;
       }
 
-  abbrev half_around : (before : List ℕ) (whole : Expr) (n left more : ℕ) → Halved before whole n left more → Halved (in_parentheses before) whole (suc n) (suc left) more
+  abbrev half_around : (before : List ℕ) (whole : Expr) (n left more : ℕ) → Halved before whole n left more → Halved (parenthesized before) whole (suc n) (suc left) more
   half_around before whole n left more h = record {
     start = whole;
-    begins = in_parentheses before;
+    begins = parenthesized before;
     says = lift 8 w (suc n) (suc left) tight (says_around n left (lift u 0 n left (omega arith) (half_says before whole n left more h)));
     parts = [];
     low = tt;
     high = tt;
     same = refl;
-    written = sym (append-nil (in_parentheses before));
+    written = sym (append-nil (parenthesized before));
     room = (let m = mod_less more in omega arith);
   }
 
   run_half : (ps : List (Part B link text)) (before : List ℕ) (whole : Expr) (a b n left : ℕ) → Halved before whole a b (length ps) → a + length ps / 64 ≡ n → b + length ps / 64 ≡ left → Below f B moves link text n ps → Below f B moves link text left ps
-      → Halved (run_on before (map (part_text f B moves link text) ps)) (joined f whole (map (item_of f B moves link text) ps)) n left 0
+      → Halved (run_on before (map (part_text f B moves link text) ps)) (joined_left f whole (map (item_of f B moves link text) ps)) n left 0
   run_half [] before whole a b n left h first second low high =
       let one : a ≡ n = omega (arith, first) in
       let two : b ≡ left = omega (arith, second) in
@@ -168,7 +168,7 @@ module _ {X : Type 0} (f : Expr → X → Expr) (B : X → X) (moves : (e : Expr
       let its = map (item_of f B moves link text) ps in
       let lower = low.0 in
       let higher = high.0 in
-      subst (λ (k : ℕ). Halved (run_on (held (suc k) before ++ t) texts) (joined f (f whole p.item) its) n left 0) (sym (length_map (part_text f B moves link text) ps))
+      subst (λ (k : ℕ). Halved (run_on (held (suc k) before ++ t) texts) (joined_left f (f whole p.item) its) n left 0) (sym (length_map (part_text f B moves link text) ps))
       (elim (bool_cases (suc m % 64 == 0)) [
         | inl e ↦
             let full : suc m % 64 ≡ 0 = (Decides-eqb (suc m % 64) 0).0 e in
@@ -176,9 +176,9 @@ module _ {X : Type 0} (f : Expr → X → Expr) (B : X → X) (moves : (e : Expr
             let one : suc a + m / 64 ≡ n = omega (arith, first) in
             let two : suc b + m / 64 ≡ left = omega (arith, second) in
             let free : length (half_around before whole a b (suc m) h).parts + (1 + m % 64) ≤ 64 = (let r = mod_less m in omega arith) in
-            let added = half_add (in_parentheses before) whole (suc a) (suc b) (suc m) m (half_around before whole a b (suc m) h) free p (omega arith) (omega arith) in
-            subst (λ (s : List ℕ). Halved (run_on (s ++ t) texts) (joined f (f whole p.item) its) n left 0) (sym (ap (λ (c : Bool). if c then in_parentheses before else before) e))
-            (run_half ps (in_parentheses before ++ t) (f whole p.item) (suc a) (suc b) n left added one two low.1 high.1)
+            let added = half_add (parenthesized before) whole (suc a) (suc b) (suc m) m (half_around before whole a b (suc m) h) free p (omega arith) (omega arith) in
+            subst (λ (s : List ℕ). Halved (run_on (s ++ t) texts) (joined_left f (f whole p.item) its) n left 0) (sym (ap (λ (c : Bool). if c then parenthesized before else before) e))
+            (run_half ps (parenthesized before ++ t) (f whole p.item) (suc a) (suc b) n left added one two low.1 high.1)
         | inr e ↦
             let other : suc m % 64 ≡ 0 → ⊥ = (λ z. let c : (suc m % 64 == 0) ≡ true = (Decides-eqb (suc m % 64) 0).1 z in absurd cc) in
             let next : suc m / 64 ≡ m / 64 = omega arith in
@@ -187,13 +187,13 @@ module _ {X : Type 0} (f : Expr → X → Expr) (B : X → X) (moves : (e : Expr
             let rest : suc m % 64 ≡ suc (m % 64) = omega arith in
             let free : length h.parts + (1 + m % 64) ≤ 64 = (let r = h.room in omega arith) in
             let added = half_add before whole a b (suc m) m h free p (omega arith) (omega arith) in
-            subst (λ (s : List ℕ). Halved (run_on (s ++ t) texts) (joined f (f whole p.item) its) n left 0) (sym (ap (λ (c : Bool). if c then in_parentheses before else before) e))
+            subst (λ (s : List ℕ). Halved (run_on (s ++ t) texts) (joined_left f (f whole p.item) its) n left 0) (sym (ap (λ (c : Bool). if c then parenthesized before else before) e))
             (run_half ps (before ++ t) (f whole p.item) a b n left added one two low.1 high.1)
       ])
 
   pub run_says : (start : Expr) (begins : List ℕ) (v : ℕ) → ((n left : ℕ) → v ≤ n → v ≤ left → Says bare (rule_at w n left) start begins) → (first : Part B link text) (others : List (Part B link text)) (n left : ℕ)
       → v + length others / 64 ≤ n → v + length others / 64 ≤ left → Below f B moves link text n (first ∷ others) → Below f B moves link text left (first ∷ others)
-      → Says bare (rule_at u n left) (joined f start (map (item_of f B moves link text) (first ∷ others))) (run_text begins (map (part_text f B moves link text) (first ∷ others)))
+      → Says bare (rule_at u n left) (joined_left f start (map (item_of f B moves link text) (first ∷ others))) (run_text begins (map (part_text f B moves link text) (first ∷ others)))
   run_says start begins v says first others n left one two low high =
       let k = length others / 64 in
       let a = n - length others / 64 in
@@ -213,5 +213,5 @@ module _ {X : Type 0} (f : Expr → X → Expr) (B : X → X) (moves : (e : Expr
         written = ap (λ (t : List ℕ). begins ++ t) (sym (append-nil (text first.item)));
         room = (let r = mod_less (length others) in omega arith);
       } in
-      half_says (run_on (begins ++ text first.item) (map (part_text f B moves link text) others)) (joined f (f start first.item) (map (item_of f B moves link text) others)) n left 0
+      half_says (run_on (begins ++ text first.item) (map (part_text f B moves link text) others)) (joined_left f (f start first.item) (map (item_of f B moves link text) others)) n left 0
       (run_half others (begins ++ text first.item) (f start first.item) (n - length others / 64) (left - length others / 64) n left begin (omega arith) (omega arith) low.1 high.1)

@@ -10,9 +10,9 @@ use Rattle.cs_lang_token.specs.declared.token.Number.{Number}
 use Rattle.cs_lang_token.specs.declared.kind.Kind.{Kind}
 use Rattle.cs_lang_token.specs.declared.kind.Kind.TheVariants as kind
 use Rattle.cs_lang_token.specs.Kinds.{code, is}
-use Rattle.cs_lang_token.specs.Grammar.{Mark, plain, Within, Rule, token, pair, mapped, either, nothing, many, links}
-use Rattle.cs_lang_token.specs.Rules.{place_of_token, text_of, number_of, sign, name, bytes, number}
-use Rattle.cs_lang_token.specs.Tokens.{piece_at, lexeme_at, word_at}
+use Rattle.cs_lang_token.specs.Grammar.{TokenMark, without_marks, Within, Rule, token, pair, mapped, either, nothing, many, links}
+use Rattle.cs_lang_token.specs.Rules.{place_of_token, text_of, number_of_token, sign, name, bytes, number}
+use Rattle.cs_lang_token.specs.Tokens.{piece_at, lexeme_at, name_lexeme}
 use Rattle.cs_base.specs.Options.{or_else}
 use Rattle.cs_lang_token.specs.declared.lexeme.Lexeme.{Lexeme}
 use Rattle.cs_lang_print.specs.Places.{bare_text}
@@ -22,16 +22,16 @@ use Rattle.cs_lang_print.proofs.Lexed.{space_ends, lexed_word, plain_word, some_
 use Rattle.cs_lang_token.proofs.Spans.{IsWord, AllBytes}
 
 -- all within the limits
-pub allowed : List Token → List Mark
+pub allowed : List Token → List TokenMark
 allowed [] = []
 allowed (t ∷ ts) = (t, true) ∷ allowed ts
 
 allowed_append : (a b : List Token) → allowed (a ++ b) ≡ allowed a ++ allowed b
 unfolding allowed
 allowed_append [] b = refl
-allowed_append (t ∷ ts) b = ap (λ (l : List Mark). (t, true) ∷ l) (allowed_append ts b)
+allowed_append (t ∷ ts) b = ap (λ (l : List TokenMark). (t, true) ∷ l) (allowed_append ts b)
 
-pub plain_allowed : (ts : List Token) → plain (allowed ts) ≡ ts
+pub plain_allowed : (ts : List Token) → without_marks (allowed ts) ≡ ts
 unfolding allowed
 plain_allowed [] = refl
 plain_allowed (t ∷ ts) = ap (λ (l : List Token). t ∷ l) (plain_allowed ts)
@@ -199,7 +199,7 @@ unfolding word
 says_number n small =
     let is = is_decimal n.value small in
     let ds = decimal n.value in
-    one_token unplaced number_of kind.Number n.value [] n (word ds) (λ place. refl)
+    one_token unplaced number_of_token kind.Number n.value [] n (word ds) (λ place. refl)
     (λ place. puts_one place ds 32 (token_made kind.Number n.value [] place) is.some
     (λ rest. piece_token place (ds ++ 32 ∷ rest) (record { kind = kind.Number; number = n.value; bytes = []; length = length ds }) (plain_number ds n.value 32 rest is) (lexed_number ds n.value 32 rest is small space_ends))
     (λ at rest. refl))
@@ -214,7 +214,7 @@ says_bytes t all few =
     (one_token bare_text text_of kind.Bytes 0 t.bytes t (w ++ 32 ∷ []) (λ place. refl)
     (λ place. puts_one place w 32 (token_made kind.Bytes 0 t.bytes place) (omega arith)
     (λ rest. piece_token place (w ++ 32 ∷ rest) (record { kind = kind.Bytes; number = 0; bytes = t.bytes; length = length (hex_text t.bytes) + 3 }) refl
-    (ap (λ (l : List ℕ). lexeme_at (120 ∷ 34 ∷ l)) (append_assoc (hex_text t.bytes) (34 ∷ []) (32 ∷ rest)) ∙ ap (λ (o : Option Lexeme). or_else o (Some (word_at (120 ∷ 34 ∷ (hex_text t.bytes ++ 34 ∷ 32 ∷ rest))))) (lexed_quoted t.bytes (32 ∷ rest) all few))
+    (ap (λ (l : List ℕ). lexeme_at (120 ∷ 34 ∷ l)) (append_assoc (hex_text t.bytes) (34 ∷ []) (32 ∷ rest)) ∙ ap (λ (o : Option Lexeme). or_else o (Some (name_lexeme (120 ∷ 34 ∷ (hex_text t.bytes ++ 34 ∷ 32 ∷ rest))))) (lexed_quoted t.bytes (32 ∷ rest) all few))
     ∙ ap (λ (k : ℕ). piece (token_made kind.Bytes 0 t.bytes place ∷ []) k) (sym long))
     (λ at rest. refl)))
   where

@@ -9,10 +9,10 @@ use Rattle.cs_lang.specs.declared.tree.Shape.TheVariants as shape
 use Rattle.cs_lang.specs.declared.tree.Link.{Link}
 use Rattle.cs_lang.specs.declared.tree.Step.{Step}
 use Rattle.cs_lang.specs.declared.tree.Access.{Access}
-use Rattle.cs_lang.specs.Trees.{tree, first_of, shape_of, same_rank, shape_is_chain, is_chain, with_link, shape_is_path, is_path, with_step, grouped}
+use Rattle.cs_lang.specs.Trees.{tree, first_token_of, shape_of, same_rank, shape_is_chain, is_chain, with_link, shape_is_path, is_path, with_step, grouped}
 use Rattle.cs_lang.specs.Rules.{access, operators, Whole, expression}
 use Rattle.cs_lang_print.specs.Words.{word, operator_text}
-use Rattle.cs_lang_print.specs.Spelling.{Spelled, tightness_of, operand_tightness, within, run_text}
+use Rattle.cs_lang_print.specs.Spelling.{Spelled, tightness_of, operand_tightness, held_together, run_text}
 use Rattle.cs_lang_print.specs.Expressions.{Linked, spelled, spelled_link, step_text, access_text}
 use Rattle.cs_lang_print.proofs.RunTexts.{runs_map}
 use Rattle.cs_lang_print.proofs.Layers.{spelled_is, link_is, step_is, shape_path, shape_chain}
@@ -33,7 +33,7 @@ abbrev pub chain_link : Rank → ℕ → ℕ → Bool → Rule Item
 chain_link r n left more = pair (operators r more) (rule_at (operand_tightness r) n left)
 
 abbrev pub chain_text : Rank → Item → List ℕ
-chain_text r p = word (operator_text p.0.0) ++ within (operand_tightness r) (spelled p.1)
+chain_text r p = word (operator_text p.0.0) ++ held_together (operand_tightness r) (spelled p.1)
 
 abbrev pub link_texts : Rank → List Link → List (List ℕ)
 link_texts r = map (λ (l : Link). spelled_link l (operand_tightness r))
@@ -60,20 +60,20 @@ chain_add r e s ts x h =
 
 pub chain_new : (r : Rank) (e : Expr) (x : Item) → is_chain r e ≡ false → ChainBuilt r (with_link r e x) e (chain_text r x ∷ [])
 chain_new r e x test = record {
-  first = first_of e;
+  first = first_token_of e;
   place = x.0.1;
   links = link_of e x ∷ [];
   is = link_begins r e x test;
   texts = ap (λ (t : List ℕ). t ∷ []) (link_is (link_of e x) (operand_tightness r));
 }
 
-pub chain_is : (r : Rank) (e s : Expr) (ts : List (List ℕ)) → ChainBuilt r e s ts → spelled e ≡ record { tightness = tightness_of r; text = run_text (within (operand_tightness r) (spelled s)) ts }
+pub chain_is : (r : Rank) (e s : Expr) (ts : List (List ℕ)) → ChainBuilt r e s ts → spelled e ≡ record { tightness = tightness_of r; text = run_text (held_together (operand_tightness r) (spelled s)) ts }
 chain_is r e s ts h =
     ap spelled h.is ∙ spelled_is (tree h.first h.place (shape.Chain r s h.links)) ∙ shape_chain r s h.links
     ∙ ap (λ (l : List (List ℕ)). of l) (runs_map (λ (link : Linked). link (operand_tightness r)) spelled_link h.links ∙ h.texts)
   where
     of : List (List ℕ) → Spelled
-    of l = record { tightness = tightness_of r; text = run_text (within (operand_tightness r) (spelled s)) l }
+    of l = record { tightness = tightness_of r; text = run_text (held_together (operand_tightness r) (spelled s)) l }
 
 -- ---- paths
 
@@ -105,20 +105,20 @@ path_add e s ts x h =
 
 pub path_new : (e : Expr) (x : ℕ × Access) → is_path e ≡ false → PathBuilt (with_step e x) e (path_text x ∷ [])
 path_new e x test = record {
-  first = first_of e;
+  first = first_token_of e;
   place = x.0;
   steps = step_of e x ∷ [];
   is = step_begins e x test;
   texts = ap (λ (t : List ℕ). t ∷ []) (step_is (step_of e x));
 }
 
-pub path_is : (e s : Expr) (ts : List (List ℕ)) → PathBuilt e s ts → spelled e ≡ record { tightness = 7; text = run_text (within 8 (spelled s)) ts }
+pub path_is : (e s : Expr) (ts : List (List ℕ)) → PathBuilt e s ts → spelled e ≡ record { tightness = 7; text = run_text (held_together 8 (spelled s)) ts }
 path_is e s ts h =
     ap spelled h.is ∙ spelled_is (tree h.first h.place (shape.Path s h.steps)) ∙ shape_path s h.steps
     ∙ ap (λ (l : List (List ℕ)). of l) h.texts
   where
     of : List (List ℕ) → Spelled
-    of l = record { tightness = 7; text = run_text (within 8 (spelled s)) l }
+    of l = record { tightness = 7; text = run_text (held_together 8 (spelled s)) l }
 
 -- ---- what is known of an expression
 

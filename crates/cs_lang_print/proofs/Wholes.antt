@@ -14,9 +14,9 @@ use Rattle.cs_lang.specs.declared.tree.Method.{Method}
 use Rattle.cs_lang.specs.declared.tree.ContractTree.{ContractTree}
 use Rattle.cs_lang.specs.declared.methods.Head.{Head}
 use Rattle.cs_lang.specs.declared.methods.Body.{Body}
-use Rattle.cs_lang.specs.Trees.{field_of, slot_of, starred, typedef_of, after_word, head_of, body_of, method_of, first_and_others, contract_of}
-use Rattle.cs_lang.specs.Rules.{word as word_rule, kinds, braces, statements, field, slot, typedef, section, head, body, method, contract}
-use Rattle.cs_lang_print.specs.Words.{word, ending, each, with_commas}
+use Rattle.cs_lang.specs.Trees.{field_of_parts, slot_of_parts, starred, typedef_of, after_word, method_head_of, body_of_parts, method_of, first_and_others, contract_tree_of}
+use Rattle.cs_lang.specs.Rules.{keyword as word_rule, kinds, braces, statements, field, slot, typedef, section, head, body, method, contract}
+use Rattle.cs_lang_print.specs.Words.{word, ending, each_text, with_commas}
 use Rattle.cs_lang_print.specs.Statements.{block_text, statements_text}
 use Rattle.cs_lang_print.specs.Texts.{field_text, star_text, slot_text, section_text, type_text, method_text, contract_text}
 use Rattle.cs_lang_print.specs.Places.{bare_text, bare_block, bare_field, bare_slot, bare_type, bare_method, without_places}
@@ -36,13 +36,13 @@ abbrev FieldGood : ℕ → Field → Type 0
 FieldGood left f = (n : ℕ) → left + 1 ≤ n → Says bare_field (field (kinds n left)) f (field_text f)
 
 field_good : (left : ℕ) (K : Rule ValueKind) → Gives K (KindGood left) → Gives (field K) (FieldGood left)
-field_good left K g = gives_mapped (FieldGood left) field_of (gives_pair gives_name (gives_pair (gives_sign kind.Colon true) g)) (λ p h. says p h.0 h.1.1)
+field_good left K g = gives_mapped (FieldGood left) field_of_parts (gives_pair gives_name (gives_pair (gives_sign kind.Colon true) g)) (λ p h. says p h.0 h.1.1)
   where
-    says : (p : Text × (ℕ × ValueKind)) → IsWord p.0.bytes kind.Name → KindGood left p.1.1 → FieldGood left (field_of p)
+    says : (p : Text × (ℕ × ValueKind)) → IsWord p.0.bytes kind.Name → KindGood left p.1.1 → FieldGood left (field_of_parts p)
     says p is k zero le = absurd (omega (arith, le))
     says p is k (suc n) le =
         let most = k.1 in
-        says_same (field_of p) refl (says_mapped {B = both bare_text (both no_place same_as)} {x = (p.0, (0, p.1.1))} bare_field field_of (λ z. refl) (says_pair (says_name p.0 is) (says_pair says_colon (k.2 n left (omega (arith, le)) (omega arith)))))
+        says_same (field_of_parts p) refl (says_mapped {B = both bare_text (both no_place same_as)} {x = (p.0, (0, p.1.1))} bare_field field_of_parts (λ z. refl) (says_pair (says_name p.0 is) (says_pair says_colon (k.2 n left (omega (arith, le)) (omega arith)))))
 
 abbrev SlotGood : Slot → Type 0
 SlotGood s = Says bare_slot slot s (slot_text s)
@@ -52,8 +52,8 @@ says_many true = says_left (says_mapped {B = no_place} {x = 0} same_as starred (
 says_many false = says_right (says_nothing same_as false)
 
 slot_good : Gives slot SlotGood
-slot_good = gives_mapped SlotGood slot_of (gives_pair gives_name (gives_pair (gives_sign kind.Colon true) (gives_pair gives_name (gives_either (gives_mapped (λ (b : Bool). Unit {0}) starred (gives_sign kind.Star true) (λ place h. tt)) (gives_nothing false tt))))) (λ p h.
-    says_same (slot_of p) refl (says_mapped {B = both bare_text (both no_place (both bare_text same_as))} {x = (p.0, (0, p.1.1))} bare_slot slot_of (λ z. refl)
+slot_good = gives_mapped SlotGood slot_of_parts (gives_pair gives_name (gives_pair (gives_sign kind.Colon true) (gives_pair gives_name (gives_either (gives_mapped (λ (b : Bool). Unit {0}) starred (gives_sign kind.Star true) (λ place h. tt)) (gives_nothing false tt))))) (λ p h.
+    says_same (slot_of_parts p) refl (says_mapped {B = both bare_text (both no_place (both bare_text same_as))} {x = (p.0, (0, p.1.1))} bare_slot slot_of_parts (λ z. refl)
     (says_pair (says_name p.0 h.0) (says_pair says_colon (says_pair (says_name p.1.1.0 h.1.1.0) (says_many p.1.1.1))))))
 
 fields_at : (left : ℕ) (fs : List Field) → Every (FieldGood left) fs → (n : ℕ) → left + 1 ≤ n → Every (λ (f : Field). Says bare_field (field (kinds n left)) f (field_text f)) fs
@@ -110,8 +110,8 @@ BodyGood b = (n : ℕ) → 65 ≤ n → Says bare_body (body (braces (statements
 head_good : (n : ℕ) → Gives (head (kinds n 64)) HeadGood
 head_good n =
     let fields' = field_good 64 (kinds n 64) (kinds_good n 64) in
-    gives_mapped HeadGood head_of (gives_pair (section_good kind.Consumes slot SlotGood slot_good) (gives_pair (section_good kind.Reads slot SlotGood slot_good) (gives_pair (section_good kind.Takes (field (kinds n 64)) (FieldGood 64) fields') (gives_pair (section_good kind.Creates slot SlotGood slot_good) (section_good kind.Returns (field (kinds n 64)) (FieldGood 64) fields'))))) (λ p h m le.
-    says_mapped {B = both (map bare_slot) (both (map bare_slot) (both (map bare_field) (both (map bare_slot) (map bare_field))))} {x = p} bare_head head_of (λ z. refl)
+    gives_mapped HeadGood method_head_of (gives_pair (section_good kind.Consumes slot SlotGood slot_good) (gives_pair (section_good kind.Reads slot SlotGood slot_good) (gives_pair (section_good kind.Takes (field (kinds n 64)) (FieldGood 64) fields') (gives_pair (section_good kind.Creates slot SlotGood slot_good) (section_good kind.Returns (field (kinds n 64)) (FieldGood 64) fields'))))) (λ p h m le.
+    says_mapped {B = both (map bare_slot) (both (map bare_slot) (both (map bare_field) (both (map bare_slot) (map bare_field))))} {x = p} bare_head method_head_of (λ z. refl)
     (says_pair (says_section bare_slot kind.Consumes (codes "consumes") slot slot_text p.0 (record { letter = refl; all = refl; short = omega arith; kind = refl }) h.0)
     (says_pair (says_section bare_slot kind.Reads (codes "reads") slot slot_text p.1.0 (record { letter = refl; all = refl; short = omega arith; kind = refl }) h.1.0)
     (says_pair (says_section bare_field kind.Takes (codes "takes") (field (kinds m 64)) field_text p.1.1.0 (record { letter = refl; all = refl; short = omega arith; kind = refl }) (fields_at 64 p.1.1.0 h.1.1.0 m (omega (arith, le))))
@@ -121,8 +121,8 @@ head_good n =
 body_good : (n : ℕ) → Gives (body (braces (statements n 62) true)) BodyGood
 body_good n =
     let block = braces_good 63 (statements n 62) (statements_good n 62) in
-    gives_mapped BodyGood body_of (gives_pair (gives_sign kind.OpenBlock true) (gives_pair (gives_sign kind.Procedure true) (gives_pair block (gives_pair (gives_sign kind.Check true) (gives_pair block (gives_sign kind.CloseBlock true)))))) (λ p h m le.
-    says_same (body_of p) refl (says_mapped {B = both no_place (both no_place (both bare_block (both no_place (both bare_block no_place))))} {x = (0, (0, (p.1.1.0, (0, (p.1.1.1.1.0, 0)))))} bare_body body_of (λ z. refl)
+    gives_mapped BodyGood body_of_parts (gives_pair (gives_sign kind.OpenBlock true) (gives_pair (gives_sign kind.Procedure true) (gives_pair block (gives_pair (gives_sign kind.Check true) (gives_pair block (gives_sign kind.CloseBlock true)))))) (λ p h m le.
+    says_same (body_of_parts p) refl (says_mapped {B = both no_place (both no_place (both bare_block (both no_place (both bare_block no_place))))} {x = (0, (0, (p.1.1.0, (0, (p.1.1.1.1.0, 0)))))} bare_body body_of_parts (λ z. refl)
     (says_pair (says_ending kind.OpenBlock (codes "{") (omega arith) (λ place rest. refl)) (says_pair (says_word kind.Procedure (codes "procedure") (record { letter = refl; all = refl; short = omega arith; kind = refl }))
     (says_pair (h.1.1.0 m (omega (arith, le)) (ending (codes "}")) says_closed) (says_pair (says_word kind.Check (codes "check") (record { letter = refl; all = refl; short = omega arith; kind = refl }))
     (says_pair (h.1.1.1.1.0 m (omega (arith, le)) (ending (codes "}")) says_closed) says_closed)))))))
@@ -137,11 +137,11 @@ method_good n = gives_mapped MethodGood method_of (gives_pair (gives_sign kind.M
 
 -- ---- the whole text
 
-says_types : (ts : List TypeDef) → Every TypeGood ts → (n : ℕ) → 65 ≤ n → Says (map bare_type) (many (typedef (kinds n 63))) ts (each type_text ts)
+says_types : (ts : List TypeDef) → Every TypeGood ts → (n : ℕ) → 65 ≤ n → Says (map bare_type) (many (typedef (kinds n 63))) ts (each_text type_text ts)
 says_types [] g n le = says_many_none (map bare_type)
 says_types (t ∷ ts) g n le = says_many_more (g.0 n (omega (arith, le))) (says_types ts g.1 n le)
 
-says_methods : (ms : List Method) → Every MethodGood ms → (n : ℕ) → 65 ≤ n → Says (map bare_method) (many (method (kinds n 64) (braces (statements n 62) true))) ms (each method_text ms)
+says_methods : (ms : List Method) → Every MethodGood ms → (n : ℕ) → 65 ≤ n → Says (map bare_method) (many (method (kinds n 64) (braces (statements n 62) true))) ms (each_text method_text ms)
 says_methods [] g n le = says_many_none (map bare_method)
 says_methods (m ∷ ms) g n le = says_many_more (g.0 n le) (says_methods ms g.1 n le)
 
@@ -149,10 +149,10 @@ abbrev pub ContractGood : ContractTree → Type 0
 ContractGood c = (n : ℕ) → 65 ≤ n → Says without_places (contract n) c (contract_text c)
 
 abbrev MethodsGood : List Method → Type 0
-MethodsGood ms = (n : ℕ) → 65 ≤ n → Says (map bare_method) (mapped first_and_others (pair (method (kinds n 64) (braces (statements n 62) true)) (many (method (kinds n 64) (braces (statements n 62) true))))) ms (each method_text ms)
+MethodsGood ms = (n : ℕ) → 65 ≤ n → Says (map bare_method) (mapped first_and_others (pair (method (kinds n 64) (braces (statements n 62) true)) (many (method (kinds n 64) (braces (statements n 62) true))))) ms (each_text method_text ms)
 
 pub contract_good : (n : ℕ) → Gives (contract n) ContractGood
 unfolding contract_text
-contract_good n = gives_mapped ContractGood contract_of (gives_pair (gives_many (type_good n)) (gives_mapped MethodsGood first_and_others (gives_pair (method_good n) (gives_many (method_good n))) (λ p h m le.
+contract_good n = gives_mapped ContractGood contract_tree_of (gives_pair (gives_many (type_good n)) (gives_mapped MethodsGood first_and_others (gives_pair (method_good n) (gives_many (method_good n))) (λ p h m le.
     says_mapped {B = both bare_method (map bare_method)} {x = p} (map bare_method) first_and_others (λ z. refl) (says_pair (h.0 m le) (says_methods p.1 h.1 m le)))))
-    (λ p h m le. says_mapped {B = both (map bare_type) (map bare_method)} {x = p} without_places contract_of (λ z. refl) (says_pair (says_types p.0 h.0 m le) (h.1 m le)))
+    (λ p h m le. says_mapped {B = both (map bare_type) (map bare_method)} {x = p} without_places contract_tree_of (λ z. refl) (says_pair (says_types p.0 h.0 m le) (h.1 m le)))

@@ -13,7 +13,7 @@ use Rattle.cs_lang.specs.declared.tree.Access.{Access}
 use Rattle.cs_lang.specs.declared.tree.Access.TheOpen.{Access-F, Shape-F, Expr-F, Link-F, Step-F}
 use Rattle.cs_lang.specs.declared.tree.Access.TheFolds.{fold-Access, fold-Shape, fold-Expr, fold-Link, fold-Step}
 use Rattle.cs_lang_print.specs.Words.{word, quoted, operator_text, comparison_text, with_commas}
-use Rattle.cs_lang_print.specs.Spelling.{Spelled, tightness_of, operand_tightness, primary, in_parentheses, in_brackets, within, run_text}
+use Rattle.cs_lang_print.specs.Spelling.{Spelled, tightness_of, operand_tightness, primary_text, parenthesized, in_brackets, held_together, run_text}
 
 abbrev pub layer_kind : ValueKind-F (List ℕ) → List ℕ
 layer_kind ValueKind-F.Int = word (codes "int")
@@ -30,7 +30,7 @@ Linked = ℕ → List ℕ
 
 -- words that stand before what is in parentheses
 abbrev pub applied : List ℕ → List ℕ → List ℕ
-applied name inner = word name ++ in_parentheses inner
+applied name inner = word name ++ parenthesized inner
 
 -- whether the dep of this number called a method
 abbrev pub called_text : ℕ → Text → List ℕ
@@ -54,32 +54,32 @@ abbrev pub layer_step : Step-F (List ℕ) Spelled Spelled Linked (List ℕ) → 
 layer_step step = step.access
 
 abbrev pub layer_link : Link-F (List ℕ) Spelled Spelled Linked (List ℕ) → Linked
-layer_link link tight = word (operator_text link.operator) ++ within tight link.right
+layer_link link tight = word (operator_text link.operator) ++ held_together tight link.right
 
 abbrev pub layer_expr : Expr-F (List ℕ) Spelled Spelled Linked (List ℕ) → Spelled
 layer_expr e = e.shape
 
 abbrev pub layer_shape : Shape-F (List ℕ) Spelled Spelled Linked (List ℕ) → Spelled
-layer_shape (Shape-F.Number n) = primary (word (decimal n))
-layer_shape (Shape-F.Bytes bytes) = primary (quoted bytes)
-layer_shape (Shape-F.Truth b) = primary (word (truth_text b))
-layer_shape (Shape-F.Name name) = primary (word name)
-layer_shape (Shape-F.List items) = primary (in_brackets (with_commas spelled_text items))
-layer_shape (Shape-F.Empty k) = primary (word (codes "empty") ++ kind_text k)
-layer_shape (Shape-F.Len e) = primary (applied (codes "len") e.text)
-layer_shape (Shape-F.Sha256 e) = primary (applied (codes "sha256") e.text)
+layer_shape (Shape-F.Number n) = primary_text (word (decimal n))
+layer_shape (Shape-F.Bytes bytes) = primary_text (quoted bytes)
+layer_shape (Shape-F.Truth b) = primary_text (word (truth_text b))
+layer_shape (Shape-F.Name name) = primary_text (word name)
+layer_shape (Shape-F.List items) = primary_text (in_brackets (with_commas spelled_text items))
+layer_shape (Shape-F.Empty k) = primary_text (word (codes "empty") ++ kind_text k)
+layer_shape (Shape-F.Len e) = primary_text (applied (codes "len") e.text)
+layer_shape (Shape-F.Sha256 e) = primary_text (applied (codes "sha256") e.text)
 layer_shape (Shape-F.Concat front back) =
-    primary (applied (codes "concat") (front.text ++ (word (codes ",") ++ back.text)))
-layer_shape (Shape-F.Called dep method) = primary (called_text dep method)
-layer_shape (Shape-F.DepInt dep value) = primary (depint_text dep value)
-layer_shape (Shape-F.Path start steps) = record { tightness = 7; text = run_text (within 8 start) steps }
-layer_shape (Shape-F.Not e) = record { tightness = 2; text = word (codes "not") ++ within 2 e }
-layer_shape (Shape-F.Negative e) = record { tightness = 6; text = word (codes "-") ++ within 6 e }
+    primary_text (applied (codes "concat") (front.text ++ (word (codes ",") ++ back.text)))
+layer_shape (Shape-F.Called dep method) = primary_text (called_text dep method)
+layer_shape (Shape-F.DepInt dep value) = primary_text (depint_text dep value)
+layer_shape (Shape-F.Path start steps) = record { tightness = 7; text = run_text (held_together 8 start) steps }
+layer_shape (Shape-F.Not e) = record { tightness = 2; text = word (codes "not") ++ held_together 2 e }
+layer_shape (Shape-F.Negative e) = record { tightness = 6; text = word (codes "-") ++ held_together 6 e }
 layer_shape (Shape-F.Compared c left right) =
-    record { tightness = 3; text = within 4 left ++ (word (comparison_text c) ++ within 4 right) }
+    record { tightness = 3; text = held_together 4 left ++ (word (comparison_text c) ++ held_together 4 right) }
 layer_shape (Shape-F.Chain r start links) =
     let inner = operand_tightness r in
-    record { tightness = tightness_of r; text = run_text (within inner start) (map (λ link. link inner) links) }
+    record { tightness = tightness_of r; text = run_text (held_together inner start) (map (λ link. link inner) links) }
 
 unfoldable pub spelled : Expr → Spelled
 spelled = fold-Expr (List ℕ) Spelled Spelled Linked (List ℕ) layer_access layer_shape layer_expr layer_link layer_step

@@ -22,24 +22,24 @@ operand_tightness rank.And = 2
 operand_tightness rank.Sum = 5
 operand_tightness rank.Product = 6
 
-abbrev pub primary : List ℕ → Spelled
-primary text = record { tightness = 8; text = text }
+abbrev pub primary_text : List ℕ → Spelled
+primary_text text = record { tightness = 8; text = text }
 
-abbrev pub in_parentheses : List ℕ → List ℕ
-in_parentheses text = word (codes "(") ++ (text ++ word (codes ")"))
+abbrev pub parenthesized : List ℕ → List ℕ
+parenthesized text = word (codes "(") ++ (text ++ word (codes ")"))
 
 abbrev pub in_brackets : List ℕ → List ℕ
 in_brackets text = word (codes "[") ++ (text ++ word (codes "]"))
 
 -- an expression where it has to hold together so tightly
-abbrev pub within : ℕ → Spelled → List ℕ
-within tight e = if nat_lt e.tightness tight then in_parentheses e.text else e.text
+abbrev pub held_together : ℕ → Spelled → List ℕ
+held_together tight e = if nat_lt e.tightness tight then parenthesized e.text else e.text
 
 -- What stands before an operator or a step that has so many behind it, with itself.
 -- A chain or a path has at most 64 of them without parentheses,
 -- counted from the last one back.
 abbrev pub held : ℕ → List ℕ → List ℕ
-held left before = if left % 64 == 0 then in_parentheses before else before
+held left before = if left % 64 == 0 then parenthesized before else before
 
 abbrev pub run_on : List ℕ → List (List ℕ) → List ℕ
 run_on before [] = before

@@ -8,7 +8,7 @@ use Rattle.cs_lang.specs.declared.tree.Statement.{Statement}
 use Rattle.cs_lang.specs.declared.tree.Action.{Action}
 use Rattle.cs_lang.specs.declared.tree.Action.TheOpen.{Block-F, Statement-F, Action-F}
 use Rattle.cs_lang.specs.declared.tree.Action.TheFolds.{fold-Block, fold-Statement, fold-Action}
-use Rattle.cs_lang_print.specs.Words.{word, ending, each, with_commas}
+use Rattle.cs_lang_print.specs.Words.{word, ending, each_text, with_commas}
 use Rattle.cs_lang_print.specs.Expressions.{expr_text}
 
 abbrev pub name_text : Text → List ℕ
@@ -66,7 +66,7 @@ abbrev pub layer_statement : Statement-F (List ℕ) (List ℕ) (List ℕ) → Li
 layer_statement s = s.action
 
 abbrev pub layer_block : Block-F (List ℕ) (List ℕ) (List ℕ) → List ℕ
-layer_block b = each (λ s. s) b.statements
+layer_block b = each_text (λ s. s) b.statements
 
 -- the statements of a block
 unfoldable pub statements_text : Block → List ℕ

@@ -5,7 +5,7 @@ use Rattle.cs_lang.specs.declared.tree.Slot.{Slot}
 use Rattle.cs_lang.specs.declared.tree.TypeDef.{TypeDef}
 use Rattle.cs_lang.specs.declared.tree.Method.{Method}
 use Rattle.cs_lang.specs.declared.tree.ContractTree.{ContractTree}
-use Rattle.cs_lang_print.specs.Words.{word, ending, each, with_commas}
+use Rattle.cs_lang_print.specs.Words.{word, ending, each_text, with_commas}
 use Rattle.cs_lang_print.specs.Expressions.{kind_text}
 use Rattle.cs_lang_print.specs.Statements.{name_text, block_text, statements_text}
 
@@ -44,4 +44,4 @@ method_text m = word (codes "method") ++ (name_text m.name ++ (head_text m ++ bo
 
 -- the text of a contract
 unfoldable pub contract_text : ContractTree → List ℕ
-contract_text c = each type_text c.types ++ each method_text c.methods
+contract_text c = each_text type_text c.types ++ each_text method_text c.methods

@@ -47,14 +47,14 @@ abbrev pub Appends : {A E Z : Type 0} → Result A E → Vec ℕ Z → Vec ℕ Z
 Appends result old new text = OnOk result (new.items ≡ old.items ++ text)
 
 -- new goes on where old ends
-pub record Begins (new old : List ℕ) : Type 0 where
+pub record GoesOnBehind (new old : List ℕ) : Type 0 where
   pub more : List ℕ
   pub is : new ≡ old ++ more
 
 -- one text behind the other
-abbrev pub each : {X : Type 0} → (X → List ℕ) → List X → List ℕ
-each text [] = []
-each text (x ∷ xs) = text x ++ each text xs
+abbrev pub each_text : {X : Type 0} → (X → List ℕ) → List X → List ℕ
+each_text text [] = []
+each_text text (x ∷ xs) = text x ++ each_text text xs
 
 abbrev pub behind_comma : {X : Type 0} → (X → List ℕ) → X → List ℕ
 behind_comma text x = word (codes ",") ++ text x
@@ -62,4 +62,4 @@ behind_comma text x = word (codes ",") ++ text x
 -- with commas between them
 abbrev pub with_commas : {X : Type 0} → (X → List ℕ) → List X → List ℕ
 with_commas text [] = []
-with_commas text (x ∷ xs) = text x ++ each (behind_comma text) xs
+with_commas text (x ∷ xs) = text x ++ each_text (behind_comma text) xs

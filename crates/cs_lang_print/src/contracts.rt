@@ -1,8 +1,8 @@
 //! Printing whole contracts.
 ghost use Rattle.std.specs.Prelude.{OnErr};
-ghost use Rattle.cs_lang.specs.Texts.{IsShort};
-ghost use Rattle.cs_lang_print.specs.Again.{IsReadAgain};
-ghost use Rattle.cs_lang_print.specs.Words.{each, behind_comma, with_commas, Appends, Begins};
+ghost use Rattle.cs_lang.specs.Texts.{IsShortText};
+ghost use Rattle.cs_lang_print.specs.Again.{ContractIsReadAgain};
+ghost use Rattle.cs_lang_print.specs.Words.{each_text, behind_comma, with_commas, Appends, GoesOnBehind};
 ghost use Rattle.cs_lang_print.specs.Texts.{field_text, star_text, slot_text, section_text, type_text, head_text, body_text, method_text, contract_text};
 
 use crate::kinds::put_kind;
@@ -14,7 +14,7 @@ use std::alloc::{AllocError, Global};
 /// A field.
 fn put_field(field: &Field, out: &mut Vec<u8>) -> Result<(), AllocError>
     ensures text { Appends result out.old out.new (field_text field.now) }
-    ensures front { OnErr result (Begins out.new.items out.old.items) }
+    ensures front { OnErr result (GoesOnBehind out.new.items out.old.items) }
 {
     put_name(&field.name, out)?;
     put_word(b":", out)?;
@@ -24,7 +24,7 @@ fn put_field(field: &Field, out: &mut Vec<u8>) -> Result<(), AllocError>
 /// A field behind a comma.
 fn put_other_field(field: &Field, out: &mut Vec<u8>) -> Result<(), AllocError>
     ensures text { Appends result out.old out.new (behind_comma field_text field.now) }
-    ensures front { OnErr result (Begins out.new.items out.old.items) }
+    ensures front { OnErr result (GoesOnBehind out.new.items out.old.items) }
 {
     put_word(b",", out)?;
     put_field(field, out)
@@ -32,8 +32,8 @@ fn put_other_field(field: &Field, out: &mut Vec<u8>) -> Result<(), AllocError>
 
 /// Fields, each behind a comma.
 fn put_other_fields(fields: &[Field], out: &mut Vec<u8>) -> Result<(), AllocError>
-    ensures text { Appends result out.old out.new (each (behind_comma field_text) fields.now) }
-    ensures front { OnErr result (Begins out.new.items out.old.items) }
+    ensures text { Appends result out.old out.new (each_text (behind_comma field_text) fields.now) }
+    ensures front { OnErr result (GoesOnBehind out.new.items out.old.items) }
 {
     for field in fields {
         put_other_field(field, out)?;
@@ -44,7 +44,7 @@ fn put_other_fields(fields: &[Field], out: &mut Vec<u8>) -> Result<(), AllocErro
 /// Fields with commas between them.
 fn put_fields(fields: &[Field], out: &mut Vec<u8>) -> Result<(), AllocError>
     ensures text { Appends result out.old out.new (with_commas field_text fields.now) }
-    ensures front { OnErr result (Begins out.new.items out.old.items) }
+    ensures front { OnErr result (GoesOnBehind out.new.items out.old.items) }
 {
     match fields {
         [] => Ok(()),
@@ -58,7 +58,7 @@ fn put_fields(fields: &[Field], out: &mut Vec<u8>) -> Result<(), AllocError>
 /// The sign of any number of objects.
 fn put_star(many: bool, out: &mut Vec<u8>) -> Result<(), AllocError>
     ensures text { Appends result out.old out.new (star_text many) }
-    ensures front { OnErr result (Begins out.new.items out.old.items) }
+    ensures front { OnErr result (GoesOnBehind out.new.items out.old.items) }
 {
     if many {
         return put_word(b"*", out);
@@ -69,7 +69,7 @@ fn put_star(many: bool, out: &mut Vec<u8>) -> Result<(), AllocError>
 /// A slot.
 fn put_slot(slot: &Slot, out: &mut Vec<u8>) -> Result<(), AllocError>
     ensures text { Appends result out.old out.new (slot_text slot.now) }
-    ensures front { OnErr result (Begins out.new.items out.old.items) }
+    ensures front { OnErr result (GoesOnBehind out.new.items out.old.items) }
 {
     put_name(&slot.name, out)?;
     put_word(b":", out)?;
@@ -80,7 +80,7 @@ fn put_slot(slot: &Slot, out: &mut Vec<u8>) -> Result<(), AllocError>
 /// A slot behind a comma.
 fn put_other_slot(slot: &Slot, out: &mut Vec<u8>) -> Result<(), AllocError>
     ensures text { Appends result out.old out.new (behind_comma slot_text slot.now) }
-    ensures front { OnErr result (Begins out.new.items out.old.items) }
+    ensures front { OnErr result (GoesOnBehind out.new.items out.old.items) }
 {
     put_word(b",", out)?;
     put_slot(slot, out)
@@ -88,8 +88,8 @@ fn put_other_slot(slot: &Slot, out: &mut Vec<u8>) -> Result<(), AllocError>
 
 /// Slots, each behind a comma.
 fn put_other_slots(slots: &[Slot], out: &mut Vec<u8>) -> Result<(), AllocError>
-    ensures text { Appends result out.old out.new (each (behind_comma slot_text) slots.now) }
-    ensures front { OnErr result (Begins out.new.items out.old.items) }
+    ensures text { Appends result out.old out.new (each_text (behind_comma slot_text) slots.now) }
+    ensures front { OnErr result (GoesOnBehind out.new.items out.old.items) }
 {
     for slot in slots {
         put_other_slot(slot, out)?;
@@ -100,7 +100,7 @@ fn put_other_slots(slots: &[Slot], out: &mut Vec<u8>) -> Result<(), AllocError>
 /// Slots behind a word, where there are some.
 fn put_slots(first: &[u8], slots: &[Slot], out: &mut Vec<u8>) -> Result<(), AllocError>
     ensures text { Appends result out.old out.new (section_text first.now slot_text slots.now) }
-    ensures front { OnErr result (Begins out.new.items out.old.items) }
+    ensures front { OnErr result (GoesOnBehind out.new.items out.old.items) }
 {
     match slots {
         [] => Ok(()),
@@ -115,7 +115,7 @@ fn put_slots(first: &[u8], slots: &[Slot], out: &mut Vec<u8>) -> Result<(), Allo
 /// Fields behind a word, where there are some.
 fn put_fields_behind(first: &[u8], fields: &[Field], out: &mut Vec<u8>) -> Result<(), AllocError>
     ensures text { Appends result out.old out.new (section_text first.now field_text fields.now) }
-    ensures front { OnErr result (Begins out.new.items out.old.items) }
+    ensures front { OnErr result (GoesOnBehind out.new.items out.old.items) }
 {
     match fields {
         [] => Ok(()),
@@ -130,7 +130,7 @@ fn put_fields_behind(first: &[u8], fields: &[Field], out: &mut Vec<u8>) -> Resul
 /// A type.
 fn put_type(typedef: &TypeDef, out: &mut Vec<u8>) -> Result<(), AllocError>
     ensures text { Appends result out.old out.new (type_text typedef.now) }
-    ensures front { OnErr result (Begins out.new.items out.old.items) }
+    ensures front { OnErr result (GoesOnBehind out.new.items out.old.items) }
 {
     put_word(b"type", out)?;
     put_name(&typedef.name, out)?;
@@ -143,7 +143,7 @@ fn put_type(typedef: &TypeDef, out: &mut Vec<u8>) -> Result<(), AllocError>
 /// What a method takes and gives.
 fn put_head(method: &Method, out: &mut Vec<u8>) -> Result<(), AllocError>
     ensures text { Appends result out.old out.new (head_text method.now) }
-    ensures front { OnErr result (Begins out.new.items out.old.items) }
+    ensures front { OnErr result (GoesOnBehind out.new.items out.old.items) }
 {
     put_slots(b"consumes", method.consumes.as_slice(), out)?;
     put_slots(b"reads", method.reads.as_slice(), out)?;
@@ -155,7 +155,7 @@ fn put_head(method: &Method, out: &mut Vec<u8>) -> Result<(), AllocError>
 /// What a method does.
 fn put_body(alloc: Global, method: &Method, out: &mut Vec<u8>) -> Result<(), AllocError>
     ensures text { Appends result out.old out.new (body_text method.now) }
-    ensures front { OnErr result (Begins out.new.items out.old.items) }
+    ensures front { OnErr result (GoesOnBehind out.new.items out.old.items) }
 {
     put_ending(b"{", out)?;
     put_word(b"procedure", out)?;
@@ -168,7 +168,7 @@ fn put_body(alloc: Global, method: &Method, out: &mut Vec<u8>) -> Result<(), All
 /// A method.
 fn put_method(alloc: Global, method: &Method, out: &mut Vec<u8>) -> Result<(), AllocError>
     ensures text { Appends result out.old out.new (method_text method.now) }
-    ensures front { OnErr result (Begins out.new.items out.old.items) }
+    ensures front { OnErr result (GoesOnBehind out.new.items out.old.items) }
 {
     put_word(b"method", out)?;
     put_name(&method.name, out)?;
@@ -178,8 +178,8 @@ fn put_method(alloc: Global, method: &Method, out: &mut Vec<u8>) -> Result<(), A
 
 /// Types, each on its line.
 fn put_types(types: &[TypeDef], out: &mut Vec<u8>) -> Result<(), AllocError>
-    ensures text { Appends result out.old out.new (each type_text types.now) }
-    ensures front { OnErr result (Begins out.new.items out.old.items) }
+    ensures text { Appends result out.old out.new (each_text type_text types.now) }
+    ensures front { OnErr result (GoesOnBehind out.new.items out.old.items) }
 {
     for typedef in types {
         put_type(typedef, out)?;
@@ -189,8 +189,8 @@ fn put_types(types: &[TypeDef], out: &mut Vec<u8>) -> Result<(), AllocError>
 
 /// Methods.
 fn put_methods(alloc: Global, methods: &[Method], out: &mut Vec<u8>) -> Result<(), AllocError>
-    ensures text { Appends result out.old out.new (each method_text methods.now) }
-    ensures front { OnErr result (Begins out.new.items out.old.items) }
+    ensures text { Appends result out.old out.new (each_text method_text methods.now) }
+    ensures front { OnErr result (GoesOnBehind out.new.items out.old.items) }
 {
     for method in methods {
         put_method(alloc, method, out)?;
@@ -206,9 +206,9 @@ pub fn print(alloc: Global, contract: &Contract, out: &mut Vec<u8>) -> Result<()
     // What is appended is the text of the definition.
     ensures text { Appends result out.old out.new (contract_text contract.now) }
     // On want of memory what was there still stands at the front.
-    ensures front { OnErr result (Begins out.new.items out.old.items) }
+    ensures front { OnErr result (GoesOnBehind out.new.items out.old.items) }
     // If it is no longer than a text may be, it is the same contract but for places.
-    ensures again { IsShort (contract_text contract.now) → IsReadAgain contract.now }
+    ensures again { IsShortText (contract_text contract.now) → ContractIsReadAgain contract.now }
 {
     let tree = contract.tree();
     put_types(tree.types.as_slice(), out)?;

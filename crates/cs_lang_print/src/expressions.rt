@@ -1,7 +1,7 @@
 //! Printing expressions.
 ghost use Rattle.std.specs.Prelude.{◌≡◌, ◌++◌, false, codes, OnErr};
-ghost use Rattle.cs_lang_print.specs.Words.{word, operator_text, with_commas, Appends, Begins};
-ghost use Rattle.cs_lang_print.specs.Spelling.{tightness_of, operand_tightness, within, in_parentheses, in_brackets};
+ghost use Rattle.cs_lang_print.specs.Words.{word, operator_text, with_commas, Appends, GoesOnBehind};
+ghost use Rattle.cs_lang_print.specs.Spelling.{tightness_of, operand_tightness, held_together, parenthesized, in_brackets};
 ghost use Rattle.cs_lang_print.specs.Expressions.{spelled, spelled_link, step_text, expr_text, truth_text, kind_text, applied, called_text, depint_text};
 ghost use Rattle.cs_lang_print.specs.Runs.{times, openings, closing, parts_text, comma_text, items_text};
 
@@ -66,8 +66,8 @@ fn tightness(expr: &Expr) -> u8
 /// An expression where it has to hold together so tightly.
 #[cycle(spelling)]
 fn put_within(alloc: Global, tight: u8, expr: &Expr, out: &mut Vec<u8>) -> Result<(), AllocError>
-    ensures text { Appends result out.old out.new (within tight (spelled expr.now)) }
-    ensures front { OnErr result (Begins out.new.items out.old.items) }
+    ensures text { Appends result out.old out.new (held_together tight (spelled expr.now)) }
+    ensures front { OnErr result (GoesOnBehind out.new.items out.old.items) }
 {
     if tightness(expr) < tight {
         return put_grouped(alloc, expr, out);
@@ -78,8 +78,8 @@ fn put_within(alloc: Global, tight: u8, expr: &Expr, out: &mut Vec<u8>) -> Resul
 /// An expression in parentheses.
 #[cycle(spelling)]
 fn put_grouped(alloc: Global, expr: &Expr, out: &mut Vec<u8>) -> Result<(), AllocError>
-    ensures text { Appends result out.old out.new (in_parentheses (expr_text expr.now)) }
-    ensures front { OnErr result (Begins out.new.items out.old.items) }
+    ensures text { Appends result out.old out.new (parenthesized (expr_text expr.now)) }
+    ensures front { OnErr result (GoesOnBehind out.new.items out.old.items) }
 {
     put_word(b"(", out)?;
     put_expr(alloc, expr, out)?;
@@ -90,7 +90,7 @@ fn put_grouped(alloc: Global, expr: &Expr, out: &mut Vec<u8>) -> Result<(), Allo
 #[cycle(spelling)]
 fn put_item(alloc: Global, behind: bool, item: &Expr, out: &mut Vec<u8>) -> Result<(), AllocError>
     ensures text { Appends result out.old out.new (comma_text behind ++ expr_text item.now) }
-    ensures front { OnErr result (Begins out.new.items out.old.items) }
+    ensures front { OnErr result (GoesOnBehind out.new.items out.old.items) }
 {
     put_comma(behind, out)?;
     put_expr(alloc, item, out)
@@ -100,7 +100,7 @@ fn put_item(alloc: Global, behind: bool, item: &Expr, out: &mut Vec<u8>) -> Resu
 #[cycle(spelling)]
 fn put_row(alloc: Global, items: &[Expr], out: &mut Vec<u8>) -> Result<(), AllocError>
     ensures text { Appends result out.old out.new (items_text expr_text false items.now) }
-    ensures front { OnErr result (Begins out.new.items out.old.items) }
+    ensures front { OnErr result (GoesOnBehind out.new.items out.old.items) }
 {
     let mut behind = false;
     for item in items {
@@ -115,7 +115,7 @@ fn put_row(alloc: Global, items: &[Expr], out: &mut Vec<u8>) -> Result<(), Alloc
 #[tactic(auto, using(crate::proofs::RunTexts::items))]
 pub fn put_list(alloc: Global, items: &[Expr], out: &mut Vec<u8>) -> Result<(), AllocError>
     ensures text { Appends result out.old out.new (with_commas expr_text items.now) }
-    ensures front { OnErr result (Begins out.new.items out.old.items) }
+    ensures front { OnErr result (GoesOnBehind out.new.items out.old.items) }
 {
     put_row(alloc, items, out)
 }
@@ -123,7 +123,7 @@ pub fn put_list(alloc: Global, items: &[Expr], out: &mut Vec<u8>) -> Result<(), 
 /// A comma, behind an item.
 fn put_comma(behind: bool, out: &mut Vec<u8>) -> Result<(), AllocError>
     ensures text { Appends result out.old out.new (comma_text behind) }
-    ensures front { OnErr result (Begins out.new.items out.old.items) }
+    ensures front { OnErr result (GoesOnBehind out.new.items out.old.items) }
 {
     if behind {
         return put_word(b",", out);
@@ -134,7 +134,7 @@ fn put_comma(behind: bool, out: &mut Vec<u8>) -> Result<(), AllocError>
 /// So many opening parentheses.
 fn put_opened(count: usize, out: &mut Vec<u8>) -> Result<(), AllocError>
     ensures text { Appends result out.old out.new (times count (word (codes "("))) }
-    ensures front { OnErr result (Begins out.new.items out.old.items) }
+    ensures front { OnErr result (GoesOnBehind out.new.items out.old.items) }
 {
     for _ in 0..count {
         put_word(b"(", out)?;
@@ -146,7 +146,7 @@ fn put_opened(count: usize, out: &mut Vec<u8>) -> Result<(), AllocError>
 #[tactic(auto, unfolding(crate::specs::Runs::openings))]
 fn put_openings(count: usize, out: &mut Vec<u8>) -> Result<(), AllocError>
     ensures text { Appends result out.old out.new (openings count) }
-    ensures front { OnErr result (Begins out.new.items out.old.items) }
+    ensures front { OnErr result (GoesOnBehind out.new.items out.old.items) }
 {
     put_opened(count.saturating_sub(1) / MOST_OPERATORS, out)
 }
@@ -155,7 +155,7 @@ fn put_openings(count: usize, out: &mut Vec<u8>) -> Result<(), AllocError>
 /// where that one stands behind another.
 fn put_closing(behind: bool, left: usize, out: &mut Vec<u8>) -> Result<(), AllocError>
     ensures text { Appends result out.old out.new (closing behind left) }
-    ensures front { OnErr result (Begins out.new.items out.old.items) }
+    ensures front { OnErr result (GoesOnBehind out.new.items out.old.items) }
 {
     if behind && left % MOST_OPERATORS == 0 {
         return put_word(b")", out);
@@ -173,8 +173,8 @@ fn put_right(
     out: &mut Vec<u8>,
 ) -> Result<(), AllocError>
     ensures text { Appends result out.old out.new (word (operator_text operator)
-        ++ within tight (spelled right.now)) }
-    ensures front { OnErr result (Begins out.new.items out.old.items) }
+        ++ held_together tight (spelled right.now)) }
+    ensures front { OnErr result (GoesOnBehind out.new.items out.old.items) }
 {
     put_operator(operator, out)?;
     put_within(alloc, tight, right, out)
@@ -185,7 +185,7 @@ fn put_right(
 #[tactic(auto, using(crate::proofs::Layers::links))]
 fn put_link(alloc: Global, tight: u8, link: &Link, out: &mut Vec<u8>) -> Result<(), AllocError>
     ensures text { Appends result out.old out.new (spelled_link link.now tight) }
-    ensures front { OnErr result (Begins out.new.items out.old.items) }
+    ensures front { OnErr result (GoesOnBehind out.new.items out.old.items) }
 {
     put_right(alloc, tight, link.operator, &link.right, out)
 }
@@ -202,7 +202,7 @@ fn put_next_link(
 ) -> Result<(), AllocError>
     ensures text { Appends result out.old out.new (closing behind left
         ++ spelled_link link.now tight) }
-    ensures front { OnErr result (Begins out.new.items out.old.items) }
+    ensures front { OnErr result (GoesOnBehind out.new.items out.old.items) }
 {
     put_closing(behind, left, out)?;
     put_link(alloc, tight, link, out)
@@ -213,7 +213,7 @@ fn put_next_link(
 fn put_links(alloc: Global, tight: u8, links: &[Link], out: &mut Vec<u8>) -> Result<(), AllocError>
     ensures text { Appends result out.old out.new
         (parts_text (λ link. spelled_link link tight) false links.now) }
-    ensures front { OnErr result (Begins out.new.items out.old.items) }
+    ensures front { OnErr result (GoesOnBehind out.new.items out.old.items) }
 {
     let mut behind = false;
     let mut left = links.len();
@@ -229,7 +229,7 @@ fn put_links(alloc: Global, tight: u8, links: &[Link], out: &mut Vec<u8>) -> Res
 #[cycle(spelling)]
 fn put_index(alloc: Global, index: &Expr, out: &mut Vec<u8>) -> Result<(), AllocError>
     ensures text { Appends result out.old out.new (in_brackets (expr_text index.now)) }
-    ensures front { OnErr result (Begins out.new.items out.old.items) }
+    ensures front { OnErr result (GoesOnBehind out.new.items out.old.items) }
 {
     put_word(b"[", out)?;
     put_expr(alloc, index, out)?;
@@ -239,7 +239,7 @@ fn put_index(alloc: Global, index: &Expr, out: &mut Vec<u8>) -> Result<(), Alloc
 /// A name behind a dot.
 fn put_field(name: &Text, out: &mut Vec<u8>) -> Result<(), AllocError>
     ensures text { Appends result out.old out.new (word (codes ".") ++ word name.now.bytes) }
-    ensures front { OnErr result (Begins out.new.items out.old.items) }
+    ensures front { OnErr result (GoesOnBehind out.new.items out.old.items) }
 {
     put_word(b".", out)?;
     put_word(name.bytes.as_slice(), out)
@@ -250,7 +250,7 @@ fn put_field(name: &Text, out: &mut Vec<u8>) -> Result<(), AllocError>
 #[tactic(auto, using(crate::proofs::Layers::steps))]
 fn put_step(alloc: Global, step: &Step, out: &mut Vec<u8>) -> Result<(), AllocError>
     ensures text { Appends result out.old out.new (step_text step.now) }
-    ensures front { OnErr result (Begins out.new.items out.old.items) }
+    ensures front { OnErr result (GoesOnBehind out.new.items out.old.items) }
 {
     match &step.access {
         Access::Field(name) => put_field(name, out),
@@ -268,7 +268,7 @@ fn put_next_step(
     out: &mut Vec<u8>,
 ) -> Result<(), AllocError>
     ensures text { Appends result out.old out.new (closing behind left ++ step_text step.now) }
-    ensures front { OnErr result (Begins out.new.items out.old.items) }
+    ensures front { OnErr result (GoesOnBehind out.new.items out.old.items) }
 {
     put_closing(behind, left, out)?;
     put_step(alloc, step, out)
@@ -278,7 +278,7 @@ fn put_next_step(
 #[cycle(spelling)]
 fn put_steps(alloc: Global, steps: &[Step], out: &mut Vec<u8>) -> Result<(), AllocError>
     ensures text { Appends result out.old out.new (parts_text step_text false steps.now) }
-    ensures front { OnErr result (Begins out.new.items out.old.items) }
+    ensures front { OnErr result (GoesOnBehind out.new.items out.old.items) }
 {
     let mut behind = false;
     let mut left = steps.len();
@@ -293,7 +293,7 @@ fn put_steps(alloc: Global, steps: &[Step], out: &mut Vec<u8>) -> Result<(), All
 /// A truth.
 fn put_truth(truth: bool, out: &mut Vec<u8>) -> Result<(), AllocError>
     ensures text { Appends result out.old out.new (word (truth_text truth)) }
-    ensures front { OnErr result (Begins out.new.items out.old.items) }
+    ensures front { OnErr result (GoesOnBehind out.new.items out.old.items) }
 {
     if truth {
         put_word(b"true", out)
@@ -305,7 +305,7 @@ fn put_truth(truth: bool, out: &mut Vec<u8>) -> Result<(), AllocError>
 /// The number of a dep and the name of a method.
 fn put_called(alloc: Global, dep: u64, method: &Text, out: &mut Vec<u8>) -> Result<(), AllocError>
     ensures text { Appends result out.old out.new (called_text dep method.now) }
-    ensures front { OnErr result (Begins out.new.items out.old.items) }
+    ensures front { OnErr result (GoesOnBehind out.new.items out.old.items) }
 {
     put_word(b"called", out)?;
     put_word(b"(", out)?;
@@ -318,7 +318,7 @@ fn put_called(alloc: Global, dep: u64, method: &Text, out: &mut Vec<u8>) -> Resu
 /// The number of a dep and the place of a returned value.
 fn put_depint(alloc: Global, dep: u64, value: u64, out: &mut Vec<u8>) -> Result<(), AllocError>
     ensures text { Appends result out.old out.new (depint_text dep value) }
-    ensures front { OnErr result (Begins out.new.items out.old.items) }
+    ensures front { OnErr result (GoesOnBehind out.new.items out.old.items) }
 {
     put_word(b"depint", out)?;
     put_word(b"(", out)?;
@@ -331,7 +331,7 @@ fn put_depint(alloc: Global, dep: u64, value: u64, out: &mut Vec<u8>) -> Result<
 /// The kind of an empty list.
 fn put_empty(kind: &ValueKind, out: &mut Vec<u8>) -> Result<(), AllocError>
     ensures text { Appends result out.old out.new (word (codes "empty") ++ kind_text kind.now) }
-    ensures front { OnErr result (Begins out.new.items out.old.items) }
+    ensures front { OnErr result (GoesOnBehind out.new.items out.old.items) }
 {
     put_word(b"empty", out)?;
     put_kind(kind, out)
@@ -346,7 +346,7 @@ fn put_applied(
     out: &mut Vec<u8>,
 ) -> Result<(), AllocError>
     ensures text { Appends result out.old out.new (applied name.now (expr_text inner.now)) }
-    ensures front { OnErr result (Begins out.new.items out.old.items) }
+    ensures front { OnErr result (GoesOnBehind out.new.items out.old.items) }
 {
     put_word(name, out)?;
     put_grouped(alloc, inner, out)
@@ -357,7 +357,7 @@ fn put_applied(
 fn put_front(alloc: Global, front: &Expr, out: &mut Vec<u8>) -> Result<(), AllocError>
     ensures text { Appends result out.old out.new (word (codes "concat")
         ++ (word (codes "(") ++ expr_text front.now)) }
-    ensures front { OnErr result (Begins out.new.items out.old.items) }
+    ensures front { OnErr result (GoesOnBehind out.new.items out.old.items) }
 {
     put_word(b"concat", out)?;
     put_word(b"(", out)?;
@@ -369,7 +369,7 @@ fn put_front(alloc: Global, front: &Expr, out: &mut Vec<u8>) -> Result<(), Alloc
 fn put_back(alloc: Global, back: &Expr, out: &mut Vec<u8>) -> Result<(), AllocError>
     ensures text { Appends result out.old out.new (word (codes ",")
         ++ (expr_text back.now ++ word (codes ")"))) }
-    ensures front { OnErr result (Begins out.new.items out.old.items) }
+    ensures front { OnErr result (GoesOnBehind out.new.items out.old.items) }
 {
     put_word(b",", out)?;
     put_expr(alloc, back, out)?;
@@ -380,7 +380,7 @@ fn put_back(alloc: Global, back: &Expr, out: &mut Vec<u8>) -> Result<(), AllocEr
 #[cycle(spelling)]
 fn put_items(alloc: Global, items: &[Expr], out: &mut Vec<u8>) -> Result<(), AllocError>
     ensures text { Appends result out.old out.new (in_brackets (with_commas expr_text items.now)) }
-    ensures front { OnErr result (Begins out.new.items out.old.items) }
+    ensures front { OnErr result (GoesOnBehind out.new.items out.old.items) }
 {
     put_word(b"[", out)?;
     put_list(alloc, items, out)?;
@@ -397,8 +397,8 @@ fn put_turned(
     out: &mut Vec<u8>,
 ) -> Result<(), AllocError>
     ensures text { Appends result out.old out.new (word name.now
-        ++ within tight (spelled inner.now)) }
-    ensures front { OnErr result (Begins out.new.items out.old.items) }
+        ++ held_together tight (spelled inner.now)) }
+    ensures front { OnErr result (GoesOnBehind out.new.items out.old.items) }
 {
     put_word(name, out)?;
     put_within(alloc, tight, inner, out)
@@ -409,7 +409,7 @@ fn put_turned(
 #[tactic(auto, using(crate::proofs::Layers::texts))]
 pub fn put_expr(alloc: Global, expr: &Expr, out: &mut Vec<u8>) -> Result<(), AllocError>
     ensures text { Appends result out.old out.new (expr_text expr.now) }
-    ensures front { OnErr result (Begins out.new.items out.old.items) }
+    ensures front { OnErr result (GoesOnBehind out.new.items out.old.items) }
 {
     match &expr.shape {
         Shape::Number(number) => put_number(alloc, *number, out),

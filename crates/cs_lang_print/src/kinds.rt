@@ -1,6 +1,6 @@
 //! Printing kinds.
 ghost use Rattle.std.specs.Prelude.{OnErr};
-ghost use Rattle.cs_lang_print.specs.Words.{Appends, Begins};
+ghost use Rattle.cs_lang_print.specs.Words.{Appends, GoesOnBehind};
 ghost use Rattle.cs_lang_print.specs.Expressions.{kind_text};
 ghost use Rattle.cs_lang_print.specs.Spelling.{in_brackets};
 
@@ -12,7 +12,7 @@ use std::alloc::AllocError;
 #[cycle(kinds)]
 fn put_items(items: &ValueKind, out: &mut Vec<u8>) -> Result<(), AllocError>
     ensures text { Appends result out.old out.new (in_brackets (kind_text items.now)) }
-    ensures front { OnErr result (Begins out.new.items out.old.items) }
+    ensures front { OnErr result (GoesOnBehind out.new.items out.old.items) }
 {
     put_word(b"[", out)?;
     put_kind(items, out)?;
@@ -24,7 +24,7 @@ fn put_items(items: &ValueKind, out: &mut Vec<u8>) -> Result<(), AllocError>
 #[tactic(auto, using(crate::proofs::KindTexts::kinds))]
 pub fn put_kind(kind: &ValueKind, out: &mut Vec<u8>) -> Result<(), AllocError>
     ensures text { Appends result out.old out.new (kind_text kind.now) }
-    ensures front { OnErr result (Begins out.new.items out.old.items) }
+    ensures front { OnErr result (GoesOnBehind out.new.items out.old.items) }
 {
     match kind {
         ValueKind::Int => put_word(b"int", out),

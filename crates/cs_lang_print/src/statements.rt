@@ -1,7 +1,7 @@
 //! Printing statements, one on a line.
 ghost use Rattle.std.specs.Prelude.{◌++◌, codes, OnErr};
 ghost use Rattle.std.specs.Fmt.{decimal};
-ghost use Rattle.cs_lang_print.specs.Words.{word, each, behind_comma, Appends, Begins};
+ghost use Rattle.cs_lang_print.specs.Words.{word, each_text, behind_comma, Appends, GoesOnBehind};
 ghost use Rattle.cs_lang_print.specs.Expressions.{expr_text};
 ghost use Rattle.cs_lang_print.specs.Statements.{name_text, arguments_text, bound_text, assigned, block_until, block_text, statements_text, statement_text, make_text, call_text, answer_text};
 
@@ -13,7 +13,7 @@ use std::alloc::{AllocError, Global};
 /// A name.
 pub fn put_name(name: &Text, out: &mut Vec<u8>) -> Result<(), AllocError>
     ensures text { Appends result out.old out.new (name_text name.now) }
-    ensures front { OnErr result (Begins out.new.items out.old.items) }
+    ensures front { OnErr result (GoesOnBehind out.new.items out.old.items) }
 {
     put_word(name.bytes.as_slice(), out)
 }
@@ -21,7 +21,7 @@ pub fn put_name(name: &Text, out: &mut Vec<u8>) -> Result<(), AllocError>
 /// A name behind a comma.
 fn put_other_name(name: &Text, out: &mut Vec<u8>) -> Result<(), AllocError>
     ensures text { Appends result out.old out.new (behind_comma name_text name.now) }
-    ensures front { OnErr result (Begins out.new.items out.old.items) }
+    ensures front { OnErr result (GoesOnBehind out.new.items out.old.items) }
 {
     put_word(b",", out)?;
     put_name(name, out)
@@ -29,8 +29,8 @@ fn put_other_name(name: &Text, out: &mut Vec<u8>) -> Result<(), AllocError>
 
 /// Names, each behind a comma.
 fn put_other_names(names: &[Text], out: &mut Vec<u8>) -> Result<(), AllocError>
-    ensures text { Appends result out.old out.new (each (behind_comma name_text) names.now) }
-    ensures front { OnErr result (Begins out.new.items out.old.items) }
+    ensures text { Appends result out.old out.new (each_text (behind_comma name_text) names.now) }
+    ensures front { OnErr result (GoesOnBehind out.new.items out.old.items) }
 {
     for name in names {
         put_other_name(name, out)?;
@@ -41,7 +41,7 @@ fn put_other_names(names: &[Text], out: &mut Vec<u8>) -> Result<(), AllocError>
 /// The names that a call binds.
 fn put_bound(names: &[Text], out: &mut Vec<u8>) -> Result<(), AllocError>
     ensures text { Appends result out.old out.new (bound_text names.now) }
-    ensures front { OnErr result (Begins out.new.items out.old.items) }
+    ensures front { OnErr result (GoesOnBehind out.new.items out.old.items) }
 {
     match names {
         [] => Ok(()),
@@ -56,7 +56,7 @@ fn put_bound(names: &[Text], out: &mut Vec<u8>) -> Result<(), AllocError>
 /// Arguments in their parentheses.
 fn put_arguments(alloc: Global, items: &[Expr], out: &mut Vec<u8>) -> Result<(), AllocError>
     ensures text { Appends result out.old out.new (arguments_text items.now) }
-    ensures front { OnErr result (Begins out.new.items out.old.items) }
+    ensures front { OnErr result (GoesOnBehind out.new.items out.old.items) }
 {
     put_word(b"(", out)?;
     put_list(alloc, items, out)?;
@@ -72,7 +72,7 @@ fn put_value(
     out: &mut Vec<u8>,
 ) -> Result<(), AllocError>
     ensures text { Appends result out.old out.new (assigned first.now name.now value.now) }
-    ensures front { OnErr result (Begins out.new.items out.old.items) }
+    ensures front { OnErr result (GoesOnBehind out.new.items out.old.items) }
 {
     put_word(first, out)?;
     put_name(name, out)?;
@@ -90,7 +90,7 @@ fn put_make(
     out: &mut Vec<u8>,
 ) -> Result<(), AllocError>
     ensures text { Appends result out.old out.new (make_text slot.now object.now values.now) }
-    ensures front { OnErr result (Begins out.new.items out.old.items) }
+    ensures front { OnErr result (GoesOnBehind out.new.items out.old.items) }
 {
     put_word(b"make", out)?;
     put_name(slot, out)?;
@@ -109,7 +109,7 @@ fn put_call(
     out: &mut Vec<u8>,
 ) -> Result<(), AllocError>
     ensures text { Appends result out.old out.new (call_text names.now method.now arguments.now) }
-    ensures front { OnErr result (Begins out.new.items out.old.items) }
+    ensures front { OnErr result (GoesOnBehind out.new.items out.old.items) }
 {
     put_word(b"call", out)?;
     put_bound(names, out)?;
@@ -121,7 +121,7 @@ fn put_call(
 /// What a check answers.
 fn put_answer(alloc: Global, value: &Expr, out: &mut Vec<u8>) -> Result<(), AllocError>
     ensures text { Appends result out.old out.new (answer_text value.now) }
-    ensures front { OnErr result (Begins out.new.items out.old.items) }
+    ensures front { OnErr result (GoesOnBehind out.new.items out.old.items) }
 {
     put_word(b"answer", out)?;
     put_expr(alloc, value, out)?;
@@ -131,7 +131,7 @@ fn put_answer(alloc: Global, value: &Expr, out: &mut Vec<u8>) -> Result<(), Allo
 /// The condition of blocks.
 fn put_condition(alloc: Global, condition: &Expr, out: &mut Vec<u8>) -> Result<(), AllocError>
     ensures text { Appends result out.old out.new (word (codes "if") ++ expr_text condition.now) }
-    ensures front { OnErr result (Begins out.new.items out.old.items) }
+    ensures front { OnErr result (GoesOnBehind out.new.items out.old.items) }
 {
     put_word(b"if", out)?;
     put_expr(alloc, condition, out)
@@ -141,7 +141,7 @@ fn put_condition(alloc: Global, condition: &Expr, out: &mut Vec<u8>) -> Result<(
 fn put_for_in(alloc: Global, name: &Text, list: &Expr, out: &mut Vec<u8>) -> Result<(), AllocError>
     ensures text { Appends result out.old out.new (word (codes "for") ++ (name_text name.now
         ++ (word (codes "in") ++ expr_text list.now))) }
-    ensures front { OnErr result (Begins out.new.items out.old.items) }
+    ensures front { OnErr result (GoesOnBehind out.new.items out.old.items) }
 {
     put_word(b"for", out)?;
     put_name(name, out)?;
@@ -160,7 +160,7 @@ fn put_for_to(
 ) -> Result<(), AllocError>
     ensures text { Appends result out.old out.new (word (codes "for") ++ (name_text name.now
         ++ ((word (codes "to") ++ word (decimal count)) ++ block_text (statements_text block.now)))) }
-    ensures front { OnErr result (Begins out.new.items out.old.items) }
+    ensures front { OnErr result (GoesOnBehind out.new.items out.old.items) }
 {
     put_word(b"for", out)?;
     put_name(name, out)?;
@@ -174,7 +174,7 @@ fn put_for_to(
 #[tactic(auto, using(crate::proofs::Actions::actions))]
 fn put_statement(alloc: Global, one: &Statement, out: &mut Vec<u8>) -> Result<(), AllocError>
     ensures text { Appends result out.old out.new (statement_text one.now) }
-    ensures front { OnErr result (Begins out.new.items out.old.items) }
+    ensures front { OnErr result (GoesOnBehind out.new.items out.old.items) }
 {
     match &one.action {
         Action::Let(name, value) => put_value(alloc, b"let", name, value, out),
@@ -206,8 +206,8 @@ fn put_statement(alloc: Global, one: &Statement, out: &mut Vec<u8>) -> Result<()
 /// Statements.
 #[cycle(printing)]
 fn put_all(alloc: Global, statements: &[Statement], out: &mut Vec<u8>) -> Result<(), AllocError>
-    ensures text { Appends result out.old out.new (each statement_text statements.now) }
-    ensures front { OnErr result (Begins out.new.items out.old.items) }
+    ensures text { Appends result out.old out.new (each_text statement_text statements.now) }
+    ensures front { OnErr result (GoesOnBehind out.new.items out.old.items) }
 {
     for one in statements {
         put_statement(alloc, one, out)?;
@@ -220,7 +220,7 @@ fn put_all(alloc: Global, statements: &[Statement], out: &mut Vec<u8>) -> Result
 #[tactic(auto, using(crate::proofs::Actions::blocks))]
 fn put_statements(alloc: Global, block: &Block, out: &mut Vec<u8>) -> Result<(), AllocError>
     ensures text { Appends result out.old out.new (statements_text block.now) }
-    ensures front { OnErr result (Begins out.new.items out.old.items) }
+    ensures front { OnErr result (GoesOnBehind out.new.items out.old.items) }
 {
     put_all(alloc, block.statements.as_slice(), out)
 }
@@ -230,7 +230,7 @@ fn put_statements(alloc: Global, block: &Block, out: &mut Vec<u8>) -> Result<(),
 fn put_block_before_else(alloc: Global, block: &Block, out: &mut Vec<u8>) -> Result<(), AllocError>
     ensures text { Appends result out.old out.new
         (block_until (word (codes "}")) (statements_text block.now) ++ word (codes "else")) }
-    ensures front { OnErr result (Begins out.new.items out.old.items) }
+    ensures front { OnErr result (GoesOnBehind out.new.items out.old.items) }
 {
     put_ending(b"{", out)?;
     put_statements(alloc, block, out)?;
@@ -242,7 +242,7 @@ fn put_block_before_else(alloc: Global, block: &Block, out: &mut Vec<u8>) -> Res
 #[cycle(printing)]
 pub fn put_block(alloc: Global, block: &Block, out: &mut Vec<u8>) -> Result<(), AllocError>
     ensures text { Appends result out.old out.new (block_text (statements_text block.now)) }
-    ensures front { OnErr result (Begins out.new.items out.old.items) }
+    ensures front { OnErr result (GoesOnBehind out.new.items out.old.items) }
 {
     put_ending(b"{", out)?;
     put_statements(alloc, block, out)?;

@@ -1,7 +1,7 @@
 //! Tokens of a printed text.
 ghost use Rattle.std.specs.Prelude.{◌≡◌, ◌<◌, OnErr};
 ghost use Rattle.std.specs.Fmt.{decimal};
-ghost use Rattle.cs_lang_print.specs.Words.{word, ending, hex_digit, hex_text, quoted, operator_text, comparison_text, Appends, Begins};
+ghost use Rattle.cs_lang_print.specs.Words.{word, ending, hex_digit, hex_text, quoted, operator_text, comparison_text, Appends, GoesOnBehind};
 
 use cs_lang::{Comparison, Operator};
 use std::alloc::{AllocError, Global};
@@ -10,7 +10,7 @@ use std::alloc::{AllocError, Global};
 #[tactic(auto, unfolding(crate::specs::Words::word))]
 pub fn put_word(token: &[u8], out: &mut Vec<u8>) -> Result<(), AllocError>
     ensures text { Appends result out.old out.new (word token.now) }
-    ensures front { OnErr result (Begins out.new.items out.old.items) }
+    ensures front { OnErr result (GoesOnBehind out.new.items out.old.items) }
 {
     out.extend_from_slice(token)?;
     out.extend_from_slice(b" ")
@@ -20,7 +20,7 @@ pub fn put_word(token: &[u8], out: &mut Vec<u8>) -> Result<(), AllocError>
 #[tactic(auto, unfolding(crate::specs::Words::ending))]
 pub fn put_ending(token: &[u8], out: &mut Vec<u8>) -> Result<(), AllocError>
     ensures text { Appends result out.old out.new (ending token.now) }
-    ensures front { OnErr result (Begins out.new.items out.old.items) }
+    ensures front { OnErr result (GoesOnBehind out.new.items out.old.items) }
 {
     out.extend_from_slice(token)?;
     out.extend_from_slice(b"\n")
@@ -41,7 +41,7 @@ fn hex_digit(number: u8) -> u8
 /// Two hex digits for each byte.
 fn put_hex(bytes: &[u8], out: &mut Vec<u8>) -> Result<(), AllocError>
     ensures text { Appends result out.old out.new (hex_text bytes.now) }
-    ensures front { OnErr result (Begins out.new.items out.old.items) }
+    ensures front { OnErr result (GoesOnBehind out.new.items out.old.items) }
 {
     for byte in bytes {
         let digits = [hex_digit(*byte / 16), hex_digit(*byte % 16)];
@@ -54,7 +54,7 @@ fn put_hex(bytes: &[u8], out: &mut Vec<u8>) -> Result<(), AllocError>
 #[tactic(auto, unfolding(crate::specs::Words::quoted))]
 pub fn put_quoted(bytes: &[u8], out: &mut Vec<u8>) -> Result<(), AllocError>
     ensures text { Appends result out.old out.new (quoted bytes.now) }
-    ensures front { OnErr result (Begins out.new.items out.old.items) }
+    ensures front { OnErr result (GoesOnBehind out.new.items out.old.items) }
 {
     out.extend_from_slice(b"x\"")?;
     put_hex(bytes, out)?;
@@ -65,7 +65,7 @@ pub fn put_quoted(bytes: &[u8], out: &mut Vec<u8>) -> Result<(), AllocError>
 #[tactic(auto, using(crate::proofs::Begun::unchanged))]
 pub fn put_number(alloc: Global, number: u64, out: &mut Vec<u8>) -> Result<(), AllocError>
     ensures text { Appends result out.old out.new (word (decimal number)) }
-    ensures front { OnErr result (Begins out.new.items out.old.items) }
+    ensures front { OnErr result (GoesOnBehind out.new.items out.old.items) }
 {
     let text = format!(in alloc; "{number}")?;
     put_word(text.as_bytes(), out)
@@ -74,7 +74,7 @@ pub fn put_number(alloc: Global, number: u64, out: &mut Vec<u8>) -> Result<(), A
 /// An operator on a line.
 pub fn put_operator(operator: Operator, out: &mut Vec<u8>) -> Result<(), AllocError>
     ensures text { Appends result out.old out.new (word (operator_text operator)) }
-    ensures front { OnErr result (Begins out.new.items out.old.items) }
+    ensures front { OnErr result (GoesOnBehind out.new.items out.old.items) }
 {
     match operator {
         Operator::Or => put_word(b"or", out),
@@ -90,7 +90,7 @@ pub fn put_operator(operator: Operator, out: &mut Vec<u8>) -> Result<(), AllocEr
 /// A comparison on a line.
 pub fn put_comparison(comparison: Comparison, out: &mut Vec<u8>) -> Result<(), AllocError>
     ensures text { Appends result out.old out.new (word (comparison_text comparison)) }
-    ensures front { OnErr result (Begins out.new.items out.old.items) }
+    ensures front { OnErr result (GoesOnBehind out.new.items out.old.items) }
 {
     match comparison {
         Comparison::Equal => put_word(b"==", out),

@@ -7,8 +7,8 @@ use Rattle.cs_lang_token.specs.declared.token.Number.{Number}
 use Rattle.cs_lang_token.specs.declared.kind.Kind.{Kind}
 use Rattle.cs_lang_token.specs.declared.kind.Kind.TheVariants as kind
 use Rattle.cs_lang_token.specs.Kinds.{is}
-use Rattle.cs_lang_token.specs.Grammar.{Mark, Within, Rule, pair, mapped, either, nothing, many, links}
-use Rattle.cs_lang_token.specs.Rules.{sign, name, bytes, number, joined, with_item, all_of, commas}
+use Rattle.cs_lang_token.specs.Grammar.{TokenMark, Within, Rule, pair, mapped, either, nothing, many, links}
+use Rattle.cs_lang_token.specs.Rules.{sign, name, bytes, number, joined_left, item_behind, first_and_rest, commas}
 use Rattle.cs_lang_token.proofs.Spans.{IsWord, AllBytes}
 
 -- what holds of each token of a text
@@ -17,18 +17,18 @@ pub record IsToken (t : Token) : Type 0 where
   pub numbered : is (kind.Number ∷ []) t ≡ true → t.number ≤ 9223372036854775807
   pub quoted : is (kind.Bytes ∷ []) t ≡ true → AllBytes t.bytes × (length t.bytes ≤ 256)
 
-abbrev pub Fine : List Mark → Type 0
+abbrev pub Fine : List TokenMark → Type 0
 Fine [] = Unit {0}
 Fine (m ∷ ms) = IsToken m.0 × Fine ms
 
 pub record Gives {X : Type 0} (R : Rule X) (P : X → Type 0) : Type 0 where
-  pub give : (x : X) (ms : List Mark) → R x ms → Within ms → Fine ms → P x
+  pub give : (x : X) (ms : List TokenMark) → R x ms → Within ms → Fine ms → P x
 
-within_parts : (a b : List Mark) → Within (a ++ b) → Within a × Within b
+within_parts : (a b : List TokenMark) → Within (a ++ b) → Within a × Within b
 within_parts [] b w = (tt, w)
 within_parts (m ∷ a) b w = let h = within_parts a b w.1 in ((w.0, h.0), h.1)
 
-fine_parts : (a b : List Mark) → Fine (a ++ b) → Fine a × Fine b
+fine_parts : (a b : List TokenMark) → Fine (a ++ b) → Fine a × Fine b
 fine_parts [] b w = (tt, w)
 fine_parts (m ∷ a) b w = let h = fine_parts a b w.1 in ((w.0, h.0), h.1)
 
@@ -47,7 +47,7 @@ gives_pair g h = record {
 
 pub gives_either : {X : Type 0} {R S : Rule X} {P : X → Type 0} → Gives R P → Gives S P → Gives (either R S) P
 gives_either {X} {R} {S} {P} g h = record { give = one } where
-  one : (x : X) (ms : List Mark) → either R S x ms → Within ms → Fine ms → P x
+  one : (x : X) (ms : List TokenMark) → either R S x ms → Within ms → Fine ms → P x
   one x ms (inl p) w t = g.give x ms p w t
   one x ms (inr p) w t = h.give x ms p w t
 
@@ -61,7 +61,7 @@ Every P (x ∷ xs) = P x × Every P xs
 
 pub gives_many : {X : Type 0} {R : Rule X} {P : X → Type 0} → Gives R P → Gives (many R) (Every P)
 gives_many {X} {R} {P} g = record { give = all } where
-  all : (xs : List X) (ms : List Mark) → many R xs ms → Within ms → Fine ms → Every P xs
+  all : (xs : List X) (ms : List TokenMark) → many R xs ms → Within ms → Fine ms → Every P xs
   all [] ms p w t = tt
   all (x ∷ xs) ms (a, b, is', u, v) w t =
       let ws = within_parts a b (subst Within is' w) in
@@ -71,7 +71,7 @@ gives_many {X} {R} {P} g = record { give = all } where
 -- a link past the limits isn't within them
 pub gives_links : {X : Type 0} (R : Bool → Rule X) {P : X → Type 0} (left : ℕ) → Gives (R true) P → Gives (R false) (λ x. ⊥) → Gives (links R left) (λ xs. Every P xs × (length xs ≤ left))
 gives_links {X} R {P} left g never = record { give = all left } where
-  all : (k : ℕ) (xs : List X) (ms : List Mark) → links R k xs ms → Within ms → Fine ms → Every P xs × (length xs ≤ k)
+  all : (k : ℕ) (xs : List X) (ms : List TokenMark) → links R k xs ms → Within ms → Fine ms → Every P xs × (length xs ≤ k)
   all k [] ms p w t = (tt, omega arith)
   all zero (x ∷ xs) ms (a, b, is', u, v) w t =
       let ws = within_parts a b (subst Within is' w) in
@@ -111,23 +111,23 @@ every_append : {X : Type 0} (P : X → Type 0) (xs ys : List X) → Every P xs �
 every_append P [] ys p q = q
 every_append P (x ∷ xs) ys p q = (p.0, every_append P xs ys p.1 q)
 
-every_joined : {X : Type 0} (P : X → Type 0) (ps : List (ℕ × X)) (acc : List X) → Every P acc → Every (λ (p : ℕ × X). P p.1) ps → Every P (joined with_item acc ps)
+every_joined : {X : Type 0} (P : X → Type 0) (ps : List (ℕ × X)) (acc : List X) → Every P acc → Every (λ (p : ℕ × X). P p.1) ps → Every P (joined_left item_behind acc ps)
 every_joined P [] acc a b = a
 every_joined P (p ∷ ps) acc a b = every_joined P ps (acc ++ p.1 ∷ []) (every_append P acc (p.1 ∷ []) a (b.0, tt)) b.1
 
 pub gives_commas : {X : Type 0} {R : Rule X} {P : X → Type 0} → Gives R P → Gives (commas R) (Every P)
 gives_commas {X} {R} {P} g =
-    gives_mapped {P = λ (p : X × List (ℕ × X)). P p.0 × Every (λ (q : ℕ × X). P q.1) p.1} (Every P) all_of
+    gives_mapped {P = λ (p : X × List (ℕ × X)). P p.0 × Every (λ (q : ℕ × X). P q.1) p.1} (Every P) first_and_rest
     (gives_pair g (gives_many (gives_weaker {P = λ (q : ℕ × X). (true ≡ true) × P q.1} (λ (q : ℕ × X). P q.1) (λ q h. h.1) (gives_pair (gives_sign kind.Comma true) g))))
     (λ p h. every_joined P p.1 (p.0 ∷ []) (h.0, tt) h.1)
 
-joined_length : {X : Type 0} (ps : List (ℕ × X)) (acc : List X) → length acc ≤ length (joined with_item acc ps)
+joined_length : {X : Type 0} (ps : List (ℕ × X)) (acc : List X) → length acc ≤ length (joined_left item_behind acc ps)
 joined_length [] acc = omega arith
 joined_length (p ∷ ps) acc = (let h = joined_length ps (acc ++ p.1 ∷ []) in let l = length-append acc (p.1 ∷ []) in omega arith)
 
 -- and there is one at least
 pub gives_row : {X : Type 0} {R : Rule X} {P : X → Type 0} → Gives R P → Gives (commas R) (λ xs. (1 ≤ length xs) × Every P xs)
 gives_row {X} {R} {P} g =
-    gives_mapped {P = λ (p : X × List (ℕ × X)). P p.0 × Every (λ (q : ℕ × X). P q.1) p.1} (λ (xs : List X). (1 ≤ length xs) × Every P xs) all_of
+    gives_mapped {P = λ (p : X × List (ℕ × X)). P p.0 × Every (λ (q : ℕ × X). P q.1) p.1} (λ (xs : List X). (1 ≤ length xs) × Every P xs) first_and_rest
     (gives_pair g (gives_many (gives_weaker {P = λ (q : ℕ × X). (true ≡ true) × P q.1} (λ (q : ℕ × X). P q.1) (λ q h. h.1) (gives_pair (gives_sign kind.Comma true) g))))
     (λ p h. (joined_length p.1 (p.0 ∷ []), every_joined P p.1 (p.0 ∷ []) (h.0, tt) h.1))

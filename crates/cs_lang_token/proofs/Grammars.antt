@@ -3,7 +3,7 @@ use Rattle.std.proofs.Common.{◌≡◌, ℕ, zero, suc, ◌+◌, ◌<◌, ◌�
 use Rattle.std.specs.Prelude.{Result, Ok, Err, ◌⊎◌, if◌then◌else◌}
 use Rattle.std.proofs.lemmas.List.{append-nil, length-append}
 use Rattle.cs_lang_token.specs.declared.token.Token.{Token}
-use Rattle.cs_lang_token.specs.Grammar.{Mark, plain, Within, Rule, Reader, ◌>>=◌, begins, token, token_at, pair, pair_at, mapped, mapped_at, either, either_at, nothing, nothing_at, refused_at, links, links_at, many, many_at, after, Found, Begins, IsReader}
+use Rattle.cs_lang_token.specs.Grammar.{TokenMark, without_marks, Within, Rule, Reader, ◌>>=◌, begins, token, token_at, pair, pair_read, mapped, mapped_at, either, either_at, nothing, nothing_at, refused_at, links, links_at, many, many_read, answer_after, FoundTokens, BeginsText, IsReader}
 
 -- ---- results
 
@@ -32,11 +32,11 @@ bind_err {A} {B} {E} (Err b) f e h = inl (ap (λ (z : E). bad {A = A} z) (err_is
 
 -- ---- lists
 
-pub plain_append : (a b : List Mark) → plain (a ++ b) ≡ plain a ++ plain b
+pub plain_append : (a b : List TokenMark) → without_marks (a ++ b) ≡ without_marks a ++ without_marks b
 plain_append [] b = refl
 plain_append (m ∷ a) b = ap (λ (ts : List Token). m.0 ∷ ts) (plain_append a b)
 
-pub Within_append : (a b : List Mark) → Within a → Within b → Within (a ++ b)
+pub Within_append : (a b : List TokenMark) → Within a → Within b → Within (a ++ b)
 Within_append [] b p q = q
 Within_append (m ∷ a) b p q = (p.0, Within_append a b p.1 q)
 
@@ -51,17 +51,17 @@ cancel_right (x ∷ a) [] c e = absurd (let n : length ((x ∷ a) ++ c) ≡ leng
 cancel_right (x ∷ a) (y ∷ b) c e =
     let t : a ++ c ≡ b ++ c = cc in let h : x ≡ y = cc in let i = cancel_right a b c t in cc
 
-pub split_plain : (a b : List Mark) (rest : List Token) → plain (a ++ b) ++ rest ≡ plain a ++ (plain b ++ rest)
-split_plain a b rest = ap (λ (ts : List Token). ts ++ rest) (plain_append a b) ∙ append_assoc (plain a) (plain b) rest
+pub split_plain : (a b : List TokenMark) (rest : List Token) → without_marks (a ++ b) ++ rest ≡ without_marks a ++ (without_marks b ++ rest)
+split_plain a b rest = ap (λ (ts : List Token). ts ++ rest) (plain_append a b) ∙ append_assoc (without_marks a) (without_marks b) rest
 
 -- ---- what follows a spelling
 
-pub after_append : {A B : Type 0} (a b : List Mark) (rest : List Token) (f : A → Result B (List Token)) (x : A) (y : B) → f x ≡ after b rest y → (after a (plain b ++ rest) x >>= f) ≡ after (a ++ b) rest y
+pub after_append : {A B : Type 0} (a b : List TokenMark) (rest : List Token) (f : A → Result B (List Token)) (x : A) (y : B) → f x ≡ answer_after b rest y → (answer_after a (without_marks b ++ rest) x >>= f) ≡ answer_after (a ++ b) rest y
 after_append [] b rest f x y e = e
 after_append ((t, true) ∷ a) b rest f x y e = after_append a b rest f x y e
 after_append {A} {B} ((t, false) ∷ a) b rest f x y e = ap (λ (ts : List Token). bad {A = B} (t ∷ ts)) (sym (split_plain a b rest))
 
-pub after_map : {A B : Type 0} (a : List Mark) (rest : List Token) (f : A → Result B (List Token)) (x : A) (y : B) → f x ≡ Ok y → (after a rest x >>= f) ≡ after a rest y
+pub after_map : {A B : Type 0} (a : List TokenMark) (rest : List Token) (f : A → Result B (List Token)) (x : A) (y : B) → f x ≡ Ok y → (answer_after a rest x >>= f) ≡ answer_after a rest y
 after_map [] rest f x y e = e
 after_map ((t, true) ∷ a) rest f x y e = after_map a rest f x y e
 after_map ((t, false) ∷ a) rest f x y e = refl
@@ -71,7 +71,7 @@ after_map ((t, false) ∷ a) rest f x y e = refl
 abbrev pub none : Token → Bool
 none t = false
 
-token_read : (test : Token → Bool) (room : Bool) (t : Token) (ms : List Mark) (rest : List Token) → token test room t ms → token_at test room (plain ms ++ rest) ≡ after ms rest (t, rest)
+token_read : (test : Token → Bool) (room : Bool) (t : Token) (ms : List TokenMark) (rest : List Token) → token test room t ms → token_at test room (without_marks ms ++ rest) ≡ answer_after ms rest (t, rest)
 token_read test true t ms rest (is, passes) = rw (is, passes) refl
 token_read test false t ms rest (is, passes) = rw (is, passes) refl
 
@@ -101,7 +101,7 @@ stop_is us vs e = cc
 pub not_both : {X : Type 0} (x : X) (us vs : List Token) → went x us ≡ stop vs → ⊥
 not_both x us vs e = absurd cc
 
-token_found : (test : Token → Bool) (ts : List Token) (t : Token) (rest : List Token) → token_at test true ts ≡ Ok (t, rest) → Found (token test true) ts t rest
+token_found : (test : Token → Bool) (ts : List Token) (t : Token) (rest : List Token) → token_at test true ts ≡ Ok (t, rest) → FoundTokens (token test true) ts t rest
 token_found test [] t rest e = absurd (not_both t rest [] (sym e))
 token_found test (u ∷ ts) t rest e =
     elim (chosen (test u) (went u ts) (stop (u ∷ ts)) (went t rest) e) [
@@ -109,7 +109,7 @@ token_found test (u ∷ ts) t rest e =
       | inr (is, h) ↦ absurd (not_both t rest (u ∷ ts) (sym h))
     ]
 
-token_stuck : (test : Token → Bool) (sample : Token) → test sample ≡ true → (ts rest : List Token) → token_at test true ts ≡ Err rest → Begins (token test true) ts rest
+token_stuck : (test : Token → Bool) (sample : Token) → test sample ≡ true → (ts rest : List Token) → token_at test true ts ≡ Err rest → BeginsText (token test true) ts rest
 token_stuck test sample fits [] rest e = record { marks = []; parts = stop_is [] rest e; within = tt; thing = sample; more = (sample, true) ∷ []; spells = (refl, fits) }
 token_stuck test sample fits (u ∷ ts) rest e =
     elim (chosen (test u) (went u ts) (stop (u ∷ ts)) (stop rest) e) [
@@ -157,16 +157,16 @@ token_reader E test sample fits = record {
 -- ---- one after the other
 
 module _ {X Y : Type 0} {E : Type 0} {R : Rule X} {S : Rule Y} {go stay : Token → Bool} {r : Reader X} {s : Reader Y} (first : IsReader E R go r) (second : IsReader E S stay s)
-    (apart : (y : Y) (ms : List Mark) (rest : List Token) → S y ms → begins stay rest ≡ false → begins go (plain ms ++ rest) ≡ false) where
-  pair_reads : (x : X × Y) (ms : List Mark) (rest : List Token) → pair R S x ms → begins stay rest ≡ false → pair_at r s (plain ms ++ rest) ≡ after ms rest (x, rest)
+    (apart : (y : Y) (ms : List TokenMark) (rest : List Token) → S y ms → begins stay rest ≡ false → begins go (without_marks ms ++ rest) ≡ false) where
+  pair_reads : (x : X × Y) (ms : List TokenMark) (rest : List Token) → pair R S x ms → begins stay rest ≡ false → pair_read r s (without_marks ms ++ rest) ≡ answer_after ms rest (x, rest)
   pair_reads x ms rest (a, b, is, p, q) stops =
       let f : X × List Token → Answer (X × Y) = λ z. s z.1 >>= λ y. Ok ((z.0, y.0), y.1) in
-      let e1 = first.reads x.0 a (plain b ++ rest) p (apart x.1 b rest q stops) in
+      let e1 = first.reads x.0 a (without_marks b ++ rest) p (apart x.1 b rest q stops) in
       let e2 = second.reads x.1 b rest q stops in
-      let e3 : f (x.0, plain b ++ rest) ≡ after b rest (x, rest) = ap (λ (z : Answer Y). z >>= λ y. went (x.0, y.0) y.1) e2 ∙ after_map b rest (λ y. went (x.0, y.0) y.1) (x.1, rest) (x, rest) refl in
-      ap (λ (l : List Mark). pair_at r s (plain l ++ rest)) is ∙ ap (pair_at r s) (split_plain a b rest) ∙ ap (λ (z : Answer X). z >>= f) e1 ∙ after_append a b rest f (x.0, plain b ++ rest) (x, rest) e3 ∙ ap (λ (l : List Mark). after l rest (x, rest)) (sym is)
+      let e3 : f (x.0, without_marks b ++ rest) ≡ answer_after b rest (x, rest) = ap (λ (z : Answer Y). z >>= λ y. went (x.0, y.0) y.1) e2 ∙ after_map b rest (λ y. went (x.0, y.0) y.1) (x.1, rest) (x, rest) refl in
+      ap (λ (l : List TokenMark). pair_read r s (without_marks l ++ rest)) is ∙ ap (pair_read r s) (split_plain a b rest) ∙ ap (λ (z : Answer X). z >>= f) e1 ∙ after_append a b rest f (x.0, without_marks b ++ rest) (x, rest) e3 ∙ ap (λ (l : List TokenMark). answer_after l rest (x, rest)) (sym is)
 
-  pair_found : E → (ts : List Token) (x : X × Y) (rest : List Token) → pair_at r s ts ≡ Ok (x, rest) → Found (pair R S) ts x rest
+  pair_found : E → (ts : List Token) (x : X × Y) (rest : List Token) → pair_read r s ts ≡ Ok (x, rest) → FoundTokens (pair R S) ts x rest
   pair_found e ts x rest h =
       let u = bind_ok (r ts) (λ z. s z.1 >>= λ y. went (z.0, y.0) y.1) (x, rest) h in
       let v = bind_ok (s u.0.1) (λ y. went (u.0.0, y.0) y.1) (x, rest) u.2 in
@@ -175,12 +175,12 @@ module _ {X Y : Type 0} {E : Type 0} {R : Rule X} {S : Rule Y} {go stay : Token 
       let g = second.found e u.0.1 v.0.0 v.0.1 v.1 in
       record {
         marks = f.marks ++ g.marks;
-        parts = f.parts ∙ ap (λ (l : List Token). plain f.marks ++ l) (g.parts ∙ ap (λ (l : List Token). plain g.marks ++ l) w.1) ∙ sym (split_plain f.marks g.marks rest);
+        parts = f.parts ∙ ap (λ (l : List Token). without_marks f.marks ++ l) (g.parts ∙ ap (λ (l : List Token). without_marks g.marks ++ l) w.1) ∙ sym (split_plain f.marks g.marks rest);
         within = Within_append f.marks g.marks f.within g.within;
         spells = (f.marks, g.marks, refl, subst (λ (z : X × Y). R z.0 f.marks) w.0 f.spells, subst (λ (z : X × Y). S z.1 g.marks) w.0 g.spells);
       }
 
-  pair_stuck : E → (ts bad : List Token) → pair_at r s ts ≡ Err bad → Begins (pair R S) ts bad
+  pair_stuck : E → (ts bad : List Token) → pair_read r s ts ≡ Err bad → BeginsText (pair R S) ts bad
   pair_stuck e ts bad h =
       elim (bind_err (r ts) (λ z. s z.1 >>= λ y. went (z.0, y.0) y.1) bad h) [
         | inl err ↦ let b = first.stuck e ts bad err in let k = second.some e in record {
@@ -194,7 +194,7 @@ module _ {X Y : Type 0} {E : Type 0} {R : Rule X} {S : Rule Y} {go stay : Token 
         | inr (z, ok, err) ↦ elim (bind_err (s z.1) (λ y. went (z.0, y.0) y.1) bad err) [
           | inl err' ↦ let f = first.found e ts z.0 z.1 ok in let b = second.stuck e z.1 bad err' in record {
             marks = f.marks ++ b.marks;
-            parts = f.parts ∙ ap (λ (l : List Token). plain f.marks ++ l) b.parts ∙ sym (split_plain f.marks b.marks bad);
+            parts = f.parts ∙ ap (λ (l : List Token). without_marks f.marks ++ l) b.parts ∙ sym (split_plain f.marks b.marks bad);
             within = Within_append f.marks b.marks f.within b.within;
             thing = (z.0, b.thing);
             more = b.more;
@@ -204,26 +204,26 @@ module _ {X Y : Type 0} {E : Type 0} {R : Rule X} {S : Rule Y} {go stay : Token 
         ]
       ]
 
-  pair_same_ok : E → (p q : List Token) (t : Token) (us vs : List Token) (x : X × Y) → pair_at r s (p ++ t ∷ us) ≡ Ok (x, q ++ t ∷ us) → pair_at r s (p ++ t ∷ vs) ≡ Ok (x, q ++ t ∷ vs)
+  pair_same_ok : E → (p q : List Token) (t : Token) (us vs : List Token) (x : X × Y) → pair_read r s (p ++ t ∷ us) ≡ Ok (x, q ++ t ∷ us) → pair_read r s (p ++ t ∷ vs) ≡ Ok (x, q ++ t ∷ vs)
   pair_same_ok e p q t us vs x h =
       let u = bind_ok (r (p ++ t ∷ us)) (λ z. s z.1 >>= λ y. went (z.0, y.0) y.1) (x, q ++ t ∷ us) h in
       let v = bind_ok (s u.0.1) (λ y. went (u.0.0, y.0) y.1) (x, q ++ t ∷ us) u.2 in
       let w = went_is (u.0.0, v.0.0) x v.0.1 (q ++ t ∷ us) v.2 in
       let g = second.found e u.0.1 v.0.0 v.0.1 v.1 in
-      let m = plain g.marks ++ q in
-      let mid : u.0.1 ≡ m ++ t ∷ us = g.parts ∙ ap (λ (l : List Token). plain g.marks ++ l) w.1 ∙ sym (append_assoc (plain g.marks) q (t ∷ us)) in
+      let m = without_marks g.marks ++ q in
+      let mid : u.0.1 ≡ m ++ t ∷ us = g.parts ∙ ap (λ (l : List Token). without_marks g.marks ++ l) w.1 ∙ sym (append_assoc (without_marks g.marks) q (t ∷ us)) in
       let one = first.same_ok e p m t us vs u.0.0 (u.1 ∙ ap (λ (l : List Token). went u.0.0 l) mid) in
       let two = second.same_ok e m q t us vs v.0.0 (ap s (sym mid) ∙ v.1 ∙ ap (λ (l : List Token). went v.0.0 l) w.1) in
       ap (λ (z : Answer X). z >>= λ z. s z.1 >>= λ y. went (z.0, y.0) y.1) one ∙ ap (λ (z : Answer Y). z >>= λ y. went (u.0.0, y.0) y.1) two ∙ ap (λ (z : X × Y). went z (q ++ t ∷ vs)) w.0
 
-  pair_same_err : E → (p q : List Token) (t : Token) (us vs : List Token) → pair_at r s (p ++ t ∷ us) ≡ Err (q ++ t ∷ us) → pair_at r s (p ++ t ∷ vs) ≡ Err (q ++ t ∷ vs)
+  pair_same_err : E → (p q : List Token) (t : Token) (us vs : List Token) → pair_read r s (p ++ t ∷ us) ≡ Err (q ++ t ∷ us) → pair_read r s (p ++ t ∷ vs) ≡ Err (q ++ t ∷ vs)
   pair_same_err e p q t us vs h =
       elim (bind_err (r (p ++ t ∷ us)) (λ z. s z.1 >>= λ y. went (z.0, y.0) y.1) (q ++ t ∷ us) h) [
         | inl err ↦ ap (λ (z : Answer X). z >>= λ z. s z.1 >>= λ y. went (z.0, y.0) y.1) (first.same_err e p q t us vs err)
         | inr (u, ok, err) ↦ elim (bind_err (s u.1) (λ y. went (u.0, y.0) y.1) (q ++ t ∷ us) err) [
           | inl err' ↦ let b = second.stuck e u.1 (q ++ t ∷ us) err' in
-              let m = plain b.marks ++ q in
-              let mid : u.1 ≡ m ++ t ∷ us = b.parts ∙ sym (append_assoc (plain b.marks) q (t ∷ us)) in
+              let m = without_marks b.marks ++ q in
+              let mid : u.1 ≡ m ++ t ∷ us = b.parts ∙ sym (append_assoc (without_marks b.marks) q (t ∷ us)) in
               let one = first.same_ok e p m t us vs u.0 (ok ∙ ap (λ (l : List Token). went u.0 l) mid) in
               let two = second.same_err e m q t us vs (ap s (sym mid) ∙ err') in
               ap (λ (z : Answer X). z >>= λ z. s z.1 >>= λ y. went (z.0, y.0) y.1) one ∙ ap (λ (z : Answer Y). z >>= λ y. went (u.0, y.0) y.1) two
@@ -231,7 +231,7 @@ module _ {X Y : Type 0} {E : Type 0} {R : Rule X} {S : Rule Y} {go stay : Token 
         ]
       ]
 
-  pub pair_reader : IsReader E (pair R S) stay (pair_at r s)
+  pub pair_reader : IsReader E (pair R S) stay (pair_read r s)
   pair_reader = record {
     reads = pair_reads;
     found = pair_found;
@@ -244,7 +244,7 @@ module _ {X Y : Type 0} {E : Type 0} {R : Rule X} {S : Rule Y} {go stay : Token 
 -- ---- what a spelling begins with
 
 abbrev pub Heads : {X : Type 0} → Rule X → (Token → Bool) → Type 0
-Heads {X} R test = (x : X) (ms : List Mark) → R x ms → begins test (plain ms) ≡ true
+Heads {X} R test = (x : X) (ms : List TokenMark) → R x ms → begins test (without_marks ms) ≡ true
 
 abbrev pub Implies : (Token → Bool) → (Token → Bool) → Type 0
 Implies f g = (t : Token) → f t ≡ true → g t ≡ true
@@ -276,7 +276,7 @@ pub token_heads : (test : Token → Bool) (room : Bool) → Heads (token test ro
 token_heads test room t ms (is, passes) = rw is passes
 
 pub pair_heads : {X Y : Type 0} {R : Rule X} (S : Rule Y) (test : Token → Bool) → Heads R test → Heads (pair R S) test
-pair_heads S test h x ms (a, b, is, p, q) = ap (λ (l : List Mark). begins test (plain l)) is ∙ ap (begins test) (plain_append a b) ∙ begins_more test (plain a) (plain b) (h x.0 a p)
+pair_heads S test h x ms (a, b, is, p, q) = ap (λ (l : List TokenMark). begins test (without_marks l)) is ∙ ap (begins test) (plain_append a b) ∙ begins_more test (without_marks a) (without_marks b) (h x.0 a p)
 
 pub mapped_heads : {X Y : Type 0} {R : Rule X} (f : X → Y) (test : Token → Bool) → Heads R test → Heads (mapped f R) test
 mapped_heads f test h y ms (x, is, p) = h x ms p
@@ -286,11 +286,11 @@ either_heads test h k x ms (inl p) = h x ms p
 either_heads test h k x ms (inr p) = k x ms p
 
 pub less_heads : {X : Type 0} {R : Rule X} (f g : Token → Bool) → Implies f g → Heads R f → Heads R g
-less_heads f g i h x ms p = begins_implies f g (plain ms) i (h x ms p)
+less_heads f g i h x ms p = begins_implies f g (without_marks ms) i (h x ms p)
 
 -- a rule behind another, which begins with no token that the other goes on with
-pub heads_apart : {Y : Type 0} {S : Rule Y} (f go stay : Token → Bool) → Heads S f → Apart f go → (y : Y) (ms : List Mark) (rest : List Token) → S y ms → begins stay rest ≡ false → begins go (plain ms ++ rest) ≡ false
-heads_apart f go stay h a y ms rest p stops = begins_apart f go (plain ms ++ rest) a (begins_more f (plain ms) rest (h y ms p))
+pub heads_apart : {Y : Type 0} {S : Rule Y} (f go stay : Token → Bool) → Heads S f → Apart f go → (y : Y) (ms : List TokenMark) (rest : List Token) → S y ms → begins stay rest ≡ false → begins go (without_marks ms ++ rest) ≡ false
+heads_apart f go stay h a y ms rest p stops = begins_apart f go (without_marks ms ++ rest) a (begins_more f (without_marks ms) rest (h y ms p))
 
 -- ---- the same reader, of less
 
@@ -320,20 +320,20 @@ module _ {X Y : Type 0} {E : Type 0} {R : Rule X} {go : Token → Bool} {r : Rea
   onto : X × List Token → Answer Y
   onto z = Ok (f z.0, z.1)
 
-  mapped_reads : (y : Y) (ms : List Mark) (rest : List Token) → mapped f R y ms → begins go rest ≡ false → mapped_at f r (plain ms ++ rest) ≡ after ms rest (y, rest)
+  mapped_reads : (y : Y) (ms : List TokenMark) (rest : List Token) → mapped f R y ms → begins go rest ≡ false → mapped_at f r (without_marks ms ++ rest) ≡ answer_after ms rest (y, rest)
   unfolding onto
   mapped_reads y ms rest (x, is, p) stops =
       ap (λ (z : Answer X). z >>= onto) (g.reads x ms rest p stops) ∙ after_map ms rest onto (x, rest) (y, rest) (ap (λ (z : Y). went z rest) is)
 
-  mapped_found : E → (ts : List Token) (y : Y) (rest : List Token) → mapped_at f r ts ≡ Ok (y, rest) → Found (mapped f R) ts y rest
+  mapped_found : E → (ts : List Token) (y : Y) (rest : List Token) → mapped_at f r ts ≡ Ok (y, rest) → FoundTokens (mapped f R) ts y rest
   unfolding onto
   mapped_found e ts y rest h =
       let u = bind_ok (r ts) onto (y, rest) h in
       let w = went_is (f u.0.0) y u.0.1 rest u.2 in
       let k = g.found e ts u.0.0 u.0.1 u.1 in
-      record { marks = k.marks; parts = k.parts ∙ ap (λ (l : List Token). plain k.marks ++ l) w.1; within = k.within; spells = (u.0.0, w.0, k.spells) }
+      record { marks = k.marks; parts = k.parts ∙ ap (λ (l : List Token). without_marks k.marks ++ l) w.1; within = k.within; spells = (u.0.0, w.0, k.spells) }
 
-  mapped_stuck : E → (ts bad : List Token) → mapped_at f r ts ≡ Err bad → Begins (mapped f R) ts bad
+  mapped_stuck : E → (ts bad : List Token) → mapped_at f r ts ≡ Err bad → BeginsText (mapped f R) ts bad
   unfolding onto
   mapped_stuck e ts rest h =
       elim (bind_err (r ts) onto rest h) [
@@ -369,26 +369,26 @@ module _ {X Y : Type 0} {E : Type 0} {R : Rule X} {go : Token → Bool} {r : Rea
 
 -- ---- one of two
 
-pub in_found : {X : Type 0} {R S : Rule X} {ts rest : List Token} {x : X} → ((ms : List Mark) → R x ms → S x ms) → Found R ts x rest → Found S ts x rest
+pub in_found : {X : Type 0} {R S : Rule X} {ts rest : List Token} {x : X} → ((ms : List TokenMark) → R x ms → S x ms) → FoundTokens R ts x rest → FoundTokens S ts x rest
 in_found i f = record { marks = f.marks; parts = f.parts; within = f.within; spells = i f.marks f.spells }
 
-pub in_begins : {X : Type 0} {R S : Rule X} {ts rest : List Token} → ((x : X) (ms : List Mark) → R x ms → S x ms) → Begins R ts rest → Begins S ts rest
+pub in_begins : {X : Type 0} {R S : Rule X} {ts rest : List Token} → ((x : X) (ms : List TokenMark) → R x ms → S x ms) → BeginsText R ts rest → BeginsText S ts rest
 in_begins i b = record { marks = b.marks; parts = b.parts; within = b.within; thing = b.thing; more = b.more; spells = i b.thing (b.marks ++ b.more) b.spells }
 
 module _ {X : Type 0} {E : Type 0} {R S : Rule X} {go : Token → Bool} {r s : Reader X} (first : Token → Bool) (left : IsReader E R go r) (right : IsReader E S go s)
-    (heads : Heads R first) (others : (x : X) (ms : List Mark) (rest : List Token) → S x ms → begins go rest ≡ false → begins first (plain ms ++ rest) ≡ false) where
-  either_reads : (x : X) (ms : List Mark) (rest : List Token) → either R S x ms → begins go rest ≡ false → either_at first r s (plain ms ++ rest) ≡ after ms rest (x, rest)
-  either_reads x ms rest (inl p) stops = ap (λ (b : Bool). cond b (r (plain ms ++ rest)) (s (plain ms ++ rest))) (begins_more first (plain ms) rest (heads x ms p)) ∙ left.reads x ms rest p stops
-  either_reads x ms rest (inr p) stops = ap (λ (b : Bool). cond b (r (plain ms ++ rest)) (s (plain ms ++ rest))) (others x ms rest p stops) ∙ right.reads x ms rest p stops
+    (heads : Heads R first) (others : (x : X) (ms : List TokenMark) (rest : List Token) → S x ms → begins go rest ≡ false → begins first (without_marks ms ++ rest) ≡ false) where
+  either_reads : (x : X) (ms : List TokenMark) (rest : List Token) → either R S x ms → begins go rest ≡ false → either_at first r s (without_marks ms ++ rest) ≡ answer_after ms rest (x, rest)
+  either_reads x ms rest (inl p) stops = ap (λ (b : Bool). cond b (r (without_marks ms ++ rest)) (s (without_marks ms ++ rest))) (begins_more first (without_marks ms) rest (heads x ms p)) ∙ left.reads x ms rest p stops
+  either_reads x ms rest (inr p) stops = ap (λ (b : Bool). cond b (r (without_marks ms ++ rest)) (s (without_marks ms ++ rest))) (others x ms rest p stops) ∙ right.reads x ms rest p stops
 
-  either_found : E → (ts : List Token) (x : X) (rest : List Token) → either_at first r s ts ≡ Ok (x, rest) → Found (either R S) ts x rest
+  either_found : E → (ts : List Token) (x : X) (rest : List Token) → either_at first r s ts ≡ Ok (x, rest) → FoundTokens (either R S) ts x rest
   either_found e ts x rest h =
       elim (chosen (begins first ts) (r ts) (s ts) (went x rest) h) [
         | inl (is, k) ↦ in_found {R = R} {S = either R S} (λ ms p. inl p) (left.found e ts x rest k)
         | inr (is, k) ↦ in_found {R = S} {S = either R S} (λ ms p. inr p) (right.found e ts x rest k)
       ]
 
-  either_stuck : E → (ts rest : List Token) → either_at first r s ts ≡ Err rest → Begins (either R S) ts rest
+  either_stuck : E → (ts rest : List Token) → either_at first r s ts ≡ Err rest → BeginsText (either R S) ts rest
   either_stuck e ts rest h =
       elim (chosen (begins first ts) (r ts) (s ts) (stop rest) h) [
         | inl (is, k) ↦ in_begins {R = R} {S = either R S} (λ x ms p. inl p) (left.stuck e ts rest k)
@@ -423,7 +423,7 @@ module _ {X : Type 0} {E : Type 0} {R S : Rule X} {go : Token → Bool} {r s : R
 
 pub nothing_reader : {X : Type 0} (E : Type 0) (x : X) (go : Token → Bool) → IsReader E (nothing x) go (nothing_at x)
 nothing_reader {X} E x go = record {
-  reads = λ y ms rest p stops. let e : went x (plain ms ++ rest) ≡ went y rest = rw (p.0, p.1) refl in e ∙ ap (λ (l : List Mark). after l rest (y, rest)) (sym p.1);
+  reads = λ y ms rest p stops. let e : went x (without_marks ms ++ rest) ≡ went y rest = rw (p.0, p.1) refl in e ∙ ap (λ (l : List TokenMark). answer_after l rest (y, rest)) (sym p.1);
   found = λ e ts y rest h. let w = went_is x y ts rest h in record { marks = []; parts = w.1; within = tt; spells = (w.0, refl) };
   stuck = λ e ts rest h. absurd (not_both x ts rest h);
   same_ok = λ e p q t us vs y h. let w = went_is x y (p ++ t ∷ us) (q ++ t ∷ us) h in let same = cancel_right p q (t ∷ us) w.1 in rw (w.0, same) refl;
@@ -433,11 +433,11 @@ nothing_reader {X} E x go = record {
 
 -- every spelling begins with a token past the limits
 abbrev pub PastLimits : {X : Type 0} → Rule X → (Token → Bool) → Type 0
-PastLimits {X} R first = (x : X) (ms : List Mark) → R x ms → (t : Token) × (more : List Mark) × (ms ≡ (t, false) ∷ more) × (first t ≡ true)
+PastLimits {X} R first = (x : X) (ms : List TokenMark) → R x ms → (t : Token) × (more : List TokenMark) × (ms ≡ (t, false) ∷ more) × (first t ≡ true)
 
-pub refused_reader : {X : Type 0} (E : Type 0) (R : Rule X) (first go : Token → Bool) → PastLimits R first → (E → (x : X) × (ms : List Mark) × R x ms) → IsReader E R go refused_at
+pub refused_reader : {X : Type 0} (E : Type 0) (R : Rule X) (first go : Token → Bool) → PastLimits R first → (E → (x : X) × (ms : List TokenMark) × R x ms) → IsReader E R go refused_at
 refused_reader {X} E R first go past some = record {
-  reads = λ x ms rest p stops. let a = past x ms p in let e : stop {X = X} (plain ms ++ rest) ≡ after ms rest (x, rest) = rw (a.2) refl in e;
+  reads = λ x ms rest p stops. let a = past x ms p in let e : stop {X = X} (without_marks ms ++ rest) ≡ answer_after ms rest (x, rest) = rw (a.2) refl in e;
   found = λ e ts y rest h. absurd (not_both y rest ts (sym h));
   stuck = λ e ts rest h. let a = some e in record { marks = []; parts = stop_is {X = X} ts rest h; within = tt; thing = a.0; more = a.1; spells = a.2 };
   same_ok = λ e p q t us vs y h. absurd (not_both y (q ++ t ∷ us) (p ++ t ∷ us) (sym h));
@@ -450,38 +450,38 @@ refused_reader {X} E R first go past some = record {
 module _ {X : Type 0} {E : Type 0} {stay : Token → Bool} {r : Reader X} (link : Bool → Rule X) (first go : Token → Bool) (linked : IsReader E (link true) stay r)
     (heads : (room : Bool) → Heads (link room) first) (past : PastLimits (link false) first)
     (apart : Apart first stay) (covers_first : Covers go first) (covers_stay : Covers go stay) where
-  pub links_next : (left : ℕ) (xs : List X) (ms : List Mark) (rest : List Token) → links link left xs ms → begins go rest ≡ false → begins stay (plain ms ++ rest) ≡ false
+  pub links_next : (left : ℕ) (xs : List X) (ms : List TokenMark) (rest : List Token) → links link left xs ms → begins go rest ≡ false → begins stay (without_marks ms ++ rest) ≡ false
   links_next left [] ms rest is stops = rw is (begins_covers go stay rest covers_stay stops)
   links_next zero (x ∷ xs) ms rest (a, b, is, p, q) stops =
-      begins_apart first stay (plain ms ++ rest) apart (begins_more first (plain ms) rest (rw (is, plain_append a b) (begins_more first (plain a) (plain b) (heads false x a p))))
+      begins_apart first stay (without_marks ms ++ rest) apart (begins_more first (without_marks ms) rest (rw (is, plain_append a b) (begins_more first (without_marks a) (without_marks b) (heads false x a p))))
   links_next (suc left) (x ∷ xs) ms rest (a, b, is, p, q) stops =
-      begins_apart first stay (plain ms ++ rest) apart (begins_more first (plain ms) rest (rw (is, plain_append a b) (begins_more first (plain a) (plain b) (heads true x a p))))
+      begins_apart first stay (without_marks ms ++ rest) apart (begins_more first (without_marks ms) rest (rw (is, plain_append a b) (begins_more first (without_marks a) (without_marks b) (heads true x a p))))
 
   pub joined : X → List X × List Token → Answer (List X)
   joined x z = went (x ∷ z.0) z.1
 
-  links_reads : (left : ℕ) (xs : List X) (ms : List Mark) (rest : List Token) → links link left xs ms → begins go rest ≡ false → links_at first r left (plain ms ++ rest) ≡ after ms rest (xs, rest)
+  links_reads : (left : ℕ) (xs : List X) (ms : List TokenMark) (rest : List Token) → links link left xs ms → begins go rest ≡ false → links_at first r left (without_marks ms ++ rest) ≡ answer_after ms rest (xs, rest)
   unfolding joined
   links_reads zero [] ms rest is stops = rw (is, begins_covers go first rest covers_first stops) refl
   links_reads (suc left) [] ms rest is stops = rw (is, begins_covers go first rest covers_first stops) refl
   links_reads zero (x ∷ xs) ms rest (a, b, is, p, q) stops =
       let k = past x a p in
-      let e : ms ≡ (k.0, false) ∷ (k.1 ++ b) = is ∙ ap (λ (l : List Mark). l ++ b) k.2 in
+      let e : ms ≡ (k.0, false) ∷ (k.1 ++ b) = is ∙ ap (λ (l : List TokenMark). l ++ b) k.2 in
       rw (e, k.3) refl
   links_reads (suc left) (x ∷ xs) ms rest (a, b, is, p, q) stops =
       let f : X × List Token → Answer (List X) = λ z. links_at first r left z.1 >>= joined z.0 in
-      let e1 = linked.reads x a (plain b ++ rest) p (links_next left xs b rest q stops) in
+      let e1 = linked.reads x a (without_marks b ++ rest) p (links_next left xs b rest q stops) in
       let e2 = links_reads left xs b rest q stops in
-      let e3 : f (x, plain b ++ rest) ≡ after b rest (x ∷ xs, rest) = ap (λ (z : Answer (List X)). z >>= joined x) e2 ∙ after_map b rest (joined x) (xs, rest) (x ∷ xs, rest) refl in
-      let h : begins first (plain ms ++ rest) ≡ true = begins_more first (plain ms) rest (rw (is, plain_append a b) (begins_more first (plain a) (plain b) (heads true x a p))) in
-      ap (λ (c : Bool). cond c (r (plain ms ++ rest) >>= f) (went [] (plain ms ++ rest))) h
-      ∙ ap (λ (l : List Mark). r (plain l ++ rest) >>= f) is ∙ ap (λ (l : List Token). r l >>= f) (split_plain a b rest) ∙ ap (λ (z : Answer X). z >>= f) e1
-      ∙ after_append a b rest f (x, plain b ++ rest) (x ∷ xs, rest) e3 ∙ ap (λ (l : List Mark). after l rest (x ∷ xs, rest)) (sym is)
+      let e3 : f (x, without_marks b ++ rest) ≡ answer_after b rest (x ∷ xs, rest) = ap (λ (z : Answer (List X)). z >>= joined x) e2 ∙ after_map b rest (joined x) (xs, rest) (x ∷ xs, rest) refl in
+      let h : begins first (without_marks ms ++ rest) ≡ true = begins_more first (without_marks ms) rest (rw (is, plain_append a b) (begins_more first (without_marks a) (without_marks b) (heads true x a p))) in
+      ap (λ (c : Bool). cond c (r (without_marks ms ++ rest) >>= f) (went [] (without_marks ms ++ rest))) h
+      ∙ ap (λ (l : List TokenMark). r (without_marks l ++ rest) >>= f) is ∙ ap (λ (l : List Token). r l >>= f) (split_plain a b rest) ∙ ap (λ (z : Answer X). z >>= f) e1
+      ∙ after_append a b rest f (x, without_marks b ++ rest) (x ∷ xs, rest) e3 ∙ ap (λ (l : List TokenMark). answer_after l rest (x ∷ xs, rest)) (sym is)
 
   pub next_of : ℕ → X × List Token → Answer (List X)
   next_of left z = links_at first r left z.1 >>= joined z.0
 
-  links_found : E → (left : ℕ) (ts : List Token) (xs : List X) (rest : List Token) → links_at first r left ts ≡ Ok (xs, rest) → Found (links link left) ts xs rest
+  links_found : E → (left : ℕ) (ts : List Token) (xs : List X) (rest : List Token) → links_at first r left ts ≡ Ok (xs, rest) → FoundTokens (links link left) ts xs rest
   unfolding joined next_of
   links_found e zero ts xs rest h =
       elim (chosen (begins first ts) (stop ts) (went [] ts) (went xs rest) h) [
@@ -498,14 +498,14 @@ module _ {X : Type 0} {E : Type 0} {stay : Token → Bool} {r : Reader X} (link 
             let g = links_found e left u.0.1 v.0.0 v.0.1 v.1 in
             record {
               marks = f.marks ++ g.marks;
-              parts = f.parts ∙ ap (λ (l : List Token). plain f.marks ++ l) (g.parts ∙ ap (λ (l : List Token). plain g.marks ++ l) w.1) ∙ sym (split_plain f.marks g.marks rest);
+              parts = f.parts ∙ ap (λ (l : List Token). without_marks f.marks ++ l) (g.parts ∙ ap (λ (l : List Token). without_marks g.marks ++ l) w.1) ∙ sym (split_plain f.marks g.marks rest);
               within = Within_append f.marks g.marks f.within g.within;
               spells = subst (λ (l : List X). links link (suc left) l (f.marks ++ g.marks)) w.0 (f.marks, g.marks, refl, f.spells, g.spells);
             }
         | inr (is, k) ↦ let w = went_is [] xs ts rest k in record { marks = []; parts = w.1; within = tt; spells = subst (λ (l : List X). links link (suc left) l []) w.0 refl }
       ]
 
-  links_stuck : E → (left : ℕ) (ts rest : List Token) → links_at first r left ts ≡ Err rest → Begins (links link left) ts rest
+  links_stuck : E → (left : ℕ) (ts rest : List Token) → links_at first r left ts ≡ Err rest → BeginsText (links link left) ts rest
   unfolding joined next_of
   links_stuck e zero ts rest h =
       elim (chosen (begins first ts) (stop ts) (went [] ts) (stop rest) h) [
@@ -526,7 +526,7 @@ module _ {X : Type 0} {E : Type 0} {stay : Token → Bool} {r : Reader X} (link 
           | inr (z, ok, err) ↦ elim (bind_err (links_at first r left z.1) (joined z.0) rest err) [
             | inl err' ↦ let f = linked.found e ts z.0 z.1 ok in let b = links_stuck e left z.1 rest err' in record {
               marks = f.marks ++ b.marks;
-              parts = f.parts ∙ ap (λ (l : List Token). plain f.marks ++ l) b.parts ∙ sym (split_plain f.marks b.marks rest);
+              parts = f.parts ∙ ap (λ (l : List Token). without_marks f.marks ++ l) b.parts ∙ sym (split_plain f.marks b.marks rest);
               within = Within_append f.marks b.marks f.within b.within;
               thing = z.0 ∷ b.thing;
               more = b.more;
@@ -553,8 +553,8 @@ module _ {X : Type 0} {E : Type 0} {stay : Token → Bool} {r : Reader X} (link 
             let v = bind_ok (links_at first r left u.0.1) (joined u.0.0) (xs, q ++ t ∷ us) u.2 in
             let w = went_is (u.0.0 ∷ v.0.0) xs v.0.1 (q ++ t ∷ us) v.2 in
             let g = links_found e left u.0.1 v.0.0 v.0.1 v.1 in
-            let m = plain g.marks ++ q in
-            let mid : u.0.1 ≡ m ++ t ∷ us = g.parts ∙ ap (λ (l : List Token). plain g.marks ++ l) w.1 ∙ sym (append_assoc (plain g.marks) q (t ∷ us)) in
+            let m = without_marks g.marks ++ q in
+            let mid : u.0.1 ≡ m ++ t ∷ us = g.parts ∙ ap (λ (l : List Token). without_marks g.marks ++ l) w.1 ∙ sym (append_assoc (without_marks g.marks) q (t ∷ us)) in
             let one = linked.same_ok e p m t us vs u.0.0 (u.1 ∙ ap (λ (l : List Token). went u.0.0 l) mid) in
             let two = links_same_ok e left m q t us vs v.0.0 (ap (links_at first r left) (sym mid) ∙ v.1 ∙ ap (λ (l : List Token). went v.0.0 l) w.1) in
             ap (λ (c : Bool). cond c (r (p ++ t ∷ vs) >>= next_of left) (went [] (p ++ t ∷ vs))) (same_head first p t vs us ∙ is)
@@ -577,8 +577,8 @@ module _ {X : Type 0} {E : Type 0} {stay : Token → Bool} {r : Reader X} (link 
               | inl err ↦ ap (λ (z : Answer X). z >>= next_of left) (linked.same_err e p q t us vs err)
               | inr (u, ok, err) ↦ elim (bind_err (links_at first r left u.1) (joined u.0) (q ++ t ∷ us) err) [
                 | inl err' ↦ let b = links_stuck e left u.1 (q ++ t ∷ us) err' in
-                    let m = plain b.marks ++ q in
-                    let mid : u.1 ≡ m ++ t ∷ us = b.parts ∙ sym (append_assoc (plain b.marks) q (t ∷ us)) in
+                    let m = without_marks b.marks ++ q in
+                    let mid : u.1 ≡ m ++ t ∷ us = b.parts ∙ sym (append_assoc (without_marks b.marks) q (t ∷ us)) in
                     let one = linked.same_ok e p m t us vs u.0 (ok ∙ ap (λ (l : List Token). went u.0 l) mid) in
                     let two = links_same_err e left m q t us vs (ap (links_at first r left) (sym mid) ∙ err') in
                     ap (λ (z : Answer X). z >>= next_of left) one ∙ ap (λ (z : Answer (List X)). z >>= joined u.0) two
@@ -621,32 +621,32 @@ module _ {X : Type 0} {E : Type 0} {stay : Token → Bool} {R : Rule X} {r : Rea
   past' : PastLimits (always R false) first
   past' x ms (is, p) = absurd cc
 
-  in_links : (left : ℕ) (xs : List X) (ms : List Mark) → length xs ≤ left → many R xs ms → links (always R) left xs ms
+  in_links : (left : ℕ) (xs : List X) (ms : List TokenMark) → length xs ≤ left → many R xs ms → links (always R) left xs ms
   in_links left [] ms le p = p
   in_links zero (x ∷ xs) ms le p = absurd (omega (arith, le))
   in_links (suc left) (x ∷ xs) ms le (a, b, is, p, q) = (a, b, is, (refl, p), in_links left xs b (omega (arith, le)) q)
 
-  out_links : (left : ℕ) (xs : List X) (ms : List Mark) → links (always R) left xs ms → many R xs ms
+  out_links : (left : ℕ) (xs : List X) (ms : List TokenMark) → links (always R) left xs ms → many R xs ms
   out_links left [] ms p = p
   out_links zero (x ∷ xs) ms (a, b, is, p, q) = absurd (let e : false ≡ true = p.0 in cc)
   out_links (suc left) (x ∷ xs) ms (a, b, is, p, q) = (a, b, is, p.1, out_links left xs b q)
 
-  taken : (ms : List Mark) → begins first (plain ms) ≡ true → 0 < length (plain ms)
+  taken : (ms : List TokenMark) → begins first (without_marks ms) ≡ true → 0 < length (without_marks ms)
   taken [] e = absurd cc
   taken (m ∷ ms) e = omega arith
 
-  many_short : (xs : List X) (ms : List Mark) → many R xs ms → length xs ≤ length (plain ms)
+  many_short : (xs : List X) (ms : List TokenMark) → many R xs ms → length xs ≤ length (without_marks ms)
   many_short [] ms p = omega arith
   many_short (x ∷ xs) ms (a, b, is, p, q) =
       let h = taken a (heads x a p) in
       let k = many_short xs b q in
-      let n : length (plain ms) ≡ length (plain a) + length (plain b) = rw (is, plain_append a b, length-append (plain a) (plain b)) refl in
+      let n : length (without_marks ms) ≡ length (without_marks a) + length (without_marks b) = rw (is, plain_append a b, length-append (without_marks a) (without_marks b)) refl in
       omega (arith, h, k, n)
 
   shorter : E → (ts rest : List Token) (x : X) → r ts ≡ Ok (x, rest) → length rest < length ts
   shorter e ts rest x h =
       let f = item.found e ts x rest h in
-      let n : length ts ≡ length (plain f.marks) + length rest = ap length f.parts ∙ length-append (plain f.marks) rest in
+      let n : length ts ≡ length (without_marks f.marks) + length rest = ap length f.parts ∙ length-append (without_marks f.marks) rest in
       let k = taken f.marks (heads x f.marks f.spells) in
       omega (arith, n, k)
 
@@ -674,12 +674,12 @@ module _ {X : Type 0} {E : Type 0} {stay : Token → Bool} {R : Rule X} {r : Rea
   longest : List Token → List Token → Token → List Token → ℕ
   longest p us t vs = length (p ++ t ∷ us) + length (p ++ t ∷ vs)
 
-  pub many_reader : IsReader E (many R) go (many_at first r)
+  pub many_reader : IsReader E (many R) go (many_read first r)
   unfolding longest
   many_reader = record {
     reads = λ xs ms rest p stops.
-        let n : length xs ≤ length (plain ms ++ rest) = omega (arith, many_short xs ms p, length-append (plain ms) rest) in
-        (row (length (plain ms ++ rest))).reads xs ms rest (in_links (length (plain ms ++ rest)) xs ms n p) stops;
+        let n : length xs ≤ length (without_marks ms ++ rest) = omega (arith, many_short xs ms p, length-append (without_marks ms) rest) in
+        (row (length (without_marks ms ++ rest))).reads xs ms rest (in_links (length (without_marks ms ++ rest)) xs ms n p) stops;
     found = λ e ts xs rest h. in_found {R = links (always R) (length ts)} {S = many R} (out_links (length ts) xs) ((row (length ts)).found e ts xs rest h);
     stuck = λ e ts rest h. in_begins {R = links (always R) (length ts)} {S = many R} (out_links (length ts)) ((row (length ts)).stuck e ts rest h);
     same_ok = λ e p q t us vs xs h.
@@ -695,5 +695,5 @@ module _ {X : Type 0} {E : Type 0} {stay : Token → Bool} {R : Rule X} {r : Rea
     some = λ e. ([], [], refl);
   }
 
-  pub many_next : (xs : List X) (ms : List Mark) (rest : List Token) → many R xs ms → begins go rest ≡ false → begins stay (plain ms ++ rest) ≡ false
+  pub many_next : (xs : List X) (ms : List TokenMark) (rest : List Token) → many R xs ms → begins go rest ≡ false → begins stay (without_marks ms ++ rest) ≡ false
   many_next xs ms rest p stops = links_next (always R) first go item' heads' past' apart covers_first covers_stay (length xs) xs ms rest (in_links (length xs) xs ms (omega arith) p) stops

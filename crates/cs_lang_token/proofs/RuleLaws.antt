@@ -8,9 +8,9 @@ use Rattle.cs_lang_token.specs.declared.token.Text.{Text}
 use Rattle.cs_lang_token.specs.declared.token.Number.{Number}
 use Rattle.cs_lang_token.specs.declared.kind.Kind.{Kind}
 use Rattle.cs_lang_token.specs.declared.kind.Kind.TheVariants as kind
-use Rattle.cs_lang_token.specs.Grammar.{Mark, plain, Within, Rule, Reader, begins, token, token_at, pair, pair_at, mapped, mapped_at, either, either_at, nothing, nothing_at, refused_at, links, links_at, many, many_at, after, Found, Begins, IsReader, ◌>>=◌}
+use Rattle.cs_lang_token.specs.Grammar.{TokenMark, without_marks, Within, Rule, Reader, begins, token, token_at, pair, pair_read, mapped, mapped_at, either, either_at, nothing, nothing_at, refused_at, links, links_at, many, many_read, answer_after, FoundTokens, BeginsText, IsReader, ◌>>=◌}
 use Rattle.cs_lang_token.specs.Kinds.{code, among, is}
-use Rattle.cs_lang_token.specs.Rules.{place_of_token, text_of, number_of, sign, sign_at, name, name_at, bytes, bytes_at, number, number_at, room_of, all_of, joined, joined_pair, with_item, commas}
+use Rattle.cs_lang_token.specs.Rules.{place_of_token, text_of, number_of_token, sign, sign_at, name, name_token_at, bytes, bytes_token_at, number, number_token_at, room_of, first_and_rest, joined_left, joined_pair, item_behind, commas}
 use Rattle.cs_lang_token.proofs.Grammars.{Answer, went, stop, went_is, not_both, chosen, none, token_reader, pair_reader, mapped_reader, either_reader, nothing_reader, refused_reader, links_reader, links_next, many_reader, many_next, widened, weakened, Heads, Apart, Covers, Implies, PastLimits, begins_covers, begins_apart, begins_more, begins_implies, plain_append}
 use Rattle.cs_lang_token.proofs.KindTests.{disjoint, within, kinds_apart, kinds_imply, kinds_cover}
 
@@ -42,7 +42,7 @@ in_second ks ls t e = among_append ks ls (code t.kind) ∙ or_true (among ks (co
 
 -- a spelling begins with one of these kinds, or is empty, where it may be
 abbrev pub Leads : {X : Type 0} → Rule X → Bool → List Kind → Type 0
-Leads {X} R may hs = (x : X) (ms : List Mark) → R x ms → (begins (is hs) (plain ms) ≡ true) ⊎ ((may ≡ true) × (ms ≡ []))
+Leads {X} R may hs = (x : X) (ms : List TokenMark) → R x ms → (begins (is hs) (without_marks ms) ≡ true) ⊎ ((may ≡ true) × (ms ≡ []))
 
 -- A rule, whether it spells nothing, what it begins with, what it goes on with, and its reader.
 pub record Law {X : Type 0} (Enough : Type 0) (R : Rule X) (may : Bool) (hs gos : List Kind) (r : Reader X) : Type 0 where
@@ -57,14 +57,14 @@ begins_nothing : (ts : List Token) → begins (is []) ts ≡ false
 begins_nothing [] = refl
 begins_nothing (t ∷ ts) = refl
 
-apart_of : {Y : Type 0} {S : Rule Y} (n : Bool) (ks gos stays : List Kind) → Leads S n ks → fits n ks gos stays ≡ true → (y : Y) (ms : List Mark) (rest : List Token) → S y ms → begins (is stays) rest ≡ false → begins (is gos) (plain ms ++ rest) ≡ false
+apart_of : {Y : Type 0} {S : Rule Y} (n : Bool) (ks gos stays : List Kind) → Leads S n ks → fits n ks gos stays ≡ true → (y : Y) (ms : List TokenMark) (rest : List Token) → S y ms → begins (is stays) rest ≡ false → begins (is gos) (without_marks ms ++ rest) ≡ false
 apart_of n ks gos stays leads fit y ms rest p stops =
     let two = both_true (disjoint ks gos) (if n then within gos stays else true) fit in
     elim (leads y ms p) [
-      | inl h ↦ begins_apart (is ks) (is gos) (plain ms ++ rest) (kinds_apart ks gos two.0) (begins_more (is ks) (plain ms) rest h)
+      | inl h ↦ begins_apart (is ks) (is gos) (without_marks ms ++ rest) (kinds_apart ks gos two.0) (begins_more (is ks) (without_marks ms) rest h)
       | inr (empties, nil) ↦
           let covers : within gos stays ≡ true = sym (ap (λ (b : Bool). if b then within gos stays else true) empties) ∙ two.1 in
-          ap (λ (l : List Mark). begins (is gos) (plain l ++ rest)) nil ∙ begins_covers (is stays) (is gos) rest (kinds_cover stays gos covers) stops
+          ap (λ (l : List TokenMark). begins (is gos) (without_marks l ++ rest)) nil ∙ begins_covers (is stays) (is gos) rest (kinds_cover stays gos covers) stops
     ]
 
 abbrev pub heads_of_pair : Bool → List Kind → List Kind → List Kind
@@ -73,23 +73,23 @@ heads_of_pair m hs ks = if m then hs ++ ks else hs
 leads_pair : {X Y : Type 0} {R : Rule X} {S : Rule Y} (m n : Bool) (hs ks : List Kind) → Leads R m hs → Leads S n ks → Leads (pair R S) (if m then n else false) (heads_of_pair m hs ks)
 leads_pair false n hs ks p q x ms (a, b, is', u, v) =
     elim (p x.0 a u) [
-      | inl h ↦ inl (ap (λ (l : List Mark). begins (is hs) (plain l)) is' ∙ ap (begins (is hs)) (plain_append a b) ∙ begins_more (is hs) (plain a) (plain b) h)
+      | inl h ↦ inl (ap (λ (l : List TokenMark). begins (is hs) (without_marks l)) is' ∙ ap (begins (is hs)) (plain_append a b) ∙ begins_more (is hs) (without_marks a) (without_marks b) h)
       | inr (e, nil) ↦ absurd cc
     ]
 leads_pair true n hs ks p q x ms (a, b, is', u, v) =
     elim (p x.0 a u) [
-      | inl h ↦ inl (ap (λ (l : List Mark). begins (is (hs ++ ks)) (plain l)) is' ∙ ap (begins (is (hs ++ ks))) (plain_append a b) ∙ begins_more (is (hs ++ ks)) (plain a) (plain b) (begins_implies (is hs) (is (hs ++ ks)) (plain a) (in_first hs ks) h))
+      | inl h ↦ inl (ap (λ (l : List TokenMark). begins (is (hs ++ ks)) (without_marks l)) is' ∙ ap (begins (is (hs ++ ks))) (plain_append a b) ∙ begins_more (is (hs ++ ks)) (without_marks a) (without_marks b) (begins_implies (is hs) (is (hs ++ ks)) (without_marks a) (in_first hs ks) h))
       | inr (e, nil) ↦
-          let same : ms ≡ b = is' ∙ ap (λ (l : List Mark). l ++ b) nil in
+          let same : ms ≡ b = is' ∙ ap (λ (l : List TokenMark). l ++ b) nil in
           elim (q x.1 b v) [
-            | inl h ↦ inl (ap (λ (l : List Mark). begins (is (hs ++ ks)) (plain l)) same ∙ begins_implies (is ks) (is (hs ++ ks)) (plain b) (in_second hs ks) h)
+            | inl h ↦ inl (ap (λ (l : List TokenMark). begins (is (hs ++ ks)) (without_marks l)) same ∙ begins_implies (is ks) (is (hs ++ ks)) (without_marks b) (in_second hs ks) h)
             | inr (e', nil') ↦ inr (e', same ∙ nil')
           ]
     ]
 
 -- ---- rules made of rules
 
-pub pair_law : {X Y : Type 0} {E : Type 0} {R : Rule X} {S : Rule Y} {m n : Bool} {hs ks gos stays : List Kind} {r : Reader X} {s : Reader Y} → Law E R m hs gos r → Law E S n ks stays s → fits n ks gos stays ≡ true → Law E (pair R S) (if m then n else false) (heads_of_pair m hs ks) stays (pair_at r s)
+pub pair_law : {X Y : Type 0} {E : Type 0} {R : Rule X} {S : Rule Y} {m n : Bool} {hs ks gos stays : List Kind} {r : Reader X} {s : Reader Y} → Law E R m hs gos r → Law E S n ks stays s → fits n ks gos stays ≡ true → Law E (pair R S) (if m then n else false) (heads_of_pair m hs ks) stays (pair_read r s)
 pair_law {X} {Y} {E} {R} {S} {m} {n} {hs} {ks} {gos} {stays} {r} {s} a b fit = record {
   reader = pair_reader a.reader b.reader (apart_of {S = S} n ks gos stays b.leads fit);
   leads = leads_pair {R = R} {S = S} m n hs ks a.leads b.leads;
@@ -104,7 +104,7 @@ mapped_law f a = record {
 pub token_law : {E : Type 0} (ks : List Kind) (sample : Token) → is ks sample ≡ true → Law E (token (is ks) true) false ks [] (token_at (is ks) true)
 token_law {E} ks sample fit = record {
   reader = widened {go = none} (is []) (λ t e. refl) (token_reader E (is ks) sample fit);
-  leads = λ t ms p. inl (ap (λ (l : List Mark). begins (is ks) (plain l)) p.0 ∙ p.1);
+  leads = λ t ms p. inl (ap (λ (l : List TokenMark). begins (is ks) (without_marks l)) p.0 ∙ p.1);
 }
 
 -- a token of a kind
@@ -114,14 +114,14 @@ sample k = record { kind = k; number = 0; bytes = []; place = 0 }
 pub sign_law : {E : Type 0} (k : Kind) → is (k ∷ []) (sample k) ≡ true → Law E (sign k true) false (k ∷ []) [] (sign_at k true)
 sign_law k fit = mapped_law place_of_token (token_law (k ∷ []) (sample k) fit)
 
-pub name_law : {E : Type 0} → Law E name false (kind.Name ∷ []) [] name_at
+pub name_law : {E : Type 0} → Law E name false (kind.Name ∷ []) [] name_token_at
 name_law = mapped_law text_of (token_law (kind.Name ∷ []) (sample kind.Name) refl)
 
-pub bytes_law : {E : Type 0} → Law E bytes false (kind.Bytes ∷ []) [] bytes_at
+pub bytes_law : {E : Type 0} → Law E bytes false (kind.Bytes ∷ []) [] bytes_token_at
 bytes_law = mapped_law text_of (token_law (kind.Bytes ∷ []) (sample kind.Bytes) refl)
 
-pub number_law : {E : Type 0} → Law E number false (kind.Number ∷ []) [] number_at
-number_law = mapped_law number_of (token_law (kind.Number ∷ []) (sample kind.Number) refl)
+pub number_law : {E : Type 0} → Law E number false (kind.Number ∷ []) [] number_token_at
+number_law = mapped_law number_of_token (token_law (kind.Number ∷ []) (sample kind.Number) refl)
 
 -- the same, where more may stop it
 pub wider_law : {X : Type 0} {E : Type 0} {R : Rule X} {m : Bool} {hs gos : List Kind} {r : Reader X} (stays : List Kind) → within gos stays ≡ true → Law E R m hs gos r → Law E R m hs stays r
@@ -152,9 +152,9 @@ either_law {X} {E} {R} {S} {n} {hs} {ks} {gos} {r} {s} a b fit = record {
   ]
 
   leads : Leads (either R S) n (hs ++ ks)
-  leads x ms (inl p) = inl (begins_implies (is hs) (is (hs ++ ks)) (plain ms) (in_first hs ks) (heads x ms p))
+  leads x ms (inl p) = inl (begins_implies (is hs) (is (hs ++ ks)) (without_marks ms) (in_first hs ks) (heads x ms p))
   leads x ms (inr p) = elim (b.leads x ms p) [
-    | inl h ↦ inl (begins_implies (is ks) (is (hs ++ ks)) (plain ms) (in_second hs ks) h)
+    | inl h ↦ inl (begins_implies (is ks) (is (hs ++ ks)) (without_marks ms) (in_second hs ks) h)
     | inr (e, nil) ↦ inr (e, nil)
   ]
 
@@ -164,7 +164,7 @@ many_leads : {X : Type 0} {R : Rule X} (hs : List Kind) → Leads R false hs →
 many_leads hs leads [] ms p = inr (refl, p)
 many_leads hs leads (x ∷ xs) ms (a, b, is', u, v) =
     elim (leads x a u) [
-      | inl h ↦ inl (ap (λ (l : List Mark). begins (is hs) (plain l)) is' ∙ ap (begins (is hs)) (plain_append a b) ∙ begins_more (is hs) (plain a) (plain b) h)
+      | inl h ↦ inl (ap (λ (l : List TokenMark). begins (is hs) (without_marks l)) is' ∙ ap (begins (is hs)) (plain_append a b) ∙ begins_more (is hs) (without_marks a) (without_marks b) h)
       | inr (e, nil) ↦ absurd cc
     ]
 
@@ -177,7 +177,7 @@ heads_only hs leads x ms p = elim (leads x ms p) [
 abbrev pub rows : List Kind → List Kind → List Kind → Bool
 rows hs gos stays = if disjoint hs gos then (if within hs stays then within gos stays else false) else false
 
-pub many_law : {X : Type 0} {E : Type 0} {R : Rule X} {hs gos : List Kind} {r : Reader X} (stays : List Kind) → rows hs gos stays ≡ true → Law E R false hs gos r → Law E (many R) true hs stays (many_at (is hs) r)
+pub many_law : {X : Type 0} {E : Type 0} {R : Rule X} {hs gos : List Kind} {r : Reader X} (stays : List Kind) → rows hs gos stays ≡ true → Law E R false hs gos r → Law E (many R) true hs stays (many_read (is hs) r)
 many_law {X} {E} {R} {hs} {gos} {r} stays fit a =
     let one = both_true (disjoint hs gos) (if within hs stays then within gos stays else false) fit in
     let two = both_true (within hs stays) (within gos stays) one.1 in
@@ -189,9 +189,9 @@ many_law {X} {E} {R} {hs} {gos} {r} stays fit a =
 links_leads : {X : Type 0} (link : Bool → Rule X) (hs : List Kind) → ((room : Bool) → Leads (link room) false hs) → (left : ℕ) → Leads (links link left) true hs
 links_leads link hs leads left [] ms p = inr (refl, p)
 links_leads link hs leads zero (x ∷ xs) ms (a, b, is', u, v) =
-    inl (ap (λ (l : List Mark). begins (is hs) (plain l)) is' ∙ ap (begins (is hs)) (plain_append a b) ∙ begins_more (is hs) (plain a) (plain b) (heads_only {R = link false} hs (leads false) x a u))
+    inl (ap (λ (l : List TokenMark). begins (is hs) (without_marks l)) is' ∙ ap (begins (is hs)) (plain_append a b) ∙ begins_more (is hs) (without_marks a) (without_marks b) (heads_only {R = link false} hs (leads false) x a u))
 links_leads link hs leads (suc left) (x ∷ xs) ms (a, b, is', u, v) =
-    inl (ap (λ (l : List Mark). begins (is hs) (plain l)) is' ∙ ap (begins (is hs)) (plain_append a b) ∙ begins_more (is hs) (plain a) (plain b) (heads_only {R = link true} hs (leads true) x a u))
+    inl (ap (λ (l : List TokenMark). begins (is hs) (without_marks l)) is' ∙ ap (begins (is hs)) (plain_append a b) ∙ begins_more (is hs) (without_marks a) (without_marks b) (heads_only {R = link true} hs (leads true) x a u))
 
 -- every spelling begins with a token past the limits
 abbrev pub Past : {X : Type 0} → Rule X → List Kind → Type 0
@@ -207,10 +207,10 @@ links_law {X} {E} {hs} {gos} {r} link stays left fit a leads past =
     }
 
 -- R { "," R }
-pub commas_law : {X : Type 0} {E : Type 0} {R : Rule X} {hs gos : List Kind} {r : Reader X} (stays : List Kind) → rows (kind.Comma ∷ []) gos stays ≡ true → within gos stays ≡ true → Law E R false hs gos r → Law E (commas R) false hs stays (mapped_at all_of (pair_at r (many_at (is (kind.Comma ∷ [])) (pair_at (sign_at kind.Comma true) r))))
+pub commas_law : {X : Type 0} {E : Type 0} {R : Rule X} {hs gos : List Kind} {r : Reader X} (stays : List Kind) → rows (kind.Comma ∷ []) gos stays ≡ true → within gos stays ≡ true → Law E R false hs gos r → Law E (commas R) false hs stays (mapped_at first_and_rest (pair_read r (many_read (is (kind.Comma ∷ [])) (pair_read (sign_at kind.Comma true) r))))
 commas_law {X} {E} {R} {hs} {gos} {r} stays fit over a =
     let free : fits false hs [] gos ≡ true = disjoint_nothing hs in
-    mapped_law all_of (pair_law a (many_law stays fit (pair_law (sign_law kind.Comma refl) a free)) (follows gos stays fit over))
+    mapped_law first_and_rest (pair_law a (many_law stays fit (pair_law (sign_law kind.Comma refl) a free)) (follows gos stays fit over))
   where
     disjoint_nothing : (ls : List Kind) → (if disjoint ls [] then true else false) ≡ true
     disjoint_nothing [] = refl
@@ -226,7 +226,7 @@ commas_law {X} {E} {R} {hs} {gos} {r} stays fit over a =
 pub alike_law : {X : Type 0} {E : Type 0} {R : Rule X} {m : Bool} {hs gos : List Kind} {r s : Reader X} → ((ts : List Token) → s ts ≡ r ts) → Law E R m hs gos r → Law E R m hs gos s
 alike_law {X} {E} {R} {m} {hs} {gos} {r} {s} same a = record {
   reader = record {
-    reads = λ x ms rest p stops. same (plain ms ++ rest) ∙ a.reader.reads x ms rest p stops;
+    reads = λ x ms rest p stops. same (without_marks ms ++ rest) ∙ a.reader.reads x ms rest p stops;
     found = λ e ts x rest h. a.reader.found e ts x rest (sym (same ts) ∙ h);
     stuck = λ e ts bad h. a.reader.stuck e ts bad (sym (same ts) ∙ h);
     same_ok = λ e p q t us vs x h. same (p ++ t ∷ vs) ∙ a.reader.same_ok e p q t us vs x (sym (same (p ++ t ∷ us)) ∙ h);
@@ -237,7 +237,7 @@ alike_law {X} {E} {R} {m} {hs} {gos} {r} {s} same a = record {
 }
 
 abbrev pub Some' : {X : Type 0} → Rule X → Type 0
-Some' {X} R = (x : X) × (ms : List Mark) × R x ms
+Some' {X} R = (x : X) × (ms : List TokenMark) × R x ms
 
 never : (ks : List Kind) (ts : List Token) → token_at (is ks) false ts ≡ Err ts
 never ks [] = refl
@@ -248,15 +248,15 @@ never ks (t ∷ ts) = step (is ks t)
     step false = refl
 
 -- past the limits nothing is read
-pub shut : {Y : Type 0} (k : Kind) (s : Reader Y) (ts : List Token) → pair_at (sign_at k false) s ts ≡ Err ts
+pub shut : {Y : Type 0} (k : Kind) (s : Reader Y) (ts : List Token) → pair_read (sign_at k false) s ts ≡ Err ts
 shut {Y} k s ts = ap (λ (a : Answer Token). (a >>= λ x. went (place_of_token x.0) x.1) >>= λ x. s x.1 >>= λ y. went (x.0, y.0) y.1) (never (k ∷ []) ts)
 
 pub gate_past : {X : Type 0} (k : Kind) (S : Rule X) → Past (pair (sign k false) S) (k ∷ [])
-gate_past k S x ms (a, b, at, (t, u, p), q) = (t, b, at ∙ ap (λ (l : List Mark). l ++ b) p.0, p.1)
+gate_past k S x ms (a, b, at, (t, u, p), q) = (t, b, at ∙ ap (λ (l : List TokenMark). l ++ b) p.0, p.1)
 
 pub gate_leads : {X : Type 0} (k : Kind) (room : Bool) (S : Rule X) → Leads (pair (sign k room) S) false (k ∷ [])
 gate_leads k room S x ms (a, b, at, (t, u, p), q) =
-    inl (ap (λ (l : List Mark). begins (is (k ∷ [])) (plain l)) (at ∙ ap (λ (l : List Mark). l ++ b) p.0) ∙ p.1)
+    inl (ap (λ (l : List TokenMark). begins (is (k ∷ [])) (without_marks l)) (at ∙ ap (λ (l : List TokenMark). l ++ b) p.0) ∙ p.1)
 
 pub disjoint_none : (ls : List Kind) → disjoint ls [] ≡ true
 disjoint_none [] = refl
@@ -267,10 +267,10 @@ fits_none true ks stays = rw (disjoint_none ks) refl
 fits_none false ks stays = rw (disjoint_none ks) refl
 
 -- behind a rule that doesn't go on
-pub then_law : {X Y : Type 0} {E : Type 0} {R : Rule X} {S : Rule Y} {n : Bool} {hs ks stays : List Kind} {r : Reader X} {s : Reader Y} → Law E R false hs [] r → Law E S n ks stays s → Law E (pair R S) false hs stays (pair_at r s)
+pub then_law : {X Y : Type 0} {E : Type 0} {R : Rule X} {S : Rule Y} {n : Bool} {hs ks stays : List Kind} {r : Reader X} {s : Reader Y} → Law E R false hs [] r → Law E S n ks stays s → Law E (pair R S) false hs stays (pair_read r s)
 then_law {n = n} {ks = ks} {stays = stays} a b = pair_law a b (fits_none n ks stays)
 
-pub gate_law : {X : Type 0} {E : Type 0} {S : Rule X} {n : Bool} {ks stays : List Kind} {s : Reader X} (room : Bool) (k : Kind) → is (k ∷ []) (sample k) ≡ true → (room ≡ true → Law E S n ks stays s) → (E → Some' S) → Law E (pair (sign k room) S) false (k ∷ []) stays (pair_at (sign_at k room) s)
+pub gate_law : {X : Type 0} {E : Type 0} {S : Rule X} {n : Bool} {ks stays : List Kind} {s : Reader X} (room : Bool) (k : Kind) → is (k ∷ []) (sample k) ≡ true → (room ≡ true → Law E S n ks stays s) → (E → Some' S) → Law E (pair (sign k room) S) false (k ∷ []) stays (pair_read (sign_at k room) s)
 gate_law {X} {E} {S} {n} {ks} {stays} {s} true k fit inner some = then_law (sign_law k fit) (inner refl)
 gate_law {X} {E} {S} {n} {ks} {stays} {s} false k fit inner some =
     alike_law (shut k s) (record {

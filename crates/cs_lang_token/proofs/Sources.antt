@@ -10,8 +10,8 @@ use Rattle.cs_lang_token.specs.declared.kind.Kind.{Kind}
 use Rattle.cs_lang_token.specs.declared.kind.Kind.TheVariants as kind
 use Rattle.cs_lang_token.specs.declared.lexeme.Lexeme.{Lexeme}
 use Rattle.cs_lang_token.specs.Kinds.{code, among, is}
-use Rattle.cs_lang_token.specs.Grammar.{Mark, plain, ◌>>=◌}
-use Rattle.cs_lang_token.specs.Tokens.{is_digit, is_letter, is_name_character, is_hex, run_length, kind_of_value_word, kind_of_logic_word, kind_of_statement_word, kind_of_word, word_at, number_from, number_at, hex_value, hex_bytes, is_first, quoted_at, byte_text_at, operator_sign, one_sign, two_sign, signed, sign_at, lexeme_at, blank_length, token_of, token_piece, piece_at, after_piece, tokens_from, tokens_of}
+use Rattle.cs_lang_token.specs.Grammar.{TokenMark, without_marks, ◌>>=◌}
+use Rattle.cs_lang_token.specs.Tokens.{is_digit, is_letter, is_name_character, is_hex, run_length, kind_of_value_word, kind_of_logic_word, kind_of_statement_word, kind_of_word, name_lexeme, number_from, number_lexeme, hex_value, hex_bytes, is_first, quoted_at, byte_text_at, operator_sign, one_sign, two_sign, signed_lexeme, sign_at, lexeme_at, blank_length, token_of, token_piece, piece_at, after_piece, tokens_from, tokens_of}
 use Rattle.cs_base.specs.Options.{or_else}
 use Rattle.cs_lang_token.proofs.Spans.{IsWord, AllBytes, and_second, run_most, all_run, starts_run}
 use Rattle.cs_lang_token.proofs.Gives.{IsToken, Fine}
@@ -86,7 +86,7 @@ abbrev valued_option : Option Kind → Bool
 valued_option None = false
 valued_option (Some k) = valued k
 
-sign_sound : (place n : ℕ) (o : Option Kind) → valued_option o ≡ false → Sound place (signed n o)
+sign_sound : (place n : ℕ) (o : Option Kind) → valued_option o ≡ false → Sound place (signed_lexeme n o)
 sign_sound place n None other = tt
 sign_sound place n (Some k) other = plain_token (record { kind = k; number = 0; bytes = []; place = place }) other
 
@@ -100,8 +100,8 @@ two_plain : (c : ℕ) → valued_option (two_sign c) ≡ false
 two_plain c = kept valued_option (c == 61) (Some kind.Equal) _ refl (kept valued_option (c == 33) (Some kind.NotEqual) _ refl (kept valued_option (c == 60) (Some kind.LessOrEqual) _ refl (kept valued_option (c == 62) (Some kind.GreaterOrEqual) _ refl refl)))
 
 signs_sound : (place c : ℕ) (rest : List ℕ) → Sound place (sign_at c rest)
-signs_sound place c rest = sound_or place (if is_first 61 rest then signed 2 (two_sign c) else None) (signed 1 (one_sign c))
-    (sound_if place (is_first 61 rest) (signed 2 (two_sign c)) None (λ e. sign_sound place 2 (two_sign c) (two_plain c)) (λ e. tt)) (sign_sound place 1 (one_sign c) (one_plain c))
+signs_sound place c rest = sound_or place (if is_first 61 rest then signed_lexeme 2 (two_sign c) else None) (signed_lexeme 1 (one_sign c))
+    (sound_if place (is_first 61 rest) (signed_lexeme 2 (two_sign c)) None (λ e. sign_sound place 2 (two_sign c) (two_plain c)) (λ e. tt)) (sign_sound place 1 (one_sign c) (one_plain c))
 
 -- ---- numbers
 
@@ -127,7 +127,7 @@ number_token place n len le = record {
 digit_most : (c : ℕ) → is_digit c ≡ true → c ≤ 57
 digit_most c e = grind (arith, nat_tests)
 
-number_sound : (place c : ℕ) (rest : List ℕ) → is_digit c ≡ true → Sound place (Some (number_at c rest))
+number_sound : (place c : ℕ) (rest : List ℕ) → is_digit c ≡ true → Sound place (Some (number_lexeme c rest))
 number_sound place c rest digit = go (c == 48)
   where
     go : (b : Bool) → Sound place (Some (if b then record { kind = kind.Number; number = 0; bytes = []; length = 1 } else (let r = number_from (c - 48) rest in record { kind = kind.Number; number = r.0; bytes = []; length = r.1 + 1 })))
@@ -175,13 +175,13 @@ byte_sound place (c ∷ d ∷ rest) = sound_if place (c == 120 && d == 34) (quot
 letter_named : (c : ℕ) → is_letter c ≡ true → is_name_character c ≡ true
 letter_named c e = ap (λ (b : Bool). b || is_digit c) e
 
-word_sound : (place c : ℕ) (cs : List ℕ) → is_letter c ≡ true → Sound place (Some (word_at (c ∷ cs)))
+word_sound : (place c : ℕ) (cs : List ℕ) → is_letter c ≡ true → Sound place (Some (name_lexeme (c ∷ cs)))
 word_sound place c cs letter =
     let w = take (run_length is_name_character (take 32 (c ∷ cs))) (c ∷ cs) in
     let most = run_most is_name_character (take 32 (c ∷ cs)) in
     let long = length-take 32 (c ∷ cs) in
     let front = length-take (run_length is_name_character (take 32 (c ∷ cs))) (c ∷ cs) in
-    word_token (token_of place (word_at (c ∷ cs))) (word_plain (take (run_length is_name_character (take 32 (c ∷ cs))) (c ∷ cs))) (λ e. record {
+    word_token (token_of place (name_lexeme (c ∷ cs))) (word_plain (take (run_length is_name_character (take 32 (c ∷ cs))) (c ∷ cs))) (λ e. record {
       letter = starts_run is_name_character is_letter 31 c cs (letter_named c letter) letter;
       all = all_run is_name_character 32 (c ∷ cs);
       short = omega arith;
@@ -191,9 +191,9 @@ word_sound place c cs letter =
 lexeme_sound : (place : ℕ) (bytes : List ℕ) → Sound place (lexeme_at bytes)
 lexeme_sound place [] = tt
 lexeme_sound place (c ∷ cs) =
-    sound_if place (is_letter c) (or_else (byte_text_at (c ∷ cs)) (Some (word_at (c ∷ cs)))) (if is_digit c then Some (number_at c cs) else sign_at c cs)
-    (λ e. sound_or place (byte_text_at (c ∷ cs)) (Some (word_at (c ∷ cs))) (byte_sound place (c ∷ cs)) (word_sound place c cs e))
-    (λ e. sound_if place (is_digit c) (Some (number_at c cs)) (sign_at c cs) (λ d. number_sound place c cs d) (λ d. signs_sound place c cs))
+    sound_if place (is_letter c) (or_else (byte_text_at (c ∷ cs)) (Some (name_lexeme (c ∷ cs)))) (if is_digit c then Some (number_lexeme c cs) else sign_at c cs)
+    (λ e. sound_or place (byte_text_at (c ∷ cs)) (Some (name_lexeme (c ∷ cs))) (byte_sound place (c ∷ cs)) (word_sound place c cs e))
+    (λ e. sound_if place (is_digit c) (Some (number_lexeme c cs)) (sign_at c cs) (λ d. number_sound place c cs d) (λ d. signs_sound place c cs))
 
 -- ---- all tokens
 
@@ -237,9 +237,9 @@ tokens_sound zero place bytes = tt
 tokens_sound (suc n) place [] = tt
 tokens_sound (suc n) place (c ∷ cs) = after_sound place (c ∷ cs) (piece_at place (c ∷ cs)) (tokens_from n) (piece_sound place (c ∷ cs)) (λ at rest. tokens_sound n at rest)
 
-fine_of : (ms : List Mark) → AllTokens (plain ms) → Fine ms
+fine_of : (ms : List TokenMark) → AllTokens (without_marks ms) → Fine ms
 fine_of [] h = tt
 fine_of (m ∷ ms) h = (h.0, fine_of ms h.1)
 
-pub source_fine : (text : List ℕ) (ts : List Token) (ms : List Mark) → tokens_of text ≡ Ok ts → plain ms ≡ ts → Fine ms
+pub source_fine : (text : List ℕ) (ts : List Token) (ms : List TokenMark) → tokens_of text ≡ Ok ts → without_marks ms ≡ ts → Fine ms
 source_fine text ts ms read is = fine_of ms (subst AllTokens (sym is) (subst TokensSound read (tokens_sound (length text) 0 text)))

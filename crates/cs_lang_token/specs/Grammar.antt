@@ -4,22 +4,22 @@ use Rattle.cs_lang_token.specs.declared.token.Token.{Token}
 
 -- A token of a spelling, and whether it is within the limits: an opening token where as many levels are open as may be,
 -- and an operator where its chain is full, are not.
-abbrev pub Mark : Type 0
-Mark = Token × Bool
+abbrev pub TokenMark : Type 0
+TokenMark = Token × Bool
 
 -- the tokens without their marks
-abbrev pub plain : List Mark → List Token
-plain [] = []
-plain (m ∷ ms) = m.0 ∷ plain ms
+abbrev pub without_marks : List TokenMark → List Token
+without_marks [] = []
+without_marks (m ∷ ms) = m.0 ∷ without_marks ms
 
 -- all of them are within the limits
-abbrev pub Within : List Mark → Type 0
+abbrev pub Within : List TokenMark → Type 0
 Within [] = Unit {0}
 Within (m ∷ ms) = (m.1 ≡ true) × Within ms
 
 -- what a rule spells: a thing, by tokens
 abbrev pub Rule : Type 0 → Type 1
-Rule X = X → List Mark → Type 0
+Rule X = X → List TokenMark → Type 0
 
 -- what a reader answers: the thing and the tokens after it, or the tokens from the one with which nothing can go on
 abbrev pub Reader : Type 0 → Type 0
@@ -45,10 +45,10 @@ token_at test room (t ∷ ts) = if test t then (if room then Ok (t, ts) else Err
 
 -- one after the other
 abbrev pub pair : {X Y : Type 0} → Rule X → Rule Y → Rule (X × Y)
-pair R S p ms = (a : List Mark) × (b : List Mark) × (ms ≡ a ++ b) × R p.0 a × S p.1 b
+pair R S p ms = (a : List TokenMark) × (b : List TokenMark) × (ms ≡ a ++ b) × R p.0 a × S p.1 b
 
-abbrev pub pair_at : {X Y : Type 0} → Reader X → Reader Y → Reader (X × Y)
-pair_at r s ts = r ts >>= λ x. s x.1 >>= λ y. Ok ((x.0, y.0), y.1)
+abbrev pub pair_read : {X Y : Type 0} → Reader X → Reader Y → Reader (X × Y)
+pair_read r s ts = r ts >>= λ x. s x.1 >>= λ y. Ok ((x.0, y.0), y.1)
 
 -- a thing made of another
 abbrev pub mapped : {X Y : Type 0} → (X → Y) → Rule X → Rule Y
@@ -78,9 +78,9 @@ refused_at ts = Err ts
 -- a row of links, the first so many within the limits
 abbrev pub links : {X : Type 0} → (Bool → Rule X) → ℕ → Rule (List X)
 links R left [] ms = ms ≡ []
-links R zero (x ∷ xs) ms = (a : List Mark) × (b : List Mark) × (ms ≡ a ++ b) × R false x a × links R zero xs b
+links R zero (x ∷ xs) ms = (a : List TokenMark) × (b : List TokenMark) × (ms ≡ a ++ b) × R false x a × links R zero xs b
 links R (suc left) (x ∷ xs) ms =
-    (a : List Mark) × (b : List Mark) × (ms ≡ a ++ b) × R true x a × links R left xs b
+    (a : List TokenMark) × (b : List TokenMark) × (ms ≡ a ++ b) × R true x a × links R left xs b
 
 abbrev pub links_at : {X : Type 0} → (Token → Bool) → Reader X → ℕ → Reader (List X)
 links_at first r zero ts = if begins first ts then Err ts else Ok ([], ts)
@@ -92,44 +92,44 @@ links_at first r (suc left) ts =
 -- a row without a limit
 abbrev pub many : {X : Type 0} → Rule X → Rule (List X)
 many R [] ms = ms ≡ []
-many R (x ∷ xs) ms = (a : List Mark) × (b : List Mark) × (ms ≡ a ++ b) × R x a × many R xs b
+many R (x ∷ xs) ms = (a : List TokenMark) × (b : List TokenMark) × (ms ≡ a ++ b) × R x a × many R xs b
 
-abbrev pub many_at : {X : Type 0} → (Token → Bool) → Reader X → Reader (List X)
-many_at first r ts = links_at first r (length ts) ts
+abbrev pub many_read : {X : Type 0} → (Token → Bool) → Reader X → Reader (List X)
+many_read first r ts = links_at first r (length ts) ts
 
 -- what a reader answers on a spelling and what follows it: the thing, or the first token past the limits
-abbrev pub after : {A : Type 0} → List Mark → List Token → A → Result A (List Token)
-after [] rest x = Ok x
-after (m ∷ ms) rest x = if m.1 then after ms rest x else Err (m.0 ∷ (plain ms ++ rest))
+abbrev pub answer_after : {A : Type 0} → List TokenMark → List Token → A → Result A (List Token)
+answer_after [] rest x = Ok x
+answer_after (m ∷ ms) rest x = if m.1 then answer_after ms rest x else Err (m.0 ∷ (without_marks ms ++ rest))
 
 -- ---- a rule and its reader
 
 -- what was read: tokens that spell the thing, each within the limits
-pub record Found {X : Type 0} (R : Rule X) (ts : List Token) (x : X) (rest : List Token) : Type 0 where
-  pub marks : List Mark
-  pub parts : ts ≡ plain marks ++ rest
+pub record FoundTokens {X : Type 0} (R : Rule X) (ts : List Token) (x : X) (rest : List Token) : Type 0 where
+  pub marks : List TokenMark
+  pub parts : ts ≡ without_marks marks ++ rest
   pub within : Within marks
   pub spells : R x marks
 
 -- where reading stopped: what stands before spells the beginning of something, within the limits
-pub record Begins {X : Type 0} (R : Rule X) (ts bad : List Token) : Type 0 where
-  pub marks : List Mark
-  pub parts : ts ≡ plain marks ++ bad
+pub record BeginsText {X : Type 0} (R : Rule X) (ts bad : List Token) : Type 0 where
+  pub marks : List TokenMark
+  pub parts : ts ≡ without_marks marks ++ bad
   pub within : Within marks
   pub thing : X
-  pub more : List Mark
+  pub more : List TokenMark
   pub spells : R thing (marks ++ more)
 
 -- A reader is that of a rule, where no token that goes_on follows.
 pub record IsReader {X : Type 0} (Enough : Type 0) (R : Rule X) (goes_on : Token → Bool) (r : Reader X) : Type 0 where
-  pub reads : (x : X) (ms : List Mark) (rest : List Token) → R x ms → begins goes_on rest ≡ false
-      → r (plain ms ++ rest) ≡ after ms rest (x, rest)
-  pub found : Enough → (ts : List Token) (x : X) (rest : List Token) → r ts ≡ Ok (x, rest) → Found R ts x rest
-  pub stuck : Enough → (ts bad : List Token) → r ts ≡ Err bad → Begins R ts bad
+  pub reads : (x : X) (ms : List TokenMark) (rest : List Token) → R x ms → begins goes_on rest ≡ false
+      → r (without_marks ms ++ rest) ≡ answer_after ms rest (x, rest)
+  pub found : Enough → (ts : List Token) (x : X) (rest : List Token) → r ts ≡ Ok (x, rest) → FoundTokens R ts x rest
+  pub stuck : Enough → (ts bad : List Token) → r ts ≡ Err bad → BeginsText R ts bad
   pub same_ok : Enough → (p q : List Token) (t : Token) (us vs : List Token) (x : X)
       → r (p ++ t ∷ us) ≡ Ok (x, q ++ t ∷ us)
       → r (p ++ t ∷ vs) ≡ Ok (x, q ++ t ∷ vs)
   pub same_err : Enough → (p q : List Token) (t : Token) (us vs : List Token)
       → r (p ++ t ∷ us) ≡ Err (q ++ t ∷ us)
       → r (p ++ t ∷ vs) ≡ Err (q ++ t ∷ vs)
-  pub some : Enough → (x : X) × (ms : List Mark) × R x ms
+  pub some : Enough → (x : X) × (ms : List TokenMark) × R x ms

@@ -87,8 +87,8 @@ abbrev pub HasBytes : Lexeme → ℕ → Type 0
 HasBytes x most = (0 < x.length) × (x.length ≤ most)
 
 -- as many name characters as there are, up to 32
-abbrev pub word_at : List ℕ → Lexeme
-word_at bytes = let word = take (run_length is_name_character (take 32 bytes)) bytes in
+abbrev pub name_lexeme : List ℕ → Lexeme
+name_lexeme bytes = let word = take (run_length is_name_character (take 32 bytes)) bytes in
     record { kind = kind_of_word word; number = 0; bytes = word; length = run_length is_name_character (take 32 bytes) }
 
 -- the digits that go on with a number as long as it is at most this: the number, and how many digits went on
@@ -100,8 +100,8 @@ number_from value (c ∷ cs) =
     else (value, 0)
 
 -- a zero alone, or digits of which the first is no zero
-abbrev pub number_at : ℕ → List ℕ → Lexeme
-number_at first rest =
+abbrev pub number_lexeme : ℕ → List ℕ → Lexeme
+number_lexeme first rest =
     if first == 48 then record { kind = kind.Number; number = 0; bytes = []; length = 1 }
     else (let r = number_from (first - 48) rest in
     record { kind = kind.Number; number = r.0; bytes = []; length = r.1 + 1 })
@@ -171,24 +171,24 @@ two_sign c =
     else if c == 62 then Some kind.GreaterOrEqual
     else None
 
-abbrev pub signed : ℕ → Option Kind → Option Lexeme
-signed length None = None
-signed length (Some k) = Some (record { kind = k; number = 0; bytes = []; length = length })
+abbrev pub signed_lexeme : ℕ → Option Kind → Option Lexeme
+signed_lexeme length None = None
+signed_lexeme length (Some k) = Some (record { kind = k; number = 0; bytes = []; length = length })
 
 -- a sign of two characters, else one of one
 abbrev pub sign_at : ℕ → List ℕ → Option Lexeme
-sign_at c rest = or_else (if is_first 61 rest then signed 2 (two_sign c) else None) (signed 1 (one_sign c))
+sign_at c rest = or_else (if is_first 61 rest then signed_lexeme 2 (two_sign c) else None) (signed_lexeme 1 (one_sign c))
 
 -- a byte text, else a word
 abbrev pub byte_text_or_word_at : List ℕ → Option Lexeme
-byte_text_or_word_at bytes = or_else (byte_text_at bytes) (Some (word_at bytes))
+byte_text_or_word_at bytes = or_else (byte_text_at bytes) (Some (name_lexeme bytes))
 
 -- the longest token at the front of a text
 abbrev pub lexeme_at : List ℕ → Option Lexeme
 lexeme_at [] = None
 lexeme_at (c ∷ cs) =
     if is_letter c then byte_text_or_word_at (c ∷ cs)
-    else if is_digit c then Some (number_at c cs)
+    else if is_digit c then Some (number_lexeme c cs)
     else sign_at c cs
 
 -- ---- all tokens of a text

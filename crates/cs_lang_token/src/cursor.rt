@@ -2,8 +2,8 @@
 ghost use Rattle.std.specs.Prelude.{◌≡◌, ◌∷◌, ◌<◌, [], length, true, OnOk};
 ghost use Rattle.cs_lang_token.specs.Kinds.{is};
 ghost use Rattle.cs_lang_token.specs.Grammar.{begins};
-ghost use Rattle.cs_lang_token.specs.Rules.{sign_at, name_at, bytes_at, number_at, room_of};
-ghost use Rattle.cs_lang_token.specs.Answers.{Gives, place_of};
+ghost use Rattle.cs_lang_token.specs.Rules.{sign_at, name_token_at, bytes_token_at, number_token_at, room_of};
+ghost use Rattle.cs_lang_token.specs.Answers.{ReaderGives, place_of};
 
 use crate::kind::Kind;
 use crate::token::{Number, Text, Token};
@@ -104,7 +104,7 @@ impl<'a> Cursor<'a> {
 
     /// Passes the next token, which is of the kind, and gives its place.
     pub fn sign(&mut self, kind: Kind) -> Result<usize, Stop>
-        ensures { Gives result self.new (sign_at kind true self.old) }
+        ensures { ReaderGives result self.new (sign_at kind true self.old) }
     {
         match self.rest {
             [] => Err(Stop::Syntax),
@@ -121,7 +121,7 @@ impl<'a> Cursor<'a> {
     /// Passes the next token, which is of the kind and opens one more level, where so many may
     /// still be opened.
     pub fn open(&mut self, kind: Kind, left: u8) -> Result<usize, Stop>
-        ensures gives { Gives result self.new (sign_at kind (room_of left) self.old) }
+        ensures gives { ReaderGives result self.new (sign_at kind (room_of left) self.old) }
         ensures room { OnOk result (0 < left) }
     {
         if left == 0 {
@@ -132,7 +132,7 @@ impl<'a> Cursor<'a> {
 
     /// Passes the next token, which is a name.
     pub fn name(&mut self, alloc: Global) -> Result<Text, Stop>
-        ensures { Gives result self.new (name_at self.old) }
+        ensures { ReaderGives result self.new (name_token_at self.old) }
     {
         match self.rest {
             [] => Err(Stop::Syntax),
@@ -152,7 +152,7 @@ impl<'a> Cursor<'a> {
 
     /// Passes the next token, which is a byte text.
     pub fn bytes(&mut self, alloc: Global) -> Result<Text, Stop>
-        ensures { Gives result self.new (bytes_at self.old) }
+        ensures { ReaderGives result self.new (bytes_token_at self.old) }
     {
         match self.rest {
             [] => Err(Stop::Syntax),
@@ -172,7 +172,7 @@ impl<'a> Cursor<'a> {
 
     /// Passes the next token, which is a number.
     pub fn number(&mut self) -> Result<Number, Stop>
-        ensures { Gives result self.new (number_at self.old) }
+        ensures { ReaderGives result self.new (number_token_at self.old) }
     {
         match self.rest {
             [] => Err(Stop::Syntax),

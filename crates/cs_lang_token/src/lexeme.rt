@@ -1,6 +1,6 @@
 //! The longest token at the front of a text.
 ghost use Rattle.std.specs.Prelude.{◌≡◌, ℕ, ◌+◌, ◌<◌, ◌≤◌, ◌==◌, ◌∷◌, List, true, not, position, take, length, Some, IfOk, IfSome};
-ghost use Rattle.cs_lang_token.specs.Tokens.{is_blank, is_digit, is_letter, is_name_character, is_hex, is_first, starts, run_length, kind_of_word, kind_of_statement_word, kind_of_logic_word, kind_of_value_word, word_at, number_from, number_at, hex_value, hex_bytes, quoted_at, byte_text_at, operator_sign, one_sign, two_sign, sign_at, HasBytes, byte_text_or_word_at, lexeme_at, blank_length};
+ghost use Rattle.cs_lang_token.specs.Tokens.{is_blank, is_digit, is_letter, is_name_character, is_hex, is_first, starts, run_length, kind_of_word, kind_of_statement_word, kind_of_logic_word, kind_of_value_word, name_lexeme, number_from, number_lexeme, hex_value, hex_bytes, quoted_at, byte_text_at, operator_sign, one_sign, two_sign, sign_at, HasBytes, byte_text_or_word_at, lexeme_at, blank_length};
 
 use crate::kind::Kind;
 use crate::limits::{MOST_DIGITS, MOST_NAME, MOST_NUMBER};
@@ -218,7 +218,7 @@ fn kind_of_word(word: &[u8]) -> Kind
 #[tactic(auto, using(crate::proofs::Runs::word_positive))]
 fn word(alloc: Global, bytes: &[u8]) -> Result<Lexeme, AllocError>
     requires { starts is_letter bytes.now ≡ true }
-    ensures value { IfOk result (λ x. x ≡ word_at bytes.now) }
+    ensures value { IfOk result (λ x. x ≡ name_lexeme bytes.now) }
     ensures bound { IfOk result (λ x. HasBytes x (length bytes.now)) }
 {
     let length = name_length(front(bytes, MOST_NAME));
@@ -252,7 +252,7 @@ fn number_from(value: u64, digits: &[u8]) -> (u64, usize)
 /// A number whose first digit is this one.
 fn number(alloc: Global, first: u8, rest: &[u8]) -> Lexeme
     requires { (48 ≤ first) × (first ≤ 57) }
-    ensures value { result ≡ number_at first rest.now }
+    ensures value { result ≡ number_lexeme first rest.now }
     ensures bound { HasBytes result (length rest.now + 1) }
 {
     if first == b'0' {

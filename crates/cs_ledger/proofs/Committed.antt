@@ -3,7 +3,7 @@ use Rattle.std.proofs.Common.{◌≡◌, ℕ, List, true, refl}
 use Rattle.cs_ledger.specs.Ledger.{IsIn}
 use Rattle.cs_ledger.specs.Session.{Rules, Session, concerns, all_items}
 use Rattle.cs_ledger.specs.Table.{Commit, Abort, Aborted}
-use Rattle.cs_ledger.specs.ShardWorld.{Step, IsShardWorld, sessions, votes, decides, all_commit, history}
+use Rattle.cs_ledger.specs.ShardWorld.{Step, IsShardWorld, sessions, shard_votes, decides, all_commit, history}
 use Rattle.cs_ledger.proofs.Votes.{one_vote, no_both, among_some}
 use Rattle.cs_ledger.proofs.World.{World, world_of}
 use Rattle.cs_ledger.proofs.Decisions.{decided_behind, votes_concern, all_concerned}
@@ -17,7 +17,7 @@ module _ (rules : Rules) (past : List Step) (w : IsShardWorld rules past) (x : S
   is_listed among = (world rules past w).story.listed x k (all, among_some rules shard (all_items x.transaction) among)
 
   -- no shard votes abort
-  pub no_abort_vote : votes rules past shard x Abort ≡ true → ⊥
+  pub no_abort_vote : shard_votes rules past shard x Abort ≡ true → ⊥
   no_abort_vote f =
       let among = votes_concern rules (sessions past) w.1.session x k shard Abort past w.0 (λ z i. i) f in
       let commit = all_concerned rules past x Commit shard (all_items x.transaction) all among in

@@ -2,7 +2,7 @@
 use Rattle.std.proofs.Common.{◌≡◌, ℕ, List, [], ◌∷◌, Bool, true, false, ◌⊎◌, inl, inr, Option, Some, None, refl, sym, ap, ◌∙◌, subst}
 use Rattle.std.specs.Prelude.{bytes_eq, ◌==◌, if◌then◌else◌}
 use Rattle.std.proofs.lemmas.Bool.{cond_both, both_ways, eq-eqb}
-use Rattle.cs_ledger.specs.Ledger.{Bytes, Item, Transaction, IsIn, names, has, object_at}
+use Rattle.cs_ledger.specs.Ledger.{Bytes, Item, Transaction, IsIn, names, has, object_named}
 use Rattle.cs_ledger.specs.Session.{AreToldApart, Session, Rules, Key, Object, Piece, has_key, object_under, objects_in, used_up, read_only, anchor}
 use Rattle.cs_ledger.specs.Table.{Abort, State, Unknown, Active, Locked, Table, Entry, is_locked_by, locked, released, made, accept_state, with_locks, with_vote, with_accepted, with_aborted, new_pieces, session_of, exec, start}
 use Rattle.cs_ledger.proofs.Basics.{same_bytes, touches}
@@ -160,21 +160,21 @@ under_home rules shard items name object e =
     ap rules.shard_of q ∙ r.home
 
 -- the object that a shard starts with is the ledger's
-under_at : (rules : Rules) (shard : ℕ) (items : List Item) (name object : Bytes) → object_under (objects_in rules shard items) (Object name) ≡ Some object → object_at items name ≡ Some object
+under_at : (rules : Rules) (shard : ℕ) (items : List Item) (name object : Bytes) → object_under (objects_in rules shard items) (Object name) ≡ Some object → object_named items name ≡ Some object
 under_at rules shard [] name object e = cc
 under_at rules shard (item ∷ items) name object e =
     let piece : Piece = record { key = Object item.name; object = item.object } in
     let home = under_home rules shard (item ∷ items) name object e in
-    cond_both (rules.shard_of item.name == shard) (piece ∷ objects_in rules shard items) (objects_in rules shard items) (λ l. object_under l (Object name) ≡ Some object → object_at (item ∷ items) name ≡ Some object)
-    (λ here. cond_both (bytes_eq name item.name) (Some item.object) (object_under (objects_in rules shard items) (Object name)) (λ o. o ≡ Some object → object_at (item ∷ items) name ≡ Some object)
-    (λ t q. ap (λ (b : Bool). if b then Some item.object else object_at items name) t ∙ q)
-    (λ t q. ap (λ (b : Bool). if b then Some item.object else object_at items name) t ∙ under_at rules shard items name object q))
-    (λ away q. cond_both (bytes_eq name item.name) (Some item.object) (object_at items name) (λ o. o ≡ Some object)
+    cond_both (rules.shard_of item.name == shard) (piece ∷ objects_in rules shard items) (objects_in rules shard items) (λ l. object_under l (Object name) ≡ Some object → object_named (item ∷ items) name ≡ Some object)
+    (λ here. cond_both (bytes_eq name item.name) (Some item.object) (object_under (objects_in rules shard items) (Object name)) (λ o. o ≡ Some object → object_named (item ∷ items) name ≡ Some object)
+    (λ t q. ap (λ (b : Bool). if b then Some item.object else object_named items name) t ∙ q)
+    (λ t q. ap (λ (b : Bool). if b then Some item.object else object_named items name) t ∙ under_at rules shard items name object q))
+    (λ away q. cond_both (bytes_eq name item.name) (Some item.object) (object_named items name) (λ o. o ≡ Some object)
     (λ t. absurd (both_ways _ away (ap (λ n. rules.shard_of n == shard) (sym (same_bytes _ _ t)) ∙ eq-eqb _ _ home)))
     (λ t. under_at rules shard items name object q))
     e
 
-pub covered_start : (rules : Rules) (known : List Session) (commits : Session → Type 0) (shard : ℕ) → Covered rules known commits (object_at rules.genesis) [] shard (start rules shard)
+pub covered_start : (rules : Rules) (known : List Session) (commits : Session → Type 0) (shard : ℕ) → Covered rules known commits (object_named rules.genesis) [] shard (start rules shard)
 covered_start rules known commits shard =
     let under = λ (name : Bytes). object_under (objects_in rules shard rules.genesis) (Object name) in
     record {

@@ -5,7 +5,7 @@ use Rattle.std.proofs.lemmas.Bool.{both_ways, and_parts, or_cases, eqb-true}
 use Rattle.cs_ledger.specs.Ledger.{Bytes, Item, IsIn}
 use Rattle.cs_ledger.specs.Session.{AreToldApart, Session, Rules, all_items, concerns, is_among}
 use Rattle.cs_ledger.specs.Table.{Vote, Commit, Abort, Table, Entry, Prepare, Decide, Effect, Voted, Accepted, Aborted, Skipped, Void, Outcome, session_of, exec, table_of}
-use Rattle.cs_ledger.specs.ShardWorld.{Step, is_vote, log, is_prepare_of, votes_in, votes, all_commit, all_vote, one_aborts, IsAllowed, AllAllowed, sessions, decides, decided_in, is_decide_of, is_effect}
+use Rattle.cs_ledger.specs.ShardWorld.{Step, is_vote, log, is_prepare_of, votes_in, shard_votes, all_commit, all_vote, one_aborts, IsAllowed, AllAllowed, sessions, decides, decided_in, is_decide_of, is_effect}
 use Rattle.cs_ledger.proofs.Basics.{same_bytes}
 use Rattle.cs_ledger.proofs.Changes.{IsIdle, Nothing, Locks, Notes, Accepts, Aborts, change}
 use Rattle.cs_ledger.proofs.Votes.{log_at, all_more, one_more, prepares_is}
@@ -88,7 +88,7 @@ module _ (rules : Rules) (known : List Session) (unique : AreToldApart known) (x
       h
 
   -- a shard that votes on a session is one that it concerns
-  pub votes_concern : (vote : Vote) (past : List Step) → AllAllowed rules past → ((z : Session) → IsIn z (sessions past) → IsIn z known) → votes rules past shard x vote ≡ true → concerns rules x shard ≡ true
+  pub votes_concern : (vote : Vote) (past : List Step) → AllAllowed rules past → ((z : Session) → IsIn z (sessions past) → IsIn z known) → shard_votes rules past shard x vote ≡ true → concerns rules x shard ≡ true
   votes_concern vote [] allowed within h = absurd (both_ways false refl h)
   votes_concern vote (step ∷ past) allowed within h =
       log_at (λ l. votes_in rules shard x.digest vote l ≡ true → concerns rules x shard ≡ true) shard step past
@@ -104,11 +104,11 @@ module _ (rules : Rules) (known : List Session) (unique : AreToldApart known) (x
       h
 
 -- every concerned shard votes so
-pub all_concerned : (rules : Rules) (past : List Step) (x : Session) (vote : Vote) (shard : ℕ) (items : List Item) → all_vote rules past x vote items ≡ true → is_among rules shard items ≡ true → votes rules past shard x vote ≡ true
+pub all_concerned : (rules : Rules) (past : List Step) (x : Session) (vote : Vote) (shard : ℕ) (items : List Item) → all_vote rules past x vote items ≡ true → is_among rules shard items ≡ true → shard_votes rules past shard x vote ≡ true
 all_concerned rules past x vote shard [] all among = absurd (both_ways false refl among)
 all_concerned rules past x vote shard (item ∷ items) all among =
-    let p = and_parts (votes rules past (rules.shard_of item.name) x vote) (all_vote rules past x vote items) all in
+    let p = and_parts (shard_votes rules past (rules.shard_of item.name) x vote) (all_vote rules past x vote items) all in
     elim (or_cases (rules.shard_of item.name == shard) (is_among rules shard items) among) [
-      | inl here ↦ ap (λ s. votes rules past s x vote) (sym (eqb-true (rules.shard_of item.name) shard here)) ∙ p.0
+      | inl here ↦ ap (λ s. shard_votes rules past s x vote) (sym (eqb-true (rules.shard_of item.name) shard here)) ∙ p.0
       | inr later ↦ all_concerned rules past x vote shard items p.1 later
     ]

@@ -2,11 +2,11 @@
 use Rattle.std.proofs.Common.{◌≡◌, ℕ, List, [], ◌∷◌, ◌++◌, true}
 use Rattle.cs_ledger.specs.Session.{Rules, Session, all_items}
 use Rattle.cs_ledger.specs.Table.{Vote, Commit, Abort}
-use Rattle.cs_ledger.specs.ShardWorld.{Step, votes, all_commit, one_aborts}
+use Rattle.cs_ledger.specs.ShardWorld.{Step, shard_votes, all_commit, one_aborts}
 use Rattle.cs_ledger.proofs.Votes as steps
 
 module _ (rules : Rules) (past : List Step) (x : Session) where
-  pub votes_later : (shard : ℕ) (vote : Vote) (later : List Step) → votes rules past shard x vote ≡ true → votes rules (later ++ past) shard x vote ≡ true
+  pub votes_later : (shard : ℕ) (vote : Vote) (later : List Step) → shard_votes rules past shard x vote ≡ true → shard_votes rules (later ++ past) shard x vote ≡ true
   votes_later shard vote [] h = h
   votes_later shard vote (step ∷ later) h = steps.votes_more rules step (later ++ past) shard x vote (votes_later shard vote later h)
 

@@ -2,7 +2,7 @@
 use Rattle.std.proofs.Common.{◌≡◌, ℕ, List, [], ◌∷◌, Bool, true, not, ◌&&◌, inl, inr, Some, None, refl, sym, ap, ◌∙◌}
 use Rattle.std.specs.Prelude.{bytes_eq, ◌==◌, if◌then◌else◌, nat_lt}
 use Rattle.std.proofs.lemmas.Bool.{cases_Bool, cond_both, both_ways, and_parts, or_cases, or_left, or_right, eqb-true, eqb-false, not-true}
-use Rattle.cs_ledger.specs.Ledger.{is_empty, Bytes, Item, IsIn, names, has, object_at, all_differ}
+use Rattle.cs_ledger.specs.Ledger.{is_empty, Bytes, Item, IsIn, names, has, object_named, all_differ}
 use Rattle.cs_ledger.specs.Session.{Session, Rules, Key, Object, Dummy, Piece, DummyName, key_eq, has_key, object_under, objects_in, dummies_in, used_up, read_only}
 use Rattle.cs_ledger.specs.Table.{Table, new_dummy, new_pieces}
 use Rattle.cs_ledger.proofs.Basics.{same_bytes, bytes_from, same_key, in_left, in_either, has_piece, piece_has}
@@ -134,33 +134,33 @@ named_item name [] h = absurd h
 named_item name (item ∷ items) (inl e) = (item, inl refl, sym e)
 named_item name (item ∷ items) (inr i) = let r = named_item name items i in (r.0, inr r.1, r.2)
 
-pub at_none : (items : List Item) (name : Bytes) → (IsIn name (names items) → ⊥) → object_at items name ≡ None
+pub at_none : (items : List Item) (name : Bytes) → (IsIn name (names items) → ⊥) → object_named items name ≡ None
 at_none [] name h = refl
 at_none (item ∷ items) name h =
-    cond_both (bytes_eq name item.name) (Some item.object) (object_at items name) (λ o. o ≡ None)
+    cond_both (bytes_eq name item.name) (Some item.object) (object_named items name) (λ o. o ≡ None)
     (λ e. absurd (h (inl (same_bytes _ _ e))))
     (λ e. at_none items name (λ i. h (inr i)))
 
-pub at_some : (items : List Item) (name object : Bytes) → object_at items name ≡ Some object → (item : Item) × (IsIn item items) × (item.name ≡ name) × (item.object ≡ object)
+pub at_some : (items : List Item) (name object : Bytes) → object_named items name ≡ Some object → (item : Item) × (IsIn item items) × (item.name ≡ name) × (item.object ≡ object)
 at_some [] name object e = cc
 at_some (item ∷ items) name object e =
     elim (cases_Bool (bytes_eq name item.name)) [
       | inl t ↦
-          let q : Some item.object ≡ Some object = ap (λ (b : Bool). if b then Some item.object else object_at items name) (sym t) ∙ e in
+          let q : Some item.object ≡ Some object = ap (λ (b : Bool). if b then Some item.object else object_named items name) (sym t) ∙ e in
           let o : item.object ≡ object = cc in
           (item, inl refl, sym (same_bytes _ _ t), o)
       | inr t ↦
-          let r = at_some items name object (ap (λ (b : Bool). if b then Some item.object else object_at items name) (sym t) ∙ e) in
+          let r = at_some items name object (ap (λ (b : Bool). if b then Some item.object else object_named items name) (sym t) ∙ e) in
           (r.0, inr r.1, r.2, r.3)
     ]
 
-pub at_item : (items : List Item) (item : Item) → all_differ (names items) ≡ true → IsIn item items → object_at items item.name ≡ Some item.object
+pub at_item : (items : List Item) (item : Item) → all_differ (names items) ≡ true → IsIn item items → object_named items item.name ≡ Some item.object
 at_item [] item d h = absurd h
 at_item (other ∷ items) item d (inl e) =
-    ap (λ (b : Bool). if b then Some other.object else object_at items item.name) (bytes_from _ _ (ap (λ (z : Item). z.name) e))
+    ap (λ (b : Bool). if b then Some other.object else object_named items item.name) (bytes_from _ _ (ap (λ (z : Item). z.name) e))
     ∙ ap (λ (z : Item). Some z.object) (sym e)
 at_item (other ∷ items) item d (inr i) =
     let p = and_parts _ _ d in
-    cond_both (bytes_eq item.name other.name) (Some other.object) (object_at items item.name) (λ o. o ≡ Some item.object)
+    cond_both (bytes_eq item.name other.name) (Some other.object) (object_named items item.name) (λ o. o ≡ Some item.object)
     (λ t. absurd (both_ways _ (not-true _ p.0) (ap (λ z. has z (names items)) (sym (same_bytes _ _ t)) ∙ item_has item items i)))
     (λ t. at_item items item p.1 i)

@@ -2,7 +2,7 @@
 use Rattle.std.proofs.Common.{◌≡◌, ℕ, List, [], ◌∷◌, ◌++◌, Bool, true, false, ◌⊎◌, inl, inr, Option, Some, None, refl, sym, ap, ◌∙◌, subst}
 use Rattle.std.specs.Prelude.{if◌then◌else◌}
 use Rattle.std.proofs.lemmas.Bool.{cases_Bool, both_ways, or_cases, or_left, or_right}
-use Rattle.cs_ledger.specs.Ledger.{Bytes, Item, Transaction, Ledger, IsIn, is_well_formed, names, has, object_at, genesis_ledger, ledger_after, ledger_of, Takes, Serial}
+use Rattle.cs_ledger.specs.Ledger.{Bytes, Item, Transaction, Ledger, IsIn, is_well_formed, names, has, object_named, genesis_ledger, ledger_after, ledger_of, Takes, Serial}
 use Rattle.cs_base.specs.Options.{or_else}
 use Rattle.cs_ledger.specs.Session.{Session, Rules, Object}
 use Rattle.cs_ledger.specs.Table.{Vote, Commit, State, Unknown, Active, Locked, Inactive, Table, is_held_by}
@@ -107,7 +107,7 @@ module _ (rules : Rules) (known : List Session) (apart : AreNamedApart rules.gen
   -- a name that the ledger has and that is no input stays
   stays : (name object : Bytes) → ledger.active name ≡ Some object → has name (names y.transaction.inputs) ≡ false → (ledger_after ledger y.transaction).active name ≡ Some object
   stays name object e other =
-      let new : object_at y.transaction.outputs name ≡ None = at_none _ _ (λ i.
+      let new : object_named y.transaction.outputs name ≡ None = at_none _ _ (λ i.
       let o = named_item name y.transaction.outputs i in
       fresh o.0 o.1 (subst (λ n. IsIn n ledger.created) (sym o.2) (told.held name object e))) in
       (λ i. or_else (new i) (if other i then None else e i))
@@ -131,7 +131,7 @@ module _ (rules : Rules) (known : List Session) (apart : AreNamedApart rules.gen
                   let o = has_item name y.transaction.outputs t in
                   in_right _ ledger.created _ (subst (λ n. IsIn n (names y.transaction.outputs)) (sym o.2) (item_named o.0 _ o.1))
               | inr f ↦
-                  let new : object_at y.transaction.outputs name ≡ None = at_none _ _ (λ i.
+                  let new : object_named y.transaction.outputs name ≡ None = at_none _ _ (λ i.
                   let o = named_item name y.transaction.outputs i in
                   both_ways _ f (ap (λ n. has n (names y.transaction.outputs)) (sym o.2) ∙ item_has o.0 _ o.1)) in
                   let q : (if has name (names y.transaction.inputs) then None else ledger.active name) ≡ Some object =
@@ -189,7 +189,7 @@ module _ (rules : Rules) (known : List Session) (apart : AreNamedApart rules.gen
                   elim b [
                     | inl is ↦
                         let j = subst (λ (z : Transaction). IsIn item z.outputs) is i in
-                        let at : object_at y.transaction.outputs name ≡ Some item.object = ap (object_at y.transaction.outputs) (sym same) ∙ at_item y.transaction.outputs item (apart.places y knows) j in
+                        let at : object_named y.transaction.outputs name ≡ Some item.object = ap (object_named y.transaction.outputs) (sym same) ∙ at_item y.transaction.outputs item (apart.places y knows) j in
                         ap (λ o. or_else o (if has name (names y.transaction.inputs) then None else ledger.active name)) at
                     | inr n ↦ absurd n
                   ]

@@ -1,7 +1,7 @@
 -- In a serial history no object is consumed twice.
 use Rattle.std.proofs.Common.{◌≡◌, List, [], ◌∷◌, Bool, true, false, ◌⊎◌, inl, inr, Option, Some, None, refl, sym, ap, ◌∙◌, subst}
 use Rattle.std.specs.Prelude.{if◌then◌else◌}
-use Rattle.cs_ledger.specs.Ledger.{Bytes, Item, Transaction, Ledger, IsIn, names, has, object_at, ledger_after, Takes, Serial, IsSpentOnce}
+use Rattle.cs_ledger.specs.Ledger.{Bytes, Item, Transaction, Ledger, IsIn, names, has, object_named, ledger_after, Takes, Serial, IsSpentOnce}
 use Rattle.cs_base.specs.Options.{or_else}
 use Rattle.cs_ledger.proofs.Basics.{in_left, in_right}
 use Rattle.cs_ledger.proofs.Names.{at_none, at_some, item_has, item_named, named_item}
@@ -10,7 +10,7 @@ use Rattle.cs_ledger.proofs.Names.{at_none, at_some, item_has, item_named, named
 abbrev pub IsHeld : Ledger → Type 0
 IsHeld ledger = (name object : Bytes) → ledger.active name ≡ Some object → IsIn name ledger.created
 
-no_output : (ledger : Ledger) (tx : Transaction) (name : Bytes) → Takes ledger tx → IsIn name ledger.created → object_at tx.outputs name ≡ None
+no_output : (ledger : Ledger) (tx : Transaction) (name : Bytes) → Takes ledger tx → IsIn name ledger.created → object_named tx.outputs name ≡ None
 no_output ledger tx name takes h =
     at_none _ _ (λ i. let o = named_item name tx.outputs i in takes.fresh o.0 o.1 (subst (λ n. IsIn n ledger.created) (sym o.2) h))
 
@@ -38,7 +38,7 @@ new_or_old None old object e = inr e
 
 pub held_after : (ledger : Ledger) (tx : Transaction) → IsHeld ledger → IsHeld (ledger_after ledger tx)
 held_after ledger tx held name object e =
-    elim (new_or_old (object_at tx.outputs name) _ object e) [
+    elim (new_or_old (object_named tx.outputs name) _ object e) [
       | inl new ↦
           let o = at_some tx.outputs name object new in
           in_right name ledger.created _ (subst (λ n. IsIn n (names tx.outputs)) o.2 (item_named o.0 tx.outputs o.1))

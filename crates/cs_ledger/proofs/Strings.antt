@@ -5,7 +5,7 @@ use Rattle.std.proofs.lemmas.Bool.{cases_Bool, both_ways, and_parts, and_from, n
 use Rattle.cs_ledger.specs.Ledger.{Bytes, Item, IsIn, names, has, all_differ}
 use Rattle.cs_ledger.specs.Session.{Session}
 use Rattle.cs_ledger.specs.ShardWorld.{AreNamedApart}
-use Rattle.cs_ledger.specs.Strings.{Output, Written, WrittenSession, Origin, transaction_string, output_string, genesis_string, outputs_of, transaction_of, session_from, sessions_from, genesis_from, places_of, Genesis, OfSession, OfTransaction, OfOutput, NoHashCollision, IsFaithful}
+use Rattle.cs_ledger.specs.Strings.{Output, Written, WrittenSession, Origin, transaction_string, output_string, genesis_string, written_outputs, transaction_of, session_from, sessions_from, genesis_of_origins, places_of, Genesis, OfSession, OfTransaction, OfOutput, NoHashCollision, IsFaithful}
 use Rattle.cs_ledger.proofs.Basics.{bytes_from}
 use Rattle.cs_ledger.proofs.Names.{has_item}
 
@@ -30,12 +30,12 @@ from_written hash [] x h = absurd h
 from_written hash (w ∷ written) x (inl e) = (w, inl refl, e)
 from_written hash (w ∷ written) x (inr h) = let r = from_written hash written x h in (r.0, inr r.1, r.2)
 
-from_output : (hash : Bytes → Bytes) (tx : Written) (outputs : List Output) (item : Item) → IsIn item (outputs_of hash tx outputs) → (o : Output) × (IsIn o outputs) × (item.name ≡ hash (output_string hash tx o))
+from_output : (hash : Bytes → Bytes) (tx : Written) (outputs : List Output) (item : Item) → IsIn item (written_outputs hash tx outputs) → (o : Output) × (IsIn o outputs) × (item.name ≡ hash (output_string hash tx o))
 from_output hash tx [] item h = absurd h
 from_output hash tx (o ∷ outputs) item (inl e) = (o, inl refl, ap (λ (z : Item). z.name) e)
 from_output hash tx (o ∷ outputs) item (inr h) = let r = from_output hash tx outputs item h in (r.0, inr r.1, r.2)
 
-from_origin : (hash : Bytes → Bytes) (origins : List Origin) (name : Bytes) → IsIn name (names (genesis_from hash origins)) → (o : Origin) × (IsIn o origins) × (name ≡ hash (genesis_string o))
+from_origin : (hash : Bytes → Bytes) (origins : List Origin) (name : Bytes) → IsIn name (names (genesis_of_origins hash origins)) → (o : Origin) × (IsIn o origins) × (name ≡ hash (genesis_string o))
 from_origin hash [] name h = absurd h
 from_origin hash (o ∷ origins) name (inl e) = (o, inl refl, e)
 from_origin hash (o ∷ origins) name (inr h) = let r = from_origin hash origins name h in (r.0, inr r.1, r.2)
@@ -55,19 +55,19 @@ module _ (hash : Bytes → Bytes) (size : (a b : Bytes) → length (hash a) ≡ 
       let s = apart _ _ (OfOutput x a k ia) (OfOutput x b k ib) e in
       (fronts _ _ _ _ refl (tail_is _ _ _ _ s)).1
 
-  places_differ : (x : WrittenSession) → IsIn x written → (outputs : List Output) → ((o : Output) → IsIn o outputs → IsIn o x.transaction.outputs) → all_differ (places_of outputs) ≡ true → all_differ (names (outputs_of hash x.transaction outputs)) ≡ true
+  places_differ : (x : WrittenSession) → IsIn x written → (outputs : List Output) → ((o : Output) → IsIn o outputs → IsIn o x.transaction.outputs) → all_differ (places_of outputs) ≡ true → all_differ (names (written_outputs hash x.transaction outputs)) ≡ true
   places_differ x k [] within d = refl
   places_differ x k (o ∷ outputs) within d =
       let p = and_parts _ _ d in
-      let other : has (hash (output_string hash x.transaction o)) (names (outputs_of hash x.transaction outputs)) ≡ false =
+      let other : has (hash (output_string hash x.transaction o)) (names (written_outputs hash x.transaction outputs)) ≡ false =
       false_from_ne_true _ (λ t.
-      let i = has_item (hash (output_string hash x.transaction o)) (outputs_of hash x.transaction outputs) t in
+      let i = has_item (hash (output_string hash x.transaction o)) (written_outputs hash x.transaction outputs) t in
       let r = from_output hash x.transaction outputs i.0 i.1 in
       let same = one_place x k o r.0 (within o (inl refl)) (within r.0 (inr r.1)) (i.2 ∙ r.2) in
       both_ways _ (not-true _ p.0) (ap (λ z. has z (places_of outputs)) same ∙ place_has r.0 outputs r.1)) in
       and_from _ _ (not_from_false _ other) (places_differ x k outputs (λ q h. within q (inr h)) p.1)
 
-  pub no_collision : AreNamedApart (genesis_from hash origins) (sessions_from hash written)
+  pub no_collision : AreNamedApart (genesis_of_origins hash origins) (sessions_from hash written)
   no_collision =
       record {
         session = λ x y kx ky e.

@@ -5,7 +5,7 @@ use Rattle.std.proofs.lemmas.Bool.{cond_both, both_ways, and_parts, and_from, or
 use Rattle.cs_ledger.specs.Ledger.{is_empty, Bytes, Item, IsIn}
 use Rattle.cs_ledger.specs.Session.{AreToldApart, Session, Rules, Key, Object, Dummy, all_items, object_under, objects_in, is_among}
 use Rattle.cs_ledger.specs.Table.{Vote, Commit, Abort, State, Unknown, Active, Table, Entry, Prepare, Decide, Effect, Voted, Accepted, Aborted, Skipped, Void, session_of, exec, table_of, start, start_state, made}
-use Rattle.cs_ledger.specs.ShardWorld.{Step, log, is_vote, is_prepare_of, votes_in, votes, all_vote, one_votes, all_commit, one_aborts, IsAllowed, AllAllowed, sessions}
+use Rattle.cs_ledger.specs.ShardWorld.{Step, log, is_vote, is_prepare_of, votes_in, shard_votes, all_vote, one_votes, all_commit, one_aborts, IsAllowed, AllAllowed, sessions}
 use Rattle.cs_ledger.proofs.Basics.{same_bytes}
 use Rattle.cs_ledger.proofs.Changes.{settled_at}
 use Rattle.cs_ledger.proofs.Kept.{Kept}
@@ -37,7 +37,7 @@ prepares_is d (Prepare x) e = record { x = x; entry_is = refl; digest = same_byt
 prepares_is d (Decide x vote) e = cc
 
 module _ (rules : Rules) (step : Step) (past : List Step) where
-  pub votes_more : (shard : ℕ) (x : Session) (vote : Vote) → votes rules past shard x vote ≡ true → votes rules (step ∷ past) shard x vote ≡ true
+  pub votes_more : (shard : ℕ) (x : Session) (vote : Vote) → shard_votes rules past shard x vote ≡ true → shard_votes rules (step ∷ past) shard x vote ≡ true
   votes_more shard x vote h =
       log_at (λ l. votes_in rules shard x.digest vote l ≡ true) shard step past (λ e. or_right _ _ h) h
 
@@ -56,9 +56,9 @@ module _ (rules : Rules) (step : Step) (past : List Step) where
       ]
 
   -- a step that prepares no such session leaves the votes on it
-  votes_same : (shard : ℕ) (x : Session) (vote : Vote) → is_prepare_of x.digest step.entry ≡ false → votes rules (step ∷ past) shard x vote ≡ true → votes rules past shard x vote ≡ true
+  votes_same : (shard : ℕ) (x : Session) (vote : Vote) → is_prepare_of x.digest step.entry ≡ false → shard_votes rules (step ∷ past) shard x vote ≡ true → shard_votes rules past shard x vote ≡ true
   votes_same shard x vote other =
-      log_at (λ l. votes_in rules shard x.digest vote l ≡ true → votes rules past shard x vote ≡ true) shard step past
+      log_at (λ l. votes_in rules shard x.digest vote l ≡ true → shard_votes rules past shard x vote ≡ true) shard step past
       (λ e h. elim (or_cases _ _ h) [ inl a ↦ absurd (both_ways _ other (and_parts _ _ a).0) | inr b ↦ b ])
       (λ h. h)
 
@@ -68,13 +68,13 @@ module _ (rules : Rules) (step : Step) (past : List Step) where
       let p = and_parts _ _ h in
       and_from _ _ (votes_same (rules.shard_of item.name) x vote other p.0) (all_same x vote items other p.1)
 
-pub all_at : (rules : Rules) (past : List Step) (x : Session) (vote : Vote) (items : List Item) → all_vote rules past x vote items ≡ true → (item : Item) → IsIn item items → votes rules past (rules.shard_of item.name) x vote ≡ true
+pub all_at : (rules : Rules) (past : List Step) (x : Session) (vote : Vote) (items : List Item) → all_vote rules past x vote items ≡ true → (item : Item) → IsIn item items → shard_votes rules past (rules.shard_of item.name) x vote ≡ true
 all_at rules past x vote [] h item i = absurd i
 all_at rules past x vote (other ∷ items) h item (inl e) =
-    ap (λ (z : Item). votes rules past (rules.shard_of z.name) x vote) e ∙ (and_parts _ _ h).0
+    ap (λ (z : Item). shard_votes rules past (rules.shard_of z.name) x vote) e ∙ (and_parts _ _ h).0
 all_at rules past x vote (other ∷ items) h item (inr i) = all_at rules past x vote items (and_parts _ _ h).1 item i
 
-pub one_at : (rules : Rules) (past : List Step) (x : Session) (vote : Vote) (items : List Item) → one_votes rules past x vote items ≡ true → (item : Item) × (IsIn item items) × (votes rules past (rules.shard_of item.name) x vote ≡ true)
+pub one_at : (rules : Rules) (past : List Step) (x : Session) (vote : Vote) (items : List Item) → one_votes rules past x vote items ≡ true → (item : Item) × (IsIn item items) × (shard_votes rules past (rules.shard_of item.name) x vote ≡ true)
 one_at rules past x vote [] h = absurd (both_ways _ refl h)
 one_at rules past x vote (item ∷ items) h =
     elim (or_cases _ _ h) [
@@ -95,7 +95,7 @@ aborts_in rules past x = one_aborts rules past x ≡ true
 
 pub record Facts (rules : Rules) (known : List Session) (past : List Step) : Type 0 where
   pub kept : (shard : ℕ) → Kept rules known (commits_in rules past) (aborts_in rules past) shard (table_of rules shard (log shard past))
-  pub fixed : (x : Session) → IsIn x known → (shard : ℕ) (vote : Vote) → votes rules past shard x vote ≡ true → Fixed rules shard (table_of rules shard (log shard past)) x vote
+  pub fixed : (x : Session) → IsIn x known → (shard : ℕ) (vote : Vote) → shard_votes rules past shard x vote ≡ true → Fixed rules shard (table_of rules shard (log shard past)) x vote
 
 pub backed : (rules : Rules) (past : List Step) (shard : ℕ) (entry : Entry) → IsAllowed rules past shard entry → IsBacked (commits_in rules past) (aborts_in rules past) entry
 backed rules past shard (Prepare x) h = tt
@@ -182,7 +182,7 @@ module _ (rules : Rules) (known : List Session) (unique : AreToldApart known) wh
       facts_step step past (facts_of past allowed.1 (λ x i. within x (inr i))) (within _ (inl refl)) allowed.0
 
   -- one vote
-  pub one_vote : (past : List Step) → Facts rules known past → (x : Session) → IsIn x known → (shard : ℕ) (v w : Vote) → votes rules past shard x v ≡ true → votes rules past shard x w ≡ true → v ≡ w
+  pub one_vote : (past : List Step) → Facts rules known past → (x : Session) → IsIn x known → (shard : ℕ) (v w : Vote) → shard_votes rules past shard x v ≡ true → shard_votes rules past shard x w ≡ true → v ≡ w
   one_vote past facts x k shard v w e f =
       let a = facts.fixed x k shard v e in
       let b = facts.fixed x k shard w f in

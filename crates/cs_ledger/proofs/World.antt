@@ -5,7 +5,7 @@ use Rattle.std.proofs.lemmas.Bool.{cases_Bool, cond_both, both_ways, and_parts, 
 use Rattle.cs_ledger.specs.Ledger.{is_empty, Bytes, Item, Transaction, Ledger, IsIn, names, genesis_ledger, ledger_of}
 use Rattle.cs_ledger.specs.Session.{Session, Rules, Object, all_items}
 use Rattle.cs_ledger.specs.Table.{Vote, Commit, Abort, Locked, Table, Entry, Prepare, Decide, session_of, table_of, is_held_by, is_inactive, vote_in, has_room}
-use Rattle.cs_ledger.specs.ShardWorld.{Step, all_vote, log, votes, all_commit, IsAllowed, AllAllowed, sessions, is_listed, history, AreNamedApart}
+use Rattle.cs_ledger.specs.ShardWorld.{Step, all_vote, log, shard_votes, all_commit, IsAllowed, AllAllowed, sessions, is_listed, history, AreNamedApart}
 use Rattle.cs_ledger.proofs.Basics.{same_bytes, in_left, in_right}
 use Rattle.cs_ledger.proofs.Names.{piece_of, in_objects, at_some, item_named}
 use Rattle.cs_ledger.proofs.States.{IsRead}
@@ -43,7 +43,7 @@ covered_mono rules known c c' active txs shard t up covered =
 module _ (rules : Rules) (known : List Session) (apart : AreNamedApart rules.genesis known) where
   no_votes : (x : Session) (items : List Item) → all_vote rules [] x Commit items ≡ true → is_empty items ≡ false → ⊥
   no_votes x [] e some = cc
-  no_votes x (item ∷ items) e some = both_ways false refl (and_parts (votes rules [] (rules.shard_of item.name) x Commit) (all_vote rules [] x Commit items) e).0
+  no_votes x (item ∷ items) e some = both_ways false refl (and_parts (shard_votes rules [] (rules.shard_of item.name) x Commit) (all_vote rules [] x Commit items) e).0
 
   world_start : World rules known []
   world_start =
@@ -129,7 +129,7 @@ module _ (rules : Rules) (known : List Session) (apart : AreNamedApart rules.gen
           both_ways _ unlisted (is_listed_from y.transaction y.transaction (history rules past) (world.story.listed y knows all) refl)
 
       -- with its last commit vote, the session holds all its inputs and references
-      holds : is_listed y.transaction (history rules past) ≡ false → all_commit rules now y ≡ true → (s : ℕ) → votes rules now s y Commit ≡ true → Holding rules s (table_of rules s (log s now)) y
+      holds : is_listed y.transaction (history rules past) ≡ false → all_commit rules now y ≡ true → (s : ℕ) → shard_votes rules now s y Commit ≡ true → Holding rules s (table_of rules s (log s now)) y
       holds unlisted all s vote =
           let kept = kept_before rules known apart.session (record { shard = shard; entry = Prepare y }) past world.facts knows allowed s in
           let f = facts_now.fixed y knows s Commit vote in

@@ -55,23 +55,23 @@ abbrev pub is_well_formed : Transaction → Bool
 is_well_formed tx = not (is_empty tx.inputs) && (uses_once tx && tx.sound)
 
 -- the object under a name, the first one
-abbrev pub object_at : List Item → Bytes → Option Bytes
-object_at [] name = None
-object_at (item ∷ items) name = if bytes_eq name item.name then Some item.object else object_at items name
+abbrev pub object_named : List Item → Bytes → Option Bytes
+object_named [] name = None
+object_named (item ∷ items) name = if bytes_eq name item.name then Some item.object else object_named items name
 
 pub record Ledger : Type 0 where
   pub active : Bytes → Option Bytes  -- the object under each name
   pub created : List Bytes  -- every name that was ever created
 
 abbrev pub genesis_ledger : List Item → Ledger
-genesis_ledger genesis = record { active = object_at genesis; created = names genesis }
+genesis_ledger genesis = record { active = object_named genesis; created = names genesis }
 
 -- without the inputs and with the outputs
 abbrev pub ledger_after : Ledger → Transaction → Ledger
 ledger_after ledger tx =
     record {
       active = λ name.
-          or_else (object_at tx.outputs name) (if has name (names tx.inputs) then None else ledger.active name);
+          or_else (object_named tx.outputs name) (if has name (names tx.inputs) then None else ledger.active name);
       created = ledger.created ++ names tx.outputs;
     }
 

@@ -35,19 +35,19 @@ votes_in rules shard d vote (entry ∷ earlier) =
     (is_prepare_of d entry && is_vote vote (exec rules shard (table_of rules shard earlier) entry).effect)
     || votes_in rules shard d vote earlier
 
-abbrev pub votes : Rules → List Step → ℕ → Session → Vote → Bool
-votes rules past shard x vote = votes_in rules shard x.digest vote (log shard past)
+abbrev pub shard_votes : Rules → List Step → ℕ → Session → Vote → Bool
+shard_votes rules past shard x vote = votes_in rules shard x.digest vote (log shard past)
 
 -- the shard of each of these objects votes so
 abbrev pub all_vote : Rules → List Step → Session → Vote → List Item → Bool
 all_vote rules past x vote [] = true
 all_vote rules past x vote (item ∷ items) =
-    votes rules past (rules.shard_of item.name) x vote && all_vote rules past x vote items
+    shard_votes rules past (rules.shard_of item.name) x vote && all_vote rules past x vote items
 
 abbrev pub one_votes : Rules → List Step → Session → Vote → List Item → Bool
 one_votes rules past x vote [] = false
 one_votes rules past x vote (item ∷ items) =
-    votes rules past (rules.shard_of item.name) x vote || one_votes rules past x vote items
+    shard_votes rules past (rules.shard_of item.name) x vote || one_votes rules past x vote items
 
 -- every concerned shard votes commit
 abbrev pub all_commit : Rules → List Step → Session → Bool

@@ -41,10 +41,10 @@ abbrev pub genesis_string : Origin → Bytes
 genesis_string origin = 71 ∷ (origin.place ++ origin.object)
 
 -- what the shards need, read off what is written
-abbrev pub outputs_of : (Bytes → Bytes) → Written → List Output → List Item
-outputs_of hash tx [] = []
-outputs_of hash tx (output ∷ outputs) =
-    record { name = hash (output_string hash tx output); object = output.object } ∷ outputs_of hash tx outputs
+abbrev pub written_outputs : (Bytes → Bytes) → Written → List Output → List Item
+written_outputs hash tx [] = []
+written_outputs hash tx (output ∷ outputs) =
+    record { name = hash (output_string hash tx output); object = output.object } ∷ written_outputs hash tx outputs
 
 abbrev pub transaction_of : (Bytes → Bytes) → Written → Transaction
 transaction_of hash tx =
@@ -52,7 +52,7 @@ transaction_of hash tx =
       digest = hash (transaction_string tx);
       inputs = tx.inputs;
       references = tx.references;
-      outputs = outputs_of hash tx tx.outputs;
+      outputs = written_outputs hash tx tx.outputs;
       sound = tx.sound;
       approved = tx.approved;
     }
@@ -69,10 +69,10 @@ abbrev pub sessions_from : (Bytes → Bytes) → List WrittenSession → List Se
 sessions_from hash [] = []
 sessions_from hash (x ∷ xs) = session_from hash x ∷ sessions_from hash xs
 
-abbrev pub genesis_from : (Bytes → Bytes) → List Origin → List Item
-genesis_from hash [] = []
-genesis_from hash (origin ∷ origins) =
-    record { name = hash (genesis_string origin); object = origin.object } ∷ genesis_from hash origins
+abbrev pub genesis_of_origins : (Bytes → Bytes) → List Origin → List Item
+genesis_of_origins hash [] = []
+genesis_of_origins hash (origin ∷ origins) =
+    record { name = hash (genesis_string origin); object = origin.object } ∷ genesis_of_origins hash origins
 
 abbrev pub places_of : List Output → List Bytes
 places_of [] = []

@@ -4,15 +4,15 @@ ghost use Rattle.std.specs.Prelude.{◌≡◌, ℕ, List, true, length, Some};
 ghost use Rattle.cs_ledger.specs.Ledger.{Bytes, IsIn, IsSpentOnce, Serial, genesis_ledger, ledger_of};
 ghost use Rattle.cs_ledger.specs.Session.{Rules, concerns, Session, Object};
 ghost use Rattle.cs_ledger.specs.Table.{Vote, Abort, Accepted, Aborted, free_object, table_of};
-ghost use Rattle.cs_ledger.specs.ShardWorld.{Step, all_commit, IsShardWorld, sessions, votes, decides, log, history, AreNamedApart};
-ghost use Rattle.cs_ledger.specs.Strings.{Origin, WrittenSession, IsFaithful, NoHashCollision, genesis_from, sessions_from};
+ghost use Rattle.cs_ledger.specs.ShardWorld.{Step, all_commit, IsShardWorld, sessions, shard_votes, decides, log, history, AreNamedApart};
+ghost use Rattle.cs_ledger.specs.Strings.{Origin, WrittenSession, IsFaithful, NoHashCollision, genesis_of_origins, sessions_from};
 
 /// What holds of every list of allowed steps whose digests and names do not collide.
 pub fn composition()
     // All Prepare of a session in one log give one vote.
     ensures one_vote { (rules : Rules) (past : List Step) → IsShardWorld rules past →
         (x : Session) → IsIn x (sessions past) → (shard : ℕ) (v w : Vote) →
-        votes rules past shard x v ≡ true → votes rules past shard x w ≡ true → v ≡ w }
+        shard_votes rules past shard x v ≡ true → shard_votes rules past shard x w ≡ true → v ≡ w }
     // No session is accepted in one log and aborted in another.
     ensures one_decision { (rules : Rules) (past : List Step) → IsShardWorld rules past →
         (x : Session) → IsIn x (sessions past) → (here there : ℕ) →
@@ -20,7 +20,7 @@ pub fn composition()
     // No session is accepted in one log and voted abort in another.
     ensures no_late_abort { (rules : Rules) (past : List Step) → IsShardWorld rules past →
         (x : Session) → IsIn x (sessions past) → (here there : ℕ) →
-        decides rules past here x Accepted ≡ true → votes rules past there x Abort ≡ true → ⊥ }
+        decides rules past here x Accepted ≡ true → shard_votes rules past there x Abort ≡ true → ⊥ }
     // The history is one that the plain ledger takes.
     ensures serial { (rules : Rules) (past : List Step) → IsShardWorld rules past →
         Serial (genesis_ledger rules.genesis) (history rules past) }
@@ -38,7 +38,7 @@ pub fn composition()
     // No shard votes abort on such a session, and none aborts it.
     ensures no_abort { (rules : Rules) (past : List Step) → IsShardWorld rules past →
         (x : Session) → IsIn x (sessions past) → all_commit rules past x ≡ true → (shard : ℕ) →
-        (votes rules past shard x Abort ≡ true → ⊥)
+        (shard_votes rules past shard x Abort ≡ true → ⊥)
         × (decides rules past shard x Aborted ≡ true → ⊥) }
     // An object that is free in a table is in the ledger after the history.
     ensures objects { (rules : Rules) (past : List Step) → IsShardWorld rules past →
@@ -53,5 +53,5 @@ pub fn names_apart()
     ensures { (hash : Bytes → Bytes) (origins : List Origin) (written : List WrittenSession) →
         ((a b : Bytes) → length (hash a) ≡ length (hash b)) → IsFaithful written →
         NoHashCollision hash origins written →
-        AreNamedApart (genesis_from hash origins) (sessions_from hash written) }
+        AreNamedApart (genesis_of_origins hash origins) (sessions_from hash written) }
 {}

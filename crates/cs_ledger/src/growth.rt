@@ -4,12 +4,12 @@ ghost use Rattle.std.specs.Prelude.{◌≡◌, ℕ, List, true, ◌++◌};
 ghost use Rattle.cs_ledger.specs.Ledger.{IsIn};
 ghost use Rattle.cs_ledger.specs.Session.{Rules, Session, concerns};
 ghost use Rattle.cs_ledger.specs.Table.{Vote, Abort, Aborted};
-ghost use Rattle.cs_ledger.specs.ShardWorld.{Step, IsShardWorld, sessions, votes, decides, all_commit, one_aborts, history};
+ghost use Rattle.cs_ledger.specs.ShardWorld.{Step, IsShardWorld, sessions, shard_votes, decides, all_commit, one_aborts, history};
 
 /// The vote of a shard stays.
 pub fn votes_more()
     ensures { (rules : Rules) (later past : List Step) (shard : ℕ) (x : Session) (vote : Vote) →
-        votes rules past shard x vote ≡ true → votes rules (later ++ past) shard x vote ≡ true }
+        shard_votes rules past shard x vote ≡ true → shard_votes rules (later ++ past) shard x vote ≡ true }
 {}
 
 /// Where every concerned shard has voted commit on a session, it stays so.
@@ -36,6 +36,6 @@ pub fn commit_stays()
         IsShardWorld rules (later ++ past) →
         (x : Session) → IsIn x (sessions (later ++ past)) →
         all_commit rules past x ≡ true → (shard : ℕ) →
-        (votes rules (later ++ past) shard x Abort ≡ true → ⊥)
+        (shard_votes rules (later ++ past) shard x Abort ≡ true → ⊥)
         × (decides rules (later ++ past) shard x Aborted ≡ true → ⊥) }
 {}

@@ -17,14 +17,14 @@ use Rattle.cs_order_rules.specs.declared.message.OrderMessage.{OrderMessage}
 use Rattle.cs_order_rules.specs.declared.message.OrderMessage.TheVariants as message
 use Rattle.cs_order_rules.specs.Slot.{chosen, to_confirm}
 use Rattle.cs_order_rules.specs.Facts.{Facts, Sight, open_slot, echo_in, first_of}
-use Rattle.cs_order_rules.specs.Rules.{choice, entering, confirming, step_by, sent_by as advance_by, step_of, advance_sent, pending, echo_sent, propose_sent, change_to, to_all, is_over, waits, tick_sent, echoed_in, with_line, insert_line}
+use Rattle.cs_order_rules.specs.Rules.{choice, view_to_enter, confirming, step_by, sent_by_rules as advance_by, step_of, advance_sent, pending, echo_sent, propose_sent, change_to, to_all, is_slot_over, wait_grows, tick_sent, echoed_in, with_line, insert_line}
 use Rattle.cs_order_law.specs.laws.SlotFacts.{pending_is}
 use Rattle.cs_order_law.specs.laws.RuleFacts as rule
 use Rattle.cs_order_law.specs.laws.Rest.{none_proposed}
-use Rattle.cs_order_open.specs.Shows.{KeptOpenSlot, Shows, TakesFirst}
+use Rattle.cs_order_open.specs.Shows.{KeptOpenSlot, ShowsSlot, TakesFirst}
 use Rattle.cs_order_open.specs.Look.{look_of, entering_by, change_by, pending_by, may_by}
 use Rattle.cs_order_open.specs.laws.Looking as looking
-use Rattle.cs_log.specs.Replicas.{KeptReplica, next_slot, Mirrors, IsSeen, longest_wait, said, entered, chose, after_step, after_echo, after_tick}
+use Rattle.cs_log.specs.Replicas.{KeptReplica, next_slot, Mirrors, IsSeen, longest_wait, said, sight_with_view, chose, after_step, after_echo, after_tick}
 use Rattle.cs_log.proofs.Mirroring.{next_is, with_round, says_proposal, says_echo, says_confirm, enters, waits_more}
 
 abbrev pub Outs : Type 0
@@ -63,7 +63,7 @@ confirmed k s current d fresh n old now p due takes slot out = (
 )
 
 -- enter
-pub view_entered : (k : KeptReplica) (s : Sight) (told current : KeptOpenSlot) (w : ℕ) (change sent : Change) (fresh : Bool) (n : ℕ) (old now : Outs) → Mirrors k s → k.view < w → w < view_bound → change ≡ change_by (look_of k.current) → sent ≡ change_by (look_of k.current) → TakesFirst fresh told s (open_slot s) s.view k.me (message.Change (open_slot s) w change) → ((t : Sight) (i v : ℕ) → Shows told t i v → Shows current t i w) → n ≡ next_slot k.log → now ≡ old ++ to_all (message.Change n w sent) → (now ≡ old ++ change_to s w) × Mirrors (record { f = k.f; me = k.me; log = k.log; view = w; wait = 0; current = current; later = k.later }) (entered s w)
+pub view_entered : (k : KeptReplica) (s : Sight) (told current : KeptOpenSlot) (w : ℕ) (change sent : Change) (fresh : Bool) (n : ℕ) (old now : Outs) → Mirrors k s → k.view < w → w < view_bound → change ≡ change_by (look_of k.current) → sent ≡ change_by (look_of k.current) → TakesFirst fresh told s (open_slot s) s.view k.me (message.Change (open_slot s) w change) → ((t : Sight) (i v : ℕ) → ShowsSlot told t i v → ShowsSlot current t i w) → n ≡ next_slot k.log → now ≡ old ++ to_all (message.Change n w sent) → (now ≡ old ++ change_to s w) × Mirrors (record { f = k.f; me = k.me; log = k.log; view = w; wait = 0; current = current; later = k.later }) (sight_with_view s w)
 view_entered k s told current w change sent fresh n old now p higher small is also takes enter slot out =
     let tells = looking.change_is k.current s p.shows in (
       out ∙ ap₂ (λ a (c : Change). old ++ to_all (message.Change a w c)) (slot ∙ next_is k s p) (also ∙ tells),
@@ -87,22 +87,22 @@ room_to_choose k e seen is =
 abbrev pub Advanced : Sight → KeptReplica → Step → Outs → Outs → Option Proposed → Option ℕ → Option (List ℕ) → Type 0
 Advanced s new x old now c w d = (x ≡ step_by c w d) × (now ≡ old ++ advance_by s c w d) × Mirrors new (after_step s c w d)
 
-advanced_by : (s : Sight) (new : KeptReplica) (x : Step) (old now : Outs) (c : Option Proposed) (w : Option ℕ) (d : Option (List ℕ)) → c ≡ choice s → w ≡ entering s → d ≡ confirming s → Advanced s new x old now c w d → Advanced s new x old now (choice s) (entering s) (confirming s)
+advanced_by : (s : Sight) (new : KeptReplica) (x : Step) (old now : Outs) (c : Option Proposed) (w : Option ℕ) (d : Option (List ℕ)) → c ≡ choice s → w ≡ view_to_enter s → d ≡ confirming s → Advanced s new x old now c w d → Advanced s new x old now (choice s) (view_to_enter s) (confirming s)
 advanced_by s new x old now c w d p q r made =
-    subst (λ (a : Option Proposed). Advanced s new x old now a (entering s) (confirming s)) p
+    subst (λ (a : Option Proposed). Advanced s new x old now a (view_to_enter s) (confirming s)) p
     (subst (λ (b : Option ℕ). Advanced s new x old now c b (confirming s)) q
     (subst (λ (e : Option (List ℕ)). Advanced s new x old now c w e) r made))
 
-pub chose_by : (k new : KeptReplica) (s : Sight) (e : Proposed) (out : Outs) → Mirrors k s → Some e ≡ chosen (look_of k.current).seen → Mirrors new (chose s e) → (step.Chosen e ≡ step_of s) × (out ≡ out ++ advance_sent s) × Mirrors new (after_step s (choice s) (entering s) (confirming s))
-chose_by k new s e out p is made = advanced_by s new (step.Chosen e) out out (Some e) (entering s) (confirming s) (is ∙ looking.choice_is k.current s p.shows) refl refl (refl, sym (append-nil out), made)
+pub chose_by : (k new : KeptReplica) (s : Sight) (e : Proposed) (out : Outs) → Mirrors k s → Some e ≡ chosen (look_of k.current).seen → Mirrors new (chose s e) → (step.Chosen e ≡ step_of s) × (out ≡ out ++ advance_sent s) × Mirrors new (after_step s (choice s) (view_to_enter s) (confirming s))
+chose_by k new s e out p is made = advanced_by s new (step.Chosen e) out out (Some e) (view_to_enter s) (confirming s) (is ∙ looking.choice_is k.current s p.shows) refl refl (refl, sym (append-nil out), made)
 
-pub entered_by : (k new : KeptReplica) (s : Sight) (w : ℕ) (old now : Outs) → Mirrors k s → None ≡ chosen (look_of k.current).seen → Some w ≡ entering_by (look_of k.current) → (now ≡ old ++ change_to s w) × Mirrors new (entered s w) → (step.Moved ≡ step_of s) × (now ≡ old ++ advance_sent s) × Mirrors new (after_step s (choice s) (entering s) (confirming s))
+pub entered_by : (k new : KeptReplica) (s : Sight) (w : ℕ) (old now : Outs) → Mirrors k s → None ≡ chosen (look_of k.current).seen → Some w ≡ entering_by (look_of k.current) → (now ≡ old ++ change_to s w) × Mirrors new (sight_with_view s w) → (step.Moved ≡ step_of s) × (now ≡ old ++ advance_sent s) × Mirrors new (after_step s (choice s) (view_to_enter s) (confirming s))
 entered_by k new s w old now p none is made = advanced_by s new step.Moved old now None (Some w) (confirming s) (none ∙ looking.choice_is k.current s p.shows) (is ∙ looking.entering_is k.current s p.shows) refl (refl, made.0, made.1)
 
-pub confirmed_by : (k new : KeptReplica) (s : Sight) (d : List ℕ) (old now : Outs) → Mirrors k s → None ≡ chosen (look_of k.current).seen → None ≡ entering_by (look_of k.current) → Some d ≡ to_confirm (look_of k.current).seen → (now ≡ old ++ to_all (message.Confirm (open_slot s) s.view d)) × Mirrors new (said s (message.Confirm (open_slot s) s.view d)) → (step.Moved ≡ step_of s) × (now ≡ old ++ advance_sent s) × Mirrors new (after_step s (choice s) (entering s) (confirming s))
+pub confirmed_by : (k new : KeptReplica) (s : Sight) (d : List ℕ) (old now : Outs) → Mirrors k s → None ≡ chosen (look_of k.current).seen → None ≡ entering_by (look_of k.current) → Some d ≡ to_confirm (look_of k.current).seen → (now ≡ old ++ to_all (message.Confirm (open_slot s) s.view d)) × Mirrors new (said s (message.Confirm (open_slot s) s.view d)) → (step.Moved ≡ step_of s) × (now ≡ old ++ advance_sent s) × Mirrors new (after_step s (choice s) (view_to_enter s) (confirming s))
 confirmed_by k new s d old now p none stays is made = advanced_by s new step.Moved old now None None (Some d) (none ∙ looking.choice_is k.current s p.shows) (stays ∙ looking.entering_is k.current s p.shows) (is ∙ looking.confirming_is k.current s p.shows) (refl, made.0, made.1)
 
-pub quiet_by : (k : KeptReplica) (s : Sight) (out : Outs) → Mirrors k s → None ≡ chosen (look_of k.current).seen → None ≡ entering_by (look_of k.current) → None ≡ to_confirm (look_of k.current).seen → (step.Quiet ≡ step_of s) × (out ≡ out ++ advance_sent s) × Mirrors k (after_step s (choice s) (entering s) (confirming s))
+pub quiet_by : (k : KeptReplica) (s : Sight) (out : Outs) → Mirrors k s → None ≡ chosen (look_of k.current).seen → None ≡ entering_by (look_of k.current) → None ≡ to_confirm (look_of k.current).seen → (step.Quiet ≡ step_of s) × (out ≡ out ++ advance_sent s) × Mirrors k (after_step s (choice s) (view_to_enter s) (confirming s))
 quiet_by k s out p none stays done = advanced_by s k step.Quiet out out None None None (none ∙ looking.choice_is k.current s p.shows) (stays ∙ looking.entering_is k.current s p.shows) (done ∙ looking.confirming_is k.current s p.shows) (refl, sym (append-nil out), p)
 
 -- A member has echoed where a digest is listed.
@@ -127,7 +127,7 @@ listed me n [] = refl
 listed me n (fact ∷ facts) = listed_by (when (fact.0 == me) (echo_in n fact.1)) (echoed_in me n facts) (first_of (echo_in n) facts me) (listed me n facts)
 
 -- tick
-pub waiting_is : (k : KeptReplica) (s : Sight) (due : Bool) → Mirrors k s → (due || nat_lt 0 (length k.current.echoed)) ≡ waits s due
+pub waiting_is : (k : KeptReplica) (s : Sight) (due : Bool) → Mirrors k s → (due || nat_lt 0 (length k.current.echoed)) ≡ wait_grows s due
 waiting_is k s due p = ap (λ (b : Bool). due || b) (ap (λ (lines : List (List ℕ × ℕ)). nat_lt 0 (length lines)) p.shows.echoed ∙ listed s.me (open_slot s) s.taken)
 
 abbrev pub Ticked : Sight → KeptReplica → Bool → Outs → Outs → Type 0
@@ -136,8 +136,8 @@ Ticked s new due old now = (now ≡ old ++ tick_sent s due) × Mirrors new (afte
 -- nothing to wait for
 pub tick_idle : (k : KeptReplica) (s : Sight) (due : Bool) (out : Outs) → Mirrors k s → (due || nat_lt 0 (length k.current.echoed)) ≡ false → Ticked s k due out out
 tick_idle k s due out p idle =
-    let not_waiting : waits s due ≡ false = sym (waiting_is k s due p) ∙ idle in
-    let not_over : is_over s due ≡ false = ap (λ (b : Bool). b && ((s.wait + 1 == 8 * 2 ^ min s.view 10) && nat_lt (s.view + 1) view_bound)) not_waiting in
+    let not_waiting : wait_grows s due ≡ false = sym (waiting_is k s due p) ∙ idle in
+    let not_over : is_slot_over s due ≡ false = ap (λ (b : Bool). b && ((s.wait + 1 == 8 * 2 ^ min s.view 10) && nat_lt (s.view + 1) view_bound)) not_waiting in
     rw (not_over, not_waiting) (sym (append-nil out), p)
 
 -- a longest wait and more is no limit
@@ -150,14 +150,14 @@ over_is k s p =
     ap (λ v. (k.wait + 1 == 8 * 2 ^ min v 10) && nat_lt (v + 1) view_bound) p.view
     ∙ ap (λ (b : Bool). b && nat_lt (s.view + 1) view_bound) (same_limit k.wait s.wait p.wait (8 * 2 ^ min s.view 10) (omega arith))
 
-pub tick_over : (k new : KeptReplica) (s : Sight) (due : Bool) (old now : Outs) → Mirrors k s → (due || nat_lt 0 (length k.current.echoed)) ≡ true → ((k.wait + 1 == 8 * 2 ^ min k.view 10) && nat_lt (k.view + 1) view_bound) ≡ true → (now ≡ old ++ change_to s (k.view + 1)) × Mirrors new (entered s (k.view + 1)) → Ticked s new due old now
+pub tick_over : (k new : KeptReplica) (s : Sight) (due : Bool) (old now : Outs) → Mirrors k s → (due || nat_lt 0 (length k.current.echoed)) ≡ true → ((k.wait + 1 == 8 * 2 ^ min k.view 10) && nat_lt (k.view + 1) view_bound) ≡ true → (now ≡ old ++ change_to s (k.view + 1)) × Mirrors new (sight_with_view s (k.view + 1)) → Ticked s new due old now
 tick_over k new s due old now p waiting over made =
-    let is : is_over s due ≡ true = ap₂ (λ (a : Bool) (b : Bool). a && b) (sym (waiting_is k s due p) ∙ waiting) (sym (over_is k s p) ∙ over) in
-    rw is (subst (λ v. (now ≡ old ++ change_to s (v + 1)) × Mirrors new (entered s (v + 1))) p.view made)
+    let is : is_slot_over s due ≡ true = ap₂ (λ (a : Bool) (b : Bool). a && b) (sym (waiting_is k s due p) ∙ waiting) (sym (over_is k s p) ∙ over) in
+    rw is (subst (λ v. (now ≡ old ++ change_to s (v + 1)) × Mirrors new (sight_with_view s (v + 1))) p.view made)
 
 pub tick_counts : (k : KeptReplica) (s : Sight) (due : Bool) (out : Outs) (wait : ℕ) → Mirrors k s → (due || nat_lt 0 (length k.current.echoed)) ≡ true → ((k.wait + 1 == 8 * 2 ^ min k.view 10) && nat_lt (k.view + 1) view_bound) ≡ false → wait ≡ min (k.wait + 1) longest_wait → Ticked s (record { f = k.f; me = k.me; log = k.log; view = k.view; wait = wait; current = k.current; later = k.later }) due out out
 tick_counts k s due out wait p waiting over more =
-    let is_waiting : waits s due ≡ true = sym (waiting_is k s due p) ∙ waiting in
-    let not_over : is_over s due ≡ false = ap₂ (λ (a : Bool) (b : Bool). a && b) is_waiting (sym (over_is k s p) ∙ over) in
+    let is_waiting : wait_grows s due ≡ true = sym (waiting_is k s due p) ∙ waiting in
+    let not_over : is_slot_over s due ≡ false = ap₂ (λ (a : Bool) (b : Bool). a && b) is_waiting (sym (over_is k s p) ∙ over) in
     let counted : wait ≡ min (s.wait + 1) longest_wait = (let e = p.wait in let m = more in omega arith) in
     rw (not_over, is_waiting) (sym (append-nil out), waits_more k s wait p counted)

@@ -1,7 +1,7 @@
 -- Each call of what is kept is the rules' function of the member's deeds.
 use Rattle.std.proofs.Common.{◌≡◌, ℕ, ◌<◌, Bool, true, false, List, ◌++◌, Option, Some, None, IsSome, refl, sym, ap, ap₂, ◌∙◌, subst, arith}
 use Rattle.cs_order.specs.Limits.{rest_at}
-use Rattle.cs_order.specs.Deeds.{Deed, Member, did, sent_by, entry_from, entry_at}
+use Rattle.cs_order.specs.Deeds.{Deed, Member, did, sent_by, entry_from, entry_of_slot}
 use Rattle.cs_order.specs.Deeds as deed
 use Rattle.cs_order.specs.Calls.{Proposable, TakesIn, Advances, Echoes, Proposes, Ticks, Replies, RepliesWith, Lowers, taken_in, advanced, sent_at}
 use Rattle.cs_order.specs.declared.proposed.Proposed.{Proposed}
@@ -14,12 +14,12 @@ use Rattle.cs_order.specs.declared.answers.May.{May}
 use Rattle.cs_order_rules.specs.declared.message.OrderMessage.{OrderMessage}
 use Rattle.cs_order_rules.specs.declared.message.OrderMessage.TheVariants as message
 use Rattle.cs_order_rules.specs.Facts.{open_slot}
-use Rattle.cs_order_rules.specs.Rules.{verdict, choice, entering, confirming, step_by, sent_by as advance_by, step_of, advance_sent, pending, echo_sent, propose_sent, tick_sent, is_over, waits, reply_with}
+use Rattle.cs_order_rules.specs.Rules.{verdict, choice, view_to_enter, confirming, step_by, sent_by_rules as advance_by, step_of, advance_sent, pending, echo_sent, propose_sent, tick_sent, is_slot_over, wait_grows, reply_with}
 use Rattle.cs_order_rules.specs.SlotMachine.{slot_machine, sight, slot_rest}
 use Rattle.cs_order_law.specs.laws.Rest.{rest_falls}
 use Rattle.cs_order_open.specs.Look.{look_of, pending_by, may_by, left_by}
 use Rattle.cs_order_open.specs.laws.Looking.{left_is, pending_is, may_is}
-use Rattle.cs_log.specs.Stands.{StandsFor, ReplicaStands, allowed, awaited}
+use Rattle.cs_log.specs.Stands.{ReplicaStandsFor, ReplicaStands, allowed, awaited}
 use Rattle.cs_log.specs.Replicas.{KeptReplica, Mirrors, after_taking, after_step, after_echo, after_tick, said, kept_rest, RepliedWith}
 use Rattle.cs_log.proofs.Mirroring.{next_is}
 
@@ -57,8 +57,8 @@ led_by h new x old now None (Some v) d p = p
 led_by h new x old now None None (Some digest) p = p
 led_by h new x old now None None None p = p
 
-pub advances : (h : Member OrderMessage) (new : KeptReplica) (x : Step) (old now : Outs) → (x ≡ step_of (sight h)) × (now ≡ old ++ advance_sent (sight h)) × Mirrors new (after_step (sight h) (choice (sight h)) (entering (sight h)) (confirming (sight h))) → Advances slot_machine h x old now (λ t. Mirrors new (sight t))
-advances h new x old now p = led_by h new x old now (choice (sight h)) (entering (sight h)) (confirming (sight h)) p
+pub advances : (h : Member OrderMessage) (new : KeptReplica) (x : Step) (old now : Outs) → (x ≡ step_of (sight h)) × (now ≡ old ++ advance_sent (sight h)) × Mirrors new (after_step (sight h) (choice (sight h)) (view_to_enter (sight h)) (confirming (sight h))) → Advances slot_machine h x old now (λ t. Mirrors new (sight t))
+advances h new x old now p = led_by h new x old now (choice (sight h)) (view_to_enter (sight h)) (confirming (sight h)) p
 
 lowers_by : (k new : KeptReplica) (h : Member OrderMessage) (x y : Step) → slot_machine.step h ≡ y → x ≡ y → Mirrors k (sight h) → Mirrors new (sight (advanced y (slot_machine.advancing h) h)) → Lowers (kept_rest k) (kept_rest new) x
 lowers_by k new h x (step.Chosen e) is same p q = rw same (lower k new h (deed.Advanced (step.Chosen e) (slot_machine.advancing h)) p q (rest_falls h (deed.Advanced (step.Chosen e) (slot_machine.advancing h)) (is, (λ quiet. cc), refl) tt))
@@ -80,7 +80,7 @@ pub echo_lowers : (h : Member OrderMessage) (k new : KeptReplica) (old now : Out
 echo_lowers h k new old now p some made = lower k new h (deed.Echoed (slot_machine.echoing h)) p made.1 (rest_falls h (deed.Echoed (slot_machine.echoing h)) (rw (← pending_is k.current (sight h) p.shows) some, refl) tt)
 
 -- where nothing is pending, an echo changes nothing
-pub echo_stays : (h : Member OrderMessage) (k new : KeptReplica) (o : Option Proposed) → StandsFor k h → new.log.first ≡ k.log.first → Mirrors new (after_echo (sight h) o) → (t : Member OrderMessage) × StandsFor new t
+pub echo_stays : (h : Member OrderMessage) (k new : KeptReplica) (o : Option Proposed) → ReplicaStandsFor k h → new.log.first ≡ k.log.first → Mirrors new (after_echo (sight h) o) → (t : Member OrderMessage) × ReplicaStandsFor new t
 echo_stays h k new None stands uncut p = (h, record { mirrors = p; first = uncut ∙ stands.first })
 echo_stays h k new (Some e) stands uncut p = (did (deed.Echoed (echo_sent (sight h) (Some e))) h, record { mirrors = p; first = uncut ∙ stands.first })
 
@@ -92,21 +92,21 @@ pub propose_lowers : (h : Member OrderMessage) (k new : KeptReplica) (e : Propos
 propose_lowers h k new e old now p may made = lower k new h (deed.Proposing e (propose_sent (sight h) e)) p made.1 (rest_falls h (deed.Proposing e (propose_sent (sight h) e)) (subst (λ (m : May). Proposable m e) (may_is k.current (sight h) p.shows) may, refl) tt)
 
 -- tick
-ticked_by : (h : Member OrderMessage) (new : KeptReplica) (due over waiting : Bool) → is_over (sight h) due ≡ over → waits (sight h) due ≡ waiting → Mirrors new (after_tick (sight h) due) → Mirrors new (sight (did (deed.Ticked due (tick_sent (sight h) due)) h))
+ticked_by : (h : Member OrderMessage) (new : KeptReplica) (due over waiting : Bool) → is_slot_over (sight h) due ≡ over → wait_grows (sight h) due ≡ waiting → Mirrors new (after_tick (sight h) due) → Mirrors new (sight (did (deed.Ticked due (tick_sent (sight h) due)) h))
 ticked_by h new due true waiting is is_waiting p = rw is (rw is at p)
 ticked_by h new due false true is is_waiting p = rw (is, is_waiting) (rw (is, is_waiting) at p)
 ticked_by h new due false false is is_waiting p = rw (is, is_waiting) (rw (is, is_waiting) at p)
 
 pub ticks : (h : Member OrderMessage) (new : KeptReplica) (due : Bool) (old now : Outs) → (now ≡ old ++ tick_sent (sight h) due) × Mirrors new (after_tick (sight h) due) → Ticks slot_machine h due old now (λ t. Mirrors new (sight t))
-ticks h new due old now made = (made.0, ticked_by h new due (is_over (sight h) due) (waits (sight h) due) refl refl made.1)
+ticks h new due old now made = (made.0, ticked_by h new due (is_slot_over (sight h) due) (wait_grows (sight h) due) refl refl made.1)
 
 -- resend and reply
-pub replies_by : (h : Member OrderMessage) (k : KeptReplica) (slot to : ℕ) (answer : Bool) (old now : Outs) (o : Option (Outgoing OrderMessage)) → StandsFor k h → RepliedWith o answer old now → RepliesWith o h slot to answer old now (λ t. StandsFor k t)
+pub replies_by : (h : Member OrderMessage) (k : KeptReplica) (slot to : ℕ) (answer : Bool) (old now : Outs) (o : Option (Outgoing OrderMessage)) → ReplicaStandsFor k h → RepliedWith o answer old now → RepliesWith o h slot to answer old now (λ t. ReplicaStandsFor k t)
 replies_by h k slot to answer old now None p made = made
 replies_by h k slot to answer old now (Some out) p made = (made.0, made.1, record { mirrors = p.mirrors; first = p.first })
 
-pub replies : (h : Member OrderMessage) (k : KeptReplica) (slot to : ℕ) (answer : Bool) (old now : Outs) → StandsFor k h → RepliedWith (reply_with slot to (entry_from k.log.first (sight h).log slot)) answer old now → Replies slot_machine h slot to answer old now (λ t. StandsFor k t)
-replies h k slot to answer old now p made = replies_by h k slot to answer old now (reply_with slot to (entry_at h.deeds slot)) p (subst (λ first. RepliedWith (reply_with slot to (entry_from first (sight h).log slot)) answer old now) p.first made)
+pub replies : (h : Member OrderMessage) (k : KeptReplica) (slot to : ℕ) (answer : Bool) (old now : Outs) → ReplicaStandsFor k h → RepliedWith (reply_with slot to (entry_from k.log.first (sight h).log slot)) answer old now → Replies slot_machine h slot to answer old now (λ t. ReplicaStandsFor k t)
+replies h k slot to answer old now p made = replies_by h k slot to answer old now (reply_with slot to (entry_of_slot h.deeds slot)) p (subst (λ first. RepliedWith (reply_with slot to (entry_from first (sight h).log slot)) answer old now) p.first made)
 
 pub allows_rule : (o : Option KeptReplica) (h : Member OrderMessage) → ReplicaStands o h → allowed o ≡ slot_machine.may_propose h
 allows_rule None h stands = absurd stands

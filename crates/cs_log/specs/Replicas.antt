@@ -11,9 +11,9 @@ use Rattle.cs_order.specs.declared.answers.Took.TheVariants.{Taken, Old, Far, Le
 use Rattle.cs_order_rules.specs.declared.message.OrderMessage.{OrderMessage}
 use Rattle.cs_order_rules.specs.declared.message.OrderMessage.TheVariants as message
 use Rattle.cs_order_rules.specs.Facts.{Sight, open_slot}
-use Rattle.cs_order_rules.specs.Rules.{change_told, is_over, waits}
-use Rattle.cs_order_law.specs.Terms.{Within}
-use Rattle.cs_order_open.specs.Shows.{KeptOpenSlot, Shows, with_fact}
+use Rattle.cs_order_rules.specs.Rules.{change_told, is_slot_over, wait_grows}
+use Rattle.cs_order_law.specs.Terms.{IsWithinReach}
+use Rattle.cs_order_open.specs.Shows.{KeptOpenSlot, ShowsSlot, with_fact}
 use Rattle.cs_order_open.specs.Look.{look_of, left_by}
 use Rattle.cs_log.specs.Later.{ShowLater}
 use Rattle.cs_log.specs.declared.replica.Replica.{Replica}
@@ -63,9 +63,9 @@ pub record Mirrors (k : KeptReplica) (s : Sight) : Type 0 where
   pub member : s.me ≤ 3 * s.f
   pub short : open_slot s ≤ last_slot
   pub small : s.view < view_bound
-  pub shows : Shows k.current s (open_slot s) s.view
+  pub shows : ShowsSlot k.current s (open_slot s) s.view
   pub later : ShowLater k.later s (open_slot s + 1)
-  pub within : (m : OrderMessage) → IsIn (s.me, m) s.taken → Within s m
+  pub within : (m : OrderMessage) → IsIn (s.me, m) s.taken → IsWithinReach s m
 
 -- at first nothing was done
 abbrev pub at_first : ℕ → ℕ → Sight
@@ -90,8 +90,8 @@ if_fresh false s from m = s
 abbrev pub said : Sight → OrderMessage → Sight
 said s m = with_fact s s.me m
 
-abbrev pub entered : Sight → ℕ → Sight
-entered s view = record {
+abbrev pub sight_with_view : Sight → ℕ → Sight
+sight_with_view s view = record {
   f = s.f;
   me = s.me;
   taken = (s.me, message.Change (open_slot s) view (change_told s)) ∷ s.taken;
@@ -106,7 +106,7 @@ chose s e = record { f = s.f; me = s.me; taken = s.taken; log = s.log ++ e ∷ [
 
 abbrev pub after_step : Sight → Option Proposed → Option ℕ → Option (List ℕ) → Sight
 after_step s (Some e) enter confirm = chose s e
-after_step s None (Some view) confirm = entered s view
+after_step s None (Some view) confirm = sight_with_view s view
 after_step s None None (Some digest) = said s (message.Confirm (open_slot s) s.view digest)
 after_step s None None None = s
 
@@ -118,7 +118,7 @@ abbrev pub waited : Sight → Sight
 waited s = record s { wait = s.wait + 1 }
 
 abbrev pub after_tick : Sight → Bool → Sight
-after_tick s due = if is_over s due then entered s (s.view + 1) else (if waits s due then waited s else s)
+after_tick s due = if is_slot_over s due then sight_with_view s (s.view + 1) else (if wait_grows s due then waited s else s)
 
 -- how many more of a caller's turns there may be
 abbrev pub kept_rest : KeptReplica → ℕ

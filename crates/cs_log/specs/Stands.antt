@@ -15,18 +15,18 @@ abbrev pub kept_if : Bool → Replica → Option KeptReplica
 kept_if whole replica = if whole then Some (kept replica) else None
 
 -- The deeds come to what is kept, and to the slot from which on the log is kept.
-pub record StandsFor (k : KeptReplica) (h : Member OrderMessage) : Type 0 where
+pub record ReplicaStandsFor (k : KeptReplica) (h : Member OrderMessage) : Type 0 where
   pub mirrors : Mirrors k (sight h)
   pub first : k.log.first ≡ kept_from h.deeds
 
 abbrev pub ReplicaStands : Option KeptReplica → Member OrderMessage → Type 0
 ReplicaStands None h = ⊥
-ReplicaStands (Some k) h = StandsFor k h
+ReplicaStands (Some k) h = ReplicaStandsFor k h
 
 -- some deeds led to what is kept
 abbrev pub IsLed : Option KeptReplica → Type 0
 IsLed None = Unit {0}
-IsLed (Some k) = (h : Member OrderMessage) × StandsFor k h
+IsLed (Some k) = (h : Member OrderMessage) × ReplicaStandsFor k h
 
 abbrev pub f_of : Option KeptReplica → ℕ
 f_of None = 0

@@ -2,7 +2,7 @@
 ghost use Rattle.std.specs.Prelude.{◌≡◌, ℕ, ◌+◌, ◌*◌, ◌^◌, ◌≤◌, ◌<◌, Some, length, slice_get, slice_set, IfOk, OnOk};
 ghost use Rattle.cs_order.specs.Limits.{view_bound};
 ghost use Rattle.cs_order_rules.specs.Facts.{Sight};
-ghost use Rattle.cs_order_open.specs.Shows.{KeptOpenSlot, Shows, TakesFirst};
+ghost use Rattle.cs_order_open.specs.Shows.{KeptOpenSlot, ShowsSlot, TakesFirst};
 ghost use Rattle.cs_log.specs.Later.{ShowLater, MayTake};
 
 use cs_base::Memory;
@@ -48,7 +48,7 @@ pub fn take_at(
     ensures { (k : KeptOpenSlot) → slice_get later.old.items place ≡ Some k →
         IfOk result (λ fresh. (new : KeptOpenSlot)
         × (later.new.items ≡ slice_set later.old.items place new)
-        × ((s : Sight) (n view : ℕ) → Shows k s n view →
+        × ((s : Sight) (n view : ℕ) → ShowsSlot k s n view →
         TakesFirst fresh new s n view from message)) }
 {
     let slot = &mut later[place];
@@ -67,7 +67,7 @@ pub fn open_first(
     requires member { me ≤ 3 * f }
     ensures { (s : Sight) → s.f ≡ f → s.me ≡ me → s.views ≡ view_bound →
         ShowLater later.old.items s n →
-        IfOk result (λ slot. Shows slot s n 0 × ShowLater later.new.items s (n + 1)) }
+        IfOk result (λ slot. ShowsSlot slot s n 0 × ShowLater later.new.items s (n + 1)) }
 {
     if later.is_empty() {
         return OpenSlot::new(alloc, f, n, me);

@@ -9,11 +9,11 @@ ghost use Rattle.cs_order.specs.Calls.{Proposable};
 ghost use Rattle.cs_order.specs.Law.{IsPrefix};
 ghost use Rattle.cs_order_rules.specs.declared.message.OrderMessage.TheVariants as message;
 ghost use Rattle.cs_order_rules.specs.Slot.{to_confirm};
-ghost use Rattle.cs_order_rules.specs.Facts.{Sight, open_slot, slot_of, is_like, took};
-ghost use Rattle.cs_order_rules.specs.Rules.{verdict, choice, entering, confirming, step_of, advance_sent, pending, echo_sent, may_propose, propose_sent, change_to, tick_sent, to_all, reply_with};
+ghost use Rattle.cs_order_rules.specs.Facts.{Sight, open_slot, slot_of_message, is_like, took};
+ghost use Rattle.cs_order_rules.specs.Rules.{verdict, choice, view_to_enter, confirming, step_of, advance_sent, pending, echo_sent, may_propose, propose_sent, change_to, tick_sent, to_all, reply_with};
 ghost use Rattle.cs_order_open.specs.Shows.{led};
 ghost use Rattle.cs_order_open.specs.Look.{look_of, pending_by, may_by, resend_by};
-ghost use Rattle.cs_log.specs.Replicas.{kept, next_slot, longest_wait, Mirrors, IsSeen, at_first, after_taking, if_fresh, said, entered, chose, after_step, after_echo, after_tick, kept_rest, RepliedWith};
+ghost use Rattle.cs_log.specs.Replicas.{kept, next_slot, longest_wait, Mirrors, IsSeen, at_first, after_taking, if_fresh, said, sight_with_view, chose, after_step, after_echo, after_tick, kept_rest, RepliedWith};
 
 use crate::later::{extend, open_first, take_at};
 use crate::saying::{change_again, confirm_again, echo_again, hand_out, propose_again, say};
@@ -125,7 +125,7 @@ impl Replica {
 
     /// A proposal is of the member that leads its view.
     fn is_led(&self, from: u16, message: &OrderMessage) -> bool
-        requires slot { slot_of message.now < 2 ^ 63 }
+        requires slot { slot_of_message message.now < 2 ^ 63 }
         requires few { self.now.f ≤ 5 }
         ensures { result ≡ led self.now.f from message.now }
     {
@@ -146,8 +146,8 @@ impl Replica {
         requires seen { IsSeen (kept self.old) }
         requires member { from ≤ 3 * self.old.f }
         requires other { from ≢ self.old.me }
-        requires slot { next_slot (kept self.old).log ≤ slot_of message }
-        requires near { slot_of message ≤ next_slot (kept self.old).log + SLOTS_AHEAD }
+        requires slot { next_slot (kept self.old).log ≤ slot_of_message message }
+        requires near { slot_of_message message ≤ next_slot (kept self.old).log + SLOTS_AHEAD }
         requires led { led self.old.f from message ≡ true }
         ensures call { (s : Sight) → Mirrors (kept self.old) s →
             IfOk result (λ fresh. (fresh ≡ not (took (is_like message) s.taken from))
@@ -175,7 +175,7 @@ impl Replica {
         ensures call { (s : Sight) → Mirrors (kept self.old) s →
             IfOk result (λ step. (step ≡ step_of s)
             × (out.new.items ≡ out.old.items ++ advance_sent s)
-            × Mirrors (kept self.new) (after_step s (choice s) (entering s) (confirming s))) }
+            × Mirrors (kept self.new) (after_step s (choice s) (view_to_enter s) (confirming s))) }
         ensures uncut { OnOk result (self.new.log.first ≡ self.old.log.first) }
     {
         if let Some(entry) = self.current.chosen() {
@@ -224,7 +224,7 @@ impl Replica {
         requires small { view < view_bound }
         ensures call { (s : Sight) → Mirrors (kept self.old) s →
             OnOk result ((out.new.items ≡ out.old.items ++ change_to s view)
-            × Mirrors (kept self.new) (entered s view)) }
+            × Mirrors (kept self.new) (sight_with_view s view)) }
         ensures uncut { OnOk result (self.new.log.first ≡ self.old.log.first) }
     {
         let slot = self.open_slot();

@@ -1,6 +1,6 @@
 //! What a member hands out.
 ghost use Rattle.std.specs.Prelude.{◌≡◌, ◌++◌, ◌∷◌, [], IfOk, OnOk, OnErr, Some, option_copied, Option};
-ghost use Rattle.cs_order_rules.specs.Rules.{to_all, again};
+ghost use Rattle.cs_order_rules.specs.Rules.{to_all, sent_again};
 ghost use Rattle.cs_order_rules.specs.declared.message.OrderMessage.TheVariants as message;
 
 use cs_base::{Memory, Sequence};
@@ -41,7 +41,7 @@ pub fn propose_again(
     own: Option<&Proposed>,
 ) -> Result<(), Memory>
     ensures said { OnOk result (out.new.items
-        ≡ out.old.items ++ again (message.Propose slot view) (option_copied own.entry)) }
+        ≡ out.old.items ++ sent_again (message.Propose slot view) (option_copied own.entry)) }
     ensures same { OnErr result (out.new.items ≡ out.old.items) }
 {
     let Some(entry) = own else {
@@ -59,7 +59,7 @@ pub fn echo_again(
     own: Option<[u8; 32]>,
 ) -> Result<(), Memory>
     ensures said { OnOk result (out.new.items
-        ≡ out.old.items ++ again (message.Echo slot view) own) }
+        ≡ out.old.items ++ sent_again (message.Echo slot view) own) }
     ensures same { OnErr result (out.new.items ≡ out.old.items) }
 {
     let Some(digest) = own else {
@@ -76,7 +76,7 @@ pub fn confirm_again(
     own: Option<[u8; 32]>,
 ) -> Result<(), Memory>
     ensures said { OnOk result (out.new.items
-        ≡ out.old.items ++ again (message.Confirm slot view) own) }
+        ≡ out.old.items ++ sent_again (message.Confirm slot view) own) }
     ensures same { OnErr result (out.new.items ≡ out.old.items) }
 {
     let Some(digest) = own else {
@@ -94,7 +94,7 @@ pub fn change_again(
     own: Option<&Change>,
 ) -> Result<(), Memory>
     ensures said { OnOk result (out.new.items
-        ≡ out.old.items ++ again (message.Change slot view) (option_copied own.entry)) }
+        ≡ out.old.items ++ sent_again (message.Change slot view) (option_copied own.entry)) }
     ensures same { OnErr result (out.new.items ≡ out.old.items) }
 {
     let Some(change) = own else {

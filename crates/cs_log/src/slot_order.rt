@@ -8,10 +8,9 @@ ghost use Rattle.cs_log.specs.Stands.{ReplicaStands, ReplicaStarts, f_of, me_of,
 ghost use Rattle.cs_log.specs.laws.Standing.{replica_begins, replica_belongs, rest_bounded};
 
 use crate::replica::Replica;
-use cs_base::Memory;
+use cs_base::{Memory, Whole};
 use cs_order::{May, Order, Outgoing, Proposed, Step, Took};
 use cs_order_rules::OrderMessage;
-use cs_whole::Whole;
 use std::alloc::Global;
 use std::marker::Model;
 

@@ -3,12 +3,12 @@ use Rattle.std.proofs.Common.{◌≡◌, ℕ, zero, suc, ◌+◌, ◌-◌, ◌<�
 use Rattle.std.proofs.lemmas.Bool.{lt-ltb, le-ltb, cases_lt}
 use Rattle.std.proofs.lemmas.List.{length_push}
 use Rattle.cs_merkle.specs.Tree.{split, merkle_tree_hash}
-use Rattle.cs_merkle.specs.Path.{audit_path, length_in, path_length}
+use Rattle.cs_merkle.specs.Path.{audit_path, path_length_in, path_length}
 use Rattle.cs_merkle.proofs.Splits.{split_positive, split_below}
 use Rattle.cs_merkle.proofs.Trees.{middle, front, back, length_front, length_back, halves_shorter, path_on_the_left, path_on_the_right, path_of_one}
 
 -- any height serves that is no less than the number of leaves
-length_enough : (d e n place : ℕ) → n ≤ d → n ≤ e → length_in d n place ≡ length_in e n place
+length_enough : (d e n place : ℕ) → n ≤ d → n ≤ e → path_length_in d n place ≡ path_length_in e n place
 length_enough zero zero n place l m = refl
 length_enough zero (suc e) zero place l m = refl
 length_enough zero (suc e) (suc n) place l m = absurd (omega (arith, l))

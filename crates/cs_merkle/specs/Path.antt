@@ -22,18 +22,18 @@ audit_path leaves place = path_in (tree_of leaves) place
 
 -- How long the path of a place among n leaves is: one more than in the half where it lies.
 -- The first argument is no less than n.
-abbrev pub length_in : ℕ → ℕ → ℕ → ℕ
-length_in height zero place = 0
-length_in height (suc zero) place = 0
-length_in zero (suc (suc more)) place = 0
-length_in (suc height) (suc (suc more)) place =
+abbrev pub path_length_in : ℕ → ℕ → ℕ → ℕ
+path_length_in height zero place = 0
+path_length_in height (suc zero) place = 0
+path_length_in zero (suc (suc more)) place = 0
+path_length_in (suc height) (suc (suc more)) place =
     let n = suc (suc more) in
     let k = split n in
-    if nat_lt place k then length_in height k place + 1
-    else length_in height (n - k) (place - k) + 1
+    if nat_lt place k then path_length_in height k place + 1
+    else path_length_in height (n - k) (place - k) + 1
 
 unfoldable pub path_length : ℕ → ℕ → ℕ
-path_length n place = length_in n n place
+path_length n place = path_length_in n n place
 
 -- the root to which a path leads from a leaf at a place among n, the path read from the root down
 abbrev pub root_by : ℕ → ℕ → List ℕ → List (List ℕ) → List ℕ

@@ -54,5 +54,5 @@ unfoldable pub merkle_tree_hash : List (List ℕ) → List ℕ
 merkle_tree_hash leaves = hash (tree_of leaves)
 
 -- the leaves that vectors hold
-abbrev pub leaves_of : {Z : Type 0} → List (Vec ℕ Z) → List (List ℕ)
-leaves_of vectors = map (λ vector. vector.items) vectors
+abbrev pub leaves_of_vectors : {Z : Type 0} → List (Vec ℕ Z) → List (List ℕ)
+leaves_of_vectors vectors = map (λ vector. vector.items) vectors

@@ -1,6 +1,6 @@
 //! The root of a tree, and the path of a leaf.
 ghost use Rattle.std.specs.Prelude.{◌≡◌, ◌≤◌, ◌<◌, ◌↔◌, ◌++◌, length, IfOk, OnOk, IsErrOf};
-ghost use Rattle.cs_merkle.specs.Tree.{leaves_of, merkle_tree_hash};
+ghost use Rattle.cs_merkle.specs.Tree.{leaves_of_vectors, merkle_tree_hash};
 ghost use Rattle.cs_merkle.specs.Path.{audit_path};
 
 use crate::hashing::{hash_leaf, join, left_half};
@@ -31,7 +31,7 @@ impl From<Memory> for PathError {
 
 /// The Merkle tree hash of leaves. It takes no memory, and time in proportion to their bytes.
 pub fn root(leaves: &[Vec<u8>]) -> Digest
-    ensures { result ≡ merkle_tree_hash (leaves_of leaves.now) }
+    ensures { result ≡ merkle_tree_hash (leaves_of_vectors leaves.now) }
 {
     match leaves {
         [] => Sha256::digest([]),
@@ -47,7 +47,7 @@ pub fn root(leaves: &[Vec<u8>]) -> Digest
 fn add_path(path: &mut Vec<Digest>, leaves: &[Vec<u8>], place: usize) -> Result<(), Memory>
     requires { place < length leaves.now }
     ensures { OnOk result
-        (path.new.items ≡ path.old.items ++ audit_path (leaves_of leaves.now) place) }
+        (path.new.items ≡ path.old.items ++ audit_path (leaves_of_vectors leaves.now) place) }
 {
     if leaves.len() == 1 {
         return Ok(());
@@ -67,7 +67,7 @@ fn add_path(path: &mut Vec<Digest>, leaves: &[Vec<u8>], place: usize) -> Result<
 /// The audit path of the leaf at a place, from the leaf up. It takes time in proportion to the
 /// bytes of the leaves.
 pub fn path(alloc: Global, leaves: &[Vec<u8>], place: usize) -> Result<Vec<Digest>, PathError>
-    ensures path { IfOk result (λ path. path.items ≡ audit_path (leaves_of leaves.now) place) }
+    ensures path { IfOk result (λ path. path.items ≡ audit_path (leaves_of_vectors leaves.now) place) }
     ensures no_leaf { IsErrOf result PathError.NoLeaf ↔ (length leaves.now ≤ place) }
 {
     if place >= leaves.len() {

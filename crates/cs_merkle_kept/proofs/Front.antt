@@ -8,7 +8,7 @@ use Rattle.std.specs.BTreeMap.{insert_entry}
 use Rattle.std.proofs.lemmas.Bool.{cases_lt, cases_eq}
 use Rattle.std.proofs.lemmas.List.{length-map, length-set, get_or-set_other, get_or_default, get_or_append_left, get_or_push, length_push, take_more}
 use Rattle.cs_merkle_kept.specs.declared.leaf.Leaf.{Leaf}
-use Rattle.cs_merkle_kept.specs.Leaves.{KeyedHashes, key_order, AreRising, all_put, IsAt, entry_of, entries_of}
+use Rattle.cs_merkle_kept.specs.Leaves.{KeyedHashes, byte_order, AreRising, all_put, IsAt, leaf_entry, leaf_entries}
 use Rattle.cs_merkle_kept.specs.Kept.{AreKept}
 use Rattle.cs_merkle_kept.specs.Puts.{IsPutFront}
 use Rattle.cs_merkle_kept.proofs.Hashes.{Hashes}
@@ -24,17 +24,17 @@ key_at (l ∷ ls) zero leaf there is = ap (λ (e : Entry). e.0) (sym is)
 key_at (l ∷ ls) (suc i) leaf there is = key_at ls i leaf (omega (arith, there)) is
 
 pub entry_at : (leaves : List Leaf) (i : ℕ) (leaf : Leaf) → leaf ≡ get_or leaves i leaf →
-    entry_of leaf ≡ get_or (entries_of leaves) i (entry_of leaf)
-entry_at leaves i leaf is = ap entry_of is ∙ sym (get_or-map entry_of leaves i leaf)
+    leaf_entry leaf ≡ get_or (leaf_entries leaves) i (leaf_entry leaf)
+entry_at leaves i leaf is = ap leaf_entry is ∙ sym (get_or-map leaf_entry leaves i leaf)
 
 -- ---- one after the other
 
 pub all_put-append : (es ls ms : KeyedHashes) → all_put es (ls ++ ms) ≡ all_put (all_put es ls) ms
 all_put-append es [] ms = refl
-all_put-append es (l ∷ ls) ms = all_put-append (insert_entry key_order es l.0 l.1) ls ms
+all_put-append es (l ∷ ls) ms = all_put-append (insert_entry byte_order es l.0 l.1) ls ms
 
 pub all_put_more : (es ls : KeyedHashes) (i : ℕ) (l : Entry) → i < length ls → l ≡ get_or ls i l →
-    all_put es (take (i + 1) ls) ≡ insert_entry key_order (all_put es (take i ls)) l.0 l.1
+    all_put es (take (i + 1) ls) ≡ insert_entry byte_order (all_put es (take i ls)) l.0 l.1
 all_put_more es ls i l there is =
     ap (all_put es) (take_more ls i l there ∙ ap (λ (m : Entry). take i ls ++ m ∷ []) (sym is))
     ∙ all_put-append es (take i ls) (l ∷ [])
@@ -62,7 +62,7 @@ front_more keys leaves old new places leaf place kept there is at f =
       few = omega (arith, long, there);
       long = length-set new place leaf.1 ∙ f.long;
       put = one.put
-          ∙ ap (λ (es : KeyedHashes). insert_entry key_order es leaf.0 leaf.1) f.put
+          ∙ ap (λ (es : KeyedHashes). insert_entry byte_order es leaf.0 leaf.1) f.put
           ∙ sym (all_put_more (zip keys old) leaves (length places) leaf there is)
           ∙ ap (λ (m : ℕ). all_put (zip keys old) (take m leaves)) (sym long);
       same = λ i spares.
@@ -105,7 +105,7 @@ module _ (keys : Hashes) (leaves : KeyedHashes) (old new : Hashes) (places : Lis
       elim (cases_lt (get_or places j 0) (get_or places i 0)) [
         | inl down ↦
             absurd (not_both key_i key_j (rising i j less (omega (arith, within, few, long)))
-            (ap (key_order key_i) (same_key key_j (get_or keys (get_or places j 0) []) two.here)
+            (ap (byte_order key_i) (same_key key_j (get_or keys (get_or places j 0) []) two.here)
             ∙ one.below (get_or places j 0) down))
         | inr up ↦ up
       ]

@@ -10,54 +10,54 @@ use Rattle.std.proofs.lemmas.Cmp.{nat_list_cmp_total, tied_itself}
 use Rattle.std.proofs.lemmas.Map.Lookups.{exact_bytes}
 use Rattle.std.proofs.lemmas.List.{length-set, get_or-set_other, get_or_default}
 use Rattle.std.proofs.lemmas.List.Edits.{length-insert, get_or-insert_below, get_or-insert_at, get_or-insert_above}
-use Rattle.cs_merkle_kept.specs.Leaves.{KeyedHashes, key_order, AreRising, IsAt, IsGap}
+use Rattle.cs_merkle_kept.specs.Leaves.{KeyedHashes, byte_order, AreRising, IsAt, IsGap}
 use Rattle.cs_merkle_kept.specs.Kept.{AreKept}
 use Rattle.cs_merkle_kept.specs.Puts.{IsPutOne}
 use Rattle.cs_merkle_kept.proofs.Hashes.{Hashes}
 
 -- ---- the order
 
-pub back_greater : (x y : List ℕ) → key_order x y ≡ Less → key_order y x ≡ Greater
+pub back_greater : (x y : List ℕ) → byte_order x y ≡ Less → byte_order y x ≡ Greater
 back_greater x y less = nat_list_cmp_total.antisymm y x ∙ ap ordering_reverse less
 
-pub back_less : (x y : List ℕ) → key_order x y ≡ Greater → key_order y x ≡ Less
+pub back_less : (x y : List ℕ) → byte_order x y ≡ Greater → byte_order y x ≡ Less
 back_less x y greater = nat_list_cmp_total.antisymm y x ∙ ap ordering_reverse greater
 
-pub self_equal : (x : List ℕ) → key_order x x ≡ Equal
+pub self_equal : (x : List ℕ) → byte_order x x ≡ Equal
 self_equal x = tied_itself nat_list_cmp_total x
 
-pub same_key : (x y : List ℕ) → key_order x y ≡ Equal → x ≡ y
+pub same_key : (x y : List ℕ) → byte_order x y ≡ Equal → x ≡ y
 same_key x y same = exact_bytes x y same
 
-pub not_both : (x y : List ℕ) → key_order x y ≡ Less → key_order x y ≡ Greater → ⊥
+pub not_both : (x y : List ℕ) → byte_order x y ≡ Less → byte_order x y ≡ Greater → ⊥
 not_both x y less greater = let bad : Less ≡ Greater = sym less ∙ greater in cc
 
-pub not_less : (x y : List ℕ) → x ≡ y → key_order x y ≡ Less → ⊥
+pub not_less : (x y : List ℕ) → x ≡ y → byte_order x y ≡ Less → ⊥
 not_less x y same less =
-    let bad : Equal ≡ Less = sym (self_equal x) ∙ ap (λ (z : List ℕ). key_order x z) same ∙ less in cc
+    let bad : Equal ≡ Less = sym (self_equal x) ∙ ap (λ (z : List ℕ). byte_order x z) same ∙ less in cc
 
-pub not_greater : (x y : List ℕ) → x ≡ y → key_order x y ≡ Greater → ⊥
+pub not_greater : (x y : List ℕ) → x ≡ y → byte_order x y ≡ Greater → ⊥
 not_greater x y same greater =
-    let bad : Equal ≡ Greater = sym (self_equal x) ∙ ap (λ (z : List ℕ). key_order x z) same ∙ greater in cc
+    let bad : Equal ≡ Greater = sym (self_equal x) ∙ ap (λ (z : List ℕ). byte_order x z) same ∙ greater in cc
 
 -- a key more, greater than the last one
 pub rising_more : (keys : Hashes) (i : ℕ) → 0 < i →
-    ((a b : ℕ) → a < b → b < i → key_order (get_or keys a []) (get_or keys b []) ≡ Less) →
-    key_order (get_or keys (i - 1) []) (get_or keys i []) ≡ Less →
-    (a b : ℕ) → a < b → b < i + 1 → key_order (get_or keys a []) (get_or keys b []) ≡ Less
+    ((a b : ℕ) → a < b → b < i → byte_order (get_or keys a []) (get_or keys b []) ≡ Less) →
+    byte_order (get_or keys (i - 1) []) (get_or keys i []) ≡ Less →
+    (a b : ℕ) → a < b → b < i + 1 → byte_order (get_or keys a []) (get_or keys b []) ≡ Less
 rising_more keys i some before here a b less within =
     elim (cases_lt b i) [
       | inl front ↦ before a b less front
       | inr back ↦
           let last : b ≡ i = omega (arith, back, within) in
-          let to : key_order (get_or keys a []) (get_or keys i []) ≡ Less = elim (cases_eq a (i - 1)) [
+          let to : byte_order (get_or keys a []) (get_or keys i []) ≡ Less = elim (cases_eq a (i - 1)) [
             | inl same ↦
-                ap (λ (m : ℕ). key_order (get_or keys m []) (get_or keys i [])) same ∙ here
+                ap (λ (m : ℕ). byte_order (get_or keys m []) (get_or keys i [])) same ∙ here
             | inr apart ↦
                 nat_list_cmp_total.trans (get_or keys a []) (get_or keys (i - 1) []) (get_or keys i [])
                 (before a (i - 1) (omega (arith, less, last, apart)) (omega (arith, some))) here
           ] in
-          ap (λ (m : ℕ). key_order (get_or keys a []) (get_or keys m [])) last ∙ to
+          ap (λ (m : ℕ). byte_order (get_or keys a []) (get_or keys m [])) last ∙ to
     ]
 
 -- ---- a key that stands at a place, and one that isn't there
@@ -106,7 +106,7 @@ one_place keys key place i rising at within is =
     ]
 
 not_behind : (keys : Hashes) (key : List ℕ) (place i : ℕ) → AreRising keys → IsAt keys key place →
-    place ≤ i → i < length keys → key_order key (get_or keys i []) ≡ Greater → ⊥
+    place ≤ i → i < length keys → byte_order key (get_or keys i []) ≡ Greater → ⊥
 not_behind keys key place i rising at behind within greater =
     let here = same_key key (get_or keys place []) at.here in
     elim (cases_eq i place) [
@@ -115,14 +115,14 @@ not_behind keys key place i rising at behind within greater =
       | inr apart ↦
           not_both (get_or keys place []) (get_or keys i [])
           (rising place i (omega (arith, behind, apart)) within)
-          (ap (λ (k : List ℕ). key_order k (get_or keys i [])) (sym here) ∙ greater)
+          (ap (λ (k : List ℕ). byte_order k (get_or keys i [])) (sym here) ∙ greater)
     ]
 
 -- ---- putting one
 
 replaced : (keys hashes : Hashes) (key hash : List ℕ) (place : ℕ) → length keys ≡ length hashes →
     IsAt keys key place →
-    insert_entry key_order (zip keys hashes) key hash ≡ zip keys (set hashes place hash)
+    insert_entry byte_order (zip keys hashes) key hash ≡ zip keys (set hashes place hash)
 replaced [] hashes key hash place long at = absurd (omega (arith, at.within))
 replaced (k ∷ ks) [] key hash place long at = absurd (omega (arith, long))
 replaced (k ∷ ks) (h ∷ hs) key hash zero long at = rw at.here refl
@@ -136,7 +136,7 @@ replaced (k ∷ ks) (h ∷ hs) key hash (suc place) long at =
     })))
 
 inserted : (keys hashes : Hashes) (key hash : List ℕ) (place : ℕ) → length keys ≡ length hashes →
-    IsGap keys key place → insert_entry key_order (zip keys hashes) key hash
+    IsGap keys key place → insert_entry byte_order (zip keys hashes) key hash
     ≡ zip (insert keys place key) (insert hashes place hash)
 inserted [] [] key hash zero long gap = refl
 inserted [] [] key hash (suc place) long gap = absurd (omega (arith, gap.within))
@@ -153,9 +153,9 @@ inserted (k ∷ ks) (h ∷ hs) key hash (suc place) long gap =
     })))
 
 -- two that are in order stay so under other names
-in_order : (x x' y y' : List ℕ) → x ≡ x' → y ≡ y' → key_order x' y' ≡ Less → key_order x y ≡ Less
+in_order : (x x' y y' : List ℕ) → x ≡ x' → y ≡ y' → byte_order x' y' ≡ Less → byte_order x y ≡ Less
 in_order x x' y y' a b less =
-    ap (λ (z : List ℕ). key_order z y) a ∙ ap (λ (z : List ℕ). key_order x' z) b ∙ less
+    ap (λ (z : List ℕ). byte_order z y) a ∙ ap (λ (z : List ℕ). byte_order x' z) b ∙ less
 
 get_inserted : (keys : Hashes) (key : List ℕ) (place i : ℕ) → place ≤ length keys → place < i →
     get_or (insert keys place key) i [] ≡ get_or keys (i - 1) []
@@ -252,9 +252,9 @@ put_in keys hashes key hash place kept gap =
       here = record {
         within = omega (arith, long_keys, in_range);
         below = λ i less.
-            ap (key_order key) (get_or-insert_below keys place key [] i less gap.within)
+            ap (byte_order key) (get_or-insert_below keys place key [] i less gap.within)
             ∙ gap.below i less;
-        here = ap (key_order key) (get_or-insert_at keys place key [] gap.within)
+        here = ap (byte_order key) (get_or-insert_at keys place key [] gap.within)
             ∙ self_equal key;
       };
       behind = λ i there greater. elim (cases_lt i place) [

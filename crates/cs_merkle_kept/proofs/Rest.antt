@@ -6,7 +6,7 @@ use Rattle.std.specs.Map.{keys_of}
 use Rattle.std.specs.BTreeMap.{insert_entry}
 use Rattle.std.proofs.lemmas.Bool.{cases_eq}
 use Rattle.std.proofs.lemmas.List.{length-map, take_all}
-use Rattle.cs_merkle_kept.specs.Leaves.{KeyedHashes, key_order, AreRising, IsAt}
+use Rattle.cs_merkle_kept.specs.Leaves.{KeyedHashes, byte_order, AreRising, IsAt}
 use Rattle.cs_merkle_kept.specs.Kept.{AreKept}
 use Rattle.cs_merkle_kept.specs.Puts.{IsPutOne, IsPutRest}
 use Rattle.cs_merkle_kept.proofs.Hashes.{Hashes}
@@ -36,10 +36,10 @@ so_far_none keys hashes leaves kept = record {
 -- a key stands before the place of a greater one that is put
 before_place : (keys hashes keys' hashes' : Hashes) (key : List ℕ) (leaf : Entry) (first place : ℕ) →
     IsPutOne keys hashes leaf keys' hashes' place → IsAt keys key first →
-    key_order key leaf.0 ≡ Less → first < place
+    byte_order key leaf.0 ≡ Less → first < place
 before_place keys hashes keys' hashes' key leaf first place one at less =
     one.behind first at.within
-    (ap (key_order leaf.0) (sym (same_key key (get_or keys first []) at.here))
+    (ap (byte_order leaf.0) (sym (same_key key (get_or keys first []) at.here))
     ∙ back_greater key leaf.0 less)
 
 still_at : (keys hashes keys' hashes' : Hashes) (key : List ℕ) (leaf : Entry) (first place : ℕ) →
@@ -51,8 +51,8 @@ still_at keys hashes keys' hashes' key leaf first place kept one at before =
     record {
       within = omega (arith, before, in_range);
       below = λ i less.
-          ap (key_order key) (one.same_key i (omega (arith, less, before))) ∙ at.below i less;
-      here = ap (key_order key) (one.same_key first before) ∙ at.here;
+          ap (byte_order key) (one.same_key i (omega (arith, less, before))) ∙ at.below i less;
+      here = ap (byte_order key) (one.same_key first before) ∙ at.here;
     }
 
 pub so_far_more : (keys hashes : Hashes) (leaves : KeyedHashes) (keys' hashes' keys'' hashes'' : Hashes)
@@ -70,7 +70,7 @@ so_far_more keys hashes leaves keys' hashes' keys'' hashes'' done first place le
       rest = record {
         kept = one.kept;
         put = one.put
-            ∙ ap (λ (es : KeyedHashes). insert_entry key_order es leaf.0 leaf.1) r.put
+            ∙ ap (λ (es : KeyedHashes). insert_entry byte_order es leaf.0 leaf.1) r.put
             ∙ sym (all_put_more (zip keys hashes) leaves done leaf there is);
         more = omega (arith, more, more_one);
         reach = omega (arith, reach);
@@ -90,8 +90,8 @@ so_far_more keys hashes leaves keys' hashes' keys'' hashes'' done first place le
             let long = length-map leaves (λ (e : Entry). e.0) in
             let begin = get_or (keys_of leaves) 0 [] in
             let at = s.place rising (omega (arith, later)) in
-            let less : key_order begin leaf.0 ≡ Less =
-            subst (λ (k : List ℕ). key_order begin k ≡ Less) (key_at leaves done leaf there is)
+            let less : byte_order begin leaf.0 ≡ Less =
+            subst (λ (k : List ℕ). byte_order begin k ≡ Less) (key_at leaves done leaf there is)
             (rising 0 done (omega (arith, later)) (omega (arith, there, long))) in
             let before = before_place keys' hashes' keys'' hashes'' begin leaf first place one at less in
             let here : min first place ≡ first = omega (arith, before) in

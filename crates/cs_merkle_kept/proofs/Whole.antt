@@ -5,7 +5,7 @@ use Rattle.std.specs.Map.{keys_of, values_of}
 use Rattle.std.proofs.lemmas.Bool.{cases_lt}
 use Rattle.std.proofs.lemmas.List.{length-map, get_or-drop, drop-map}
 use Rattle.cs_merkle_kept.specs.Levels.{IsHeight}
-use Rattle.cs_merkle_kept.specs.Leaves.{KeyedHashes, key_order, AreRising, all_put, IsAt}
+use Rattle.cs_merkle_kept.specs.Leaves.{KeyedHashes, byte_order, AreRising, all_put, IsAt}
 use Rattle.cs_merkle_kept.specs.Changes.{IsChanged}
 use Rattle.cs_merkle_kept.specs.Puts.{IsPutFront, IsPutRest, IsPutAll}
 use Rattle.cs_merkle_kept.specs.Counts.{most_joins, IsFirstNew, AreOldKeys, FewJoins}
@@ -38,8 +38,8 @@ length_zipped keys hashes long =
 
 rising_rest : (keys : Hashes) (k : ℕ) → AreRising keys → AreRising (drop k keys)
 rising_rest keys k rising i j less within =
-    ap (λ (z : List ℕ). key_order z (get_or (drop k keys) j [])) (get_or-drop k keys i [])
-    ∙ ap (key_order (get_or keys (k + i) [])) (get_or-drop k keys j [])
+    ap (λ (z : List ℕ). byte_order z (get_or (drop k keys) j [])) (get_or-drop k keys i [])
+    ∙ ap (byte_order (get_or keys (k + i) [])) (get_or-drop k keys j [])
     ∙ rising (k + i) (k + j) (omega (arith, less)) (omega (arith, within, length-drop k keys))
 
 module _ (keys hashes : Hashes) (leaves : KeyedHashes) (hashes' : Hashes) (places : List ℕ)

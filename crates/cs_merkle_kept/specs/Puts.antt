@@ -3,7 +3,7 @@ use Rattle.std.specs.Prelude.{◌≡◌, ℕ, ◌<◌, ◌≤◌, List, [], leng
 use Rattle.std.specs.declared.cmp.Ordering.TheVariants.{Greater}
 use Rattle.std.specs.Map.{keys_of}
 use Rattle.std.specs.BTreeMap.{insert_entry}
-use Rattle.cs_merkle_kept.specs.Leaves.{KeyedHashes, key_order, all_put, IsAt}
+use Rattle.cs_merkle_kept.specs.Leaves.{KeyedHashes, byte_order, all_put, IsAt}
 use Rattle.cs_merkle_kept.specs.Kept.{AreKept}
 use Rattle.std.specs.List.Sorted.{IsNonDecreasing}
 use Rattle.cs_merkle_kept.specs.Changes.{Spares, IsChanged}
@@ -23,13 +23,13 @@ pub record IsPutFront (keys : List (List ℕ)) (leaves : KeyedHashes) (old new :
 pub record IsPutOne (keys hashes : List (List ℕ)) (leaf : List ℕ × List ℕ) (keys' hashes' : List (List ℕ)) (place : ℕ)
     : Type 0 where
   pub kept : AreKept keys' hashes'
-  pub put : zip keys' hashes' ≡ insert_entry key_order (zip keys hashes) leaf.0 leaf.1
+  pub put : zip keys' hashes' ≡ insert_entry byte_order (zip keys hashes) leaf.0 leaf.1
   pub more : length hashes ≤ length hashes'
   pub reach : place ≤ length hashes
   pub same_hash : (i : ℕ) → i < place → slice_index_or hashes' i [] ≡ slice_index_or hashes i []
   pub same_key : (i : ℕ) → i < place → slice_index_or keys' i [] ≡ slice_index_or keys i []
   pub here : IsAt keys' leaf.0 place
-  pub behind : (i : ℕ) → i < length keys → key_order leaf.0 (slice_index_or keys i []) ≡ Greater → i < place
+  pub behind : (i : ℕ) → i < length keys → byte_order leaf.0 (slice_index_or keys i []) ≡ Greater → i < place
 
 -- leaves were put among others, and none before a place
 pub record IsPutRest (keys hashes : List (List ℕ)) (leaves : KeyedHashes) (keys' hashes' : List (List ℕ)) (first : ℕ)

@@ -1,8 +1,8 @@
 //! Putting hashes under keys.
 ghost use Rattle.std.specs.Prelude.{◌≡◌, ◌<◌, [], length, slice_index_or, Contains, IfOk};
 ghost use Rattle.std.specs.Map.{keys_of};
-ghost use Rattle.cs_merkle.specs.Tree.{leaves_of};
-ghost use Rattle.cs_merkle_kept.specs.Leaves.{AreRising, IsAt, entry_of, entries_of};
+ghost use Rattle.cs_merkle.specs.Tree.{leaves_of_vectors};
+ghost use Rattle.cs_merkle_kept.specs.Leaves.{AreRising, IsAt, leaf_entry, leaf_entries};
 ghost use Rattle.cs_merkle_kept.specs.Kept.{AreKept};
 ghost use Rattle.cs_merkle_kept.specs.Puts.{IsPutAll, IsPutFront, IsPutOne, IsPutRest};
 
@@ -20,12 +20,12 @@ fn put_front(
     hashes: &mut [Digest],
     leaves: &[Leaf],
 ) -> Result<Vec<usize>, Memory>
-    requires kept { AreKept (leaves_of keys.now) hashes.old }
-    ensures front { IfOk result (λ places. IsPutFront (leaves_of keys.now)
-        (entries_of leaves.now) hashes.old hashes.new places.items) }
+    requires kept { AreKept (leaves_of_vectors keys.now) hashes.old }
+    ensures front { IfOk result (λ places. IsPutFront (leaves_of_vectors keys.now)
+        (leaf_entries leaves.now) hashes.old hashes.new places.items) }
     ensures ended { IfOk result (λ places. length places.items < length leaves.now
-        → Contains (leaves_of keys.now)
-        (slice_index_or (keys_of (entries_of leaves.now)) (length places.items) []) → ⊥) }
+        → Contains (leaves_of_vectors keys.now)
+        (slice_index_or (keys_of (leaf_entries leaves.now)) (length places.items) []) → ⊥) }
 {
     let mut places = Vec::new(alloc);
     for leaf in leaves {
@@ -47,9 +47,9 @@ fn put_one(
     hashes: &mut Vec<Digest>,
     leaf: &Leaf,
 ) -> Result<usize, Memory>
-    requires kept { AreKept (leaves_of keys.old.items) hashes.old.items }
-    ensures { IfOk result (λ place. IsPutOne (leaves_of keys.old.items) hashes.old.items
-        (entry_of leaf.now) (leaves_of keys.new.items) hashes.new.items place) }
+    requires kept { AreKept (leaves_of_vectors keys.old.items) hashes.old.items }
+    ensures { IfOk result (λ place. IsPutOne (leaves_of_vectors keys.old.items) hashes.old.items
+        (leaf_entry leaf.now) (leaves_of_vectors keys.new.items) hashes.new.items place) }
 {
     match search(keys.as_slice(), leaf.key()) {
         Ok(place) => {
@@ -71,12 +71,12 @@ fn put_rest(
     hashes: &mut Vec<Digest>,
     leaves: &[Leaf],
 ) -> Result<usize, Memory>
-    requires kept { AreKept (leaves_of keys.old.items) hashes.old.items }
-    ensures rest { IfOk result (λ first. IsPutRest (leaves_of keys.old.items) hashes.old.items
-        (entries_of leaves.now) (leaves_of keys.new.items) hashes.new.items first) }
-    ensures place { IfOk result (λ first. AreRising (keys_of (entries_of leaves.now))
-        → 0 < length leaves.now → IsAt (leaves_of keys.new.items)
-        (slice_index_or (keys_of (entries_of leaves.now)) 0 []) first) }
+    requires kept { AreKept (leaves_of_vectors keys.old.items) hashes.old.items }
+    ensures rest { IfOk result (λ first. IsPutRest (leaves_of_vectors keys.old.items) hashes.old.items
+        (leaf_entries leaves.now) (leaves_of_vectors keys.new.items) hashes.new.items first) }
+    ensures place { IfOk result (λ first. AreRising (keys_of (leaf_entries leaves.now))
+        → 0 < length leaves.now → IsAt (leaves_of_vectors keys.new.items)
+        (slice_index_or (keys_of (leaf_entries leaves.now)) 0 []) first) }
 {
     let mut first = hashes.len();
     for leaf in leaves {
@@ -94,10 +94,10 @@ pub fn put_leaves(
     hashes: &mut Vec<Digest>,
     leaves: &[Leaf],
 ) -> Result<(Vec<usize>, usize), Memory>
-    requires kept { AreKept (leaves_of keys.old.items) hashes.old.items }
-    requires rising { AreRising (keys_of (entries_of leaves.now)) }
-    ensures { IfOk result (λ (places, first). IsPutAll (leaves_of keys.old.items) hashes.old.items
-        (entries_of leaves.now) (leaves_of keys.new.items) hashes.new.items places.items first) }
+    requires kept { AreKept (leaves_of_vectors keys.old.items) hashes.old.items }
+    requires rising { AreRising (keys_of (leaf_entries leaves.now)) }
+    ensures { IfOk result (λ (places, first). IsPutAll (leaves_of_vectors keys.old.items) hashes.old.items
+        (leaf_entries leaves.now) (leaves_of_vectors keys.new.items) hashes.new.items places.items first) }
 {
     let places = put_front(alloc, keys.as_slice(), hashes.as_mut_slice(), leaves)?;
     let first = put_rest(alloc, keys, hashes, &leaves[places.len()..])?;

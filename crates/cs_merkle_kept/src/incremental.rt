@@ -4,7 +4,7 @@ ghost use Rattle.std.specs.Map.{keys_of, values_of};
 ghost use Rattle.std.specs.BTreeMap.{insert_entry};
 ghost use Rattle.cs_merkle.specs.Tree.{leaf_hash, merkle_tree_hash};
 ghost use Rattle.cs_merkle_kept.specs.Levels.{hash_over};
-ghost use Rattle.cs_merkle_kept.specs.Leaves.{AreRising, all_put, entries_of, key_order};
+ghost use Rattle.cs_merkle_kept.specs.Leaves.{AreRising, all_put, leaf_entries, byte_order};
 ghost use Rattle.cs_merkle_kept.specs.Counts.{AreOldKeys, FewJoins, IsFirstNew};
 
 use crate::changes::put_leaves;
@@ -31,17 +31,17 @@ pub struct Incremental {
 
 impl Model for Incremental {
     ghost use Rattle.std.specs.Prelude.{zip};
-    ghost use Rattle.cs_merkle.specs.Tree.{leaves_of};
+    ghost use Rattle.cs_merkle.specs.Tree.{leaves_of_vectors};
     ghost use Rattle.cs_merkle_kept.specs.Levels.{levels_of};
     ghost use Rattle.cs_merkle_kept.specs.Leaves.{KeyedHashes};
     ghost use Rattle.cs_merkle_kept.specs.Kept.{IsTree};
 
     ghost Value = { KeyedHashes };
 
-    ghost view = { λ t. zip (leaves_of t.keys.items) t.hashes.items };
+    ghost view = { λ t. zip (leaves_of_vectors t.keys.items) t.hashes.items };
 
     ghost invariant = { λ t.
-        IsTree (leaves_of t.keys.items) t.hashes.items (levels_of t.levels.items) };
+        IsTree (leaves_of_vectors t.keys.items) t.hashes.items (levels_of t.levels.items) };
 }
 
 impl Incremental {
@@ -95,15 +95,15 @@ impl Incremental {
         leaves: &[Leaf],
         steps: &mut Steps<L>,
     ) -> Result<(), Memory>
-        requires { AreRising (keys_of (entries_of leaves.now)) }
-        ensures leaves { OnOk result (self.new ≡ all_put self.old (entries_of leaves.now)) }
+        requires { AreRising (keys_of (leaf_entries leaves.now)) }
+        ensures leaves { OnOk result (self.new ≡ all_put self.old (leaf_entries leaves.now)) }
         ensures none { OnErr result (self.new ≡ []) }
         ensures once { OnOk result (steps.new ≤ steps.old + (length self.new - 1)) }
         ensures few_old { OnOk result ((height : ℕ) → length self.new ≤ 2 ^ height
-            → AreOldKeys (keys_of self.old) (keys_of (entries_of leaves.now))
+            → AreOldKeys (keys_of self.old) (keys_of (leaf_entries leaves.now))
             → steps.new ≤ steps.old + length leaves.now * height) }
         ensures few_new { OnOk result ((height before place : ℕ) → length self.new ≤ 2 ^ height
-            → IsFirstNew (keys_of self.old) (keys_of self.new) (keys_of (entries_of leaves.now))
+            → IsFirstNew (keys_of self.old) (keys_of self.new) (keys_of (leaf_entries leaves.now))
             before place
             → steps.new ≤ steps.old + (length self.new - place) + (before + 1) * height) }
     {
@@ -131,7 +131,7 @@ impl Incremental {
         steps: &mut Steps<L>,
     ) -> Result<bool, Memory>
         ensures leaves { OnOk result
-            (self.new ≡ insert_entry key_order self.old key.now (leaf_hash leaf.now)) }
+            (self.new ≡ insert_entry byte_order self.old key.now (leaf_hash leaf.now)) }
         ensures is_new { IfOk result (λ is_new.
             IsTrue is_new ↔ (Contains (keys_of self.old) key.now → ⊥)) }
         ensures joins { IfOk result (λ is_new.

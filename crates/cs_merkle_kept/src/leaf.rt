@@ -1,7 +1,7 @@
 //! A leaf that is hashed.
 ghost use Rattle.std.specs.Prelude.{◌≡◌, IfOk};
 ghost use Rattle.cs_merkle.specs.Tree.{leaf_hash};
-ghost use Rattle.cs_merkle_kept.specs.Leaves.{entry_of};
+ghost use Rattle.cs_merkle_kept.specs.Leaves.{leaf_entry};
 
 use cs_base::Memory;
 use cs_hash::{Digest, tagged};
@@ -20,7 +20,7 @@ pub struct Leaf {
 impl Leaf {
     /// Takes memory for the key alone.
     pub fn new(alloc: Global, key: &[u8], leaf: &[u8]) -> Result<Leaf, Memory>
-        ensures { IfOk result (λ made. entry_of made ≡ (key.now, leaf_hash leaf.now)) }
+        ensures { IfOk result (λ made. leaf_entry made ≡ (key.now, leaf_hash leaf.now)) }
     {
         let key = Vec::from_slice(alloc, key)?;
         Ok(Leaf {

@@ -9,21 +9,21 @@ use Rattle.cs_node_rules.specs.Net.{Net}
 use Rattle.cs_node_rules.specs.Site.{Carrier, View}
 use Rattle.cs_node_rules.specs.Deployment.{site_of}
 use Rattle.cs_node_rules.specs.Trail.{with_deed, proposing, candidate_marks, propose_marks, echo_marks}
-use Rattle.cs_node.specs.Proposals.{admits_proposed, admits_pending, first_admitted}
+use Rattle.cs_node.specs.Proposals.{pool_admits, admits_pending, first_admitted}
 
 module _ (setup : Setup) (shard : ℕ) (pool : Pool) where
   -- the candidate at hand is taken, or else one of those behind it
   first-step : (xs : List Proposed) (i : ℕ) (x : Proposed) → i < length xs → x ≡ get_or xs i x
-      → first_admitted setup shard pool (drop i xs) ≡ cond (admits_proposed setup shard pool x) (Some x) (first_admitted setup shard pool (drop (i + 1) xs))
+      → first_admitted setup shard pool (drop i xs) ≡ cond (pool_admits setup shard pool x) (Some x) (first_admitted setup shard pool (drop (i + 1) xs))
   first-step xs i x lt is =
       ap (first_admitted setup shard pool) (drop-cons xs i x lt)
-      ∙ ap (λ y. cond (admits_proposed setup shard pool y) (Some y) (first_admitted setup shard pool (drop (suc i) xs))) (sym is)
-      ∙ ap (λ n. cond (admits_proposed setup shard pool x) (Some x) (first_admitted setup shard pool (drop n xs))) (sym (add-one i))
+      ∙ ap (λ y. cond (pool_admits setup shard pool y) (Some y) (first_admitted setup shard pool (drop (suc i) xs))) (sym is)
+      ∙ ap (λ n. cond (pool_admits setup shard pool x) (Some x) (first_admitted setup shard pool (drop n xs))) (sym (add-one i))
 
-  module _ (xs ys : List Proposed) (i : ℕ) (x : Proposed) (b : Bool) (same : ys ≡ xs) (lt : i < length ys) (is : x ≡ get_or ys i x) (tested : b ≡ admits_proposed setup shard pool x) where
+  module _ (xs ys : List Proposed) (i : ℕ) (x : Proposed) (b : Bool) (same : ys ≡ xs) (lt : i < length ys) (is : x ≡ get_or ys i x) (tested : b ≡ pool_admits setup shard pool x) where
     stepped : first_admitted setup shard pool (drop i xs) ≡ cond b (Some x) (first_admitted setup shard pool (drop (i + 1) xs))
     stepped =
-        let P : List Proposed → Type 0 = λ zs. first_admitted setup shard pool (drop i zs) ≡ cond (admits_proposed setup shard pool x) (Some x) (first_admitted setup shard pool (drop (i + 1) zs)) in
+        let P : List Proposed → Type 0 = λ zs. first_admitted setup shard pool (drop i zs) ≡ cond (pool_admits setup shard pool x) (Some x) (first_admitted setup shard pool (drop (i + 1) zs)) in
         subst P same (first-step ys i x lt is) ∙ ap (λ t. cond t (Some x) (first_admitted setup shard pool (drop (i + 1) xs))) (sym tested)
 
     pub passed-over : b ≡ false → first_admitted setup shard pool (drop i xs) ≡ first_admitted setup shard pool (drop (i + 1) xs)
@@ -35,7 +35,7 @@ module _ (setup : Setup) (shard : ℕ) (pool : Pool) where
   -- what is taken is a candidate
   pub is-offered : (xs : List Proposed) (x : Proposed) → first_admitted setup shard pool xs ≡ Some x → IsIn x xs
   is-offered [] x e = let q : None ≡ Some x = e in cc
-  is-offered (y ∷ xs) x e = by_test (admits_proposed setup shard pool y) (is-offered xs x) e
+  is-offered (y ∷ xs) x e = by_test (pool_admits setup shard pool y) (is-offered xs x) e
     where
       by_test : (b : Bool) → (first_admitted setup shard pool xs ≡ Some x → IsIn x xs) → cond b (Some y) (first_admitted setup shard pool xs) ≡ Some x → IsIn x (y ∷ xs)
       by_test true later h = inl cc
@@ -52,7 +52,7 @@ module _ {M : Type 0} (setup : Setup) (net : Net) (rules : Machine M) (carried :
 
   pub candidates-none : (xs : List Proposed) → taken xs ≡ None → candidate_marks (site_of setup net rules carried) v xs ≡ None
   candidates-none [] e = refl
-  candidates-none (y ∷ xs) e = by_test (admits_proposed setup v.me.shard v.bench.pool y) (candidates-none xs) e
+  candidates-none (y ∷ xs) e = by_test (pool_admits setup v.me.shard v.bench.pool y) (candidates-none xs) e
     where
       by_test : (b : Bool) → (taken xs ≡ None → candidate_marks (site_of setup net rules carried) v xs ≡ None) → cond b (Some y) (taken xs) ≡ None → cond b (Some (proposing (site_of setup net rules carried) v y)) (candidate_marks (site_of setup net rules carried) v xs) ≡ None
       by_test true later h = let q : Some y ≡ None = h in cc
@@ -60,7 +60,7 @@ module _ {M : Type 0} (setup : Setup) (net : Net) (rules : Machine M) (carried :
 
   pub candidates-some : (xs : List Proposed) (x : Proposed) → taken xs ≡ Some x → candidate_marks (site_of setup net rules carried) v xs ≡ Some (proposing (site_of setup net rules carried) v x)
   candidates-some [] x e = let q : None ≡ Some x = e in cc
-  candidates-some (y ∷ xs) x e = by_test (admits_proposed setup v.me.shard v.bench.pool y) (candidates-some xs x) e
+  candidates-some (y ∷ xs) x e = by_test (pool_admits setup v.me.shard v.bench.pool y) (candidates-some xs x) e
     where
       by_test : (b : Bool) → (taken xs ≡ Some x → candidate_marks (site_of setup net rules carried) v xs ≡ Some (proposing (site_of setup net rules carried) v x)) → cond b (Some y) (taken xs) ≡ Some x → cond b (Some (proposing (site_of setup net rules carried) v y)) (candidate_marks (site_of setup net rules carried) v xs) ≡ Some (proposing (site_of setup net rules carried) v x)
       by_test true later h = let q : y ≡ x = cc in ap (λ z. Some (proposing (site_of setup net rules carried) v z)) q

@@ -3,8 +3,8 @@ use Rattle.std.proofs.Common.{◌≡◌, ℕ, ◌+◌, ◌-◌, ◌%◌, ◌==�
 use Rattle.std.proofs.lemmas.Bool.{cond_both}
 use Rattle.std.proofs.lemmas.List.{length-append}
 use Rattle.cs_tx_value.specs.declared.object.Object.{Object}
-use Rattle.cs_tx_form.specs.declared.transaction.Tx.{Tx}
-use Rattle.cs_checkpoint.specs.Chain.{Log, kept_slots}
+use Rattle.cs_tx_types.specs.declared.transaction.Tx.{Tx}
+use Rattle.cs_check_rules.specs.Chain.{Log, kept_slots}
 use Rattle.cs_order.specs.declared.proposed.Proposed.{Proposed}
 use Rattle.cs_order.specs.declared.answers.Outgoing.{Outgoing}
 use Rattle.cs_order.specs.declared.answers.Step.{Step}
@@ -17,15 +17,15 @@ use Rattle.cs_node_rules.specs.Signs.{Sign, execution_signs}
 use Rattle.cs_node_rules.specs.Site.{Carrier, Mark, Site, View}
 use Rattle.cs_node_rules.specs.Trail.{handed, with_deed, entered_view, proposing, echo_marks, turn_marks}
 use Rattle.cs_node_rules.specs.Deployment.{site_of}
-use Rattle.cs_node_pool.specs.Deployed.{deployed}
+use Rattle.cs_node_pool.specs.Deployed.{deployed_setup}
 use Rattle.cs_sbac.specs.Held.{Held, bench_of}
 use Rattle.cs_node.specs.declared.engine.Engine.{Engine}
 use Rattle.cs_node.specs.declared.draft.Draft.{Draft}
-use Rattle.cs_node.specs.Notes.{Tells}
+use Rattle.cs_node.specs.Notes.{TellsSigns}
 use Rattle.cs_node.specs.Proposals.{entry_in, admits_pending}
 use Rattle.cs_node.specs.Signing.{Leaves}
-use Rattle.cs_node.specs.Steps.{TurnDone, cut_at}
-use Rattle.cs_node.specs.Cores.{IsSeated, KeepsView, view_at}
+use Rattle.cs_node.specs.Steps.{TurnDone, log_cut_at}
+use Rattle.cs_node.specs.Cores.{IsSeated, KeepsView, core_view}
 use Rattle.cs_node.proofs.Sums.{turn-some}
 use Rattle.cs_node.proofs.Turns.{deed-done, proposed-done, turn-none, moved-done, chosen-done}
 use Rattle.cs_node.proofs.Candidates.{echo-some}
@@ -37,13 +37,13 @@ from-nothing {A} old new outs none is = is ∙ ap (λ xs. xs ++ outs) none
 
 module _ {O J M : Type 0} (stands : O → Member M → Type 0) (approves : J → Tx → Bool) (rules : Machine M) (carried : Carrier M) (net : Net) (core : Engine O J M) (genesis : List Object) (log : Log) (h : Member M) (made made' : Draft) (seated : IsSeated stands core log h) where
   abbrev setup : Setup
-  setup = deployed core.sbac.config genesis (approves core.judge)
+  setup = deployed_setup core.sbac.config genesis (approves core.judge)
 
   abbrev site : Site M
   site = site_of setup net rules carried
 
   abbrev v : View M
-  v = view_at log core.sbac h
+  v = core_view log core.sbac h
 
   abbrev with_order : O → Engine O J M
   with_order order = record { order = order; judge = core.judge; sbac = core.sbac }
@@ -53,13 +53,13 @@ module _ {O J M : Type 0} (stands : O → Member M → Type 0) (approves : J →
 
   -- what was handed out is said
   abbrev Says : List (Outgoing M) → Type 0
-  Says outs = Tells (handed site core.sbac.me outs) made made'
+  Says outs = TellsSigns (handed site core.sbac.me outs) made made'
 
   pub nothing-here : (found : Option (List (Mark M))) → found ≡ None → TurnDone site found v false made made (After core)
   nothing-here found none = turn-none site v made (After core) found none (keeps-still stands approves genesis core log h seated)
 
   module _ (order : O) (empty outs : List (Outgoing M)) (none : empty ≡ []) (says : Says outs) where
-    after-deed : (deed : Deed M) → stands order (did deed h) → After (with_order order) (view_at log core.sbac (did deed h))
+    after-deed : (deed : Deed M) → stands order (did deed h) → After (with_order order) (core_view log core.sbac (did deed h))
     after-deed deed is = keeps-on stands approves genesis core log h order core.sbac log (did deed h) seated is refl refl refl refl seated.kept_is
 
     pub proposed-here : (found : Option (List (Mark M))) (proposed : Proposed) → found ≡ Some (proposing site v proposed) → Proposes rules h proposed empty outs (stands order)
@@ -77,25 +77,25 @@ module _ {O J M : Type 0} (stands : O → Member M → Type 0) (approves : J →
 
   -- the order moved, and may have entered a view
   pub moved-here : (order : O) (empty outs : List (Outgoing M)) (slot before : ℕ) → empty ≡ [] → slot ≡ length (chosen_in h.deeds) → before ≡ rules.view h → Advances rules h Moved empty outs (stands order)
-      → ((h' : Member M) → stands order h' → Tells (handed site core.sbac.me outs ++ entered_view slot before (rules.view h')) made made') → TurnDone site (turn_marks site v) v true made made' (After (with_order order))
+      → ((h' : Member M) → stands order h' → TellsSigns (handed site core.sbac.me outs ++ entered_view slot before (rules.view h')) made made') → TurnDone site (turn_marks site v) v true made made' (After (with_order order))
   moved-here order empty outs slot before none at seen called says =
       let deed : Deed M = Advanced Moved (rules.advancing h) in
       let C : Step → Type 0 = λ s. (outs ≡ empty ++ sent_at s (rules.advancing h)) × stands order (advanced s (rules.advancing h) h) in
       let now : (outs ≡ empty ++ rules.advancing h) × stands order (did deed h) = subst C (sym called.0) (called.1, called.2) in
       let sent : outs ≡ rules.advancing h = from-nothing empty outs (rules.advancing h) none now.0 in
       moved-done site v made made' (After (with_order order)) (sym called.0)
-      (subst (λ (signs : List Sign). Tells signs made made') (λ i. handed site core.sbac.me (sent i) ++ entered_view (at i) (seen i) (rules.view (did deed h))) (says (did deed h) now.1))
+      (subst (λ (signs : List Sign). TellsSigns signs made made') (λ i. handed site core.sbac.me (sent i) ++ entered_view (at i) (seen i) (rules.view (did deed h))) (says (did deed h) now.1))
       (keeps-on stands approves genesis core log h order core.sbac log (did deed h) seated now.1 refl refl refl refl seated.kept_is)
 
-  cut-f : (n : ℕ) (h' : Member M) → (cut_at n h').f ≡ h'.f
+  cut-f : (n : ℕ) (h' : Member M) → (log_cut_at n h').f ≡ h'.f
   cut-f n h' = cond_both (n % 16 == 0) (did (Cut (n - kept_slots)) h') h' (λ (k : Member M). k.f ≡ h'.f) (λ e. refl) (λ e. refl)
 
-  cut-me : (n : ℕ) (h' : Member M) → (cut_at n h').me ≡ h'.me
+  cut-me : (n : ℕ) (h' : Member M) → (log_cut_at n h').me ≡ h'.me
   cut-me n h' = cond_both (n % 16 == 0) (did (Cut (n - kept_slots)) h') h' (λ (k : Member M). k.me ≡ h'.me) (λ e. refl) (λ e. refl)
 
   -- the order chose, what it chose was executed, and it was cut
   pub chosen-here : (order cut : O) (empty outs : List (Outgoing M)) (held : Held) (made'' : Draft) (proposed : Proposed) (slot : ℕ) → empty ≡ [] → Says outs → slot ≡ length (chosen_in h.deeds) → Advances rules h (Chosen proposed) empty outs (stands order)
-      → ((h' : Member M) → stands order h' → stands cut (cut_at (length (chosen_in h'.deeds)) h'))
+      → ((h' : Member M) → stands order h' → stands cut (log_cut_at (length (chosen_in h'.deeds)) h'))
       → Leaves setup core.sbac (execution_signs setup core.sbac.me (bench_of log core.sbac) slot (entry_in proposed)) (bench_of log core.sbac) held made' made''
       → TurnDone site (turn_marks site v) v true made made'' (After (record { order = cut; judge = core.judge; sbac = held }))
   chosen-here order cut empty outs held made'' proposed slot none says at called cuts leaves =
@@ -103,8 +103,8 @@ module _ {O J M : Type 0} (stands : O → Member M → Type 0) (approves : J →
       let C : Step → Type 0 = λ s. (outs ≡ empty ++ sent_at s (rules.advancing h)) × stands order (advanced s (rules.advancing h) h) in
       let now : (outs ≡ empty ++ rules.advancing h) × stands order (did deed h) = subst C (sym called.0) (called.1, called.2) in
       let more : length (chosen_in h.deeds ++ proposed ∷ []) ≡ slot + 1 = omega (arith, at, length-append (chosen_in h.deeds) (proposed ∷ [])) in
-      let N : ℕ → Type 0 = λ n. stands cut (cut_at n (did deed h)) in
-      let stood : stands cut (cut_at (slot + 1) (did deed h)) = subst N more (cuts (did deed h) now.1) in
+      let N : ℕ → Type 0 = λ n. stands cut (log_cut_at n (did deed h)) in
+      let stood : stands cut (log_cut_at (slot + 1) (did deed h)) = subst N more (cuts (did deed h) now.1) in
       chosen-done site v made made' made'' (After (record { order = cut; judge = core.judge; sbac = held })) proposed slot (bench_of leaves.log held) (sym called.0) at
       (subst Says (from-nothing empty outs (rules.advancing h) none now.0) says) leaves.makes
-      (keeps-on stands approves genesis core log h cut held leaves.log (cut_at (slot + 1) (did deed h)) seated stood (cut-f (slot + 1) (did deed h)) (cut-me (slot + 1) (did deed h)) leaves.config_is leaves.me_is leaves.kept_is)
+      (keeps-on stands approves genesis core log h cut held leaves.log (log_cut_at (slot + 1) (did deed h)) seated stood (cut-f (slot + 1) (did deed h)) (cut-me (slot + 1) (did deed h)) leaves.config_is leaves.me_is leaves.kept_is)

@@ -1,10 +1,10 @@
 -- An execution with the node's own vote is what its signs say.
 use Rattle.std.proofs.Common.{◌≡◌, ℕ, Bool, true, false, cond, List, [], ◌∷◌, ◌++◌, Option, Some, None, bytes_eq, IsSome, is_some, refl, ap, sym, subst, ◌∙◌, arith, append_assoc, append-nil}
 use Rattle.cs_base.specs.declared.node_id.NodeId.{NodeId}
-use Rattle.cs_tx_form.specs.declared.session.Session.{Session}
-use Rattle.cs_tx_form.specs.declared.vote.Vote.{Vote}
-use Rattle.cs_tx_form.specs.declared.entry.Entry.{Entry}
-use Rattle.cs_tx_form.specs.declared.entry.Entry.TheVariants.{Prepare, Decide}
+use Rattle.cs_tx_types.specs.declared.session.Session.{Session}
+use Rattle.cs_tx_types.specs.declared.vote.Vote.{Vote}
+use Rattle.cs_tx_types.specs.declared.entry.Entry.{Entry}
+use Rattle.cs_tx_types.specs.declared.entry.Entry.TheVariants.{Prepare, Decide}
 use Rattle.cs_ledger.specs.Ledger.{Bytes}
 use Rattle.cs_ledger.specs.Session.{anchor}
 use Rattle.cs_ledger.specs.Table as Chosen
@@ -12,16 +12,16 @@ use Rattle.cs_ledger.specs.Table.{Effect, Voted, Accepted, Aborted, Skipped, Voi
 use Rattle.cs_node_state.specs.declared.pooled.Pooled.{Pooled}
 use Rattle.cs_wire_message.specs.declared.message.Message.TheVariants as message
 use Rattle.cs_node_state.specs.Setup.{Setup, digest_of, concerned, is_fit, vote_of, vote_from}
-use Rattle.cs_tx_form.specs.Session.{session_in}
+use Rattle.cs_tx_types.specs.Session.{session_in}
 use Rattle.cs_node_rules.specs.Members.{others}
-use Rattle.cs_node_state.specs.Pool.{Pool, found, is_pooled, changed, with_ballot, as_locked, entering, pushed, entered, entered_locked}
-use Rattle.cs_tx_form.specs.declared.checkpoint.Checkpoint.{Checkpoint}
-use Rattle.cs_checkpoint.specs.Chain.{head_of, made_last}
-use Rattle.cs_node_state.specs.Bench.{Bench, Ran, is_locked, pool_after, executed, effect_from, next_leaf, with_leaf, slot_executed, told_by, told_of, own_pool, bench_executed}
+use Rattle.cs_node_state.specs.Pool.{Pool, found, is_pooled, pool_changed, with_ballot, as_locked, entering, pushed, entered, entered_locked}
+use Rattle.cs_tx_types.specs.declared.checkpoint.Checkpoint.{Checkpoint}
+use Rattle.cs_check_rules.specs.Chain.{head_of, made_last}
+use Rattle.cs_node_state.specs.Bench.{Bench, Ran, is_locked, pool_after, executed, effect_from, next_leaf, with_leaf, slot_executed, told_by, vote_told, own_pool, bench_executed}
 use Rattle.cs_node_rules.specs.Signs.{Sign, Did, Headed, bench_after, sends, own_signs, vote_signs, entered_signs, ran_signs, headed_signs, execution_signs}
 use Rattle.cs_node.specs.declared.draft.Note.TheVariants.{Executed}
 use Rattle.cs_node.specs.declared.draft.Draft.{Draft}
-use Rattle.cs_node.specs.Notes.{notes_of, said_of, spoken, Tells}
+use Rattle.cs_node.specs.Notes.{notes_of, said_of, spoken, TellsSigns}
 use Rattle.cs_node.specs.Steps.{Makes}
 use Rattle.cs_node.proofs.Sums.{notes-append, said-append, notes-sends, bench-append, bench-sends, tells-more}
 use Rattle.cs_node.proofs.Ticked.{bench-voted}
@@ -49,7 +49,7 @@ none-of (Some p) h = let q : true ≡ false = h in cc
 entered-again : (d : Bytes) (x : Session) (pool : Pool) → is_pooled d pool ≡ false → entered d x (entered_locked d x pool) ≡ entered_locked d x pool
 entered-again d x pool e =
     let none : found d pool ≡ None = none-of (found d pool) e in
-    let is : entered_locked d x pool ≡ pushed d x true pool = ap (λ b. cond b (changed d as_locked pool) (pushed d x true pool)) e in
+    let is : entered_locked d x pool ≡ pushed d x true pool = ap (λ b. cond b (pool_changed d as_locked pool) (pushed d x true pool)) e in
     let there : found d (pushed d x true pool) ≡ Some (entering x true) = found-pushed d (entering x true) pool none in
     ap (entered d x) is ∙ ap (λ o. cond (is_some o) (pushed d x true pool) (pushed d x false (pushed d x true pool))) there ∙ sym is
 
@@ -74,7 +74,7 @@ module _ (setup : Setup) (me : NodeId) (x : Session) where
       ≡ record b { pool = own_pool me d (Some (vote, true)) (entered_locked d x pool) }
   locked-bench vote b pool true e = refl
   locked-bench vote b pool false e =
-      ap (λ (p : Pool). record b { pool = changed d (with_ballot (record { sender = me; vote = vote })) p }) (entered-again d x pool e)
+      ap (λ (p : Pool). record b { pool = pool_changed d (with_ballot (record { sender = me; vote = vote })) p }) (entered-again d x pool e)
 
   -- what the own vote leaves of what an execution left
   told-bench : (effect : Effect) (locked : Bool) (b : Bench) (pool : Pool) (pooled : Bool) → is_pooled d pool ≡ pooled
@@ -135,13 +135,13 @@ bench_closed setup me b entry =
     with_leaf (next_leaf b entry (executed setup me.shard b entry).effect) (bench_executed setup me b entry)
 
 ran-makes : (setup : Setup) (me : NodeId) (b b' : Bench) (slot : ℕ) (entry : Entry) (made mid made' : Draft) → b' ≡ bench_closed setup me b entry
-    → Tells (vote_signs setup me (session_in entry) (told_of setup me.shard (session_in entry) (executed setup me.shard b entry))) made mid
+    → TellsSigns (vote_signs setup me (session_in entry) (vote_told setup me.shard (session_in entry) (executed setup me.shard b entry))) made mid
     → made'.notes ≡ mid.notes ++ Executed slot entry (effect_from (executed setup me.shard b entry).effect) ∷ [] → made'.said ≡ mid.said
     → Makes setup me (ran_signs setup me b slot entry (session_in entry) (executed setup me.shard b entry)) b b' made made'
 ran-makes setup me b b' slot entry made mid made' is tells noted silent =
     let x : Session = session_in entry in
     let ran : Ran = executed setup me.shard b entry in
-    let told : Option (Vote × Bool) = told_of setup me.shard x ran in
+    let told : Option (Vote × Bool) = vote_told setup me.shard x ran in
     let pooled : Bool = is_pooled (digest_of setup x) b.pool in
     let did : List Sign = Did slot entry ran.effect ∷ [] in
     let own : List Sign = own_signs me x told in
@@ -173,15 +173,15 @@ bench-headed setup me (Some c) b =
     ∙ bench-sends setup me.shard names (message.Head c) b
 
 pub execution-makes : (setup : Setup) (me : NodeId) (b b' : Bench) (slot : ℕ) (entry : Entry) (made mid made' made'' : Draft) → b' ≡ bench_closed setup me b entry
-    → Tells (vote_signs setup me (session_in entry) (told_of setup me.shard (session_in entry) (executed setup me.shard b entry))) made mid
+    → TellsSigns (vote_signs setup me (session_in entry) (vote_told setup me.shard (session_in entry) (executed setup me.shard b entry))) made mid
     → made'.notes ≡ mid.notes ++ Executed slot entry (effect_from (executed setup me.shard b entry).effect) ∷ [] → made'.said ≡ mid.said
-    → Tells (headed_signs setup me (made_last b'.log)) made' made'' → Makes setup me (execution_signs setup me b slot entry) b b' made made''
+    → TellsSigns (headed_signs setup me (made_last b'.log)) made' made'' → Makes setup me (execution_signs setup me b slot entry) b b' made made''
 execution-makes setup me b b' slot entry made mid made' made'' is tells noted silent headed =
     let log_is : made_last b'.log ≡ made_last (slot_executed setup me.shard b entry).log = ap (λ (c : Bench). made_last c.log) is in
     let heads : List Sign = headed_signs setup me (made_last (slot_executed setup me.shard b entry).log) in
     let ran : List Sign = ran_signs setup me b slot entry (session_in entry) (executed setup me.shard b entry) in
     let first = ran-makes setup me b b' slot entry made mid made' is tells noted silent in
-    let P : Option Checkpoint → Type 0 = λ o. Tells (headed_signs setup me o) made' made'' in
+    let P : Option Checkpoint → Type 0 = λ o. TellsSigns (headed_signs setup me o) made' made'' in
     record {
       tells = tells-more ran heads made made' made'' first.tells (subst P log_is headed);
       bench_is = first.bench_is
@@ -195,7 +195,7 @@ given : (f : Bool) (o void : Outcome) → void.effect ≡ Void → (asks : Outco
 given true o void is asks some = refl
 given false o void is asks some = let none : false ≡ true = sym (ap (λ effect. is_some (told_by effect (asks void))) is) ∙ some in absurd (let q : false ≡ true = none in cc)
 
-pub voted-fit : (setup : Setup) (shard : ℕ) (b : Bench) (entry : Entry) → IsSome (told_of setup shard (session_in entry) (executed setup shard b entry)) → is_fit setup shard (session_in entry) ≡ true
+pub voted-fit : (setup : Setup) (shard : ℕ) (b : Bench) (entry : Entry) → IsSome (vote_told setup shard (session_in entry) (executed setup shard b entry)) → is_fit setup shard (session_in entry) ≡ true
 voted-fit setup shard b (Prepare x) some =
     given (is_fit setup shard x) (act setup.rules shard b.table (Chosen.Prepare (setup.session_of x)) (anchor setup.rules (setup.session_of x) shard))
     (record { table = b.table; effect = Void }) refl (λ o. is_locked setup shard o.table x) some

@@ -5,15 +5,15 @@ use Rattle.cs_base.specs.declared.config.Config.{Config}
 use Rattle.std.proofs.Common.{◌≡◌, ◌≢◌, arith, ℕ, ◌*◌, ◌≤◌, Bool, true, false, List, [], ◌∷◌, ◌++◌, Option, Some, None, Result, OnOk, refl, ap, sym, subst, ◌∙◌}
 use Rattle.cs_base.specs.declared.node_id.NodeId.{NodeId}
 use Rattle.cs_tx_value.specs.declared.object.Object.{Object}
-use Rattle.cs_tx_form.specs.declared.transaction.Tx.{Tx}
+use Rattle.cs_tx_types.specs.declared.transaction.Tx.{Tx}
 use Rattle.cs_base.specs.declared.key.Key.{Key}
-use Rattle.cs_tx_form.specs.declared.session.Session.{Session}
-use Rattle.cs_tx_form.specs.declared.vote.Vote.{Vote}
-use Rattle.cs_tx_form.specs.declared.checkpoint.Checkpoint.{Checkpoint}
+use Rattle.cs_tx_types.specs.declared.session.Session.{Session}
+use Rattle.cs_tx_types.specs.declared.vote.Vote.{Vote}
+use Rattle.cs_tx_types.specs.declared.checkpoint.Checkpoint.{Checkpoint}
 use Rattle.cs_wire_message.specs.declared.message.Message.{Message}
 use Rattle.cs_wire_message.specs.declared.message.Message.TheVariants as message
 use Rattle.cs_wire_message.specs.Classes.{Class, OfOrder, class_of}
-use Rattle.cs_checkpoint.specs.Chain.{Log}
+use Rattle.cs_check_rules.specs.Chain.{Log}
 use Rattle.cs_order.specs.declared.answers.Outgoing.{Outgoing}
 use Rattle.cs_order.specs.declared.answers.Took.{Took}
 use Rattle.cs_order.specs.declared.answers.Took.TheVariants.{Taken}
@@ -29,14 +29,14 @@ use Rattle.cs_node_rules.specs.Site.{Carrier, Mark, Site, View, plain}
 use Rattle.cs_node_rules.specs.Trail.{handed, drops, taking_marks, member_marks, reply_marks, want_marks, class_marks, message_marks}
 use Rattle.cs_node_rules.specs.Deployment.{site_of}
 use Rattle.cs_node_rules.specs.Carrying.{is_of_order, is_ordering, Carries}
-use Rattle.cs_node_pool.specs.Deployed.{deployed}
+use Rattle.cs_node_pool.specs.Deployed.{deployed_setup}
 use Rattle.cs_sbac.specs.Held.{Held, bench_of}
 use Rattle.cs_node.specs.declared.engine.Engine.{Engine}
 use Rattle.cs_node.specs.declared.draft.Draft.{Draft}
-use Rattle.cs_node.specs.Notes.{Tells}
+use Rattle.cs_node.specs.Notes.{TellsSigns}
 use Rattle.cs_node.specs.Signing.{Leaves, Does}
-use Rattle.cs_node.specs.Steps.{Marks}
-use Rattle.cs_node.specs.Cores.{IsSeated, KeepsView, site_at, view_at, LeadsBy}
+use Rattle.cs_node.specs.Steps.{MakesMarks}
+use Rattle.cs_node.specs.Cores.{IsSeated, KeepsView, site_at, core_view, LeadsBy}
 use Rattle.cs_node.proofs.Sums.{tells-nothing, plain-marks}
 use Rattle.cs_node.proofs.Turns.{deed-done}
 use Rattle.cs_node.proofs.Doing.{from-nothing}
@@ -73,59 +73,59 @@ replied-some {M} (Some out) h slot to old new Stands called = record { out = out
 
 module _ {O J M : Type 0} (stands : O → Member M → Type 0) (approves : J → Tx → Bool) (rules : Machine M) (carried : Carrier M) (net : Net) (core : Engine O J M) (genesis : List Object) (log : Log) (h : Member M) (made made' : Draft) (seated : IsSeated stands core log h) where
   abbrev setup : Setup
-  setup = deployed core.sbac.config genesis (approves core.judge)
+  setup = deployed_setup core.sbac.config genesis (approves core.judge)
 
   abbrev site : Site M
   site = site_of setup net rules carried
 
   abbrev v : View M
-  v = view_at log core.sbac h
+  v = core_view log core.sbac h
 
   abbrev After : Engine O J M → View M → Type 0
   After next = KeepsView stands approves setup next
 
   -- table and pool did what these signs say
   pub said-here : (signs : List Sign) (marks : List (Mark M)) (held : Held) → marks ≡ plain signs → Leaves setup core.sbac signs (bench_of log core.sbac) held made made'
-      → Marks site marks v made made' (After (record { order = core.order; judge = core.judge; sbac = held }))
+      → MakesMarks site marks v made made' (After (record { order = core.order; judge = core.judge; sbac = held }))
   said-here signs marks held are leaves =
       let next : Engine O J M = record { order = core.order; judge = core.judge; sbac = held } in
-      subst (λ (ms : List (Mark M)). Marks site ms v made made' (After next)) (sym are)
+      subst (λ (ms : List (Mark M)). MakesMarks site ms v made made' (After next)) (sym are)
       (plain-marks site signs v (bench_of leaves.log held) made made' (After next) leaves.makes (keeps-on stands approves genesis core log h core.order held leaves.log h seated seated.stood refl refl leaves.config_is leaves.me_is leaves.kept_is))
 
   -- it was dropped
-  pub dropped-here : (cause : Cause) (marks : List (Mark M)) → marks ≡ drops cause → Tells (Dropped cause ∷ []) made made' → Marks site marks v made made' (After core)
+  pub dropped-here : (cause : Cause) (marks : List (Mark M)) → marks ≡ drops cause → TellsSigns (Dropped cause ∷ []) made made' → MakesMarks site marks v made made' (After core)
   dropped-here cause marks are tells = said-here (Dropped cause ∷ []) marks core.sbac are (record { log = log; kept_is = seated.kept_is; config_is = refl; me_is = refl; makes = record { tells = tells; bench_is = refl } })
 
   -- ---- the order's messages
 
-  pub refused-here : (from : ℕ) (m : M) (order : O) (answer : Took) (cause : Cause) → TakesIn rules h from m answer (stands order) → taking_marks from m answer ≡ drops cause → taken_in answer from m h ≡ h → Tells (Dropped cause ∷ []) made made'
-      → Marks site (taking_marks from m (rules.taking h from m)) v made made' (After (record { order = order; judge = core.judge; sbac = core.sbac }))
+  pub refused-here : (from : ℕ) (m : M) (order : O) (answer : Took) (cause : Cause) → TakesIn rules h from m answer (stands order) → taking_marks from m answer ≡ drops cause → taken_in answer from m h ≡ h → TellsSigns (Dropped cause ∷ []) made made'
+      → MakesMarks site (taking_marks from m (rules.taking h from m)) v made made' (After (record { order = order; judge = core.judge; sbac = core.sbac }))
   refused-here from m order answer cause called are same tells =
       let next : Engine O J M = record { order = order; judge = core.judge; sbac = core.sbac } in
       let T : Took → Type 0 = λ t. stands order (taken_in t from m h) in
       let stood : stands order h = subst (stands order) same (subst T (sym called.0) called.1) in
       let which : taking_marks from m (rules.taking h from m) ≡ plain (Dropped cause ∷ []) = ap (taking_marks from m) (sym called.0) ∙ are in
-      subst (λ (ms : List (Mark M)). Marks site ms v made made' (After next)) (sym which)
+      subst (λ (ms : List (Mark M)). MakesMarks site ms v made made' (After next)) (sym which)
       (plain-marks site (Dropped cause ∷ []) v (bench_of log core.sbac) made made' (After next) (record { tells = tells; bench_is = refl }) (keeps-on stands approves genesis core log h order core.sbac log h seated stood refl refl refl refl seated.kept_is))
 
   pub taken-here : (from : ℕ) (m : M) (order : O) → TakesIn rules h from m Taken (stands order) → made' ≡ made
-      → Marks site (taking_marks from m (rules.taking h from m)) v made made' (After (record { order = order; judge = core.judge; sbac = core.sbac }))
+      → MakesMarks site (taking_marks from m (rules.taking h from m)) v made made' (After (record { order = order; judge = core.judge; sbac = core.sbac }))
   taken-here from m order called same =
       let next : Engine O J M = record { order = order; judge = core.judge; sbac = core.sbac } in
       let T : Took → Type 0 = λ t. stands order (taken_in t from m h) in
       let stood : stands order (did (Took_in from m) h) = subst T (sym called.0) called.1 in
-      let R : Took → Type 0 = λ t. Marks site (taking_marks from m t) v made made' (After next) in
-      let D : Draft → Type 0 = λ d. Tells [] made d in
+      let R : Took → Type 0 = λ t. MakesMarks site (taking_marks from m t) v made made' (After next) in
+      let D : Draft → Type 0 = λ d. TellsSigns [] made d in
       subst R called.0 (record {
         tells = subst D (sym same) (tells-nothing made);
         after = keeps-on stands approves genesis core log h order core.sbac log (did (Took_in from m) h) seated stood refl refl refl refl seated.kept_is;
       })
 
   module _ (sender : NodeId) where
-    pub none-here : (read : Option M) → read ≡ None → Tells (Dropped Role ∷ []) made made' → Marks site (member_marks site v sender read) v made made' (After core)
+    pub none-here : (read : Option M) → read ≡ None → TellsSigns (Dropped Role ∷ []) made made' → MakesMarks site (member_marks site v sender read) v made made' (After core)
     none-here read none tells = dropped-here Role (member_marks site v sender read) (ap (member_marks site v sender) none) tells
 
-    pub stranger-here : (read : Option M) (m : M) → read ≡ Some m → is_other_member core.sbac.config.f core.sbac.me sender ≡ false → Tells (Dropped Role ∷ []) made made' → Marks site (member_marks site v sender read) v made made' (After core)
+    pub stranger-here : (read : Option M) (m : M) → read ≡ Some m → is_other_member core.sbac.config.f core.sbac.me sender ≡ false → TellsSigns (Dropped Role ∷ []) made made' → MakesMarks site (member_marks site v sender read) v made made' (After core)
     stranger-here read m is other tells =
         dropped-here Role (member_marks site v sender read) (ap (member_marks site v sender) is ∙ (rw other refl)) tells
 
@@ -134,22 +134,22 @@ module _ {O J M : Type 0} (stands : O → Member M → Type 0) (approves : J →
 
     -- ---- an answer
 
-    pub wanted-by-none : (slot : ℕ) → is_other_member core.sbac.config.f core.sbac.me sender ≡ false → Tells (Dropped Role ∷ []) made made' → Marks site (want_marks site v sender slot) v made made' (After core)
+    pub wanted-by-none : (slot : ℕ) → is_other_member core.sbac.config.f core.sbac.me sender ≡ false → TellsSigns (Dropped Role ∷ []) made made' → MakesMarks site (want_marks site v sender slot) v made made' (After core)
     wanted-by-none slot other tells = dropped-here Role (want_marks site v sender slot) (rw other refl) tells
 
     pub unanswered-here : (slot : ℕ) (old new : List (Outgoing M)) → is_other_member core.sbac.config.f core.sbac.me sender ≡ true → RepliesWith (rules.replying h slot sender.index) h slot sender.index false old new (stands core.order)
-        → Tells (Dropped Far ∷ []) made made' → Marks site (want_marks site v sender slot) v made made' (After core)
+        → TellsSigns (Dropped Far ∷ []) made made' → MakesMarks site (want_marks site v sender slot) v made made' (After core)
     unanswered-here slot old new other called tells =
         let none : rules.replying h slot sender.index ≡ None = replied-none (rules.replying h slot sender.index) h slot sender.index old new (stands core.order) called in
         dropped-here Far (want_marks site v sender slot) ((rw other refl) ∙ ap (reply_marks site v slot sender.index) none) tells
 
     pub answered-here : (slot : ℕ) (old new : List (Outgoing M)) → old ≡ [] → is_other_member core.sbac.config.f core.sbac.me sender ≡ true → RepliesWith (rules.replying h slot sender.index) h slot sender.index true old new (stands core.order)
-        → Tells (handed site core.sbac.me new) made made' → Marks site (want_marks site v sender slot) v made made' (After core)
+        → TellsSigns (handed site core.sbac.me new) made made' → MakesMarks site (want_marks site v sender slot) v made made' (After core)
     answered-here slot old new empty other called says =
         let r : HasReplied (rules.replying h slot sender.index) h slot sender.index old new (stands core.order) = replied-some (rules.replying h slot sender.index) h slot sender.index old new (stands core.order) called in
         let which : want_marks site v sender slot ≡ reply_marks site v slot sender.index (Some r.out) = (rw other refl) ∙ ap (reply_marks site v slot sender.index) r.is in
-        let S : List (Outgoing M) → Type 0 = λ outs. Tells (handed site core.sbac.me outs) made made' in
-        subst (λ (ms : List (Mark M)). Marks site ms v made made' (After core)) (sym which)
+        let S : List (Outgoing M) → Type 0 = λ outs. TellsSigns (handed site core.sbac.me outs) made made' in
+        subst (λ (ms : List (Mark M)). MakesMarks site ms v made made' (After core)) (sym which)
         (deed-done site v made made' (After core) (Replied slot sender.index (r.out ∷ [])) (subst S (from-nothing old new (r.out ∷ []) empty r.grown) says)
         (keeps-on stands approves genesis core log h core.order core.sbac log (did (Replied slot sender.index (r.out ∷ [])) h) seated r.stood refl refl refl refl seated.kept_is))
 
@@ -172,7 +172,7 @@ pub signs-said : {O J M A E : Type 0} (stands : O → Member M → Type 0) (appr
     → LeadsBy stands approves rules carrier engine (record { order = engine.order; judge = engine.judge; sbac = held }) draft draft' result (λ site v. message_marks site v sender m)
 signs-said {O} {J} {M} {A} {E} stands approves rules carrier engine held draft draft' result sender m said is signs made = λ net genesis log h seated.
     let site = site_at rules carrier net engine.sbac genesis (approves engine.judge) in
-    let v = view_at log engine.sbac h in
+    let v = core_view log engine.sbac h in
     let marks = message_marks site v sender m in
     let are : marks ≡ plain (said_signs site.setup v.me v.bench sender said) = ap (message_marks site v sender) is ∙ signs site v in
     on_ok_weaker result
@@ -217,8 +217,8 @@ pub other-said : {O J M A E : Type 0} (stands : O → Member M → Type 0) (appr
     → LeadsBy stands approves rules carrier engine engine' draft draft' result (λ site v. message_marks site v sender m)
 other-said {O} {J} {M} stands approves rules carrier engine engine' draft draft' result sender m carries other led = λ net genesis log h seated.
     let site = site_at rules carrier net engine.sbac genesis (approves engine.judge) in
-    let v = view_at log engine.sbac h in
-    let setup = deployed engine.sbac.config genesis (approves engine.judge) in
+    let v = core_view log engine.sbac h in
+    let setup = deployed_setup engine.sbac.config genesis (approves engine.judge) in
     let After : View M → Type 0 = KeepsView stands approves setup engine' in
-    let P : List (Mark M) → Type 0 = λ marks. OnOk result (Marks site marks v draft draft' After) in
+    let P : List (Mark M) → Type 0 = λ marks. OnOk result (MakesMarks site marks v draft draft' After) in
     subst P (other-marks rules site carries v sender m other) (led net genesis log h seated)

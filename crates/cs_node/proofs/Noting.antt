@@ -1,10 +1,10 @@
 -- Notes of executions, and that their entries have encodings.
 use Rattle.std.proofs.Common.{◌≡◌, List, [], ◌∷◌, ◌++◌, refl, sym, subst}
 use Rattle.cs_ledger.specs.Table as Shard
-use Rattle.cs_tx_form.specs.declared.effect.Effect.{Effect}
-use Rattle.cs_tx_form.specs.declared.effect.Effect.TheVariants.{Voted, Accepted, Aborted, Skipped, Void}
+use Rattle.cs_tx_types.specs.declared.effect.Effect.{Effect}
+use Rattle.cs_tx_types.specs.declared.effect.Effect.TheVariants.{Voted, Accepted, Aborted, Skipped, Void}
 use Rattle.cs_table.specs.Effects.{effect_of}
-use Rattle.cs_tx_form.specs.declared.vote.Vote.TheVariants.{Commit, Abort}
+use Rattle.cs_tx_types.specs.declared.vote.Vote.TheVariants.{Commit, Abort}
 use Rattle.cs_wire_message.specs.Message.{MessageFits}
 use Rattle.cs_node.specs.declared.draft.Note.{Note}
 use Rattle.cs_node.specs.declared.draft.Said.{Said}

@@ -17,7 +17,7 @@ use Rattle.cs_base.specs.NodeId.{same_name}
 use Rattle.cs_base.specs.Fields.{IsBytes}
 use Rattle.cs_base.proofs.Forms.{IsBytes-drop, IsBytes-take}
 use Rattle.cs_wire.specs.Opened.{Opened, opened, opened_body, said_by, unless_fault}
-use Rattle.cs_wire.specs.Opens.{Opens, unless, keyed_fault, head_fault, fault_of}
+use Rattle.cs_wire.specs.Opens.{Opens, unless, keyed_fault, head_fault, open_fault}
 use Rattle.cs_wire.specs.declared.view.MessageView.{MessageView}
 use Rattle.cs_wire.proofs.Masters.{opened_ok, opened_err}
 use Rattle.cs_node.specs.Speaking.{sender_of}
@@ -53,12 +53,12 @@ by-head keys bytes sender m None none is = let q : Err errors.Short ≡ Ok (send
 by-head keys bytes sender m (Some head) none is =
     subst (λ (n : NodeId). IsSome (row_of n keys)) (sayer head.from sender (message_whole head.kind (body_in bytes)) m is) (headed keys bytes head none)
 
-by-fault : (keys : Keys) (bytes : List ℕ) (sender : NodeId) (m : Message) (fault : Option OpenError) → fault_of keys bytes ≡ fault → unless_fault fault (opened_body bytes (head_seen bytes)) ≡ Ok (sender, m) → IsSome (row_of sender keys)
+by-fault : (keys : Keys) (bytes : List ℕ) (sender : NodeId) (m : Message) (fault : Option OpenError) → open_fault keys bytes ≡ fault → unless_fault fault (opened_body bytes (head_seen bytes)) ≡ Ok (sender, m) → IsSome (row_of sender keys)
 by-fault keys bytes sender m (Some error) at is = let q : Err error ≡ Ok (sender, m) = is in cc
 by-fault keys bytes sender m None at is = by-head keys bytes sender m (head_seen bytes) (long (nat_lt (length bytes) 49) (head_fault keys bytes (head_seen bytes)) at) is
 
 pub opener-held : (keys : Keys) (bytes : List ℕ) (sender : NodeId) (m : Message) → opened keys bytes ≡ Ok (sender, m) → IsSome (row_of sender keys)
-opener-held keys bytes sender m is = by-fault keys bytes sender m (fault_of keys bytes) refl is
+opener-held keys bytes sender m is = by-fault keys bytes sender m (open_fault keys bytes) refl is
 
 -- ---- as whom bytes open
 

@@ -5,8 +5,8 @@ use Rattle.std.specs.Prelude.{is_some}
 use Rattle.cs_base.specs.declared.config.Config.{Config}
 use Rattle.cs_base.specs.declared.node_id.NodeId.{NodeId}
 use Rattle.cs_base.specs.NodeId.{is_node, same_name}
-use Rattle.cs_tx_form.specs.declared.transaction.Tx.{Tx}
-use Rattle.cs_tx_form.specs.declared.entry.Entry.{Entry}
+use Rattle.cs_tx_types.specs.declared.transaction.Tx.{Tx}
+use Rattle.cs_tx_types.specs.declared.entry.Entry.{Entry}
 use Rattle.cs_wire_message.specs.declared.message.Message.{Message}
 use Rattle.cs_wire_message.specs.declared.message.Message.TheVariants as message
 use Rattle.cs_wire_message.specs.Classes.{Class, OfOrder, class_of}
@@ -22,7 +22,7 @@ use Rattle.cs_order.specs.Deeds.{Deed, Advanced, Echoed, Proposing, Resent, Tick
 use Rattle.cs_wire.specs.declared.keys.Keys.{Keys}
 use Rattle.cs_wire.specs.Keys.{row_of}
 use Rattle.cs_wire.specs.Opened.{Opened}
-use Rattle.cs_checkpoint.specs.Chain.{kept_slots}
+use Rattle.cs_check_rules.specs.Chain.{kept_slots}
 use Rattle.cs_node_state.specs.Setup.{Setup}
 use Rattle.cs_node_rules.specs.Members.{is_other_member, others}
 use Rattle.cs_node_rules.proofs.Heard.{heard}
@@ -32,7 +32,7 @@ use Rattle.cs_node_rules.specs.Site.{Input, Datagram, Tick, Mark, In, Ordered, S
 use Rattle.cs_node_rules.specs.Trail.{out_signs, handed, with_deed, entered_view, moving, admits_proposed, proposing, due_marks, candidate_marks, propose_marks, echo_marks, cut_marks, step_marks, turn_marks, continued, settled, taking_marks, member_marks, reply_marks, want_marks, class_marks, message_marks, opened_marks, again_marks, waiting_marks, input_marks, event_marks}
 use Rattle.cs_node.specs.declared.nodes.Core.{Core}
 use Rattle.cs_node.specs.Notes.{said_of, AllReached}
-use Rattle.cs_node.specs.Cores.{StandsFor}
+use Rattle.cs_node.specs.Cores.{CoreStandsFor}
 use Rattle.cs_node.proofs.Names.{me-after}
 use Rattle.cs_node.proofs.Sums.{signs-append, signs-plain}
 use Rattle.cs_node.proofs.Openers.{opener-held}
@@ -254,7 +254,7 @@ reached-of keys (Kept index checkpoint ∷ past) all = reached-of keys past all
 reached-of keys (Did slot entry effect ∷ past) all = reached-of keys past all
 reached-of keys (Sent to message ∷ past) all = reached-append keys (said_of past) ((to, message) ∷ []) (reached-of keys past all.1) (all.0, tt)
 
-pub event-reached : {O J M : Type 0} (stands : O → Member M → Type 0) (approves : J → Tx → Bool) (site : Site M) (core : Core O J M) (v : View M) (input : Input) → StandsFor stands approves site core v
+pub event-reached : {O J M : Type 0} (stands : O → Member M → Type 0) (approves : J → Tx → Bool) (site : Site M) (core : Core O J M) (v : View M) (input : Input) → CoreStandsFor stands approves site core v
     → AllReached core.keys (said_of (signs_of (event_marks site v input)))
 event-reached {O} {J} {M} stands approves site core v input is =
     let config : Config = core.engine.sbac.config in

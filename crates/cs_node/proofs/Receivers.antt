@@ -4,20 +4,20 @@ use Rattle.std.proofs.lemmas.Bool.Decides.{nat_tests}
 use Rattle.cs_base.specs.declared.config.Config.{Config}
 use Rattle.cs_base.specs.declared.node_id.NodeId.{NodeId}
 use Rattle.cs_base.specs.NodeId.{is_node, same_name, members_below}
-use Rattle.cs_tx_form.specs.declared.session.Session.{Session}
-use Rattle.cs_tx_form.specs.declared.vote.Vote.{Vote}
-use Rattle.cs_tx_form.specs.declared.vote.Vote.TheVariants.{Commit}
-use Rattle.cs_tx_form.specs.declared.entry.Entry.{Entry}
+use Rattle.cs_tx_types.specs.declared.session.Session.{Session}
+use Rattle.cs_tx_types.specs.declared.vote.Vote.{Vote}
+use Rattle.cs_tx_types.specs.declared.vote.Vote.TheVariants.{Commit}
+use Rattle.cs_tx_types.specs.declared.entry.Entry.{Entry}
 use Rattle.cs_wire_message.specs.declared.message.Message.{Message}
 use Rattle.cs_wire_message.specs.declared.message.Message.TheVariants as message
-use Rattle.cs_node_state.specs.Setup.{Setup, digest_of, concerns, concerned, concerned_below}
-use Rattle.cs_tx_form.specs.Session.{session_in}
+use Rattle.cs_node_state.specs.Setup.{Setup, digest_of, is_concerned_shard, concerned, concerned_below}
+use Rattle.cs_tx_types.specs.Session.{session_in}
 use Rattle.cs_node_rules.specs.Members.{members, except, others}
 use Rattle.cs_node_state.specs.Pool.{Pool, is_pooled}
-use Rattle.cs_node_state.specs.Bench.{Bench, Ran, executed, slot_executed, told_of}
+use Rattle.cs_node_state.specs.Bench.{Bench, Ran, executed, slot_executed, vote_told}
 use Rattle.cs_node_rules.proofs.Heard.{AllHeard}
-use Rattle.cs_tx_form.specs.declared.checkpoint.Checkpoint.{Checkpoint}
-use Rattle.cs_checkpoint.specs.Chain.{head_of, made_last}
+use Rattle.cs_tx_types.specs.declared.checkpoint.Checkpoint.{Checkpoint}
+use Rattle.cs_check_rules.specs.Chain.{head_of, made_last}
 use Rattle.cs_node_rules.specs.Signs.{Sign, Dropped, Took, Entered, Viewed, Did, Headed, Kept, Sent, sends, vote_signs, own_signs, entered_signs, ran_signs, headed_signs, execution_signs, asked_again}
 
 module _ (Peer : NodeId → Type 0) where
@@ -112,7 +112,7 @@ module _ (Peer : NodeId → Type 0) where
       concerned-are : (x : Session) (n : ℕ) → n ≤ config.shards → AreShards (concerned_below setup x n)
       concerned-are x zero few = tt
       concerned-are x (suc n) few =
-          shards-append (concerned_below setup x n) (if_one (concerns setup x n)) (concerned-are x n (omega arith)) (by_one (concerns setup x n))
+          shards-append (concerned_below setup x n) (if_one (is_concerned_shard setup x n)) (concerned-are x n (omega arith)) (by_one (is_concerned_shard setup x n))
         where
           if_one : Bool → List ℕ
           if_one one = cond one (n ∷ []) []
@@ -137,7 +137,7 @@ module _ (Peer : NodeId → Type 0) where
       to-ran b slot entry =
           let x : Session = session_in entry in
           let ran : Ran = executed setup me.shard b entry in
-          let told : Option (Vote × Bool) = told_of setup me.shard x ran in
+          let told : Option (Vote × Bool) = vote_told setup me.shard x ran in
           let pooled : Bool = is_pooled (digest_of setup x) b.pool in
           to-append (own_signs me x told) _ (by_own x told)
           (to-append (vote_signs setup me x told) _ (to-voters x told) (to-append (entered_signs x pooled told) (Did slot entry ran.effect ∷ []) (by_entered x pooled told) tt))

@@ -11,7 +11,7 @@ use Rattle.cs_wire.specs.Keys.{row_of}
 use Rattle.cs_wire.specs.Datagram.{datagram_with}
 use Rattle.cs_wire.specs.Raw.{SealsWith}
 use Rattle.cs_ledger.specs.Ledger.{Bytes}
-use Rattle.cs_node_rules.specs.Net.{Net, sealed}
+use Rattle.cs_node_rules.specs.Net.{Net, sealed_by_net}
 use Rattle.cs_node_rules.specs.Signs.{Sign, Dropped, Took, Entered, Viewed, Did, Headed, Kept, Sent}
 use Rattle.cs_node.specs.declared.draft.Said.{Said}
 use Rattle.cs_node.specs.Notes.{AllSaidFit, AllReached, said_of, to_each, spoken, outs_of, outs_for}
@@ -23,13 +23,13 @@ sealed-so config net keys speaks to kind body old bytes none s =
     s.is ∙ ap (λ (o : Bytes). o ++ datagram_with s.row.to keys.me to kind body) none ∙ speaks.seals to s.row s.held kind body
 
 -- and of a message's kind and body it is the message's
-pub written-so : (net : Net) (me to : NodeId) (m : Message) (kind : ℕ) (body : Bytes) → kind ≡ kind_of m → body ≡ body_of m → net.datagram me to kind body ≡ sealed net me to m
+pub written-so : (net : Net) (me to : NodeId) (m : Message) (kind : ℕ) (body : Bytes) → kind ≡ kind_of m → body ≡ body_of m → net.datagram me to kind body ≡ sealed_by_net net me to m
 written-so net me to m kind body is-kind is-body =
     ap (λ (k : ℕ). net.datagram me to k body) is-kind ∙ ap (net.datagram me to (kind_of m)) is-body
 
 pub outs-more : (net : Net) (me : NodeId) (xs ys : List (NodeId × Message)) → outs_for net me (xs ++ ys) ≡ outs_for net me xs ++ outs_for net me ys
 outs-more net me [] ys = refl
-outs-more net me (x ∷ xs) ys = ap (λ (outs : List Out). record { to = x.0; bytes = sealed net me x.0 x.1 } ∷ outs) (outs-more net me xs ys)
+outs-more net me (x ∷ xs) ys = ap (λ (outs : List Out). record { to = x.0; bytes = sealed_by_net net me x.0 x.1 } ∷ outs) (outs-more net me xs ys)
 
 pub outs-same : (net : Net) (me : NodeId) (signs : List Sign) → outs_for net me (said_of signs) ≡ outs_of net me signs
 outs-same net me [] = refl
@@ -42,7 +42,7 @@ outs-same net me (Kept index checkpoint ∷ past) = outs-same net me past
 outs-same net me (Did slot entry effect ∷ past) = outs-same net me past
 outs-same net me (Sent to message ∷ past) =
     outs-more net me (said_of past) ((to, message) ∷ [])
-    ∙ ap (λ (outs : List Out). outs ++ record { to = to; bytes = sealed net me to message } ∷ []) (outs-same net me past)
+    ∙ ap (λ (outs : List Out). outs ++ record { to = to; bytes = sealed_by_net net me to message } ∷ []) (outs-same net me past)
 
 -- ---- one after the other
 
@@ -70,10 +70,10 @@ first-reached keys all i x lt is reached =
 
 -- one more was sealed
 pub names-sealed : (net : Net) (me : NodeId) (m : Message) (outs outs' whole : List Out) (names : List NodeId) (i : ℕ) (d : NodeId) → i < length names
-    → outs' ≡ outs ++ record { to = get_or names i d; bytes = sealed net me (get_or names i d) m } ∷ []
+    → outs' ≡ outs ++ record { to = get_or names i d; bytes = sealed_by_net net me (get_or names i d) m } ∷ []
     → outs ++ outs_for net me (to_each (drop i names) m) ≡ whole → outs' ++ outs_for net me (to_each (drop (i + 1) names) m) ≡ whole
 names-sealed net me m outs outs' whole names i d lt grew so-far =
-    let out : Out = record { to = get_or names i d; bytes = sealed net me (get_or names i d) m } in
+    let out : Out = record { to = get_or names i d; bytes = sealed_by_net net me (get_or names i d) m } in
     ap (λ (o : List Out). o ++ outs_for net me (to_each (drop (i + 1) names) m)) grew
     ∙ append_assoc outs (out ∷ []) (outs_for net me (to_each (drop (i + 1) names) m))
     ∙ ap (λ (rest : List NodeId). outs ++ outs_for net me (to_each rest m)) (sym (drop_more names i d lt))

@@ -4,8 +4,8 @@ use Rattle.cs_node_rules.specs.Signs.{Sign}
 use Rattle.cs_node_rules.specs.Site.{Input, Mark, In, Site, View, view_after, signs_of}
 use Rattle.cs_node_rules.specs.Trail.{turn_marks, continued, settled, input_marks, event_marks}
 use Rattle.cs_node.specs.declared.draft.Draft.{Draft}
-use Rattle.cs_node.specs.Notes.{nothing, Tells}
-use Rattle.cs_node.specs.Steps.{Marks, TurnDone, Settles, Settling, Drafts}
+use Rattle.cs_node.specs.Notes.{nothing_said, TellsSigns}
+use Rattle.cs_node.specs.Steps.{MakesMarks, TurnDone, Settles, Settling, Drafts}
 use Rattle.cs_node.proofs.Sums.{signs-append, view-append, marks-none, marks-more}
 
 module _ {M : Type 0} (site : Site M) where
@@ -28,8 +28,8 @@ module _ {M : Type 0} (site : Site M) where
   }
 
   pub goes-with : (v : View M) (done fresh : List (Mark M)) (old now next : Draft) (After Later : View M → Type 0) (left before rest : ℕ)
-      → settled site (2 ^ 80) v ≡ settled site left (view_after site done v) ++ done → Marks site done v old now After → before < left → turn_marks site (view_after site done v) ≡ Some fresh
-      → Marks site fresh (view_after site done v) now next Later → rest < before → Settling site v old next Later rest
+      → settled site (2 ^ 80) v ≡ settled site left (view_after site done v) ++ done → MakesMarks site done v old now After → before < left → turn_marks site (view_after site done v) ≡ Some fresh
+      → MakesMarks site fresh (view_after site done v) now next Later → rest < before → Settling site v old next Later rest
   goes-with v done fresh old now next After Later zero before rest goes marks enough e more less = absurd (omega arith)
   goes-with v done fresh old now next After Later (suc left) before rest goes marks enough e more less = record {
     done = fresh ++ done;
@@ -50,9 +50,9 @@ module _ {M : Type 0} (site : Site M) where
       → (s : Settling site v old now After before) → turn_marks site (view_after site s.done v) ≡ found → TurnDone site found (view_after site s.done v) false now next Later → Settles site v old next Later
   turn-ends v old now next After Later before None s e turn =
       let q : settled site (2 ^ 80) v ≡ s.done = s.goes_on ∙ ap (λ x. x ++ s.done) (settled-end s.left (view_after site s.done v) e) in
-      let P : List (Mark M) → Type 0 = λ x. Marks site x v old next Later in
+      let P : List (Mark M) → Type 0 = λ x. MakesMarks site x v old next Later in
       let Q : List (Mark M) → Type 0 = λ x. turn_marks site (view_after site x v) ≡ None in
-      let R : Draft → Type 0 = λ m. Marks site s.done v old m Later in
+      let R : Draft → Type 0 = λ m. MakesMarks site s.done v old m Later in
       record {
         marks = subst P (sym q) (subst R (sym turn.1) (record { tells = s.marks.tells; after = turn.2 }));
         quiet = subst Q (sym q) e;
@@ -60,7 +60,7 @@ module _ {M : Type 0} (site : Site M) where
   turn-ends v old now next After Later before (Some fresh) s e turn = let x : false ≡ true = turn.0 in cc
 
   -- an input's own marks, and then the rules until none applies
-  pub event-made : (v : View M) (input : Input) (mid made : Draft) (After Later : View M → Type 0) → Marks site (input_marks site v input ++ In input ∷ []) v nothing mid After
+  pub event-made : (v : View M) (input : Input) (mid made : Draft) (After Later : View M → Type 0) → MakesMarks site (input_marks site v input ++ In input ∷ []) v nothing_said mid After
       → Settles site (view_after site (input_marks site v input ++ In input ∷ []) v) mid made Later → Drafts site v input made Later
   unfolding event_marks
   event-made v input mid made After Later first s =
@@ -68,14 +68,14 @@ module _ {M : Type 0} (site : Site M) where
       let later : List (Mark M) = settled site (2 ^ 80) (view_after site start v) in
       let P : View M → Type 0 = λ w. turn_marks site w ≡ None in
       record {
-        marks = marks-more site start later v nothing mid made After Later first s.marks;
+        marks = marks-more site start later v nothing_said mid made After Later first s.marks;
         quiet = subst P (sym (view-append site later start v)) s.quiet;
       }
 
   -- the mark of the input changes nothing
-  pub with-input : (marks : List (Mark M)) (input : Input) (v : View M) (old new : Draft) (After : View M → Type 0) → Marks site marks v old new After → Marks site (marks ++ In input ∷ []) v old new After
+  pub with-input : (marks : List (Mark M)) (input : Input) (v : View M) (old new : Draft) (After : View M → Type 0) → MakesMarks site marks v old new After → MakesMarks site (marks ++ In input ∷ []) v old new After
   with-input marks input v old new After m =
-      let P : List Sign → Type 0 = λ signs. Tells signs old new in
+      let P : List Sign → Type 0 = λ signs. TellsSigns signs old new in
       record {
         tells = subst P (sym (signs-append marks (In input ∷ []) ∙ append-nil (signs_of marks))) m.tells;
         after = subst After (sym (view-append site marks (In input ∷ []) v)) m.after;

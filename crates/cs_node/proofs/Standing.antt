@@ -5,8 +5,8 @@ use Rattle.cs_base.specs.declared.config.Config.{Config}
 use Rattle.cs_base.specs.declared.node_id.NodeId.{NodeId}
 use Rattle.cs_base.specs.NodeId.{is_node}
 use Rattle.cs_tx_value.specs.declared.object.Object.{Object}
-use Rattle.cs_tx_form.specs.declared.transaction.Tx.{Tx}
-use Rattle.cs_checkpoint.specs.Chain.{Log, kept_of}
+use Rattle.cs_tx_types.specs.declared.transaction.Tx.{Tx}
+use Rattle.cs_check_rules.specs.Chain.{Log, kept_of}
 use Rattle.cs_order.specs.Deeds.{Member, Machine}
 use Rattle.cs_wire.specs.declared.keys.Keys.{Keys}
 use Rattle.cs_node_state.specs.Setup.{Setup}
@@ -14,16 +14,16 @@ use Rattle.cs_node_rules.specs.Net.{Net}
 use Rattle.cs_node_rules.specs.Site.{Carrier, Input, Mark, In, Site, View, view_after, signs_of}
 use Rattle.cs_node_rules.specs.Trail.{turn_marks, input_marks, event_marks}
 use Rattle.cs_node_rules.specs.Deployment.{site_of}
-use Rattle.cs_node_pool.specs.Deployed.{deployed}
+use Rattle.cs_node_pool.specs.Deployed.{deployed_setup}
 use Rattle.cs_sbac.specs.Held.{Held, bench_of}
 use Rattle.cs_node.specs.declared.engine.Engine.{Engine}
 use Rattle.cs_node.specs.declared.nodes.Core.{Core}
 use Rattle.cs_node.specs.declared.outs.Made.{Made}
 use Rattle.cs_node.specs.declared.draft.Draft.{Draft}
-use Rattle.cs_node.specs.Notes.{nothing, spoken, outs_of, outs_for, AllReached}
+use Rattle.cs_node.specs.Notes.{nothing_said, spoken, outs_of, outs_for, AllReached}
 use Rattle.cs_node.specs.Speaking.{Speaks}
-use Rattle.cs_node.specs.Steps.{view_of, Marks, TurnDone, Settles, Settling, Drafts, Event}
-use Rattle.cs_node.specs.Cores.{IsSeated, KeepsView, StandsFor, view_at}
+use Rattle.cs_node.specs.Steps.{node_view, MakesMarks, TurnDone, Settles, Settling, Drafts, Event}
+use Rattle.cs_node.specs.Cores.{IsSeated, KeepsView, CoreStandsFor, core_view}
 use Rattle.cs_node.proofs.Sealing.{outs-same}
 use Rattle.cs_node.proofs.Names.{me-after}
 use Rattle.cs_node.proofs.Reached.{event-reached}
@@ -32,7 +32,7 @@ use Rattle.cs_node.proofs.Settling.{turn-goes, turn-ends, with-input, event-made
 module _ {O J M : Type 0} (stands : O → Member M → Type 0) (approves : J → Tx → Bool) where
   -- An engine whose order stands for the member after more deeds of it, and whose table and pool are those of the same node.
   pub keeps-on : (genesis : List Object) (core : Engine O J M) (log : Log) (h : Member M) (order : O) (held : Held) (log' : Log) (h' : Member M) → IsSeated stands core log h → stands order h' → h'.f ≡ h.f → h'.me ≡ h.me → held.config ≡ core.sbac.config → held.me ≡ core.sbac.me → held.archived.kept ≡ kept_of log'
-      → KeepsView stands approves (deployed core.sbac.config genesis (approves core.judge)) (record { order = order; judge = core.judge; sbac = held }) (view_of core.sbac.me (bench_of log' held) h')
+      → KeepsView stands approves (deployed_setup core.sbac.config genesis (approves core.judge)) (record { order = order; judge = core.judge; sbac = held }) (node_view core.sbac.me (bench_of log' held) h')
   keeps-on genesis core log h order held log' h' seated is same-f same-index same-config same-me kept_is =
       let N : Config × NodeId → Type 0 = λ p. is_node p.0 p.1 ≡ true in
       record {
@@ -43,21 +43,21 @@ module _ {O J M : Type 0} (stands : O → Member M → Type 0) (approves : J →
           index_is = same-index ∙ seated.index_is ∙ sym (ap (λ (n : NodeId). n.index) same-me);
           node = subst N (λ i. (sym same-config i, sym same-me i)) seated.node;
         };
-        view_is = ap (λ (name : NodeId). view_of name (bench_of log' held) h') same-me;
+        view_is = ap (λ (name : NodeId). node_view name (bench_of log' held) h') same-me;
         genesis = genesis;
-        setup_is = ap (λ (c : Config). deployed c genesis (approves core.judge)) same-config;
+        setup_is = ap (λ (c : Config). deployed_setup c genesis (approves core.judge)) same-config;
       }
 
   -- where nothing was done
-  pub keeps-still : (genesis : List Object) (core : Engine O J M) (log : Log) (h : Member M) → IsSeated stands core log h → KeepsView stands approves (deployed core.sbac.config genesis (approves core.judge)) core (view_at log core.sbac h)
+  pub keeps-still : (genesis : List Object) (core : Engine O J M) (log : Log) (h : Member M) → IsSeated stands core log h → KeepsView stands approves (deployed_setup core.sbac.config genesis (approves core.judge)) core (core_view log core.sbac h)
   keeps-still genesis core log h seated = keeps-on genesis core log h core.order core.sbac log h seated seated.stood refl refl refl refl seated.kept_is
 
   -- what a clause says at every genesis, log and member, it says at the setup and the view
   pub at-standing : (F : Setup → View M → Type 0) (setup : Setup) (core : Engine O J M) (w : View M) → KeepsView stands approves setup core w
-      → ((genesis : List Object) (log : Log) (h : Member M) → IsSeated stands core log h → F (deployed core.sbac.config genesis (approves core.judge)) (view_at log core.sbac h)) → F setup w
+      → ((genesis : List Object) (log : Log) (h : Member M) → IsSeated stands core log h → F (deployed_setup core.sbac.config genesis (approves core.judge)) (core_view log core.sbac h)) → F setup w
   at-standing F setup core w s all =
       let P : View M → Type 0 = λ u. F setup u in
-      let Q : Setup → Type 0 = λ t. F t (view_at w.bench.log core.sbac w.member) in
+      let Q : Setup → Type 0 = λ t. F t (core_view w.bench.log core.sbac w.member) in
       subst P s.view_is (subst Q s.setup_is (all s.genesis w.bench.log w.member s.seated))
 
   module _ (rules : Machine M) (carried : Carrier M) (net : Net) (core core' : Engine O J M) (now next : Draft) where
@@ -65,7 +65,7 @@ module _ {O J M : Type 0} (stands : O → Member M → Type 0) (approves : J →
     Turned went setup u = TurnDone (site_of setup net rules carried) (turn_marks (site_of setup net rules carried) u) u went now next (KeepsView stands approves setup core')
 
     module _ (setup : Setup) (v : View M) (old : Draft) (went : Bool) (before : ℕ) (s : Settling (site_of setup net rules carried) v old now (KeepsView stands approves setup core) before)
-        (done : (genesis : List Object) (log : Log) (h : Member M) → IsSeated stands core log h → Turned went (deployed core.sbac.config genesis (approves core.judge)) (view_at log core.sbac h)) where
+        (done : (genesis : List Object) (log : Log) (h : Member M) → IsSeated stands core log h → Turned went (deployed_setup core.sbac.config genesis (approves core.judge)) (core_view log core.sbac h)) where
       abbrev site : Site M
       site = site_of setup net rules carried
 
@@ -92,17 +92,17 @@ module _ {O J M : Type 0} (stands : O → Member M → Type 0) (approves : J →
           turn-ends site v old now next After Later before (turn_marks site w) s refl (subst B e turned)
 
   -- an input, and then the rules until none applies
-  pub event-done : (rules : Machine M) (carried : Carrier M) (net : Net) (core core' core'' : Engine O J M) (setup : Setup) (v : View M) (input : Input) (start mid made : Draft) → KeepsView stands approves setup core v → start ≡ nothing
-      → ((genesis : List Object) (log : Log) (h : Member M) → IsSeated stands core log h → (let t : Setup = deployed core.sbac.config genesis (approves core.judge) in Marks (site_of t net rules carried) (input_marks (site_of t net rules carried) (view_at log core.sbac h) input) (view_at log core.sbac h) start mid (KeepsView stands approves t core')))
-      → ((genesis : List Object) (log : Log) (h : Member M) → IsSeated stands core' log h → (let t : Setup = deployed core'.sbac.config genesis (approves core'.judge) in Settles (site_of t net rules carried) (view_at log core'.sbac h) mid made (KeepsView stands approves t core'')))
+  pub event-done : (rules : Machine M) (carried : Carrier M) (net : Net) (core core' core'' : Engine O J M) (setup : Setup) (v : View M) (input : Input) (start mid made : Draft) → KeepsView stands approves setup core v → start ≡ nothing_said
+      → ((genesis : List Object) (log : Log) (h : Member M) → IsSeated stands core log h → (let t : Setup = deployed_setup core.sbac.config genesis (approves core.judge) in MakesMarks (site_of t net rules carried) (input_marks (site_of t net rules carried) (core_view log core.sbac h) input) (core_view log core.sbac h) start mid (KeepsView stands approves t core')))
+      → ((genesis : List Object) (log : Log) (h : Member M) → IsSeated stands core' log h → (let t : Setup = deployed_setup core'.sbac.config genesis (approves core'.judge) in Settles (site_of t net rules carried) (core_view log core'.sbac h) mid made (KeepsView stands approves t core'')))
       → Drafts (site_of setup net rules carried) v input made (KeepsView stands approves setup core'')
   event-done rules carried net core core' core'' setup v input start mid made s e took settled =
       let site : Site M = site_of setup net rules carried in
       let After : View M → Type 0 = KeepsView stands approves setup core' in
-      let F : Setup → View M → Type 0 = λ t u. Marks (site_of t net rules carried) (input_marks (site_of t net rules carried) u input) u start mid (KeepsView stands approves t core') in
+      let F : Setup → View M → Type 0 = λ t u. MakesMarks (site_of t net rules carried) (input_marks (site_of t net rules carried) u input) u start mid (KeepsView stands approves t core') in
       let G : Setup → View M → Type 0 = λ t u. Settles (site_of t net rules carried) u mid made (KeepsView stands approves t core'') in
-      let P : Draft → Type 0 = λ m. Marks site (input_marks site v input) v m mid After in
-      let first : Marks site (input_marks site v input ++ In input ∷ []) v nothing mid After = with-input site (input_marks site v input) input v nothing mid After (subst P e (at-standing F setup core v s took)) in
+      let P : Draft → Type 0 = λ m. MakesMarks site (input_marks site v input) v m mid After in
+      let first : MakesMarks site (input_marks site v input ++ In input ∷ []) v nothing_said mid After = with-input site (input_marks site v input) input v nothing_said mid After (subst P e (at-standing F setup core v s took)) in
       let w : View M = view_after site (input_marks site v input ++ In input ∷ []) v in
       event-made site v input mid made After (KeepsView stands approves setup core'') first (at-standing G setup core' w first.after settled)
 
@@ -117,14 +117,14 @@ speaks-on config config' net keys same-shards same-f speaks = record {
 
 module _ {O J M : Type 0} (stands : O → Member M → Type 0) (approves : J → Tx → Bool) where
   -- the holder of the keys is the node of the engine
-  pub same-me : (site : Site M) (core : Core O J M) (v : View M) → StandsFor stands approves site core v → core.keys.me ≡ core.engine.sbac.me
+  pub same-me : (site : Site M) (core : Core O J M) (v : View M) → CoreStandsFor stands approves site core v → core.keys.me ≡ core.engine.sbac.me
   same-me _ core v is = is.me_is ∙ sym (ap (λ (u : View M). u.me) is.keeps.view_is)
 
   -- what was drafted is sealed
-  pub event-sealed : (site : Site M) (core : Core O J M) (engine : Engine O J M) (v : View M) (input : Input) (draft : Draft) (made : Made) → StandsFor stands approves site core v
+  pub event-sealed : (site : Site M) (core : Core O J M) (engine : Engine O J M) (v : View M) (input : Input) (draft : Draft) (made : Made) → CoreStandsFor stands approves site core v
       → Drafts site v input draft (KeepsView stands approves site.setup engine) → made.notes ≡ draft.notes
       → (AllReached core.keys (spoken draft.said) → made.outs ≡ outs_for site.net core.keys.me (spoken draft.said))
-      → Event site v input made (StandsFor stands approves site (record { keys = core.keys; engine = engine }))
+      → Event site v input made (CoreStandsFor stands approves site (record { keys = core.keys; engine = engine }))
   event-sealed site core engine v input draft made is drafts notes outs =
       let net : Net = site.net in
       let marks : List (Mark M) = event_marks site v input in

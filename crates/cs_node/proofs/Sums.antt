@@ -10,8 +10,8 @@ use Rattle.cs_node.specs.declared.draft.Note.TheVariants as note
 use Rattle.cs_node.specs.declared.draft.Said.{Said}
 use Rattle.cs_node.specs.declared.draft.Draft.{Draft}
 use Rattle.cs_node_state.specs.Bench.{effect_from}
-use Rattle.cs_node.specs.Notes.{notes_of, said_of, to_each, spoken, Tells}
-use Rattle.cs_node.specs.Steps.{Makes, Marks, TurnDone}
+use Rattle.cs_node.specs.Notes.{notes_of, said_of, to_each, spoken, TellsSigns}
+use Rattle.cs_node.specs.Steps.{Makes, MakesMarks, TurnDone}
 
 pub notes-append : (new old : List Sign) → notes_of (new ++ old) ≡ notes_of old ++ notes_of new
 notes-append [] old = sym (append-nil (notes_of old))
@@ -42,11 +42,11 @@ spoken-push (x ∷ all) said =
     ap (λ xs. to_each x.to x.message ++ xs) (spoken-push all said)
     ∙ sym (append_assoc (to_each x.to x.message) (spoken all) (to_each said.to said.message))
 
-pub tells-nothing : (draft : Draft) → Tells [] draft draft
+pub tells-nothing : (draft : Draft) → TellsSigns [] draft draft
 tells-nothing draft = record { notes = sym (append-nil draft.notes); said = sym (append-nil (spoken draft.said)) }
 
 -- first these signs, then those
-pub tells-more : (first later : List Sign) (old mid new : Draft) → Tells first old mid → Tells later mid new → Tells (later ++ first) old new
+pub tells-more : (first later : List Sign) (old mid new : Draft) → TellsSigns first old mid → TellsSigns later mid new → TellsSigns (later ++ first) old new
 tells-more first later old mid new a b = record {
   notes = b.notes ∙ ap (λ xs. xs ++ notes_of later) a.notes ∙ append_assoc old.notes (notes_of first) (notes_of later) ∙ ap (λ xs. old.notes ++ xs) (sym (notes-append later first));
   said = b.said ∙ ap (λ xs. xs ++ said_of later) a.said ∙ append_assoc (spoken old.said) (said_of first) (said_of later) ∙ ap (λ xs. spoken old.said ++ xs) (sym (said-append later first));
@@ -71,7 +71,7 @@ bench-sends setup shard [] m b = refl
 bench-sends setup shard (to ∷ more) m b = bench-append setup shard (sends more m) (Sent to m ∷ []) b ∙ bench-sends setup shard more m b
 
 -- what is pushed is said
-pub tells-sends : (names : List NodeId) (m : Message) (old new : Draft) → new.notes ≡ old.notes → new.said ≡ old.said ++ record { to = names; message = m } ∷ [] → Tells (sends names m) old new
+pub tells-sends : (names : List NodeId) (m : Message) (old new : Draft) → new.notes ≡ old.notes → new.said ≡ old.said ++ record { to = names; message = m } ∷ [] → TellsSigns (sends names m) old new
 tells-sends names m old new same is = record {
   notes = same ∙ sym (append-nil old.notes) ∙ ap (λ xs. old.notes ++ xs) (sym (notes-sends names m));
   said = ap spoken is ∙ spoken-push old.said (record { to = names; message = m }) ∙ ap (λ xs. spoken old.said ++ xs) (sym (said-sends names m));
@@ -100,36 +100,36 @@ pub view-append : {M : Type 0} (site : Site M) (new old : List (Mark M)) (v : Vi
 view-append {M} site [] old v = refl
 view-append {M} site (mark ∷ new) old v = ap (mark_step site mark) (view-append site new old v)
 
-pub turn-some : {M : Type 0} (site : Site M) (found : Option (List (Mark M))) (fresh : List (Mark M)) (v : View M) (went : Bool) (old new : Draft) (After : View M → Type 0) → found ≡ Some fresh → went ≡ true → Marks site fresh v old new After → TurnDone site found v went old new After
+pub turn-some : {M : Type 0} (site : Site M) (found : Option (List (Mark M))) (fresh : List (Mark M)) (v : View M) (went : Bool) (old new : Draft) (After : View M → Type 0) → found ≡ Some fresh → went ≡ true → MakesMarks site fresh v old new After → TurnDone site found v went old new After
 turn-some {M} site found fresh v went old new After e w m = let P : Option (List (Mark M)) → Type 0 = λ o. TurnDone site o v went old new After in subst P (sym e) (w, m)
 
 -- no marks
-pub marks-none : {M : Type 0} (site : Site M) (v : View M) (old : Draft) (After : View M → Type 0) → After v → Marks site [] v old old After
+pub marks-none : {M : Type 0} (site : Site M) (v : View M) (old : Draft) (After : View M → Type 0) → After v → MakesMarks site [] v old old After
 marks-none {M} site v old After after = record { tells = tells-nothing old; after = after }
 
 -- first these marks, then those
-pub marks-more : {M : Type 0} (site : Site M) (first later : List (Mark M)) (v : View M) (old mid new : Draft) (After Later : View M → Type 0) → Marks site first v old mid After → Marks site later (view_after site first v) mid new Later → Marks site (later ++ first) v old new Later
+pub marks-more : {M : Type 0} (site : Site M) (first later : List (Mark M)) (v : View M) (old mid new : Draft) (After Later : View M → Type 0) → MakesMarks site first v old mid After → MakesMarks site later (view_after site first v) mid new Later → MakesMarks site (later ++ first) v old new Later
 marks-more {M} site first later v old mid new After Later a b =
-    let Q : List Sign → Type 0 = λ signs. Tells signs old new in
+    let Q : List Sign → Type 0 = λ signs. TellsSigns signs old new in
     record {
       tells = subst Q (sym (signs-append later first)) (tells-more (signs_of first) (signs_of later) old mid new a.tells b.tells);
       after = subst Later (sym (view-append site later first v)) b.after;
     }
 
 -- first these marks, then what signs say of table and pool
-pub marks-plain : {M : Type 0} (site : Site M) (signs : List Sign) (first : List (Mark M)) (v : View M) (old mid new : Draft) (After Later : View M → Type 0) → Marks site first v old mid After → Tells signs mid new
-    → Later (with_bench (bench_after site.setup (view_after site first v).me.shard signs (view_after site first v).bench) (view_after site first v)) → Marks site (plain signs ++ first) v old new Later
+pub marks-plain : {M : Type 0} (site : Site M) (signs : List Sign) (first : List (Mark M)) (v : View M) (old mid new : Draft) (After Later : View M → Type 0) → MakesMarks site first v old mid After → TellsSigns signs mid new
+    → Later (with_bench (bench_after site.setup (view_after site first v).me.shard signs (view_after site first v).bench) (view_after site first v)) → MakesMarks site (plain signs ++ first) v old new Later
 marks-plain {M} site signs first v old mid new After Later a tells after =
-    let Q : List Sign → Type 0 = λ all. Tells all old new in
+    let Q : List Sign → Type 0 = λ all. TellsSigns all old new in
     record {
       tells = subst Q (sym (signs-plain signs first)) (tells-more (signs_of first) signs old mid new a.tells tells);
       after = subst Later (sym (view-plain site signs first v)) after;
     }
 
 -- signs alone
-pub plain-marks : {M : Type 0} (site : Site M) (signs : List Sign) (v : View M) (b' : Bench) (old new : Draft) (After : View M → Type 0) → Makes site.setup v.me signs v.bench b' old new → After (with_bench b' v) → Marks site (plain signs) v old new After
+pub plain-marks : {M : Type 0} (site : Site M) (signs : List Sign) (v : View M) (b' : Bench) (old new : Draft) (After : View M → Type 0) → Makes site.setup v.me signs v.bench b' old new → After (with_bench b' v) → MakesMarks site (plain signs) v old new After
 plain-marks {M} site signs v b' old new After made after =
     let Q : View M → Type 0 = λ u. u ≡ v in
     let P : Bench → Type 0 = λ b. After (with_bench b v) in
-    let R : List (Mark M) → Type 0 = λ marks. Marks site marks v old new After in
+    let R : List (Mark M) → Type 0 = λ marks. MakesMarks site marks v old new After in
     subst R (append-nil (plain signs)) (marks-plain site signs [] v old old new Q After (marks-none site v old Q refl) made.tells (subst P made.bench_is after))

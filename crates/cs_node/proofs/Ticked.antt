@@ -1,16 +1,16 @@
 -- What a core did at a tick, at the view for which it stood.
 use Rattle.std.proofs.Common.{◌≡◌, ℕ, Bool, true, false, cond, List, [], ◌∷◌, ◌++◌, length, get_or, zero, suc, ◌<◌, Option, Some, None, arith, refl, ap, sym, subst, ◌∙◌, append-nil, append_assoc}
 use Rattle.std.specs.Prelude.{is_some}
-use Rattle.cs_tx_form.specs.Session.{SessionFits}
-use Rattle.cs_node_pool.specs.Fits.{AllFit}
+use Rattle.cs_tx_types.specs.Session.{SessionFits}
+use Rattle.cs_node_pool.specs.Fits.{SessionsFit}
 use Rattle.cs_base.specs.declared.node_id.NodeId.{NodeId}
 use Rattle.cs_tx_value.specs.declared.object.Object.{Object}
-use Rattle.cs_tx_form.specs.declared.transaction.Tx.{Tx}
-use Rattle.cs_tx_form.specs.declared.session.Session.{Session}
-use Rattle.cs_tx_form.specs.declared.vote.Vote.{Vote}
-use Rattle.cs_tx_form.specs.declared.vote.Vote.TheVariants.{Commit}
+use Rattle.cs_tx_types.specs.declared.transaction.Tx.{Tx}
+use Rattle.cs_tx_types.specs.declared.session.Session.{Session}
+use Rattle.cs_tx_types.specs.declared.vote.Vote.{Vote}
+use Rattle.cs_tx_types.specs.declared.vote.Vote.TheVariants.{Commit}
 use Rattle.cs_wire_message.specs.declared.message.Message.TheVariants as message
-use Rattle.cs_checkpoint.specs.Chain.{Log}
+use Rattle.cs_check_rules.specs.Chain.{Log}
 use Rattle.cs_order.specs.declared.answers.Outgoing.{Outgoing}
 use Rattle.cs_order.specs.Deeds.{Deed, Resent, Ticked, Member, Machine, did, chosen_in}
 use Rattle.cs_order.specs.Calls.{Resends, Ticks}
@@ -24,14 +24,14 @@ use Rattle.cs_node_rules.specs.Signs.{Sign, bench_after, sends, vote_signs, aske
 use Rattle.cs_node_rules.specs.Site.{Carrier, Mark, Ordered, Site, View, view_after}
 use Rattle.cs_node_rules.specs.Trail.{handed, with_deed, entered_view, again_marks, waiting_marks, tick_marks}
 use Rattle.cs_node_rules.specs.Deployment.{site_of}
-use Rattle.cs_node_pool.specs.Deployed.{deployed}
+use Rattle.cs_node_pool.specs.Deployed.{deployed_setup}
 use Rattle.cs_sbac.specs.Held.{bench_of}
 use Rattle.cs_node_pool.specs.Calls.{locked_in}
 use Rattle.cs_node.specs.declared.engine.Engine.{Engine}
 use Rattle.cs_node.specs.declared.draft.Draft.{Draft}
-use Rattle.cs_node.specs.Notes.{Tells}
-use Rattle.cs_node.specs.Steps.{Marks}
-use Rattle.cs_node.specs.Cores.{IsSeated, KeepsView, view_at}
+use Rattle.cs_node.specs.Notes.{TellsSigns}
+use Rattle.cs_node.specs.Steps.{MakesMarks}
+use Rattle.cs_node.specs.Cores.{IsSeated, KeepsView, core_view}
 use Rattle.cs_node.proofs.Sums.{tells-more, bench-append, bench-sends, with_bench, view-plain, marks-more, marks-plain}
 use Rattle.cs_node.proofs.Turns.{bench-handed, deed-done, moving-done, with_member}
 use Rattle.cs_node.proofs.Doing.{from-nothing}
@@ -77,23 +77,23 @@ asked-push setup me (y ∷ xs) x =
     ∙ append_assoc (vote_signs setup me x (Some (Commit, true))) (asked_of setup me xs) (vote_signs setup me y (Some (Commit, true)))
 
 -- each of sessions that fit does
-some-fits : (all : List Session) (k : ℕ) (x : Session) → k < length all → AllFit all → SessionFits (get_or all k x)
+some-fits : (all : List Session) (k : ℕ) (x : Session) → k < length all → SessionsFit all → SessionFits (get_or all k x)
 some-fits [] k x less fits = absurd (omega (arith, less))
 some-fits (y ∷ all) zero x less fits = fits.0
 some-fits (y ∷ all) (suc k) x less fits = some-fits all k x (omega (arith, less)) fits.1
 
-pub fits-at : (all : List Session) (k : ℕ) (x : Session) → k < length all → x ≡ get_or all k x → AllFit all → SessionFits x
+pub fits-at : (all : List Session) (k : ℕ) (x : Session) → k < length all → x ≡ get_or all k x → SessionsFit all → SessionFits x
 fits-at all k x less is fits = subst SessionFits (sym is) (some-fits all k x less fits)
 
 module _ {O J M : Type 0} (stands : O → Member M → Type 0) (approves : J → Tx → Bool) (rules : Machine M) (carried : Carrier M) (net : Net) (core : Engine O J M) (genesis : List Object) (log : Log) (h : Member M) (made : Draft) (seated : IsSeated stands core log h) where
   abbrev setup : Setup
-  setup = deployed core.sbac.config genesis (approves core.judge)
+  setup = deployed_setup core.sbac.config genesis (approves core.judge)
 
   abbrev site : Site M
   site = site_of setup net rules carried
 
   abbrev v : View M
-  v = view_at log core.sbac h
+  v = core_view log core.sbac h
 
   abbrev After : Engine O J M → View M → Type 0
   After next = KeepsView stands approves setup next
@@ -105,16 +105,16 @@ module _ {O J M : Type 0} (stands : O → Member M → Type 0) (approves : J →
   asks = asked_again setup core.sbac.me core.sbac.pool
 
   pub again-here : (mid late made' : Draft) (empty outs : List (Outgoing M)) (slot : ℕ) → empty ≡ [] → slot ≡ length (chosen_in h.deeds) → Resends rules h empty outs (stands core.order)
-      → Tells (handed site core.sbac.me outs) made mid → Tells asks mid late → Tells (wants slot) late made' → Marks site (again_marks site v) v made made' (After core)
+      → TellsSigns (handed site core.sbac.me outs) made mid → TellsSigns asks mid late → TellsSigns (wants slot) late made' → MakesMarks site (again_marks site v) v made made' (After core)
   again-here mid late made' empty outs slot none at called says asked wanted =
       let deed : Deed M = Resent (rules.resending h) in
       let w : View M = with_member (did deed h) v in
       let Q : View M → Type 0 = λ u. u ≡ w in
-      let S : List (Outgoing M) → Type 0 = λ os. Tells (handed site core.sbac.me os) made mid in
-      let first : Marks site (with_deed site v deed) v made mid Q = deed-done site v made mid Q deed (subst S (from-nothing empty outs (rules.resending h) none called.0) says) refl in
+      let S : List (Outgoing M) → Type 0 = λ os. TellsSigns (handed site core.sbac.me os) made mid in
+      let first : MakesMarks site (with_deed site v deed) v made mid Q = deed-done site v made mid Q deed (subst S (from-nothing empty outs (rules.resending h) none called.0) says) refl in
       let signs : List Sign = wants (length (chosen_in h.deeds)) ++ asks in
-      let W : ℕ → Type 0 = λ n. Tells (wants n ++ asks) mid made' in
-      let tells : Tells signs mid made' = subst W at (tells-more asks (wants slot) mid late made' asked wanted) in
+      let W : ℕ → Type 0 = λ n. TellsSigns (wants n ++ asks) mid made' in
+      let tells : TellsSigns signs mid made' = subst W at (tells-more asks (wants slot) mid late made' asked wanted) in
       let still : bench_after setup core.sbac.me.shard signs (bench_of log core.sbac) ≡ bench_of log core.sbac =
       bench-append setup core.sbac.me.shard (wants (length (chosen_in h.deeds))) asks (bench_of log core.sbac)
       ∙ ap (bench_after setup core.sbac.me.shard (wants (length (chosen_in h.deeds)))) (bench-asked setup core.sbac.me.shard core.sbac.me core.sbac.pool (bench_of log core.sbac))
@@ -125,16 +125,16 @@ module _ {O J M : Type 0} (stands : O → Member M → Type 0) (approves : J →
       (subst at_w (sym first.after) (subst P (sym still) (keeps-on stands approves genesis core log h core.order core.sbac log (did deed h) seated called.1 refl refl refl refl seated.kept_is)))
 
   pub waited-here : (made' : Draft) (order : O) (empty outs : List (Outgoing M)) (slot before : ℕ) (on : Bool) → empty ≡ [] → slot ≡ length (chosen_in h.deeds) → before ≡ rules.view h → on ≡ is_some (due setup core.sbac.pool) → Ticks rules h on empty outs (stands order)
-      → ((h' : Member M) → stands order h' → Tells (handed site core.sbac.me outs ++ entered_view slot before (rules.view h')) made made')
-      → Marks site (waiting_marks site v (is_some (due setup core.sbac.pool))) v made made' (After (record { order = order; judge = core.judge; sbac = core.sbac }))
+      → ((h' : Member M) → stands order h' → TellsSigns (handed site core.sbac.me outs ++ entered_view slot before (rules.view h')) made made')
+      → MakesMarks site (waiting_marks site v (is_some (due setup core.sbac.pool))) v made made' (After (record { order = order; judge = core.judge; sbac = core.sbac }))
   waited-here made' order empty outs slot before on none at seen is_due called says =
       let next : Engine O J M = record { order = order; judge = core.judge; sbac = core.sbac } in
       let deed : Deed M = Ticked on (rules.ticking h on) in
       let sent : outs ≡ rules.ticking h on = from-nothing empty outs (rules.ticking h on) none called.0 in
-      let D : Bool → Type 0 = λ b. Marks site (waiting_marks site v b) v made made' (After next) in
+      let D : Bool → Type 0 = λ b. MakesMarks site (waiting_marks site v b) v made made' (After next) in
       subst D is_due
       (moving-done site v made made' (After next) deed
-      (subst (λ (signs : List Sign). Tells signs made made') (λ i. handed site core.sbac.me (sent i) ++ entered_view (at i) (seen i) (rules.view (did deed h))) (says (did deed h) called.1))
+      (subst (λ (signs : List Sign). TellsSigns signs made made') (λ i. handed site core.sbac.me (sent i) ++ entered_view (at i) (seen i) (rules.view (did deed h))) (says (did deed h) called.1))
       (keeps-on stands approves genesis core log h order core.sbac log (did deed h) seated called.1 refl refl refl refl seated.kept_is))
 
 -- what is said again changes neither table nor pool
@@ -153,16 +153,16 @@ bench-again {M} site v =
 
 -- both
 pub ticked-here : {O J M : Type 0} (stands : O → Member M → Type 0) (approves : J → Tx → Bool) (rules : Machine M) (carried : Carrier M) (net : Net) (core core' : Engine O J M) (genesis : List Object) (log : Log) (h : Member M) (made mid made' : Draft)
-    → (let t : Setup = deployed core.sbac.config genesis (approves core.judge) in Marks (site_of t net rules carried) (again_marks (site_of t net rules carried) (view_at log core.sbac h)) (view_at log core.sbac h) made mid (KeepsView stands approves t core))
-    → ((genesis : List Object) (log : Log) (h : Member M) → IsSeated stands core log h → (let t : Setup = deployed core.sbac.config genesis (approves core.judge) in Marks (site_of t net rules carried) (waiting_marks (site_of t net rules carried) (view_at log core.sbac h) (is_some (due t core.sbac.pool))) (view_at log core.sbac h) mid made' (KeepsView stands approves t core')))
-    → (let t : Setup = deployed core.sbac.config genesis (approves core.judge) in Marks (site_of t net rules carried) (tick_marks (site_of t net rules carried) (view_at log core.sbac h)) (view_at log core.sbac h) made made' (KeepsView stands approves t core'))
+    → (let t : Setup = deployed_setup core.sbac.config genesis (approves core.judge) in MakesMarks (site_of t net rules carried) (again_marks (site_of t net rules carried) (core_view log core.sbac h)) (core_view log core.sbac h) made mid (KeepsView stands approves t core))
+    → ((genesis : List Object) (log : Log) (h : Member M) → IsSeated stands core log h → (let t : Setup = deployed_setup core.sbac.config genesis (approves core.judge) in MakesMarks (site_of t net rules carried) (waiting_marks (site_of t net rules carried) (core_view log core.sbac h) (is_some (due t core.sbac.pool))) (core_view log core.sbac h) mid made' (KeepsView stands approves t core')))
+    → (let t : Setup = deployed_setup core.sbac.config genesis (approves core.judge) in MakesMarks (site_of t net rules carried) (tick_marks (site_of t net rules carried) (core_view log core.sbac h)) (core_view log core.sbac h) made made' (KeepsView stands approves t core'))
 ticked-here {O} {J} {M} stands approves rules carried net core core' genesis log h made mid made' first later =
-    let setup : Setup = deployed core.sbac.config genesis (approves core.judge) in
+    let setup : Setup = deployed_setup core.sbac.config genesis (approves core.judge) in
     let site : Site M = site_of setup net rules carried in
-    let v : View M = view_at log core.sbac h in
+    let v : View M = core_view log core.sbac h in
     let again : List (Mark M) = again_marks site v in
     let w : View M = view_after site again v in
-    let F : Setup → View M → Type 0 = λ t u. Marks (site_of t net rules carried) (waiting_marks (site_of t net rules carried) u (is_some (due t u.bench.pool))) u mid made' (KeepsView stands approves t core') in
-    let waited : Marks site (waiting_marks site w (is_some (due setup w.bench.pool))) w mid made' (KeepsView stands approves setup core') = at-standing stands approves F setup core w first.after later in
-    let B : Bench → Type 0 = λ b. Marks site (waiting_marks site w (is_some (due setup b.pool))) w mid made' (KeepsView stands approves setup core') in
+    let F : Setup → View M → Type 0 = λ t u. MakesMarks (site_of t net rules carried) (waiting_marks (site_of t net rules carried) u (is_some (due t u.bench.pool))) u mid made' (KeepsView stands approves t core') in
+    let waited : MakesMarks site (waiting_marks site w (is_some (due setup w.bench.pool))) w mid made' (KeepsView stands approves setup core') = at-standing stands approves F setup core w first.after later in
+    let B : Bench → Type 0 = λ b. MakesMarks site (waiting_marks site w (is_some (due setup b.pool))) w mid made' (KeepsView stands approves setup core') in
     marks-more site again (waiting_marks site w (is_some (due setup v.bench.pool))) v made mid made' (KeepsView stands approves setup core) (KeepsView stands approves setup core') first (subst B (bench-again site v) waited)

@@ -3,18 +3,18 @@ use Rattle.std.proofs.Common.{◌≡◌, ℕ, Bool, true, false, not, cond, List
 use Rattle.std.specs.Map.{lookup, set_value}
 use Rattle.cs_base.specs.declared.node_id.NodeId.{NodeId}
 use Rattle.cs_base.specs.NodeId.{is_client}
-use Rattle.cs_tx_form.specs.declared.session.Session.{Session}
-use Rattle.cs_tx_form.specs.declared.vote.Vote.{Vote}
+use Rattle.cs_tx_types.specs.declared.session.Session.{Session}
+use Rattle.cs_tx_types.specs.declared.vote.Vote.{Vote}
 use Rattle.cs_tx.specs.Digest.{digest_of_session}
 use Rattle.cs_wire_message.specs.declared.message.Message.TheVariants as message
 use Rattle.cs_ledger.specs.Ledger.{Bytes}
 use Rattle.cs_node_state.specs.declared.ballot.Ballot.{Ballot}
 use Rattle.cs_node_rules.specs.declared.cause.Cause.TheVariants.{Role, Malformed, Repeat, Unasked, Denied, Full}
 use Rattle.cs_node_state.specs.declared.pooled.Pooled.{Pooled}
-use Rattle.cs_checkpoint.specs.Chain.{Log, kept_of}
-use Rattle.cs_node_state.specs.Setup.{Setup, digest_of, concerns, is_fit, is_approved}
+use Rattle.cs_check_rules.specs.Chain.{Log, kept_of}
+use Rattle.cs_node_state.specs.Setup.{Setup, digest_of, is_concerned_shard, is_fit, is_approved}
 use Rattle.cs_node_state.specs.Evidence.{has_voted}
-use Rattle.cs_node_state.specs.Pool.{Pool, found, changed, changed_at, with_ballot, pushed, entered, has_room}
+use Rattle.cs_node_state.specs.Pool.{Pool, found, pool_changed, changed_at, with_ballot, pushed, entered, pool_has_room}
 use Rattle.cs_node_state.specs.Bench.{Bench}
 use Rattle.cs_node_rules.specs.Signs.{Sign, Dropped, Took, Entered, Sent, guarded, asking_signs, ballot_signs, voted_signs}
 use Rattle.cs_node_pool.specs.declared.answers.Counted.{Counted}
@@ -25,7 +25,7 @@ use Rattle.cs_sbac.specs.Held.{Held, bench_of, with_pool}
 use Rattle.cs_node_pool.specs.Calls.{counted_in}
 use Rattle.cs_sbac.specs.Calls.{entered_in, pool_entered_with}
 use Rattle.cs_node.specs.declared.draft.Draft.{Draft}
-use Rattle.cs_node.specs.Notes.{Tells}
+use Rattle.cs_node.specs.Notes.{TellsSigns}
 use Rattle.cs_node.specs.Signing.{Leaves}
 use Rattle.cs_node.specs.Steps.{Makes}
 use Rattle.cs_node.proofs.Sums.{tells-nothing}
@@ -76,11 +76,11 @@ set-same test (e ∷ pool) p h = by_test (set-same test pool p) (test e.0) h
     by_test later true k = let q : e.1 ≡ p = cc in ap (λ (w : Pooled). (e.0, w) ∷ pool) (sym q)
     by_test later false k = ap (λ (rest : Pool). e ∷ rest) (later k)
 
-changed-absent : (d : Bytes) (change : Pooled → Pooled) (pool : Pool) → found d pool ≡ None → changed d change pool ≡ pool
+changed-absent : (d : Bytes) (change : Pooled → Pooled) (pool : Pool) → found d pool ≡ None → pool_changed d change pool ≡ pool
 changed-absent d change pool none = ap (changed_at d change pool) none
 
 -- a second vote leaves the pool as it is
-pub changed-again : (d : Bytes) (ballot : Ballot) (pool : Pool) → IsThere ballot.sender true (found d pool) → changed d (with_ballot ballot) pool ≡ pool
+pub changed-again : (d : Bytes) (ballot : Ballot) (pool : Pool) → IsThere ballot.sender true (found d pool) → pool_changed d (with_ballot ballot) pool ≡ pool
 changed-again d ballot pool t =
     ap (changed_at d (with_ballot ballot) pool) t.is
     ∙ ap (λ b. set_value (bytes_eq d) pool (cond b t.p (record { session = t.p.session; locked = t.p.locked; ballots = t.p.ballots ++ ballot ∷ [] }))) t.has
@@ -89,13 +89,13 @@ changed-again d ballot pool t =
 -- a vote on a session was counted: what the pool answered, and what it left
 pub record IsCounted (held held' : Held) (ballot : Ballot) (x : Session) (answer : Counted) : Type 0 where
   pub answered : answer ≡ counted_in ballot.sender (found (digest_of_session x) held.pool)
-  pub left : held' ≡ with_pool held (changed (digest_of_session x) (with_ballot ballot) held.pool)
+  pub left : held' ≡ with_pool held (pool_changed (digest_of_session x) (with_ballot ballot) held.pool)
 
 pub is-counted : (held held' : Held) (ballot : Ballot) (x : Session) (answer : Counted) (d : Bytes) → d ≡ digest_of_session x → answer ≡ counted_in ballot.sender (found d held.pool)
-    → held' ≡ with_pool held (changed d (with_ballot ballot) held.pool) → IsCounted held held' ballot x answer
+    → held' ≡ with_pool held (pool_changed d (with_ballot ballot) held.pool) → IsCounted held held' ballot x answer
 is-counted held held' ballot x answer d named answered left = record {
   answered = answered ∙ ap (λ name. counted_in ballot.sender (found name held.pool)) named;
-  left = left ∙ ap (λ name. with_pool held (changed name (with_ballot ballot) held.pool)) named;
+  left = left ∙ ap (λ name. with_pool held (pool_changed name (with_ballot ballot) held.pool)) named;
 }
 
 -- a session that is not there is left alone
@@ -121,10 +121,10 @@ module _ (setup : Setup) (shard : ℕ) (b : Bench) (sender : NodeId) (vote : Vot
   pub on-malformed : is_client sender ≡ false → is_fit setup shard x ≡ false → all ≡ Dropped Malformed ∷ []
   on-malformed client fit = rw (client, fit) refl
 
-  pub by-stranger : is_client sender ≡ false → is_fit setup shard x ≡ true → concerns setup x sender.shard ≡ false → all ≡ Dropped Role ∷ []
+  pub by-stranger : is_client sender ≡ false → is_fit setup shard x ≡ true → is_concerned_shard setup x sender.shard ≡ false → all ≡ Dropped Role ∷ []
   by-stranger client fit concerned = rw (client, fit, concerned) refl
 
-  module _ (client : is_client sender ≡ false) (fit : is_fit setup shard x ≡ true) (concerned : concerns setup x sender.shard ≡ true) where
+  module _ (client : is_client sender ≡ false) (fit : is_fit setup shard x ≡ true) (concerned : is_concerned_shard setup x sender.shard ≡ true) where
     pub on-found : (o : Option Pooled) → found (digest_of setup x) b.pool ≡ o → all ≡ ballot_signs setup shard b sender vote asks x o
     on-found o is = rw (client, fit, concerned, is) refl
 
@@ -143,14 +143,14 @@ module _ (setup : Setup) (shard : ℕ) (b : Bench) (sender : NodeId) (vote : Vot
   asked-known known given ask is = ap (asking_signs setup b sender vote asks x) is ∙ ap (λ a. guarded a Unasked (Sent sender (message.Voted given false x) ∷ [])) ask
 
   abbrev enters : List Sign
-  enters = guarded (is_approved setup x) Denied (guarded (has_room b.pool) Full (Took sender vote x ∷ Entered x ∷ []))
+  enters = guarded (is_approved setup x) Denied (guarded (pool_has_room b.pool) Full (Took sender vote x ∷ Entered x ∷ []))
 
   pub asked-new : (known : Option Vote) → asks ≡ true → known ≡ None → asking_signs setup b sender vote asks x known ≡ enters
   asked-new known ask is = ap (asking_signs setup b sender vote asks x) is ∙ ap (λ a. guarded a Unasked enters) ask
 
 -- the first vote of a node on a pooled session is taken
 pub first-makes : (setup : Setup) (held held' : Held) (log : Log) (kept_is : held.archived.kept ≡ kept_of log) (sender : NodeId) (vote : Vote) (x : Session) (signs : List Sign) (draft : Draft) → signs ≡ Took sender vote x ∷ []
-    → held' ≡ with_pool held (changed (digest_of setup x) (with_ballot (record { sender = sender; vote = vote })) held.pool) → Leaves setup held signs (bench_of log held) held' draft draft
+    → held' ≡ with_pool held (pool_changed (digest_of setup x) (with_ballot (record { sender = sender; vote = vote })) held.pool) → Leaves setup held signs (bench_of log held) held' draft draft
 first-makes setup held held' log kept_is sender vote x signs draft is left =
     let P : List Sign → Type 0 = λ made. Leaves setup held made (bench_of log held) held' draft draft in
     subst P (sym is) (record {
@@ -166,7 +166,7 @@ first-makes setup held held' log kept_is sender vote x signs draft is left =
 
 -- the second one is dropped
 pub second-makes : (setup : Setup) (held held' : Held) (log : Log) (kept_is : held.archived.kept ≡ kept_of log) (ballot : Ballot) (x : Session) (signs : List Sign) (old new : Draft) → signs ≡ Dropped Repeat ∷ []
-    → held' ≡ with_pool held (changed (digest_of setup x) (with_ballot ballot) held.pool) → IsThere ballot.sender true (found (digest_of setup x) held.pool) → Tells (Dropped Repeat ∷ []) old new → Leaves setup held signs (bench_of log held) held' old new
+    → held' ≡ with_pool held (pool_changed (digest_of setup x) (with_ballot ballot) held.pool) → IsThere ballot.sender true (found (digest_of setup x) held.pool) → TellsSigns (Dropped Repeat ∷ []) old new → Leaves setup held signs (bench_of log held) held' old new
 second-makes setup held held' log kept_is ballot x signs old new is left t tells =
     let same : held' ≡ held = left ∙ ap (with_pool held) (changed-again (digest_of setup x) ballot held.pool t) in
     let P : Held → Type 0 = λ h. Leaves setup held signs (bench_of log held) h old new in
@@ -176,13 +176,13 @@ second-makes setup held held' log kept_is ballot x signs old new is left t tells
 module _ (setup : Setup) (held held' : Held) (log : Log) (kept_is : held.archived.kept ≡ kept_of log) (ballot : Ballot) (x : Session) (answer : Answer)
     (none : found (digest_of setup x) held.pool ≡ None) (approved : is_approved setup x ≡ true) (answered : answer ≡ entered_in held.pool) (left : held' ≡ with_pool held (pool_entered_with (digest_of setup x) x ballot held.pool)) where
   abbrev signs : List Sign
-  signs = guarded (is_approved setup x) Denied (guarded (has_room held.pool) Full (Took ballot.sender ballot.vote x ∷ Entered x ∷ []))
+  signs = guarded (is_approved setup x) Denied (guarded (pool_has_room held.pool) Full (Took ballot.sender ballot.vote x ∷ Entered x ∷ []))
 
   pub new-voted : (draft : Draft) → answer ≡ enter.New → Leaves setup held signs (bench_of log held) held' draft draft
   new-voted draft new =
-      let room : has_room held.pool ≡ true = room-new held.pool (sym answered ∙ new) in
+      let room : pool_has_room held.pool ≡ true = room-new held.pool (sym answered ∙ new) in
       let d : Bytes = digest_of setup x in
-      let grown : pool_entered_with d x ballot held.pool ≡ changed d (with_ballot ballot) (pushed d x false held.pool) = rw room refl in
+      let grown : pool_entered_with d x ballot held.pool ≡ pool_changed d (with_ballot ballot) (pushed d x false held.pool) = rw room refl in
       let there : entered d x held.pool ≡ pushed d x false held.pool = ap (λ (o : Option Pooled). cond (is_some o) held.pool (pushed d x false held.pool)) none in
       let P : List Sign → Type 0 = λ made. Leaves setup held made (bench_of log held) held' draft draft in
       let takes : signs ≡ Took ballot.sender ballot.vote x ∷ Entered x ∷ [] = rw (approved, room) refl in
@@ -193,19 +193,19 @@ module _ (setup : Setup) (held held' : Held) (log : Log) (kept_is : held.archive
         me_is = ap (λ (h : Held). h.me) left;
         makes = record {
           tells = record { notes = (tells-nothing draft).notes; said = (tells-nothing draft).said };
-          bench_is = ap (bench_of log) left ∙ ap (λ (p : Pool). record (bench_of log held) { pool = p }) (grown ∙ ap (changed d (with_ballot ballot)) (sym there));
+          bench_is = ap (bench_of log) left ∙ ap (λ (p : Pool). record (bench_of log held) { pool = p }) (grown ∙ ap (pool_changed d (with_ballot ballot)) (sym there));
         };
       })
 
-  pub full-voted : (old new : Draft) → answer ≡ enter.Full → Tells (Dropped Full ∷ []) old new → Leaves setup held signs (bench_of log held) held' old new
+  pub full-voted : (old new : Draft) → answer ≡ enter.Full → TellsSigns (Dropped Full ∷ []) old new → Leaves setup held signs (bench_of log held) held' old new
   full-voted old new is tells =
-      let room : has_room held.pool ≡ false = room-full held.pool (sym answered ∙ is) in
-      let same : held' ≡ held = left ∙ ap (λ b. with_pool held (cond b (changed (digest_of setup x) (with_ballot ballot) (pushed (digest_of setup x) x false held.pool)) held.pool)) room in
+      let room : pool_has_room held.pool ≡ false = room-full held.pool (sym answered ∙ is) in
+      let same : held' ≡ held = left ∙ ap (λ b. with_pool held (cond b (pool_changed (digest_of setup x) (with_ballot ballot) (pushed (digest_of setup x) x false held.pool)) held.pool)) room in
       let full : signs ≡ Dropped Full ∷ [] = rw (approved, room) refl in
       let P : Held → Type 0 = λ h. Leaves setup held signs (bench_of log held) h old new in
       subst P (sym same) (stays setup signs held log old new kept_is (dropped-makes setup held.me (bench_of log held) signs Full old new full tells))
 
-pub denied-voted : (setup : Setup) (me : NodeId) (b : Bench) (ballot : Ballot) (x : Session) (old new : Draft) → is_approved setup x ≡ false → Tells (Dropped Denied ∷ []) old new
-    → Makes setup me (guarded (is_approved setup x) Denied (guarded (has_room b.pool) Full (Took ballot.sender ballot.vote x ∷ Entered x ∷ []))) b b old new
+pub denied-voted : (setup : Setup) (me : NodeId) (b : Bench) (ballot : Ballot) (x : Session) (old new : Draft) → is_approved setup x ≡ false → TellsSigns (Dropped Denied ∷ []) old new
+    → Makes setup me (guarded (is_approved setup x) Denied (guarded (pool_has_room b.pool) Full (Took ballot.sender ballot.vote x ∷ Entered x ∷ []))) b b old new
 denied-voted setup me b ballot x old new approved tells =
-    dropped-makes setup me b (guarded (is_approved setup x) Denied (guarded (has_room b.pool) Full (Took ballot.sender ballot.vote x ∷ Entered x ∷ []))) Denied old new (rw approved refl) tells
+    dropped-makes setup me b (guarded (is_approved setup x) Denied (guarded (pool_has_room b.pool) Full (Took ballot.sender ballot.vote x ∷ Entered x ∷ []))) Denied old new (rw approved refl) tells

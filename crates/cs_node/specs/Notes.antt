@@ -1,14 +1,14 @@
 -- What the marks of an event tell, and what they say to others.
 use Rattle.std.specs.Prelude.{◌≡◌, List, [], ◌∷◌, ◌++◌, IsSome}
 use Rattle.cs_base.specs.declared.node_id.NodeId.{NodeId}
-use Rattle.cs_tx_form.specs.Session.{EntryFits}
+use Rattle.cs_tx_types.specs.Session.{EntryFits}
 use Rattle.cs_wire_message.specs.declared.message.Message.{Message}
 use Rattle.cs_wire_message.specs.Message.{MessageFits}
 use Rattle.cs_wire.specs.declared.input.Out.{Out}
 use Rattle.cs_wire.specs.declared.keys.Keys.{Keys}
 use Rattle.cs_wire.specs.Keys.{row_of}
 use Rattle.cs_node_state.specs.Bench.{effect_from}
-use Rattle.cs_node_rules.specs.Net.{Net, sealed}
+use Rattle.cs_node_rules.specs.Net.{Net, sealed_by_net}
 use Rattle.cs_node_rules.specs.Signs.{Sign, Dropped, Took, Entered, Viewed, Did, Headed, Kept, Sent}
 use Rattle.cs_node.specs.declared.draft.Note.{Note}
 use Rattle.cs_node.specs.declared.draft.Note.TheVariants as note
@@ -38,7 +38,7 @@ outs_of net me (Did slot entry effect ∷ past) = outs_of net me past
 outs_of net me (Headed number head ∷ past) = outs_of net me past
 outs_of net me (Kept index checkpoint ∷ past) = outs_of net me past
 outs_of net me (Sent to message ∷ past) =
-    outs_of net me past ++ record { to = to; bytes = sealed net me to message } ∷ []
+    outs_of net me past ++ record { to = to; bytes = sealed_by_net net me to message } ∷ []
 
 -- ---- while an event goes on
 
@@ -66,18 +66,18 @@ spoken (said ∷ more) = to_each said.to said.message ++ spoken more
 -- sealed
 abbrev pub outs_for : Net → NodeId → List (NodeId × Message) → List Out
 outs_for net me [] = []
-outs_for net me (said ∷ more) = record { to = said.0; bytes = sealed net me said.0 said.1 } ∷ outs_for net me more
+outs_for net me (said ∷ more) = record { to = said.0; bytes = sealed_by_net net me said.0 said.1 } ∷ outs_for net me more
 
 -- there are keys to all who are told something
 abbrev pub AllReached : Keys → List (NodeId × Message) → Type 0
 AllReached keys [] = Unit {0}
 AllReached keys (said ∷ more) = IsSome (row_of said.0 keys) × AllReached keys more
 
-abbrev pub nothing : Draft
-nothing = record { notes = []; said = [] }
+abbrev pub nothing_said : Draft
+nothing_said = record { notes = []; said = [] }
 
 -- a draft grew by what these signs tell and say
-pub record Tells (signs : List Sign) (old new : Draft) : Type 0 where
+pub record TellsSigns (signs : List Sign) (old new : Draft) : Type 0 where
   pub notes : new.notes ≡ old.notes ++ notes_of signs
   pub said : spoken new.said ≡ spoken old.said ++ said_of signs
 

@@ -1,26 +1,26 @@
 -- Proposed entries, as a node reads them.
 use Rattle.std.specs.Prelude.{ℕ, Bool, false, if◌then◌else◌, List, [], ◌∷◌, Option, Some, None}
-use Rattle.cs_tx_form.specs.declared.entry.Entry.{Entry}
+use Rattle.cs_tx_types.specs.declared.entry.Entry.{Entry}
 use Rattle.cs_order.specs.declared.proposed.Proposed.{Proposed}
 use Rattle.cs_node_state.specs.Setup.{Setup}
 use Rattle.cs_node_state.specs.Pool.{Pool}
 use Rattle.cs_node_state.specs.Admission.{admits}
 use Rattle.cs_node_rules.specs.Deployment.{entry_or_void}
-use Rattle.cs_node_carried.specs.Proposals.{entry_read}
+use Rattle.cs_node_wire.specs.Proposals.{entry_read}
 
 -- of bytes that are no entry a fixed one, which is Void
 abbrev pub entry_in : Proposed → Entry
 entry_in proposed = entry_or_void (entry_read proposed)
 
-abbrev pub admits_proposed : Setup → ℕ → Pool → Proposed → Bool
-admits_proposed setup shard pool proposed = admits setup shard pool (entry_in proposed)
+abbrev pub pool_admits : Setup → ℕ → Pool → Proposed → Bool
+pool_admits setup shard pool proposed = admits setup shard pool (entry_in proposed)
 
 abbrev pub admits_pending : Setup → ℕ → Pool → Option Proposed → Bool
 admits_pending setup shard pool None = false
-admits_pending setup shard pool (Some proposed) = admits_proposed setup shard pool proposed
+admits_pending setup shard pool (Some proposed) = pool_admits setup shard pool proposed
 
 -- the first of these proposals that is admitted
 abbrev pub first_admitted : Setup → ℕ → Pool → List Proposed → Option Proposed
 first_admitted setup shard pool [] = None
 first_admitted setup shard pool (proposed ∷ more) =
-    if admits_proposed setup shard pool proposed then Some proposed else first_admitted setup shard pool more
+    if pool_admits setup shard pool proposed then Some proposed else first_admitted setup shard pool more

@@ -5,7 +5,7 @@ use Rattle.cs_node.specs.declared.nodes.StartError.{StartError}
 use Rattle.cs_node.specs.declared.nodes.StartError.TheVariants.{Duplicate, Memory}
 
 -- a start is refused exactly where a key stands twice, unless memory runs out
-abbrev pub Starts : {A : Type 0} → Option Key → Result A StartError → Type 0
-Starts {A} twice (Ok core) = twice ≡ None
-Starts {A} twice (Err (Duplicate key)) = twice ≡ Some key
-Starts {A} twice (Err Memory) = Unit {0}
+abbrev pub NodeStarts : {A : Type 0} → Option Key → Result A StartError → Type 0
+NodeStarts {A} twice (Ok core) = twice ≡ None
+NodeStarts {A} twice (Err (Duplicate key)) = twice ≡ Some key
+NodeStarts {A} twice (Err Memory) = Unit {0}

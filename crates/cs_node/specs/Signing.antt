@@ -1,12 +1,12 @@
 -- What calls of the table and the pool make, at the setup of any deployment that the node may be of.
 use Rattle.std.specs.Prelude.{◌≡◌, Bool, List, Result, OnOk}
 use Rattle.cs_tx_value.specs.declared.object.Object.{Object}
-use Rattle.cs_tx_form.specs.declared.transaction.Tx.{Tx}
-use Rattle.cs_checkpoint.specs.Chain.{Log, kept_of, AtItsLog}
+use Rattle.cs_tx_types.specs.declared.transaction.Tx.{Tx}
+use Rattle.cs_check_rules.specs.Chain.{Log, kept_of, AtItsLog}
 use Rattle.cs_node_state.specs.Setup.{Setup}
 use Rattle.cs_node_state.specs.Bench.{Bench}
 use Rattle.cs_node_rules.specs.Signs.{Sign}
-use Rattle.cs_node_pool.specs.Deployed.{deployed}
+use Rattle.cs_node_pool.specs.Deployed.{deployed_setup}
 use Rattle.cs_sbac.specs.Held.{Held, bench_of}
 use Rattle.cs_node.specs.declared.draft.Draft.{Draft}
 use Rattle.cs_node.specs.Steps.{Makes}
@@ -25,5 +25,5 @@ abbrev pub Does : {A E : Type 0} → (Tx → Bool) → Held → Held → Draft �
     → (Setup → Bench → List Sign) → Type 0
 Does {A} {E} approves held held' draft draft' result signs =
     (genesis : List Object) → AtItsLog held.archived.kept (λ log.
-    OnOk result (Leaves (deployed held.config genesis approves) held
-    (signs (deployed held.config genesis approves) (bench_of log held)) (bench_of log held) held' draft draft'))
+    OnOk result (Leaves (deployed_setup held.config genesis approves) held
+    (signs (deployed_setup held.config genesis approves) (bench_of log held)) (bench_of log held) held' draft draft'))

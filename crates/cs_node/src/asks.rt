@@ -1,7 +1,7 @@
 //! What clients ask.
 ghost use Rattle.std.specs.Prelude.{OnOk, Bool};
-ghost use Rattle.cs_tx_form.specs.declared.transaction.Tx.{Tx};
-ghost use Rattle.cs_wire_message.specs.Message.{AskedFits, IsSlot};
+ghost use Rattle.cs_tx_types.specs.declared.transaction.Tx.{Tx};
+ghost use Rattle.cs_wire_message.specs.Message.{AskedKeyFits, IsSlot};
 ghost use Rattle.cs_node_rules.specs.Signs.{ask_signs, ask_proof_signs};
 ghost use Rattle.cs_node.specs.Notes.{DraftFits};
 ghost use Rattle.cs_node.specs.Signing.{Does};
@@ -21,7 +21,7 @@ pub fn ask(
     sender: NodeId,
     asked: Option<Key>,
 ) -> Result<(), Memory>
-    requires { AskedFits asked }
+    requires { AskedKeyFits asked }
     ensures made { (approves : Tx → Bool) →
         Does approves sbac.now sbac.now draft.old draft.new result
         (λ setup b. ask_signs setup sbac.now.me.shard b sender asked) }

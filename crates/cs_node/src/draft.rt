@@ -1,8 +1,8 @@
 //! What an event has made so far.
 ghost use Rattle.std.specs.Prelude.{◌≡◌, ◌∷◌, ◌++◌, [], OnOk};
-ghost use Rattle.cs_tx_form.specs.Session.{EntryFits};
+ghost use Rattle.cs_tx_types.specs.Session.{EntryFits};
 ghost use Rattle.cs_wire_message.specs.Message.{MessageFits};
-ghost use Rattle.cs_node.specs.Notes.{nothing, Tells, DraftFits};
+ghost use Rattle.cs_node.specs.Notes.{nothing_said, TellsSigns, DraftFits};
 ghost use Rattle.cs_node_rules.specs.Signs.{Dropped, Viewed, Headed, Sent, sends};
 
 use cs_base::{Memory, NodeId, Sequence};
@@ -52,7 +52,7 @@ pub struct Draft {
 impl Draft {
     /// Nothing yet.
     pub fn new(alloc: Global) -> Self
-        ensures { result ≡ nothing }
+        ensures { result ≡ nothing_said }
     {
         Draft {
             notes: Sequence::new(alloc),
@@ -62,7 +62,7 @@ impl Draft {
 
     /// Notes that the input is dropped.
     pub fn drop_it(&mut self, cause: Cause) -> Result<(), Memory>
-        ensures tells { OnOk result (Tells (Dropped cause ∷ []) self.old self.new) }
+        ensures tells { OnOk result (TellsSigns (Dropped cause ∷ []) self.old self.new) }
         ensures fits { DraftFits self.old → OnOk result (DraftFits self.new) }
     {
         self.notes.push(Note::Dropped(cause))?;
@@ -87,7 +87,7 @@ impl Draft {
 
     /// Notes a view that the order entered.
     pub fn note_view(&mut self, slot: u64, view: u16) -> Result<(), Memory>
-        ensures tells { OnOk result (Tells (Viewed slot view ∷ []) self.old self.new) }
+        ensures tells { OnOk result (TellsSigns (Viewed slot view ∷ []) self.old self.new) }
         ensures fits { DraftFits self.old → OnOk result (DraftFits self.new) }
     {
         self.notes.push(Note::Viewed { slot, view })?;
@@ -96,7 +96,7 @@ impl Draft {
 
     /// Notes a checkpoint that was made.
     pub fn note_head(&mut self, number: u64, head: Digest) -> Result<(), Memory>
-        ensures tells { OnOk result (Tells (Headed number head ∷ []) self.old self.new) }
+        ensures tells { OnOk result (TellsSigns (Headed number head ∷ []) self.old self.new) }
         ensures fits { DraftFits self.old → OnOk result (DraftFits self.new) }
     {
         self.notes.push(Note::Headed { number, head })?;
@@ -105,7 +105,7 @@ impl Draft {
 
     /// Says something to these, one after the other.
     pub fn say_to(&mut self, to: Sequence<NodeId>, message: Message) -> Result<(), Memory>
-        ensures tells { OnOk result (Tells (sends to message) self.old self.new) }
+        ensures tells { OnOk result (TellsSigns (sends to message) self.old self.new) }
         ensures fits { MessageFits message → DraftFits self.old → OnOk result (DraftFits self.new) }
     {
         self.said.push(Said { to, message })?;
@@ -114,7 +114,7 @@ impl Draft {
 
     /// Says something to one.
     pub fn say(&mut self, alloc: Global, to: NodeId, message: Message) -> Result<(), Memory>
-        ensures tells { OnOk result (Tells (Sent to message ∷ []) self.old self.new) }
+        ensures tells { OnOk result (TellsSigns (Sent to message ∷ []) self.old self.new) }
         ensures fits { MessageFits message → DraftFits self.old → OnOk result (DraftFits self.new) }
     {
         let mut names = Sequence::new(alloc);

@@ -6,23 +6,23 @@ ghost use Rattle.cs_order.specs.Deeds.{Member, chosen_in};
 ghost use Rattle.cs_node_rules.specs.Net.{Net};
 ghost use Rattle.cs_node_rules.specs.Trail.{handed, entered_view, due_marks, candidate_marks, propose_marks, echo_marks, turn_marks, input_marks};
 ghost use Rattle.cs_node_state.specs.Admission.{due};
-ghost use Rattle.cs_node_pool.specs.Deployed.{deployed};
-ghost use Rattle.cs_node.specs.Notes.{Tells, DraftFits};
-ghost use Rattle.cs_node.specs.Proposals.{admits_proposed, admits_pending, first_admitted};
+ghost use Rattle.cs_node_pool.specs.Deployed.{deployed_setup};
+ghost use Rattle.cs_node.specs.Notes.{TellsSigns, DraftFits};
+ghost use Rattle.cs_node.specs.Proposals.{pool_admits, admits_pending, first_admitted};
 ghost use Rattle.cs_node.specs.Speaking.{Speaks, input_of};
-ghost use Rattle.cs_node.specs.Steps.{Marks, Settles, cut_at};
+ghost use Rattle.cs_node.specs.Steps.{MakesMarks, Settles, log_cut_at};
 ghost use Rattle.cs_node.specs.Cores.{Leads, TurnsBy, site_at};
 
 use crate::draft::Draft;
 use crate::executions::execute;
 use crate::handing::hand_out;
 use cs_base::{Memory, Sequence};
-use cs_checkpoint::KEPT_SLOTS;
-use cs_node_carried::{Carried, propose_entry, read_entry};
+use cs_check_rules::KEPT_SLOTS;
+use cs_node_wire::{Carried, propose_entry, read_entry};
 use cs_order::{May, Order, Outgoing, Proposed, Step};
 use cs_sbac::Sbac;
 use cs_tx::Judge;
-use cs_tx_form::COVERED;
+use cs_tx_types::COVERED;
 use cs_wire::{Input, Keys};
 use std::alloc::Global;
 
@@ -47,7 +47,7 @@ impl<O: Carried, J: Judge + Drop> Engine<O, J> {
             Leads O.stands J.is_approved O.rules O.carrier self.old self.new (λ site v After.
             Speaks self.old.sbac.config site.net keys.now →
             let marks = input_marks site v (input_of input.entry) in
-            OnOk result (Marks site marks v draft.old draft.new After)) }
+            OnOk result (MakesMarks site marks v draft.old draft.new After)) }
         ensures fits { DraftFits draft.old → OnOk result (DraftFits draft.new) }
     {
         match input {
@@ -107,7 +107,7 @@ impl<O: Carried, J: Judge + Drop> Engine<O, J> {
             let site = site_at O.rules O.carrier net self.now.sbac genesis approves in
             let said = handed site self.now.sbac.me outgoing.items in
             let entered = entered_view slot before (O.rules.view h) in
-            OnOk result (Tells (said ++ entered) draft.old draft.new) }
+            OnOk result (TellsSigns (said ++ entered) draft.old draft.new) }
         ensures fits { DraftFits draft.old → OnOk result (DraftFits draft.new) }
     {
         note_entered_view(draft, slot, before, self.order.view())?;
@@ -137,7 +137,7 @@ impl<O: Carried, J: Judge + Drop> Engine<O, J> {
         ensures awaits { (h : Member O.Message) → O.stands self.now.order h →
             O.awaits self.now.order ≡ O.rules.pending h }
         ensures admitted { (genesis : List AnyObject) →
-            let setup = deployed self.now.sbac.config genesis (J.is_approved self.now.judge) in
+            let setup = deployed_setup self.now.sbac.config genesis (J.is_approved self.now.judge) in
             let held = self.now.sbac in
             let pending = O.awaits self.now.order in
             IfOk result (λ yes. yes ≡ admits_pending setup held.me.shard held.pool pending) }
@@ -150,9 +150,9 @@ impl<O: Carried, J: Judge + Drop> Engine<O, J> {
 
     fn admits(&self, alloc: Global, proposed: &Proposed) -> Result<bool, Memory>
         ensures { (genesis : List AnyObject) →
-            let setup = deployed self.now.sbac.config genesis (J.is_approved self.now.judge) in
+            let setup = deployed_setup self.now.sbac.config genesis (J.is_approved self.now.judge) in
             let held = self.now.sbac in
-            IfOk result (λ yes. yes ≡ admits_proposed setup held.me.shard held.pool proposed.now) }
+            IfOk result (λ yes. yes ≡ pool_admits setup held.me.shard held.pool proposed.now) }
     {
         match read_entry(alloc, proposed)? {
             None => Ok(false),
@@ -228,7 +228,7 @@ impl<O: Carried, J: Judge + Drop> Engine<O, J> {
         candidates: &Sequence<Proposed>,
     ) -> Result<Option<Proposed>, Memory>
         ensures { (genesis : List AnyObject) →
-            let setup = deployed self.now.sbac.config genesis (J.is_approved self.now.judge) in
+            let setup = deployed_setup self.now.sbac.config genesis (J.is_approved self.now.judge) in
             let held = self.now.sbac in
             let found = first_admitted setup held.me.shard held.pool candidates.now in
             IfOk result (λ first. first ≡ found) }
@@ -244,7 +244,7 @@ impl<O: Carried, J: Judge + Drop> Engine<O, J> {
 
 // Notes the view that was entered, if one was.
 fn note_entered_view(draft: &mut Draft, slot: u64, before: u16, after: u16) -> Result<(), Memory>
-    ensures tells { OnOk result (Tells (entered_view slot before after) draft.old draft.new) }
+    ensures tells { OnOk result (TellsSigns (entered_view slot before after) draft.old draft.new) }
     ensures fits { DraftFits draft.old → OnOk result (DraftFits draft.new) }
 {
     if before < after {
@@ -257,7 +257,7 @@ fn note_entered_view(draft: &mut Draft, slot: u64, before: u16, after: u16) -> R
 // 1,024.
 fn cut_log<O: Order>(order: &mut O)
     ensures cut { (h : Member O.Message) → O.stands order.old h →
-        O.stands order.new (cut_at (length (chosen_in h.deeds)) h) }
+        O.stands order.new (log_cut_at (length (chosen_in h.deeds)) h) }
     ensures rest { O.rest order.new ≤ O.rest order.old }
 {
     let open = order.open_slot();

@@ -1,7 +1,7 @@
 //! Execution of what was chosen.
 ghost use Rattle.std.specs.Prelude.{◌≡◌, IfOk, OnOk, Bool};
-ghost use Rattle.cs_tx_form.specs.declared.transaction.Tx.{Tx};
-ghost use Rattle.cs_tx_form.specs.Session.{EntryFits};
+ghost use Rattle.cs_tx_types.specs.declared.transaction.Tx.{Tx};
+ghost use Rattle.cs_tx_types.specs.Session.{EntryFits};
 ghost use Rattle.cs_node_rules.specs.Signs.{execution_signs};
 ghost use Rattle.cs_node.specs.Notes.{DraftFits};
 ghost use Rattle.cs_node.specs.Proposals.{entry_in};
@@ -10,8 +10,8 @@ ghost use Rattle.cs_node.specs.Signing.{Does};
 use crate::draft::Draft;
 use crate::sending::{say_made, say_vote};
 use cs_base::Memory;
-use cs_checkpoint::Leaf;
-use cs_node_carried::{read_entry, void_entry};
+use cs_check_rules::Leaf;
+use cs_node_wire::{read_entry, void_entry};
 use cs_order::Proposed;
 use cs_sbac::Sbac;
 use cs_tx::Entry;

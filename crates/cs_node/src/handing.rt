@@ -1,13 +1,13 @@
 //! What an order hands out.
 ghost use Rattle.std.specs.Prelude.{OnOk};
 ghost use Rattle.cs_node_rules.specs.Trail.{out_signs, handed};
-ghost use Rattle.cs_node.specs.Notes.{Tells, DraftFits};
+ghost use Rattle.cs_node.specs.Notes.{TellsSigns, DraftFits};
 ghost use Rattle.cs_node.specs.Cores.{AtEverySite};
 
 use crate::draft::Draft;
 use crate::members::{is_other_member, others};
 use cs_base::{Memory, NodeId};
-use cs_node_carried::Carried;
+use cs_node_wire::Carried;
 use cs_order::Outgoing;
 use cs_sbac::Sbac;
 use std::alloc::Global;
@@ -20,7 +20,7 @@ fn say_out<O: Carried>(
     out: Outgoing<O::Message>,
 ) -> Result<(), Memory>
     ensures tells { AtEverySite O.rules O.carrier sbac.now (λ site.
-        OnOk result (Tells (out_signs site sbac.now.me out.to out.message) draft.old draft.new)) }
+        OnOk result (TellsSigns (out_signs site sbac.now.me out.to out.message) draft.old draft.new)) }
     ensures fits { DraftFits draft.old → OnOk result (DraftFits draft.new) }
 {
     let me = sbac.me();
@@ -51,7 +51,7 @@ pub fn hand_out<O: Carried>(
     outgoing: Vec<Outgoing<O::Message>>,
 ) -> Result<(), Memory>
     ensures tells { AtEverySite O.rules O.carrier sbac.now (λ site.
-        OnOk result (Tells (handed site sbac.now.me outgoing.items) draft.old draft.new)) }
+        OnOk result (TellsSigns (handed site sbac.now.me outgoing.items) draft.old draft.new)) }
     ensures fits { DraftFits draft.old → OnOk result (DraftFits draft.new) }
 {
     for out in outgoing {

@@ -1,6 +1,6 @@
 //! What other members tell of their checkpoints.
 ghost use Rattle.std.specs.Prelude.{OnOk, Bool};
-ghost use Rattle.cs_tx_form.specs.declared.transaction.Tx.{Tx};
+ghost use Rattle.cs_tx_types.specs.declared.transaction.Tx.{Tx};
 ghost use Rattle.cs_node_rules.specs.Signs.{head_signs};
 ghost use Rattle.cs_node.specs.Notes.{DraftFits};
 ghost use Rattle.cs_node.specs.Signing.{Does};
@@ -8,7 +8,7 @@ ghost use Rattle.cs_node.specs.Signing.{Does};
 use crate::draft::Draft;
 use crate::members::is_other_member;
 use cs_base::{Memory, NodeId};
-use cs_checkpoint::Checkpoint;
+use cs_check_rules::Checkpoint;
 use cs_node_rules::Cause;
 use cs_sbac::Sbac;
 

@@ -6,7 +6,7 @@ ghost use Rattle.cs_node_rules.specs.declared.cause.Cause.TheVariants.{Role};
 ghost use Rattle.cs_node_rules.specs.Trail.{drops, taking_marks, member_marks, want_marks, message_marks, input_marks};
 ghost use Rattle.cs_node.specs.Notes.{DraftFits};
 ghost use Rattle.cs_node.specs.Speaking.{Speaks};
-ghost use Rattle.cs_node.specs.Steps.{Marks};
+ghost use Rattle.cs_node.specs.Steps.{MakesMarks};
 ghost use Rattle.cs_node.specs.Cores.{Leads, LeadsBy};
 
 use crate::asks::{ask, ask_proof};
@@ -18,9 +18,9 @@ use crate::members::is_other_member;
 use crate::submits::submit;
 use crate::votes::hear_vote;
 use cs_base::{Memory, NodeId};
-use cs_node_carried::Carried;
 use cs_node_rules::Cause;
 use cs_node_state::Ballot;
+use cs_node_wire::Carried;
 use cs_order::Took;
 use cs_tx::Judge;
 use cs_wire::{Keys, read};
@@ -40,7 +40,7 @@ impl<O: Carried, J: Judge + Drop> Engine<O, J> {
             Leads O.stands J.is_approved O.rules O.carrier self.old self.new (λ site v After.
             Speaks self.old.sbac.config site.net keys.now →
             let marks = input_marks site v (Datagram bytes.now) in
-            OnOk result (Marks site marks v draft.old draft.new After)) }
+            OnOk result (MakesMarks site marks v draft.old draft.new After)) }
         ensures fits { DraftFits draft.old → OnOk result (DraftFits draft.new) }
     {
         match read(alloc, keys, bytes)? {

@@ -17,7 +17,7 @@ mod submits;
 mod ticking;
 mod votes;
 
-pub use cs_node_carried::Carried;
+pub use cs_node_wire::Carried;
 pub use cs_sbac::Effect;
 pub use cs_wire::{Input, Out};
 pub use draft::Note;

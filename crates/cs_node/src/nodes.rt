@@ -8,22 +8,22 @@ ghost use Rattle.cs_node_rules.specs.Site.{Site, View, start_view};
 ghost use Rattle.cs_node_rules.specs.declared.cause.Cause.{Cause as AnyCause};
 ghost use Rattle.cs_node_rules.specs.Trail.{drops, input_marks};
 ghost use Rattle.cs_node_rules.specs.Deployment.{site_of};
-ghost use Rattle.cs_checkpoint.specs.Chain.{kept_of};
-ghost use Rattle.cs_node_pool.specs.Deployed.{deployed};
+ghost use Rattle.cs_check_rules.specs.Chain.{kept_of};
+ghost use Rattle.cs_node_pool.specs.Deployed.{deployed_setup};
 ghost use Rattle.cs_table.specs.Genesis.{twice};
 ghost use Rattle.cs_node.specs.Notes.{NotesFit};
-ghost use Rattle.cs_genesis.specs.Genesis.{keyed_from, AreObjects};
-ghost use Rattle.cs_node.specs.Setups.{Starts};
+ghost use Rattle.cs_sbac.specs.Genesis.{keyed_from, AreObjects};
+ghost use Rattle.cs_node.specs.Setups.{NodeStarts};
 ghost use Rattle.cs_node.specs.Speaking.{Speaks, input_of, sender_of};
 ghost use Rattle.cs_node.specs.Steps.{Event, IsDropped};
-ghost use Rattle.cs_node.specs.Cores.{StandsFor};
+ghost use Rattle.cs_node.specs.Cores.{CoreStandsFor};
 
 use crate::draft::Draft;
 use crate::engine::Engine;
 use crate::outs::{Made, seal_draft};
 use cs_base::{Config, Key, Memory, NodeId};
 use cs_check::{Chain, root_is_shown};
-use cs_node_carried::Carried;
+use cs_node_wire::Carried;
 use cs_order::Order;
 use cs_sbac::Sbac;
 use cs_table::{Table, TableError};
@@ -73,13 +73,13 @@ impl<O: Carried, J: Judge + Drop> Core<O, J> {
         requires start { O.at_start order }
         requires f { O.f order ≡ config.f }
         requires me { O.me order ≡ keys.me.index }
-        ensures starts { Starts (twice config.shards keys.me.shard genesis.now) result }
+        ensures starts { NodeStarts (twice config.shards keys.me.shard genesis.now) result }
         ensures stands { (objects : List AnyObject) → genesis.now ≡ keyed_from 0 objects →
             (net : Net) → Speaks config net keys →
-            let setup = deployed config objects (J.is_approved judge) in
+            let setup = deployed_setup config objects (J.is_approved judge) in
             let site = site_of setup net O.rules O.carrier in
             IfOk result (λ core.
-            StandsFor O.stands J.is_approved site core (start_view site keys.me)) }
+            CoreStandsFor O.stands J.is_approved site core (start_view site keys.me)) }
     {
         let me = keys.me();
         let table = match Table::genesis(alloc, config, me.shard, genesis) {
@@ -98,16 +98,16 @@ impl<O: Carried, J: Judge + Drop> Core<O, J> {
     pub fn step(mut self, alloc: Global, input: Input<'_>) -> Result<(Core<O, J>, Made), Memory>
         ensures event { (setup : Setup) (net : Net) (v : View O.Message) →
             let site = site_of setup net O.rules O.carrier in
-            StandsFor O.stands J.is_approved site self v →
+            CoreStandsFor O.stands J.is_approved site self v →
             IfOk result (λ stepped. Event site v (input_of input.entry) stepped.1
-            (StandsFor O.stands J.is_approved site stepped.0)) }
+            (CoreStandsFor O.stands J.is_approved site stepped.0)) }
         ensures dropped { (setup : Setup) (net : Net) (v : View O.Message) (cause : AnyCause) →
             let site = site_of setup net O.rules O.carrier in
             let given = input_of input.entry in
-            StandsFor O.stands J.is_approved site self v →
+            CoreStandsFor O.stands J.is_approved site self v →
             input_marks site v given ≡ drops cause →
             IfOk result (λ stepped. IsDropped site v given cause stepped.1
-            (StandsFor O.stands J.is_approved site stepped.0)) }
+            (CoreStandsFor O.stands J.is_approved site stepped.0)) }
         ensures fits { IfOk result (λ stepped. NotesFit stepped.1.notes) }
     {
         let mut draft = Draft::new(alloc);
@@ -120,7 +120,7 @@ impl<O: Carried, J: Judge + Drop> Core<O, J> {
     /// The name of the node.
     pub fn me(&self) -> NodeId
         ensures { (site : Site O.Message) (v : View O.Message) →
-            StandsFor O.stands J.is_approved site self.now v → result ≡ v.me }
+            CoreStandsFor O.stands J.is_approved site self.now v → result ≡ v.me }
     {
         self.keys.me()
     }
@@ -128,7 +128,7 @@ impl<O: Carried, J: Judge + Drop> Core<O, J> {
     /// The chain of its checkpoints.
     pub fn chain(&self) -> &Chain
         ensures { (site : Site O.Message) (v : View O.Message) →
-            StandsFor O.stands J.is_approved site self.now v →
+            CoreStandsFor O.stands J.is_approved site self.now v →
             result.now.kept ≡ kept_of v.bench.log }
     {
         self.engine.sbac.chain()
@@ -137,7 +137,7 @@ impl<O: Carried, J: Judge + Drop> Core<O, J> {
     /// As whom bytes open at this node, if they open. It takes no memory.
     pub fn sender(&self, bytes: &[u8]) -> Option<NodeId>
         ensures { (site : Site O.Message) (v : View O.Message) →
-            StandsFor O.stands J.is_approved site self.now v →
+            CoreStandsFor O.stands J.is_approved site self.now v →
             result ≡ sender_of (site.net.opened v.me bytes.now) }
     {
         match open(&self.keys, bytes) {

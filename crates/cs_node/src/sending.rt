@@ -1,23 +1,23 @@
 //! What a node says of its own accord.
 ghost use Rattle.std.specs.Prelude.{◌≡◌, ◌<◌, ◌∷◌, [], true, Some, IsSome, IfOk, OnOk};
-ghost use Rattle.cs_tx_form.specs.declared.vote.Vote.TheVariants.{Commit};
-ghost use Rattle.cs_tx_form.specs.Session.{SessionFits};
+ghost use Rattle.cs_tx_types.specs.declared.vote.Vote.TheVariants.{Commit};
+ghost use Rattle.cs_tx_types.specs.Session.{SessionFits};
 ghost use Rattle.cs_wire_message.specs.declared.message.Message.TheVariants as message;
 ghost use Rattle.cs_wire_message.specs.Message.{IsSlot};
 ghost use Rattle.cs_node_state.specs.Setup.{concerned};
 ghost use Rattle.cs_node_rules.specs.Members.{others};
 ghost use Rattle.cs_node_rules.specs.Signs.{sends, vote_signs, headed_signs, asked_again};
 ghost use Rattle.cs_sbac.specs.Held.{IsFit};
-ghost use Rattle.cs_node.specs.Notes.{Tells, DraftFits};
+ghost use Rattle.cs_node.specs.Notes.{TellsSigns, DraftFits};
 ghost use Rattle.cs_node_pool.specs.Deployed.{AtEverySetup};
 
 use crate::draft::Draft;
 use crate::members::others;
 use cs_base::{Memory, NodeId, Sequence};
-use cs_checkpoint::{Checkpoint, checkpoint_head};
+use cs_check_rules::{Checkpoint, checkpoint_head};
 use cs_sbac::Sbac;
 use cs_tx::{Encoded, Session, Vote};
-use cs_tx_form::checkpoint_fits;
+use cs_tx_types::checkpoint_fits;
 use cs_wire_message::Message;
 use std::alloc::Global;
 
@@ -57,7 +57,7 @@ pub fn say_vote(
     // Only on a fit session is a vote given.
     requires fit { IsSome voted → IsFit sbac.now session.now }
     ensures tells { AtEverySetup sbac.now.config (λ setup.
-        OnOk result (Tells (vote_signs setup sbac.now.me session.now voted) draft.old draft.new)) }
+        OnOk result (TellsSigns (vote_signs setup sbac.now.me session.now voted) draft.old draft.new)) }
     ensures fits { DraftFits draft.old → OnOk result (DraftFits draft.new) }
 {
     let Some((vote, asks)) = voted else {
@@ -83,7 +83,7 @@ fn ask_votes(alloc: Global, sbac: &Sbac, draft: &mut Draft, session: Session) ->
     requires { SessionFits session }
     ensures tells { AtEverySetup sbac.now.config (λ setup.
         let signs = vote_signs setup sbac.now.me session (Some (Commit, true)) in
-        OnOk result (Tells signs draft.old draft.new)) }
+        OnOk result (TellsSigns signs draft.old draft.new)) }
     ensures fits { DraftFits draft.old → OnOk result (DraftFits draft.new) }
 {
     let names = voters(alloc, sbac, &session)?;
@@ -100,7 +100,7 @@ fn ask_votes(alloc: Global, sbac: &Sbac, draft: &mut Draft, session: Session) ->
 /// Asks again for the votes on all locked sessions.
 pub fn ask_again(alloc: Global, sbac: &Sbac, draft: &mut Draft) -> Result<(), Memory>
     ensures tells { AtEverySetup sbac.now.config (λ setup.
-        OnOk result (Tells (asked_again setup sbac.now.me sbac.now.pool) draft.old draft.new)) }
+        OnOk result (TellsSigns (asked_again setup sbac.now.me sbac.now.pool) draft.old draft.new)) }
     ensures fits { DraftFits draft.old → OnOk result (DraftFits draft.new) }
 {
     let sessions = sbac.locked(alloc)?;
@@ -119,7 +119,7 @@ pub fn say_made(
 ) -> Result<(), Memory>
     ensures tells { AtEverySetup sbac.now.config (λ setup.
         let signs = headed_signs setup sbac.now.me made in
-        OnOk result (Tells signs draft.old draft.new)) }
+        OnOk result (TellsSigns signs draft.old draft.new)) }
     ensures fits { DraftFits draft.old → OnOk result (DraftFits draft.new) }
 {
     let Some(checkpoint) = made else {
@@ -136,7 +136,7 @@ pub fn say_made(
 pub fn want(alloc: Global, sbac: &Sbac, draft: &mut Draft, slot: u64) -> Result<(), Memory>
     requires { IsSlot slot }
     ensures tells { let members = others sbac.now.config.f sbac.now.me (sbac.now.me.shard ∷ []) in
-        OnOk result (Tells (sends members (message.Want slot)) draft.old draft.new) }
+        OnOk result (TellsSigns (sends members (message.Want slot)) draft.old draft.new) }
     ensures fits { DraftFits draft.old → OnOk result (DraftFits draft.new) }
 {
     let me = sbac.me();

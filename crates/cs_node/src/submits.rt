@@ -1,6 +1,6 @@
 //! Sessions that clients submit.
 ghost use Rattle.std.specs.Prelude.{◌≡◌, OnOk};
-ghost use Rattle.cs_tx_form.specs.Session.{SessionFits};
+ghost use Rattle.cs_tx_types.specs.Session.{SessionFits};
 ghost use Rattle.cs_tx.specs.Digest.{digest_of_session};
 ghost use Rattle.cs_node_rules.specs.Signs.{entering_signs, submit_signs};
 ghost use Rattle.cs_sbac.specs.Held.{IsFit};

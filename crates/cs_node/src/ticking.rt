@@ -10,7 +10,7 @@ use crate::engine::Engine;
 use crate::handing::hand_out;
 use crate::sending::{ask_again, want};
 use cs_base::Memory;
-use cs_node_carried::Carried;
+use cs_node_wire::Carried;
 use cs_tx::Judge;
 use std::alloc::Global;
 

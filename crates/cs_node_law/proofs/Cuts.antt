@@ -6,8 +6,8 @@ use Rattle.std.proofs.Math.Nat.{max-eq_left}
 use Rattle.std.proofs.lemmas.List.{length_push}
 use Rattle.cs_base.specs.declared.node_id.NodeId.{NodeId}
 use Rattle.cs_base.specs.NodeId.{same_name}
-use Rattle.cs_tx_form.specs.declared.entry.Entry.{Entry}
-use Rattle.cs_tx_form.specs.Log.{leaf_encoding}
+use Rattle.cs_tx_types.specs.declared.entry.Entry.{Entry}
+use Rattle.cs_tx_types.specs.Log.{leaf_encoding}
 use Rattle.cs_wire_message.specs.declared.message.Message.{Message}
 use Rattle.cs_wire_message.specs.declared.message.Message.TheVariants as message
 use Rattle.cs_wire_message.specs.Classes.{Class, OfOrder, class_of}
@@ -21,11 +21,11 @@ use Rattle.cs_order.specs.declared.answers.May.{May}
 use Rattle.cs_order.specs.declared.answers.May.TheVariants.{No, Free, Only}
 use Rattle.cs_order.specs.Deeds.{Member, Deed, Advanced, Echoed, Proposing, Ticked, Resent, Replied, Cut, did, sent_by, chosen_in, kept_from}
 use Rattle.cs_wire.specs.Opened.{Opened}
-use Rattle.cs_checkpoint.specs.Chain.{Log, with_slot, cut_slot, kept_slots, made_last}
+use Rattle.cs_check_rules.specs.Chain.{Log, with_slot, cut_slot, kept_slots, made_last}
 use Rattle.cs_check_rules.specs.Root.{root_under}
 use Rattle.cs_node_rules.specs.declared.cause.Cause.{Cause}
 use Rattle.cs_node_rules.specs.declared.cause.Cause.TheVariants as cause
-use Rattle.cs_tx_form.specs.Session.{session_in}
+use Rattle.cs_tx_types.specs.Session.{session_in}
 use Rattle.cs_node_rules.proofs.Heard.{heard}
 use Rattle.cs_node_state.specs.Admission.{due}
 use Rattle.cs_node_state.specs.Bench.{executed, slot_executed, next_leaf}

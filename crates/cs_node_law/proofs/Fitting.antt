@@ -7,12 +7,12 @@ use Rattle.cs_base.specs.declared.node_id.NodeId.{NodeId}
 use Rattle.cs_base.specs.NodeId.{is_client}
 use Rattle.cs_base.proofs.Forms.{whole-again}
 use Rattle.cs_tx_value.specs.declared.object.Object.{Object}
-use Rattle.cs_tx_form.specs.declared.session.Session.{Session}
-use Rattle.cs_tx_form.specs.declared.entry.Entry.{Entry}
-use Rattle.cs_tx_form.specs.declared.entry.Entry.TheVariants.{Prepare, Decide}
-use Rattle.cs_tx_form.specs.Session.{SessionFits, entry_encoding, EntryFits, session_in}
-use Rattle.cs_tx_form.specs.Reading.{entry_at}
-use Rattle.cs_tx_form.specs.laws.Session.{entry_form}
+use Rattle.cs_tx_types.specs.declared.session.Session.{Session}
+use Rattle.cs_tx_types.specs.declared.entry.Entry.{Entry}
+use Rattle.cs_tx_types.specs.declared.entry.Entry.TheVariants.{Prepare, Decide}
+use Rattle.cs_tx_types.specs.Session.{SessionFits, entry_encoding, EntryFits, session_in}
+use Rattle.cs_tx_types.specs.Reading.{entry_at}
+use Rattle.cs_tx_types.specs.laws.Session.{entry_form}
 use Rattle.cs_wire_message.specs.declared.message.Message.{Message}
 use Rattle.cs_wire_message.specs.declared.message.Message.TheVariants as message
 use Rattle.cs_wire_message.specs.Message.{body_of, MessageFits}
@@ -22,7 +22,7 @@ use Rattle.cs_order.specs.declared.proposed.Proposed.{Proposed}
 use Rattle.cs_order.specs.declared.answers.May.TheVariants.{Only}
 use Rattle.cs_order.specs.Lists as Order
 use Rattle.cs_order.specs.Deeds.{Deed, Took_in, Advanced, Echoed, Proposing, Ticked, Resent, Replied, Cut, Member, Machine}
-use Rattle.cs_order.specs.Runs.{KeepsRules, IsKept, held_in}
+use Rattle.cs_order.specs.Runs.{KeepsRules, AllKeepRules, held_in}
 use Rattle.cs_order.specs.Law.{Holds}
 use Rattle.cs_ledger.specs.Ledger.{Bytes, IsIn}
 use Rattle.cs_ledger.specs.Session as Seen
@@ -34,7 +34,7 @@ use Rattle.cs_node_rules.specs.Collisions.{sessions_in, entries_in, in_opened, g
 use Rattle.cs_node_rules.specs.Carrying.{IsEntry, Carries}
 use Rattle.cs_node_rules.specs.Deployment.{proposed_of, entry_or_void, site_of}
 use Rattle.cs_node_state.specs.Deployed.{setup_of}
-use Rattle.cs_node_law.specs.Made.{view_at, HasVotedOn, IsTaken, IsDue, IsCandidate, Executes, HasDigests, IsHanded, SaidMade, AllMade, ReadsProper, InputFits}
+use Rattle.cs_node_law.specs.Made.{view_at, HasVotedOn, IsTaken, IsDue, IsCandidate, NodeExecutes, HasDigests, IsHanded, SaidMade, AllMade, ReadsProper, InputFits}
 use Rattle.cs_node_law.specs.Given.{InputIsBytes}
 use Rattle.cs_node_law.proofs.Views.{member-is}
 use Rattle.cs_node_law.proofs.NoIns.{inputs_in}
@@ -42,7 +42,7 @@ use Rattle.cs_node_law.proofs.Pools.{heard-given, pool-sourced}
 use Rattle.cs_node_law.proofs.Due.{due-from}
 use Rattle.cs_node_law.proofs.Speaking.{opened-fits}
 use Rattle.cs_wire_message.proofs.Spelled.{bytes-want, bytes-body}
-use Rattle.cs_tx_form.specs.declared.checkpoint.Checkpoint.{Checkpoint}
+use Rattle.cs_tx_types.specs.declared.checkpoint.Checkpoint.{Checkpoint}
 use Rattle.cs_node_law.proofs.Heads.{bytes-head, length-head}
 
 -- ---- what stands in messages
@@ -127,7 +127,7 @@ module _ {M : Type 0} (machine : Machine M) (carrier : Carrier M) (config : Conf
       Deeds t = (view_at At me t).member.deeds
 
       -- the deeds of a node keep the order's rules
-      pub kept : (t : List (Mark M)) → AllMade At me t → IsKept machine config.f me.index (Deeds t)
+      pub kept : (t : List (Mark M)) → AllMade At me t → AllKeepRules machine config.f me.index (Deeds t)
       kept [] made = tt
       kept (In input ∷ t) made = kept t made.1
       kept (Plain sign ∷ t) made = kept t made.1
@@ -184,7 +184,7 @@ module _ {M : Type 0} (machine : Machine M) (carrier : Carrier M) (config : Conf
         proposed-fits p (inl due) = due-fits p due
         proposed-fits p (inr candidate) = candidate-fits p candidate
 
-        pub done-fits : (slot : ℕ) (entry : Entry) (effect : _) → Executes At (view_at At me t) (signs_of t) slot entry effect → EntryFits entry
+        pub done-fits : (slot : ℕ) (entry : Entry) (effect : _) → NodeExecutes At (view_at At me t) (signs_of t) slot entry effect → EntryFits entry
         done-fits slot entry effect e =
             subst EntryFits e.reads (given-back e.proposed (fit.held e.proposed (holds.logged config.f me.index (Deeds t) (kept t made) slot e.proposed e.chosen)))
 

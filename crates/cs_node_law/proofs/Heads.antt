@@ -9,12 +9,12 @@ use Rattle.sha2.proofs.Facts256.{length-sha256}
 use Rattle.cs_base.specs.Fields.{IsBytes}
 use Rattle.cs_merkle.specs.Tree.{Tree, Empty, Leaf, Node, hash, tree_of, merkle_tree_hash}
 use Rattle.cs_tx_value.specs.Object.{DigestFits}
-use Rattle.cs_tx_form.specs.declared.checkpoint.Checkpoint.{Checkpoint}
+use Rattle.cs_tx_types.specs.declared.checkpoint.Checkpoint.{Checkpoint}
 use Rattle.cs_wire_message.specs.declared.message.Message.TheVariants as message
 use Rattle.cs_wire_message.specs.Message.{body_of}
 use Rattle.cs_wire_message.proofs.Bytes.{bytes-append, bytes-16}
 use Rattle.cs_wire_message.proofs.Spelled.{bytes-want}
-use Rattle.cs_checkpoint.specs.Chain.{Log, with_slot, no_head, head_of, head_before, checkpoint_of, chain_head, made_last}
+use Rattle.cs_check_rules.specs.Chain.{Log, with_slot, no_head, head_of, head_before, checkpoint_of, chain_head, made_last}
 use Rattle.cs_node_law.specs.Made.{HasDigests}
 use Rattle.cs_node_law.proofs.Sealing.{bytes-sha256}
 

@@ -6,9 +6,9 @@ use Rattle.cs_base.specs.declared.key.Key.{Key}
 use Rattle.cs_base.specs.declared.node_id.NodeId.{NodeId}
 use Rattle.cs_base.specs.Key.{shard_of_key}
 use Rattle.cs_base.specs.NodeId.{is_client}
-use Rattle.cs_tx_form.specs.declared.session.Session.{Session}
-use Rattle.cs_tx_form.specs.declared.vote.Vote.{Vote}
-use Rattle.cs_tx_form.specs.declared.vote.Vote.TheVariants.{Commit}
+use Rattle.cs_tx_types.specs.declared.session.Session.{Session}
+use Rattle.cs_tx_types.specs.declared.vote.Vote.{Vote}
+use Rattle.cs_tx_types.specs.declared.vote.Vote.TheVariants.{Commit}
 use Rattle.cs_wire_message.specs.declared.message.Message.{Message}
 use Rattle.cs_wire_message.specs.declared.message.Message.TheVariants as message
 use Rattle.cs_wire_message.specs.Classes.{Class, OfOrder, class_of}
@@ -23,14 +23,14 @@ use Rattle.cs_node_rules.specs.declared.cause.Cause.{Cause}
 use Rattle.cs_node_rules.specs.declared.cause.Cause.TheVariants.{Unopened, Mine, Role, Malformed, Old, Far, Leader, Repeat, Unasked, Denied, Full, NoProof}
 use Rattle.cs_node_rules.proofs.Heard.{heard}
 use Rattle.cs_node_state.specs.declared.pooled.Pooled.{Pooled}
-use Rattle.cs_node_state.specs.Setup.{digest_of, concerns, concerned, is_fit, is_approved}
+use Rattle.cs_node_state.specs.Setup.{digest_of, is_concerned_shard, concerned, is_fit, is_approved}
 use Rattle.cs_node_state.specs.Admission.{due}
 use Rattle.cs_node_state.specs.Evidence.{has_voted}
 use Rattle.cs_node_rules.specs.Members.{is_other_member, others}
-use Rattle.cs_node_state.specs.Pool.{Pool, found, is_pooled, has_room}
+use Rattle.cs_node_state.specs.Pool.{Pool, found, is_pooled, pool_has_room}
 use Rattle.cs_node_state.specs.Asked.{told_at, key_asked}
-use Rattle.cs_node_state.specs.Bench.{decided, noted}
-use Rattle.cs_tx_form.specs.declared.proof.Proof.{Proof}
+use Rattle.cs_node_state.specs.Bench.{decision_on, noted}
+use Rattle.cs_tx_types.specs.declared.proof.Proof.{Proof}
 use Rattle.cs_check_rules.specs.Heads.{is_news}
 use Rattle.cs_check_rules.specs.Proofs.{proof_of}
 use Rattle.cs_node_rules.specs.Signs.{Sign, Dropped, Took, Entered, Kept, Sent, guarded, proof_signs, submitted_signs, submit_signs, told_signs, ask_signs, asking_signs, ballot_signs, voted_signs, sends, vote_signs, asked_again, said_signs}
@@ -81,7 +81,7 @@ module _ {M : Type 0} (site : Site M) (me : NodeId) (t : List (Mark M)) (bytes :
   -- sessions that are submitted
 
   -- how a session stands now
-  stands : (sender : NodeId) (x : Session) (accepted : Bool) → Says sender (message.Submit x) → is_fit site.setup Now.me.shard x ≡ true → decided site.setup Now.me.shard Now.bench.table x ≡ Some accepted → StoodDecided site Now.me Given (digest_of site.setup x) accepted
+  stands : (sender : NodeId) (x : Session) (accepted : Bool) → Says sender (message.Submit x) → is_fit site.setup Now.me.shard x ≡ true → decision_on site.setup Now.me.shard Now.bench.table x ≡ Some accepted → StoodDecided site Now.me Given (digest_of site.setup x) accepted
   stands sender x accepted e fit is = record {
     session = x;
     digest_is = refl;
@@ -90,22 +90,22 @@ module _ {M : Type 0} (site : Site M) (me : NodeId) (t : List (Mark M)) (bytes :
     later = In (Datagram bytes) ∷ [];
     earlier = t;
     split = refl;
-    stood = ap (λ (n : NodeId). decided site.setup Now.me.shard (view_at site n t).bench.table x) (me-same site me t) ∙ is;
+    stood = ap (λ (n : NodeId). decision_on site.setup Now.me.shard (view_at site n t).bench.table x) (me-same site me t) ∙ is;
   }
 
-  submitted : (sender : NodeId) (x : Session) (o : Option Bool) → Says sender (message.Submit x) → is_client sender ≡ true → is_fit site.setup Now.me.shard x ≡ true → decided site.setup Now.me.shard Now.bench.table x ≡ o → Makes (submitted_signs site.setup Now.bench sender x o)
+  submitted : (sender : NodeId) (x : Session) (o : Option Bool) → Says sender (message.Submit x) → is_client sender ≡ true → is_fit site.setup Now.me.shard x ≡ true → decision_on site.setup Now.me.shard Now.bench.table x ≡ o → Makes (submitted_signs site.setup Now.bench sender x o)
   submitted sender x (Some accepted) e client fit is = sent sender (message.Decided (digest_of site.setup x) accepted) (inr (client, stands sender x accepted e fit is))
   submitted sender x None e client fit is =
       tested (not (is_pooled (digest_of site.setup x) Now.bench.pool)) Repeat _
       (λ new. tested (is_approved site.setup x) Denied _
-      (λ approved. tested (has_room Now.bench.pool) Full _
+      (λ approved. tested (pool_has_room Now.bench.pool) Full _
       (λ room. sign-level site me Given (Entered x) (λ past. refl) given (inl (offered sender (message.Submit x) x e (inl refl) fit approved)))))
 
   submits : (sender : NodeId) (x : Session) → Says sender (message.Submit x) → Makes (submit_signs site.setup Now.me.shard Now.bench sender x)
   submits sender x e =
       tested (is_client sender) Role _
       (λ client. tested (is_fit site.setup Now.me.shard x) Malformed _
-      (λ fit. submitted sender x (decided site.setup Now.me.shard Now.bench.table x) e client fit refl))
+      (λ fit. submitted sender x (decision_on site.setup Now.me.shard Now.bench.table x) e client fit refl))
 
   told : (sender : NodeId) (key : Key) → is_client sender ≡ true → Makes (told_signs site.setup Now.me.shard Now.bench sender key)
   told sender key client = tested (shard_of_key site.setup.shards key == Now.me.shard) Mine _ (λ home. sent sender (message.Told key (told_at Now.bench.table key)) (inr (client, refl)))
@@ -119,7 +119,7 @@ module _ {M : Type 0} (site : Site M) (me : NodeId) (t : List (Mark M)) (bytes :
 
   -- votes of other nodes
 
-  module _ (sender : NodeId) (vote : Vote) (again : Bool) (x : Session) (e : Says sender (message.Voted vote again x)) (fit : is_fit site.setup Now.me.shard x ≡ true) (concerned : concerns site.setup x sender.shard ≡ true) where
+  module _ (sender : NodeId) (vote : Vote) (again : Bool) (x : Session) (e : Says sender (message.Voted vote again x)) (fit : is_fit site.setup Now.me.shard x ≡ true) (concerned : is_concerned_shard site.setup x sender.shard ≡ true) where
     knows : IsKnown site (view_at site me Given) Given x
     knows = inl (heard-given site sessions_in me Given sender (message.Voted vote again x) x (record { bytes = bytes; is_current = refl; reads = e }) (inl refl))
 
@@ -132,7 +132,7 @@ module _ {M : Type 0} (site : Site M) (me : NodeId) (t : List (Mark M)) (bytes :
     asking None is =
         tested again Unasked _
         (λ a. tested (is_approved site.setup x) Denied _
-        (λ approved. tested (has_room Now.bench.pool) Full _
+        (λ approved. tested (pool_has_room Now.bench.pool) Full _
         (λ room.
         let new = sign-level site me Given (Entered x) (λ past. refl) given (inl (offered sender (message.Voted vote again x) x e (inl refl) fit approved)) in
         counts (Plain (Entered x) ∷ Given) new (record { asks = again; heard = record { bytes = bytes; is_current = refl; reads = e }; fit = fit; concerned = concerned }))))
@@ -147,7 +147,7 @@ module _ {M : Type 0} (site : Site M) (me : NodeId) (t : List (Mark M)) (bytes :
   votes sender vote again x e =
       tested (not (is_client sender)) Role _
       (λ node. tested (is_fit site.setup Now.me.shard x) Malformed _
-      (λ fit. tested (concerns site.setup x sender.shard) Role _
+      (λ fit. tested (is_concerned_shard site.setup x sender.shard) Role _
       (λ concerned. balloting sender vote again x e fit concerned (found (digest_of site.setup x) Now.bench.pool))))
 
   -- messages of other members

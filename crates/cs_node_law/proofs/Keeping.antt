@@ -2,17 +2,17 @@
 use Rattle.std.proofs.Common.{◌≡◌, ℕ, Bool, true, not, ◌&&◌, List, [], ◌∷◌, ◌++◌, Option, Some, None, refl, ap, ◌∙◌}
 use Rattle.std.proofs.lemmas.Bool.{cond_both}
 use Rattle.cs_base.specs.declared.node_id.NodeId.{NodeId}
-use Rattle.cs_tx_form.specs.declared.session.Session.{Session}
-use Rattle.cs_tx_form.specs.declared.vote.Vote.{Vote}
-use Rattle.cs_tx_form.specs.declared.vote.Vote.TheVariants.{Commit}
-use Rattle.cs_tx_form.specs.declared.entry.Entry.{Entry}
-use Rattle.cs_tx_form.specs.declared.checkpoint.Checkpoint.{Checkpoint}
+use Rattle.cs_tx_types.specs.declared.session.Session.{Session}
+use Rattle.cs_tx_types.specs.declared.vote.Vote.{Vote}
+use Rattle.cs_tx_types.specs.declared.vote.Vote.TheVariants.{Commit}
+use Rattle.cs_tx_types.specs.declared.entry.Entry.{Entry}
+use Rattle.cs_tx_types.specs.declared.checkpoint.Checkpoint.{Checkpoint}
 use Rattle.cs_wire_message.specs.declared.message.Message.{Message}
 use Rattle.cs_wire_message.specs.declared.message.Message.TheVariants as message
 use Rattle.cs_order.specs.declared.answers.Outgoing.{Outgoing}
 use Rattle.cs_node_state.specs.Setup.{Setup, digest_of, concerned}
 use Rattle.cs_node_state.specs.Pool.{Pool, is_pooled}
-use Rattle.cs_node_state.specs.Bench.{Bench, Ran, slot_executed, told_of}
+use Rattle.cs_node_state.specs.Bench.{Bench, Ran, slot_executed, vote_told}
 use Rattle.cs_node_rules.specs.Members.{is_other_member, others}
 use Rattle.cs_node_rules.specs.Signs.{Sign, Dropped, Took, Entered, Viewed, Did, Headed, Kept, Sent, bench_step, sends, vote_signs, own_signs, entered_signs, ran_signs, headed_signs, asked_again}
 use Rattle.cs_node_rules.specs.Site.{Mark, Site, View, view_after, plain}
@@ -102,7 +102,7 @@ module _ {M : Type 0} (site : Site M) where
   pub ran-log : (past : List (Mark M)) (v : View M) (who : NodeId) (b : Bench) (slot : ℕ) (entry : Entry) (x : Session) (ran : Ran) → let w = view_after site past v in
       (view_after site (plain (ran_signs site.setup who b slot entry x ran) ++ past) v).bench.log ≡ (slot_executed site.setup w.me.shard w.bench entry).log
   ran-log past v who b slot entry x ran =
-      let told = told_of site.setup who.shard x ran in
+      let told = vote_told site.setup who.shard x ran in
       let pooled = is_pooled (digest_of site.setup x) b.pool in
       let did : List Sign = Did slot entry ran.effect ∷ [] in
       let entering = entered_signs x pooled told in

@@ -8,7 +8,7 @@ use Rattle.cs_ledger.specs.Table.{Commit, State, Unknown, Active, Locked, Inacti
 use Rattle.cs_ledger.specs.ShardWorld.{votes_in, is_prepare_of, is_vote}
 use Rattle.cs_ledger.proofs.Changes.{Change, Nothing, Locks, Notes, Accepts, Aborts, change}
 use Rattle.cs_node_state.specs.Setup.{digest_of}
-use Rattle.cs_node_state.specs.Bench.{locked_at}
+use Rattle.cs_node_state.specs.Bench.{is_locked_at}
 use Rattle.cs_node_rules.specs.Site.{Site}
 use Rattle.cs_node_law.specs.Made.{view_at, LocksAreGiven}
 use Rattle.cs_node_law.proofs.Logs.{seen_log, table-is, given-is}
@@ -91,8 +91,8 @@ locks-given {M} site me t x made h =
     let shard = (view_at site me t).me.shard in
     let d = digest_of site.setup x in
     given-is site me d Commit t made
-    ∙ at_key (anchor site.setup.rules (site.setup.session_of x) shard) (subst (λ (u : Table). locked_at u d (anchor site.setup.rules (site.setup.session_of x) shard) ≡ true) (table-is site me t) h)
+    ∙ at_key (anchor site.setup.rules (site.setup.session_of x) shard) (subst (λ (u : Table). is_locked_at u d (anchor site.setup.rules (site.setup.session_of x) shard) ≡ true) (table-is site me t) h)
   where
-    at_key : (o : Option Key) → locked_at (table_of site.setup.rules (view_at site me t).me.shard (seen_log site t)) (digest_of site.setup x) o ≡ true → votes_in site.setup.rules (view_at site me t).me.shard (digest_of site.setup x) Commit (seen_log site t) ≡ true
+    at_key : (o : Option Key) → is_locked_at (table_of site.setup.rules (view_at site me t).me.shard (seen_log site t)) (digest_of site.setup x) o ≡ true → votes_in site.setup.rules (view_at site me t).me.shard (digest_of site.setup x) Commit (seen_log site t) ≡ true
     at_key None h = cc
     at_key (Some key) h = lock-voted site.setup.rules (view_at site me t).me.shard (digest_of site.setup x) key (seen_log site t) h

@@ -2,8 +2,8 @@
 use Rattle.std.proofs.Common.{◌≡◌, ◌⊎◌, inl, inr, ℕ, Bool, true, false, ◌&&◌, if◌then◌else◌, List, [], ◌∷◌, ◌++◌, Option, Some, None, sym, ◌∙◌, ap, subst, refl}
 use Rattle.std.specs.Prelude.{bytes_eq, nat_lt, ◌==◌}
 use Rattle.std.proofs.lemmas.Bool.{and_from, or_left, or_right}
-use Rattle.cs_tx_form.specs.declared.vote.Vote.{Vote as Said}
-use Rattle.cs_tx_form.specs.declared.vote.Vote.TheVariants as tx
+use Rattle.cs_tx_types.specs.declared.vote.Vote.{Vote as Said}
+use Rattle.cs_tx_types.specs.declared.vote.Vote.TheVariants as tx
 use Rattle.cs_ledger.specs.Ledger.{Bytes}
 use Rattle.cs_base.specs.Options.{or_else}
 use Rattle.cs_ledger.specs.Session.{Rules, Key, Object, Dummy, has_key, key_eq, objects_in, anchor, used_up, read_only, object_under}

@@ -4,10 +4,10 @@ use Rattle.std.specs.Prelude.{Ok, bytes_eq}
 use Rattle.std.specs.Map.{lookup, remove_entry, set_value}
 use Rattle.std.proofs.lemmas.Bool.{cases_Bool, cond_both}
 use Rattle.cs_base.specs.declared.node_id.NodeId.{NodeId}
-use Rattle.cs_tx_form.specs.declared.session.Session.{Session}
-use Rattle.cs_tx_form.specs.declared.vote.Vote.{Vote}
-use Rattle.cs_tx_form.specs.declared.entry.Entry.{Entry}
-use Rattle.cs_tx_form.specs.declared.entry.Entry.TheVariants.{Prepare, Decide}
+use Rattle.cs_tx_types.specs.declared.session.Session.{Session}
+use Rattle.cs_tx_types.specs.declared.vote.Vote.{Vote}
+use Rattle.cs_tx_types.specs.declared.entry.Entry.{Entry}
+use Rattle.cs_tx_types.specs.declared.entry.Entry.TheVariants.{Prepare, Decide}
 use Rattle.cs_wire_message.specs.declared.message.Message.{Message}
 use Rattle.cs_wire.specs.Opened.{Opened}
 use Rattle.cs_ledger.specs.Ledger.{Bytes, IsIn}
@@ -18,9 +18,9 @@ use Rattle.cs_ledger.proofs.Basics.{in_left, in_either, same_bytes}
 use Rattle.cs_node_state.specs.declared.ballot.Ballot.{Ballot}
 use Rattle.cs_node_state.specs.declared.pooled.Pooled.{Pooled}
 use Rattle.cs_node_state.specs.Setup.{Setup, digest_of, is_fit, is_approved, entry_of, vote_of}
-use Rattle.cs_tx_form.specs.Session.{session_in}
+use Rattle.cs_tx_types.specs.Session.{session_in}
 use Rattle.cs_node_state.specs.Evidence.{has_voted}
-use Rattle.cs_node_state.specs.Pool.{Pool, found, is_pooled, without, changed_at, changed, with_ballot, as_locked, entering, pushed}
+use Rattle.cs_node_state.specs.Pool.{Pool, found, is_pooled, without_session, changed_at, pool_changed, with_ballot, as_locked, entering, pushed}
 use Rattle.cs_node_state.specs.Bench.{is_locked, pool_after, told_by}
 use Rattle.cs_node_rules.specs.Signs.{Sign, Dropped, Took, Entered, Viewed, Did, Headed, Kept, Sent}
 use Rattle.cs_node_rules.specs.Site.{Datagram, Tick, Mark, In, Ordered, Plain, Site, signs_of}
@@ -65,18 +65,18 @@ set-in d change (o ∷ pool) p e f h = here (bytes_eq d o.0) refl (set-in d chan
     here false other again f (inl is) = inl (inl is)
     here false other again f (inr i) = later (again f i)
 
-pub changed-in : (d : Bytes) (change : Pooled → Pooled) (pool : Pool) (e : Place) → IsIn e (changed d change pool) → IsOld d change pool e
+pub changed-in : (d : Bytes) (change : Pooled → Pooled) (pool : Pool) (e : Place) → IsIn e (pool_changed d change pool) → IsOld d change pool e
 changed-in d change pool e h = go (found d pool) refl h
   where
     go : (o : Option Pooled) → found d pool ≡ o → IsIn e (changed_at d change pool o) → IsOld d change pool e
     go None f h = inl h
     go (Some p) f h = set-in d change pool p e f h
 
-pub without-in : (d : Bytes) (pool : Pool) (e : Place) → IsIn e (without d pool) → IsIn e pool
+pub without-in : (d : Bytes) (pool : Pool) (e : Place) → IsIn e (without_session d pool) → IsIn e pool
 without-in d [] e h = h
 without-in d (o ∷ pool) e h = here (bytes_eq d o.0) (without-in d pool e) h
   where
-    here : (b : Bool) → (IsIn e (without d pool) → IsIn e pool) → IsIn e (if b then pool else o ∷ remove_entry (bytes_eq d) pool) → IsIn e (o ∷ pool)
+    here : (b : Bool) → (IsIn e (without_session d pool) → IsIn e pool) → IsIn e (if b then pool else o ∷ remove_entry (bytes_eq d) pool) → IsIn e (o ∷ pool)
     here true again h = inr h
     here false again (inl is) = inl is
     here false again (inr i) = inr (again i)
@@ -197,7 +197,7 @@ module _ {M : Type 0} (site : Site M) (me : NodeId) (t : List (Mark M)) where
   -- a change that keeps the session, the votes but for taken ones, and the lock but where commit was voted
   pub sourced-changed : (d : Bytes) (change : Pooled → Pooled) (pool : Pool) → AllSourced pool → ((p : Pooled) → (change p).session ≡ p.session)
       → ((p : Pooled) (b : Ballot) → IsIn b (change p).ballots → IsIn b p.ballots ⊎ HasTaken site.setup d b.sender b.vote (signs_of t))
-      → ((p : Pooled) → (change p).locked ≡ true → (p.locked ≡ true) ⊎ (has_given site.setup d Commit (signs_of t) ≡ true)) → AllSourced (changed d change pool)
+      → ((p : Pooled) → (change p).locked ≡ true → (p.locked ≡ true) ⊎ (has_given site.setup d Commit (signs_of t) ≡ true)) → AllSourced (pool_changed d change pool)
   sourced-changed d change pool all session ballots locked e i =
       elim (changed-in d change pool e i) [
         | inl old ↦ all e old

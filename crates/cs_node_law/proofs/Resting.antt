@@ -3,7 +3,7 @@ use Rattle.std.proofs.Common.{◌≡◌, ℕ, zero, suc, ◌+◌, ◌-◌, ◌%�
 use Rattle.std.proofs.lemmas.Bool.{cond_both}
 use Rattle.cs_base.specs.declared.node_id.NodeId.{NodeId}
 use Rattle.cs_base.specs.NodeId.{same_name}
-use Rattle.cs_tx_form.specs.declared.entry.Entry.{Entry}
+use Rattle.cs_tx_types.specs.declared.entry.Entry.{Entry}
 use Rattle.cs_order.specs.declared.proposed.Proposed.{Proposed}
 use Rattle.cs_order.specs.declared.answers.Step.{Step}
 use Rattle.cs_order.specs.declared.answers.Step.TheVariants.{Chosen, Moved, Quiet}
@@ -13,7 +13,7 @@ use Rattle.cs_order.specs.Lists as Order
 use Rattle.cs_order.specs.Deeds.{Advanced, Echoed, Proposing, Cut, Member, did, chosen_in}
 use Rattle.cs_order.specs.Calls.{Proposable}
 use Rattle.cs_order.specs.Law.{ComesToRest, Holds}
-use Rattle.cs_checkpoint.specs.Chain.{kept_slots}
+use Rattle.cs_check_rules.specs.Chain.{kept_slots}
 use Rattle.cs_node_state.specs.Admission.{due}
 use Rattle.cs_node_rules.specs.Signs.{Sign, execution_signs}
 use Rattle.cs_node_rules.specs.Site.{Input, Mark, In, Ordered, Site, View, start_view, view_after, plain}

@@ -8,10 +8,10 @@ use Rattle.cs_base.specs.Fields.{IsBytes}
 use Rattle.cs_hash.specs.Hash.{key_block, masked, hmac}
 use Rattle.cs_wire_message.proofs.Bytes.{bytes-nil, bytes-cons, bytes-append, bytes-16, bytes-32}
 use Rattle.cs_wire.specs.declared.head.TheConstants.{MAGIC}
-use Rattle.cs_wire.specs.Datagram.{name_encoding, text_with, datagram_with}
+use Rattle.cs_wire.specs.Datagram.{node_name_encoding, text_with, datagram_with}
 use Rattle.cs_wire.proofs.Parts.{magic_bytes}
 
-bytes-name : (name : NodeId) → IsBytes (name_encoding name)
+bytes-name : (name : NodeId) → IsBytes (node_name_encoding name)
 bytes-name name = bytes-append (to_be_bytes w16 name.shard) (to_be_bytes w16 name.index) (bytes-16 name.shard) (bytes-16 name.index)
 
 bytes-digest : (words : List ℕ) (n : ℕ) → IsBytes (digest_bytes words n)
@@ -28,10 +28,10 @@ unfolding text_with
 bytes-text from to kind body small fits =
     let sized = to_be_bytes w32 (length body) ++ body in
     let of_sized = bytes-append (to_be_bytes w32 (length body)) body (bytes-32 (length body)) fits in
-    let of_to = bytes-append (name_encoding to) sized (bytes-name to) of_sized in
-    let of_names = bytes-append (name_encoding from) (name_encoding to ++ sized) (bytes-name from) of_to in
-    let behind = kind ∷ (name_encoding from ++ (name_encoding to ++ sized)) in
-    bytes-append MAGIC behind magic_bytes (bytes-cons kind (name_encoding from ++ (name_encoding to ++ sized)) small of_names)
+    let of_to = bytes-append (node_name_encoding to) sized (bytes-name to) of_sized in
+    let of_names = bytes-append (node_name_encoding from) (node_name_encoding to ++ sized) (bytes-name from) of_to in
+    let behind = kind ∷ (node_name_encoding from ++ (node_name_encoding to ++ sized)) in
+    bytes-append MAGIC behind magic_bytes (bytes-cons kind (node_name_encoding from ++ (node_name_encoding to ++ sized)) small of_names)
 
 pub bytes-datagram : (key : List ℕ) (from to : NodeId) (kind : ℕ) (body : List ℕ) → kind < 256 → IsBytes body → IsBytes (datagram_with key from to kind body)
 bytes-datagram key from to kind body small fits =

@@ -3,13 +3,13 @@ use Rattle.std.proofs.Common.{◌≡◌, ◌⊎◌, inl, inr, ℕ, zero, suc, �
 use Rattle.std.specs.Prelude.{nat_lt}
 use Rattle.std.proofs.lemmas.Bool.{cond_both, or_right}
 use Rattle.cs_base.specs.declared.node_id.NodeId.{NodeId}
-use Rattle.cs_tx_form.specs.declared.session.Session.{Session}
+use Rattle.cs_tx_types.specs.declared.session.Session.{Session}
 use Rattle.cs_wire_message.specs.declared.message.Message.{Message}
 use Rattle.cs_wire_message.specs.declared.message.Message.TheVariants as message
 use Rattle.cs_order.specs.declared.answers.Outgoing.{Outgoing}
 use Rattle.cs_order.specs.Deeds.{Deed, sent_by, chosen_in}
 use Rattle.cs_order.specs.Runs.{IsFor}
-use Rattle.cs_checkpoint.specs.Chain.{chain_head}
+use Rattle.cs_check_rules.specs.Chain.{chain_head}
 use Rattle.cs_ledger.specs.Ledger.{Bytes, IsIn}
 use Rattle.cs_ledger.specs.Table.{Vote}
 use Rattle.cs_ledger.proofs.Basics.{in_right, in_either}

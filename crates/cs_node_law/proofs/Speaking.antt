@@ -15,7 +15,7 @@ use Rattle.cs_wire.specs.declared.keys.Keys.{Keys}
 use Rattle.cs_wire.specs.declared.opening.OpenError.{OpenError}
 use Rattle.cs_wire.specs.Datagram.{body_in, text_with, datagram_with}
 use Rattle.cs_wire.specs.Heads.{first, head_seen}
-use Rattle.cs_wire.specs.Opens.{IsName, fault_of}
+use Rattle.cs_wire.specs.Opens.{IsName, open_fault}
 use Rattle.cs_wire.specs.Opened.{said_by, opened_body, unless_fault, opened}
 use Rattle.cs_wire.proofs.Parts.{head_encoding, HeadFits, head_form, magic_bytes}
 
@@ -33,7 +33,7 @@ message-fits bytes None (Some head) said fits e = whole (message_whole head.kind
         subst (λ (s : NodeId × Message). MessageFits s.1) that (whole_has head.kind (body_in bytes) m (IsBytes-drop 17 (take (length bytes - 32) bytes) (IsBytes-take (length bytes - 32) bytes fits)) is).fits
 
 pub opened-fits : (keys : Keys) (bytes : List ℕ) (said : NodeId × Message) → IsBytes bytes → opened keys bytes ≡ Ok said → MessageFits said.1
-opened-fits keys bytes said fits e = message-fits bytes (fault_of keys bytes) (head_seen bytes) said fits e
+opened-fits keys bytes said fits e = message-fits bytes (open_fault keys bytes) (head_seen bytes) said fits e
 
 -- ---- the speaker
 
@@ -68,4 +68,4 @@ module _ (key : List ℕ) (from to : NodeId) (kind : ℕ) (body : List ℕ) (nam
   pub opens-from : (keys : Keys) (said : NodeId × Message) → opened keys (datagram_with key from to kind body) ≡ Ok said → said.0 ≡ from
   opens-from keys said e =
       let bytes = datagram_with key from to kind body in
-      said-from bytes (fault_of keys bytes) (head_seen bytes) said seen e
+      said-from bytes (open_fault keys bytes) (head_seen bytes) said seen e

@@ -6,10 +6,10 @@ use Rattle.std.proofs.lemmas.Option.{slice_get-get_or}
 use Rattle.std.proofs.lemmas.List.{length-append}
 use Rattle.std.proofs.Math.Seq.{get_or-append_seam}
 use Rattle.cs_base.specs.declared.node_id.NodeId.{NodeId}
-use Rattle.cs_tx_form.specs.declared.session.Session.{Session}
-use Rattle.cs_tx_form.specs.declared.vote.Vote as Tx
-use Rattle.cs_tx_form.specs.declared.entry.Entry.{Entry}
-use Rattle.cs_tx_form.specs.declared.entry.Entry.TheVariants.{Prepare, Decide}
+use Rattle.cs_tx_types.specs.declared.session.Session.{Session}
+use Rattle.cs_tx_types.specs.declared.vote.Vote as Tx
+use Rattle.cs_tx_types.specs.declared.entry.Entry.{Entry}
+use Rattle.cs_tx_types.specs.declared.entry.Entry.TheVariants.{Prepare, Decide}
 use Rattle.cs_wire_message.specs.declared.message.Message.TheVariants as message
 use Rattle.cs_order.specs.declared.proposed.Proposed.{Proposed}
 use Rattle.cs_order.specs.declared.answers.Step.{Step}
@@ -25,7 +25,7 @@ use Rattle.cs_ledger.specs.Table as Shard
 use Rattle.cs_ledger.specs.ShardWorld.{is_vote}
 use Rattle.cs_ledger.proofs.Basics.{bytes_refl}
 use Rattle.cs_node_state.specs.Setup.{Setup, digest_of, concerned, vote_of, vote_from}
-use Rattle.cs_tx_form.specs.Session.{session_in}
+use Rattle.cs_tx_types.specs.Session.{session_in}
 use Rattle.cs_node_state.specs.Admission.{due}
 use Rattle.cs_node_rules.specs.Members.{others}
 use Rattle.cs_node_state.specs.Pool.{is_pooled}
@@ -33,12 +33,12 @@ use Rattle.cs_node_state.specs.Bench.{is_locked, executed, slot_executed, told_b
 use Rattle.cs_node_rules.specs.Signs.{Sign, Took, Entered, Did, Headed, sends, vote_signs, own_signs, entered_signs, ran_signs, headed_signs, execution_signs}
 use Rattle.cs_node_rules.specs.Site.{Mark, Ordered, Plain, Site, View, start_view, view_after, plain, signs_of}
 use Rattle.cs_node_rules.specs.Trail.{with_deed, admits_proposed, due_marks, candidate_marks, propose_marks, echo_marks, cut_marks, step_marks, turn_marks, continued, settled}
-use Rattle.cs_tx_form.specs.declared.checkpoint.Checkpoint.{Checkpoint}
-use Rattle.cs_tx_form.specs.Log.{leaf_encoding}
-use Rattle.cs_checkpoint.specs.Chain.{Log, head_of, chain_head, made_last, kept_slots}
+use Rattle.cs_tx_types.specs.declared.checkpoint.Checkpoint.{Checkpoint}
+use Rattle.cs_tx_types.specs.Log.{leaf_encoding}
+use Rattle.cs_check_rules.specs.Chain.{Log, head_of, chain_head, made_last, kept_slots}
 use Rattle.cs_check_rules.specs.Root.{root_under}
 use Rattle.cs_node_law.proofs.Heads.{root_hashed, last_is}
-use Rattle.cs_node_law.specs.Made.{HasDigests, view_at, log_in, HasVotedOn, has_given, IsMade, Executes, AllMade, IsLevel}
+use Rattle.cs_node_law.specs.Made.{HasDigests, view_at, log_in, HasVotedOn, has_given, IsMade, NodeExecutes, AllMade, IsLevel}
 use Rattle.cs_node_law.proofs.Views.{view_after-append, me-same, member-said}
 use Rattle.cs_node_law.proofs.Silent.{given-over, voted-over, said-append, said-sends, Adds, said-adds, said-level, plain-onto, Handed, all-handed, done-level, deed-level, moving-level}
 use Rattle.cs_node_law.proofs.Keeping.{ran-log}
@@ -210,7 +210,7 @@ module _ {M : Type 0} (site : Site M) (me : NodeId) where
       let u : List (Mark M) = plain (Handed site me t deed) ++ done in
       let count : length (chosen_in v.member.deeds ++ p ∷ []) ≡ suc (length (chosen_in v.member.deeds)) = (let q = length-append (chosen_in v.member.deeds) (p ∷ []) in grind (arith, q)) in
       let same : length (chosen_in (view_at site me u).member.deeds) ≡ length (chosen_in w.member.deeds) = ap (λ (z : View M). length (chosen_in z.member.deeds)) a.view in
-      let executes : Executes site (view_at site me u) (signs_of u) slot entry (executed site.setup (view_at site me u).me.shard (view_at site me u).bench entry).effect = record {
+      let executes : NodeExecutes site (view_at site me u) (signs_of u) slot entry (executed site.setup (view_at site me u).me.shard (view_at site me u).bench entry).effect = record {
         next = l.slots ∙ sym (ap length a.log);
         computed = refl;
         proposed = p;

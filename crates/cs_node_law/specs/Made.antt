@@ -3,15 +3,15 @@ use Rattle.std.specs.Prelude.{◌≡◌, ◌⊎◌, ℕ, Bool, true, false, ◌&
 use Rattle.cs_base.specs.declared.node_id.NodeId.{NodeId}
 use Rattle.cs_base.specs.NodeId.{is_client}
 use Rattle.cs_tx_value.specs.Object.{DigestFits}
-use Rattle.cs_tx_form.specs.declared.checkpoint.Checkpoint.{Checkpoint}
-use Rattle.cs_tx_form.specs.declared.session.Session.{Session}
-use Rattle.cs_tx_form.specs.declared.vote.Vote.{Vote as Said}
-use Rattle.cs_tx_form.specs.declared.entry.Entry.{Entry}
-use Rattle.cs_tx_form.specs.declared.entry.Entry.TheVariants.{Prepare}
+use Rattle.cs_tx_types.specs.declared.checkpoint.Checkpoint.{Checkpoint}
+use Rattle.cs_tx_types.specs.declared.session.Session.{Session}
+use Rattle.cs_tx_types.specs.declared.vote.Vote.{Vote as Said}
+use Rattle.cs_tx_types.specs.declared.entry.Entry.{Entry}
+use Rattle.cs_tx_types.specs.declared.entry.Entry.TheVariants.{Prepare}
 use Rattle.cs_wire_message.specs.declared.message.Message.{Message}
 use Rattle.cs_wire_message.specs.declared.message.Message.TheVariants as message
 use Rattle.cs_wire_message.specs.Message.{MessageFits}
-use Rattle.cs_checkpoint.specs.Chain.{chain_head, cut_slot}
+use Rattle.cs_check_rules.specs.Chain.{chain_head, cut_slot}
 use Rattle.cs_order.specs.declared.proposed.Proposed.{Proposed}
 use Rattle.cs_order.specs.declared.answers.May.TheVariants.{Only}
 use Rattle.cs_order.specs.Lists as Order
@@ -21,9 +21,9 @@ use Rattle.cs_ledger.specs.Ledger.{Bytes, IsIn}
 use Rattle.cs_ledger.specs.Table.{Vote, Commit, Effect, Voted, exec}
 use Rattle.cs_ledger.specs.ShardWorld.{is_vote}
 use Rattle.cs_node_rules.specs.declared.cause.Cause.{Cause}
-use Rattle.cs_node_state.specs.Setup.{Setup, digest_of, concerns, is_fit, is_approved, vote_of, entry_of}
+use Rattle.cs_node_state.specs.Setup.{Setup, digest_of, is_concerned_shard, is_fit, is_approved, vote_of, entry_of}
 use Rattle.cs_node_state.specs.Admission.{due}
-use Rattle.cs_node_state.specs.Bench.{is_locked, noted, decided}
+use Rattle.cs_node_state.specs.Bench.{is_locked, noted, decision_on}
 use Rattle.cs_node_rules.specs.Signs.{Sign, Dropped, Took, Entered, Viewed, Did, Headed, Kept, Sent}
 use Rattle.cs_node_rules.specs.Site.{Input, Datagram, Tick, Mark, In, Ordered, Plain, Site, View, start_view, view_after, signs_of}
 use Rattle.cs_node_rules.specs.Trail.{admits_proposed, opened_marks, event_marks}
@@ -103,7 +103,7 @@ pub record IsVoted {M : Type 0} (site : Site M) (v : View M) (t : List (Mark M))
   pub asks : Bool
   pub heard : IsHeard site v t sender (message.Voted vote asks x)
   pub fit : is_fit site.setup v.me.shard x ≡ true
-  pub concerned : concerns site.setup x sender.shard ≡ true
+  pub concerned : is_concerned_shard site.setup x sender.shard ≡ true
 
 -- the order's message of another member
 pub record IsTaken {M : Type 0} (site : Site M) (v : View M) (t : List (Mark M)) (from : ℕ) (m : M) : Type 0 where
@@ -142,7 +142,7 @@ DeedMade {M} site v t (Replied slot to sent) = Unit {0}
 DeedMade {M} site v t (Cut slot) = Unit {0}
 
 -- the entry that was chosen for the next slot is executed on the table
-pub record Executes {M : Type 0} (site : Site M) (v : View M) (signs : List Sign)
+pub record NodeExecutes {M : Type 0} (site : Site M) (v : View M) (signs : List Sign)
     (slot : ℕ) (entry : Entry) (effect : Effect) : Type 0 where
   pub next : slot ≡ length (log_in signs)
   pub computed : effect ≡ (exec site.setup.rules v.me.shard v.bench.table (entry_of site.setup entry)).effect
@@ -171,7 +171,7 @@ pub record StoodDecided {M : Type 0} (site : Site M) (me : NodeId) (t : List (Ma
   pub later : List (Mark M)
   pub earlier : List (Mark M)
   pub split : t ≡ later ++ earlier
-  pub stood : decided site.setup me.shard (view_at site me earlier).bench.table session ≡ Some accepted
+  pub stood : decision_on site.setup me.shard (view_at site me earlier).bench.table session ≡ Some accepted
 
 -- its hashes are digests
 pub record HasDigests (c : Checkpoint) : Type 0 where
@@ -203,7 +203,7 @@ SignMade {M} site v t (Entered x) = IsOffered site v t x ⊎ HasVotedOn x (signs
 SignMade {M} site v t (Viewed slot view) = Unit {0}
 SignMade {M} site v t (Headed number head) = chain_head v.bench.log number ≡ Some head
 SignMade {M} site v t (Kept index checkpoint) = Unit {0}
-SignMade {M} site v t (Did slot entry effect) = Executes site v (signs_of t) slot entry effect
+SignMade {M} site v t (Did slot entry effect) = NodeExecutes site v (signs_of t) slot entry effect
 SignMade {M} site v t (Sent to said) =
     ((to.shard ≡ v.me.shard) × IsHanded site to.index said v.member.deeds) ⊎ SaidMade site v t to said
 

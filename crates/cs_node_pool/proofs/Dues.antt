@@ -2,18 +2,18 @@
 use Rattle.std.proofs.Common.{◌≡◌, ◌↔◌, ℕ, ◌<◌, Bool, true, false, not, cond, List, [], ◌∷◌, Option, Some, None, is_some, option_map, length, inl, inr, refl, ap, sym, ◌∙◌, arith}
 use Rattle.cs_base.specs.declared.config.Config.{Config}
 use Rattle.cs_tx_value.specs.declared.object.Object.{Object}
-use Rattle.cs_tx_form.specs.declared.transaction.Tx.{Tx}
-use Rattle.cs_tx_form.specs.declared.session.Session.{Session}
-use Rattle.cs_tx_form.specs.declared.vote.Vote.{Vote}
-use Rattle.cs_tx_form.specs.declared.entry.Entry.{Entry}
-use Rattle.cs_tx_form.specs.declared.entry.Entry.TheVariants.{Prepare}
+use Rattle.cs_tx_types.specs.declared.transaction.Tx.{Tx}
+use Rattle.cs_tx_types.specs.declared.session.Session.{Session}
+use Rattle.cs_tx_types.specs.declared.vote.Vote.{Vote}
+use Rattle.cs_tx_types.specs.declared.entry.Entry.{Entry}
+use Rattle.cs_tx_types.specs.declared.entry.Entry.TheVariants.{Prepare}
 use Rattle.cs_node_state.specs.Setup.{Setup, concerned}
-use Rattle.cs_tx_form.specs.Session.{session_in}
+use Rattle.cs_tx_types.specs.Session.{session_in}
 use Rattle.cs_node_state.specs.Admission.{due_vote, decide_due, first_decided, first_waiting}
-use Rattle.cs_node_pool.specs.Deployed.{deployed}
+use Rattle.cs_node_pool.specs.Deployed.{deployed_setup}
 use Rattle.cs_node_pool.specs.Calls.{IsNext}
 use Rattle.cs_node_pool.specs.declared.seat.Seat.{Seat}
-use Rattle.cs_node_pool.specs.Seats.{Seats, with_place, seated, session_at, passes, first_passing, waits, is_due, IsRight, IsRightIn, AllRight}
+use Rattle.cs_node_pool.specs.Seats.{Seats, with_place, seated, session_on_seat, passes, first_passing, waits, is_due, IsRight, IsRightIn, AllRight}
 use Rattle.cs_node_pool.proofs.Concerned.{concerned-session}
 
 pub no-keys : (ks : List ℕ) → (false ≡ true) ↔ (0 < length ks) → ks ≡ []
@@ -40,7 +40,7 @@ waiting-first (e ∷ seats) = by e.1 (waiting-first seats)
     by None rest = rest
     by (Some seat) rest = there seat seat.pooled.locked rest
 
-waiting-session : (place : Option Seat) → option_map session_in (prepare_of place) ≡ session_at place
+waiting-session : (place : Option Seat) → option_map session_in (prepare_of place) ≡ session_on_seat place
 waiting-session None = refl
 waiting-session (Some seat) = refl
 
@@ -50,23 +50,23 @@ abbrev pub decide_of : Option Seat → Option Entry
 decide_of None = None
 decide_of (Some seat) = decide_due seat.pooled.session None seat.due
 
-decided-here : (seat : Seat) (rest : Option Seat) (vote : Option Vote) → seat.due ≡ vote → option_map session_in (decide_of rest) ≡ session_at rest
-    → option_map session_in (decide_of (cond (is_some vote) (Some seat) rest)) ≡ session_at (cond (is_some vote) (Some seat) rest)
+decided-here : (seat : Seat) (rest : Option Seat) (vote : Option Vote) → seat.due ≡ vote → option_map session_in (decide_of rest) ≡ session_on_seat rest
+    → option_map session_in (decide_of (cond (is_some vote) (Some seat) rest)) ≡ session_on_seat (cond (is_some vote) (Some seat) rest)
 decided-here seat rest (Some vote) is later = ap (λ v. option_map session_in (decide_due seat.pooled.session None v)) is
 decided-here seat rest None is later = later
 
-decided-session : (seats : Seats) → option_map session_in (decide_of (first_passing is_due seats)) ≡ session_at (first_passing is_due seats)
+decided-session : (seats : Seats) → option_map session_in (decide_of (first_passing is_due seats)) ≡ session_on_seat (first_passing is_due seats)
 decided-session [] = refl
 decided-session (e ∷ seats) = by e.1 (decided-session seats)
   where
-    by : (place : Option Seat) → option_map session_in (decide_of (first_passing is_due seats)) ≡ session_at (first_passing is_due seats)
-        → option_map session_in (decide_of (cond (passes is_due place) place (first_passing is_due seats))) ≡ session_at (cond (passes is_due place) place (first_passing is_due seats))
+    by : (place : Option Seat) → option_map session_in (decide_of (first_passing is_due seats)) ≡ session_on_seat (first_passing is_due seats)
+        → option_map session_in (decide_of (cond (passes is_due place) place (first_passing is_due seats))) ≡ session_on_seat (cond (passes is_due place) place (first_passing is_due seats))
     by None rest = rest
     by (Some seat) rest = decided-here seat (first_passing is_due seats) seat.due refl rest
 
 module _ (config : Config) (genesis : List Object) (approves : Tx → Bool) where
   abbrev setup : Setup
-  setup = deployed config genesis approves
+  setup = deployed_setup config genesis approves
 
   same-vote : (seat : Seat) → IsRight config seat → due_vote setup.f (concerned setup seat.pooled.session) seat.pooled ≡ seat.due
   same-vote seat right =
@@ -91,11 +91,11 @@ module _ (config : Config) (genesis : List Object) (approves : Tx → Bool) wher
   -- ---- those that come next
 
   module _ (seats : Seats) (right : AllRight config seats) (x : Session) where
-    pub next-decided : session_at (first_passing is_due seats) ≡ Some x → IsNext setup (seated seats) x
+    pub next-decided : session_on_seat (first_passing is_due seats) ≡ Some x → IsNext setup (seated seats) x
     next-decided is = inl (ap (option_map session_in) (decided-first seats right) ∙ decided-session seats ∙ is)
 
     -- where it isn't the first on which a decision is due
-    pub next-waiting : (found : Bool) → (session_at (first_passing is_due seats) ≡ Some x → ⊥) → (found ≡ true) ↔ (session_at (first_passing waits seats) ≡ Some x)
+    pub next-waiting : (found : Bool) → (session_on_seat (first_passing is_due seats) ≡ Some x → ⊥) → (found ≡ true) ↔ (session_on_seat (first_passing waits seats) ≡ Some x)
         → (found ≡ true) ↔ IsNext setup (seated seats) x
     next-waiting found other same =
         let decided = ap (option_map session_in) (decided-first seats right) ∙ decided-session seats in

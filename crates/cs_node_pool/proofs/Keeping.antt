@@ -10,10 +10,10 @@ use Rattle.cs_ledger.specs.Ledger.{Bytes}
 use Rattle.cs_node_state.specs.declared.pooled.Pooled.{Pooled}
 use Rattle.cs_node_state.specs.declared.ballot.Ballot.{Ballot}
 use Rattle.cs_node_state.specs.Evidence.{has_voted}
-use Rattle.cs_node_state.specs.Pool.{changed, without, with_ballot, as_locked}
+use Rattle.cs_node_state.specs.Pool.{pool_changed, without_session, with_ballot, as_locked}
 use Rattle.cs_node_pool.specs.declared.kept.Kept.{Kept}
 use Rattle.cs_node_pool.specs.declared.seat.Seat.{Seat}
-use Rattle.cs_node_pool.specs.Seats.{Seats, seated, pool_in, pooled_in, place_at, passes, waits, is_due, sessions_in, closed, reseated, IsPicked, Placed, AllRight, SoundSeats}
+use Rattle.cs_node_pool.specs.Seats.{Seats, seated, pool_in, pooled_in, seat_of_place, passes, waits, is_due, seats_taken, without_gaps, reseated, IsPicked, Placed, AllRight, SoundSeats}
 use Rattle.cs_node_pool.proofs.Places.{At, seated-changed, seated-left, place-set, place-pushed}
 use Rattle.cs_node_pool.proofs.Picking.{Marked, picked-marked, picked-same}
 use Rattle.cs_node_pool.proofs.Closing.{sessions-pushed, sessions-changed, sessions-left, sessions-closed}
@@ -22,15 +22,15 @@ use Rattle.cs_node_pool.proofs.Right.{right-at, right-set, right-changed}
 -- ---- the last place is given to a session
 
 module _ (old new : Kept) (d : Bytes) (seat : Seat) (entries : new.seats.entries ≡ old.seats.entries ++ (d, Some seat) ∷ []) (placed : Placed old) where
-  stood-pushed : (q : ℕ) → place_at q new.seats.entries ≡ cond (is_at (nat_cmp (length old.seats.entries)) q) (Some seat) (place_at q old.seats.entries)
-  stood-pushed q = ap (place_at q) entries ∙ place-pushed old.seats.entries (d, Some seat) q
+  stood-pushed : (q : ℕ) → seat_of_place q new.seats.entries ≡ cond (is_at (nat_cmp (length old.seats.entries)) q) (Some seat) (seat_of_place q old.seats.entries)
+  stood-pushed q = ap (seat_of_place q) entries ∙ place-pushed old.seats.entries (d, Some seat) q
 
   pub placed-pushed : IsUnique bytes_eq new.seats → new.sessions ≡ old.sessions + 1
       → (b : Bool) → b ≡ waits seat → Marked old.waiting (length old.seats.entries) b new.waiting
       → (due : Bool) → due ≡ is_due seat → Marked old.ready (length old.seats.entries) due new.ready → Placed new
   placed-pushed unique number b b-is waiting due due-is ready = record {
     unique = unique;
-    sessions = number ∙ ap (λ m. m + 1) placed.sessions ∙ sym (ap sessions_in entries ∙ sessions-pushed old.seats.entries d seat);
+    sessions = number ∙ ap (λ m. m + 1) placed.sessions ∙ sym (ap seats_taken entries ∙ sessions-pushed old.seats.entries d seat);
     waiting = picked-marked waits old.waiting new.waiting old.seats.entries new.seats.entries (length old.seats.entries) (Some seat) placed.waiting stood-pushed b b-is waiting;
     ready = picked-marked is_due old.ready new.ready old.seats.entries new.seats.entries (length old.seats.entries) (Some seat) placed.ready stood-pushed due due-is ready;
   }
@@ -41,7 +41,7 @@ module _ (old new : Kept) (d : Bytes) (seat : Seat) (entries : new.seats.entries
 pub placed-still : (old new : Kept) → new.seats.entries ≡ old.seats.entries → new.sessions ≡ old.sessions → new.waiting ≡ old.waiting → new.ready ≡ old.ready → Placed old → Placed new
 placed-still old new entries number waiting ready placed = record {
   unique = subst (λ seats. IsDistinct bytes_eq (keys_of seats)) (sym entries) placed.unique;
-  sessions = number ∙ placed.sessions ∙ sym (ap sessions_in entries);
+  sessions = number ∙ placed.sessions ∙ sym (ap seats_taken entries);
   waiting = subst (λ seats. IsPicked waits new.waiting seats) (sym entries) (subst (λ s. IsPicked waits s old.seats.entries) (sym waiting) placed.waiting);
   ready = subst (λ seats. IsPicked is_due new.ready seats) (sym entries) (subst (λ s. IsPicked is_due s old.seats.entries) (sym ready) placed.ready);
 }
@@ -58,35 +58,35 @@ unique-set seats n w unique = subst (λ ks. IsDistinct bytes_eq ks) (sym (keys-s
 -- ---- a gap is left
 
 module _ (old new : Kept) (d : Bytes) (n : ℕ) (at : At d old.seats.entries n) (entries : new.seats.entries ≡ set_value_at old.seats.entries n None) (placed : Placed old) where
-  stood-left : (q : ℕ) → place_at q new.seats.entries ≡ cond (is_at (nat_cmp n) q) None (place_at q old.seats.entries)
-  stood-left q = ap (place_at q) entries ∙ place-set d old.seats.entries n None at q
+  stood-left : (q : ℕ) → seat_of_place q new.seats.entries ≡ cond (is_at (nat_cmp n) q) None (seat_of_place q old.seats.entries)
+  stood-left q = ap (seat_of_place q) entries ∙ place-set d old.seats.entries n None at q
 
-  pub placed-left : is_some (place_at n old.seats.entries) ≡ true → IsUnique bytes_eq new.seats → new.sessions + 1 ≡ old.sessions
+  pub placed-left : is_some (seat_of_place n old.seats.entries) ≡ true → IsUnique bytes_eq new.seats → new.sessions + 1 ≡ old.sessions
       → Marked old.waiting n false new.waiting → Marked old.ready n false new.ready → Placed new
   placed-left there unique number waiting ready = record {
     unique = unique;
     sessions =
-        let left : sessions_in new.seats.entries + 1 ≡ sessions_in old.seats.entries = ap (λ seats. sessions_in seats + 1) entries ∙ sessions-left old.seats.entries n there in
-        let were : old.sessions ≡ sessions_in old.seats.entries = placed.sessions in
+        let left : seats_taken new.seats.entries + 1 ≡ seats_taken old.seats.entries = ap (λ seats. seats_taken seats + 1) entries ∙ sessions-left old.seats.entries n there in
+        let were : old.sessions ≡ seats_taken old.seats.entries = placed.sessions in
         omega (arith, left, number, were);
     waiting = picked-marked waits old.waiting new.waiting old.seats.entries new.seats.entries n None placed.waiting stood-left false refl waiting;
     ready = picked-marked is_due old.ready new.ready old.seats.entries new.seats.entries n None placed.ready stood-left false refl ready;
   }
 
-  pub pool-left : pool_in new ≡ without d (pool_in old)
+  pub pool-left : pool_in new ≡ without_session d (pool_in old)
   pool-left = ap seated entries ∙ seated-left d old.seats.entries n placed.unique at
 
 -- ---- the session of a place changes
 
 module _ (config : Config) (change : Pooled → Pooled) (same : (p : Pooled) → (change p).session ≡ p.session) (old new : Kept) (d : Bytes) (n : ℕ) (at : At d old.seats.entries n)
-    (entries : new.seats.entries ≡ set_value_at old.seats.entries n (reseated config.f change (place_at n old.seats.entries))) (sound : SoundSeats config old) where
+    (entries : new.seats.entries ≡ set_value_at old.seats.entries n (reseated config.f change (seat_of_place n old.seats.entries))) (sound : SoundSeats config old) where
   abbrev after : Option Seat
-  after = reseated config.f change (place_at n old.seats.entries)
+  after = reseated config.f change (seat_of_place n old.seats.entries)
 
-  stood-changed : (q : ℕ) → place_at q new.seats.entries ≡ cond (is_at (nat_cmp n) q) after (place_at q old.seats.entries)
-  stood-changed q = ap (place_at q) entries ∙ place-set d old.seats.entries n after at q
+  stood-changed : (q : ℕ) → seat_of_place q new.seats.entries ≡ cond (is_at (nat_cmp n) q) after (seat_of_place q old.seats.entries)
+  stood-changed q = ap (seat_of_place q) entries ∙ place-set d old.seats.entries n after at q
 
-  pub pool-changed : pool_in new ≡ changed d change (pool_in old)
+  pub pool-changed : pool_in new ≡ pool_changed d change (pool_in old)
   pool-changed = ap seated entries ∙ seated-changed config.f change d old.seats.entries n sound.placed.unique at
 
   pub sound-changed : IsUnique bytes_eq new.seats → new.sessions ≡ old.sessions → IsPicked waits new.waiting new.seats.entries
@@ -94,16 +94,16 @@ module _ (config : Config) (change : Pooled → Pooled) (same : (p : Pooled) →
   sound-changed unique number waiting due due-is ready = record {
     placed = record {
       unique = unique;
-      sessions = number ∙ sound.placed.sessions ∙ sym (ap sessions_in entries ∙ sessions-changed config.f change old.seats.entries n);
+      sessions = number ∙ sound.placed.sessions ∙ sym (ap seats_taken entries ∙ sessions-changed config.f change old.seats.entries n);
       waiting = waiting;
       ready = picked-marked is_due old.ready new.ready old.seats.entries new.seats.entries n after sound.placed.ready stood-changed due due-is ready;
     };
     right = subst (AllRight config) (sym entries)
-        (right-set config old.seats.entries n after (right-changed config change same (place_at n old.seats.entries) (right-at config old.seats.entries n sound.right)) sound.right);
+        (right-set config old.seats.entries n after (right-changed config change same (seat_of_place n old.seats.entries) (right-at config old.seats.entries n sound.right)) sound.right);
   }
 
   -- whether it waits is as before
-  pub waiting-kept : passes waits after ≡ passes waits (place_at n old.seats.entries) → IsPicked waits old.waiting new.seats.entries
+  pub waiting-kept : passes waits after ≡ passes waits (seat_of_place n old.seats.entries) → IsPicked waits old.waiting new.seats.entries
   waiting-kept still = picked-same waits old.waiting old.waiting old.seats.entries new.seats.entries n after sound.placed.waiting stood-changed still
 
   -- it doesn't wait now
@@ -112,11 +112,11 @@ module _ (config : Config) (change : Pooled → Pooled) (same : (p : Pooled) →
 
 -- ---- the gaps are closed
 
-pub placed-closed : (old new : Kept) → Placed old → new.seats.entries ≡ closed old.seats.entries → IsUnique bytes_eq new.seats → new.sessions ≡ old.sessions
+pub placed-closed : (old new : Kept) → Placed old → new.seats.entries ≡ without_gaps old.seats.entries → IsUnique bytes_eq new.seats → new.sessions ≡ old.sessions
     → IsPicked waits new.waiting new.seats.entries → IsPicked is_due new.ready new.seats.entries → Placed new
 placed-closed old new placed entries unique number waiting ready = record {
   unique = unique;
-  sessions = number ∙ placed.sessions ∙ sessions-closed old.seats.entries ∙ sym (ap sessions_in entries);
+  sessions = number ∙ placed.sessions ∙ sessions-closed old.seats.entries ∙ sym (ap seats_taken entries);
   waiting = waiting;
   ready = ready;
 }

@@ -1,14 +1,14 @@
 -- The locked sessions of a pool, one after the other.
 use Rattle.std.proofs.Common.{◌≡◌, true, cond, List, [], ◌∷◌, ◌++◌, Some, ap, sym, subst, ◌∙◌, append_assoc}
-use Rattle.cs_tx_form.specs.declared.session.Session.{Session}
-use Rattle.cs_tx_form.specs.Session.{SessionFits}
+use Rattle.cs_tx_types.specs.declared.session.Session.{Session}
+use Rattle.cs_tx_types.specs.Session.{SessionFits}
 use Rattle.cs_ledger.specs.Ledger.{Bytes}
-use Rattle.cs_node_pool.specs.Fits.{PoolFits, AllFit}
+use Rattle.cs_node_pool.specs.Fits.{PoolFits, SessionsFit}
 use Rattle.cs_node_pool.specs.Calls.{locked_in}
 use Rattle.cs_node_pool.specs.declared.seat.Seat.{Seat}
 use Rattle.cs_node_pool.specs.Seats.{Seats, seated}
 
-all-push : (xs : List Session) (x : Session) → AllFit xs → SessionFits x → AllFit (xs ++ x ∷ [])
+all-push : (xs : List Session) (x : Session) → SessionsFit xs → SessionFits x → SessionsFit (xs ++ x ∷ [])
 all-push [] x fits fit = (fit, tt)
 all-push (y ∷ xs) x fits fit = (fits.0, all-push xs x fits.1 fit)
 
@@ -19,10 +19,10 @@ module _ (d : Bytes) (old rest : Seats) where
     fits-passed fits = let both : PoolFits (seated ((d, Some seat) ∷ rest)) = subst (λ seats. PoolFits (seated seats)) at fits in both.1
 
     module _ (xs ys : List Session) (x : Session) (same : x ≡ seat.pooled.session) (grown : ys ≡ xs ++ x ∷ []) where
-      pub fits-pushed : PoolFits (seated old) → AllFit xs → AllFit ys
+      pub fits-pushed : PoolFits (seated old) → SessionsFit xs → SessionsFit ys
       fits-pushed pool fits =
           let both : PoolFits (seated ((d, Some seat) ∷ rest)) = subst (λ seats. PoolFits (seated seats)) at pool in
-          subst AllFit (sym grown) (all-push xs x fits (subst SessionFits (sym same) both.0))
+          subst SessionsFit (sym grown) (all-push xs x fits (subst SessionFits (sym same) both.0))
 
       pub locked-pushed : seat.pooled.locked ≡ true → (whole : List Session) → xs ++ locked_in (seated old) ≡ whole → ys ++ locked_in (seated rest) ≡ whole
       locked-pushed locked whole so-far =

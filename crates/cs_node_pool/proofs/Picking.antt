@@ -15,7 +15,7 @@ use Rattle.cs_ledger.specs.Ledger.{Bytes}
 use Rattle.cs_node_state.specs.declared.pooled.Pooled.{Pooled}
 use Rattle.cs_node_state.specs.Pool.{waiting_count}
 use Rattle.cs_node_pool.specs.declared.seat.Seat.{Seat}
-use Rattle.cs_node_pool.specs.Seats.{Seats, with_place, seated, place_at, passes, first_passing, IsPicked, IsMarked, waits}
+use Rattle.cs_node_pool.specs.Seats.{Seats, with_place, seated, seat_of_place, passes, first_passing, IsPicked, IsMarked, waits}
 use Rattle.cs_node_pool.proofs.Places.{same-at, place-taken}
 
 -- ---- a change at one place
@@ -24,8 +24,8 @@ abbrev pub Marked : BTreeSet ℕ → ℕ → Bool → BTreeSet ℕ → Type 0
 Marked chosen n b next = IsMarked n b chosen next × set.IsOrdered nat_cmp next
 
 module _ (test : Seat → Bool) (chosen next : BTreeSet ℕ) (old new : Seats) (n : ℕ) (w : Option Seat)
-    (was : IsPicked test chosen old) (stood : (q : ℕ) → place_at q new ≡ cond (is_at (nat_cmp n) q) w (place_at q old)) where
-  picked-at : (q : ℕ) (b : Bool) → cond b (passes test w) (contains nat_cmp chosen q) ≡ passes test (cond b w (place_at q old))
+    (was : IsPicked test chosen old) (stood : (q : ℕ) → seat_of_place q new ≡ cond (is_at (nat_cmp n) q) w (seat_of_place q old)) where
+  picked-at : (q : ℕ) (b : Bool) → cond b (passes test w) (contains nat_cmp chosen q) ≡ passes test (cond b w (seat_of_place q old))
   picked-at q true = refl
   picked-at q false = was.has q
 
@@ -37,14 +37,14 @@ module _ (test : Seat → Bool) (chosen next : BTreeSet ℕ) (old new : Seats) (
   }
 
   -- it stays where the test says the same of what is there now
-  pub picked-same : passes test w ≡ passes test (place_at n old) → IsPicked test chosen new
+  pub picked-same : passes test w ≡ passes test (seat_of_place n old) → IsPicked test chosen new
   picked-same same = record {
     rising = was.rising;
     has = λ q. by q (is_at (nat_cmp n) q) refl ∙ ap (passes test) (sym (stood q));
   }
     where
-      by : (q : ℕ) (b : Bool) → is_at (nat_cmp n) q ≡ b → contains nat_cmp chosen q ≡ passes test (cond b w (place_at q old))
-      by q true t = was.has q ∙ ap (λ m. passes test (place_at m old)) (sym (same-at n q t)) ∙ sym same
+      by : (q : ℕ) (b : Bool) → is_at (nat_cmp n) q ≡ b → contains nat_cmp chosen q ≡ passes test (cond b w (seat_of_place q old))
+      by q true t = was.has q ∙ ap (λ m. passes test (seat_of_place m old)) (sym (same-at n q t)) ∙ sym same
       by q false t = was.has q
 
 -- a set with no place has those of no seats
@@ -80,7 +80,7 @@ any-next q [] = refl
 any-next q (n ∷ ns) = λ i. at-next q n i || any-next q ns i
 
 module _ (test : Seat → Bool) where
-  picked-has : (seats : Seats) (q : ℕ) → list_any (is_at (nat_cmp q)) (picked test seats) ≡ passes test (place_at q seats)
+  picked-has : (seats : Seats) (q : ℕ) → list_any (is_at (nat_cmp q)) (picked test seats) ≡ passes test (seat_of_place q seats)
   picked-has [] q = refl
   picked-has (e ∷ seats) zero = by (passes test e.1)
     where
@@ -162,7 +162,7 @@ waiting-count chosen seats was = ap length (picked-is waits chosen seats was) �
 
 -- what is at a place is the first that passes
 abbrev pub Leads : (Seat → Bool) → ℕ → Seats → Type 0
-Leads test n seats = first_passing test seats ≡ place_at n seats
+Leads test n seats = first_passing test seats ≡ seat_of_place n seats
 
 record Before (ns : List ℕ) (n : ℕ) : Type 0 where
   before : ℕ

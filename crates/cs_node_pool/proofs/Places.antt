@@ -14,9 +14,9 @@ use Rattle.indexmap.specs.IndexMap.{set_value_at}
 use Rattle.indexmap.proofs.MapLemmas.{Found-position, Missing-position, index-first}
 use Rattle.cs_ledger.specs.Ledger.{Bytes}
 use Rattle.cs_node_state.specs.declared.pooled.Pooled.{Pooled}
-use Rattle.cs_node_state.specs.Pool.{Pool, found, without, changed, changed_at}
+use Rattle.cs_node_state.specs.Pool.{Pool, found, without_session, pool_changed, changed_at}
 use Rattle.cs_node_pool.specs.declared.seat.Seat.{Seat}
-use Rattle.cs_node_pool.specs.Seats.{Seats, pooled_in, with_place, seated, place_at, reseated}
+use Rattle.cs_node_pool.specs.Seats.{Seats, pooled_in, with_place, seated, seat_of_place, reseated}
 
 bytes_equiv : IsEquivalence bytes_eq
 bytes_equiv = nat_list_eq_equiv
@@ -60,7 +60,7 @@ absent d seats p = not-there d seats (Missing-position {K = Bytes} {X = Option S
 past-here : (d : Bytes) (e : Bytes × Option Seat) (seats : Seats) → IsDistinct bytes_eq (keys_of (e ∷ seats)) → bytes_eq d e.0 ≡ true → found d (seated seats) ≡ None
 past-here d e seats distinct here = not-there d seats (lookup-none (bytes_eq d) seats (none_past_head bytes_equiv d e seats distinct here))
 
-pub found-at : (d : Bytes) (seats : Seats) (n : ℕ) → IsDistinct bytes_eq (keys_of seats) → At d seats n → found d (seated seats) ≡ pooled_in (place_at n seats)
+pub found-at : (d : Bytes) (seats : Seats) (n : ℕ) → IsDistinct bytes_eq (keys_of seats) → At d seats n → found d (seated seats) ≡ pooled_in (seat_of_place n seats)
 found-at d [] n distinct at = absurd at
 found-at d (e ∷ seats) zero distinct at = by e.1 (past-here d e seats distinct at)
   where
@@ -89,7 +89,7 @@ found-lookup d (e ∷ seats) distinct place is = by (bytes_eq d e.0) refl (found
 -- ---- a session changes
 
 -- nothing is done to what isn't found
-pub unchanged : (d : Bytes) (change : Pooled → Pooled) (pool : Pool) → found d pool ≡ None → pool ≡ changed d change pool
+pub unchanged : (d : Bytes) (change : Pooled → Pooled) (pool : Pool) → found d pool ≡ None → pool ≡ pool_changed d change pool
 unchanged d change pool none = sym (ap (changed_at d change pool) none)
 
 module _ (f : ℕ) (change : Pooled → Pooled) (d : Bytes) where
@@ -108,33 +108,33 @@ module _ (f : ℕ) (change : Pooled → Pooled) (d : Bytes) where
       sym (ap (λ b. cond b ((k, change seat.pooled) ∷ pool) ((k, seat.pooled) ∷ set_value (bytes_eq d) pool (change seat.pooled))) here)
 
   set-at : (seats : Seats) (n : ℕ) → At d seats n
-      → seated (set_value_at seats n (reseated f change (place_at n seats))) ≡ changed_at d change (seated seats) (pooled_in (place_at n seats))
+      → seated (set_value_at seats n (reseated f change (seat_of_place n seats))) ≡ changed_at d change (seated seats) (pooled_in (seat_of_place n seats))
   set-at [] n at = absurd at
   set-at (e ∷ seats) zero at = set-here e.0 e.1 (seated seats) at
-  set-at (e ∷ seats) (suc n) at = set-behind e.0 e.1 (seated seats) _ (pooled_in (place_at n seats)) at.0 (set-at seats n at.1)
+  set-at (e ∷ seats) (suc n) at = set-behind e.0 e.1 (seated seats) _ (pooled_in (seat_of_place n seats)) at.0 (set-at seats n at.1)
 
   pub seated-changed : (seats : Seats) (n : ℕ) → IsDistinct bytes_eq (keys_of seats) → At d seats n
-      → seated (set_value_at seats n (reseated f change (place_at n seats))) ≡ changed d change (seated seats)
+      → seated (set_value_at seats n (reseated f change (seat_of_place n seats))) ≡ pool_changed d change (seated seats)
   seated-changed seats n distinct at = set-at seats n at ∙ ap (changed_at d change (seated seats)) (sym (found-at d seats n distinct at))
 
 -- ---- a session leaves
 
 -- without one that isn't found, a pool is as it was
-pub without-none : (d : Bytes) (pool : Pool) → found d pool ≡ None → without d pool ≡ pool
+pub without-none : (d : Bytes) (pool : Pool) → found d pool ≡ None → without_session d pool ≡ pool
 without-none d [] h = refl
 without-none d (e ∷ pool) h =
     let b : bytes_eq d e.0 ≡ false = second (bytes_eq d e.0) e.1 (found d pool) h in
-    ap (λ c. cond c pool (e ∷ without d pool)) b ∙ ap (λ xs. e ∷ xs) (without-none d pool (sym (ap (λ c. cond c (Some e.1) (found d pool)) b) ∙ h))
+    ap (λ c. cond c pool (e ∷ without_session d pool)) b ∙ ap (λ xs. e ∷ xs) (without-none d pool (sym (ap (λ c. cond c (Some e.1) (found d pool)) b) ∙ h))
 
-without-behind : (d k : Bytes) (place : Option Seat) (pool : Pool) → bytes_eq d k ≡ false → with_place k place (without d pool) ≡ without d (with_place k place pool)
+without-behind : (d k : Bytes) (place : Option Seat) (pool : Pool) → bytes_eq d k ≡ false → with_place k place (without_session d pool) ≡ without_session d (with_place k place pool)
 without-behind d k None pool other = refl
-without-behind d k (Some seat) pool other = sym (ap (λ b. cond b pool ((k, seat.pooled) ∷ without d pool)) other)
+without-behind d k (Some seat) pool other = sym (ap (λ b. cond b pool ((k, seat.pooled) ∷ without_session d pool)) other)
 
-without-here : (d k : Bytes) (place : Option Seat) (pool : Pool) → bytes_eq d k ≡ true → found d pool ≡ None → pool ≡ without d (with_place k place pool)
+without-here : (d k : Bytes) (place : Option Seat) (pool : Pool) → bytes_eq d k ≡ true → found d pool ≡ None → pool ≡ without_session d (with_place k place pool)
 without-here d k None pool here none = sym (without-none d pool none)
-without-here d k (Some seat) pool here none = sym (ap (λ b. cond b pool ((k, seat.pooled) ∷ without d pool)) here)
+without-here d k (Some seat) pool here none = sym (ap (λ b. cond b pool ((k, seat.pooled) ∷ without_session d pool)) here)
 
-pub seated-left : (d : Bytes) (seats : Seats) (n : ℕ) → IsDistinct bytes_eq (keys_of seats) → At d seats n → seated (set_value_at seats n None) ≡ without d (seated seats)
+pub seated-left : (d : Bytes) (seats : Seats) (n : ℕ) → IsDistinct bytes_eq (keys_of seats) → At d seats n → seated (set_value_at seats n None) ≡ without_session d (seated seats)
 seated-left d [] n distinct at = absurd at
 seated-left d (e ∷ seats) zero distinct at = without-here d e.0 e.1 (seated seats) at (past-here d e seats distinct at)
 seated-left d (e ∷ seats) (suc n) distinct at =
@@ -153,12 +153,12 @@ seated-pushed (e ∷ seats) d seat = ap (with_place e.0 e.1) (seated-pushed seat
 
 -- ---- what is at a place
 
-pub place-got : (seats : Seats) (n : ℕ) (place : Option Seat) → slice_get (values_of seats) n ≡ Some place → place_at n seats ≡ place
+pub place-got : (seats : Seats) (n : ℕ) (place : Option Seat) → slice_get (values_of seats) n ≡ Some place → seat_of_place n seats ≡ place
 place-got [] n place h = let q : ◌≡◌ {A = Option (Option Seat)} None (Some place) = h in absurd cc
 place-got (e ∷ seats) zero place h = let q : ◌≡◌ {A = Option (Option Seat)} (Some e.1) (Some place) = h in cc
 place-got (e ∷ seats) (suc n) place h = place-got seats n place h
 
-pub entry-got : (seats : Seats) (n : ℕ) (k : Bytes) (place : Option Seat) → slice_get seats n ≡ Some (k, place) → place_at n seats ≡ place
+pub entry-got : (seats : Seats) (n : ℕ) (k : Bytes) (place : Option Seat) → slice_get seats n ≡ Some (k, place) → seat_of_place n seats ≡ place
 entry-got [] n k place h = let q : ◌≡◌ {A = Option (Bytes × Option Seat)} None (Some (k, place)) = h in absurd cc
 entry-got (e ∷ seats) zero k place h =
     let q : ◌≡◌ {A = Option (Bytes × Option Seat)} (Some e) (Some (k, place)) = h in
@@ -166,7 +166,7 @@ entry-got (e ∷ seats) zero k place h =
     ap (λ (x : Bytes × Option Seat). x.1) same
 entry-got (e ∷ seats) (suc n) k place h = entry-got seats n k place h
 
-pub entry-past : (seats : Seats) (n : ℕ) → slice_get seats n ≡ None → place_at n seats ≡ None
+pub entry-past : (seats : Seats) (n : ℕ) → slice_get seats n ≡ None → seat_of_place n seats ≡ None
 entry-past [] n h = refl
 entry-past (e ∷ seats) zero h = let q : ◌≡◌ {A = Option (Bytes × Option Seat)} (Some e) None = h in absurd cc
 entry-past (e ∷ seats) (suc n) h = entry-past seats n h
@@ -181,20 +181,20 @@ other-at : (n q : ℕ) → is_at (nat_cmp n) q ≡ false → n ≡ q → ⊥
 other-at n q h same = let r : true ≡ false = sym (here-at n) ∙ ap (λ m. is_at (nat_cmp n) m) same ∙ h in cc
 
 -- one place is as it is told, the others as they were
-module _ (n : ℕ) (w : Option Seat) (old new : Seats) (here : place_at n new ≡ w) (others : (q : ℕ) → (n ≡ q → ⊥) → place_at q new ≡ place_at q old) where
-  by-place : (q : ℕ) (b : Bool) → is_at (nat_cmp n) q ≡ b → place_at q new ≡ cond b w (place_at q old)
-  by-place q true t = ap (λ m. place_at m new) (sym (same-at n q t)) ∙ here
+module _ (n : ℕ) (w : Option Seat) (old new : Seats) (here : seat_of_place n new ≡ w) (others : (q : ℕ) → (n ≡ q → ⊥) → seat_of_place q new ≡ seat_of_place q old) where
+  by-place : (q : ℕ) (b : Bool) → is_at (nat_cmp n) q ≡ b → seat_of_place q new ≡ cond b w (seat_of_place q old)
+  by-place q true t = ap (λ m. seat_of_place m new) (sym (same-at n q t)) ∙ here
   by-place q false t = others q (other-at n q t)
 
-  one-place : (q : ℕ) → place_at q new ≡ cond (is_at (nat_cmp n) q) w (place_at q old)
+  one-place : (q : ℕ) → seat_of_place q new ≡ cond (is_at (nat_cmp n) q) w (seat_of_place q old)
   one-place q = by-place q (is_at (nat_cmp n) q) refl
 
-set-same : (d : Bytes) (seats : Seats) (n : ℕ) (w : Option Seat) → At d seats n → place_at n (set_value_at seats n w) ≡ w
+set-same : (d : Bytes) (seats : Seats) (n : ℕ) (w : Option Seat) → At d seats n → seat_of_place n (set_value_at seats n w) ≡ w
 set-same d [] n w at = absurd at
 set-same d (e ∷ seats) zero w at = refl
 set-same d (e ∷ seats) (suc n) w at = set-same d seats n w at.1
 
-set-other : (seats : Seats) (n : ℕ) (w : Option Seat) (q : ℕ) → (n ≡ q → ⊥) → place_at q (set_value_at seats n w) ≡ place_at q seats
+set-other : (seats : Seats) (n : ℕ) (w : Option Seat) (q : ℕ) → (n ≡ q → ⊥) → seat_of_place q (set_value_at seats n w) ≡ seat_of_place q seats
 set-other [] n w q other = refl
 set-other (e ∷ seats) zero w zero other = absurd (other refl)
 set-other (e ∷ seats) zero w (suc q) other = refl
@@ -202,39 +202,39 @@ set-other (e ∷ seats) (suc n) w zero other = refl
 set-other (e ∷ seats) (suc n) w (suc q) other = set-other seats n w q (λ same. other (ap (λ m. suc m) same))
 
 -- what is there is written again
-pub set-still : (seats : Seats) (n : ℕ) → set_value_at seats n (place_at n seats) ≡ seats
+pub set-still : (seats : Seats) (n : ℕ) → set_value_at seats n (seat_of_place n seats) ≡ seats
 set-still [] n = refl
 set-still (e ∷ seats) zero = refl
 set-still (e ∷ seats) (suc n) = ap (λ xs. e ∷ xs) (set-still seats n)
 
-pub place-set : (d : Bytes) (seats : Seats) (n : ℕ) (w : Option Seat) → At d seats n → (q : ℕ) → place_at q (set_value_at seats n w) ≡ cond (is_at (nat_cmp n) q) w (place_at q seats)
+pub place-set : (d : Bytes) (seats : Seats) (n : ℕ) (w : Option Seat) → At d seats n → (q : ℕ) → seat_of_place q (set_value_at seats n w) ≡ cond (is_at (nat_cmp n) q) w (seat_of_place q seats)
 place-set d seats n w at = one-place n w seats (set_value_at seats n w) (set-same d seats n w at) (set-other seats n w)
 
-push-same : (seats : Seats) (e : Bytes × Option Seat) → place_at (length seats) (seats ++ e ∷ []) ≡ e.1
+push-same : (seats : Seats) (e : Bytes × Option Seat) → seat_of_place (length seats) (seats ++ e ∷ []) ≡ e.1
 push-same [] e = refl
 push-same (x ∷ seats) e = push-same seats e
 
-push-other : (seats : Seats) (e : Bytes × Option Seat) (q : ℕ) → (length seats ≡ q → ⊥) → place_at q (seats ++ e ∷ []) ≡ place_at q seats
+push-other : (seats : Seats) (e : Bytes × Option Seat) (q : ℕ) → (length seats ≡ q → ⊥) → seat_of_place q (seats ++ e ∷ []) ≡ seat_of_place q seats
 push-other [] e zero other = absurd (other refl)
 push-other [] e (suc q) other = refl
 push-other (x ∷ seats) e zero other = refl
 push-other (x ∷ seats) e (suc q) other = push-other seats e q (λ same. other (ap (λ m. suc m) same))
 
-pub place-pushed : (seats : Seats) (e : Bytes × Option Seat) (q : ℕ) → place_at q (seats ++ e ∷ []) ≡ cond (is_at (nat_cmp (length seats)) q) e.1 (place_at q seats)
+pub place-pushed : (seats : Seats) (e : Bytes × Option Seat) (q : ℕ) → seat_of_place q (seats ++ e ∷ []) ≡ cond (is_at (nat_cmp (length seats)) q) e.1 (seat_of_place q seats)
 place-pushed seats e = one-place (length seats) e.1 seats (seats ++ e ∷ []) (push-same seats e) (push-other seats e)
 
 -- ---- the first places
 
-none-taken : (seats : Seats) (q : ℕ) → place_at q (take 0 seats) ≡ None
+none-taken : (seats : Seats) (q : ℕ) → seat_of_place q (take 0 seats) ≡ None
 none-taken [] q = refl
 none-taken (e ∷ seats) q = refl
 
-take-same : (seats : Seats) (n : ℕ) (place : Option Seat) → slice_get (values_of seats) n ≡ Some place → place_at n (take (suc n) seats) ≡ place
+take-same : (seats : Seats) (n : ℕ) (place : Option Seat) → slice_get (values_of seats) n ≡ Some place → seat_of_place n (take (suc n) seats) ≡ place
 take-same [] n place h = let q : ◌≡◌ {A = Option (Option Seat)} None (Some place) = h in absurd cc
 take-same (e ∷ seats) zero place h = let q : ◌≡◌ {A = Option (Option Seat)} (Some e.1) (Some place) = h in cc
 take-same (e ∷ seats) (suc n) place h = take-same seats n place h
 
-take-other : (seats : Seats) (n q : ℕ) → (n ≡ q → ⊥) → place_at q (take (suc n) seats) ≡ place_at q (take n seats)
+take-other : (seats : Seats) (n q : ℕ) → (n ≡ q → ⊥) → seat_of_place q (take (suc n) seats) ≡ seat_of_place q (take n seats)
 take-other [] zero q other = refl
 take-other [] (suc n) q other = refl
 take-other (e ∷ seats) zero zero other = absurd (other refl)
@@ -243,8 +243,8 @@ take-other (e ∷ seats) (suc n) zero other = refl
 take-other (e ∷ seats) (suc n) (suc q) other = take-other seats n q (λ same. other (ap (λ m. suc m) same))
 
 pub place-taken : (seats : Seats) (n : ℕ) (place : Option Seat) → slice_get (values_of seats) n ≡ Some place
-    → (q : ℕ) → place_at q (take (n + 1) seats) ≡ cond (is_at (nat_cmp n) q) place (place_at q (take n seats))
+    → (q : ℕ) → seat_of_place q (take (n + 1) seats) ≡ cond (is_at (nat_cmp n) q) place (seat_of_place q (take n seats))
 place-taken seats n place got q =
     let more : n + 1 ≡ suc n = omega arith in
-    ap (λ m. place_at q (take m seats)) more
+    ap (λ m. seat_of_place q (take m seats)) more
     ∙ one-place n place (take n seats) (take (suc n) seats) (take-same seats n place got) (take-other seats n) q

@@ -3,8 +3,8 @@ use Rattle.std.proofs.Common.{◌≡◌, ℕ, zero, suc, Bool, true, false, cond
 use Rattle.indexmap.specs.IndexMap.{set_value_at}
 use Rattle.cs_base.specs.declared.config.Config.{Config}
 use Rattle.cs_ledger.specs.Ledger.{Bytes}
-use Rattle.cs_tx_form.specs.declared.session.Session.{Session}
-use Rattle.cs_tx_form.specs.Session.{SessionFits}
+use Rattle.cs_tx_types.specs.declared.session.Session.{Session}
+use Rattle.cs_tx_types.specs.Session.{SessionFits}
 use Rattle.cs_tx.specs.Uses.{concerned_shards}
 use Rattle.cs_tx.specs.Digest.{digest_of_session}
 use Rattle.cs_tx.specs.WellFormed.{IsWellFormed}
@@ -12,10 +12,10 @@ use Rattle.cs_node_state.specs.declared.pooled.Pooled.{Pooled}
 use Rattle.cs_node_state.specs.Pool.{found}
 use Rattle.cs_node_pool.specs.Fits.{PoolFits}
 use Rattle.cs_node_pool.specs.declared.seat.Seat.{Seat}
-use Rattle.cs_node_pool.specs.Seats.{Seats, with_place, seated, place_at, passes, first_passing, closed, reseated, IsKnown, IsRight, IsRightIn, AllRight}
+use Rattle.cs_node_pool.specs.Seats.{Seats, with_place, seated, seat_of_place, passes, first_passing, without_gaps, reseated, IsKnownSession, IsRight, IsRightIn, AllRight}
 
 module _ (config : Config) where
-  pub right-at : (seats : Seats) (n : ℕ) → AllRight config seats → IsRightIn config (place_at n seats)
+  pub right-at : (seats : Seats) (n : ℕ) → AllRight config seats → IsRightIn config (seat_of_place n seats)
   right-at [] n right = tt
   right-at (e ∷ seats) zero right = right.0
   right-at (e ∷ seats) (suc n) right = right-at seats n right.1
@@ -47,17 +47,17 @@ module _ (config : Config) where
   right-pushed [] d seat is right = (is, tt)
   right-pushed (e ∷ seats) d seat is right = (right.0, right-pushed seats d seat is right.1)
 
-  pub right-closed : (seats : Seats) → AllRight config seats → AllRight config (closed seats)
+  pub right-closed : (seats : Seats) → AllRight config seats → AllRight config (without_gaps seats)
   right-closed [] right = tt
   right-closed (e ∷ seats) right =
-      let rest : AllRight config (closed seats) = right-closed seats right.1 in
-      elim (is_some e.1) as (λ b. AllRight config (cond b (e ∷ closed seats) (closed seats))) [ true ↦ (right.0, rest) | false ↦ rest ]
+      let rest : AllRight config (without_gaps seats) = right-closed seats right.1 in
+      elim (is_some e.1) as (λ b. AllRight config (cond b (e ∷ without_gaps seats) (without_gaps seats))) [ true ↦ (right.0, rest) | false ↦ rest ]
 
   -- a change of what was taken on a session leaves the session
   pub right-changed : (change : Pooled → Pooled) → ((p : Pooled) → (change p).session ≡ p.session) → (place : Option Seat) → IsRightIn config place → IsRightIn config (reseated config.f change place)
   right-changed change same None right = tt
   right-changed change same (Some seat) right = record {
-    known = subst (λ x. IsKnown config x seat.digest) (sym (same seat.pooled)) right.known;
+    known = subst (λ x. IsKnownSession config x seat.digest) (sym (same seat.pooled)) right.known;
     shards = right.shards ∙ ap (concerned_shards config) (sym (same seat.pooled));
     due = refl;
     fits = subst SessionFits (sym (same seat.pooled)) right.fits;
@@ -90,10 +90,10 @@ module _ (test : Seat → Bool) where
 -- ---- a session that the pool knows, or not
 
 module _ (config : Config) (x : Session) where
-  pub known-formed : (known : Option Bytes) → IfSome known (IsKnown config x) → is_some known ≡ true → IsWellFormed config x
+  pub known-formed : (known : Option Bytes) → IfSome known (IsKnownSession config x) → is_some known ≡ true → IsWellFormed config x
   known-formed (Some d) is there = is.formed
   known-formed None is there = let q : false ≡ true = there in cc
 
-  pub known-named : (known : Option Bytes) → IfSome known (IsKnown config x) → IfSome known (λ d. d ≡ digest_of_session x)
+  pub known-named : (known : Option Bytes) → IfSome known (IsKnownSession config x) → IfSome known (λ d. d ≡ digest_of_session x)
   known-named (Some d) is = is.named
   known-named None is = tt

@@ -1,8 +1,8 @@
 -- What is in a pool is within all limits, so it has an encoding.
 use Rattle.std.specs.Prelude.{List, [], ◌∷◌, Option, Some, None}
-use Rattle.cs_tx_form.specs.declared.session.Session.{Session}
-use Rattle.cs_tx_form.specs.declared.entry.Entry.{Entry}
-use Rattle.cs_tx_form.specs.Session.{SessionFits, EntryFits}
+use Rattle.cs_tx_types.specs.declared.session.Session.{Session}
+use Rattle.cs_tx_types.specs.declared.entry.Entry.{Entry}
+use Rattle.cs_tx_types.specs.Session.{SessionFits, EntryFits}
 use Rattle.cs_node_state.specs.Pool.{Pool}
 
 abbrev pub PoolFits : Pool → Type 0
@@ -10,9 +10,9 @@ PoolFits [] = Unit {0}
 PoolFits (e ∷ pool) = SessionFits e.1.session × PoolFits pool
 
 -- the sessions of a list are
-abbrev pub AllFit : List Session → Type 0
-AllFit [] = Unit {0}
-AllFit (x ∷ xs) = SessionFits x × AllFit xs
+abbrev pub SessionsFit : List Session → Type 0
+SessionsFit [] = Unit {0}
+SessionsFit (x ∷ xs) = SessionFits x × SessionsFit xs
 
 -- an entry that is due is
 abbrev pub DueFits : Option Entry → Type 0

@@ -7,8 +7,8 @@ use Rattle.std.specs.BTreeSet.{BTreeSet, contains}
 use Rattle.std.specs.BTreeSet as set
 use Rattle.indexmap.specs.IndexMap.{IsUnique}
 use Rattle.cs_base.specs.declared.config.Config.{Config}
-use Rattle.cs_tx_form.specs.declared.session.Session.{Session}
-use Rattle.cs_tx_form.specs.Session.{SessionFits}
+use Rattle.cs_tx_types.specs.declared.session.Session.{Session}
+use Rattle.cs_tx_types.specs.Session.{SessionFits}
 use Rattle.cs_ledger.specs.Ledger.{Bytes}
 use Rattle.cs_tx.specs.Uses.{concerned_shards}
 use Rattle.cs_tx.specs.Digest.{digest_of_session}
@@ -28,9 +28,9 @@ abbrev pub pooled_in : Option Seat → Option Pooled
 pooled_in None = None
 pooled_in (Some seat) = Some seat.pooled
 
-abbrev pub session_at : Option Seat → Option Session
-session_at None = None
-session_at (Some seat) = Some seat.pooled.session
+abbrev pub session_on_seat : Option Seat → Option Session
+session_on_seat None = None
+session_on_seat (Some seat) = Some seat.pooled.session
 
 -- the session of a place, if it is no gap, and those of a pool behind it
 abbrev pub with_place : Bytes → Option Seat → Pool → Pool
@@ -48,10 +48,10 @@ pool_in kept = seated kept.seats.entries
 -- ---- places
 
 -- what is at a place; past the last one is nothing
-abbrev pub place_at : ℕ → Seats → Option Seat
-place_at n [] = None
-place_at zero (e ∷ seats) = e.1
-place_at (suc n) (e ∷ seats) = place_at n seats
+abbrev pub seat_of_place : ℕ → Seats → Option Seat
+seat_of_place n [] = None
+seat_of_place zero (e ∷ seats) = e.1
+seat_of_place (suc n) (e ∷ seats) = seat_of_place n seats
 
 -- a session is there that passes the test
 abbrev pub passes : (Seat → Bool) → Option Seat → Bool
@@ -72,7 +72,7 @@ first_passing test (e ∷ seats) = if passes test e.1 then e.1 else first_passin
 -- the set has the places of the sessions that pass the test
 pub record IsPicked (test : Seat → Bool) (chosen : BTreeSet ℕ) (seats : Seats) : Type 0 where
   pub rising : set.IsOrdered nat_cmp chosen
-  pub has : (n : ℕ) → contains nat_cmp chosen n ≡ passes test (place_at n seats)
+  pub has : (n : ℕ) → contains nat_cmp chosen n ≡ passes test (seat_of_place n seats)
 
 -- the set has this place or not, and the others as before
 abbrev pub IsMarked : ℕ → Bool → BTreeSet ℕ → BTreeSet ℕ → Type 0
@@ -82,31 +82,31 @@ IsMarked place belongs before after =
 -- ---- gaps
 
 -- how many places are no gaps
-abbrev pub sessions_in : Seats → ℕ
-sessions_in [] = 0
-sessions_in (e ∷ seats) = (if is_some e.1 then 1 else 0) + sessions_in seats
+abbrev pub seats_taken : Seats → ℕ
+seats_taken [] = 0
+seats_taken (e ∷ seats) = (if is_some e.1 then 1 else 0) + seats_taken seats
 
 -- the seats, once the gaps are closed
-abbrev pub closed : Seats → Seats
-closed seats = filter (λ e. is_some e.1) seats
+abbrev pub without_gaps : Seats → Seats
+without_gaps seats = filter (λ e. is_some e.1) seats
 
 -- no digest has two places, and the number of sessions and the two sets are those of the seats
 pub record Placed (kept : Kept) : Type 0 where
   pub unique : IsUnique bytes_eq kept.seats
-  pub sessions : kept.sessions ≡ sessions_in kept.seats.entries
+  pub sessions : kept.sessions ≡ seats_taken kept.seats.entries
   pub waiting : IsPicked waits kept.waiting kept.seats.entries
   pub ready : IsPicked is_due kept.ready kept.seats.entries
 
 -- ---- what a seat says
 
 -- a session that is well formed, and its digest
-pub record IsKnown (config : Config) (x : Session) (digest : Bytes) : Type 0 where
+pub record IsKnownSession (config : Config) (x : Session) (digest : Bytes) : Type 0 where
   pub formed : IsWellFormed config x
   pub named : digest ≡ digest_of_session x
 
 -- its session is known by its digest and within the limits; the shards that it concerns, and the decision that is due on it
 pub record IsRight (config : Config) (seat : Seat) : Type 0 where
-  pub known : IsKnown config seat.pooled.session seat.digest
+  pub known : IsKnownSession config seat.pooled.session seat.digest
   pub shards : seat.shards.items ≡ concerned_shards config seat.pooled.session
   pub due : seat.due ≡ due_vote config.f seat.shards.items seat.pooled
   pub fits : SessionFits seat.pooled.session

@@ -7,14 +7,14 @@ ghost use Rattle.cs_base.specs.declared.config.Config.{Config};
 ghost use Rattle.cs_tx.specs.Uses.{concerned_shards};
 ghost use Rattle.cs_tx.specs.Digest.{digest_of_session};
 ghost use Rattle.cs_tx.specs.WellFormed.{IsWellFormed};
-ghost use Rattle.cs_tx_form.specs.Session.{SessionFits};
-ghost use Rattle.cs_node_state.specs.Pool.{found, without, changed, as_locked, with_ballot, waiting_count};
+ghost use Rattle.cs_tx_types.specs.Session.{SessionFits};
+ghost use Rattle.cs_node_state.specs.Pool.{found, without_session, pool_changed, as_locked, with_ballot, waiting_count};
 ghost use Rattle.cs_node_state.specs.Admission.{first_decided, first_waiting, due};
 ghost use Rattle.cs_node_pool.specs.Deployed.{AtEverySetup};
-ghost use Rattle.cs_node_pool.specs.Fits.{PoolFits, AllFit, DueFits};
+ghost use Rattle.cs_node_pool.specs.Fits.{PoolFits, SessionsFit, DueFits};
 ghost use Rattle.cs_node_pool.specs.declared.seat.Seat.{Seat};
 ghost use Rattle.cs_node_pool.specs.Calls.{counted_in, locked_in, session_under, IsNext};
-ghost use Rattle.cs_node_pool.specs.Seats.{Placed, SoundSeats, AllRight, IsKnown, IsPicked, IsMarked, waits, is_due, place_at, first_passing, closed, pool_in};
+ghost use Rattle.cs_node_pool.specs.Seats.{Placed, SoundSeats, AllRight, IsKnownSession, IsPicked, IsMarked, waits, is_due, seat_of_place, first_passing, without_gaps, pool_in};
 
 use crate::answers::Counted;
 use crate::same::same_session;
@@ -100,7 +100,7 @@ impl Kept {
 
     /// The seat at a place.
     fn seat_at(&self, index: usize) -> Option<&Seat>
-        ensures { option_copied result ≡ place_at index self.now.seats.entries }
+        ensures { option_copied result ≡ seat_of_place index self.now.seats.entries }
     {
         let Some((_, place)) = self.seats.get_index(index) else {
             return None;
@@ -127,7 +127,7 @@ impl Kept {
     pub fn known(&self, session: &Session) -> Option<Digest>
         requires { Placed self.now }
         ensures known { (config : Config) → AllRight config self.now.seats.entries →
-            IfSome result (IsKnown config session.now) }
+            IfSome result (IsKnownSession config session.now) }
         ensures next { (config : Config) → AllRight config self.now.seats.entries →
             AtEverySetup config (λ setup.
             IsSome result ↔ IsNext setup (pool_in self.now) session.now) }
@@ -156,7 +156,7 @@ impl Kept {
     fn close(&mut self) -> Result<(), Memory>
         requires { Placed self.old }
         ensures placed { OnOk result (Placed self.new) }
-        ensures seats { OnOk result (self.new.seats.entries ≡ closed self.old.seats.entries) }
+        ensures seats { OnOk result (self.new.seats.entries ≡ without_gaps self.old.seats.entries) }
     {
         self.seats.retain(
             |_digest: &Digest, place: &mut Option<Seat>| -> bool
@@ -228,7 +228,7 @@ impl Kept {
     fn leave(&mut self, digest: &Digest)
         requires { Placed self.old }
         ensures placed { Placed self.new }
-        ensures pool { pool_in self.new ≡ without digest.now (pool_in self.old) }
+        ensures pool { pool_in self.new ≡ without_session digest.now (pool_in self.old) }
         ensures right { (config : Config) → AllRight config self.old.seats.entries →
             AllRight config self.new.seats.entries }
     {
@@ -252,7 +252,7 @@ impl Kept {
     pub fn remove(&mut self, digest: &Digest) -> Result<(), Memory>
         requires { Placed self.old }
         ensures placed { OnOk result (Placed self.new) }
-        ensures pool { OnOk result (pool_in self.new ≡ without digest.now (pool_in self.old)) }
+        ensures pool { OnOk result (pool_in self.new ≡ without_session digest.now (pool_in self.old)) }
         ensures right { (config : Config) → AllRight config self.old.seats.entries →
             OnOk result (AllRight config self.new.seats.entries) }
     {
@@ -277,7 +277,7 @@ impl Kept {
             answer ≡ counted_in ballot.sender (found digest.now (pool_in self.old))) }
         ensures sound { OnOk result (SoundSeats config.now self.new) }
         ensures pool { OnOk result (pool_in self.new
-            ≡ changed digest.now (with_ballot ballot) (pool_in self.old)) }
+            ≡ pool_changed digest.now (with_ballot ballot) (pool_in self.old)) }
     {
         let Some(index) = self.seats.get_index_of(digest) else {
             return Ok(Counted::NotPooled);
@@ -295,7 +295,7 @@ impl Kept {
         requires { SoundSeats config.now self.old }
         ensures sound { OnOk result (SoundSeats config.now self.new) }
         ensures pool { OnOk result (pool_in self.new
-            ≡ changed digest.now as_locked (pool_in self.old)) }
+            ≡ pool_changed digest.now as_locked (pool_in self.old)) }
     {
         let Some(index) = self.seats.get_index_of(digest) else {
             return Ok(());
@@ -321,7 +321,7 @@ impl Kept {
     pub fn locked(&self, alloc: Global) -> Result<Vec<Session>, Memory>
         requires { PoolFits (pool_in self.now) }
         ensures sessions { IfOk result (λ sessions. sessions.items ≡ locked_in (pool_in self.now)) }
-        ensures fits { IfOk result (λ sessions. AllFit sessions.items) }
+        ensures fits { IfOk result (λ sessions. SessionsFit sessions.items) }
     {
         let mut sessions = Vec::new(alloc);
         for (_, place) in &self.seats {

@@ -3,20 +3,19 @@ ghost use Rattle.std.specs.Prelude.{◌≡◌, ◌↔◌, ◌++◌, ◌∷◌, [
 ghost use Rattle.cs_tx.specs.Uses.{concerned_shards};
 ghost use Rattle.cs_tx.specs.Digest.{digest_of_session};
 ghost use Rattle.cs_tx.specs.WellFormed.{IsWellFormed};
-ghost use Rattle.cs_tx_form.specs.Session.{SessionFits};
-ghost use Rattle.cs_node_state.specs.Pool.{found, is_pooled, without, changed, as_locked, with_ballot, waiting_count};
+ghost use Rattle.cs_tx_types.specs.Session.{SessionFits};
+ghost use Rattle.cs_node_state.specs.Pool.{found, is_pooled, without_session, pool_changed, as_locked, with_ballot, waiting_count};
 ghost use Rattle.cs_node_state.specs.Admission.{due};
 ghost use Rattle.cs_node_pool.specs.Deployed.{AtEverySetup};
-ghost use Rattle.cs_node_pool.specs.Fits.{DueFits, AllFit};
+ghost use Rattle.cs_node_pool.specs.Fits.{DueFits, SessionsFit};
 ghost use Rattle.cs_node_pool.specs.Calls.{counted_in, locked_in, session_under, IsNext};
-ghost use Rattle.cs_node_pool.specs.Seats.{IsKnown};
+ghost use Rattle.cs_node_pool.specs.Seats.{IsKnownSession};
 
 use crate::answers::Counted;
 use crate::kept::Kept;
-use cs_base::{Config, Memory};
+use cs_base::{Config, Memory, Whole};
 use cs_node_state::{Ballot, Pooled};
 use cs_tx::{Digest, Entry, Session};
-use cs_whole::Whole;
 use std::alloc::Global;
 use std::marker::Model;
 
@@ -95,7 +94,7 @@ impl Pool {
     /// The digest of a session, where it is the next one to be decided or voted on. Nothing is
     /// hashed for it.
     pub fn known(&self, session: &Session) -> Result<Option<Digest>, Memory>
-        ensures known { IfOk result (λ found. IfSome found (IsKnown self.now.config session.now)) }
+        ensures known { IfOk result (λ found. IfSome found (IsKnownSession self.now.config session.now)) }
         ensures next { AtEverySetup self.now.config (λ setup.
             IfOk result (λ found.
             IsSome found ↔ IsNext setup self.now.sessions session.now)) }
@@ -135,7 +134,7 @@ impl Pool {
 
     /// Takes a session out. The others keep their order.
     pub fn remove(&mut self, digest: &Digest) -> Result<(), Memory>
-        ensures sessions { OnOk result (self.new.sessions ≡ without digest.now self.old.sessions) }
+        ensures sessions { OnOk result (self.new.sessions ≡ without_session digest.now self.old.sessions) }
         ensures config { self.new.config ≡ self.old.config }
     {
         self.whole.begin()?;
@@ -149,7 +148,7 @@ impl Pool {
         ensures answer { IfOk result (λ answer.
             answer ≡ counted_in ballot.sender (found digest.now self.old.sessions)) }
         ensures sessions { OnOk result (self.new.sessions
-            ≡ changed digest.now (with_ballot ballot) self.old.sessions) }
+            ≡ pool_changed digest.now (with_ballot ballot) self.old.sessions) }
         ensures config { self.new.config ≡ self.old.config }
     {
         self.whole.begin()?;
@@ -161,7 +160,7 @@ impl Pool {
     /// Marks a session as locked.
     pub fn lock(&mut self, digest: &Digest) -> Result<(), Memory>
         ensures sessions { OnOk result (self.new.sessions
-            ≡ changed digest.now as_locked self.old.sessions) }
+            ≡ pool_changed digest.now as_locked self.old.sessions) }
         ensures config { self.new.config ≡ self.old.config }
     {
         self.whole.begin()?;
@@ -173,7 +172,7 @@ impl Pool {
     /// Copies of the locked sessions, in the order of the pool.
     pub fn locked(&self, alloc: Global) -> Result<Vec<Session>, Memory>
         ensures sessions { IfOk result (λ sessions. sessions.items ≡ locked_in self.now.sessions) }
-        ensures fits { IfOk result (λ sessions. AllFit sessions.items) }
+        ensures fits { IfOk result (λ sessions. SessionsFit sessions.items) }
     {
         self.whole.check()?;
         self.kept.locked(alloc)

@@ -4,10 +4,10 @@ ghost use Rattle.cs_base.specs.declared.config.Config.{Config};
 ghost use Rattle.cs_tx.specs.Uses.{concerned_shards};
 ghost use Rattle.cs_tx.specs.Digest.{digest_of_session};
 ghost use Rattle.cs_tx.specs.WellFormed.{IsWellFormed};
-ghost use Rattle.cs_tx_form.specs.Session.{SessionFits};
+ghost use Rattle.cs_tx_types.specs.Session.{SessionFits};
 ghost use Rattle.cs_node_state.specs.Pool.{as_locked, with_ballot};
 ghost use Rattle.cs_node_pool.specs.Calls.{counted_in};
-ghost use Rattle.cs_node_pool.specs.Seats.{IsKnown, IsRight, IsRightIn, pooled_in, session_at, passes, waits, is_due, reseated};
+ghost use Rattle.cs_node_pool.specs.Seats.{IsKnownSession, IsRight, IsRightIn, pooled_in, session_on_seat, passes, waits, is_due, reseated};
 
 use crate::answers::Counted;
 use crate::same::same_session;
@@ -49,8 +49,8 @@ impl Seat {
 /// The digest of a session, where this is its seat.
 pub fn known_as(seat: Option<&Seat>, session: &Session) -> Option<Digest>
     ensures known { (config : Config) → IsRightIn config (option_copied seat.entry) →
-        IfSome result (IsKnown config session.now) }
-    ensures same { IsSome result ↔ (session_at (option_copied seat.entry) ≡ Some session.now) }
+        IfSome result (IsKnownSession config session.now) }
+    ensures same { IsSome result ↔ (session_on_seat (option_copied seat.entry) ≡ Some session.now) }
 {
     let Some(seat) = seat else {
         return None;

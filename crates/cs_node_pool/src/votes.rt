@@ -2,9 +2,9 @@
 ghost use Rattle.std.specs.Prelude.{◌≡◌, ◌+◌, ◌*◌, ◌≤◌, ◌<◌, ℕ};
 ghost use Rattle.cs_node_state.specs.Evidence.{has_voted, has_ballot, has_support, is_decided, decided_vote};
 ghost use Rattle.cs_node_state.specs.Admission.{due_vote};
-ghost use Rattle.cs_tx_form.specs.declared.vote.Vote.TheVariants.{Commit, Abort};
+ghost use Rattle.cs_tx_types.specs.declared.vote.Vote.TheVariants.{Commit, Abort};
 ghost use Rattle.cs_quorum.specs.Marks.{members_of, is_marked};
-ghost use Rattle.cs_node_pool.specs.Votes.{is_of};
+ghost use Rattle.cs_node_pool.specs.Votes.{is_vote_of};
 
 use cs_base::NodeId;
 use cs_node_state::{Ballot, Pooled};
@@ -20,7 +20,7 @@ pub fn has_voted(ballots: &[Ballot], node: NodeId) -> bool
 
 /// Whether it is a vote of this kind, of a member of the shard.
 fn is_of(ballot: &Ballot, shard: u16, members: u16, vote: Vote) -> bool
-    ensures { result ≡ is_of shard members vote ballot.now }
+    ensures { result ≡ is_vote_of shard members vote ballot.now }
 {
     let sender = ballot.sender;
     sender.shard == shard && sender.index < members && ballot.vote == vote

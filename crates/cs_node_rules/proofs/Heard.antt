@@ -3,18 +3,18 @@ use Rattle.std.proofs.Common.{◌≡◌, Bool, true, false, not, ◌==◌, List,
 use Rattle.cs_base.specs.Key.{shard_of_key}
 use Rattle.cs_base.specs.declared.node_id.NodeId.{NodeId}
 use Rattle.cs_base.specs.NodeId.{is_client}
-use Rattle.cs_tx_form.specs.declared.session.Session.{Session}
-use Rattle.cs_tx_form.specs.declared.vote.Vote.{Vote}
-use Rattle.cs_tx_form.specs.declared.proof.Proof.{Proof}
+use Rattle.cs_tx_types.specs.declared.session.Session.{Session}
+use Rattle.cs_tx_types.specs.declared.vote.Vote.{Vote}
+use Rattle.cs_tx_types.specs.declared.proof.Proof.{Proof}
 use Rattle.cs_wire_message.specs.declared.message.Message.{Message}
 use Rattle.cs_wire_message.specs.declared.message.Message.TheVariants as message
 use Rattle.cs_check_rules.specs.Heads.{is_news}
 use Rattle.cs_check_rules.specs.Proofs.{proof_of}
 use Rattle.cs_node_state.specs.declared.pooled.Pooled.{Pooled}
-use Rattle.cs_node_state.specs.Setup.{Setup, digest_of, concerns, is_fit, is_approved}
+use Rattle.cs_node_state.specs.Setup.{Setup, digest_of, is_concerned_shard, is_fit, is_approved}
 use Rattle.cs_node_state.specs.Evidence.{has_voted}
-use Rattle.cs_node_state.specs.Pool.{found, is_pooled, has_room}
-use Rattle.cs_node_state.specs.Bench.{Bench, decided, noted}
+use Rattle.cs_node_state.specs.Pool.{found, is_pooled, pool_has_room}
+use Rattle.cs_node_state.specs.Bench.{Bench, decision_on, noted}
 use Rattle.cs_node_state.specs.Asked.{key_asked}
 use Rattle.cs_node_rules.specs.declared.cause.Cause.{Cause}
 use Rattle.cs_node_rules.specs.Members.{is_other_member}
@@ -41,12 +41,12 @@ module _ (setup : Setup) (me : NodeId) (b : Bench) (sender : NodeId) where
   heard-submitted x (Some accepted) = (refl, tt)
   heard-submitted x None =
       heard-guarded (not (is_pooled (digest_of setup x) b.pool)) _ _
-      (heard-guarded (is_approved setup x) _ _ (heard-guarded (has_room b.pool) _ _ tt))
+      (heard-guarded (is_approved setup x) _ _ (heard-guarded (pool_has_room b.pool) _ _ tt))
 
   heard-asking : (vote : Vote) (asks : Bool) (x : Session) (known : Option Vote) → AllHeard sender (asking_signs setup b sender vote asks x known)
   heard-asking vote asks x (Some known) = heard-guarded asks _ _ (refl, tt)
   heard-asking vote asks x None =
-      heard-guarded asks _ _ (heard-guarded (is_approved setup x) _ _ (heard-guarded (has_room b.pool) _ _ tt))
+      heard-guarded asks _ _ (heard-guarded (is_approved setup x) _ _ (heard-guarded (pool_has_room b.pool) _ _ tt))
 
   heard-ballot : (vote : Vote) (asks : Bool) (x : Session) (pooled : Option Pooled) → AllHeard sender (ballot_signs setup me.shard b sender vote asks x pooled)
   heard-ballot vote asks x (Some p) = heard-guarded (not (has_voted sender p.ballots)) _ _ tt
@@ -59,7 +59,7 @@ module _ (setup : Setup) (me : NodeId) (b : Bench) (sender : NodeId) where
   pub heard : (said : Message) → AllHeard sender (said_signs setup me b sender said)
   heard (message.Submit x) =
       heard-guarded (is_client sender) _ _
-      (heard-guarded (is_fit setup me.shard x) _ _ (heard-submitted x (decided setup me.shard b.table x)))
+      (heard-guarded (is_fit setup me.shard x) _ _ (heard-submitted x (decision_on setup me.shard b.table x)))
   heard (message.Ask asked) =
       heard-guarded (is_client sender) _ _
       (heard-guarded (shard_of_key setup.shards (key_asked b.table me.shard asked) == me.shard) _ _ (refl, tt))
@@ -67,7 +67,7 @@ module _ (setup : Setup) (me : NodeId) (b : Bench) (sender : NodeId) where
   heard (message.Voted vote asks x) =
       heard-guarded (not (is_client sender)) _ _
       (heard-guarded (is_fit setup me.shard x) _ _
-      (heard-guarded (concerns setup x sender.shard) _ _ (heard-ballot vote asks x (found (digest_of setup x) b.pool))))
+      (heard-guarded (is_concerned_shard setup x sender.shard) _ _ (heard-ballot vote asks x (found (digest_of setup x) b.pool))))
   heard (message.Head checkpoint) =
       heard-guarded (is_other_member setup.f me sender) _ _
       (heard-guarded (is_news sender.index checkpoint b.heads) _ _ tt)

@@ -1,7 +1,7 @@
 -- What an order may ask of the carrier of its messages.
 use Rattle.std.specs.Prelude.{◌≡◌, Bool, true, false, Some, map}
-use Rattle.cs_tx_form.specs.declared.entry.Entry.{Entry}
-use Rattle.cs_tx_form.specs.Session.{EntryFits}
+use Rattle.cs_tx_types.specs.declared.entry.Entry.{Entry}
+use Rattle.cs_tx_types.specs.Session.{EntryFits}
 use Rattle.cs_wire_message.specs.declared.message.Message.{Message}
 use Rattle.cs_wire_message.specs.Classes.{Class, OfOrder, class_of}
 use Rattle.cs_wire_message.specs.Message.{MessageFits}

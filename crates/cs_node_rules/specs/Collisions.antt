@@ -4,11 +4,11 @@ use Rattle.std.specs.Int.{w16, w32, to_be_bytes}
 use Rattle.sha2.specs.Sha256.{sha256}
 use Rattle.cs_tx_value.specs.declared.object.Object.{Object}
 use Rattle.cs_tx_value.specs.Object.{object_encoding}
-use Rattle.cs_tx_form.specs.declared.trace.Trace.{Trace}
-use Rattle.cs_tx_form.specs.declared.session.Session.{Session}
-use Rattle.cs_tx_form.specs.declared.entry.Entry.{Entry}
-use Rattle.cs_tx_form.specs.Transaction.{tx_encoding}
-use Rattle.cs_tx_form.specs.Session.{session_encoding, entry_encoding, session_in}
+use Rattle.cs_tx_types.specs.declared.trace.Trace.{Trace}
+use Rattle.cs_tx_types.specs.declared.session.Session.{Session}
+use Rattle.cs_tx_types.specs.declared.entry.Entry.{Entry}
+use Rattle.cs_tx_types.specs.Transaction.{tx_encoding}
+use Rattle.cs_tx_types.specs.Session.{session_encoding, entry_encoding, session_in}
 use Rattle.cs_tx.specs.Digest.{digest_of_tx}
 use Rattle.cs_order.specs.Deeds.{Deed, Took_in, Advanced, Echoed, Proposing, Ticked, Resent, Replied, Cut}
 use Rattle.cs_base.specs.declared.node_id.NodeId.{NodeId}

@@ -1,12 +1,12 @@
 -- The site of a deployment: its setup, its net, the order of its shards, and how entries are written.
 use Rattle.std.specs.Prelude.{[], ◌∷◌, codes, replicate, Option, Some, None}
 use Rattle.cs_base.specs.Fields.{whole_at}
-use Rattle.cs_tx_form.specs.declared.trace.Trace.{Trace}
-use Rattle.cs_tx_form.specs.declared.session.Session.{Session}
-use Rattle.cs_tx_form.specs.declared.entry.Entry.{Entry}
-use Rattle.cs_tx_form.specs.declared.entry.Entry.TheVariants.{Prepare}
-use Rattle.cs_tx_form.specs.Session.{entry_encoding}
-use Rattle.cs_tx_form.specs.Reading.{entry_at}
+use Rattle.cs_tx_types.specs.declared.trace.Trace.{Trace}
+use Rattle.cs_tx_types.specs.declared.session.Session.{Session}
+use Rattle.cs_tx_types.specs.declared.entry.Entry.{Entry}
+use Rattle.cs_tx_types.specs.declared.entry.Entry.TheVariants.{Prepare}
+use Rattle.cs_tx_types.specs.Session.{entry_encoding}
+use Rattle.cs_tx_types.specs.Reading.{entry_at}
 use Rattle.cs_tx.specs.Digest.{digest_of_entry}
 use Rattle.cs_order.specs.declared.proposed.Proposed.{Proposed}
 use Rattle.cs_order.specs.Deeds.{Machine}

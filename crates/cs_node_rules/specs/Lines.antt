@@ -11,8 +11,8 @@ use Rattle.cs_ledger.specs.Table.{Commit, Abort, Effect, Voted, Accepted, Aborte
 use Rattle.cs_node_rules.specs.declared.cause.Cause.{Cause}
 use Rattle.cs_node_rules.specs.declared.cause.Cause.TheVariants as cause
 use Rattle.cs_node_state.specs.Setup.{Setup, digest_of}
-use Rattle.cs_tx_form.specs.Session.{session_in}
-use Rattle.cs_node_rules.specs.Net.{Net, sealed}
+use Rattle.cs_tx_types.specs.Session.{session_in}
+use Rattle.cs_node_rules.specs.Net.{Net, sealed_by_net}
 use Rattle.cs_node_rules.specs.Signs.{Sign, Dropped, Took, Entered, Viewed, Did, Headed, Kept, Sent}
 
 -- ---- what a node did
@@ -41,22 +41,22 @@ error_text error.Length = codes "length"
 error_text error.Tag = codes "tag"
 error_text error.Body = codes "body"
 
-abbrev pub cause_text : Cause → Bytes
-cause_text (cause.Unopened error) = error_text error
-cause_text cause.Mine = codes "mine"
-cause_text cause.Role = codes "role"
-cause_text cause.Malformed = codes "malformed"
-cause_text cause.Old = codes "old"
-cause_text cause.Far = codes "far"
-cause_text cause.Leader = codes "leader"
-cause_text cause.Repeat = codes "repeat"
-cause_text cause.Unasked = codes "unasked"
-cause_text cause.Denied = codes "denied"
-cause_text cause.Full = codes "full"
-cause_text cause.NoProof = codes "noproof"
+abbrev pub drop_cause_text : Cause → Bytes
+drop_cause_text (cause.Unopened error) = error_text error
+drop_cause_text cause.Mine = codes "mine"
+drop_cause_text cause.Role = codes "role"
+drop_cause_text cause.Malformed = codes "malformed"
+drop_cause_text cause.Old = codes "old"
+drop_cause_text cause.Far = codes "far"
+drop_cause_text cause.Leader = codes "leader"
+drop_cause_text cause.Repeat = codes "repeat"
+drop_cause_text cause.Unasked = codes "unasked"
+drop_cause_text cause.Denied = codes "denied"
+drop_cause_text cause.Full = codes "full"
+drop_cause_text cause.NoProof = codes "noproof"
 
 abbrev pub drop_line : NodeId → Cause → Bytes
-drop_line me cause = codes "drop " ++ (node_text me ++ (codes " " ++ (cause_text cause ++ codes "\n")))
+drop_line me cause = codes "drop " ++ (node_text me ++ (codes " " ++ (drop_cause_text cause ++ codes "\n")))
 
 -- the node entered a view of a slot
 abbrev pub view_line : NodeId → ℕ → ℕ → Bytes
@@ -102,7 +102,7 @@ pub record Parcel : Type 0 where
 abbrev pub parcels_of : Net → NodeId → List Sign → List Parcel
 parcels_of net me [] = []
 parcels_of net me (Sent to message ∷ past) =
-    parcels_of net me past ++ record { from = me; to = to; bytes = sealed net me to message; arrived = false } ∷ []
+    parcels_of net me past ++ record { from = me; to = to; bytes = sealed_by_net net me to message; arrived = false } ∷ []
 parcels_of net me (Dropped cause ∷ past) = parcels_of net me past
 parcels_of net me (Took sender vote x ∷ past) = parcels_of net me past
 parcels_of net me (Entered x ∷ past) = parcels_of net me past

@@ -18,8 +18,8 @@ pub record Net : Type 0 where
   pub is_honest : NodeId → Bool
 
 -- the datagram of a message
-abbrev pub sealed : Net → NodeId → NodeId → Message → Bytes
-sealed net from to m = net.datagram from to (kind_of m) (body_of m)
+abbrev pub sealed_by_net : Net → NodeId → NodeId → Message → Bytes
+sealed_by_net net from to m = net.datagram from to (kind_of m) (body_of m)
 
 -- the net of a configuration, under one master key, with these liars
 abbrev pub net_of : Config → Bytes → List NodeId → Net

@@ -5,13 +5,13 @@ use Rattle.cs_base.specs.declared.key.Key.{Key}
 use Rattle.cs_base.specs.declared.node_id.NodeId.{NodeId}
 use Rattle.cs_base.specs.Key.{shard_of_key}
 use Rattle.cs_base.specs.NodeId.{is_client}
-use Rattle.cs_tx_form.specs.declared.session.Session.{Session}
-use Rattle.cs_tx_form.specs.declared.vote.Vote.{Vote}
-use Rattle.cs_tx_form.specs.declared.vote.Vote.TheVariants.{Commit}
-use Rattle.cs_tx_form.specs.declared.entry.Entry.{Entry}
-use Rattle.cs_tx_form.specs.declared.checkpoint.Checkpoint.{Checkpoint}
-use Rattle.cs_tx_form.specs.declared.proof.Proof.{Proof}
-use Rattle.cs_checkpoint.specs.Chain.{head_of, made_last}
+use Rattle.cs_tx_types.specs.declared.session.Session.{Session}
+use Rattle.cs_tx_types.specs.declared.vote.Vote.{Vote}
+use Rattle.cs_tx_types.specs.declared.vote.Vote.TheVariants.{Commit}
+use Rattle.cs_tx_types.specs.declared.entry.Entry.{Entry}
+use Rattle.cs_tx_types.specs.declared.checkpoint.Checkpoint.{Checkpoint}
+use Rattle.cs_tx_types.specs.declared.proof.Proof.{Proof}
+use Rattle.cs_check_rules.specs.Chain.{head_of, made_last}
 use Rattle.cs_wire_message.specs.declared.message.Message.{Message}
 use Rattle.cs_wire_message.specs.declared.message.Message.TheVariants as message
 use Rattle.cs_ledger.specs.Ledger.{Bytes}
@@ -19,12 +19,12 @@ use Rattle.cs_ledger.specs.Table.{Effect}
 use Rattle.cs_node_rules.specs.declared.cause.Cause.{Cause}
 use Rattle.cs_node_rules.specs.declared.cause.Cause.TheVariants.{Mine, Role, Malformed, Repeat, Unasked, Denied, Full, NoProof}
 use Rattle.cs_node_state.specs.declared.pooled.Pooled.{Pooled}
-use Rattle.cs_node_state.specs.Setup.{Setup, digest_of, concerns, concerned, is_fit, is_approved}
-use Rattle.cs_tx_form.specs.Session.{session_in}
+use Rattle.cs_node_state.specs.Setup.{Setup, digest_of, is_concerned_shard, concerned, is_fit, is_approved}
+use Rattle.cs_tx_types.specs.Session.{session_in}
 use Rattle.cs_node_state.specs.Evidence.{has_voted}
 use Rattle.cs_node_rules.specs.Members.{is_other_member, others}
-use Rattle.cs_node_state.specs.Pool.{Pool, found, is_pooled, changed, with_ballot, entered, has_room}
-use Rattle.cs_node_state.specs.Bench.{Bench, Ran, executed, slot_executed, decided, noted, told_of}
+use Rattle.cs_node_state.specs.Pool.{Pool, found, is_pooled, pool_changed, with_ballot, entered, pool_has_room}
+use Rattle.cs_node_state.specs.Bench.{Bench, Ran, executed, slot_executed, decision_on, noted, vote_told}
 use Rattle.cs_check_rules.specs.Proofs.{proof_of}
 use Rattle.cs_check_rules.specs.Heads.{is_news, with_head}
 use Rattle.cs_node_state.specs.Asked.{told_at, key_asked}
@@ -43,7 +43,7 @@ pub data Sign : Type 0 where
 abbrev pub bench_step : Setup → ℕ → Sign → Bench → Bench
 bench_step setup shard (Dropped cause) b = b
 bench_step setup shard (Took sender vote x) b =
-    record b { pool = changed (digest_of setup x) (with_ballot (record { sender = sender; vote = vote })) b.pool }
+    record b { pool = pool_changed (digest_of setup x) (with_ballot (record { sender = sender; vote = vote })) b.pool }
 bench_step setup shard (Entered x) b = record b { pool = entered (digest_of setup x) x b.pool }
 bench_step setup shard (Viewed slot view) b = b
 bench_step setup shard (Did slot entry effect) b = slot_executed setup shard b entry
@@ -64,7 +64,7 @@ abbrev pub entering_signs : Setup → Bench → Session → List Sign
 entering_signs setup b x =
     guarded (not (is_pooled (digest_of setup x) b.pool)) Repeat
     (guarded (is_approved setup x) Denied
-    (guarded (has_room b.pool) Full (Entered x ∷ [])))
+    (guarded (pool_has_room b.pool) Full (Entered x ∷ [])))
 
 -- the client of a decided session is told; an undecided one enters
 abbrev pub submitted_signs : Setup → Bench → NodeId → Session → Option Bool → List Sign
@@ -76,7 +76,7 @@ abbrev pub submit_signs : Setup → ℕ → Bench → NodeId → Session → Lis
 submit_signs setup shard b sender x =
     guarded (is_client sender) Role
     (guarded (is_fit setup shard x) Malformed
-    (submitted_signs setup b sender x (decided setup shard b.table x)))
+    (submitted_signs setup b sender x (decision_on setup shard b.table x)))
 
 abbrev pub told_signs : Setup → ℕ → Bench → NodeId → Key → List Sign
 told_signs setup shard b sender key =
@@ -96,7 +96,7 @@ asking_signs setup b sender vote asks x (Some noted) =
 asking_signs setup b sender vote asks x None =
     guarded asks Unasked
     (guarded (is_approved setup x) Denied
-    (guarded (has_room b.pool) Full (Took sender vote x ∷ Entered x ∷ [])))
+    (guarded (pool_has_room b.pool) Full (Took sender vote x ∷ Entered x ∷ [])))
 
 -- of each node the first vote on a session of the pool is taken
 abbrev pub ballot_signs : Setup → ℕ → Bench → NodeId → Vote → Bool → Session → Option Pooled → List Sign
@@ -110,7 +110,7 @@ abbrev pub voted_signs : Setup → ℕ → Bench → NodeId → Vote → Bool �
 voted_signs setup shard b sender vote asks x =
     guarded (not (is_client sender)) Role
     (guarded (is_fit setup shard x) Malformed
-    (guarded (concerns setup x sender.shard) Role
+    (guarded (is_concerned_shard setup x sender.shard) Role
     (ballot_signs setup shard b sender vote asks x (found (digest_of setup x) b.pool))))
 
 -- ---- executions
@@ -137,9 +137,9 @@ entered_signs x pooled (Some told) = if told.1 && not pooled then Entered x ∷ 
 
 abbrev pub ran_signs : Setup → NodeId → Bench → ℕ → Entry → Session → Ran → List Sign
 ran_signs setup me b slot entry x ran =
-    own_signs me x (told_of setup me.shard x ran)
-    ++ (vote_signs setup me x (told_of setup me.shard x ran)
-    ++ (entered_signs x (is_pooled (digest_of setup x) b.pool) (told_of setup me.shard x ran)
+    own_signs me x (vote_told setup me.shard x ran)
+    ++ (vote_signs setup me x (vote_told setup me.shard x ran)
+    ++ (entered_signs x (is_pooled (digest_of setup x) b.pool) (vote_told setup me.shard x ran)
     ++ Did slot entry ran.effect ∷ []))
 
 -- a checkpoint was made: its head is told to all other members

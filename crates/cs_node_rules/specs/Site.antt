@@ -1,7 +1,7 @@
 -- Marks, nodes, and the site on which the rules of all nodes rest.
 use Rattle.std.specs.Prelude.{List, [], ◌∷◌, Option}
 use Rattle.cs_base.specs.declared.node_id.NodeId.{NodeId}
-use Rattle.cs_tx_form.specs.declared.entry.Entry.{Entry}
+use Rattle.cs_tx_types.specs.declared.entry.Entry.{Entry}
 use Rattle.cs_wire_message.specs.declared.message.Message.{Message}
 use Rattle.cs_order.specs.declared.proposed.Proposed.{Proposed}
 use Rattle.cs_order.specs.Deeds.{Deed, Member, Machine, did}

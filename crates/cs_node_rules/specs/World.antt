@@ -4,9 +4,9 @@ use Rattle.std.specs.Prelude.{◌≡◌, ℕ, suc, ◌==◌, nat_lt, Bool, true,
 use Rattle.std.specs.List.{list_all, list_any}
 use Rattle.cs_base.specs.declared.node_id.NodeId.{NodeId}
 use Rattle.cs_wire.specs.Opened.{Opened}
-use Rattle.cs_tx_form.specs.declared.session.Session.{Session}
-use Rattle.cs_tx_form.specs.declared.entry.Entry.{Entry}
-use Rattle.cs_tx_form.specs.declared.entry.Entry.TheVariants.{Prepare, Decide}
+use Rattle.cs_tx_types.specs.declared.session.Session.{Session}
+use Rattle.cs_tx_types.specs.declared.entry.Entry.{Entry}
+use Rattle.cs_tx_types.specs.declared.entry.Entry.TheVariants.{Prepare, Decide}
 use Rattle.cs_ledger.specs.Ledger.{Bytes, Transaction}
 use Rattle.cs_ledger.specs.Table.{Vote, Commit, Abort, Effect, Voted, Accepted, Aborted}
 use Rattle.cs_ledger.specs.ShardWorld.{Step, is_vote, is_listed}
@@ -96,22 +96,22 @@ slots_of shard [] = 0
 slots_of shard (e ∷ earlier) = if e.shard == shard then suc (slots_of shard earlier) else slots_of shard earlier
 
 -- the first execution of each slot by a node of its shard
-abbrev pub first_of : ℕ → Sign → List Execution → List Execution
-first_of shard (Did slot entry effect) firsts =
+abbrev pub with_first_execution : ℕ → Sign → List Execution → List Execution
+with_first_execution shard (Did slot entry effect) firsts =
     if nat_lt slot (slots_of shard firsts)
     then firsts
     else record { shard = shard; slot = slot; entry = entry; effect = effect } ∷ firsts
-first_of shard (Dropped cause) firsts = firsts
-first_of shard (Took sender vote x) firsts = firsts
-first_of shard (Entered x) firsts = firsts
-first_of shard (Viewed slot view) firsts = firsts
-first_of shard (Headed number head) firsts = firsts
-first_of shard (Kept index checkpoint) firsts = firsts
-first_of shard (Sent to message) firsts = firsts
+with_first_execution shard (Dropped cause) firsts = firsts
+with_first_execution shard (Took sender vote x) firsts = firsts
+with_first_execution shard (Entered x) firsts = firsts
+with_first_execution shard (Viewed slot view) firsts = firsts
+with_first_execution shard (Headed number head) firsts = firsts
+with_first_execution shard (Kept index checkpoint) firsts = firsts
+with_first_execution shard (Sent to message) firsts = firsts
 
 abbrev pub firsts_after : ℕ → List Execution → List Sign → List Execution
 firsts_after shard firsts [] = firsts
-firsts_after shard firsts (sign ∷ past) = first_of shard sign (firsts_after shard firsts past)
+firsts_after shard firsts (sign ∷ past) = with_first_execution shard sign (firsts_after shard firsts past)
 
 abbrev pub firsts_of : {M : Type 0} → List (Happening M) → List Execution
 firsts_of {M} [] = []
@@ -122,14 +122,14 @@ prepares setup d (Prepare x) = bytes_eq d (digest_of setup x)
 prepares setup d (Decide vote x) = false
 
 -- the vote of a shard on a session, as its first execution recorded it
-abbrev pub recorded : Setup → List Execution → Bytes → Vote → ℕ → Bool
-recorded setup [] d vote shard = false
-recorded setup (e ∷ earlier) d vote shard =
-    ((e.shard == shard) && (prepares setup d e.entry && is_vote vote e.effect)) || recorded setup earlier d vote shard
+abbrev pub is_recorded : Setup → List Execution → Bytes → Vote → ℕ → Bool
+is_recorded setup [] d vote shard = false
+is_recorded setup (e ∷ earlier) d vote shard =
+    ((e.shard == shard) && (prepares setup d e.entry && is_vote vote e.effect)) || is_recorded setup earlier d vote shard
 
 -- every concerned shard has voted commit
 abbrev pub all_recorded : Setup → List Execution → Session → Bool
-all_recorded setup firsts x = list_all (recorded setup firsts (digest_of setup x) Commit) (concerned setup x)
+all_recorded setup firsts x = list_all (is_recorded setup firsts (digest_of setup x) Commit) (concerned setup x)
 
 -- a vote, and not what is void
 abbrev pub is_voted : Effect → Bool
@@ -144,13 +144,13 @@ told_after setup firsts (Prepare x) effect earlier =
 told_after setup firsts (Decide vote x) effect earlier = earlier
 
 -- the transactions, in the order in which their last commit vote came, oldest first
-abbrev pub told : Setup → List Execution → List Transaction
-told setup [] = []
-told setup (e ∷ earlier) = told_after setup (e ∷ earlier) e.entry e.effect (told setup earlier)
+abbrev pub told_transactions : Setup → List Execution → List Transaction
+told_transactions setup [] = []
+told_transactions setup (e ∷ earlier) = told_after setup (e ∷ earlier) e.entry e.effect (told_transactions setup earlier)
 
 -- the history, by the effects that nodes recorded
 abbrev pub history : {M : Type 0} → Site M → List (Happening M) → List Transaction
-history {M} site world = told site.setup (firsts_of world)
+history {M} site world = told_transactions site.setup (firsts_of world)
 
 -- an execution decides accept on a session of that digest, or abort
 abbrev pub accepts_by : Setup → Bytes → Entry → Effect → Bool

@@ -1,4 +1,5 @@
-//! What a node does on each input, as functions of what it was given, and what a replay prints.
+//! What a node does on each input, as functions of what it was given; and the lines of what it
+//! did and sent.
 #![tactic(auto)]
 
 mod cause;

@@ -5,8 +5,8 @@ use Rattle.cs_base.specs.declared.key.Key.{Key}
 use Rattle.cs_base.specs.declared.key.Key.TheVariants as key
 use Rattle.cs_tx_value.specs.declared.object.Object.{Object}
 use Rattle.cs_tx_value.specs.Object.{object_at}
-use Rattle.cs_tx_form.specs.declared.state.State.{State}
-use Rattle.cs_tx_form.specs.declared.state.State.TheVariants as state
+use Rattle.cs_tx_types.specs.declared.state.State.{State}
+use Rattle.cs_tx_types.specs.declared.state.State.TheVariants as state
 use Rattle.cs_tx.specs.Sessions.{key_seen}
 use Rattle.cs_ledger.specs.Ledger.{Bytes}
 use Rattle.cs_ledger.specs.Session as Seen
@@ -19,13 +19,13 @@ abbrev pub object_or_dummy : Option Object → Object
 object_or_dummy (Some object) = object
 object_or_dummy None = dummy_object
 
-abbrev pub object_in : Bytes → Object
-object_in bytes = object_or_dummy (whole_at object_at bytes)
+abbrev pub object_of_bytes : Bytes → Object
+object_of_bytes bytes = object_or_dummy (whole_at object_at bytes)
 
 abbrev pub state_told : Shard.State → State
 state_told Shard.Unknown = state.Unknown
-state_told (Shard.Active object) = state.Active (object_in object)
-state_told (Shard.Locked object by) = state.Locked (object_in object) by
+state_told (Shard.Active object) = state.Active (object_of_bytes object)
+state_told (Shard.Locked object by) = state.Locked (object_of_bytes object) by
 state_told (Shard.Inactive by) = state.Inactive by
 
 abbrev pub told_at : Shard.Table → Key → State

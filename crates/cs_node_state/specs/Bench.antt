@@ -2,14 +2,14 @@
 -- of these.
 use Rattle.std.specs.Prelude.{ℕ, Bool, true, false, if◌then◌else◌, List, [], length, Option, Some, None}
 use Rattle.cs_base.specs.declared.node_id.NodeId.{NodeId}
-use Rattle.cs_tx_form.specs.declared.session.Session.{Session}
-use Rattle.cs_tx_form.specs.declared.vote.Vote.{Vote}
-use Rattle.cs_tx_form.specs.declared.entry.Entry.{Entry}
-use Rattle.cs_tx_form.specs.declared.leaf.Leaf.{Leaf}
-use Rattle.cs_tx_form.specs.declared.effect.Effect.{Effect as Result}
-use Rattle.cs_tx_form.specs.declared.effect.Effect.TheVariants as result
-use Rattle.cs_tx_form.specs.Log.{leaf_encoding}
-use Rattle.cs_checkpoint.specs.Chain.{Log, empty_log, with_slot}
+use Rattle.cs_tx_types.specs.declared.session.Session.{Session}
+use Rattle.cs_tx_types.specs.declared.vote.Vote.{Vote}
+use Rattle.cs_tx_types.specs.declared.entry.Entry.{Entry}
+use Rattle.cs_tx_types.specs.declared.leaf.Leaf.{Leaf}
+use Rattle.cs_tx_types.specs.declared.effect.Effect.{Effect as Result}
+use Rattle.cs_tx_types.specs.declared.effect.Effect.TheVariants as result
+use Rattle.cs_tx_types.specs.Log.{leaf_encoding}
+use Rattle.cs_check_rules.specs.Chain.{Log, empty_log, with_slot}
 use Rattle.cs_check_rules.specs.Keys.{start_keys, keys_after}
 use Rattle.cs_check_rules.specs.Root.{root_under}
 use Rattle.cs_check_rules.specs.Heads.{Heads}
@@ -19,8 +19,8 @@ use Rattle.cs_ledger.specs.Table as Shard
 use Rattle.cs_ledger.specs.Table.{Table, Effect, Voted, Accepted, Aborted, Skipped, Void, Outcome, is_locked_by, exec, start}
 use Rattle.cs_ledger.specs.Standing.{stands_accepted, stands_aborted, recorded}
 use Rattle.cs_node_state.specs.Setup.{Setup, digest_of, entry_of, vote_from}
-use Rattle.cs_tx_form.specs.Session.{session_in}
-use Rattle.cs_node_state.specs.Pool.{Pool, changed, with_ballot, without, entered_locked}
+use Rattle.cs_tx_types.specs.Session.{session_in}
+use Rattle.cs_node_state.specs.Pool.{Pool, pool_changed, with_ballot, without_session, entered_locked}
 
 pub record Bench : Type 0 where
   pub table : Table
@@ -39,13 +39,13 @@ start_bench setup shard = record {
   heads = [];
 }
 
-abbrev pub locked_at : Table → Bytes → Option Key → Bool
-locked_at t d None = false
-locked_at t d (Some key) = is_locked_by d (t.at key).state
+abbrev pub is_locked_at : Table → Bytes → Option Key → Bool
+is_locked_at t d None = false
+is_locked_at t d (Some key) = is_locked_by d (t.at key).state
 
 -- the session has its anchor in the shard locked
 abbrev pub is_locked : Setup → ℕ → Table → Session → Bool
-is_locked setup shard t x = locked_at t (digest_of setup x) (anchor setup.rules (setup.session_of x) shard)
+is_locked setup shard t x = is_locked_at t (digest_of setup x) (anchor setup.rules (setup.session_of x) shard)
 
 -- accepted, or aborted, or neither
 abbrev pub decided_by : Shard.Record → Bytes → Option Bool
@@ -56,8 +56,8 @@ decided_at t d None = None
 decided_at t d (Some key) = decided_by (t.at key) d
 
 -- the standing of the session: whether it was accepted, once it is decided
-abbrev pub decided : Setup → ℕ → Table → Session → Option Bool
-decided setup shard t x = decided_at t (digest_of setup x) (anchor setup.rules (setup.session_of x) shard)
+abbrev pub decision_on : Setup → ℕ → Table → Session → Option Bool
+decision_on setup shard t x = decided_at t (digest_of setup x) (anchor setup.rules (setup.session_of x) shard)
 
 abbrev pub vote_read : Option Shard.Vote → Option Vote
 vote_read None = None
@@ -73,9 +73,9 @@ noted setup shard t x = noted_at t (digest_of setup x) (anchor setup.rules (setu
 
 -- A session that was voted on is locked, or leaves; one on which a decision took effect leaves.
 abbrev pub pool_after : Effect → Bool → Bytes → Session → Pool → Pool
-pool_after (Voted vote) locked d x pool = if locked then entered_locked d x pool else without d pool
-pool_after Accepted locked d x pool = without d pool
-pool_after Aborted locked d x pool = without d pool
+pool_after (Voted vote) locked d x pool = if locked then entered_locked d x pool else without_session d pool
+pool_after Accepted locked d x pool = without_session d pool
+pool_after Aborted locked d x pool = without_session d pool
 pool_after Skipped locked d x pool = pool
 pool_after Void locked d x pool = pool
 
@@ -132,15 +132,15 @@ told_by Aborted asks = None
 told_by Skipped asks = None
 told_by Void asks = None
 
-abbrev pub told_of : Setup → ℕ → Session → Ran → Option (Vote × Bool)
-told_of setup shard x ran = told_by ran.effect (is_locked setup shard ran.bench.table x)
+abbrev pub vote_told : Setup → ℕ → Session → Ran → Option (Vote × Bool)
+vote_told setup shard x ran = told_by ran.effect (is_locked setup shard ran.bench.table x)
 
 -- a node takes its own vote where it asks for the others'
 abbrev pub own_pool : NodeId → Bytes → Option (Vote × Bool) → Pool → Pool
 own_pool me d None pool = pool
 own_pool me d (Some told) pool =
     if told.1
-    then changed d (with_ballot (record { sender = me; vote = told.0 })) pool
+    then pool_changed d (with_ballot (record { sender = me; vote = told.0 })) pool
     else pool
 
 -- what an execution leaves, with the node's own vote
@@ -149,5 +149,5 @@ bench_executed setup me b entry =
     let ran = executed setup me.shard b entry in
     record ran.bench {
       pool = own_pool me
-          (digest_of setup (session_in entry)) (told_of setup me.shard (session_in entry) ran) ran.bench.pool;
+          (digest_of setup (session_in entry)) (vote_told setup me.shard (session_in entry) ran) ran.bench.pool;
     }

@@ -2,7 +2,7 @@
 use Rattle.std.specs.Prelude.{ℕ, Bool, true, false, not, nat_lt, if◌then◌else◌, List, [], ◌∷◌, ◌++◌, Option, Some, None, is_some, count_by, bytes_eq}
 use Rattle.std.specs.Map.{lookup, remove_entry, set_value, values_of}
 use Rattle.cs_base.specs.declared.limits.TheConstants.{MOST_WAITING}
-use Rattle.cs_tx_form.specs.declared.session.Session.{Session}
+use Rattle.cs_tx_types.specs.declared.session.Session.{Session}
 use Rattle.cs_ledger.specs.Ledger.{Bytes}
 use Rattle.cs_node_state.specs.declared.ballot.Ballot.{Ballot}
 use Rattle.cs_node_state.specs.declared.pooled.Pooled.{Pooled}
@@ -17,16 +17,16 @@ found d pool = lookup (bytes_eq d) pool
 abbrev pub is_pooled : Bytes → Pool → Bool
 is_pooled d pool = is_some (found d pool)
 
-abbrev pub without : Bytes → Pool → Pool
-without d pool = remove_entry (bytes_eq d) pool
+abbrev pub without_session : Bytes → Pool → Pool
+without_session d pool = remove_entry (bytes_eq d) pool
 
 -- what a change makes of the session of a digest, where it is pooled
 abbrev pub changed_at : Bytes → (Pooled → Pooled) → Pool → Option Pooled → Pool
 changed_at d change pool None = pool
 changed_at d change pool (Some p) = set_value (bytes_eq d) pool (change p)
 
-abbrev pub changed : Bytes → (Pooled → Pooled) → Pool → Pool
-changed d change pool = changed_at d change pool (found d pool)
+abbrev pub pool_changed : Bytes → (Pooled → Pooled) → Pool → Pool
+pool_changed d change pool = changed_at d change pool (found d pool)
 
 -- of each node the first vote counts
 abbrev pub with_ballot : Ballot → Pooled → Pooled
@@ -51,11 +51,11 @@ entered d x pool = if is_pooled d pool then pool else pushed d x false pool
 
 -- a session is locked: at its old place, or at the end
 abbrev pub entered_locked : Bytes → Session → Pool → Pool
-entered_locked d x pool = if is_pooled d pool then changed d as_locked pool else pushed d x true pool
+entered_locked d x pool = if is_pooled d pool then pool_changed d as_locked pool else pushed d x true pool
 
 abbrev pub waiting_count : Pool → ℕ
 waiting_count pool = count_by (λ p. not p.locked) (values_of pool)
 
 -- one more session may wait
-abbrev pub has_room : Pool → Bool
-has_room pool = nat_lt (waiting_count pool) MOST_WAITING
+abbrev pub pool_has_room : Pool → Bool
+pool_has_room pool = nat_lt (waiting_count pool) MOST_WAITING

@@ -1,10 +1,10 @@
 -- What is the same at all nodes of a deployment, and what the ledger sees of a session and of an entry.
 use Rattle.std.specs.Prelude.{ℕ, zero, suc, Bool, ◌&&◌, if◌then◌else◌, List, [], ◌∷◌, ◌++◌}
-use Rattle.cs_tx_form.specs.declared.session.Session.{Session}
-use Rattle.cs_tx_form.specs.declared.vote.Vote.{Vote}
-use Rattle.cs_tx_form.specs.declared.vote.Vote.TheVariants.{Commit, Abort}
-use Rattle.cs_tx_form.specs.declared.entry.Entry.{Entry}
-use Rattle.cs_tx_form.specs.declared.entry.Entry.TheVariants.{Prepare, Decide}
+use Rattle.cs_tx_types.specs.declared.session.Session.{Session}
+use Rattle.cs_tx_types.specs.declared.vote.Vote.{Vote}
+use Rattle.cs_tx_types.specs.declared.vote.Vote.TheVariants.{Commit, Abort}
+use Rattle.cs_tx_types.specs.declared.entry.Entry.{Entry}
+use Rattle.cs_tx_types.specs.declared.entry.Entry.TheVariants.{Prepare, Decide}
 use Rattle.cs_ledger.specs.Ledger.{Bytes}
 use Rattle.cs_ledger.specs.Session as Seen
 use Rattle.cs_ledger.specs.Table as Shard
@@ -18,20 +18,20 @@ pub record Setup : Type 0 where
 abbrev pub digest_of : Setup → Session → Bytes
 digest_of setup x = (setup.session_of x).digest
 
-abbrev pub concerns : Setup → Session → ℕ → Bool
-concerns setup x shard = Seen.concerns setup.rules (setup.session_of x) shard
+abbrev pub is_concerned_shard : Setup → Session → ℕ → Bool
+is_concerned_shard setup x shard = Seen.concerns setup.rules (setup.session_of x) shard
 
 -- the concerned ones of the shards below n, in rising order
 abbrev pub concerned_below : Setup → Session → ℕ → List ℕ
 concerned_below setup x zero = []
-concerned_below setup x (suc n) = concerned_below setup x n ++ (if concerns setup x n then n ∷ [] else [])
+concerned_below setup x (suc n) = concerned_below setup x n ++ (if is_concerned_shard setup x n then n ∷ [] else [])
 
 abbrev pub concerned : Setup → Session → List ℕ
 concerned setup x = concerned_below setup x setup.shards
 
 -- well formed, and the shard is concerned
 abbrev pub is_fit : Setup → ℕ → Session → Bool
-is_fit setup shard x = Seen.well_formed setup.rules (setup.session_of x) && concerns setup x shard
+is_fit setup shard x = Seen.well_formed setup.rules (setup.session_of x) && is_concerned_shard setup x shard
 
 -- the check of each trace says yes
 abbrev pub is_approved : Setup → Session → Bool

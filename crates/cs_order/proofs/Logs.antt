@@ -5,7 +5,7 @@ use Rattle.cs_order.specs.declared.answers.Outgoing.{Outgoing}
 use Rattle.cs_order.specs.declared.answers.Step.{Step}
 use Rattle.cs_order.specs.declared.answers.Step.TheVariants as step
 use Rattle.cs_order.specs.declared.proposed.Proposed.{Proposed}
-use Rattle.cs_order.specs.Deeds.{Deed, Machine, chosen_by, chosen_in, kept_from, entry_from, entry_at}
+use Rattle.cs_order.specs.Deeds.{Deed, Machine, chosen_by, chosen_in, kept_from, entry_from, entry_of_slot}
 use Rattle.cs_order.specs.Deeds as deed
 use Rattle.cs_order.specs.Runs.{deeds_of, log_of}
 use Rattle.cs_order.specs.Law.{Law, IsPrefix, LogsAgree, LogsStay, IsCutAbove, EntriesStay}
@@ -55,8 +55,8 @@ logs_stay M act past i =
 -- what a member gives after a deed of its own
 abbrev Stays : {M : Type 0} → Deed M → List (Deed M) → ℕ → Proposed → Type 0
 Stays {M} act past slot e =
-    (entry_at (act ∷ past) slot ≡ Some e)
-    ⊎ ((entry_at (act ∷ past) slot ≡ None) × (bound : ℕ) × (act ≡ deed.Cut bound) × (slot < bound))
+    (entry_of_slot (act ∷ past) slot ≡ Some e)
+    ⊎ ((entry_of_slot (act ∷ past) slot ≡ None) × (bound : ℕ) × (act ≡ deed.Cut bound) × (slot < bound))
 
 -- a longer log gives what was given
 longer : (first : ℕ) (log more : List Proposed) (slot : ℕ) (e : Proposed) → entry_from first log slot ≡ Some e → entry_from first (log ++ more) slot ≡ Some e
@@ -66,7 +66,7 @@ longer first log more slot e = by_place (nat_lt slot first)
     by_place true h = cc
     by_place false h = slice_get-left log more slot e h
 
-given_after : {M : Type 0} (x : Step) (sent : List (Outgoing M)) (past : List (Deed M)) (slot : ℕ) (e : Proposed) → entry_at past slot ≡ Some e → entry_at (deed.Advanced x sent ∷ past) slot ≡ Some e
+given_after : {M : Type 0} (x : Step) (sent : List (Outgoing M)) (past : List (Deed M)) (slot : ℕ) (e : Proposed) → entry_of_slot past slot ≡ Some e → entry_of_slot (deed.Advanced x sent ∷ past) slot ≡ Some e
 given_after (step.Chosen y) sent past slot e h = longer (kept_from past) (chosen_in past) (y ∷ []) slot e h
 given_after step.Moved sent past slot e h = h
 given_after step.Quiet sent past slot e h = h
@@ -90,7 +90,7 @@ cut_above bound first log slot e = by_first (nat_lt slot first) refl
     by_first true is h = cc
     by_first false is h = by_bound (nat_lt slot bound) refl is h
 
-stays_by : {M : Type 0} (act : Deed M) (past : List (Deed M)) (slot : ℕ) (e : Proposed) → entry_at past slot ≡ Some e → Stays act past slot e
+stays_by : {M : Type 0} (act : Deed M) (past : List (Deed M)) (slot : ℕ) (e : Proposed) → entry_of_slot past slot ≡ Some e → Stays act past slot e
 stays_by (deed.Took_in from m) past slot e h = inl h
 stays_by (deed.Advanced x sent) past slot e h = inl (given_after x sent past slot e h)
 stays_by (deed.Echoed sent) past slot e h = inl h
@@ -110,7 +110,7 @@ entries_stay M act past i slot e h = by_member (act.member == i) (λ is. eqb-tru
     after : Bool → List (Deed M)
     after mine = if mine then act.deed ∷ deeds_of i past else deeds_of i past
 
-    by_member : (mine : Bool) → (mine ≡ true → act.member ≡ i) → (entry_at (after mine) slot ≡ Some e) ⊎ ((entry_at (after mine) slot ≡ None) × IsCutAbove i slot act)
+    by_member : (mine : Bool) → (mine ≡ true → act.member ≡ i) → (entry_of_slot (after mine) slot ≡ Some e) ⊎ ((entry_of_slot (after mine) slot ≡ None) × IsCutAbove i slot act)
     by_member true is =
         elim (stays_by act.deed (deeds_of i past) slot e h) [
           | inl still ↦ inl still

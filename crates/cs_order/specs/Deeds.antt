@@ -74,8 +74,8 @@ abbrev pub entry_from : ℕ → List Proposed → ℕ → Option Proposed
 entry_from first log slot = if nat_lt slot first then None else slice_get log slot
 
 -- the entry that a member gives of a slot: the one chosen in it, unless it was cut
-abbrev pub entry_at : {M : Type 0} → List (Deed M) → ℕ → Option Proposed
-entry_at {M} deeds slot = entry_from (kept_from deeds) (chosen_in deeds) slot
+abbrev pub entry_of_slot : {M : Type 0} → List (Deed M) → ℕ → Option Proposed
+entry_of_slot {M} deeds slot = entry_from (kept_from deeds) (chosen_in deeds) slot
 
 -- An order, as functions of what its member has done.
 pub record Machine (M : Type 0) : Type 0 where

@@ -6,9 +6,9 @@ use Rattle.cs_order.specs.declared.answers.Step.TheVariants.{Chosen, Quiet}
 use Rattle.cs_order.specs.declared.answers.May.TheVariants.{Only}
 use Rattle.cs_order.specs.Lists.{IsIn}
 use Rattle.cs_order.specs.Digests.{HaveDigests}
-use Rattle.cs_order.specs.Deeds.{Deed, Took_in, Advanced, Echoed, Proposing, Ticked, Resent, Replied, Cut, Member, Machine, did, sent_by, chosen_in, entry_at}
+use Rattle.cs_order.specs.Deeds.{Deed, Took_in, Advanced, Echoed, Proposing, Ticked, Resent, Replied, Cut, Member, Machine, did, sent_by, chosen_in, entry_of_slot}
 use Rattle.cs_order.specs.Calls.{Proposable}
-use Rattle.cs_order.specs.Runs.{Act, IsKept, IsFor, deeds_of, member_of, log_of, Run, FewLiars, held_in, handed_in, EntriesToldApart}
+use Rattle.cs_order.specs.Runs.{Act, AllKeepRules, IsFor, deeds_of, member_of, log_of, IsRun, FewLiars, held_in, handed_in, EntriesToldApart}
 
 -- a member admitted the entry: it proposed it, or echoed it while it was pending
 abbrev pub Admits : {M : Type 0} → Machine M → Proposed → Member M → Deed M → Type 0
@@ -39,7 +39,7 @@ pub record IsLawful {M : Type 0} (m : Machine M) (f : ℕ) (honest : ℕ → Boo
 abbrev pub Law : {M : Type 0} → Machine M → Type 0
 Law {M} m =
     (f : ℕ) (honest : ℕ → Bool) (past : List (Act M))
-    → m.serves f ≡ true → FewLiars f honest → Run m f honest past → EntriesToldApart (handed_in m past)
+    → m.serves f ≡ true → FewLiars f honest → IsRun m f honest past → EntriesToldApart (handed_in m past)
     → IsLawful m f honest past
 
 -- What is sent again, and what is given up, changes no step.
@@ -64,22 +64,22 @@ pub record ComesToRest {M : Type 0} (m : Machine M) (left : Member M → ℕ) : 
 -- Each entry that a member gives was handed in at it, and each message that it hands out is proper,
 -- where the entries that were handed in have digests.
 pub record Holds {M : Type 0} (m : Machine M) : Type 0 where
-  pub chosen : (f me : ℕ) (deeds : List (Deed M)) → IsKept m f me deeds
+  pub chosen : (f me : ℕ) (deeds : List (Deed M)) → AllKeepRules m f me deeds
       → (entry : Proposed) → m.step (record { f = f; me = me; deeds = deeds }) ≡ Chosen entry
       → IsIn entry (held_in m deeds)
-  pub pending : (f me : ℕ) (deeds : List (Deed M)) → IsKept m f me deeds
+  pub pending : (f me : ℕ) (deeds : List (Deed M)) → AllKeepRules m f me deeds
       → (entry : Proposed) → m.pending (record { f = f; me = me; deeds = deeds }) ≡ Some entry
       → IsIn entry (held_in m deeds)
-  pub offered : (f me : ℕ) (deeds : List (Deed M)) → IsKept m f me deeds
+  pub offered : (f me : ℕ) (deeds : List (Deed M)) → AllKeepRules m f me deeds
       → (entries : List Proposed) (entry : Proposed)
       → m.may_propose (record { f = f; me = me; deeds = deeds }) ≡ Only entries
       → IsIn entry entries → IsIn entry (held_in m deeds)
-  pub logged : (f me : ℕ) (deeds : List (Deed M)) → IsKept m f me deeds
+  pub logged : (f me : ℕ) (deeds : List (Deed M)) → AllKeepRules m f me deeds
       → (slot : ℕ) (entry : Proposed) → slice_get (chosen_in deeds) slot ≡ Some entry → IsIn entry (held_in m deeds)
-  pub sent : (f me : ℕ) (deed : Deed M) (deeds : List (Deed M)) → IsKept m f me (deed ∷ deeds)
+  pub sent : (f me : ℕ) (deed : Deed M) (deeds : List (Deed M)) → AllKeepRules m f me (deed ∷ deeds)
       → (message : M) (to : ℕ) → IsFor message to (sent_by deed)
       → (entry : Proposed) → IsIn entry (m.carried message) → IsIn entry (held_in m (deed ∷ deeds))
-  pub proper : (f me : ℕ) (deed : Deed M) (deeds : List (Deed M)) → IsKept m f me (deed ∷ deeds)
+  pub proper : (f me : ℕ) (deed : Deed M) (deeds : List (Deed M)) → AllKeepRules m f me (deed ∷ deeds)
       → HaveDigests (held_in m (deed ∷ deeds))
       → (message : M) (to : ℕ) → IsFor message to (sent_by deed) → m.proper message ≡ true
 
@@ -91,7 +91,7 @@ IsPrefix {A} short long = (rest : List A) × (long ≡ short ++ rest)
 abbrev pub LogsAgree : {M : Type 0} → Machine M → Type 0
 LogsAgree {M} m =
     (f : ℕ) (honest : ℕ → Bool) (past : List (Act M))
-    → m.serves f ≡ true → FewLiars f honest → Run m f honest past → EntriesToldApart (handed_in m past)
+    → m.serves f ≡ true → FewLiars f honest → IsRun m f honest past → EntriesToldApart (handed_in m past)
     → (i j : ℕ) → IsPrefix (log_of i past) (log_of j past) ⊎ IsPrefix (log_of j past) (log_of i past)
 
 -- What was chosen stays.
@@ -106,6 +106,6 @@ IsCutAbove {M} i slot act = (act.member ≡ i) × (bound : ℕ) × (act.deed ≡
 abbrev pub EntriesStay : Type 0 → Type 0
 EntriesStay M =
     (act : Act M) (past : List (Act M)) (i slot : ℕ) (entry : Proposed)
-    → entry_at (deeds_of i past) slot ≡ Some entry
-    → (entry_at (deeds_of i (act ∷ past)) slot ≡ Some entry)
-    ⊎ ((entry_at (deeds_of i (act ∷ past)) slot ≡ None) × IsCutAbove i slot act)
+    → entry_of_slot (deeds_of i past) slot ≡ Some entry
+    → (entry_of_slot (deeds_of i (act ∷ past)) slot ≡ Some entry)
+    ⊎ ((entry_of_slot (deeds_of i (act ∷ past)) slot ≡ None) × IsCutAbove i slot act)

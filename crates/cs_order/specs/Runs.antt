@@ -23,9 +23,9 @@ KeepsRules {M} m h (Replied slot to sent) =
 KeepsRules {M} m h (Cut slot) = slot ≤ length (chosen_in h.deeds)
 
 -- all deeds of a member keep the rules
-abbrev pub IsKept : {M : Type 0} → Machine M → ℕ → ℕ → List (Deed M) → Type 0
-IsKept {M} m f me [] = Unit {0}
-IsKept {M} m f me (deed ∷ past) = KeepsRules m (record { f = f; me = me; deeds = past }) deed × IsKept m f me past
+abbrev pub AllKeepRules : {M : Type 0} → Machine M → ℕ → ℕ → List (Deed M) → Type 0
+AllKeepRules {M} m f me [] = Unit {0}
+AllKeepRules {M} m f me (deed ∷ past) = KeepsRules m (record { f = f; me = me; deeds = past }) deed × AllKeepRules m f me past
 
 -- a deed of a member; a run is a list of them, the newest first
 pub record Act (M : Type 0) : Type 0 where
@@ -73,34 +73,34 @@ pub record Follows {M : Type 0} (m : Machine M) (f : ℕ) (honest : ℕ → Bool
   pub keeps : KeepsRules m (member_of f act.member past) act.deed
   pub genuine : Genuine honest act.member act.deed past
 
-abbrev pub Run : {M : Type 0} → Machine M → ℕ → (ℕ → Bool) → List (Act M) → Type 0
-Run {M} m f honest [] = Unit {0}
-Run {M} m f honest (act ∷ past) = Follows m f honest past act × Run m f honest past
+abbrev pub IsRun : {M : Type 0} → Machine M → ℕ → (ℕ → Bool) → List (Act M) → Type 0
+IsRun {M} m f honest [] = Unit {0}
+IsRun {M} m f honest (act ∷ past) = Follows m f honest past act × IsRun m f honest past
 
 -- at most f of the 3f+1 members are liars
 abbrev pub FewLiars : ℕ → (ℕ → Bool) → Type 0
 FewLiars f honest = count_below (3 * f + 1) (λ i. not (honest i)) ≤ f
 
 -- the entries that a deed handed in
-abbrev pub entries_in : {M : Type 0} → Machine M → Deed M → List Proposed
-entries_in {M} m (Took_in from message) = m.carried message
-entries_in {M} m (Advanced step sent) = []
-entries_in {M} m (Echoed sent) = []
-entries_in {M} m (Proposing entry sent) = entry ∷ []
-entries_in {M} m (Ticked due sent) = []
-entries_in {M} m (Resent sent) = []
-entries_in {M} m (Replied slot to sent) = []
-entries_in {M} m (Cut slot) = []
+abbrev pub entries_handed_in : {M : Type 0} → Machine M → Deed M → List Proposed
+entries_handed_in {M} m (Took_in from message) = m.carried message
+entries_handed_in {M} m (Advanced step sent) = []
+entries_handed_in {M} m (Echoed sent) = []
+entries_handed_in {M} m (Proposing entry sent) = entry ∷ []
+entries_handed_in {M} m (Ticked due sent) = []
+entries_handed_in {M} m (Resent sent) = []
+entries_handed_in {M} m (Replied slot to sent) = []
+entries_handed_in {M} m (Cut slot) = []
 
 -- the entries that were handed in at one member
 abbrev pub held_in : {M : Type 0} → Machine M → List (Deed M) → List Proposed
 held_in {M} m [] = []
-held_in {M} m (deed ∷ past) = entries_in m deed ++ held_in m past
+held_in {M} m (deed ∷ past) = entries_handed_in m deed ++ held_in m past
 
 -- the entries that were handed in at all members
 abbrev pub handed_in : {M : Type 0} → Machine M → List (Act M) → List Proposed
 handed_in {M} m [] = []
-handed_in {M} m (act ∷ past) = entries_in m act.deed ++ handed_in m past
+handed_in {M} m (act ∷ past) = entries_handed_in m act.deed ++ handed_in m past
 
 -- equal digests have equal bytes
 abbrev pub EntriesToldApart : List Proposed → Type 0

@@ -23,9 +23,9 @@ waiting_of {M} (Replied slot to sent ∷ past) = waiting_of past
 waiting_of {M} (Cut slot ∷ past) = waiting_of past
 
 -- it is chosen, but in the last slot
-abbrev pub step_at : ℕ → Option Proposed → Step
-step_at slot None = Quiet
-step_at slot (Some entry) = if nat_lt slot last_slot then Chosen entry else Quiet
+abbrev pub solo_step_at : ℕ → Option Proposed → Step
+solo_step_at slot None = Quiet
+solo_step_at slot (Some entry) = if nat_lt slot last_slot then Chosen entry else Quiet
 
 -- one entry at a time
 abbrev pub may_at : Option Proposed → May
@@ -39,7 +39,7 @@ solo {M} = record {
   carried = λ m. [];
   view = λ h. 0;
   taking = λ h from message. Old;
-  step = λ h. step_at (length (chosen_in h.deeds)) (waiting_of h.deeds);
+  step = λ h. solo_step_at (length (chosen_in h.deeds)) (waiting_of h.deeds);
   advancing = λ h. [];
   pending = λ h. None;
   echoing = λ h. [];

@@ -2,7 +2,7 @@
 ghost use Rattle.std.specs.Prelude.{◌≡◌, ◌≢◌, ℕ, ◌*◌, ◌≤◌, ◌<◌, ◌^◌, true, [], IfOk, OnOk, OnErr, IsSome, length, Option, option_copied};
 ghost use Rattle.cs_order.specs.declared.proposed.Proposed.{Proposed};
 ghost use Rattle.cs_order.specs.declared.answers.May.{May};
-ghost use Rattle.cs_order.specs.Deeds.{Member, Machine, chosen_in, entry_at};
+ghost use Rattle.cs_order.specs.Deeds.{Member, Machine, chosen_in, entry_of_slot};
 ghost use Rattle.cs_order.specs.Calls.{Proposable, TakesIn, Advances, Echoes, Proposes, Ticks, Resends, Replies, Cuts, Lowers};
 ghost use Rattle.cs_order.specs.Limits.{last_slot};
 ghost use Rattle.cs_order.specs.Law.{Law, Undisturbed, ComesToRest, Holds, IsPrefix};
@@ -66,7 +66,7 @@ pub trait Order: Drop {
     /// The entry that is chosen in a slot, unless it was cut.
     fn entry(&self, slot: u64) -> Option<&Proposed>
         ensures { (h : Member Self.Message) → stands self.now h →
-            option_copied result ≡ entry_at h.deeds slot };
+            option_copied result ≡ entry_of_slot h.deeds slot };
 
     /// Chooses an entry, enters a view or confirms, whichever applies first.
     fn advance(

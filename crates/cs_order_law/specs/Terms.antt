@@ -2,7 +2,7 @@
 use Rattle.std.specs.Prelude.{◌≡◌, ◌≤◌, ◌<◌, ◌⊎◌}
 use Rattle.cs_order.specs.Deeds.{Deed, Took_in, Advanced, Echoed, Proposing, Ticked, Resent, Replied, Cut}
 use Rattle.cs_order_rules.specs.declared.message.OrderMessage.{OrderMessage}
-use Rattle.cs_order_rules.specs.Facts.{Sight, open_slot, slot_of, view_of}
+use Rattle.cs_order_rules.specs.Facts.{Sight, open_slot, slot_of_message, view_of_message}
 
 -- the deeds by which a caller's loop goes on
 abbrev pub IsRule : Deed OrderMessage → Type 0
@@ -16,5 +16,5 @@ IsRule (Replied slot to sent) = ⊥
 IsRule (Cut slot) = ⊥
 
 -- the message is not beyond the member's slot and view
-abbrev pub Within : Sight → OrderMessage → Type 0
-Within s m = (slot_of m < open_slot s) ⊎ ((slot_of m ≡ open_slot s) × (view_of m ≤ s.view))
+abbrev pub IsWithinReach : Sight → OrderMessage → Type 0
+IsWithinReach s m = (slot_of_message m < open_slot s) ⊎ ((slot_of_message m ≡ open_slot s) × (view_of_message m ≤ s.view))

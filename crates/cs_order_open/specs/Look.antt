@@ -10,12 +10,12 @@ use Rattle.cs_order.specs.Counts.{count_below, last_below, when}
 use Rattle.cs_order_rules.specs.declared.message.Change.{Change}
 use Rattle.cs_order_rules.specs.declared.message.OrderMessage.{OrderMessage}
 use Rattle.cs_order_rules.specs.declared.message.OrderMessage.TheVariants as message
-use Rattle.cs_order_rules.specs.Safe.{is_free, is_safe}
+use Rattle.cs_order_rules.specs.Safe.{is_free_view, is_safe}
 use Rattle.cs_order_rules.specs.Slot.{Seen, proposal_of, prepared}
 use Rattle.cs_order_rules.specs.Facts.{Sight, open_slot, change_said, is_change_from, took, first_of}
-use Rattle.cs_order_rules.specs.Rules.{seen, echoed_in, pairs_below, again, one_unless}
+use Rattle.cs_order_rules.specs.Rules.{seen_now, echoed_in, pairs_below, sent_again, one_unless}
 use Rattle.cs_slot.specs.Kept.{seen_in}
-use Rattle.cs_change.specs.Kept.{told_in, reaches}
+use Rattle.cs_change.specs.Kept.{change_in, reaches}
 use Rattle.cs_order_open.specs.Shows.{KeptOpenSlot}
 
 pub record Look : Type 0 where
@@ -30,7 +30,7 @@ abbrev pub look_of : KeptOpenSlot → Look
 look_of k = record {
   seen = seen_in k.slot;
   f = k.changes.f;
-  told = told_in k.changes.changes;
+  told = change_in k.changes.changes;
   reached = reaches k.changes.furthest;
   echoed = k.echoed;
 }
@@ -38,7 +38,7 @@ look_of k = record {
 -- of what a member sees
 abbrev pub look : Sight → Look
 look s = record {
-  seen = seen s;
+  seen = seen_now s;
   f = s.f;
   told = λ view. first_of (change_said (open_slot s) view) s.taken;
   reached = λ view. took (is_change_from (open_slot s) view) s.taken;
@@ -58,7 +58,7 @@ change_by x = record { prepared = prepared x.seen; echoed = x.echoed }
 
 -- echo
 abbrev pub free_by : Look → Bool
-free_by x = is_free x.f (x.told x.seen.view)
+free_by x = is_free_view x.f (x.told x.seen.view)
 
 abbrev pub safe_by : Look → List ℕ → Bool
 safe_by x digest = is_safe x.f (x.told x.seen.view) x.seen.view digest
@@ -110,10 +110,10 @@ may_by x =
 -- what is sent again
 abbrev pub resend_by : Look → List (Outgoing OrderMessage)
 resend_by x =
-    again (message.Propose x.seen.n x.seen.view) (own_proposal x)
-    ++ again (message.Echo x.seen.n x.seen.view) (own_echo x)
-    ++ again (message.Confirm x.seen.n x.seen.view) (own_confirm x)
-    ++ again (message.Change x.seen.n x.seen.view) (own_change x)
+    sent_again (message.Propose x.seen.n x.seen.view) (own_proposal x)
+    ++ sent_again (message.Echo x.seen.n x.seen.view) (own_echo x)
+    ++ sent_again (message.Confirm x.seen.n x.seen.view) (own_confirm x)
+    ++ sent_again (message.Change x.seen.n x.seen.view) (own_change x)
 
 -- how many of proposing, echoing and confirming are left
 abbrev pub left_by : Look → ℕ

@@ -4,11 +4,11 @@ ghost use Rattle.cs_order.specs.Limits.{view_bound};
 ghost use Rattle.cs_order_rules.specs.declared.message.OrderMessage.TheVariants as message;
 ghost use Rattle.cs_order_rules.specs.Slot.{chosen, to_confirm};
 ghost use Rattle.cs_order_rules.specs.Rules.{pairs_below};
-ghost use Rattle.cs_change.specs.Kept.{told_in};
+ghost use Rattle.cs_change.specs.Kept.{change_in};
 ghost use Rattle.cs_order_open.specs.Look.{look_of, entering_by, change_by, has_place_by, may_echo_by, pending_by, leads_by, own_proposal, own_echo, own_confirm, own_change, candidate_by, candidates_by, may_by};
-ghost use Rattle.cs_order_rules.specs.Facts.{Sight, slot_of};
+ghost use Rattle.cs_order_rules.specs.Facts.{Sight, slot_of_message};
 ghost use Rattle.cs_slot.specs.Kept.{seen_in};
-ghost use Rattle.cs_order_open.specs.Shows.{Shows, TakesFirst, IsOf, led};
+ghost use Rattle.cs_order_open.specs.Shows.{ShowsSlot, TakesFirst, IsSlotOf, led};
 
 use crate::lines::{is_listed, with_line};
 use crate::pairs::{Pair, with_pair};
@@ -43,8 +43,8 @@ impl OpenSlot {
         requires few { f ≤ 5 }
         requires member { me ≤ 3 * f }
         ensures shows { IfOk result (λ current. (s : Sight) →
-            s.f ≡ f → s.me ≡ me → s.views ≡ view_bound → s.taken ≡ [] → Shows current s n 0) }
-        ensures whose { IfOk result (λ current. IsOf f n me 0 current) }
+            s.f ≡ f → s.me ≡ me → s.views ≡ view_bound → s.taken ≡ [] → ShowsSlot current s n 0) }
+        ensures whose { IfOk result (λ current. IsSlotOf f n me 0 current) }
     {
         let slot = Slot::new(alloc, f, n, me)?;
         Ok(OpenSlot {
@@ -58,12 +58,12 @@ impl OpenSlot {
     pub fn take(&mut self, from: u16, message: OrderMessage) -> Result<bool, Memory>
         requires member { from ≤ 3 * self.old.slot.f }
         requires other { from ≢ self.old.slot.me }
-        requires slot { slot_of message ≡ self.old.slot.n }
+        requires slot { slot_of_message message ≡ self.old.slot.n }
         requires led { led self.old.slot.f from message ≡ true }
-        ensures call { (s : Sight) (n view : ℕ) → Shows self.old s n view →
+        ensures call { (s : Sight) (n view : ℕ) → ShowsSlot self.old s n view →
             IfOk result (λ fresh. TakesFirst fresh self.new s n view from message) }
-        ensures whose { (f n me view : ℕ) → IsOf f n me view self.old →
-            IfOk result (λ fresh. IsOf f n me view self.new) }
+        ensures whose { (f n me view : ℕ) → IsSlotOf f n me view self.old →
+            IfOk result (λ fresh. IsSlotOf f n me view self.new) }
     {
         match message {
             OrderMessage::Propose { view, entry, .. } => {
@@ -92,11 +92,11 @@ impl OpenSlot {
     /// Takes the proposal of the member itself, which leads the view.
     pub fn propose_own(&mut self, me: u16, view: u16, entry: Proposed) -> Result<bool, Memory>
         requires { me ≡ (self.old.slot.n + view) % (3 * self.old.slot.f + 1) }
-        ensures call { (s : Sight) (n v : ℕ) → Shows self.old s n v →
+        ensures call { (s : Sight) (n v : ℕ) → ShowsSlot self.old s n v →
             IfOk result (λ fresh.
             TakesFirst fresh self.new s n v me (message.Propose n view entry)) }
-        ensures whose { (f n me view : ℕ) → IsOf f n me view self.old →
-            IfOk result (λ fresh. IsOf f n me view self.new) }
+        ensures whose { (f n me view : ℕ) → IsSlotOf f n me view self.old →
+            IfOk result (λ fresh. IsSlotOf f n me view self.new) }
     {
         let fresh = self.slot.propose(me, view, entry)?;
         Ok(fresh)
@@ -112,11 +112,11 @@ impl OpenSlot {
     ) -> Result<bool, Memory>
         requires own { me ≡ self.old.slot.me }
         requires member { me ≤ 3 * self.old.slot.f }
-        ensures call { (s : Sight) (n v : ℕ) → Shows self.old s n v →
+        ensures call { (s : Sight) (n v : ℕ) → ShowsSlot self.old s n v →
             IfOk result (λ fresh.
             TakesFirst fresh self.new s n v me (message.Echo n view digest)) }
-        ensures whose { (f n me view : ℕ) → IsOf f n me view self.old →
-            IfOk result (λ fresh. IsOf f n me view self.new) }
+        ensures whose { (f n me view : ℕ) → IsSlotOf f n me view self.old →
+            IfOk result (λ fresh. IsSlotOf f n me view self.new) }
     {
         let fresh = self.slot.echo(me, view, digest)?;
         if !fresh {
@@ -131,11 +131,11 @@ impl OpenSlot {
         requires member { me ≤ 3 * self.old.slot.f }
         requires own { (view ≡ self.old.slot.view)
             × (to_confirm (seen_in self.old.slot) ≡ Some digest) }
-        ensures call { (s : Sight) (n v : ℕ) → Shows self.old s n v →
+        ensures call { (s : Sight) (n v : ℕ) → ShowsSlot self.old s n v →
             IfOk result (λ fresh.
             TakesFirst fresh self.new s n v me (message.Confirm n view digest)) }
-        ensures whose { (f n me view : ℕ) → IsOf f n me view self.old →
-            IfOk result (λ fresh. IsOf f n me view self.new) }
+        ensures whose { (f n me view : ℕ) → IsSlotOf f n me view self.old →
+            IfOk result (λ fresh. IsSlotOf f n me view self.new) }
     {
         let fresh = self.slot.confirm(me, view, digest)?;
         Ok(fresh)
@@ -143,11 +143,11 @@ impl OpenSlot {
 
     /// Takes the change of the member itself.
     pub fn change_own(&mut self, me: u16, view: u16, change: Change) -> Result<bool, Memory>
-        ensures call { (s : Sight) (n v : ℕ) → Shows self.old s n v →
+        ensures call { (s : Sight) (n v : ℕ) → ShowsSlot self.old s n v →
             IfOk result (λ fresh.
             TakesFirst fresh self.new s n v me (message.Change n view change)) }
-        ensures whose { (f n me view : ℕ) → IsOf f n me view self.old →
-            IfOk result (λ fresh. IsOf f n me view self.new) }
+        ensures whose { (f n me view : ℕ) → IsSlotOf f n me view self.old →
+            IfOk result (λ fresh. IsSlotOf f n me view self.new) }
     {
         let fresh = self.changes.add(view, me, change)?;
         Ok(fresh)
@@ -157,9 +157,9 @@ impl OpenSlot {
     #[tactic(auto, using(crate::proofs::Taking::later_view))]
     pub fn enter(&mut self, view: u16)
         requires { self.old.slot.view < view }
-        ensures shows { (s : Sight) (n v : ℕ) → Shows self.old s n v →
-            Shows self.new s n view }
-        ensures whose { (f n me v : ℕ) → IsOf f n me v self.old → IsOf f n me view self.new }
+        ensures shows { (s : Sight) (n v : ℕ) → ShowsSlot self.old s n v →
+            ShowsSlot self.new s n view }
+        ensures whose { (f n me v : ℕ) → IsSlotOf f n me v self.old → IsSlotOf f n me view self.new }
     {
         self.slot.enter(view);
     }
@@ -327,7 +327,7 @@ impl OpenSlot {
         requires { self.now.slot.f ≤ 5 }
         ensures { IfOk result (λ pairs. pairs.items
             ≡ pairs_below (3 * self.now.slot.f + 1)
-            (told_in self.now.changes.changes self.now.slot.view)) }
+            (change_in self.now.changes.changes self.now.slot.view)) }
     {
         let mut pairs = Vec::new(alloc);
         for member in 0..3 * self.slot.f() + 1 {

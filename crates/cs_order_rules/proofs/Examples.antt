@@ -186,6 +186,37 @@ sent_again_before : slot_machine.resending (at 1 (deed.Proposing x (to_all (mess
 unfolding count_below any_below first_below last_below last_found
 sent_again_before = refl
 
+-- A member that echoed in two views tells both digests as it enters a third. In view 1 nothing was prepared, so member 1,
+-- which leads it, proposes another entry than that of view 0.
+abbrev y : Proposed
+y = record { digest = other; bytes = 2 ∷ [] }
+
+abbrev change_both : OrderMessage
+change_both = message.Change 0 2 (record { prepared = None; echoed = (d, 0) ∷ (other, 1) ∷ [] })
+
+abbrev twice_1 : Deeds
+twice_1 =
+    deed.Ticked true (to_all change_both)
+    ∷ deed.Ticked true []
+    ∷ quiet_ticks
+    (quiet_ticks
+    (deed.Echoed (to_all (message.Echo 0 1 other))
+    ∷ deed.Proposing y (to_all (message.Propose 0 1 y))
+    ∷ deed.Took_in 3 change_3
+    ∷ deed.Took_in 2 change_3
+    ∷ deed.Ticked true (to_all change_2)
+    ∷ quiet_ticks
+    (deed.Echoed (to_all (message.Echo 0 0 d))
+    ∷ deed.Took_in 0 (message.Propose 0 0 x)
+    ∷ [])))
+
+given_twice : all_given 1 twice_1 ≡ all_some twice_1
+unfolding all_given all_some count_below any_below first_below last_below last_found
+given_twice = refl
+
+both_are_proper : slot_machine.proper change_both ≡ true
+both_are_proper = refl
+
 -- Changes to view 1, taken by member 3.
 abbrev with_changes : List (ℕ × OrderMessage) → Sight
 with_changes taken = record { f = 1; me = 3; taken = taken; log = []; view = 1; wait = 0; views = view_bound }

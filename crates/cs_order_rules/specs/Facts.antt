@@ -30,26 +30,26 @@ pub record Sight : Type 0 where
 abbrev pub open_slot : Sight → ℕ
 open_slot s = length s.log
 
-abbrev pub members : Sight → ℕ
-members s = 3 * s.f + 1
+abbrev pub member_count : Sight → ℕ
+member_count s = 3 * s.f + 1
 
 abbrev pub leader : Sight → ℕ → ℕ
-leader s view = (open_slot s + view) % members s
+leader s view = (open_slot s + view) % member_count s
 
 -- What one message is.
-abbrev pub slot_of : OrderMessage → ℕ
-slot_of (message.Propose n w e) = n
-slot_of (message.Echo n w d) = n
-slot_of (message.Confirm n w d) = n
-slot_of (message.Change n w c) = n
-slot_of (message.Done n e) = n
+abbrev pub slot_of_message : OrderMessage → ℕ
+slot_of_message (message.Propose n w e) = n
+slot_of_message (message.Echo n w d) = n
+slot_of_message (message.Confirm n w d) = n
+slot_of_message (message.Change n w c) = n
+slot_of_message (message.Done n e) = n
 
-abbrev pub view_of : OrderMessage → ℕ
-view_of (message.Propose n w e) = w
-view_of (message.Echo n w d) = w
-view_of (message.Confirm n w d) = w
-view_of (message.Change n w c) = w
-view_of (message.Done n e) = 0
+abbrev pub view_of_message : OrderMessage → ℕ
+view_of_message (message.Propose n w e) = w
+view_of_message (message.Echo n w d) = w
+view_of_message (message.Confirm n w d) = w
+view_of_message (message.Change n w c) = w
+view_of_message (message.Done n e) = 0
 
 -- the entries that stand in it
 abbrev pub carried : OrderMessage → List Proposed
@@ -135,7 +135,7 @@ first_of said (fact ∷ facts) member = or_else (when (fact.0 == member) (said f
 
 -- how many members' message is exactly this
 abbrev pub count_of : Sight → (OrderMessage → Bool) → ℕ
-count_of s test = count_below (members s) (took test s.taken)
+count_of s test = count_below (member_count s) (took test s.taken)
 
 -- the limits that messages keep
 abbrev pub rises : List (List ℕ × ℕ) → Bool

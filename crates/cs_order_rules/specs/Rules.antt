@@ -17,13 +17,13 @@ use Rattle.cs_order.specs.declared.answers.May.TheVariants.{No, Free, Only}
 use Rattle.cs_order_rules.specs.declared.message.Change.{Change}
 use Rattle.cs_order_rules.specs.declared.message.OrderMessage.{OrderMessage}
 use Rattle.cs_order_rules.specs.declared.message.OrderMessage.TheVariants as message
-use Rattle.cs_order_rules.specs.Safe.{is_free, is_safe}
+use Rattle.cs_order_rules.specs.Safe.{is_free_view, is_safe}
 use Rattle.cs_order_rules.specs.Slot.{Seen, proposal_of, chosen, to_confirm, prepared}
-use Rattle.cs_order_rules.specs.Facts.{Facts, Sight, open_slot, members, leader, slot_of, proposal_said, echo_said, confirm_said, change_said, done_said, echo_in, is_change_from, is_like, took, first_of, count_of}
+use Rattle.cs_order_rules.specs.Facts.{Facts, Sight, open_slot, member_count, leader, slot_of_message, proposal_said, echo_said, confirm_said, change_said, done_said, echo_in, is_change_from, is_like, took, first_of, count_of}
 
 -- What stands in the open slot.
 abbrev pub proposal_at : Sight → ℕ → ℕ → Option Proposed
-proposal_at s slot view = first_of (proposal_said slot view) s.taken ((slot + view) % members s)
+proposal_at s slot view = first_of (proposal_said slot view) s.taken ((slot + view) % member_count s)
 
 abbrev pub proposal : Sight → ℕ → Option Proposed
 proposal s view = proposal_at s (open_slot s) view
@@ -49,21 +49,21 @@ seen_at s slot view = record {
   done = first_of (done_said slot) s.taken;
 }
 
-abbrev pub seen : Sight → Seen
-seen s = seen_at s (open_slot s) s.view
+abbrev pub seen_now : Sight → Seen
+seen_now s = seen_at s (open_slot s) s.view
 
 -- Choose.
 abbrev pub choice : Sight → Option Proposed
-choice s = chosen (seen s)
+choice s = chosen (seen_now s)
 
 -- Enter: the greatest view above the member's that f+1 members have reached.
-abbrev pub entering : Sight → Option ℕ
-entering s =
+abbrev pub view_to_enter : Sight → Option ℕ
+view_to_enter s =
     last_below s.views (λ view. nat_lt s.view view && nat_le (s.f + 1) (count_of s (is_change_from (open_slot s) view)))
 
 -- Confirm.
 abbrev pub confirming : Sight → Option (List ℕ)
-confirming s = to_confirm (seen s)
+confirming s = to_confirm (seen_now s)
 
 -- What a change to a view tells: the member's prepared pair of greatest view,
 -- and each digest that it echoed, rising, with the greatest view.
@@ -83,7 +83,7 @@ echoed_in me slot [] = []
 echoed_in me slot (fact ∷ facts) = with_line (when (fact.0 == me) (echo_in slot fact.1)) (echoed_in me slot facts)
 
 abbrev pub change_told : Sight → Change
-change_told s = record { prepared = prepared (seen s); echoed = echoed_in s.me (open_slot s) s.taken }
+change_told s = record { prepared = prepared (seen_now s); echoed = echoed_in s.me (open_slot s) s.taken }
 
 -- a message to all, which the member takes itself
 abbrev pub to_all : OrderMessage → List (Outgoing OrderMessage)
@@ -99,21 +99,21 @@ step_by None (Some view) confirm = Moved
 step_by None None (Some digest) = Moved
 step_by None None None = Quiet
 
-abbrev pub sent_by : Sight → Option Proposed → Option ℕ → Option (List ℕ) → List (Outgoing OrderMessage)
-sent_by s (Some e) enter confirm = []
-sent_by s None (Some view) confirm = change_to s view
-sent_by s None None (Some digest) = to_all (message.Confirm (open_slot s) s.view digest)
-sent_by s None None None = []
+abbrev pub sent_by_rules : Sight → Option Proposed → Option ℕ → Option (List ℕ) → List (Outgoing OrderMessage)
+sent_by_rules s (Some e) enter confirm = []
+sent_by_rules s None (Some view) confirm = change_to s view
+sent_by_rules s None None (Some digest) = to_all (message.Confirm (open_slot s) s.view digest)
+sent_by_rules s None None None = []
 
 abbrev pub step_of : Sight → Step
-step_of s = step_by (choice s) (entering s) (confirming s)
+step_of s = step_by (choice s) (view_to_enter s) (confirming s)
 
 abbrev pub advance_sent : Sight → List (Outgoing OrderMessage)
-advance_sent s = sent_by s (choice s) (entering s) (confirming s)
+advance_sent s = sent_by_rules s (choice s) (view_to_enter s) (confirming s)
 
 -- what the changes to the member's view allow
 abbrev pub free : Sight → Bool
-free s = is_free s.f (change_of s s.view)
+free s = is_free_view s.f (change_of s s.view)
 
 abbrev pub safe : Sight → List ℕ → Bool
 safe s digest = is_safe s.f (change_of s s.view) s.view digest
@@ -165,10 +165,10 @@ pairs_below (suc n) changes = with_pair (pair_of (changes n)) (pairs_below n cha
 
 -- those that are safe and whose entry was proposed
 abbrev pub candidate : Sight → ℕ × List ℕ → Option Proposed
-candidate s pair = when (safe s pair.1) (proposal_of (seen s) pair.1)
+candidate s pair = when (safe s pair.1) (proposal_of (seen_now s) pair.1)
 
 abbrev pub candidates : Sight → List Proposed
-candidates s = filter_map (candidate s) (pairs_below (members s) (change_of s s.view))
+candidates s = filter_map (candidate s) (pairs_below (member_count s) (change_of s s.view))
 
 abbrev pub may_propose : Sight → May
 may_propose s =
@@ -182,7 +182,7 @@ propose_sent s e = to_all (message.Propose (open_slot s) s.view e)
 -- What is taken: messages of the open slot and of those not too far ahead, proposals of the leader alone,
 -- and of each kind, slot and view the first of a member.
 abbrev pub is_led : Sight → ℕ → OrderMessage → Bool
-is_led s from (message.Propose n w e) = from == (n + w) % members s
+is_led s from (message.Propose n w e) = from == (n + w) % member_count s
 is_led s from (message.Echo n w d) = true
 is_led s from (message.Confirm n w d) = true
 is_led s from (message.Change n w c) = true
@@ -190,9 +190,9 @@ is_led s from (message.Done n e) = true
 
 abbrev pub verdict : Sight → ℕ → OrderMessage → Took
 verdict s from m =
-    if nat_lt (slot_of m) (open_slot s)
+    if nat_lt (slot_of_message m) (open_slot s)
     then Old
-    else (if nat_lt (open_slot s + SLOTS_AHEAD) (slot_of m)
+    else (if nat_lt (open_slot s + SLOTS_AHEAD) (slot_of_message m)
     then Far
     else (if not (is_led s from m)
     then Leader
@@ -200,26 +200,26 @@ verdict s from m =
 
 -- A tick: the wait grows where an entry is due or the member echoed in the slot,
 -- and at its limit the next view is entered.
-abbrev pub waits : Sight → Bool → Bool
-waits s due = due || is_some (first_of (echo_in (open_slot s)) s.taken s.me)
+abbrev pub wait_grows : Sight → Bool → Bool
+wait_grows s due = due || is_some (first_of (echo_in (open_slot s)) s.taken s.me)
 
-abbrev pub is_over : Sight → Bool → Bool
-is_over s due = waits s due && ((s.wait + 1 == 8 * 2 ^ min s.view 10) && nat_lt (s.view + 1) view_bound)
+abbrev pub is_slot_over : Sight → Bool → Bool
+is_slot_over s due = wait_grows s due && ((s.wait + 1 == 8 * 2 ^ min s.view 10) && nat_lt (s.view + 1) view_bound)
 
 abbrev pub tick_sent : Sight → Bool → List (Outgoing OrderMessage)
-tick_sent s due = if is_over s due then change_to s (s.view + 1) else []
+tick_sent s due = if is_slot_over s due then change_to s (s.view + 1) else []
 
 -- What is sent again: the own messages of the open slot and the view.
-abbrev pub again : {A : Type 0} → (A → OrderMessage) → Option A → List (Outgoing OrderMessage)
-again message None = []
-again message (Some x) = to_all (message x)
+abbrev pub sent_again : {A : Type 0} → (A → OrderMessage) → Option A → List (Outgoing OrderMessage)
+sent_again message None = []
+sent_again message (Some x) = to_all (message x)
 
 abbrev pub resend_sent : Sight → List (Outgoing OrderMessage)
 resend_sent s =
-    again (message.Propose (open_slot s) s.view) (own proposal_said s)
-    ++ again (message.Echo (open_slot s) s.view) (own echo_said s)
-    ++ again (message.Confirm (open_slot s) s.view) (own confirm_said s)
-    ++ again (message.Change (open_slot s) s.view) (own change_said s)
+    sent_again (message.Propose (open_slot s) s.view) (own proposal_said s)
+    ++ sent_again (message.Echo (open_slot s) s.view) (own echo_said s)
+    ++ sent_again (message.Confirm (open_slot s) s.view) (own confirm_said s)
+    ++ sent_again (message.Change (open_slot s) s.view) (own change_said s)
 
 -- What answers a Want of the slot: the entry that the member gives of it.
 abbrev pub reply_with : ℕ → ℕ → Option Proposed → Option (Outgoing OrderMessage)

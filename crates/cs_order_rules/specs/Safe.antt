@@ -23,12 +23,12 @@ says_allowed view digest None = false
 says_allowed view digest (Some change) = pair_allows view digest change.prepared
 
 -- the digest is listed as echoed at a view from the first to below the second
-abbrev pub is_listed : ℕ → ℕ → List ℕ → List ℕ × ℕ → Bool
-is_listed from below digest line = bytes_eq line.0 digest && (nat_le from line.1 && nat_lt line.1 below)
+abbrev pub is_echo_listed : ℕ → ℕ → List ℕ → List ℕ × ℕ → Bool
+is_echo_listed from below digest line = bytes_eq line.0 digest && (nat_le from line.1 && nat_lt line.1 below)
 
 abbrev pub says_echoed : ℕ → ℕ → List ℕ → Option Change → Bool
 says_echoed from below digest None = false
-says_echoed from below digest (Some change) = list_any (is_listed from below digest) change.echoed
+says_echoed from below digest (Some change) = list_any (is_echo_listed from below digest) change.echoed
 
 -- the digest is safe in the view, by the change of each member, if it is there
 abbrev pub SafeAt : ℕ → (ℕ → Option Change) → ℕ → List ℕ → Type 0
@@ -39,8 +39,8 @@ SafeAt f changes view digest =
     × (f + 1 ≤ count_below (3 * f + 1) (λ m. says_echoed v view digest (changes m))))
 
 -- the same as tests: 2f+1 changes have no pair
-abbrev pub is_free : ℕ → (ℕ → Option Change) → Bool
-is_free f changes = nat_le (2 * f + 1) (count_below (3 * f + 1) (λ m. says_none (changes m)))
+abbrev pub is_free_view : ℕ → (ℕ → Option Change) → Bool
+is_free_view f changes = nat_le (2 * f + 1) (count_below (3 * f + 1) (λ m. says_none (changes m)))
 
 abbrev pub is_safe_from : ℕ → (ℕ → Option Change) → ℕ → List ℕ → ℕ → Bool
 is_safe_from f changes view digest v =
@@ -48,4 +48,4 @@ is_safe_from f changes view digest v =
     && nat_le (f + 1) (count_below (3 * f + 1) (λ m. says_echoed v view digest (changes m)))
 
 abbrev pub is_safe : ℕ → (ℕ → Option Change) → ℕ → List ℕ → Bool
-is_safe f changes view digest = is_free f changes || any_below view (is_safe_from f changes view digest)
+is_safe f changes view digest = is_free_view f changes || any_below view (is_safe_from f changes view digest)

@@ -47,12 +47,12 @@ done_with s digest = first_below (3 * s.f + 1) (λ member. with_digest digest (s
 
 -- Choose: the least view in which 2f+1 confirms agree on a digest of which an entry is known.
 -- Its entry is that of the proposal of least view, or else that of the Done of the least member.
-abbrev pub entry_of : Seen → Option (List ℕ) → Option Proposed
-entry_of s None = None
-entry_of s (Some digest) = or_else (proposal_of s digest) (done_with s digest)
+abbrev pub chosen_entry : Seen → Option (List ℕ) → Option Proposed
+chosen_entry s None = None
+chosen_entry s (Some digest) = or_else (proposal_of s digest) (done_with s digest)
 
 abbrev pub confirmed_entry : Seen → ℕ → Option Proposed
-confirmed_entry s view = entry_of s (quorum s.f (s.confirm view))
+confirmed_entry s view = chosen_entry s (quorum s.f (s.confirm view))
 
 abbrev pub by_confirm : Seen → Option Proposed
 by_confirm s = first_below s.views (confirmed_entry s)

@@ -2,7 +2,7 @@
 use Rattle.std.specs.Prelude.{ℕ, ◌+◌, Bool, true, ◌||◌, if◌then◌else◌, List, [], ◌∷◌, length, Option, Some, None, is_some}
 use Rattle.cs_base.specs.Options.{or_else}
 use Rattle.cs_order.specs.Limits.{view_bound}
-use Rattle.cs_order.specs.Deeds.{Deed, Took_in, Advanced, Echoed, Proposing, Ticked, Resent, Replied, Cut, Member, Machine, chosen_in, entry_at}
+use Rattle.cs_order.specs.Deeds.{Deed, Took_in, Advanced, Echoed, Proposing, Ticked, Resent, Replied, Cut, Member, Machine, chosen_in, entry_of_slot}
 use Rattle.cs_order.specs.declared.answers.Outgoing.{Outgoing}
 use Rattle.cs_order.specs.declared.answers.Step.{Step}
 use Rattle.cs_order.specs.declared.answers.Step.TheVariants.{Chosen, Moved, Quiet}
@@ -114,7 +114,7 @@ slot_machine = record {
   proposing = λ h entry. propose_sent (sight h) entry;
   ticking = λ h due. tick_sent (sight h) due;
   resending = λ h. resend_sent (sight h);
-  replying = λ h slot to. reply_with slot to (entry_at h.deeds slot);
+  replying = λ h slot to. reply_with slot to (entry_of_slot h.deeds slot);
 }
 
 abbrev pub slot_rest : Member OrderMessage → ℕ

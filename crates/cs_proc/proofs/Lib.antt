@@ -1,2 +1,10 @@
 pub mod Approving
 pub mod Reaching
+pub mod Actions
+pub mod Bound
+pub mod Finding
+pub mod Laws
+pub mod Outcomes
+pub mod Places
+pub mod Turns
+pub mod Whole

@@ -4,9 +4,9 @@ use Rattle.std.specs.List.{list_all}
 use Rattle.cs_tx_value.specs.declared.object.Object.{Object}
 use Rattle.cs_tx_value.specs.declared.value.Value.{Value, out-Value}
 use Rattle.cs_tx_value.specs.declared.value.Value.TheOpen.{Value-F}
-use Rattle.cs_tx_form.specs.declared.trace.Trace.{Trace}
+use Rattle.cs_tx_types.specs.declared.trace.Trace.{Trace}
 use Rattle.cs_tx.specs.Token.{token_id}
-use Rattle.cs_eval_values.specs.Lending.{object_in}
+use Rattle.cs_eval_values.specs.Lending.{lent_object}
 use Rattle.cs_proc.specs.declared.call.Call.{Call}
 
 abbrev pub is_int : Value-F Value → Bool
@@ -50,4 +50,4 @@ traced call (Some coins) = Some (trace_with call coins ∷ [])
 -- it takes any number of coins, any objects to be read, and any number of ints
 abbrev pub transferred : Call → Option (List Trace)
 transferred call =
-    if list_all is_coin (map object_in call.inputs) then traced call (coins_made [] call.args) else None
+    if list_all is_coin (map lent_object call.inputs) then traced call (coins_made [] call.args) else None

@@ -1,15 +1,15 @@
 //! What is answered to a call.
 ghost use Rattle.std.specs.Prelude.{◌≡◌, IfOk};
-ghost use Rattle.cs_tx_form.specs.Transaction.{TxFits};
+ghost use Rattle.cs_tx_types.specs.Transaction.{TxFits};
 ghost use Rattle.cs_proc.specs.Calling.{ran};
-ghost use Rattle.cs_proc.specs.Answering.{first_no, Answers};
+ghost use Rattle.cs_proc.specs.Answering.{first_no, AnswersCall};
 
 use crate::call::Call;
 use crate::error::ProcError;
 use crate::running::run;
 use cs_approve::Book;
 use cs_base::Memory;
-use cs_tx_form::Tx;
+use cs_tx_types::Tx;
 use cs_tx_value::Encoded;
 use std::alloc::Global;
 
@@ -31,7 +31,7 @@ fn first_no(alloc: Global, book: &Book, tx: &Tx) -> Result<Option<usize>, Memory
 /// approved by the book; else the first cause is told why there is no such transaction.
 #[tactic(auto, using(crate::proofs::Approving::all_approved))]
 pub fn run_method(alloc: Global, book: &Book, call: &Call) -> Result<Tx, ProcError>
-    ensures { Answers book.now (ran book.now call.now) result }
+    ensures { AnswersCall book.now (ran book.now call.now) result }
 {
     let tx = Tx {
         traces: run(alloc, book, call)?,

@@ -2,11 +2,12 @@
 ghost use Rattle.std.specs.Prelude.{◌≡◌, ◌<◌, ℕ, Some};
 ghost use Rattle.cs_types_kinds.specs.Lookups.{method_number as number_of};
 ghost use Rattle.cs_proc_parts.specs.Courses.{Went};
-ghost use Rattle.cs_proc.specs.Calling.{refusal_of, ran_of, method_ran, numbered_ran, token_ran, ran};
-ghost use Rattle.cs_proc.specs.Answering.{Runs, Tells};
+ghost use Rattle.cs_proc.specs.Calling.{refusal_of, call_ran_of, method_ran, numbered_ran, token_ran, ran};
+ghost use Rattle.cs_proc.specs.Answering.{RunAnswers, TellsRun};
 
 use crate::call::Call;
 use crate::error::ProcError;
+use crate::run_procedure;
 use crate::token::transfer;
 use cs_approve::Book;
 use cs_base::Sequence;
@@ -14,9 +15,8 @@ use cs_eval::Scene;
 use cs_eval_values::{LentView, Objects, Steps};
 use cs_lang::{ContractTree, Method};
 use cs_proc_parts::{Ending, Halt, Keyed, Progress};
-use cs_proc_run::run_procedure;
 use cs_tx::id_of_token;
-use cs_tx_form::Trace;
+use cs_tx_types::Trace;
 use cs_tx_value::{Value, copy_each};
 use cs_types_kinds::method_number;
 use std::alloc::Global;
@@ -37,7 +37,7 @@ fn refusal_of(ending: Ending) -> ProcError
 
 /// The traces of a run that is through, where no object is left over.
 fn traces_of(progress: Progress<'_>) -> Result<Sequence<Trace>, ProcError>
-    ensures { (n : ℕ) → Runs (ran_of (Went progress.entry n)) result }
+    ensures { (n : ℕ) → RunAnswers (call_ran_of (Went progress.entry n)) result }
 {
     if progress.is_used_up() {
         return Ok(progress.traces);
@@ -47,7 +47,7 @@ fn traces_of(progress: Progress<'_>) -> Result<Sequence<Trace>, ProcError>
 
 /// What is told of a run: its traces, or why there are none.
 fn told(run: Result<Progress<'_>, Halt>) -> Result<Sequence<Trace>, ProcError>
-    ensures { Tells run.entry result }
+    ensures { TellsRun run.entry result }
 {
     match run {
         Ok(progress) => traces_of(progress),
@@ -68,7 +68,7 @@ fn run_counted<L: Ledger>(
     requires name { blank.name ≡ L.name }
     requires parts { blank.parts ≡ L.parts }
     requires some { 0 < L.parts }
-    ensures { Runs (method_ran contract.now call.now number (Some method.now)) result }
+    ensures { RunAnswers (method_ran contract.now call.now number (Some method.now)) result }
 {
     let view = LentView::new(
         &call.contract,
@@ -102,14 +102,14 @@ fn run_method_at(
     method: &Method,
     call: &Call,
 ) -> Result<Sequence<Trace>, ProcError>
-    ensures { Runs (method_ran contract.now call.now number (Some method.now)) result }
+    ensures { RunAnswers (method_ran contract.now call.now number (Some method.now)) result }
 {
     run_counted::<Brand>(alloc, contract, number, method, call, Blank::new(1))
 }
 
 /// Runs the method of a contract.
 fn run_in(alloc: Global, contract: &ContractTree, call: &Call) -> Result<Sequence<Trace>, ProcError>
-    ensures { Runs (numbered_ran contract.now call.now
+    ensures { RunAnswers (numbered_ran contract.now call.now
         (number_of call.now.method contract.now.methods)) result }
 {
     let methods = contract.methods.as_slice();
@@ -124,7 +124,7 @@ fn run_in(alloc: Global, contract: &ContractTree, call: &Call) -> Result<Sequenc
 
 /// Runs a method of `token`.
 fn run_token(alloc: Global, call: &Call) -> Result<Sequence<Trace>, ProcError>
-    ensures { Runs (token_ran call.now) result }
+    ensures { RunAnswers (token_ran call.now) result }
 {
     if call.method.as_slice() != b"transfer".as_slice() {
         return Err(ProcError::NoMethod);
@@ -137,7 +137,7 @@ fn run_token(alloc: Global, call: &Call) -> Result<Sequence<Trace>, ProcError>
 
 /// The traces of the method that is called and of those that it calls.
 pub fn run(alloc: Global, book: &Book, call: &Call) -> Result<Sequence<Trace>, ProcError>
-    ensures { Runs (ran book.now call.now) result }
+    ensures { RunAnswers (ran book.now call.now) result }
 {
     if call.contract == id_of_token() {
         return run_token(alloc, call);

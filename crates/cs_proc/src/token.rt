@@ -2,13 +2,13 @@
 ghost use Rattle.std.specs.Prelude.{◌≡◌, [], IfOk, map};
 ghost use Rattle.std.specs.List.{list_all};
 ghost use Rattle.cs_tx_value.specs.declared.value.Value.{out-Value};
-ghost use Rattle.cs_eval_values.specs.Lending.{object_in};
+ghost use Rattle.cs_eval_values.specs.Lending.{lent_object};
 ghost use Rattle.cs_proc.specs.Transfer.{is_int, are_amount, is_coin, coin_of, coins_made, transferred};
 
 use crate::call::Call;
 use cs_base::{Memory, Sequence};
 use cs_tx::id_of_token;
-use cs_tx_form::Trace;
+use cs_tx_types::Trace;
 use cs_tx_value::{Digest, Encoded, Name, Object, Value, copy_each};
 use std::alloc::Global;
 
@@ -39,7 +39,7 @@ fn is_coin(object: &Object) -> bool
 }
 
 fn are_coins(items: &[(Digest, Object)]) -> bool
-    ensures { result ≡ list_all is_coin (map object_in items.now) }
+    ensures { result ≡ list_all is_coin (map lent_object items.now) }
 {
     for item in items {
         if !is_coin(&item.1) {

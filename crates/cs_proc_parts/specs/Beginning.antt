@@ -7,14 +7,14 @@ use Rattle.cs_lang.specs.declared.tree.TypeDef.{TypeDef}
 use Rattle.cs_lang.specs.declared.tree.Method.{Method}
 use Rattle.cs_tx_value.specs.declared.value.Value.{Value}
 use Rattle.cs_tx_value.specs.declared.value.Value.TheVariants as value
-use Rattle.cs_tx_form.specs.Transaction.{Keyed}
+use Rattle.cs_tx_types.specs.Transaction.{Keyed}
 use Rattle.cs_types_kinds.specs.declared.kind.Base.{Base}
 use Rattle.cs_types_kinds.specs.declared.kind.Base.TheVariants as base
 use Rattle.cs_types_kinds.specs.declared.kind.Kind.{Kind}
 use Rattle.cs_types_kinds.specs.declared.kind.Kind.TheVariants as kind
-use Rattle.cs_types_kinds.specs.Kinds.{kind_of}
+use Rattle.cs_types_kinds.specs.Kinds.{spelled_kind}
 use Rattle.cs_eval_values.specs.Datums.{Plain}
-use Rattle.cs_eval_values.specs.Lending.{object_in}
+use Rattle.cs_eval_values.specs.Lending.{lent_object}
 use Rattle.cs_eval_values.specs.Namings.{Named, with_named}
 use Rattle.cs_eval_values.specs.Filling.{Filled, each_filled, fields_filled}
 use Rattle.cs_proc_parts.specs.declared.beginning.Begun.{Begun}
@@ -27,16 +27,16 @@ use Rattle.cs_proc_parts.specs.Creating.{empty_slots}
 -- ---- slots
 
 -- the names with those of slots, and how many objects these took
-abbrev pub Taken : Type 0
-Taken = List Named × ℕ
+abbrev pub TakenSlots : Type 0
+TakenSlots = List Named × ℕ
 
-abbrev pub taken_of : List Keyed → Filled → Taken
+abbrev pub taken_of : List Keyed → Filled → TakenSlots
 taken_of keyed filled = (filled.0, length keyed - length filled.1)
 
 -- slots are filled from the front, each with as many as it takes
-abbrev pub taken : List ℕ → List TypeDef → List Slot → List Keyed → List Named → Option Taken
+abbrev pub taken : List ℕ → List TypeDef → List Slot → List Keyed → List Named → Option TakenSlots
 taken contract types slots keyed names = do
-  filled ← each_filled contract types slots (names, map object_in keyed)
+  filled ← each_filled contract types slots (names, map lent_object keyed)
   Some (taken_of keyed filled)
 
 -- ---- returned fields
@@ -57,7 +57,7 @@ zero_of k = value.List []
 
 abbrev pub field_started : Field → List Named → Option (List Named)
 field_started f names = do
-  k ← kind_of f.kind
+  k ← spelled_kind f.kind
   Some (with_named names f.name.bytes k (Plain (zero_of k)))
 
 abbrev pub fields_started : List Field → List Named → Option (List Named)
@@ -88,7 +88,7 @@ left_behind p b = record { inputs = drop b.inputs p.inputs; reads = drop b.reads
 abbrev pub at_start : Method → Progress → Begun → Doing
 at_start m p b = record { names = b.names; made = empty_slots m.creates; deps = []; progress = left_behind p b }
 
-abbrev pub opened : List ℕ → List TypeDef → Method → List Value → Progress → Option Opened
-opened contract types m arguments p = do
+abbrev pub opened_method : List ℕ → List TypeDef → Method → List Value → Progress → Option Opened
+opened_method contract types m arguments p = do
   b ← begun contract types m arguments p
   Some (record { front = front_of arguments p b; doing = at_start m p b })

@@ -5,7 +5,7 @@ use Rattle.cs_base.specs.Fields.{◌>>=◌ as ◌then◌}
 use Rattle.cs_lang.specs.declared.tree.Field.{Field}
 use Rattle.cs_lang.specs.declared.tree.Method.{Method}
 use Rattle.cs_tx_value.specs.declared.value.Value.{Value}
-use Rattle.cs_tx_form.specs.declared.trace.Trace.{Trace}
+use Rattle.cs_tx_types.specs.declared.trace.Trace.{Trace}
 use Rattle.cs_eval_values.specs.declared.stop.Cause.TheVariants as cause
 use Rattle.cs_eval_values.specs.Datums.{plain_of}
 use Rattle.cs_eval_values.specs.Namings.{Named, datum_named}

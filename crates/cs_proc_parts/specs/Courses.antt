@@ -30,9 +30,9 @@ abbrev pub ◌>>=◌ : {A B : Type 0} → Course A → (A → Course B) → Cour
 (Ended why n) >>= f = Ended why n
 
 -- one after the other
-abbrev pub through : {A X : Type 0} → (A → X → Course A) → A → List X → Course A
-through step a [] = goes a
-through step a (x ∷ xs) = step a x >>= λ b. through step b xs
+abbrev pub course_through : {A X : Type 0} → (A → X → Course A) → A → List X → Course A
+course_through step a [] = goes a
+course_through step a (x ∷ xs) = step a x >>= λ b. course_through step b xs
 
 -- what there is, or an end
 abbrev pub or_ends : {X : Type 0} → Ending → Option X → Course X
@@ -46,9 +46,9 @@ evaluated (Answered b n) = Ended (ending.Trap cause.Misfit 0) n
 evaluated (Trapped why place n) = Ended (ending.Trap why place) n
 
 -- what was spent
-abbrev pub spent : {X : Type 0} → Course X → ℕ
-spent (Went x n) = n
-spent (Ended why n) = n
+abbrev pub course_spent : {X : Type 0} → Course X → ℕ
+course_spent (Went x n) = n
+course_spent (Ended why n) = n
 
 -- ---- what a call answers that is a part of a procedure
 
@@ -58,11 +58,11 @@ Halts (halt.End why) n course = course ≡ Ended why n
 Halts halt.Memory n course = Unit {0}
 
 -- so much was spent, and this is what the course comes to
-abbrev pub Comes : {X : Type 0} → Result X Halt → ℕ → Course X → Type 0
-Comes (Ok x) n course = course ≡ Went x n
-Comes (Err e) n course = Halts e n course
+abbrev pub CourseComes : {X : Type 0} → Result X Halt → ℕ → Course X → Type 0
+CourseComes (Ok x) n course = course ≡ Went x n
+CourseComes (Err e) n course = Halts e n course
 
 -- so much was spent, and this is what there is behind it
-abbrev pub Makes : {X : Type 0} → Result Unit Halt → ℕ → Course X → X → Type 0
-Makes (Ok done) n course x = course ≡ Went x n
-Makes (Err e) n course x = Halts e n course
+abbrev pub MakesCourse : {X : Type 0} → Result Unit Halt → ℕ → Course X → X → Type 0
+MakesCourse (Ok done) n course x = course ≡ Went x n
+MakesCourse (Err e) n course x = Halts e n course

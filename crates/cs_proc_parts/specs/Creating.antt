@@ -31,12 +31,12 @@ is_nil [] = true
 is_nil (x ∷ xs) = false
 
 -- a slot for one object takes one alone
-abbrev pub has_room : Created → Bool
-has_room c = c.many || is_nil c.objects
+abbrev pub slot_has_room : Created → Bool
+slot_has_room c = c.many || is_nil c.objects
 
 abbrev pub room_in : Option Created → Option Bool
 room_in None = None
-room_in (Some c) = Some (has_room c)
+room_in (Some c) = Some (slot_has_room c)
 
 -- whether the slot of this name takes one more
 abbrev pub room_for : List ℕ → List Created → Option Bool

@@ -1,9 +1,9 @@
 -- What a call answers that fills slots from the front.
 use Rattle.std.specs.Prelude.{◌≡◌, ℕ, List, Option, Some, None}
 use Rattle.cs_eval_values.specs.Namings.{Named}
-use Rattle.cs_proc_parts.specs.Beginning.{Taken}
+use Rattle.cs_proc_parts.specs.Beginning.{TakenSlots}
 
 -- so many objects are taken
-abbrev pub Takes : Option ℕ → List Named → Option Taken → Type 0
-Takes None names found = found ≡ None
-Takes (Some count) names found = found ≡ Some (names, count)
+abbrev pub TakesObjects : Option ℕ → List Named → Option TakenSlots → Type 0
+TakesObjects None names found = found ≡ None
+TakesObjects (Some count) names found = found ≡ Some (names, count)

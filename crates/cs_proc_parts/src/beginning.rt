@@ -1,8 +1,8 @@
 //! How a method begins.
 ghost use Rattle.std.specs.Prelude.{◌≡◌, IfOk};
 ghost use Rattle.cs_eval_values.specs.Filling.{Fills, field_filled, fields_filled};
-ghost use Rattle.cs_proc_parts.specs.Beginning.{zero_of, taken, field_started, fields_started, begun, opened};
-ghost use Rattle.cs_proc_parts.specs.Taking.{Takes};
+ghost use Rattle.cs_proc_parts.specs.Beginning.{zero_of, taken, field_started, fields_started, begun, opened_method};
+ghost use Rattle.cs_proc_parts.specs.Taking.{TakesObjects};
 
 use crate::keyed::Keyed;
 use crate::outputs::Outputs;
@@ -30,7 +30,7 @@ fn take<'a>(
     keyed: &Keyed<'a>,
     names: &mut Names<'a>,
 ) -> Result<Option<usize>, Memory>
-    ensures { IfOk result (λ count. Takes count names.new
+    ensures { IfOk result (λ count. TakesObjects count names.new
         (taken contract.now types.now slots.now keyed.now names.old)) }
 {
     let mut left = keyed.objects();
@@ -178,7 +178,7 @@ pub fn open<'a>(
     progress: Progress<'a>,
 ) -> Result<Option<Opened<'a>>, Memory>
     ensures { IfOk result (λ found. found
-        ≡ opened contract.now types.now method.now arguments progress.entry) }
+        ≡ opened_method contract.now types.now method.now arguments progress.entry) }
 {
     let Some(begun) = begin(
         alloc,

@@ -1,6 +1,6 @@
 //! How a method ends.
 ghost use Rattle.std.specs.Prelude.{◌≡◌, [], IfOk};
-ghost use Rattle.cs_proc_parts.specs.Courses.{Comes};
+ghost use Rattle.cs_proc_parts.specs.Courses.{CourseComes};
 ghost use Rattle.cs_proc_parts.specs.Closing.{value_named, values_returned, closed};
 
 use crate::ending::{Ending, Halt};
@@ -8,7 +8,7 @@ use crate::progress::{Doing, Front, Progress};
 use cs_base::{Memory, Sequence};
 use cs_eval_values::{Cause, Names};
 use cs_lang::{Field, Method};
-use cs_tx_form::Trace;
+use cs_tx_types::Trace;
 use cs_tx_value::{Digest, Name, Value};
 use std::alloc::Global;
 
@@ -48,7 +48,7 @@ pub fn close<'a>(
     front: Front,
     doing: Doing<'a>,
 ) -> Result<Progress<'a>, Halt>
-    ensures { Comes result 0 (closed contract.now method.now front doing.entry) }
+    ensures { CourseComes result 0 (closed contract.now method.now front doing.entry) }
 {
     if !doing.made.are_filled() {
         return Err(Halt::End(Ending::Unfilled(method.end)));

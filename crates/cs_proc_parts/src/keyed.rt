@@ -1,6 +1,6 @@
 //! Objects beside their keys.
 ghost use Rattle.std.specs.Prelude.{◌≡◌, length, map, take, drop, IfOk};
-ghost use Rattle.cs_eval_values.specs.Lending.{object_in};
+ghost use Rattle.cs_eval_values.specs.Lending.{lent_object};
 ghost use Rattle.cs_proc_parts.specs.Creating.{is_nil};
 
 use cs_base::{Memory, Sequence};
@@ -17,7 +17,7 @@ pub struct Keyed<'a> {
 
 impl<'a> Model for Keyed<'a> {
     ghost use Rattle.std.specs.Prelude.{List};
-    ghost use Rattle.cs_tx_form.specs.Transaction.{Keyed as Beside};
+    ghost use Rattle.cs_tx_types.specs.Transaction.{Keyed as Beside};
     ghost use Rattle.cs_proc_parts.specs.Coding.{keyed_code};
 
     ghost Value = { List Beside };
@@ -54,7 +54,7 @@ impl<'a> Keyed<'a> {
 
     /// The objects without their keys.
     pub fn objects(&self) -> Objects<'a>
-        ensures { result ≡ map object_in self.now }
+        ensures { result ≡ map lent_object self.now }
     {
         Objects::keyed(self.items)
     }

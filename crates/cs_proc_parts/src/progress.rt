@@ -5,7 +5,7 @@ use crate::keyed::Keyed;
 use crate::outputs::Outputs;
 use cs_base::Sequence;
 use cs_eval_values::Names;
-use cs_tx_form::Trace;
+use cs_tx_types::Trace;
 use cs_tx_value::{Digest, Object, Value};
 use std::alloc::Global;
 use std::mem;

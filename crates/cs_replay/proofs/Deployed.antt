@@ -7,9 +7,9 @@ use Rattle.std.proofs.lemmas.Bool.Decides.{nat_tests}
 use Rattle.cs_base.specs.declared.config.Config.{Config}
 use Rattle.cs_base.specs.declared.node_id.NodeId.{NodeId}
 use Rattle.cs_tx_value.specs.declared.object.Object.{Object}
-use Rattle.cs_tx_form.specs.declared.transaction.Tx.{Tx}
-use Rattle.cs_tx_form.specs.declared.session.Session.{Session}
-use Rattle.cs_tx.specs.Sessions.{session_of}
+use Rattle.cs_tx_types.specs.declared.transaction.Tx.{Tx}
+use Rattle.cs_tx_types.specs.declared.session.Session.{Session}
+use Rattle.cs_tx.specs.Sessions.{ledger_session}
 use Rattle.cs_tx.specs.Uses as Uses
 use Rattle.cs_tx.proofs.ShardsSeen.{concerns-session_of}
 use Rattle.cs_order.specs.Counts.{count_below}
@@ -17,36 +17,36 @@ use Rattle.cs_order.specs.Deeds.{Member}
 use Rattle.cs_order.specs.Runs.{FewLiars}
 use Rattle.cs_base.specs.NodeId.{is_node, is_client, same_name}
 use Rattle.cs_ledger.specs.Ledger.{Bytes}
-use Rattle.cs_sched_types.specs.declared.schedule.Schedule.{Schedule}
-use Rattle.cs_sched_types.specs.declared.schedule.Event.{Event}
-use Rattle.cs_sched_types.specs.declared.schedule.Event.TheVariants.{Say, Inject, Deliver, Tick, Drain}
+use Rattle.cs_sched.specs.declared.schedule.Schedule.{Schedule}
+use Rattle.cs_sched.specs.declared.schedule.Event.{Event}
+use Rattle.cs_sched.specs.declared.schedule.Event.TheVariants.{Say, Inject, Deliver, Tick, Drain}
 use Rattle.cs_node_state.specs.Setup as Setup
 use Rattle.cs_node_rules.specs.Net.{net_of}
 use Rattle.cs_node_rules.specs.Site.{Site, View, start_view}
 use Rattle.cs_node_state.specs.Deployed.{rules_of, setup_of}
 use Rattle.cs_node.specs.declared.nodes.Core.{Core}
-use Rattle.cs_node.specs.Cores.{StandsFor}
+use Rattle.cs_node.specs.Cores.{CoreStandsFor}
 use Rattle.cs_replay_rules.specs.PlayedWorlds as Given
 use Rattle.cs_sched.specs.Naming.{is_name, is_liar}
 use Rattle.cs_sched.specs.Playable.{IsHonest, IsSpeaker, IsPlayable, IsPlayableEvent}
-use Rattle.cs_play.specs.Kept.{Deploys}
-use Rattle.cs_play.specs.Voicing.{Voicing}
-use Rattle.cs_play.specs.Standing.{EachStands, AllStand, Rests, IsShort, IsToAnother}
+use Rattle.cs_replay_play.specs.Kept.{Deploys}
+use Rattle.cs_replay_play.specs.Voicing.{Voicing}
+use Rattle.cs_replay_play.specs.Standing.{EachStands, AllStand, Rests, IsShortEvent, IsToAnother}
 use Rattle.cs_replay.specs.Site.{net_of_schedule}
-use Rattle.cs_replay.specs.Settings.{honest_nodes, name_in, setting_of}
+use Rattle.cs_replay.specs.Settings.{honest_nodes, name_at_place, setting_of}
 use Rattle.cs_replay.proofs.Few.{count-same, count-listed}
 use Rattle.cs_replay.proofs.Honest.{Has, has-below, is-below, apart-below, ranks-within, shards-within}
 
 -- ---- the setup of a deployment
 
 module _ (config : Config) (genesis : List Object) (approves : Tx → Bool) (x : Session) where
-  below : (n : ℕ) → Setup.concerned_below (setup_of config genesis (session_of approves)) x n ≡ Uses.concerned_below config x n
+  below : (n : ℕ) → Setup.concerned_below (setup_of config genesis (ledger_session approves)) x n ≡ Uses.concerned_below config x n
   below zero = refl
   below (suc n) =
-      ap (λ zs. zs ++ (if Setup.concerns (setup_of config genesis (session_of approves)) x n then n ∷ [] else [])) (below n)
+      ap (λ zs. zs ++ (if Setup.is_concerned_shard (setup_of config genesis (ledger_session approves)) x n then n ∷ [] else [])) (below n)
       ∙ ap (λ b. Uses.concerned_below config x n ++ (if b then n ∷ [] else [])) (concerns-session_of (rules_of config genesis) config (λ name. refl) approves x n)
 
-pub deploys-setup : (config : Config) (genesis : List Object) (approves : Tx → Bool) → Deploys config (setup_of config genesis (session_of approves))
+pub deploys-setup : (config : Config) (genesis : List Object) (approves : Tx → Bool) → Deploys config (setup_of config genesis (ledger_session approves))
 deploys-setup config genesis approves = record {
   shards = refl;
   session = λ x. refl;
@@ -57,26 +57,26 @@ deploys-setup config genesis approves = record {
 -- ---- the nodes
 
 module _ {O J M : Type 0} (stands : O → Member M → Type 0) (approves : J → Tx → Bool) (site : Site M) where
-  each-push : (cores : List (Core O J M)) (core : Core O J M) (views : ℕ → View M) → EachStands stands approves site cores views → StandsFor stands approves site core (views (length cores))
+  each-push : (cores : List (Core O J M)) (core : Core O J M) (views : ℕ → View M) → EachStands stands approves site cores views → CoreStandsFor stands approves site core (views (length cores))
       → EachStands stands approves site (cores ++ core ∷ []) views
   each-push [] core views each is zero c h =
       let q : Some core ≡ Some c = h in
       let e : core ≡ c = cc in
-      subst (λ (x : Core O J M). StandsFor stands approves site x (views 0)) e is
+      subst (λ (x : Core O J M). CoreStandsFor stands approves site x (views 0)) e is
   each-push [] core views each is (suc i) c h = let q : None ≡ Some c = h in absurd (cc)
   each-push (first ∷ cores) core views each is zero c h = each zero c h
   each-push (first ∷ cores) core views each is (suc i) c h = each-push cores core (λ j. views (suc j)) (λ j. each (suc j)) is i c h
 
   -- one core more
   pub each-more : (cores cores' : List (Core O J M)) (core : Core O J M) (views : ℕ → View M) (count : ℕ) → cores' ≡ cores ++ core ∷ [] → length cores ≡ count → EachStands stands approves site cores views
-      → StandsFor stands approves site core (views count) → EachStands stands approves site cores' views
+      → CoreStandsFor stands approves site core (views count) → EachStands stands approves site cores' views
   each-more cores cores' core views count is at each stood =
       subst (λ (cs : List (Core O J M)). EachStands stands approves site cs views) (sym is)
-      (each-push cores core views each (subst (λ n. StandsFor stands approves site core (views n)) (sym at) stood))
+      (each-push cores core views each (subst (λ n. CoreStandsFor stands approves site core (views n)) (sym at) stood))
 
 -- before the first input
 pub all-begin : {O J M : Type 0} (stands : O → Member M → Type 0) (approves : J → Tx → Bool) (site : Site M) (cores : List (Core O J M)) (schedule : Schedule) → length cores ≡ length (honest_nodes schedule)
-    → EachStands stands approves site cores (λ i. start_view site (name_in (honest_nodes schedule) i)) → AllStand stands approves site (name_in (honest_nodes schedule)) cores []
+    → EachStands stands approves site cores (λ i. start_view site (name_at_place (honest_nodes schedule) i)) → AllStand stands approves site (name_at_place (honest_nodes schedule)) cores []
 all-begin stands approves site cores schedule count each =
     let members = 3 * schedule.config.f + 1 in
     let some : 0 < members = omega arith in
@@ -152,8 +152,8 @@ module _ (schedule : Schedule) (playable : IsPlayable schedule) where
   honest-shard name has = shards-within members config.shards name (is-below members schedule.liars some nodes name has).ranked
 
   -- the name at a place is an honest node
-  pub node-at : (i : ℕ) → i < length (honest_nodes schedule) → is_node config (name_in (honest_nodes schedule) i) ≡ true
-  node-at i within = (is-honest-node (name_in (honest_nodes schedule) i) (i, within, refl)).node
+  pub node-at : (i : ℕ) → i < length (honest_nodes schedule) → is_node config (name_at_place (honest_nodes schedule) i) ≡ true
+  node-at i within = (is-honest-node (name_at_place (honest_nodes schedule) i) (i, within, refl)).node
 
   -- who is honest
   honest : (name : NodeId) → is_node config name ≡ true → is_liar schedule.liars name ≡ false → (net_of_schedule schedule).is_honest name ≡ true
@@ -239,19 +239,19 @@ module _ (schedule : Schedule) (playable : IsPlayable schedule) where
     pub rests : (config' : Config) (voicing : Voicing) → config' ≡ config → voicing.config ≡ config → voicing.master ≡ schedule.master → Rests (setting_of approves traced schedule before) config'.shards voicing
     rests config' voicing same voiced master = record {
       honest = λ name. (λ is. let found = honest-name name is in has-place name found.node found.honest, λ has. honest-place name has);
-      shards = λ i within. subst (λ n. (name_in (honest_nodes schedule) i).shard < n) (sym (ap (λ (c : Config). c.shards) same)) (honest-shard (name_in (honest_nodes schedule) i) (i, within, refl));
+      shards = λ i within. subst (λ n. (name_at_place (honest_nodes schedule) i).shard < n) (sym (ap (λ (c : Config). c.shards) same)) (honest-shard (name_at_place (honest_nodes schedule) i) (i, within, refl));
       liars = schedule.liars;
       speaks = ap (λ (c : Config). net_of c schedule.master schedule.liars) (sym voiced) ∙ ap (λ (m : Bytes). net_of voicing.config m schedule.liars) (sym master);
     }
 
-  short : (event : Event) → IsPlayableEvent config schedule.liars event → IsShort event
+  short : (event : Event) → IsPlayableEvent config schedule.liars event → IsShortEvent event
   short (Say from to kind body) is = is.short
   short (Inject to bytes) is = tt
   short (Deliver number) is = tt
   short (Tick node) is = tt
   short (Drain times) is = tt
 
-  pub are-short : All (λ numbered. IsShort numbered.1) schedule.events
+  pub are-short : All (λ numbered. IsShortEvent numbered.1) schedule.events
   are-short = λ k d within. short (get_or schedule.events k d).1 (playable.events k d within)
 
   -- what the event gives is made of bytes, and is for an honest node

@@ -4,14 +4,14 @@ use Rattle.std.specs.List.{All}
 use Rattle.cs_base.specs.Fields.{IsBytes}
 use Rattle.cs_base.specs.NodeId.{is_node}
 use Rattle.cs_base.specs.declared.node_id.NodeId.{NodeId}
-use Rattle.cs_tx_form.specs.declared.transaction.Tx.{Tx}
-use Rattle.cs_sched_types.specs.declared.schedule.Schedule.{Schedule}
-use Rattle.cs_sched_types.specs.declared.schedule.Event.{Event}
-use Rattle.cs_sched_types.specs.declared.schedule.Event.TheVariants.{Say, Tick, Drain}
+use Rattle.cs_tx_types.specs.declared.transaction.Tx.{Tx}
+use Rattle.cs_sched.specs.declared.schedule.Schedule.{Schedule}
+use Rattle.cs_sched.specs.declared.schedule.Event.{Event}
+use Rattle.cs_sched.specs.declared.schedule.Event.TheVariants.{Say, Tick, Drain}
 use Rattle.cs_tx_value.specs.Object.{ObjectFits}
 use Rattle.cs_tx.specs.Token.{is_token_approved}
 use Rattle.cs_sched.specs.Naming.{liars_of}
-use Rattle.cs_sched.specs.Playable.{IsHonest, IsSaid, IsPlayableEvent, IsContractText, IsPlayable}
+use Rattle.cs_sched.specs.Playable.{IsHonest, IsPlayableSay, IsPlayableEvent, IsContractText, IsPlayable}
 use Rattle.cs_replay.specs.Sound.{IsSound}
 
 abbrev node : ℕ → NodeId
@@ -62,7 +62,7 @@ MayStand numbered = IsPlayableEvent lying_member.config lying_member.liars numbe
 honest : IsHonest lying_member.config lying_member.liars (node 0)
 honest = record { node = refl; honest = refl }
 
-said : IsSaid lying_member.config lying_member.liars (node 3) (node 0) 8 zeros
+said : IsPlayableSay lying_member.config lying_member.liars (node 3) (node 0) 8 zeros
 said = record { speaker = record { named = refl; speaks = refl }; listener = honest; kind = omega arith; short = omega arith; in_bytes = zero_bytes }
 
 -- it can be played

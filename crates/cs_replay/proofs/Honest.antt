@@ -10,8 +10,8 @@ use Rattle.std.proofs.lemmas.List.Quantifiers.{all_pairs_push}
 use Rattle.std.proofs.lemmas.Nat.{div-add-mod', div-mul-add, mod-mul-add}
 use Rattle.cs_base.specs.declared.node_id.NodeId.{NodeId}
 use Rattle.cs_sched.specs.Naming.{is_liar}
-use Rattle.cs_play.specs.Standing.{HasNode}
-use Rattle.cs_replay.specs.Settings.{numbered_node, honest_below, name_in}
+use Rattle.cs_replay_play.specs.Standing.{HasNode}
+use Rattle.cs_replay.specs.Settings.{numbered_node, honest_below, name_at_place}
 
 -- the number of a node, of shards of so many members each
 abbrev pub rank : ℕ → NodeId → ℕ
@@ -27,7 +27,7 @@ zero_name = record { shard = 0; index = 0 }
 
 -- a list has a name
 abbrev pub Has : List NodeId → NodeId → Type 0
-Has names name = HasNode (name_in names) (length names) name
+Has names name = HasNode (name_at_place names) (length names) name
 
 has-left : (xs ys : List NodeId) (name : NodeId) → Has xs name → Has (xs ++ ys) name
 has-left xs ys name has = (has.0, omega (arith, length-append xs ys, has.1), get_or_append_left xs ys zero_name has.0 has.1 ∙ has.2)
@@ -94,9 +94,9 @@ module _ (members : ℕ) (liars : List NodeId) (some : 0 < members) where
           (λ k d within. omega (arith, rank-numbered members n, (all-below n k d within).ranked))
 
   -- so no name stands twice
-  pub apart-below : (n i j : ℕ) → i < length (honest_below members liars n) → j < length (honest_below members liars n) → name_in (honest_below members liars n) i ≡ name_in (honest_below members liars n) j → i ≡ j
+  pub apart-below : (n i j : ℕ) → i < length (honest_below members liars n) → j < length (honest_below members liars n) → name_at_place (honest_below members liars n) i ≡ name_at_place (honest_below members liars n) j → i ≡ j
   apart-below n i j first second same =
-      let ranks : rank members (name_in (honest_below members liars n) i) ≡ rank members (name_in (honest_below members liars n) j) = ap (rank members) same in
+      let ranks : rank members (name_at_place (honest_below members liars n) i) ≡ rank members (name_at_place (honest_below members liars n) j) = ap (rank members) same in
       elim (cases_lt i j) [
         | inl less ↦ absurd (omega (arith, rising n i j zero_name less second))
         | inr more ↦ elim (cases_lt j i) [

@@ -5,3 +5,4 @@ pub mod Example
 pub mod Few
 pub mod Honest
 pub mod Whole
+mod Joined

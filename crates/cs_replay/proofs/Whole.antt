@@ -3,29 +3,29 @@ use Rattle.std.proofs.Common.{◌≡◌, ℕ, Bool, ◌++◌, List, [], length, 
 use Rattle.std.specs.Io.KnownBytes.{Appends}
 use Rattle.std.proofs.KnownBytes.{Appends-trans}
 use Rattle.cs_base.specs.Answers.{Answers, AppendsFront}
-use Rattle.cs_sched_types.specs.declared.schedule.Event.{Event}
-use Rattle.cs_sched_types.specs.declared.schedule.Schedule.{Schedule}
-use Rattle.cs_dump.specs.Settled.{IsSetupOf}
-use Rattle.cs_play.proofs.Printed.{same-count}
+use Rattle.cs_sched.specs.declared.schedule.Event.{Event}
+use Rattle.cs_sched.specs.declared.schedule.Schedule.{Schedule}
+use Rattle.cs_replay.specs.Settled.{IsSetupOf}
+use Rattle.cs_replay_play.proofs.Printed.{same-count}
 use Rattle.cs_node_rules.specs.Site.{Site}
 use Rattle.cs_node_rules.specs.World.{history}
 use Rattle.cs_replay_rules.specs.Lines.{history_text, limit_line, forged_line}
-use Rattle.cs_replay_rules.specs.Play.{Played, Course, Goes, Stops, Forges, played_by, size_of, closed, unplayed, play_all, lines}
+use Rattle.cs_replay_rules.specs.Play.{Played, Course, Goes, Stops, Forges, played_by, size_of, closing_text, unplayed, play_all, lines}
 use Rattle.cs_replay.specs.declared.outcome.Summary.{Summary}
 use Rattle.cs_replay.specs.declared.outcome.ReplayError.{ReplayError}
 use Rattle.cs_replay.specs.declared.outcome.ReplayError.TheVariants.{Forged, Limit, WriteFault, Memory}
 use Rattle.cs_replay.specs.Answers.{course_status, dump_behind, replay_status, EndsAs}
-use Rattle.cs_replay.specs.Closing.{summary_of, sums_of, EndsWith, IsLast, IsCutShort, whole, Closes}
-use Rattle.cs_tx_form.specs.declared.transaction.Tx.{Tx}
+use Rattle.cs_replay.specs.Closing.{summary_of, sums_of, EndsWith, IsLast, IsCutShort, whole_text, Closes}
+use Rattle.cs_tx_types.specs.declared.transaction.Tx.{Tx}
 use Rattle.cs_order.specs.Deeds.{Member, Machine}
 use Rattle.cs_node_rules.specs.Site.{Carrier}
-use Rattle.cs_play.specs.declared.play.Replay.{Replay}
-use Rattle.cs_play.specs.declared.halt.Halt.{Halt}
-use Rattle.cs_play.specs.declared.halt.Halt.TheVariants as halt
-use Rattle.cs_play.specs.Standing.{Setting, site_in, Stands}
-use Rattle.cs_play.specs.Ends.{Ends}
+use Rattle.cs_replay_play.specs.declared.play.Replay.{Replay}
+use Rattle.cs_replay_play.specs.declared.halt.Halt.{Halt}
+use Rattle.cs_replay_play.specs.declared.halt.Halt.TheVariants as halt
+use Rattle.cs_replay_play.specs.Standing.{Setting, site_in, Stands}
+use Rattle.cs_replay_play.specs.Ends.{ReplayEnds}
 
-pub lines-are : {M : Type 0} (site : Site M) (traced : Bool) (events : List (ℕ × Event)) → lines site traced events ≡ closed site (play_all site traced events unplayed)
+pub lines-are : {M : Type 0} (site : Site M) (traced : Bool) (events : List (ℕ × Event)) → lines site traced events ≡ closing_text site (play_all site traced events unplayed)
 unfolding lines
 lines-are site traced events = refl
 
@@ -37,7 +37,7 @@ two-more text front rest first second is =
     ∙ append_assoc front (rest ++ first) second
 
 -- the lines of the events alone are a front
-pub front-of-lines : {M : Type 0} (site : Site M) (dumps : Bool) (contracts : List (List ℕ)) (course : Course M) (a b : Option (List ℕ)) → AppendsFront a b (played_by course).text → AppendsFront a b (whole site dumps contracts course)
+pub front-of-lines : {M : Type 0} (site : Site M) (dumps : Bool) (contracts : List (List ℕ)) (course : Course M) (a b : Option (List ℕ)) → AppendsFront a b (played_by course).text → AppendsFront a b (whole_text site dumps contracts course)
 front-of-lines site dumps contracts (Goes p) a b (front, rest, is, written) =
     let told = history_text (history site p.world) in
     let behind = dump_behind dumps site contracts (Goes p) in
@@ -50,7 +50,7 @@ front-of-lines site dumps contracts (Forges p line) a b (front, rest, is, writte
 -- ---- behind the lines of the events
 
 -- a replay that was cut short has written a front
-cut : {M : Type 0} (before b : Option (List ℕ)) (site : Site M) (dumps : Bool) (contracts : List (List ℕ)) (course : Course M) (error : ReplayError) → IsCutShort error → AppendsFront before b (whole site dumps contracts course) → Closes before b site dumps contracts course (Err error)
+cut : {M : Type 0} (before b : Option (List ℕ)) (site : Site M) (dumps : Bool) (contracts : List (List ℕ)) (course : Course M) (error : ReplayError) → IsCutShort error → AppendsFront before b (whole_text site dumps contracts course) → Closes before b site dumps contracts course (Err error)
 cut before b site dumps contracts course (Forged line) never front = absurd never
 cut before b site dumps contracts course (Limit line) never front = absurd never
 cut before b site dumps contracts course WriteFault short front = front
@@ -61,7 +61,7 @@ module _ {O J M : Type 0} (stands : O → Member M → Type 0) (approves : J →
   here = site_in rules carrier s
 
   abbrev all_lines : List ℕ
-  all_lines = whole here dumps schedule.contracts course
+  all_lines = whole_text here dumps schedule.contracts course
 
   -- what is kept has the numbers of what was played
   sums-are : (q : Played M) → Stands stands approves rules carrier s r q → sums_of r ≡ summary_of here q
@@ -82,16 +82,16 @@ module _ {O J M : Type 0} (stands : O → Member M → Type 0) (approves : J →
   -- the last lines, by how the events ended, are those of their course
   whole-done : (q : Played M) (text : List ℕ) → course ≡ Goes q → Stands stands approves rules carrier s r q → EndsWith stands approves rules carrier r schedule dumps text → all_lines ≡ q.text ++ text
   whole-done q text goes st ends =
-      ap (whole here dumps schedule.contracts) goes
+      ap (whole_text here dumps schedule.contracts) goes
       ∙ append_assoc q.text (history_text (history here q.world)) (dump_behind dumps here schedule.contracts (Goes q))
       ∙ ap (λ t. q.text ++ t) (sym (ends s q st setup))
 
-  whole-refused : (q : Played M) (refused : Course M) (text line : List ℕ) → whole here dumps schedule.contracts refused ≡ (q.text ++ line) ++ [] → course ≡ refused → text ≡ line → all_lines ≡ q.text ++ text
+  whole-refused : (q : Played M) (refused : Course M) (text line : List ℕ) → whole_text here dumps schedule.contracts refused ≡ (q.text ++ line) ++ [] → course ≡ refused → text ≡ line → all_lines ≡ q.text ++ text
   whole-refused q refused text line lines_are course_is is =
-      ap (whole here dumps schedule.contracts) course_is ∙ lines_are ∙ append-nil (q.text ++ line) ∙ ap (λ t. q.text ++ t) (sym is)
+      ap (whole_text here dumps schedule.contracts) course_is ∙ lines_are ∙ append-nil (q.text ++ line) ∙ ap (λ t. q.text ++ t) (sym is)
 
   pub closes-last : (b : Option (List ℕ)) (played : Result (Unit {0}) Halt) (text : List ℕ) (answer : Result Summary ReplayError)
-      → Ends stands approves rules carrier s course r a played → IsLast stands approves rules carrier r schedule dumps played text answer → Appends a b text → Closes s.before b here dumps schedule.contracts course answer
+      → ReplayEnds stands approves rules carrier s course r a played → IsLast stands approves rules carrier r schedule dumps played text answer → Appends a b text → Closes s.before b here dumps schedule.contracts course answer
   closes-last b (Ok done) text answer (q, goes, end) (ends, answered) all =
       subst (λ (x : Result Summary ReplayError). Closes s.before b here dumps schedule.contracts course x) (sym answered)
       (q, goes, sums-are q end.holds, behind b q text (whole-done q text goes end.holds ends) end.printed all)
@@ -106,7 +106,7 @@ module _ {O J M : Type 0} (stands : O → Member M → Type 0) (approves : J →
 
   -- or a front of them was written
   front-last : (b : Option (List ℕ)) (played : Result (Unit {0}) Halt) (text : List ℕ) (answer : Result Summary ReplayError)
-      → Ends stands approves rules carrier s course r a played → IsLast stands approves rules carrier r schedule dumps played text answer → AppendsFront a b text → AppendsFront s.before b all_lines
+      → ReplayEnds stands approves rules carrier s course r a played → IsLast stands approves rules carrier r schedule dumps played text answer → AppendsFront a b text → AppendsFront s.before b all_lines
   front-last b (Ok done) text answer (q, goes, end) (ends, answered) front = behind-front b q text (whole-done q text goes end.holds ends) end.printed front
   front-last b (Err (halt.Limit line)) text answer (q, stops, printed) (is, answered) front =
       behind-front b q text (whole-refused q (Stops q line) text (limit_line line) refl stops is) printed front
@@ -116,7 +116,7 @@ module _ {O J M : Type 0} (stands : O → Member M → Type 0) (approves : J →
   front-last b (Err halt.Memory) text answer ends never front = absurd never
 
   pub closes-cut : (b : Option (List ℕ)) (played : Result (Unit {0}) Halt) (text : List ℕ) (answer : Result Summary ReplayError) (error : ReplayError)
-      → Ends stands approves rules carrier s course r a played → IsLast stands approves rules carrier r schedule dumps played text answer → IsCutShort error → AppendsFront a b text
+      → ReplayEnds stands approves rules carrier s course r a played → IsLast stands approves rules carrier r schedule dumps played text answer → IsCutShort error → AppendsFront a b text
       → Closes s.before b here dumps schedule.contracts course (Err error)
   closes-cut b played text answer error ends last short front = cut s.before b here dumps schedule.contracts course error short (front-last b played text answer ends last front)
 
@@ -124,14 +124,14 @@ module _ {O J M : Type 0} (stands : O → Member M → Type 0) (approves : J →
   lines-so-far p is written = (p.text, [], ap (λ (q : Played M). q.text) is ∙ sym (append-nil p.text), written)
 
   -- without them those of the events are a front
-  events-front : (played : Result (Unit {0}) Halt) → Ends stands approves rules carrier s course r a played → AppendsFront s.before a (played_by course).text
+  events-front : (played : Result (Unit {0}) Halt) → ReplayEnds stands approves rules carrier s course r a played → AppendsFront s.before a (played_by course).text
   events-front (Ok done) (q, goes, end) = lines-so-far q (ap played_by goes) end.printed
   events-front (Err (halt.Limit line)) (q, stops, printed) = lines-so-far q (ap played_by stops) printed
   events-front (Err (halt.Forged line)) (q, stops, printed) = lines-so-far q (ap played_by stops) printed
   events-front (Err halt.Failed) part = part
   events-front (Err halt.Memory) part = part
 
-  pub closes-early : (played : Result (Unit {0}) Halt) (error : ReplayError) → Ends stands approves rules carrier s course r a played → IsCutShort error → Closes s.before a here dumps schedule.contracts course (Err error)
+  pub closes-early : (played : Result (Unit {0}) Halt) (error : ReplayError) → ReplayEnds stands approves rules carrier s course r a played → IsCutShort error → Closes s.before a here dumps schedule.contracts course (Err error)
   closes-early played error ends short = cut s.before a here dumps schedule.contracts course error short (front-of-lines here dumps schedule.contracts course s.before a (events-front played ends))
 
 -- ---- what closes a schedule
@@ -150,12 +150,12 @@ module _ {M : Type 0} (before b : Option (List ℕ)) (site : Site M) (dumps : Bo
   closes-number number (Err error) closes = tt
 
   -- the whole text was written, with the status of the course
-  whole-answer : (printed : List ℕ) (status : ℕ) → printed ≡ whole site dumps contracts course → status ≡ course_status course → Appends before b (whole site dumps contracts course) → Answers (record { status = course_status course; printed = printed }) before b status
+  whole-answer : (printed : List ℕ) (status : ℕ) → printed ≡ whole_text site dumps contracts course → status ≡ course_status course → Appends before b (whole_text site dumps contracts course) → Answers (record { status = course_status course; printed = printed }) before b status
   whole-answer printed status is same all =
       let written = subst (λ (t : List ℕ). Appends before b t) (sym is) all in
       record { verdict = λ x y. (same, written); cut_short = λ ended. (printed, [], sym (append-nil printed), written) }
 
-  pub closes-answers : (printed : List ℕ) (r : Result Summary ReplayError) → printed ≡ whole site dumps contracts course → Closes before b site dumps contracts course r → Answers (record { status = course_status course; printed = printed }) before b (replay_status r)
+  pub closes-answers : (printed : List ℕ) (r : Result Summary ReplayError) → printed ≡ whole_text site dumps contracts course → Closes before b site dumps contracts course r → Answers (record { status = course_status course; printed = printed }) before b (replay_status r)
   closes-answers printed (Ok summary) is (p, goes, sums, all) = whole-answer printed 0 is (sym (ap course_status goes)) all
   closes-answers printed (Err (Limit line)) is (p, stops, all) = whole-answer printed 13 is (sym (ap course_status stops)) all
   closes-answers printed (Err (Forged line)) is (p, stops, all) = whole-answer printed 4 is (sym (ap course_status stops)) all

@@ -1,12 +1,12 @@
 -- What a replay answers and prints.
 use Rattle.std.specs.Prelude.{◌≡◌, ℕ, Bool, if◌then◌else◌, List, [], ◌++◌, Option, Result, Ok, Err}
 use Rattle.cs_base.specs.Answers.{Answer}
-use Rattle.cs_command.specs.Answers.{Gives, GivesWhole}
+use Rattle.cs_io.specs.Answers.{SourceGives, GivesWhole}
 use Rattle.cs_sched.specs.Text.{schedule_of}
 use Rattle.cs_text.specs.Refusals.{refusal_status, refusal_text}
 use Rattle.cs_text.specs.declared.cause.Refusal.{Refusal}
-use Rattle.cs_sched_types.specs.declared.schedule.Schedule.{Schedule}
-use Rattle.cs_tx_form.specs.declared.transaction.Tx.{Tx}
+use Rattle.cs_sched.specs.declared.schedule.Schedule.{Schedule}
+use Rattle.cs_tx_types.specs.declared.transaction.Tx.{Tx}
 use Rattle.cs_approve.specs.Approval.{is_approved_by}
 use Rattle.cs_ledger.specs.Ledger.{Bytes}
 use Rattle.cs_replay_rules.specs.Dumps.{dump_text}
@@ -85,7 +85,7 @@ replay_answer limit mode text = answer_to mode (schedule_of limit text)
 -- the source has failed, or its text is answered so
 abbrev pub Replays : ℕ → Mode → Option (List ℕ) → Option (List ℕ) → Option (List ℕ) → Option (List ℕ)
     → Type 0 → ℕ → Type 0
-Replays limit mode = Gives limit (replay_answer limit mode)
+Replays limit mode = SourceGives limit (replay_answer limit mode)
 
 -- where no fault came about, the answer to the text is given and all of it printed, unless memory ran out
 abbrev pub Completes : ℕ → Mode → Option (List ℕ) → Option (List ℕ) → Option (List ℕ) → ℕ → Type 0

@@ -2,21 +2,21 @@
 use Rattle.std.specs.Prelude.{◌≡◌, Bool, List, ◌++◌, length, Option, Result, Ok, Err}
 use Rattle.std.specs.Io.KnownBytes.{Appends}
 use Rattle.cs_base.specs.Answers.{AppendsFront}
-use Rattle.cs_tx_form.specs.declared.transaction.Tx.{Tx}
+use Rattle.cs_tx_types.specs.declared.transaction.Tx.{Tx}
 use Rattle.cs_ledger.specs.Ledger.{Bytes}
 use Rattle.cs_order.specs.Deeds.{Member, Machine}
-use Rattle.cs_sched_types.specs.declared.schedule.Schedule.{Schedule}
+use Rattle.cs_sched.specs.declared.schedule.Schedule.{Schedule}
 use Rattle.cs_replay_rules.specs.Aborts.{aborted}
 use Rattle.cs_node_rules.specs.Site.{Carrier, Site}
 use Rattle.cs_node_rules.specs.World.{Happening, history}
 use Rattle.cs_replay_rules.specs.Lines.{history_text, limit_line, forged_line}
-use Rattle.cs_replay_rules.specs.Play.{Played, Course, Goes, Stops, Forges, size_of, closed}
-use Rattle.cs_play.specs.declared.halt.Halt.{Halt}
-use Rattle.cs_play.specs.declared.halt.Halt.TheVariants as halt
-use Rattle.cs_play.specs.declared.play.Replay.{Replay}
-use Rattle.cs_play.specs.Standing.{site_in}
-use Rattle.cs_play.specs.Ends.{WhereStands}
-use Rattle.cs_dump.specs.Settled.{IsSetupOf}
+use Rattle.cs_replay_rules.specs.Play.{Played, Course, Goes, Stops, Forges, size_of, closing_text}
+use Rattle.cs_replay_play.specs.declared.halt.Halt.{Halt}
+use Rattle.cs_replay_play.specs.declared.halt.Halt.TheVariants as halt
+use Rattle.cs_replay_play.specs.declared.play.Replay.{Replay}
+use Rattle.cs_replay_play.specs.Standing.{site_in}
+use Rattle.cs_replay_play.specs.Ends.{WhereStands}
+use Rattle.cs_replay.specs.Settled.{IsSetupOf}
 use Rattle.cs_replay.specs.Answers.{dump_if, dump_behind}
 use Rattle.cs_replay.specs.declared.outcome.Summary.{Summary}
 use Rattle.cs_replay.specs.declared.outcome.ReplayError.{ReplayError}
@@ -73,20 +73,20 @@ IsCutShort WriteFault = Unit {0}
 IsCutShort Memory = Unit {0}
 
 -- all lines of a course, and the dump behind them
-abbrev pub whole : {M : Type 0} → Site M → Bool → List Bytes → Course M → Bytes
-whole {M} site dumps contracts course = closed site course ++ dump_behind dumps site contracts course
+abbrev pub whole_text : {M : Type 0} → Site M → Bool → List Bytes → Course M → Bytes
+whole_text {M} site dumps contracts course = closing_text site course ++ dump_behind dumps site contracts course
 
 -- they were all written, and how it ended is answered; or a front of them was
 abbrev pub Closes : {M : Type 0} → Option Bytes → Option Bytes → Site M → Bool → List Bytes → Course M
     → Result Summary ReplayError → Type 0
 Closes {M} before written site dumps contracts course (Ok summary) =
     (p : Played M) × (course ≡ Goes p) × (summary ≡ summary_of site p)
-    × Appends before written (whole site dumps contracts course)
+    × Appends before written (whole_text site dumps contracts course)
 Closes {M} before written site dumps contracts course (Err (Limit line)) =
-    (p : Played M) × (course ≡ Stops p line) × Appends before written (whole site dumps contracts course)
+    (p : Played M) × (course ≡ Stops p line) × Appends before written (whole_text site dumps contracts course)
 Closes {M} before written site dumps contracts course (Err (Forged line)) =
-    (p : Played M) × (course ≡ Forges p line) × Appends before written (whole site dumps contracts course)
+    (p : Played M) × (course ≡ Forges p line) × Appends before written (whole_text site dumps contracts course)
 Closes {M} before written site dumps contracts course (Err WriteFault) =
-    AppendsFront before written (whole site dumps contracts course)
+    AppendsFront before written (whole_text site dumps contracts course)
 Closes {M} before written site dumps contracts course (Err Memory) =
-    AppendsFront before written (whole site dumps contracts course)
+    AppendsFront before written (whole_text site dumps contracts course)

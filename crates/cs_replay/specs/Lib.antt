@@ -4,3 +4,5 @@ pub mod Played
 pub mod Answers
 pub mod Closing
 pub mod Sound
+pub mod Lines
+pub mod Settled

@@ -1,9 +1,9 @@
 -- What is played of a schedule: all its events, or those before the one that was refused.
 use Rattle.std.specs.Prelude.{Bool, List}
-use Rattle.cs_tx_form.specs.declared.transaction.Tx.{Tx}
+use Rattle.cs_tx_types.specs.declared.transaction.Tx.{Tx}
 use Rattle.cs_ledger.specs.Ledger.{Bytes, Transaction}
 use Rattle.cs_order_rules.specs.declared.message.OrderMessage.{OrderMessage}
-use Rattle.cs_sched_types.specs.declared.schedule.Schedule.{Schedule}
+use Rattle.cs_sched.specs.declared.schedule.Schedule.{Schedule}
 use Rattle.cs_replay_rules.specs.Aborts.{aborted}
 use Rattle.cs_node_rules.specs.Lines.{Parcel}
 use Rattle.cs_replay_rules.specs.Play.{Course, unplayed, played_by, play_all}

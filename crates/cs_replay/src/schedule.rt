@@ -6,27 +6,27 @@ ghost use Rattle.cs_base.specs.Outside.{HasCause};
 ghost use Rattle.cs_tx_value.specs.Object.{ObjectFits};
 ghost use Rattle.cs_order_rules.specs.SlotMachine.{slot_machine};
 ghost use Rattle.cs_replay_rules.specs.Play.{unplayed, play_all, size_of};
-ghost use Rattle.cs_node_carried.specs.SlotCarried.{slot_carrier};
+ghost use Rattle.cs_node_wire.specs.SlotCarried.{slot_carrier};
 ghost use Rattle.cs_sched.specs.Playable.{IsPlayable};
-ghost use Rattle.cs_play.specs.Standing.{Setting, site_in, Stands, AllShort, AllToOthers};
-ghost use Rattle.cs_dump.specs.Settled.{IsSetupOf};
+ghost use Rattle.cs_replay_play.specs.Standing.{Setting, site_in, Stands, AllShort, AllToOthers};
+ghost use Rattle.cs_replay.specs.Settled.{IsSetupOf};
 ghost use Rattle.cs_replay.specs.Settings.{setting_of};
 ghost use Rattle.cs_replay.specs.Played.{course_of, world_of, history_of, aborted_of, sent_of};
-ghost use Rattle.cs_play.specs.Ends.{WhereStands};
+ghost use Rattle.cs_replay_play.specs.Ends.{WhereStands};
 ghost use Rattle.cs_replay.specs.Answers.{dump_if, schedule_answer, replay_status, EndsAs};
 ghost use Rattle.cs_replay.specs.Closing.{sums_of, EndsWith, IsLast, IsCutShort, Closes};
 
+use crate::dump_text;
 use crate::outcome::{ReplayError, Summary};
 use crate::starting::start_nodes;
 use cs_base::{Memory, Sink, WriteError, print};
-use cs_dump::dump_text;
 use cs_log::SlotOrder;
 use cs_node::Carried;
 use cs_order::Order;
-use cs_play::{
+use cs_replay_play::{
     Halt, History, Post, Replay, Voices, forged_line, history_text, limit_line, start_logs,
 };
-use cs_sched_types::Schedule;
+use cs_sched::Schedule;
 use cs_tx::Judge;
 use std::alloc::Global;
 

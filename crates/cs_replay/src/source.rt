@@ -10,7 +10,7 @@ ghost use Rattle.cs_replay.specs.Answers.{Replays, Completes, replay_answer, ref
 use crate::schedule::{Mode, replay};
 use cs_approve::{Book, BookError};
 use cs_base::{MOST_SCHEDULE, ReadError, Sink, Source, print, read_text};
-use cs_command::closing;
+use cs_io::closing;
 use cs_sched::{Schedule, parse};
 use cs_text::{Refusal, TextError, refusal_line};
 use std::alloc::Global;

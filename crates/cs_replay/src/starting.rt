@@ -3,20 +3,19 @@ ghost use Rattle.std.specs.Prelude.{◌≡◌, [], length, true, IfOk};
 ghost use Rattle.cs_base.specs.NodeId.{is_node};
 ghost use Rattle.cs_node_rules.specs.Site.{start_view};
 ghost use Rattle.cs_sched.specs.Playable.{IsPlayable};
-ghost use Rattle.cs_genesis.specs.Genesis.{keyed_from};
-ghost use Rattle.cs_node.specs.Cores.{StandsFor};
-ghost use Rattle.cs_play.specs.Standing.{AllStand};
+ghost use Rattle.cs_sbac.specs.Genesis.{keyed_from};
+ghost use Rattle.cs_node.specs.Cores.{CoreStandsFor};
+ghost use Rattle.cs_replay_play.specs.Standing.{AllStand};
 ghost use Rattle.cs_replay.specs.Site.{site_of_schedule};
-ghost use Rattle.cs_replay.specs.Settings.{honest_nodes, name_in};
+ghost use Rattle.cs_replay.specs.Settings.{honest_nodes, name_at_place};
 
 use cs_base::{Key, Memory, NodeId};
-use cs_genesis::keyed;
 use cs_log::SlotOrder;
 use cs_node::{Core, keys_of_a_master_speak};
+use cs_node_run::start;
 use cs_order::Order;
-use cs_sched::is_liar;
-use cs_sched_types::Schedule;
-use cs_start::start;
+use cs_sbac::keyed;
+use cs_sched::{Schedule, is_liar};
 use cs_tx::{Judge, Object};
 use cs_wire::Keys;
 use std::alloc::Global;
@@ -31,7 +30,7 @@ pub fn start_nodes<J: Judge + Copy + Drop>(
     ensures nodes { IfOk result (λ cores.
         AllStand ⟦<SlotOrder as Order>⟧.stands J.is_approved
         (site_of_schedule (J.is_approved judge) schedule.now)
-        (name_in (honest_nodes schedule.now)) cores.items []) }
+        (name_at_place (honest_nodes schedule.now)) cores.items []) }
     ensures count { IfOk result (λ cores.
         length cores.items ≡ length (honest_nodes schedule.now)) }
 {
@@ -75,7 +74,7 @@ fn start_node<J: Judge + Copy + Drop>(
     requires genesis { genesis.now ≡ keyed_from 0 schedule.now.genesis }
     requires node { is_node schedule.now.config name ≡ true }
     ensures { IfOk result (λ core.
-        StandsFor ⟦<SlotOrder as Order>⟧.stands J.is_approved
+        CoreStandsFor ⟦<SlotOrder as Order>⟧.stands J.is_approved
         (site_of_schedule (J.is_approved judge) schedule.now) core
         (start_view (site_of_schedule (J.is_approved judge) schedule.now) name)) }
 {

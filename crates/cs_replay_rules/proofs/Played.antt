@@ -9,14 +9,14 @@ use Rattle.cs_base.specs.declared.node_id.NodeId.{NodeId}
 use Rattle.cs_base.specs.declared.node_id.TheConstants.{CLIENT_SHARD, CLIENTS}
 use Rattle.cs_base.specs.NodeId.{is_client, is_node, is_named, same_name}
 use Rattle.cs_tx_value.specs.declared.object.Object.{Object}
-use Rattle.cs_tx_form.specs.declared.session.Session.{Session}
+use Rattle.cs_tx_types.specs.declared.session.Session.{Session}
 use Rattle.cs_wire_message.specs.declared.message.Message.{Message}
 use Rattle.cs_wire_message.specs.laws.Kinds.{kind_small}
 use Rattle.cs_wire_message.specs.Message.{kind_of, body_of}
 use Rattle.cs_order.specs.Deeds.{Machine}
 use Rattle.cs_order.specs.Law.{Holds}
-use Rattle.cs_sched_types.specs.declared.schedule.Event.{Event}
-use Rattle.cs_sched_types.specs.declared.schedule.Event.TheVariants as event
+use Rattle.cs_sched.specs.declared.schedule.Event.{Event}
+use Rattle.cs_sched.specs.declared.schedule.Event.TheVariants as event
 use Rattle.cs_wire.specs.Keys.{key_between}
 use Rattle.cs_wire.specs.Opens.{IsName}
 use Rattle.cs_wire.specs.Opened.{Opened, keys_of_master}
@@ -28,7 +28,7 @@ use Rattle.cs_node_rules.specs.Site.{Input, Datagram, Tick, Mark, In, Ordered, P
 use Rattle.cs_node_rules.specs.Trail.{event_marks}
 use Rattle.cs_node_rules.specs.World.{Happening, trail_of, view_of, happens, IsLife, sent_in, was_sent, is_backed, is_genuine, is_genuine_input}
 use Rattle.cs_node_rules.specs.Lines.{Parcel, parcels_of}
-use Rattle.cs_node_rules.specs.Net.{Net, net_of, sealed}
+use Rattle.cs_node_rules.specs.Net.{Net, net_of, sealed_by_net}
 use Rattle.cs_replay_rules.specs.Play.{Played, unplayed, Course, Goes, Stops, Forges, then_plays, played_by, size_of, most_events, most_sent, plays, within, occurs, injects, arrived, with_arrived, delivers, first_left, drains, drained, play, play_all}
 use Rattle.cs_node_rules.specs.Carrying.{Carries}
 use Rattle.cs_node_law.specs.Made.{view_at, AllMade, IsLevel}
@@ -167,7 +167,7 @@ module _ {M : Type 0} (machine : Machine M) (holds : Holds machine) (carrier : C
 
   -- ---- what the marks of a node send
 
-  sealed-fair : (me to : NodeId) (said : Message) (t : List (Mark M)) → net.is_honest me ≡ true → AllBytes t → AllMade At me (Plain (Sent to said) ∷ t) → IsFair net (record { from = me; to = to; bytes = sealed net me to said; arrived = false })
+  sealed-fair : (me to : NodeId) (said : Message) (t : List (Mark M)) → net.is_honest me ≡ true → AllBytes t → AllMade At me (Plain (Sent to said) ∷ t) → IsFair net (record { from = me; to = to; bytes = sealed_by_net net me to said; arrived = false })
   sealed-fair me to said t honest bytes made =
       let spoken = λ (h : net.is_honest to ≡ true). spoken-bytes said (sent-fits machine carrier config master liars genesis session_of carries holds me t bytes to (no-client to h) said made) in
       record {
@@ -189,7 +189,7 @@ module _ {M : Type 0} (machine : Machine M) (holds : Holds machine) (carrier : C
   sent-fair me (Plain (Sent to said) ∷ a) t honest bytes made p i =
       fair-append net (parcels_of net me (signs_of a)) _ (sent-fair me a t honest bytes made.1) last p i
     where
-      last : AreFair net (record { from = me; to = to; bytes = sealed net me to said; arrived = false } ∷ [])
+      last : AreFair net (record { from = me; to = to; bytes = sealed_by_net net me to said; arrived = false } ∷ [])
       last p (inl is) = subst (IsFair net) (sym is) (sealed-fair me to said (a ++ t) honest bytes made)
       last p (inr none) = absurd none
 

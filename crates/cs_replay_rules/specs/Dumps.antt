@@ -6,7 +6,7 @@ use Rattle.std.specs.Fmt.{decimal}
 use Rattle.cs_base.specs.declared.node_id.NodeId.{NodeId}
 use Rattle.cs_base.specs.NodeId.{members_below}
 use Rattle.cs_base.specs.Codes.{bytes_text}
-use Rattle.cs_checkpoint.specs.Chain.{Log, empty_log, head_of, checkpoint_of}
+use Rattle.cs_check_rules.specs.Chain.{Log, empty_log, head_of, checkpoint_of}
 use Rattle.cs_ledger.specs.Ledger.{Bytes, Item}
 use Rattle.cs_node_rules.specs.Site.{Site}
 use Rattle.cs_node_rules.specs.World.{Happening, view_of, history}
@@ -14,8 +14,8 @@ use Rattle.cs_replay_rules.specs.Lines.{history_text}
 
 -- ---- the log of one node
 
-abbrev pub leaf_line : Bytes → Bytes
-leaf_line leaf = codes "leaf " ++ (bytes_text leaf ++ codes "\n")
+abbrev pub dumped_leaf : Bytes → Bytes
+dumped_leaf leaf = codes "leaf " ++ (bytes_text leaf ++ codes "\n")
 
 abbrev pub dumped_head : Bytes → Bytes
 dumped_head head = codes "head " ++ (bytes_text head ++ codes "\n")
@@ -28,7 +28,7 @@ heads_below log (suc n) = heads_below log n ++ head_of (checkpoint_of log n) ∷
 abbrev pub log_text : ℕ → Log → Bytes
 log_text shard log =
     codes "log " ++ (decimal shard ++ (codes " " ++ (decimal (length log.leaves) ++ (codes "\n"
-    ++ (flat_map leaf_line log.leaves ++ flat_map dumped_head (heads_below log (length log.table_roots)))))))
+    ++ (flat_map dumped_leaf log.leaves ++ flat_map dumped_head (heads_below log (length log.table_roots)))))))
 
 -- ---- the log of a shard: the longest of its honest nodes', of equally long ones that of the least index
 
@@ -56,16 +56,16 @@ logs_text {M} site world (suc n) = logs_text site world n ++ log_text n (shard_l
 abbrev pub number_line : Bytes → ℕ → Bytes
 number_line word n = word ++ (decimal n ++ codes "\n")
 
-abbrev pub genesis_line : Item → Bytes
-genesis_line item = codes "genesis " ++ (bytes_text item.object ++ codes "\n")
+abbrev pub dumped_genesis : Item → Bytes
+dumped_genesis item = codes "genesis " ++ (bytes_text item.object ++ codes "\n")
 
-abbrev pub contract_line : Bytes → Bytes
-contract_line contract = codes "contract " ++ (bytes_text contract ++ codes "\n")
+abbrev pub dumped_contract : Bytes → Bytes
+dumped_contract contract = codes "contract " ++ (bytes_text contract ++ codes "\n")
 
 abbrev pub dump_text : {M : Type 0} → Site M → List Bytes → List (Happening M) → Bytes
 dump_text {M} site contracts world =
     codes "dump\n" ++ (number_line (codes "shards ") site.setup.shards
     ++ (number_line (codes "faulty ") site.setup.f
     ++ (number_line (codes "dummies ") site.setup.rules.dummies
-    ++ (flat_map contract_line contracts ++ (flat_map genesis_line site.setup.rules.genesis
+    ++ (flat_map dumped_contract contracts ++ (flat_map dumped_genesis site.setup.rules.genesis
     ++ (logs_text site world site.setup.shards ++ (history_text (history site world) ++ codes "end\n")))))))

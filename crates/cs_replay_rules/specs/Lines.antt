@@ -14,15 +14,15 @@ abbrev pub kind_or_none : Option ℕ → ℕ
 kind_or_none (Some kind) = kind
 kind_or_none None = 0
 
-abbrev pub kind_in : Bytes → ℕ
-kind_in bytes = kind_or_none (slice_get bytes 4)
+abbrev pub datagram_kind : Bytes → ℕ
+datagram_kind bytes = kind_or_none (slice_get bytes 4)
 
 -- the datagram of this number, whole
 abbrev pub sent_line : ℕ → Parcel → Bytes
 sent_line number parcel =
     codes "sent " ++ (decimal number
     ++ (codes " " ++ (node_text parcel.from ++ (codes " " ++ (node_text parcel.to ++ (codes " "
-    ++ (decimal (kind_in parcel.bytes) ++ (codes " " ++ (bytes_text parcel.bytes ++ codes "\n")))))))))
+    ++ (decimal (datagram_kind parcel.bytes) ++ (codes " " ++ (bytes_text parcel.bytes ++ codes "\n")))))))))
 
 -- the first of which has this number
 abbrev pub sent_lines : ℕ → List Parcel → Bytes

@@ -3,8 +3,8 @@ use Rattle.std.specs.Prelude.{ℕ, zero, suc, ◌+◌, nat_le, nat_lt, Bool, tru
 use Rattle.cs_base.specs.declared.limits.TheConstants.{MOST_EVENTS, MOST_SENT}
 use Rattle.cs_base.specs.declared.node_id.NodeId.{NodeId}
 use Rattle.cs_ledger.specs.Ledger.{Bytes}
-use Rattle.cs_sched_types.specs.declared.schedule.Event.{Event}
-use Rattle.cs_sched_types.specs.declared.schedule.Event.TheVariants.{Say, Inject, Deliver, Tick, Drain}
+use Rattle.cs_sched.specs.declared.schedule.Event.{Event}
+use Rattle.cs_sched.specs.declared.schedule.Event.TheVariants.{Say, Inject, Deliver, Tick, Drain}
 use Rattle.cs_node_rules.specs.Signs.{Sign}
 use Rattle.cs_node_rules.specs.Site as Given
 use Rattle.cs_node_rules.specs.Site.{Input, Datagram, Mark, Site, signs_of}
@@ -56,8 +56,8 @@ signs_of_last {M} [] = []
 signs_of_last {M} (h ∷ past) = signs_of h.marks
 
 -- a node has done something: what it sent, and the lines
-abbrev pub told_of : {M : Type 0} → Site M → Bool → ℕ → NodeId → List Sign → List (Happening M) → Played M → Played M
-told_of {M} site traced line i signs world p =
+abbrev pub played_at_node : {M : Type 0} → Site M → Bool → ℕ → NodeId → List Sign → List (Happening M) → Played M → Played M
+played_at_node {M} site traced line i signs world p =
     let sent = parcels_of site.net i signs in
     record {
       world = world;
@@ -68,7 +68,7 @@ told_of {M} site traced line i signs world p =
 -- an input at a node
 abbrev pub plays : {M : Type 0} → Site M → Bool → ℕ → NodeId → Input → Played M → Played M
 plays {M} site traced line i input p =
-    let world = happens site i input p.world in told_of site traced line i (signs_of_last world) world p
+    let world = happens site i input p.world in played_at_node site traced line i (signs_of_last world) world p
 
 abbrev pub within : {M : Type 0} → ℕ → Played M → Played M → Course M
 within {M} line p next = if nat_le (size_of next.parcels) most_sent then Goes next else Stops p line
@@ -139,11 +139,11 @@ play_all {M} site traced [] p = Goes p
 play_all {M} site traced (e ∷ events) p = then_plays (play site traced e.0 e.1 p) (play_all site traced events)
 
 -- the history, or the line of the event that was refused
-abbrev pub closed : {M : Type 0} → Site M → Course M → Bytes
-closed {M} site (Goes p) = p.text ++ history_text (history site p.world)
-closed {M} site (Stops p line) = p.text ++ limit_line line
-closed {M} site (Forges p line) = p.text ++ forged_line line
+abbrev pub closing_text : {M : Type 0} → Site M → Course M → Bytes
+closing_text {M} site (Goes p) = p.text ++ history_text (history site p.world)
+closing_text {M} site (Stops p line) = p.text ++ limit_line line
+closing_text {M} site (Forges p line) = p.text ++ forged_line line
 
 -- the whole text that a schedule's events give
 unfoldable pub lines : {M : Type 0} → Site M → Bool → List (ℕ × Event) → Bytes
-lines {M} site traced events = closed site (play_all site traced events unplayed)
+lines {M} site traced events = closing_text site (play_all site traced events unplayed)

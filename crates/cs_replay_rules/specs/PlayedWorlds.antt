@@ -7,12 +7,12 @@ use Rattle.cs_base.specs.declared.limits.TheConstants.{MOST_BODY}
 use Rattle.cs_base.specs.declared.node_id.NodeId.{NodeId}
 use Rattle.cs_base.specs.NodeId.{is_named}
 use Rattle.cs_tx_value.specs.declared.object.Object.{Object}
-use Rattle.cs_tx_form.specs.declared.session.Session.{Session}
+use Rattle.cs_tx_types.specs.declared.session.Session.{Session}
 use Rattle.cs_ledger.specs.Ledger.{Bytes}
 use Rattle.cs_ledger.specs.Session as Seen
 use Rattle.cs_order.specs.Deeds.{Machine}
-use Rattle.cs_sched_types.specs.declared.schedule.Event.{Event}
-use Rattle.cs_sched_types.specs.declared.schedule.Event.TheVariants as event
+use Rattle.cs_sched.specs.declared.schedule.Event.{Event}
+use Rattle.cs_sched.specs.declared.schedule.Event.TheVariants as event
 use Rattle.cs_node_rules.specs.Net.{Net, net_of}
 use Rattle.cs_replay_rules.specs.Play.{unplayed, played_by, play_all}
 use Rattle.cs_node_rules.specs.Site.{Carrier, Site}

@@ -8,22 +8,22 @@ use Rattle.cs_tx_value.specs.declared.object.Object.{Object}
 use Rattle.cs_tx_value.specs.Object.{object_encoding, ObjectFits, object_at}
 use Rattle.cs_tx_value.specs.Key.{KeyFits}
 use Rattle.cs_tx_value.specs.laws.Object.{object_form}
-use Rattle.cs_tx_form.specs.declared.state.State.{State}
-use Rattle.cs_tx_form.specs.declared.state.State.TheVariants as state
-use Rattle.cs_tx_form.specs.declared.record.Record.{Record}
+use Rattle.cs_tx_types.specs.declared.state.State.{State}
+use Rattle.cs_tx_types.specs.declared.state.State.TheVariants as state
+use Rattle.cs_tx_types.specs.declared.record.Record.{Record}
 use Rattle.cs_tx.specs.Sessions.{key_seen}
 use Rattle.cs_ledger.specs.Session as ledger
 use Rattle.cs_ledger.specs.Table as Shard
 use Rattle.cs_table.specs.Seen.{Stored, seen, seen_state, seen_row, row_in, HoldsFit}
 use Rattle.cs_table.specs.Dummies.{IsLeastDummy, Least, NoneActive}
-use Rattle.cs_node_state.specs.Asked.{object_or_dummy, object_in, state_told, told_at, least_from, least_dummy}
+use Rattle.cs_node_state.specs.Asked.{object_or_dummy, object_of_bytes, state_told, told_at, least_from, least_dummy}
 use Rattle.cs_ledger.specs.Table.{has_active_dummy}
 
 key-same : (k : Key) → key_seen k ≡ key_seen k
 key-same (key.Object digest) = refl
 key-same (key.Dummy shard serial) = refl
 
-object-again : (o : Object) → ObjectFits o → object_in (object_encoding o) ≡ o
+object-again : (o : Object) → ObjectFits o → object_of_bytes (object_encoding o) ≡ o
 object-again o fits = ap object_or_dummy (whole-again object_encoding ObjectFits object_at object_form o fits)
 
 told-again : (s : State) → HoldsFit s → state_told (seen_state s) ≡ s

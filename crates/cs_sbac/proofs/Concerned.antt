@@ -10,11 +10,11 @@ use Rattle.cs_base.specs.declared.config.Config.{Config}
 use Rattle.cs_base.specs.declared.node_id.NodeId.{NodeId}
 use Rattle.cs_base.specs.NodeId.{is_node}
 use Rattle.cs_tx_value.specs.declared.object.Object.{Object}
-use Rattle.cs_tx_form.specs.declared.transaction.Tx.{Tx}
-use Rattle.cs_tx_form.specs.declared.session.Session.{Session}
+use Rattle.cs_tx_types.specs.declared.transaction.Tx.{Tx}
+use Rattle.cs_tx_types.specs.declared.session.Session.{Session}
 use Rattle.cs_tx.specs.Uses as Uses
 use Rattle.cs_node_state.specs.Setup as Setup
-use Rattle.cs_node_pool.specs.Deployed.{deployed}
+use Rattle.cs_node_pool.specs.Deployed.{deployed_setup}
 use Rattle.cs_node_pool.proofs.Concerned.{concerns-session}
 
 any-append : (p : ℕ → Bool) (xs ys : List ℕ) → list_any p (xs ++ ys) ≡ (list_any p xs || list_any p ys)
@@ -35,7 +35,7 @@ in_range config id h = let low : nat_lt id.shard config.shards ≡ true = first 
 
 module _ (config : Config) (genesis : List Object) (approves : Tx → Bool) (x : Session) where
   abbrev setup : Setup.Setup
-  setup = deployed config genesis approves
+  setup = deployed_setup config genesis approves
 
   module _ (shard : ℕ) where
     abbrev is_it : ℕ → Bool
@@ -43,28 +43,28 @@ module _ (config : Config) (genesis : List Object) (approves : Tx → Bool) (x :
 
     -- whether the shard is the last of those below
     abbrev last : ℕ → List ℕ
-    last n = if Setup.concerns setup x n then n ∷ [] else []
+    last n = if Setup.is_concerned_shard setup x n then n ∷ [] else []
 
-    same-last : (n : ℕ) → n ≡ shard → ((nat_lt shard n && Setup.concerns setup x shard) || list_any is_it (last n)) ≡ (nat_lt shard (suc n) && Setup.concerns setup x shard)
+    same-last : (n : ℕ) → n ≡ shard → ((nat_lt shard n && Setup.is_concerned_shard setup x shard) || list_any is_it (last n)) ≡ (nat_lt shard (suc n) && Setup.is_concerned_shard setup x shard)
     same-last n e =
         let low : nat_lt shard n ≡ false = grind arith in
         let high : nat_lt shard (suc n) ≡ true = grind arith in
         let hit : nat_eq n shard ≡ true = grind arith in
-        ap (λ b. (b && Setup.concerns setup x shard) || list_any is_it (last n)) low
-        ∙ chosen (Setup.concerns setup x n) hit
-        ∙ ap (Setup.concerns setup x) e
-        ∙ ap (λ b. b && Setup.concerns setup x shard) (sym high)
+        ap (λ b. (b && Setup.is_concerned_shard setup x shard) || list_any is_it (last n)) low
+        ∙ chosen (Setup.is_concerned_shard setup x n) hit
+        ∙ ap (Setup.is_concerned_shard setup x) e
+        ∙ ap (λ b. b && Setup.is_concerned_shard setup x shard) (sym high)
       where
         chosen : (c : Bool) → nat_eq n shard ≡ true → list_any is_it (if c then n ∷ [] else []) ≡ c
         chosen true hit = ap (λ b. b || false) hit
         chosen false hit = refl
 
-    other-last : (n : ℕ) → nat_eq n shard ≡ false → ((nat_lt shard n && Setup.concerns setup x shard) || list_any is_it (last n)) ≡ (nat_lt shard (suc n) && Setup.concerns setup x shard)
+    other-last : (n : ℕ) → nat_eq n shard ≡ false → ((nat_lt shard n && Setup.is_concerned_shard setup x shard) || list_any is_it (last n)) ≡ (nat_lt shard (suc n) && Setup.is_concerned_shard setup x shard)
     other-last n miss =
         let same : nat_lt shard n ≡ nat_lt shard (suc n) = grind (arith, miss) in
-        ap (λ b. (nat_lt shard n && Setup.concerns setup x shard) || b) (none (Setup.concerns setup x n) miss)
-        ∙ no-more (nat_lt shard n && Setup.concerns setup x shard)
-        ∙ ap (λ b. b && Setup.concerns setup x shard) same
+        ap (λ b. (nat_lt shard n && Setup.is_concerned_shard setup x shard) || b) (none (Setup.is_concerned_shard setup x n) miss)
+        ∙ no-more (nat_lt shard n && Setup.is_concerned_shard setup x shard)
+        ∙ ap (λ b. b && Setup.is_concerned_shard setup x shard) same
       where
         none : (c : Bool) → nat_eq n shard ≡ false → list_any is_it (if c then n ∷ [] else []) ≡ false
         none true miss = ap (λ b. b || false) miss
@@ -74,14 +74,14 @@ module _ (config : Config) (genesis : List Object) (approves : Tx → Bool) (x :
         no-more true = refl
         no-more false = refl
 
-    contains-below : (n : ℕ) → list_any is_it (Setup.concerned_below setup x n) ≡ (nat_lt shard n && Setup.concerns setup x shard)
-    contains-below zero = let none : nat_lt shard 0 ≡ false = grind arith in ap (λ b. b && Setup.concerns setup x shard) (sym none)
+    contains-below : (n : ℕ) → list_any is_it (Setup.concerned_below setup x n) ≡ (nat_lt shard n && Setup.is_concerned_shard setup x shard)
+    contains-below zero = let none : nat_lt shard 0 ≡ false = grind arith in ap (λ b. b && Setup.is_concerned_shard setup x shard) (sym none)
     contains-below (suc n) =
         any-append is_it (Setup.concerned_below setup x n) (last n)
         ∙ ap (λ b. b || list_any is_it (last n)) (contains-below n)
         ∙ by (nat_eq n shard) refl
       where
-        by : (b : Bool) → nat_eq n shard ≡ b → ((nat_lt shard n && Setup.concerns setup x shard) || list_any is_it (last n)) ≡ (nat_lt shard (suc n) && Setup.concerns setup x shard)
+        by : (b : Bool) → nat_eq n shard ≡ b → ((nat_lt shard n && Setup.is_concerned_shard setup x shard) || list_any is_it (last n)) ≡ (nat_lt shard (suc n) && Setup.is_concerned_shard setup x shard)
         by true h = let e : n ≡ shard = grind arith in same-last n e
         by false h = other-last n h
 
@@ -94,18 +94,18 @@ module _ (config : Config) (genesis : List Object) (approves : Tx → Bool) (x :
         let other : (shard_of_key config.shards (key.Object name) == shard) ≡ false = grind arith in
         ap (λ b. b || Uses.is_among config shard names) other ∙ none-above names high
 
-    above : config.shards ≤ shard → Setup.concerns setup x shard ≡ false
+    above : config.shards ≤ shard → Setup.is_concerned_shard setup x shard ≡ false
     above high = concerns-session config genesis approves x shard ∙ none-above (Uses.names_of x.tx) high
 
     -- whether it is one of those of the session, whatever shard it is
-    pub contains-any : list_any is_it (Setup.concerned setup x) ≡ Setup.concerns setup x shard
+    pub contains-any : list_any is_it (Setup.concerned setup x) ≡ Setup.is_concerned_shard setup x shard
     contains-any = contains-below config.shards ∙ by_range (nat_lt shard config.shards) refl
       where
-        by_range : (low : Bool) → nat_lt shard config.shards ≡ low → (low && Setup.concerns setup x shard) ≡ Setup.concerns setup x shard
+        by_range : (low : Bool) → nat_lt shard config.shards ≡ low → (low && Setup.is_concerned_shard setup x shard) ≡ Setup.is_concerned_shard setup x shard
         by_range true is = refl
         by_range false is = sym (above (grind arith))
 
-    pub contains-concerned : shard < config.shards → list_any is_it (Setup.concerned setup x) ≡ Setup.concerns setup x shard
+    pub contains-concerned : shard < config.shards → list_any is_it (Setup.concerned setup x) ≡ Setup.is_concerned_shard setup x shard
     contains-concerned low =
         let in_range : nat_lt shard config.shards ≡ true = grind arith in
-        contains-below config.shards ∙ ap (λ b. b && Setup.concerns setup x shard) in_range
+        contains-below config.shards ∙ ap (λ b. b && Setup.is_concerned_shard setup x shard) in_range

@@ -1,45 +1,45 @@
 -- What the table and the pool became is what the execution of the entry gives.
 use Rattle.std.proofs.Common.{◌≡◌, ℕ, Bool, true, false, ◌&&◌, List, Option, Some, None, IsSome, is_some, option_map, refl, ap, sym, subst, ◌∙◌}
 use Rattle.std.specs.Prelude.{if◌then◌else◌}
-use Rattle.cs_tx_form.specs.Session.{session_in}
+use Rattle.cs_tx_types.specs.Session.{session_in}
 use Rattle.cs_base.specs.declared.config.Config.{Config}
 use Rattle.cs_base.specs.declared.key.Key as ours
 use Rattle.cs_base.specs.declared.node_id.NodeId.{NodeId}
 use Rattle.cs_tx_value.specs.declared.object.Object.{Object}
-use Rattle.cs_tx_form.specs.declared.transaction.Tx.{Tx}
-use Rattle.cs_tx_form.specs.declared.session.Session.{Session}
-use Rattle.cs_tx_form.specs.declared.vote.Vote.{Vote}
-use Rattle.cs_tx_form.specs.declared.vote.Vote.TheVariants.{Commit, Abort}
-use Rattle.cs_tx_form.specs.declared.entry.Entry.{Entry}
-use Rattle.cs_tx_form.specs.declared.entry.Entry.TheVariants.{Prepare, Decide}
+use Rattle.cs_tx_types.specs.declared.transaction.Tx.{Tx}
+use Rattle.cs_tx_types.specs.declared.session.Session.{Session}
+use Rattle.cs_tx_types.specs.declared.vote.Vote.{Vote}
+use Rattle.cs_tx_types.specs.declared.vote.Vote.TheVariants.{Commit, Abort}
+use Rattle.cs_tx_types.specs.declared.entry.Entry.{Entry}
+use Rattle.cs_tx_types.specs.declared.entry.Entry.TheVariants.{Prepare, Decide}
 use Rattle.cs_tx.specs.Uses.{anchor_of}
-use Rattle.cs_tx.specs.Sessions.{session_of, key_seen}
+use Rattle.cs_tx.specs.Sessions.{ledger_session, key_seen}
 use Rattle.cs_tx.proofs.AnchorSeen.{anchor-session_of}
 use Rattle.cs_ledger.specs.Ledger.{Bytes}
 use Rattle.cs_ledger.specs.Session as Seen
 use Rattle.cs_ledger.specs.Table as Shard
-use Rattle.cs_tx_form.specs.declared.effect.Effect.{Effect}
-use Rattle.cs_tx_form.specs.declared.effect.Effect.TheVariants.{Voted, Accepted, Aborted, Skipped, Void}
+use Rattle.cs_tx_types.specs.declared.effect.Effect.{Effect}
+use Rattle.cs_tx_types.specs.declared.effect.Effect.TheVariants.{Voted, Accepted, Aborted, Skipped, Void}
 use Rattle.cs_table.specs.Seen.{Stored, seen, vote_of}
 use Rattle.cs_table.specs.Pieces.{rules_in}
-use Rattle.cs_table.specs.Changes.{Becomes, Marks}
+use Rattle.cs_table.specs.Changes.{Becomes, MarksTouched}
 use Rattle.cs_table.specs.Effects.{ComesTo, effect_of}
 use Rattle.cs_table.specs.declared.standing.Standing.TheVariants.{Accepted as Accepted', Aborted as Aborted', Open as Open'}
 use Rattle.cs_ledger.specs.Standing.{stands_accepted, stands_aborted}
-use Rattle.cs_table.specs.Calls.{anchor_in, prepared, decided, standing_at, recorded_at, locked_at as holds_at}
+use Rattle.cs_table.specs.Calls.{anchor_in, prepare_outcome, decide_outcome, standing_at, recorded_at, locked_at as holds_at}
 use Rattle.cs_node_state.specs.Setup as Setup
 use Rattle.cs_node_state.specs.Pool.{Pool}
-use Rattle.cs_node_state.specs.Bench.{told_by, own_pool, pool_after, is_locked, locked_at, decided_at, decided as standing, vote_read, noted_at, noted as on_record}
+use Rattle.cs_node_state.specs.Bench.{told_by, own_pool, pool_after, is_locked, is_locked_at, decided_at, decision_on as standing, vote_read, noted_at, noted as on_record}
 use Rattle.cs_node_state.specs.Deployed.{genesis_from}
 use Rattle.cs_sbac.specs.declared.answers.Outcome.{Outcome}
-use Rattle.cs_checkpoint.specs.Chain.{Log}
+use Rattle.cs_check_rules.specs.Chain.{Log}
 use Rattle.cs_check_rules.specs.Keys.{AreKnown, keys_after}
 use Rattle.cs_check_rules.proofs.Same.{one_list}
 use Rattle.cs_check_rules.proofs.Known.{exec_known}
 use Rattle.cs_check.specs.Root.{keys_in}
-use Rattle.cs_archive.specs.Archives.{Archived}
+use Rattle.cs_check.specs.Archives.{Archived}
 use Rattle.cs_sbac.specs.Held.{Held, IsOfNode}
-use Rattle.cs_node_pool.specs.Deployed.{deployed}
+use Rattle.cs_node_pool.specs.Deployed.{deployed_setup}
 use Rattle.cs_sbac.specs.Calls.{placed, left, accepted_by, Runs, RunsEntry, Executes}
 use Rattle.cs_sbac.proofs.RulesAlike.{acts, anchors}
 
@@ -54,15 +54,15 @@ same-vote Abort = refl
 -- ---- after a vote
 
 pub voted-run : (me : NodeId) (x : Session) (y : Seen.Session) (told tnew : Stored) (pold pnew : Pool) (vote : Vote) (locked : Bool)
-    → ComesTo (prepared told y) told tnew (Shard.Voted (vote_of vote)) → locked ≡ holds_at (seen tnew) y.digest (anchor_in tnew y)
+    → ComesTo (prepare_outcome told y) told tnew (Shard.Voted (vote_of vote)) → locked ≡ holds_at (seen tnew) y.digest (anchor_in tnew y)
     → pnew ≡ own_pool me y.digest (Some (vote, locked)) (placed locked y.digest x pold)
-    → Runs me x y.digest (prepared told y) (anchor_in told y) told tnew pold pnew (record { effect = Voted vote; voted = Some (vote, locked) })
+    → Runs me x y.digest (prepare_outcome told y) (anchor_in told y) told tnew pold pnew (record { effect = Voted vote; voted = Some (vote, locked) })
 voted-run me x y told tnew pold pnew vote locked comes holds pool =
-    let o : Shard.Outcome = prepared told y in
+    let o : Shard.Outcome = prepare_outcome told y in
     let e : Shard.Voted (vote_of vote) ≡ o.effect = comes.effect_is in
-    let l : locked ≡ locked_at o.table y.digest (anchor_in told y) =
+    let l : locked ≡ is_locked_at o.table y.digest (anchor_in told y) =
     holds ∙ (λ i. holds_at (comes.table_is.shows i) y.digest (Seen.anchor (rules_in (comes.table_is.shards i)) y (comes.table_is.shard i))) in
-    let t : Some (vote, locked) ≡ told_by o.effect (locked_at o.table y.digest (anchor_in told y)) =
+    let t : Some (vote, locked) ≡ told_by o.effect (is_locked_at o.table y.digest (anchor_in told y)) =
     ap (λ v. Some (v, locked)) (sym (vote-back vote)) ∙ (λ i. told_by (e i) (l i)) in
     record {
       effect_is = e;
@@ -88,10 +88,10 @@ never-votes rules shard t y Shard.Abort (Some key) v e =
 
 module _ (me : NodeId) (x : Session) (y : Seen.Session) (told tnew : Stored) (pold pnew : Pool) (vote : Vote) where
   abbrev o : Shard.Outcome
-  o = decided told y (vote_of vote)
+  o = decide_outcome told y (vote_of vote)
 
   abbrev l : Bool
-  l = locked_at o.table y.digest (anchor_in told y)
+  l = is_locked_at o.table y.digest (anchor_in told y)
 
   abbrev Ran : Effect → Type 0
   Ran effect = Runs me x y.digest o (anchor_in told y) told tnew pold pnew (record { effect = effect; voted = None })
@@ -111,14 +111,14 @@ module _ (me : NodeId) (x : Session) (y : Seen.Session) (told tnew : Stored) (po
   by Void e pool table = quiet Void Shard.Void refl e refl pool table
   by (Voted v) e pool table = absurd (never-votes (rules_in told.shards) told.shard (seen told) y (vote_of vote) (anchor_in told y) (vote_of v) e)
 
-  pub decided-run : (effect : Effect) → ComesTo (decided told y (vote_of vote)) told tnew (effect_of effect) → pnew ≡ left effect y.digest pold
-      → Runs me x y.digest (decided told y (vote_of vote)) (anchor_in told y) told tnew pold pnew (record { effect = effect; voted = None })
+  pub decided-run : (effect : Effect) → ComesTo (decide_outcome told y (vote_of vote)) told tnew (effect_of effect) → pnew ≡ left effect y.digest pold
+      → Runs me x y.digest (decide_outcome told y (vote_of vote)) (anchor_in told y) told tnew pold pnew (record { effect = effect; voted = None })
   decided-run effect comes pool = by effect comes.effect_is pool comes.table_is
 
 -- ---- the table stays that of the shard
 
 pub marked : (approves : Tx → Bool) (me : NodeId) (entry : Entry) (told tnew : Stored) (pold pnew : Pool) (answer : Outcome)
-    → RunsEntry approves me entry told tnew pold pnew answer → Marks told tnew
+    → RunsEntry approves me entry told tnew pold pnew answer → MarksTouched told tnew
 marked approves me (Prepare x) told tnew pold pnew answer r = r.table_is.marks
 marked approves me (Decide vote x) told tnew pold pnew answer r = r.table_is.marks
 
@@ -136,16 +136,16 @@ some-still None = refl
 some-still (Some k) = refl
 
 module _ (config : Config) (me : NodeId) (told : Stored) (of : IsOfNode config me told) where
-  pub anchored : (approves : Tx → Bool) (x : Session) → is_some (anchor_of config x me.shard) ≡ true → IsSome (anchor_in told (session_of approves x))
+  pub anchored : (approves : Tx → Bool) (x : Session) → is_some (anchor_of config x me.shard) ≡ true → IsSome (anchor_in told (ledger_session approves x))
   anchored approves x has =
-      let y : Seen.Session = session_of approves x in
+      let y : Seen.Session = ledger_session approves x in
       let e : anchor_in told y ≡ option_map key_seen (anchor_of config x me.shard) =
       (λ i. Seen.anchor (rules_in (of.shards i)) y (of.shard i)) ∙ anchor-session_of (rules_in config.shards) config (λ name. refl) approves x me.shard in
       ap (λ (o : Option Seen.Key). is_some o) e ∙ some-still (anchor_of config x me.shard) ∙ has
 
   module _ (genesis : List Object) (approves : Tx → Bool) where
     abbrev setup : Setup.Setup
-    setup = deployed config genesis approves
+    setup = deployed_setup config genesis approves
 
     same-anchor : (y : Seen.Session) → anchor_in told y ≡ Seen.anchor setup.rules y me.shard
     same-anchor y = (λ i. Seen.anchor (rules_in (of.shards i)) y (of.shard i)) ∙ anchors (rules_in config.shards) (genesis_from 0 genesis) config.dummies me.shard y
@@ -158,11 +158,11 @@ module _ (config : Config) (me : NodeId) (told : Stored) (of : IsOfNode config m
         ∙ ap (λ b. if b then Shard.act setup.rules me.shard (seen told) e (Seen.anchor setup.rules (Shard.session_of e) me.shard) else record { table = seen told; effect = Shard.Void }) (sym fit)
 
     moved : (x : Session) (o p : Shard.Outcome) (tnew : Stored) (pold pnew : Pool) (answer : Outcome) → o ≡ p
-        → Runs me x (session_of approves x).digest o (anchor_in told (session_of approves x)) told tnew pold pnew answer
-        → Runs me x (session_of approves x).digest p (Seen.anchor setup.rules (session_of approves x) me.shard) told tnew pold pnew answer
+        → Runs me x (ledger_session approves x).digest o (anchor_in told (ledger_session approves x)) told tnew pold pnew answer
+        → Runs me x (ledger_session approves x).digest p (Seen.anchor setup.rules (ledger_session approves x) me.shard) told tnew pold pnew answer
     moved x o p tnew pold pnew answer e r =
-        let P : Shard.Outcome × Option Seen.Key → Type 0 = λ q. Runs me x (session_of approves x).digest q.0 q.1 told tnew pold pnew answer in
-        subst P (λ i. (e i, same-anchor (session_of approves x) i)) r
+        let P : Shard.Outcome × Option Seen.Key → Type 0 = λ q. Runs me x (ledger_session approves x).digest q.0 q.1 told tnew pold pnew answer in
+        subst P (λ i. (e i, same-anchor (ledger_session approves x) i)) r
 
     module _ (old_known : AreKnown (keys_in told.rows) (seen told)) where
       -- what is known after an entry is what the table knows then
@@ -184,10 +184,10 @@ module _ (config : Config) (me : NodeId) (told : Stored) (of : IsOfNode config m
             → RunsEntry approves me entry told tnew pold pnew answer
             → Executes setup log entry (held_with told pold) (held_with tnew pnew) answer
         executes (Prepare x) tnew pold pnew answer fit known r =
-            let y : Seen.Session = session_of approves x in
+            let y : Seen.Session = ledger_session approves x in
             let e : Shard.Entry = Shard.Prepare y in
             let s : Runs me x y.digest (Shard.exec setup.rules me.shard (seen told) e) (Seen.anchor setup.rules y me.shard) told tnew pold pnew answer =
-            moved x (prepared told y) (Shard.exec setup.rules me.shard (seen told) e) tnew pold pnew answer (same-outcome e fit) r in
+            moved x (prepare_outcome told y) (Shard.exec setup.rules me.shard (seen told) e) tnew pold pnew answer (same-outcome e fit) r in
             let keys = known-after e tnew known s.table_is.shows in
             record {
               effect_is = s.effect_is;
@@ -198,11 +198,11 @@ module _ (config : Config) (me : NodeId) (told : Stored) (of : IsOfNode config m
               archived_stays = refl;
             }
         executes (Decide vote x) tnew pold pnew answer fit known r =
-            let y : Seen.Session = session_of approves x in
+            let y : Seen.Session = ledger_session approves x in
             let e : Shard.Entry = Shard.Decide y (Setup.vote_of vote) in
             let s : Runs me x y.digest (Shard.exec setup.rules me.shard (seen told) e) (Seen.anchor setup.rules y me.shard) told tnew pold pnew answer =
-            moved x (decided told y (vote_of vote)) (Shard.exec setup.rules me.shard (seen told) e) tnew pold pnew answer
-            (ap (decided told y) (same-vote vote) ∙ same-outcome e fit) r in
+            moved x (decide_outcome told y (vote_of vote)) (Shard.exec setup.rules me.shard (seen told) e) tnew pold pnew answer
+            (ap (decide_outcome told y) (same-vote vote) ∙ same-outcome e fit) r in
             let keys = known-after e tnew known s.table_is.shows in
             record {
               effect_is = s.effect_is;
@@ -249,9 +249,9 @@ module _ (config : Config) (me : NodeId) (told : Stored) (of : IsOfNode config m
         executes-nothing (Prepare x) pool misfit = nothing-by (Prepare x) pool (unfit (seen told) _ _ misfit)
         executes-nothing (Decide vote x) pool misfit = nothing-by (Decide vote x) pool (unfit (seen told) _ _ misfit)
 
-    pub stands : (x : Session) → accepted_by (standing_at (seen told) (session_of approves x).digest (anchor_in told (session_of approves x))) ≡ standing setup me.shard (seen told) x
+    pub stands : (x : Session) → accepted_by (standing_at (seen told) (ledger_session approves x).digest (anchor_in told (ledger_session approves x))) ≡ standing setup me.shard (seen told) x
     stands x =
-        let y : Seen.Session = session_of approves x in
+        let y : Seen.Session = ledger_session approves x in
         accepted-at (seen told) y.digest (anchor_in told y) ∙ ap (decided_at (seen told) y.digest) (same-anchor y)
       where
         accepted-by : (a b : Bool) → accepted_by (if a then Accepted' else if b then Aborted' else Open') ≡ (if a then Some true else if b then Some false else None)
@@ -263,9 +263,9 @@ module _ (config : Config) (me : NodeId) (told : Stored) (of : IsOfNode config m
         accepted-at t d None = refl
         accepted-at t d (Some key) = accepted-by (stands_accepted (t.at key) d) (stands_aborted (t.at key) d)
 
-    pub records : (x : Session) (vote : Option Vote) → option_map vote_of vote ≡ recorded_at (seen told) (session_of approves x).digest (anchor_in told (session_of approves x)) → vote ≡ on_record setup me.shard (seen told) x
+    pub records : (x : Session) (vote : Option Vote) → option_map vote_of vote ≡ recorded_at (seen told) (ledger_session approves x).digest (anchor_in told (ledger_session approves x)) → vote ≡ on_record setup me.shard (seen told) x
     records x vote is =
-        let y : Seen.Session = session_of approves x in
+        let y : Seen.Session = ledger_session approves x in
         read-back vote ∙ ap vote_read is ∙ read-at (seen told) y.digest (anchor_in told y) ∙ ap (noted_at (seen told) y.digest) (same-anchor y)
       where
         read-back : (vote : Option Vote) → vote ≡ vote_read (option_map vote_of vote)

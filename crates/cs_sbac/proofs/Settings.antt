@@ -5,8 +5,8 @@ use Rattle.std.proofs.lemmas.Bool.{and_parts}
 use Rattle.cs_base.specs.declared.config.Config.{Config}
 use Rattle.cs_base.specs.declared.key.Key.{Key}
 use Rattle.cs_tx_value.specs.declared.object.Object.{Object}
-use Rattle.cs_tx_form.specs.declared.transaction.Tx.{Tx}
-use Rattle.cs_tx_form.specs.declared.session.Session.{Session}
+use Rattle.cs_tx_types.specs.declared.transaction.Tx.{Tx}
+use Rattle.cs_tx_types.specs.declared.session.Session.{Session}
 use Rattle.cs_tx.specs.Uses as Uses
 use Rattle.cs_tx.specs.WellFormed.{IsWellFormed, fault_of}
 use Rattle.cs_tx.proofs.TestsSeen.{well_formed-session_of}
@@ -17,8 +17,8 @@ use Rattle.cs_node_state.specs.declared.pooled.Pooled.{Pooled}
 use Rattle.cs_node_state.specs.Pool.{entering}
 use Rattle.cs_tx.specs.Digest.{digest_of_session}
 use Rattle.cs_ledger.specs.Ledger.{Bytes}
-use Rattle.cs_node_pool.specs.Deployed.{deployed, AtEverySetup}
-use Rattle.cs_node_pool.specs.Seats.{IsKnown}
+use Rattle.cs_node_pool.specs.Deployed.{deployed_setup, AtEverySetup}
+use Rattle.cs_node_pool.specs.Seats.{IsKnownSession}
 use Rattle.cs_node_pool.proofs.Concerned.{concerns-session}
 use Rattle.cs_node_pool.proofs.Right as Right
 use Rattle.cs_sbac.specs.Held.{Held, IsFit}
@@ -29,9 +29,9 @@ some_anchor (Some k) false h = let q : true ≡ false = h.1 refl in cc
 some_anchor None c h = sym (h.0 refl)
 
 module _ (config : Config) (genesis : List Object) (approves : Tx → Bool) (x : Session) (shard : ℕ) where
-  pub fit : (w : Bool) → w ≡ is_none (fault_of config x) → (w && Uses.concerns config x shard) ≡ Setup.is_fit (deployed config genesis approves) shard x
+  pub fit : (w : Bool) → w ≡ is_none (fault_of config x) → (w && Uses.concerns config x shard) ≡ Setup.is_fit (deployed_setup config genesis approves) shard x
   fit w h =
-      let setup : Setup.Setup = deployed config genesis approves in
+      let setup : Setup.Setup = deployed_setup config genesis approves in
       ap (λ b. b && Uses.concerns config x shard) (h ∙ sym (well_formed-session_of (rules_of config genesis) config (λ name. refl) approves x))
       ∙ ap (λ b. Seen.well_formed setup.rules (setup.session_of x) && b) (sym (concerns-session config genesis approves x shard))
 
@@ -43,8 +43,8 @@ none_from (Some a) h = let q : false ≡ true = h in cc
 
 pub formed : (config : Config) (shard : ℕ) (x : Session) → AtEverySetup config (λ setup. Setup.is_fit setup shard x ≡ true) → IsWellFormed config x
 formed config shard x fits =
-    let setup : Setup.Setup = deployed config [] (λ tx. false) in
-    let both = and_parts (Seen.well_formed setup.rules (setup.session_of x)) (Setup.concerns setup x shard) (fits [] (λ tx. false)) in
+    let setup : Setup.Setup = deployed_setup config [] (λ tx. false) in
+    let both = and_parts (Seen.well_formed setup.rules (setup.session_of x)) (Setup.is_concerned_shard setup x shard) (fits [] (λ tx. false)) in
     none_from (fault_of config x) (sym (well_formed-session_of (rules_of config []) config (λ name. refl) (λ tx. false) x) ∙ both.0)
 
 -- so it is by what a node holds, and as it enters the pool, by the configuration of that
@@ -64,7 +64,7 @@ one-more config x shard found has shards more anchored is so_far grown =
 
 -- ---- a session that the pool knows, by its configuration, which is that of the node
 
-module _ (config other : Config) (x : Session) (known : Option Bytes) (same : other ≡ config) (is : IfSome known (IsKnown other x)) where
+module _ (config other : Config) (x : Session) (known : Option Bytes) (same : other ≡ config) (is : IfSome known (IsKnownSession other x)) where
   pub known-formed : is_some known ≡ true → IsWellFormed config x
   known-formed there = subst (λ c. IsWellFormed c x) same (Right.known-formed other x known is there)
 

@@ -4,13 +4,13 @@ use Rattle.cs_base.specs.declared.config.Config.{Config}
 use Rattle.cs_base.specs.declared.node_id.NodeId.{NodeId}
 use Rattle.cs_base.specs.NodeId.{is_node}
 use Rattle.cs_table.specs.Seen.{Stored, seen, forgotten}
-use Rattle.cs_checkpoint.specs.Chain.{Log, kept_of}
+use Rattle.cs_check_rules.specs.Chain.{Log, kept_of}
 use Rattle.cs_check.specs.Leaves.{HasLeavesBut}
 use Rattle.cs_check.specs.Root.{keys_in}
-use Rattle.cs_archive.specs.Archives.{Archived}
+use Rattle.cs_check.specs.Archives.{Archived}
 use Rattle.cs_node_state.specs.Pool.{Pool}
 use Rattle.cs_node_state.specs.Bench.{Bench}
-use Rattle.cs_tx_form.specs.declared.session.Session.{Session}
+use Rattle.cs_tx_types.specs.declared.session.Session.{Session}
 use Rattle.cs_node_state.specs.Setup.{is_fit}
 use Rattle.cs_node_pool.specs.Deployed.{AtEverySetup}
 use Rattle.cs_node_pool.specs.Gathered.{Gathered}

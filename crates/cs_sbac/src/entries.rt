@@ -1,13 +1,13 @@
 //! Which entries a node admits, and the execution of one.
 ghost use Rattle.std.specs.Prelude.{◌≡◌, ◌↔◌, IsSome, IfOk, IfSome};
-ghost use Rattle.cs_tx_form.specs.declared.entry.Entry.TheVariants.{Prepare, Decide};
-ghost use Rattle.cs_tx_form.specs.Session.{SessionFits, EntryFits, session_in};
-ghost use Rattle.cs_checkpoint.specs.Chain.{Log};
+ghost use Rattle.cs_tx_types.specs.declared.entry.Entry.TheVariants.{Prepare, Decide};
+ghost use Rattle.cs_tx_types.specs.Session.{SessionFits, EntryFits, session_in};
+ghost use Rattle.cs_check_rules.specs.Chain.{Log};
 ghost use Rattle.cs_node_state.specs.Admission.{admits};
 ghost use Rattle.cs_tx.specs.Digest.{digest_of_session};
 ghost use Rattle.cs_node_pool.specs.Deployed.{AtEverySetup, AtAnyGenesis};
 ghost use Rattle.cs_node_pool.specs.Calls.{IsNext};
-ghost use Rattle.cs_node_pool.specs.Seats.{IsKnown};
+ghost use Rattle.cs_node_pool.specs.Seats.{IsKnownSession};
 ghost use Rattle.cs_sbac.specs.Calls.{Executes};
 
 use crate::answers::Outcome;
@@ -24,7 +24,7 @@ use std::alloc::Global;
 /// The digest of the session of an entry, where it comes next in the pool.
 fn known_in(pool: &Pool, entry: &Entry) -> Result<Option<Digest>, Memory>
     ensures known { IfOk result (λ found.
-        IfSome found (IsKnown pool.now.config (session_in entry.now))) }
+        IfSome found (IsKnownSession pool.now.config (session_in entry.now))) }
     ensures next { AtEverySetup pool.now.config (λ setup.
         IfOk result (λ found.
         IsSome found ↔ IsNext setup pool.now.sessions (session_in entry.now))) }

@@ -1,12 +1,12 @@
 //! The execution of an entry on the table and the pool of a node.
 ghost use Rattle.std.specs.Prelude.{◌≡◌, Bool, true, Some, IsSome, OnOk, IfOk};
-ghost use Rattle.cs_tx_form.specs.declared.transaction.Tx.{Tx};
-ghost use Rattle.cs_tx_form.specs.Session.{SessionFits, EntryFits, session_in};
+ghost use Rattle.cs_tx_types.specs.declared.transaction.Tx.{Tx};
+ghost use Rattle.cs_tx_types.specs.Session.{SessionFits, EntryFits, session_in};
 ghost use Rattle.cs_tx.specs.Digest.{digest_of_session};
-ghost use Rattle.cs_tx.specs.Sessions.{session_of};
+ghost use Rattle.cs_tx.specs.Sessions.{ledger_session};
 ghost use Rattle.cs_tx.specs.WellFormed.{IsWellFormed};
 ghost use Rattle.cs_table.specs.Seen.{vote_of};
-ghost use Rattle.cs_table.specs.Calls.{anchor_in, prepared, decided};
+ghost use Rattle.cs_table.specs.Calls.{anchor_in, prepare_outcome, decide_outcome};
 ghost use Rattle.cs_node_state.specs.Pool.{entering};
 ghost use Rattle.cs_node_state.specs.Bench.{own_pool};
 ghost use Rattle.cs_sbac.specs.Calls.{placed, left, Runs, RunsEntry};
@@ -93,10 +93,10 @@ fn prepare(
     requires fits { SessionFits session.now }
     requires formed { IsWellFormed pool.old.config session.now }
     requires named { digest.now ≡ digest_of_session session.now }
-    requires anchored { IsSome (anchor_in table.old (session_of (λ tx. true) session.now)) }
+    requires anchored { IsSome (anchor_in table.old (ledger_session (λ tx. true) session.now)) }
     ensures runs { (approves : Tx → Bool) → IfOk result (λ answer.
-        let x = session_of approves session.now in
-        Runs me session.now x.digest (prepared table.old x) (anchor_in table.old x)
+        let x = ledger_session approves session.now in
+        Runs me session.now x.digest (prepare_outcome table.old x) (anchor_in table.old x)
         table.old table.new pool.old.sessions pool.new.sessions answer) }
     ensures config { pool.new.config ≡ pool.old.config }
 {
@@ -131,10 +131,10 @@ fn decide(
 ) -> Result<Outcome, Memory>
     requires fits { SessionFits session.now }
     requires named { digest.now ≡ digest_of_session session.now }
-    requires anchored { IsSome (anchor_in table.old (session_of (λ tx. true) session.now)) }
+    requires anchored { IsSome (anchor_in table.old (ledger_session (λ tx. true) session.now)) }
     ensures runs { (approves : Tx → Bool) → IfOk result (λ answer.
-        let x = session_of approves session.now in
-        Runs me session.now x.digest (decided table.old x (vote_of vote)) (anchor_in table.old x)
+        let x = ledger_session approves session.now in
+        Runs me session.now x.digest (decide_outcome table.old x (vote_of vote)) (anchor_in table.old x)
         table.old table.new pool.old.sessions pool.new.sessions answer) }
     ensures config { pool.new.config ≡ pool.old.config }
 {
@@ -159,7 +159,7 @@ pub fn run(
     requires formed { IsWellFormed pool.old.config (session_in entry.now) }
     requires named { digest.now ≡ digest_of_session (session_in entry.now) }
     requires anchored { IsSome
-        (anchor_in table.old (session_of (λ tx. true) (session_in entry.now))) }
+        (anchor_in table.old (ledger_session (λ tx. true) (session_in entry.now))) }
     ensures runs { (approves : Tx → Bool) → IfOk result (λ answer.
         RunsEntry approves me entry.now
         table.old table.new pool.old.sessions pool.new.sessions answer) }

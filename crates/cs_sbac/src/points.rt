@@ -1,10 +1,10 @@
 //! What a node keeps for checkpoints: the slots that it executed, and the checkpoints of others.
 ghost use Rattle.std.specs.Prelude.{◌≡◌, ◌<◌, ◌^◌, IfOk, IfSome, OnOk};
-ghost use Rattle.cs_tx_form.specs.Log.{LeafFits, ProofFits};
-ghost use Rattle.cs_checkpoint.specs.Chain.{made_last, AtItsLog};
+ghost use Rattle.cs_tx_types.specs.Log.{LeafFits, ProofFits};
+ghost use Rattle.cs_check_rules.specs.Chain.{made_last, AtItsLog};
 ghost use Rattle.cs_check_rules.specs.Heads.{is_news};
 ghost use Rattle.cs_check_rules.specs.Proofs.{proof_of};
-ghost use Rattle.cs_archive.specs.Archives.{with_news};
+ghost use Rattle.cs_check.specs.Archives.{with_news};
 ghost use Rattle.cs_node_state.specs.Bench.{with_leaf};
 ghost use Rattle.cs_table.specs.Seen.{seen};
 ghost use Rattle.cs_check.specs.Leaves.{HasLeaves};
@@ -13,7 +13,7 @@ ghost use Rattle.cs_sbac.specs.Held.{bench_of, KeepsBench, with_archived, with_f
 use crate::sbac::Sbac;
 use cs_base::Memory;
 use cs_check::Chain;
-use cs_checkpoint::{Checkpoint, Leaf, Proof};
+use cs_check_rules::{Checkpoint, Leaf, Proof};
 use std::alloc::Global;
 
 impl Sbac {

@@ -1,13 +1,13 @@
 //! What is asked of the table and the pool of a node.
 ghost use Rattle.std.specs.Prelude.{◌≡◌, IfOk};
 ghost use Rattle.cs_tx_value.specs.Key.{KeyFits};
-ghost use Rattle.cs_tx_form.specs.State.{StateFits};
-ghost use Rattle.cs_tx_form.specs.Session.{SessionFits};
+ghost use Rattle.cs_tx_types.specs.State.{StateFits};
+ghost use Rattle.cs_tx_types.specs.Session.{SessionFits};
 ghost use Rattle.cs_tx.specs.Digest.{digest_of_session};
-ghost use Rattle.cs_node_state.specs.Setup.{concerns, concerned, is_fit};
+ghost use Rattle.cs_node_state.specs.Setup.{is_concerned_shard, concerned, is_fit};
 ghost use Rattle.cs_table.specs.Seen.{seen, HoldsFit};
 ghost use Rattle.cs_node_state.specs.Asked.{told_at, least_dummy, key_asked};
-ghost use Rattle.cs_node_state.specs.Bench.{decided, noted};
+ghost use Rattle.cs_node_state.specs.Bench.{decision_on, noted};
 ghost use Rattle.cs_node_pool.specs.Deployed.{AtEverySetup};
 ghost use Rattle.cs_sbac.specs.Held.{IsFit};
 ghost use Rattle.cs_sbac.specs.Calls.{accepted_by};
@@ -17,7 +17,7 @@ use crate::setting::{concerned_shards, formed_shards, is_fit};
 use cs_base::{Key, Memory};
 use cs_table::Standing;
 use cs_tx::{Digest, Encoded, Session, State, Vote, anchor};
-use cs_tx_form::{digest_fits, key_fits};
+use cs_tx_types::{digest_fits, key_fits};
 use std::alloc::Global;
 
 fn is_accepted(standing: Standing) -> Option<bool>
@@ -99,7 +99,7 @@ impl Sbac {
     /// Whether a fit session concerns a shard.
     pub fn concerns(&self, session: &Session, shard: u16) -> bool
         requires { IsFit self.now session.now }
-        ensures { AtEverySetup self.now.config (λ setup. result ≡ concerns setup session.now shard) }
+        ensures { AtEverySetup self.now.config (λ setup. result ≡ is_concerned_shard setup session.now shard) }
     {
         anchor(session, &self.config, shard).is_some()
     }
@@ -131,7 +131,7 @@ impl Sbac {
         requires fits { SessionFits session.now }
         requires named { digest.now ≡ digest_of_session session.now }
         ensures { AtEverySetup self.now.config (λ setup. IfOk result (λ answer.
-            answer ≡ decided setup self.now.me.shard (seen self.now.table) session.now)) }
+            answer ≡ decision_on setup self.now.me.shard (seen self.now.table) session.now)) }
     {
         self.whole.check()?;
         let standing = self.table.standing(alloc, session, digest)?;

@@ -1,26 +1,25 @@
 //! The table of a node, its pool, and what it keeps for checkpoints.
 ghost use Rattle.std.specs.Prelude.{◌≡◌, [], None, OnOk, IfOk};
-ghost use Rattle.cs_tx_form.specs.Session.{SessionFits};
+ghost use Rattle.cs_tx_types.specs.Session.{SessionFits};
 ghost use Rattle.cs_tx.specs.Digest.{digest_of_session};
-ghost use Rattle.cs_node_state.specs.Pool.{found, is_pooled, changed, with_ballot};
+ghost use Rattle.cs_node_state.specs.Pool.{found, is_pooled, pool_changed, with_ballot};
 ghost use Rattle.cs_node_state.specs.Admission.{due};
 ghost use Rattle.cs_node_pool.specs.Deployed.{AtEverySetup};
-ghost use Rattle.cs_node_pool.specs.Fits.{DueFits, AllFit};
+ghost use Rattle.cs_node_pool.specs.Fits.{DueFits, SessionsFit};
 ghost use Rattle.cs_node_pool.specs.Calls.{counted_in, locked_in};
-ghost use Rattle.cs_checkpoint.specs.Chain.{empty_log, kept_of};
+ghost use Rattle.cs_check_rules.specs.Chain.{empty_log, kept_of};
 ghost use Rattle.cs_sbac.specs.Held.{with_pool, IsOfNode, IsFit};
 ghost use Rattle.cs_sbac.specs.Calls.{entered_in, pool_entered, pool_entered_with};
 
 use crate::answers::Entered;
 use crate::execution::newcomer;
 use crate::setting::formed_shards;
-use cs_archive::Archive;
-use cs_base::{Config, MOST_WAITING, Memory, NodeId};
+use cs_base::{Config, MOST_WAITING, Memory, NodeId, Whole};
+use cs_check::Archive;
 use cs_node_pool::{Counted, Pool};
 use cs_node_state::Ballot;
 use cs_table::Table;
 use cs_tx::{Digest, Entry, Session, Vote};
-use cs_whole::Whole;
 use std::alloc::Global;
 use std::marker::Model;
 
@@ -171,7 +170,7 @@ impl Sbac {
         ensures answer { IfOk result (λ answer.
             answer ≡ counted_in from (found digest.now self.old.pool)) }
         ensures pool { OnOk result (self.new ≡ with_pool self.old
-            (changed digest.now
+            (pool_changed digest.now
             (with_ballot (record { sender = from; vote = vote })) self.old.pool)) }
     {
         self.pool.count(digest, Ballot { sender: from, vote })
@@ -180,7 +179,7 @@ impl Sbac {
     /// The sessions that are locked, in the order of the pool.
     pub fn locked(&self, alloc: Global) -> Result<Vec<Session>, Memory>
         ensures sessions { IfOk result (λ sessions. sessions.items ≡ locked_in self.now.pool) }
-        ensures fits { IfOk result (λ sessions. AllFit sessions.items) }
+        ensures fits { IfOk result (λ sessions. SessionsFit sessions.items) }
     {
         self.pool.locked(alloc)
     }

@@ -1,6 +1,6 @@
 //! What the setup of a deployment says of a session.
 ghost use Rattle.std.specs.Prelude.{◌≡◌, true, IfOk, is_none, is_some};
-ghost use Rattle.cs_tx_form.specs.Session.{SessionFits, EntryFits, session_in};
+ghost use Rattle.cs_tx_types.specs.Session.{SessionFits, EntryFits, session_in};
 ghost use Rattle.cs_tx.specs.Uses.{anchor_of, concerned_shards};
 ghost use Rattle.cs_tx.specs.WellFormed.{IsWellFormed, fault_of};
 ghost use Rattle.cs_node_state.specs.Setup.{concerned, is_fit};

@@ -9,9 +9,9 @@ use Rattle.cs_base.specs.declared.node_id.NodeId.{NodeId}
 use Rattle.cs_base.specs.declared.limits.TheConstants.{MOST_SHARDS, MOST_LIARS, MOST_DUMMIES, MOST_GENESIS}
 use Rattle.cs_tx_value.specs.Object.{DigestFits}
 use Rattle.cs_tx_value.specs.declared.object.Object.{Object}
-use Rattle.cs_sched_types.specs.declared.schedule.Event.{Event}
-use Rattle.cs_sched_types.specs.declared.schedule.Event.TheVariants.{Say, Inject, Deliver, Tick, Drain}
-use Rattle.cs_sched_types.specs.declared.schedule.Schedule.{Schedule}
+use Rattle.cs_sched.specs.declared.schedule.Event.{Event}
+use Rattle.cs_sched.specs.declared.schedule.Event.TheVariants.{Say, Inject, Deliver, Tick, Drain}
+use Rattle.cs_sched.specs.declared.schedule.Schedule.{Schedule}
 use Rattle.cs_sched.specs.Drafts.{empty_draft}
 use Rattle.cs_tx.specs.GenesisNames.{genesis_names}
 use Rattle.cs_sched.specs.Naming.{liars_of}
@@ -24,8 +24,8 @@ use Rattle.cs_sched.specs.declared.draft.Draft.{Draft}
 use Rattle.cs_sched.specs.declared.draft.Stage.TheVariants as stage
 use Rattle.cs_sched.proofs.Played.{schedule_sound}
 use Rattle.cs_sched.proofs.Sound.{IsSound}
-use Rattle.cs_sched.specs.Again.{numbered, renumbered, IsReadAgain}
-use Rattle.cs_sched.specs.Printed.{event_words, liar_lines, contract_lines, genesis_lines, event_lines, schedule_lines, schedule_text}
+use Rattle.cs_sched.specs.Again.{numbered_events, renumbered, ScheduleIsReadAgain}
+use Rattle.cs_sched.specs.Printed.{event_words, liar_lines, contract_lines, genesis_lines, printed_events, schedule_lines, schedule_text}
 use Rattle.cs_sched.proofs.Back.{node_small, named_small, honest_small}
 use Rattle.cs_sched.proofs.Walk.{made, IsPrintable, reads_head, reads_liars, reads_contracts, reads_objects, reads_events, run_step}
 
@@ -66,7 +66,7 @@ event_is_line config liars (Tick node) fits =
 event_is_line config liars (Drain times) fits = (field-word (codes "drain") (omega arith) refl, (field-decimal times fits, tt))
 
 events_are_lines : (config : Config) (liars : List NodeId) (events : List (ℕ × Event)) (rest : List (List (List ℕ))) → AllByRecursion (λ event. IsPlayableEvent config liars event.1) events → AllByRecursion IsLine rest
-    → AllByRecursion IsLine (event_lines events ++ rest)
+    → AllByRecursion IsLine (printed_events events ++ rest)
 events_are_lines config liars [] rest fit more = more
 events_are_lines config liars (event ∷ events) rest fit more = (event_is_line config liars event.1 fit.0, events_are_lines config liars events rest fit.1 more)
 
@@ -95,7 +95,7 @@ module _ (config : Config) (master : List ℕ) (liars : List NodeId) (contracts 
       let few_dummies : config.dummies ≤ MOST_DUMMIES = config.few_dummies in
       let ended : AllByRecursion IsLine ((codes "end" ∷ []) ∷ []) = ((field-word (codes "end") (omega arith) refl, tt), tt) in
       let played = events_are_lines config liars events ((codes "end" ∷ []) ∷ []) known.played ended in
-      let run : AllByRecursion IsLine ((codes "run" ∷ []) ∷ (event_lines events ++ (codes "end" ∷ []) ∷ [])) = ((field-word (codes "run") (omega arith) refl, tt), played) in (
+      let run : AllByRecursion IsLine ((codes "run" ∷ []) ∷ (printed_events events ++ (codes "end" ∷ []) ∷ [])) = ((field-word (codes "run") (omega arith) refl, tt), played) in (
         (field-word (codes "shards") (omega arith) refl, (field-decimal config.shards (omega arith), tt)),
         (
           (field-word (codes "faulty") (omega arith) refl, (field-decimal config.f (omega arith), tt)),
@@ -103,9 +103,9 @@ module _ (config : Config) (master : List ℕ) (liars : List NodeId) (contracts 
             (field-word (codes "dummies") (omega arith) refl, (field-decimal config.dummies (omega arith), tt)),
             (
               (field-word (codes "master") (omega arith) refl, (field-bytes master known.digest.1, tt)),
-              liars_are_lines config liars (contract_lines contracts ++ (genesis_lines genesis ++ (codes "run" ∷ []) ∷ (event_lines events ++ (codes "end" ∷ []) ∷ []))) known.nodes
-                  (contracts_are_lines contracts (genesis_lines genesis ++ (codes "run" ∷ []) ∷ (event_lines events ++ (codes "end" ∷ []) ∷ [])) known.contracts_fit
-                  (objects_are_lines genesis ((codes "run" ∷ []) ∷ (event_lines events ++ (codes "end" ∷ []) ∷ [])) known.objects run)),
+              liars_are_lines config liars (contract_lines contracts ++ (genesis_lines genesis ++ (codes "run" ∷ []) ∷ (printed_events events ++ (codes "end" ∷ []) ∷ []))) known.nodes
+                  (contracts_are_lines contracts (genesis_lines genesis ++ (codes "run" ∷ []) ∷ (printed_events events ++ (codes "end" ∷ []) ∷ [])) known.contracts_fit
+                  (objects_are_lines genesis ((codes "run" ∷ []) ∷ (printed_events events ++ (codes "end" ∷ []) ∷ [])) known.objects run)),
             ),
           ),
         ),
@@ -113,9 +113,9 @@ module _ (config : Config) (master : List ℕ) (liars : List NodeId) (contracts 
 
   -- the draft that its lines give
   abbrev last : ℕ → Draft
-  last first = made stage.Ended config master liars contracts genesis (numbered first events)
+  last first = made stage.Ended config master liars contracts genesis (numbered_events first events)
 
-  reads_run : (first : ℕ) → read_fields schedule_form (made stage.Events config master liars contracts genesis []) first (event_lines events ++ (codes "end" ∷ []) ∷ []) ≡ Ok (last first)
+  reads_run : (first : ℕ) → read_fields schedule_form (made stage.Events config master liars contracts genesis []) first (printed_events events ++ (codes "end" ∷ []) ∷ []) ≡ Ok (last first)
   reads_run first = reads_events config master liars contracts genesis (last first) ((codes "end" ∷ []) ∷ []) events [] first known.played refl
 
   -- the number of the first event's line
@@ -125,13 +125,13 @@ module _ (config : Config) (master : List ℕ) (liars : List NodeId) (contracts 
   reads_all : read_fields schedule_form empty_draft 1 (schedule_lines schedule) ≡ Ok (last events_from)
   reads_all =
       let first : 5 + length liars + length contracts + length genesis + 1 ≡ events_from = omega arith in
-      let rest = (codes "run" ∷ []) ∷ (event_lines events ++ (codes "end" ∷ []) ∷ []) in
+      let rest = (codes "run" ∷ []) ∷ (printed_events events ++ (codes "end" ∷ []) ∷ []) in
       reads_head config master known.digest (last events_from) (liar_lines liars ++ (contract_lines contracts ++ (genesis_lines genesis ++ rest)))
       (reads_liars config master liars (last events_from) (contract_lines contracts ++ (genesis_lines genesis ++ rest)) known.apart known.few_liars liars [] 5 refl known.nodes
       (reads_contracts config master liars contracts (last events_from) (genesis_lines genesis ++ rest) known.few_contracts contracts [] false (5 + length liars) refl known.contracts_fit
       (λ told. reads_objects config master liars contracts genesis (last events_from) rest known.few known.differ genesis [] told false (5 + length liars + length contracts) refl known.objects
       (λ any. rw (run_step config master liars contracts told any genesis (5 + length liars + length contracts + length genesis))
-      (subst (λ n. read_fields schedule_form (made stage.Events config master liars contracts genesis []) n (event_lines events ++ (codes "end" ∷ []) ∷ []) ≡ Ok (last events_from)) (sym first) (reads_run events_from))))))
+      (subst (λ n. read_fields schedule_form (made stage.Events config master liars contracts genesis []) n (printed_events events ++ (codes "end" ∷ []) ∷ []) ≡ Ok (last events_from)) (sym first) (reads_run events_from))))))
 
   again_whole : (limit : ℕ) → length (schedule_text schedule) ≤ limit
       → schedule_of limit (schedule_text schedule) ≡ Ok (renumbered schedule)
@@ -162,7 +162,7 @@ again_sound limit draft sound =
     let s = draft.schedule in
     again_whole s.config s.master s.liars s.contracts s.genesis s.events (known_of draft sound) limit
 
-pub again : (limit : ℕ) → IsReadAgain limit
+pub again : (limit : ℕ) → ScheduleIsReadAgain limit
 again limit text schedule read short =
     let (draft, same, sound) = schedule_sound limit text schedule read in
     subst (λ (s : Schedule). length (schedule_text s) ≤ limit → schedule_of limit (schedule_text s) ≡ Ok (renumbered s)) same (again_sound limit draft sound) short

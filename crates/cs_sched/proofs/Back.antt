@@ -9,7 +9,7 @@ use Rattle.cs_base.specs.declared.limits.TheConstants.{MOST_SHARDS, MOST_LIARS}
 use Rattle.cs_base.specs.declared.node_id.NodeId.{NodeId}
 use Rattle.cs_base.specs.declared.node_id.TheConstants.{CLIENT_SHARD, CLIENTS}
 use Rattle.cs_base.proofs.NodeTexts.{node_of-node_text}
-use Rattle.cs_sched.specs.Naming.{named, speaker_in, honest_in}
+use Rattle.cs_sched.specs.Naming.{name_of_field, speaker_in, honest_in}
 use Rattle.cs_sched.specs.Playable.{IsHonest, IsSpeaker}
 
 -- a name of the configuration has numbers of 16 bits
@@ -40,7 +40,7 @@ named_small config name is =
       | inr other ↦ let client : is_client name ≡ true = rw other at is in client_small name client
     ]
 
-pub named_back : (config : Config) (name : NodeId) → is_named config name ≡ true → named config (node_text name) ≡ Ok name
+pub named_back : (config : Config) (name : NodeId) → is_named config name ≡ true → name_of_field config (node_text name) ≡ Ok name
 named_back config name is =
     let small = named_small config name is in
     rw (node_of-node_text name small.shard small.index, is) refl

@@ -22,18 +22,18 @@ use Rattle.cs_sched.specs.declared.limits.TheConstants.{MOST_CONTRACTS}
 use Rattle.cs_sched.specs.Playable.{IsContractText}
 use Rattle.cs_text.proofs.Back.{number_back, bytes_back}
 use Rattle.cs_sched.specs.Said.{shards_said, faulty_said, dummies_said, contract_said, object_said}
-use Rattle.cs_sched.specs.Values.{in_range}
+use Rattle.cs_sched.specs.Values.{config_in_range}
 use Rattle.cs_sched.proofs.Objects.{object_found}
 
 -- ---- fields
 
-pub shards_back : (now next : Config) (shards : ℕ) → shards < 2 ^ 64 → in_range (configured shards now.f now.dummies) ≡ Ok next → shards_said now (decimal shards ∷ []) ≡ Ok next
+pub shards_back : (now next : Config) (shards : ℕ) → shards < 2 ^ 64 → config_in_range (configured shards now.f now.dummies) ≡ Ok next → shards_said now (decimal shards ∷ []) ≡ Ok next
 shards_back now next shards small ranged = rw (number_back shards small, ranged) refl
 
-pub faulty_back : (now next : Config) (faulty : ℕ) → faulty < 2 ^ 64 → in_range (configured now.shards faulty now.dummies) ≡ Ok next → faulty_said now (decimal faulty ∷ []) ≡ Ok next
+pub faulty_back : (now next : Config) (faulty : ℕ) → faulty < 2 ^ 64 → config_in_range (configured now.shards faulty now.dummies) ≡ Ok next → faulty_said now (decimal faulty ∷ []) ≡ Ok next
 faulty_back now next faulty small ranged = rw (number_back faulty small, ranged) refl
 
-pub dummies_back : (now next : Config) (dummies : ℕ) → dummies < 2 ^ 64 → in_range (configured now.shards now.f dummies) ≡ Ok next → dummies_said now (decimal dummies ∷ []) ≡ Ok next
+pub dummies_back : (now next : Config) (dummies : ℕ) → dummies < 2 ^ 64 → config_in_range (configured now.shards now.f dummies) ≡ Ok next → dummies_said now (decimal dummies ∷ []) ≡ Ok next
 dummies_back now next dummies small ranged = rw (number_back dummies small, ranged) refl
 
 pub contract_back : (place : ℕ) (text : List ℕ) → place < MOST_CONTRACTS → IsContractText text → contract_said place (bytes_text text ∷ []) ≡ Ok text

@@ -12,9 +12,9 @@ use Rattle.std.proofs.Math.Seq.{get_or-append_seam}
 use Rattle.cs_base.specs.NodeId.{is_node, is_client}
 use Rattle.cs_base.specs.declared.config.Config.{Config}
 use Rattle.cs_base.specs.declared.node_id.NodeId.{NodeId}
-use Rattle.cs_sched_types.specs.declared.schedule.Schedule.{Schedule}
+use Rattle.cs_sched.specs.declared.schedule.Schedule.{Schedule}
 use Rattle.cs_text.specs.declared.cause.Cause.TheVariants as cause
-use Rattle.cs_sched.specs.Naming.{named, is_name, is_liar, liars_of, one_more_liar, liar_in}
+use Rattle.cs_sched.specs.Naming.{name_of_field, is_name, is_liar, liars_of, one_more_liar, liar_in}
 use Rattle.cs_sched.specs.Said.{liar_said}
 use Rattle.cs_text.proofs.Steps.{step_ok, ok_same, when_ok, unless_ok}
 use Rattle.cs_sched.proofs.Told.{named_ok, left_of}
@@ -104,7 +104,7 @@ pub record IsNewLiar (config : Config) (liars : List NodeId) (name : NodeId) : T
 
 liar_in-ok : (config : Config) (liars : List NodeId) (field : List ℕ) (liar : NodeId) → liar_in config liars field ≡ Ok liar → IsNewLiar config liars liar
 liar_in-ok config liars field liar is =
-    let (name, found, after) = step_ok (named config field) (λ name. if is_client name then Err cause.Role else one_more_liar config liars name) liar is in
+    let (name, found, after) = step_ok (name_of_field config field) (λ name. if is_client name then Err cause.Role else one_more_liar config liars name) liar is in
     let (node, more) = unless_ok (is_client name) (one_more_liar config liars name) cause.Role liar after in
     let (new, room) = unless_ok (is_liar liars name) (if nat_lt (liars_of liars name.shard) config.f then Ok name else Err cause.Liars) cause.Liars liar more in
     let (fewer, same) = when_ok (nat_lt (liars_of liars name.shard) config.f) (Ok name) cause.Liars liar room in

@@ -3,7 +3,7 @@ use Rattle.std.specs.Prelude.{◌≡◌, ℕ, Bool, true, false, List, [], lengt
 use Rattle.std.specs.Str.{bytes_eq}
 use Rattle.std.proofs.Common.{ap, refl, subst, inl, inr}
 use Rattle.cs_tx.specs.Digest.{name_of_genesis}
-use Rattle.cs_sched_types.specs.declared.schedule.Schedule.{Schedule}
+use Rattle.cs_sched.specs.declared.schedule.Schedule.{Schedule}
 use Rattle.cs_text.specs.declared.cause.Cause.TheVariants as cause
 use Rattle.cs_sched.specs.declared.draft.Draft.{Draft}
 use Rattle.cs_sched.specs.declared.draft.Stage.{Stage}
@@ -13,8 +13,8 @@ use Rattle.cs_tx.specs.GenesisNames.{is_known}
 use Rattle.cs_sched.specs.Drafts.{has_ended}
 use Rattle.cs_sched.specs.Said.{shards_said, faulty_said, dummies_said, liar_said, contract_said, object_said}
 use Rattle.cs_sched.specs.Events.{event_said}
-use Rattle.cs_sched.specs.Lines.{with_config, with_master, with_liar, with_contract, with_genesis, with_event, at_stage, shards_line, faulty_line, dummies_line, master_line, liar_line, named_object, genesis_line, run_line, event_line, end_line, contract_line}
-use Rattle.cs_sched.specs.Places.{genesis_place, contracts_place, liars_place, events_place, line_at}
+use Rattle.cs_sched.specs.Lines.{with_config, with_master, with_liar, with_contract_text, with_genesis, with_event, at_stage, shards_line, faulty_line, dummies_line, master_line, liar_line, named_object, genesis_line, run_line, event_line, end_line, contract_line}
+use Rattle.cs_sched.specs.Places.{genesis_place, contracts_place, liars_place, events_place, schedule_line_at}
 use Rattle.cs_text.proofs.Kept.{whole_kept}
 use Rattle.cs_text.proofs.Taken.{digest_said-ok}
 use Rattle.cs_text.specs.Values.{no_field, digest_said}
@@ -56,7 +56,7 @@ module _ (draft next : Draft) (fields : List (List ℕ)) (sound : IsSound draft)
   contract_sound : draft.schedule.events ≡ [] → contract_line draft fields ≡ Ok next → IsSound next
   contract_sound none is =
       let place = length draft.schedule.contracts in
-      let (text, said, moved) = change_ok (contract_said place fields) (λ text. with_contract draft text) next is in
+      let (text, said, moved) = change_ok (contract_said place fields) (λ text. with_contract_text draft text) next is in
       let (few, fits) = contract_said-ok place fields text said in
       subst IsSound moved (with_contract-sound draft text sound none fits few)
 
@@ -112,7 +112,7 @@ module _ (draft next : Draft) (fields : List (List ℕ)) (sound : IsSound draft)
       ]
 
   -- at its place in the schedule, before or behind the line `run`
-  line_sound : (place : Stage) (line : ℕ) (word : List ℕ) → draft.stage ≡ place → line_at place line draft word fields ≡ Ok next → IsSound next
+  line_sound : (place : Stage) (line : ℕ) (word : List ℕ) → draft.stage ≡ place → schedule_line_at place line draft word fields ≡ Ok next → IsSound next
   line_sound stage.Shards line word at is = shards_sound (sound.trusted (ap has_master at)) (sound.unplayed (ap has_run at)) (when_ok (bytes_eq word (codes "shards")) (shards_line draft fields) cause.Word next is).1
   line_sound stage.Faulty line word at is = faulty_sound (sound.trusted (ap has_master at)) (sound.unplayed (ap has_run at)) (when_ok (bytes_eq word (codes "faulty")) (faulty_line draft fields) cause.Word next is).1
   line_sound stage.Dummies line word at is = dummies_sound (sound.trusted (ap has_master at)) (sound.unplayed (ap has_run at)) (when_ok (bytes_eq word (codes "dummies")) (dummies_line draft fields) cause.Word next is).1
@@ -123,7 +123,7 @@ module _ (draft next : Draft) (fields : List (List ℕ)) (sound : IsSound draft)
   line_sound stage.Events line word at is = events_place-sound line word (ap has_run at) is
   line_sound stage.Ended line word at is = absurd cc
 
-line_kept : (number : ℕ) (draft next : Draft) (word : List ℕ) (fields : List (List ℕ)) → IsSound draft → line_at draft.stage number draft word fields ≡ Ok next → IsSound next
+line_kept : (number : ℕ) (draft next : Draft) (word : List ℕ) (fields : List (List ℕ)) → IsSound draft → schedule_line_at draft.stage number draft word fields ≡ Ok next → IsSound next
 line_kept number draft next word fields sound is = line_sound draft next fields sound draft.stage number word refl is
 
 ended_with : (draft : Draft) (ended : Bool) (schedule : Schedule) → (if ended then Some draft.schedule else None) ≡ Some schedule → draft.schedule ≡ schedule

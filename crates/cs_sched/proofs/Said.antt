@@ -6,7 +6,7 @@ use Rattle.std.proofs.lemmas.Bool.{ltb-true}
 use Rattle.cs_base.specs.Fields.{IsBytes}
 use Rattle.cs_base.specs.declared.limits.TheConstants.{MOST_GENESIS, MOST_OBJECT}
 use Rattle.cs_lang_token.specs.declared.limits.TheConstants.{MOST_TEXT}
-use Rattle.cs_accept.specs.Accepting.{is_refused}
+use Rattle.cs_types.specs.Accepting.{is_refused}
 use Rattle.cs_tx_value.specs.declared.object.Object.{Object}
 use Rattle.cs_tx_value.specs.Object.{object_encoding, ObjectFits}
 use Rattle.cs_text.specs.declared.cause.Cause.TheVariants as cause

@@ -14,14 +14,14 @@ use Rattle.cs_base.specs.declared.limits.TheConstants.{MOST_GENESIS}
 use Rattle.cs_tx_value.specs.declared.object.Object.{Object}
 use Rattle.cs_tx_value.specs.Object.{object_encoding, DigestFits, ObjectFits}
 use Rattle.cs_tx.specs.Digest.{name_of_genesis}
-use Rattle.cs_sched_types.specs.declared.schedule.Event.{Event}
+use Rattle.cs_sched.specs.declared.schedule.Event.{Event}
 use Rattle.cs_sched.specs.declared.draft.Draft.{Draft}
 use Rattle.cs_sched.specs.declared.draft.Stage.{Stage}
 use Rattle.cs_sched.specs.declared.draft.Stage.TheVariants as stage
 use Rattle.cs_tx.specs.GenesisNames.{is_known, genesis_names}
 use Rattle.cs_sched.specs.Naming.{liars_of}
 use Rattle.cs_sched.specs.Drafts.{empty_draft}
-use Rattle.cs_sched.specs.Lines.{with_config, with_master, with_liar, with_contract, with_genesis, with_event, at_stage}
+use Rattle.cs_sched.specs.Lines.{with_config, with_master, with_liar, with_contract_text, with_genesis, with_event, at_stage}
 use Rattle.cs_sched.specs.declared.limits.TheConstants.{MOST_CONTRACTS}
 use Rattle.cs_sched.specs.Playable.{IsPlayable, IsPlayableEvent, IsContractText}
 use Rattle.cs_sched.proofs.Liars.{IsNewLiar, one_more, liars_differ}
@@ -199,7 +199,7 @@ with_event-sound draft line said sound run played = record {
   encodings = sound.encodings;
 }
 
-pub with_contract-sound : (draft : Draft) (text : List ℕ) → IsSound draft → draft.schedule.events ≡ [] → IsContractText text → length draft.schedule.contracts < MOST_CONTRACTS → IsSound (with_contract draft text)
+pub with_contract-sound : (draft : Draft) (text : List ℕ) → IsSound draft → draft.schedule.events ≡ [] → IsContractText text → length draft.schedule.contracts < MOST_CONTRACTS → IsSound (with_contract_text draft text)
 with_contract-sound draft text sound none fits few = record {
   playable = record {
     some_shard = sound.playable.some_shard;

@@ -7,9 +7,9 @@ use Rattle.cs_base.specs.Fields.{each}
 use Rattle.cs_base.specs.Lines.{views}
 use Rattle.cs_base.proofs.Written.{each_more, each-append}
 use Rattle.cs_tx_value.specs.Reading.{Begins}
-use Rattle.cs_sched_types.specs.declared.schedule.Schedule.{Schedule}
+use Rattle.cs_sched.specs.declared.schedule.Schedule.{Schedule}
 use Rattle.cs_text.specs.Printed.{line_text}
-use Rattle.cs_sched.specs.Printed.{head_lines, liar_lines, contract_lines, genesis_lines, event_lines, schedule_text}
+use Rattle.cs_sched.specs.Printed.{head_lines, liar_lines, contract_lines, genesis_lines, printed_events, schedule_text}
 
 pub each-map : {X Y : Type 0} (write : Y → List ℕ) (change : X → Y) (xs : List X) → each write (map change xs) ≡ each (λ x. write (change x)) xs
 each-map write change [] = refl
@@ -74,7 +74,7 @@ parts_text write head liars contracts genesis run events end = simp (each-append
 abbrev pub front_text : Schedule → List ℕ
 front_text schedule =
     ((((each line_text (head_lines schedule.config schedule.master) ++ each line_text (liar_lines schedule.liars)) ++ each line_text (contract_lines schedule.contracts))
-    ++ each line_text (genesis_lines schedule.genesis)) ++ line_text (codes "run" ∷ [])) ++ each line_text (event_lines schedule.events)
+    ++ each line_text (genesis_lines schedule.genesis)) ++ line_text (codes "run" ∷ [])) ++ each line_text (printed_events schedule.events)
 
 pub front_done : (schedule : Schedule) (old head liars contracts genesis run events : List ℕ)
     → head ≡ old ++ each line_text (head_lines schedule.config schedule.master)
@@ -82,7 +82,7 @@ pub front_done : (schedule : Schedule) (old head liars contracts genesis run eve
     → contracts ≡ liars ++ each line_text (contract_lines schedule.contracts)
     → genesis ≡ contracts ++ each line_text (genesis_lines schedule.genesis)
     → run ≡ genesis ++ line_text (codes "run" ∷ [])
-    → events ≡ run ++ each line_text (event_lines schedule.events)
+    → events ≡ run ++ each line_text (printed_events schedule.events)
     → events ≡ old ++ front_text schedule
 front_done schedule old head liars contracts genesis run events h l c g r e =
     behind old _ run _ events (behind old _ genesis _ run (behind old _ contracts _ genesis (behind old _ liars _ contracts (behind old _ head _ liars h l) c) g) r) e
@@ -90,4 +90,4 @@ front_done schedule old head liars contracts genesis run events h l c g r e =
 pub schedule_done : (schedule : Schedule) (old front new : List ℕ) → front ≡ old ++ front_text schedule → new ≡ front ++ line_text (codes "end" ∷ []) → new ≡ old ++ schedule_text schedule
 schedule_done schedule old front new so_far ended =
     behind old (front_text schedule) front (line_text (codes "end" ∷ [])) new so_far ended
-    ∙ ap (λ text. old ++ text) (parts_text line_text (head_lines schedule.config schedule.master) (liar_lines schedule.liars) (contract_lines schedule.contracts) (genesis_lines schedule.genesis) (codes "run" ∷ []) (event_lines schedule.events) (codes "end" ∷ []))
+    ∙ ap (λ text. old ++ text) (parts_text line_text (head_lines schedule.config schedule.master) (liar_lines schedule.liars) (contract_lines schedule.contracts) (genesis_lines schedule.genesis) (codes "run" ∷ []) (printed_events schedule.events) (codes "end" ∷ []))

@@ -8,14 +8,14 @@ use Rattle.cs_base.specs.declared.limits.TheConstants.{MOST_BODY, MOST_DATAGRAM}
 use Rattle.cs_base.specs.NodeId.{node_of, is_node, is_named, is_client}
 use Rattle.cs_base.specs.declared.config.Config.{Config}
 use Rattle.cs_base.specs.declared.node_id.NodeId.{NodeId}
-use Rattle.cs_sched_types.specs.declared.schedule.Schedule.{Schedule}
-use Rattle.cs_sched_types.specs.declared.schedule.Event.{Event}
-use Rattle.cs_sched_types.specs.declared.schedule.Event.TheVariants.{Say, Inject, Deliver, Tick, Drain}
+use Rattle.cs_sched.specs.declared.schedule.Schedule.{Schedule}
+use Rattle.cs_sched.specs.declared.schedule.Event.{Event}
+use Rattle.cs_sched.specs.declared.schedule.Event.TheVariants.{Say, Inject, Deliver, Tick, Drain}
 use Rattle.cs_text.specs.declared.cause.Cause.TheVariants as cause
 use Rattle.cs_text.specs.Values.{◌>>=◌, number_within, bytes_within, number_said}
 use Rattle.cs_text.proofs.Steps.{step_ok, change_ok, ok_same, when_ok, unless_ok, either_ok}
 use Rattle.cs_text.proofs.Taken.{number_said-ok, number_within-ok, bytes_within-ok}
-use Rattle.cs_sched.specs.Naming.{named, is_liar, speaker_in, honest_in}
+use Rattle.cs_sched.specs.Naming.{name_of_field, is_liar, speaker_in, honest_in}
 use Rattle.cs_sched.specs.Events.{say_of, inject_of, say_said, inject_said, deliver_said, tick_said, drain_said, event_said}
 use Rattle.cs_sched.specs.Playable.{IsHonest, IsSpeaker, IsPlayableEvent}
 
@@ -29,7 +29,7 @@ neither : (one other : Bool) → (one || other) ≡ false → (one ≡ false) ×
 neither true other none = absurd (true≢false none)
 neither false other none = (refl, none)
 
-pub named_ok : (config : Config) (field : List ℕ) (name : NodeId) → named config field ≡ Ok name → is_named config name ≡ true
+pub named_ok : (config : Config) (field : List ℕ) (name : NodeId) → name_of_field config field ≡ Ok name → is_named config name ≡ true
 named_ok config field name is =
     let (text, of_field, tested) = step_ok (ok_or (node_of field) cause.Node) (λ text. if is_named config text then Ok text else Err cause.Node) name is in
     let (has, same) = when_ok (is_named config text) (Ok text) cause.Node name tested in
@@ -37,13 +37,13 @@ named_ok config field name is =
 
 speaker_ok : (config : Config) (liars : List NodeId) (field : List ℕ) (name : NodeId) → speaker_in config liars field ≡ Ok name → IsSpeaker config liars name
 speaker_ok config liars field name is =
-    let (found, read, after) = step_ok (named config field) (λ found. if is_client found || is_liar liars found then Ok found else Err cause.Role) name is in
+    let (found, read, after) = step_ok (name_of_field config field) (λ found. if is_client found || is_liar liars found then Ok found else Err cause.Role) name is in
     let (speaks, done) = when_ok (is_client found || is_liar liars found) (Ok found) cause.Role name after in
     subst (IsSpeaker config liars) (ok_same found name done) (record { named = named_ok config field found read; speaks = speaks })
 
 honest_ok : (config : Config) (liars : List NodeId) (field : List ℕ) (name : NodeId) → honest_in config liars field ≡ Ok name → IsHonest config liars name
 honest_ok config liars field name is =
-    let (found, read, after) = step_ok (named config field) (λ found. if is_client found || is_liar liars found then Err cause.Role else Ok found) name is in
+    let (found, read, after) = step_ok (name_of_field config field) (λ found. if is_client found || is_liar liars found then Err cause.Role else Ok found) name is in
     let (listens, done) = unless_ok (is_client found || is_liar liars found) (Ok found) cause.Role name after in
     let (no_client, honest) = neither (is_client found) (is_liar liars found) listens in
     subst (IsHonest config liars) (ok_same found name done) (record {

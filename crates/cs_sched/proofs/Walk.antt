@@ -15,8 +15,8 @@ use Rattle.cs_base.proofs.Configs.{configured-config}
 use Rattle.cs_tx_value.specs.Object.{object_encoding, DigestFits, ObjectFits}
 use Rattle.cs_tx_value.specs.declared.object.Object.{Object}
 use Rattle.cs_tx.specs.Digest.{name_of_genesis}
-use Rattle.cs_sched_types.specs.declared.schedule.Event.{Event}
-use Rattle.cs_sched_types.specs.declared.schedule.Event.TheVariants.{Say, Inject, Deliver, Tick, Drain}
+use Rattle.cs_sched.specs.declared.schedule.Event.{Event}
+use Rattle.cs_sched.specs.declared.schedule.Event.TheVariants.{Say, Inject, Deliver, Tick, Drain}
 use Rattle.cs_sched.specs.Drafts.{empty_draft}
 use Rattle.cs_tx.specs.GenesisNames.{is_known, genesis_names}
 use Rattle.cs_sched.specs.Naming.{is_liar, liars_of, liar_in}
@@ -27,13 +27,13 @@ use Rattle.cs_text.proofs.Rows.{read_fields, read-cons}
 use Rattle.cs_sched.specs.Text.{schedule_form}
 use Rattle.cs_sched.specs.declared.limits.TheConstants.{MOST_CONTRACTS}
 use Rattle.cs_sched.specs.Playable.{IsPlayableEvent, IsContractText}
-use Rattle.cs_sched.specs.Values.{in_range}
+use Rattle.cs_sched.specs.Values.{config_in_range}
 use Rattle.cs_sched.specs.declared.draft.Draft.{Draft}
 use Rattle.cs_sched.specs.declared.draft.Stage.{Stage}
 use Rattle.cs_sched.specs.declared.draft.Stage.TheVariants as stage
 use Rattle.cs_tx.proofs.GenesisNames.{genesis_names-append}
-use Rattle.cs_sched.specs.Again.{numbered}
-use Rattle.cs_sched.specs.Printed.{liar_words, contract_words, object_words, event_words, liar_lines, contract_lines, genesis_lines, event_lines}
+use Rattle.cs_sched.specs.Again.{numbered_events}
+use Rattle.cs_sched.specs.Printed.{liar_words, contract_words, object_words, event_words, liar_lines, contract_lines, genesis_lines, printed_events}
 use Rattle.cs_sched.proofs.Back.{named_back, node_named, node_no_client, speaker_back, honest_back}
 use Rattle.cs_sched.proofs.Liars.{new_liar, room_before}
 use Rattle.cs_sched.proofs.Fields.{shards_back, faulty_back, dummies_back, contract_back, object_back, next_new}
@@ -142,8 +142,8 @@ module _ (config : Config) (master : List ℕ) (liars : List NodeId) (contracts 
 
   module _ (genesis : List Object) (last : Draft) (rest : List (List (List ℕ))) where
     pub reads_events : (events before : List (ℕ × Event)) (number : ℕ) → AllByRecursion (λ event. IsPlayableEvent config liars event.1) events
-        → read_fields schedule_form (made stage.Events config master liars contracts genesis (before ++ numbered number events)) (number + length events) rest ≡ Ok last
-        → read_fields schedule_form (made stage.Events config master liars contracts genesis before) number (event_lines events ++ rest) ≡ Ok last
+        → read_fields schedule_form (made stage.Events config master liars contracts genesis (before ++ numbered_events number events)) (number + length events) rest ≡ Ok last
+        → read_fields schedule_form (made stage.Events config master liars contracts genesis before) number (printed_events events ++ rest) ≡ Ok last
     reads_events [] before number fit more =
         let none : number + 0 ≡ number = omega arith in
         let at : read_fields schedule_form (made stage.Events config master liars contracts genesis before) (number + 0) rest ≡ Ok last =
@@ -151,11 +151,11 @@ module _ (config : Config) (master : List ℕ) (liars : List NodeId) (contracts 
         subst (λ n. read_fields schedule_form (made stage.Events config master liars contracts genesis before) n rest ≡ Ok last) none at
     reads_events (event ∷ events) before number fit more =
         let next : number + length (event ∷ events) ≡ number + 1 + length events = omega arith in
-        let all = sym (append_assoc before ((number, event.1) ∷ []) (numbered (number + 1) events)) in
-        read-cons schedule_form (made stage.Events config master liars contracts genesis before) (made stage.Events config master liars contracts genesis (before ++ (number, event.1) ∷ [])) last number (event_words event.1) (event_lines events ++ rest)
+        let all = sym (append_assoc before ((number, event.1) ∷ []) (numbered_events (number + 1) events)) in
+        read-cons schedule_form (made stage.Events config master liars contracts genesis before) (made stage.Events config master liars contracts genesis (before ++ (number, event.1) ∷ [])) last number (event_words event.1) (printed_events events ++ rest)
         (event_step event.1 genesis before number fit.0)
         (reads_events events (before ++ (number, event.1) ∷ []) (number + 1) fit.1
-        (subst (λ n. read_fields schedule_form (made stage.Events config master liars contracts genesis ((before ++ (number, event.1) ∷ []) ++ numbered (number + 1) events)) n rest ≡ Ok last) next
+        (subst (λ n. read_fields schedule_form (made stage.Events config master liars contracts genesis ((before ++ (number, event.1) ∷ []) ++ numbered_events (number + 1) events)) n rest ≡ Ok last) next
         (subst (λ found. read_fields schedule_form (made stage.Events config master liars contracts genesis found) (number + length (event ∷ events)) rest ≡ Ok last) all more)))
 
     pub reads_objects : length genesis ≤ MOST_GENESIS → AllPairs (λ a b. a ≢ b) (genesis_names 0 genesis)
@@ -192,11 +192,11 @@ reads_head config master fits last rest more =
     let same_f : second.f ≡ config.f = omega arith in
     let out : first_out config.shards 0 0 ≡ None = grind (arith, nat_tests) in
     let out_f : first_out config.shards config.f 0 ≡ None = grind (arith, nat_tests) in
-    let sharded : in_range (configured config.shards 0 0) ≡ Ok first = ap (λ field. in_range (unless_out first field)) out in
-    let trusted : in_range (configured first.shards config.f 0) ≡ Ok second =
-    ap (λ n. in_range (configured n config.f 0)) same ∙ ap (λ field. in_range (unless_out second field)) out_f in
-    let whole : in_range (configured second.shards second.f config.dummies) ≡ Ok config =
-    ap (λ n. in_range (configured n second.f config.dummies)) same ∙ ap (λ n. in_range (configured config.shards n config.dummies)) same_f ∙ ap in_range (configured-config config) in
+    let sharded : config_in_range (configured config.shards 0 0) ≡ Ok first = ap (λ field. config_in_range (unless_out first field)) out in
+    let trusted : config_in_range (configured first.shards config.f 0) ≡ Ok second =
+    ap (λ n. config_in_range (configured n config.f 0)) same ∙ ap (λ field. config_in_range (unless_out second field)) out_f in
+    let whole : config_in_range (configured second.shards second.f config.dummies) ≡ Ok config =
+    ap (λ n. config_in_range (configured n second.f config.dummies)) same ∙ ap (λ n. config_in_range (configured config.shards n config.dummies)) same_f ∙ ap config_in_range (configured-config config) in
     let shards : line_step schedule_form 1 empty_draft (number_words (codes "shards") config.shards) ≡ Ok (made stage.Faulty first zeros [] [] [] []) =
     rw (shards_back least first config.shards (omega arith) sharded) refl in
     let faulty : line_step schedule_form 2 (made stage.Faulty first zeros [] [] [] []) (number_words (codes "faulty") config.f) ≡ Ok (made stage.Dummies second zeros [] [] [] []) =

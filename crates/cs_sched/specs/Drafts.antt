@@ -4,7 +4,7 @@ use Rattle.cs_base.specs.Config.{config_of}
 use Rattle.cs_sched.specs.declared.draft.Draft.{Draft}
 use Rattle.cs_sched.specs.declared.draft.Stage.{Stage}
 use Rattle.cs_sched.specs.declared.draft.Stage.TheVariants as stage
-use Rattle.cs_sched_types.specs.declared.schedule.Schedule.{Schedule}
+use Rattle.cs_sched.specs.declared.schedule.Schedule.{Schedule}
 
 -- one shard of one node, without anything
 abbrev pub empty_schedule : Schedule

@@ -4,7 +4,7 @@ use Rattle.cs_base.specs.declared.config.Config.{Config}
 use Rattle.cs_base.specs.declared.node_id.NodeId.{NodeId}
 use Rattle.cs_tx_value.specs.declared.object.Object.{Object}
 use Rattle.cs_tx.specs.Digest.{name_of_genesis}
-use Rattle.cs_sched_types.specs.declared.schedule.Event.{Event}
+use Rattle.cs_sched.specs.declared.schedule.Event.{Event}
 use Rattle.cs_text.specs.Values.{◌>>=◌, no_field, digest_said}
 use Rattle.cs_tx.specs.GenesisNames.{is_known}
 use Rattle.cs_sched.specs.Said.{shards_said, faulty_said, dummies_said, liar_said, contract_said, object_said}
@@ -32,8 +32,8 @@ with_liar draft liar = record draft {
 }
 
 -- one more contract, behind which no liar can stand
-abbrev pub with_contract : Draft → List ℕ → Draft
-with_contract draft text = record draft {
+abbrev pub with_contract_text : Draft → List ℕ → Draft
+with_contract_text draft text = record draft {
   stage = stage.Contracts;
   schedule = record draft.schedule { contracts = draft.schedule.contracts ++ text ∷ [] };
 }
@@ -86,7 +86,7 @@ liar_line draft fields = do
 abbrev pub contract_line : Draft → List (List ℕ) → Result Draft Cause
 contract_line draft fields = do
   text ← contract_said (length draft.schedule.contracts) fields
-  Ok (with_contract draft text)
+  Ok (with_contract_text draft text)
 
 -- an object, whose name is its key, unless an earlier one has that key
 abbrev pub named_object : Draft → Object → List ℕ → Result Draft Cause

@@ -10,8 +10,8 @@ use Rattle.cs_text.specs.declared.cause.Cause.{Cause}
 use Rattle.cs_text.specs.declared.cause.Cause.TheVariants as cause
 
 -- the node or client of the configuration whose name a field is
-abbrev pub named : Config → List ℕ → Result NodeId Cause
-named config field = do
+abbrev pub name_of_field : Config → List ℕ → Result NodeId Cause
+name_of_field config field = do
   name ← ok_or (node_of field) cause.Node
   if is_named config name then Ok name else Err cause.Node
 
@@ -37,17 +37,17 @@ one_more_liar config liars name =
 -- a liar: a node, and one more liar of its shard
 abbrev pub liar_in : Config → List NodeId → List ℕ → Result NodeId Cause
 liar_in config liars field = do
-  name ← named config field
+  name ← name_of_field config field
   if is_client name then Err cause.Role else one_more_liar config liars name
 
 -- who speaks: a liar or a client
 abbrev pub speaker_in : Config → List NodeId → List ℕ → Result NodeId Cause
 speaker_in config liars field = do
-  name ← named config field
+  name ← name_of_field config field
   if is_client name || is_liar liars name then Ok name else Err cause.Role
 
 -- who things happen to: an honest node
 abbrev pub honest_in : Config → List NodeId → List ℕ → Result NodeId Cause
 honest_in config liars field = do
-  name ← named config field
+  name ← name_of_field config field
   if is_client name || is_liar liars name then Err cause.Role else Ok name

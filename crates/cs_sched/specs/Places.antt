@@ -34,17 +34,17 @@ events_place line draft word fields =
     else event_line line draft word fields
 
 -- a line of this word and these fields, where it has this place
-abbrev pub line_at : Stage → ℕ → Draft → List ℕ → List (List ℕ) → Result Draft Cause
-line_at stage.Shards line draft word fields =
+abbrev pub schedule_line_at : Stage → ℕ → Draft → List ℕ → List (List ℕ) → Result Draft Cause
+schedule_line_at stage.Shards line draft word fields =
     if bytes_eq word (codes "shards") then shards_line draft fields else Err cause.Word
-line_at stage.Faulty line draft word fields =
+schedule_line_at stage.Faulty line draft word fields =
     if bytes_eq word (codes "faulty") then faulty_line draft fields else Err cause.Word
-line_at stage.Dummies line draft word fields =
+schedule_line_at stage.Dummies line draft word fields =
     if bytes_eq word (codes "dummies") then dummies_line draft fields else Err cause.Word
-line_at stage.Master line draft word fields =
+schedule_line_at stage.Master line draft word fields =
     if bytes_eq word (codes "master") then master_line draft fields else Err cause.Word
-line_at stage.Liars line draft word fields = liars_place draft word fields
-line_at stage.Contracts line draft word fields = contracts_place draft word fields
-line_at stage.Genesis line draft word fields = genesis_place draft word fields
-line_at stage.Events line draft word fields = events_place line draft word fields
-line_at stage.Ended line draft word fields = Err cause.After
+schedule_line_at stage.Liars line draft word fields = liars_place draft word fields
+schedule_line_at stage.Contracts line draft word fields = contracts_place draft word fields
+schedule_line_at stage.Genesis line draft word fields = genesis_place draft word fields
+schedule_line_at stage.Events line draft word fields = events_place line draft word fields
+schedule_line_at stage.Ended line draft word fields = Err cause.After

@@ -8,10 +8,10 @@ use Rattle.cs_base.specs.declared.limits.TheConstants.{MOST_SHARDS, MOST_LIARS, 
 use Rattle.cs_base.specs.declared.node_id.NodeId.{NodeId}
 use Rattle.cs_tx_value.specs.Object.{ObjectFits}
 use Rattle.cs_lang_token.specs.declared.limits.TheConstants.{MOST_TEXT}
-use Rattle.cs_accept.specs.Accepting.{is_refused}
-use Rattle.cs_sched_types.specs.declared.schedule.Schedule.{Schedule}
-use Rattle.cs_sched_types.specs.declared.schedule.Event.{Event}
-use Rattle.cs_sched_types.specs.declared.schedule.Event.TheVariants.{Say, Inject, Deliver, Tick, Drain}
+use Rattle.cs_types.specs.Accepting.{is_refused}
+use Rattle.cs_sched.specs.declared.schedule.Schedule.{Schedule}
+use Rattle.cs_sched.specs.declared.schedule.Event.{Event}
+use Rattle.cs_sched.specs.declared.schedule.Event.TheVariants.{Say, Inject, Deliver, Tick, Drain}
 use Rattle.cs_sched.specs.declared.limits.TheConstants.{MOST_CONTRACTS}
 use Rattle.cs_sched.specs.Naming.{is_liar, liars_of}
 use Rattle.cs_tx.specs.GenesisNames.{genesis_names}
@@ -27,7 +27,7 @@ pub record IsSpeaker (config : Config) (liars : List NodeId) (name : NodeId) : T
   pub speaks : (is_client name || is_liar liars name) ≡ true
 
 -- a client or a liar says something to an honest node
-pub record IsSaid (config : Config) (liars : List NodeId) (from to : NodeId) (number : ℕ) (bytes : List ℕ)
+pub record IsPlayableSay (config : Config) (liars : List NodeId) (from to : NodeId) (number : ℕ) (bytes : List ℕ)
     : Type 0 where
   pub speaker : IsSpeaker config liars from
   pub listener : IsHonest config liars to
@@ -43,7 +43,7 @@ pub record IsInjected (config : Config) (liars : List NodeId) (to : NodeId) (byt
 
 -- an event that can stand in a schedule of these liars
 abbrev pub IsPlayableEvent : Config → List NodeId → Event → Type 0
-IsPlayableEvent config liars (Say from to kind body) = IsSaid config liars from to kind body
+IsPlayableEvent config liars (Say from to kind body) = IsPlayableSay config liars from to kind body
 IsPlayableEvent config liars (Inject to bytes) = IsInjected config liars to bytes
 IsPlayableEvent config liars (Deliver number) = number < 2 ^ 64
 IsPlayableEvent config liars (Tick node) = IsHonest config liars node

@@ -9,9 +9,9 @@ use Rattle.cs_base.specs.declared.node_id.NodeId.{NodeId}
 use Rattle.cs_tx_value.specs.Object.{object_encoding}
 use Rattle.cs_tx_value.specs.declared.object.Object.{Object}
 use Rattle.cs_text.specs.Printed.{line_text, number_words, name_words, bytes_words}
-use Rattle.cs_sched_types.specs.declared.schedule.Event.{Event}
-use Rattle.cs_sched_types.specs.declared.schedule.Event.TheVariants.{Say, Inject, Deliver, Tick, Drain}
-use Rattle.cs_sched_types.specs.declared.schedule.Schedule.{Schedule}
+use Rattle.cs_sched.specs.declared.schedule.Event.{Event}
+use Rattle.cs_sched.specs.declared.schedule.Event.TheVariants.{Say, Inject, Deliver, Tick, Drain}
+use Rattle.cs_sched.specs.declared.schedule.Schedule.{Schedule}
 
 -- the words of a line: the one that names it, and its fields
 
@@ -50,8 +50,8 @@ contract_lines contracts = map contract_words contracts
 abbrev pub genesis_lines : List Object → List (List (List ℕ))
 genesis_lines objects = map object_words objects
 
-abbrev pub event_lines : List (ℕ × Event) → List (List (List ℕ))
-event_lines events = map (λ numbered. event_words numbered.1) events
+abbrev pub printed_events : List (ℕ × Event) → List (List (List ℕ))
+printed_events events = map (λ numbered. event_words numbered.1) events
 
 -- all lines of a schedule
 abbrev pub schedule_lines : Schedule → List (List (List ℕ))
@@ -60,7 +60,7 @@ schedule_lines schedule =
     ++ (liar_lines schedule.liars
     ++ (contract_lines schedule.contracts
     ++ (genesis_lines schedule.genesis
-    ++ ((codes "run" ∷ []) ∷ (event_lines schedule.events
+    ++ ((codes "run" ∷ []) ∷ (printed_events schedule.events
     ++ (codes "end" ∷ []) ∷ [])))))
 
 -- its text

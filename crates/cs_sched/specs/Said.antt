@@ -5,10 +5,10 @@ use Rattle.cs_base.specs.declared.limits.TheConstants.{MOST_GENESIS}
 use Rattle.cs_base.specs.declared.config.Config.{Config}
 use Rattle.cs_base.specs.declared.node_id.NodeId.{NodeId}
 use Rattle.cs_tx_value.specs.declared.object.Object.{Object}
-use Rattle.cs_sched_types.specs.declared.schedule.Schedule.{Schedule}
+use Rattle.cs_sched.specs.declared.schedule.Schedule.{Schedule}
 use Rattle.cs_sched.specs.declared.limits.TheConstants.{MOST_CONTRACTS}
 use Rattle.cs_text.specs.Values.{◌>>=◌, only_field, number_said}
-use Rattle.cs_sched.specs.Values.{in_range, contract_in, object_in}
+use Rattle.cs_sched.specs.Values.{config_in_range, contract_in, object_in}
 use Rattle.cs_sched.specs.Naming.{liar_in}
 use Rattle.cs_text.specs.declared.cause.Cause.{Cause}
 use Rattle.cs_text.specs.declared.cause.Cause.TheVariants as cause
@@ -17,19 +17,19 @@ use Rattle.cs_text.specs.declared.cause.Cause.TheVariants as cause
 abbrev pub shards_said : Config → List (List ℕ) → Result Config Cause
 shards_said config fields = do
   shards ← number_said fields
-  in_range (configured shards config.f config.dummies)
+  config_in_range (configured shards config.f config.dummies)
 
 -- the number of liars that a shard stands
 abbrev pub faulty_said : Config → List (List ℕ) → Result Config Cause
 faulty_said config fields = do
   faulty ← number_said fields
-  in_range (configured config.shards faulty config.dummies)
+  config_in_range (configured config.shards faulty config.dummies)
 
 -- the number of dummies of each shard
 abbrev pub dummies_said : Config → List (List ℕ) → Result Config Cause
 dummies_said config fields = do
   dummies ← number_said fields
-  in_range (configured config.shards config.f dummies)
+  config_in_range (configured config.shards config.f dummies)
 
 -- one more liar
 abbrev pub liar_said : Schedule → List (List ℕ) → Result NodeId Cause

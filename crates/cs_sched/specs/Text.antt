@@ -3,9 +3,9 @@ use Rattle.std.specs.Prelude.{ℕ, List, Option, Some, None, Result, if◌then�
 use Rattle.cs_text.specs.Text.{TextForm, whole_of}
 use Rattle.cs_text.specs.declared.cause.Refusal.{Refusal}
 use Rattle.cs_sched.specs.Drafts.{empty_draft, has_ended}
-use Rattle.cs_sched.specs.Places.{line_at}
+use Rattle.cs_sched.specs.Places.{schedule_line_at}
 use Rattle.cs_sched.specs.declared.draft.Draft.{Draft}
-use Rattle.cs_sched_types.specs.declared.schedule.Schedule.{Schedule}
+use Rattle.cs_sched.specs.declared.schedule.Schedule.{Schedule}
 
 -- a schedule is whole where the line `end` was met
 abbrev pub schedule_in : Draft → Option Schedule
@@ -15,7 +15,7 @@ schedule_in draft = if has_ended draft.stage then Some draft.schedule else None
 abbrev pub schedule_form : TextForm Draft Schedule
 schedule_form = record {
   start = empty_draft;
-  step = λ number draft word fields. line_at draft.stage number draft word fields;
+  step = λ number draft word fields. schedule_line_at draft.stage number draft word fields;
   finish = schedule_in;
 }
 

@@ -8,15 +8,15 @@ use Rattle.cs_base.specs.declared.config.OutOfRange.{OutOfRange}
 use Rattle.cs_tx_value.specs.declared.object.Object.{Object}
 use Rattle.cs_tx_value.specs.Object.{object_at}
 use Rattle.cs_lang_token.specs.declared.limits.TheConstants.{MOST_TEXT}
-use Rattle.cs_accept.specs.Accepting.{is_refused}
+use Rattle.cs_types.specs.Accepting.{is_refused}
 use Rattle.cs_text.specs.Values.{◌>>=◌, bytes_within}
 use Rattle.cs_text.specs.declared.cause.Cause.{Cause}
 use Rattle.cs_text.specs.declared.cause.Cause.TheVariants as cause
 
 -- a configuration, which a number of it can't leave its range
-abbrev pub in_range : Result Config OutOfRange → Result Config Cause
-in_range (Ok config) = Ok config
-in_range (Err out) = Err cause.Limit
+abbrev pub config_in_range : Result Config OutOfRange → Result Config Cause
+config_in_range (Ok config) = Ok config
+config_in_range (Err out) = Err cause.Limit
 
 -- the text of a contract in hex, which is accepted
 abbrev pub contract_in : List ℕ → Result (List ℕ) Cause

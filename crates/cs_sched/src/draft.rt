@@ -8,13 +8,13 @@ ghost use Rattle.cs_text.specs.Reading.{Moves};
 ghost use Rattle.cs_sched.specs.Drafts.{empty_draft};
 ghost use Rattle.cs_sched.specs.Lines.{shards_line, faulty_line, dummies_line, master_line, liar_line, contract_line, genesis_line, run_line, event_line, end_line};
 
+use crate::Schedule;
 use crate::events::read_event;
 use crate::lines::{
     read_contract_line, read_dummies, read_faulty, read_liar_line, read_object_line, read_shards,
 };
 use crate::name_set::NameSet;
 use cs_base::{Config, Key, Memory, Sequence};
-use cs_sched_types::Schedule;
 use cs_text::{Cause, LineError, no_field, read_digest_line};
 use cs_tx::{Digest, Object, genesis_key};
 use std::alloc::Global;

@@ -4,8 +4,8 @@ ghost use Rattle.cs_text.specs.Reading.{GivesStep};
 ghost use Rattle.cs_sched.specs.Events.{say_of, inject_of, say_said, inject_said, deliver_said, tick_said, drain_said, event_said};
 
 use crate::naming::{read_honest, read_speaker};
+use crate::{Event, Schedule};
 use cs_base::{MOST_BODY, MOST_DATAGRAM};
-use cs_sched_types::{Event, Schedule};
 use cs_text::{Cause, LineError, only_field, only_number, read_bytes_within, read_number_within};
 use std::alloc::Global;
 

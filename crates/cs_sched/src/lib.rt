@@ -12,9 +12,9 @@ mod naming;
 mod places;
 mod printing;
 mod reader;
+mod schedule;
 mod values;
 
-pub use cs_sched_types::{Event, Schedule};
 pub use draft::{genesis_name, least_config};
 pub use law::printed_schedules_are_read;
 pub use limits::MOST_CONTRACTS;
@@ -23,3 +23,4 @@ pub use name_set::NameSet;
 pub use naming::is_liar;
 pub use printing::print;
 pub use reader::{parse, refusals_name_the_first_bad_line};
+pub use schedule::{Event, Schedule};

@@ -6,11 +6,11 @@ ghost use Rattle.cs_tx_value.specs.Object.{ObjectFits};
 ghost use Rattle.cs_text.specs.Reading.{GivesStep};
 ghost use Rattle.cs_sched.specs.Said.{shards_said, faulty_said, dummies_said, liar_said, contract_said, object_said};
 
+use crate::Schedule;
 use crate::limits::MOST_CONTRACTS;
 use crate::naming::read_liar;
 use crate::values::{config, read_contract, read_object};
 use cs_base::{Config, MOST_GENESIS, NodeId, Sequence};
-use cs_sched_types::Schedule;
 use cs_text::{Cause, LineError, only_field, only_number};
 use cs_tx::Object;
 use std::alloc::Global;

@@ -1,12 +1,12 @@
 //! Names of nodes and clients in fields.
 ghost use Rattle.std.specs.Prelude.{◌≡◌};
-ghost use Rattle.cs_sched.specs.Naming.{named, is_liar, liars_of, liar_in, speaker_in, honest_in};
+ghost use Rattle.cs_sched.specs.Naming.{name_of_field, is_liar, liars_of, liar_in, speaker_in, honest_in};
 
 use cs_base::{Config, NodeId, read_node};
 use cs_text::Cause;
 
 pub(crate) fn read_name(config: &Config, field: &[u8]) -> Result<NodeId, Cause>
-    ensures { result ≡ named config.now field.now }
+    ensures { result ≡ name_of_field config.now field.now }
 {
     let name = read_node(field).ok_or(Cause::Node)?;
     if !config.has(name) {

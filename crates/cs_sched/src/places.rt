@@ -4,8 +4,8 @@ ghost use Rattle.cs_text.specs.Reading.{Moves};
 ghost use Rattle.cs_sched.specs.Places.{genesis_place, contracts_place, liars_place, events_place};
 ghost use Rattle.cs_sched.specs.Text.{schedule_form};
 
+use crate::Schedule;
 use crate::draft::{Draft, Stage};
-use cs_sched_types::Schedule;
 use cs_text::{Cause, LineError, LineReader};
 use std::alloc::Global;
 

@@ -5,12 +5,12 @@ ghost use Rattle.cs_base.specs.Fields.{each};
 ghost use Rattle.cs_tx_value.specs.Object.{ObjectFits};
 ghost use Rattle.cs_tx_value.specs.Reading.{Begins};
 ghost use Rattle.cs_text.specs.Printed.{line_text};
-ghost use Rattle.cs_sched_types.specs.declared.schedule.Event.TheVariants.{Say, Inject};
-ghost use Rattle.cs_sched.specs.Printed.{liar_words, contract_words, object_words, event_words, head_lines, liar_lines, contract_lines, genesis_lines, event_lines, schedule_text};
+ghost use Rattle.cs_sched.specs.declared.schedule.Event.TheVariants.{Say, Inject};
+ghost use Rattle.cs_sched.specs.Printed.{liar_words, contract_words, object_words, event_words, head_lines, liar_lines, contract_lines, genesis_lines, printed_events, schedule_text};
 
 use crate::line_printing::{print_bytes_line, print_line, print_name, print_number};
+use crate::{Event, Schedule};
 use cs_base::{Memory, NodeId, Sequence, Writer, print_bytes};
-use cs_sched_types::{Event, Schedule};
 use cs_tx_value::{Encoded, Object};
 use std::alloc::Global;
 
@@ -122,7 +122,7 @@ fn print_object(alloc: Global, object: &Object, out: &mut Writer) -> Result<(), 
 
 #[tactic(auto, using(crate::proofs::Texts::later))]
 fn print_events(alloc: Global, events: &[(u64, Event)], out: &mut Writer) -> Result<(), Memory>
-    ensures ok { OnOk result (out.new ≡ out.old ++ each line_text (event_lines events.now)) }
+    ensures ok { OnOk result (out.new ≡ out.old ++ each line_text (printed_events events.now)) }
     ensures err { OnErr result (Begins out.new out.old) }
 {
     for (_, event) in events {

@@ -7,9 +7,9 @@ ghost use Rattle.cs_text.specs.declared.cause.Refusal.{Refusal};
 ghost use Rattle.cs_sched.specs.Playable.{IsPlayable};
 ghost use Rattle.cs_sched.specs.Text.{schedule_form, schedule_of};
 
+use crate::Schedule;
 use crate::draft::Draft;
 use cs_base::MOST_SCHEDULE;
-use cs_sched_types::Schedule;
 use cs_text::{TextError, parse_text};
 use std::alloc::Global;
 

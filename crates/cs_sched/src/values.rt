@@ -3,20 +3,20 @@ ghost use Rattle.std.specs.Prelude.{◌≡◌, IfOk};
 ghost use Rattle.std.specs.Option.{ok_or};
 ghost use Rattle.cs_base.specs.Config.{configured};
 ghost use Rattle.cs_text.specs.Reading.{GivesStep};
-ghost use Rattle.cs_sched.specs.Values.{in_range, contract_in, encoded_object, object_in};
+ghost use Rattle.cs_sched.specs.Values.{config_in_range, contract_in, encoded_object, object_in};
 ghost use Rattle.cs_tx_value.specs.Object.{ObjectFits};
 ghost use Rattle.cs_text.specs.declared.cause.Cause.TheVariants as cause;
 
-use cs_accept::{Unjudged, judged};
 use cs_base::{Config, MOST_OBJECT, Sequence};
 use cs_lang_token::MOST_TEXT;
 use cs_text::{Cause, LineError, read_bytes_within};
 use cs_tx::{Encoded, FormError, Object};
+use cs_types::{Unjudged, judged};
 use std::alloc::Global;
 
 // A configuration of these numbers, which come from fields.
 pub(crate) fn config(shards: u64, f: u64, dummies: u64) -> Result<Config, Cause>
-    ensures { result ≡ in_range (configured shards f dummies) }
+    ensures { result ≡ config_in_range (configured shards f dummies) }
 {
     let Ok(shards) = u16::try_from(shards) else {
         return Err(Cause::Limit);

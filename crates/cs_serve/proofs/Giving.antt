@@ -7,11 +7,11 @@ use Rattle.std.proofs.lemmas.List.{map-append, reverse-append}
 use Rattle.cs_base.specs.Answers.{AppendsFront}
 use Rattle.cs_ledger.specs.Ledger.{Bytes}
 use Rattle.cs_node_rules.specs.Site.{Input}
-use Rattle.cs_outer.specs.Told.{Changes, Stays}
-use Rattle.cs_outer.specs.Link.{Offers}
-use Rattle.cs_outer.specs.declared.link.MemInput.{MemInput}
-use Rattle.cs_outer.specs.Outside.{LinkTold, Beside}
-use Rattle.cs_serve.specs.Offering.{Adds}
+use Rattle.cs_io.specs.Told.{Changes, Stays}
+use Rattle.cs_io.specs.Link.{Offers}
+use Rattle.cs_io.specs.declared.link.MemInput.{MemInput}
+use Rattle.cs_io.specs.Outside.{LinkTold, Beside}
+use Rattle.cs_serve.specs.Offering.{AddsOffers}
 use Rattle.cs_serve.specs.Giving.{given_of, Takes, Gives, GivesFront}
 use Rattle.cs_serve.specs.laws.Offering.{adds-none, adds-more, front-all, front-more}
 
@@ -39,7 +39,7 @@ Gives-kept a b stays same = record {
   written = subst (λ (w : Option Bytes). Appends a.written w []) (sym same) (Appends-nil a.written);
 }
   where
-    kept : (a b : Option Offers) → Stays a b → Adds [] a b
+    kept : (a b : Option Offers) → Stays a b → AddsOffers [] a b
     kept None b stays = tt
     kept (Some x) None stays = absurd stays
     kept (Some x) (Some y) stays = stays ∙ sym (append-nil x)

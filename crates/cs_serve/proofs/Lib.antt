@@ -3,3 +3,5 @@ mod Trails
 mod Noted
 mod Answered
 mod Turns
+mod Runs
+mod Told

@@ -3,7 +3,7 @@ use Rattle.std.proofs.Common.{◌≡◌, ℕ, List, [], ◌∷◌, ◌++◌, map
 use Rattle.std.proofs.lemmas.List.{map-append}
 use Rattle.cs_base.specs.declared.node_id.NodeId.{NodeId}
 use Rattle.cs_node_state.specs.Setup.{Setup}
-use Rattle.cs_node_rules.specs.Net.{Net, sealed}
+use Rattle.cs_node_rules.specs.Net.{Net, sealed_by_net}
 use Rattle.cs_node_rules.specs.Signs.{Sign, Dropped, Took, Entered, Viewed, Did, Headed, Kept, Sent}
 use Rattle.cs_node_rules.specs.Lines.{Parcel, parcels_of, sign_line, sign_lines}
 use Rattle.cs_node_rules.specs.Site.{Input, Mark, In, Ordered, Plain, Site, View, mark_step, view_after, signs_of}
@@ -24,7 +24,7 @@ parcels-append net me (Headed number head ∷ new) old = parcels-append net me n
 parcels-append net me (Kept index checkpoint ∷ new) old = parcels-append net me new old
 parcels-append net me (Did slot entry effect ∷ new) old = parcels-append net me new old
 parcels-append net me (Sent to message ∷ new) old =
-    let last : Parcel = record { from = me; to = to; bytes = sealed net me to message; arrived = false } in
+    let last : Parcel = record { from = me; to = to; bytes = sealed_by_net net me to message; arrived = false } in
     ap (λ (ps : List Parcel). ps ++ last ∷ []) (parcels-append net me new old) ∙ append_assoc (parcels_of net me old) (parcels_of net me new) (last ∷ [])
 
 lines-append : (setup : Setup) (me : NodeId) (new old : List Sign) → sign_lines setup false me (new ++ old) ≡ sign_lines setup false me old ++ sign_lines setup false me new

@@ -8,18 +8,18 @@ use Rattle.cs_base.specs.Outside.{HasCause}
 use Rattle.cs_ledger.specs.Ledger.{Bytes}
 use Rattle.cs_node_rules.specs.Site.{Input, Mark, Site, View, view_after}
 use Rattle.cs_node_rules.specs.Trail.{event_marks}
-use Rattle.cs_outer.specs.Told.{Changes, Stays}
-use Rattle.cs_outer.specs.Link.{Offers}
-use Rattle.cs_outer.specs.declared.link.MemInput.{MemInput}
+use Rattle.cs_io.specs.Told.{Changes, Stays}
+use Rattle.cs_io.specs.Link.{Offers}
+use Rattle.cs_io.specs.declared.link.MemInput.{MemInput}
 use Rattle.cs_serve.specs.declared.ending.End.{End}
 use Rattle.cs_serve.specs.declared.ending.End.TheVariants.{Done, Ended, LinkFault, WriteFault, Memory}
 use Rattle.cs_serve.specs.declared.receiving.TheConstants.{MOST_MISSED}
 use Rattle.cs_serve.specs.Giving.{given_of, is_tick, Takes, Gives, GivesFront}
-use Rattle.cs_serve.specs.Serving.{trail, offers_of, lines_of, GivesAll, GivesPart, missed_past, Ends, Passes, Serves, TakesTurn, GivesBy, Answers}
-use Rattle.cs_outer.specs.Until.{IsOver, AreEnough, AreNeeded}
-use Rattle.cs_outer.specs.declared.until.Until.{Until}
-use Rattle.cs_outer.specs.laws.Told.{stays-same, changes-after, changes-before}
-use Rattle.cs_outer.specs.Outside.{LinkTold, Beside}
+use Rattle.cs_serve.specs.Serving.{trail, offers_of, lines_of, NodeGivesAll, GivesPart, missed_past, NodeEnds, Passes, Serves, TakesTurn, GivesBy, NodeAnswers}
+use Rattle.cs_io.specs.Until.{IsOver, AreEnough, AreNeeded}
+use Rattle.cs_io.specs.declared.until.Until.{Until}
+use Rattle.cs_io.specs.laws.Told.{stays-same, changes-after, changes-before}
+use Rattle.cs_io.specs.Outside.{LinkTold, Beside}
 use Rattle.cs_serve.specs.laws.Taken.{ticks-more, over-by, still-by, needed-more}
 use Rattle.cs_serve.proofs.Giving.{Gives-nil, Gives-more, GivesFront-all, GivesFront-after, Takes-nil, Takes-more, Takes-one}
 use Rattle.cs_serve.proofs.Trails.{me-same, offers-append, bytes-append, after, trail-append, after-append, trail-one}
@@ -36,10 +36,10 @@ missed-more a b first (input ∷ later) is = refl
 module _ {C M : Type 0} (stands : C → View M → Type 0) (site : Site M) where
   -- ---- what is given
 
-  all-more : (v : View M) (first later : List Input) (a b c : Beside LinkTold) → GivesAll site v (trail site v first) a b → GivesAll site (after site v first) (trail site (after site v first) later) b c → GivesAll site v (trail site v (later ++ first)) a c
+  all-more : (v : View M) (first later : List Input) (a b c : Beside LinkTold) → NodeGivesAll site v (trail site v first) a b → NodeGivesAll site (after site v first) (trail site (after site v first) later) b c → NodeGivesAll site v (trail site v (later ++ first)) a c
   all-more v first later a b c p q =
       let w = after site v first in
-      let P : List (Mark M) → Type 0 = λ marks. GivesAll site v marks a c in
+      let P : List (Mark M) → Type 0 = λ marks. NodeGivesAll site v marks a c in
       let O : Offers → Type 0 = λ offers. Gives offers (lines_of site v (trail site w later ++ trail site v first)) a c in
       let L : Bytes → Type 0 = λ lines. Gives (offers_of site v (trail site v first) ++ offers_of site w (trail site w later)) lines a c in
       let me = me-same site (trail site v first) v in
@@ -48,7 +48,7 @@ module _ {C M : Type 0} (stands : C → View M → Type 0) (site : Site M) where
       (subst L (sym (bytes-append site v w (trail site w later) (trail site v first) me))
       (Gives-more a b c (offers_of site v (trail site v first)) (offers_of site w (trail site w later)) (lines_of site v (trail site v first)) (lines_of site w (trail site w later)) p q)))
 
-  part-more : (v : View M) (first later : List Input) (a b c : Beside LinkTold) → GivesAll site v (trail site v first) a b → GivesPart site (after site v first) (trail site (after site v first) later) b c → GivesPart site v (trail site v (later ++ first)) a c
+  part-more : (v : View M) (first later : List Input) (a b c : Beside LinkTold) → NodeGivesAll site v (trail site v first) a b → GivesPart site (after site v first) (trail site (after site v first) later) b c → GivesPart site v (trail site v (later ++ first)) a c
   part-more v first later a b c p q =
       let w = after site v first in
       let P : List (Mark M) → Type 0 = λ marks. GivesPart site v marks a c in
@@ -70,7 +70,7 @@ module _ {C M : Type 0} (stands : C → View M → Type 0) (site : Site M) where
     after = is;
   }
 
-  ends-more : (v : View M) (first later : List Input) (a b c : Beside LinkTold) → Ends site v first a b Done → (end : End) → Ends site (after site v first) later b c end → Ends site v (later ++ first) a c end
+  ends-more : (v : View M) (first later : List Input) (a b c : Beside LinkTold) → NodeEnds site v first a b Done → (end : End) → NodeEnds site (after site v first) later b c end → NodeEnds site v (later ++ first) a c end
   ends-more v first later a b c p Done q = (q.0 ∙ missed-more a.told.missed b.told.missed first later p.0, all-more v first later a b c p.1 q.1)
   ends-more v first later a b c p Ended q = (q.0, all-more v first later a b c p.1 q.1)
   ends-more v first later a b c p LinkFault q =
@@ -118,15 +118,15 @@ module _ {C M : Type 0} (stands : C → View M → Type 0) (site : Site M) where
     passes = record { takes = Takes-nil a b left; ends = (missed, gives); after = is };
   }
 
-  ends-one : (v : View M) (input : Input) (a b : Beside LinkTold) → b.told.missed ≡ 0 → (end : End) → GivesBy site v (event_marks site v input) a b end → Ends site v (input ∷ []) a b end
-  ends-one v input a b missed Done gives = (missed, subst (λ (marks : List (Mark M)). GivesAll site v marks a b) (sym (trail-one site v input)) gives)
+  ends-one : (v : View M) (input : Input) (a b : Beside LinkTold) → b.told.missed ≡ 0 → (end : End) → GivesBy site v (event_marks site v input) a b end → NodeEnds site v (input ∷ []) a b end
+  ends-one v input a b missed Done gives = (missed, subst (λ (marks : List (Mark M)). NodeGivesAll site v marks a b) (sym (trail-one site v input)) gives)
   ends-one v input a b missed Ended gives = absurd gives
   ends-one v input a b missed LinkFault gives = absurd gives
   ends-one v input a b missed WriteFault gives = subst (λ (marks : List (Mark M)). GivesPart site v marks a b) (sym (trail-one site v input)) gives
   ends-one v input a b missed Memory gives = subst (λ (marks : List (Mark M)). GivesPart site v marks a b) (sym (trail-one site v input)) gives
 
   -- an input was taken and answered
-  passes-one : (v : View M) (input : Input) (a b : Beside LinkTold) (result : End × Option C) → b.told.missed ≡ 0 → Takes (input ∷ []) a b → Answers stands site v input a b result → Passes stands site v (input ∷ []) a b result
+  passes-one : (v : View M) (input : Input) (a b : Beside LinkTold) (result : End × Option C) → b.told.missed ≡ 0 → Takes (input ∷ []) a b → NodeAnswers stands site v input a b result → Passes stands site v (input ∷ []) a b result
   passes-one v input a b result missed takes answers = record {
     takes = takes;
     ends = ends-one v input a b missed result.0 answers.gives;
@@ -153,7 +153,7 @@ module _ {C M : Type 0} (stands : C → View M → Type 0) (site : Site M) where
   gives-later v marks a b c stays same WriteFault gives = part-later v marks a b c stays same gives
   gives-later v marks a b c stays same Memory gives = part-later v marks a b c stays same gives
 
-  answers-later : (v : View M) (input : Input) (a b c : Beside LinkTold) (result : End × Option C) → Stays a.told.offered b.told.offered → b.written ≡ a.written → Answers stands site v input b c result → Answers stands site v input a c result
+  answers-later : (v : View M) (input : Input) (a b c : Beside LinkTold) (result : End × Option C) → Stays a.told.offered b.told.offered → b.written ≡ a.written → NodeAnswers stands site v input b c result → NodeAnswers stands site v input a c result
   answers-later v input a b c result stays same answers = record {
     gives = gives-later v (event_marks site v input) a b c stays same result.0 answers.gives;
     after = answers.after;
@@ -165,7 +165,7 @@ module _ {C M : Type 0} (stands : C → View M → Type 0) (site : Site M) where
 
   -- the first input that was left was taken and answered
   pub passes-answer : (v : View M) (first : MemInput) (a b c : Beside LinkTold) (result : End × Option C) → Changes (λ (before now : List MemInput). before ≡ first ∷ now) a.told.left b.told.left → b.told.missed ≡ 0 → Stays a.told.offered b.told.offered → b.written ≡ a.written
-      → Stays b.told.left c.told.left → c.told.missed ≡ b.told.missed → Answers stands site v (given_of first) b c result → Passes stands site v (given_of first ∷ []) a c result
+      → Stays b.told.left c.told.left → c.told.missed ≡ b.told.missed → NodeAnswers stands site v (given_of first) b c result → Passes stands site v (given_of first ∷ []) a c result
   passes-answer v first a b c result gone missed offered written left same answers =
       passes-one v (given_of first) a c result (same ∙ missed) (takes-later a b c first gone left) (answers-later v (given_of first) a b c result offered written answers)
 

@@ -4,12 +4,12 @@ use Rattle.std.specs.Io.KnownBytes.{Appends}
 use Rattle.cs_base.specs.Answers.{AppendsFront}
 use Rattle.cs_ledger.specs.Ledger.{Bytes}
 use Rattle.cs_node_rules.specs.Site.{Input, Datagram, Tick}
-use Rattle.cs_outer.specs.Told.{Changes}
-use Rattle.cs_outer.specs.Link.{Offers}
-use Rattle.cs_outer.specs.Outside.{LinkTold, Beside}
-use Rattle.cs_outer.specs.declared.link.MemInput.{MemInput}
-use Rattle.cs_outer.specs.declared.link.MemInput.TheVariants as came
-use Rattle.cs_serve.specs.Offering.{Adds, AddsFront}
+use Rattle.cs_io.specs.Told.{Changes}
+use Rattle.cs_io.specs.Link.{Offers}
+use Rattle.cs_io.specs.Outside.{LinkTold, Beside}
+use Rattle.cs_io.specs.declared.link.MemInput.{MemInput}
+use Rattle.cs_io.specs.declared.link.MemInput.TheVariants as came
+use Rattle.cs_serve.specs.Offering.{AddsOffers, AddsFront}
 
 -- what comes by a link, as a node is given it
 abbrev pub given_of : MemInput → Input
@@ -28,7 +28,7 @@ Takes inputs old new =
 
 -- these were offered, and these lines written, and no more
 pub record Gives (offers : Offers) (lines : Bytes) (old new : Beside LinkTold) : Type 0 where
-  pub offered : Adds offers old.told.offered new.told.offered
+  pub offered : AddsOffers offers old.told.offered new.told.offered
   pub written : Appends old.written new.written lines
 
 -- a front of each

@@ -4,3 +4,4 @@ pub mod Telling
 pub mod Giving
 pub mod Serving
 pub mod laws
+pub mod Attending

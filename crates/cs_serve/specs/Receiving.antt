@@ -1,7 +1,7 @@
 -- Receives in a row.
 use Rattle.std.specs.Prelude.{ℕ, ◌+◌, ◌-◌, ◌^◌, min}
-use Rattle.cs_outer.specs.declared.link.Arrived.{Arrived}
-use Rattle.cs_outer.specs.declared.link.Arrived.TheVariants.{Datagram, Tick, End, Failed}
+use Rattle.cs_io.specs.declared.link.Arrived.{Arrived}
+use Rattle.cs_io.specs.declared.link.Arrived.TheVariants.{Datagram, Tick, End, Failed}
 use Rattle.cs_serve.specs.declared.receiving.TheConstants.{MOST_MISSED}
 
 -- how many receives in a row have failed, after some that ended so

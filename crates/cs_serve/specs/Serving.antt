@@ -4,10 +4,10 @@ use Rattle.cs_ledger.specs.Ledger.{Bytes}
 use Rattle.cs_node_rules.specs.Lines.{parcels_of, sign_lines}
 use Rattle.cs_node_rules.specs.Site.{Input, Mark, Site, View, view_after, signs_of}
 use Rattle.cs_node_rules.specs.Trail.{event_marks}
-use Rattle.cs_outer.specs.Link.{Offers}
-use Rattle.cs_outer.specs.Outside.{LinkTold, Beside}
-use Rattle.cs_outer.specs.Until.{AreEnough, AreNeeded}
-use Rattle.cs_outer.specs.declared.until.Until.{Until}
+use Rattle.cs_io.specs.Link.{Offers}
+use Rattle.cs_io.specs.Outside.{LinkTold, Beside}
+use Rattle.cs_io.specs.Until.{AreEnough, AreNeeded}
+use Rattle.cs_io.specs.declared.until.Until.{Until}
 use Rattle.cs_serve.specs.declared.ending.End.{End}
 use Rattle.cs_serve.specs.declared.ending.End.TheVariants.{Done, Ended, LinkFault, WriteFault, Memory}
 use Rattle.cs_serve.specs.declared.receiving.TheConstants.{MOST_MISSED}
@@ -30,8 +30,8 @@ abbrev pub lines_of : {M : Type 0} → Site M → View M → List (Mark M) → B
 lines_of {M} site v marks = sign_lines site.setup false v.me (signs_of marks)
 
 -- all that marks send was offered, and all their lines were written; or a front of each
-abbrev pub GivesAll : {M : Type 0} → Site M → View M → List (Mark M) → Beside LinkTold → Beside LinkTold → Type 0
-GivesAll {M} site v marks = Gives (offers_of site v marks) (lines_of site v marks)
+abbrev pub NodeGivesAll : {M : Type 0} → Site M → View M → List (Mark M) → Beside LinkTold → Beside LinkTold → Type 0
+NodeGivesAll {M} site v marks = Gives (offers_of site v marks) (lines_of site v marks)
 
 abbrev pub GivesPart : {M : Type 0} → Site M → View M → List (Mark M) → Beside LinkTold → Beside LinkTold → Type 0
 GivesPart {M} site v marks = GivesFront (offers_of site v marks) (lines_of site v marks)
@@ -45,22 +45,22 @@ missed_past before (input ∷ past) = 0
 
 -- Done: so far it goes on. Ended: the link has none left. LinkFault: so many receives in a row failed. With these all
 -- was given; where a line couldn't be written, and for want of memory, a front of it.
-abbrev pub Ends : {M : Type 0} → Site M → View M → List Input → Beside LinkTold → Beside LinkTold → End → Type 0
-Ends {M} site v inputs old new Done =
-    (new.told.missed ≡ missed_past old.told.missed inputs) × GivesAll site v (trail site v inputs) old new
-Ends {M} site v inputs old new Ended =
-    IfSome new.told.left (λ left. left ≡ []) × GivesAll site v (trail site v inputs) old new
-Ends {M} site v inputs old new LinkFault =
+abbrev pub NodeEnds : {M : Type 0} → Site M → View M → List Input → Beside LinkTold → Beside LinkTold → End → Type 0
+NodeEnds {M} site v inputs old new Done =
+    (new.told.missed ≡ missed_past old.told.missed inputs) × NodeGivesAll site v (trail site v inputs) old new
+NodeEnds {M} site v inputs old new Ended =
+    IfSome new.told.left (λ left. left ≡ []) × NodeGivesAll site v (trail site v inputs) old new
+NodeEnds {M} site v inputs old new LinkFault =
     (new.told.missed ≡ min (missed_past old.told.missed inputs + MOST_MISSED) (2 ^ 64 - 1))
-    × GivesAll site v (trail site v inputs) old new
-Ends {M} site v inputs old new WriteFault = GivesPart site v (trail site v inputs) old new
-Ends {M} site v inputs old new Memory = GivesPart site v (trail site v inputs) old new
+    × NodeGivesAll site v (trail site v inputs) old new
+NodeEnds {M} site v inputs old new WriteFault = GivesPart site v (trail site v inputs) old new
+NodeEnds {M} site v inputs old new Memory = GivesPart site v (trail site v inputs) old new
 
 -- These inputs were taken, it ended so, and the node, if there is one, stands for the view after them.
 pub record Passes {C M : Type 0} (stands : C → View M → Type 0) (site : Site M) (v : View M) (inputs : List Input)
     (old new : Beside LinkTold) (result : End × Option C) : Type 0 where
   pub takes : Takes inputs old new
-  pub ends : Ends site v inputs old new result.0
+  pub ends : NodeEnds site v inputs old new result.0
   pub after : IfSome result.1 (λ core. stands core (view_after site (trail site v inputs) v))
 
 -- A node was served: of the inputs that it took none is too many, and where it is done they are enough.
@@ -96,14 +96,14 @@ pub record TakesTurn {C M : Type 0} (stands : C → View M → Type 0) (site : S
 
 -- what an input makes was given; or a front of it
 abbrev pub GivesBy : {M : Type 0} → Site M → View M → List (Mark M) → Beside LinkTold → Beside LinkTold → End → Type 0
-GivesBy {M} site v marks old new Done = GivesAll site v marks old new
+GivesBy {M} site v marks old new Done = NodeGivesAll site v marks old new
 GivesBy {M} site v marks old new Ended = ⊥
 GivesBy {M} site v marks old new LinkFault = ⊥
 GivesBy {M} site v marks old new WriteFault = GivesPart site v marks old new
 GivesBy {M} site v marks old new Memory = GivesPart site v marks old new
 
 -- an input was answered
-pub record Answers {C M : Type 0} (stands : C → View M → Type 0) (site : Site M) (v : View M) (input : Input)
+pub record NodeAnswers {C M : Type 0} (stands : C → View M → Type 0) (site : Site M) (v : View M) (input : Input)
     (old new : Beside LinkTold) (result : End × Option C) : Type 0 where
   pub gives : GivesBy site v (event_marks site v input) old new result.0
   pub after : IfSome result.1 (λ core. stands core (view_after site (event_marks site v input) v))

@@ -1,16 +1,16 @@
 //! Offering to a link what a node sends.
 ghost use Rattle.std.specs.Prelude.{◌≡◌, ◌≤◌, OnOk, OnErr};
-ghost use Rattle.cs_outer.specs.Told.{Stays};
-ghost use Rattle.cs_serve.specs.Offering.{Adds, AddsFront, offers_in};
+ghost use Rattle.cs_io.specs.Told.{Stays};
+ghost use Rattle.cs_serve.specs.Offering.{AddsOffers, AddsFront, offers_in};
 
 use cs_base::Memory;
-use cs_outer::{Link, Sent};
+use cs_io::{Link, Sent};
 use cs_wire::Out;
 
 /// Offers these datagrams, one after the other. One whose sending fails is lost.
 pub fn offer<L: Link>(link: &mut L, outs: &[Out]) -> Result<(), Memory>
     ensures all { OnOk result
-        (Adds (offers_in outs.now) (L.told link.old).offered (L.told link.new).offered) }
+        (AddsOffers (offers_in outs.now) (L.told link.old).offered (L.told link.new).offered) }
     ensures front { OnErr result
         (AddsFront (offers_in outs.now) (L.told link.old).offered (L.told link.new).offered) }
     ensures left { Stays (L.told link.old).left (L.told link.new).left }

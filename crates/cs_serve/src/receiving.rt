@@ -2,11 +2,11 @@
 ghost use Rattle.std.specs.Prelude.{◌≡◌, ◌+◌, length};
 ghost use Rattle.cs_base.specs.Outside.{HasCause};
 ghost use Rattle.cs_base.specs.declared.limits.TheConstants.{MOST_DATAGRAM};
-ghost use Rattle.cs_outer.specs.Told.{Stays};
-ghost use Rattle.cs_outer.specs.Link.{Receives};
+ghost use Rattle.cs_io.specs.Told.{Stays};
+ghost use Rattle.cs_io.specs.Link.{Receives};
 ghost use Rattle.cs_serve.specs.Receiving.{missed_since};
 
-use cs_outer::{Arrived, Link};
+use cs_io::{Arrived, Link};
 
 /// So many receives that fail in a row are taken for a link that stays out of order.
 pub const MOST_MISSED: u64 = 64;

@@ -2,27 +2,27 @@
 ghost use Rattle.std.specs.Prelude.{◌≡◌, ◌≢◌, ◌⊎◌, ◌+◌, ◌≤◌, length, IsSome, IfErr, IsErrOf, OnOk, OnErr};
 ghost use Rattle.cs_base.specs.Outside.{HasCause};
 ghost use Rattle.cs_base.specs.declared.limits.TheConstants.{MOST_DATAGRAM};
-ghost use Rattle.cs_outer.specs.Told.{Stays};
-ghost use Rattle.cs_outer.specs.Outside.{beside};
+ghost use Rattle.cs_io.specs.Told.{Stays};
+ghost use Rattle.cs_io.specs.Outside.{beside};
 ghost use Rattle.cs_node_state.specs.Setup.{Setup};
 ghost use Rattle.cs_node_rules.specs.Net.{Net};
 ghost use Rattle.cs_node_rules.specs.Site.{View};
 ghost use Rattle.cs_node_rules.specs.Deployment.{site_of};
 ghost use Rattle.cs_node.specs.Notes.{NotesFit};
-ghost use Rattle.cs_node.specs.Cores.{StandsFor};
+ghost use Rattle.cs_node.specs.Cores.{CoreStandsFor};
 ghost use Rattle.cs_node.specs.Speaking.{input_of};
 ghost use Rattle.cs_serve.specs.Offering.{offers_in};
 ghost use Rattle.cs_serve.specs.Giving.{Gives, GivesFront};
-ghost use Rattle.cs_serve.specs.Telling.{notes_text};
-ghost use Rattle.cs_serve.specs.Serving.{Answers, Serves, TakesTurn, served, turned};
+ghost use Rattle.cs_serve.specs.Telling.{served_notes_text};
+ghost use Rattle.cs_serve.specs.Serving.{NodeAnswers, Serves, TakesTurn, served, turned};
 
 use crate::ending::End;
 use crate::offering::offer;
 use crate::receiving::receive;
 use crate::telling::tell;
 use cs_base::{MOST_DATAGRAM, Memory, NodeId, Sink, WriteError};
+use cs_io::{Arrived, Link, Until};
 use cs_node::{Carried, Core, Input, Made};
-use cs_outer::{Arrived, Link, Until};
 use cs_tx::Judge;
 use std::alloc::Global;
 
@@ -38,7 +38,7 @@ pub fn serve<O: Carried, J: Judge + Drop, L: Link, K: Sink>(
 ) -> (End, Option<Core<O, J>>)
     ensures serves { (setup : Setup) (net : Net) (v : View O.Message) →
         let site = site_of setup net O.rules O.carrier in
-        let stands = StandsFor O.stands J.is_approved site in
+        let stands = CoreStandsFor O.stands J.is_approved site in
         stands core v → Serves stands site v until
         (beside (L.told link.old) (K.written out.old))
         (beside (L.told link.new) (K.written out.new)) result }
@@ -79,7 +79,7 @@ fn take_turn<O: Carried, J: Judge + Drop, L: Link, K: Sink>(
     requires { length buf.old ≡ MOST_DATAGRAM + 1 }
     ensures takes { (setup : Setup) (net : Net) (v : View O.Message) →
         let site = site_of setup net O.rules O.carrier in
-        let stands = StandsFor O.stands J.is_approved site in
+        let stands = CoreStandsFor O.stands J.is_approved site in
         stands core v → TakesTurn stands site v
         (beside (L.told link.old) (K.written out.old))
         (beside (L.told link.new) (K.written out.new)) result }
@@ -116,8 +116,8 @@ fn answer<O: Carried, J: Judge + Drop, L: Link, K: Sink>(
 ) -> Result<Core<O, J>, (End, Option<Core<O, J>>)>
     ensures answers { (setup : Setup) (net : Net) (v : View O.Message) →
         let site = site_of setup net O.rules O.carrier in
-        let stands = StandsFor O.stands J.is_approved site in
-        stands core v → Answers stands site v (input_of input.entry)
+        let stands = CoreStandsFor O.stands J.is_approved site in
+        stands core v → NodeAnswers stands site v (input_of input.entry)
         (beside (L.told link.old) (K.written out.old))
         (beside (L.told link.new) (K.written out.new))
         (served result) }
@@ -152,11 +152,11 @@ fn give_out<L: Link, K: Sink>(
 ) -> Result<(), WriteError>
     requires { NotesFit made.now.notes }
     ensures all { OnOk result (Gives
-        (offers_in made.now.outs) (notes_text me made.now.notes)
+        (offers_in made.now.outs) (served_notes_text me made.now.notes)
         (beside (L.told link.old) (K.written out.old))
         (beside (L.told link.new) (K.written out.new))) }
     ensures front { OnErr result (GivesFront
-        (offers_in made.now.outs) (notes_text me made.now.notes)
+        (offers_in made.now.outs) (served_notes_text me made.now.notes)
         (beside (L.told link.old) (K.written out.old))
         (beside (L.told link.new) (K.written out.new))) }
     ensures left { Stays (L.told link.old).left (L.told link.new).left }

@@ -4,11 +4,11 @@ ghost use Rattle.std.specs.Io.KnownBytes.{Appends};
 ghost use Rattle.cs_base.specs.Outside.{HasCause};
 ghost use Rattle.cs_base.specs.Answers.{AppendsFront};
 ghost use Rattle.cs_node.specs.Notes.{NoteFits, NotesFit};
-ghost use Rattle.cs_serve.specs.Telling.{note_text, notes_text};
+ghost use Rattle.cs_serve.specs.Telling.{served_note_text, served_notes_text};
 
 use cs_base::{Memory, NodeId, Sink, WriteError, print};
 use cs_node::Note;
-use cs_node_lines::{digest_in, head_line, slot_line};
+use cs_node_run::{digest_in, head_line, slot_line};
 use std::alloc::Global;
 
 /// Prints the lines of what a node notes.
@@ -20,9 +20,9 @@ pub fn tell<K: Sink>(
 ) -> Result<(), WriteError>
     requires { NotesFit notes.now }
     ensures all { OnOk result
-        (Appends (K.written out.old) (K.written out.new) (notes_text me notes.now)) }
+        (Appends (K.written out.old) (K.written out.new) (served_notes_text me notes.now)) }
     ensures front { OnErr result
-        (AppendsFront (K.written out.old) (K.written out.new) (notes_text me notes.now)) }
+        (AppendsFront (K.written out.old) (K.written out.new) (served_notes_text me notes.now)) }
     ensures cause { HasCause (K.faults out.old) (K.faults out.new)
         (IsErrOf result WriteError.Failed) }
 {
@@ -35,7 +35,7 @@ pub fn tell<K: Sink>(
 
 fn notes_text(alloc: Global, me: NodeId, notes: &[Note]) -> Result<String, Memory>
     requires { NotesFit notes.now }
-    ensures { IfOk result (λ text. string_bytes text ≡ notes_text me notes.now) }
+    ensures { IfOk result (λ text. string_bytes text ≡ served_notes_text me notes.now) }
 {
     let mut text = String::new(alloc);
     for note in notes {
@@ -48,7 +48,7 @@ fn notes_text(alloc: Global, me: NodeId, notes: &[Note]) -> Result<String, Memor
 // The line of a note. What is dropped and which views are entered is told in a trace alone.
 fn note_text(alloc: Global, me: NodeId, note: &Note) -> Result<String, Memory>
     requires { NoteFits note.now }
-    ensures { IfOk result (λ text. string_bytes text ≡ note_text me note.now) }
+    ensures { IfOk result (λ text. string_bytes text ≡ served_note_text me note.now) }
 {
     match note {
         Note::Dropped(_) => Ok(String::new(alloc)),

@@ -5,7 +5,7 @@ use Rattle.std.proofs.lemmas.Bool.Decides.{eqb_tells}
 use Rattle.cs_order.specs.Limits.{view_bound}
 use Rattle.cs_order.specs.Counts.{first_below}
 use Rattle.cs_order_rules.specs.Slot.{if_enough, quorum}
-use Rattle.cs_slot.specs.Kept.{Rows, vote_in, with_vote, NothingFrom}
+use Rattle.cs_slot.specs.Kept.{Rows, said_in_view, lookup_with_vote, NothingFrom}
 use Rattle.cs_slot.proofs.Adding.{or_none}
 
 -- a view from the new end on is another one
@@ -16,15 +16,15 @@ another view now v above late few =
       | inr other ↦ other.0
     ]
 
-same_vote : (fresh : Bool) (said : ℕ → ℕ → Option (List ℕ)) (view member : ℕ) (digest : List ℕ) (v m : ℕ) → (view == v) ≡ false → with_vote fresh said view member digest v m ≡ said v m
+same_vote : (fresh : Bool) (said : ℕ → ℕ → Option (List ℕ)) (view member : ℕ) (digest : List ℕ) (v m : ℕ) → (view == v) ≡ false → lookup_with_vote fresh said view member digest v m ≡ said v m
 same_vote true said view member digest v m other = rw other (or_none (said v m))
 same_vote false said view member digest v m other = refl
 
-same_view : (confirms new : Rows) (fresh : Bool) (view member : ℕ) (digest : List ℕ) (v : ℕ) → vote_in new ≡ with_vote fresh (vote_in confirms) view member digest → (view == v) ≡ false → vote_in new v ≡ vote_in confirms v
+same_view : (confirms new : Rows) (fresh : Bool) (view member : ℕ) (digest : List ℕ) (v : ℕ) → said_in_view new ≡ lookup_with_vote fresh (said_in_view confirms) view member digest → (view == v) ≡ false → said_in_view new v ≡ said_in_view confirms v
 same_view confirms new fresh view member digest v e other =
-    ap (λ (found : ℕ → ℕ → Option (List ℕ)). found v) e ∙ fun_ext (λ m. same_vote fresh (vote_in confirms) view member digest v m other)
+    ap (λ (found : ℕ → ℕ → Option (List ℕ)). found v) e ∙ fun_ext (λ m. same_vote fresh (said_in_view confirms) view member digest v m other)
 
-pub confirmed_end : (end now f me : ℕ) (confirms new : Rows) (fresh : Bool) (view member : ℕ) (digest : List ℕ) → NothingFrom end f me confirms → end ≤ now → (view < view_bound → view < now) → vote_in new ≡ with_vote fresh (vote_in confirms) view member digest → NothingFrom now f me new
+pub confirmed_end : (end now f me : ℕ) (confirms new : Rows) (fresh : Bool) (view member : ℕ) (digest : List ℕ) → NothingFrom end f me confirms → end ≤ now → (view < view_bound → view < now) → said_in_view new ≡ lookup_with_vote fresh (said_in_view confirms) view member digest → NothingFrom now f me new
 confirmed_end end now f me confirms new fresh view member digest nothing kept above e v late few =
     let old = nothing v (omega arith) few in
     let same = same_view confirms new fresh view member digest v e (another view now v above late few) in
@@ -34,17 +34,17 @@ never : (a : Bool) → (a && false) ≡ false
 never true = refl
 never false = refl
 
-not_own : (fresh : Bool) (said : ℕ → ℕ → Option (List ℕ)) (view member : ℕ) (digest : List ℕ) (v m : ℕ) → (member == m) ≡ false → said v m ≡ None → with_vote fresh said view member digest v m ≡ None
+not_own : (fresh : Bool) (said : ℕ → ℕ → Option (List ℕ)) (view member : ℕ) (digest : List ℕ) (v m : ℕ) → (member == m) ≡ false → said v m ≡ None → lookup_with_vote fresh said view member digest v m ≡ None
 not_own true said view member digest v m other none = rw (none, other, never (view == v)) refl
 not_own false said view member digest v m other none = none
 
 -- a confirm of another member, where no 2f+1 agree with it
-pub confirmed_less : (end f me : ℕ) (confirms new : Rows) (fresh : Bool) (view member : ℕ) (digest : List ℕ) → NothingFrom end f me confirms → (member == me) ≡ false → quorum f (vote_in new view) ≡ None → vote_in new ≡ with_vote fresh (vote_in confirms) view member digest → NothingFrom end f me new
+pub confirmed_less : (end f me : ℕ) (confirms new : Rows) (fresh : Bool) (view member : ℕ) (digest : List ℕ) → NothingFrom end f me confirms → (member == me) ≡ false → quorum f (said_in_view new view) ≡ None → said_in_view new ≡ lookup_with_vote fresh (said_in_view confirms) view member digest → NothingFrom end f me new
 confirmed_less end f me confirms new fresh view member digest nothing other none e v late few =
     let old = nothing v late few in
-    let own = ap (λ (found : ℕ → ℕ → Option (List ℕ)). found v me) e ∙ not_own fresh (vote_in confirms) view member digest v me other old.0 in
+    let own = ap (λ (found : ℕ → ℕ → Option (List ℕ)). found v me) e ∙ not_own fresh (said_in_view confirms) view member digest v me other old.0 in
     elim (eqb_tells view v) [
-      | inl same ↦ (own, subst (λ w. quorum f (vote_in new w) ≡ None) same.1 none)
+      | inl same ↦ (own, subst (λ w. quorum f (said_in_view new w) ≡ None) same.1 none)
       | inr differ ↦ (own, ap (quorum f) (same_view confirms new fresh view member digest v e differ.0) ∙ old.1)
     ]
 

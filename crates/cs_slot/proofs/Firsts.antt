@@ -11,14 +11,14 @@ use Rattle.cs_order.specs.declared.proposed.Proposed.{Proposed}
 use Rattle.cs_order.proofs.Searches.{first_none, first_at, first_ends}
 use Rattle.cs_order_rules.specs.Slot.{with_digest}
 use Rattle.cs_base.specs.Options.{or_else}
-use Rattle.cs_slot.specs.Kept.{entry_in, with_entry, Firsts, first_in, IsFirst, AreFirsts, comes_first}
+use Rattle.cs_slot.specs.Kept.{entry_kept, with_entry, Firsts, first_in, IsFirst, AreFirsts, comes_first}
 use Rattle.cs_slot.proofs.Adding.{or_none}
 
 abbrev Entries : Type 0
 Entries = List (ℕ × Proposed)
 
 abbrev found : List ℕ → Entries → ℕ → Option Proposed
-found digest proposals view = with_digest digest (entry_in proposals view)
+found digest proposals view = with_digest digest (entry_kept proposals view)
 
 pub none_first : (firsts : Firsts) (proposals : Entries) → firsts ≡ [] → proposals ≡ [] → AreFirsts firsts proposals
 none_first firsts proposals no_first no_entry = λ digest. rw (no_first, no_entry) (λ v few. refl)
@@ -42,8 +42,8 @@ some_is : (digest : List ℕ) (proposals : Entries) (first : ℕ) (o : Option Pr
 some_is digest proposals first None is some less none = absurd (let never : false ≡ true = some in cc)
 some_is digest proposals first (Some e) is some less none = first_at view_bound first (found digest proposals) e less (nothing_below digest proposals first none) is
 
-pub found_some : (digest : List ℕ) (proposals : Entries) (first : ℕ) → IsFirst digest proposals (Some first) → first_below view_bound (found digest proposals) ≡ entry_in proposals first
-found_some digest proposals first is = some_is digest proposals first (found digest proposals first) refl is.1 is.0 is.2 ∙ there digest (entry_in proposals first) is.1
+pub found_some : (digest : List ℕ) (proposals : Entries) (first : ℕ) → IsFirst digest proposals (Some first) → first_below view_bound (found digest proposals) ≡ entry_kept proposals first
+found_some digest proposals first is = some_is digest proposals first (found digest proposals first) refl is.1 is.0 is.2 ∙ there digest (entry_kept proposals first) is.1
 
 same_number : (n : ℕ) → (n == n) ≡ true
 same_number n = grind arith
@@ -58,19 +58,19 @@ still proposals new digest None same is = λ v few. same v few ∙ is v few
 still proposals new digest (Some first) same is = (is.0, subst IsSome (sym (same first is.0)) is.1, λ v less. same v (let few = is.0 in omega arith) ∙ is.2 v less)
 
 -- where nothing is added, all are the same
-pub same_firsts : (firsts : Firsts) (proposals new : Entries) → entry_in new ≡ entry_in proposals → AreFirsts firsts proposals → AreFirsts firsts new
+pub same_firsts : (firsts : Firsts) (proposals new : Entries) → entry_kept new ≡ entry_kept proposals → AreFirsts firsts proposals → AreFirsts firsts new
 same_firsts firsts proposals new same are digest =
     still proposals new digest (first_in firsts digest) (λ v few. ap (λ (look : ℕ → Option Proposed). with_digest digest (look v)) same) (are digest)
 
 -- One more proposal shows in its view alone.
-module _ (proposals new : Entries) (view : ℕ) (entry : Proposed) (none : entry_in proposals view ≡ None) (added : entry_in new ≡ with_entry true (entry_in proposals) view entry) where
-  entry_at : (v : ℕ) → entry_in new v ≡ or_else (entry_in proposals v) (when (view == v) (Some entry))
+module _ (proposals new : Entries) (view : ℕ) (entry : Proposed) (none : entry_kept proposals view ≡ None) (added : entry_kept new ≡ with_entry true (entry_kept proposals) view entry) where
+  entry_at : (v : ℕ) → entry_kept new v ≡ or_else (entry_kept proposals v) (when (view == v) (Some entry))
   entry_at v = ap (λ (look : ℕ → Option Proposed). look v) added
 
   elsewhere : (digest : List ℕ) (v : ℕ) → (view == v) ≡ false → found digest new v ≡ found digest proposals v
-  elsewhere digest v other = ap (with_digest digest) (entry_at v ∙ ap (λ b. or_else (entry_in proposals v) (when b (Some entry))) other ∙ or_none (entry_in proposals v))
+  elsewhere digest v other = ap (with_digest digest) (entry_at v ∙ ap (λ b. or_else (entry_kept proposals v) (when b (Some entry))) other ∙ or_none (entry_kept proposals v))
 
-  here : (view == view) ≡ true → entry_in new view ≡ Some entry
+  here : (view == view) ≡ true → entry_kept new view ≡ Some entry
   here same = entry_at view ∙ rw (none, same) refl
 
   other_digest : (digest : List ℕ) (v : ℕ) → bytes_eq entry.digest digest ≡ false → found digest new v ≡ found digest proposals v

@@ -37,12 +37,12 @@ said_if None member = None
 said_if (Some row) member = said_in row member
 
 -- what a member said in a view
-abbrev pub vote_in : Rows → ℕ → ℕ → Option (List ℕ)
-vote_in rows view member = said_if (lookup (is_at (nat_cmp view)) rows) member
+abbrev pub said_in_view : Rows → ℕ → ℕ → Option (List ℕ)
+said_in_view rows view member = said_if (lookup (is_at (nat_cmp view)) rows) member
 
 -- the entry of a view, or of a member
-abbrev pub entry_in : List (ℕ × Proposed) → ℕ → Option Proposed
-entry_in entries key = lookup (is_at (nat_cmp key)) entries
+abbrev pub entry_kept : List (ℕ × Proposed) → ℕ → Option Proposed
+entry_kept entries key = lookup (is_at (nat_cmp key)) entries
 
 abbrev pub seen_in : KeptSlot → Seen
 seen_in k = record {
@@ -51,10 +51,10 @@ seen_in k = record {
   me = k.me;
   view = k.view;
   views = view_bound;
-  proposal = entry_in k.proposals;
-  echo = vote_in k.echoes;
-  confirm = vote_in k.confirms;
-  done = entry_in k.dones;
+  proposal = entry_kept k.proposals;
+  echo = said_in_view k.echoes;
+  confirm = said_in_view k.confirms;
+  done = entry_kept k.dones;
 }
 
 -- Nothing was taken.
@@ -72,9 +72,9 @@ none_seen f n me = record {
 }
 
 -- the lookup with one more vote, where it is the first
-abbrev pub with_vote : Bool → (ℕ → ℕ → Option (List ℕ)) → ℕ → ℕ → List ℕ → ℕ → ℕ → Option (List ℕ)
-with_vote true said view member digest v m = or_else (said v m) (when ((view == v) && (member == m)) (Some digest))
-with_vote false said view member digest v m = said v m
+abbrev pub lookup_with_vote : Bool → (ℕ → ℕ → Option (List ℕ)) → ℕ → ℕ → List ℕ → ℕ → ℕ → Option (List ℕ)
+lookup_with_vote true said view member digest v m = or_else (said v m) (when ((view == v) && (member == m)) (Some digest))
+lookup_with_vote false said view member digest v m = said v m
 
 abbrev pub with_entry : Bool → (ℕ → Option Proposed) → ℕ → Proposed → ℕ → Option Proposed
 with_entry true said key entry k = or_else (said k) (when (key == k) (Some entry))
@@ -85,10 +85,10 @@ abbrev pub with_proposal : Bool → Seen → ℕ → Proposed → Seen
 with_proposal fresh s view entry = record s { proposal = with_entry fresh s.proposal view entry }
 
 abbrev pub with_echo : Bool → Seen → ℕ → ℕ → List ℕ → Seen
-with_echo fresh s view member digest = record s { echo = with_vote fresh s.echo view member digest }
+with_echo fresh s view member digest = record s { echo = lookup_with_vote fresh s.echo view member digest }
 
 abbrev pub with_confirm : Bool → Seen → ℕ → ℕ → List ℕ → Seen
-with_confirm fresh s view member digest = record s { confirm = with_vote fresh s.confirm view member digest }
+with_confirm fresh s view member digest = record s { confirm = lookup_with_vote fresh s.confirm view member digest }
 
 abbrev pub with_done : Bool → Seen → ℕ → Proposed → Seen
 with_done fresh s member entry = record s { done = with_entry fresh s.done member entry }
@@ -101,7 +101,7 @@ in_later view s = record s { view = view }
 abbrev pub NothingFrom : ℕ → ℕ → ℕ → Rows → Type 0
 NothingFrom view f me confirms =
     (v : ℕ) → view ≤ v → v < view_bound
-    → (vote_in confirms v me ≡ None) × (quorum f (vote_in confirms v) ≡ None)
+    → (said_in_view confirms v me ≡ None) × (quorum f (said_in_view confirms v) ≡ None)
 
 -- The views in which digests were proposed first.
 abbrev pub Firsts : Type 0
@@ -113,10 +113,10 @@ first_in firsts digest = lookup (is_at (slice_cmp nat_cmp digest)) firsts
 -- it is the least view in which the digest was proposed
 abbrev pub IsFirst : List ℕ → List (ℕ × Proposed) → Option ℕ → Type 0
 IsFirst digest proposals None =
-    (v : ℕ) → v < view_bound → with_digest digest (entry_in proposals v) ≡ None
+    (v : ℕ) → v < view_bound → with_digest digest (entry_kept proposals v) ≡ None
 IsFirst digest proposals (Some first) =
-    (first < view_bound) × (IsSome (with_digest digest (entry_in proposals first)))
-    × ((v : ℕ) → v < first → with_digest digest (entry_in proposals v) ≡ None)
+    (first < view_bound) × (IsSome (with_digest digest (entry_kept proposals first)))
+    × ((v : ℕ) → v < first → with_digest digest (entry_kept proposals v) ≡ None)
 
 abbrev pub AreFirsts : Firsts → List (ℕ × Proposed) → Type 0
 AreFirsts firsts proposals = (digest : List ℕ) → IsFirst digest proposals (first_in firsts digest)

@@ -1,7 +1,7 @@
 //! Entries by a view, or by a member.
 ghost use Rattle.std.specs.Prelude.{◌≡◌, not, is_some, IfOk, OnErr, [], option_copied};
 ghost use Rattle.cs_order_rules.specs.Slot.{with_digest, is_entry};
-ghost use Rattle.cs_slot.specs.Kept.{entry_in, with_entry};
+ghost use Rattle.cs_slot.specs.Kept.{entry_kept, with_entry};
 
 use cs_base::Memory;
 use cs_order::Proposed;
@@ -38,16 +38,16 @@ impl Entries {
 
     /// The entry under a number.
     pub fn get(&self, key: u16) -> Option<&Proposed>
-        ensures { option_copied result ≡ entry_in self.now key }
+        ensures { option_copied result ≡ entry_kept self.now key }
     {
         self.entries.get(&key)
     }
 
     /// Adds an entry, and says whether it is the first under the number.
     pub fn add(&mut self, key: u16, entry: Proposed) -> Result<bool, Memory>
-        ensures fresh { IfOk result (λ fresh. fresh ≡ not (is_some (entry_in self.old key))) }
+        ensures fresh { IfOk result (λ fresh. fresh ≡ not (is_some (entry_kept self.old key))) }
         ensures now { IfOk result (λ fresh.
-            entry_in self.new ≡ with_entry fresh (entry_in self.old) key entry) }
+            entry_kept self.new ≡ with_entry fresh (entry_kept self.old) key entry) }
         ensures err { OnErr result (self.new ≡ self.old) }
     {
         if self.get(key).is_some() {
@@ -68,7 +68,7 @@ impl Entries {
 
     /// The entry under a number, where it has the digest.
     pub fn with_digest(&self, key: u16, digest: &[u8; 32]) -> Option<&Proposed>
-        ensures { option_copied result ≡ with_digest digest.now (entry_in self.now key) }
+        ensures { option_copied result ≡ with_digest digest.now (entry_kept self.now key) }
     {
         match self.get(key) {
             Some(entry) if entry.digest == *digest => Some(entry),
@@ -78,7 +78,7 @@ impl Entries {
 
     /// The entry under a number is this one.
     pub fn is_at(&self, key: u16, entry: &Proposed) -> bool
-        ensures { result ≡ is_entry entry.now (entry_in self.now key) }
+        ensures { result ≡ is_entry entry.now (entry_kept self.now key) }
     {
         match self.get(key) {
             Some(other) => other.digest == entry.digest

@@ -3,7 +3,7 @@ ghost use Rattle.std.specs.Prelude.{◌≡◌, not, is_some, IfOk, [], option_co
 ghost use Rattle.cs_order.specs.Counts.{first_below};
 ghost use Rattle.cs_order.specs.Limits.{view_bound};
 ghost use Rattle.cs_order_rules.specs.Slot.{with_digest};
-ghost use Rattle.cs_slot.specs.Kept.{entry_in, with_entry, comes_first};
+ghost use Rattle.cs_slot.specs.Kept.{entry_kept, with_entry, comes_first};
 
 use crate::entries::Entries;
 use cs_base::{Memory, VIEW_BOUND};
@@ -48,16 +48,16 @@ impl Proposals {
 
     /// The proposal of a view.
     pub fn get(&self, view: u16) -> Option<&Proposed>
-        ensures { option_copied result ≡ entry_in self.now view }
+        ensures { option_copied result ≡ entry_kept self.now view }
     {
         self.entries.get(view)
     }
 
     /// Adds a proposal, and says whether it is the first of its view.
     pub fn add(&mut self, view: u16, entry: Proposed) -> Result<bool, Memory>
-        ensures fresh { IfOk result (λ fresh. fresh ≡ not (is_some (entry_in self.old view))) }
+        ensures fresh { IfOk result (λ fresh. fresh ≡ not (is_some (entry_kept self.old view))) }
         ensures now { IfOk result (λ fresh.
-            entry_in self.new ≡ with_entry fresh (entry_in self.old) view entry) }
+            entry_kept self.new ≡ with_entry fresh (entry_kept self.old) view entry) }
     {
         let digest = entry.digest;
         let is_first = comes_first(view, self.firsts.get(&digest));
@@ -76,7 +76,7 @@ impl Proposals {
     /// The proposal of least view that has the digest.
     pub fn with_digest(&self, digest: &[u8; 32]) -> Option<&Proposed>
         ensures { option_copied result
-            ≡ first_below view_bound (λ view. with_digest digest.now (entry_in self.now view)) }
+            ≡ first_below view_bound (λ view. with_digest digest.now (entry_kept self.now view)) }
     {
         match self.firsts.get(digest) {
             Some(first) => self.entries.get(*first),

@@ -1,7 +1,7 @@
 //! Digests that members said, by view and member.
 ghost use Rattle.std.specs.Prelude.{◌≡◌, ℕ, ◌≤◌, ◌<◌, not, is_some, IfOk, OnErr, []};
 ghost use Rattle.cs_order_rules.specs.Slot.{quorum};
-ghost use Rattle.cs_slot.specs.Kept.{said_in, vote_in, with_vote};
+ghost use Rattle.cs_slot.specs.Kept.{said_in, said_in_view, lookup_with_vote};
 
 use crate::rows::{Row, agreed, empty, said, with_said};
 use cs_base::Memory;
@@ -37,7 +37,7 @@ impl Votes {
 
     /// What a member said in a view.
     pub fn get(&self, view: u16, member: u16) -> Option<[u8; 32]>
-        ensures { result ≡ vote_in self.now view member }
+        ensures { result ≡ said_in_view self.now view member }
     {
         match self.rows.get(&view) {
             Some(row) => said(row, member),
@@ -49,9 +49,9 @@ impl Votes {
     pub fn add(&mut self, view: u16, member: u16, digest: [u8; 32]) -> Result<bool, Memory>
         requires { member < 16 }
         ensures fresh { IfOk result (λ fresh.
-            fresh ≡ not (is_some (vote_in self.old view member))) }
+            fresh ≡ not (is_some (said_in_view self.old view member))) }
         ensures now { IfOk result (λ fresh.
-            vote_in self.new ≡ with_vote fresh (vote_in self.old) view member digest) }
+            said_in_view self.new ≡ lookup_with_vote fresh (said_in_view self.old) view member digest) }
         ensures err { OnErr result (self.new ≡ self.old) }
     {
         if self.get(view, member).is_some() {
@@ -65,7 +65,7 @@ impl Votes {
     }
 
     fn row(&self, view: u16) -> Row
-        ensures { (member : ℕ) → said_in result member ≡ vote_in self.now view member }
+        ensures { (member : ℕ) → said_in result member ≡ said_in_view self.now view member }
     {
         match self.rows.get(&view) {
             Some(row) => *row,
@@ -76,7 +76,7 @@ impl Votes {
     /// The digest that 2f+1 members said in a view.
     pub fn quorum(&self, f: u16, view: u16) -> Option<[u8; 32]>
         requires { f ≤ 5 }
-        ensures { result ≡ quorum f (vote_in self.now view) }
+        ensures { result ≡ quorum f (said_in_view self.now view) }
     {
         match self.rows.get(&view) {
             Some(row) => agreed(row, f),

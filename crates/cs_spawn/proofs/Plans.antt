@@ -6,7 +6,7 @@ use Rattle.std.proofs.lemmas.Grind.{common_steps}
 use Rattle.cs_base.specs.declared.node_id.NodeId.{NodeId}
 use Rattle.cs_config.specs.declared.plan.Plan.{Plan}
 use Rattle.cs_spawn.specs.Words.{client_words, client_title}
-use Rattle.cs_spawn.specs.Deeds.{Deed, Start, Wait, numbered, node_starts, call_deeds, node_waits, words_in}
+use Rattle.cs_spawn.specs.Deeds.{ClusterDeed, Start, Wait, numbered, node_starts, call_deeds, node_waits, words_in}
 
 -- the first items, and one more
 pub next_taken : {A : Type 0} (xs : List A) (i : ℕ) (x none : A) → i < length xs → x ≡ get_or xs i none → take (i + 1) xs ≡ take i xs ++ x ∷ []
@@ -14,10 +14,10 @@ next_taken xs i x none within is = take_more xs i none within ∙ ap (λ y. take
 
 -- ---- a deed for each item
 
-pub map-next : {A : Type 0} (f : A → Deed) (xs : List A) (i : ℕ) (x none : A) → i < length xs → x ≡ get_or xs i none → map f (take (i + 1) xs) ≡ map f (take i xs) ++ f x ∷ []
+pub map-next : {A : Type 0} (f : A → ClusterDeed) (xs : List A) (i : ℕ) (x none : A) → i < length xs → x ≡ get_or xs i none → map f (take (i + 1) xs) ≡ map f (take i xs) ++ f x ∷ []
 map-next f xs i x none within is = ap (map f) (next_taken xs i x none within is) ∙ map-append f (take i xs) (x ∷ [])
 
-pub map-split : {A : Type 0} (f : A → Deed) (xs : List A) (n : ℕ) → map f xs ≡ map f (take n xs) ++ map f (drop n xs)
+pub map-split : {A : Type 0} (f : A → ClusterDeed) (xs : List A) (n : ℕ) → map f xs ≡ map f (take n xs) ++ map f (drop n xs)
 map-split f xs n = ap (map f) (sym (take-append-drop n xs)) ∙ map-append f (take n xs) (drop n xs)
 
 -- ---- calls

@@ -5,7 +5,7 @@ use Rattle.cs_base.specs.declared.node_id.NodeId.{NodeId}
 use Rattle.cs_base.specs.declared.node_id.TheConstants.{CLIENT_SHARD}
 use Rattle.cs_base.specs.NodeId.{node_text}
 use Rattle.cs_config.specs.declared.plan.Plan.{Plan}
-use Rattle.cs_key_files.specs.Names.{key_file}
+use Rattle.cs_config.specs.FileNames.{key_file}
 
 -- `node SITE keys-S.I.toml --turns TURNS`
 abbrev pub node_words : Plan → NodeId → List (List ℕ)
@@ -28,5 +28,5 @@ abbrev pub client_title : ℕ → List ℕ
 client_title call = codes "client " ++ decimal call
 
 -- the line of a child
-abbrev pub end_line : List ℕ → ℕ → List ℕ
-end_line title status = title ++ (codes " ended " ++ (decimal status ++ codes "\n"))
+abbrev pub child_end_line : List ℕ → ℕ → List ℕ
+child_end_line title status = title ++ (codes " ended " ++ (decimal status ++ codes "\n"))

@@ -2,16 +2,16 @@
 ghost use Rattle.std.specs.Prelude.{◌≡◌, ◌≢◌, ◌<◌, ◌≤◌, ◌==◌, ℕ, false, not, filter, List, [], ◌∷◌, Option, IfOk, IfErr, map, string_bytes, IsErrOf};
 ghost use Rattle.std.specs.List.{AllByRecursion};
 ghost use Rattle.cs_base.specs.Outside.{HasCause};
-ghost use Rattle.cs_outer.specs.Told.{Stays};
-ghost use Rattle.cs_outer.specs.Spawner.{EndsThese};
-ghost use Rattle.cs_outer.specs.Outside.{beside};
+ghost use Rattle.cs_io.specs.Told.{Stays};
+ghost use Rattle.cs_io.specs.Spawner.{EndsThese};
+ghost use Rattle.cs_io.specs.Outside.{beside};
 ghost use Rattle.cs_spawn.specs.Deeds.{Start, Wait};
 ghost use Rattle.cs_spawn.specs.Running.{Goes, RiseBetween};
 
 use crate::error::ClusterError;
 use crate::words::end_line;
 use cs_base::{Sink, WriteError, print};
-use cs_outer::{Spawner, Started, Waited};
+use cs_io::{Spawner, Started, Waited};
 use std::alloc::Global;
 
 /// Starts a child with these words, gives its number, and keeps it among those that are left.

@@ -2,17 +2,17 @@
 ghost use Rattle.std.specs.Prelude.{◌≡◌, ◌≢◌, ◌<◌, ℕ, List, [], ◌∷◌, Option, IfOk, IfErr, IsErrOf};
 ghost use Rattle.std.specs.List.{AllByRecursion};
 ghost use Rattle.cs_base.specs.Outside.{HasCause};
-ghost use Rattle.cs_outer.specs.Outside.{beside};
+ghost use Rattle.cs_io.specs.Outside.{beside};
 ghost use Rattle.cs_spawn.specs.Words.{client_words, client_title};
 ghost use Rattle.cs_spawn.specs.Deeds.{Start, Wait, numbered, node_starts, call_deeds, node_waits, cluster_deeds};
-ghost use Rattle.cs_spawn.specs.Running.{Ends, Goes};
+ghost use Rattle.cs_spawn.specs.Running.{ClusterEnds, Goes};
 
 use crate::children::{await_end, end_all, start};
 use crate::error::ClusterError;
 use crate::words::{client_title, client_words, node_title, node_words};
 use cs_base::{NodeId, Sequence, Sink};
 use cs_config::{Plan, Site};
-use cs_outer::Spawner;
+use cs_io::Spawner;
 use cs_wire::all_nodes;
 use std::alloc::Global;
 
@@ -26,7 +26,7 @@ pub fn cluster<P: Spawner, K: Sink>(
     site: &Site,
     out: &mut K,
 ) -> Result<(), ClusterError>
-    ensures does { Ends (cluster_deeds plan.now site.now.config (P.told spawner.old).children)
+    ensures does { ClusterEnds (cluster_deeds plan.now site.now.config (P.told spawner.old).children)
         (beside (P.told spawner.old) (K.written out.old))
         (beside (P.told spawner.new) (K.written out.new)) result }
     ensures spawner { HasCause (P.faults spawner.old) (P.faults spawner.new)

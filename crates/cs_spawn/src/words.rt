@@ -1,11 +1,10 @@
 //! The words that children are started with.
 ghost use Rattle.std.specs.Prelude.{◌≡◌, IfOk, map, string_bytes};
 ghost use Rattle.std.specs.Fmt.{decimal};
-ghost use Rattle.cs_spawn.specs.Words.{node_words, client_words, node_title, client_title, end_line};
+ghost use Rattle.cs_spawn.specs.Words.{node_words, client_words, node_title, client_title, child_end_line};
 
 use cs_base::{CLIENT_SHARD, Memory, NodeId};
-use cs_config::Plan;
-use cs_key_files::key_file;
+use cs_config::{Plan, key_file};
 use std::alloc::Global;
 
 // The client that makes each call.
@@ -65,7 +64,7 @@ pub fn client_title(alloc: Global, call: usize) -> Result<String, Memory>
 
 /// The line of a child that has ended.
 pub fn end_line(alloc: Global, title: &str, status: u8) -> Result<String, Memory>
-    ensures { IfOk result (λ line. string_bytes line ≡ end_line title.now status) }
+    ensures { IfOk result (λ line. string_bytes line ≡ child_end_line title.now status) }
 {
     Ok(format!(in alloc; "{title} ended {status}\n")?)
 }

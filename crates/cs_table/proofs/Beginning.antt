@@ -7,7 +7,7 @@ use Rattle.cs_table.specs.declared.piece.Piece.{Piece}
 use Rattle.cs_table.specs.Seen.{Stored, seen, seen_piece}
 use Rattle.cs_tx.specs.Sessions.{key_seen}
 use Rattle.cs_table.specs.Changes.{Becomes, changed, appeared_record, appeared_each}
-use Rattle.cs_table.specs.Genesis.{second_of, is_unknown, is_dummy_below, with_dummies, empty}
+use Rattle.cs_table.specs.Genesis.{second_of, is_unknown, is_dummy_below, with_dummy_objects, empty}
 use Rattle.std.proofs.Math.Seq.{take-suc}
 use Rattle.cs_tx_value.specs.declared.object.Object.{Object}
 use Rattle.cs_tx_value.specs.Object.{object_encoding}
@@ -137,17 +137,17 @@ one_dummy true false o r = refl
 one_dummy false true o r = refl
 one_dummy false false o r = refl
 
-dummies_next : (shard n : ℕ) (o : List ℕ) (t : Table) → changed (appeared_record o) (ledger.Dummy shard n) (with_dummies shard n o t) ≡ with_dummies shard (n + 1) o t
+dummies_next : (shard n : ℕ) (o : List ℕ) (t : Table) → changed (appeared_record o) (ledger.Dummy shard n) (with_dummy_objects shard n o t) ≡ with_dummy_objects shard (n + 1) o t
 dummies_next shard n o t = same_table _ _ t.next (λ name.
     one_dummy (ledger.key_eq name (ledger.Dummy shard n)) (is_dummy_below shard n name) o (t.at name)
     ∙ ap (λ b. if b then appeared_record o (t.at name) else t.at name) (sym (dummy_more name shard n)))
 
-dummies_appear : (old now : Stored) (shard n : ℕ) (o : List ℕ) → Becomes old now (with_dummies shard n o (seen old)) → AllGain (deciding []) (seen old) (seen now)
+dummies_appear : (old now : Stored) (shard n : ℕ) (o : List ℕ) → Becomes old now (with_dummy_objects shard n o (seen old)) → AllGain (deciding []) (seen old) (seen now)
 dummies_appear old now shard n o did =
     subst (λ (t : Table). AllGain (deciding []) (seen old) t) (sym did.shows)
     (record { each = λ name. if_gains (deciding []) (is_dummy_below shard n name) ((seen old).at name) (appeared_record o ((seen old).at name)) (appears_gain [] o ((seen old).at name)) })
 
-pub dummies_more : (old now later : Stored) (shard n s k : ℕ) (o o' : List ℕ) → s ≡ shard → k ≡ n → o' ≡ o → Becomes old now (with_dummies shard n o (seen old)) → Becomes now later (changed (appeared_record o') (ledger.Dummy s k) (seen now)) → Becomes old later (with_dummies shard (n + 1) o (seen old))
+pub dummies_more : (old now later : Stored) (shard n s k : ℕ) (o o' : List ℕ) → s ≡ shard → k ≡ n → o' ≡ o → Becomes old now (with_dummy_objects shard n o (seen old)) → Becomes now later (changed (appeared_record o') (ledger.Dummy s k) (seen now)) → Becomes old later (with_dummy_objects shard (n + 1) o (seen old))
 dummies_more old now later shard n s k o o' is_shard is_n same so_far did = record {
   shows = did.shows
       ∙ ap (λ x. changed (appeared_record x) (ledger.Dummy s k) (seen now)) same
@@ -170,5 +170,5 @@ none_below shard (ledger.Dummy s k) = by_shard (s == shard)
     by_shard true = none_less k
     by_shard false = refl
 
-pub no_dummies : (old : Stored) (shard : ℕ) (o : List ℕ) → Becomes old old (with_dummies shard 0 o (seen old))
+pub no_dummies : (old : Stored) (shard : ℕ) (o : List ℕ) → Becomes old old (with_dummy_objects shard 0 o (seen old))
 no_dummies old shard o = record { shows = same_table _ _ old.next (λ name. ap (λ b. if b then appeared_record o ((seen old).at name) else (seen old).at name) (sym (none_below shard name))); shards = refl; shard = refl; marks = marks_self old }

@@ -7,7 +7,7 @@ use Rattle.cs_base.specs.declared.key.Key.{Key}
 use Rattle.cs_base.specs.declared.key.Key.TheVariants as key
 use Rattle.cs_tx_value.specs.declared.object.Object.{Object}
 use Rattle.cs_tx_value.specs.Object.{object_encoding, ObjectFits}
-use Rattle.cs_tx_form.specs.Transaction.{Keyed}
+use Rattle.cs_tx_types.specs.Transaction.{Keyed}
 use Rattle.cs_ledger.specs.Ledger.{Item}
 use Rattle.cs_ledger.specs.Session as ledger
 use Rattle.cs_ledger.specs.Table as table
@@ -17,7 +17,7 @@ use Rattle.cs_table.specs.Seen.{Stored, seen, seen_piece}
 use Rattle.cs_table.specs.Changes.{Becomes, appeared_record, appeared_each}
 use Rattle.cs_table.specs.Pieces.{pieces_in}
 use Rattle.cs_tx.specs.Dummies.{dummy_object}
-use Rattle.cs_table.specs.Genesis.{with_keyed, keyed_of, genesis_rules, is_dummy_below, with_dummies, empty}
+use Rattle.cs_table.specs.Genesis.{with_keyed, keyed_of, genesis_rules, is_dummy_below, with_dummy_objects, empty}
 use Rattle.cs_table.proofs.Rows.{same_table}
 use Rattle.cs_table.proofs.Each.{appears, all_appeared, made_record}
 use Rattle.cs_table.proofs.Shown.{items_seen}
@@ -71,14 +71,14 @@ module _ (config : Config) (objects : List (Key × Object)) (shard : ℕ) where
       ap (λ object. if is_dummy_below shard config.dummies (ledger.Dummy s k) then appeared_record rules.dummy_object (made_record object unknown) else made_record object unknown) (no_object rules shard rules.genesis s k)
       ∙ dummy_state (s == shard && nat_lt k config.dummies) rules.dummy_object
 
-  filled : with_dummies shard config.dummies rules.dummy_object (all_appeared [] loaded (empty config.dummies)) ≡ table.start rules shard
+  filled : with_dummy_objects shard config.dummies rules.dummy_object (all_appeared [] loaded (empty config.dummies)) ≡ table.start rules shard
   filled = same_table _ _ config.dummies begun
 
-  pub genesis_is : (a b e : Stored) (pieces : List Piece) → seen a ≡ empty config.dummies → a.shard ≡ shard → pieces ≡ pieces_in config.shards shard (keyed_of objects) → Becomes a b (appeared_each [] (map seen_piece pieces) (seen a)) → Becomes b e (with_dummies b.shard config.dummies (object_encoding dummy_object) (seen b)) → seen e ≡ table.start rules shard
+  pub genesis_is : (a b e : Stored) (pieces : List Piece) → seen a ≡ empty config.dummies → a.shard ≡ shard → pieces ≡ pieces_in config.shards shard (keyed_of objects) → Becomes a b (appeared_each [] (map seen_piece pieces) (seen a)) → Becomes b e (with_dummy_objects b.shard config.dummies (object_encoding dummy_object) (seen b)) → seen e ≡ table.start rules shard
   genesis_is a b e pieces empty_is shard_is pieces_is one two =
       two.shows
-      ∙ ap (λ n. with_dummies n config.dummies rules.dummy_object (seen b)) (one.shard ∙ shard_is)
-      ∙ ap (with_dummies shard config.dummies rules.dummy_object)
+      ∙ ap (λ n. with_dummy_objects n config.dummies rules.dummy_object (seen b)) (one.shard ∙ shard_is)
+      ∙ ap (with_dummy_objects shard config.dummies rules.dummy_object)
       (one.shows
       ∙ ap (appeared_each [] (map seen_piece pieces)) empty_is
       ∙ ap (λ ps. appeared_each [] ps (empty config.dummies)) (ap (map seen_piece) pieces_is ∙ items_seen config.shards shard (keyed_of objects))

@@ -6,13 +6,13 @@ use Rattle.cs_base.specs.declared.key.Key.TheVariants as key
 use Rattle.cs_base.specs.Key.{shard_of_key}
 use Rattle.cs_tx_value.specs.declared.object.Object.{Object}
 use Rattle.cs_tx_value.specs.Object.{ObjectFits}
-use Rattle.cs_tx_form.specs.declared.trace.Trace.{Trace}
-use Rattle.cs_tx_form.specs.declared.session.Session.{Session}
-use Rattle.cs_tx_form.specs.Transaction.{Keyed, KeyedFits, TraceFits}
-use Rattle.cs_tx_form.specs.Session.{SessionFits}
+use Rattle.cs_tx_types.specs.declared.trace.Trace.{Trace}
+use Rattle.cs_tx_types.specs.declared.session.Session.{Session}
+use Rattle.cs_tx_types.specs.Transaction.{Keyed, KeyedFits, TraceFits}
+use Rattle.cs_tx_types.specs.Session.{SessionFits}
 use Rattle.cs_tx.specs.Digest.{digest_of_tx, outputs_at, outputs_from}
 use Rattle.cs_table.specs.declared.piece.Piece.{Piece}
-use Rattle.cs_table.specs.Pieces.{pieces_in, dummies_in, used_in, read_in, made_in}
+use Rattle.cs_table.specs.Pieces.{pieces_in, dummy_pieces, used_in, read_in, made_in}
 use Rattle.cs_tx.specs.Dummies.{dummy_object}
 
 abbrev pub PieceFits : Piece → Type 0
@@ -50,7 +50,7 @@ module _ (shards shard : ℕ) where
   items_fit [] fits = All-nil PieceFits
   items_fit (item ∷ items) fits = one_fits (shard_of_key shards (key.Object item.0) == shard) _ _ fits.0 (items_fit items fits.1)
 
-  dummies_fit : (dummies : List (ℕ × ℕ)) → All PieceFits (dummies_in shard dummies)
+  dummies_fit : (dummies : List (ℕ × ℕ)) → All PieceFits (dummy_pieces shard dummies)
   dummies_fit [] = All-nil PieceFits
   dummies_fit (dummy ∷ dummies) = one_fits (dummy.0 == shard) _ _ dummy_fits (dummies_fit dummies)
 

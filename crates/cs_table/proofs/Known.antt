@@ -4,10 +4,10 @@ use Rattle.std.specs.Prelude.{◌↔◌}
 use Rattle.std.proofs.lemmas.Bool.{both_ways, ltb-true, lt-ltb}
 use Rattle.std.proofs.lemmas.List.{length-map}
 use Rattle.cs_base.specs.declared.limits.TheConstants.{BOOK_PLACES, MOST_PLACES}
-use Rattle.cs_tx_form.specs.declared.vote.Vote.{Vote}
-use Rattle.cs_tx_form.specs.declared.state.State.{State}
-use Rattle.cs_tx_form.specs.declared.state.State.TheVariants as state
-use Rattle.cs_tx_form.specs.declared.record.Record.{Record}
+use Rattle.cs_tx_types.specs.declared.vote.Vote.{Vote}
+use Rattle.cs_tx_types.specs.declared.state.State.{State}
+use Rattle.cs_tx_types.specs.declared.state.State.TheVariants as state
+use Rattle.cs_tx_types.specs.declared.record.Record.{Record}
 use Rattle.cs_ledger.specs.Table as ledger
 use Rattle.cs_table.specs.Seen.{seen_place, seen_state, seen_record, unknown_record}
 

@@ -6,7 +6,7 @@ use Rattle.cs_ledger.specs.Table.{Record, Table}
 use Rattle.cs_table.specs.declared.piece.Piece.{Piece}
 use Rattle.cs_tx.specs.Sessions.{key_seen}
 use Rattle.cs_table.specs.Seen.{Stored, seen, seen_piece}
-use Rattle.cs_table.specs.Changes.{Marks, Becomes, changed, appeared_record, appeared_each}
+use Rattle.cs_table.specs.Changes.{MarksTouched, Becomes, changed, appeared_record, appeared_each}
 use Rattle.cs_table.proofs.Weights.{AllGain, all_stay, all_after}
 use Rattle.cs_table.proofs.Marked.{marks_self, marks_after}
 
@@ -14,7 +14,7 @@ pub record Left (weight : Record → ℕ) (change : List Carried → Table → T
   pub shows : change (map seen_piece rest) (seen now) ≡ change (map seen_piece all) (seen old)
   pub shards : now.shards ≡ old.shards
   pub shard : now.shard ≡ old.shard
-  pub marks : Marks old now
+  pub marks : MarksTouched old now
   pub gains : AllGain weight (seen old) (seen now)
 
 next : {X : Type 0} (xs : List X) (i : ℕ) (x : X) → i < length xs → x ≡ get_or xs i x → drop i xs ≡ x ∷ drop (i + 1) xs

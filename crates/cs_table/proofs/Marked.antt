@@ -14,20 +14,20 @@ use Rattle.cs_tx.specs.Sessions.{key_seen}
 use Rattle.cs_table.specs.declared.change.Change.{Change}
 use Rattle.cs_table.specs.declared.change.Change.TheVariants.{Lock, Release, UseUp}
 use Rattle.cs_table.specs.Seen.{Stored, seen, has_name, is_under, unknown_record}
-use Rattle.cs_table.specs.Changes.{Marks, changed, changed_record, appeared_record, noted_record}
+use Rattle.cs_table.specs.Changes.{MarksTouched, changed, changed_record, appeared_record, noted_record}
 use Rattle.cs_table.proofs.Rows.{key_cmp, same_key, key_sym}
 use Rattle.cs_table.proofs.Weights.{AllGain, never_back}
 
 -- ---- one step after another
 
-pub marks_self : (a : Stored) → Marks a a
+pub marks_self : (a : Stored) → MarksTouched a a
 marks_self a = record { untouched = λ name h. (h, refl); touched = λ name late early. absurd (both_ways _ early late); known = λ name h. h }
 
 -- what one step changed, the next doesn't bring back
 abbrev NeverBack : Table → Table → Table → Type 0
 NeverBack t u v = (name : ledger.Key) → (u.at name ≡ t.at name → ⊥) → v.at name ≡ t.at name → ⊥
 
-marks_chain : (a b c : Stored) → NeverBack (seen a) (seen b) (seen c) → Marks a b → Marks b c → Marks a c
+marks_chain : (a b c : Stored) → NeverBack (seen a) (seen b) (seen c) → MarksTouched a b → MarksTouched b c → MarksTouched a c
 marks_chain a b c never one two = record {
   untouched = λ name h.
       let late = two.untouched name h in
@@ -40,12 +40,12 @@ marks_chain a b c never one two = record {
   known = λ name h. one.known name (two.known name h);
 }
 
-pub marks_after : (weight : Record → ℕ) (a b c : Stored) → AllGain weight (seen a) (seen b) → AllGain weight (seen b) (seen c) → Marks a b → Marks b c → Marks a c
+pub marks_after : (weight : Record → ℕ) (a b c : Stored) → AllGain weight (seen a) (seen b) → AllGain weight (seen b) (seen c) → MarksTouched a b → MarksTouched b c → MarksTouched a c
 marks_after weight a b c first second =
     marks_chain a b c (λ name. never_back weight ((seen a).at name) ((seen b).at name) ((seen c).at name) (first.each name) (second.each name))
 
 -- after a step that changes no record
-pub marks_same : (a b c : Stored) → ((name : ledger.Key) → (seen b).at name ≡ (seen a).at name) → Marks a b → Marks b c → Marks a c
+pub marks_same : (a b c : Stored) → ((name : ledger.Key) → (seen b).at name ≡ (seen a).at name) → MarksTouched a b → MarksTouched b c → MarksTouched a c
 marks_same a b c same = marks_chain a b c (λ name differs back. differs (same name))
 
 -- ---- the record of one key
@@ -77,7 +77,7 @@ pub marks_at : (a b c : Stored) (f : Record → Record) (k : ledger.Key) (moved 
     → (moved ≡ false → f ((seen a).at k) ≡ (seen a).at k)
     → (moved ≡ true → f ((seen a).at k) ≡ (seen a).at k → ⊥)
     → ((r : Record) → f r ≡ unknown_record → r ≡ unknown_record)
-    → Marks a c
+    → MarksTouched a c
 marks_at a b c f k moved shows same touched stays moves known = record {
   untouched = λ name h.
       let parts = or_false (has_name a.touched name) (moved && ledger.key_eq name k)

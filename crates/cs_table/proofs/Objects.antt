@@ -5,10 +5,10 @@ use Rattle.cs_tx_value.specs.Object.{object_encoding, ObjectFits, object_at}
 use Rattle.cs_tx_value.specs.laws.Object.{object_form}
 use Rattle.cs_ledger.proofs.Basics.{same_bytes, bytes_refl}
 use Rattle.cs_base.specs.declared.key.Key.{Key}
-use Rattle.cs_tx_form.specs.declared.state.State.TheVariants.{Active}
+use Rattle.cs_tx_types.specs.declared.state.State.TheVariants.{Active}
 use Rattle.cs_ledger.specs.Session.{Key as Name}
 use Rattle.cs_ledger.specs.Table.{is_active_with}
-use Rattle.cs_tx_form.specs.declared.record.Record.{Record}
+use Rattle.cs_tx_types.specs.declared.record.Record.{Record}
 use Rattle.cs_table.specs.Seen.{row_in, seen_row, seen_state, HoldsFit}
 use Rattle.cs_table.proofs.Rows.{same_tests}
 

@@ -14,10 +14,10 @@ use Rattle.cs_base.specs.contracts.key.KeyOrd.TheImpl.{ghosts}
 use Rattle.cs_ledger.specs.Session as ledger
 use Rattle.cs_ledger.specs.Table.{Record as Seen, Table}
 use Rattle.cs_ledger.proofs.Basics as basics
-use Rattle.cs_tx_form.specs.declared.record.Record.{Record}
-use Rattle.cs_table.specs.Seen.{Stored, is_under, row_in, seen_row, unknown_record, seen, RowFits, RowsFit, HoldsFit, IsStored, IsInWidth, KeysInWidth, IsKeptTable}
+use Rattle.cs_tx_types.specs.declared.record.Record.{Record}
+use Rattle.cs_table.specs.Seen.{Stored, is_under, row_in, seen_row, unknown_record, seen, RowFits, RowsFit, HoldsFit, IsStored, IsKeyInWidth, KeysInWidth, IsKeptTable}
 use Rattle.cs_tx.specs.Sessions.{key_seen}
-use Rattle.cs_table.specs.Changes.{changed, Shows, Marks, Becomes}
+use Rattle.cs_table.specs.Changes.{changed, ShowsTable, MarksTouched, Becomes}
 
 abbrev pub key_cmp : Key → Key → Ordering
 key_cmp = ghosts.cmp
@@ -67,7 +67,7 @@ if_row : (b : Bool) (w row : Option Record) → seen_row (if b then w else row) 
 if_row true w row = refl
 if_row false w row = refl
 
-pub becomes : (s : Stored) (k : Key) (w : Option Record) (after : Rows) (touched : List Key) → UpdatesAt k w s.rows after → Shows s (record { shards = s.shards; shard = s.shard; next = s.next; rows = after; touched = touched }) (changed (λ r. seen_row w) (key_seen k) (seen s))
+pub becomes : (s : Stored) (k : Key) (w : Option Record) (after : Rows) (touched : List Key) → UpdatesAt k w s.rows after → ShowsTable s (record { shards = s.shards; shard = s.shard; next = s.next; rows = after; touched = touched }) (changed (λ r. seen_row w) (key_seen k) (seen s))
 becomes s k w after touched updates = record {
   shows = same_table _ _ s.next (λ name. ap seen_row (row_after k w s.rows after updates name) ∙ if_row (ledger.key_eq name (key_seen k)) w (row_in s.rows name));
   shards = refl;
@@ -81,17 +81,17 @@ if_fits false w row new old = old
 pub fits_after : (k : Key) (w : Option Record) (rows after : Rows) → UpdatesAt k w rows after → RowFits w → RowsFit rows → RowsFit after
 fits_after k w rows after updates new old name = rw (row_after k w rows after updates name) (if_fits (ledger.key_eq name (key_seen k)) w (row_in rows name) new (old name))
 
-widths_after : (k : Key) (w : Option Record) (rows after : Rows) → UpdatesAt k w rows after → (is_some w ≡ true → IsInWidth (key_seen k)) → KeysInWidth rows → KeysInWidth after
+widths_after : (k : Key) (w : Option Record) (rows after : Rows) → UpdatesAt k w rows after → (is_some w ≡ true → IsKeyInWidth (key_seen k)) → KeysInWidth rows → KeysInWidth after
 widths_after k w rows after updates here old name some =
     let there : is_some (if ledger.key_eq name (key_seen k) then w else row_in rows name) ≡ true = sym (ap is_some (row_after k w rows after updates name)) ∙ some in
     elim (cases_Bool (ledger.key_eq name (key_seen k))) [
       | inl same ↦
-          subst IsInWidth (sym (basics.same_key name (key_seen k) same))
+          subst IsKeyInWidth (sym (basics.same_key name (key_seen k) same))
           (here (sym (ap (λ (b : Bool). is_some (if b then w else row_in rows name)) same) ∙ there))
       | inr other ↦ old name (sym (ap (λ (b : Bool). is_some (if b then w else row_in rows name)) other) ∙ there)
     ]
 
-pub kept_after : (k : Key) (w : Option Record) (rows after : Rows) → UpdatesAt k w rows after → RowFits w → (is_some w ≡ true → IsInWidth (key_seen k)) → IsKeptTable rows → IsKeptTable after
+pub kept_after : (k : Key) (w : Option Record) (rows after : Rows) → UpdatesAt k w rows after → RowFits w → (is_some w ≡ true → IsKeyInWidth (key_seen k)) → IsKeptTable rows → IsKeptTable after
 kept_after k w rows after updates fits here old = record {
   fit = fits_after k w rows after updates fits old.fit;
   widths = widths_after k w rows after updates here old.widths;
@@ -116,17 +116,17 @@ if_same false r t h = refl
 pub unchanged : (k : ledger.Key) (r : Seen) (t : Table) → t.at k ≡ r → t ≡ changed (λ old. r) k t
 unchanged k r t is = same_table _ _ t.next (λ name. if_same (ledger.key_eq name k) r (t.at name) (λ same. subst (λ z. t.at z ≡ r) (sym (basics.same_key name k same)) is))
 
-pub becomes_again : (a b c : Stored) (change : Seen → Seen) (k : ledger.Key) (r : Seen) → Shows a b (changed (λ old. unknown_record) k (seen a)) → Shows b c (changed (λ old. r) k (seen b)) → r ≡ change ((seen a).at k) → Shows a c (changed change k (seen a))
+pub becomes_again : (a b c : Stored) (change : Seen → Seen) (k : ledger.Key) (r : Seen) → ShowsTable a b (changed (λ old. unknown_record) k (seen a)) → ShowsTable b c (changed (λ old. r) k (seen b)) → r ≡ change ((seen a).at k) → ShowsTable a c (changed change k (seen a))
 becomes_again a b c change k r left there is = record {
   shows = there.shows ∙ ap (λ t. changed (λ old. r) k t) left.shows ∙ back_again change k r (seen a) is;
   shards = there.shards ∙ left.shards;
   shard = there.shard ∙ left.shard;
 }
 
-pub gone : (a b : Stored) (k : ledger.Key) → Shows a b (changed (λ old. unknown_record) k (seen a)) → (seen b).at k ≡ unknown_record
+pub gone : (a b : Stored) (k : ledger.Key) → ShowsTable a b (changed (λ old. unknown_record) k (seen a)) → (seen b).at k ≡ unknown_record
 gone a b k left = ap (λ t. t.at k) left.shows ∙ unknown_there k (seen a)
 
-pub with_marks : (a b : Stored) (t : Table) → Shows a b t → Marks a b → Becomes a b t
+pub with_marks : (a b : Stored) (t : Table) → ShowsTable a b t → MarksTouched a b → Becomes a b t
 with_marks a b t shown marks = record { shows = shown.shows; shards = shown.shards; shard = shown.shard; marks = marks }
 
 -- what is found fits

@@ -16,11 +16,11 @@ abbrev pub anchor_in : Stored → ledger.Session → Option ledger.Key
 anchor_in s x = ledger.anchor (rules_in s.shards) x s.shard
 
 -- what a chosen Prepare and a chosen Decide come to
-abbrev pub prepared : Stored → ledger.Session → Outcome
-prepared s x = act (rules_in s.shards) s.shard (seen s) (Prepare x) (anchor_in s x)
+abbrev pub prepare_outcome : Stored → ledger.Session → Outcome
+prepare_outcome s x = act (rules_in s.shards) s.shard (seen s) (Prepare x) (anchor_in s x)
 
-abbrev pub decided : Stored → ledger.Session → Vote → Outcome
-decided s x vote = act (rules_in s.shards) s.shard (seen s) (Decide x vote) (anchor_in s x)
+abbrev pub decide_outcome : Stored → ledger.Session → Vote → Outcome
+decide_outcome s x vote = act (rules_in s.shards) s.shard (seen s) (Decide x vote) (anchor_in s x)
 
 -- without an anchor a session holds nothing, stands open, and has no vote on record
 abbrev pub locked_at : Table → Bytes → Option ledger.Key → Bool

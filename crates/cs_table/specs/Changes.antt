@@ -46,14 +46,14 @@ abbrev pub with_next : ℕ → Table → Table
 with_next next t = record { at = t.at; next = next }
 
 -- a stored table shows this now, and is of the same shard
-pub record Shows (old new : Stored) (table : Table) : Type 0 where
+pub record ShowsTable (old new : Stored) (table : Table) : Type 0 where
   pub shows : seen new ≡ table
   pub shards : new.shards ≡ old.shards
   pub shard : new.shard ≡ old.shard
 
 -- A key that isn't touched wasn't so before, and has the record that it had; one that is touched now and wasn't so before
 -- has another record than it had; and nothing that was known is forgotten.
-pub record Marks (old new : Stored) : Type 0 where
+pub record MarksTouched (old new : Stored) : Type 0 where
   pub untouched : (name : Key) → has_name new.touched name ≡ false →
       (has_name old.touched name ≡ false) × ((seen new).at name ≡ (seen old).at name)
   pub touched : (name : Key) → has_name new.touched name ≡ true → has_name old.touched name ≡ false →
@@ -65,4 +65,4 @@ pub record Becomes (old new : Stored) (table : Table) : Type 0 where
   pub shows : seen new ≡ table
   pub shards : new.shards ≡ old.shards
   pub shard : new.shard ≡ old.shard
-  pub marks : Marks old new
+  pub marks : MarksTouched old new

@@ -1,11 +1,11 @@
 -- The dummy of a shard that a client is told of.
 use Rattle.std.specs.Prelude.{◌≡◌, ℕ, ◌<◌, ◌^◌, Bool, true, false, if◌then◌else◌, List, [], ◌∷◌, Option, Some, None}
 use Rattle.cs_base.specs.declared.key.Key.{Key}
-use Rattle.cs_tx_form.specs.declared.state.State.{State}
-use Rattle.cs_tx_form.specs.declared.state.State.TheVariants as state
+use Rattle.cs_tx_types.specs.declared.state.State.{State}
+use Rattle.cs_tx_types.specs.declared.state.State.TheVariants as state
 use Rattle.cs_ledger.specs.Session as ledger
 use Rattle.cs_ledger.specs.Table.{Table, has_active_dummy}
-use Rattle.cs_tx_form.specs.declared.record.Record.{Record}
+use Rattle.cs_tx_types.specs.declared.record.Record.{Record}
 
 -- an object is there, which no session holds
 abbrev pub is_active : State → Bool

@@ -4,7 +4,7 @@ use Rattle.cs_base.specs.declared.config.Config.{Config}
 use Rattle.cs_base.specs.declared.key.Key.{Key}
 use Rattle.cs_base.specs.declared.key.Key.TheVariants as key
 use Rattle.cs_tx_value.specs.declared.object.Object.{Object}
-use Rattle.cs_tx_form.specs.Transaction.{Keyed}
+use Rattle.cs_tx_types.specs.Transaction.{Keyed}
 use Rattle.cs_ledger.specs.Session as ledger
 use Rattle.cs_ledger.specs.Table.{State, Unknown, Table}
 use Rattle.cs_table.specs.declared.piece.Piece.{Piece}
@@ -50,18 +50,18 @@ is_unknown Unknown = true
 is_unknown _ = false
 
 -- a call finds the key that stands twice, unless memory ran out
-abbrev pub Finds : {A : Type 0} → Result A TableError → Option Key → Type 0
-Finds {A} (Ok done) found = found ≡ None
-Finds {A} (Err (Duplicate key)) found = found ≡ Some key
-Finds {A} (Err Memory) found = Unit {0}
+abbrev pub FindsKeyTwice : {A : Type 0} → Result A TableError → Option Key → Type 0
+FindsKeyTwice {A} (Ok done) found = found ≡ None
+FindsKeyTwice {A} (Err (Duplicate key)) found = found ≡ Some key
+FindsKeyTwice {A} (Err Memory) found = Unit {0}
 
 -- the dummies of these serials come into being
 abbrev pub is_dummy_below : ℕ → ℕ → ledger.Key → Bool
 is_dummy_below shard n (ledger.Object name) = false
 is_dummy_below shard n (ledger.Dummy s serial) = s == shard && nat_lt serial n
 
-abbrev pub with_dummies : ℕ → ℕ → List ℕ → Table → Table
-with_dummies shard n object t = record {
+abbrev pub with_dummy_objects : ℕ → ℕ → List ℕ → Table → Table
+with_dummy_objects shard n object t = record {
   at = λ name. if is_dummy_below shard n name then appeared_record object (t.at name) else t.at name;
   next = t.next;
 }

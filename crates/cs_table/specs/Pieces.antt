@@ -3,8 +3,8 @@ use Rattle.std.specs.Prelude.{ℕ, ◌==◌, List, [], ◌∷◌, ◌++◌, All,
 use Rattle.cs_base.specs.declared.key.Key.TheVariants as key
 use Rattle.cs_base.specs.Key.{shard_of_key}
 use Rattle.cs_tx_value.specs.Object.{object_encoding, ObjectFits}
-use Rattle.cs_tx_form.specs.declared.session.Session.{Session}
-use Rattle.cs_tx_form.specs.Transaction.{Keyed}
+use Rattle.cs_tx_types.specs.declared.session.Session.{Session}
+use Rattle.cs_tx_types.specs.Transaction.{Keyed}
 use Rattle.cs_tx.specs.Uses.{inputs_of, references_of, outputs_of}
 use Rattle.cs_ledger.specs.Session.{Rules}
 use Rattle.cs_table.specs.declared.piece.Piece.{Piece}
@@ -31,16 +31,16 @@ pieces_in shards shard (item ∷ items) =
 abbrev pub PiecesFit : List Piece → Type 0
 PiecesFit pieces = All (λ piece. ObjectFits piece.object) pieces
 
-abbrev pub dummies_in : ℕ → List (ℕ × ℕ) → List Piece
-dummies_in shard [] = []
-dummies_in shard (dummy ∷ dummies) =
+abbrev pub dummy_pieces : ℕ → List (ℕ × ℕ) → List Piece
+dummy_pieces shard [] = []
+dummy_pieces shard (dummy ∷ dummies) =
     if dummy.0 == shard
-    then record { key = key.Dummy dummy.0 dummy.1; object = dummy_object } ∷ dummies_in shard dummies
-    else dummies_in shard dummies
+    then record { key = key.Dummy dummy.0 dummy.1; object = dummy_object } ∷ dummy_pieces shard dummies
+    else dummy_pieces shard dummies
 
 -- what a session uses up, what it only reads, and what it brings into being
 abbrev pub used_in : ℕ → ℕ → Session → List Piece
-used_in shards shard x = pieces_in shards shard (inputs_of x.tx) ++ dummies_in shard x.dummies
+used_in shards shard x = pieces_in shards shard (inputs_of x.tx) ++ dummy_pieces shard x.dummies
 
 abbrev pub read_in : ℕ → ℕ → Session → List Piece
 read_in shards shard x = pieces_in shards shard (references_of x.tx)

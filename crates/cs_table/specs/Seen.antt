@@ -5,13 +5,13 @@ use Rattle.std.specs.Map.{lookup}
 use Rattle.cs_base.specs.declared.limits.TheConstants.{MOST_PLACES}
 use Rattle.cs_base.specs.declared.key.Key.{Key}
 use Rattle.cs_tx_value.specs.Object.{object_encoding, ObjectFits}
-use Rattle.cs_tx_form.specs.declared.vote.Vote.{Vote}
-use Rattle.cs_tx_form.specs.declared.vote.Vote.TheVariants as vote
-use Rattle.cs_tx_form.specs.declared.state.State.{State}
-use Rattle.cs_tx_form.specs.declared.state.State.TheVariants as state
+use Rattle.cs_tx_types.specs.declared.vote.Vote.{Vote}
+use Rattle.cs_tx_types.specs.declared.vote.Vote.TheVariants as vote
+use Rattle.cs_tx_types.specs.declared.state.State.{State}
+use Rattle.cs_tx_types.specs.declared.state.State.TheVariants as state
 use Rattle.cs_ledger.specs.Session as ledger
 use Rattle.cs_ledger.specs.Table as table
-use Rattle.cs_tx_form.specs.declared.record.Record.{Record}
+use Rattle.cs_tx_types.specs.declared.record.Record.{Record}
 use Rattle.cs_table.specs.declared.piece.Piece.{Piece}
 use Rattle.cs_tx.specs.Sessions.{key_seen}
 
@@ -81,13 +81,13 @@ HoldsFit (state.Locked object by) = ObjectFits object
 HoldsFit (state.Inactive by) = Unit {0}
 
 -- its object is within all limits, and its book has no more places than there may be
-pub record IsKept (r : Record) : Type 0 where
+pub record IsKeptRecord (r : Record) : Type 0 where
   pub holds : HoldsFit r.state
   pub places : length r.book ≤ MOST_PLACES
 
 -- a record that is stored: something is known of its key
 pub record IsStored (r : Record) : Type 0 where
-  pub kept : IsKept r
+  pub kept : IsKeptRecord r
   pub known : seen_record r ≡ unknown_record → ⊥
 
 abbrev pub RowFits : Option Record → Type 0
@@ -98,13 +98,13 @@ abbrev pub RowsFit : List (Key × Record) → Type 0
 RowsFit rows = (name : ledger.Key) → RowFits (row_in rows name)
 
 -- the numbers of a dummy have 16 and 64 bits
-abbrev pub IsInWidth : ledger.Key → Type 0
-IsInWidth (ledger.Object name) = Unit {0}
-IsInWidth (ledger.Dummy shard serial) = (shard < 2 ^ 16) × (serial < 2 ^ 64)
+abbrev pub IsKeyInWidth : ledger.Key → Type 0
+IsKeyInWidth (ledger.Object name) = Unit {0}
+IsKeyInWidth (ledger.Dummy shard serial) = (shard < 2 ^ 16) × (serial < 2 ^ 64)
 
 -- each key that is stored is so
 abbrev pub KeysInWidth : List (Key × Record) → Type 0
-KeysInWidth rows = (name : ledger.Key) → is_some (row_in rows name) ≡ true → IsInWidth name
+KeysInWidth rows = (name : ledger.Key) → is_some (row_in rows name) ≡ true → IsKeyInWidth name
 
 pub record IsKeptTable (rows : List (Key × Record)) : Type 0 where
   pub fit : RowsFit rows

@@ -7,7 +7,7 @@ ghost use Rattle.cs_table.specs.Seen.{seen, shown_at, seen_piece};
 ghost use Rattle.cs_table.specs.Changes.{Becomes, appeared_each};
 ghost use Rattle.cs_table.specs.Pieces.{pieces_in, PiecesFit};
 ghost use Rattle.cs_tx.specs.Dummies.{dummy_object as the_dummy};
-ghost use Rattle.cs_table.specs.Genesis.{keyed_of, genesis_rules, second_of, twice, is_unknown, Finds, with_dummies, empty};
+ghost use Rattle.cs_table.specs.Genesis.{keyed_of, genesis_rules, second_of, twice, is_unknown, FindsKeyTwice, with_dummy_objects, empty};
 
 use crate::piece::Piece;
 use crate::pieces::{add_piece, dummy_object};
@@ -70,7 +70,7 @@ impl Table {
         ensures shards { IfOk result (λ table. table.shards ≡ config.shards) }
         ensures shard { IfOk result (λ table. table.shard ≡ shard) }
         ensures touched { IfOk result (λ table. table.touched ≡ []) }
-        ensures finds { Finds result (twice config.shards shard objects.now) }
+        ensures finds { FindsKeyTwice result (twice config.shards shard objects.now) }
     {
         let pieces = genesis_pieces(alloc, &config, shard, objects)?;
         let count = config.dummies;
@@ -100,7 +100,7 @@ impl Table {
         requires empty { seen self.old ≡ empty self.old.next }
         ensures table { OnOk result (Becomes self.old self.new
             (appeared_each [] (map seen_piece pieces.now) (seen self.old))) }
-        ensures finds { Finds result (second_of [] pieces.now) }
+        ensures finds { FindsKeyTwice result (second_of [] pieces.now) }
     {
         for piece in pieces {
             if !self.is_unknown(&piece.key) {
@@ -115,7 +115,7 @@ impl Table {
     /// Makes the dummies of the first serials active.
     fn load_dummies(&mut self, alloc: Global, count: u16) -> Result<(), Memory>
         ensures { OnOk result (Becomes self.old self.new
-            (with_dummies self.old.shard count (object_encoding the_dummy) (seen self.old))) }
+            (with_dummy_objects self.old.shard count (object_encoding the_dummy) (seen self.old))) }
     {
         let shard = self.shard();
         for serial in 0..count {

@@ -14,7 +14,7 @@ mod standing;
 mod table;
 mod verdict;
 
-pub use cs_tx_form::{Effect, Record};
+pub use cs_tx_types::{Effect, Record};
 pub use genesis::TableError;
 pub use listing::{Records, Touched};
 pub use piece::Piece;

@@ -10,7 +10,7 @@ ghost use Rattle.cs_table.specs.Dummies.{IsLeastDummy, is_active, first_active};
 use crate::table::Table;
 use cs_base::Key;
 use cs_tx::State;
-use cs_tx_form::Record;
+use cs_tx_types::Record;
 use std::collections::btree_map::{Iter, Range};
 use std::collections::btree_set;
 

@@ -1,11 +1,11 @@
 //! The keys that a session has in a shard.
 ghost use Rattle.std.specs.Prelude.{◌≡◌, ◌≤◌, ◌++◌, [], ◌∷◌, length, IfOk, OnOk};
 ghost use Rattle.std.specs.List.{flat_map, AllByRecursion};
-ghost use Rattle.cs_tx_form.specs.declared.limits.TheConstants.{MOST_TRACES, MOST_TRACE_OBJECTS};
-ghost use Rattle.cs_tx_form.specs.Transaction.{TraceFits};
-ghost use Rattle.cs_tx_form.specs.Session.{SessionFits};
+ghost use Rattle.cs_tx_types.specs.declared.limits.TheConstants.{MOST_TRACES, MOST_TRACE_OBJECTS};
+ghost use Rattle.cs_tx_types.specs.Transaction.{TraceFits};
+ghost use Rattle.cs_tx_types.specs.Session.{SessionFits};
 ghost use Rattle.cs_tx.specs.Digest.{outputs_at, outputs_from};
-ghost use Rattle.cs_table.specs.Pieces.{pieces_in, dummies_in, used_in, read_in, made_in, PiecesFit};
+ghost use Rattle.cs_table.specs.Pieces.{pieces_in, dummy_pieces, used_in, read_in, made_in, PiecesFit};
 ghost use Rattle.cs_tx.specs.Dummies.{dummy_object as the_dummy};
 
 use crate::piece::Piece;
@@ -103,7 +103,7 @@ fn add_dummies(
     shard: u16,
     dummies: &[(u16, u64)],
 ) -> Result<(), Memory>
-    ensures { OnOk result (pieces.new.items ≡ pieces.old.items ++ dummies_in shard dummies.now) }
+    ensures { OnOk result (pieces.new.items ≡ pieces.old.items ++ dummy_pieces shard dummies.now) }
 {
     for dummy in dummies {
         if dummy.0 == shard {

@@ -4,12 +4,12 @@ ghost use Rattle.cs_tx_value.specs.Object.{object_encoding, ObjectFits};
 ghost use Rattle.cs_table.specs.Changes.{changed_state, changed_record, appeared_record, noted_record};
 ghost use Rattle.cs_table.specs.Seen.{seen_record, seen_state, vote_of, unknown_record, HoldsFit};
 ghost use Rattle.cs_ledger.specs.Table.{locked, released};
-ghost use Rattle.cs_tx_form.specs.declared.state.State.TheVariants.{Unknown};
+ghost use Rattle.cs_tx_types.specs.declared.state.State.TheVariants.{Unknown};
 
 use crate::change::Change;
 use cs_base::{Memory, Sequence};
 use cs_tx::{Digest, Object, State, Vote};
-use cs_tx_form::Record;
+use cs_tx_types::Record;
 use std::alloc::Global;
 use std::mem;
 

@@ -1,17 +1,17 @@
 //! The calls on a session.
 ghost use Rattle.std.specs.Prelude.{◌≡◌, ◌==◌, ◌+◌, ◌++◌, Bool, true, length, IsSome, is_some, IfOk, OnOk, map, option_map};
-ghost use Rattle.cs_tx_form.specs.declared.transaction.Tx.{Tx};
-ghost use Rattle.cs_tx_form.specs.Session.{SessionFits};
+ghost use Rattle.cs_tx_types.specs.declared.transaction.Tx.{Tx};
+ghost use Rattle.cs_tx_types.specs.Session.{SessionFits};
 ghost use Rattle.cs_tx.specs.Digest.{digest_of_session};
 ghost use Rattle.cs_ledger.specs.Table.{Voted};
 ghost use Rattle.cs_ledger.specs.Session.{first_key as first_of};
 ghost use Rattle.cs_table.specs.Seen.{seen, vote_of, seen_piece};
 ghost use Rattle.cs_table.specs.Pieces.{used_in, read_in, PiecesFit};
-ghost use Rattle.cs_tx.specs.Sessions.{session_of, dummy_name, key_seen};
+ghost use Rattle.cs_tx.specs.Sessions.{ledger_session, dummy_name, key_seen};
 ghost use Rattle.cs_table.specs.Effects.{ComesTo, effect_of};
 ghost use Rattle.std.specs.List.{list_any};
 ghost use Rattle.cs_table.specs.Changes.{Becomes, with_next};
-ghost use Rattle.cs_table.specs.Calls.{accepted_with, makes_dummy as makes_new, new_in, anchor_in, prepared, decided, is_locked_in, standing_in, recorded_in};
+ghost use Rattle.cs_table.specs.Calls.{accepted_with, makes_dummy as makes_new, new_in, anchor_in, prepare_outcome, decide_outcome, is_locked_in, standing_in, recorded_in};
 ghost use Rattle.cs_table.specs.declared.standing.Standing.{Standing};
 
 use crate::piece::Piece;
@@ -20,7 +20,7 @@ use crate::standing::{Preparation, Standing};
 use crate::table::Table;
 use cs_base::{Key, Memory};
 use cs_tx::{Digest, Session, Vote};
-use cs_tx_form::Effect;
+use cs_tx_types::Effect;
 use std::alloc::Global;
 
 /// What a session has in the shard: what it uses up, and what it only reads.
@@ -63,7 +63,7 @@ impl Table {
     pub fn has_anchor(&self, alloc: Global, session: &Session) -> Result<bool, Memory>
         requires { SessionFits session.now }
         ensures { IfOk result (λ has.
-            has ≡ is_some (anchor_in self.now (session_of (λ tx. true) session.now))) }
+            has ≡ is_some (anchor_in self.now (ledger_session (λ tx. true) session.now))) }
     {
         let uses = self.uses(alloc, session)?;
         let anchor = first_key(uses.used.as_slice());
@@ -81,12 +81,12 @@ impl Table {
     ) -> Result<Preparation, Memory>
         requires fits { SessionFits session.now }
         requires named { digest.now ≡ digest_of_session session.now }
-        requires anchored { IsSome (anchor_in self.old (session_of (λ tx. true) session.now)) }
+        requires anchored { IsSome (anchor_in self.old (ledger_session (λ tx. true) session.now)) }
         ensures vote { (approves : Tx → Bool) → IfOk result (λ answer.
-            ComesTo (prepared self.old (session_of approves session.now))
+            ComesTo (prepare_outcome self.old (ledger_session approves session.now))
             self.old self.new (Voted (vote_of answer.vote))) }
         ensures locks { (approves : Tx → Bool) → IfOk result (λ answer.
-            answer.locked ≡ is_locked_in self.new (session_of approves session.now)) }
+            answer.locked ≡ is_locked_in self.new (ledger_session approves session.now)) }
     {
         let uses = self.uses(alloc, session)?;
         let used = uses.used.as_slice();
@@ -115,9 +115,9 @@ impl Table {
     ) -> Result<Effect, Memory>
         requires fits { SessionFits session.now }
         requires named { digest.now ≡ digest_of_session session.now }
-        requires anchored { IsSome (anchor_in self.old (session_of (λ tx. true) session.now)) }
+        requires anchored { IsSome (anchor_in self.old (ledger_session (λ tx. true) session.now)) }
         ensures { (approves : Tx → Bool) → IfOk result (λ effect.
-            ComesTo (decided self.old (session_of approves session.now) (vote_of vote))
+            ComesTo (decide_outcome self.old (ledger_session approves session.now) (vote_of vote))
             self.old self.new (effect_of effect)) }
     {
         let uses = self.uses(alloc, session)?;
@@ -153,7 +153,7 @@ impl Table {
     ) -> Result<(), Memory>
         requires fits { SessionFits session.now }
         ensures { (approves : Tx → Bool) → OnOk result (Becomes self.old self.new
-            (accepted_with self.old (session_of approves session.now) digest.now
+            (accepted_with self.old (ledger_session approves session.now) digest.now
             (map seen_piece used.now) (map seen_piece read.now))) }
     {
         let mut made = made_pieces(alloc, self.config(), self.shard(), session)?;
@@ -205,7 +205,7 @@ impl Table {
         requires fits { SessionFits session.now }
         requires named { digest.now ≡ digest_of_session session.now }
         ensures { (approves : Tx → Bool) → IfOk result (λ standing.
-            standing ≡ standing_in self.now (session_of approves session.now)) }
+            standing ≡ standing_in self.now (ledger_session approves session.now)) }
     {
         let uses = self.uses(alloc, session)?;
         match first_key(uses.used.as_slice()) {
@@ -224,7 +224,7 @@ impl Table {
         requires fits { SessionFits session.now }
         requires named { digest.now ≡ digest_of_session session.now }
         ensures { (approves : Tx → Bool) → IfOk result (λ vote.
-            option_map vote_of vote ≡ recorded_in self.now (session_of approves session.now)) }
+            option_map vote_of vote ≡ recorded_in self.now (ledger_session approves session.now)) }
     {
         let uses = self.uses(alloc, session)?;
         match first_key(uses.used.as_slice()) {

@@ -3,16 +3,16 @@ ghost use Rattle.std.specs.Prelude.{◌≡◌, [], ◌+◌, ◌-◌, ◌<◌, �
 ghost use Rattle.cs_tx_value.specs.Object.{object_encoding, ObjectFits};
 ghost use Rattle.cs_ledger.specs.Session.{Key as Name, key_eq};
 ghost use Rattle.cs_ledger.specs.Table.{is_active_with, has_place};
-ghost use Rattle.cs_table.specs.Seen.{seen, shown_at, row_in, vote_of, seen_record, seen_row, unknown_record, HoldsFit, IsKept, IsStored, RowFits, has_name, forgotten, IsInWidth, IsKeptTable};
+ghost use Rattle.cs_table.specs.Seen.{seen, shown_at, row_in, vote_of, seen_record, seen_row, unknown_record, HoldsFit, IsKeptRecord, IsStored, RowFits, has_name, forgotten, IsKeyInWidth, IsKeptTable};
 ghost use Rattle.cs_tx.specs.Sessions.{key_seen};
-ghost use Rattle.cs_table.specs.Changes.{with_next, changed, changed_record, appeared_record, noted_record, Shows, Becomes};
+ghost use Rattle.cs_table.specs.Changes.{with_next, changed, changed_record, appeared_record, noted_record, ShowsTable, Becomes};
 
 use crate::change::Change;
 use crate::piece::Piece;
 use crate::record;
 use cs_base::{Config, Key, Memory};
 use cs_tx::{Digest, Object, State, Vote};
-use cs_tx_form::Record;
+use cs_tx_types::Record;
 use std::alloc::{AllocError, Global};
 use std::collections::{BTreeMap, BTreeSet};
 use std::marker::Model;
@@ -144,8 +144,8 @@ impl Table {
     /// Takes the record of a key out.
     fn take(&mut self, alloc: Global, key: &Key) -> Record
         ensures row { seen_record result ≡ shown_at self.old key.now }
-        ensures fits { IsKept result }
-        ensures left { Shows self.old self.new
+        ensures fits { IsKeptRecord result }
+        ensures left { ShowsTable self.old self.new
             (changed (λ r. unknown_record) (key_seen key.now) (seen self.old)) }
         ensures touched { self.new.touched ≡ self.old.touched }
     {
@@ -157,8 +157,8 @@ impl Table {
     /// which nothing is known is not stored.
     fn put(&mut self, key: Key, row: Record, moved: bool) -> Result<(), Memory>
         requires gone { shown_at self.old key ≡ unknown_record }
-        requires fits { IsKept row }
-        ensures shown { OnOk result (Shows self.old self.new
+        requires fits { IsKeptRecord row }
+        ensures shown { OnOk result (ShowsTable self.old self.new
             (changed (λ r. seen_record row) (key_seen key) (seen self.old))) }
         ensures touched { OnOk result ((name : Name) → has_name self.new.touched name
             ≡ (has_name self.old.touched name || (moved && key_eq name (key_seen key)))) }
@@ -219,7 +219,7 @@ impl Table {
 
 // What the type of a key says of its numbers.
 fn in_width(key: &Key)
-    ensures { IsInWidth (key_seen key.now) }
+    ensures { IsKeyInWidth (key_seen key.now) }
 {
     match key {
         Key::Object(_) => {}
@@ -241,7 +241,7 @@ fn touch(touched: &mut BTreeSet<Key>, key: Key, moved: bool) -> Result<(), Memor
 
 fn row_or_unknown(alloc: Global, row: Option<Record>) -> Record
     ensures now { seen_record result ≡ seen_row row }
-    ensures fits { RowFits row → IsKept result }
+    ensures fits { RowFits row → IsKeptRecord result }
 {
     match row {
         Some(row) => row,

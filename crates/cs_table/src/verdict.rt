@@ -11,7 +11,7 @@ use crate::several::vote_in_book;
 use crate::standing::Standing;
 use cs_base::BOOK_PLACES;
 use cs_tx::{Digest, State, Vote};
-use cs_tx_form::Record;
+use cs_tx_types::Record;
 
 /// Whether the session holds the lock.
 pub(crate) fn is_locked_by(row: &Record, session: &Digest) -> bool

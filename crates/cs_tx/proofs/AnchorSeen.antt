@@ -4,11 +4,11 @@ use Rattle.std.specs.Prelude.{if◌then◌else◌}
 use Rattle.std.specs.Option.{option_map}
 use Rattle.cs_base.specs.declared.config.Config.{Config}
 use Rattle.cs_base.specs.declared.key.Key.TheVariants as key
-use Rattle.cs_tx_form.specs.declared.transaction.Tx.{Tx}
-use Rattle.cs_tx_form.specs.declared.session.Session.{Session}
-use Rattle.cs_tx_form.specs.Transaction.{Keyed}
+use Rattle.cs_tx_types.specs.declared.transaction.Tx.{Tx}
+use Rattle.cs_tx_types.specs.declared.session.Session.{Session}
+use Rattle.cs_tx_types.specs.Transaction.{Keyed}
 use Rattle.cs_tx.specs.Uses.{inputs_of, names, is_in, dummy_in, anchor_among, anchor_of}
-use Rattle.cs_tx.specs.Sessions.{item_of, dummy_name, key_seen, session_of}
+use Rattle.cs_tx.specs.Sessions.{item_of, dummy_name, key_seen, ledger_session}
 use Rattle.cs_ledger.specs.Session as Seen
 use Rattle.cs_tx.proofs.ShardsSeen.{IsPlaced}
 
@@ -36,5 +36,5 @@ module _ (rules : Seen.Rules) (config : Config) (placed : IsPlaced rules config)
         | false ↦ inputs-first shard items dummies
       ]
 
-  pub anchor-session_of : (approves : Tx → Bool) (x : Session) (shard : ℕ) → Seen.anchor rules (session_of approves x) shard ≡ option_map key_seen (anchor_of config x shard)
+  pub anchor-session_of : (approves : Tx → Bool) (x : Session) (shard : ℕ) → Seen.anchor rules (ledger_session approves x) shard ≡ option_map key_seen (anchor_of config x shard)
   anchor-session_of approves x shard = inputs-first shard (inputs_of x.tx) x.dummies

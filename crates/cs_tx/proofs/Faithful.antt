@@ -8,12 +8,12 @@ use Rattle.std.proofs.lemmas.Bool.{and_from, or_parts, or_from, not_from_false, 
 use Rattle.cs_base.specs.Fields.{IsForm, Found, whole_at}
 use Rattle.cs_base.proofs.Forms.{whole-again, some_is}
 use Rattle.cs_tx_value.specs.declared.object.Object.{Object}
-use Rattle.cs_tx_form.specs.declared.trace.Trace.{Trace}
-use Rattle.cs_tx_form.specs.declared.transaction.Tx.{Tx}
-use Rattle.cs_tx_form.specs.declared.session.Session.{Session}
-use Rattle.cs_tx_form.specs.Transaction.{tx_encoding, TraceFits, TxFits}
-use Rattle.cs_tx_form.specs.Session.{session_encoding, SessionFits}
-use Rattle.cs_tx_form.specs.laws.Session.{tx_form, session_form}
+use Rattle.cs_tx_types.specs.declared.trace.Trace.{Trace}
+use Rattle.cs_tx_types.specs.declared.transaction.Tx.{Tx}
+use Rattle.cs_tx_types.specs.declared.session.Session.{Session}
+use Rattle.cs_tx_types.specs.Transaction.{tx_encoding, TraceFits, TxFits}
+use Rattle.cs_tx_types.specs.Session.{session_encoding, SessionFits}
+use Rattle.cs_tx_types.specs.laws.Session.{tx_form, session_form}
 use Rattle.cs_tx.specs.Sessions.{outputs_written_at, outputs_written, written_tx, written_of}
 use Rattle.cs_ledger.specs.Ledger.{IsIn, has, all_differ}
 use Rattle.cs_ledger.specs.Strings.{Output, WrittenSession, IsFaithful, places_of}

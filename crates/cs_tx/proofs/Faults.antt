@@ -5,7 +5,7 @@ use Rattle.std.proofs.lemmas.Bool.{and_parts}
 use Rattle.cs_base.specs.Options.{or_else}
 use Rattle.cs_base.specs.declared.config.Config.{Config}
 use Rattle.cs_tx.specs.declared.malformed.Malformed.{Malformed}
-use Rattle.cs_tx_form.specs.declared.session.Session.{Session}
+use Rattle.cs_tx_types.specs.declared.session.Session.{Session}
 use Rattle.cs_tx.specs.Uses.{inputs_of, references_of, names, names_of}
 use Rattle.cs_tx.specs.WellFormed.{IsWellFormed, wrong_dummies, are_rising, wants_dummy, is_served, are_right, no_input, used_twice, first_twice, foreign, late_dep, first_failing, has_own_objects, has_earlier_deps}
 

@@ -5,7 +5,7 @@ use Rattle.cs_base.specs.declared.config.Config.{Config}
 use Rattle.cs_base.specs.declared.key.Key.TheVariants as key
 use Rattle.cs_tx.specs.declared.malformed.Malformed.{Malformed}
 use Rattle.cs_tx.specs.declared.malformed.Malformed.TheVariants as malformed
-use Rattle.cs_tx_form.specs.declared.session.Session.{Session}
+use Rattle.cs_tx_types.specs.declared.session.Session.{Session}
 use Rattle.cs_tx.specs.Uses.{inputs_of, references_of, outputs_of, names}
 use Rattle.cs_tx.specs.WellFormed.{no_input, used_twice, first_twice, foreign, late_dep, first_failing, has_own_objects, has_earlier_deps, are_right, wrong_dummies, fault_of}
 

@@ -3,9 +3,9 @@ use Rattle.std.proofs.Common.{◌≡◌, ℕ, ◌+◌, Bool, List, [], ◌∷◌
 use Rattle.std.specs.List.{flat_map}
 use Rattle.sha2.specs.Sha256.{sha256}
 use Rattle.cs_tx_value.specs.declared.object.Object.{Object}
-use Rattle.cs_tx_form.specs.declared.trace.Trace.{Trace}
-use Rattle.cs_tx_form.specs.declared.transaction.Tx.{Tx}
-use Rattle.cs_tx_form.specs.Transaction.{Keyed}
+use Rattle.cs_tx_types.specs.declared.trace.Trace.{Trace}
+use Rattle.cs_tx_types.specs.declared.transaction.Tx.{Tx}
+use Rattle.cs_tx_types.specs.Transaction.{Keyed}
 use Rattle.cs_tx.specs.Digest.{digest_of_tx, name_of_output, outputs_at, outputs_from}
 use Rattle.cs_ledger.specs.Ledger.{Item}
 use Rattle.cs_ledger.specs.Strings as Strings
@@ -16,7 +16,7 @@ map-append f [] ys = refl
 map-append f (x ∷ xs) ys = ap (λ zs. f x ∷ zs) (map-append f xs ys)
 
 abbrev pub named : (Tx → Bool) → Tx → List Strings.Output → List Item
-named approves tx outputs = Strings.outputs_of sha256 (written_tx approves tx) outputs
+named approves tx outputs = Strings.written_outputs sha256 (written_tx approves tx) outputs
 
 named-append : (approves : Tx → Bool) (tx : Tx) (xs ys : List Strings.Output) → named approves tx (xs ++ ys) ≡ named approves tx xs ++ named approves tx ys
 named-append approves tx [] ys = refl

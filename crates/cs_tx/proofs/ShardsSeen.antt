@@ -1,15 +1,15 @@
 -- The shards that a session concerns are those that the ledger's session concerns.
 use Rattle.std.proofs.Common.{◌≡◌, ℕ, ◌+◌, Bool, ◌||◌, List, [], ◌∷◌, ◌++◌, map, refl, ap, sym, ◌∙◌, ◌==◌}
 use Rattle.cs_base.specs.declared.config.Config.{Config}
-use Rattle.cs_tx_form.specs.declared.transaction.Tx.{Tx}
-use Rattle.cs_tx_form.specs.declared.session.Session.{Session}
-use Rattle.cs_tx_form.specs.Transaction.{Keyed}
+use Rattle.cs_tx_types.specs.declared.transaction.Tx.{Tx}
+use Rattle.cs_tx_types.specs.declared.session.Session.{Session}
+use Rattle.cs_tx_types.specs.Transaction.{Keyed}
 use Rattle.cs_tx.specs.Uses as Uses
 use Rattle.cs_tx.specs.Uses.{inputs_of, references_of, outputs_of, names, names_of}
 use Rattle.cs_ledger.specs.Session as Seen
 use Rattle.cs_base.specs.Key.{shard_of_key}
 use Rattle.cs_base.specs.declared.key.Key.TheVariants as key
-use Rattle.cs_tx.specs.Sessions.{item_of, session_of}
+use Rattle.cs_tx.specs.Sessions.{item_of, ledger_session}
 use Rattle.cs_tx.proofs.OutputsNamed.{map-append, named-from}
 
 -- ---- all objects of a transaction
@@ -17,7 +17,7 @@ use Rattle.cs_tx.proofs.OutputsNamed.{map-append, named-from}
 abbrev pub everything : Tx → List Keyed
 everything tx = inputs_of tx ++ (references_of tx ++ outputs_of tx)
 
-pub all-items : (approves : Tx → Bool) (x : Session) → Seen.all_items (session_of approves x).transaction ≡ map item_of (everything x.tx)
+pub all-items : (approves : Tx → Bool) (x : Session) → Seen.all_items (ledger_session approves x).transaction ≡ map item_of (everything x.tx)
 all-items approves x =
     let ins : List Keyed = inputs_of x.tx in
     let refs : List Keyed = references_of x.tx in
@@ -44,7 +44,7 @@ module _ (rules : Seen.Rules) (config : Config) (placed : IsPlaced rules config)
       ∙ ap (λ b. Uses.is_in config shard item.0 || b) (among shard items)
 
   module _ (approves : Tx → Bool) (x : Session) where
-    pub concerns-session_of : (shard : ℕ) → Seen.concerns rules (session_of approves x) shard ≡ Uses.concerns config x shard
+    pub concerns-session_of : (shard : ℕ) → Seen.concerns rules (ledger_session approves x) shard ≡ Uses.concerns config x shard
     concerns-session_of shard =
         ap (Seen.is_among rules shard) (all-items approves x)
         ∙ among shard (everything x.tx)

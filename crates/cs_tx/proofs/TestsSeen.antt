@@ -5,17 +5,17 @@ use Rattle.cs_base.specs.Options.{or_else}
 use Rattle.cs_base.specs.Key.{shard_of_key}
 use Rattle.cs_base.specs.declared.config.Config.{Config}
 use Rattle.cs_base.specs.declared.key.Key.TheVariants as key
-use Rattle.cs_tx_form.specs.declared.transaction.Tx.{Tx}
-use Rattle.cs_tx_form.specs.declared.session.Session.{Session}
+use Rattle.cs_tx_types.specs.declared.transaction.Tx.{Tx}
+use Rattle.cs_tx_types.specs.declared.session.Session.{Session}
 use Rattle.cs_tx.specs.declared.malformed.Malformed.{Malformed}
 use Rattle.cs_tx.specs.declared.malformed.Malformed.TheVariants.{NoInput}
-use Rattle.cs_tx_form.specs.Transaction.{Keyed}
+use Rattle.cs_tx_types.specs.Transaction.{Keyed}
 use Rattle.cs_tx.specs.Uses as Uses
 use Rattle.cs_tx.specs.Uses.{inputs_of, references_of, names, names_of}
 use Rattle.cs_tx.specs.WellFormed as Tests
 use Rattle.cs_ledger.specs.Ledger as Ledger
 use Rattle.cs_ledger.specs.Session as Seen
-use Rattle.cs_tx.specs.Sessions.{item_of, dummy_name, session_of}
+use Rattle.cs_tx.specs.Sessions.{item_of, dummy_name, ledger_session}
 use Rattle.cs_tx.proofs.ShardsSeen.{everything, all-items, names-everything, IsPlaced, among, concerns-session_of}
 
 -- ---- each test, as the ledger says it
@@ -114,7 +114,7 @@ has-dummy shard (dummy ∷ dummies) = ap (λ b. nat_eq dummy.0 shard || b) (has-
 
 module _ (rules : Seen.Rules) (config : Config) (placed : IsPlaced rules config) (approves : Tx → Bool) (x : Session) where
   abbrev seen : Seen.Session
-  seen = session_of approves x
+  seen = ledger_session approves x
 
   abbrev inputs : List (List ℕ)
   inputs = names (inputs_of x.tx)

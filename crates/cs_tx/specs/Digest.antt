@@ -6,12 +6,12 @@ use Rattle.cs_base.specs.declared.key.Key.{Key}
 use Rattle.cs_base.specs.declared.key.Key.TheVariants as key
 use Rattle.cs_tx_value.specs.declared.object.Object.{Object}
 use Rattle.cs_tx_value.specs.Object.{object_encoding}
-use Rattle.cs_tx_form.specs.declared.trace.Trace.{Trace}
-use Rattle.cs_tx_form.specs.declared.transaction.Tx.{Tx}
-use Rattle.cs_tx_form.specs.declared.session.Session.{Session}
-use Rattle.cs_tx_form.specs.declared.entry.Entry.{Entry}
-use Rattle.cs_tx_form.specs.Transaction.{Keyed, tx_encoding}
-use Rattle.cs_tx_form.specs.Session.{session_encoding, entry_encoding}
+use Rattle.cs_tx_types.specs.declared.trace.Trace.{Trace}
+use Rattle.cs_tx_types.specs.declared.transaction.Tx.{Tx}
+use Rattle.cs_tx_types.specs.declared.session.Session.{Session}
+use Rattle.cs_tx_types.specs.declared.entry.Entry.{Entry}
+use Rattle.cs_tx_types.specs.Transaction.{Keyed, tx_encoding}
+use Rattle.cs_tx_types.specs.Session.{session_encoding, entry_encoding}
 
 -- of encodings, under the letters T, S and E
 abbrev pub digest_of_tx : Tx → List ℕ

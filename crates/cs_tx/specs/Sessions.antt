@@ -6,11 +6,11 @@ use Rattle.cs_base.specs.declared.key.Key.{Key}
 use Rattle.cs_base.specs.declared.key.Key.TheVariants as key
 use Rattle.cs_tx_value.specs.declared.object.Object.{Object}
 use Rattle.cs_tx_value.specs.Object.{object_encoding}
-use Rattle.cs_tx_form.specs.declared.trace.Trace.{Trace}
-use Rattle.cs_tx_form.specs.declared.transaction.Tx.{Tx}
-use Rattle.cs_tx_form.specs.declared.session.Session.{Session}
-use Rattle.cs_tx_form.specs.Transaction.{Keyed, tx_encoding}
-use Rattle.cs_tx_form.specs.Session.{session_encoding}
+use Rattle.cs_tx_types.specs.declared.trace.Trace.{Trace}
+use Rattle.cs_tx_types.specs.declared.transaction.Tx.{Tx}
+use Rattle.cs_tx_types.specs.declared.session.Session.{Session}
+use Rattle.cs_tx_types.specs.Transaction.{Keyed, tx_encoding}
+use Rattle.cs_tx_types.specs.Session.{session_encoding}
 use Rattle.cs_tx.specs.Uses.{inputs_of, references_of}
 use Rattle.cs_tx.specs.WellFormed.{first_failing, has_own_objects, has_earlier_deps}
 use Rattle.cs_ledger.specs.Ledger.{Item}
@@ -60,8 +60,8 @@ written_of approves x = record {
   dummies = map dummy_name x.dummies;
 }
 
-abbrev pub session_of : (Tx → Bool) → Session → Seen.Session
-session_of approves x = session_from sha256 (written_of approves x)
+abbrev pub ledger_session : (Tx → Bool) → Session → Seen.Session
+ledger_session approves x = session_from sha256 (written_of approves x)
 
 -- a key as the ledger has it
 abbrev pub key_seen : Key → Seen.Key

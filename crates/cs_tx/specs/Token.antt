@@ -5,8 +5,8 @@ use Rattle.sha2.specs.Sha256.{sha256}
 use Rattle.cs_tx_value.specs.declared.object.Object.{Object}
 use Rattle.cs_tx_value.specs.declared.value.Value.{Value, out-Value}
 use Rattle.cs_tx_value.specs.declared.value.Value.TheOpen.{Value-F}
-use Rattle.cs_tx_form.specs.declared.trace.Trace.{Trace}
-use Rattle.cs_tx_form.specs.declared.transaction.Tx.{Tx}
+use Rattle.cs_tx_types.specs.declared.trace.Trace.{Trace}
+use Rattle.cs_tx_types.specs.declared.transaction.Tx.{Tx}
 
 -- the digest of its text, of five bytes
 abbrev pub token_id : List ℕ

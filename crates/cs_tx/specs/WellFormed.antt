@@ -6,8 +6,8 @@ use Rattle.cs_base.specs.declared.key.Key.TheVariants as key
 use Rattle.cs_base.specs.Key.{shard_of_key}
 use Rattle.cs_base.specs.Options.{or_else}
 use Rattle.cs_tx_value.specs.declared.object.Object.{Object}
-use Rattle.cs_tx_form.specs.declared.trace.Trace.{Trace}
-use Rattle.cs_tx_form.specs.declared.session.Session.{Session}
+use Rattle.cs_tx_types.specs.declared.trace.Trace.{Trace}
+use Rattle.cs_tx_types.specs.declared.session.Session.{Session}
 use Rattle.cs_tx.specs.declared.malformed.Malformed.{Malformed}
 use Rattle.cs_tx.specs.declared.malformed.Malformed.TheVariants as malformed
 use Rattle.cs_tx.specs.Uses.{inputs_of, references_of, names, names_of, is_among}
@@ -40,12 +40,12 @@ first_failing test number [] = None
 first_failing test number (trace ∷ traces) =
     if test number trace then first_failing test (number + 1) traces else Some number
 
-abbrev pub is_of : List ℕ → Object → Bool
-is_of contract object = bytes_eq object.contract contract
+abbrev pub is_object_of : List ℕ → Object → Bool
+is_object_of contract object = bytes_eq object.contract contract
 
 abbrev pub has_own_objects : ℕ → Trace → Bool
 has_own_objects number trace =
-    list_all (λ item. is_of trace.contract item.1) trace.inputs && list_all (is_of trace.contract) trace.outputs
+    list_all (λ item. is_object_of trace.contract item.1) trace.inputs && list_all (is_object_of trace.contract) trace.outputs
 
 abbrev pub foreign : Option ℕ → Option Malformed
 foreign (Some trace) = Some (malformed.Foreign trace)
@@ -105,11 +105,11 @@ abbrev pub IsWellFormed : Config → Session → Type 0
 IsWellFormed config x = fault_of config x ≡ None
 
 -- a call names the first fault, unless memory ran out
-abbrev pub Finds : Result Unit Malformed → Option Malformed → Type 0
-Finds (Ok done) fault = fault ≡ None
-Finds (Err malformed.Memory) fault = Unit {0}
-Finds (Err malformed.NoInput) fault = fault ≡ Some malformed.NoInput
-Finds (Err (malformed.TwiceUsed key)) fault = fault ≡ Some (malformed.TwiceUsed key)
-Finds (Err (malformed.Foreign trace)) fault = fault ≡ Some (malformed.Foreign trace)
-Finds (Err (malformed.Dep trace)) fault = fault ≡ Some (malformed.Dep trace)
-Finds (Err malformed.Dummies) fault = fault ≡ Some malformed.Dummies
+abbrev pub FindsFault : Result Unit Malformed → Option Malformed → Type 0
+FindsFault (Ok done) fault = fault ≡ None
+FindsFault (Err malformed.Memory) fault = Unit {0}
+FindsFault (Err malformed.NoInput) fault = fault ≡ Some malformed.NoInput
+FindsFault (Err (malformed.TwiceUsed key)) fault = fault ≡ Some (malformed.TwiceUsed key)
+FindsFault (Err (malformed.Foreign trace)) fault = fault ≡ Some (malformed.Foreign trace)
+FindsFault (Err (malformed.Dep trace)) fault = fault ≡ Some (malformed.Dep trace)
+FindsFault (Err malformed.Dummies) fault = fault ≡ Some malformed.Dummies

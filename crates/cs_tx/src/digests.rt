@@ -2,15 +2,15 @@
 ghost use Rattle.std.specs.Prelude.{◌≡◌, ◌≤◌, ◌++◌, ◌∷◌, [], length, map, IfOk};
 ghost use Rattle.cs_tx_value.specs.Object.{ObjectFits};
 ghost use Rattle.std.specs.List.{AllByRecursion};
-ghost use Rattle.cs_tx_form.specs.declared.limits.TheConstants.{MOST_TRACES, MOST_TRACE_OBJECTS};
-ghost use Rattle.cs_tx_form.specs.Transaction.{TraceFits, TxFits};
-ghost use Rattle.cs_tx_form.specs.Session.{SessionFits, EntryFits};
+ghost use Rattle.cs_tx_types.specs.declared.limits.TheConstants.{MOST_TRACES, MOST_TRACE_OBJECTS};
+ghost use Rattle.cs_tx_types.specs.Transaction.{TraceFits, TxFits};
+ghost use Rattle.cs_tx_types.specs.Session.{SessionFits, EntryFits};
 ghost use Rattle.cs_tx.specs.Digest.{digest_of_tx, digest_of_session, digest_of_entry, name_of_output, name_of_genesis, outputs_at, outputs_from, keys, keys_of_outputs};
 ghost use Rattle.cs_base.specs.declared.key.Key.TheVariants.{Object as object_key};
 
 use cs_base::{Key, Memory, Sequence, Writer};
 use cs_hash::tagged;
-use cs_tx_form::{Entry, Session, Trace, Tx};
+use cs_tx_types::{Entry, Session, Trace, Tx};
 use cs_tx_value::{Digest, Encoded, Object};
 use sha2::{Digest as Hasher, Sha256};
 use std::alloc::Global;

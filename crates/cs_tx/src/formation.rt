@@ -4,27 +4,27 @@ ghost use Rattle.std.specs.List.{list_any, list_all};
 ghost use Rattle.std.specs.Option.{option_map};
 ghost use Rattle.cs_base.specs.Key.{shard_of_key};
 ghost use Rattle.cs_base.specs.declared.key.Key.TheVariants.{Object as object_key};
-ghost use Rattle.cs_tx_form.specs.Transaction.{TxFits};
-ghost use Rattle.cs_tx_form.specs.Session.{SessionFits};
+ghost use Rattle.cs_tx_types.specs.Transaction.{TxFits};
+ghost use Rattle.cs_tx_types.specs.Session.{SessionFits};
 ghost use Rattle.cs_tx.specs.Uses.{is_among};
-ghost use Rattle.cs_tx.specs.WellFormed.{has, first_twice, first_failing, is_of, has_own_objects, has_earlier_deps, rising_from, are_rising, is_served, fault_of, Finds};
+ghost use Rattle.cs_tx.specs.WellFormed.{has, first_twice, first_failing, is_object_of, has_own_objects, has_earlier_deps, rising_from, are_rising, is_served, fault_of, FindsFault};
 
 use crate::malformed::Malformed;
 use crate::names::Names;
 use crate::uses::is_one_in;
 use cs_base::{Config, Key, shard_of};
-use cs_tx_form::{Session, Trace, Tx};
+use cs_tx_types::{Session, Trace, Tx};
 use cs_tx_value::{Digest, Object};
 use std::alloc::Global;
 
 fn are_of(contract: &Digest, items: &[(Digest, Object)]) -> bool
-    ensures { result ≡ list_all (λ item. is_of contract.now item.1) items.now }
+    ensures { result ≡ list_all (λ item. is_object_of contract.now item.1) items.now }
 {
     items.iter().all(|item| item.1.contract == *contract)
 }
 
 fn are_made_by(contract: &Digest, objects: &[Object]) -> bool
-    ensures { result ≡ list_all (is_of contract.now) objects.now }
+    ensures { result ≡ list_all (is_object_of contract.now) objects.now }
 {
     objects.iter().all(|object| object.contract == *contract)
 }
@@ -171,7 +171,7 @@ impl Names {
 /// The first test that a session fails: `Malformed` has them in their order.
 pub fn well_formed(alloc: Global, session: &Session, config: &Config) -> Result<(), Malformed>
     requires { SessionFits session.now }
-    ensures { Finds result (fault_of config.now session.now) }
+    ensures { FindsFault result (fault_of config.now session.now) }
 {
     let names = Names::of(alloc, &session.tx)?;
     if names.inputs.len() == 0 {

@@ -1,10 +1,10 @@
 //! Who says whether a transaction is approved.
 ghost use Rattle.std.specs.Prelude.{◌≡◌, Bool, IfOk};
-ghost use Rattle.cs_tx_form.specs.declared.transaction.Tx.{Tx as AnyTx};
-ghost use Rattle.cs_tx_form.specs.Transaction.{TxFits};
+ghost use Rattle.cs_tx_types.specs.declared.transaction.Tx.{Tx as AnyTx};
+ghost use Rattle.cs_tx_types.specs.Transaction.{TxFits};
 
 use cs_base::Memory;
-use cs_tx_form::Tx;
+use cs_tx_types::Tx;
 use std::alloc::Global;
 
 /// Approves transactions: the check of each trace has to say yes.

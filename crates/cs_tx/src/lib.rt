@@ -10,7 +10,7 @@ mod names;
 mod token;
 mod uses;
 
-pub use cs_tx_form::{
+pub use cs_tx_types::{
     Checkpoint, Effect, Entry, Leaf, Proof, Record, Session, State, Stored, Trace, Tx, Vote,
 };
 pub use cs_tx_value::{Digest, Encoded, FormError, Name, Object, Value};

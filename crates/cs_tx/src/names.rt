@@ -2,14 +2,14 @@
 ghost use Rattle.std.specs.Prelude.{◌≡◌, ◌≤◌, ◌++◌, length, map, IfOk, OnOk};
 ghost use Rattle.std.specs.List.{flat_map};
 ghost use Rattle.std.specs.List.{AllByRecursion};
-ghost use Rattle.cs_tx_form.specs.declared.limits.TheConstants.{MOST_TRACES, MOST_TRACE_OBJECTS};
-ghost use Rattle.cs_tx_form.specs.Transaction.{TraceFits};
+ghost use Rattle.cs_tx_types.specs.declared.limits.TheConstants.{MOST_TRACES, MOST_TRACE_OBJECTS};
+ghost use Rattle.cs_tx_types.specs.Transaction.{TraceFits};
 ghost use Rattle.cs_tx.specs.Digest.{outputs_at, outputs_from};
 ghost use Rattle.cs_tx.specs.Uses.{names};
 
 use crate::digests::{output_name, tx_digest};
 use cs_base::{Memory, Sequence};
-use cs_tx_form::{Trace, Tx};
+use cs_tx_types::{Trace, Tx};
 use cs_tx_value::{Digest, Object};
 use std::alloc::Global;
 
@@ -93,7 +93,7 @@ fn output_names(
 
 impl Names {
     ghost use Rattle.std.specs.Prelude.{◌≡◌, IfOk};
-    ghost use Rattle.cs_tx_form.specs.Transaction.{TxFits};
+    ghost use Rattle.cs_tx_types.specs.Transaction.{TxFits};
     ghost use Rattle.cs_tx.specs.Uses.{inputs_of, references_of, outputs_of, names};
 
     /// The names that a transaction uses.

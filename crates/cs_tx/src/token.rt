@@ -1,13 +1,13 @@
 //! The contract `token`.
 ghost use Rattle.std.specs.Prelude.{◌≡◌, ◌≤◌, ◌<◌, ◌^◌, length, map, IfSome};
 ghost use Rattle.cs_tx_value.specs.declared.value.Value.{out-Value};
-ghost use Rattle.cs_tx_form.specs.declared.limits.TheConstants.{MOST_TRACE_OBJECTS};
-ghost use Rattle.cs_tx_form.specs.Transaction.{TraceFits};
+ghost use Rattle.cs_tx_types.specs.declared.limits.TheConstants.{MOST_TRACE_OBJECTS};
+ghost use Rattle.cs_tx_types.specs.Transaction.{TraceFits};
 ghost use Rattle.cs_tx.specs.Token.{token_id, amount_of_layer, amount_of, amount_of_coin, sum_from, is_balanced, is_transfer};
 
 use crate::judge::Judge;
 use cs_base::Memory;
-use cs_tx_form::{Trace, Tx};
+use cs_tx_types::{Trace, Tx};
 use cs_tx_value::{Digest, Object, Value};
 use sha2::{Digest as Hasher, Sha256};
 use std::alloc::Global;

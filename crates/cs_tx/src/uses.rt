@@ -1,13 +1,13 @@
 //! The shards that a session concerns, and its anchor in each.
 ghost use Rattle.std.specs.Prelude.{◌≡◌, ◌↔◌, IfOk, IsNone, Some, false, find};
 ghost use Rattle.std.specs.List.{flat_map};
-ghost use Rattle.cs_tx_form.specs.Session.{SessionFits};
+ghost use Rattle.cs_tx_types.specs.Session.{SessionFits};
 ghost use Rattle.cs_tx.specs.Uses.{is_in, is_among, concerns, concerned_shards, names, names_of, dummy_in, anchor_of};
 ghost use Rattle.cs_tx.specs.WellFormed.{IsWellFormed};
 
 use crate::names::Names;
 use cs_base::{Config, Key, Memory, shard_of};
-use cs_tx_form::{Session, Trace};
+use cs_tx_types::{Session, Trace};
 use cs_tx_value::{Digest, Object};
 use std::alloc::Global;
 

@@ -24,12 +24,12 @@ use Rattle.cs_types.specs.Answers.{Fails}
 use Rattle.cs_types.specs.Stating.{Added, for_in_told}
 use Rattle.cs_types.specs.Blocks.{action_told, block_told}
 use Rattle.cs_types.specs.Declaring.{slots_told, names_told, use_of_created, use_of_returned, method_names}
-use Rattle.cs_types.specs.Steps.{Stays, Adds, Binds}
+use Rattle.cs_types.specs.Steps.{SightStays, AddsNames, BindsNames}
 use Rattle.cs_types.proofs.Actions.{action_ifelse, action_forin}
 use Rattle.cs_types.proofs.Faults.{fails_told, fails_first, fails_as}
 use Rattle.cs_types.proofs.Staying.{stays_more}
 
-pub adds_as : (r : Result ℕ TypeError) (a b : InSight) (t u : Told Added) → u ≡ t → Adds r a b t → Adds r a b u
+pub adds_as : (r : Result ℕ TypeError) (a b : InSight) (t u : Told Added) → u ≡ t → AddsNames r a b t → AddsNames r a b u
 adds_as (Ok cost) a b t u is h = (is ∙ h.0, h.1)
 adds_as (Err e) a b t u is h = fails_as e t u (sym is) h
 
@@ -77,11 +77,11 @@ module _ (a : Action) (condition : Expr) (block other : Block) (place : ℕ) (s 
 
 -- ---- the names of a method
 
-pub binds_after : (r : Result Unit TypeError) (a b c : InSight) (t u : Told (List Entry)) → Stays a b → u ≡ t → Binds r b c t → Binds r a c u
+pub binds_after : (r : Result Unit TypeError) (a b c : InSight) (t u : Told (List Entry)) → SightStays a b → u ≡ t → BindsNames r b c t → BindsNames r a c u
 binds_after (Ok done) a b c t u st is h = (is ∙ h.0, stays_more a b c st h.1)
 binds_after (Err e) a b c t u st is h = fails_as e t u (sym is) h
 
-pub types_stay : (a b : InSight) → Stays a b → b.contract.types ≡ a.contract.types
+pub types_stay : (a b : InSight) → SightStays a b → b.contract.types ≡ a.contract.types
 types_stay a b p = ap (λ (z : InSight). z.contract.types) p.is
 
 pub slots_are : (types all : List TypeDef) (u v : Use) (xs ys : List Slot) (names more : List Entry) → all ≡ types → v ≡ u → ys ≡ xs → slots_told all v ys names ≡ Ok more → slots_told types u xs names ≡ Ok more

@@ -3,3 +3,5 @@ pub mod Branches
 pub mod Faults
 pub mod Loops
 pub mod Staying
+pub mod Accepting
+pub mod Faulty

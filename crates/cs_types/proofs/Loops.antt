@@ -11,7 +11,7 @@ use Rattle.cs_lang.specs.declared.tree.TypeDef.{TypeDef}
 use Rattle.cs_types_kinds.specs.declared.fault.TypeError.{TypeError}
 use Rattle.cs_types_kinds.specs.declared.scope.Use.{Use}
 use Rattle.cs_types_kinds.specs.declared.scope.Entry.{Entry}
-use Rattle.cs_types_kinds.specs.Told.{Told, through}
+use Rattle.cs_types_kinds.specs.Told.{Told, told_through}
 use Rattle.cs_types_kinds.specs.Scopes.{InSight}
 use Rattle.cs_types_kinds.specs.Parts.{part_of}
 use Rattle.cs_types_kinds.proofs.Loops.{opened}
@@ -23,31 +23,31 @@ use Rattle.cs_types.specs.Declaring.{is_nil, slot_told, slots_told}
 -- ---- one after the other
 
 module _ {A Y : Type 0} (step : A → Y → Told A) where
-  pub head_ok : (y : Y) (ys : List Y) (a b : A) (t : Told A) → step a y ≡ Ok b → through step a (y ∷ ys) ≡ t → through step b ys ≡ t
-  head_ok y ys a b t e h = sym (ap (λ (r : Told A). r >>= λ c. through step c ys) e) ∙ h
+  pub head_ok : (y : Y) (ys : List Y) (a b : A) (t : Told A) → step a y ≡ Ok b → told_through step a (y ∷ ys) ≡ t → told_through step b ys ≡ t
+  head_ok y ys a b t e h = sym (ap (λ (r : Told A). r >>= λ c. told_through step c ys) e) ∙ h
 
-  pub head_fails : (y : Y) (ys : List Y) (a : A) (e : TypeError) (t : Told A) → Fails e (step a y) → through step a (y ∷ ys) ≡ t → Fails e t
-  head_fails y ys a e t f h = fails_as e _ t h (fails_first e (step a y) (λ b. through step b ys) f)
+  pub head_fails : (y : Y) (ys : List Y) (a : A) (e : TypeError) (t : Told A) → Fails e (step a y) → told_through step a (y ∷ ys) ≡ t → Fails e t
+  head_fails y ys a e t f h = fails_as e _ t h (fails_first e (step a y) (λ b. told_through step b ys) f)
 
   -- over the elements themselves
-  pub each_done : (ys : List Y) (i : ℕ) (a : A) (t : Told A) → length ys ≤ i → through step a (drop i ys) ≡ t → t ≡ Ok a
-  each_done ys i a t le h = sym h ∙ ap (through step a) (drop_all i ys le)
+  pub each_done : (ys : List Y) (i : ℕ) (a : A) (t : Told A) → length ys ≤ i → told_through step a (drop i ys) ≡ t → t ≡ Ok a
+  each_done ys i a t le h = sym h ∙ ap (told_through step a) (drop_all i ys le)
 
-  pub each_step : (ys : List Y) (i : ℕ) (y : Y) (a b : A) (t : Told A) → i < length ys → y ≡ get_or ys i y → step a y ≡ Ok b → through step a (drop i ys) ≡ t → through step b (drop (i + 1) ys) ≡ t
-  each_step ys i y a b t lt is e h = head_ok y (drop (i + 1) ys) a b t e (sym (ap (through step a) (opened ys i y lt is)) ∙ h)
+  pub each_step : (ys : List Y) (i : ℕ) (y : Y) (a b : A) (t : Told A) → i < length ys → y ≡ get_or ys i y → step a y ≡ Ok b → told_through step a (drop i ys) ≡ t → told_through step b (drop (i + 1) ys) ≡ t
+  each_step ys i y a b t lt is e h = head_ok y (drop (i + 1) ys) a b t e (sym (ap (told_through step a) (opened ys i y lt is)) ∙ h)
 
-  pub each_fails : (ys : List Y) (i : ℕ) (y : Y) (a : A) (e : TypeError) (t : Told A) → i < length ys → y ≡ get_or ys i y → Fails e (step a y) → through step a (drop i ys) ≡ t → Fails e t
-  each_fails ys i y a e t lt is f h = head_fails y (drop (i + 1) ys) a e t f (sym (ap (through step a) (opened ys i y lt is)) ∙ h)
+  pub each_fails : (ys : List Y) (i : ℕ) (y : Y) (a : A) (e : TypeError) (t : Told A) → i < length ys → y ≡ get_or ys i y → Fails e (step a y) → told_through step a (drop i ys) ≡ t → Fails e t
+  each_fails ys i y a e t lt is f h = head_fails y (drop (i + 1) ys) a e t f (sym (ap (told_through step a) (opened ys i y lt is)) ∙ h)
 
   -- over images
-  pub image_done : {X : Type 0} (f : X → Y) (xs : List X) (i : ℕ) (a : A) (t : Told A) → length xs ≤ i → through step a (map f (drop i xs)) ≡ t → t ≡ Ok a
-  image_done {X} f xs i a t le h = sym h ∙ ap (λ (ys : List X). through step a (map f ys)) (drop_all i xs le)
+  pub image_done : {X : Type 0} (f : X → Y) (xs : List X) (i : ℕ) (a : A) (t : Told A) → length xs ≤ i → told_through step a (map f (drop i xs)) ≡ t → t ≡ Ok a
+  image_done {X} f xs i a t le h = sym h ∙ ap (λ (ys : List X). told_through step a (map f ys)) (drop_all i xs le)
 
-  pub image_step : {X : Type 0} (f : X → Y) (xs : List X) (i : ℕ) (x : X) (a b : A) (t : Told A) → i < length xs → x ≡ get_or xs i x → step a (f x) ≡ Ok b → through step a (map f (drop i xs)) ≡ t → through step b (map f (drop (i + 1) xs)) ≡ t
-  image_step {X} f xs i x a b t lt is e h = head_ok (f x) (map f (drop (i + 1) xs)) a b t e (sym (ap (λ (ys : List X). through step a (map f ys)) (opened xs i x lt is)) ∙ h)
+  pub image_step : {X : Type 0} (f : X → Y) (xs : List X) (i : ℕ) (x : X) (a b : A) (t : Told A) → i < length xs → x ≡ get_or xs i x → step a (f x) ≡ Ok b → told_through step a (map f (drop i xs)) ≡ t → told_through step b (map f (drop (i + 1) xs)) ≡ t
+  image_step {X} f xs i x a b t lt is e h = head_ok (f x) (map f (drop (i + 1) xs)) a b t e (sym (ap (λ (ys : List X). told_through step a (map f ys)) (opened xs i x lt is)) ∙ h)
 
-  pub image_fails : {X : Type 0} (f : X → Y) (xs : List X) (i : ℕ) (x : X) (a : A) (e : TypeError) (t : Told A) → i < length xs → x ≡ get_or xs i x → Fails e (step a (f x)) → through step a (map f (drop i xs)) ≡ t → Fails e t
-  image_fails {X} f xs i x a e t lt is g h = head_fails (f x) (map f (drop (i + 1) xs)) a e t g (sym (ap (λ (ys : List X). through step a (map f ys)) (opened xs i x lt is)) ∙ h)
+  pub image_fails : {X : Type 0} (f : X → Y) (xs : List X) (i : ℕ) (x : X) (a : A) (e : TypeError) (t : Told A) → i < length xs → x ≡ get_or xs i x → Fails e (step a (f x)) → told_through step a (map f (drop i xs)) ≡ t → Fails e t
+  image_fails {X} f xs i x a e t lt is g h = head_fails (f x) (map f (drop (i + 1) xs)) a e t g (sym (ap (λ (ys : List X). told_through step a (map f ys)) (opened xs i x lt is)) ∙ h)
 
 -- ---- each behind those before it
 
@@ -55,13 +55,13 @@ module _ {Y : Type 0} (step : List Y → Y → Told (List Y)) where
   grown : (ys : List Y) (i : ℕ) (y : Y) → i < length ys → y ≡ get_or ys i y → take i ys ++ y ∷ [] ≡ take (i + 1) ys
   grown ys i y lt is = sym (rw add-one (take-suc ys i y lt ∙ ap (λ (x : Y). take i ys ++ x ∷ []) (sym is)))
 
-  pub grown_step : (ys : List Y) (i : ℕ) (y : Y) (front : List Y) (t : Told (List Y)) → i < length ys → y ≡ get_or ys i y → front ≡ take i ys → step front y ≡ Ok (front ++ y ∷ []) → through step (take i ys) (drop i ys) ≡ t → through step (take (i + 1) ys) (drop (i + 1) ys) ≡ t
+  pub grown_step : (ys : List Y) (i : ℕ) (y : Y) (front : List Y) (t : Told (List Y)) → i < length ys → y ≡ get_or ys i y → front ≡ take i ys → step front y ≡ Ok (front ++ y ∷ []) → told_through step (take i ys) (drop i ys) ≡ t → told_through step (take (i + 1) ys) (drop (i + 1) ys) ≡ t
   grown_step ys i y front t lt is cut e h = each_step step ys i y (take i ys) (take (i + 1) ys) t lt is (ap (λ (xs : List Y). step xs y) (sym cut) ∙ e ∙ ap (λ (xs : List Y). Ok (xs ++ y ∷ [])) cut ∙ ap Ok (grown ys i y lt is)) h
 
-  pub grown_fails : (ys : List Y) (i : ℕ) (y : Y) (front : List Y) (e : TypeError) (t : Told (List Y)) → i < length ys → y ≡ get_or ys i y → front ≡ take i ys → Fails e (step front y) → through step (take i ys) (drop i ys) ≡ t → Fails e t
+  pub grown_fails : (ys : List Y) (i : ℕ) (y : Y) (front : List Y) (e : TypeError) (t : Told (List Y)) → i < length ys → y ≡ get_or ys i y → front ≡ take i ys → Fails e (step front y) → told_through step (take i ys) (drop i ys) ≡ t → Fails e t
   grown_fails ys i y front e t lt is cut f h = each_fails step ys i y (take i ys) e t lt is (fails_as e _ _ (ap (λ (xs : List Y). step xs y) cut) f) h
 
-  pub grown_done : (ys : List Y) (i : ℕ) (t : Told (List Y)) → length ys ≤ i → through step (take i ys) (drop i ys) ≡ t → t ≡ Ok ys
+  pub grown_done : (ys : List Y) (i : ℕ) (t : Told (List Y)) → length ys ≤ i → told_through step (take i ys) (drop i ys) ≡ t → t ≡ Ok ys
   grown_done ys i t le h = each_done step ys i (take i ys) t le h ∙ ap Ok (take_all i ys le)
 
 -- ---- two lists side by side

@@ -10,7 +10,7 @@ use Rattle.cs_lang.specs.Fits.{contract_fits}
 use Rattle.cs_types_kinds.specs.declared.fault.TypeError.{TypeError}
 use Rattle.cs_types_kinds.specs.declared.fault.TypeError.TheVariants as error
 use Rattle.cs_types_kinds.specs.declared.scope.Costs.{Costs}
-use Rattle.cs_types_kinds.specs.Told.{Told, mistyped, through}
+use Rattle.cs_types_kinds.specs.Told.{Told, mistyped, told_through}
 use Rattle.cs_types_kinds.specs.Lookups.{method_number}
 use Rattle.cs_types.specs.Answers.{Fails}
 use Rattle.cs_types.specs.Stating.{takes_many}
@@ -38,7 +38,7 @@ method_told contract costs m =
     method_costs contract costs (take (length costs) contract.methods) m >>= λ c. Ok (costs ++ c ∷ [])
 
 abbrev pub methods_told : ContractTree → Told (List Costs)
-methods_told contract = through (method_told contract) [] contract.methods
+methods_told contract = told_through (method_told contract) [] contract.methods
 
 -- the costs of the methods of a contract that is well typed, or the first place at fault
 abbrev pub judged_costs : ContractTree → Told (List Costs)

@@ -8,15 +8,15 @@ use Rattle.cs_lang.specs.declared.tree.Action.TheOpen.{Block-F, Statement-F, Act
 use Rattle.cs_lang.specs.declared.tree.Action.TheFolds.{fold-Block, fold-Statement, fold-Action}
 use Rattle.cs_types_kinds.specs.Told.{Told}
 use Rattle.cs_types_kinds.specs.Scopes.{InSight}
-use Rattle.cs_types_kinds.specs.Judging.{Part}
+use Rattle.cs_types_kinds.specs.Judging.{JudgedPart}
 use Rattle.cs_types_kinds.specs.Parts.{part_of}
 use Rattle.cs_types.specs.Stating.{Added, Blocked, Stated, block_judged, let_judged, set_judged, if_judged, if_else_judged, for_in_judged, for_to_judged, make_judged, call_judged, answer_judged, stated}
 
 -- what is told of an expression, wherever it stands
-abbrev pub part : Expr → InSight → Part
+abbrev pub part : Expr → InSight → JudgedPart
 part e sight = part_of sight e
 
-abbrev pub parts : List Expr → InSight → List Part
+abbrev pub parts : List Expr → InSight → List JudgedPart
 parts es sight = map (part_of sight) es
 
 -- what is told of a statement with its word there

@@ -13,7 +13,7 @@ use Rattle.cs_types_kinds.specs.declared.kind.Kind.TheVariants as kind
 use Rattle.cs_types_kinds.specs.declared.scope.Use.{Use}
 use Rattle.cs_types_kinds.specs.declared.scope.Use.TheVariants as usage
 use Rattle.cs_types_kinds.specs.declared.scope.Entry.{Entry}
-use Rattle.cs_types_kinds.specs.Told.{Told, mistyped, unbound, through}
+use Rattle.cs_types_kinds.specs.Told.{Told, mistyped, unbound, told_through}
 use Rattle.cs_types_kinds.specs.Scopes.{is_declared, with_name}
 use Rattle.cs_types_kinds.specs.Lookups.{type_number, declared_kind}
 
@@ -29,7 +29,7 @@ field_told before f =
     else declared_kind f.name.place f.kind >>= λ k. Ok (before ++ f ∷ [])
 
 abbrev pub fields_told : List Field → Told (List Field)
-fields_told = through field_told []
+fields_told = told_through field_told []
 
 -- so many types at most, of distinct names
 abbrev pub type_told : List TypeDef → TypeDef → Told (List TypeDef)
@@ -38,7 +38,7 @@ type_told before t =
     else fields_told t.fields >>= λ fields. Ok (before ++ t ∷ [])
 
 abbrev pub types_told : List TypeDef → Told (List TypeDef)
-types_told = through type_told []
+types_told = told_through type_told []
 
 -- ---- the names of a method
 
@@ -70,7 +70,7 @@ name_told u names f =
     else declared_kind f.name.place f.kind >>= λ k. Ok (with_name names f.name.bytes k u)
 
 abbrev pub names_told : Use → List Field → List Entry → Told (List Entry)
-names_told u fields names = through (name_told u) names fields
+names_told u fields names = told_through (name_told u) names fields
 
 -- a check reads what a procedure makes and sets
 abbrev pub use_of_created : Bool → Use

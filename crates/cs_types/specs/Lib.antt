@@ -4,3 +4,7 @@ pub mod Steps
 pub mod Blocks
 pub mod Declaring
 pub mod Accepted
+pub mod Accepting
+pub mod Faults
+pub mod Judging
+pub mod Positions

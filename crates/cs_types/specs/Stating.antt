@@ -17,11 +17,11 @@ use Rattle.cs_types_kinds.specs.declared.scope.Seen.{Seen}
 use Rattle.cs_types_kinds.specs.declared.scope.Entry.{Entry}
 use Rattle.cs_types_kinds.specs.declared.scope.Costs.{Costs}
 use Rattle.cs_types_kinds.specs.declared.expressions.Judged.{Judged}
-use Rattle.cs_types_kinds.specs.Told.{Told, mistyped, unbound, through, plus}
-use Rattle.cs_types_kinds.specs.Kinds.{int, bool, same_kind, item_of}
-use Rattle.cs_types_kinds.specs.Scopes.{InSight, seen, created, with_name, with_names}
+use Rattle.cs_types_kinds.specs.Told.{Told, mistyped, unbound, told_through, plus}
+use Rattle.cs_types_kinds.specs.Kinds.{int_kind, bool, same_kind, item_kind}
+use Rattle.cs_types_kinds.specs.Scopes.{InSight, name_seen, created_slot, with_name, sight_with_names}
 use Rattle.cs_types_kinds.specs.Lookups.{type_number, method_number, declared_kind}
-use Rattle.cs_types_kinds.specs.Judging.{Part, wanted, or_first}
+use Rattle.cs_types_kinds.specs.Judging.{JudgedPart, wanted, or_first}
 
 -- a cost, and the names in sight behind it
 abbrev pub Added : Type 0
@@ -42,11 +42,11 @@ abbrev pub SoFar : Type 0
 SoFar = ℕ × InSight
 
 abbrev pub statement_added : SoFar → Stated → Told SoFar
-statement_added so_far one = one so_far.1 >>= λ d. Ok (plus so_far.0 d.0, with_names so_far.1 d.1)
+statement_added so_far one = one so_far.1 >>= λ d. Ok (plus so_far.0 d.0, sight_with_names so_far.1 d.1)
 
 -- a block costs what its statements cost together; its names end with it
 abbrev pub block_judged : List Stated → Blocked
-block_judged statements sight = through statement_added (0, sight) statements >>= λ d. Ok d.0
+block_judged statements sight = told_through statement_added (0, sight) statements >>= λ d. Ok d.0
 
 -- so many turns, which cost 1 each beside what is done in them
 abbrev pub turns : ℕ → ℕ → ℕ
@@ -54,19 +54,19 @@ turns count cost = min (count * plus cost 1) 18446744073709551615
 
 -- a turn, with a name that can't be set
 abbrev pub turn_judged : Text → Kind → Blocked → Blocked
-turn_judged name k each sight = each (with_names sight (with_name sight.names name.bytes k usage.Read))
+turn_judged name k each sight = each (sight_with_names sight (with_name sight.names name.bytes k usage.Read))
 
 -- ---- names and values
 
 abbrev pub is_taken : InSight → Text → Bool
-is_taken sight name = is_some (seen name.bytes sight.names)
+is_taken sight name = is_some (name_seen name.bytes sight.names)
 
 abbrev pub is_value : Kind → Bool
 is_value (kind.Value b lists) = true
 is_value _ = false
 
 -- a name for a value, which can be set; it repeats no name in sight
-abbrev pub let_judged : Text → (InSight → Part) → Stated
+abbrev pub let_judged : Text → (InSight → JudgedPart) → Stated
 let_judged name value sight =
     if is_taken sight name then mistyped name.place
     else (value sight).found >>= λ j.
@@ -78,14 +78,14 @@ abbrev pub can_be_set : Use → Bool
 can_be_set usage.Set = true
 can_be_set _ = false
 
-abbrev pub set_seen : Option Seen → Text → Part → Told ℕ
+abbrev pub set_seen : Option Seen → Text → JudgedPart → Told ℕ
 set_seen None name value = unbound name.place
 set_seen (Some s) name value = if can_be_set s.usage then wanted s.kind value else mistyped name.place
 
 -- a new value of the same kind
-abbrev pub set_judged : Text → (InSight → Part) → Stated
+abbrev pub set_judged : Text → (InSight → JudgedPart) → Stated
 set_judged name value sight =
-    set_seen (seen name.bytes sight.names) name (value sight) >>= λ cost. Ok (cost, sight.names)
+    set_seen (name_seen name.bytes sight.names) name (value sight) >>= λ cost. Ok (cost, sight.names)
 
 -- ---- blocks in statements
 
@@ -93,11 +93,11 @@ set_judged name value sight =
 abbrev pub if_told : Told ℕ → Blocked → Stated
 if_told told block sight = told >>= λ cost. block sight >>= λ d. Ok (plus cost d, sight.names)
 
-abbrev pub if_judged : (InSight → Part) → Blocked → Stated
+abbrev pub if_judged : (InSight → JudgedPart) → Blocked → Stated
 if_judged condition block sight = if_told (wanted bool (condition sight)) block sight
 
 -- the dearer of two blocks counts
-abbrev pub if_else_judged : (InSight → Part) → Blocked → Blocked → Stated
+abbrev pub if_else_judged : (InSight → JudgedPart) → Blocked → Blocked → Stated
 if_else_judged condition block other sight =
     wanted bool (condition sight) >>= λ cost.
     block sight >>= λ d.
@@ -109,11 +109,11 @@ abbrev pub for_in_told : Text → Told Judged → ℕ → Blocked → Stated
 for_in_told name told first each sight =
     if is_taken sight name then mistyped name.place
     else told >>= λ j.
-    or_first first (item_of j.kind) >>= λ k.
+    or_first first (item_kind j.kind) >>= λ k.
     turn_judged name k each sight >>= λ d.
     Ok (plus j.cost (turns LIST_TURNS d), sight.names)
 
-abbrev pub for_in_judged : Text → (InSight → Part) → Blocked → Stated
+abbrev pub for_in_judged : Text → (InSight → JudgedPart) → Blocked → Stated
 for_in_judged name list each sight = for_in_told name (list sight).found (list sight).first each sight
 
 -- so many turns at most
@@ -121,16 +121,16 @@ abbrev pub for_to_judged : Text → ℕ → Blocked → ℕ → Stated
 for_to_judged name count each place sight =
     if nat_lt MOST_TURNS count then mistyped place
     else if is_taken sight name then mistyped name.place
-    else turn_judged name int each sight >>= λ d. Ok (turns count d, sight.names)
+    else turn_judged name int_kind each sight >>= λ d. Ok (turns count d, sight.names)
 
 -- ---- objects
 
 -- the sum with the cost of a value that has to be of a field's kind
-abbrev pub field_wanted : Field → Part → ℕ → Told ℕ
+abbrev pub field_wanted : Field → JudgedPart → ℕ → Told ℕ
 field_wanted f v sum = declared_kind f.name.place f.kind >>= λ k. wanted k v >>= λ cost. Ok (plus sum cost)
 
 -- the sum of the costs of values that have to be of the kinds of fields
-abbrev pub fields_wanted : List Field → List Part → ℕ → Told ℕ
+abbrev pub fields_wanted : List Field → List JudgedPart → ℕ → Told ℕ
 fields_wanted [] values sum = Ok sum
 fields_wanted (f ∷ fs) [] sum = Ok sum
 fields_wanted (f ∷ fs) (v ∷ vs) sum = field_wanted f v sum >>= λ more. fields_wanted fs vs more
@@ -139,13 +139,13 @@ fields_wanted (f ∷ fs) (v ∷ vs) sum = field_wanted f v sum >>= λ more. fiel
 abbrev pub Numbered : Type 0
 Numbered = ℕ × TypeDef
 
-abbrev pub numbered : ℕ → Option TypeDef → Option Numbered
-numbered number None = None
-numbered number (Some t) = Some (number, t)
+abbrev pub numbered_type : ℕ → Option TypeDef → Option Numbered
+numbered_type number None = None
+numbered_type number (Some t) = Some (number, t)
 
 abbrev pub numbered_at : Option ℕ → List TypeDef → Option Numbered
 numbered_at None types = None
-numbered_at (Some number) types = numbered number (slice_get types number)
+numbered_at (Some number) types = numbered_type number (slice_get types number)
 
 -- the type of this name
 abbrev pub named_type : List ℕ → List TypeDef → Option Numbered
@@ -163,21 +163,21 @@ unknown_in None slot object sight = not_created sight slot
 unknown_in (Some s) slot object sight = unbound object.place
 
 -- an object of a declared type, in a slot
-abbrev pub known_in : Option Seen → Numbered → Text → Text → List Part → InSight → Told ℕ
-known_in None t slot object values sight = not_created sight slot
-known_in (Some s) t slot object values sight =
+abbrev pub known_object : Option Seen → Numbered → Text → Text → List JudgedPart → InSight → Told ℕ
+known_object None t slot object values sight = not_created sight slot
+known_object (Some s) t slot object values sight =
     if takes_object s.kind t.0 then fields_wanted t.1.fields values 0 else mistyped object.place
 
 -- the number of fields is tested first, then the slot, the type and the values
-abbrev pub make_told : Option Numbered → Text → Text → List Part → ℕ → InSight → Told ℕ
-make_told None slot object values place sight = unknown_in (created slot.bytes sight.names) slot object sight
+abbrev pub make_told : Option Numbered → Text → Text → List JudgedPart → ℕ → InSight → Told ℕ
+make_told None slot object values place sight = unknown_in (created_slot slot.bytes sight.names) slot object sight
 make_told (Some t) slot object values place sight =
     if length t.1.fields == length values
-    then known_in (created slot.bytes sight.names) t slot object values sight
+    then known_object (created_slot slot.bytes sight.names) t slot object values sight
     else mistyped place
 
 -- a new object in a created slot, in a procedure
-abbrev pub make_judged : Text → Text → (InSight → List Part) → ℕ → Stated
+abbrev pub make_judged : Text → Text → (InSight → List JudgedPart) → ℕ → Stated
 make_judged slot object values place sight =
     if sight.in_check then mistyped place
     else make_told (named_type object.bytes sight.contract.types) slot object (values sight) place sight >>= λ cost.
@@ -186,27 +186,27 @@ make_judged slot object values place sight =
 -- ---- calls
 
 -- a method, and what its procedure costs
-abbrev pub Callee : Type 0
-Callee = Method × ℕ
+abbrev pub PricedCallee : Type 0
+PricedCallee = Method × ℕ
 
 abbrev pub procedure_cost : Option Costs → Option ℕ
 procedure_cost None = None
 procedure_cost (Some c) = Some c.procedure
 
-abbrev pub with_cost : Method → Option ℕ → Option Callee
+abbrev pub with_cost : Method → Option ℕ → Option PricedCallee
 with_cost m None = None
 with_cost m (Some cost) = Some (m, cost)
 
-abbrev pub callee : Option Method → Option ℕ → Option Callee
+abbrev pub callee : Option Method → Option ℕ → Option PricedCallee
 callee None cost = None
 callee (Some m) cost = with_cost m cost
 
-abbrev pub callee_at : Option ℕ → List Method → List Costs → Option Callee
+abbrev pub callee_at : Option ℕ → List Method → List Costs → Option PricedCallee
 callee_at None methods costs = None
 callee_at (Some number) methods costs = callee (slice_get methods number) (procedure_cost (slice_get costs number))
 
 -- the method of this name, where it stands above
-abbrev pub callee_of : InSight → Text → Option Callee
+abbrev pub callee_of : InSight → Text → Option PricedCallee
 callee_of sight name = callee_at (method_number name.bytes sight.contract.methods) sight.contract.methods sight.costs
 
 abbrev pub is_starred : Slot → Bool
@@ -225,7 +225,7 @@ fresh sight before name =
     if is_taken sight name || list_any (is_text name) before then mistyped name.place else Ok (before ++ name ∷ [])
 
 abbrev pub all_fresh : InSight → List Text → Told (List Text)
-all_fresh sight = through (fresh sight) []
+all_fresh sight = told_through (fresh sight) []
 
 -- a name that is bound to what a method returns, which can't be set
 abbrev pub one_bound : Text → Field → List Entry → Told (List Entry)
@@ -241,7 +241,7 @@ bound (n ∷ ns) (f ∷ fs) names = one_bound n f names >>= λ more. bound ns fs
 abbrev pub call_unknown : List Text → Text → Stated
 call_unknown names method sight = all_fresh sight names >>= λ _. unbound method.place
 
-abbrev pub call_known : Callee → List Text → Text → List Part → Stated
+abbrev pub call_known : PricedCallee → List Text → Text → List JudgedPart → Stated
 call_known c names method arguments sight =
     if takes_many c.0 then mistyped method.place
     else fields_wanted c.0.takes arguments c.1 >>= λ cost.
@@ -252,7 +252,7 @@ abbrev pub has_counts : ℕ → ℕ → Method → Bool
 has_counts arguments names m = length m.takes == arguments && length m.returns == names
 
 -- the numbers of arguments and names are tested first, then the names, the method and the arguments
-abbrev pub call_told : Option Callee → List Text → Text → List Part → ℕ → Stated
+abbrev pub call_told : Option PricedCallee → List Text → Text → List JudgedPart → ℕ → Stated
 call_told None names method arguments place sight = call_unknown names method sight
 call_told (Some c) names method arguments place sight =
     if has_counts (length arguments) (length names) c.0
@@ -260,7 +260,7 @@ call_told (Some c) names method arguments place sight =
     else mistyped place
 
 -- a call of a method above, in a procedure; neither takes any number of objects
-abbrev pub call_judged : List Text → Text → (InSight → List Part) → ℕ → Stated
+abbrev pub call_judged : List Text → Text → (InSight → List JudgedPart) → ℕ → Stated
 call_judged names method arguments place sight =
     if sight.in_check || sight.starred then mistyped place
     else call_told (callee_of sight method) names method (arguments sight) place sight
@@ -268,7 +268,7 @@ call_judged names method arguments place sight =
 -- ---- answers
 
 -- the answer of a check
-abbrev pub answer_judged : (InSight → Part) → ℕ → Stated
+abbrev pub answer_judged : (InSight → JudgedPart) → ℕ → Stated
 answer_judged value place sight =
     if sight.in_check then (wanted bool (value sight) >>= λ cost. Ok (cost, sight.names)) else mistyped place
 

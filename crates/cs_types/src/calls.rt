@@ -3,7 +3,7 @@ ghost use Rattle.std.specs.Prelude.{◌≡◌, ◌++◌, ◌∷◌, [], length, 
 ghost use Rattle.std.specs.List.{list_any};
 ghost use Rattle.cs_types.specs.Stating.{is_starred, takes_many, is_text, fresh, all_fresh, one_bound, bound, procedure_cost, call_unknown, call_told, call_judged};
 ghost use Rattle.cs_types.specs.Blocks.{parts};
-ghost use Rattle.cs_types.specs.Steps.{Adds, Passes, Binds};
+ghost use Rattle.cs_types.specs.Steps.{AddsNames, StatementPasses, BindsNames};
 
 use crate::names::is_taken;
 use crate::objects::fields_wanted;
@@ -34,7 +34,7 @@ fn has_text(names: &[Text], name: &Text) -> bool
 
 /// Tests that names repeat none that is in sight, and none among them.
 fn all_fresh(scope: &Scope<'_>, names: &[Text]) -> Result<(), TypeError>
-    ensures { Passes result names.now (all_fresh scope.now names.now) }
+    ensures { StatementPasses result names.now (all_fresh scope.now names.now) }
 {
     for i in 0..names.len() {
         fresh(scope, names.split_at(i).0, &names[i])?;
@@ -44,7 +44,7 @@ fn all_fresh(scope: &Scope<'_>, names: &[Text]) -> Result<(), TypeError>
 
 /// Tests that a name repeats none that is in sight or stands before it.
 fn fresh(scope: &Scope<'_>, before: &[Text], name: &Text) -> Result<(), TypeError>
-    ensures { Passes result (before.now ++ name.now ∷ []) (fresh scope.now before.now name.now) }
+    ensures { StatementPasses result (before.now ++ name.now ∷ []) (fresh scope.now before.now name.now) }
 {
     if is_taken(scope, name) || has_text(before, name) {
         return Err(TypeError::Mistyped(name.place));
@@ -60,7 +60,7 @@ fn bind(
     fields: &[Field],
 ) -> Result<(), TypeError>
     requires { length names.now ≡ length fields.now }
-    ensures { Binds result scope.old scope.new (bound names.now fields.now scope.old.names) }
+    ensures { BindsNames result scope.old scope.new (bound names.now fields.now scope.old.names) }
 {
     for i in 0..names.len() {
         bind_one(alloc, scope, &names[i], &fields[i])?;
@@ -76,7 +76,7 @@ fn bind_one(
     name: &Text,
     field: &Field,
 ) -> Result<(), TypeError>
-    ensures { Binds result scope.old scope.new (one_bound name.now field.now scope.old.names) }
+    ensures { BindsNames result scope.old scope.new (one_bound name.now field.now scope.old.names) }
 {
     let kind = declared_kind(&field.kind, field.name.place)?;
     scope.add(alloc, name.bytes.as_slice(), kind, Use::Read)
@@ -94,7 +94,7 @@ fn call_found(
     arguments: &[Expr],
     place: usize,
 ) -> Result<u64, TypeError>
-    ensures { Adds result scope.old scope.new
+    ensures { AddsNames result scope.old scope.new
         (call_told (Some (callee.now, cost)) names.now method.now
         (parts arguments.now scope.old) place scope.old) }
 {
@@ -113,7 +113,7 @@ fn call_found(
 /// Why a method that doesn't stand above can't be called.
 #[tactic(auto, using(crate::proofs::Staying::stays))]
 fn call_missing(scope: &Scope<'_>, names: &[Text], method: &Text) -> Result<u64, TypeError>
-    ensures { Adds result scope.now scope.now (call_unknown names.now method.now scope.now) }
+    ensures { AddsNames result scope.now scope.now (call_unknown names.now method.now scope.now) }
 {
     all_fresh(scope, names)?;
     Err(TypeError::Unbound(method.place))
@@ -129,7 +129,7 @@ pub fn call_statement(
     arguments: &[Expr],
     place: usize,
 ) -> Result<u64, TypeError>
-    ensures { Adds result scope.old scope.new
+    ensures { AddsNames result scope.old scope.new
         (call_judged names.now method.now (parts arguments.now) place scope.old) }
 {
     if scope.in_check() || scope.is_starred() {

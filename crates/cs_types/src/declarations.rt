@@ -1,7 +1,7 @@
 //! Types, slots and fields.
 ghost use Rattle.std.specs.Prelude.{◌≡◌, ◌++◌, ◌∷◌, [], length};
 ghost use Rattle.std.specs.List.{list_any};
-ghost use Rattle.cs_types.specs.Steps.{Passes, Binds};
+ghost use Rattle.cs_types.specs.Steps.{StatementPasses, BindsNames};
 ghost use Rattle.cs_types.specs.Declaring.{is_field, field_told, fields_told, type_told, types_told, slot_kind, slot_told, is_nil, slots_told, name_told, names_told, use_of_created, use_of_returned, method_names};
 
 use cs_lang::{Field, Method, Slot, TypeDef};
@@ -19,7 +19,7 @@ fn has_field(fields: &[Field], name: &[u8]) -> bool
 
 /// Tests the fields of a type.
 fn check_fields(fields: &[Field]) -> Result<(), TypeError>
-    ensures { Passes result fields.now (fields_told fields.now) }
+    ensures { StatementPasses result fields.now (fields_told fields.now) }
 {
     for i in 0..fields.len() {
         check_field(fields.split_at(i).0, &fields[i])?;
@@ -29,7 +29,7 @@ fn check_fields(fields: &[Field]) -> Result<(), TypeError>
 
 /// Tests a field behind others of its type.
 fn check_field(before: &[Field], field: &Field) -> Result<(), TypeError>
-    ensures { Passes result (before.now ++ field.now ∷ []) (field_told before.now field.now) }
+    ensures { StatementPasses result (before.now ++ field.now ∷ []) (field_told before.now field.now) }
 {
     let full = before.len() >= MOST_FIELDS;
     if full || has_field(before, field.name.bytes.as_slice()) {
@@ -41,7 +41,7 @@ fn check_field(before: &[Field], field: &Field) -> Result<(), TypeError>
 
 /// Tests the types of a contract.
 pub fn check_types(types: &[TypeDef]) -> Result<(), TypeError>
-    ensures { Passes result types.now (types_told types.now) }
+    ensures { StatementPasses result types.now (types_told types.now) }
 {
     for i in 0..types.len() {
         check_type(types.split_at(i).0, &types[i])?;
@@ -51,7 +51,7 @@ pub fn check_types(types: &[TypeDef]) -> Result<(), TypeError>
 
 /// Tests a type behind others.
 fn check_type(before: &[TypeDef], typedef: &TypeDef) -> Result<(), TypeError>
-    ensures { Passes result (before.now ++ typedef.now ∷ []) (type_told before.now typedef.now) }
+    ensures { StatementPasses result (before.now ++ typedef.now ∷ []) (type_told before.now typedef.now) }
 {
     let full = before.len() >= MOST_TYPES;
     if full || type_number(before, typedef.name.bytes.as_slice()).is_some() {
@@ -79,7 +79,7 @@ fn add_slot(
     usage: Use,
     last: bool,
 ) -> Result<(), TypeError>
-    ensures { Binds result scope.old scope.new
+    ensures { BindsNames result scope.old scope.new
         (slot_told scope.old.contract.types usage slot.now last scope.old.names) }
 {
     if scope.is_declared(slot.name.bytes.as_slice()) || slot.many && !last {
@@ -113,7 +113,7 @@ fn add_slots(
     slots: &[Slot],
     usage: Use,
 ) -> Result<(), TypeError>
-    ensures { Binds result scope.old scope.new
+    ensures { BindsNames result scope.old scope.new
         (slots_told scope.old.contract.types usage slots.now scope.old.names) }
 {
     for i in 0..slots.len() {
@@ -131,7 +131,7 @@ fn add_field(
     field: &Field,
     usage: Use,
 ) -> Result<(), TypeError>
-    ensures { Binds result scope.old scope.new (name_told usage scope.old.names field.now) }
+    ensures { BindsNames result scope.old scope.new (name_told usage scope.old.names field.now) }
 {
     if scope.is_declared(field.name.bytes.as_slice()) {
         return Err(TypeError::Mistyped(field.name.place));
@@ -147,7 +147,7 @@ fn add_fields(
     fields: &[Field],
     usage: Use,
 ) -> Result<(), TypeError>
-    ensures { Binds result scope.old scope.new (names_told usage fields.now scope.old.names) }
+    ensures { BindsNames result scope.old scope.new (names_told usage fields.now scope.old.names) }
 {
     for field in fields {
         add_field(alloc, scope, field, usage)?;
@@ -176,7 +176,7 @@ pub fn add_names(
     in_check: bool,
 ) -> Result<(), TypeError>
     requires { length scope.old.names ≡ 0 }
-    ensures { Binds result scope.old scope.new
+    ensures { BindsNames result scope.old scope.new
         (method_names scope.old.contract.types in_check method.now) }
 {
     add_slots(alloc, scope, method.consumes.as_slice(), Use::Read)?;

@@ -2,7 +2,7 @@
 ghost use Rattle.std.specs.Prelude.{◌≡◌};
 ghost use Rattle.cs_types.specs.Stating.{is_taken, is_value, can_be_set, let_judged, set_judged};
 ghost use Rattle.cs_types.specs.Blocks.{part};
-ghost use Rattle.cs_types.specs.Steps.{Adds};
+ghost use Rattle.cs_types.specs.Steps.{AddsNames};
 
 use cs_lang::{Expr, Text};
 use cs_types_kinds::{Kind, Scope, TypeError, Use, expect, judge};
@@ -41,7 +41,7 @@ pub fn let_statement(
     name: &Text,
     value: &Expr,
 ) -> Result<u64, TypeError>
-    ensures { Adds result scope.old scope.new (let_judged name.now (part value.now) scope.old) }
+    ensures { AddsNames result scope.old scope.new (let_judged name.now (part value.now) scope.old) }
 {
     if is_taken(scope, name) {
         return Err(TypeError::Mistyped(name.place));
@@ -57,7 +57,7 @@ pub fn let_statement(
 /// A new value for a name.
 #[tactic(auto, using(crate::proofs::Staying::stays))]
 pub fn set_statement(scope: &mut Scope<'_>, name: &Text, value: &Expr) -> Result<u64, TypeError>
-    ensures { Adds result scope.old scope.new (set_judged name.now (part value.now) scope.old) }
+    ensures { AddsNames result scope.old scope.new (set_judged name.now (part value.now) scope.old) }
 {
     match scope.find(name.bytes.as_slice()) {
         Some(seen) => {

@@ -2,8 +2,8 @@
 ghost use Rattle.std.specs.Prelude.{◌≡◌, length, Some};
 ghost use Rattle.cs_types.specs.Stating.{field_wanted, fields_wanted, takes_object, not_created, named_type, unknown_in, make_told, make_judged};
 ghost use Rattle.cs_types.specs.Blocks.{part, parts};
-ghost use Rattle.cs_types.specs.Steps.{Adds};
-ghost use Rattle.cs_types_kinds.specs.Scopes.{created};
+ghost use Rattle.cs_types.specs.Steps.{AddsNames};
+ghost use Rattle.cs_types_kinds.specs.Scopes.{created_slot};
 
 use crate::names::is_taken;
 use cs_lang::{Expr, Field, Text, TypeDef};
@@ -56,7 +56,7 @@ fn not_created(scope: &Scope<'_>, slot: &Text) -> Result<u64, TypeError>
 /// Why an object of a type that isn't declared can't be made.
 fn make_missing(scope: &Scope<'_>, slot: &Text, object: &Text) -> Result<u64, TypeError>
     ensures { result ≡
-        unknown_in (created slot.now.bytes scope.now.names) slot.now object.now scope.now }
+        unknown_in (created_slot slot.now.bytes scope.now.names) slot.now object.now scope.now }
 {
     match scope.find_created(slot.bytes.as_slice()) {
         Some(_) => Err(TypeError::Unbound(object.place)),
@@ -122,7 +122,7 @@ pub fn make_statement(
     values: &[Expr],
     place: usize,
 ) -> Result<u64, TypeError>
-    ensures { Adds result scope.old scope.new
+    ensures { AddsNames result scope.old scope.new
         (make_judged slot.now object.now (parts values.now) place scope.old) }
 {
     if scope.in_check() {

@@ -2,8 +2,8 @@
 ghost use Rattle.std.specs.Prelude.{◌≡◌, map};
 ghost use Rattle.cs_types.specs.Stating.{turns, turn_judged, if_told, for_in_told, for_to_judged, answer_judged, statement_added};
 ghost use Rattle.cs_types.specs.Blocks.{part, action_told, statement_told, block_told};
-ghost use Rattle.cs_types.specs.Steps.{Adds, Sums, Blocks};
-ghost use Rattle.cs_types_kinds.specs.Told.{through};
+ghost use Rattle.cs_types.specs.Steps.{AddsNames, Sums, Blocks};
+ghost use Rattle.cs_types_kinds.specs.Told.{told_through};
 
 use crate::calls::call_statement;
 use crate::names::{is_taken, let_statement, set_statement};
@@ -29,7 +29,7 @@ fn if_statement(
     told: Result<u64, TypeError>,
     then: &Block,
 ) -> Result<u64, TypeError>
-    ensures { Adds result scope.old scope.new (if_told told (block_told then.now) scope.old) }
+    ensures { AddsNames result scope.old scope.new (if_told told (block_told then.now) scope.old) }
 {
     let cost = told?;
     let more = block(alloc, scope, then)?;
@@ -67,7 +67,7 @@ fn for_in_statement(
     first: usize,
     each: &Block,
 ) -> Result<u64, TypeError>
-    ensures { Adds result scope.old scope.new
+    ensures { AddsNames result scope.old scope.new
         (for_in_told name.now told first (block_told each.now) scope.old) }
 {
     if is_taken(scope, name) {
@@ -94,7 +94,7 @@ fn for_to_statement(
     each: &Block,
     place: usize,
 ) -> Result<u64, TypeError>
-    ensures { Adds result scope.old scope.new
+    ensures { AddsNames result scope.old scope.new
         (for_to_judged name.now count (block_told each.now) place scope.old) }
 {
     if count > MOST_TURNS {
@@ -110,7 +110,7 @@ fn for_to_statement(
 /// The answer of a check.
 #[tactic(auto, using(crate::proofs::Staying::stays))]
 fn answer_statement(scope: &mut Scope<'_>, value: &Expr, place: usize) -> Result<u64, TypeError>
-    ensures { Adds result scope.old scope.new (answer_judged (part value.now) place scope.old) }
+    ensures { AddsNames result scope.old scope.new (answer_judged (part value.now) place scope.old) }
 {
     if !scope.in_check() {
         return Err(TypeError::Mistyped(place));
@@ -127,7 +127,7 @@ fn action(
     action: &Action,
     place: usize,
 ) -> Result<u64, TypeError>
-    ensures { Adds result scope.old scope.new (action_told action.now place scope.old) }
+    ensures { AddsNames result scope.old scope.new (action_told action.now place scope.old) }
 {
     match action {
         Action::Let(name, value) => let_statement(alloc, scope, name, value),
@@ -168,7 +168,7 @@ fn action(
 #[cycle(running)]
 #[tactic(auto, using(crate::proofs::Actions::statement_is, crate::proofs::Staying::stays))]
 fn statement(alloc: Global, scope: &mut Scope<'_>, one: &Statement) -> Result<u64, TypeError>
-    ensures { Adds result scope.old scope.new (statement_told one.now scope.old) }
+    ensures { AddsNames result scope.old scope.new (statement_told one.now scope.old) }
 {
     let cost = action(alloc, scope, &one.action, one.place)?;
     Ok(plus(cost, 1))
@@ -178,7 +178,7 @@ fn statement(alloc: Global, scope: &mut Scope<'_>, one: &Statement) -> Result<u6
 #[cycle(running)]
 fn statements(alloc: Global, scope: &mut Scope<'_>, all: &[Statement]) -> Result<u64, TypeError>
     ensures { Sums result scope.old scope.new
-        (through statement_added (0, scope.old) (map statement_told all.now)) }
+        (told_through statement_added (0, scope.old) (map statement_told all.now)) }
 {
     let mut sum = 0;
     for one in all {

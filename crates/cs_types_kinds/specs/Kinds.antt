@@ -9,14 +9,14 @@ use Rattle.cs_types_kinds.specs.declared.kind.Base.TheVariants as base
 use Rattle.cs_types_kinds.specs.declared.kind.Kind.{Kind}
 use Rattle.cs_types_kinds.specs.declared.kind.Kind.TheVariants as kind
 
-abbrev pub int : Kind
-int = kind.Value base.Int 0
+abbrev pub int_kind : Kind
+int_kind = kind.Value base.Int 0
 
 abbrev pub bool : Kind
 bool = kind.Value base.Bool 0
 
-abbrev pub bytes : Kind
-bytes = kind.Value base.Bytes 0
+abbrev pub bytes_kind : Kind
+bytes_kind = kind.Value base.Bytes 0
 
 abbrev pub same_base : Base → Base → Bool
 same_base base.Int base.Int = true
@@ -31,15 +31,15 @@ same_kind (kind.Objects n) (kind.Objects m) = n == m
 same_kind _ _ = false
 
 -- a list of such values, where lists nest no deeper than they may; objects are no values
-abbrev pub list_of : Kind → Option Kind
-list_of (kind.Value b lists) = if nat_lt lists MOST_LISTS then Some (kind.Value b (lists + 1)) else None
-list_of _ = None
+abbrev pub list_kind_of : Kind → Option Kind
+list_kind_of (kind.Value b lists) = if nat_lt lists MOST_LISTS then Some (kind.Value b (lists + 1)) else None
+list_kind_of _ = None
 
 -- an item of a list, or one of several objects
-abbrev pub item_of : Kind → Option Kind
-item_of (kind.Value b lists) = if nat_lt 0 lists then Some (kind.Value b (lists - 1)) else None
-item_of (kind.Objects n) = Some (kind.Object n)
-item_of (kind.Object n) = None
+abbrev pub item_kind : Kind → Option Kind
+item_kind (kind.Value b lists) = if nat_lt 0 lists then Some (kind.Value b (lists - 1)) else None
+item_kind (kind.Objects n) = Some (kind.Object n)
+item_kind (kind.Object n) = None
 
 abbrev pub is_list : Kind → Bool
 is_list (kind.Value b lists) = nat_lt 0 lists
@@ -55,11 +55,11 @@ has_length (kind.Objects n) = true
 has_length k = joins k
 
 abbrev pub kind_from_parts : ValueKind-F (Option Kind) → Option Kind
-kind_from_parts ValueKind-F.Int = Some int
+kind_from_parts ValueKind-F.Int = Some int_kind
 kind_from_parts ValueKind-F.Bool = Some bool
-kind_from_parts ValueKind-F.Bytes = Some bytes
-kind_from_parts (ValueKind-F.List items) = option_and_then list_of items
+kind_from_parts ValueKind-F.Bytes = Some bytes_kind
+kind_from_parts (ValueKind-F.List items) = option_and_then list_kind_of items
 
 -- the kind that is spelled, or none where it nests too many lists
-unfoldable pub kind_of : ValueKind → Option Kind
-kind_of = fold-ValueKind (Option Kind) kind_from_parts
+unfoldable pub spelled_kind : ValueKind → Option Kind
+spelled_kind = fold-ValueKind (Option Kind) kind_from_parts

@@ -8,7 +8,7 @@ use Rattle.cs_lang.specs.declared.tree.Method.{Method}
 use Rattle.cs_lang.specs.declared.tree.Field.{Field}
 use Rattle.cs_lang.specs.declared.tree.ValueKind.{ValueKind}
 use Rattle.cs_types_kinds.specs.declared.kind.Kind.{Kind}
-use Rattle.cs_types_kinds.specs.Kinds.{kind_of}
+use Rattle.cs_types_kinds.specs.Kinds.{spelled_kind}
 use Rattle.cs_types_kinds.specs.Told.{Told, mistyped, unbound}
 
 abbrev pub is_type : List ℕ → TypeDef → Bool
@@ -31,7 +31,7 @@ or_mistyped place (Some k) = Ok k
 
 -- the kind that is declared at a place
 abbrev pub declared_kind : ℕ → ValueKind → Told Kind
-declared_kind place k = or_mistyped place (kind_of k)
+declared_kind place k = or_mistyped place (spelled_kind k)
 
 abbrev pub is_named_field : Text → Field → Bool
 is_named_field name f = bytes_eq f.name.bytes name.bytes
@@ -41,10 +41,10 @@ abbrev pub named_field : Text → List Field → Told Kind
 named_field name [] = unbound name.place
 named_field name (f ∷ fs) = if is_named_field name f then declared_kind name.place f.kind else named_field name fs
 
-abbrev pub field_in : Text → Option TypeDef → Told Kind
-field_in name None = unbound name.place
-field_in name (Some t) = named_field name t.fields
+abbrev pub field_kind_in : Text → Option TypeDef → Told Kind
+field_kind_in name None = unbound name.place
+field_kind_in name (Some t) = named_field name t.fields
 
 -- the kind of a field of the type with this number
 abbrev pub field_kind : ContractTree → ℕ → Text → Told Kind
-field_kind contract number name = field_in name (slice_get contract.types number)
+field_kind contract number name = field_kind_in name (slice_get contract.types number)

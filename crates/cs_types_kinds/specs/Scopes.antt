@@ -30,8 +30,8 @@ in_sight _ = true
 abbrev pub is_seen : List ℕ → Entry → Bool
 is_seen name e = in_sight e.seen.usage && bytes_eq e.name name
 
-abbrev pub is_created : List ℕ → Entry → Bool
-is_created name e = not (in_sight e.seen.usage) && bytes_eq e.name name
+abbrev pub is_created_entry : List ℕ → Entry → Bool
+is_created_entry name e = not (in_sight e.seen.usage) && bytes_eq e.name name
 
 -- what the first name that passes stands for
 abbrev pub first_seen : (Entry → Bool) → List Entry → Option Seen
@@ -39,26 +39,26 @@ first_seen test [] = None
 first_seen test (e ∷ es) = if test e then Some e.seen else first_seen test es
 
 -- what a name in sight stands for
-abbrev pub seen : List ℕ → List Entry → Option Seen
-seen name = first_seen (is_seen name)
+abbrev pub name_seen : List ℕ → List Entry → Option Seen
+name_seen name = first_seen (is_seen name)
 
 -- what a created slot stands for
-abbrev pub created : List ℕ → List Entry → Option Seen
-created name = first_seen (is_created name)
+abbrev pub created_slot : List ℕ → List Entry → Option Seen
+created_slot name = first_seen (is_created_entry name)
 
-abbrev pub is_name : List ℕ → Entry → Bool
-is_name name e = bytes_eq e.name name
+abbrev pub is_entry_name : List ℕ → Entry → Bool
+is_entry_name name e = bytes_eq e.name name
 
 -- it is a name, in sight or not
 abbrev pub is_declared : List ℕ → List Entry → Bool
-is_declared name es = list_any (is_name name) es
+is_declared name es = list_any (is_entry_name name) es
 
 -- with one name more
 abbrev pub with_name : List Entry → List ℕ → Kind → Use → List Entry
 with_name names name k u = names ++ record { name = name; seen = record { kind = k; usage = u } } ∷ []
 
-abbrev pub with_names : InSight → List Entry → InSight
-with_names sight names =
+abbrev pub sight_with_names : InSight → List Entry → InSight
+sight_with_names sight names =
     record {
       contract = sight.contract;
       costs = sight.costs;
@@ -68,8 +68,8 @@ with_names sight names =
     }
 
 -- at the beginning of a procedure or a check
-abbrev pub entered : InSight → Bool → Bool → InSight
-entered sight starred in_check =
+abbrev pub entered_scope : InSight → Bool → Bool → InSight
+entered_scope sight starred in_check =
     record {
       contract = sight.contract;
       costs = sight.costs;

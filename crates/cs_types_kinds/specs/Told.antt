@@ -16,9 +16,9 @@ abbrev pub unbound : {X : Type 0} → ℕ → Told X
 unbound place = Err (error.Unbound place)
 
 -- one after the other, up to the first fault
-abbrev pub through : {A X : Type 0} → (A → X → Told A) → A → List X → Told A
-through step a [] = Ok a
-through step a (x ∷ xs) = step a x >>= λ b. through step b xs
+abbrev pub told_through : {A X : Type 0} → (A → X → Told A) → A → List X → Told A
+told_through step a [] = Ok a
+told_through step a (x ∷ xs) = step a x >>= λ b. told_through step b xs
 
 -- sums of costs stop at 2^64 - 1
 abbrev pub plus : ℕ → ℕ → ℕ

@@ -1,7 +1,7 @@
 //! Kinds and costs of expressions.
 ghost use Rattle.std.specs.Prelude.{◌≡◌, map};
-ghost use Rattle.cs_types_kinds.specs.Told.{through, plus};
-ghost use Rattle.cs_types_kinds.specs.Judging.{judged, wanted, name_judged, empty_judged, called_judged, depint_judged, kind_of_list, first_item, next_item, any_item, all_items, list_judged, len_judged, sha256_judged, concat_of, not_judged, negative_judged, is_equality, compares, comparing_cost, compared_of, kind_of_rank, link_added, chain_of, field_judged, index_judged, step_taken, path_of};
+ghost use Rattle.cs_types_kinds.specs.Told.{told_through, plus};
+ghost use Rattle.cs_types_kinds.specs.Judging.{judged, wanted, name_judged, empty_judged, called_judged, depint_judged, kind_of_list, first_item, next_item, any_item, items_of_parts, list_judged, len_judged, sha256_judged, concat_of, not_judged, negative_judged, is_equality, compares, comparing_cost, compared_of, kind_of_rank, link_added, chain_of, field_judged, index_judged, step_taken, path_of};
 ghost use Rattle.cs_types_kinds.specs.Parts.{part_of, link_part, step_part};
 
 use crate::declared::{field_kind, method_number};
@@ -210,7 +210,7 @@ fn any_item(
 /// The items of a list that is written out at a place.
 #[cycle(judging)]
 fn all_items(scope: &Scope<'_>, items: &[Expr], place: usize) -> Result<Option<Items>, TypeError>
-    ensures { result ≡ all_items place (map (part_of scope.now) items.now) }
+    ensures { result ≡ items_of_parts place (map (part_of scope.now) items.now) }
 {
     let mut so_far = None;
     for item in items {
@@ -349,7 +349,7 @@ fn kind_of_rank(rank: Rank) -> Kind
 /// The costs of a chain's operators and right operands behind that of its start.
 #[cycle(judging)]
 fn rights(scope: &Scope<'_>, kind: Kind, start: u64, links: &[Link]) -> Result<u64, TypeError>
-    ensures { result ≡ through (link_added kind) start (map (link_part scope.now) links.now) }
+    ensures { result ≡ told_through (link_added kind) start (map (link_part scope.now) links.now) }
 {
     let mut sum = start;
     for link in links {
@@ -448,7 +448,7 @@ fn judge_path(
 /// One step on after the other.
 #[cycle(judging)]
 fn all_steps(scope: &Scope<'_>, steps: &[Step], start: Judged) -> Result<Judged, TypeError>
-    ensures { result ≡ through step_taken start (map (step_part scope.now) steps.now) }
+    ensures { result ≡ told_through step_taken start (map (step_part scope.now) steps.now) }
 {
     let mut found = start;
     for step in steps {

@@ -1,6 +1,6 @@
 //! Kinds of values.
 ghost use Rattle.std.specs.Prelude.{◌≡◌};
-ghost use Rattle.cs_types_kinds.specs.Kinds.{same_base, same_kind, list_of, item_of, is_list, joins, has_length, kind_of};
+ghost use Rattle.cs_types_kinds.specs.Kinds.{same_base, same_kind, list_kind_of, item_kind, is_list, joins, has_length, spelled_kind};
 
 use cs_lang::ValueKind;
 use cs_lang_token::MOST_LISTS;
@@ -59,7 +59,7 @@ impl Kind {
 
     /// The kind of a list of such values, where there is one.
     pub fn list_of(self) -> Option<Kind>
-        ensures { result ≡ list_of self }
+        ensures { result ≡ list_kind_of self }
     {
         match self {
             Kind::Value(base, lists) => {
@@ -74,7 +74,7 @@ impl Kind {
 
     /// The kind of its items, where it has any.
     pub fn item_of(self) -> Option<Kind>
-        ensures { result ≡ item_of self }
+        ensures { result ≡ item_kind self }
     {
         match self {
             Kind::Value(base, lists) => {
@@ -122,7 +122,7 @@ impl Kind {
 /// The kind that is spelled, or none where it nests too many lists.
 #[tactic(auto, using(crate::proofs::KindLayers::kinds))]
 pub fn kind_of(kind: &ValueKind) -> Option<Kind>
-    ensures { result ≡ kind_of kind.now }
+    ensures { result ≡ spelled_kind kind.now }
 {
     match kind {
         ValueKind::Int => Some(INT),

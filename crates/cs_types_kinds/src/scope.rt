@@ -1,6 +1,6 @@
 //! What is in sight at a place of a contract text.
 ghost use Rattle.std.specs.Prelude.{◌≡◌, take, length, OnOk, IfErr};
-ghost use Rattle.cs_types_kinds.specs.Scopes.{at_top, in_sight, is_seen, is_created, seen, created, is_declared, with_name, with_names, entered, below_method};
+ghost use Rattle.cs_types_kinds.specs.Scopes.{at_top, in_sight, is_seen, is_created_entry, name_seen, created_slot, is_declared, with_name, sight_with_names, entered_scope, below_method};
 
 use crate::fault::TypeError;
 use crate::kind::Kind;
@@ -61,7 +61,7 @@ impl Entry {
 
     /// Whether it is the name of a created slot that is out of sight.
     fn is_created(&self, name: &[u8]) -> bool
-        ensures { result ≡ is_created name.now self.now }
+        ensures { result ≡ is_created_entry name.now self.now }
     {
         !self.seen.usage.in_sight() && self.name.as_slice() == name
     }
@@ -69,7 +69,7 @@ impl Entry {
 
 /// What the first entry stands for that is the name and in sight.
 fn seen_in(entries: &[Entry], name: &[u8]) -> Option<Seen>
-    ensures { result ≡ seen name.now entries.now }
+    ensures { result ≡ name_seen name.now entries.now }
 {
     for entry in entries {
         if entry.is_seen(name) {
@@ -81,7 +81,7 @@ fn seen_in(entries: &[Entry], name: &[u8]) -> Option<Seen>
 
 /// What the first entry stands for that is the name of a created slot out of sight.
 fn created_in(entries: &[Entry], name: &[u8]) -> Option<Seen>
-    ensures { result ≡ created name.now entries.now }
+    ensures { result ≡ created_slot name.now entries.now }
 {
     for entry in entries {
         if entry.is_created(name) {
@@ -166,14 +166,14 @@ impl<'a> Scope<'a> {
 
     /// What a name in sight stands for.
     pub fn find(&self, name: &[u8]) -> Option<Seen>
-        ensures { result ≡ seen name.now self.now.names }
+        ensures { result ≡ name_seen name.now self.now.names }
     {
         seen_in(self.names.as_slice(), name)
     }
 
     /// What a created slot stands for.
     pub fn find_created(&self, name: &[u8]) -> Option<Seen>
-        ensures { result ≡ created name.now self.now.names }
+        ensures { result ≡ created_slot name.now self.now.names }
     {
         created_in(self.names.as_slice(), name)
     }
@@ -204,7 +204,7 @@ impl<'a> Scope<'a> {
         usage: Use,
     ) -> Result<(), TypeError>
         ensures ok { OnOk result
-            (self.new ≡ with_names self.old (with_name self.old.names name.now kind usage)) }
+            (self.new ≡ sight_with_names self.old (with_name self.old.names name.now kind usage)) }
         ensures err { IfErr result (λ e. e ≡ TypeError.Memory) }
     {
         self.names.push(Entry {
@@ -216,14 +216,14 @@ impl<'a> Scope<'a> {
 
     /// Drops all but so many of the first names.
     pub fn leave(&mut self, names: usize)
-        ensures { self.new ≡ with_names self.old (take names self.old.names) }
+        ensures { self.new ≡ sight_with_names self.old (take names self.old.names) }
     {
         self.names.truncate(names);
     }
 
     /// Begins a procedure or a check, without names.
     pub fn enter(&mut self, starred: bool, in_check: bool)
-        ensures { self.new ≡ entered self.old starred in_check }
+        ensures { self.new ≡ entered_scope self.old starred in_check }
     {
         self.starred = starred;
         self.in_check = in_check;

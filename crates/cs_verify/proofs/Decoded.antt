@@ -4,9 +4,9 @@ use Rattle.std.specs.Option.{ok_or}
 use Rattle.std.proofs.Common.{◌∙◌, ap, refl}
 use Rattle.cs_base.specs.Fields.{IsBytes, whole_at}
 use Rattle.cs_base.proofs.Forms.{whole-takes, whole-again}
-use Rattle.cs_tx_form.specs.declared.proof.Proof.{Proof}
-use Rattle.cs_tx_form.specs.Log.{proof_encoding, ProofFits, proof_at}
-use Rattle.cs_tx_form.specs.laws.Log.{proof_form}
+use Rattle.cs_tx_types.specs.declared.proof.Proof.{Proof}
+use Rattle.cs_tx_types.specs.Log.{proof_encoding, ProofFits, proof_at}
+use Rattle.cs_tx_types.specs.laws.Log.{proof_form}
 use Rattle.cs_text.specs.declared.cause.Cause.{Cause}
 use Rattle.cs_text.specs.declared.cause.Cause.TheVariants as cause
 use Rattle.cs_verify.specs.Forms.{encoded_proof}

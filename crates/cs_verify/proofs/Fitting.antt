@@ -5,9 +5,9 @@ use Rattle.std.proofs.Common.{subst, inl, inr}
 use Rattle.cs_base.specs.declared.limits.TheConstants.{MOST_BODY, MOST_DATAGRAM}
 use Rattle.cs_base.specs.Fields.{IsBytes, whole_at}
 use Rattle.cs_base.proofs.Forms.{whole-takes, IsBytes-drop, IsBytes-take}
-use Rattle.cs_tx_form.specs.declared.proof.Proof.{Proof}
-use Rattle.cs_tx_form.specs.Log.{proof_encoding, ProofFits, proof_at}
-use Rattle.cs_tx_form.specs.laws.Log.{proof_form}
+use Rattle.cs_tx_types.specs.declared.proof.Proof.{Proof}
+use Rattle.cs_tx_types.specs.Log.{proof_encoding, ProofFits, proof_at}
+use Rattle.cs_tx_types.specs.laws.Log.{proof_form}
 use Rattle.cs_wire.specs.Datagram.{text_in, body_in}
 use Rattle.cs_text.specs.declared.cause.Cause.{Cause}
 use Rattle.cs_text.specs.declared.cause.Cause.TheVariants as cause
@@ -21,7 +21,7 @@ use Rattle.cs_verify.specs.declared.claim.Claim.{Claim}
 use Rattle.cs_verify.specs.declared.claim.Draft.{Draft}
 use Rattle.cs_verify.specs.declared.claim.Draft.TheVariants.{Nothing, Headed, Whole}
 use Rattle.cs_verify.specs.Forms.{is_formed, proof_body, encoded_proof, proof_in, datagram_in}
-use Rattle.cs_verify.specs.Lines.{head_line, with_proof, proof_line, datagram_line, line_at}
+use Rattle.cs_verify.specs.Lines.{trusted_head_line, with_proof, proof_line, datagram_line, claim_line_at}
 use Rattle.cs_verify.specs.Text.{claim_in, claim_form, claim_of}
 
 -- a proof that was read is within all limits
@@ -56,9 +56,9 @@ with_proof-fits head said next fits is =
     let (proof, was, moved) = change_ok said (λ proof. Whole (record { head = head; proof = proof })) next is in
     subst DraftFits moved (fits proof was)
 
-line_fits : (number : ℕ) (draft next : Draft) (word : List ℕ) (fields : List (List ℕ)) → DraftFits draft → line_at draft word fields ≡ Ok next → DraftFits next
+line_fits : (number : ℕ) (draft next : Draft) (word : List ℕ) (fields : List (List ℕ)) → DraftFits draft → claim_line_at draft word fields ≡ Ok next → DraftFits next
 line_fits number Nothing next word fields fits is =
-    let (head, said, moved) = change_ok (digest_said fields) Headed next (when_ok (bytes_eq word (codes "head")) (head_line fields) cause.Word next is).1 in
+    let (head, said, moved) = change_ok (digest_said fields) Headed next (when_ok (bytes_eq word (codes "head")) (trusted_head_line fields) cause.Word next is).1 in
     subst DraftFits moved tt
 line_fits number (Headed head) next word fields fits is =
     elim (either_ok (bytes_eq word (codes "proof")) (proof_line head fields) (if bytes_eq word (codes "datagram") then datagram_line head fields else Err cause.Word) next is) [

@@ -3,18 +3,18 @@ use Rattle.std.proofs.Common.{◌≡◌, ℕ, ◌+◌, ◌*◌, ◌<◌, Bool, t
 use Rattle.std.specs.Prelude.{◌↔◌, All, bytes_eq, IfOk, Result, Ok, Err}
 use Rattle.std.specs.Cmp.Lexicographic.{bytes_decides}
 use Rattle.std.proofs.lemmas.Bool.{cases_Bool, and_parts, and_from, eqb-true, eq-eqb, ltb-true, lt-ltb, cond-false}
-use Rattle.cs_tx_form.specs.declared.leaf.Leaf.{Leaf}
-use Rattle.cs_tx_form.specs.declared.checkpoint.Checkpoint.{Checkpoint}
-use Rattle.cs_tx_form.specs.declared.proof.Proof.{Proof}
-use Rattle.cs_tx_form.specs.Log.{leaf_encoding, LeafFits, ProofFits}
+use Rattle.cs_tx_types.specs.declared.leaf.Leaf.{Leaf}
+use Rattle.cs_tx_types.specs.declared.checkpoint.Checkpoint.{Checkpoint}
+use Rattle.cs_tx_types.specs.declared.proof.Proof.{Proof}
+use Rattle.cs_tx_types.specs.Log.{leaf_encoding, LeafFits, ProofFits}
 use Rattle.cs_merkle.specs.Path.{path_length, root_by, ShowsLeaf}
-use Rattle.cs_checkpoint.specs.Chain.{head_of}
-use Rattle.cs_checkpoint.specs.Shown.{Shows, IsOver, NoProofCollision}
-use Rattle.cs_checkpoint.proofs.Covered.{covered, covered_leaf}
+use Rattle.cs_check_rules.specs.Chain.{head_of}
+use Rattle.cs_check_rules.specs.Shown.{Shows, IsOver, NoProofCollision}
+use Rattle.cs_check_rules.proofs.Covered.{covered, covered_leaf}
 use Rattle.cs_verify.specs.declared.claim.Claim.{Claim}
 use Rattle.cs_verify.specs.declared.judging.Verdict.{Verdict}
 use Rattle.cs_verify.specs.declared.judging.Verdict.TheVariants.{Shown, NotShown}
-use Rattle.cs_verify.specs.Verdicts.{leads, is_shown, verdict_on, ShowsExactly, IsCovered, Tells}
+use Rattle.cs_verify.specs.Verdicts.{leads, is_shown, verdict_on, ShowsExactly, IsCovered, VerdictTells}
 
 test_leads : (p : Proof) → leads p ≡ true →
     ShowsLeaf p.checkpoint.leaf_root 16 p.place (leaf_encoding p.leaf) p.path
@@ -84,7 +84,7 @@ pub each_exactly : {E : Type 0} (r : Result Verdict E) (c d : Claim) → c ≡ d
 each_exactly (Ok verdict) c d same is = shows_exactly d verdict (is ∙ ap verdict_on same)
 each_exactly (Err e) c d same is = tt
 
-pub shown_tells : (head : List ℕ) (p : Proof) → ProofFits p → Shows head p → Tells head (Shown p)
+pub shown_tells : (head : List ℕ) (p : Proof) → ProofFits p → Shows head p → VerdictTells head (Shown p)
 shown_tells head p fits shows c leaves same all over apart =
     let here : Shows (head_of c) p = subst (λ (h : List ℕ). Shows h p) (sym same) shows in
     record {

@@ -4,8 +4,8 @@ use Rattle.std.specs.Option.{ok_or}
 use Rattle.std.specs.Int.{w32, from_be_bytes}
 use Rattle.cs_base.specs.declared.limits.TheConstants.{LEAST_DATAGRAM, MOST_DATAGRAM, MOST_BODY}
 use Rattle.cs_base.specs.Fields.{whole_at}
-use Rattle.cs_tx_form.specs.declared.proof.Proof.{Proof}
-use Rattle.cs_tx_form.specs.Log.{proof_at}
+use Rattle.cs_tx_types.specs.declared.proof.Proof.{Proof}
+use Rattle.cs_tx_types.specs.Log.{proof_at}
 use Rattle.cs_wire_message.specs.declared.kinds.TheConstants.{PROOF}
 use Rattle.cs_wire.specs.declared.head.TheConstants.{MAGIC}
 use Rattle.cs_wire.specs.Datagram.{is_sized, body_in}
@@ -20,12 +20,12 @@ abbrev pub is_proof_front : List ℕ → Bool
 is_proof_front front = bytes_eq front (MAGIC ++ PROOF ∷ [])
 
 -- behind these five bytes and the two names stands the length of the body
-abbrev pub size_in : List ℕ → ℕ
-size_in bytes = from_be_bytes w32 (take 4 (drop 8 (drop 5 bytes)))
+abbrev pub body_size_in : List ℕ → ℕ
+body_size_in bytes = from_be_bytes w32 (take 4 (drop 8 (drop 5 bytes)))
 
 abbrev pub is_formed : List ℕ → Bool
 is_formed bytes =
-    nat_le LEAST_DATAGRAM (length bytes) && (is_proof_front (take 5 bytes) && is_sized (size_in bytes) bytes)
+    nat_le LEAST_DATAGRAM (length bytes) && (is_proof_front (take 5 bytes) && is_sized (body_size_in bytes) bytes)
 
 -- the body of the datagram, where the bytes have that form
 abbrev pub proof_body : List ℕ → Option (List ℕ)

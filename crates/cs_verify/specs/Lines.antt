@@ -1,7 +1,7 @@
 -- What each line adds to what was read, or why it is refused. The word of a line is tested first.
 use Rattle.std.specs.Prelude.{ℕ, List, Result, Ok, Err, codes, if◌then◌else◌}
 use Rattle.std.specs.Str.{bytes_eq}
-use Rattle.cs_tx_form.specs.declared.proof.Proof.{Proof}
+use Rattle.cs_tx_types.specs.declared.proof.Proof.{Proof}
 use Rattle.cs_text.specs.Values.{◌>>=◌, only_field, digest_said}
 use Rattle.cs_text.specs.declared.cause.Cause.{Cause}
 use Rattle.cs_text.specs.declared.cause.Cause.TheVariants as cause
@@ -10,8 +10,8 @@ use Rattle.cs_verify.specs.declared.claim.Draft.TheVariants.{Nothing, Headed, Wh
 use Rattle.cs_verify.specs.Forms.{proof_in, datagram_in}
 
 -- the head that is trusted
-abbrev pub head_line : List (List ℕ) → Result Draft Cause
-head_line fields = do
+abbrev pub trusted_head_line : List (List ℕ) → Result Draft Cause
+trusted_head_line fields = do
   head ← digest_said fields
   Ok (Headed head)
 
@@ -32,10 +32,10 @@ datagram_line head fields = do
   with_proof head (datagram_in field)
 
 -- a line of this word and these fields, where it has this place
-abbrev pub line_at : Draft → List ℕ → List (List ℕ) → Result Draft Cause
-line_at Nothing word fields = if bytes_eq word (codes "head") then head_line fields else Err cause.Word
-line_at (Headed head) word fields =
+abbrev pub claim_line_at : Draft → List ℕ → List (List ℕ) → Result Draft Cause
+claim_line_at Nothing word fields = if bytes_eq word (codes "head") then trusted_head_line fields else Err cause.Word
+claim_line_at (Headed head) word fields =
     if bytes_eq word (codes "proof") then proof_line head fields
     else if bytes_eq word (codes "datagram") then datagram_line head fields
     else Err cause.Word
-line_at (Whole claim) word fields = Err cause.After
+claim_line_at (Whole claim) word fields = Err cause.After

@@ -2,7 +2,7 @@
 use Rattle.std.specs.Prelude.{ℕ, List, Option, Some, None, Result}
 use Rattle.cs_text.specs.Text.{TextForm, whole_of}
 use Rattle.cs_text.specs.declared.cause.Refusal.{Refusal}
-use Rattle.cs_verify.specs.Lines.{line_at}
+use Rattle.cs_verify.specs.Lines.{claim_line_at}
 use Rattle.cs_verify.specs.declared.claim.Claim.{Claim}
 use Rattle.cs_verify.specs.declared.claim.Draft.{Draft}
 use Rattle.cs_verify.specs.declared.claim.Draft.TheVariants.{Nothing, Headed, Whole}
@@ -17,7 +17,7 @@ claim_in (Whole claim) = Some claim
 abbrev pub claim_form : TextForm Draft Claim
 claim_form = record {
   start = Nothing;
-  step = λ number draft word fields. line_at draft word fields;
+  step = λ number draft word fields. claim_line_at draft word fields;
   finish = claim_in;
 }
 

@@ -3,27 +3,27 @@ use Rattle.std.specs.Prelude.{◌≡◌, ◌↔◌, ℕ, ◌+◌, ◌*◌, ◌==
 use Rattle.std.specs.Fmt.{decimal}
 use Rattle.cs_base.specs.Answers.{Answer}
 use Rattle.cs_base.specs.Codes.{bytes_text}
-use Rattle.cs_tx_form.specs.declared.limits.TheConstants.{COVERED}
-use Rattle.cs_tx_form.specs.declared.vote.Vote.TheVariants as vote
-use Rattle.cs_tx_form.specs.declared.entry.Entry.{Entry}
-use Rattle.cs_tx_form.specs.declared.entry.Entry.TheVariants.{Prepare, Decide}
-use Rattle.cs_tx_form.specs.declared.effect.Effect.{Effect}
-use Rattle.cs_tx_form.specs.declared.effect.Effect.TheVariants.{Voted, Accepted, Aborted, Skipped, Void}
-use Rattle.cs_tx_form.specs.declared.leaf.Leaf.{Leaf}
-use Rattle.cs_tx_form.specs.declared.checkpoint.Checkpoint.{Checkpoint}
-use Rattle.cs_tx_form.specs.declared.proof.Proof.{Proof}
-use Rattle.cs_tx_form.specs.Log.{leaf_encoding, LeafFits, ProofFits}
+use Rattle.cs_tx_types.specs.declared.limits.TheConstants.{COVERED}
+use Rattle.cs_tx_types.specs.declared.vote.Vote.TheVariants as vote
+use Rattle.cs_tx_types.specs.declared.entry.Entry.{Entry}
+use Rattle.cs_tx_types.specs.declared.entry.Entry.TheVariants.{Prepare, Decide}
+use Rattle.cs_tx_types.specs.declared.effect.Effect.{Effect}
+use Rattle.cs_tx_types.specs.declared.effect.Effect.TheVariants.{Voted, Accepted, Aborted, Skipped, Void}
+use Rattle.cs_tx_types.specs.declared.leaf.Leaf.{Leaf}
+use Rattle.cs_tx_types.specs.declared.checkpoint.Checkpoint.{Checkpoint}
+use Rattle.cs_tx_types.specs.declared.proof.Proof.{Proof}
+use Rattle.cs_tx_types.specs.Log.{leaf_encoding, LeafFits, ProofFits}
 use Rattle.cs_tx.specs.Digest.{digest_of_session}
-use Rattle.cs_checkpoint.specs.Chain.{head_of}
+use Rattle.cs_check_rules.specs.Chain.{head_of}
 use Rattle.cs_merkle.specs.Path.{path_length, root_by}
-use Rattle.cs_checkpoint.specs.Shown.{Shows, IsOver, NoProofCollision}
+use Rattle.cs_check_rules.specs.Shown.{Shows, IsOver, NoProofCollision}
 use Rattle.cs_text.specs.Refusals.{refusal_status, refusal_text}
 use Rattle.cs_text.specs.declared.cause.Refusal.{Refusal}
 use Rattle.cs_verify.specs.declared.claim.Claim.{Claim}
 use Rattle.cs_verify.specs.Text.{claim_of}
 use Rattle.cs_verify.specs.declared.judging.Verdict.{Verdict}
 use Rattle.cs_verify.specs.declared.judging.Verdict.TheVariants.{Shown, NotShown, Refused}
-use Rattle.cs_tx_form.specs.Session.{session_in}
+use Rattle.cs_tx_types.specs.Session.{session_in}
 
 -- the path leads from the leaf to the root over the checkpoint's 16
 abbrev pub leads : Proof → Bool
@@ -41,9 +41,9 @@ is_shown head p =
 abbrev pub verdict_on : Claim → Verdict
 verdict_on claim = if is_shown claim.head claim.proof then Shown claim.proof else NotShown
 
-abbrev pub verdict_of : Result Claim Refusal → Verdict
-verdict_of (Ok claim) = verdict_on claim
-verdict_of (Err refusal) = Refused refusal
+abbrev pub claim_verdict : Result Claim Refusal → Verdict
+claim_verdict (Ok claim) = verdict_on claim
+claim_verdict (Err refusal) = Refused refusal
 
 -- a proof that is shown is within all limits
 abbrev pub VerdictFits : Verdict → Type 0
@@ -60,13 +60,13 @@ pub record IsCovered (c : Checkpoint) (leaves : List Leaf) (p : Proof) : Type 0 
 
 -- So it is of each checkpoint that has the trusted head, whatever its shard, its number and its roots, where the strings
 -- hashed for it and for the proof don't collide.
-abbrev pub Tells : List ℕ → Verdict → Type 0
-Tells head (Shown p) =
+abbrev pub VerdictTells : List ℕ → Verdict → Type 0
+VerdictTells head (Shown p) =
     (c : Checkpoint) (leaves : List Leaf) → head_of c ≡ head →
     All LeafFits leaves → IsOver c (map leaf_encoding leaves) →
     NoProofCollision c (map leaf_encoding leaves) p → IsCovered c leaves p
-Tells head NotShown = Unit {0}
-Tells head (Refused refusal) = Unit {0}
+VerdictTells head NotShown = Unit {0}
+VerdictTells head (Refused refusal) = Unit {0}
 
 -- ---- what is printed
 
@@ -90,21 +90,21 @@ shown_line shard slot entry effect =
     ++ (codes " " ++ (bytes_text (digest_of_session (session_in entry))
     ++ (codes " " ++ (result_word effect ++ codes "\n")))))))))
 
-abbrev pub verdict_text : Verdict → List ℕ
-verdict_text (Shown p) = shown_line p.checkpoint.shard p.leaf.slot p.leaf.entry p.leaf.result
-verdict_text NotShown = codes "not shown\n"
-verdict_text (Refused refusal) = refusal_text refusal.line refusal.cause
+abbrev pub claim_text : Verdict → List ℕ
+claim_text (Shown p) = shown_line p.checkpoint.shard p.leaf.slot p.leaf.entry p.leaf.result
+claim_text NotShown = codes "not shown\n"
+claim_text (Refused refusal) = refusal_text refusal.line refusal.cause
 
-abbrev pub verdict_status : Verdict → ℕ
-verdict_status (Shown p) = 0
-verdict_status NotShown = 9
-verdict_status (Refused refusal) = refusal_status refusal.cause
+abbrev pub claim_status : Verdict → ℕ
+claim_status (Shown p) = 0
+claim_status NotShown = 9
+claim_status (Refused refusal) = refusal_status refusal.cause
 
 -- the answer to a text
 abbrev pub verify_answer : ℕ → List ℕ → Answer
 verify_answer limit text =
-    let verdict = verdict_of (claim_of limit text) in
-    record { status = verdict_status verdict; printed = verdict_text verdict }
+    let verdict = claim_verdict (claim_of limit text) in
+    record { status = claim_status verdict; printed = claim_text verdict }
 
 -- so it answers `shown` exactly where the proof shows its leaf
 abbrev pub ShowsExactly : Claim → Verdict → Type 0

@@ -2,13 +2,13 @@
 ghost use Rattle.std.specs.Prelude.{◌≡◌, Some, IfOk, string_bytes};
 ghost use Rattle.cs_base.specs.Codes.{bytes_text};
 ghost use Rattle.cs_tx.specs.Digest.{digest_of_session};
-ghost use Rattle.cs_tx_form.specs.Session.{EntryFits, session_in};
-ghost use Rattle.cs_tx_form.specs.Log.{ProofFits};
-ghost use Rattle.cs_verify.specs.Verdicts.{VerdictFits, entry_words, result_word, shown_line as line_of, verdict_text as text_of};
+ghost use Rattle.cs_tx_types.specs.Session.{EntryFits, session_in};
+ghost use Rattle.cs_tx_types.specs.Log.{ProofFits};
+ghost use Rattle.cs_verify.specs.Verdicts.{VerdictFits, entry_words, result_word, shown_line as line_of, claim_text as text_of};
 
 use crate::judging::Verdict;
 use cs_base::{Memory, print_bytes};
-use cs_checkpoint::Proof;
+use cs_check_rules::Proof;
 use cs_text::refusal_line;
 use cs_tx::{Effect, Entry, Vote, session_digest};
 use std::alloc::Global;

@@ -1,5 +1,5 @@
 //! What is handed in.
-use cs_checkpoint::{Digest, Proof};
+use cs_check_rules::{Digest, Proof};
 
 /// A proof that an entry stands in the log of a shard, and the head of a checkpoint which the
 /// reader trusts.

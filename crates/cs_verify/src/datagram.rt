@@ -2,7 +2,7 @@
 ghost use Rattle.std.specs.Prelude.{◌≡◌, ◌≤◌, length, option_copied};
 ghost use Rattle.cs_base.specs.declared.limits.TheConstants.{LEAST_DATAGRAM};
 ghost use Rattle.cs_wire.specs.Datagram.{is_sized as sized_so, body_in};
-ghost use Rattle.cs_verify.specs.Forms.{is_proof_front, size_in, is_formed as formed_so, proof_body as body_of_proof};
+ghost use Rattle.cs_verify.specs.Forms.{is_proof_front, body_size_in, is_formed as formed_so, proof_body as body_of_proof};
 
 use cs_base::{LEAST_DATAGRAM, MOST_DATAGRAM};
 use cs_wire::MAGIC;
@@ -31,7 +31,7 @@ fn is_proof_front(front: &[u8]) -> bool
 // The length of the body, as the head tells it.
 fn size_in(bytes: &[u8]) -> u32
     requires { LEAST_DATAGRAM ≤ length bytes.now }
-    ensures { result ≡ size_in bytes.now }
+    ensures { result ≡ body_size_in bytes.now }
 {
     let (_, named) = bytes.split_at(KINDED);
     let (_, sized) = named.split_at(NAMES);

@@ -1,15 +1,15 @@
 //! Whether the proof that is handed in shows its leaf.
 ghost use Rattle.std.specs.Prelude.{◌≡◌, Ok, IfOk};
 ghost use Rattle.cs_base.specs.declared.limits.TheConstants.{MOST_SCHEDULE};
-ghost use Rattle.cs_tx_form.specs.Log.{ProofFits};
+ghost use Rattle.cs_tx_types.specs.Log.{ProofFits};
 ghost use Rattle.cs_verify.specs.declared.claim.Claim.{Claim as AnyClaim};
 ghost use Rattle.cs_verify.specs.Text.{claim_of};
-ghost use Rattle.cs_verify.specs.Verdicts.{verdict_on, verdict_of, verdict_status, VerdictFits, ShowsExactly, Tells};
+ghost use Rattle.cs_verify.specs.Verdicts.{verdict_on, claim_verdict, claim_status, VerdictFits, ShowsExactly, VerdictTells};
 
 use crate::claim::Claim;
 use crate::reader::parse_claim;
 use cs_base::Memory;
-use cs_checkpoint::{Proof, shows};
+use cs_check_rules::{Proof, shows};
 use cs_text::{Refusal, TextError};
 use std::alloc::Global;
 
@@ -27,7 +27,7 @@ pub enum Verdict {
 impl Verdict {
     /// The status of a program that answers so.
     pub fn status(&self) -> u8
-        ensures { result ≡ verdict_status self.now }
+        ensures { result ≡ claim_status self.now }
     {
         match self {
             Verdict::Shown(_) => 0,
@@ -41,13 +41,13 @@ impl Verdict {
 /// nodes of the shard told it than lie, and a line `proof` or `datagram`.
 pub fn judge(alloc: Global, text: &[u8]) -> Result<Verdict, Memory>
     ensures verdict { IfOk result
-        (λ verdict. verdict ≡ verdict_of (claim_of MOST_SCHEDULE text.now)) }
+        (λ verdict. verdict ≡ claim_verdict (claim_of MOST_SCHEDULE text.now)) }
     ensures fits { IfOk result VerdictFits }
     ensures shown { (claim : AnyClaim) → claim_of MOST_SCHEDULE text.now ≡ Ok claim
         → IfOk result (ShowsExactly claim) }
     // Where no strings collide, what is shown is what the checkpoint with the trusted head covers.
     ensures tells { (claim : AnyClaim) → claim_of MOST_SCHEDULE text.now ≡ Ok claim
-        → IfOk result (Tells claim.head) }
+        → IfOk result (VerdictTells claim.head) }
 {
     match parse_claim(alloc, text) {
         Ok(claim) => judge_claim(alloc, claim),
@@ -60,7 +60,7 @@ fn judge_claim(alloc: Global, claim: Claim) -> Result<Verdict, Memory>
     requires { ProofFits claim.proof }
     ensures verdict { IfOk result (λ verdict. verdict ≡ verdict_on claim) }
     ensures fits { IfOk result VerdictFits }
-    ensures tells { IfOk result (Tells claim.head) }
+    ensures tells { IfOk result (VerdictTells claim.head) }
 {
     let Claim { head, proof } = claim;
     if shows(alloc, &head, &proof)? {

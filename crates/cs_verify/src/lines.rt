@@ -1,12 +1,12 @@
 //! What each line adds.
 ghost use Rattle.cs_base.specs.Lines.{views};
 ghost use Rattle.cs_text.specs.Reading.{GivesStep};
-ghost use Rattle.cs_verify.specs.Lines.{head_line, proof_line, datagram_line, line_at};
+ghost use Rattle.cs_verify.specs.Lines.{trusted_head_line, proof_line, datagram_line, claim_line_at};
 ghost use Rattle.cs_verify.specs.Text.{claim_form};
 
 use crate::claim::{Claim, Draft};
 use crate::values::{read_datagram, read_proof};
-use cs_checkpoint::Digest;
+use cs_check_rules::Digest;
 use cs_text::{Cause, LineError, LineReader, only_field, read_digest_line};
 use std::alloc::Global;
 
@@ -40,7 +40,7 @@ impl LineReader for Draft {
 
 impl Draft {
     fn after_line(&self, alloc: Global, word: &[u8], fields: &[&[u8]]) -> Result<Draft, LineError>
-        ensures { GivesStep result (line_at self.now word.now (views fields.now)) }
+        ensures { GivesStep result (claim_line_at self.now word.now (views fields.now)) }
     {
         match self {
             Draft::Nothing if word == b"head".as_slice() => read_head_line(alloc, fields),
@@ -57,7 +57,7 @@ impl Draft {
 }
 
 fn read_head_line(alloc: Global, fields: &[&[u8]]) -> Result<Draft, LineError>
-    ensures { GivesStep result (head_line (views fields.now)) }
+    ensures { GivesStep result (trusted_head_line (views fields.now)) }
 {
     let head = read_digest_line(alloc, fields)?;
     Ok(Draft::Headed(head))

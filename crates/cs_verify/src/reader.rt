@@ -1,7 +1,7 @@
 //! Claims, read of a text.
 ghost use Rattle.std.specs.Prelude.{IfOk};
 ghost use Rattle.cs_base.specs.declared.limits.TheConstants.{MOST_SCHEDULE};
-ghost use Rattle.cs_tx_form.specs.Log.{ProofFits};
+ghost use Rattle.cs_tx_types.specs.Log.{ProofFits};
 ghost use Rattle.cs_text.specs.Reading.{GivesText};
 ghost use Rattle.cs_verify.specs.Text.{claim_of};
 

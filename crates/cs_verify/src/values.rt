@@ -4,7 +4,7 @@ ghost use Rattle.cs_verify.specs.Forms.{encoded_proof, proof_in, datagram_in};
 
 use crate::datagram::proof_body;
 use cs_base::{MOST_BODY, MOST_DATAGRAM};
-use cs_checkpoint::Proof;
+use cs_check_rules::Proof;
 use cs_text::{Cause, LineError, read_bytes_within};
 use cs_tx::{Encoded, FormError};
 use std::alloc::Global;

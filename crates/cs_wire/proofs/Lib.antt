@@ -4,3 +4,4 @@ pub mod Rows
 pub mod Named
 pub mod Unsealed
 pub mod Masters
+pub mod OpenedAs

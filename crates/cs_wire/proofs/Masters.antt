@@ -18,8 +18,8 @@ use Rattle.cs_wire.specs.declared.opening.OpenError.TheVariants as errors
 use Rattle.cs_wire.specs.declared.view.MessageView.{MessageView}
 use Rattle.cs_wire.specs.Datagram.{sealed, body_in, datagram_with}
 use Rattle.cs_wire.specs.Heads.{head_seen}
-use Rattle.cs_wire.specs.Keys.{row_in, row_of, row_between, row_expected, IsOfMaster}
-use Rattle.cs_wire.specs.Opens.{ShowsMessage, fault_of, head_fault, keyed_fault, HasNoBody, Opens, unless}
+use Rattle.cs_wire.specs.Keys.{row_of_peer, row_of, row_between, row_expected, IsOfMaster}
+use Rattle.cs_wire.specs.Opens.{ShowsMessage, open_fault, head_fault, keyed_fault, HasNoBody, Opens, unless}
 use Rattle.cs_wire.specs.Opened.{opened, opened_body, said_by, unless_fault, rows_with, keys_of_master}
 use Rattle.cs_wire.specs.AllNames.{names_of, has_name}
 use Rattle.cs_wire.proofs.Parts.{are_same}
@@ -46,7 +46,7 @@ opened_ok keys bytes found m o shown =
     ∙ ap (said_by found.0) whole
     )
 
-fault_is : (keys : Keys) (bytes : List ℕ) (e : OpenError) → fault_of keys bytes ≡ Some e → Err e ≡ opened keys bytes
+fault_is : (keys : Keys) (bytes : List ℕ) (e : OpenError) → open_fault keys bytes ≡ Some e → Err e ≡ opened keys bytes
 fault_is keys bytes e is = sym (ap (λ (f : Option OpenError). unless_fault f (opened_body bytes (head_seen bytes))) is)
 
 -- what is long enough to have no fault has a head
@@ -58,7 +58,7 @@ no_message : (kind : ℕ) (body : List ℕ) (found : Option Message) → message
 no_message kind body None is byte none = refl
 no_message kind body (Some m) is byte none = absurd (none (m, whole_has kind body m byte is))
 
-bodiless : (keys : Keys) (bytes : List ℕ) (found : Option Head) → head_seen bytes ≡ found → fault_of keys bytes ≡ None → IsBytes (body_in bytes) → HasNoBody bytes found → Err errors.Body ≡ opened_body bytes found
+bodiless : (keys : Keys) (bytes : List ℕ) (found : Option Head) → head_seen bytes ≡ found → open_fault keys bytes ≡ None → IsBytes (body_in bytes) → HasNoBody bytes found → Err errors.Body ≡ opened_body bytes found
 bodiless keys bytes None is clear byte none =
     absurd (headless keys bytes (nat_lt (length bytes) 49) (sym (ap (λ (h : Option Head). cond (nat_lt (length bytes) 49) (Some errors.Short) (head_fault keys bytes h)) is) ∙ clear))
 bodiless keys bytes (Some head) is clear byte none =
@@ -85,21 +85,21 @@ or_comm true false = refl
 or_comm false true = refl
 or_comm false false = refl
 
-row_seen : (master : List ℕ) (me peer name : NodeId) (rows : List Row) (one : Bool) → same_name name me ≡ false → row_in peer rows ≡ row_expected master me one peer
-    → (same : Bool) → same_name name peer ≡ same → cond same (Some (row_between master me name)) (row_in peer rows) ≡ row_expected master me (same || one) peer
+row_seen : (master : List ℕ) (me peer name : NodeId) (rows : List Row) (one : Bool) → same_name name me ≡ false → row_of_peer peer rows ≡ row_expected master me one peer
+    → (same : Bool) → same_name name peer ≡ same → cond same (Some (row_between master me name)) (row_of_peer peer rows) ≡ row_expected master me (same || one) peer
 row_seen master me peer name rows one other later true same =
     let is : name ≡ peer = are_same name peer same in
     let apart : same_name peer me ≡ false = ap (λ (n : NodeId). same_name n me) (sym is) ∙ other in
     ap (λ (n : NodeId). Some (row_between master me n)) is ∙ sym (ap (λ b. cond (not b) (Some (row_between master me peer)) None) apart)
 row_seen master me peer name rows one other later false same = later
 
-row_by : (master : List ℕ) (me peer name : NodeId) (rows : List Row) (one : Bool) → row_in peer rows ≡ row_expected master me one peer → (mine : Bool) → same_name name me ≡ mine
-    → row_in peer (cond mine rows (row_between master me name ∷ rows)) ≡ row_expected master me (same_name name peer || one) peer
+row_by : (master : List ℕ) (me peer name : NodeId) (rows : List Row) (one : Bool) → row_of_peer peer rows ≡ row_expected master me one peer → (mine : Bool) → same_name name me ≡ mine
+    → row_of_peer peer (cond mine rows (row_between master me name ∷ rows)) ≡ row_expected master me (same_name name peer || one) peer
 row_by master me peer name rows one later true is =
     row_skipped master me peer name rows one is later ∙ ap (λ b. row_expected master me b peer) (or_comm one (same_name name peer))
 row_by master me peer name rows one later false is = row_seen master me peer name rows one is later (same_name name peer) refl
 
-row_within : (master : List ℕ) (me peer : NodeId) (names : List NodeId) → row_in peer (rows_with master me names) ≡ row_expected master me (has_name peer names) peer
+row_within : (master : List ℕ) (me peer : NodeId) (names : List NodeId) → row_of_peer peer (rows_with master me names) ≡ row_expected master me (has_name peer names) peer
 row_within master me peer [] = refl
 row_within master me peer (name ∷ names) = row_by master me peer name (rows_with master me names) (has_name peer names) (row_within master me peer names) (same_name name me) refl
 
@@ -121,7 +121,7 @@ module _ (keys keys2 : Keys) (mine : keys.me ≡ keys2.me) (rows : (peer : NodeI
 
   alike : opened keys bytes ≡ opened keys2 bytes
   alike =
-      let faults : fault_of keys bytes ≡ fault_of keys2 bytes = ap (cond (nat_lt (length bytes) 49) (Some errors.Short)) (head_alike (head_seen bytes)) in
+      let faults : open_fault keys bytes ≡ open_fault keys2 bytes = ap (cond (nat_lt (length bytes) 49) (Some errors.Short)) (head_alike (head_seen bytes)) in
       ap (λ (f : Option OpenError). unless_fault f (opened_body bytes (head_seen bytes))) faults
 
 pub opened_alike : (config : Config) (master : List ℕ) (me : NodeId) (keys : Keys) (bytes : List ℕ) → IsOfMaster config master me keys → opened keys bytes ≡ opened (keys_of_master config master me) bytes

@@ -11,19 +11,19 @@ use Rattle.cs_wire_message.specs.declared.message.Message.{Message}
 use Rattle.cs_wire_message.specs.Message.{kind_of, body_of}
 use Rattle.cs_wire.specs.declared.head.Head.{Head}
 use Rattle.cs_wire.specs.declared.head.TheConstants.{MAGIC}
-use Rattle.cs_wire.specs.Datagram.{name_encoding, text_with, text_of, text_in, tag_in, body_in}
-use Rattle.cs_wire.specs.Heads.{name_of, name_at, head_from, head_at, first, head_seen}
+use Rattle.cs_wire.specs.Datagram.{node_name_encoding, text_with, message_text, text_in, tag_in, body_in}
+use Rattle.cs_wire.specs.Heads.{name_of, node_name_at, head_from, head_at, first, head_seen}
 use Rattle.cs_base.specs.NodeId.{same_name}
 use Rattle.cs_wire.specs.Opens.{IsName}
 
 -- ---- heads
 
-name_form : IsForm name_encoding IsName name_at
-unfolding name_at
+name_form : IsForm node_name_encoding IsName node_name_at
+unfolding node_name_at
 name_form = mapped_of (pair_of (number_form w16 (2 ^ 16) wide16) (number_form w16 (2 ^ 16) wide16)) name_of (λ n. (n.shard, n.index)) IsName (λ p h. (refl, h)) (λ n h. (refl, h))
 
 abbrev pub head_encoding : Head → List ℕ
-head_encoding h = h.magic ++ ((h.kind ∷ []) ++ (name_encoding h.from ++ (name_encoding h.to ++ to_be_bytes w32 h.size)))
+head_encoding h = h.magic ++ ((h.kind ∷ []) ++ (node_name_encoding h.from ++ (node_name_encoding h.to ++ to_be_bytes w32 h.size)))
 
 abbrev pub HeadFits : Head → Type 0
 HeadFits h = ((length h.magic ≡ 4) × IsBytes h.magic) × ((h.kind < 256) × (IsName h.from × (IsName h.to × (h.size < 2 ^ 32))))
@@ -34,7 +34,7 @@ head_form = mapped_of (pair_of (bytes_form 4) (pair_of byte_form (pair_of name_f
     (λ p h. (refl, h)) (λ h f. (refl, f))
 
 pub head_length : (h : Head) → length h.magic ≡ 4 → length (head_encoding h) ≡ 17
-head_length h four = omega (arith, four, length-append h.magic ((h.kind ∷ []) ++ (name_encoding h.from ++ (name_encoding h.to ++ to_be_bytes w32 h.size))))
+head_length h four = omega (arith, four, length-append h.magic ((h.kind ∷ []) ++ (node_name_encoding h.from ++ (node_name_encoding h.to ++ to_be_bytes w32 h.size))))
 
 pub first_some : (found : Found Head) (h : Head) → first found ≡ Some h → (rest : List ℕ) × (found ≡ Some (h, rest))
 first_some (Some x) h e = (x.1, ap (λ (k : Head). Some (k, x.1)) (some_is x.0 h e))
@@ -51,7 +51,7 @@ magic_bytes (suc (suc (suc (suc i)))) = omega arith
 abbrev pub head_for : NodeId → NodeId → Message → Head
 head_for from to m = record { magic = MAGIC; kind = kind_of m; from = from; to = to; size = length (body_of m) }
 
-pub text_parts : (from to : NodeId) (m : Message) → text_of from to m ≡ head_encoding (head_for from to m) ++ body_of m
+pub text_parts : (from to : NodeId) (m : Message) → message_text from to m ≡ head_encoding (head_for from to m) ++ body_of m
 unfolding text_with
 text_parts from to m = refl
 

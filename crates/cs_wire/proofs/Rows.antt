@@ -7,7 +7,7 @@ use Rattle.std.proofs.lemmas.Bool.Decides.{eqb_tells}
 use Rattle.cs_base.specs.Options.{or_else}
 use Rattle.cs_base.specs.declared.node_id.NodeId.{NodeId}
 use Rattle.cs_wire.specs.declared.keys.Row.{Row}
-use Rattle.cs_wire.specs.Keys.{row_in, row_between, row_expected}
+use Rattle.cs_wire.specs.Keys.{row_of_peer, row_between, row_expected}
 use Rattle.cs_wire.specs.AllNames.{has_name}
 use Rattle.cs_base.specs.NodeId.{same_name}
 use Rattle.cs_wire.proofs.Parts.{are_same}
@@ -28,11 +28,11 @@ or_else_when : (test : Bool) (row : Row) (rest later : Option Row) → or_else (
 or_else_when true row rest later = refl
 or_else_when false row rest later = refl
 
-pub row_more : (peer : NodeId) (last : Row) (rows : List Row) → row_in peer (rows ++ last ∷ []) ≡ or_else (row_in peer rows) (cond (same_name last.peer peer) (Some last) None)
+pub row_more : (peer : NodeId) (last : Row) (rows : List Row) → row_of_peer peer (rows ++ last ∷ []) ≡ or_else (row_of_peer peer rows) (cond (same_name last.peer peer) (Some last) None)
 row_more peer last [] = refl
 row_more peer last (row ∷ rows) =
     ap (λ (r : Option Row). cond (same_name row.peer peer) (Some row) r) (row_more peer last rows)
-    ∙ sym (or_else_when (same_name row.peer peer) row (row_in peer rows) (cond (same_name last.peer peer) (Some last) None))
+    ∙ sym (or_else_when (same_name row.peer peer) row (row_of_peer peer rows) (cond (same_name last.peer peer) (Some last) None))
 
 -- ---- the names of members, one after the other
 
@@ -102,16 +102,16 @@ not_true : (b : Bool) → not b ≡ true → b ≡ false
 not_true true e = absurd cc
 not_true false e = refl
 
-pub row_added : (master : List ℕ) (me peer name : NodeId) (rows : List Row) (is_one : Bool) → same_name name me ≡ false → row_in peer rows ≡ row_expected master me is_one peer
-    → row_in peer (rows ++ row_between master me name ∷ []) ≡ row_expected master me (is_one || same_name name peer) peer
+pub row_added : (master : List ℕ) (me peer name : NodeId) (rows : List Row) (is_one : Bool) → same_name name me ≡ false → row_of_peer peer rows ≡ row_expected master me is_one peer
+    → row_of_peer peer (rows ++ row_between master me name ∷ []) ≡ row_expected master me (is_one || same_name name peer) peer
 row_added master me peer name rows is_one other so_far =
     row_more peer (row_between master me name) rows
     ∙ ap (λ (r : Option Row). or_else r (cond (same_name name peer) (Some (row_between master me name)) None)) so_far
     ∙ step is_one (same_name name peer) (same_name peer me) (row_between master me peer) (row_between master me name)
     (λ same. let is = are_same name peer same in (ap (row_between master me) is, ap (λ (n : NodeId). same_name n me) (sym is) ∙ other))
 
-pub row_skipped : (master : List ℕ) (me peer name : NodeId) (rows : List Row) (is_one : Bool) → same_name name me ≡ true → row_in peer rows ≡ row_expected master me is_one peer
-    → row_in peer rows ≡ row_expected master me (is_one || same_name name peer) peer
+pub row_skipped : (master : List ℕ) (me peer name : NodeId) (rows : List Row) (is_one : Bool) → same_name name me ≡ true → row_of_peer peer rows ≡ row_expected master me is_one peer
+    → row_of_peer peer rows ≡ row_expected master me (is_one || same_name name peer) peer
 row_skipped master me peer name rows is_one mine so_far =
     so_far
     ∙ skip is_one (same_name name peer) (same_name peer me) (row_between master me peer)

@@ -14,11 +14,11 @@ use Rattle.cs_wire.specs.declared.keys.Row.{Row}
 use Rattle.cs_wire.specs.declared.keys.Keys.{Keys}
 use Rattle.cs_wire.specs.declared.opening.OpenError.{OpenError}
 use Rattle.cs_wire.specs.declared.opening.OpenError.TheVariants as errors
-use Rattle.cs_wire.specs.Datagram.{text_of, is_sized, has_tag, text_in, tag_in, body_in}
+use Rattle.cs_wire.specs.Datagram.{message_text, is_sized, has_tag, text_in, tag_in, body_in}
 use Rattle.cs_wire.specs.Heads.{head_seen}
 use Rattle.cs_wire.specs.Keys.{row_of}
 use Rattle.cs_base.specs.NodeId.{same_name}
-use Rattle.cs_wire.specs.Opens.{IsName, IsSealed, unless, keyed_fault, head_fault, fault_of, HasNoBody, Opens}
+use Rattle.cs_wire.specs.Opens.{IsName, IsSealed, unless, keyed_fault, head_fault, open_fault, HasNoBody, Opens}
 use Rattle.cs_wire.proofs.Parts.{head_encoding, head_for, text_parts, same_head, cut, both_are, are_same}
 
 -- ---- what passes all tests
@@ -40,7 +40,7 @@ keyed head bytes (Some row) e =
     let b = passed (has_tag row.from bytes) errors.Tag None a.1 in
     record { row = row; held = refl; sized = a.0; tagged = b.0 }
 
-pub is_sealed : (keys : Keys) (bytes : List ℕ) (h : Head) (m : Message) → IsBytes bytes → 49 ≤ length bytes → head_seen bytes ≡ Some h → fault_of keys bytes ≡ None → Has h.kind (body_in bytes) m → IsSealed keys bytes h.from m
+pub is_sealed : (keys : Keys) (bytes : List ℕ) (h : Head) (m : Message) → IsBytes bytes → 49 ≤ length bytes → head_seen bytes ≡ Some h → open_fault keys bytes ≡ None → Has h.kind (body_in bytes) m → IsSealed keys bytes h.from m
 is_sealed keys bytes h m byte long seen none has =
     let c = cut h bytes byte long seen in
     let not_short : nat_lt (length bytes) 49 ≡ false = le-ltb _ _ long in
@@ -57,20 +57,20 @@ is_sealed keys bytes h m byte long seen none has =
     let body : c.body ≡ body_of m = sym c.parts.body ∙ sym has.body in
     let size : h.size ≡ length (body_of m) = omega (arith, total, c.parts.size) ∙ ap (λ (b : List ℕ). length b) body in
     let is_head : h ≡ head_for h.from keys.me m = same_head h h.from keys.me m ((bytes_eq-Decides h.magic MAGIC).0 magic.0) has.kind refl (are_same h.to keys.me mine.0) size in
-    let text : head_encoding h ++ c.body ≡ text_of h.from keys.me m = ap (λ (g : Head). head_encoding g ++ c.body) is_head ∙ ap (λ (b : List ℕ). head_encoding (head_for h.from keys.me m) ++ b) body ∙ sym (text_parts h.from keys.me m) in
-    let tag : c.tag ≡ hmac k.row.from (text_of h.from keys.me m) = sym c.parts.tag ∙ (bytes_eq-Decides (tag_in bytes) (hmac k.row.from (text_in bytes))).0 k.tagged ∙ ap (hmac k.row.from) (c.parts.text ∙ text) in
+    let text : head_encoding h ++ c.body ≡ message_text h.from keys.me m = ap (λ (g : Head). head_encoding g ++ c.body) is_head ∙ ap (λ (b : List ℕ). head_encoding (head_for h.from keys.me m) ++ b) body ∙ sym (text_parts h.from keys.me m) in
+    let tag : c.tag ≡ hmac k.row.from (message_text h.from keys.me m) = sym c.parts.tag ∙ (bytes_eq-Decides (tag_in bytes) (hmac k.row.from (text_in bytes))).0 k.tagged ∙ ap (hmac k.row.from) (c.parts.text ∙ text) in
     record {
       named = c.fits.1.1.0;
       mine = subst IsName (are_same h.to keys.me mine.0) c.fits.1.1.1.0;
       row = k.row;
       held = k.held;
       fits = has.fits;
-      is = c.is ∙ ap (λ (t : List ℕ). t ++ c.tag) text ∙ ap (λ (t : List ℕ). text_of h.from keys.me m ++ t) tag;
+      is = c.is ∙ ap (λ (t : List ℕ). t ++ c.tag) text ∙ ap (λ (t : List ℕ). message_text h.from keys.me m ++ t) tag;
     }
 
 -- ---- what a call answers
 
-pub opens_err : (keys : Keys) (bytes : List ℕ) (e : OpenError) → (fault_of keys bytes ≡ Some e) × (e ≡ errors.Body → ⊥) → Opens keys bytes (Err e)
+pub opens_err : (keys : Keys) (bytes : List ℕ) (e : OpenError) → (open_fault keys bytes ≡ Some e) × (e ≡ errors.Body → ⊥) → Opens keys bytes (Err e)
 opens_err keys bytes errors.Short h = h.0
 opens_err keys bytes errors.Magic h = h.0
 opens_err keys bytes errors.Kind h = h.0

@@ -16,19 +16,19 @@ use Rattle.cs_wire.specs.declared.keys.Row.{Row}
 use Rattle.cs_wire.specs.declared.keys.Keys.{Keys}
 use Rattle.cs_wire.specs.declared.opening.OpenError.{OpenError}
 use Rattle.cs_wire.specs.declared.opening.OpenError.TheVariants as errors
-use Rattle.cs_wire.specs.Datagram.{text_of, sealed, is_sized, has_tag, text_in, tag_in, body_in}
+use Rattle.cs_wire.specs.Datagram.{message_text, sealed, is_sized, has_tag, text_in, tag_in, body_in}
 use Rattle.cs_wire.specs.Heads.{head_at, first, head_seen}
 use Rattle.cs_wire.specs.Keys.{row_of, row_between, IsOfMaster}
 use Rattle.cs_base.specs.declared.config.Config.{Config}
 use Rattle.cs_base.specs.NodeId.{is_named, same_name}
 use Rattle.cs_base.proofs.Forms.{some_is, when_some}
 use Rattle.cs_wire.specs.declared.view.MessageView.{MessageView}
-use Rattle.cs_wire.specs.Opens.{IsName, Seals, IsSealed, keyed_fault, head_fault, fault_of, HasNoBody, Opens, OpensAs, ShowsMessage}
+use Rattle.cs_wire.specs.Opens.{IsName, Seals, IsSealed, keyed_fault, head_fault, open_fault, HasNoBody, Opens, OpensAs, ShowsMessage}
 use Rattle.cs_wire.proofs.Parts.{head_encoding, HeadFits, head_form, head_for, head_length, magic_bytes, text_parts, split, is_same}
 
 pub record IsClear (keys : Keys) (bytes : List ℕ) (sender : NodeId) (m : Message) : Type 0 where
   pub seen : head_seen bytes ≡ Some (head_for sender keys.me m)
-  pub none : fault_of keys bytes ≡ None
+  pub none : open_fault keys bytes ≡ None
   pub has : Has (kind_of m) (body_in bytes) m
 
 tag_length : (key text : List ℕ) → length (hmac key text) ≡ 32
@@ -39,7 +39,7 @@ is_clear keys bytes sender m s =
     let h = head_for sender keys.me m in
     let key = s.row.from in
     let body = body_of m in
-    let text = text_of sender keys.me m in
+    let text = message_text sender keys.me m in
     let tag = hmac key text in
     let thirty_two : length tag ≡ 32 = tag_length key text in
     let short = body_short m s.fits in

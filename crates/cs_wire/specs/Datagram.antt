@@ -9,21 +9,21 @@ use Rattle.cs_wire_message.specs.Message.{kind_of, body_of}
 use Rattle.cs_wire.specs.declared.head.TheConstants.{MAGIC}
 
 -- a name: shard and index
-abbrev pub name_encoding : NodeId → List ℕ
-name_encoding name = to_be_bytes w16 name.shard ++ to_be_bytes w16 name.index
+abbrev pub node_name_encoding : NodeId → List ℕ
+node_name_encoding name = to_be_bytes w16 name.shard ++ to_be_bytes w16 name.index
 
 -- what a tag is made of: the magic, the kind, the sender, the receiver, the length of the body, the body
 unfoldable pub text_with : NodeId → NodeId → ℕ → List ℕ → List ℕ
 text_with from to kind body =
-    MAGIC ++ (kind ∷ (name_encoding from ++ (name_encoding to ++ (to_be_bytes w32 (length body) ++ body))))
+    MAGIC ++ (kind ∷ (node_name_encoding from ++ (node_name_encoding to ++ (to_be_bytes w32 (length body) ++ body))))
 
 -- the text, and its tag under the key from the sender to the receiver
 abbrev pub datagram_with : List ℕ → NodeId → NodeId → ℕ → List ℕ → List ℕ
 datagram_with key from to kind body = text_with from to kind body ++ hmac key (text_with from to kind body)
 
 -- the text of a message is that of its kind and its body, and so is its datagram
-abbrev pub text_of : NodeId → NodeId → Message → List ℕ
-text_of from to m = text_with from to (kind_of m) (body_of m)
+abbrev pub message_text : NodeId → NodeId → Message → List ℕ
+message_text from to m = text_with from to (kind_of m) (body_of m)
 
 abbrev pub sealed : List ℕ → NodeId → NodeId → Message → List ℕ
 sealed key from to m = datagram_with key from to (kind_of m) (body_of m)

@@ -8,8 +8,8 @@ use Rattle.cs_wire.specs.declared.head.Head.{Head}
 abbrev pub name_of : ℕ × ℕ → NodeId
 name_of p = record { shard = p.0; index = p.1 }
 
-unfoldable pub name_at : List ℕ → Found NodeId
-name_at bytes = name_of <$> pair_at (number_at w16) (number_at w16) bytes
+unfoldable pub node_name_at : List ℕ → Found NodeId
+node_name_at bytes = name_of <$> pair_at (number_at w16) (number_at w16) bytes
 
 abbrev pub head_from : List ℕ × (ℕ × (NodeId × (NodeId × ℕ))) → Head
 head_from p = record { magic = p.0; kind = p.1.0; from = p.1.1.0; to = p.1.1.1.0; size = p.1.1.1.1 }
@@ -17,7 +17,7 @@ head_from p = record { magic = p.0; kind = p.1.0; from = p.1.1.0; to = p.1.1.1.0
 -- magic, kind, sender, receiver, length of the body
 unfoldable pub head_at : List ℕ → Found Head
 head_at bytes =
-    head_from <$> pair_at (bytes_at 4) (pair_at (number_at w8) (pair_at name_at (pair_at name_at (number_at w32))))
+    head_from <$> pair_at (bytes_at 4) (pair_at (number_at w8) (pair_at node_name_at (pair_at node_name_at (number_at w32))))
     bytes
 
 abbrev pub first : Found Head → Option Head

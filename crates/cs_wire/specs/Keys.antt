@@ -5,19 +5,19 @@ use Rattle.cs_base.specs.declared.config.Config.{Config}
 use Rattle.cs_base.specs.declared.node_id.NodeId.{NodeId}
 use Rattle.cs_base.specs.NodeId.{is_named, same_name}
 use Rattle.cs_hash.specs.Hash.{hmac}
-use Rattle.cs_wire.specs.Datagram.{name_encoding}
+use Rattle.cs_wire.specs.Datagram.{node_name_encoding}
 use Rattle.cs_wire.specs.declared.keys.Row.{Row}
 use Rattle.cs_wire.specs.declared.keys.Keys.{Keys}
 use Rattle.cs_wire.specs.declared.keys.KeysError.{KeysError}
 use Rattle.cs_wire.specs.declared.keys.KeysError.TheVariants as errors
 
 -- the first row of a peer
-abbrev pub row_in : NodeId → List Row → Option Row
-row_in peer [] = None
-row_in peer (row ∷ rows) = if same_name row.peer peer then Some row else row_in peer rows
+abbrev pub row_of_peer : NodeId → List Row → Option Row
+row_of_peer peer [] = None
+row_of_peer peer (row ∷ rows) = if same_name row.peer peer then Some row else row_of_peer peer rows
 
 abbrev pub row_of : NodeId → Keys → Option Row
-row_of peer keys = row_in peer keys.rows
+row_of peer keys = row_of_peer peer keys.rows
 
 -- ---- keys of a list
 
@@ -32,22 +32,22 @@ abbrev pub stands : NodeId → List Listed → Bool
 stands name list = list_any (λ x. same_name x.0 name) list
 
 -- the place of the first peer that is me, or stands earlier
-abbrev pub first_twice : NodeId → List Listed → ℕ → List Listed → Option ℕ
-first_twice me earlier place [] = None
-first_twice me earlier place (x ∷ later) =
-    if same_name x.0 me || stands x.0 earlier then Some place else first_twice me (earlier ++ x ∷ []) (place + 1) later
+abbrev pub peer_twice : NodeId → List Listed → ℕ → List Listed → Option ℕ
+peer_twice me earlier place [] = None
+peer_twice me earlier place (x ∷ later) =
+    if same_name x.0 me || stands x.0 earlier then Some place else peer_twice me (earlier ++ x ∷ []) (place + 1) later
 
 -- what comes of a list, unless memory ran out
 abbrev pub Lists : NodeId → List Listed → Result Keys KeysError → Type 0
-Lists me list (Ok keys) = (first_twice me [] 0 list ≡ None) × (keys ≡ record { me = me; rows = map row_listed list })
-Lists me list (Err (errors.Twice place)) = first_twice me [] 0 list ≡ Some place
+Lists me list (Ok keys) = (peer_twice me [] 0 list ≡ None) × (keys ≡ record { me = me; rows = map row_listed list })
+Lists me list (Err (errors.Twice place)) = peer_twice me [] 0 list ≡ Some place
 Lists me list (Err errors.Memory) = Unit {0}
 
 -- ---- keys of a master key
 
 -- `key` and two names
 unfoldable pub pair_text : NodeId → NodeId → List ℕ
-pair_text from to = codes "key" ++ (name_encoding from ++ name_encoding to)
+pair_text from to = codes "key" ++ (node_name_encoding from ++ node_name_encoding to)
 
 -- the key from one name to another
 abbrev pub key_between : List ℕ → NodeId → NodeId → List ℕ

@@ -13,7 +13,7 @@ use Rattle.cs_wire.specs.Datagram.{body_in}
 use Rattle.cs_wire.specs.Heads.{head_seen}
 use Rattle.cs_wire.specs.Keys.{row_between}
 use Rattle.cs_base.specs.NodeId.{same_name}
-use Rattle.cs_wire.specs.Opens.{fault_of}
+use Rattle.cs_wire.specs.Opens.{open_fault}
 use Rattle.cs_wire.specs.AllNames.{names_of}
 
 -- ---- opening
@@ -36,7 +36,7 @@ unless_fault (Some error) later = Err error
 unless_fault None later = later
 
 abbrev pub opened : Keys → List ℕ → Opened
-opened keys bytes = unless_fault (fault_of keys bytes) (opened_body bytes (head_seen bytes))
+opened keys bytes = unless_fault (open_fault keys bytes) (opened_body bytes (head_seen bytes))
 
 -- ---- the keys of a master key
 

@@ -59,8 +59,8 @@ head_fault keys bytes (Some head) =
     (keyed_fault head bytes (row_of head.from keys))))
 
 -- the first test before that of the body which fails
-abbrev pub fault_of : Keys → List ℕ → Option OpenError
-fault_of keys bytes =
+abbrev pub open_fault : Keys → List ℕ → Option OpenError
+open_fault keys bytes =
     if nat_lt (length bytes) LEAST_DATAGRAM then Some errors.Short else head_fault keys bytes (head_seen bytes)
 
 -- the body is none of its kind
@@ -75,14 +75,14 @@ ShowsMessage view m = Has view.kind view.body.now m
 -- what a call answers: a sender and its message where the bytes are that datagram, or else the first test that fails
 abbrev pub Opens : Keys → List ℕ → Result (NodeId × MessageView) OpenError → Type 0
 Opens keys bytes (Ok found) = (m : Message) × IsSealed keys bytes found.0 m × ShowsMessage found.1 m
-Opens keys bytes (Err errors.Body) = (fault_of keys bytes ≡ None) × HasNoBody bytes (head_seen bytes)
-Opens keys bytes (Err errors.Short) = fault_of keys bytes ≡ Some errors.Short
-Opens keys bytes (Err errors.Magic) = fault_of keys bytes ≡ Some errors.Magic
-Opens keys bytes (Err errors.Kind) = fault_of keys bytes ≡ Some errors.Kind
-Opens keys bytes (Err errors.NotMine) = fault_of keys bytes ≡ Some errors.NotMine
-Opens keys bytes (Err errors.Stranger) = fault_of keys bytes ≡ Some errors.Stranger
-Opens keys bytes (Err errors.Length) = fault_of keys bytes ≡ Some errors.Length
-Opens keys bytes (Err errors.Tag) = fault_of keys bytes ≡ Some errors.Tag
+Opens keys bytes (Err errors.Body) = (open_fault keys bytes ≡ None) × HasNoBody bytes (head_seen bytes)
+Opens keys bytes (Err errors.Short) = open_fault keys bytes ≡ Some errors.Short
+Opens keys bytes (Err errors.Magic) = open_fault keys bytes ≡ Some errors.Magic
+Opens keys bytes (Err errors.Kind) = open_fault keys bytes ≡ Some errors.Kind
+Opens keys bytes (Err errors.NotMine) = open_fault keys bytes ≡ Some errors.NotMine
+Opens keys bytes (Err errors.Stranger) = open_fault keys bytes ≡ Some errors.Stranger
+Opens keys bytes (Err errors.Length) = open_fault keys bytes ≡ Some errors.Length
+Opens keys bytes (Err errors.Tag) = open_fault keys bytes ≡ Some errors.Tag
 
 -- what the tests before that of the body say
 abbrev pub Checks : Result Head OpenError → Option OpenError → Option Head → Type 0

@@ -4,8 +4,8 @@ ghost use Rattle.std.specs.Int.{w32};
 ghost use Rattle.cs_base.specs.Fields.{bytes_at};
 ghost use Rattle.cs_tx_value.specs.Reading.{Begins};
 ghost use Rattle.cs_wire_message.specs.Reading.{Gets};
-ghost use Rattle.cs_wire.specs.Datagram.{name_encoding};
-ghost use Rattle.cs_wire.specs.Heads.{name_at, head_at, head_seen};
+ghost use Rattle.cs_wire.specs.Datagram.{node_name_encoding};
+ghost use Rattle.cs_wire.specs.Heads.{node_name_at, head_at, head_seen};
 
 use cs_base::{Cursor, Memory, NodeId, Writer};
 use cs_tx_value::FormError;
@@ -33,9 +33,9 @@ fn next_magic(cursor: &mut Cursor<'_>) -> Result<[u8; 4], FormError>
     Ok(magic)
 }
 
-#[tactic(auto, unfolding(crate::specs::Heads::name_at, cs_base::specs::Fields::pair_at))]
+#[tactic(auto, unfolding(crate::specs::Heads::node_name_at, cs_base::specs::Fields::pair_at))]
 fn next_name(cursor: &mut Cursor<'_>) -> Result<NodeId, FormError>
-    ensures { Gets result cursor.new (name_at cursor.old) }
+    ensures { Gets result cursor.new (node_name_at cursor.old) }
 {
     let shard = cursor.u16()?;
     let index = cursor.u16()?;
@@ -73,7 +73,7 @@ pub fn head_of(bytes: &[u8]) -> Option<Head>
 
 /// Appends a name.
 pub fn write_name(name: NodeId, out: &mut Writer) -> Result<(), Memory>
-    ensures ok { OnOk result (out.new ≡ out.old ++ name_encoding name) }
+    ensures ok { OnOk result (out.new ≡ out.old ++ node_name_encoding name) }
     ensures err { OnErr result (Begins out.new out.old) }
 {
     out.u16(name.shard)?;

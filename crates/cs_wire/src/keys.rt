@@ -1,6 +1,6 @@
 //! The keys of a node or a client: one to each peer, and one from each.
 ghost use Rattle.std.specs.Prelude.{◌≡◌, IfOk, option_copied};
-ghost use Rattle.cs_wire.specs.Keys.{row_of, row_in, row_listed, stands, Lists, IsOfMaster};
+ghost use Rattle.cs_wire.specs.Keys.{row_of, row_of_peer, row_listed, stands, Lists, IsOfMaster};
 ghost use Rattle.cs_base.specs.NodeId.{same_name as alike};
 
 use crate::names::rows_of_master;
@@ -66,7 +66,7 @@ impl Row {
 }
 
 fn row_among(rows: &[Row], peer: NodeId) -> Option<&Row>
-    ensures { option_copied result ≡ row_in peer rows.now }
+    ensures { option_copied result ≡ row_of_peer peer rows.now }
 {
     for row in rows {
         if same_name(row.peer, peer) {

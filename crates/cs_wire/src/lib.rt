@@ -16,7 +16,10 @@ pub use cs_wire_message::Message;
 pub use head::MAGIC;
 pub use input::{Input, Out};
 pub use keys::{Keys, KeysError};
-pub use laws::{names_of_one_master_understand_each_other, sealed_datagrams_are_opened};
+pub use laws::{
+    datagrams_open_as_they_are_sealed, names_of_one_master_understand_each_other,
+    sealed_datagrams_are_opened,
+};
 pub use names::{all_names, all_nodes, key_between};
 pub use opening::{OpenError, open};
 pub use raw::{a_message_is_sealed_by_kind_and_body, seal_with};

@@ -3,7 +3,7 @@ ghost use Rattle.std.specs.Prelude.{◌≡◌, ◌++◌, ◌||◌, Bool, IfOk, O
 ghost use Rattle.cs_base.specs.declared.node_id.NodeId.{NodeId};
 ghost use Rattle.cs_base.specs.NodeId.{is_named, members_below, same_name as same_as};
 ghost use Rattle.cs_wire.specs.AllNames.{nodes_of, names_of, has_name};
-ghost use Rattle.cs_wire.specs.Keys.{pair_text, key_between, row_between, row_in, row_expected};
+ghost use Rattle.cs_wire.specs.Keys.{pair_text, key_between, row_between, row_of_peer, row_expected};
 
 use crate::head::write_name;
 use crate::keys::{Row, same_name};
@@ -88,8 +88,8 @@ fn add_row(
     rows: &mut Sequence<Row>,
 ) -> Result<(), Memory>
     ensures { OnOk result ((peer : NodeId) (is_one : Bool)
-        → row_in peer rows.old ≡ row_expected master.now me is_one peer
-        → row_in peer rows.new
+        → row_of_peer peer rows.old ≡ row_expected master.now me is_one peer
+        → row_of_peer peer rows.new
         ≡ row_expected master.now me (is_one || same_as name peer) peer) }
 {
     if same_name(name, me) {
@@ -107,7 +107,7 @@ fn rows_for(
     names: &[NodeId],
 ) -> Result<Sequence<Row>, Memory>
     ensures { IfOk result (λ rows. (peer : NodeId)
-        → row_in peer rows ≡ row_expected master.now me (has_name peer names.now) peer) }
+        → row_of_peer peer rows ≡ row_expected master.now me (has_name peer names.now) peer) }
 {
     let mut rows = Sequence::new(alloc);
     for i in 0..names.len() {
@@ -124,7 +124,7 @@ pub fn rows_of_master(
     me: NodeId,
 ) -> Result<Sequence<Row>, Memory>
     ensures { IfOk result (λ rows. (peer : NodeId)
-        → row_in peer rows ≡ row_expected master.now me (is_named config.now peer) peer) }
+        → row_of_peer peer rows ≡ row_expected master.now me (is_named config.now peer) peer) }
 {
     let names = all_names(alloc, config)?;
     rows_for(alloc, master, me, names.as_slice())

@@ -2,7 +2,7 @@
 ghost use Rattle.std.specs.Prelude.{◌≡◌, ◌≤◌, length, IfOk};
 ghost use Rattle.cs_base.specs.declared.limits.TheConstants.{LEAST_DATAGRAM};
 ghost use Rattle.cs_wire.specs.Datagram.{has_tag as tagged_so, is_sized as sized_so, body_in};
-ghost use Rattle.cs_wire.specs.Opens.{fault_of, head_fault, Checks, Opens};
+ghost use Rattle.cs_wire.specs.Opens.{open_fault, head_fault, Checks, Opens};
 ghost use Rattle.cs_wire.specs.Heads.{head_seen};
 
 use crate::head::{Head, MAGIC, head_of};
@@ -60,7 +60,7 @@ fn has_tag(key: &TagKey, bytes: &[u8]) -> bool
 // The head of a datagram that passes the tests before that of the body.
 fn tested_head(keys: &Keys, bytes: &[u8]) -> Result<Head, OpenError>
     ensures long { IfOk result (λ head. LEAST_DATAGRAM ≤ length bytes.now) }
-    ensures checks { Checks result (fault_of keys.now bytes.now) (head_seen bytes.now) }
+    ensures checks { Checks result (open_fault keys.now bytes.now) (head_seen bytes.now) }
 {
     if bytes.len() < LEAST_DATAGRAM {
         return Err(OpenError::Short);

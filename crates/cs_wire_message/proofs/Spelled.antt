@@ -14,29 +14,29 @@ use Rattle.cs_tx_value.specs.laws.Layers.{roll-out, encoding_int, encoding_bool,
 use Rattle.cs_tx_value.specs.Name.{name_encoding, NameFits}
 use Rattle.cs_tx_value.specs.Key.{key_encoding, KeyFits}
 use Rattle.cs_tx_value.specs.Object.{object_encoding, DigestFits, ObjectFits}
-use Rattle.cs_tx_form.specs.declared.trace.Trace.{Trace}
-use Rattle.cs_tx_form.specs.declared.transaction.Tx.{Tx}
-use Rattle.cs_tx_form.specs.declared.session.Session.{Session}
-use Rattle.cs_tx_form.specs.declared.vote.Vote.{Vote}
-use Rattle.cs_tx_form.specs.declared.vote.Vote.TheVariants as vote
-use Rattle.cs_tx_form.specs.declared.entry.Entry.{Entry}
-use Rattle.cs_tx_form.specs.declared.entry.Entry.TheVariants.{Prepare, Decide}
-use Rattle.cs_tx_form.specs.declared.effect.Effect.{Effect}
-use Rattle.cs_tx_form.specs.declared.effect.Effect.TheVariants as effect
-use Rattle.cs_tx_form.specs.declared.leaf.Leaf.{Leaf}
-use Rattle.cs_tx_form.specs.declared.checkpoint.Checkpoint.{Checkpoint}
-use Rattle.cs_tx_form.specs.declared.proof.Proof.{Proof}
-use Rattle.cs_tx_form.specs.declared.state.State.{State}
-use Rattle.cs_tx_form.specs.declared.state.State.TheVariants as state
-use Rattle.cs_tx_form.specs.Transaction.{Keyed, keyed_encoding, KeyedFits, trace_front, trace_back, trace_encoding, TraceFits, tx_encoding, TxFits}
-use Rattle.cs_tx_form.specs.Session.{dummy_encoding, session_encoding, SessionFits, vote_encoding, entry_encoding, EntryFits}
-use Rattle.cs_tx_form.specs.State.{state_encoding, StateFits}
-use Rattle.cs_tx_form.specs.Sized.{sized}
-use Rattle.cs_tx_form.specs.Log.{effect_encoding, leaf_encoding, LeafFits, checkpoint_encoding, CheckpointFits, proof_encoding, ProofFits}
+use Rattle.cs_tx_types.specs.declared.trace.Trace.{Trace}
+use Rattle.cs_tx_types.specs.declared.transaction.Tx.{Tx}
+use Rattle.cs_tx_types.specs.declared.session.Session.{Session}
+use Rattle.cs_tx_types.specs.declared.vote.Vote.{Vote}
+use Rattle.cs_tx_types.specs.declared.vote.Vote.TheVariants as vote
+use Rattle.cs_tx_types.specs.declared.entry.Entry.{Entry}
+use Rattle.cs_tx_types.specs.declared.entry.Entry.TheVariants.{Prepare, Decide}
+use Rattle.cs_tx_types.specs.declared.effect.Effect.{Effect}
+use Rattle.cs_tx_types.specs.declared.effect.Effect.TheVariants as effect
+use Rattle.cs_tx_types.specs.declared.leaf.Leaf.{Leaf}
+use Rattle.cs_tx_types.specs.declared.checkpoint.Checkpoint.{Checkpoint}
+use Rattle.cs_tx_types.specs.declared.proof.Proof.{Proof}
+use Rattle.cs_tx_types.specs.declared.state.State.{State}
+use Rattle.cs_tx_types.specs.declared.state.State.TheVariants as state
+use Rattle.cs_tx_types.specs.Transaction.{Keyed, keyed_encoding, KeyedFits, trace_front, trace_back, trace_encoding, TraceFits, tx_encoding, TxFits}
+use Rattle.cs_tx_types.specs.Session.{dummy_encoding, session_encoding, SessionFits, vote_encoding, entry_encoding, EntryFits}
+use Rattle.cs_tx_types.specs.State.{state_encoding, StateFits}
+use Rattle.cs_tx_types.specs.Sized.{sized}
+use Rattle.cs_tx_types.specs.Log.{effect_encoding, leaf_encoding, LeafFits, checkpoint_encoding, CheckpointFits, proof_encoding, ProofFits}
 use Rattle.cs_wire_message.specs.declared.change.Change.{Change}
 use Rattle.cs_wire_message.specs.declared.message.Message.{Message}
 use Rattle.cs_wire_message.specs.declared.message.Message.TheVariants as message
-use Rattle.cs_wire_message.specs.Message.{prepared_encoding, PreparedFits, echo_encoding, Rise, change_encoding, ChangeFits, flag_encoding, step_encoding, asked_encoding, AskedFits, body_of, MessageFits}
+use Rattle.cs_wire_message.specs.Message.{prepared_encoding, PreparedFits, echo_encoding, Rise, change_encoding, ChangeFits, flag_encoding, step_encoding, asked_encoding, AskedKeyFits, body_of, MessageFits}
 use Rattle.cs_wire_message.proofs.Bytes as plain
 
 -- ---- numbers and lists
@@ -236,7 +236,7 @@ bytes-step : (slot view : ℕ) (digest : List ℕ) → AreSmall digest → AreSm
 bytes-step slot view digest fits =
     join (to_be_bytes w64 slot) (to_be_bytes w16 view ++ digest) (bytes-64 slot) (join (to_be_bytes w16 view) digest (bytes-16 view) fits)
 
-bytes-asked : (o : Option Key) → AskedFits o → AreSmall (asked_encoding o)
+bytes-asked : (o : Option Key) → AskedKeyFits o → AreSmall (asked_encoding o)
 bytes-asked None fits = none
 bytes-asked (Some k) fits = bytes-key k fits
 

@@ -16,7 +16,7 @@ use Rattle.cs_wire_message.specs.declared.message.Message.TheVariants as message
 use Rattle.cs_wire_message.specs.Message.{kind_of, body_of, MessageFits}
 use Rattle.cs_wire_message.specs.Reading.{message_at}
 use Rattle.cs_wire_message.specs.laws.Message.{spelled, IsLong, message_takes, message_again}
-use Rattle.cs_wire_message.specs.Body.{Has, IsBody, is_bare, message_whole}
+use Rattle.cs_wire_message.specs.Body.{Has, IsBody, is_dummy_question, message_whole}
 
 heads : (x y : ℕ) (xs ys : List ℕ) → x ∷ xs ≡ y ∷ ys → x ≡ y
 heads x y xs ys e = cc
@@ -32,10 +32,10 @@ found_in m long =
     let text : body_of m ≡ k.text = tails (kind_of m) k.kind (body_of m) k.text k.spelled in
     rw (kind, text) (subst (λ (t : List ℕ). message_at k.kind t ≡ Some (m, [])) (append-nil k.text) k.found)
 
-from_long : (m : Message) → IsLong m → is_bare (kind_of m) (body_of m) ≡ false → message_whole (kind_of m) (body_of m) ≡ Some m
+from_long : (m : Message) → IsLong m → is_dummy_question (kind_of m) (body_of m) ≡ false → message_whole (kind_of m) (body_of m) ≡ Some m
 from_long m long bare = rw (bare, found_in m long) refl
 
-key_bare : (k : Key) → is_bare 10 (body_of (message.Ask (Some k))) ≡ false
+key_bare : (k : Key) → is_dummy_question 10 (body_of (message.Ask (Some k))) ≡ false
 key_bare (key.Object digest) = eqb-suc-zero (length digest)
 key_bare (key.Dummy shard serial) = refl
 
@@ -55,7 +55,7 @@ both_true false b e = absurd cc
 abbrev read_or_bare : Bool → ℕ → List ℕ → Option Message
 read_or_bare bare kind body = cond bare (Some (message.Ask None)) (whole_at (message_at kind) body)
 
-in_either : (bare : Bool) (kind : ℕ) (body : List ℕ) (m : Message) → is_bare kind body ≡ bare → IsBytes body → read_or_bare bare kind body ≡ Some m → Has kind body m
+in_either : (bare : Bool) (kind : ℕ) (body : List ℕ) (m : Message) → is_dummy_question kind body ≡ bare → IsBytes body → read_or_bare bare kind body ≡ Some m → Has kind body m
 in_either true kind body m is fits e =
     let b = both_true (kind == 10) (length body == 0) is in
     let ten : kind ≡ 10 = eqb-true _ _ b.0 in
@@ -73,7 +73,7 @@ in_either false kind body m is fits e =
     subst (λ (n : Message). Has kind body n) (some_is a.0.0 m g.1) (record { kind = kind_is; body = body_is; fits = long_fits a.0.0 t.1 })
 
 pub whole_has : (kind : ℕ) (body : List ℕ) (m : Message) → IsBytes body → message_whole kind body ≡ Some m → Has kind body m
-whole_has kind body m fits e = in_either (is_bare kind body) kind body m refl fits e
+whole_has kind body m fits e = in_either (is_dummy_question kind body) kind body m refl fits e
 
 pub has_whole : (kind : ℕ) (body : List ℕ) (m : Message) → Has kind body m → message_whole kind body ≡ Some m
 has_whole kind body m h = rw (sym h.kind, sym h.body) (whole_fits m h.fits)

@@ -17,9 +17,9 @@ abbrev pub IsBody : ℕ → List ℕ → Type 0
 IsBody kind body = (m : Message) × Has kind body m
 
 -- the body of no byte is that of asking for a dummy
-abbrev pub is_bare : ℕ → List ℕ → Bool
-is_bare kind body = kind == ASK && length body == 0
+abbrev pub is_dummy_question : ℕ → List ℕ → Bool
+is_dummy_question kind body = kind == ASK && length body == 0
 
 -- the message of this kind with this body
 abbrev pub message_whole : ℕ → List ℕ → Option Message
-message_whole kind body = if is_bare kind body then Some (message.Ask None) else whole_at (message_at kind) body
+message_whole kind body = if is_dummy_question kind body then Some (message.Ask None) else whole_at (message_at kind) body

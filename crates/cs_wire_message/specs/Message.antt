@@ -8,9 +8,9 @@ use Rattle.cs_base.specs.declared.limits.TheConstants.{LAST_VIEW, MOST_ECHOED}
 use Rattle.cs_base.specs.Fields.{counted}
 use Rattle.cs_tx_value.specs.Object.{DigestFits}
 use Rattle.cs_tx_value.specs.Key.{key_encoding, KeyFits}
-use Rattle.cs_tx_form.specs.Session.{session_encoding, SessionFits, vote_encoding, entry_encoding, EntryFits}
-use Rattle.cs_tx_form.specs.State.{state_encoding, StateFits}
-use Rattle.cs_tx_form.specs.Log.{checkpoint_encoding, CheckpointFits, proof_encoding, ProofFits}
+use Rattle.cs_tx_types.specs.Session.{session_encoding, SessionFits, vote_encoding, entry_encoding, EntryFits}
+use Rattle.cs_tx_types.specs.State.{state_encoding, StateFits}
+use Rattle.cs_tx_types.specs.Log.{checkpoint_encoding, CheckpointFits, proof_encoding, ProofFits}
 use Rattle.cs_wire_message.specs.declared.change.Change.{Change}
 use Rattle.cs_wire_message.specs.declared.kinds.TheConstants.{SUBMIT, PROPOSE, ECHO, CONFIRM, CHANGE, VOTED, DECIDED, WANT, DONE, ASK, TOLD, HEAD, ASK_PROOF, PROOF}
 use Rattle.cs_wire_message.specs.declared.message.Message.{Message}
@@ -60,15 +60,15 @@ PairFits None = Unit {0}
 PairFits (Some pair) = (pair.0 < 2 ^ 16) × DigestFits pair.1
 
 -- the digest comes after the last one, as bytes are ordered
-abbrev pub is_above : Option (List ℕ) → List ℕ → Bool
-is_above None digest = true
-is_above (Some last) digest = is_lt (slice_cmp nat_cmp last digest)
+abbrev pub is_after_last : Option (List ℕ) → List ℕ → Bool
+is_after_last None digest = true
+is_after_last (Some last) digest = is_lt (slice_cmp nat_cmp last digest)
 
 -- digests that rise from the last one, with views below the one given
 abbrev pub Rise : ℕ → Option (List ℕ) → List (List ℕ × ℕ) → Type 0
 Rise view last [] = Unit {0}
 Rise view last (echo ∷ echoed) =
-    ((DigestFits echo.0 × (is_above last echo.0 ≡ true)) × (echo.1 < view)) × Rise view (Some echo.0) echoed
+    ((DigestFits echo.0 × (is_after_last last echo.0 ≡ true)) × (echo.1 < view)) × Rise view (Some echo.0) echoed
 
 pub record ChangeFits (view : ℕ) (c : Change) : Type 0 where
   pub prepared : PreparedFits view c.prepared
@@ -116,9 +116,9 @@ IsView view = view ≤ LAST_VIEW
 abbrev pub StepFits : ℕ → ℕ → List ℕ → Type 0
 StepFits slot view digest = IsSlot slot × (IsView view × DigestFits digest)
 
-abbrev pub AskedFits : Option Key → Type 0
-AskedFits None = Unit {0}
-AskedFits (Some key) = KeyFits key
+abbrev pub AskedKeyFits : Option Key → Type 0
+AskedKeyFits None = Unit {0}
+AskedKeyFits (Some key) = KeyFits key
 
 abbrev pub MessageFits : Message → Type 0
 MessageFits (message.Submit x) = SessionFits x
@@ -130,7 +130,7 @@ MessageFits (message.Voted vote asks x) = SessionFits x
 MessageFits (message.Decided digest accepted) = DigestFits digest
 MessageFits (message.Want slot) = IsSlot slot
 MessageFits (message.Done slot entry) = IsSlot slot × EntryFits entry
-MessageFits (message.Ask key) = AskedFits key
+MessageFits (message.Ask key) = AskedKeyFits key
 MessageFits (message.Told key state) = KeyFits key × StateFits state
 MessageFits (message.Head checkpoint) = CheckpointFits checkpoint
 MessageFits (message.AskProof slot) = IsSlot slot

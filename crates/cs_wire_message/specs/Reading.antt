@@ -8,24 +8,24 @@ use Rattle.cs_tx_value.specs.Kinds.{kinds_at}
 use Rattle.cs_tx_value.specs.Key.{key_at}
 use Rattle.cs_tx_value.specs.declared.form.FormError.{FormError}
 use Rattle.cs_tx_value.specs.declared.form.FormError.TheVariants as errors
-use Rattle.cs_tx_form.specs.declared.session.Session.{Session}
-use Rattle.cs_tx_form.specs.declared.vote.Vote.{Vote}
-use Rattle.cs_tx_form.specs.declared.entry.Entry.{Entry}
-use Rattle.cs_tx_form.specs.declared.state.State.{State}
-use Rattle.cs_tx_form.specs.Reading.{session_at, vote_at, entry_at, state_at}
-use Rattle.cs_tx_form.specs.Log.{slot_at, checkpoint_at, proof_at}
+use Rattle.cs_tx_types.specs.declared.session.Session.{Session}
+use Rattle.cs_tx_types.specs.declared.vote.Vote.{Vote}
+use Rattle.cs_tx_types.specs.declared.entry.Entry.{Entry}
+use Rattle.cs_tx_types.specs.declared.state.State.{State}
+use Rattle.cs_tx_types.specs.Reading.{session_at, vote_at, entry_at, state_at}
+use Rattle.cs_tx_types.specs.Log.{slot_at, checkpoint_at, proof_at}
 use Rattle.cs_wire_message.specs.declared.change.Change.{Change}
 use Rattle.cs_wire_message.specs.declared.message.Message.{Message}
 use Rattle.cs_wire_message.specs.declared.message.Message.TheVariants as message
-use Rattle.cs_wire_message.specs.Message.{is_above}
+use Rattle.cs_wire_message.specs.Message.{is_after_last}
 
 -- What a call answered that takes no memory.
 abbrev pub Gets : {X : Type 0} → Result X FormError → List ℕ → Found X → Type 0
 Gets (Ok x) rest found = found ≡ Some (x, rest)
 Gets (Err e) rest found = (e ≡ errors.BadForm) × (found ≡ None)
 
-abbrev pub view_at : List ℕ → Found ℕ
-view_at = tested_at (λ n. nat_le n LAST_VIEW) (number_at w16)
+abbrev pub view_number_at : List ℕ → Found ℕ
+view_number_at = tested_at (λ n. nat_le n LAST_VIEW) (number_at w16)
 
 abbrev pub below_at : ℕ → List ℕ → Found ℕ
 below_at view = tested_at (λ n. nat_lt n view) (number_at w16)
@@ -36,7 +36,7 @@ flag_at bytes = nat_le 1 <$> tested_at (λ n. nat_le n 1) (number_at w8) bytes
 -- ---- what a member claims as it enters a view
 
 abbrev pub above_at : Option (List ℕ) → List ℕ → Found (List ℕ)
-above_at last = tested_at (is_above last) (bytes_at 32)
+above_at last = tested_at (is_after_last last) (bytes_at 32)
 
 abbrev pub echo_at : ℕ → Option (List ℕ) → List ℕ → Found (List ℕ × ℕ)
 echo_at view last = pair_at (above_at last) (below_at view)
@@ -67,14 +67,14 @@ prepared_at view = kinds_at (prepared_kind_at view)
 abbrev pub Claim : Type 0
 Claim = ℕ × Change
 
-abbrev pub claim_of : ℕ → Option (ℕ × List ℕ) × List (List ℕ × ℕ) → Claim
-claim_of view p = (view, record { prepared = p.0; echoed = p.1 })
+abbrev pub claim_of_parts : ℕ → Option (ℕ × List ℕ) × List (List ℕ × ℕ) → Claim
+claim_of_parts view p = (view, record { prepared = p.0; echoed = p.1 })
 
 -- what is claimed at a view: from 1 to the last one
 unfoldable pub claimed_at : ℕ → List ℕ → Found Claim
 claimed_at view bytes =
     if nat_le 1 view
-    then (if nat_le view LAST_VIEW then claim_of view <$> pair_at (prepared_at view) (echoed_at view) bytes else None)
+    then (if nat_le view LAST_VIEW then claim_of_parts view <$> pair_at (prepared_at view) (echoed_at view) bytes else None)
     else None
 
 unfoldable pub claim_at : List ℕ → Found (ℕ × Claim)
@@ -83,22 +83,22 @@ claim_at = pair_at slot_at (upto_at w16 LAST_VIEW claimed_at)
 -- ---- bodies
 
 unfoldable pub propose_at : List ℕ → Found (ℕ × (ℕ × Entry))
-propose_at = pair_at slot_at (pair_at view_at entry_at)
+propose_at = pair_at slot_at (pair_at view_number_at entry_at)
 
 unfoldable pub step_at : List ℕ → Found (ℕ × (ℕ × List ℕ))
-step_at = pair_at slot_at (pair_at view_at (bytes_at 32))
+step_at = pair_at slot_at (pair_at view_number_at (bytes_at 32))
 
 unfoldable pub voted_at : List ℕ → Found (Vote × (Bool × Session))
 voted_at = pair_at vote_at (pair_at flag_at session_at)
 
-unfoldable pub decided_at : List ℕ → Found (List ℕ × Bool)
-decided_at = pair_at (bytes_at 32) flag_at
+unfoldable pub decided_message_at : List ℕ → Found (List ℕ × Bool)
+decided_message_at = pair_at (bytes_at 32) flag_at
 
 unfoldable pub done_at : List ℕ → Found (ℕ × Entry)
 done_at = pair_at slot_at entry_at
 
-unfoldable pub told_at : List ℕ → Found (Key × State)
-told_at = pair_at key_at state_at
+unfoldable pub told_message_at : List ℕ → Found (Key × State)
+told_message_at = pair_at key_at state_at
 
 abbrev pub propose_of : ℕ × (ℕ × Entry) → Message
 propose_of p = message.Propose p.0 p.1.0 p.1.1
@@ -124,8 +124,8 @@ done_of p = message.Done p.0 p.1
 abbrev pub asked_of : Key → Message
 asked_of key = message.Ask (Some key)
 
-abbrev pub told_of : Key × State → Message
-told_of p = message.Told p.0 p.1
+abbrev pub told_message : Key × State → Message
+told_message p = message.Told p.0 p.1
 
 -- the body of a message of this kind, but for one of no byte
 abbrev pub message_at : ℕ → List ℕ → Found Message
@@ -136,11 +136,11 @@ message_at (suc (suc (suc zero))) bytes = echo_of <$> step_at bytes
 message_at (suc (suc (suc (suc zero)))) bytes = confirm_of <$> step_at bytes
 message_at (suc (suc (suc (suc (suc zero))))) bytes = change_from <$> claim_at bytes
 message_at (suc (suc (suc (suc (suc (suc zero)))))) bytes = voted_of <$> voted_at bytes
-message_at (suc (suc (suc (suc (suc (suc (suc zero))))))) bytes = decided_of <$> decided_at bytes
+message_at (suc (suc (suc (suc (suc (suc (suc zero))))))) bytes = decided_of <$> decided_message_at bytes
 message_at (suc (suc (suc (suc (suc (suc (suc (suc zero)))))))) bytes = message.Want <$> slot_at bytes
 message_at (suc (suc (suc (suc (suc (suc (suc (suc (suc zero))))))))) bytes = done_of <$> done_at bytes
 message_at (suc (suc (suc (suc (suc (suc (suc (suc (suc (suc zero)))))))))) bytes = asked_of <$> key_at bytes
-message_at (suc (suc (suc (suc (suc (suc (suc (suc (suc (suc (suc zero))))))))))) bytes = told_of <$> told_at bytes
+message_at (suc (suc (suc (suc (suc (suc (suc (suc (suc (suc (suc zero))))))))))) bytes = told_message <$> told_message_at bytes
 message_at (suc (suc (suc (suc (suc (suc (suc (suc (suc (suc (suc (suc zero)))))))))))) bytes =
     message.Head <$> checkpoint_at bytes
 message_at (suc (suc (suc (suc (suc (suc (suc (suc (suc (suc (suc (suc (suc zero))))))))))))) bytes =

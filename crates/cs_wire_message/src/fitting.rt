@@ -1,7 +1,7 @@
 //! Whether a message has a body.
 ghost use Rattle.std.specs.Prelude.{◌≡◌, ◌<◌, ◌↔◌, true, None, IsTrue};
 ghost use Rattle.cs_tx_value.specs.Object.{DigestFits};
-ghost use Rattle.cs_wire_message.specs.Message.{IsSlot, IsView, is_above, Rise, PreparedFits, ChangeFits, StepFits, AskedFits, MessageFits};
+ghost use Rattle.cs_wire_message.specs.Message.{IsSlot, IsView, is_after_last, Rise, PreparedFits, ChangeFits, StepFits, AskedKeyFits, MessageFits};
 
 use crate::change::Change;
 use crate::message::Message;
@@ -24,7 +24,7 @@ fn is_view(view: u16) -> bool
 // Whether an echo in an earlier view may stand behind the last digest.
 fn may_stand(view: u16, last: &Option<Digest>, echo: &(Digest, u16)) -> bool
     ensures { IsTrue result ↔
-        ((DigestFits echo.now.0 × (is_above last.now echo.now.0 ≡ true)) × (echo.now.1 < view)) }
+        ((DigestFits echo.now.0 × (is_after_last last.now echo.now.0 ≡ true)) × (echo.now.1 < view)) }
 {
     echo.0.fits() && comes_after(last, &echo.0) && echo.1 < view
 }
@@ -67,7 +67,7 @@ fn step_fits(slot: u64, view: u16, digest: &Digest) -> bool
 }
 
 fn asked_fits(key: &Option<Key>) -> bool
-    ensures { IsTrue result ↔ AskedFits key.now }
+    ensures { IsTrue result ↔ AskedKeyFits key.now }
 {
     match key {
         None => true,

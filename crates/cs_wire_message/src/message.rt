@@ -8,7 +8,7 @@ use crate::kinds::{
     VOTED, WANT,
 };
 use cs_base::Key;
-use cs_tx_form::{Checkpoint, Entry, Proof, Session, State, Vote};
+use cs_tx_types::{Checkpoint, Entry, Proof, Session, State, Vote};
 use cs_tx_value::Digest;
 
 /// What a node or a client says to another. One that fits has slots below 2^62 and views of at most

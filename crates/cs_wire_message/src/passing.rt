@@ -1,7 +1,7 @@
 //! Passing over bodies, without making the messages.
 ghost use Rattle.std.specs.Prelude.{◌≡◌};
 ghost use Rattle.cs_tx_value.specs.Reading.{Passes};
-ghost use Rattle.cs_wire_message.specs.Reading.{propose_at, step_at, voted_at, decided_at, done_at, told_at, message_at};
+ghost use Rattle.cs_wire_message.specs.Reading.{propose_at, step_at, voted_at, decided_message_at, done_at, told_message_at, message_at};
 
 use crate::kinds::{
     ASK, ASK_PROOF, CHANGE, CONFIRM, DECIDED, DONE, ECHO, HEAD, PROOF, PROPOSE, SUBMIT, TOLD,
@@ -10,7 +10,7 @@ use crate::kinds::{
 use crate::rising::skip_claim;
 use crate::view::{skip_flag, skip_view};
 use cs_base::{Cursor, Key};
-use cs_tx_form::{Checkpoint, Entry, Proof, Session, State, Vote, skip_slot};
+use cs_tx_types::{Checkpoint, Entry, Proof, Session, State, Vote, skip_slot};
 use cs_tx_value::{Digest, Encoded, FormError};
 
 #[tactic(auto, unfolding(crate::specs::Reading::propose_at, cs_base::specs::Fields::pair_at))]
@@ -40,9 +40,9 @@ fn skip_voted(cursor: &mut Cursor<'_>) -> Result<(), FormError>
     Session::skip(cursor)
 }
 
-#[tactic(auto, unfolding(crate::specs::Reading::decided_at, cs_base::specs::Fields::pair_at))]
+#[tactic(auto, unfolding(crate::specs::Reading::decided_message_at, cs_base::specs::Fields::pair_at))]
 fn skip_decided(cursor: &mut Cursor<'_>) -> Result<(), FormError>
-    ensures { Passes result cursor.new (decided_at cursor.old) }
+    ensures { Passes result cursor.new (decided_message_at cursor.old) }
 {
     Digest::skip(cursor)?;
     skip_flag(cursor)
@@ -56,9 +56,9 @@ fn skip_done(cursor: &mut Cursor<'_>) -> Result<(), FormError>
     Entry::skip(cursor)
 }
 
-#[tactic(auto, unfolding(crate::specs::Reading::told_at, cs_base::specs::Fields::pair_at))]
+#[tactic(auto, unfolding(crate::specs::Reading::told_message_at, cs_base::specs::Fields::pair_at))]
 fn skip_told(cursor: &mut Cursor<'_>) -> Result<(), FormError>
-    ensures { Passes result cursor.new (told_at cursor.old) }
+    ensures { Passes result cursor.new (told_message_at cursor.old) }
 {
     Key::skip(cursor)?;
     State::skip(cursor)

@@ -1,7 +1,7 @@
 //! Reading bodies.
 ghost use Rattle.std.specs.Prelude.{◌≡◌};
 ghost use Rattle.cs_tx_value.specs.Reading.{ReadsValue};
-ghost use Rattle.cs_wire_message.specs.Reading.{propose_at, step_at, voted_at, decided_at, done_at, told_at, message_at};
+ghost use Rattle.cs_wire_message.specs.Reading.{propose_at, step_at, voted_at, decided_message_at, done_at, told_message_at, message_at};
 
 use crate::kinds::{
     ASK, ASK_PROOF, CHANGE, CONFIRM, DECIDED, DONE, ECHO, HEAD, PROOF, PROPOSE, SUBMIT, TOLD,
@@ -11,7 +11,7 @@ use crate::message::Message;
 use crate::rising::read_claim;
 use crate::view::{read_flag, read_view};
 use cs_base::{Cursor, Key};
-use cs_tx_form::{Checkpoint, Entry, Proof, Session, State, Vote, read_slot};
+use cs_tx_types::{Checkpoint, Entry, Proof, Session, State, Vote, read_slot};
 use cs_tx_value::{Digest, Encoded, FormError};
 use std::alloc::Global;
 
@@ -45,9 +45,9 @@ fn read_voted(alloc: Global, cursor: &mut Cursor<'_>) -> Result<(Vote, (bool, Se
     Ok((vote, (asks, session)))
 }
 
-#[tactic(auto, unfolding(crate::specs::Reading::decided_at, cs_base::specs::Fields::pair_at))]
+#[tactic(auto, unfolding(crate::specs::Reading::decided_message_at, cs_base::specs::Fields::pair_at))]
 fn read_decided(alloc: Global, cursor: &mut Cursor<'_>) -> Result<(Digest, bool), FormError>
-    ensures { ReadsValue result cursor.new (decided_at cursor.old) }
+    ensures { ReadsValue result cursor.new (decided_message_at cursor.old) }
 {
     let session = Digest::read(alloc, cursor)?;
     let accepted = read_flag(cursor)?;
@@ -63,9 +63,9 @@ fn read_done(alloc: Global, cursor: &mut Cursor<'_>) -> Result<(u64, Entry), For
     Ok((slot, entry))
 }
 
-#[tactic(auto, unfolding(crate::specs::Reading::told_at, cs_base::specs::Fields::pair_at))]
+#[tactic(auto, unfolding(crate::specs::Reading::told_message_at, cs_base::specs::Fields::pair_at))]
 fn read_told(alloc: Global, cursor: &mut Cursor<'_>) -> Result<(Key, State), FormError>
-    ensures { ReadsValue result cursor.new (told_at cursor.old) }
+    ensures { ReadsValue result cursor.new (told_message_at cursor.old) }
 {
     let key = Key::read(alloc, cursor)?;
     let state = State::read(alloc, cursor)?;

@@ -3,18 +3,18 @@ ghost use Rattle.std.specs.Prelude.{◌≡◌, ◌≤◌, None};
 ghost use Rattle.cs_base.specs.Fields.{bytes_at};
 ghost use Rattle.cs_base.specs.declared.limits.TheConstants.{LAST_VIEW};
 ghost use Rattle.cs_tx_value.specs.Reading.{ReadsValue, Passes};
-ghost use Rattle.cs_wire_message.specs.Message.{is_above};
+ghost use Rattle.cs_wire_message.specs.Message.{is_after_last};
 ghost use Rattle.cs_wire_message.specs.Reading.{Gets, above_at, below_at, echo_at, rising_at, echoed_at, prepared_at, claimed_at, claim_at};
 
 use crate::change::Change;
 use cs_base::{Cursor, LAST_VIEW, MOST_ECHOED, Sequence};
-use cs_tx_form::{read_slot, skip_slot};
+use cs_tx_types::{read_slot, skip_slot};
 use cs_tx_value::{Digest, FormError};
 use std::alloc::Global;
 
 /// Whether the digest comes after the last one, where there is one.
 pub fn comes_after(last: &Option<Digest>, digest: &Digest) -> bool
-    ensures { result ≡ is_above last.now digest.now }
+    ensures { result ≡ is_after_last last.now digest.now }
 {
     match last {
         None => true,

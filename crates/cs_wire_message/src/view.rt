@@ -1,7 +1,7 @@
 //! The views of a slot.
 ghost use Rattle.std.specs.Prelude.{◌≡◌};
 ghost use Rattle.cs_tx_value.specs.Reading.{ReadsValue, Passes};
-ghost use Rattle.cs_wire_message.specs.Reading.{view_at, flag_at};
+ghost use Rattle.cs_wire_message.specs.Reading.{view_number_at, flag_at};
 
 use cs_base::{Cursor, LAST_VIEW};
 use cs_tx_value::FormError;
@@ -9,7 +9,7 @@ use cs_tx_value::FormError;
 /// The view at the cursor.
 #[tactic(auto, unfolding(cs_base::specs::Fields::tested_at))]
 pub fn read_view(cursor: &mut Cursor<'_>) -> Result<u16, FormError>
-    ensures { ReadsValue result cursor.new (view_at cursor.old) }
+    ensures { ReadsValue result cursor.new (view_number_at cursor.old) }
 {
     let view = cursor.u16()?;
     if view > LAST_VIEW {
@@ -21,7 +21,7 @@ pub fn read_view(cursor: &mut Cursor<'_>) -> Result<u16, FormError>
 /// Passes over a view.
 #[tactic(auto, unfolding(cs_base::specs::Fields::tested_at))]
 pub fn skip_view(cursor: &mut Cursor<'_>) -> Result<(), FormError>
-    ensures { Passes result cursor.new (view_at cursor.old) }
+    ensures { Passes result cursor.new (view_number_at cursor.old) }
 {
     if cursor.u16()? > LAST_VIEW {
         return Err(FormError::BadForm);

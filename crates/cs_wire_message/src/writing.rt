@@ -3,7 +3,7 @@ ghost use Rattle.std.specs.Prelude.{◌≡◌, ◌++◌, ◌<◌, ◌≤◌, ◌
 ghost use Rattle.cs_base.specs.declared.limits.TheConstants.{MOST_BODY};
 ghost use Rattle.cs_tx_value.specs.Object.{DigestFits};
 ghost use Rattle.cs_tx_value.specs.Reading.{Begins};
-ghost use Rattle.cs_wire_message.specs.Message.{flag_encoding, step_encoding, prepared_encoding, PairFits, change_encoding, ChangeFits, asked_encoding, AskedFits, body_of, MessageFits};
+ghost use Rattle.cs_wire_message.specs.Message.{flag_encoding, step_encoding, prepared_encoding, PairFits, change_encoding, ChangeFits, asked_encoding, AskedKeyFits, body_of, MessageFits};
 
 use crate::change::Change;
 use crate::message::Message;
@@ -54,7 +54,7 @@ fn write_change(view: u16, change: &Change, out: &mut Writer) -> Result<(), Memo
 }
 
 fn write_asked(key: &Option<Key>, out: &mut Writer) -> Result<(), Memory>
-    requires { AskedFits key.now }
+    requires { AskedKeyFits key.now }
     ensures ok { OnOk result (out.new ≡ out.old ++ asked_encoding key.now) }
     ensures err { OnErr result (Begins out.new out.old) }
 {

@@ -5,7 +5,7 @@ use Rattle.std.proofs.lemmas.Bool.{cond_both, both_ways, and_parts, and_from, or
 use Rattle.cs_ledger.specs.Ledger.{Bytes, Item, Transaction, IsIn, is_empty, names, has, all_differ}
 use Rattle.cs_ledger.specs.Session.{Session, Rules, Key, Object, Piece, key_eq, has_key, objects_in, dummies_in, object_under, first_key, used_up, read_only, anchor, all_items, concerns, well_formed}
 use Rattle.cs_ledger.specs.Table.{Vote, Commit, State, Unknown, Active, Locked, Inactive, Table, Prepare, Decide, Accepted, Skipped, Void, Outcome, is_held_by, is_locked_by, is_inactive, has_room, vote_in, made, accept_state, new_dummy, new_pieces, with_accepted, session_of, act, exec, table_of}
-use Rattle.cs_ledger.specs.ShardWorld.{Step, log, votes, votes_in, is_vote, is_prepare_of, all_commit, IsAllowed, AllAllowed, sessions, AreNamedApart}
+use Rattle.cs_ledger.specs.ShardWorld.{Step, log, shard_votes, votes_in, is_vote, is_prepare_of, all_commit, IsAllowed, AllAllowed, sessions, AreNamedApart}
 use Rattle.cs_ledger.proofs.Basics.{same_bytes, bytes_from, in_left, piece_has}
 use Rattle.cs_ledger.proofs.Kept.{own}
 use Rattle.cs_ledger.proofs.Names.{piece_of, object_piece, in_objects, item_has}
@@ -80,7 +80,7 @@ module _ (rules : Rules) (known : List Session) (apart : AreNamedApart rules.gen
       apart.session x y kx ky (held-once x.digest y.digest _ held b.2)
 
   -- what was voted on was well formed
-  pub voted-well : (x : Session) → IsIn x known → (vote : Vote) (shard : ℕ) → (steps : List Step) → AllAllowed rules steps → ((z : Session) → IsIn z (sessions steps) → IsIn z known) → votes rules steps shard x vote ≡ true → well_formed rules x ≡ true
+  pub voted-well : (x : Session) → IsIn x known → (vote : Vote) (shard : ℕ) → (steps : List Step) → AllAllowed rules steps → ((z : Session) → IsIn z (sessions steps) → IsIn z known) → shard_votes rules steps shard x vote ≡ true → well_formed rules x ≡ true
   voted-well x knows vote shard [] ok in_known h = absurd (both_ways false refl h)
   voted-well x knows vote shard (step ∷ steps) ok in_known h =
       log_at (λ l. votes_in rules shard x.digest vote l ≡ true → well_formed rules x ≡ true) shard step steps

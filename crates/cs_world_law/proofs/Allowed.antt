@@ -3,11 +3,11 @@ use Rattle.std.proofs.Common.{◌≡◌, inl, inr, ℕ, ◌<◌, ◌==◌, nat_l
 use Rattle.std.specs.Prelude.{slice_get}
 use Rattle.std.proofs.lemmas.Bool.{cond_both, and_parts, eqb-true}
 use Rattle.cs_base.specs.declared.node_id.NodeId.{NodeId}
-use Rattle.cs_tx_form.specs.declared.session.Session.{Session}
-use Rattle.cs_tx_form.specs.declared.vote.Vote as Tx
-use Rattle.cs_tx_form.specs.declared.vote.Vote.TheVariants as tx
-use Rattle.cs_tx_form.specs.declared.entry.Entry.{Entry}
-use Rattle.cs_tx_form.specs.declared.entry.Entry.TheVariants.{Prepare, Decide}
+use Rattle.cs_tx_types.specs.declared.session.Session.{Session}
+use Rattle.cs_tx_types.specs.declared.vote.Vote as Tx
+use Rattle.cs_tx_types.specs.declared.vote.Vote.TheVariants as tx
+use Rattle.cs_tx_types.specs.declared.entry.Entry.{Entry}
+use Rattle.cs_tx_types.specs.declared.entry.Entry.TheVariants.{Prepare, Decide}
 use Rattle.cs_order.specs.declared.proposed.Proposed.{Proposed}
 use Rattle.cs_order.specs.Deeds.{Deed, Took_in, Advanced, Echoed, Proposing, Ticked, Resent, Replied, Cut, Member, chosen_in}
 use Rattle.cs_order.specs.Runs.{member_of}
@@ -17,10 +17,10 @@ use Rattle.cs_ledger.specs.Session as Seen
 use Rattle.cs_ledger.specs.Session.{all_items}
 use Rattle.cs_ledger.specs.Table as Shard
 use Rattle.cs_ledger.specs.Table.{Effect}
-use Rattle.cs_ledger.specs.ShardWorld.{Step, votes, IsAllowed, AllAllowed, sessions}
+use Rattle.cs_ledger.specs.ShardWorld.{Step, shard_votes, IsAllowed, AllAllowed, sessions}
 use Rattle.cs_node_state.specs.declared.pooled.Pooled.{Pooled}
-use Rattle.cs_node_state.specs.Setup.{Setup, digest_of, concerns, concerned, is_fit, is_approved, entry_of}
-use Rattle.cs_tx_form.specs.Session.{session_in}
+use Rattle.cs_node_state.specs.Setup.{Setup, digest_of, is_concerned_shard, concerned, is_fit, is_approved, entry_of}
+use Rattle.cs_tx_types.specs.Session.{session_in}
 use Rattle.cs_node_state.specs.Evidence.{has_support, is_decided}
 use Rattle.cs_node_state.specs.Pool.{found}
 use Rattle.cs_node_state.specs.Admission.{admits, is_decided_in}
@@ -65,9 +65,9 @@ module _ {M : Type 0} (site : Site M) (sound : IsSoundSite site) (known : Known)
   abbrev pub IsBehind : List (Moment M) → ℕ → Entry → Type 0
   IsBehind story shard (Prepare x) = (is_fit site.setup shard x ≡ true) × (is_approved site.setup x ≡ true)
   IsBehind story shard (Decide tx.Commit x) =
-      (concerns site.setup x shard ≡ true) × ((t : ℕ) → t < site.setup.shards → concerns site.setup x t ≡ true → IsGiver site sound known story (digest_of site.setup x) Shard.Commit t)
+      (is_concerned_shard site.setup x shard ≡ true) × ((t : ℕ) → t < site.setup.shards → is_concerned_shard site.setup x t ≡ true → IsGiver site sound known story (digest_of site.setup x) Shard.Commit t)
   IsBehind story shard (Decide tx.Abort x) =
-      (concerns site.setup x shard ≡ true) × ((t : ℕ) × (concerns site.setup x t ≡ true) × IsGiver site sound known story (digest_of site.setup x) Shard.Abort t)
+      (is_concerned_shard site.setup x shard ≡ true) × ((t : ℕ) × (is_concerned_shard site.setup x t ≡ true) × IsGiver site sound known story (digest_of site.setup x) Shard.Abort t)
 
   behind-later : (m : Moment M) (past : List (Moment M)) (shard : ℕ) (entry : Entry) → IsBehind past shard entry → IsBehind (m ∷ past) shard entry
   behind-later m past shard (Prepare x) b = b
@@ -77,7 +77,7 @@ module _ {M : Type 0} (site : Site M) (sound : IsSoundSite site) (known : Known)
   -- ---- what a node admits, and what is due at it
 
   -- a decision that the votes at a place of its pool support
-  decision-behind : (story : List (Moment M)) (j : NodeId) (e : Place) (vote : Tx.Vote) (x : Session) → Story site known story → IsSourced site j (trail_at j story) e → e.0 ≡ digest_of site.setup x → concerns site.setup x j.shard ≡ true
+  decision-behind : (story : List (Moment M)) (j : NodeId) (e : Place) (vote : Tx.Vote) (x : Session) → Story site known story → IsSourced site j (trail_at j story) e → e.0 ≡ digest_of site.setup x → is_concerned_shard site.setup x j.shard ≡ true
       → is_decided site.setup.f (concerned site.setup x) vote e.1.ballots ≡ true → IsBehind story j.shard (Decide vote x)
   decision-behind story j e tx.Commit x story_is s digest here h = (
     here,
@@ -100,10 +100,10 @@ module _ {M : Type 0} (site : Site M) (sound : IsSoundSite site) (known : Known)
   admits-behind story j (Decide vote x) story_is e =
       let pool = (view_at site j (trail_at j story)).bench.pool in
       let d = digest_of site.setup x in
-      let a = and_parts (concerns site.setup x j.shard) (is_decided_in site.setup.f (concerned site.setup x) vote (found d pool)) e in
+      let a = and_parts (is_concerned_shard site.setup x j.shard) (is_decided_in site.setup.f (concerned site.setup x) vote (found d pool)) e in
       go a.0 (found d pool) refl a.1
     where
-      go : concerns site.setup x j.shard ≡ true → (o : Option Pooled) → found (digest_of site.setup x) (view_at site j (trail_at j story)).bench.pool ≡ o → is_decided_in site.setup.f (concerned site.setup x) vote o ≡ true → IsBehind story j.shard (Decide vote x)
+      go : is_concerned_shard site.setup x j.shard ≡ true → (o : Option Pooled) → found (digest_of site.setup x) (view_at site j (trail_at j story)).bench.pool ≡ o → is_decided_in site.setup.f (concerned site.setup x) vote o ≡ true → IsBehind story j.shard (Decide vote x)
       go here None is h = cc
       go here (Some p) is h =
           let r = found-in (digest_of site.setup x) (view_at site j (trail_at j story)).bench.pool p is in
@@ -241,7 +241,7 @@ module _ {M : Type 0} (site : Site M) (sound : IsSoundSite site) (known : Known)
         let voted = given-voted site sound known lawful story (at t g.index) (digest_of site.setup x) Shard.Abort story_is g.honest g.given in (
           b.0,
           votes-one site.setup.rules (Steps story) (site.setup.session_of x) Shard.Abort items item.0 item.1
-              (subst (λ k. votes site.setup.rules (Steps story) k (site.setup.session_of x) Shard.Abort ≡ true) (sym item.2) voted),
+              (subst (λ k. shard_votes site.setup.rules (Steps story) k (site.setup.session_of x) Shard.Abort ≡ true) (sym item.2) voted),
         )
 
     -- what an honest node executes is allowed

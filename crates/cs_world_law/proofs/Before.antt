@@ -8,7 +8,7 @@ use Rattle.cs_ledger.specs.ShardWorld.{log, all_commit, sessions, IsAllowed, Are
 use Rattle.cs_ledger.proofs.Changes.{IsIdle, Nothing, Locks, Notes, Accepts, Aborts, change}
 use Rattle.cs_ledger.proofs.Decisions.{all_concerned}
 use Rattle.cs_node_state.specs.Setup.{entry_of}
-use Rattle.cs_tx_form.specs.Session.{session_in}
+use Rattle.cs_tx_types.specs.Session.{session_in}
 use Rattle.cs_node_rules.specs.Site.{Site}
 use Rattle.cs_node_rules.specs.World.{Execution, steps_of}
 use Rattle.cs_world_law.specs.Steps.{IsComputed}

@@ -2,8 +2,8 @@
 use Rattle.std.proofs.Common.{◌≡◌, inl, inr, ℕ, Bool, true, false, if◌then◌else◌, List, [], ◌∷◌, ◌++◌, Option, Some, None, length, sym, ◌∙◌, ap, subst, refl, append_assoc}
 use Rattle.std.proofs.lemmas.Bool.{and_parts, or_right}
 use Rattle.cs_base.specs.declared.node_id.NodeId.{NodeId}
-use Rattle.cs_tx_form.specs.declared.session.Session.{Session}
-use Rattle.cs_tx_form.specs.declared.entry.Entry.{Entry}
+use Rattle.cs_tx_types.specs.declared.session.Session.{Session}
+use Rattle.cs_tx_types.specs.declared.entry.Entry.{Entry}
 use Rattle.cs_wire_message.specs.declared.message.Message.TheVariants as message
 use Rattle.cs_order.specs.declared.proposed.Proposed.{Proposed}
 use Rattle.cs_order.specs.Deeds.{Member}
@@ -18,8 +18,8 @@ use Rattle.cs_ledger.specs.Standing.{stands_accepted, stands_aborted}
 use Rattle.cs_ledger.specs.ShardWorld.{Step, log, sessions, sessions_of, decided_in}
 use Rattle.cs_ledger.proofs.Alone.{lost_alone}
 use Rattle.cs_ledger.proofs.Votes.{log_at}
-use Rattle.cs_node_state.specs.Setup.{Setup, digest_of, concerns, entry_of}
-use Rattle.cs_node_state.specs.Bench.{decided, decided_by, decided_at}
+use Rattle.cs_node_state.specs.Setup.{Setup, digest_of, is_concerned_shard, entry_of}
+use Rattle.cs_node_state.specs.Bench.{decision_on, decided_by, decided_at}
 use Rattle.cs_node_rules.specs.Carrying.{IsEntry}
 use Rattle.cs_node_rules.specs.Signs.{Dropped, Took, Entered, Viewed, Did, Headed, Kept, Sent}
 use Rattle.cs_node_rules.specs.Site.{Mark, In, Ordered, Plain, Site, signs_of}
@@ -29,7 +29,7 @@ use Rattle.cs_node_law.proofs.Views.{me-same}
 use Rattle.cs_node_law.proofs.Logs.{seen, seen_log, table-is}
 use Rattle.cs_node_law.proofs.Silent.{stood-by}
 use Rattle.cs_world_law.specs.Worlds.{is_honest}
-use Rattle.cs_world_law.specs.Chain.{Moment, trail_at, Known, Story, IsSoundSite, story_firsts, shard_log}
+use Rattle.cs_world_law.specs.Chain.{Moment, trail_at, Known, Story, IsSoundSite, story_firsts, shard_entries}
 use Rattle.cs_world_law.proofs.Deeds.{deeds_in, member-is}
 use Rattle.cs_world_law.proofs.Trails.{AllWithin, made-all, within-all}
 use Rattle.cs_world_law.proofs.Local.{local, deeds-kept, given-ours}
@@ -81,7 +81,7 @@ pub record IsAnchored (setup : Setup) (shard : ℕ) (t : Table) (x : Session) (a
   pub is : anchor setup.rules (setup.session_of x) shard ≡ Some key
   pub says : decided_by (t.at key) (digest_of setup x) ≡ Some accepted
 
-anchored : (setup : Setup) (shard : ℕ) (t : Table) (x : Session) (accepted : Bool) → decided setup shard t x ≡ Some accepted → IsAnchored setup shard t x accepted
+anchored : (setup : Setup) (shard : ℕ) (t : Table) (x : Session) (accepted : Bool) → decision_on setup shard t x ≡ Some accepted → IsAnchored setup shard t x accepted
 anchored setup shard t x accepted h = by (anchor setup.rules (setup.session_of x) shard) refl h
   where
     by : (o : Option Key) → anchor setup.rules (setup.session_of x) shard ≡ o → decided_at t (digest_of setup x) o ≡ Some accepted → IsAnchored setup shard t x accepted
@@ -143,9 +143,9 @@ module _ {M : Type 0} (site : Site M) (sound : IsSoundSite site) (known : Known)
   log-over : (earlier later : List (Mark M)) → Marks ≡ later ++ earlier → (front : List Shard.Entry) × (Log ≡ front ++ seen_log site earlier)
   log-over earlier later split =
       let f = (are-first site sound known lawful i.shard story story_is).older i honest refl in
-      let a = older-front site.setup (length (own_log i story)) (shard_log i.shard (story_firsts story)) in
+      let a = older-front site.setup (length (own_log i story)) (shard_entries i.shard (story_firsts story)) in
       let b = log-front site later earlier in
-      let own : seen site.setup (older (length (own_log i story)) (shard_log i.shard (story_firsts story))) ≡ b.0 ++ seen_log site earlier =
+      let own : seen site.setup (older (length (own_log i story)) (shard_entries i.shard (story_firsts story))) ≡ b.0 ++ seen_log site earlier =
       ap (λ l. seen site.setup l) (sym f.is) ∙ ap (λ t. seen_log site t) split ∙ b.1 in
       (a.0 ++ b.0, log-seen site.setup i.shard (story_firsts story) ∙ a.1 ∙ ap (λ l. a.0 ++ l) own ∙ sym (append_assoc a.0 b.0 (seen_log site earlier)))
 
@@ -154,7 +154,7 @@ module _ {M : Type 0} (site : Site M) (sound : IsSoundSite site) (known : Known)
     pub session : Session
     pub digest_is : d ≡ digest_of site.setup session
     pub known_is : IsIn session known.sessions
-    pub concerned : concerns site.setup session i.shard ≡ true
+    pub concerned : is_concerned_shard site.setup session i.shard ≡ true
     pub front : List Shard.Entry
     pub before : List Shard.Entry
     pub log_is : Log ≡ front ++ before
@@ -171,11 +171,11 @@ module _ {M : Type 0} (site : Site M) (sound : IsSoundSite site) (known : Known)
         session = s.session;
         digest_is = s.digest_is;
         known_is = (given-ours site sound known i Marks s.session within s.known).1;
-        concerned = (and_parts _ (concerns site.setup s.session i.shard) s.fit).1;
+        concerned = (and_parts _ (is_concerned_shard site.setup s.session i.shard) s.fit).1;
         front = over.0;
         before = seen_log site s.earlier;
         log_is = over.1;
-        anchored = anchored site.setup i.shard _ s.session accepted (subst (λ (t : Table). decided site.setup i.shard t s.session ≡ Some accepted) table s.stood);
+        anchored = anchored site.setup i.shard _ s.session accepted (subst (λ (t : Table). decision_on site.setup i.shard t s.session ≡ Some accepted) table s.stood);
       }
 
   -- it was accepted in the log of the shard

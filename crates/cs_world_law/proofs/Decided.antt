@@ -2,8 +2,8 @@
 use Rattle.std.proofs.Common.{◌≡◌, ◌⊎◌, inl, inr, ℕ, true, ◌&&◌, List, [], ◌∷◌, length, ◌∙◌, ap, subst, refl}
 use Rattle.std.proofs.lemmas.Bool.{and_from, or_cases, or_left, or_right}
 use Rattle.cs_base.specs.declared.node_id.NodeId.{NodeId}
-use Rattle.cs_tx_form.specs.declared.entry.Entry.{Entry}
-use Rattle.cs_tx_form.specs.declared.entry.Entry.TheVariants.{Prepare, Decide}
+use Rattle.cs_tx_types.specs.declared.entry.Entry.{Entry}
+use Rattle.cs_tx_types.specs.declared.entry.Entry.TheVariants.{Prepare, Decide}
 use Rattle.cs_ledger.specs.Ledger.{Bytes}
 use Rattle.cs_ledger.specs.Table as Shard
 use Rattle.cs_ledger.specs.Table.{Vote, Commit, Abort, Effect, Voted, Accepted, Aborted, Skipped, Void, exec, table_of}
@@ -16,7 +16,7 @@ use Rattle.cs_node_law.specs.Made.{AllMade}
 use Rattle.cs_node_law.proofs.Views.{me-same}
 use Rattle.cs_node_law.proofs.Logs.{seen, seen_log, effect-is}
 use Rattle.cs_world_law.specs.Worlds.{is_honest}
-use Rattle.cs_world_law.specs.Chain.{Moment, trail_at, Known, Story, IsSoundSite, story_firsts, shard_log}
+use Rattle.cs_world_law.specs.Chain.{Moment, trail_at, Known, Story, IsSoundSite, story_firsts, shard_entries}
 use Rattle.cs_world_law.proofs.Trails.{made-all}
 use Rattle.cs_world_law.proofs.Lawful.{AreLawful}
 use Rattle.cs_world_law.proofs.Older.{older-votes, older-decided}
@@ -101,14 +101,14 @@ module _ {M : Type 0} (site : Site M) (sound : IsSoundSite site) (known : Known)
       let f = (are-first site sound known lawful i.shard story story_is).older i honest refl in
       let part = subst (λ l. decided_in site.setup.rules i.shard d effect (seen site.setup l) ≡ true) f.is h in
       ap (λ l. decided_in site.setup.rules i.shard d effect l) (log-seen site.setup i.shard (story_firsts story))
-      ∙ older-decided site.setup site.setup.rules i.shard d effect (length (own_log i story)) (shard_log i.shard (story_firsts story)) part
+      ∙ older-decided site.setup site.setup.rules i.shard d effect (length (own_log i story)) (shard_entries i.shard (story_firsts story)) part
 
   voted-there : (vote : Vote) → votes_in site.setup.rules i.shard d vote (seen_log site (trail_at i story)) ≡ true → votes_in site.setup.rules i.shard d vote Log ≡ true
   voted-there vote h =
       let f = (are-first site sound known lawful i.shard story story_is).older i honest refl in
       let part = subst (λ l. votes_in site.setup.rules i.shard d vote (seen site.setup l) ≡ true) f.is h in
       ap (λ l. votes_in site.setup.rules i.shard d vote l) (log-seen site.setup i.shard (story_firsts story))
-      ∙ older-votes site.setup site.setup.rules i.shard d vote (length (own_log i story)) (shard_log i.shard (story_firsts story)) part
+      ∙ older-votes site.setup site.setup.rules i.shard d vote (length (own_log i story)) (shard_entries i.shard (story_firsts story)) part
 
   pub accepts-decided : accepts_in site.setup d (signs_of (trail_at i story)) ≡ true → decided_in site.setup.rules i.shard d Accepted Log ≡ true
   accepts-decided h = decided-there Accepted (accepts-log site i d (trail_at i story) (made-all site known i story story_is) h)

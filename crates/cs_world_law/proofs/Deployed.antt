@@ -15,15 +15,15 @@ use Rattle.cs_base.proofs.Forms.{whole-again, some_is}
 use Rattle.cs_hash.specs.Hash.{hmac}
 use Rattle.cs_tx_value.specs.declared.object.Object.{Object}
 use Rattle.cs_tx_value.specs.Object.{object_encoding}
-use Rattle.cs_tx_form.specs.declared.checkpoint.Checkpoint.{Checkpoint}
-use Rattle.cs_tx_form.specs.declared.trace.Trace.{Trace}
-use Rattle.cs_tx_form.specs.declared.transaction.Tx.{Tx}
-use Rattle.cs_tx_form.specs.declared.session.Session.{Session}
-use Rattle.cs_tx_form.specs.declared.entry.Entry.{Entry}
-use Rattle.cs_tx_form.specs.Session.{SessionFits, entry_encoding, EntryFits}
+use Rattle.cs_tx_types.specs.declared.checkpoint.Checkpoint.{Checkpoint}
+use Rattle.cs_tx_types.specs.declared.trace.Trace.{Trace}
+use Rattle.cs_tx_types.specs.declared.transaction.Tx.{Tx}
+use Rattle.cs_tx_types.specs.declared.session.Session.{Session}
+use Rattle.cs_tx_types.specs.declared.entry.Entry.{Entry}
+use Rattle.cs_tx_types.specs.Session.{SessionFits, entry_encoding, EntryFits}
 use Rattle.cs_tx.specs.Digest.{digest_of_tx}
-use Rattle.cs_tx_form.specs.Reading.{entry_at}
-use Rattle.cs_tx_form.specs.laws.Session.{entry_form}
+use Rattle.cs_tx_types.specs.Reading.{entry_at}
+use Rattle.cs_tx_types.specs.laws.Session.{entry_form}
 use Rattle.cs_wire_message.specs.declared.kinds.TheConstants.{WANT, HEAD}
 use Rattle.cs_wire_message.specs.declared.message.Message.{Message}
 use Rattle.cs_wire_message.specs.declared.message.Message.TheVariants as message
@@ -35,14 +35,14 @@ use Rattle.cs_wire_message.proofs.Short.{body_short}
 use Rattle.cs_wire_message.proofs.Spelled.{bytes-want}
 use Rattle.cs_wire.specs.declared.keys.Keys.{Keys}
 use Rattle.cs_wire.specs.declared.opening.OpenError.{OpenError}
-use Rattle.cs_wire.specs.Datagram.{text_of, body_in}
+use Rattle.cs_wire.specs.Datagram.{message_text, body_in}
 use Rattle.cs_wire.specs.Datagram as wire
 use Rattle.cs_wire.specs.Heads.{head_at, first, head_seen}
-use Rattle.cs_wire.specs.Opens.{IsName, fault_of}
+use Rattle.cs_wire.specs.Opens.{IsName, open_fault}
 use Rattle.cs_wire.specs.Opened.{Opened, said_by, opened_body, unless_fault, opened}
 use Rattle.cs_wire.proofs.Parts.{head_encoding, HeadFits, head_form, head_for, head_length, magic_bytes, text_parts, split}
 use Rattle.cs_wire.proofs.Masters.{sealed_is}
-use Rattle.cs_tx.specs.Sessions.{outputs_written_at, outputs_written, written_of, session_of}
+use Rattle.cs_tx.specs.Sessions.{outputs_written_at, outputs_written, written_of, ledger_session}
 use Rattle.cs_tx.proofs.Faithful.{are-faithful}
 use Rattle.cs_order.specs.Deeds.{Machine}
 use Rattle.cs_order.specs.Law.{Law, Holds}
@@ -53,7 +53,7 @@ use Rattle.cs_ledger.specs.Strings as Strings
 use Rattle.cs_ledger.specs.Strings.{Origin, Output, WrittenSession, IsString, sessions_from}
 use Rattle.cs_ledger.proofs.Basics.{in_either}
 use Rattle.cs_ledger.proofs.Strings.{no_collision}
-use Rattle.cs_node_rules.specs.Net.{Net, sealed}
+use Rattle.cs_node_rules.specs.Net.{Net, sealed_by_net}
 use Rattle.cs_node_rules.specs.Site.{Input, Datagram, Tick, Mark, In, Ordered, Plain, Carrier, Site}
 use Rattle.cs_node_rules.specs.World.{Happening, view_of, IsLife}
 use Rattle.cs_node_rules.specs.Collisions.{sessions_in, in_opened, known_sessions, known_entries, IsHashed, OfGenesis, OfSession, OfTransaction, OfOutput, OfEntry, NoCollision}
@@ -67,7 +67,7 @@ use Rattle.cs_node_law.proofs.NoIns.{event-shape}
 use Rattle.cs_node_law.proofs.Speaking.{opened-fits}
 use Rattle.cs_node_law.proofs.Fitting.{sessions-fit}
 use Rattle.cs_node_law.proofs.Heads.{bytes-head, length-head}
-use Rattle.cs_world_law.specs.Worlds.{is_honest, IsWorld, IsNet, deployed}
+use Rattle.cs_world_law.specs.Worlds.{is_honest, IsWorld, IsNet, deployed_site}
 use Rattle.cs_world_law.specs.Chain.{IsSoundSite, IsUnique}
 use Rattle.cs_world_law.proofs.Stories.{InsFit, ins-fit}
 
@@ -89,7 +89,7 @@ opens-whole : (keys : Keys) (key : Bytes) (from to sender : NodeId) (m said : Me
 opens-whole keys key from to sender m said of_from of_to short reads =
     let h = head_for from to m in
     let body = body_of m in
-    let text = text_of from to m in
+    let text = message_text from to m in
     let tag = hmac key text in
     let bytes = wire.sealed key from to m in
     let fits : HeadFits h = ((refl, magic_bytes), (kind_small m, (of_from, (of_to, short)))) in
@@ -97,7 +97,7 @@ opens-whole keys key from to sender m said of_from of_to short reads =
     let parts = split (head_encoding h) body tag bytes (head_length h refl) (length-sha256 _) is in
     let found : head_at bytes ≡ Some (h, body ++ tag) = ap head_at (is ∙ append_assoc (head_encoding h) body tag) ∙ head_form.again h (body ++ tag) fits in
     let seen : head_seen bytes ≡ Some h = ap first found in
-    let clear = no-fault (fault_of keys bytes) (opened_body bytes (head_seen bytes)) sender said reads in
+    let clear = no-fault (open_fault keys bytes) (opened_body bytes (head_seen bytes)) sender said reads in
     let here : said_by h.from (message_whole h.kind (body_in bytes)) ≡ Ok (sender, said) = sym (ap (opened_body bytes) seen) ∙ clear in
     ap (message_whole (kind_of m)) (sym parts.body) ∙ said-whole h.from sender said (message_whole h.kind (body_in bytes)) here
 
@@ -135,7 +135,7 @@ no-client name shards few less =
 
 module _ {M : Type 0} (config : Config) (net : Net) (is_net : IsNet config net) (genesis : List Object) (approves : Tx → Bool) (machine : Machine M) (carrier : Carrier M) where
   abbrev pub At : Site M
-  At = deployed config net genesis approves machine carrier
+  At = deployed_site config net genesis approves machine carrier
 
   -- ---- what was given
 
@@ -154,7 +154,7 @@ module _ {M : Type 0} (config : Config) (net : Net) (is_net : IsNet config net) 
         | inr later ↦ given-fits me marks x fit.1 later
       ]
     where
-      opens : (o : Opened) → (deployed config net genesis approves machine carrier).net.opened me bytes ≡ o → IsIn x (in_opened sessions_in o) → SessionFits x
+      opens : (o : Opened) → (deployed_site config net genesis approves machine carrier).net.opened me bytes ≡ o → IsIn x (in_opened sessions_in o) → SessionFits x
       opens (Ok said) is j = sessions-fit said.1 (fit.0 said.0 said.1 is) x j
       opens (Err error) is j = absurd j
   given-fits me (In Tick ∷ marks) x fit i = given-fits me marks x fit.1 i
@@ -174,10 +174,10 @@ module _ {M : Type 0} (config : Config) (net : Net) (is_net : IsNet config net) 
   -- ---- the site
 
   -- what was sealed for a name, as its keys open it
-  opened-there : (from to sender : NodeId) (m said : Message) → At.net.opened to (sealed At.net from to m) ≡ Ok (sender, said) → opened (is_net.keys to) (wire.sealed (is_net.key from to) from to m) ≡ Ok (sender, said)
+  opened-there : (from to sender : NodeId) (m said : Message) → At.net.opened to (sealed_by_net At.net from to m) ≡ Ok (sender, said) → opened (is_net.keys to) (wire.sealed (is_net.key from to) from to m) ≡ Ok (sender, said)
   opened-there from to sender m said reads =
       ap (opened (is_net.keys to)) (sealed_is (is_net.key from to) from to m ∙ sym (is_net.seals from to (kind_of m) (body_of m)))
-      ∙ sym (is_net.opens to (sealed At.net from to m)) ∙ reads
+      ∙ sym (is_net.opens to (sealed_by_net At.net from to m)) ∙ reads
 
   pub is-sound : Law machine → Holds machine → Carries machine carrier → (world : List (Happening M)) → 0 < config.shards → config.shards ≤ 16 → config.f ≤ 5 → IsWorld At world → IsSoundSite At
   is-sound law holds carries world some few small w =
@@ -215,13 +215,13 @@ module _ {M : Type 0} (config : Config) (net : Net) (is_net : IsNet config net) 
   origins place [] = []
   origins place (object ∷ objects) = record { place = to_be_bytes w32 place; object = object_encoding object } ∷ origins (place + 1) objects
 
-  genesis-is : (place : ℕ) (objects : List Object) → Strings.genesis_from sha256 (origins place objects) ≡ genesis_from place objects
+  genesis-is : (place : ℕ) (objects : List Object) → Strings.genesis_of_origins sha256 (origins place objects) ≡ genesis_from place objects
   genesis-is place [] = refl
   genesis-is place (object ∷ objects) = ap (λ (l : List Item). record { name = sha256 (71 ∷ (to_be_bytes w32 place ++ object_encoding object)); object = object_encoding object } ∷ l) (genesis-is (place + 1) objects)
 
-  sessions-are : (known : List Session) → sessions_from sha256 (map (written_of approves) known) ≡ map (session_of approves) known
+  sessions-are : (known : List Session) → sessions_from sha256 (map (written_of approves) known) ≡ map (ledger_session approves) known
   sessions-are [] = refl
-  sessions-are (x ∷ known) = ap (λ l. session_of approves x ∷ l) (sessions-are known)
+  sessions-are (x ∷ known) = ap (λ l. ledger_session approves x ∷ l) (sessions-are known)
 
   origin-of : (from : ℕ) (objects : List Object) (origin : Origin) → IsIn origin (origins from objects)
       → (place : ℕ) × (object : Object) × (slice_get objects place ≡ Some object) × (origin ≡ record { place = to_be_bytes w32 (from + place); object = object_encoding object })
@@ -307,8 +307,8 @@ module _ {M : Type 0} (config : Config) (net : Net) (is_net : IsNet config net) 
       let faithful = are-faithful approves known (known-fits world life bytes) in
       let strings = λ (a b : Bytes) (s : IsString sha256 (origins 0 genesis) (map (written_of approves) known) a) (t : IsString sha256 (origins 0 genesis) (map (written_of approves) known) b) (e : sha256 a ≡ sha256 b). apart a b (string-hashed known entries a s) (string-hashed known entries b t) e in
       let none = no_collision sha256 lengths (origins 0 genesis) (map (written_of approves) known) faithful strings in
-      subst (λ (l : List Item). World.AreNamedApart l (map (session_of approves) known)) (genesis-is 0 genesis)
-      (subst (λ (l : List Seen.Session). World.AreNamedApart (Strings.genesis_from sha256 (origins 0 genesis)) l) (sessions-are known) none)
+      subst (λ (l : List Item). World.AreNamedApart l (map (ledger_session approves) known)) (genesis-is 0 genesis)
+      (subst (λ (l : List Seen.Session). World.AreNamedApart (Strings.genesis_of_origins sha256 (origins 0 genesis)) l) (sessions-are known) none)
 
   -- no two known entries have one digest
   pub are-unique : (world : List (Happening M)) → NoCollision At genesis world → IsUnique (known_entries At world)

@@ -2,7 +2,7 @@
 use Rattle.std.proofs.Common.{◌≡◌, ℕ, suc, ◌<◌, ◌≤◌, ◌==◌, nat_lt, Bool, true, false, if◌then◌else◌, List, [], ◌∷◌, length, Some, arith, sym, ◌∙◌, ap, subst, refl}
 use Rattle.std.proofs.lemmas.Bool.{cond_both, both_ways, eqb-true, eq-eqb, ltb-true}
 use Rattle.cs_base.specs.declared.node_id.NodeId.{NodeId}
-use Rattle.cs_tx_form.specs.declared.entry.Entry.{Entry}
+use Rattle.cs_tx_types.specs.declared.entry.Entry.{Entry}
 use Rattle.cs_ledger.specs.Ledger.{Bytes}
 use Rattle.cs_ledger.specs.Table.{Vote, Effect}
 use Rattle.cs_ledger.specs.ShardWorld.{log, votes_in}
@@ -12,7 +12,7 @@ use Rattle.cs_node_rules.specs.Site.{Mark, In, Ordered, Plain, Site, signs_of}
 use Rattle.cs_node_rules.specs.World.{Execution, steps_of, slots_of}
 use Rattle.cs_node_law.specs.Made.{log_in, has_given}
 use Rattle.cs_world_law.specs.Worlds.{is_honest}
-use Rattle.cs_world_law.specs.Chain.{Moment, trail_at, Known, Story, IsSoundSite, firsts_at, story_firsts, shard_log}
+use Rattle.cs_world_law.specs.Chain.{Moment, trail_at, Known, Story, IsSoundSite, firsts_at, story_firsts, shard_entries}
 use Rattle.cs_node_law.proofs.Views.{me-same}
 use Rattle.cs_node_law.proofs.Logs.{seen, seen_log, given-is}
 use Rattle.cs_world_law.proofs.Trails.{trail-both, trail-own, made-all}
@@ -22,19 +22,19 @@ use Rattle.cs_world_law.proofs.Older.{at_slot, lt-not, at-some, at-more, at-last
 
 -- ---- the log of a shard
 
-pub slots-log : (shard : ℕ) (firsts : List Execution) → slots_of shard firsts ≡ length (shard_log shard firsts)
+pub slots-log : (shard : ℕ) (firsts : List Execution) → slots_of shard firsts ≡ length (shard_entries shard firsts)
 slots-log shard [] = refl
 slots-log shard (e ∷ earlier) = go (e.shard == shard) (slots-log shard earlier)
   where
-    go : (b : Bool) → slots_of shard earlier ≡ length (shard_log shard earlier) → (if b then suc (slots_of shard earlier) else slots_of shard earlier) ≡ length (if b then e.entry ∷ shard_log shard earlier else shard_log shard earlier)
+    go : (b : Bool) → slots_of shard earlier ≡ length (shard_entries shard earlier) → (if b then suc (slots_of shard earlier) else slots_of shard earlier) ≡ length (if b then e.entry ∷ shard_entries shard earlier else shard_entries shard earlier)
     go true later = ap suc later
     go false later = later
 
-pub log-seen : (setup : Setup) (shard : ℕ) (firsts : List Execution) → log shard (steps_of setup firsts) ≡ seen setup (shard_log shard firsts)
+pub log-seen : (setup : Setup) (shard : ℕ) (firsts : List Execution) → log shard (steps_of setup firsts) ≡ seen setup (shard_entries shard firsts)
 log-seen setup shard [] = refl
 log-seen setup shard (e ∷ earlier) = go (e.shard == shard) (log-seen setup shard earlier)
   where
-    go : (b : Bool) → log shard (steps_of setup earlier) ≡ seen setup (shard_log shard earlier) → (if b then entry_of setup e.entry ∷ log shard (steps_of setup earlier) else log shard (steps_of setup earlier)) ≡ seen setup (if b then e.entry ∷ shard_log shard earlier else shard_log shard earlier)
+    go : (b : Bool) → log shard (steps_of setup earlier) ≡ seen setup (shard_entries shard earlier) → (if b then entry_of setup e.entry ∷ log shard (steps_of setup earlier) else log shard (steps_of setup earlier)) ≡ seen setup (if b then e.entry ∷ shard_entries shard earlier else shard_entries shard earlier)
     go true later = ap (λ l. entry_of setup e.entry ∷ l) later
     go false later = later
 
@@ -56,8 +56,8 @@ module _ {M : Type 0} (site : Site M) (sound : IsSoundSite site) (known : Known)
     pub has : at_slot (own_log node story) slot ≡ Some entry
 
   pub record AreFirst (shard : ℕ) (story : List (Moment M)) : Type 0 where
-    pub older : (i : NodeId) → is_honest site i ≡ true → i.shard ≡ shard → IsOlder (own_log i story) (shard_log shard (story_firsts story))
-    pub from : (slot : ℕ) (entry : Entry) → at_slot (shard_log shard (story_firsts story)) slot ≡ Some entry → IsSource shard story slot entry
+    pub older : (i : NodeId) → is_honest site i ≡ true → i.shard ≡ shard → IsOlder (own_log i story) (shard_entries shard (story_firsts story))
+    pub from : (slot : ℕ) (entry : Entry) → at_slot (shard_entries shard (story_firsts story)) slot ≡ Some entry → IsSource shard story slot entry
 
   first-silent : (shard : ℕ) (node : NodeId) (mark : Mark M) (past : List (Moment M)) → IsSilent mark → AreFirst shard past → AreFirst shard (record { node = node; mark = mark } ∷ past)
   first-silent shard node mark past s k =
@@ -65,12 +65,12 @@ module _ {M : Type 0} (site : Site M) (sound : IsSoundSite site) (known : Known)
       let same = s.firsts node (story_firsts past) in
       record {
         older = λ i honest here.
-            subst (λ f. IsOlder (own_log i (m ∷ past)) (shard_log shard f)) (sym same)
-            (trail-both (λ t. IsOlder (log_in (signs_of t)) (shard_log shard (story_firsts past))) i m past
-            (λ own. subst (λ l. IsOlder l (shard_log shard (story_firsts past))) (sym (s.log (trail_at i past))) (k.older i honest here))
+            subst (λ f. IsOlder (own_log i (m ∷ past)) (shard_entries shard f)) (sym same)
+            (trail-both (λ t. IsOlder (log_in (signs_of t)) (shard_entries shard (story_firsts past))) i m past
+            (λ own. subst (λ l. IsOlder l (shard_entries shard (story_firsts past))) (sym (s.log (trail_at i past))) (k.older i honest here))
             (k.older i honest here));
         from = λ slot entry h.
-            let r = k.from slot entry (ap (λ f. at_slot (shard_log shard f) slot) (sym same) ∙ h) in
+            let r = k.from slot entry (ap (λ f. at_slot (shard_entries shard f) slot) (sym same) ∙ h) in
             record {
               node = r.node;
               honest = r.honest;
@@ -102,13 +102,13 @@ module _ {M : Type 0} (site : Site M) (sound : IsSoundSite site) (known : Known)
     -- in another shard
     first-other : (shard : ℕ) → (node.shard == shard) ≡ false → AreFirst shard past → AreFirst shard (Now ∷ past)
     first-other shard other k =
-        let same : shard_log shard (story_firsts (Now ∷ past)) ≡ shard_log shard (story_firsts past) =
-        cond_both (nat_lt n (slots_of node.shard (story_firsts past))) (story_firsts past) (New ∷ story_firsts past) (λ f. shard_log shard f ≡ shard_log shard (story_firsts past))
-        (λ e. refl) (λ e. ap (λ b. if b then entry ∷ shard_log shard (story_firsts past) else shard_log shard (story_firsts past)) other) in
+        let same : shard_entries shard (story_firsts (Now ∷ past)) ≡ shard_entries shard (story_firsts past) =
+        cond_both (nat_lt n (slots_of node.shard (story_firsts past))) (story_firsts past) (New ∷ story_firsts past) (λ f. shard_entries shard f ≡ shard_entries shard (story_firsts past))
+        (λ e. refl) (λ e. ap (λ b. if b then entry ∷ shard_entries shard (story_firsts past) else shard_entries shard (story_firsts past)) other) in
         record {
           older = λ i honest here.
               subst (λ l. IsOlder (own_log i (Now ∷ past)) l) (sym same)
-              (trail-both (λ t. IsOlder (log_in (signs_of t)) (shard_log shard (story_firsts past))) i Now past
+              (trail-both (λ t. IsOlder (log_in (signs_of t)) (shard_entries shard (story_firsts past))) i Now past
               (λ own. absurd (both_ways (node.shard == shard) other (eq-eqb node.shard shard (ap (λ (z : NodeId). z.shard) own ∙ here))))
               (k.older i honest here));
           from = λ slot e h. raise shard slot e (k.from slot e (ap (λ l. at_slot l slot) (sym same) ∙ h));
@@ -117,8 +117,8 @@ module _ {M : Type 0} (site : Site M) (sound : IsSoundSite site) (known : Known)
     -- of a slot that was executed before
     first-again : nat_lt n (slots_of node.shard (story_firsts past)) ≡ true → AreFirst node.shard past → AreFirst node.shard (Now ∷ past)
     first-again less k =
-        let l = shard_log node.shard (story_firsts past) in
-        let same : shard_log node.shard (story_firsts (Now ∷ past)) ≡ l = ap (λ b. shard_log node.shard (if b then story_firsts past else New ∷ story_firsts past)) less in
+        let l = shard_entries node.shard (story_firsts past) in
+        let same : shard_entries node.shard (story_firsts (Now ∷ past)) ≡ l = ap (λ b. shard_entries node.shard (if b then story_firsts past else New ∷ story_firsts past)) less in
         let below : n < length l = subst (λ k. n < k) (slots-log node.shard (story_firsts past)) (ltb-true n (slots_of node.shard (story_firsts past)) less) in
         let a = at-some l n below in
         let s = k.from n a.0 a.1 in
@@ -136,9 +136,9 @@ module _ {M : Type 0} (site : Site M) (sound : IsSoundSite site) (known : Known)
     -- of a slot for the first time
     first-new : nat_lt n (slots_of node.shard (story_firsts past)) ≡ false → AreFirst node.shard past → AreFirst node.shard (Now ∷ past)
     first-new more k =
-        let l = shard_log node.shard (story_firsts past) in
-        let same : shard_log node.shard (story_firsts (Now ∷ past)) ≡ entry ∷ l =
-        ap (λ b. shard_log node.shard (if b then story_firsts past else New ∷ story_firsts past)) more
+        let l = shard_entries node.shard (story_firsts past) in
+        let same : shard_entries node.shard (story_firsts (Now ∷ past)) ≡ entry ∷ l =
+        ap (λ b. shard_entries node.shard (if b then story_firsts past else New ∷ story_firsts past)) more
         ∙ ap (λ b. if b then entry ∷ l else l) (eq-eqb node.shard node.shard refl) in
         let own_is = k.older node story.0.honest refl in
         let size = slots-log node.shard (story_firsts past) in
@@ -153,10 +153,10 @@ module _ {M : Type 0} (site : Site M) (sound : IsSoundSite site) (known : Known)
           from = λ slot e h. source slot e exact (slot == length l) refl (ap (λ z. at_slot z slot) (sym same) ∙ h) (k.from slot e);
         }
       where
-        source : (slot : ℕ) (e : Entry) → n ≡ length (shard_log node.shard (story_firsts past)) → (b : Bool) → (slot == length (shard_log node.shard (story_firsts past))) ≡ b
-            → (if b then Some entry else at_slot (shard_log node.shard (story_firsts past)) slot) ≡ Some e → (at_slot (shard_log node.shard (story_firsts past)) slot ≡ Some e → IsSource node.shard past slot e) → IsSource node.shard (Now ∷ past) slot e
+        source : (slot : ℕ) (e : Entry) → n ≡ length (shard_entries node.shard (story_firsts past)) → (b : Bool) → (slot == length (shard_entries node.shard (story_firsts past))) ≡ b
+            → (if b then Some entry else at_slot (shard_entries node.shard (story_firsts past)) slot) ≡ Some e → (at_slot (shard_entries node.shard (story_firsts past)) slot ≡ Some e → IsSource node.shard past slot e) → IsSource node.shard (Now ∷ past) slot e
         source slot e exact true is h from =
-            let at : n ≡ slot = exact ∙ sym (eqb-true slot (length (shard_log node.shard (story_firsts past))) is) in
+            let at : n ≡ slot = exact ∙ sym (eqb-true slot (length (shard_entries node.shard (story_firsts past))) is) in
             record { node = node; honest = story.0.honest; here = refl; has = subst (λ k. at_slot (own_log node (Now ∷ past)) k ≡ Some entry) at own-entry ∙ h }
         source slot e exact false other h from = raise node.shard slot e (from h)
 
@@ -206,4 +206,4 @@ module _ {M : Type 0} (site : Site M) (sound : IsSoundSite site) (known : Known)
       ap (λ (n : NodeId). votes_in site.setup.rules n.shard d vote (seen_log site t)) (sym (me-same site i t)) ∙ sym (given-is site i d vote t made) ∙ h in
       let part = subst (λ l. votes_in site.setup.rules i.shard d vote (seen site.setup l) ≡ true) f.is own in
       ap (λ l. votes_in site.setup.rules i.shard d vote l) (log-seen site.setup i.shard (story_firsts story))
-      ∙ older-votes site.setup site.setup.rules i.shard d vote (length (own_log i story)) (shard_log i.shard (story_firsts story)) part
+      ∙ older-votes site.setup site.setup.rules i.shard d vote (length (own_log i story)) (shard_entries i.shard (story_firsts story)) part

@@ -3,15 +3,15 @@ use Rattle.std.proofs.Common.{◌≡◌, inl, inr, ℕ, ◌+◌, ◌*◌, ◌≤
 use Rattle.std.specs.Prelude.{slice_get}
 use Rattle.std.proofs.lemmas.Bool.{and_parts}
 use Rattle.cs_base.specs.declared.node_id.NodeId.{NodeId}
-use Rattle.cs_tx_form.specs.declared.session.Session.{Session}
-use Rattle.cs_tx_form.specs.declared.vote.Vote.TheVariants as tx
-use Rattle.cs_tx_form.specs.declared.entry.Entry.TheVariants.{Prepare}
+use Rattle.cs_tx_types.specs.declared.session.Session.{Session}
+use Rattle.cs_tx_types.specs.declared.vote.Vote.TheVariants as tx
+use Rattle.cs_tx_types.specs.declared.entry.Entry.TheVariants.{Prepare}
 use Rattle.cs_wire_message.specs.declared.message.Message.{Message}
 use Rattle.cs_wire_message.specs.declared.message.Message.TheVariants as message
 use Rattle.cs_order.specs.declared.proposed.Proposed.{Proposed}
 use Rattle.cs_order.specs.Lists as Order
 use Rattle.cs_order.specs.Deeds.{Deed, Took_in, Advanced, Echoed, Proposing, Ticked, Resent, Replied, Cut, Member, chosen_in}
-use Rattle.cs_order.specs.Runs.{entries_in, held_in}
+use Rattle.cs_order.specs.Runs.{entries_handed_in, held_in}
 use Rattle.cs_ledger.specs.Ledger.{IsIn}
 use Rattle.cs_ledger.specs.Session as Seen
 use Rattle.cs_ledger.specs.Session.{Key, anchor, used_up, read_only, has_key}
@@ -20,9 +20,9 @@ use Rattle.cs_ledger.specs.Table.{Table, Outcome, State, exec}
 use Rattle.cs_ledger.proofs.Basics.{bytes_refl, first_is, anchor_used, in_left, in_right}
 use Rattle.cs_ledger.proofs.States.{ready_at}
 use Rattle.cs_node_state.specs.Setup.{concerned, is_fit}
-use Rattle.cs_tx_form.specs.Session.{session_in}
+use Rattle.cs_tx_types.specs.Session.{session_in}
 use Rattle.cs_node_rules.specs.Members.{others}
-use Rattle.cs_node_state.specs.Bench.{locked_at, is_locked, executed, told_by, told_of}
+use Rattle.cs_node_state.specs.Bench.{is_locked_at, is_locked, executed, told_by, vote_told}
 use Rattle.cs_node_rules.specs.Signs.{Did, Sent, sends, vote_signs}
 use Rattle.cs_node_rules.specs.Site.{Mark, In, Ordered, Plain, Site, signs_of}
 use Rattle.cs_node_rules.specs.Ready.{bench_at, Executed, VotesFree}
@@ -38,7 +38,7 @@ use Rattle.cs_world_law.proofs.Local.{order-either, due-read, deeds-kept, local}
 use Rattle.cs_world_law.proofs.Readiness.{part, came, free-commits}
 use Rattle.cs_world_law.proofs.Sending.{IsTelling}
 
-in-sends : (names : List NodeId) (to : NodeId) (said : Message) → IsIn to names → IsIn (Sent to said) (sends names said)
+pub in-sends : (names : List NodeId) (to : NodeId) (said : Message) → IsIn to names → IsIn (Sent to said) (sends names said)
 in-sends [] to said i = absurd i
 in-sends (name ∷ names) to said (inl e) = in_right (Sent to said) (sends names said) (Sent name said ∷ []) (inl (ap (λ (n : NodeId). Sent n said) e))
 in-sends (name ∷ names) to said (inr i) = in_left (Sent to said) (sends names said) (Sent name said ∷ []) (in-sends names to said i)
@@ -69,10 +69,10 @@ module _ {M : Type 0} (site : Site M) (known : Known) (me : NodeId) (t : List (M
       let out = free-commits rules shard b.table seen free.key f.0 f.1 free.is_anchor free.ready free.unvoted free.room in
       let effect = came site known me t made within (Prepare x) e ∙ ap (λ (o : Outcome). o.effect) out in
       let locked : is_locked site.setup shard (executed site.setup shard b (Prepare x)).bench.table x ≡ true =
-      ap (λ (o : Outcome). locked_at o.table seen.digest (anchor rules seen shard)) out
-      ∙ ap (λ k. locked_at (Shard.with_locks b.table seen.digest used read) seen.digest k) free.is_anchor
+      ap (λ (o : Outcome). is_locked_at o.table seen.digest (anchor rules seen shard)) out
+      ∙ ap (λ k. is_locked_at (Shard.with_locks b.table seen.digest used read) seen.digest k) free.is_anchor
       ∙ locked-after rules shard b.table seen free.key free.is_anchor free.ready in
-      let told : told_of site.setup shard x (executed site.setup shard b (Prepare x)) ≡ Some (tx.Commit, true) =
+      let told : vote_told site.setup shard x (executed site.setup shard b (Prepare x)) ≡ Some (tx.Commit, true) =
       ap (λ l. told_by (executed site.setup shard b (Prepare x)).effect l) locked ∙ ap (λ (o : Outcome). told_by o.effect true) out in (
         effect,
         λ to i.
@@ -93,12 +93,12 @@ module _ {M : Type 0} (site : Site M) (sound : IsSoundSite site) (known : Known)
   own-fit (In input ∷ t) made within p i = own-fit t made.1 within.1 p i
   own-fit (Plain sign ∷ t) made within p i = own-fit t made.1 within.1 p i
   own-fit (Ordered deed ∷ t) made within p i =
-      elim (order-either p (entries_in site.machine deed) (held_in site.machine (deeds_in t)) i) [
+      elim (order-either p (entries_handed_in site.machine deed) (held_in site.machine (deeds_in t)) i) [
         | inl now ↦ by deed made within now (λ q j. own-fit t made.1 within.1 q j)
         | inr before ↦ own-fit t made.1 within.1 p before
       ]
     where
-      by : (deed : Deed M) → AllMade site me (Ordered deed ∷ t) → AllWithin site known me (Ordered deed ∷ t) → Order.IsIn p (entries_in site.machine deed)
+      by : (deed : Deed M) → AllMade site me (Ordered deed ∷ t) → AllWithin site known me (Ordered deed ∷ t) → Order.IsIn p (entries_handed_in site.machine deed)
           → ((q : Proposed) → Order.IsIn q (held_in site.machine (deeds_in t)) → is_fit site.setup me.shard (session_in (site.entry_in q)) ≡ true) → is_fit site.setup me.shard (session_in (site.entry_in p)) ≡ true
       by (Took_in from m) made within j held =
           let keeps = (deeds-kept site sound known me (Ordered (Took_in from m) ∷ t) made).0 in

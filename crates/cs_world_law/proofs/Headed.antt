@@ -6,11 +6,11 @@ use Rattle.std.proofs.lemmas.List.{length_push, length-map, take-map, drop-map}
 use Rattle.std.proofs.lemmas.List.Elements.{All-push, All-take, All-drop, All-get_or}
 use Rattle.cs_base.specs.declared.node_id.NodeId.{NodeId}
 use Rattle.cs_tx_value.specs.Object.{DigestFits}
-use Rattle.cs_tx_form.specs.declared.leaf.Leaf.{Leaf}
-use Rattle.cs_tx_form.specs.Log.{leaf_encoding, LeafFits, CheckpointFits}
+use Rattle.cs_tx_types.specs.declared.leaf.Leaf.{Leaf}
+use Rattle.cs_tx_types.specs.Log.{leaf_encoding, LeafFits, CheckpointFits}
 use Rattle.cs_merkle.specs.Tree.{merkle_tree_hash}
-use Rattle.cs_checkpoint.specs.Chain.{Log, empty_log, with_slot, covered_leaves, head_of, checkpoint_of, chain_head}
-use Rattle.cs_checkpoint.specs.Shown.{IsOver}
+use Rattle.cs_check_rules.specs.Chain.{Log, empty_log, with_slot, covered_leaves, head_of, checkpoint_of, chain_head}
+use Rattle.cs_check_rules.specs.Shown.{IsOver}
 use Rattle.cs_check.proofs.Chains.{checkpoint_stays}
 use Rattle.cs_ledger.specs.Ledger.{Bytes, IsIn}
 use Rattle.cs_node_rules.specs.Signs.{Sign, Headed}

@@ -5,10 +5,10 @@ use Rattle.std.proofs.lemmas.Bool.{cond_both, eqb-true}
 use Rattle.cs_order.specs.declared.proposed.Proposed.{Proposed}
 use Rattle.cs_order.specs.Lists.{IsIn}
 use Rattle.cs_order.specs.Deeds.{Deed, Took_in, Advanced, Echoed, Proposing, Ticked, Resent, Replied, Cut, Member, Machine, chosen_in}
-use Rattle.cs_order.specs.Runs.{Act, KeepsRules, IsKept, Run, deeds_of, member_of, entries_in, held_in}
+use Rattle.cs_order.specs.Runs.{Act, KeepsRules, AllKeepRules, IsRun, deeds_of, member_of, entries_handed_in, held_in}
 use Rattle.cs_order.specs.Law.{Admits, Admitted, HasChosen, IsLawful, Holds}
 use Rattle.cs_node_rules.specs.Site.{Site}
-use Rattle.cs_world_law.specs.Chain.{Moment, Known, Story, IsSoundSite, IsUnique, shard_acts, honest_in}
+use Rattle.cs_world_law.specs.Chain.{Moment, Known, Story, IsSoundSite, IsUnique, shard_acts, is_honest_in}
 use Rattle.cs_world_law.proofs.Local.{order-either}
 use Rattle.cs_world_law.proofs.Runs.{lawful, story-run}
 
@@ -16,7 +16,7 @@ use Rattle.cs_world_law.proofs.Runs.{lawful, story-run}
 abbrev pub AreLawful : {M : Type 0} → Site M → Known → Type 0
 AreLawful {M} site known =
     (story : List (Moment M)) (shard : ℕ) → shard < site.setup.shards → Story site known story →
-    IsLawful site.machine site.setup.f (honest_in site shard) (shard_acts shard story)
+    IsLawful site.machine site.setup.f (is_honest_in site shard) (shard_acts shard story)
 
 pub lawful-apart : {M : Type 0} (site : Site M) (sound : IsSoundSite site) (known : Known) → IsUnique known.entries → AreLawful site known
 lawful-apart {M} site sound known unique story shard fits story_is = lawful site sound known story shard fits story_is unique
@@ -25,15 +25,15 @@ lawful-apart {M} site sound known unique story shard fits story_is = lawful site
 
 module _ {M : Type 0} (m : Machine M) (holds : Holds m) (f : ℕ) (alone : f ≡ 0) (honest : ℕ → Bool) where
   -- its deeds keep the rules
-  deeds-kept : (i : ℕ) (past : List (Act M)) → Run m f honest past → IsKept m f i (deeds_of i past)
+  deeds-kept : (i : ℕ) (past : List (Act M)) → IsRun m f honest past → AllKeepRules m f i (deeds_of i past)
   deeds-kept i [] run = tt
   deeds-kept i (act ∷ past) run =
-      cond_both (act.member == i) (act.deed ∷ deeds_of i past) (deeds_of i past) (λ ds. IsKept m f i ds)
+      cond_both (act.member == i) (act.deed ∷ deeds_of i past) (deeds_of i past) (λ ds. AllKeepRules m f i ds)
       (λ e. (subst (λ k. KeepsRules m (member_of f k past) act.deed) (eqb-true act.member i e) run.0.keeps, deeds-kept i past run.1))
       (λ e. deeds-kept i past run.1)
 
   -- who has chosen is a member
-  chooser : (i slot : ℕ) (a : Proposed) (past : List (Act M)) → Run m f honest past → HasChosen i slot a past → i < 3 * f + 1
+  chooser : (i slot : ℕ) (a : Proposed) (past : List (Act M)) → IsRun m f honest past → HasChosen i slot a past → i < 3 * f + 1
   chooser i slot a [] run chosen = cc
   chooser i slot a (act ∷ past) run chosen =
       cond_both (act.member == i) (act.deed ∷ deeds_of i past) (deeds_of i past) (λ ds. slice_get (chosen_in ds) slot ≡ Some a → i < 3 * f + 1)
@@ -48,7 +48,7 @@ module _ {M : Type 0} (m : Machine M) (holds : Holds m) (f : ℕ) (alone : f ≡
       least i j f none a b = omega arith
 
   -- what a deed handed in was proposed, since there is no other member to take it from
-  own : (h : Member M) (deed : Deed M) (a : Proposed) → h.f ≡ f → h.me < 3 * f + 1 → KeepsRules m h deed → IsIn a (entries_in m deed) → Admits m a h deed
+  own : (h : Member M) (deed : Deed M) (a : Proposed) → h.f ≡ f → h.me < 3 * f + 1 → KeepsRules m h deed → IsIn a (entries_handed_in m deed) → Admits m a h deed
   own h (Took_in from message) a same member keeps i = absurd (keeps.1 (only-one from h.me (least from h.f f same keeps.0) member))
     where
       least : (from g f : ℕ) → g ≡ f → from ≤ 3 * g → from < 3 * f + 1
@@ -62,18 +62,18 @@ module _ {M : Type 0} (m : Machine M) (holds : Holds m) (f : ℕ) (alone : f ≡
   own h (Proposing proposed sent) a same member keeps (inl is) = sym is
   own h (Proposing proposed sent) a same member keeps (inr none) = absurd none
 
-  held-admitted : (i : ℕ) (a : Proposed) (past : List (Act M)) → Run m f honest past → IsIn a (held_in m (deeds_of i past)) → Admitted m f a past
+  held-admitted : (i : ℕ) (a : Proposed) (past : List (Act M)) → IsRun m f honest past → IsIn a (held_in m (deeds_of i past)) → Admitted m f a past
   held-admitted i a [] run held = absurd held
   held-admitted i a (act ∷ past) run held =
       cond_both (act.member == i) (act.deed ∷ deeds_of i past) (deeds_of i past) (λ ds. IsIn a (held_in m ds) → Admitted m f a (act ∷ past))
-      (λ e h. elim (order-either a (entries_in m act.deed) (held_in m (deeds_of i past)) h) [
+      (λ e h. elim (order-either a (entries_handed_in m act.deed) (held_in m (deeds_of i past)) h) [
         | inl now ↦ inl (own (member_of f act.member past) act.deed a refl run.0.is_member run.0.keeps now)
         | inr before ↦ inr (held-admitted i a past run.1 before)
       ])
       (λ e h. inr (held-admitted i a past run.1 h))
       held
 
-  pub alone-lawful : (past : List (Act M)) → Run m f honest past → IsLawful m f honest past
+  pub alone-lawful : (past : List (Act M)) → IsRun m f honest past → IsLawful m f honest past
   alone-lawful past run = record {
     agree = λ i j slot a b x y.
         let same = only-one i j (chooser i slot a past run x) (chooser j slot b past run y) in
@@ -85,4 +85,4 @@ module _ {M : Type 0} (m : Machine M) (holds : Holds m) (f : ℕ) (alone : f ≡
 
 pub lawful-alone : {M : Type 0} (site : Site M) (sound : IsSoundSite site) (known : Known) → site.setup.f ≡ 0 → AreLawful site known
 lawful-alone {M} site sound known alone story shard fits story_is =
-    alone-lawful site.machine sound.holds site.setup.f alone (honest_in site shard) (shard_acts shard story) (story-run site sound known story shard story_is)
+    alone-lawful site.machine sound.holds site.setup.f alone (is_honest_in site shard) (shard_acts shard story) (story-run site sound known story shard story_is)

@@ -6,6 +6,7 @@ pub mod Runs
 pub mod Lawful
 pub mod Older
 pub mod Agree
+pub mod Chosen
 pub mod Firsts
 pub mod Counting
 pub mod Ballots
@@ -29,3 +30,7 @@ pub mod Logged
 pub mod Headed
 pub mod SameHeads
 pub mod Clients
+pub mod OneEcho
+pub mod Resting
+pub mod Handing
+pub mod Saying

@@ -2,16 +2,16 @@
 use Rattle.std.proofs.Common.{◌≡◌, ◌⊎◌, inl, inr, ℕ, List, [], ◌∷◌, ◌++◌, Some, map, sym, ◌∙◌, ap, subst, refl}
 use Rattle.std.specs.Prelude.{Ok, Err, slice_get}
 use Rattle.cs_base.specs.declared.node_id.NodeId.{NodeId}
-use Rattle.cs_tx_form.specs.declared.session.Session.{Session}
-use Rattle.cs_tx_form.specs.declared.entry.Entry.{Entry}
-use Rattle.cs_tx_form.specs.Session.{SessionFits, EntryFits, session_in}
+use Rattle.cs_tx_types.specs.declared.session.Session.{Session}
+use Rattle.cs_tx_types.specs.declared.entry.Entry.{Entry}
+use Rattle.cs_tx_types.specs.Session.{SessionFits, EntryFits, session_in}
 use Rattle.cs_wire_message.specs.declared.message.Message.{Message}
 use Rattle.cs_wire_message.specs.declared.message.Message.TheVariants as message
 use Rattle.cs_wire.specs.Opened.{Opened}
 use Rattle.cs_order.specs.declared.proposed.Proposed.{Proposed}
 use Rattle.cs_order.specs.Lists as Order
 use Rattle.cs_order.specs.Deeds.{Deed, Took_in, Advanced, Echoed, Proposing, Ticked, Resent, Replied, Cut, Member, chosen_in}
-use Rattle.cs_order.specs.Runs.{KeepsRules, IsKept, entries_in as entries_by, held_in}
+use Rattle.cs_order.specs.Runs.{KeepsRules, AllKeepRules, entries_handed_in as entries_by, held_in}
 use Rattle.cs_ledger.specs.Ledger.{Bytes, IsIn}
 use Rattle.cs_ledger.specs.Table.{Effect}
 use Rattle.cs_ledger.proofs.Basics.{in_either}
@@ -20,7 +20,7 @@ use Rattle.cs_node_rules.specs.Site.{Datagram, Tick, Mark, In, Ordered, Plain, S
 use Rattle.cs_node_rules.specs.Collisions.{sessions_in, entries_in, in_opened}
 use Rattle.cs_node_rules.specs.Deployment.{proposed_of}
 use Rattle.cs_node_law.specs.Made.{view_at, HasVotedOn, current, IsHeard, IsMade, AllMade}
-use Rattle.cs_world_law.specs.Chain.{Known, IsFine, IsWithin, IsSoundSite}
+use Rattle.cs_world_law.specs.Chain.{Known, IsFine, IsWithinKnown, IsSoundSite}
 use Rattle.cs_node_law.proofs.Views.{sessions_given, me-same}
 use Rattle.cs_world_law.proofs.Deeds.{deeds_in, member-is}
 use Rattle.cs_world_law.proofs.Trails.{AllWithin}
@@ -94,7 +94,7 @@ module _ {M : Type 0} (site : Site M) (sound : IsSoundSite site) (known : Known)
 
   -- ---- the order's deeds
 
-  pub deeds-kept : (t : List (Mark M)) → AllMade site me t → IsKept site.machine site.setup.f me.index (deeds_in t)
+  pub deeds-kept : (t : List (Mark M)) → AllMade site me t → AllKeepRules site.machine site.setup.f me.index (deeds_in t)
   deeds-kept [] made = tt
   deeds-kept (In input ∷ t) made = deeds-kept t made.1
   deeds-kept (Plain sign ∷ t) made = deeds-kept t made.1
@@ -125,7 +125,7 @@ module _ {M : Type 0} (site : Site M) (sound : IsSoundSite site) (known : Known)
   due-read t entry made within l d = ap site.entry_in (sound.proposes entry) ∙ sound.reads entry (entry-fits entry (due-ours t entry made within l d).0)
 
   -- the entries that a deed hands in
-  pub by-deed : (t : List (Mark M)) (deed : Deed M) → AllMade site me t → AllWithin site known me t → IsLocal t → IsMade site me t (Ordered deed) → IsWithin site known me (Ordered deed)
+  pub by-deed : (t : List (Mark M)) (deed : Deed M) → AllMade site me t → AllWithin site known me t → IsLocal t → IsMade site me t (Ordered deed) → IsWithinKnown site known me (Ordered deed)
       → (p : Proposed) → Order.IsIn p (entries_by site.machine deed) → IsListed known p
   by-deed t (Took_in from m) made within l is in_known p i =
       let k = is.1 in
@@ -158,7 +158,7 @@ module _ {M : Type 0} (site : Site M) (sound : IsSoundSite site) (known : Known)
       ]
 
   -- what was chosen was handed in, and read back
-  chosen-listed : (t : List (Mark M)) (slot : ℕ) (p : Proposed) → AllMade site me t → IsLocal t → slice_get (chosen_in (view_at site me t).member.deeds) slot ≡ Some p → IsListed known p
+  pub chosen-listed : (t : List (Mark M)) (slot : ℕ) (p : Proposed) → AllMade site me t → IsLocal t → slice_get (chosen_in (view_at site me t).member.deeds) slot ≡ Some p → IsListed known p
   chosen-listed t slot p made l chosen =
       let at = subst (λ (h : Member M). slice_get (chosen_in h.deeds) slot ≡ Some p) (member-is site me t) chosen in
       l.held p (sound.holds.logged site.setup.f me.index (deeds_in t) (deeds-kept t made) slot p at)
@@ -167,12 +167,13 @@ module _ {M : Type 0} (site : Site M) (sound : IsSoundSite site) (known : Known)
   pub record IsDone (entry : Entry) : Type 0 where
     pub fits : EntryFits entry
     pub session : IsIn (session_in entry) known.sessions
+    pub listed : IsIn entry known.entries
 
   pub did-done : (t : List (Mark M)) (slot : ℕ) (entry : Entry) (effect : Effect) → AllMade site me (Plain (Did slot entry effect) ∷ t) → IsLocal t → IsDone entry
   did-done t slot entry effect made l =
       let p = chosen-listed t slot made.0.proposed made.1 l made.0.chosen in
       let same : p.entry ≡ entry = sym (sound.reads p.entry p.fits) ∙ ap site.entry_in (sym p.is) ∙ made.0.reads in
-      record { fits = subst EntryFits same p.fits; session = subst (λ z. IsIn (session_in z) known.sessions) same p.session }
+      record { fits = subst EntryFits same p.fits; session = subst (λ z. IsIn (session_in z) known.sessions) same p.session; listed = subst (λ z. IsIn z known.entries) same p.listed }
 
   pub local : (t : List (Mark M)) → AllMade site me t → AllWithin site known me t → IsLocal t
   local [] made within = record { held = λ p i. absurd i; voted = λ x h. absurd h }

@@ -5,11 +5,11 @@ use Rattle.std.proofs.lemmas.List.{length_push, map_push, length-map}
 use Rattle.std.proofs.lemmas.List.Elements.{All-push}
 use Rattle.cs_base.specs.declared.node_id.NodeId.{NodeId}
 use Rattle.cs_tx_value.specs.Object.{DigestFits}
-use Rattle.cs_tx_form.specs.declared.entry.Entry.{Entry}
-use Rattle.cs_tx_form.specs.declared.leaf.Leaf.{Leaf}
-use Rattle.cs_tx_form.specs.Log.{leaf_encoding, LeafFits}
-use Rattle.cs_tx_form.specs.Session.{EntryFits}
-use Rattle.cs_checkpoint.specs.Chain.{Log, empty_log, with_slot}
+use Rattle.cs_tx_types.specs.declared.entry.Entry.{Entry}
+use Rattle.cs_tx_types.specs.declared.leaf.Leaf.{Leaf}
+use Rattle.cs_tx_types.specs.Log.{leaf_encoding, LeafFits}
+use Rattle.cs_tx_types.specs.Session.{EntryFits}
+use Rattle.cs_check_rules.specs.Chain.{Log, empty_log, with_slot}
 use Rattle.cs_check_rules.specs.Root.{root_under}
 use Rattle.cs_ledger.specs.Table.{Effect}
 use Rattle.cs_node_state.specs.Bench.{executed, effect_from, next_leaf}

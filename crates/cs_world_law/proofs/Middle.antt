@@ -2,7 +2,7 @@
 use Rattle.std.proofs.Common.{◌≡◌, inl, inr, ℕ, true, false, ◌&&◌, List, [], ◌∷◌, ◌++◌, length, map, refl, sym, ap, ◌∙◌, subst, arith}
 use Rattle.std.proofs.lemmas.Bool.{and_parts, or_cases, both_ways}
 use Rattle.cs_base.specs.declared.node_id.NodeId.{NodeId}
-use Rattle.cs_tx_form.specs.declared.session.Session.{Session}
+use Rattle.cs_tx_types.specs.declared.session.Session.{Session}
 use Rattle.cs_ledger.specs.Ledger.{Bytes, Item, Transaction, IsIn, Ledger, Serial, uses_once, ledger_after}
 use Rattle.cs_ledger.specs.Session as Seen
 use Rattle.cs_ledger.specs.Session.{all_items}
@@ -14,13 +14,13 @@ use Rattle.cs_ledger.proofs.Strings.{no_collision_within}
 use Rattle.cs_ledger.proofs.Votes.{log_at, all_more}
 use Rattle.cs_node_state.specs.Setup.{Setup, entry_of}
 use Rattle.cs_node_rules.specs.Site.{Site}
-use Rattle.cs_node_rules.specs.World.{Execution, steps_of, slots_of, told, recorded, all_recorded}
+use Rattle.cs_node_rules.specs.World.{Execution, steps_of, slots_of, told_transactions, is_recorded, all_recorded}
 use Rattle.cs_node_law.specs.Made.{view_at}
 use Rattle.cs_node_law.proofs.Views.{me-same}
 use Rattle.cs_node_law.proofs.Logs.{seen, seen_log, table-is}
 use Rattle.cs_world_law.specs.Worlds.{is_honest}
 use Rattle.cs_world_law.specs.Steps.{AllComputed}
-use Rattle.cs_world_law.specs.Chain.{Moment, trail_at, Known, Story, IsSoundSite, story_firsts, shard_log}
+use Rattle.cs_world_law.specs.Chain.{Moment, trail_at, Known, Story, IsSoundSite, story_firsts, shard_entries}
 use Rattle.cs_world_law.proofs.Lawful.{AreLawful}
 use Rattle.cs_world_law.proofs.Older.{older-all}
 use Rattle.cs_world_law.proofs.Firsts.{own_log, slots-log, log-seen, are-first}
@@ -33,8 +33,8 @@ use Rattle.cs_world_law.proofs.Told.{recorded-is, all-recorded-is, told-is}
 pub record IsMiddle {M : Type 0} (site : Site M) (known : Known) (firsts : List Execution) : Type 0 where
   pub world_is : IsShardWorld site.setup.rules (steps_of site.setup firsts)
   pub within : (x : Seen.Session) → IsIn x (sessions (steps_of site.setup firsts)) → IsIn x (map site.setup.session_of known.sessions)
-  pub history_is : told site.setup firsts ≡ World.history site.setup.rules (steps_of site.setup firsts)
-  pub recorded_is : (d : Bytes) (vote : Vote) (shard : ℕ) → recorded site.setup firsts d vote shard ≡ votes_in site.setup.rules shard d vote (log shard (steps_of site.setup firsts))
+  pub history_is : told_transactions site.setup firsts ≡ World.history site.setup.rules (steps_of site.setup firsts)
+  pub recorded_is : (d : Bytes) (vote : Vote) (shard : ℕ) → is_recorded site.setup firsts d vote shard ≡ votes_in site.setup.rules shard d vote (log shard (steps_of site.setup firsts))
   pub all_recorded_is : (x : Session) → all_recorded site.setup firsts x ≡ all_commit site.setup.rules (steps_of site.setup firsts) (site.setup.session_of x)
 
 pub middle : {M : Type 0} (site : Site M) (sound : IsSoundSite site) (known : Known) → AreNamedApart site.setup.rules.genesis (map site.setup.session_of known.sessions)
@@ -49,11 +49,11 @@ middle {M} site sound known apart firsts fine came = record {
 
 module _ {M : Type 0} (site : Site M) (sound : IsSoundSite site) (known : Known) (lawful : AreLawful site known) where
   -- the log of a node that has executed all of its shard
-  pub whole-log : (story : List (Moment M)) (i : NodeId) → Story site known story → is_honest site i ≡ true → length (own_log i story) ≡ slots_of i.shard (story_firsts story) → own_log i story ≡ shard_log i.shard (story_firsts story)
+  pub whole-log : (story : List (Moment M)) (i : NodeId) → Story site known story → is_honest site i ≡ true → length (own_log i story) ≡ slots_of i.shard (story_firsts story) → own_log i story ≡ shard_entries i.shard (story_firsts story)
   whole-log story i story_is honest all =
       let own = (are-first site sound known lawful i.shard story story_is).older i honest refl in
       let size = slots-log i.shard (story_firsts story) in
-      own.is ∙ older-all (length (own_log i story)) (shard_log i.shard (story_firsts story)) (omega arith)
+      own.is ∙ older-all (length (own_log i story)) (shard_entries i.shard (story_firsts story)) (omega arith)
 
   -- and its table
   pub whole-table : (story : List (Moment M)) (i : NodeId) → Story site known story → is_honest site i ≡ true → length (own_log i story) ≡ slots_of i.shard (story_firsts story)

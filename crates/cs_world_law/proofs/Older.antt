@@ -1,7 +1,7 @@
 -- Logs are lists, the newest first; of two logs of one shard one is the older part of the other.
 use Rattle.std.proofs.Common.{◌≡◌, ℕ, suc, ◌<◌, ◌≤◌, ◌==◌, nat_lt, nat_le, Bool, true, false, if◌then◌else◌, List, [], ◌∷◌, ◌++◌, length, Option, Some, None, arith, sym, ◌∙◌, ap, subst, refl}
 use Rattle.std.proofs.lemmas.Bool.{eqb-true, or_right}
-use Rattle.cs_tx_form.specs.declared.entry.Entry.{Entry}
+use Rattle.cs_tx_types.specs.declared.entry.Entry.{Entry}
 use Rattle.cs_ledger.specs.Ledger.{Bytes}
 use Rattle.cs_ledger.specs.Session.{Rules}
 use Rattle.cs_ledger.specs.Table.{Vote, Effect}

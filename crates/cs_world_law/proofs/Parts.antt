@@ -2,7 +2,7 @@
 use Rattle.std.proofs.Common.{◌≡◌, ℕ, ◌==◌, nat_le, Bool, true, false, if◌then◌else◌, List, [], ◌∷◌, ◌++◌, length, refl, sym, ap, ◌∙◌}
 use Rattle.std.proofs.lemmas.Bool.{eqb-true}
 use Rattle.cs_base.specs.declared.node_id.NodeId.{NodeId}
-use Rattle.cs_tx_form.specs.declared.entry.Entry.{Entry}
+use Rattle.cs_tx_types.specs.declared.entry.Entry.{Entry}
 use Rattle.cs_ledger.specs.Table.{exec, table_of}
 use Rattle.cs_node_state.specs.Setup.{Setup, entry_of}
 use Rattle.cs_node_rules.specs.Signs.{Dropped, Took, Entered, Viewed, Did, Headed, Kept, Sent}
@@ -12,7 +12,7 @@ use Rattle.cs_node_law.specs.Made.{log_in, AllMade}
 use Rattle.cs_node_law.proofs.Logs.{seen}
 use Rattle.cs_world_law.specs.Worlds.{is_honest}
 use Rattle.cs_world_law.specs.Steps.{effect_after, AllComputed, executions_of, executions_in, IsOlderPart}
-use Rattle.cs_world_law.specs.Chain.{Moment, trail_at, Known, Story, IsSoundSite, story_firsts, shard_log}
+use Rattle.cs_world_law.specs.Chain.{Moment, trail_at, Known, Story, IsSoundSite, story_firsts, shard_entries}
 use Rattle.cs_world_law.proofs.Lawful.{AreLawful}
 use Rattle.cs_world_law.proofs.Trails.{made-all}
 use Rattle.cs_world_law.proofs.Older.{older}
@@ -45,21 +45,21 @@ module _ (setup : Setup) (shard : ℕ) where
       go false later = record { newer = []; is = refl }
 
   -- those of a shard are made by its log
-  firsts-made : (firsts : List Execution) → AllComputed setup firsts → executions_of shard firsts ≡ executions (shard_log shard firsts)
+  firsts-made : (firsts : List Execution) → AllComputed setup firsts → executions_of shard firsts ≡ executions (shard_entries shard firsts)
   firsts-made [] computed = refl
   firsts-made (e ∷ earlier) computed = go (e.shard == shard) refl (firsts-made earlier computed.1)
     where
-      same : e.shard ≡ shard → e ≡ next_execution e.entry (shard_log shard earlier)
+      same : e.shard ≡ shard → e ≡ next_execution e.entry (shard_entries shard earlier)
       same here =
-          let slot : e.slot ≡ length (shard_log shard earlier) = computed.0.next ∙ ap (λ k. slots_of k earlier) here ∙ slots-log shard earlier in
-          let effect : e.effect ≡ (next_execution e.entry (shard_log shard earlier)).effect =
+          let slot : e.slot ≡ length (shard_entries shard earlier) = computed.0.next ∙ ap (λ k. slots_of k earlier) here ∙ slots-log shard earlier in
+          let effect : e.effect ≡ (next_execution e.entry (shard_entries shard earlier)).effect =
           computed.0.effect
           ∙ ap (λ k. effect_after setup earlier k e.entry) here
           ∙ ap (λ l. (exec setup.rules shard (table_of setup.rules shard l) (entry_of setup e.entry)).effect) (log-seen setup shard earlier) in
           λ k. record { shard = here k; slot = slot k; entry = e.entry; effect = effect k }
 
-      go : (b : Bool) → (e.shard == shard) ≡ b → executions_of shard earlier ≡ executions (shard_log shard earlier)
-          → (if b then e ∷ executions_of shard earlier else executions_of shard earlier) ≡ executions (if b then e.entry ∷ shard_log shard earlier else shard_log shard earlier)
+      go : (b : Bool) → (e.shard == shard) ≡ b → executions_of shard earlier ≡ executions (shard_entries shard earlier)
+          → (if b then e ∷ executions_of shard earlier else executions_of shard earlier) ≡ executions (if b then e.entry ∷ shard_entries shard earlier else shard_entries shard earlier)
       go false other before = before
       go true here before = let first = same (eqb-true e.shard shard here) in λ k. first k ∷ before k
 
@@ -85,7 +85,7 @@ pub follows : {M : Type 0} (site : Site M) (sound : IsSoundSite site) (known : K
     → IsOlderPart (executions_in i.shard (signs_of (trail_at i story))) (executions_of i.shard (story_firsts story))
 follows {M} site sound known lawful story story_is i honest =
     let own = (are-first site sound known lawful i.shard story story_is).older i honest refl in
-    let all = shard_log i.shard (story_firsts story) in
+    let all = shard_entries i.shard (story_firsts story) in
     let mine = own-made site i (trail_at i story) (made-all site known i story story_is) ∙ ap (λ l. executions site.setup i.shard l) own.is in
     let theirs = firsts-made site.setup i.shard (story_firsts story) (computed site sound known lawful story story_is) in
     let part = executions-older site.setup i.shard (length (own_log i story)) all in

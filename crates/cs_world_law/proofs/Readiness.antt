@@ -2,10 +2,10 @@
 use Rattle.std.proofs.Common.{◌≡◌, inl, inr, ℕ, ◌==◌, Bool, true, false, List, [], ◌∷◌, ◌++◌, length, Option, Some, None, map, refl, sym, ap, ◌∙◌, subst, arith, if◌then◌else◌}
 use Rattle.std.proofs.lemmas.Bool.{and_parts, and_from, eqb-true}
 use Rattle.cs_base.specs.declared.node_id.NodeId.{NodeId}
-use Rattle.cs_tx_form.specs.declared.session.Session.{Session}
-use Rattle.cs_tx_form.specs.declared.vote.Vote.TheVariants as tx
-use Rattle.cs_tx_form.specs.declared.entry.Entry.{Entry}
-use Rattle.cs_tx_form.specs.declared.entry.Entry.TheVariants.{Prepare, Decide}
+use Rattle.cs_tx_types.specs.declared.session.Session.{Session}
+use Rattle.cs_tx_types.specs.declared.vote.Vote.TheVariants as tx
+use Rattle.cs_tx_types.specs.declared.entry.Entry.{Entry}
+use Rattle.cs_tx_types.specs.declared.entry.Entry.TheVariants.{Prepare, Decide}
 use Rattle.cs_ledger.specs.Ledger.{IsIn}
 use Rattle.cs_ledger.specs.Session as Seen
 use Rattle.cs_ledger.specs.Session.{Key, Piece, anchor, used_up, read_only, objects_in, all_items}
@@ -17,7 +17,7 @@ use Rattle.cs_ledger.proofs.States.{ready_at}
 use Rattle.cs_ledger.proofs.Votes.{among_some, commits_in}
 use Rattle.cs_ledger.proofs.Decisions.{all_concerned}
 use Rattle.cs_node_state.specs.Setup.{Setup, digest_of, entry_of, is_fit}
-use Rattle.cs_node_state.specs.Bench.{Bench, start_bench, locked_at, executed}
+use Rattle.cs_node_state.specs.Bench.{Bench, start_bench, is_locked_at, executed}
 use Rattle.cs_node_rules.specs.Signs.{Sign, Dropped, Took, Entered, Viewed, Did, Headed, Kept, Sent, bench_step, bench_after}
 use Rattle.cs_node_rules.specs.Site.{Mark, In, Ordered, Plain, Site, signs_of}
 use Rattle.cs_node_rules.specs.World.{Execution, steps_of}
@@ -26,7 +26,7 @@ use Rattle.cs_node_law.specs.Made.{view_at, log_in, AllMade}
 use Rattle.cs_node_law.proofs.Views.{me-same}
 use Rattle.cs_node_law.proofs.Logs.{seen}
 use Rattle.cs_world_law.specs.Worlds.{is_honest}
-use Rattle.cs_world_law.specs.Chain.{Moment, trail_at, Known, Story, IsSoundSite, story_firsts, shard_log}
+use Rattle.cs_world_law.specs.Chain.{Moment, trail_at, Known, Story, IsSoundSite, story_firsts, shard_entries}
 use Rattle.cs_world_law.proofs.Trails.{AllWithin, made-all, within-all}
 use Rattle.cs_world_law.proofs.Lawful.{AreLawful}
 use Rattle.cs_world_law.proofs.Older.{older, at_slot, IsOlder, older-drop, older-all, older-part, at-below}
@@ -95,19 +95,19 @@ pub record IsSplit (shard : ℕ) (own : List Entry) (entry : Entry) (firsts : Li
   pub is : firsts ≡ later ++ first ∷ earlier
   pub here : first.shard ≡ shard
   pub entry_is : first.entry ≡ entry
-  pub log : shard_log shard earlier ≡ own
+  pub log : shard_entries shard earlier ≡ own
 
-split-at : (shard : ℕ) (own : List Entry) (entry : Entry) (n : ℕ) (firsts : List Execution) → own ≡ older n (shard_log shard firsts) → at_slot (shard_log shard firsts) n ≡ Some entry → IsSplit shard own entry firsts
+split-at : (shard : ℕ) (own : List Entry) (entry : Entry) (n : ℕ) (firsts : List Execution) → own ≡ older n (shard_entries shard firsts) → at_slot (shard_entries shard firsts) n ≡ Some entry → IsSplit shard own entry firsts
 split-at shard own entry n [] is there = absurd cc
 split-at shard own entry n (e ∷ earlier) is there = go (e.shard == shard) refl (split-at shard own entry n earlier) is there
   where
     more : IsSplit shard own entry earlier → IsSplit shard own entry (e ∷ earlier)
     more s = record { later = e ∷ s.later; first = s.first; earlier = s.earlier; is = ap (λ l. e ∷ l) s.is; here = s.here; entry_is = s.entry_is; log = s.log }
 
-    last : (b : Bool) → (n == length (shard_log shard earlier)) ≡ b → (e.shard == shard) ≡ true → (own ≡ older n (shard_log shard earlier) → at_slot (shard_log shard earlier) n ≡ Some entry → IsSplit shard own entry earlier)
-        → own ≡ older n (e.entry ∷ shard_log shard earlier) → (if b then Some e.entry else at_slot (shard_log shard earlier) n) ≡ Some entry → IsSplit shard own entry (e ∷ earlier)
+    last : (b : Bool) → (n == length (shard_entries shard earlier)) ≡ b → (e.shard == shard) ≡ true → (own ≡ older n (shard_entries shard earlier) → at_slot (shard_entries shard earlier) n ≡ Some entry → IsSplit shard own entry earlier)
+        → own ≡ older n (e.entry ∷ shard_entries shard earlier) → (if b then Some e.entry else at_slot (shard_entries shard earlier) n) ≡ Some entry → IsSplit shard own entry (e ∷ earlier)
     last true same here again is there =
-        let l = shard_log shard earlier in
+        let l = shard_entries shard earlier in
         let size = eqb-true n (length l) same in
         let entry_is : e.entry ≡ entry = cc in
         record {
@@ -120,13 +120,13 @@ split-at shard own entry n (e ∷ earlier) is there = go (e.shard == shard) refl
           log = sym (is ∙ older-drop n e.entry l (omega (arith, size)) ∙ older-all n l (omega (arith, size)));
         }
     last false other here again is there =
-        let l = shard_log shard earlier in
+        let l = shard_entries shard earlier in
         let below = at-below l n entry there in
         more (again (is ∙ older-drop n e.entry l (omega (arith, below))) there)
 
-    go : (b : Bool) → (e.shard == shard) ≡ b → (own ≡ older n (shard_log shard earlier) → at_slot (shard_log shard earlier) n ≡ Some entry → IsSplit shard own entry earlier)
-        → own ≡ older n (if b then e.entry ∷ shard_log shard earlier else shard_log shard earlier) → at_slot (if b then e.entry ∷ shard_log shard earlier else shard_log shard earlier) n ≡ Some entry → IsSplit shard own entry (e ∷ earlier)
-    go true same again is there = last (n == length (shard_log shard earlier)) refl same again is there
+    go : (b : Bool) → (e.shard == shard) ≡ b → (own ≡ older n (shard_entries shard earlier) → at_slot (shard_entries shard earlier) n ≡ Some entry → IsSplit shard own entry earlier)
+        → own ≡ older n (if b then e.entry ∷ shard_entries shard earlier else shard_entries shard earlier) → at_slot (if b then e.entry ∷ shard_entries shard earlier else shard_entries shard earlier) n ≡ Some entry → IsSplit shard own entry (e ∷ earlier)
+    go true same again is there = last (n == length (shard_entries shard earlier)) refl same again is there
     go false other again is there = more (again is there)
 
 -- a Prepare of a session whose objects are free locks them
@@ -163,7 +163,7 @@ module _ {M : Type 0} (site : Site M) (sound : IsSoundSite site) (known : Known)
     split =
         let own = (are-first site sound known lawful i.shard story story_is).older i honest refl in
         let is : log_in (signs_of (trail_at i story)) ≡ log_in e.later ++ entry ∷ log_in e.earlier = ap log_in e.split ∙ log-append e.later (Did e.slot entry e.effect ∷ e.earlier) in
-        let next = older-part (log_in e.later) entry (log_in e.earlier) (shard_log i.shard (story_firsts story)) (subst (λ l. IsOlder l (shard_log i.shard (story_firsts story))) is own) in
+        let next = older-part (log_in e.later) entry (log_in e.earlier) (shard_entries i.shard (story_firsts story)) (subst (λ l. IsOlder l (shard_entries i.shard (story_firsts story))) is own) in
         split-at i.shard (log_in e.earlier) entry (length (log_in e.earlier)) (story_firsts story) next.is next.there
 
     abbrev pub Before : List Step
@@ -191,7 +191,7 @@ module _ {M : Type 0} (site : Site M) (sound : IsSoundSite site) (known : Known)
     pub accepts-locked : AcceptsLocked site.setup i.shard (signs_of (trail_at i story))
     accepts-locked x e held = at_key (anchor site.setup.rules (site.setup.session_of x) i.shard) refl held
       where
-        at_key : (o : Option Key) → anchor site.setup.rules (site.setup.session_of x) i.shard ≡ o → locked_at (bench_at site.setup i.shard e.earlier).table (digest_of site.setup x) o ≡ true
+        at_key : (o : Option Key) → anchor site.setup.rules (site.setup.session_of x) i.shard ≡ o → is_locked_at (bench_at site.setup i.shard e.earlier).table (digest_of site.setup x) o ≡ true
             → (e.effect ≡ Shard.Accepted) × IsDone site.setup i.shard (executed site.setup i.shard (bench_at site.setup i.shard e.earlier) (Decide tx.Commit x)).bench.table x
         at_key None is h = absurd cc
         at_key (Some key) is h =

@@ -5,10 +5,10 @@ use Rattle.std.proofs.lemmas.Bool.{cond_both, both_ways, or_right, eqb-true}
 use Rattle.sha2.proofs.Facts256.{length-sha256}
 use Rattle.cs_base.specs.declared.node_id.NodeId.{NodeId}
 use Rattle.cs_base.specs.NodeId.{is_client}
-use Rattle.cs_tx_form.specs.declared.checkpoint.Checkpoint.{Checkpoint}
-use Rattle.cs_tx_form.specs.declared.session.Session.{Session}
-use Rattle.cs_tx_form.specs.declared.vote.Vote as Tx
-use Rattle.cs_tx_form.specs.Session.{SessionFits}
+use Rattle.cs_tx_types.specs.declared.checkpoint.Checkpoint.{Checkpoint}
+use Rattle.cs_tx_types.specs.declared.session.Session.{Session}
+use Rattle.cs_tx_types.specs.declared.vote.Vote as Tx
+use Rattle.cs_tx_types.specs.Session.{SessionFits}
 use Rattle.cs_wire_message.specs.declared.message.Message.{Message}
 use Rattle.cs_wire_message.specs.declared.message.Message.TheVariants as message
 use Rattle.cs_wire_message.specs.Message.{MessageFits}
@@ -18,20 +18,20 @@ use Rattle.cs_order.specs.laws.Lists.{IsIn-right}
 use Rattle.cs_order.specs.laws.Digests.{digest-passes}
 use Rattle.cs_order.specs.Digests.{digest_fits}
 use Rattle.cs_order.specs.Deeds.{Deed, Took_in, Advanced, Echoed, Proposing, Ticked, Resent, Replied, Cut, Member, sent_by}
-use Rattle.cs_order.specs.Runs.{Act, KeepsRules, IsKept, IsFor, HandedOut, Genuine, Run, deeds_of, entries_in, held_in, handed_in, EntriesToldApart, Follows as Next}
+use Rattle.cs_order.specs.Runs.{Act, KeepsRules, AllKeepRules, IsFor, HandedOut, Genuine, IsRun, deeds_of, entries_handed_in, held_in, handed_in, EntriesToldApart, Follows as Next}
 use Rattle.cs_order.specs.Law.{IsLawful}
 use Rattle.cs_tx.specs.Digest.{digest_of_entry}
 use Rattle.cs_ledger.specs.Ledger.{Bytes, IsIn}
 use Rattle.cs_ledger.specs.Table.{Vote}
 use Rattle.cs_node_state.specs.Setup.{Setup, digest_of, vote_of}
-use Rattle.cs_node_rules.specs.Net.{sealed}
+use Rattle.cs_node_rules.specs.Net.{sealed_by_net}
 use Rattle.cs_node_rules.specs.Signs.{Sign, Dropped, Took, Entered, Viewed, Did, Headed, Kept, Sent}
 use Rattle.cs_node_rules.specs.Site.{Mark, In, Ordered, Plain, Site, signs_of}
 use Rattle.cs_node_rules.specs.Carrying.{is_ordering, IsEntry}
 use Rattle.cs_node_rules.specs.Deployment.{proposed_of}
 use Rattle.cs_node_law.specs.Made.{view_at, has_given, HasDigests, IsHanded, IsHeard, SaidMade, SignMade, AllMade}
 use Rattle.cs_world_law.specs.Worlds.{is_honest}
-use Rattle.cs_world_law.specs.Chain.{Moment, trail_at, Known, HasSealed, Follows, Story, IsSoundSite, IsUnique, acts_at, shard_acts, honest_in}
+use Rattle.cs_world_law.specs.Chain.{Moment, trail_at, Known, HasSealed, MomentFollows, Story, IsSoundSite, IsUnique, acts_at, shard_acts, is_honest_in}
 use Rattle.cs_node_law.proofs.Sealing.{bytes-sha256}
 use Rattle.cs_node_law.proofs.Views.{sessions_given, me-same}
 use Rattle.cs_world_law.proofs.Deeds.{deeds_in, member-is}
@@ -54,7 +54,7 @@ handed-of {M} from to m (act ∷ acts) h = go (act.member == from) refl (handed-
     go false e later before = inr (later before)
 
 -- an entry has a digest
-entry-digest : (p : Proposed) → IsEntry p → digest_fits p.digest ≡ true
+pub entry-digest : (p : Proposed) → IsEntry p → digest_fits p.digest ≡ true
 entry-digest p is = rw is.is (digest-passes (digest_of_entry is.entry) (length-sha256 _, bytes-sha256 _))
 
 -- a message of the order that one of these deeds handed out
@@ -63,7 +63,7 @@ pub record IsOrdered {M : Type 0} (site : Site M) (to : ℕ) (said : Message) (d
   pub ordering : is_ordering said ≡ true
   pub back : (m : M) → site.carrier.read said ≡ Some m → HandedBy m to deeds
 
-pub handed-is : {M : Type 0} (site : Site M) (sound : IsSoundSite site) (me to : ℕ) (said : Message) (deeds : List (Deed M)) → IsKept site.machine site.setup.f me deeds → ((p : Proposed) → Order.IsIn p (held_in site.machine deeds) → IsEntry p)
+pub handed-is : {M : Type 0} (site : Site M) (sound : IsSoundSite site) (me to : ℕ) (said : Message) (deeds : List (Deed M)) → AllKeepRules site.machine site.setup.f me deeds → ((p : Proposed) → Order.IsIn p (held_in site.machine deeds) → IsEntry p)
     → IsHanded site to said deeds → IsOrdered site to said deeds
 handed-is {M} site sound me to said [] kept all h = absurd h
 handed-is {M} site sound me to said (deed ∷ past) kept all (inl now) =
@@ -79,7 +79,7 @@ handed-is {M} site sound me to said (deed ∷ past) kept all (inl now) =
           inl (subst (λ z. IsFor z to (sent_by deed)) same now.1.0);
     }
 handed-is {M} site sound me to said (deed ∷ past) kept all (inr before) =
-    let o = handed-is site sound me to said past kept.1 (λ p i. all p (IsIn-right p (entries_in site.machine deed) (held_in site.machine past) i)) before in
+    let o = handed-is site sound me to said past kept.1 (λ p i. all p (IsIn-right p (entries_handed_in site.machine deed) (held_in site.machine past) i)) before in
     record { fits = o.fits; ordering = o.ordering; back = λ m reads. inr (o.back m reads) }
 
 -- ---- what was given stays given
@@ -170,7 +170,7 @@ module _ {M : Type 0} (site : Site M) (sound : IsSoundSite site) (known : Known)
       let t = trail_at sender past in
       let made = made-all site known sender past story in
       let within = within-all site known sender past story in
-      let Opens : Message → Type 0 = λ z. site.net.opened i (sealed site.net sender i z) ≡ Ok (sender, said) in
+      let Opens : Message → Type 0 = λ z. site.net.opened i (sealed_by_net site.net sender i z) ≡ Ok (sender, said) in
       let opens : Opens s.said = ap (site.net.opened i) (sym s.is) ∙ reads in
       elim (said-of sender t i s.said made within s.sent) as (λ z. IsTold i sender past said) [
         | inl h ↦
@@ -196,8 +196,8 @@ module _ {M : Type 0} (site : Site M) (sound : IsSoundSite site) (known : Known)
   -- ---- the run
 
   -- what a member takes as from an honest one was handed out by it
-  took-genuine : (node : NodeId) (from : ℕ) (m : M) (past : List (Moment M)) → Story site known past → Follows site known past (record { node = node; mark = Ordered (Took_in from m) })
-      → Genuine (honest_in site node.shard) node.index (Took_in from m) (shard_acts node.shard past)
+  took-genuine : (node : NodeId) (from : ℕ) (m : M) (past : List (Moment M)) → Story site known past → MomentFollows site known past (record { node = node; mark = Ordered (Took_in from m) })
+      → Genuine (is_honest_in site node.shard) node.index (Took_in from m) (shard_acts node.shard past)
   took-genuine node from m past story follows honest =
       let t = trail_at node past in
       let v = view_at site node t in
@@ -218,8 +218,8 @@ module _ {M : Type 0} (site : Site M) (sound : IsSoundSite site) (known : Known)
         ]
       ]
 
-  deed-genuine : (node : NodeId) (deed : Deed M) (past : List (Moment M)) → Story site known past → Follows site known past (record { node = node; mark = Ordered deed })
-      → Genuine (honest_in site node.shard) node.index deed (shard_acts node.shard past)
+  deed-genuine : (node : NodeId) (deed : Deed M) (past : List (Moment M)) → Story site known past → MomentFollows site known past (record { node = node; mark = Ordered deed })
+      → Genuine (is_honest_in site node.shard) node.index deed (shard_acts node.shard past)
   deed-genuine node (Took_in from m) past story follows = took-genuine node from m past story follows
   deed-genuine node (Advanced step sent) past story follows = tt
   deed-genuine node (Echoed sent) past story follows = tt
@@ -229,8 +229,8 @@ module _ {M : Type 0} (site : Site M) (sound : IsSoundSite site) (known : Known)
   deed-genuine node (Replied slot to sent) past story follows = tt
   deed-genuine node (Cut slot) past story follows = tt
 
-  next-deed : (node : NodeId) (deed : Deed M) (past : List (Moment M)) → Story site known past → Follows site known past (record { node = node; mark = Ordered deed })
-      → Next site.machine site.setup.f (honest_in site node.shard) (shard_acts node.shard past) (record { member = node.index; deed = deed })
+  next-deed : (node : NodeId) (deed : Deed M) (past : List (Moment M)) → Story site known past → MomentFollows site known past (record { node = node; mark = Ordered deed })
+      → Next site.machine site.setup.f (is_honest_in site node.shard) (shard_acts node.shard past) (record { member = node.index; deed = deed })
   next-deed node deed past story follows =
       let keeps = subst (λ (h : Member M). KeepsRules site.machine h deed) (member-is site node (trail_at node past)) follows.made.0 in
       record {
@@ -240,22 +240,22 @@ module _ {M : Type 0} (site : Site M) (sound : IsSoundSite site) (known : Known)
         genuine = deed-genuine node deed past story follows;
       }
 
-  run-step : (shard : ℕ) (node : NodeId) (mark : Mark M) (past : List (Moment M)) → Story site known past → Follows site known past (record { node = node; mark = mark })
-      → Run site.machine site.setup.f (honest_in site shard) (shard_acts shard past) → Run site.machine site.setup.f (honest_in site shard) (acts_at shard node mark (shard_acts shard past))
+  run-step : (shard : ℕ) (node : NodeId) (mark : Mark M) (past : List (Moment M)) → Story site known past → MomentFollows site known past (record { node = node; mark = mark })
+      → IsRun site.machine site.setup.f (is_honest_in site shard) (shard_acts shard past) → IsRun site.machine site.setup.f (is_honest_in site shard) (acts_at shard node mark (shard_acts shard past))
   run-step shard node (In input) past story follows run = run
   run-step shard node (Plain sign) past story follows run = run
   run-step shard node (Ordered deed) past story follows run =
-      cond_both (node.shard == shard) (record { member = node.index; deed = deed } ∷ shard_acts shard past) (shard_acts shard past) (λ l. Run site.machine site.setup.f (honest_in site shard) l)
-      (λ e. (subst (λ n. Next site.machine site.setup.f (honest_in site n) (shard_acts n past) (record { member = node.index; deed = deed })) (eqb-true node.shard shard e) (next-deed node deed past story follows), run))
+      cond_both (node.shard == shard) (record { member = node.index; deed = deed } ∷ shard_acts shard past) (shard_acts shard past) (λ l. IsRun site.machine site.setup.f (is_honest_in site shard) l)
+      (λ e. (subst (λ n. Next site.machine site.setup.f (is_honest_in site n) (shard_acts n past) (record { member = node.index; deed = deed })) (eqb-true node.shard shard e) (next-deed node deed past story follows), run))
       (λ e. run)
 
-  pub story-run : (story : List (Moment M)) (shard : ℕ) → Story site known story → Run site.machine site.setup.f (honest_in site shard) (shard_acts shard story)
+  pub story-run : (story : List (Moment M)) (shard : ℕ) → Story site known story → IsRun site.machine site.setup.f (is_honest_in site shard) (shard_acts shard story)
   story-run [] shard story = tt
   story-run (m ∷ past) shard story = run-step shard m.node m.mark past story.1 story.0 (story-run past shard story.1)
 
   -- ---- its law
 
-  handed-step : (shard : ℕ) (node : NodeId) (mark : Mark M) (past : List (Moment M)) (p : Proposed) → Story site known past → Follows site known past (record { node = node; mark = mark })
+  handed-step : (shard : ℕ) (node : NodeId) (mark : Mark M) (past : List (Moment M)) (p : Proposed) → Story site known past → MomentFollows site known past (record { node = node; mark = mark })
       → (Order.IsIn p (handed_in site.machine (shard_acts shard past)) → IsListed known p) → Order.IsIn p (handed_in site.machine (acts_at shard node mark (shard_acts shard past))) → IsListed known p
   handed-step shard node (In input) past p story follows before = before
   handed-step shard node (Plain sign) past p story follows before = before
@@ -264,7 +264,7 @@ module _ {M : Type 0} (site : Site M) (sound : IsSoundSite site) (known : Known)
       let made = made-all site known node past story in
       let within = within-all site known node past story in
       cond_both (node.shard == shard) (record { member = node.index; deed = deed } ∷ shard_acts shard past) (shard_acts shard past) (λ l. Order.IsIn p (handed_in site.machine l) → IsListed known p)
-      (λ e i. elim (order-either p (entries_in site.machine deed) (handed_in site.machine (shard_acts shard past)) i) [
+      (λ e i. elim (order-either p (entries_handed_in site.machine deed) (handed_in site.machine (shard_acts shard past)) i) [
         | inl now ↦ by-deed site sound known node t deed made within (local site sound known node t made within) follows.made follows.within p now
         | inr old ↦ before old
       ])
@@ -281,6 +281,6 @@ module _ {M : Type 0} (site : Site M) (sound : IsSoundSite site) (known : Known)
       let digests : (proposed_of x.entry).digest ≡ (proposed_of y.entry).digest = ap (λ (p : Proposed). p.digest) (sym x.is) ∙ e ∙ ap (λ (p : Proposed). p.digest) y.is in
       ap (λ (p : Proposed). p.bytes) x.is ∙ unique x.entry y.entry x.listed y.listed digests ∙ ap (λ (p : Proposed). p.bytes) (sym y.is)
 
-  pub lawful : (story : List (Moment M)) (shard : ℕ) → shard < site.setup.shards → Story site known story → IsUnique known.entries → IsLawful site.machine site.setup.f (honest_in site shard) (shard_acts shard story)
+  pub lawful : (story : List (Moment M)) (shard : ℕ) → shard < site.setup.shards → Story site known story → IsUnique known.entries → IsLawful site.machine site.setup.f (is_honest_in site shard) (shard_acts shard story)
   lawful story shard fits story_is unique =
-      sound.law site.setup.f (honest_in site shard) (shard_acts shard story) sound.serves (sound.few shard fits) (story-run story shard story_is) (no-collision story shard story_is unique)
+      sound.law site.setup.f (is_honest_in site shard) (shard_acts shard story) sound.serves (sound.few shard fits) (story-run story shard story_is) (no-collision story shard story_is unique)

@@ -2,10 +2,10 @@
 use Rattle.std.proofs.Common.{◌≡◌, ℕ, List, [], ◌∷◌, ◌++◌, length, map, refl, sym, ap, ◌∙◌, subst}
 use Rattle.std.proofs.lemmas.List.{map-append}
 use Rattle.cs_base.specs.declared.node_id.NodeId.{NodeId}
-use Rattle.cs_tx_form.specs.declared.entry.Entry.{Entry}
-use Rattle.cs_tx_form.specs.declared.leaf.Leaf.{Leaf}
-use Rattle.cs_tx_form.specs.Log.{leaf_encoding}
-use Rattle.cs_checkpoint.specs.Chain.{Log, with_slot}
+use Rattle.cs_tx_types.specs.declared.entry.Entry.{Entry}
+use Rattle.cs_tx_types.specs.declared.leaf.Leaf.{Leaf}
+use Rattle.cs_tx_types.specs.Log.{leaf_encoding}
+use Rattle.cs_check_rules.specs.Chain.{Log, with_slot}
 use Rattle.cs_check_rules.specs.Keys.{keys_after}
 use Rattle.cs_check_rules.specs.Root.{root_under}
 use Rattle.cs_ledger.specs.Ledger.{Bytes, IsIn}

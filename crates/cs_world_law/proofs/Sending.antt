@@ -4,11 +4,11 @@ use Rattle.std.specs.Prelude.{Ok, Err, ◌==◌, is_some, nat_lt}
 use Rattle.std.proofs.lemmas.Bool.{cond_both}
 use Rattle.cs_base.specs.declared.node_id.NodeId.{NodeId}
 use Rattle.cs_base.specs.NodeId.{same_name}
-use Rattle.cs_tx_form.specs.declared.session.Session.{Session}
-use Rattle.cs_tx_form.specs.declared.vote.Vote.{Vote}
-use Rattle.cs_tx_form.specs.declared.vote.Vote.TheVariants.{Commit}
-use Rattle.cs_tx_form.specs.declared.checkpoint.Checkpoint.{Checkpoint}
-use Rattle.cs_tx_form.specs.declared.entry.Entry.{Entry}
+use Rattle.cs_tx_types.specs.declared.session.Session.{Session}
+use Rattle.cs_tx_types.specs.declared.vote.Vote.{Vote}
+use Rattle.cs_tx_types.specs.declared.vote.Vote.TheVariants.{Commit}
+use Rattle.cs_tx_types.specs.declared.checkpoint.Checkpoint.{Checkpoint}
+use Rattle.cs_tx_types.specs.declared.entry.Entry.{Entry}
 use Rattle.cs_wire_message.specs.declared.message.Message.{Message}
 use Rattle.cs_wire_message.specs.declared.message.Message.TheVariants as message
 use Rattle.cs_wire_message.specs.Classes.{Class, OfOrder, class_of}
@@ -26,13 +26,13 @@ use Rattle.cs_ledger.specs.Ledger.{IsIn}
 use Rattle.cs_ledger.specs.Table.{Effect}
 use Rattle.cs_ledger.proofs.Basics.{in_left, in_right}
 use Rattle.cs_node_rules.proofs.Heard.{AllHeard, heard}
-use Rattle.cs_checkpoint.specs.Chain.{head_of, made_last, kept_slots}
+use Rattle.cs_check_rules.specs.Chain.{head_of, made_last, kept_slots}
 use Rattle.cs_node_state.specs.Setup.{Setup, digest_of, concerned}
-use Rattle.cs_tx_form.specs.Session.{session_in}
+use Rattle.cs_tx_types.specs.Session.{session_in}
 use Rattle.cs_node_state.specs.Admission.{due}
 use Rattle.cs_node_rules.specs.Members.{is_other_member, others}
 use Rattle.cs_node_state.specs.Pool.{Pool, is_pooled}
-use Rattle.cs_node_state.specs.Bench.{Bench, executed, slot_executed, told_of}
+use Rattle.cs_node_state.specs.Bench.{Bench, executed, slot_executed, vote_told}
 use Rattle.cs_node_rules.specs.Signs.{Sign, Dropped, Took, Entered, Viewed, Did, Headed, Kept, Sent, sends, vote_signs, own_signs, entered_signs, ran_signs, headed_signs, execution_signs, asked_again, said_signs}
 use Rattle.cs_node_rules.specs.Site.{Input, Datagram, Tick, Mark, In, Ordered, Site, View, view_after, plain, signs_of}
 use Rattle.cs_node_rules.specs.Trail.{out_signs, handed, with_deed, moving, entered_view, admits_proposed, due_marks, candidate_marks, propose_marks, echo_marks, cut_marks, step_marks, turn_marks, continued, settled, taking_marks, member_marks, reply_marks, class_marks, message_marks, opened_marks, again_marks, waiting_marks, input_marks, event_marks}
@@ -45,7 +45,7 @@ use Rattle.cs_world_law.proofs.Readiness.{bench-is}
 
 -- the votes that an execution of the entry sends
 abbrev pub votes_by : Setup → NodeId → Bench → Entry → List Sign
-votes_by setup me b entry = vote_signs setup me (session_in entry) (told_of setup me.shard (session_in entry) (executed setup me.shard b entry))
+votes_by setup me b entry = vote_signs setup me (session_in entry) (vote_told setup me.shard (session_in entry) (executed setup me.shard b entry))
 
 -- whatever was executed, its votes were sent afterwards
 abbrev pub IsTelling : Setup → NodeId → List Sign → Type 0
@@ -245,7 +245,7 @@ tell-ran : (setup : Setup) (me : NodeId) (b : Bench) (slot : ℕ) (entry : Entry
 tell-ran setup me b slot entry past is tells =
     let x = session_in entry in
     let ran = executed setup me.shard b entry in
-    let told = told_of setup me.shard x ran in
+    let told = vote_told setup me.shard x ran in
     let own = own_signs me x told in
     let votes = vote_signs setup me x told in
     let enters = entered_signs x (is_pooled (digest_of setup x) b.pool) told in

@@ -5,25 +5,25 @@ use Rattle.std.specs.List.{list_any}
 use Rattle.std.proofs.lemmas.Bool.{cond_both, and_parts, or_cases, both_ways}
 use Rattle.cs_base.specs.declared.node_id.NodeId.{NodeId}
 use Rattle.cs_base.specs.Fields.{IsBytes}
-use Rattle.cs_tx_form.specs.declared.session.Session.{Session}
-use Rattle.cs_tx_form.specs.declared.entry.Entry.{Entry}
+use Rattle.cs_tx_types.specs.declared.session.Session.{Session}
+use Rattle.cs_tx_types.specs.declared.entry.Entry.{Entry}
 use Rattle.cs_wire_message.specs.declared.message.Message.{Message}
 use Rattle.cs_wire_message.specs.Message.{MessageFits}
 use Rattle.cs_wire.specs.Opened.{Opened}
 use Rattle.cs_ledger.specs.Ledger.{Bytes, IsIn}
 use Rattle.cs_ledger.proofs.Basics.{same_bytes, in_left, in_right}
 use Rattle.cs_base.specs.NodeId.{same_name}
-use Rattle.cs_node_rules.specs.Net.{sealed}
+use Rattle.cs_node_rules.specs.Net.{sealed_by_net}
 use Rattle.cs_node_rules.specs.Signs.{Sign, Dropped, Took, Entered, Viewed, Did, Headed, Kept, Sent}
 use Rattle.cs_node_rules.specs.Site.{Input, Datagram, Tick, Mark, In, Ordered, Plain, Site, signs_of}
 use Rattle.cs_node_rules.specs.Trail.{event_marks}
 use Rattle.cs_node_rules.specs.Lines.{Parcel, parcels_of}
-use Rattle.cs_node_rules.specs.World.{Happening, trail_of, view_of, IsLife, AreHonest, NoForgery, sent_in, was_sent, is_backed, is_genuine_input, firsts_of, firsts_after, first_of, Execution}
+use Rattle.cs_node_rules.specs.World.{Happening, trail_of, view_of, IsLife, AreHonest, NoForgery, sent_in, was_sent, is_backed, is_genuine_input, firsts_of, firsts_after, with_first_execution, Execution}
 use Rattle.cs_node_rules.specs.Collisions.{sessions_in, entries_in, in_opened, given, entries_of, entries_proposed, known_sessions, known_entries}
 use Rattle.cs_node_law.specs.Made.{current, IsMade, AllMade, IsLevel, ReadsProper, InputFits, EventIsMade}
 use Rattle.cs_node_law.specs.Given.{InputIsBytes, AreBytes}
 use Rattle.cs_world_law.specs.Worlds.{is_honest}
-use Rattle.cs_world_law.specs.Chain.{Moment, at_node, moments, trail_at, Known, IsWithin, HasSealed, IsBacked, Story, story_firsts}
+use Rattle.cs_world_law.specs.Chain.{Moment, at_node, moments, trail_at, Known, IsWithinKnown, HasSealed, IsBacked, Story, story_firsts}
 use Rattle.cs_node_law.proofs.Views.{signs_of-append}
 use Rattle.cs_node_law.proofs.NoIns.{NoIn, event-shape}
 use Rattle.cs_world_law.proofs.Trails.{same-name, own-name}
@@ -50,7 +50,7 @@ firsts-node : {M : Type 0} (n : NodeId) (xs : List (Mark M)) (ms : List (Moment 
 firsts-node {M} n [] ms = refl
 firsts-node {M} n (In input ∷ xs) ms = firsts-node n xs ms
 firsts-node {M} n (Ordered deed ∷ xs) ms = firsts-node n xs ms
-firsts-node {M} n (Plain sign ∷ xs) ms = ap (λ (l : List Execution). first_of n.shard sign l) (firsts-node n xs ms)
+firsts-node {M} n (Plain sign ∷ xs) ms = ap (λ (l : List Execution). with_first_execution n.shard sign l) (firsts-node n xs ms)
 
 pub firsts-same : {M : Type 0} (world : List (Happening M)) → firsts_of world ≡ story_firsts (moments world)
 firsts-same {M} [] = refl
@@ -82,7 +82,7 @@ parcel-sent {M} site from to bytes node signs h = go signs h
     go : (l : List Sign) → was_sent from to bytes (parcels_of site.net node l) ≡ true → (node ≡ from) × HasSealed site from to bytes l
     go [] e = absurd (both_ways false refl e)
     go (Sent receiver said ∷ past) e =
-        let p : Parcel = record { from = node; to = receiver; bytes = sealed site.net node receiver said; arrived = false } in
+        let p : Parcel = record { from = node; to = receiver; bytes = sealed_by_net site.net node receiver said; arrived = false } in
         elim (last (parcels_of site.net node past) p e) [
           | inl before ↦ more (Sent receiver said) past (go past before)
           | inr now ↦
@@ -94,7 +94,7 @@ parcel-sent {M} site from to bytes node signs h = go signs h
                 record {
                   said = said;
                   sent = inl (ap (λ (z : NodeId). Sent z said) (sym r));
-                  is = sym (same_bytes p.bytes bytes b.1) ∙ ap (λ (z : NodeId). sealed site.net z receiver said) n ∙ ap (λ (z : NodeId). sealed site.net from z said) r;
+                  is = sym (same_bytes p.bytes bytes b.1) ∙ ap (λ (z : NodeId). sealed_by_net site.net z receiver said) n ∙ ap (λ (z : NodeId). sealed_by_net site.net from z said) r;
                 },
               )
         ]
@@ -194,7 +194,7 @@ record AreKnown {M : Type 0} (site : Site M) (known : Known) (me : NodeId) (mark
   pub proposed : (e : Entry) → IsIn e (entries_proposed site marks) → IsIn e known.entries
 
 -- the first of them is within, and the others are known
-first-known : {M : Type 0} (site : Site M) (known : Known) (me : NodeId) (mark : Mark M) (marks : List (Mark M)) → AreKnown site known me (mark ∷ marks) → IsWithin site known me mark × AreKnown site known me marks
+first-known : {M : Type 0} (site : Site M) (known : Known) (me : NodeId) (mark : Mark M) (marks : List (Mark M)) → AreKnown site known me (mark ∷ marks) → IsWithinKnown site known me mark × AreKnown site known me marks
 first-known {M} site known me (Plain sign) marks k = (tt, record { fit = k.fit; sessions = k.sessions; entries = k.entries; proposed = k.proposed })
 first-known {M} site known me (In Tick) marks k = (tt, record { fit = k.fit.1; sessions = k.sessions; entries = k.entries; proposed = k.proposed })
 first-known {M} site known me (Ordered deed) marks k = (

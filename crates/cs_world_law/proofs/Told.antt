@@ -2,24 +2,24 @@
 use Rattle.std.proofs.Common.{◌≡◌, ℕ, ◌<◌, ◌≤◌, ◌==◌, nat_lt, Bool, true, false, not, ◌&&◌, ◌||◌, if◌then◌else◌, List, [], ◌∷◌, ◌++◌, length, sym, ◌∙◌, ap, subst, refl}
 use Rattle.std.proofs.lemmas.Bool.{cond_both, eqb-true}
 use Rattle.cs_base.specs.declared.node_id.NodeId.{NodeId}
-use Rattle.cs_tx_form.specs.declared.session.Session.{Session}
-use Rattle.cs_tx_form.specs.declared.entry.Entry.{Entry}
-use Rattle.cs_tx_form.specs.declared.entry.Entry.TheVariants.{Prepare, Decide}
+use Rattle.cs_tx_types.specs.declared.session.Session.{Session}
+use Rattle.cs_tx_types.specs.declared.entry.Entry.{Entry}
+use Rattle.cs_tx_types.specs.declared.entry.Entry.TheVariants.{Prepare, Decide}
 use Rattle.cs_ledger.specs.Ledger.{Bytes}
 use Rattle.cs_ledger.specs.Session.{all_items}
 use Rattle.cs_ledger.specs.Table.{Vote, Commit, exec, table_of}
-use Rattle.cs_ledger.specs.ShardWorld.{Step, log, votes, votes_in, is_vote, is_listed, all_commit, IsAllowed, AllAllowed}
+use Rattle.cs_ledger.specs.ShardWorld.{Step, log, shard_votes, votes_in, is_vote, is_listed, all_commit, IsAllowed, AllAllowed}
 use Rattle.cs_ledger.specs.ShardWorld as World
 use Rattle.cs_ledger.proofs.Votes.{all_at}
 use Rattle.cs_node_state.specs.Setup.{Setup, digest_of, concerned, entry_of}
 use Rattle.cs_node_rules.specs.Signs.{Dropped, Took, Entered, Viewed, Did, Headed, Kept, Sent}
 use Rattle.cs_node_rules.specs.Site.{Mark, In, Ordered, Plain, Site}
-use Rattle.cs_node_rules.specs.World.{Execution, steps_of, slots_of, prepares, recorded, all_recorded, is_voted, told, told_after}
+use Rattle.cs_node_rules.specs.World.{Execution, steps_of, slots_of, prepares, is_recorded, all_recorded, is_voted, told_transactions, told_after}
 use Rattle.cs_node_law.proofs.Views.{me-same}
 use Rattle.cs_node_law.proofs.Logs.{seen, seen_log, effect-is, prepares-seen}
 use Rattle.cs_world_law.proofs.Counting.{all-in, all-from, in-concerned, concerned-in, among-item, item-among, votes-all}
 use Rattle.cs_world_law.specs.Steps.{IsComputed, AllComputed}
-use Rattle.cs_world_law.specs.Chain.{Moment, trail_at, Known, Story, IsSoundSite, firsts_at, story_firsts, shard_log}
+use Rattle.cs_world_law.specs.Chain.{Moment, trail_at, Known, Story, IsSoundSite, firsts_at, story_firsts, shard_entries}
 use Rattle.cs_world_law.proofs.Trails.{made-all}
 use Rattle.cs_world_law.proofs.Lawful.{AreLawful}
 use Rattle.cs_world_law.proofs.Older.{lt-not, older-all}
@@ -32,12 +32,12 @@ bools-same false true f g = g refl
 bools-same false false f g = refl
 
 module _ (setup : Setup) (bound : (name : Bytes) → setup.rules.shard_of name < setup.shards) where
-  pub recorded-is : (firsts : List Execution) (d : Bytes) (vote : Vote) (shard : ℕ) → AllComputed setup firsts → recorded setup firsts d vote shard ≡ votes_in setup.rules shard d vote (log shard (steps_of setup firsts))
+  pub recorded-is : (firsts : List Execution) (d : Bytes) (vote : Vote) (shard : ℕ) → AllComputed setup firsts → is_recorded setup firsts d vote shard ≡ votes_in setup.rules shard d vote (log shard (steps_of setup firsts))
   recorded-is [] d vote shard computed = refl
   recorded-is (e ∷ earlier) d vote shard computed = here (e.shard == shard) refl (recorded-is earlier d vote shard computed.1)
     where
-      here : (b : Bool) → (e.shard == shard) ≡ b → recorded setup earlier d vote shard ≡ votes_in setup.rules shard d vote (log shard (steps_of setup earlier))
-          → ((b && (prepares setup d e.entry && is_vote vote e.effect)) || recorded setup earlier d vote shard)
+      here : (b : Bool) → (e.shard == shard) ≡ b → is_recorded setup earlier d vote shard ≡ votes_in setup.rules shard d vote (log shard (steps_of setup earlier))
+          → ((b && (prepares setup d e.entry && is_vote vote e.effect)) || is_recorded setup earlier d vote shard)
           ≡ votes_in setup.rules shard d vote (if b then entry_of setup e.entry ∷ log shard (steps_of setup earlier) else log shard (steps_of setup earlier))
       here false other before = before
       here true same before =
@@ -55,32 +55,32 @@ module _ (setup : Setup) (bound : (name : Bytes) → setup.rules.shard_of name <
       (λ item i.
       let shard = setup.rules.shard_of item.name in
       let c = in-concerned setup x setup.shards shard (bound item.name) (among-item setup.rules item items i) in
-      sym (recorded-is firsts d Commit shard computed) ∙ all-in (recorded setup firsts d Commit) (concerned setup x) h shard c))
-      (λ h. all-from (recorded setup firsts d Commit) (concerned setup x)
+      sym (recorded-is firsts d Commit shard computed) ∙ all-in (is_recorded setup firsts d Commit) (concerned setup x) h shard c))
+      (λ h. all-from (is_recorded setup firsts d Commit) (concerned setup x)
       (λ shard i.
       let c = concerned-in setup x setup.shards shard i in
       let item = item-among setup.rules shard items c.1 in
       let v = all_at setup.rules (steps_of setup firsts) (setup.session_of x) Commit items h item.0 item.1 in
-      recorded-is firsts d Commit shard computed ∙ subst (λ k. votes setup.rules (steps_of setup firsts) k (setup.session_of x) Commit ≡ true) item.2 v))
+      recorded-is firsts d Commit shard computed ∙ subst (λ k. shard_votes setup.rules (steps_of setup firsts) k (setup.session_of x) Commit ≡ true) item.2 v))
 
   -- what is allowed gives a vote, so an execution tells what a step of the shards together does
-  pub told-is : (firsts : List Execution) → AllComputed setup firsts → AllAllowed setup.rules (steps_of setup firsts) → told setup firsts ≡ World.history setup.rules (steps_of setup firsts)
+  pub told-is : (firsts : List Execution) → AllComputed setup firsts → AllAllowed setup.rules (steps_of setup firsts) → told_transactions setup firsts ≡ World.history setup.rules (steps_of setup firsts)
   told-is [] computed allowed = refl
   told-is (e ∷ earlier) computed allowed = after e.entry refl (told-is earlier computed.1 allowed.1)
     where
       all_are : (x : Session) → all_recorded setup (e ∷ earlier) x ≡ all_commit setup.rules (steps_of setup (e ∷ earlier)) (setup.session_of x)
       all_are x = all-recorded-is (e ∷ earlier) x computed
 
-      after : (entry : Entry) → e.entry ≡ entry → told setup earlier ≡ World.history setup.rules (steps_of setup earlier)
-          → told_after setup (e ∷ earlier) entry e.effect (told setup earlier) ≡ World.history_after setup.rules (steps_of setup (e ∷ earlier)) (entry_of setup entry) (World.history setup.rules (steps_of setup earlier))
+      after : (entry : Entry) → e.entry ≡ entry → told_transactions setup earlier ≡ World.history setup.rules (steps_of setup earlier)
+          → told_after setup (e ∷ earlier) entry e.effect (told_transactions setup earlier) ≡ World.history_after setup.rules (steps_of setup (e ∷ earlier)) (entry_of setup entry) (World.history setup.rules (steps_of setup earlier))
       after (Decide vote x) is before = before
       after (Prepare x) is before =
           let all = all_are x in
           let fine : IsAllowed setup.rules (steps_of setup earlier) e.shard (entry_of setup (Prepare x)) = subst (λ (z : Entry). IsAllowed setup.rules (steps_of setup earlier) e.shard (entry_of setup z)) is allowed.0 in
           let table = table_of setup.rules e.shard (log e.shard (steps_of setup earlier)) in
           let came : e.effect ≡ (exec setup.rules e.shard table (entry_of setup (Prepare x))).effect = computed.0.effect ∙ ap (λ (z : Entry). (exec setup.rules e.shard table (entry_of setup z)).effect) is in
-          let votes : is_voted e.effect ≡ true = ap is_voted came ∙ prepare-votes setup.rules e.shard table (setup.session_of x) fine.0 fine.1 in
-          λ i. if votes i && (all i && not (is_listed (setup.session_of x).transaction (before i))) then before i ++ (setup.session_of x).transaction ∷ [] else before i
+          let shard_votes : is_voted e.effect ≡ true = ap is_voted came ∙ prepare-votes setup.rules e.shard table (setup.session_of x) fine.0 fine.1 in
+          λ i. if shard_votes i && (all i && not (is_listed (setup.session_of x).transaction (before i))) then before i ++ (setup.session_of x).transaction ∷ [] else before i
 
 -- the first executions are computed
 module _ {M : Type 0} (site : Site M) (sound : IsSoundSite site) (known : Known) (lawful : AreLawful site known) where
@@ -103,7 +103,7 @@ module _ {M : Type 0} (site : Site M) (sound : IsSoundSite site) (known : Known)
       first : nat_lt slot (slots_of node.shard (story_firsts past)) ≡ false → IsComputed site.setup (story_firsts past) (record { shard = node.shard; slot = slot; entry = entry; effect = effect })
       first more =
           let t = trail_at node past in
-          let l = shard_log node.shard (story_firsts past) in
+          let l = shard_entries node.shard (story_firsts past) in
           let own = (are-first site sound known lawful node.shard past story.1).older node story.0.honest refl in
           let slots = slots-log node.shard (story_firsts past) in
           let at_least : length l ≤ slot = subst (λ k. k ≤ slot) slots (lt-not slot (slots_of node.shard (story_firsts past)) more) in

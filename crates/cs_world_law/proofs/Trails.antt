@@ -7,7 +7,7 @@ use Rattle.cs_order.specs.Runs.{Act, deeds_of}
 use Rattle.cs_base.specs.NodeId.{same_name}
 use Rattle.cs_node_rules.specs.Site.{Mark, In, Ordered, Plain, Site}
 use Rattle.cs_node_law.specs.Made.{IsMade, AllMade}
-use Rattle.cs_world_law.specs.Chain.{Moment, trail_at, Known, IsWithin, Story, acts_at, shard_acts}
+use Rattle.cs_world_law.specs.Chain.{Moment, trail_at, Known, IsWithinKnown, Story, acts_at, shard_acts}
 use Rattle.cs_world_law.proofs.Deeds.{deeds_in}
 
 abbrev pub at : ℕ → ℕ → NodeId
@@ -29,7 +29,7 @@ trail-own {M} i mark past = ap (λ b. if b then mark ∷ trail_at i past else tr
 -- all marks are within
 abbrev pub AllWithin : {M : Type 0} → Site M → Known → NodeId → List (Mark M) → Type 0
 AllWithin {M} site known me [] = Unit {0}
-AllWithin {M} site known me (mark ∷ past) = IsWithin site known me mark × AllWithin site known me past
+AllWithin {M} site known me (mark ∷ past) = IsWithinKnown site known me mark × AllWithin site known me past
 
 module _ {M : Type 0} (site : Site M) (known : Known) where
   pub made-all : (i : NodeId) (story : List (Moment M)) → Story site known story → AllMade site i (trail_at i story)
@@ -43,7 +43,7 @@ module _ {M : Type 0} (site : Site M) (known : Known) where
   within-all i [] s = tt
   within-all i (m ∷ past) s =
       trail-both (λ t. AllWithin site known i t) i m past
-      (λ e. (subst (λ n. IsWithin site known n m.mark) e s.0.within, within-all i past s.1))
+      (λ e. (subst (λ n. IsWithinKnown site known n m.mark) e s.0.within, within-all i past s.1))
       (within-all i past s.1)
 
 -- a member's deeds in the run are those of its marks

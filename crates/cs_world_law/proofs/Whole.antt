@@ -6,8 +6,8 @@ use Rattle.cs_base.specs.declared.config.Config.{Config}
 use Rattle.cs_base.specs.declared.node_id.NodeId.{NodeId}
 use Rattle.cs_base.specs.NodeId.{is_node}
 use Rattle.cs_tx_value.specs.declared.object.Object.{Object}
-use Rattle.cs_tx_form.specs.declared.transaction.Tx.{Tx}
-use Rattle.cs_tx_form.specs.declared.entry.Entry.{Entry}
+use Rattle.cs_tx_types.specs.declared.transaction.Tx.{Tx}
+use Rattle.cs_tx_types.specs.declared.entry.Entry.{Entry}
 use Rattle.cs_order.specs.Deeds.{Machine}
 use Rattle.cs_order.specs.Law.{Law, Holds}
 use Rattle.cs_ledger.specs.Ledger.{Bytes}
@@ -19,9 +19,9 @@ use Rattle.cs_node_rules.specs.World.{Happening, Execution, trail_of, AreHonest,
 use Rattle.cs_node_rules.specs.Ready.{Executed}
 use Rattle.cs_node_rules.specs.Collisions.{known_sessions, known_entries, NoCollision}
 use Rattle.cs_node_rules.specs.Carrying.{Carries}
-use Rattle.cs_node_law.specs.Made.{EventIsMade, AllMade}
+use Rattle.cs_node_law.specs.Made.{EventIsMade, AllMade, IsLevel}
 use Rattle.cs_node_rules.specs.Net.{Net}
-use Rattle.cs_world_law.specs.Worlds.{is_honest, IsWorld, IsNet, deployed, signs_at}
+use Rattle.cs_world_law.specs.Worlds.{is_honest, IsWorld, IsNet, deployed_site, signs_at}
 use Rattle.cs_world_law.specs.Steps.{AllComputed, StepsComputed, executions_of, executions_in, IsOlderPart, FollowsShard}
 use Rattle.cs_world_law.specs.Chain.{moments, trail_at, Known, Story, IsSoundSite}
 use Rattle.cs_world_law.proofs.Trails.{AllWithin, within-all}
@@ -57,13 +57,13 @@ pub record IsPlace {M : Type 0} (machine : Machine M) : Type 0 where
   pub few : config.shards ≤ 16
   pub small : config.f ≤ 5
   pub is_net : IsNet config net
-  pub is_world : IsWorld (deployed config net genesis approves machine carrier) world
+  pub is_world : IsWorld (deployed_site config net genesis approves machine carrier) world
 
 -- the place of such a world
 abbrev pub place : {M : Type 0} (machine : Machine M) (law : Law machine) (holds : Holds machine) (event : (site : Site M) → EventIsMade site)
     (carrier : Carrier M) (carries : Carries machine carrier)
     (config : Config) (net : Net) (genesis : List Object) (approves : Tx → Bool) (world : List (Happening M))
-    (few : config.shards ≤ 16) (small : config.f ≤ 5) (is_net : IsNet config net) (is_world : IsWorld (deployed config net genesis approves machine carrier) world)
+    (few : config.shards ≤ 16) (small : config.f ≤ 5) (is_net : IsNet config net) (is_world : IsWorld (deployed_site config net genesis approves machine carrier) world)
     → IsPlace machine
 place {M} machine law holds event carrier carries config net genesis approves world few small is_net is_world = record {
   law = law;
@@ -84,13 +84,13 @@ place {M} machine law holds event carrier carries config net genesis approves wo
 
 module _ {M : Type 0} (machine : Machine M) (p : IsPlace machine) where
   abbrev pub At : Site M
-  At = deployed p.config p.net p.genesis p.approves machine p.carrier
+  At = deployed_site p.config p.net p.genesis p.approves machine p.carrier
 
   -- what holds of no event, and of a deployment with a shard, holds
   pub by-world : (P : List (Happening M) → Type 0) → P [] → (0 < p.config.shards → P p.world) → P p.world
   by-world P none some = go p.world p.is_world.honest some
     where
-      go : (z : List (Happening M)) → AreHonest (deployed p.config p.net p.genesis p.approves machine p.carrier).net z → (0 < p.config.shards → P z) → P z
+      go : (z : List (Happening M)) → AreHonest (deployed_site p.config p.net p.genesis p.approves machine p.carrier).net z → (0 < p.config.shards → P z) → P z
       go [] honest some = none
       go (h ∷ past) honest some = some (shards-some p.config h.node (p.is_net.nodes h.node honest.0))
 
@@ -114,6 +114,9 @@ module _ {M : Type 0} (machine : Machine M) (p : IsPlace machine) where
 
     pub made : (i : NodeId) → AllMade At i (trail_of i p.world)
     made i = (sane-here.level i).made
+
+    pub level : (i : NodeId) → IsLevel At i (trail_of i p.world)
+    level i = sane-here.level i
 
     pub within : (i : NodeId) → AllWithin At Here i (trail_of i p.world)
     within i = subst (λ t. AllWithin At Here i t) (trail-same i p.world) (within-all At Here i (moments p.world) story)

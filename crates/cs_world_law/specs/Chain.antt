@@ -2,20 +2,20 @@
 use Rattle.std.specs.Prelude.{◌≡◌, ℕ, ◌+◌, ◌*◌, ◌<◌, ◌==◌, Bool, true, false, if◌then◌else◌, List, [], ◌∷◌, ◌++◌, Some, Ok}
 use Rattle.cs_base.specs.declared.node_id.NodeId.{NodeId}
 use Rattle.cs_base.specs.NodeId.{is_client, same_name}
-use Rattle.cs_tx_form.specs.declared.checkpoint.Checkpoint.{Checkpoint}
-use Rattle.cs_tx_form.specs.declared.session.Session.{Session}
-use Rattle.cs_tx_form.specs.declared.entry.Entry.{Entry}
-use Rattle.cs_tx_form.specs.Session.{EntryFits}
+use Rattle.cs_tx_types.specs.declared.checkpoint.Checkpoint.{Checkpoint}
+use Rattle.cs_tx_types.specs.declared.session.Session.{Session}
+use Rattle.cs_tx_types.specs.declared.entry.Entry.{Entry}
+use Rattle.cs_tx_types.specs.Session.{EntryFits}
 use Rattle.cs_wire_message.specs.declared.message.Message.{Message}
 use Rattle.cs_wire_message.specs.declared.message.Message.TheVariants as message
 use Rattle.cs_wire_message.specs.Message.{MessageFits}
 use Rattle.cs_order.specs.Runs.{Act, FewLiars}
 use Rattle.cs_order.specs.Law.{Law, Holds}
 use Rattle.cs_ledger.specs.Ledger.{Bytes, IsIn}
-use Rattle.cs_node_rules.specs.Net.{sealed}
+use Rattle.cs_node_rules.specs.Net.{sealed_by_net}
 use Rattle.cs_node_rules.specs.Signs.{Sign, Sent}
 use Rattle.cs_node_rules.specs.Site.{Datagram, Tick, Mark, In, Ordered, Plain, Site, signs_of}
-use Rattle.cs_node_rules.specs.World.{Happening, Execution, first_of}
+use Rattle.cs_node_rules.specs.World.{Happening, Execution, with_first_execution}
 use Rattle.cs_node_rules.specs.Collisions.{sessions_in, entries_in, entries_of}
 use Rattle.cs_node_rules.specs.Carrying.{Carries}
 use Rattle.cs_node_rules.specs.Deployment.{proposed_of}
@@ -54,18 +54,18 @@ pub record IsFine (known : Known) (said : Message) : Type 0 where
   pub entries : (e : Entry) → IsIn e (entries_in said) → IsIn e known.entries
 
 -- what a node is given is fine, and what it proposes is known
-abbrev pub IsWithin : {M : Type 0} → Site M → Known → NodeId → Mark M → Type 0
-IsWithin {M} site known me (In (Datagram bytes)) =
+abbrev pub IsWithinKnown : {M : Type 0} → Site M → Known → NodeId → Mark M → Type 0
+IsWithinKnown {M} site known me (In (Datagram bytes)) =
     (sender : NodeId) (said : Message) → site.net.opened me bytes ≡ Ok (sender, said) → IsFine known said
-IsWithin {M} site known me (In Tick) = Unit {0}
-IsWithin {M} site known me (Ordered deed) = (e : Entry) → IsIn e (entries_of site deed) → IsIn e known.entries
-IsWithin {M} site known me (Plain sign) = Unit {0}
+IsWithinKnown {M} site known me (In Tick) = Unit {0}
+IsWithinKnown {M} site known me (Ordered deed) = (e : Entry) → IsIn e (entries_of site deed) → IsIn e known.entries
+IsWithinKnown {M} site known me (Plain sign) = Unit {0}
 
 -- the node has sent exactly this datagram
 pub record HasSealed {M : Type 0} (site : Site M) (from to : NodeId) (bytes : Bytes) (signs : List Sign) : Type 0 where
   pub said : Message
   pub sent : IsIn (Sent to said) signs
-  pub is : bytes ≡ sealed site.net from to said
+  pub is : bytes ≡ sealed_by_net site.net from to said
 
 -- what a node works on as from an honest node, that node had sent
 abbrev pub IsBacked : {M : Type 0} → Site M → NodeId → List (Mark M) → List (Moment M) → Type 0
@@ -74,16 +74,16 @@ IsBacked {M} site i t past =
     current t ≡ Some (Datagram bytes) → site.net.opened i bytes ≡ Ok (sender, said) →
     is_honest site sender ≡ true → HasSealed site sender i bytes (signs_of (trail_at sender past))
 
-pub record Follows {M : Type 0} (site : Site M) (known : Known) (past : List (Moment M)) (m : Moment M) : Type 0 where
+pub record MomentFollows {M : Type 0} (site : Site M) (known : Known) (past : List (Moment M)) (m : Moment M) : Type 0 where
   pub honest : is_honest site m.node ≡ true
   pub made : IsMade site m.node (trail_at m.node past) m.mark
-  pub within : IsWithin site known m.node m.mark
+  pub within : IsWithinKnown site known m.node m.mark
   pub backed : IsBacked site m.node (trail_at m.node past) past
 
 -- marks of honest nodes, each made by the rules of its node, whose inputs are no forgeries
 abbrev pub Story : {M : Type 0} → Site M → Known → List (Moment M) → Type 0
 Story {M} site known [] = Unit {0}
-Story {M} site known (m ∷ past) = Follows site known past m × Story site known past
+Story {M} site known (m ∷ past) = MomentFollows site known past m × Story site known past
 
 -- ---- what is known of the functions of a site
 
@@ -101,14 +101,14 @@ pub record IsSoundSite {M : Type 0} (site : Site M) : Type 0 where
   -- what opens is the message that was sealed; of a slot that is asked for and of a checkpoint the numbers may be cut
   pub exact : (from to sender : NodeId) (m said : Message) →
       is_honest site from ≡ true → is_honest site to ≡ true → MessageFits m →
-      site.net.opened to (sealed site.net from to m) ≡ Ok (sender, said) → said ≡ m
+      site.net.opened to (sealed_by_net site.net from to m) ≡ Ok (sender, said) → said ≡ m
   pub wanted : (from to sender : NodeId) (slot : ℕ) (said : Message) →
       is_honest site from ≡ true → is_honest site to ≡ true →
-      site.net.opened to (sealed site.net from to (message.Want slot)) ≡ Ok (sender, said) →
+      site.net.opened to (sealed_by_net site.net from to (message.Want slot)) ≡ Ok (sender, said) →
       (other : ℕ) × (said ≡ message.Want other)
   pub headed : (from to sender : NodeId) (c : Checkpoint) (said : Message) →
       is_honest site from ≡ true → is_honest site to ≡ true → HasDigests c →
-      site.net.opened to (sealed site.net from to (message.Head c)) ≡ Ok (sender, said) →
+      site.net.opened to (sealed_by_net site.net from to (message.Head c)) ≡ Ok (sender, said) →
       (other : Checkpoint) × (said ≡ message.Head other)
   -- entries are proposed as they are written, and read back
   pub proposes : (entry : Entry) → site.proposed_of entry ≡ proposed_of entry
@@ -134,20 +134,20 @@ abbrev pub shard_acts : {M : Type 0} → ℕ → List (Moment M) → List (Act M
 shard_acts {M} shard [] = []
 shard_acts {M} shard (m ∷ past) = acts_at shard m.node m.mark (shard_acts shard past)
 
-abbrev pub honest_in : {M : Type 0} → Site M → ℕ → ℕ → Bool
-honest_in {M} site shard index = is_honest site (record { shard = shard; index = index })
+abbrev pub is_honest_in : {M : Type 0} → Site M → ℕ → ℕ → Bool
+is_honest_in {M} site shard index = is_honest site (record { shard = shard; index = index })
 
 -- the first execution of each slot of each shard
 abbrev pub firsts_at : {M : Type 0} → NodeId → Mark M → List Execution → List Execution
 firsts_at {M} node (In input) firsts = firsts
 firsts_at {M} node (Ordered deed) firsts = firsts
-firsts_at {M} node (Plain sign) firsts = first_of node.shard sign firsts
+firsts_at {M} node (Plain sign) firsts = with_first_execution node.shard sign firsts
 
 abbrev pub story_firsts : {M : Type 0} → List (Moment M) → List Execution
 story_firsts {M} [] = []
 story_firsts {M} (m ∷ past) = firsts_at m.node m.mark (story_firsts past)
 
 -- what a shard executed, the newest first
-abbrev pub shard_log : ℕ → List Execution → List Entry
-shard_log shard [] = []
-shard_log shard (e ∷ earlier) = if e.shard == shard then e.entry ∷ shard_log shard earlier else shard_log shard earlier
+abbrev pub shard_entries : ℕ → List Execution → List Entry
+shard_entries shard [] = []
+shard_entries shard (e ∷ earlier) = if e.shard == shard then e.entry ∷ shard_entries shard earlier else shard_entries shard earlier

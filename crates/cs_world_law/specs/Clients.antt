@@ -1,7 +1,7 @@
 -- What honest nodes tell clients of the sessions that were decided.
 use Rattle.std.specs.Prelude.{◌≡◌, true, false, List}
 use Rattle.cs_base.specs.declared.node_id.NodeId.{NodeId}
-use Rattle.cs_tx_form.specs.declared.session.Session.{Session}
+use Rattle.cs_tx_types.specs.declared.session.Session.{Session}
 use Rattle.cs_wire_message.specs.declared.message.Message.TheVariants as message
 use Rattle.cs_ledger.specs.Ledger.{Bytes, IsIn}
 use Rattle.cs_node_state.specs.Setup.{digest_of}

@@ -1,16 +1,16 @@
 -- What is said of the first executions of a world: the steps of the shards' logs, and the history as these come.
 use Rattle.std.specs.Prelude.{◌≡◌, ℕ, ◌==◌, true, if◌then◌else◌, List, [], ◌∷◌, ◌++◌}
 use Rattle.cs_base.specs.declared.node_id.NodeId.{NodeId}
-use Rattle.cs_tx_form.specs.declared.session.Session.{Session}
-use Rattle.cs_tx_form.specs.declared.entry.Entry.{Entry}
+use Rattle.cs_tx_types.specs.declared.session.Session.{Session}
+use Rattle.cs_tx_types.specs.declared.entry.Entry.{Entry}
 use Rattle.cs_ledger.specs.Ledger.{Bytes, IsIn}
 use Rattle.cs_ledger.specs.Table.{Vote, Effect, Accepted, table_of, exec}
 use Rattle.cs_ledger.specs.ShardWorld.{log, AllAllowed}
-use Rattle.cs_node_state.specs.Setup.{Setup, digest_of, concerns, entry_of}
-use Rattle.cs_tx_form.specs.Session.{session_in}
+use Rattle.cs_node_state.specs.Setup.{Setup, digest_of, is_concerned_shard, entry_of}
+use Rattle.cs_tx_types.specs.Session.{session_in}
 use Rattle.cs_node_rules.specs.Signs.{Sign, Dropped, Took, Entered, Viewed, Did, Headed, Kept, Sent}
 use Rattle.cs_node_rules.specs.Site.{Site}
-use Rattle.cs_node_rules.specs.World.{Happening, Execution, firsts_of, steps_of, slots_of, recorded, all_recorded, told, aborts_in}
+use Rattle.cs_node_rules.specs.World.{Happening, Execution, firsts_of, steps_of, slots_of, is_recorded, all_recorded, told_transactions, aborts_in}
 use Rattle.cs_node_rules.specs.Collisions.{known_sessions}
 use Rattle.cs_world_law.specs.Worlds.{is_honest, signs_at}
 
@@ -75,8 +75,8 @@ FollowsShard {M} site world =
 abbrev pub VotesOnce : {M : Type 0} → Site M → List (Happening M) → Type 0
 VotesOnce {M} site world =
     (shard : ℕ) (d : Bytes) (v w : Vote) →
-    recorded site.setup (firsts_of world) d v shard ≡ true →
-    recorded site.setup (firsts_of world) d w shard ≡ true → v ≡ w
+    is_recorded site.setup (firsts_of world) d v shard ≡ true →
+    is_recorded site.setup (firsts_of world) d w shard ≡ true → v ≡ w
 
 -- ---- the history, as the first executions come
 
@@ -85,9 +85,9 @@ VotesOnce {M} site world =
 abbrev pub TellsCommitted : {M : Type 0} → Site M → List (Happening M) → Type 0
 TellsCommitted {M} site world =
     (later earlier : List Execution) → firsts_of world ≡ later ++ earlier →
-    (x : Session) → IsIn x (known_sessions site world) → (shard : ℕ) → concerns site.setup x shard ≡ true →
+    (x : Session) → IsIn x (known_sessions site world) → (shard : ℕ) → is_concerned_shard site.setup x shard ≡ true →
     all_recorded site.setup earlier x ≡ true →
-    IsIn (site.setup.session_of x).transaction (told site.setup earlier)
+    IsIn (site.setup.session_of x).transaction (told_transactions site.setup earlier)
     × ((i : NodeId) → is_honest site i ≡ true →
     aborts_in site.setup (digest_of site.setup x) (signs_at i world) ≡ true → ⊥)
 
@@ -95,4 +95,4 @@ TellsCommitted {M} site world =
 abbrev pub TellsBefore : {M : Type 0} → Site M → List (Happening M) → Type 0
 TellsBefore {M} site world =
     (later : List Execution) (e : Execution) (earlier : List Execution) → firsts_of world ≡ later ++ e ∷ earlier →
-    e.effect ≡ Accepted → IsIn (site.setup.session_of (session_in e.entry)).transaction (told site.setup earlier)
+    e.effect ≡ Accepted → IsIn (site.setup.session_of (session_in e.entry)).transaction (told_transactions site.setup earlier)

@@ -1,15 +1,15 @@
 -- Worlds of any number of shards, and what is said of them.
-use Rattle.std.specs.Prelude.{◌≡◌, ℕ, ◌<◌, ◌≤◌, Bool, true, not, ◌&&◌, List, [], length, Option, Some, None}
+use Rattle.std.specs.Prelude.{◌≡◌, ℕ, ◌<◌, ◌≤◌, Bool, true, not, ◌&&◌, List, [], length, map, Option, Some, None}
 use Rattle.std.specs.List.{list_any}
 use Rattle.cs_base.specs.declared.config.Config.{Config}
 use Rattle.cs_base.specs.declared.node_id.NodeId.{NodeId}
 use Rattle.cs_base.specs.NodeId.{is_node, same_name}
 use Rattle.cs_tx_value.specs.declared.object.Object.{Object}
-use Rattle.cs_tx_form.specs.declared.transaction.Tx.{Tx}
-use Rattle.cs_tx_form.specs.declared.session.Session.{Session}
-use Rattle.cs_tx_form.specs.declared.entry.Entry.{Entry}
-use Rattle.cs_tx_form.specs.Session.{EntryFits, session_in}
-use Rattle.cs_tx.specs.Sessions.{session_of}
+use Rattle.cs_tx_types.specs.declared.transaction.Tx.{Tx}
+use Rattle.cs_tx_types.specs.declared.session.Session.{Session}
+use Rattle.cs_tx_types.specs.declared.entry.Entry.{Entry}
+use Rattle.cs_tx_types.specs.Session.{EntryFits, session_in}
+use Rattle.cs_tx.specs.Sessions.{ledger_session}
 use Rattle.cs_wire.specs.declared.keys.Row.{Row}
 use Rattle.cs_wire.specs.declared.keys.Keys.{Keys}
 use Rattle.cs_wire.specs.Keys.{row_of}
@@ -19,14 +19,15 @@ use Rattle.cs_order.specs.Deeds.{Machine}
 use Rattle.cs_order.specs.Runs.{FewLiars}
 use Rattle.cs_ledger.specs.Ledger.{Bytes, Transaction, IsIn, Serial, IsSpentOnce, genesis_ledger, ledger_of, uses_once}
 use Rattle.cs_ledger.specs.Session as Seen
-use Rattle.cs_ledger.specs.Table.{free_object}
-use Rattle.cs_node_state.specs.Setup.{digest_of}
+use Rattle.cs_ledger.specs.Table.{table_of, free_object}
+use Rattle.cs_ledger.specs.ShardWorld.{log}
+use Rattle.cs_node_state.specs.Setup.{digest_of, entry_of}
 use Rattle.cs_node_rules.specs.Net.{Net}
 use Rattle.cs_node_rules.specs.Signs.{Sign}
 use Rattle.cs_node_rules.specs.Site.{Carrier, Site, signs_of}
-use Rattle.cs_node_rules.specs.World.{Happening, trail_of, view_of, IsLife, AreHonest, NoForgery, firsts_of, slots_of, history, accepts_in, aborts_in}
+use Rattle.cs_node_rules.specs.World.{Happening, trail_of, view_of, IsLife, AreHonest, NoForgery, firsts_of, steps_of, slots_of, history, accepts_in, aborts_in}
 use Rattle.cs_node_rules.specs.Ready.{Executed, VotesFree, AcceptsLocked}
-use Rattle.cs_node_rules.specs.Collisions.{known_sessions, NoCollision}
+use Rattle.cs_node_rules.specs.Collisions.{known_sessions, known_entries, NoCollision}
 use Rattle.cs_node_rules.specs.Carrying.{Carries}
 use Rattle.cs_node_rules.specs.Deployment.{site_of}
 use Rattle.cs_node_state.specs.Deployed.{setup_of}
@@ -77,6 +78,11 @@ ExecutesGiven {M} site world =
 abbrev pub ExecutesFit : {M : Type 0} → Site M → List (Happening M) → Type 0
 ExecutesFit {M} site world = (i : NodeId) (entry : Entry) → Executed (signs_at i world) entry → EntryFits entry
 
+-- Each entry that an honest node executed stood in an input, or was proposed by an honest node.
+abbrev pub ExecutesKnown : {M : Type 0} → Site M → List (Happening M) → Type 0
+ExecutesKnown {M} site world =
+    (i : NodeId) (entry : Entry) → Executed (signs_at i world) entry → IsIn entry (known_entries site world)
+
 -- Each transaction that an honest node accepted is in the history.
 abbrev pub TellsAccepted : {M : Type 0} → Site M → List (Happening M) → Type 0
 TellsAccepted {M} site world =
@@ -88,13 +94,31 @@ TellsAccepted {M} site world =
 abbrev pub IsUpToDate : {M : Type 0} → NodeId → List (Happening M) → Type 0
 IsUpToDate {M} i world = length (log_in (signs_at i world)) ≡ slots_of i.shard (firsts_of world)
 
--- An object that is free in the table of an honest node that has executed all of its shard is in the ledger after the
--- history.
+-- after the history the object is in the ledger, under its name
+abbrev pub IsHeld : {M : Type 0} → Site M → List (Happening M) → Bytes → Bytes → Type 0
+IsHeld {M} site world name object =
+    (ledger_of (genesis_ledger site.setup.rules.genesis) (history site world)).active name ≡ Some object
+
+-- An object that is free in the table to which the log of a shard comes is in the ledger after the history.
 abbrev pub HoldsFree : {M : Type 0} → Site M → List (Happening M) → Type 0
 HoldsFree {M} site world =
+    (shard : ℕ) (name object : Bytes) →
+    let table = table_of site.setup.rules shard (log shard (steps_of site.setup (firsts_of world))) in
+    free_object (table.at (Seen.Object name)).state ≡ Some object → IsHeld site world name object
+
+-- So is one that is free in the table of an honest node that has executed all of its shard.
+abbrev pub NodesHoldFree : {M : Type 0} → Site M → List (Happening M) → Type 0
+NodesHoldFree {M} site world =
     (i : NodeId) → is_honest site i ≡ true → IsUpToDate i world →
     (name object : Bytes) → free_object ((view_of site world i).bench.table.at (Seen.Object name)).state ≡ Some object →
-    (ledger_of (genesis_ledger site.setup.rules.genesis) (history site world)).active name ≡ Some object
+    IsHeld site world name object
+
+-- The table of an honest node is what its own log comes to.
+abbrev pub KeepsTables : {M : Type 0} → Site M → List (Happening M) → Type 0
+KeepsTables {M} site world =
+    (i : NodeId) → is_honest site i ≡ true →
+    (view_of site world i).bench.table
+    ≡ table_of site.setup.rules i.shard (map (entry_of site.setup) (log_in (signs_at i world)))
 
 -- Each honest node has executed every slot that its shard has.
 abbrev pub AllUpToDate : {M : Type 0} → Site M → List (Happening M) → Type 0
@@ -135,9 +159,9 @@ net_of_keys config keys liars = record {
 }
 
 -- the site of a deployment over a net, whose order keeps these rules, and whose judge approves so
-abbrev pub deployed : {M : Type 0} → Config → Net → List Object → (Tx → Bool) → Machine M → Carrier M → Site M
-deployed {M} config net genesis approves machine carrier =
-    site_of (setup_of config genesis (session_of approves)) net machine carrier
+abbrev pub deployed_site : {M : Type 0} → Config → Net → List Object → (Tx → Bool) → Machine M → Carrier M → Site M
+deployed_site {M} config net genesis approves machine carrier =
+    site_of (setup_of config genesis (ledger_session approves)) net machine carrier
 
 -- It is true of the worlds of every deployment of at most 16 shards under these rules, over any net.
 abbrev pub OfWorlds : {M : Type 0} → Machine M → (Site M → List (Happening M) → Type 0) → Type 0
@@ -145,8 +169,8 @@ OfWorlds {M} machine Says =
     (carrier : Carrier M) → Carries machine carrier →
     (config : Config) (net : Net) (genesis : List Object) (approves : Tx → Bool) (world : List (Happening M)) →
     config.shards ≤ 16 → config.f ≤ 5 → IsNet config net →
-    IsWorld (deployed config net genesis approves machine carrier) world →
-    Says (deployed config net genesis approves machine carrier) world
+    IsWorld (deployed_site config net genesis approves machine carrier) world →
+    Says (deployed_site config net genesis approves machine carrier) world
 
 -- It is true of those in which, besides, no two hashed strings collide.
 abbrev pub OfWorldsApart : {M : Type 0} → Machine M → (Site M → List (Happening M) → Type 0) → Type 0
@@ -154,9 +178,9 @@ OfWorldsApart {M} machine Says =
     (carrier : Carrier M) → Carries machine carrier →
     (config : Config) (net : Net) (genesis : List Object) (approves : Tx → Bool) (world : List (Happening M)) →
     config.shards ≤ 16 → config.f ≤ 5 → IsNet config net →
-    IsWorld (deployed config net genesis approves machine carrier) world →
-    NoCollision (deployed config net genesis approves machine carrier) genesis world →
-    Says (deployed config net genesis approves machine carrier) world
+    IsWorld (deployed_site config net genesis approves machine carrier) world →
+    NoCollision (deployed_site config net genesis approves machine carrier) genesis world →
+    Says (deployed_site config net genesis approves machine carrier) world
 
 -- It is true of those in which no node may lie.
 abbrev pub OfWorldsAlone : {M : Type 0} → Machine M → (Site M → List (Happening M) → Type 0) → Type 0

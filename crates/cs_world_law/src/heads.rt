@@ -3,7 +3,7 @@
 ghost use Rattle.cs_world_law.specs.Worlds.{OfWorlds, OfWorldsApart};
 ghost use Rattle.cs_world_law.specs.Shown.{KeepsExecuted, ShowsExecuted, HeadsAgree};
 
-use cs_checkpoint::shown_leaf_is_covered;
+use cs_check_rules::shown_leaf_is_covered;
 use cs_node_law::marks_are_made;
 use cs_order::Order;
 

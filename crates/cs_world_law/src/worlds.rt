@@ -1,7 +1,8 @@
 // What holds of the worlds of deployments of several shards.
 
-ghost use Rattle.cs_world_law.specs.Worlds.{OfWorlds, OfWorldsApart, OfWorldsAlone, IsSerial, SpendsOnce, DecidesOnce, ExecutesGiven, ExecutesFit, TellsAccepted, HoldsFree, AllUpToDate, AllVoteFree, AllAcceptLocked};
+ghost use Rattle.cs_world_law.specs.Worlds.{OfWorlds, OfWorldsApart, OfWorldsAlone, IsSerial, SpendsOnce, DecidesOnce, ExecutesGiven, ExecutesKnown, ExecutesFit, TellsAccepted, HoldsFree, NodesHoldFree, KeepsTables, AllUpToDate, AllVoteFree, AllAcceptLocked};
 ghost use Rattle.cs_world_law.specs.Steps.{StepsAllowed, StepsComputed, FollowsShard, VotesOnce, TellsCommitted, TellsBefore};
+ghost use Rattle.cs_world_law.specs.Orders.{ExecutesChosen};
 ghost use Rattle.cs_world_law.specs.Clients.{TellsClientsAccepted, TellsClientsAborted};
 
 use cs_ledger::composition;
@@ -25,8 +26,13 @@ pub fn settled_world<O: Order>()
     // Each executed session stood in an input, so its strings are among those that do not collide.
     // This needs no such premise.
     ensures executed { OfWorlds O.rules (λ site world. ExecutesGiven site world) }
-    // Each executed entry has an encoding: no bytes are executed that are no entry.
+    // Each executed entry is one that stood in an input, or that an honest node proposed: no bytes
+    // are executed that are no entry.
+    ensures executed_known { OfWorlds O.rules (λ site world. ExecutesKnown site world) }
+    // It has an encoding.
     ensures executed_fit { OfWorlds O.rules (λ site world. ExecutesFit site world) }
+    // What the order of an honest node chose, the node has executed, slot by slot, and nothing else.
+    ensures executes_chosen { OfWorlds O.rules (λ site world. ExecutesChosen site world) }
     // The first executions of the slots are steps that may be taken: what is prepared is well
     // formed, of that shard and approved, and what is decided has the votes of the shards for it.
     ensures allowed { OfWorldsApart O.rules (λ site world. StepsAllowed site world) }
@@ -62,9 +68,13 @@ pub fn settled_world<O: Order>()
     // afterwards its inputs and its dummy are inactive. Its outputs are active, since names that do
     // not collide were never there before.
     ensures accepts_locked { OfWorldsApart O.rules (λ site world. AllAcceptLocked site world) }
-    // An object that is free in the table of an honest node that has executed all of its shard is
-    // in the ledger after the history.
+    // An object that is free in the table to which the log of a shard comes is in the ledger after
+    // the history.
     ensures objects { OfWorldsApart O.rules (λ site world. HoldsFree site world) }
+    // So is one that is free in the table of an honest node that has executed all of its shard.
+    ensures node_objects { OfWorldsApart O.rules (λ site world. NodesHoldFree site world) }
+    // The table of an honest node is what its own log comes to.
+    ensures tables { OfWorlds O.rules (λ site world. KeepsTables site world) }
     // Where no node may lie, the one node of a shard has executed all of it.
     ensures alone { OfWorldsAlone O.rules (λ site world. AllUpToDate site world) }
 {

@@ -11,12 +11,12 @@ use Rattle.cs_order.specs.Limits.{last_slot}
 use Rattle.cs_order.specs.Deeds.{Deed, Member, Machine, sent_by, chosen_by, chosen_in}
 use Rattle.cs_order.specs.Deeds as deed
 use Rattle.cs_order.specs.Calls.{Proposable}
-use Rattle.cs_order.specs.Runs.{Act, KeepsRules, IsKept, IsFor, Run, deeds_of, member_of, entries_in, held_in}
+use Rattle.cs_order.specs.Runs.{Act, KeepsRules, AllKeepRules, IsFor, IsRun, deeds_of, member_of, entries_handed_in, held_in}
 use Rattle.cs_order.specs.Law.{Law, Admits, Admitted, HasChosen, Undisturbed, ComesToRest, Holds}
-use Rattle.cs_order.specs.Solo.{solo, SoloStands, SoloStarts, solo_rest, solo_turns, waiting_of, step_at, may_at}
+use Rattle.cs_order.specs.Solo.{solo, SoloStands, SoloStarts, solo_rest, solo_turns, waiting_of, solo_step_at, may_at}
 
 -- whoever has chosen is an honest member
-pub is_member : {M : Type 0} (m : Machine M) (f : ℕ) (honest : ℕ → Bool) (past : List (Act M)) → Run m f honest past → (i slot : ℕ) (a : Proposed) → HasChosen i slot a past → (i < 3 * f + 1) × (honest i ≡ true)
+pub is_member : {M : Type 0} (m : Machine M) (f : ℕ) (honest : ℕ → Bool) (past : List (Act M)) → IsRun m f honest past → (i slot : ℕ) (a : Proposed) → HasChosen i slot a past → (i < 3 * f + 1) × (honest i ≡ true)
 is_member m f honest [] run i slot a h = absurd (let none = h in cc)
 is_member m f honest (act ∷ past) run i slot a h =
     elim (eqb_tells act.member i) [
@@ -25,7 +25,7 @@ is_member m f honest (act ∷ past) run i slot a h =
     ]
 
 -- what is chosen was waiting
-was_waiting : (slot : ℕ) (o : Option Proposed) (e : Proposed) → step_at slot o ≡ step.Chosen e → o ≡ Some e
+was_waiting : (slot : ℕ) (o : Option Proposed) (e : Proposed) → solo_step_at slot o ≡ step.Chosen e → o ≡ Some e
 was_waiting slot None e h = cc
 was_waiting slot (Some x) e h = by_room (nat_lt slot (last_slot)) h
   where
@@ -76,7 +76,7 @@ module _ {M : Type 0} (f : ℕ) (honest : ℕ → Bool) where
   chosen_by_deed h past (deed.Replied place to sent) slot a keeps before waits k = before k
   chosen_by_deed h past (deed.Cut place) slot a keeps before waits k = before k
 
-  chosen_admitted : (past : List (Act M)) → Run {M = M} solo f honest past → (i slot : ℕ) (a : Proposed) → HasChosen i slot a past → Admitted {M = M} solo f a past
+  chosen_admitted : (past : List (Act M)) → IsRun {M = M} solo f honest past → (i slot : ℕ) (a : Proposed) → HasChosen i slot a past → Admitted {M = M} solo f a past
   chosen_admitted [] run i slot a h = absurd (let none = h in cc)
   chosen_admitted (act ∷ past) run i slot a h =
       inr (elim (eqb_tells act.member i) [
@@ -110,7 +110,7 @@ module _ {M : Type 0} (f me : ℕ) where
   IsHeld e deeds = IsIn e (held_in {M = M} solo deeds)
 
   more : (e : Proposed) (act : Deed M) (past : List (Deed M)) → IsHeld e past → IsHeld e (act ∷ past)
-  more e act past h = IsIn-right e (entries_in solo act) (held_in solo past) h
+  more e act past h = IsIn-right e (entries_handed_in solo act) (held_in solo past) h
 
   -- what waits was handed in
   waiting_held : (deeds : List (Deed M)) (e : Proposed) → waiting_of deeds ≡ Some e → IsHeld e deeds
@@ -125,7 +125,7 @@ module _ {M : Type 0} (f me : ℕ) where
   waiting_held (deed.Cut slot ∷ past) e k = waiting_held past e k
 
   -- what is chosen was handed in
-  step_held : (deeds : List (Deed M)) (x : Step) (slot : ℕ) (a : Proposed) → step_at (length (chosen_in deeds)) (waiting_of deeds) ≡ x → (slice_get (chosen_in deeds) slot ≡ Some a → IsHeld a deeds) → slice_get (chosen_in (deed.Advanced x [] ∷ deeds)) slot ≡ Some a → IsHeld a deeds
+  step_held : (deeds : List (Deed M)) (x : Step) (slot : ℕ) (a : Proposed) → solo_step_at (length (chosen_in deeds)) (waiting_of deeds) ≡ x → (slice_get (chosen_in deeds) slot ≡ Some a → IsHeld a deeds) → slice_get (chosen_in (deed.Advanced x [] ∷ deeds)) slot ≡ Some a → IsHeld a deeds
   step_held deeds (step.Chosen e) slot a is before k =
       elim (slice_get-push (chosen_in deeds) e a slot k) [
         | inl old ↦ before old
@@ -134,7 +134,7 @@ module _ {M : Type 0} (f me : ℕ) where
   step_held deeds step.Moved slot a is before k = before k
   step_held deeds step.Quiet slot a is before k = before k
 
-  logged_held : (deeds : List (Deed M)) → IsKept {M = M} solo f me deeds → (slot : ℕ) (a : Proposed) → slice_get (chosen_in deeds) slot ≡ Some a → IsHeld a deeds
+  logged_held : (deeds : List (Deed M)) → AllKeepRules {M = M} solo f me deeds → (slot : ℕ) (a : Proposed) → slice_get (chosen_in deeds) slot ≡ Some a → IsHeld a deeds
   logged_held [] kept slot a k = absurd (let none = k in cc)
   logged_held (deed.Took_in from m ∷ past) kept slot a k = logged_held past kept.1 slot a k
   logged_held (deed.Advanced x sent ∷ past) kept slot a k = step_held past x slot a kept.0.0 (logged_held past kept.1 slot a) k
@@ -186,7 +186,7 @@ solo_bounded slot None = omega arith
 solo_bounded slot (Some entry) = omega arith
 
 -- one slot more, where an entry is chosen
-advance_lowers : (log : List Proposed) (waiting : Option Proposed) → (step_at (length log) waiting ≡ step.Quiet → ⊥) → solo_rest (length (chosen_by (step_at (length log) waiting) log)) None < solo_rest (length log) waiting
+advance_lowers : (log : List Proposed) (waiting : Option Proposed) → (solo_step_at (length log) waiting ≡ step.Quiet → ⊥) → solo_rest (length (chosen_by (solo_step_at (length log) waiting) log)) None < solo_rest (length log) waiting
 advance_lowers log None moves = absurd (moves refl)
 advance_lowers log (Some e) moves = by_room (nat_lt (length log) last_slot) refl moves
   where

@@ -4,13 +4,13 @@ use Rattle.cs_order.specs.Lists.{IsIn}
 use Rattle.cs_order.specs.laws.Lists.{IsIn-left, IsIn-right}
 use Rattle.cs_order.specs.Digests.{digest_fits, HaveDigests}
 use Rattle.cs_order.specs.Deeds.{Deed, Member, did}
-use Rattle.cs_order.specs.Runs.{KeepsRules, IsKept, held_in, entries_in}
+use Rattle.cs_order.specs.Runs.{KeepsRules, AllKeepRules, held_in, entries_handed_in}
 use Rattle.cs_order.specs.declared.proposed.Proposed.{Proposed}
 use Rattle.cs_order_rules.specs.declared.message.OrderMessage.{OrderMessage}
 use Rattle.cs_order_rules.specs.declared.message.OrderMessage.TheVariants as message
 use Rattle.cs_order_rules.specs.Slot.{is_digest}
 use Rattle.cs_order_rules.specs.Facts.{Sight, open_slot, leader, is_place, proper, carried}
-use Rattle.cs_order_rules.specs.Rules.{seen}
+use Rattle.cs_order_rules.specs.Rules.{seen_now}
 use Rattle.cs_order_rules.specs.SlotMachine.{slot_machine, sight}
 use Rattle.cs_order_law.specs.laws.Quorum.{one_honest}
 use Rattle.cs_order_law.specs.laws.Exact.{count_none}
@@ -44,7 +44,7 @@ module _ (f me : ℕ) where
   at deeds = record { f = f; me = me; deeds = deeds }
 
   abbrev Kept : Deeds → Type 0
-  Kept deeds = IsKept slot_machine f me deeds
+  Kept deeds = AllKeepRules slot_machine f me deeds
 
   -- what stands in a message taken was handed in
   pub facts_held : (deeds : Deeds) → Kept deeds → (k : ℕ) (m : OrderMessage) (e : Proposed) → IsIn (k, m) (sight (at deeds)).taken → IsIn e (carried m) → IsIn e (held_in slot_machine deeds)
@@ -52,8 +52,8 @@ module _ (f me : ℕ) where
   facts_held (act ∷ past) kept k m e h c =
       let one = (step_of (at past) act kept.0).0 in
       elim (one.adds (k, m) h) [
-        | inl old ↦ IsIn-right e (entries_in slot_machine act) (held_in slot_machine past) (facts_held past kept.1 k m e old c)
-        | inr source ↦ IsIn-left e (entries_in slot_machine act) (held_in slot_machine past)
+        | inl old ↦ IsIn-right e (entries_handed_in slot_machine act) (held_in slot_machine past) (facts_held past kept.1 k m e old c)
+        | inr source ↦ IsIn-left e (entries_handed_in slot_machine act) (held_in slot_machine past)
             (elim source [
               | inl foreign ↦ rw foreign.0 c
               | inr own ↦ new_carried act (sight (at past)) (sight (did act (at past))) m e own.1 c
@@ -75,7 +75,7 @@ module _ (f me : ℕ) where
       let s = sight (at past) in
       let none = count_none (3 * f + 1) in
       let enough = new.4.0 in
-      let m = one_honest f (λ j. is_digest d ((seen s).echo s.view j)) (λ j. true) (omega arith) (omega arith) in
+      let m = one_honest f (λ j. is_digest d ((seen_now s).echo s.view j)) (λ j. true) (omega arith) (omega arith) in
       all m.0 (message.Echo (open_slot s) s.view d) (said_echo s s.view m.0 d m.2)
   new_says act past t (message.Change n w c) kept have all new = tt
   new_says act past t (message.Done n e) kept have all new = tt
@@ -84,7 +84,7 @@ module _ (f me : ℕ) where
   pub all_say : (deeds : Deeds) → Kept deeds → HaveDigests (held_in slot_machine deeds) → AllSay deeds
   all_say [] kept have k m h = absurd h
   all_say (act ∷ past) kept have k m h =
-      let before : HaveDigests (held_in slot_machine past) = λ e i. have e (IsIn-right e (entries_in slot_machine act) (held_in slot_machine past) i) in
+      let before : HaveDigests (held_in slot_machine past) = λ e i. have e (IsIn-right e (entries_handed_in slot_machine act) (held_in slot_machine past) i) in
       let all = all_say past kept.1 before in
       elim ((step_of (at past) act kept.0).0.adds (k, m) h) [
         | inl old ↦ all k m old

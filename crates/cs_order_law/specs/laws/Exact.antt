@@ -5,7 +5,7 @@ use Rattle.cs_base.specs.Options.{or_else}
 use Rattle.cs_order.specs.Limits.{last_slot}
 use Rattle.cs_order.specs.declared.proposed.Proposed.{Proposed}
 use Rattle.cs_order_law.specs.laws.Quorum.{meet, count_all, one_honest}
-use Rattle.cs_order_rules.specs.Slot.{Seen, is_digest, votes, if_enough, quorum, with_digest, proposal_of, entry_of, by_confirm, is_entry, dones, if_done, done_by, by_done, chosen, to_confirm}
+use Rattle.cs_order_rules.specs.Slot.{Seen, is_digest, votes, if_enough, quorum, with_digest, proposal_of, chosen_entry, by_confirm, is_entry, dones, if_done, done_by, by_done, chosen, to_confirm}
 use Rattle.cs_order_law.specs.laws.RuleFacts.{is_digest_is, is_entry_is, quorum_is}
 
 -- what is there at some number is found at one
@@ -87,8 +87,8 @@ pub none_chosen : (s : Seen) → s.n < last_slot → chosen s ≡ None → (v : 
     → ((w : ℕ) → w < s.views → with_digest d (s.proposal w) ≡ None) × ((m : ℕ) → m < 3 * s.f + 1 → with_digest d (s.done m) ≡ None)
 none_chosen s room none v d below enough =
     let neither = neither_found s room none in
-    let at = first_is_none s.views (λ view. entry_of s (quorum s.f (s.confirm view))) v neither.0 below in
-    let here : entry_of s (Some d) ≡ None = (let found = quorum_exact s.f (s.confirm v) d enough in subst (λ o. entry_of s o ≡ None) found at) in
+    let at = first_is_none s.views (λ view. chosen_entry s (quorum s.f (s.confirm view))) v neither.0 below in
+    let here : chosen_entry s (Some d) ≡ None = (let found = quorum_exact s.f (s.confirm v) d enough in subst (λ o. chosen_entry s o ≡ None) found at) in
     let both = either_none (proposal_of s d) (first_below (3 * s.f + 1) (λ member. with_digest d (s.done member))) here in (
       λ w lt. first_is_none s.views (λ view. with_digest d (s.proposal view)) w both.0 lt,
       λ m lt. first_is_none (3 * s.f + 1) (λ member. with_digest d (s.done member)) m both.1 lt,

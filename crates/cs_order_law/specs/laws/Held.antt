@@ -3,7 +3,7 @@ use Rattle.std.proofs.Common.{◌≡◌, ℕ, ◌+◌, ◌*◌, ◌==◌, Bool, 
 use Rattle.cs_order.specs.Lists.{IsIn}
 use Rattle.cs_order.specs.laws.Lists.{IsIn-right, slice_get-push}
 use Rattle.cs_order.specs.Deeds.{Deed, Member}
-use Rattle.cs_order.specs.Runs.{IsKept, held_in, entries_in}
+use Rattle.cs_order.specs.Runs.{AllKeepRules, held_in, entries_handed_in}
 use Rattle.cs_order.specs.Law.{Holds}
 use Rattle.cs_order.specs.declared.proposed.Proposed.{Proposed}
 use Rattle.cs_order.specs.declared.answers.Step.TheVariants as step
@@ -14,8 +14,8 @@ use Rattle.cs_order_rules.specs.declared.message.OrderMessage.TheVariants as mes
 use Rattle.cs_order_law.specs.laws.Quorum.{one_honest}
 use Rattle.cs_order_law.specs.laws.Exact.{count_none}
 use Rattle.cs_order_rules.specs.Slot.{is_entry, proposal_of}
-use Rattle.cs_order_rules.specs.Facts.{open_slot, leader, carried, members, proposal_said}
-use Rattle.cs_order_rules.specs.Rules.{seen, choice, entering, confirming, own, free, safe, change_of, candidate, candidates, pairs_below}
+use Rattle.cs_order_rules.specs.Facts.{open_slot, leader, carried, member_count, proposal_said}
+use Rattle.cs_order_rules.specs.Rules.{seen_now, choice, view_to_enter, confirming, own, free, safe, change_of, candidate, candidates, pairs_below}
 use Rattle.cs_order_rules.specs.SlotMachine.{slot_machine, sight}
 use Rattle.cs_order_law.specs.laws.SlotFacts.{pending_is, if_some}
 use Rattle.cs_order_law.specs.laws.RuleFacts.{proposal_of_is, Chooses, IsKnown, choice_is, said_done}
@@ -32,7 +32,7 @@ module _ (f me : ℕ) where
   at deeds = record { f = f; me = me; deeds = deeds }
 
   abbrev Kept : Deeds → Type 0
-  Kept deeds = IsKept slot_machine f me deeds
+  Kept deeds = AllKeepRules slot_machine f me deeds
 
   abbrev IsHeld : Proposed → Deeds → Type 0
   IsHeld e deeds = IsIn e (held_in slot_machine deeds)
@@ -46,19 +46,19 @@ module _ (f me : ℕ) where
   chooses_held deeds kept e (inr done) =
       let s = sight (at deeds) in
       let none = count_none (3 * f + 1) in
-      let m = one_honest f (λ j. is_entry e ((seen s).done j)) (λ j. true) (omega arith) done in
+      let m = one_honest f (λ j. is_entry e ((seen_now s).done j)) (λ j. true) (omega arith) done in
       known_held deeds kept e (inr (m.0, said_done s m.0 e m.2))
 
   chosen_held : (deeds : Deeds) → Kept deeds → (e : Proposed) → slot_machine.step (at deeds) ≡ step.Chosen e → IsHeld e deeds
   chosen_held deeds kept e h =
       let s = sight (at deeds) in
-      chooses_held deeds kept e (choice_is s e (step_chooses (choice s) (entering s) (confirming s) e h)).1
+      chooses_held deeds kept e (choice_is s e (step_chooses (choice s) (view_to_enter s) (confirming s) e h)).1
 
   log_held : (deeds : Deeds) → Kept deeds → (n : ℕ) (e : Proposed) → slice_get (sight (at deeds)).log n ≡ Some e → IsHeld e deeds
   log_held [] kept n e h = absurd (let none = h in cc)
   log_held (act ∷ past) kept n e h =
       let one = (step_of (at past) act kept.0).0 in
-      let more = IsIn-right e (entries_in slot_machine act) (held_in slot_machine past) in
+      let more = IsIn-right e (entries_handed_in slot_machine act) (held_in slot_machine past) in
       elim one.log [
         | inl still ↦ more (log_held past kept.1 n e (rw still at h))
         | inr new ↦ elim (slice_get-push (sight (at past)).log new.0 e n (rw new.2 at h)) [
@@ -89,12 +89,12 @@ only_is true anything all entries h = cc
 only_is false true all entries h = cc
 only_is false false all entries h = cc
 
-offered_held : (f me : ℕ) (deeds : Deeds) → IsKept slot_machine f me deeds → (entries : List Proposed) (e : Proposed) → slot_machine.may_propose (record { f = f; me = me; deeds = deeds }) ≡ may.Only entries → IsIn e entries → IsIn e (held_in slot_machine deeds)
+offered_held : (f me : ℕ) (deeds : Deeds) → AllKeepRules slot_machine f me deeds → (entries : List Proposed) (e : Proposed) → slot_machine.may_propose (record { f = f; me = me; deeds = deeds }) ≡ may.Only entries → IsIn e entries → IsIn e (held_in slot_machine deeds)
 offered_held f me deeds kept entries e h k =
     let s = sight (record { f = f; me = me; deeds = deeds }) in
     let all = only_is (not (leader s s.view == s.me) || is_some (own proposal_said s)) ((s.view == 0) || free s) (candidates s) entries h in
-    let pair = filtered (candidate s) (pairs_below (members s) (change_of s s.view)) e (subst (λ es. IsIn e es) (sym all) k) in
-    let found = if_some (safe s pair.0.1) (proposal_of (seen s) pair.0.1) e pair.1 in
+    let pair = filtered (candidate s) (pairs_below (member_count s) (change_of s s.view)) e (subst (λ es. IsIn e es) (sym all) k) in
+    let found = if_some (safe s pair.0.1) (proposal_of (seen_now s) pair.0.1) e pair.1 in
     let p = (proposal_of_is s pair.0.1 e found.1).1 in
     facts_held f me deeds kept (leader s p.0) (message.Propose (open_slot s) p.0 e) e p.1 (inl refl)
 

@@ -11,7 +11,7 @@ use Rattle.cs_order.specs.Digests.{HaveDigests}
 use Rattle.cs_order.specs.Limits.{last_slot, view_bound}
 use Rattle.cs_order.specs.Deeds.{Deed, Member, did, sent_by, chosen_in}
 use Rattle.cs_order.specs.Deeds as deed
-use Rattle.cs_order.specs.Runs.{IsKept, IsFor, held_in, entries_in}
+use Rattle.cs_order.specs.Runs.{AllKeepRules, IsFor, held_in, entries_handed_in}
 use Rattle.cs_order.specs.declared.proposed.Proposed.{Proposed}
 use Rattle.cs_order.specs.declared.answers.Outgoing.{Outgoing}
 use Rattle.cs_order.specs.declared.answers.Step.{Step}
@@ -19,8 +19,8 @@ use Rattle.cs_order.specs.declared.answers.Step.TheVariants as step
 use Rattle.cs_order_rules.specs.declared.message.OrderMessage.{OrderMessage}
 use Rattle.cs_order_rules.specs.declared.message.OrderMessage.TheVariants as message
 use Rattle.cs_order_rules.specs.Slot.{prepared, in_view}
-use Rattle.cs_order_rules.specs.Facts.{Facts, Sight, open_slot, slot_of, is_place, is_below, pair_below, proper, confirm_said, echo_in}
-use Rattle.cs_order_rules.specs.Rules.{seen, choice, entering, confirming, step_by, sent_by as advance_by, pending, echo_sent, has_place, proposal, change_to, is_over, insert_line, with_line, echoed_in, change_told}
+use Rattle.cs_order_rules.specs.Facts.{Facts, Sight, open_slot, slot_of_message, is_place, is_below, pair_below, proper, confirm_said, echo_in}
+use Rattle.cs_order_rules.specs.Rules.{seen_now, choice, view_to_enter, confirming, step_by, sent_by_rules as advance_by, pending, echo_sent, has_place, proposal, change_to, is_slot_over, insert_line, with_line, echoed_in, change_told}
 use Rattle.cs_order_rules.specs.SlotMachine.{slot_machine, sight}
 use Rattle.cs_order_law.specs.laws.SafeFacts.{and_right}
 use Rattle.cs_order_law.specs.laws.SlotFacts.{same_number, first_of_is, confirm_said_is, last_found_is, if_may_echo_is}
@@ -52,7 +52,7 @@ other_kind me slot from m facts none = rw none (none_line (from == me) (echoed_i
 other_member : (me slot from : ℕ) (m : OrderMessage) (facts : Facts) → from ≢ me → echoed_in me slot ((from, m) ∷ facts) ≡ echoed_in me slot facts
 other_member me slot from m facts other = elim (eqb_tells from me) [ inl same ↦ absurd (other same.1) | inr differs ↦ rw differs.0 refl ]
 
-no_echo : (slot : ℕ) (m : OrderMessage) → (slot_of m < slot) → echo_in slot m ≡ None
+no_echo : (slot : ℕ) (m : OrderMessage) → (slot_of_message m < slot) → echo_in slot m ≡ None
 no_echo slot (message.Propose n w e) h = refl
 no_echo slot (message.Echo n w d) h = elim (eqb_tells n slot) [ inl same ↦ absurd (let e = same.1 in omega arith) | inr differs ↦ rw differs.0 refl ]
 no_echo slot (message.Confirm n w d) h = refl
@@ -60,7 +60,7 @@ no_echo slot (message.Change n w c) h = refl
 no_echo slot (message.Done n e) h = refl
 
 -- nothing was echoed in a slot that isn't open yet
-none_above : (me slot : ℕ) (facts : Facts) → ((m : OrderMessage) → IsIn (me, m) facts → slot_of m < slot) → echoed_in me slot facts ≡ []
+none_above : (me slot : ℕ) (facts : Facts) → ((m : OrderMessage) → IsIn (me, m) facts → slot_of_message m < slot) → echoed_in me slot facts ≡ []
 none_above me slot [] below = refl
 none_above me slot (fact ∷ facts) below =
     let rest = none_above me slot facts (λ m h. below m (inr h)) in
@@ -114,7 +114,7 @@ module _ (f me : ℕ) where
   at deeds = record { f = f; me = me; deeds = deeds }
 
   abbrev Kept : Deeds → Type 0
-  Kept deeds = IsKept slot_machine f me deeds
+  Kept deeds = AllKeepRules slot_machine f me deeds
 
   -- at most so many digests are echoed in a slot
   lines_short : (deeds : Deeds) → Kept deeds → IsShort (sight (at deeds))
@@ -122,12 +122,12 @@ module _ (f me : ℕ) where
   lines_short (deed.Took_in from m ∷ past) kept = let s = sight (at past) in rw (other_member me (open_slot s) from m s.taken kept.0.1) (lines_short past kept.1)
   lines_short (deed.Advanced x sent ∷ past) kept =
       let s = sight (at past) in
-      advance_short (at past) (sound f me past kept.1) (lines_short past kept.1) (choice s) (entering s) (confirming s) x sent kept.0.0 kept.0.1 kept.0.2
+      advance_short (at past) (sound f me past kept.1) (lines_short past kept.1) (choice s) (view_to_enter s) (confirming s) x sent kept.0.0 kept.0.1 kept.0.2
   lines_short (deed.Echoed sent ∷ past) kept = echo_short (at past) (lines_short past kept.1) (pending (sight (at past))) sent refl kept.0.1
   lines_short (deed.Proposing e sent ∷ past) kept =
       let s = sight (at past) in
       rw (← kept.0.1) (rw (other_kind me (open_slot s) me (message.Propose (open_slot s) s.view e) s.taken refl) (lines_short past kept.1))
-  lines_short (deed.Ticked due sent ∷ past) kept = tick_short (at past) due (is_over (sight (at past)) due) sent (lines_short past kept.1) kept.0
+  lines_short (deed.Ticked due sent ∷ past) kept = tick_short (at past) due (is_slot_over (sight (at past)) due) sent (lines_short past kept.1) kept.0
   lines_short (deed.Resent sent ∷ past) kept = lines_short past kept.1
   lines_short (deed.Replied slot to sent ∷ past) kept = lines_short past kept.1
   lines_short (deed.Cut slot ∷ past) kept = lines_short past kept.1
@@ -140,11 +140,11 @@ place_is : (n w : ℕ) → n ≤ last_slot → w < view_bound → is_place n w �
 place_is n w short small = both (nat_le n last_slot) (nat_lt w view_bound) (le-leb n last_slot short) (lt-ltb w view_bound small)
 
 -- whatever is confirmed was said in no later view, and is a digest
-prepared_below : (s : Sight) (w : ℕ) → Sound s → AllSay s → s.view < w → (o : Option (ℕ × List ℕ)) → prepared (seen s) ≡ o → pair_below w o ≡ true
+prepared_below : (s : Sight) (w : ℕ) → Sound s → AllSay s → s.view < w → (o : Option (ℕ × List ℕ)) → prepared (seen_now s) ≡ o → pair_below w o ≡ true
 prepared_below s w sound say above None h = refl
 prepared_below s w sound say above (Some pair) h =
-    let found = last_found_is s.views (λ view. in_view view ((seen s).confirm view s.me)) pair h in
-    let p = in_view_is found.0 ((seen s).confirm found.0 s.me) pair found.2 in
+    let found = last_found_is s.views (λ view. in_view view ((seen_now s).confirm view s.me)) pair h in
+    let p = in_view_is found.0 ((seen_now s).confirm found.0 s.me) pair found.2 in
     let q = first_of_is (confirm_said (open_slot s) found.0) s.taken s.me pair.1 p.1 in
     let said : IsIn (s.me, message.Confirm (open_slot s) found.0 pair.1) s.taken = rw (confirm_said_is (open_slot s) found.0 pair.1 q.0 q.2) at q.1 in
     let below : nat_lt pair.0 w ≡ true = lt-ltb pair.0 w (elim (sound.within (message.Confirm (open_slot s) found.0 pair.1) said) [ inl below ↦ absurd (omega arith) | inr here ↦ (let le = here.1 in let e = p.0 in omega arith) ]) in
@@ -159,7 +159,7 @@ line_below s w sound say above line h =
 change_proper : (s : Sight) (w : ℕ) → Sound s → AllSay s → IsShort s → open_slot s ≤ last_slot → s.view < w → w < view_bound → proper (message.Change (open_slot s) w (change_told s)) ≡ true
 change_proper s w sound say short room above small =
     both _ _
-    (both _ _ (place_is (open_slot s) w room small) (both _ _ (lt-ltb 0 w (omega arith)) (prepared_below s w sound say above (prepared (seen s)) refl)))
+    (both _ _ (place_is (open_slot s) w room small) (both _ _ (lt-ltb 0 w (omega arith)) (prepared_below s w sound say above (prepared (seen_now s)) refl)))
     (both _ _ (both _ _ (echoed_rises s.me (open_slot s) s.taken) (le-leb (length (lines s)) MOST_ECHOED short)) (all_by (λ (line : Line). is_below w line.1 line.0) (lines s) (line_below s w sound say above)))
 
 new_proper : (act : SlotAct) (s t : Sight) (m : OrderMessage) → Sound s → AllSay s → IsShort s → open_slot s ≤ last_slot → t.view < view_bound → s.view < view_bound → MayNew act s t m → SaysDigest m → proper m ≡ true
@@ -174,7 +174,7 @@ module _ (f me : ℕ) where
   Have deeds = HaveDigests (held_in slot_machine deeds)
 
   have_before : (act : SlotAct) (past : Deeds) → Have (act ∷ past) → Have past
-  have_before act past have e i = have e (IsIn-right e (entries_in slot_machine act) (held_in slot_machine past) i)
+  have_before act past have e i = have e (IsIn-right e (entries_handed_in slot_machine act) (held_in slot_machine past) i)
 
   -- each message of its own is proper
   own_proper : (deeds : Deeds) → Kept f me deeds → Have deeds → (m : OrderMessage) → IsIn (me, m) (sight (at f me deeds)).taken → proper m ≡ true
@@ -196,5 +196,5 @@ module _ (f me : ℕ) where
   vouched_proper deeds kept have (message.Change n w c) v = own_proper deeds kept have (message.Change n w c) v
   vouched_proper deeds kept have (message.Done n e) v = place_is n 0 (let below = slice_get_within (chosen_in deeds) n e v in let short = log_short f me deeds kept in omega arith) (omega arith)
 
-  pub handed_out_proper : (act : SlotAct) (deeds : Deeds) → IsKept slot_machine f me (act ∷ deeds) → Have (act ∷ deeds) → (m : OrderMessage) (to : ℕ) → IsFor m to (sent_by act) → proper m ≡ true
+  pub handed_out_proper : (act : SlotAct) (deeds : Deeds) → AllKeepRules slot_machine f me (act ∷ deeds) → Have (act ∷ deeds) → (m : OrderMessage) (to : ℕ) → IsFor m to (sent_by act) → proper m ≡ true
   handed_out_proper act deeds kept have m to h = vouched_proper (act ∷ deeds) kept have m ((step_of (at f me deeds) act kept.0).1 (sound f me deeds kept.1) m to h)

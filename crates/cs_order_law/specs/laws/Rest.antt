@@ -14,7 +14,7 @@ use Rattle.cs_order.specs.declared.answers.May.TheVariants.{No, Free, Only}
 use Rattle.cs_order_rules.specs.declared.message.OrderMessage.{OrderMessage}
 use Rattle.cs_order_rules.specs.declared.message.OrderMessage.TheVariants as message
 use Rattle.cs_order_rules.specs.Facts.{Facts, Sight, open_slot, leader, proposal_said, echo_said, confirm_said, first_of}
-use Rattle.cs_order_rules.specs.Rules.{own, choice, entering, confirming, step_by, sent_by as advance_by, pending, echo_sent, may_propose, change_to, one_unless, left_to_do, rest_of, candidates, free}
+use Rattle.cs_order_rules.specs.Rules.{own, choice, view_to_enter, confirming, step_by, sent_by_rules as advance_by, pending, echo_sent, may_propose, change_to, one_unless, left_to_do, rest_of, candidates, free}
 use Rattle.cs_order_rules.specs.SlotMachine.{slot_machine, sight, slot_rest}
 use Rattle.cs_order_law.specs.Terms.{IsRule}
 use Rattle.cs_order_law.specs.laws.SlotFacts.{said_at, same_number, pending_is}
@@ -81,7 +81,7 @@ confirm_falls s digest h =
 abbrev Falls : Member OrderMessage → Deed OrderMessage → Type 0
 Falls h act = slot_rest (did act h) < slot_rest h
 
-advance_falls : (h : Member OrderMessage) → (c : Option Proposed) (w : Option ℕ) (d : Option (List ℕ)) → choice (sight h) ≡ c → entering (sight h) ≡ w → confirming (sight h) ≡ d → (x : Step) (sent : List (Outgoing OrderMessage)) → step_by c w d ≡ x → (x ≡ step.Quiet → ⊥) → advance_by (sight h) c w d ≡ sent → Falls h (deed.Advanced x sent)
+advance_falls : (h : Member OrderMessage) → (c : Option Proposed) (w : Option ℕ) (d : Option (List ℕ)) → choice (sight h) ≡ c → view_to_enter (sight h) ≡ w → confirming (sight h) ≡ d → (x : Step) (sent : List (Outgoing OrderMessage)) → step_by c w d ≡ x → (x ≡ step.Quiet → ⊥) → advance_by (sight h) c w d ≡ sent → Falls h (deed.Advanced x sent)
 advance_falls h (Some e) w d p q r x sent is moved same =
     rw (← is, ← same) (chosen_falls (sight h) (sight (did (deed.Advanced (step.Chosen e) []) h)) (choice_is (sight h) e p).0 (simp length-append refl))
 advance_falls h None (Some w) d p q r x sent is moved same =
@@ -113,7 +113,7 @@ none_proposed s e h = right_false (not (leader s s.view == s.me)) (is_some (own 
 -- each deed of the rules lowers it
 pub rest_falls : (h : Member OrderMessage) (act : Deed OrderMessage) → KeepsRules slot_machine h act → IsRule act → Falls h act
 rest_falls h (deed.Took_in from m) keeps rule = absurd rule
-rest_falls h (deed.Advanced x sent) keeps rule = advance_falls h (choice (sight h)) (entering (sight h)) (confirming (sight h)) refl refl refl x sent keeps.0 keeps.1 keeps.2
+rest_falls h (deed.Advanced x sent) keeps rule = advance_falls h (choice (sight h)) (view_to_enter (sight h)) (confirming (sight h)) refl refl refl x sent keeps.0 keeps.1 keeps.2
 rest_falls h (deed.Echoed sent) keeps rule = echoed_falls h (pending (sight h)) sent refl keeps.0 keeps.1
 rest_falls h (deed.Proposing e sent) keeps rule = rw (← keeps.1) (propose_falls (sight h) e (none_proposed (sight h) e keeps.0))
 rest_falls h (deed.Ticked due sent) keeps rule = absurd rule

@@ -5,7 +5,7 @@ use Rattle.std.proofs.lemmas.Bool.{or_cases}
 use Rattle.std.proofs.lemmas.Slice.Eq.{bytes_eq-Decides}
 use Rattle.cs_order.specs.Lists.{IsIn}
 use Rattle.cs_order_rules.specs.declared.message.Change.{Change}
-use Rattle.cs_order_rules.specs.Safe.{pair_free, says_none, pair_allows, says_allowed, is_listed, says_echoed}
+use Rattle.cs_order_rules.specs.Safe.{pair_free, says_none, pair_allows, says_allowed, is_echo_listed, says_echoed}
 
 pub and_left : (a b : Bool) → (a && b) ≡ true → a ≡ true
 and_left true b h = refl
@@ -47,10 +47,10 @@ says_allowed_is view digest (Some c) h = (c, refl, pair_allows_is view digest c.
 abbrev pub ListedIn : ℕ → ℕ → List ℕ → List (List ℕ × ℕ) → Type 0
 ListedIn from below digest lines = (u : ℕ) × (from ≤ u) × (u < below) × IsIn (digest, u) lines
 
-listed_is : (from below : ℕ) (digest : List ℕ) (lines : List (List ℕ × ℕ)) → list_any (is_listed from below digest) lines ≡ true → ListedIn from below digest lines
+listed_is : (from below : ℕ) (digest : List ℕ) (lines : List (List ℕ × ℕ)) → list_any (is_echo_listed from below digest) lines ≡ true → ListedIn from below digest lines
 listed_is from below digest [] h = cc
 listed_is from below digest (line ∷ lines) h =
-    elim (or_cases (is_listed from below digest line) (list_any (is_listed from below digest) lines) h) [
+    elim (or_cases (is_echo_listed from below digest line) (list_any (is_echo_listed from below digest) lines) h) [
       | inl k ↦ (line.1, leb-true from line.1 (and_left _ _ (and_right (bytes_eq line.0 digest) _ k)), ltb-true line.1 below (and_right (nat_le from line.1) _ (and_right (bytes_eq line.0 digest) _ k)), inl (ap (λ (x : List ℕ). (x, line.1)) (sym (same_bytes line.0 digest (and_left _ _ k)))))
       | inr k ↦ let r = listed_is from below digest lines k in (r.0, r.1, r.2, inr r.3)
     ]

@@ -3,13 +3,13 @@ use Rattle.std.proofs.Common.{◌≡◌, ℕ, ◌≤◌, List, [], ◌∷◌, le
 use Rattle.cs_order.specs.Limits.{last_slot}
 use Rattle.cs_order.specs.Deeds.{Deed, Member, did, chosen_by, chosen_in}
 use Rattle.cs_order.specs.Deeds as deed
-use Rattle.cs_order.specs.Runs.{IsKept}
+use Rattle.cs_order.specs.Runs.{AllKeepRules}
 use Rattle.cs_order.specs.declared.proposed.Proposed.{Proposed}
 use Rattle.cs_order.specs.declared.answers.Step.{Step}
 use Rattle.cs_order.specs.declared.answers.Step.TheVariants as step
 use Rattle.cs_order_rules.specs.declared.message.OrderMessage.{OrderMessage}
 use Rattle.cs_order_rules.specs.Facts.{Sight}
-use Rattle.cs_order_rules.specs.Rules.{choice, entering, confirming, step_by, step_of as next_step}
+use Rattle.cs_order_rules.specs.Rules.{choice, view_to_enter, confirming, step_by, step_of as next_step}
 use Rattle.cs_order_rules.specs.SlotMachine.{slot_machine, sight}
 use Rattle.cs_order_law.specs.laws.RuleFacts.{choice_is}
 use Rattle.cs_order_law.specs.laws.Sound.{Sound, sound_step}
@@ -27,7 +27,7 @@ step_chooses None None None e h = cc
 
 -- the last slot is never chosen
 step_short : (s : Sight) (x : Step) → next_step s ≡ x → length s.log ≤ last_slot → length (chosen_by x s.log) ≤ last_slot
-step_short s (step.Chosen e) is h = (let room = (choice_is s e (step_chooses (choice s) (entering s) (confirming s) e is)).0 in simp length-append (omega arith))
+step_short s (step.Chosen e) is h = (let room = (choice_is s e (step_chooses (choice s) (view_to_enter s) (confirming s) e is)).0 in simp length-append (omega arith))
 step_short s step.Moved is h = h
 step_short s step.Quiet is h = h
 
@@ -35,7 +35,7 @@ module _ (f me : ℕ) where
   abbrev at : Deeds → Member OrderMessage
   at deeds = record { f = f; me = me; deeds = deeds }
 
-  pub sound : (deeds : Deeds) → IsKept slot_machine f me deeds → Sound (sight (at deeds))
+  pub sound : (deeds : Deeds) → AllKeepRules slot_machine f me deeds → Sound (sight (at deeds))
   sound [] kept =
       record {
         small = omega arith;
@@ -49,7 +49,7 @@ module _ (f me : ℕ) where
       }
   sound (act ∷ past) kept = sound_step act (sight (at past)) (sight (did act (at past))) (step_of (at past) act kept.0).0 (sound past kept.1)
 
-  pub log_short : (deeds : Deeds) → IsKept slot_machine f me deeds → length (chosen_in deeds) ≤ last_slot
+  pub log_short : (deeds : Deeds) → AllKeepRules slot_machine f me deeds → length (chosen_in deeds) ≤ last_slot
   log_short [] kept = omega arith
   log_short (deed.Took_in from m ∷ past) kept = log_short past kept.1
   log_short (deed.Advanced x sent ∷ past) kept = step_short (sight (at past)) x kept.0.0 (log_short past kept.1)

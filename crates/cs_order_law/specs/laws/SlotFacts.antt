@@ -9,7 +9,7 @@ use Rattle.cs_order.specs.declared.proposed.Proposed.{Proposed}
 use Rattle.cs_order_rules.specs.declared.message.Change.{Change}
 use Rattle.cs_order_rules.specs.declared.message.OrderMessage.{OrderMessage}
 use Rattle.cs_order_rules.specs.declared.message.OrderMessage.TheVariants as message
-use Rattle.cs_order_rules.specs.Safe.{says_allowed, SafeAt, is_free, is_safe, is_safe_from}
+use Rattle.cs_order_rules.specs.Safe.{says_allowed, SafeAt, is_free_view, is_safe, is_safe_from}
 use Rattle.cs_order_rules.specs.Slot.{same_entry}
 use Rattle.cs_order_law.specs.laws.SafeFacts.{and_left, and_right, same_bytes}
 use Rattle.cs_order_rules.specs.Facts.{Facts, Sight, open_slot, leader, at, proposal_said, echo_said, confirm_said, change_said, done_said, took, first_of}
@@ -103,7 +103,7 @@ any_below_is (suc n) test h = elim (or_cases (test n) (any_below n test) h) [ in
 
 pub is_safe_is : (f : ℕ) (changes : ℕ → Option Change) (view : ℕ) (d : List ℕ) → is_safe f changes view d ≡ true → SafeAt f changes view d
 is_safe_is f changes view d h =
-    elim (or_cases (is_free f changes) _ h) [
+    elim (or_cases (is_free_view f changes) _ h) [
       | inl k ↦ inl (leb-true (2 * f + 1) _ k)
       | inr k ↦
           let r = any_below_is view (is_safe_from f changes view d) k in

@@ -5,7 +5,7 @@ use Rattle.cs_order.specs.Lists.{IsIn}
 use Rattle.cs_order.specs.laws.Lists.{IsIn-left, IsIn-right, slice_get-left, slice_get-push}
 use Rattle.cs_order.specs.Counts.{count_below}
 use Rattle.cs_order.specs.Deeds.{Deed, Member, did, chosen_in, sent_by}
-use Rattle.cs_order.specs.Runs.{Act, deeds_of, member_of, HandedOut, Follows, Run, entries_in, handed_in}
+use Rattle.cs_order.specs.Runs.{Act, deeds_of, member_of, HandedOut, Follows, IsRun, entries_handed_in, handed_in}
 use Rattle.cs_order.specs.Law.{Admitted, HasChosen, Law, Undisturbed}
 use Rattle.cs_order.specs.Deeds as deed
 use Rattle.cs_order.specs.declared.proposed.Proposed.{Proposed}
@@ -16,7 +16,7 @@ use Rattle.cs_order_law.specs.laws.Quorum.{one_honest}
 use Rattle.cs_order_law.specs.laws.Views.{LocalFacts, IsConfirmed, agreement, honest_in, echo_of_confirm}
 use Rattle.cs_order_rules.specs.Slot.{is_digest, is_entry}
 use Rattle.cs_order_rules.specs.Facts.{Sight, open_slot, carried}
-use Rattle.cs_order_rules.specs.Rules.{seen}
+use Rattle.cs_order_rules.specs.Rules.{seen_now}
 use Rattle.cs_order_rules.specs.SlotMachine.{slot_machine, sight}
 use Rattle.cs_order_law.specs.laws.SlotFacts.{pending_is}
 use Rattle.cs_order_law.specs.laws.RuleFacts.{Chooses, IsKnown, said_confirm, said_done}
@@ -57,7 +57,7 @@ vouch_later s t later (message.Change n w e) h = own_later s t later (message.Ch
 vouch_later s t later (message.Done n e) h = later.log n e h
 
 -- what a new own message carries was handed in by its call
-pub new_carried : (act : SlotAct) (s t : Sight) (m : OrderMessage) (e : Proposed) → MayNew act s t m → IsIn e (carried m) → IsIn e (entries_in slot_machine act)
+pub new_carried : (act : SlotAct) (s t : Sight) (m : OrderMessage) (e : Proposed) → MayNew act s t m → IsIn e (carried m) → IsIn e (entries_handed_in slot_machine act)
 new_carried act s t (message.Propose n w p) e h k = rw h.3.1 k
 new_carried act s t (message.Echo n w d) e h k = absurd k
 new_carried act s t (message.Confirm n w d) e h k = absurd k
@@ -150,7 +150,7 @@ module _ (f : ℕ) (honest : ℕ → Bool) (few : count_below (3 * f + 1) (λ i.
     quorum_later n v d q = (q.0, q.1, λ j h k. (later j).kept (j, message.Confirm n v d) (q.2 j h k))
 
     handed_later : (e : Proposed) → IsIn e (handed_in slot_machine past) → IsIn e (handed_in slot_machine (act ∷ past))
-    handed_later e h = IsIn-right e (entries_in slot_machine act.deed) (handed_in slot_machine past) h
+    handed_later e h = IsIn-right e (entries_handed_in slot_machine act.deed) (handed_in slot_machine past) h
 
     -- a fact that the caller has now: an old one, a message taken, or one of its own
     abbrev NewFact : ℕ → OrderMessage → Type 0
@@ -185,7 +185,7 @@ module _ (f : ℕ) (honest : ℕ → Bool) (few : count_below (3 * f + 1) (λ i.
         by_state (λ t. IsIn (k, m) t.taken → IsIn e (handed_in slot_machine (act ∷ past))) i
         (λ same h'. elim (fact k m h') [
           | inl old ↦ handed_later e (inv.entries act.member k m e caller old c)
-          | inr source ↦ IsIn-left e (entries_in slot_machine act.deed) (handed_in slot_machine past)
+          | inr source ↦ IsIn-left e (entries_handed_in slot_machine act.deed) (handed_in slot_machine past)
               (elim source [
                 | inl foreign ↦ rw foreign.0 c
                 | inr own ↦ new_carried act.deed before after m e own.1 c
@@ -237,7 +237,7 @@ module _ (f : ℕ) (honest : ℕ → Bool) (few : count_below (3 * f + 1) (λ i.
           (
             v,
             (
-              (λ j. is_digest e.digest ((seen before).confirm v j)),
+              (λ j. is_digest e.digest ((seen_now before).confirm v j)),
               confirmed.1,
               λ j hj k. inv.cross act.member j (message.Confirm n v e.digest) caller hj (said_confirm before v j e.digest k),
             ),
@@ -245,7 +245,7 @@ module _ (f : ℕ) (honest : ℕ → Bool) (few : count_below (3 * f + 1) (λ i.
         )
     chooses_now e (inr done) =
         let n = open_slot before in
-        let k = one_honest f (λ j. is_entry e ((seen before).done j)) honest few done in
+        let k = one_honest f (λ j. is_entry e ((seen_now before).done j)) honest few done in
         let hk : IsMember k.0 = (k.1, k.4) in
         inv.chosen k.0 n e hk (inv.cross act.member k.0 (message.Done n e) caller hk (said_done before k.0 e k.2))
 
@@ -273,11 +273,11 @@ module _ (f : ℕ) (honest : ℕ → Bool) (few : count_below (3 * f + 1) (λ i.
           chosen = next_chosen;
         }
 
-  pub always : (past : SlotRun) → Run slot_machine f honest past → Inv past
+  pub always : (past : SlotRun) → IsRun slot_machine f honest past → Inv past
   always [] run = begin
   always (act ∷ past) run = next act past run.0 (always past run.1)
 
-  module _ (past : SlotRun) (run : Run slot_machine f honest past) (slot : ℕ) where
+  module _ (past : SlotRun) (run : IsRun slot_machine f honest past) (slot : ℕ) where
     inv : Inv past
     inv = always past run
 
@@ -324,7 +324,7 @@ same_proposed : (a b : Proposed) → a.digest ≡ b.digest → a.bytes ≡ b.byt
 same_proposed a b x y = ap₂ (λ (p : List ℕ) (q : List ℕ). let r : Proposed = record { digest = p; bytes = q } in r) x y
 
 -- whoever has chosen is an honest member
-is_member : (f : ℕ) (honest : ℕ → Bool) (past : SlotRun) → Run slot_machine f honest past → (i slot : ℕ) (a : Proposed) → HasChosen i slot a past → (i < 3 * f + 1) × (honest i ≡ true)
+is_member : (f : ℕ) (honest : ℕ → Bool) (past : SlotRun) → IsRun slot_machine f honest past → (i slot : ℕ) (a : Proposed) → HasChosen i slot a past → (i < 3 * f + 1) × (honest i ≡ true)
 is_member f honest [] run i slot a h = absurd (let none = h in cc)
 is_member f honest (act ∷ past) run i slot a h =
     elim (eqb_tells act.member i) [

@@ -12,15 +12,15 @@ use Rattle.cs_order_rules.specs.declared.message.OrderMessage.TheVariants as mes
 use Rattle.cs_order_rules.specs.Safe.{SafeAt}
 use Rattle.cs_order_rules.specs.Slot.{is_digest}
 use Rattle.cs_order_rules.specs.Facts.{Sight, open_slot}
-use Rattle.cs_order_rules.specs.Rules.{seen, change_of, pending, change_told}
-use Rattle.cs_order_law.specs.Terms.{Within}
+use Rattle.cs_order_rules.specs.Rules.{seen_now, change_of, pending, change_told}
+use Rattle.cs_order_law.specs.Terms.{IsWithinReach}
 use Rattle.cs_order_law.specs.laws.SlotFacts.{pending_is, changes_are_taken}
 use Rattle.cs_order_law.specs.laws.RuleFacts.{Chooses, ToConfirm, said_echo, prepared_is, echoed_is}
 
 -- The local facts: one echo in a view, no confirm in a view below a change, and so on.
 pub record Sound (s : Sight) : Type 0 where
   pub small : s.view < s.views
-  pub within : (m : OrderMessage) → IsIn (s.me, m) s.taken → Within s m
+  pub within : (m : OrderMessage) → IsIn (s.me, m) s.taken → IsWithinReach s m
   pub no_own_done : (n : ℕ) (e : Proposed) → IsIn (s.me, message.Done n e) s.taken → ⊥
   pub one_echo : (n w : ℕ) (d e : List ℕ) → IsIn (s.me, message.Echo n w d) s.taken → IsIn (s.me, message.Echo n w e) s.taken → d ≡ e
   pub echo_safe : (n w : ℕ) (d : List ℕ) → IsIn (s.me, message.Echo n w d) s.taken → 0 < w → (changes : ℕ → Option Change) × SafeAt s.f changes w d × ((j : ℕ) (c : Change) → changes j ≡ Some c → IsIn (j, message.Change n w c) s.taken)
@@ -64,18 +64,18 @@ module _ (act : SlotAct) (s t : Sight) (one : StepOf act s t) (sound : Sound s) 
   keep : (m : OrderMessage) → IsIn (s.me, m) s.taken → IsIn (t.me, m) t.taken
   keep m h = rw one.same_me (one.kept (s.me, m) h)
 
-  within_more : (m : OrderMessage) → Within s m → Within t m
+  within_more : (m : OrderMessage) → IsWithinReach s m → IsWithinReach t m
   within_more m (inl below) = elim one.place [ inl up ↦ inl (omega arith) | inr same ↦ inl (let e = same.0 in omega arith) ]
   within_more m (inr here) = elim one.place [ inl up ↦ inl (let e = here.0 in omega arith) | inr same ↦ inr (here.0 ∙ sym same.0, (let a = here.1 in let b = same.1 in omega arith)) ]
 
-  new_within : (m : OrderMessage) → MayNew act s t m → Within t m
+  new_within : (m : OrderMessage) → MayNew act s t m → IsWithinReach t m
   new_within (message.Propose n w e) h = inr (h.0 ∙ sym h.1, (let e = h.2 in omega arith))
   new_within (message.Echo n w d) h = inr (h.0 ∙ sym h.1, (let e = h.2 in let e' = h.3 in omega arith))
   new_within (message.Confirm n w d) h = inr (h.0 ∙ sym h.1, (let e = h.2 in let e' = h.3 in omega arith))
   new_within (message.Change n w c) h = inr (h.0 ∙ sym h.1, (let e = h.2 in omega arith))
   new_within (message.Done n e) h = absurd h
 
-  t_within : (m : OrderMessage) → IsIn (t.me, m) t.taken → Within t m
+  t_within : (m : OrderMessage) → IsIn (t.me, m) t.taken → IsWithinReach t m
   t_within m h = elim (own m h) [ inl old ↦ within_more m (sound.within m old) | inr new ↦ new_within m new ]
 
   t_no_done : (n : ℕ) (e : Proposed) → IsIn (t.me, message.Done n e) t.taken → ⊥
@@ -121,7 +121,7 @@ module _ (act : SlotAct) (s t : Sight) (one : StepOf act s t) (sound : Sound s) 
   new_echoed : (n v : ℕ) (d : List ℕ) → MayNew act s t (message.Confirm n v d) → Echoed s n v d
   new_echoed n v d new =
       rw (new.0, new.2)
-      ((λ j. is_digest d ((seen s).echo s.view j)), new.4.0, λ j e. said_echo s s.view j d e)
+      ((λ j. is_digest d ((seen_now s).echo s.view j)), new.4.0, λ j e. said_echo s s.view j d e)
 
   t_confirm_echoed : (n v : ℕ) (d : List ℕ) → IsIn (t.me, message.Confirm n v d) t.taken → Echoed t n v d
   t_confirm_echoed n v d h = elim (own (message.Confirm n v d) h) [ inl old ↦ echoed_more n v d (sound.confirm_echoed n v d old) | inr new ↦ echoed_more n v d (new_echoed n v d new) ]

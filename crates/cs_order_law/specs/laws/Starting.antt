@@ -6,7 +6,7 @@ use Rattle.cs_order.specs.Law.{ComesToRest}
 use Rattle.cs_order.specs.declared.proposed.Proposed.{Proposed}
 use Rattle.cs_order.specs.declared.answers.Step.TheVariants as step
 use Rattle.cs_order_rules.specs.Facts.{Sight, open_slot, is_change_from, count_of}
-use Rattle.cs_order_rules.specs.Rules.{choice, entering, confirming, step_by}
+use Rattle.cs_order_rules.specs.Rules.{choice, view_to_enter, confirming, step_by}
 use Rattle.cs_order_rules.specs.SlotMachine.{slot_machine, sight, slot_rest}
 use Rattle.cs_order_law.specs.laws.Exact.{count_none}
 use Rattle.cs_order_law.specs.laws.Rest.{rest_falls, member_bounded}
@@ -32,7 +32,7 @@ module _ (f me : ℕ) where
   none_chosen : (e : Proposed) → choice start ≡ Some e → ⊥
   none_chosen e is = none_by e (choice_is start e is).1
 
-  none_entered : (w : ℕ) → entering start ≡ Some w → ⊥
+  none_entered : (w : ℕ) → view_to_enter start ≡ Some w → ⊥
   none_entered w is =
       let r = last_below_is start.views w (λ view. nat_lt start.view view && nat_le (start.f + 1) (count_of start (is_change_from (open_slot start) view))) is in
       none_said f f (leb-true (f + 1) (count_below (3 * f + 1) (λ k. false)) (and_right (nat_lt start.view w) _ r.1))
@@ -40,7 +40,7 @@ module _ (f me : ℕ) where
   none_confirmed : (d : List ℕ) → confirming start ≡ Some d → ⊥
   none_confirmed d is = none_said f (2 * f) (to_confirm_is start d is).0
 
-  by_rules : (c : Option Proposed) (w : Option ℕ) (d : Option (List ℕ)) → choice start ≡ c → entering start ≡ w → confirming start ≡ d → step_by c w d ≡ step.Quiet
+  by_rules : (c : Option Proposed) (w : Option ℕ) (d : Option (List ℕ)) → choice start ≡ c → view_to_enter start ≡ w → confirming start ≡ d → step_by c w d ≡ step.Quiet
   by_rules (Some e) w d p q r = absurd (none_chosen e p)
   by_rules None (Some w) d p q r = absurd (none_entered w q)
   by_rules None None (Some d) p q r = absurd (none_confirmed d r)
@@ -48,7 +48,7 @@ module _ (f me : ℕ) where
 
 pub slot_comes_to_rest : ComesToRest slot_machine slot_rest
 slot_comes_to_rest = record {
-  start = λ f me. by_rules f me (choice (start f me)) (entering (start f me)) (confirming (start f me)) refl refl refl;
+  start = λ f me. by_rules f me (choice (start f me)) (view_to_enter (start f me)) (confirming (start f me)) refl refl refl;
   advanced = λ h moves. rest_falls h (deed.Advanced (slot_machine.step h) (slot_machine.advancing h)) (refl, moves, refl) tt;
   echoed = λ h some. rest_falls h (deed.Echoed (slot_machine.echoing h)) (some, refl) tt;
   proposed = λ h e may. rest_falls h (deed.Proposing e (slot_machine.proposing h e)) (may, refl) tt;

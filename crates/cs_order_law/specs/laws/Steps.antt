@@ -2,7 +2,7 @@
 use Rattle.std.proofs.Common.{◌≡◌, ◌≢◌, ℕ, ◌+◌, ◌*◌, ◌≤◌, ◌<◌, ◌==◌, nat_lt, Bool, true, false, ◌||◌, if◌then◌else◌, List, [], ◌∷◌, ◌++◌, length-append, Option, Some, None, IsSome, slice_get, ◌⊎◌, inl, inr, refl, sym, ap, ◌∙◌, subst, arith, ◌^◌, min, ltb-true}
 use Rattle.cs_order_law.specs.laws.SafeFacts.{and_right}
 use Rattle.cs_order.specs.Lists.{IsIn}
-use Rattle.cs_order.specs.Deeds.{Deed, Member, did, sent_by, kept_from, entry_from, entry_at}
+use Rattle.cs_order.specs.Deeds.{Deed, Member, did, sent_by, kept_from, entry_from, entry_of_slot}
 use Rattle.cs_order.specs.Runs.{KeepsRules, IsFor}
 use Rattle.cs_order.specs.Deeds as deed
 use Rattle.cs_order.specs.Limits.{view_bound}
@@ -13,7 +13,7 @@ use Rattle.cs_order.specs.declared.answers.Step.TheVariants as step
 use Rattle.cs_order_rules.specs.declared.message.OrderMessage.{OrderMessage}
 use Rattle.cs_order_rules.specs.declared.message.OrderMessage.TheVariants as message
 use Rattle.cs_order_rules.specs.Facts.{Sight, open_slot, proposal_said, echo_said, confirm_said, change_said}
-use Rattle.cs_order_rules.specs.Rules.{choice, entering, confirming, step_by, sent_by as advance_by, pending, echo_sent, propose_sent, change_to, change_told, to_all, is_over, waits, again, own, resend_sent, reply_with}
+use Rattle.cs_order_rules.specs.Rules.{choice, view_to_enter, confirming, step_by, sent_by_rules as advance_by, pending, echo_sent, propose_sent, change_to, change_told, to_all, is_slot_over, wait_grows, sent_again, own, resend_sent, reply_with}
 use Rattle.cs_order_rules.specs.SlotMachine.{slot_machine, sight, has_echoed}
 use Rattle.cs_order_law.specs.laws.SlotFacts.{first_of_is, proposal_said_is, echo_said_is, confirm_said_is, change_said_is}
 use Rattle.cs_order_law.specs.laws.RuleFacts.{Chooses, choice_is, entering_is, to_confirm_is}
@@ -111,7 +111,7 @@ chosen_step act s e chooses =
 abbrev Goal : Member OrderMessage → SlotAct → Type 0
 Goal h act = IsStep act (sight h) (sight (did act h)) (sent_by act)
 
-advance_step : (h : Member OrderMessage) (c : Option Proposed) (w : Option ℕ) (d : Option (List ℕ)) → choice (sight h) ≡ c → entering (sight h) ≡ w → confirming (sight h) ≡ d → (x : Step) (sent : List (Outgoing OrderMessage)) → step_by c w d ≡ x → (x ≡ step.Quiet → ⊥) → advance_by (sight h) c w d ≡ sent → Goal h (deed.Advanced x sent)
+advance_step : (h : Member OrderMessage) (c : Option Proposed) (w : Option ℕ) (d : Option (List ℕ)) → choice (sight h) ≡ c → view_to_enter (sight h) ≡ w → confirming (sight h) ≡ d → (x : Step) (sent : List (Outgoing OrderMessage)) → step_by c w d ≡ x → (x ≡ step.Quiet → ⊥) → advance_by (sight h) c w d ≡ sent → Goal h (deed.Advanced x sent)
 advance_step h (Some e) w d p q r x sent is moved same =
     rw (← is, ← same) (chosen_step (deed.Advanced (step.Chosen e) []) (sight h) e (choice_is (sight h) e p).1, λ sound k to none. absurd none)
 advance_step h None (Some w) d p q r x sent is moved same =
@@ -131,10 +131,10 @@ echo_step h (Some e) sent p some same =
     let m : OrderMessage = message.Echo (open_slot s) s.view e.digest in
     rw (← same) (said_step (deed.Echoed (to_all m)) s m s.view s.wait (refl, refl, refl, refl, (to_all m, refl), (e, p, refl)) (let z : ℕ = 0 in omega arith) (λ h. h))
 
-over_view : (s : Sight) (due : Bool) → is_over s due ≡ true → s.view + 1 < view_bound
-over_view s due h = ltb-true (s.view + 1) view_bound (and_right (s.wait + 1 == 8 * 2 ^ min s.view 10) _ (and_right (waits s due) _ h))
+over_view : (s : Sight) (due : Bool) → is_slot_over s due ≡ true → s.view + 1 < view_bound
+over_view s due h = ltb-true (s.view + 1) view_bound (and_right (s.wait + 1 == 8 * 2 ^ min s.view 10) _ (and_right (wait_grows s due) _ h))
 
-tick_step : (h : Member OrderMessage) (due b : Bool) (sent : List (Outgoing OrderMessage)) → is_over (sight h) due ≡ b → (if b then change_to (sight h) ((sight h).view + 1) else []) ≡ sent → Goal h (deed.Ticked due sent)
+tick_step : (h : Member OrderMessage) (due b : Bool) (sent : List (Outgoing OrderMessage)) → is_slot_over (sight h) due ≡ b → (if b then change_to (sight h) ((sight h).view + 1) else []) ≡ sent → Goal h (deed.Ticked due sent)
 tick_step h due true sent over same =
     let s = sight h in
     rw (← same) (said_step (deed.Ticked due (change_to s (s.view + 1))) s (message.Change (open_slot s) (s.view + 1) (change_told s)) (s.view + 1) 0 (refl, refl, refl, (let z : ℕ = 0 in omega arith), refl) (let z : ℕ = 0 in omega arith) (λ h. (let below = over_view s due over in omega arith)))
@@ -148,11 +148,11 @@ for_either m to [] ys h = inr h
 for_either m to (x ∷ xs) ys (inl h) = inl (inl h)
 for_either m to (x ∷ xs) ys (inr h) = elim (for_either m to xs ys h) [ inl k ↦ inl (inr k) | inr k ↦ inr k ]
 
-again_is : {A : Type 0} (name : A → OrderMessage) (o : Option A) (m : OrderMessage) (to : ℕ) → IsFor m to (again name o) → (x : A) × (o ≡ Some x) × (name x ≡ m)
+again_is : {A : Type 0} (name : A → OrderMessage) (o : Option A) (m : OrderMessage) (to : ℕ) → IsFor m to (sent_again name o) → (x : A) × (o ≡ Some x) × (name x ≡ m)
 again_is name None m to h = absurd h
 again_is name (Some x) m to h = elim h [ inl one ↦ (x, refl, one.0) | inr none ↦ absurd none ]
 
-said_again : {A : Type 0} (said : ℕ → ℕ → OrderMessage → Option A) (name : ℕ → ℕ → A → OrderMessage) (is : (n w : ℕ) (x : A) (m : OrderMessage) → said n w m ≡ Some x → m ≡ name n w x) (s : Sight) (m : OrderMessage) (to : ℕ) → IsFor m to (again (name (open_slot s) s.view) (own said s)) → IsIn (s.me, m) s.taken
+said_again : {A : Type 0} (said : ℕ → ℕ → OrderMessage → Option A) (name : ℕ → ℕ → A → OrderMessage) (is : (n w : ℕ) (x : A) (m : OrderMessage) → said n w m ≡ Some x → m ≡ name n w x) (s : Sight) (m : OrderMessage) (to : ℕ) → IsFor m to (sent_again (name (open_slot s) s.view) (own said s)) → IsIn (s.me, m) s.taken
 said_again said name is s m to h =
     let r = again_is (name (open_slot s) s.view) (own said s) m to h in
     let p = first_of_is (said (open_slot s) s.view) s.taken s.me r.0 r.1 in
@@ -171,10 +171,10 @@ one_of_four P m to xs ys zs us a b c d h =
 resent : (s : Sight) (m : OrderMessage) (to : ℕ) → IsFor m to (resend_sent s) → IsIn (s.me, m) s.taken
 resent s m to h =
     one_of_four (IsIn (s.me, m) s.taken) m to
-    (again (message.Propose (open_slot s) s.view) (own proposal_said s))
-    (again (message.Echo (open_slot s) s.view) (own echo_said s))
-    (again (message.Confirm (open_slot s) s.view) (own confirm_said s))
-    (again (message.Change (open_slot s) s.view) (own change_said s))
+    (sent_again (message.Propose (open_slot s) s.view) (own proposal_said s))
+    (sent_again (message.Echo (open_slot s) s.view) (own echo_said s))
+    (sent_again (message.Confirm (open_slot s) s.view) (own confirm_said s))
+    (sent_again (message.Change (open_slot s) s.view) (own change_said s))
     (said_again proposal_said (λ n w x. message.Propose n w x) proposal_said_is s m to)
     (said_again echo_said (λ n w x. message.Echo n w x) echo_said_is s m to)
     (said_again confirm_said (λ n w x. message.Confirm n w x) confirm_said_is s m to)
@@ -193,21 +193,21 @@ given_is first log slot e = by_place (nat_lt slot first)
     by_place true h = cc
     by_place false h = h
 
-reply_step : (h : Member OrderMessage) (slot to : ℕ) (sent : List (Outgoing OrderMessage)) (out : Outgoing OrderMessage) → reply_with slot to (entry_at h.deeds slot) ≡ Some out → sent ≡ out ∷ [] → Goal h (deed.Replied slot to sent)
+reply_step : (h : Member OrderMessage) (slot to : ℕ) (sent : List (Outgoing OrderMessage)) (out : Outgoing OrderMessage) → reply_with slot to (entry_of_slot h.deeds slot) ≡ Some out → sent ≡ out ∷ [] → Goal h (deed.Replied slot to sent)
 reply_step h slot to sent out is same =
-    let r = reply_is slot to (entry_at h.deeds slot) out is in
+    let r = reply_is slot to (entry_of_slot h.deeds slot) out is in
     let chosen = given_is (kept_from h.deeds) (sight h).log slot r.0 r.1 in
     rw same (still_step (deed.Replied slot to (out ∷ [])) (sight h) (sight h).wait, λ sound m k one. elim one [ inl it ↦ subst (λ n. Vouches (sight h) n) (sym r.2 ∙ it.0) chosen | inr none ↦ absurd none ])
 
 -- each deed that keeps the rules is a step
 pub step_of : (h : Member OrderMessage) (act : SlotAct) → KeepsRules slot_machine h act → Goal h act
 step_of h (deed.Took_in from m) keeps = (taken_step (sight h) from m keeps.1, λ sound k to none. absurd none)
-step_of h (deed.Advanced x sent) keeps = advance_step h (choice (sight h)) (entering (sight h)) (confirming (sight h)) refl refl refl x sent keeps.0 keeps.1 keeps.2
+step_of h (deed.Advanced x sent) keeps = advance_step h (choice (sight h)) (view_to_enter (sight h)) (confirming (sight h)) refl refl refl x sent keeps.0 keeps.1 keeps.2
 step_of h (deed.Echoed sent) keeps = echo_step h (pending (sight h)) sent refl keeps.0 keeps.1
 step_of h (deed.Proposing e sent) keeps =
     let s = sight h in
     rw (← keeps.1) (said_step (deed.Proposing e (propose_sent s e)) s (message.Propose (open_slot s) s.view e) s.view s.wait (refl, refl, refl, (propose_sent s e, refl)) (let z : ℕ = 0 in omega arith) (λ h. h))
-step_of h (deed.Ticked due sent) keeps = tick_step h due (is_over (sight h) due) sent refl keeps
+step_of h (deed.Ticked due sent) keeps = tick_step h due (is_slot_over (sight h) due) sent refl keeps
 step_of h (deed.Resent sent) keeps = (still_step (deed.Resent sent) (sight h) (sight h).wait, λ sound m to one. vouch_old (sight h) sound m (resent (sight h) m to (rw keeps one)))
 step_of h (deed.Replied slot to sent) keeps = reply_step h slot to sent keeps.0 keeps.1 keeps.2
 step_of h (deed.Cut slot) keeps = (still_step (deed.Cut slot) (sight h) (sight h).wait, λ sound k to none. absurd none)

@@ -9,13 +9,13 @@ use Rattle.cs_order_rules.specs.declared.message.Change.{Change}
 use Rattle.cs_order_rules.specs.declared.message.OrderMessage.{OrderMessage}
 use Rattle.cs_order_rules.specs.declared.message.OrderMessage.TheVariants as message
 use Rattle.cs_order_rules.specs.Slot.{Seen}
-use Rattle.cs_order_rules.specs.Facts.{Facts, Sight, members, proposal_said, echo_said, confirm_said, change_said, done_said, echo_in, is_change_from, is_like, took, first_of}
+use Rattle.cs_order_rules.specs.Facts.{Facts, Sight, member_count, proposal_said, echo_said, confirm_said, change_said, done_said, echo_in, is_change_from, is_like, took, first_of}
 use Rattle.cs_order_rules.specs.Rules.{proposal_at, echoed_in, with_line}
 use Rattle.cs_order_law.specs.laws.SafeFacts.{and_left, and_right}
 use Rattle.cs_order_law.specs.laws.SlotFacts.{same_number}
-use Rattle.cs_slot.specs.Kept.{seen_in, with_vote, with_entry, with_proposal, with_echo, with_confirm, with_done}
-use Rattle.cs_change.specs.Kept.{told_in, with_told, reaches}
-use Rattle.cs_order_open.specs.Shows.{KeptOpenSlot, Shows, with_fact}
+use Rattle.cs_slot.specs.Kept.{seen_in, lookup_with_vote, with_entry, with_proposal, with_echo, with_confirm, with_done}
+use Rattle.cs_change.specs.Kept.{change_in, with_told, reaches}
+use Rattle.cs_order_open.specs.Shows.{KeptOpenSlot, ShowsSlot, with_fact}
 
 -- What was taken of a kind is what is found of it.
 pub same_either_way : (a b : ℕ) → (a == b) ≡ (b == a)
@@ -127,7 +127,7 @@ confirms_in n facts v = first_of (confirm_said n v) facts
 -- What a message leaves as it was.
 module _ (s : Sight) (n from : ℕ) (m : OrderMessage) where
   same_proposals : ((v : ℕ) → proposal_said n v m ≡ None) → proposal_at s n ≡ proposal_at (with_fact s from m) n
-  same_proposals none = fun_ext (λ v. sym (passed (proposal_said n v) s.taken from m ((n + v) % members s) (none v)))
+  same_proposals none = fun_ext (λ v. sym (passed (proposal_said n v) s.taken from m ((n + v) % member_count s) (none v)))
 
   same_echoes : ((v : ℕ) → echo_said n v m ≡ None) → echoes_in n s.taken ≡ echoes_in n ((from, m) ∷ s.taken)
   same_echoes none = fun_ext (λ v. fun_ext (λ member. sym (passed (echo_said n v) s.taken from m member (none v))))
@@ -143,37 +143,37 @@ no_line true lines = refl
 no_line false lines = refl
 
 -- the parts that stay, where a message is no change
-kept_told : (k : KeptOpenSlot) (s : Sight) (n view from : ℕ) (m : OrderMessage) → Shows k s n view → ((v : ℕ) → change_said n v m ≡ None) → (v member : ℕ) → told_in k.changes.changes v member ≡ first_of (change_said n v) ((from, m) ∷ s.taken) member
+kept_told : (k : KeptOpenSlot) (s : Sight) (n view from : ℕ) (m : OrderMessage) → ShowsSlot k s n view → ((v : ℕ) → change_said n v m ≡ None) → (v member : ℕ) → change_in k.changes.changes v member ≡ first_of (change_said n v) ((from, m) ∷ s.taken) member
 kept_told k s n view from m shows none v member = shows.told v member ∙ sym (passed (change_said n v) s.taken from m member (none v))
 
-kept_reached : (k : KeptOpenSlot) (s : Sight) (n view from : ℕ) (m : OrderMessage) → Shows k s n view → ((v : ℕ) → is_change_from n v m ≡ false) → (v member : ℕ) → reaches k.changes.furthest v member ≡ took (is_change_from n v) ((from, m) ∷ s.taken) member
+kept_reached : (k : KeptOpenSlot) (s : Sight) (n view from : ℕ) (m : OrderMessage) → ShowsSlot k s n view → ((v : ℕ) → is_change_from n v m ≡ false) → (v member : ℕ) → reaches k.changes.furthest v member ≡ took (is_change_from n v) ((from, m) ∷ s.taken) member
 kept_reached k s n view from m shows none v member = shows.reached v member ∙ sym (passed_test (is_change_from n v) s.taken from m member (none v))
 
-kept_echoed : (k : KeptOpenSlot) (s : Sight) (n view from : ℕ) (m : OrderMessage) → Shows k s n view → echo_in n m ≡ None → k.echoed ≡ echoed_in s.me n ((from, m) ∷ s.taken)
+kept_echoed : (k : KeptOpenSlot) (s : Sight) (n view from : ℕ) (m : OrderMessage) → ShowsSlot k s n view → echo_in n m ≡ None → k.echoed ≡ echoed_in s.me n ((from, m) ∷ s.taken)
 kept_echoed k s n view from m shows none = shows.echoed ∙ sym (rw none (no_line (from == s.me) (echoed_in s.me n s.taken)))
 
-kept_led : (k : KeptOpenSlot) (s : Sight) (n view from : ℕ) (m : OrderMessage) → Shows k s n view → ((v : ℕ) → proposal_said n v m ≡ None) → (v member : ℕ) → (member == (n + v) % members s) ≡ false → first_of (proposal_said n v) ((from, m) ∷ s.taken) member ≡ None
+kept_led : (k : KeptOpenSlot) (s : Sight) (n view from : ℕ) (m : OrderMessage) → ShowsSlot k s n view → ((v : ℕ) → proposal_said n v m ≡ None) → (v member : ℕ) → (member == (n + v) % member_count s) ≡ false → first_of (proposal_said n v) ((from, m) ∷ s.taken) member ≡ None
 kept_led k s n view from m shows none v member other = passed (proposal_said n v) s.taken from m member (none v) ∙ shows.led_only v member other
 
 -- a proposal of the leader is none of another member
-led_proposal : (s : Sight) (n from w v member : ℕ) (e : Proposed) (b c : Bool) → (w == v) ≡ b → (from == member) ≡ c → from ≡ (n + w) % members s → (member == (n + v) % members s) ≡ false → or_else (when (from == member) (when ((n == n) && (w == v)) (Some e))) (first_of (proposal_said n v) s.taken member) ≡ first_of (proposal_said n v) s.taken member
+led_proposal : (s : Sight) (n from w v member : ℕ) (e : Proposed) (b c : Bool) → (w == v) ≡ b → (from == member) ≡ c → from ≡ (n + w) % member_count s → (member == (n + v) % member_count s) ≡ false → or_else (when (from == member) (when ((n == n) && (w == v)) (Some e))) (first_of (proposal_said n v) s.taken member) ≡ first_of (proposal_said n v) s.taken member
 led_proposal s n from w v member e true true is same leads other =
-    let here : (member == (n + v) % members s) ≡ true = rw (← eqb-true from member same, ← eqb-true w v is, leads) (same_number ((n + w) % members s)) in
+    let here : (member == (n + v) % member_count s) ≡ true = rw (← eqb-true from member same, ← eqb-true w v is, leads) (same_number ((n + w) % member_count s)) in
     absurd (let false_here = other in cc)
 led_proposal s n from w v member e true false is same leads other = rw same refl
 led_proposal s n from w v member e false c is same leads other = rw (is, same_number n) (passed_by (from == member) (first_of (proposal_said n v) s.taken member))
 
 -- A proposal that is the first of its view.
-one_proposal : (s : Sight) (n from w v : ℕ) (e : Proposed) (b : Bool) → (w == v) ≡ b → from ≡ (n + w) % members s → proposal_at s n w ≡ None → or_else (proposal_at s n v) (when (w == v) (Some e)) ≡ proposal_at (with_fact s from (message.Propose n w e)) n v
+one_proposal : (s : Sight) (n from w v : ℕ) (e : Proposed) (b : Bool) → (w == v) ≡ b → from ≡ (n + w) % member_count s → proposal_at s n w ≡ None → or_else (proposal_at s n v) (when (w == v) (Some e)) ≡ proposal_at (with_fact s from (message.Propose n w e)) n v
 one_proposal s n from w v e true is leads none =
     let same = eqb-true w v is in
     let old : proposal_at s n v ≡ None = rw (← same) none in
-    let here : (from == (n + v) % members s) ≡ true = rw (leads, same) (same_number ((n + v) % members s)) in
+    let here : (from == (n + v) % member_count s) ≡ true = rw (leads, same) (same_number ((n + v) % member_count s)) in
     rw (old, here, same_number n, is) refl
 one_proposal s n from w v e false is leads none =
-    rw (is, same_number n) (sym (last_none (proposal_at s n v)) ∙ sym (passed_by (from == (n + v) % members s) (proposal_at s n v)))
+    rw (is, same_number n) (sym (last_none (proposal_at s n v)) ∙ sym (passed_by (from == (n + v) % member_count s) (proposal_at s n v)))
 
-pub shows_proposal : (k new : KeptOpenSlot) (s : Sight) (n view from w : ℕ) (e : Proposed) → Shows k s n view → from ≡ (n + w) % members s → true ≡ not (is_some ((seen_in k.slot).proposal w)) → seen_in new.slot ≡ with_proposal true (seen_in k.slot) w e → new.changes ≡ k.changes → new.echoed ≡ k.echoed → Shows new (with_fact s from (message.Propose n w e)) n view
+pub shows_proposal : (k new : KeptOpenSlot) (s : Sight) (n view from w : ℕ) (e : Proposed) → ShowsSlot k s n view → from ≡ (n + w) % member_count s → true ≡ not (is_some ((seen_in k.slot).proposal w)) → seen_in new.slot ≡ with_proposal true (seen_in k.slot) w e → new.changes ≡ k.changes → new.echoed ≡ k.echoed → ShowsSlot new (with_fact s from (message.Propose n w e)) n view
 shows_proposal k new s n view from w e shows leads fresh slot changes echoed =
     let m : OrderMessage = message.Propose n w e in
     let none : proposal_at s n w ≡ None = ap (λ (x : Seen). x.proposal w) (sym shows.seen) ∙ none_if ((seen_in k.slot).proposal w) fresh in
@@ -194,13 +194,13 @@ shows_proposal k new s n view from w e shows leads fresh slot changes echoed =
 one_vote : {A : Type 0} (n from w v member : ℕ) (x : A) (said : ℕ → ℕ → Option A) → said w from ≡ None → or_else (said v member) (when ((w == v) && (from == member)) (Some x)) ≡ or_else (when (from == member) (when ((n == n) && (w == v)) (Some x))) (said v member)
 one_vote n from w v member x said none = rw (same_number n) (sym (behind (from == member) (w == v) x (said v member) (first_vote said w from v member none)))
 
-pub shows_echo : (k new : KeptOpenSlot) (s : Sight) (n view from w : ℕ) (d : List ℕ) → Shows k s n view → true ≡ not (is_some ((seen_in k.slot).echo w from)) → seen_in new.slot ≡ with_echo true (seen_in k.slot) w from d → new.changes ≡ k.changes → new.echoed ≡ with_line (when (from == s.me) (Some (d, w))) k.echoed → Shows new (with_fact s from (message.Echo n w d)) n view
+pub shows_echo : (k new : KeptOpenSlot) (s : Sight) (n view from w : ℕ) (d : List ℕ) → ShowsSlot k s n view → true ≡ not (is_some ((seen_in k.slot).echo w from)) → seen_in new.slot ≡ with_echo true (seen_in k.slot) w from d → new.changes ≡ k.changes → new.echoed ≡ with_line (when (from == s.me) (Some (d, w))) k.echoed → ShowsSlot new (with_fact s from (message.Echo n w d)) n view
 shows_echo k new s n view from w d shows fresh slot changes echoed =
     let m : OrderMessage = message.Echo n w d in
     let before = echoes_in n s.taken in
     let none : before w from ≡ None = ap (λ (x : Seen). x.echo w from) (sym shows.seen) ∙ none_if ((seen_in k.slot).echo w from) fresh in
     let proposals = same_proposals s n from m (λ v. refl) in
-    let echoes : with_vote true before w from d ≡ echoes_in n ((from, m) ∷ s.taken) = fun_ext (λ v. fun_ext (λ member. one_vote n from w v member d before none)) in
+    let echoes : lookup_with_vote true before w from d ≡ echoes_in n ((from, m) ∷ s.taken) = fun_ext (λ v. fun_ext (λ member. one_vote n from w v member d before none)) in
     let confirms = same_confirms s n from m (λ v. refl) in
     let dones = same_dones s n from m refl in
     record {
@@ -213,14 +213,14 @@ shows_echo k new s n view from w d shows fresh slot changes echoed =
     }
 
 -- A confirm that is the first of its member and view.
-pub shows_confirm : (k new : KeptOpenSlot) (s : Sight) (n view from w : ℕ) (d : List ℕ) → Shows k s n view → true ≡ not (is_some ((seen_in k.slot).confirm w from)) → seen_in new.slot ≡ with_confirm true (seen_in k.slot) w from d → new.changes ≡ k.changes → new.echoed ≡ k.echoed → Shows new (with_fact s from (message.Confirm n w d)) n view
+pub shows_confirm : (k new : KeptOpenSlot) (s : Sight) (n view from w : ℕ) (d : List ℕ) → ShowsSlot k s n view → true ≡ not (is_some ((seen_in k.slot).confirm w from)) → seen_in new.slot ≡ with_confirm true (seen_in k.slot) w from d → new.changes ≡ k.changes → new.echoed ≡ k.echoed → ShowsSlot new (with_fact s from (message.Confirm n w d)) n view
 shows_confirm k new s n view from w d shows fresh slot changes echoed =
     let m : OrderMessage = message.Confirm n w d in
     let before = confirms_in n s.taken in
     let none : before w from ≡ None = ap (λ (x : Seen). x.confirm w from) (sym shows.seen) ∙ none_if ((seen_in k.slot).confirm w from) fresh in
     let proposals = same_proposals s n from m (λ v. refl) in
     let echoes = same_echoes s n from m (λ v. refl) in
-    let confirms : with_vote true before w from d ≡ confirms_in n ((from, m) ∷ s.taken) = fun_ext (λ v. fun_ext (λ member. one_vote n from w v member d before none)) in
+    let confirms : lookup_with_vote true before w from d ≡ confirms_in n ((from, m) ∷ s.taken) = fun_ext (λ v. fun_ext (λ member. one_vote n from w v member d before none)) in
     let dones = same_dones s n from m refl in
     record {
       seen = slot ∙ ap (λ (x : Seen). with_confirm true x w from d) shows.seen ∙ (λ i. record { f = s.f; n = n; me = s.me; view = view; views = s.views; proposal = proposals i; echo = echoes i; confirm = confirms i; done = dones i });
@@ -235,7 +235,7 @@ shows_confirm k new s n view from w d shows fresh slot changes echoed =
 one_done : (n from member : ℕ) (e : Proposed) (said : ℕ → Option Proposed) → said from ≡ None → or_else (said member) (when (from == member) (Some e)) ≡ or_else (when (from == member) (when (n == n) (Some e))) (said member)
 one_done n from member e said none = rw (same_number n) (sym (behind (from == member) true e (said member) (λ here. rw (← eqb-true from member here) none)))
 
-pub shows_done : (k new : KeptOpenSlot) (s : Sight) (n view from : ℕ) (e : Proposed) → Shows k s n view → true ≡ not (is_some ((seen_in k.slot).done from)) → seen_in new.slot ≡ with_done true (seen_in k.slot) from e → new.changes ≡ k.changes → new.echoed ≡ k.echoed → Shows new (with_fact s from (message.Done n e)) n view
+pub shows_done : (k new : KeptOpenSlot) (s : Sight) (n view from : ℕ) (e : Proposed) → ShowsSlot k s n view → true ≡ not (is_some ((seen_in k.slot).done from)) → seen_in new.slot ≡ with_done true (seen_in k.slot) from e → new.changes ≡ k.changes → new.echoed ≡ k.echoed → ShowsSlot new (with_fact s from (message.Done n e)) n view
 shows_done k new s n view from e shows fresh slot changes echoed =
     let m : OrderMessage = message.Done n e in
     let before : ℕ → Option Proposed = first_of (done_said n) s.taken in
@@ -254,11 +254,11 @@ shows_done k new s n view from e shows fresh slot changes echoed =
     }
 
 -- A change that is the first of its member and view.
-pub shows_change : (k new : KeptOpenSlot) (s : Sight) (n view from w : ℕ) (c : Change) → Shows k s n view → true ≡ not (is_some (told_in k.changes.changes w from)) → new.slot ≡ k.slot → told_in new.changes.changes ≡ with_told true (told_in k.changes.changes) w from c → ((v member : ℕ) → reaches new.changes.furthest v member ≡ ((true && ((from == member) && nat_le v w)) || reaches k.changes.furthest v member)) → new.changes.f ≡ k.changes.f → new.echoed ≡ k.echoed → Shows new (with_fact s from (message.Change n w c)) n view
+pub shows_change : (k new : KeptOpenSlot) (s : Sight) (n view from w : ℕ) (c : Change) → ShowsSlot k s n view → true ≡ not (is_some (change_in k.changes.changes w from)) → new.slot ≡ k.slot → change_in new.changes.changes ≡ with_told true (change_in k.changes.changes) w from c → ((v member : ℕ) → reaches new.changes.furthest v member ≡ ((true && ((from == member) && nat_le v w)) || reaches k.changes.furthest v member)) → new.changes.f ≡ k.changes.f → new.echoed ≡ k.echoed → ShowsSlot new (with_fact s from (message.Change n w c)) n view
 shows_change k new s n view from w c shows fresh slot told reached f echoed =
     let m : OrderMessage = message.Change n w c in
     let before : ℕ → ℕ → Option Change = λ v. first_of (change_said n v) s.taken in
-    let none : before w from ≡ None = sym (shows.told w from) ∙ none_if (told_in k.changes.changes w from) fresh in
+    let none : before w from ≡ None = sym (shows.told w from) ∙ none_if (change_in k.changes.changes w from) fresh in
     let proposals = same_proposals s n from m (λ v. refl) in
     let echoes = same_echoes s n from m (λ v. refl) in
     let confirms = same_confirms s n from m (λ v. refl) in

@@ -3,8 +3,8 @@ use Rattle.std.proofs.Common.{◌≡◌, ℕ, ◌+◌, ◌≤◌, Bool, true, fa
 use Rattle.std.specs.Prelude.{count_by}
 use Rattle.std.specs.Int.{from_bool}
 use Rattle.std.proofs.lemmas.List.Sums.{sum_by-cons}
-use Rattle.cs_outer.specs.declared.until.Until.{Until}
-use Rattle.cs_outer.specs.Until.{IsOver, AreEnough, AreNeeded}
+use Rattle.cs_io.specs.declared.until.Until.{Until}
+use Rattle.cs_io.specs.Until.{IsOver, AreEnough, AreNeeded}
 
 -- one tick more, or none
 pub ticks-more : {A : Type 0} (is_tick : A → Bool) (input : A) (past : List A) (ticks more : ℕ) (ticked : Bool) → count_by is_tick past ≡ ticks → ticked ≡ is_tick input → more ≡ from_bool ticked → count_by is_tick (input ∷ past) ≡ ticks + more

@@ -11,20 +11,20 @@ use Rattle.cs_tx_value.specs.laws.Kinds.{kinds_form, takes_part, part_kinded, ta
 use Rattle.cs_tx_value.specs.laws.Key.{key_form}
 use Rattle.cs_tx_value.specs.Object.{DigestFits}
 use Rattle.cs_tx_value.specs.Key.{key_encoding, KeyFits}
-use Rattle.cs_tx_form.specs.Session.{session_encoding, SessionFits, vote_encoding, entry_encoding, EntryFits}
-use Rattle.cs_tx_form.specs.State.{state_encoding, StateFits}
-use Rattle.cs_tx_form.specs.laws.Session.{session_form, vote_form, entry_form, state_form}
-use Rattle.cs_tx_form.specs.laws.Log.{slot_form, checkpoint_form, proof_form}
+use Rattle.cs_tx_types.specs.Session.{session_encoding, SessionFits, vote_encoding, entry_encoding, EntryFits}
+use Rattle.cs_tx_types.specs.State.{state_encoding, StateFits}
+use Rattle.cs_tx_types.specs.laws.Session.{session_form, vote_form, entry_form, state_form}
+use Rattle.cs_tx_types.specs.laws.Log.{slot_form, checkpoint_form, proof_form}
 use Rattle.cs_wire_message.specs.declared.message.Message.{Message}
 use Rattle.cs_wire_message.specs.declared.message.Message.TheVariants as message
-use Rattle.cs_wire_message.specs.Message.{kind_of, body_of, MessageFits, IsView, prepared_encoding, PreparedFits, echo_encoding, is_above, Rise, change_encoding, ChangeFits, flag_encoding}
-use Rattle.cs_wire_message.specs.Reading.{view_at, below_at, flag_at, echo_at, rising_at, echoed_at, some_pair, prepared_kind_at, prepared_at, Claim, claim_of, claimed_at, claim_at, propose_at, step_at, voted_at, decided_at, done_at, told_at, propose_of, echo_of, confirm_of, change_from, voted_of, decided_of, done_of, asked_of, told_of, message_at}
+use Rattle.cs_wire_message.specs.Message.{kind_of, body_of, MessageFits, IsView, prepared_encoding, PreparedFits, echo_encoding, is_after_last, Rise, change_encoding, ChangeFits, flag_encoding}
+use Rattle.cs_wire_message.specs.Reading.{view_number_at, below_at, flag_at, echo_at, rising_at, echoed_at, some_pair, prepared_kind_at, prepared_at, Claim, claim_of_parts, claimed_at, claim_at, propose_at, step_at, voted_at, decided_message_at, done_at, told_message_at, propose_of, echo_of, confirm_of, change_from, voted_of, decided_of, done_of, asked_of, told_message, message_at}
 
 -- ---- views and flags
 
-pub view_form : IsForm (to_be_bytes w16) IsView view_at
+pub view_form : IsForm (to_be_bytes w16) IsView view_number_at
 view_form =
-    weaker_form (to_be_bytes w16) (λ n. (n < 2 ^ 16) × (nat_le n LAST_VIEW ≡ true)) view_at
+    weaker_form (to_be_bytes w16) (λ n. (n < 2 ^ 16) × (nat_le n LAST_VIEW ≡ true)) view_number_at
     (tested_of (number_form w16 (2 ^ 16) wide16) (λ n. nat_le n LAST_VIEW)) IsView
     (λ n h. leb-true n LAST_VIEW h.1) (λ n h. (omega (arith, h), le-leb n LAST_VIEW h))
 
@@ -58,8 +58,8 @@ flag_form =
 
 module _ (view : ℕ) (small : view < 2 ^ 16) where
   echo_form : (last : Option (List ℕ))
-      → IsForm echo_encoding (λ echo. (DigestFits echo.0 × (is_above last echo.0 ≡ true)) × (echo.1 < view)) (echo_at view last)
-  echo_form last = pair_of (tested_of (bytes_form 32) (is_above last)) (below_form view small)
+      → IsForm echo_encoding (λ echo. (DigestFits echo.0 × (is_after_last last echo.0 ≡ true)) × (echo.1 < view)) (echo_at view last)
+  echo_form last = pair_of (tested_of (bytes_form 32) (is_after_last last)) (below_form view small)
 
   rising-takes : (last : Option (List ℕ)) (n : ℕ) (bytes : List ℕ) (xs : List (List ℕ × ℕ)) (rest : List ℕ)
       → IsBytes bytes → rising_at view last n bytes ≡ Some (xs, rest)
@@ -134,10 +134,10 @@ abbrev claim_encoding : Claim → List ℕ
 claim_encoding c = change_encoding c.1
 
 at_form : (view : ℕ) → 1 ≤ view → view ≤ LAST_VIEW
-    → IsForm claim_encoding (λ c. (c.0 ≡ view) × ClaimFits c) (λ bytes. claim_of view <$> pair_at (prepared_at view) (echoed_at view) bytes)
+    → IsForm claim_encoding (λ c. (c.0 ≡ view) × ClaimFits c) (λ bytes. claim_of_parts view <$> pair_at (prepared_at view) (echoed_at view) bytes)
 at_form view low high =
     let small : view < 2 ^ 16 = omega (arith, high) in
-    mapped_of (pair_of (prepared_form view small) (echoed_form view small)) (claim_of view)
+    mapped_of (pair_of (prepared_form view small) (echoed_form view small)) (claim_of_parts view)
     (λ c. (c.1.prepared, c.1.echoed)) (λ c. (c.0 ≡ view) × ClaimFits c)
     (λ p h. (refl, (refl, (low, (high, record { prepared = h.0; few = h.1.0; rise = h.1.1 })))))
     (λ c h.
@@ -148,7 +148,7 @@ claimed-takes : (n : ℕ) (bytes : List ℕ) (c : Claim) (rest : List ℕ) → I
     → claimed_at n bytes ≡ Some (c, rest) → Splits bytes (claim_encoding c) rest × ((c.0 ≡ n) × ClaimFits c)
 unfolding claimed_at
 claimed-takes n bytes c rest fits e =
-    let inner = claim_of n <$> pair_at (prepared_at n) (echoed_at n) bytes in
+    let inner = claim_of_parts n <$> pair_at (prepared_at n) (echoed_at n) bytes in
     let g = when_some (nat_le 1 n) (cond (nat_le n LAST_VIEW) inner None) (c, rest) e in
     let h = when_some (nat_le n LAST_VIEW) inner (c, rest) g.1 in
     (at_form n (leb-true 1 n g.0) (leb-true n LAST_VIEW h.0)).takes bytes c rest fits h.1
@@ -181,16 +181,16 @@ voted_form : IsForm (λ p. vote_encoding p.0 ++ (flag_encoding p.1.0 ++ session_
 unfolding voted_at
 voted_form = pair_of vote_form (pair_of flag_form session_form)
 
-decided_form : IsForm (λ p. p.0 ++ flag_encoding p.1) (λ p. DigestFits p.0 × Unit {0}) decided_at
-unfolding decided_at
+decided_form : IsForm (λ p. p.0 ++ flag_encoding p.1) (λ p. DigestFits p.0 × Unit {0}) decided_message_at
+unfolding decided_message_at
 decided_form = pair_of (bytes_form 32) flag_form
 
 done_form : IsForm (λ p. to_be_bytes w64 p.0 ++ entry_encoding p.1) (λ p. (p.0 < 2 ^ 62) × EntryFits p.1) done_at
 unfolding done_at
 done_form = pair_of slot_form entry_form
 
-told_form : IsForm (λ p. key_encoding p.0 ++ state_encoding p.1) (λ p. KeyFits p.0 × StateFits p.1) told_at
-unfolding told_at
+told_form : IsForm (λ p. key_encoding p.0 ++ state_encoding p.1) (λ p. KeyFits p.0 × StateFits p.1) told_message_at
+unfolding told_message_at
 told_form = pair_of key_form state_form
 
 -- the kind and the body
@@ -227,7 +227,7 @@ message_takes (suc (suc (suc (suc (suc (suc (suc (suc (suc zero))))))))) bytes m
 message_takes (suc (suc (suc (suc (suc (suc (suc (suc (suc (suc zero)))))))))) bytes m rest fits is =
     takes_part spelled IsLong message_at key_form asked_of 10 (λ p. refl) (λ p h. h) bytes m rest fits is
 message_takes (suc (suc (suc (suc (suc (suc (suc (suc (suc (suc (suc zero))))))))))) bytes m rest fits is =
-    takes_part spelled IsLong message_at told_form told_of 11 (λ p. refl) (λ p h. h) bytes m rest fits is
+    takes_part spelled IsLong message_at told_form told_message 11 (λ p. refl) (λ p h. h) bytes m rest fits is
 message_takes (suc (suc (suc (suc (suc (suc (suc (suc (suc (suc (suc (suc zero)))))))))))) bytes m rest fits is =
     takes_part spelled IsLong message_at checkpoint_form message.Head 12 (λ p. refl) (λ p h. h) bytes m rest fits is
 message_takes (suc (suc (suc (suc (suc (suc (suc (suc (suc (suc (suc (suc (suc zero))))))))))))) bytes m rest fits is =
@@ -268,7 +268,7 @@ message_again (message.Done slot entry) rest fits =
 message_again (message.Ask (Some key)) rest fits =
     part_kinded spelled IsLong message_at key_form asked_of 10 (omega arith) (λ p. refl) (λ bytes. refl) key rest fits
 message_again (message.Told key state) rest fits =
-    part_kinded spelled IsLong message_at told_form told_of 11 (omega arith) (λ p. refl) (λ bytes. refl) (key, state)
+    part_kinded spelled IsLong message_at told_form told_message 11 (omega arith) (λ p. refl) (λ bytes. refl) (key, state)
     rest fits
 message_again (message.Head checkpoint) rest fits =
     part_kinded spelled IsLong message_at checkpoint_form message.Head 12 (omega arith) (λ p. refl) (λ bytes. refl)

@@ -2,19 +2,19 @@
 use Rattle.std.proofs.Common.{◌≡◌, ℕ, nat_lt, true, List, [], ◌∷◌, ◌++◌, refl, sym, ap, ◌∙◌, append_assoc}
 use Rattle.std.proofs.lemmas.Bool.{cond_both}
 use Rattle.cs_base.specs.declared.node_id.NodeId.{NodeId}
-use Rattle.cs_tx_form.specs.declared.session.Session.{Session}
+use Rattle.cs_tx_types.specs.declared.session.Session.{Session}
 use Rattle.cs_ledger.specs.Ledger.{IsIn}
-use Rattle.cs_node_state.specs.Setup.{digest_of, concerns}
+use Rattle.cs_node_state.specs.Setup.{digest_of, is_concerned_shard}
 use Rattle.cs_node_rules.specs.Signs.{Sign, Dropped, Took, Entered, Viewed, Did, Headed, Kept, Sent}
 use Rattle.cs_node_rules.specs.Site.{Site, signs_of}
-use Rattle.cs_node_rules.specs.World.{Happening, Execution, slots_of, first_of, firsts_after, firsts_of, all_recorded, history, aborts_in}
+use Rattle.cs_node_rules.specs.World.{Happening, Execution, slots_of, with_first_execution, firsts_after, firsts_of, all_recorded, history, aborts_in}
 use Rattle.cs_node_rules.specs.Collisions.{known_sessions}
 use Rattle.cs_world_law.specs.Worlds.{is_honest, signs_at}
 use Rattle.cs_world_law.specs.Steps.{IsOlderPart, TellsCommitted}
 
 -- ---- first executions come on top of those before
 
-first-grows : (shard : ℕ) (sign : Sign) (firsts : List Execution) → IsOlderPart firsts (first_of shard sign firsts)
+first-grows : (shard : ℕ) (sign : Sign) (firsts : List Execution) → IsOlderPart firsts (with_first_execution shard sign firsts)
 first-grows shard (Dropped cause) firsts = record { newer = []; is = refl }
 first-grows shard (Took sender vote x) firsts = record { newer = []; is = refl }
 first-grows shard (Entered x) firsts = record { newer = []; is = refl }
@@ -38,7 +38,7 @@ after-grows : (shard : ℕ) (firsts : List Execution) (signs : List Sign)
     → IsOlderPart firsts (firsts_after shard firsts signs)
 after-grows shard firsts [] = record { newer = []; is = refl }
 after-grows shard firsts (sign ∷ past) =
-    part-of-part firsts (firsts_after shard firsts past) (first_of shard sign (firsts_after shard firsts past))
+    part-of-part firsts (firsts_after shard firsts past) (with_first_execution shard sign (firsts_after shard firsts past))
     (after-grows shard firsts past) (first-grows shard sign (firsts_after shard firsts past))
 
 pub firsts-grow : {M : Type 0} (later earlier : List (Happening M))
@@ -53,7 +53,7 @@ firsts-grow {M} (h ∷ later) earlier =
 -- decides abort on the session at that event, before or after it.
 pub committed-at-events : {M : Type 0} (site : Site M) (world : List (Happening M)) → TellsCommitted site world →
     (later earlier : List (Happening M)) → world ≡ later ++ earlier →
-    (x : Session) → IsIn x (known_sessions site world) → (shard : ℕ) → concerns site.setup x shard ≡ true →
+    (x : Session) → IsIn x (known_sessions site world) → (shard : ℕ) → is_concerned_shard site.setup x shard ≡ true →
     all_recorded site.setup (firsts_of earlier) x ≡ true →
     IsIn (site.setup.session_of x).transaction (history site earlier)
     × ((i : NodeId) → is_honest site i ≡ true →

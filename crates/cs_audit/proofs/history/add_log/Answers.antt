@@ -1,16 +1,16 @@
 use Rattle.std.proofs.Common.{◌≡◌, ◌∙◌, ◌++◌, List, Some, [], length, take, get_or, subst, refl}
 use Rattle.std.specs.Prelude.{slice_get}
 use Rattle.std.proofs.lemmas.Option.{slice_get_read}
-use Rattle.cs_tx_form.specs.declared.leaf.Leaf.{Leaf}
+use Rattle.cs_tx_types.specs.declared.leaf.Leaf.{Leaf}
 use Rattle.cs_node_state.specs.Setup.{Setup}
-use Rattle.cs_node_pool.specs.Deployed.{deployed}
-use Rattle.cs_audit.specs.Committed.{Finds}
+use Rattle.cs_node_pool.specs.Deployed.{deployed_setup}
+use Rattle.cs_audit.specs.Committed.{FindsTransactions}
 use Rattle.cs_audit.proofs.Collecting.{place-of, leaf-more, committed_in, all-leaves, nothing-yet}
 use Rattle.cs_audit.proofs.history.add_log.Goals as goal
 
 pub loop-slot-preserved : goal.loop-slot-preserved
 loop-slot-preserved c objects approves logs sessions keeps at finds =
-    let setup : Setup = deployed c.args.config.now objects approves in
+    let setup : Setup = deployed_setup c.args.config.now objects approves in
     let slot = c.loop-slot.slot in
     let leaves : List Leaf = c.as_slice-leaves.result.now in
     let leaf : Leaf = c.index-leaves-slot.result in
@@ -25,7 +25,7 @@ loop-slot-init c objects approves logs sessions keeps at finds = nothing-yet log
 
 pub returns : goal.returns
 returns c objects approves logs sessions keeps at finds =
-    let setup : Setup = deployed c.args.config.now objects approves in
+    let setup : Setup = deployed_setup c.args.config.now objects approves in
     let leaves : List Leaf = c.as_slice-leaves.result.now in
-    subst (λ (xs : List Leaf). Finds logs c.loop-slot.found.entries (sessions ++ committed_in setup logs xs) [])
+    subst (λ (xs : List Leaf). FindsTransactions logs c.loop-slot.found.entries (sessions ++ committed_in setup logs xs) [])
     (all-leaves leaves c.loop-slot.slot c.loop-slot-test.false ∙ c.as_slice-leaves.ensures) (c.loop-slot.invariant objects approves logs sessions keeps at finds)

@@ -2,8 +2,8 @@ use Rattle.std.proofs.Common.{◌≡◌, ◌∙◌, ◌++◌, List, [], drop, sy
 use Rattle.std.specs.List.{flat_map, AllByRecursion}
 use Rattle.std.proofs.Math.ListN.{drop_of_length-le}
 use Rattle.cs_tx_value.specs.Object.{ObjectFits}
-use Rattle.cs_tx_form.specs.declared.trace.Trace.{Trace}
-use Rattle.cs_tx_form.specs.Transaction.{Keyed}
+use Rattle.cs_tx_types.specs.declared.trace.Trace.{Trace}
+use Rattle.cs_tx_types.specs.Transaction.{Keyed}
 use Rattle.cs_tx.specs.Digest.{outputs_from}
 use Rattle.cs_audit.proofs.Shown.{outputs-fit}
 use Rattle.cs_audit.proofs.ledger.named_outputs.Goals as goal

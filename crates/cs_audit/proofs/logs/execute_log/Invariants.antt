@@ -1,4 +1,4 @@
-use Rattle.cs_checkpoint.specs.Chain.{empty_log}
+use Rattle.cs_check_rules.specs.Chain.{empty_log}
 use Rattle.cs_audit.specs.Standing.{stand_of}
 use Rattle.cs_audit.proofs.Going.{IsOn}
 use Rattle.cs_audit.proofs.logs.execute_log.Given as goal

@@ -1,5 +1,5 @@
 use Rattle.std.proofs.Common.{sym, subst}
-use Rattle.cs_tx_form.specs.declared.entry.Entry.{Entry}
+use Rattle.cs_tx_types.specs.declared.entry.Entry.{Entry}
 use Rattle.cs_ledger.specs.Table.{Voted}
 use Rattle.cs_table.specs.Effects.{ComesTo}
 use Rattle.cs_table.specs.Seen.{vote_of}

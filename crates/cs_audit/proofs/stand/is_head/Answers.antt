@@ -1,7 +1,7 @@
 use Rattle.std.proofs.Common.{◌∙◌, refl, ap, sym, length}
 use Rattle.std.specs.Prelude.{bytes_eq}
 use Rattle.std.proofs.lemmas.Option.{slice_get_read, slice_get_past}
-use Rattle.cs_checkpoint.specs.Chain.{head_of}
+use Rattle.cs_check_rules.specs.Chain.{head_of}
 use Rattle.cs_audit_rules.specs.Slots.{is_just, is_head}
 use Rattle.cs_audit.proofs.stand.is_head.Goals as goal
 

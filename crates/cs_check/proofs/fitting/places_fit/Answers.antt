@@ -1,4 +1,4 @@
-use Rattle.cs_tx_form.specs.Record.{PlaceFits}
+use Rattle.cs_tx_types.specs.Record.{PlaceFits}
 use Rattle.cs_check.proofs.Every.{all_more}
 use Rattle.cs_check.proofs.fitting.places_fit.Goals as goal
 

@@ -1,6 +1,6 @@
 use Rattle.std.proofs.Common.{take}
 use Rattle.std.specs.List.{AllByRecursion}
-use Rattle.cs_tx_form.specs.Record.{PlaceFits}
+use Rattle.cs_tx_types.specs.Record.{PlaceFits}
 use Rattle.cs_check.proofs.fitting.places_fit.Given as goal
 
 abbrev pub invariant-loop-place : goal.invariant-loop-place

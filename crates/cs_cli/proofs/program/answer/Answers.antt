@@ -1,8 +1,9 @@
-use Rattle.std.specs.Prelude.{ℕ, List, Option}
-use Rattle.cs_outer.specs.Outside.{Object}
-use Rattle.cs_cli.specs.declared.words.Command.TheVariants.{Replay, Contract, Verify, Audit, Simulate, Deploy}
+use Rattle.std.proofs.Common.{ℕ, List, Option, refl}
+use Rattle.cs_io.specs.Outside.{Object}
+use Rattle.cs_cli.specs.declared.words.Command.TheVariants.{Replay, Contract, Verify, Audit, Simulate, ReadKeys, Deploy}
 use Rattle.cs_cli.proofs.Sources.{kept}
 use Rattle.cs_cli.proofs.Doing.{does-so, read-keys-does}
+use Rattle.cs_cli.proofs.Leaving.{leaves-so}
 use Rattle.cs_cli.proofs.program.answer.Goals as goal
 
 pub returns-in-Replay-clause-does : goal.returns-in-Replay-clause-does
@@ -35,3 +36,26 @@ pub returns-in-Deploy-clause-does : goal.returns-in-Deploy-clause-does
 returns-in-Deploy-clause-does g c =
     let source : Object (Option (List ℕ)) = record { told = g.S.Source.left c.args.input.now; faults = g.S.Source.faults c.args.input.now } in
     does-so _ _ _ _ (Deploy c.in-Deploy.deployment) c.args.command c.in-Deploy.is (c.deploy.ensures.deploys source source)
+
+pub returns-in-Replay-clause-alone : goal.returns-in-Replay-clause-alone
+returns-in-Replay-clause-alone g c = leaves-so _ _ (Replay c.in-Replay.mode) c.args.command c.in-Replay.is (refl, (refl, refl))
+
+pub returns-in-Contract-clause-alone : goal.returns-in-Contract-clause-alone
+returns-in-Contract-clause-alone g c = leaves-so _ _ (Contract c.in-Contract.printing) c.args.command c.in-Contract.is (refl, (refl, refl))
+
+pub returns-in-Verify-clause-alone : goal.returns-in-Verify-clause-alone
+returns-in-Verify-clause-alone g c = leaves-so _ _ Verify c.args.command c.in-Verify.is (refl, (refl, refl))
+
+pub returns-in-Audit-clause-alone : goal.returns-in-Audit-clause-alone
+returns-in-Audit-clause-alone g c = leaves-so _ _ Audit c.args.command c.in-Audit.is (refl, (refl, refl))
+
+pub returns-in-Simulate-clause-alone : goal.returns-in-Simulate-clause-alone
+returns-in-Simulate-clause-alone g c = leaves-so _ _ (Simulate c.in-Simulate.number c.in-Simulate.size) c.args.command c.in-Simulate.is (refl, (refl, (refl, refl)))
+
+pub returns-in-ReadKeys-clause-alone : goal.returns-in-ReadKeys-clause-alone
+returns-in-ReadKeys-clause-alone g c = leaves-so _ _ (ReadKeys c.in-ReadKeys.site) c.args.command c.in-ReadKeys.is (refl, refl)
+
+pub returns-in-Deploy-clause-alone : goal.returns-in-Deploy-clause-alone
+returns-in-Deploy-clause-alone g c =
+    let source : Object (Option (List ℕ)) = record { told = g.S.Source.left c.args.input.now; faults = g.S.Source.faults c.args.input.now } in
+    leaves-so _ _ (Deploy c.in-Deploy.deployment) c.args.command c.in-Deploy.is (c.deploy.ensures.alone source)

@@ -1,4 +1,7 @@
 use Rattle.cs_cli.proofs.Doing.{node-does, client-does, keys-does, cluster-does}
+use Rattle.std.proofs.Common.{refl}
+use Rattle.cs_cli.specs.declared.deployments.Deployment.TheVariants.{Node, Client, Keys, Cluster}
+use Rattle.cs_cli.proofs.Leaving.{deployment-leaves}
 use Rattle.cs_cli.proofs.program.deploy.Goals as goal
 
 pub returns-in-Node-clause-deploys : goal.returns-in-Node-clause-deploys
@@ -18,3 +21,19 @@ returns-in-Keys-clause-deploys g c = λ source source'.
 pub returns-in-Cluster-clause-deploys : goal.returns-in-Cluster-clause-deploys
 returns-in-Cluster-clause-deploys g c = λ source source'.
     cluster-does _ _ _ _ c.in-Cluster.plan _ c.args.deployment c.in-Cluster.is c.word_at-in-Cluster.ensures (record { runs = c.run_cluster.ensures.runs; whole = c.run_cluster.ensures.whole })
+
+pub returns-in-Node-clause-alone : goal.returns-in-Node-clause-alone
+returns-in-Node-clause-alone g c = λ source.
+    deployment-leaves _ _ (Node c.in-Node.site c.in-Node.keys c.in-Node.until) c.args.deployment c.in-Node.is (refl, refl)
+
+pub returns-in-Client-clause-alone : goal.returns-in-Client-clause-alone
+returns-in-Client-clause-alone g c = λ source.
+    deployment-leaves _ _ (Client c.in-Client.site c.in-Client.keys c.in-Client.call c.in-Client.until) c.args.deployment c.in-Client.is (refl, refl)
+
+pub returns-in-Keys-clause-alone : goal.returns-in-Keys-clause-alone
+returns-in-Keys-clause-alone g c = λ source.
+    deployment-leaves _ _ (Keys c.in-Keys.site c.in-Keys.master) c.args.deployment c.in-Keys.is (refl, (refl, refl))
+
+pub returns-in-Cluster-clause-alone : goal.returns-in-Cluster-clause-alone
+returns-in-Cluster-clause-alone g c = λ source.
+    deployment-leaves _ _ (Cluster c.in-Cluster.plan) c.args.deployment c.in-Cluster.is (refl, refl)

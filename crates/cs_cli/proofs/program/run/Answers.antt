@@ -1,17 +1,25 @@
-use Rattle.std.proofs.Common.{Ok, sym, ◌∙◌, ap, Some, arith}
+use Rattle.std.proofs.Common.{Ok, refl, sym, ◌∙◌, ap, Some, None, arith}
 use Rattle.cs_base.specs.declared.limits.TheConstants.{MOST_SCHEDULE}
 use Rattle.cs_approve.specs.Approval.{is_approved_by}
 use Rattle.cs_sched.proofs.Played.{given_playable}
-use Rattle.cs_dump_read.specs.declared.limits.TheConstants.{MOST_DUMP}
+use Rattle.cs_audit_dump.specs.declared.limits.TheConstants.{MOST_DUMP}
 use Rattle.cs_cli.proofs.Dumps.{answers_yes}
-use Rattle.cs_simulate.proofs.Ended.{simulate-ends}
+use Rattle.cs_cli.proofs.Ended.{simulate-ends}
 use Rattle.cs_cli.specs.Words.{texts_of}
 use Rattle.cs_cli.proofs.Doing.{does-as}
+use Rattle.cs_cli.proofs.Leaving.{leaves-as}
+use Rattle.cs_cli.proofs.LimitNumbers.{deployment-limits, text-limits}
 use Rattle.cs_cli.proofs.Simulations.{command-small}
 use Rattle.cs_cli.proofs.program.run.Goals as goal
 
 pub returns-in-Some-clause-does : goal.returns-in-Some-clause-does
 returns-in-Some-clause-does g c = λ command is. does-as _ _ _ _ c.in-Some.command command _ c.in-Some.ensures is c.answer.ensures.does
+
+pub returns-in-Some-clause-alone : goal.returns-in-Some-clause-alone
+returns-in-Some-clause-alone g c = leaves-as _ _ (Some c.in-Some.command) _ c.in-Some.ensures c.answer.ensures.alone
+
+pub returns-in-None-clause-alone : goal.returns-in-None-clause-alone
+returns-in-None-clause-alone g c = leaves-as _ _ None _ c.in-None.ensures (refl, (refl, (refl, refl)))
 
 pub returns-in-Some-clause-sound : goal.returns-in-Some-clause-sound
 returns-in-Some-clause-sound g c = λ text schedule is. c.schedules_are_sound.ensures (is_approved_by schedule.contracts) schedule (given_playable (Ok schedule) MOST_SCHEDULE text is)
@@ -41,3 +49,51 @@ returns-in-Some-clause-dumps_pass g c = λ text schedule is.
 pub returns-in-None-clause-dumps_pass : goal.returns-in-None-clause-dumps_pass
 returns-in-None-clause-dumps_pass g c = λ text schedule is.
     answers_yes schedule (c.dumps_are_answered_yes.ensures MOST_DUMP (omega arith) (is_approved_by schedule.contracts) schedule (given_playable (Ok schedule) MOST_SCHEDULE text is))
+
+pub returns-in-Some-clause-datagrams : goal.returns-in-Some-clause-datagrams
+returns-in-Some-clause-datagrams g c = c.what_is_read_was_written.ensures.datagrams
+
+pub returns-in-None-clause-datagrams : goal.returns-in-None-clause-datagrams
+returns-in-None-clause-datagrams g c = c.what_is_read_was_written.ensures.datagrams
+
+pub returns-in-Some-clause-entries : goal.returns-in-Some-clause-entries
+returns-in-Some-clause-entries g c = c.what_is_read_was_written.ensures.entries
+
+pub returns-in-None-clause-entries : goal.returns-in-None-clause-entries
+returns-in-None-clause-entries g c = c.what_is_read_was_written.ensures.entries
+
+pub returns-in-Some-clause-objects : goal.returns-in-Some-clause-objects
+returns-in-Some-clause-objects g c = c.what_is_read_was_written.ensures.objects
+
+pub returns-in-None-clause-objects : goal.returns-in-None-clause-objects
+returns-in-None-clause-objects g c = c.what_is_read_was_written.ensures.objects
+
+pub returns-in-Some-clause-contracts : goal.returns-in-Some-clause-contracts
+returns-in-Some-clause-contracts g c = c.what_is_read_was_written.ensures.contracts
+
+pub returns-in-None-clause-contracts : goal.returns-in-None-clause-contracts
+returns-in-None-clause-contracts g c = c.what_is_read_was_written.ensures.contracts
+
+pub returns-in-Some-clause-trails : goal.returns-in-Some-clause-trails
+returns-in-Some-clause-trails g c = c.nodes_serve_their_trails.ensures
+
+pub returns-in-None-clause-trails : goal.returns-in-None-clause-trails
+returns-in-None-clause-trails g c = c.nodes_serve_their_trails.ensures
+
+pub returns-in-Some-clause-running : goal.returns-in-Some-clause-running
+returns-in-Some-clause-running g c = c.running_nodes_are_sound.ensures
+
+pub returns-in-None-clause-running : goal.returns-in-None-clause-running
+returns-in-None-clause-running g c = c.running_nodes_are_sound.ensures
+
+pub returns-in-Some-clause-deployment_limits : goal.returns-in-Some-clause-deployment_limits
+returns-in-Some-clause-deployment_limits g c = deployment-limits
+
+pub returns-in-Some-clause-text_limits : goal.returns-in-Some-clause-text_limits
+returns-in-Some-clause-text_limits g c = text-limits
+
+pub returns-in-None-clause-deployment_limits : goal.returns-in-None-clause-deployment_limits
+returns-in-None-clause-deployment_limits g c = deployment-limits
+
+pub returns-in-None-clause-text_limits : goal.returns-in-None-clause-text_limits
+returns-in-None-clause-text_limits g c = text-limits

@@ -1,6 +1,6 @@
 use Rattle.std.proofs.Common.{inl, inr, refl, subst}
 use Rattle.cs_base.specs.Answers.{Answer, Answers}
-use Rattle.cs_contract.specs.Reports.{told}
+use Rattle.cs_cli.specs.Reports.{report_answer}
 use Rattle.cs_cli.proofs.Reported.{told-answers, reported-other, reported-failed}
 use Rattle.cs_cli.proofs.Sources.{kept}
 use Rattle.cs_cli.proofs.telling.tell.Goals as goal
@@ -8,7 +8,7 @@ use Rattle.cs_cli.proofs.telling.tell.Goals as goal
 pub returns-in-Ok-clause-tells : goal.returns-in-Ok-clause-tells
 returns-in-Ok-clause-tells g c =
     inl (
-      told c.in-Ok.report,
+      report_answer c.in-Ok.report,
       c.in-Ok.ensures.report,
       told-answers c.args.printing c.args.text.now c.in-Ok.report c.print.result c.closing.result c.closing.ensures
           c.deref.result.now _ _ c.deref.ensures.value c.print.ensures.done c.print.ensures.part,

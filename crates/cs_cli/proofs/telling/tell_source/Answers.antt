@@ -1,8 +1,8 @@
 use Rattle.std.proofs.Common.{ℕ, List, Err, inl, ap, refl, sym, subst}
 use Rattle.cs_base.specs.Answers.{Answers}
-use Rattle.cs_command.specs.Answers.{read_fault_answer}
-use Rattle.cs_command.proofs.Closings.{closed}
-use Rattle.cs_cli.specs.Answers.{TellsOf, TellsAccepted}
+use Rattle.cs_io.specs.Answers.{read_fault_answer}
+use Rattle.cs_io.proofs.Closings.{closed}
+use Rattle.cs_cli.specs.Answers.{TellsOf, TellsContractAccepted}
 use Rattle.cs_cli.proofs.Sources.{tells-text, untold, tells-whole}
 use Rattle.cs_cli.proofs.telling.tell_source.Goals as goal
 
@@ -10,7 +10,7 @@ pub returns-in-Ok-clause-tells : goal.returns-in-Ok-clause-tells
 returns-in-Ok-clause-tells g c =
     tells-text c.args.printing _ _ _ _ _ c.in-Ok.text.items c.tell.result c.in-Ok.ensures.text
     (subst (λ (text : List ℕ). TellsOf c.args.printing text (g.K.Sink.written c.args.output.now) (g.K.Sink.written c.tell.new.output) c.tell.result) c.deref.ensures.value c.tell.ensures.tells)
-    (λ other. subst (λ (text : List ℕ). TellsAccepted c.args.printing text (g.K.Sink.written c.args.output.now) (g.K.Sink.written c.tell.new.output) c.tell.result) c.deref.ensures.value (c.tell.ensures.accepted other))
+    (λ other. subst (λ (text : List ℕ). TellsContractAccepted c.args.printing text (g.K.Sink.written c.args.output.now) (g.K.Sink.written c.tell.new.output) c.tell.result) c.deref.ensures.value (c.tell.ensures.accepted other))
 
 pub returns-in-Err-Failed-clause-tells : goal.returns-in-Err-Failed-clause-tells
 returns-in-Err-Failed-clause-tells g c =

@@ -1,5 +1,5 @@
 use Rattle.std.proofs.Common.{◌<◌, length, sym, ap, ◌∙◌, if◌then◌else◌, bytes_eq, arith}
-use Rattle.cs_client.specs.Kept.{with_word, with_told}
+use Rattle.cs_client.specs.Kept.{with_word, word_of_name}
 use Rattle.cs_client.proofs.Believing.{default-free, next-set, next-kept}
 use Rattle.cs_client.proofs.beliefs.hear_words.Goals as goal
 use Rattle.cs_client.proofs.beliefs.hear_words.Goals.{then-eq+in_ok-hear_word, else-eq}
@@ -19,13 +19,13 @@ loop-i-preserved c =
       | then-eq+in_ok-hear_word w ↦
           let same = ap (λ a. bytes_eq a.name name) c.index-asked-i.is ∙ (sym c.eq.ensures ∙ w.if-eq.true) in
           w.asked-is
-          ∙ next-set (with_told f name c.args.index c.args.word.now) all now i one less c.loop-i.invariant c.index-asked-i.is w.hear_word.new.asked
+          ∙ next-set (word_of_name f name c.args.index c.args.word.now) all now i one less c.loop-i.invariant c.index-asked-i.is w.hear_word.new.asked
           (w.in_ok-hear_word.ensures
           ∙ (ap change (default-free now i w.index-asked-i-then-eq.result one within ∙ sym c.index-asked-i.is)
           ∙ sym (ap (λ t. if t then change one else one) same)))
       | else-eq w ↦
           let other = ap (λ a. bytes_eq a.name name) c.index-asked-i.is ∙ (sym c.eq.ensures ∙ w.if-eq.false) in
           w.asked-is
-          ∙ next-kept (with_told f name c.args.index c.args.word.now) all now i one less c.loop-i.invariant c.index-asked-i.is
+          ∙ next-kept (word_of_name f name c.args.index c.args.word.now) all now i one less c.loop-i.invariant c.index-asked-i.is
           (sym (ap (λ t. if t then change one else one) other))
     ]

@@ -1,6 +1,6 @@
 use Rattle.std.proofs.Common.{ap, ◌++◌, ◌∙◌}
-use Rattle.cs_client.specs.Sayings.{again, outs_of}
-use Rattle.cs_client.specs.Seen.{IsSound, phase_seen, known_kept}
+use Rattle.cs_client.specs.Sayings.{again, outs_of_sayings}
+use Rattle.cs_client.specs.Seen.{IsSoundClient, phase_seen, known_kept}
 use Rattle.cs_client.proofs.Entering.{takes-datagram, takes-tick}
 use Rattle.cs_client.proofs.clients.take_in.Goals as goal
 
@@ -16,7 +16,7 @@ returns-in_ok-say_again-in-Tick c = λ past.
     let e = c.args.errand.now in
     let now = c.args.phase.now in
     let sayings = again e (known_kept e.config.f now) (phase_seen now) in
-    let sound : IsSound e c.args.beliefs.now now = record { told_fits = c.requires.told; told_marked = c.requires.marked; phase_fits = c.requires.phase } in
+    let sound : IsSoundClient e c.args.beliefs.now now = record { told_fits = c.requires.told; told_marked = c.requires.marked; phase_fits = c.requires.phase } in
     rw c.in-Tick.is
     (takes-tick e past c.args.beliefs.now now c.say_again.new.outs sound
-    (c.in_ok-say_again-in-Tick.ensures ∙ ap (λ outs. outs ++ outs_of e.keys sayings) c.new-outs.ensures))
+    (c.in_ok-say_again-in-Tick.ensures ∙ ap (λ outs. outs ++ outs_of_sayings e.keys sayings) c.new-outs.ensures))

@@ -1,7 +1,7 @@
 use Rattle.std.proofs.Common.{Err, subst, sym, ◌∙◌}
 use Rattle.cs_client.specs.declared.error.ClientError.{ClientError}
 use Rattle.cs_client.specs.declared.phases.Phase.TheVariants as kept
-use Rattle.cs_client.specs.Seen.{Moves}
+use Rattle.cs_client.specs.Seen.{ClientMoves}
 use Rattle.cs_client.proofs.Entering.{called-moves, called-ended}
 use Rattle.cs_client.proofs.phases.called.Goals as goal
 
@@ -15,5 +15,5 @@ returns-in-Err c =
     let e = c.args.errand.now in
     let told = c.args.beliefs.now in
     let outs = c.args.outs.now in
-    subst (λ (r : ClientError). Moves e told kept.Asking (Err r) outs outs) (sym c.ending_of.ensures)
+    subst (λ (r : ClientError). ClientMoves e told kept.Asking (Err r) outs outs) (sym c.ending_of.ensures)
     (called-ended e told c.in-Some.objects c.in-Err.cause outs outs (sym c.in_ok-objects.ensures ∙ c.in-Some.is) c.in-Err.ensures)

@@ -1,6 +1,6 @@
 use Rattle.std.proofs.Common.{subst, sym}
 use Rattle.cs_client.specs.declared.phases.Phase.TheVariants as kept
-use Rattle.cs_client.specs.Seen.{PhaseFits, HasMoved, Moves}
+use Rattle.cs_client.specs.Seen.{PhaseFits, HasMoved, ClientMoves}
 use Rattle.cs_client.proofs.Entering.{wanting-moves, submitting-stays, idle-stays}
 use Rattle.cs_client.proofs.phases.moved.Goals as goal
 
@@ -8,7 +8,7 @@ pub returns-in-Asking : goal.returns-in-Asking
 returns-in-Asking c =
     let e = c.args.errand.now in
     let told = c.args.beliefs.now in
-    subst (λ old. Moves e told old c.called.result c.args.outs.now c.called.new.outs) (sym c.in-Asking.is) c.called.ensures
+    subst (λ old. ClientMoves e told old c.called.result c.args.outs.now c.called.new.outs) (sym c.in-Asking.is) c.called.ensures
 
 pub provided-requires : goal.provided-requires
 provided-requires c = subst (PhaseFits c.args.errand.now.config) c.in-Wanting.is c.requires.phase

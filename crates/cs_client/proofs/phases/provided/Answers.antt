@@ -1,7 +1,7 @@
 use Rattle.std.proofs.Common.{subst, sym, ap, ◌∙◌}
 use Rattle.std.specs.Prelude.{IfSome}
 use Rattle.std.specs.List.{AllByRecursion}
-use Rattle.cs_tx_form.specs.Session.{SessionFits, DummyFits}
+use Rattle.cs_tx_types.specs.Session.{SessionFits, DummyFits}
 use Rattle.cs_client.specs.Dummies.{dummies_for}
 use Rattle.cs_client.specs.Seen.{dummies_kept}
 use Rattle.cs_client.proofs.Fitting.{dummies-fit}

@@ -1,6 +1,6 @@
 use Rattle.std.proofs.Common.{◌≡◌, subst, sym, refl, ◌++◌, ◌≤◌, ◌∙◌, length, OnOk}
 use Rattle.cs_base.specs.declared.limits.TheConstants.{MOST_BODY}
-use Rattle.cs_tx_form.specs.Session.{session_encoding}
+use Rattle.cs_tx_types.specs.Session.{session_encoding}
 use Rattle.cs_wire_message.specs.declared.message.Message.TheVariants as message
 use Rattle.cs_wire_message.proofs.Short.{body_short}
 use Rattle.cs_client.proofs.Sealing.{said-so}

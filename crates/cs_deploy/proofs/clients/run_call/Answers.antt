@@ -1,6 +1,6 @@
 use Rattle.std.proofs.Common.{ℕ, List, Option, Err, inl, inr, refl, ap, subst}
-use Rattle.cs_outer.specs.laws.Told.{stays-same}
-use Rattle.cs_deploy_keys.proofs.Answered.{keeps, rose-later, cause-later}
+use Rattle.cs_io.specs.laws.Told.{stays-same}
+use Rattle.cs_deploy.proofs.Answered.{keeps, rose-later, cause-later}
 use Rattle.cs_deploy.specs.Client.{errand_of, TellsEnding}
 use Rattle.cs_deploy.proofs.Bound.{bound-later, unbound-as}
 use Rattle.cs_deploy.proofs.Later.{attends-later}

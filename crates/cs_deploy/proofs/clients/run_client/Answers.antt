@@ -1,5 +1,5 @@
 use Rattle.std.proofs.Common.{inl, inr, refl}
-use Rattle.cs_outer.specs.laws.Told.{stays-same}
+use Rattle.cs_io.specs.laws.Told.{stays-same}
 use Rattle.cs_deploy.proofs.Decided.{client-runs-decided, client-runs-other}
 use Rattle.cs_deploy.proofs.clients.run_client.Goals as goal
 

@@ -3,7 +3,7 @@ use Rattle.cs_base.specs.Answers.{Answers}
 use Rattle.cs_base.proofs.Outcomes.{nothing_printed}
 use Rattle.cs_client.specs.Lines.{known_line}
 use Rattle.cs_deploy.specs.Client.{known_answer}
-use Rattle.cs_deploy_keys.proofs.Answered.{printed-as}
+use Rattle.cs_deploy.proofs.Answered.{printed-as}
 use Rattle.cs_deploy.proofs.Decided.{known-other}
 use Rattle.cs_deploy.proofs.clients.tell_known.Goals as goal
 

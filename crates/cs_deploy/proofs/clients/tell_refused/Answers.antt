@@ -1,7 +1,7 @@
 use Rattle.std.proofs.Common.{◌∙◌}
 use Rattle.cs_base.proofs.Outcomes.{nothing_printed}
 use Rattle.cs_deploy.specs.Client.{refused_answer}
-use Rattle.cs_deploy_keys.proofs.Answered.{printed-as}
+use Rattle.cs_deploy.proofs.Answered.{printed-as}
 use Rattle.cs_deploy.proofs.clients.tell_refused.Goals as goal
 
 pub returns-in-Ok-clause-answers : goal.returns-in-Ok-clause-answers

@@ -1,5 +1,5 @@
 use Rattle.std.proofs.Common.{inl, inr, refl}
-use Rattle.cs_outer.specs.laws.Told.{stays-same}
+use Rattle.cs_io.specs.laws.Told.{stays-same}
 use Rattle.cs_deploy.proofs.Decided.{node-runs-decided, node-runs-other}
 use Rattle.cs_deploy.proofs.nodes.run_node.Goals as goal
 

@@ -1,14 +1,14 @@
 use Rattle.std.proofs.Common.{Err, inl, inr, refl, ap, arith}
 use Rattle.cs_approve.specs.contracts.judging.BookJudge.TheImpl as judge
 use Rattle.cs_node_rules.specs.Site.{start_view}
-use Rattle.cs_node_pool.specs.Deployed.{deployed}
+use Rattle.cs_node_pool.specs.Deployed.{deployed_setup}
 use Rattle.cs_approve.specs.Approval.{is_approved}
-use Rattle.cs_node.specs.Cores.{StandsFor}
+use Rattle.cs_node.specs.Cores.{CoreStandsFor}
 use Rattle.cs_log.specs.contracts.slot_order.SlotOrderOrder.TheImpl as order
-use Rattle.cs_deploy_keys.proofs.Answered.{keeps, rose-later, rose-sooner, cause-later}
-use Rattle.cs_outer.specs.Outside.{beside}
-use Rattle.cs_outer.specs.laws.Told.{stays-same}
-use Rattle.cs_deploy.specs.Node.{site_in}
+use Rattle.cs_deploy.proofs.Answered.{keeps, rose-later, rose-sooner, cause-later}
+use Rattle.cs_io.specs.Outside.{beside}
+use Rattle.cs_io.specs.laws.Told.{stays-same}
+use Rattle.cs_deploy.specs.Node.{site_of_setup}
 use Rattle.cs_deploy.proofs.Bound.{bound-later, unbound-as}
 use Rattle.cs_deploy.proofs.Later.{serves-later, serves-alone}
 use Rattle.cs_deploy.proofs.nodes.run_setup.Goals as goal
@@ -40,11 +40,11 @@ returns-in-Ok-bind_or_tell-clause-goes g c =
       end = c.serve-end.result.0;
       written = g.K.Sink.written c.serve-end.new.out;
       serves = λ net speaks.
-          let site = site_in setup net in
+          let site = site_of_setup setup net in
           let v = start_view site setup.keys.me in
           serves-later site v c.args.until new (g.L.Link.told c.args.link.now) (g.L.Link.told c.bind_or_tell.new.link) (g.K.Sink.written c.args.out.now) (g.K.Sink.written c.bind_or_tell.new.out) c.serve-end.result.0 bound.quiet.left bound.quiet.offered bound.quiet.missed bound.unwritten
-          (serves-alone (StandsFor order.ghosts.stands judge.ghosts.is_approved site) site v c.args.until _ new c.serve-end.result
-          (c.serve-end.ensures.serves (deployed setup.site.config setup.site.genesis (is_approved setup.book)) net v (c.in-Ok.ensures net speaks)));
+          (serves-alone (CoreStandsFor order.ghosts.stands judge.ghosts.is_approved site) site v c.args.until _ new c.serve-end.result
+          (c.serve-end.ensures.serves (deployed_setup setup.site.config setup.site.genesis (is_approved setup.book)) net v (c.in-Ok.ensures net speaks)));
       failed = λ is. rose-later _ _ _ c.in-Ok-bind_or_tell.ensures.link (c.serve-end.ensures.link.cause is);
       told = c.tell_end.ensures.tells;
     }))

@@ -1,5 +1,5 @@
 use Rattle.std.proofs.Common.{◌∙◌, ap}
-use Rattle.cs_genesis.specs.Genesis.{keyed_from}
+use Rattle.cs_sbac.specs.Genesis.{keyed_from}
 use Rattle.cs_deploy.proofs.starting.start_node.Goals as goal
 
 pub start-requires-clause-node : goal.start-requires-clause-node

@@ -1,13 +1,13 @@
 use Rattle.std.proofs.Common.{◌∙◌, sym, ap, rules}
 use Rattle.std.specs.Prelude.{option_and_then}
-use Rattle.cs_types_kinds.specs.Kinds.{list_of}
+use Rattle.cs_types_kinds.specs.Kinds.{list_kind_of}
 use Rattle.cs_eval.specs.Machine.{seen_from}
 use Rattle.cs_eval.proofs.Layers.{kind_of_list, kind_of_none, kind_path}
 use Rattle.cs_eval.proofs.kinds.+kind_given.Goals as goal
 
 pub returns-in-len1-up : goal.returns-in-len1-up
 returns-in-len1-up t c =
-    c.listed.ensures ∙ ap (option_and_then list_of) c.kind_given.ensures
+    c.listed.ensures ∙ ap (option_and_then list_kind_of) c.kind_given.ensures
     ∙ sym (kind_of_list (seen_from c.args.scene.now c.args.names.now) c.args.expr.now c.in-List.items c.first-item.result c.in-List.is (search rules) (search rules))
 
 pub returns-in-empty : goal.returns-in-empty

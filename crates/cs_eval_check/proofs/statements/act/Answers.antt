@@ -1,5 +1,5 @@
 use Rattle.std.proofs.Common.{◌-◌, List, Ok, sym, ap, ◌∙◌, arith}
-use Rattle.cs_places.proofs.Actions.{places_if_else}
+use Rattle.cs_eval.proofs.Actions.{places_if_else}
 use Rattle.cs_eval_values.specs.Runs.{Run}
 use Rattle.cs_eval_values.specs.Namings.{Named}
 use Rattle.cs_eval.specs.declared.scene.Scene.{Scene}

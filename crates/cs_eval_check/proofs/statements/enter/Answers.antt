@@ -1,6 +1,6 @@
 use Rattle.std.proofs.Common.{map}
-use Rattle.cs_places.specs.Blocks.{places_of_statement}
-use Rattle.cs_places.proofs.Actions.{one_at_least}
+use Rattle.cs_eval.specs.Blocks.{places_of_statement}
+use Rattle.cs_eval.proofs.Actions.{one_at_least}
 use Rattle.cs_eval_check.proofs.Rooms.{second_place, entered_room}
 use Rattle.cs_eval_check.proofs.statements.enter.Goals as goal
 

@@ -1,6 +1,6 @@
 use Rattle.std.proofs.Common.{◌≡◌, ◌++◌, map}
 use Rattle.cs_base.specs.NodeId.{members_below}
-use Rattle.cs_sched_types.specs.declared.schedule.Event.TheVariants.{Say}
+use Rattle.cs_sched.specs.declared.schedule.Event.TheVariants.{Say}
 use Rattle.cs_gen.specs.Rounds.{client}
 use Rattle.cs_gen.proofs.rounds.say_in.Given as goal
 

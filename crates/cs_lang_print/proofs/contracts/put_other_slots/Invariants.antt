@@ -1,10 +1,10 @@
 use Rattle.std.proofs.Common.{◌≡◌, ◌++◌, drop}
 use Rattle.cs_lang_print.specs.Texts.{slot_text}
-use Rattle.cs_lang_print.specs.Words.{Begins, each, behind_comma}
+use Rattle.cs_lang_print.specs.Words.{GoesOnBehind, each_text, behind_comma}
 use Rattle.cs_lang_print.proofs.contracts.put_other_slots.Given as goal
 
 abbrev pub invariant-loop-slot : goal.invariant-loop-slot
 invariant-loop-slot l = record {
-  put : l.out.items ++ each (behind_comma slot_text) (drop l.slot-index l.slots) ≡ l.initial.out.items ++ each (behind_comma slot_text) l.slots;
-  begun : Begins l.out.items l.initial.out.items;
+  put : l.out.items ++ each_text (behind_comma slot_text) (drop l.slot-index l.slots) ≡ l.initial.out.items ++ each_text (behind_comma slot_text) l.slots;
+  begun : GoesOnBehind l.out.items l.initial.out.items;
 }

@@ -3,7 +3,7 @@ use Rattle.std.specs.Prelude.{codes}
 use Rattle.cs_base.proofs.Known.{on_err}
 use Rattle.cs_lang.specs.declared.tree.Link.{Link}
 use Rattle.cs_lang_print.specs.Words.{word}
-use Rattle.cs_lang_print.specs.Spelling.{within}
+use Rattle.cs_lang_print.specs.Spelling.{held_together}
 use Rattle.cs_lang_print.specs.Expressions.{spelled, spelled_link, step_text}
 use Rattle.cs_lang_print.specs.Runs.{parts_text}
 use Rattle.cs_lang_print.proofs.Begun.{further}
@@ -26,7 +26,7 @@ put_expr-returns-in_ok-put_within-in-Path-clause-text t c =
 pub put_expr-returns-in_ok-put_comparison-in-Compared-clause-text : goal.put_expr-returns-in_ok-put_comparison-in-Compared-clause-text
 put_expr-returns-in_ok-put_comparison-in-Compared-clause-text t c =
     let text = text_compared c.args.expr.now c.in-Compared.comparison c.in-Compared.left c.in-Compared.right c.in-Compared.is in
-    ok_three _ _ _ _ _ _ _ (within 4 (spelled c.get-in-Compared-2.result.now)) (spelled c.args.expr.now).text
+    ok_three _ _ _ _ _ _ _ (held_together 4 (spelled c.get-in-Compared-2.result.now)) (spelled c.args.expr.now).text
     c.in_ok-put_within-in-Compared.ensures.text c.in_ok-put_comparison-in-Compared.ensures.text c.put_within-in-Compared-2.ensures.text (cc (text, c.get-in-Compared.ensures, c.get-in-Compared-2.ensures))
 
 pub put_expr-returns-in_ok-put_within-in-Chain-clause-text : goal.put_expr-returns-in_ok-put_within-in-Chain-clause-text

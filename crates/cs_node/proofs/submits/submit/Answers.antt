@@ -3,7 +3,7 @@ use Rattle.std.proofs.lemmas.Result.{on_ok_weaker}
 use Rattle.cs_wire_message.specs.declared.message.Message.TheVariants as message
 use Rattle.cs_ledger.specs.Ledger.{Bytes}
 use Rattle.cs_node_rules.specs.Signs.{Sign, Sent, submit_signs}
-use Rattle.cs_node_pool.specs.Deployed.{deployed}
+use Rattle.cs_node_pool.specs.Deployed.{deployed_setup}
 use Rattle.cs_sbac.specs.Held.{bench_of}
 use Rattle.cs_node.specs.Signing.{Leaves}
 use Rattle.cs_node.proofs.Submitting.{stays, one-makes, standing}
@@ -12,7 +12,7 @@ use Rattle.cs_node.proofs.submits.submit.Goals as goal
 pub returns-in-Some-clause-made : goal.returns-in-Some-clause-made
 returns-in-Some-clause-made g c = λ genesis log kept_is.
     let approves = g.J.Judge.is_approved c.args.judge.now in
-    let setup = deployed c.args.sbac.now.config genesis approves in
+    let setup = deployed_setup c.args.sbac.now.config genesis approves in
     let me = c.args.sbac.now.me in
     let bench = bench_of log c.args.sbac.now in
     let says : Bytes → List Sign = λ digest. Sent c.args.sender (message.Decided digest c.in-Some.accepted) ∷ [] in
@@ -24,7 +24,7 @@ returns-in-Some-clause-made g c = λ genesis log kept_is.
 pub returns-in-None-clause-made : goal.returns-in-None-clause-made
 returns-in-None-clause-made g c = λ genesis log kept_is.
     let approves = g.J.Judge.is_approved c.args.judge.now in
-    let setup = deployed c.args.sbac.now.config genesis approves in
+    let setup = deployed_setup c.args.sbac.now.config genesis approves in
     let me = c.args.sbac.now.me in
     let bench = bench_of log c.args.sbac.now in
     let P : List Sign → Type 0 = λ signs. OnOk c.enter.result (Leaves setup c.args.sbac.now signs bench c.enter.new.sbac c.args.draft.now c.enter.new.draft) in

@@ -3,7 +3,7 @@ use Rattle.std.proofs.lemmas.Result.{on_ok_weaker}
 use Rattle.cs_wire_message.specs.declared.message.Message.TheVariants as message
 use Rattle.cs_node_rules.specs.Signs.{Sign, asking_signs}
 use Rattle.cs_node_state.specs.Bench.{noted}
-use Rattle.cs_node_pool.specs.Deployed.{deployed}
+use Rattle.cs_node_pool.specs.Deployed.{deployed_setup}
 use Rattle.cs_sbac.specs.Held.{bench_of}
 use Rattle.cs_node.specs.Signing.{Leaves}
 use Rattle.cs_node.proofs.Submitting.{stays, one-makes}
@@ -14,7 +14,7 @@ use Rattle.cs_node.proofs.votes.answer_vote.Goals as goal
 
 pub returns-in-Some-clause-made : goal.returns-in-Some-clause-made
 returns-in-Some-clause-made g c = λ genesis log kept_is.
-    let setup = deployed c.args.sbac.now.config genesis (g.J.Judge.is_approved c.args.judge.now) in
+    let setup = deployed_setup c.args.sbac.now.config genesis (g.J.Judge.is_approved c.args.judge.now) in
     let me = c.args.sbac.now.me in
     let bench = bench_of log c.args.sbac.now in
     let ballot = c.args.ballot in
@@ -25,7 +25,7 @@ returns-in-Some-clause-made g c = λ genesis log kept_is.
 
 pub returns-in-None-clause-made : goal.returns-in-None-clause-made
 returns-in-None-clause-made g c = λ genesis log kept_is.
-    let setup = deployed c.args.sbac.now.config genesis (g.J.Judge.is_approved c.args.judge.now) in
+    let setup = deployed_setup c.args.sbac.now.config genesis (g.J.Judge.is_approved c.args.judge.now) in
     let me = c.args.sbac.now.me in
     let bench = bench_of log c.args.sbac.now in
     let ballot = c.args.ballot in

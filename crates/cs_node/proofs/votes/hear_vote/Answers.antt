@@ -4,7 +4,7 @@ use Rattle.cs_tx.specs.Digest.{digest_of_session}
 use Rattle.cs_node_state.specs.Pool.{found}
 use Rattle.cs_node_state.specs.Bench.{noted}
 use Rattle.cs_node_rules.specs.Signs.{Sign, asking_signs, voted_signs}
-use Rattle.cs_node_pool.specs.Deployed.{deployed}
+use Rattle.cs_node_pool.specs.Deployed.{deployed_setup}
 use Rattle.cs_sbac.specs.Held.{Held, IsFit, bench_of}
 use Rattle.cs_node.specs.Signing.{Leaves}
 use Rattle.cs_node.proofs.Voting.{counted-first, counted-again, is-counted, absent, on-first, first-makes, on-second, on-found, second-makes}
@@ -13,7 +13,7 @@ use Rattle.cs_node.proofs.votes.hear_vote.Goals as goal
 pub returns-in-Repeat-clause-made : goal.returns-in-Repeat-clause-made
 returns-in-Repeat-clause-made g c = λ genesis log kept_is.
     let approves = g.J.Judge.is_approved c.args.judge.now in
-    let setup = deployed c.args.sbac.now.config genesis approves in
+    let setup = deployed_setup c.args.sbac.now.config genesis approves in
     let held = c.args.sbac.now in
     let me = held.me in
     let ballot = c.args.ballot in
@@ -27,7 +27,7 @@ returns-in-Repeat-clause-made g c = λ genesis log kept_is.
 pub returns-in-NotPooled-clause-made : goal.returns-in-NotPooled-clause-made
 returns-in-NotPooled-clause-made g c = λ genesis log kept_is.
     let approves = g.J.Judge.is_approved c.args.judge.now in
-    let setup = deployed c.args.sbac.now.config genesis approves in
+    let setup = deployed_setup c.args.sbac.now.config genesis approves in
     let held = c.args.sbac.now in
     let me = held.me in
     let ballot = c.args.ballot in
@@ -35,8 +35,8 @@ returns-in-NotPooled-clause-made g c = λ genesis log kept_is.
     let counted = is-counted held c.vote.new.self ballot x _ _ c.in_ok-digest.ensures c.in_ok-vote.ensures.answer c.in_ok-vote.ensures.pool in
     let alone = absent held c.vote.new.self ballot x _ counted c.in-NotPooled.is in
     let is = on-found setup me.shard (bench_of log held) ballot.sender ballot.vote c.args.asks x (sym c.is_client.ensures ∙ c.if-is_client.false) (sym (c.in_ok-is_fit_named.ensures genesis approves) ∙ c.if-not-branch.false) (sym (c.concerns.ensures genesis approves) ∙ c.if-not-concerns.false) None alone.none in
-    let P : Held → Type 0 = λ h. OnOk c.answer_vote.result (Leaves (deployed h.config genesis approves) h
-    (asking_signs (deployed h.config genesis approves) (bench_of log h) ballot.sender ballot.vote c.args.asks x (noted (deployed h.config genesis approves) h.me.shard (bench_of log h).table x)) (bench_of log h) c.answer_vote.new.sbac c.args.draft.now c.answer_vote.new.draft) in
+    let P : Held → Type 0 = λ h. OnOk c.answer_vote.result (Leaves (deployed_setup h.config genesis approves) h
+    (asking_signs (deployed_setup h.config genesis approves) (bench_of log h) ballot.sender ballot.vote c.args.asks x (noted (deployed_setup h.config genesis approves) h.me.shard (bench_of log h).table x)) (bench_of log h) c.answer_vote.new.sbac c.args.draft.now c.answer_vote.new.draft) in
     let Q : List Sign → Type 0 = λ signs. OnOk c.answer_vote.result (Leaves setup held signs (bench_of log held) c.answer_vote.new.sbac c.args.draft.now c.answer_vote.new.draft) in
     subst Q (sym is) (subst P alone.same (c.answer_vote.ensures.made genesis log (ap (λ (h : Held). h.archived.kept) alone.same ∙ kept_is)))
 
@@ -46,7 +46,7 @@ concerns-requires g c = λ genesis approves. sym (c.in_ok-is_fit_named.ensures g
 pub returns-in-Counted-clause-made : goal.returns-in-Counted-clause-made
 returns-in-Counted-clause-made g c = λ genesis log kept_is.
     let approves = g.J.Judge.is_approved c.args.judge.now in
-    let setup = deployed c.args.sbac.now.config genesis approves in
+    let setup = deployed_setup c.args.sbac.now.config genesis approves in
     let held = c.args.sbac.now in
     let me = held.me in
     let ballot = c.args.ballot in

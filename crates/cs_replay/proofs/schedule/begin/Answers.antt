@@ -1,11 +1,11 @@
 use Rattle.std.proofs.Common.{refl, ap, ◌∙◌, arith}
 use Rattle.std.specs.Prelude.{replicate}
 use Rattle.cs_replay.specs.Site.{setup_of_schedule, site_of_schedule}
-use Rattle.cs_replay.specs.Settings.{honest_nodes, name_in}
+use Rattle.cs_replay.specs.Settings.{honest_nodes, name_at_place}
 use Rattle.cs_replay.proofs.Deployed.{deploys-setup, rests}
-use Rattle.cs_play.specs.Logged.{none_logged}
-use Rattle.cs_play.proofs.Histories.{kept-first}
-use Rattle.cs_play.proofs.Places.{logs-begin}
+use Rattle.cs_replay_play.specs.Logged.{none_logged}
+use Rattle.cs_replay_play.proofs.Histories.{kept-first}
+use Rattle.cs_replay_play.proofs.Places.{logs-begin}
 use Rattle.cs_replay.proofs.schedule.begin.Goals as goal
 
 pub returns : goal.returns
@@ -17,7 +17,7 @@ returns g c = λ before.
       traced = refl;
       count = c.in_ok-cores.ensures.count;
       all = c.in_ok-cores.ensures.nodes;
-      logs = logs-begin (site_of_schedule approves schedule) (name_in (honest_nodes schedule)) _ c.in_ok-logs.logs.items (c.in_ok-logs.ensures ∙ ap (λ n. replicate n none_logged) (c.len.ensures ∙ c.in_ok-cores.cores.ok.0 ∙ c.in_ok-cores.ensures.count));
+      logs = logs-begin (site_of_schedule approves schedule) (name_at_place (honest_nodes schedule)) _ c.in_ok-logs.logs.items (c.in_ok-logs.ensures ∙ ap (λ n. replicate n none_logged) (c.len.ensures ∙ c.in_ok-cores.cores.ok.0 ∙ c.in_ok-cores.ensures.count));
       kept = kept-first schedule.config (setup_of_schedule approves schedule) c.in_ok-history.history c.in_ok-history.ensures.config c.in_ok-history.ensures.empty (deploys-setup schedule.config schedule.genesis approves);
       aborted = c.in_ok-history.ensures.none;
       parcels = c.new-post.ensures;

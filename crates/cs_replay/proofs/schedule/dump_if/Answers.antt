@@ -1,6 +1,6 @@
 use Rattle.std.proofs.Common.{◌≡◌, Bool, cond, [], IfOk, ap, sym, subst, ◌∙◌, string_bytes}
 use Rattle.cs_replay_rules.specs.Dumps.{dump_text}
-use Rattle.cs_play.specs.Standing.{site_in}
+use Rattle.cs_replay_play.specs.Standing.{site_in}
 use Rattle.cs_replay.proofs.schedule.dump_if.Goals as goal
 
 pub returns-then-dumps : goal.returns-then-dumps

@@ -1,9 +1,9 @@
 use Rattle.std.proofs.Common.{◌≡◌, ◌++◌, ap, ◌∙◌, string_bytes}
 use Rattle.cs_replay_rules.specs.Lines.{history_text}
 use Rattle.cs_node_rules.specs.World.{history}
-use Rattle.cs_play.specs.Digests.{history_lines}
-use Rattle.cs_play.specs.Standing.{site_in}
-use Rattle.cs_play.proofs.Printed.{history-kept}
+use Rattle.cs_replay_play.specs.Digests.{history_lines}
+use Rattle.cs_replay_play.specs.Standing.{site_in}
+use Rattle.cs_replay_play.proofs.Printed.{history-kept}
 use Rattle.cs_replay.proofs.schedule.end_text.Goals as goal
 
 pub returns : goal.returns

@@ -2,9 +2,9 @@ use Rattle.std.proofs.Common.{ℕ, List, [], Err, sym, ap, subst, arith}
 use Rattle.std.specs.Io.KnownBytes.{Appends}
 use Rattle.std.proofs.KnownBytes.{Appends-nil}
 use Rattle.std.proofs.lemmas.Result.{err_from_is_err_and}
-use Rattle.cs_sched_types.specs.declared.schedule.Event.{Event}
+use Rattle.cs_sched.specs.declared.schedule.Event.{Event}
 use Rattle.cs_replay_rules.specs.Play.{unplayed, play_all}
-use Rattle.cs_play.specs.Standing.{site_in, AllToOthers, StandsPrinted}
+use Rattle.cs_replay_play.specs.Standing.{site_in, AllToOthers, StandsPrinted}
 use Rattle.cs_replay.specs.declared.outcome.ReplayError.TheVariants.{WriteFault, Memory}
 use Rattle.cs_replay.specs.Closing.{IsLast, Closes}
 use Rattle.cs_replay.proofs.Whole.{closes-last, closes-cut, closes-early}

@@ -1,5 +1,5 @@
 use Rattle.std.proofs.Common.{◌++◌, ap, refl}
-use Rattle.cs_tx.specs.Sessions.{session_of}
+use Rattle.cs_tx.specs.Sessions.{ledger_session}
 use Rattle.cs_replay.specs.Site.{site_of_schedule}
 use Rattle.cs_replay.specs.Answers.{dump_behind}
 use Rattle.cs_replay.specs.Played.{course_of}
@@ -21,7 +21,7 @@ returns-in-Ok-clause-answers g c =
     let site = site_of_schedule approves schedule in
     closes-answers before _ site dumps schedule.contracts (course_of approves traced schedule) _ c.play_schedule.result
     (ap (λ text. text ++ dump_behind dumps site schedule.contracts (course_of approves traced schedule)) (lines-are site traced schedule.events))
-    (c.play_schedule.ensures.closes (setting_of approves traced schedule before) refl (c.in-Ok.ensures before) (session_of approves, refl) (are-for schedule c.requires approves traced before))
+    (c.play_schedule.ensures.closes (setting_of approves traced schedule before) refl (c.in-Ok.ensures before) (ledger_session approves, refl) (are-for schedule c.requires approves traced before))
 
 pub returns-in-Ok-clause-ends : goal.returns-in-Ok-clause-ends
 returns-in-Ok-clause-ends g c =
@@ -32,7 +32,7 @@ returns-in-Ok-clause-ends g c =
     let dumps = c.args.mode.dumps in
     let site = site_of_schedule approves schedule in
     closes-ends before _ site dumps schedule.contracts (course_of approves traced schedule) c.play_schedule.result
-    (c.play_schedule.ensures.closes (setting_of approves traced schedule before) refl (c.in-Ok.ensures before) (session_of approves, refl) (are-for schedule c.requires approves traced before))
+    (c.play_schedule.ensures.closes (setting_of approves traced schedule before) refl (c.in-Ok.ensures before) (ledger_session approves, refl) (are-for schedule c.requires approves traced before))
 
 pub returns-in-Ok-clause-accepted : goal.returns-in-Ok-clause-accepted
 returns-in-Ok-clause-accepted g c =
@@ -43,7 +43,7 @@ returns-in-Ok-clause-accepted g c =
     let dumps = c.args.mode.dumps in
     let site = site_of_schedule approves schedule in
     closes-number before _ site dumps schedule.contracts (course_of approves traced schedule) (λ summary. summary.accepted) c.play_schedule.result
-    (c.play_schedule.ensures.closes (setting_of approves traced schedule before) refl (c.in-Ok.ensures before) (session_of approves, refl) (are-for schedule c.requires approves traced before))
+    (c.play_schedule.ensures.closes (setting_of approves traced schedule before) refl (c.in-Ok.ensures before) (ledger_session approves, refl) (are-for schedule c.requires approves traced before))
 
 pub returns-in-Ok-clause-aborted : goal.returns-in-Ok-clause-aborted
 returns-in-Ok-clause-aborted g c =
@@ -54,7 +54,7 @@ returns-in-Ok-clause-aborted g c =
     let dumps = c.args.mode.dumps in
     let site = site_of_schedule approves schedule in
     closes-number before _ site dumps schedule.contracts (course_of approves traced schedule) (λ summary. summary.aborted) c.play_schedule.result
-    (c.play_schedule.ensures.closes (setting_of approves traced schedule before) refl (c.in-Ok.ensures before) (session_of approves, refl) (are-for schedule c.requires approves traced before))
+    (c.play_schedule.ensures.closes (setting_of approves traced schedule before) refl (c.in-Ok.ensures before) (ledger_session approves, refl) (are-for schedule c.requires approves traced before))
 
 pub returns-in-Ok-clause-events : goal.returns-in-Ok-clause-events
 returns-in-Ok-clause-events g c =
@@ -65,7 +65,7 @@ returns-in-Ok-clause-events g c =
     let dumps = c.args.mode.dumps in
     let site = site_of_schedule approves schedule in
     closes-number before _ site dumps schedule.contracts (course_of approves traced schedule) (λ summary. summary.events) c.play_schedule.result
-    (c.play_schedule.ensures.closes (setting_of approves traced schedule before) refl (c.in-Ok.ensures before) (session_of approves, refl) (are-for schedule c.requires approves traced before))
+    (c.play_schedule.ensures.closes (setting_of approves traced schedule before) refl (c.in-Ok.ensures before) (ledger_session approves, refl) (are-for schedule c.requires approves traced before))
 
 pub returns-in-Ok-clause-sent : goal.returns-in-Ok-clause-sent
 returns-in-Ok-clause-sent g c =
@@ -76,4 +76,4 @@ returns-in-Ok-clause-sent g c =
     let dumps = c.args.mode.dumps in
     let site = site_of_schedule approves schedule in
     closes-number before _ site dumps schedule.contracts (course_of approves traced schedule) (λ summary. summary.sent) c.play_schedule.result
-    (c.play_schedule.ensures.closes (setting_of approves traced schedule before) refl (c.in-Ok.ensures before) (session_of approves, refl) (are-for schedule c.requires approves traced before))
+    (c.play_schedule.ensures.closes (setting_of approves traced schedule before) refl (c.in-Ok.ensures before) (ledger_session approves, refl) (are-for schedule c.requires approves traced before))

@@ -1,9 +1,9 @@
 use Rattle.std.proofs.Common.{ℕ, List, Err, inl, ap, refl, sym, subst}
 use Rattle.cs_base.specs.Answers.{Answers}
 use Rattle.cs_base.specs.declared.limits.TheConstants.{MOST_SCHEDULE}
-use Rattle.cs_command.specs.Answers.{read_fault_answer}
-use Rattle.cs_command.proofs.Closings.{closed}
-use Rattle.cs_command.proofs.Sources.{gives-text, not-given, gives-whole}
+use Rattle.cs_io.specs.Answers.{read_fault_answer}
+use Rattle.cs_io.proofs.Closings.{closed}
+use Rattle.cs_io.proofs.Sources.{gives-text, not-given, gives-whole}
 use Rattle.cs_replay.specs.Answers.{replay_answer}
 use Rattle.cs_replay.proofs.source.replay_source.Goals as goal
 

@@ -3,7 +3,7 @@ use Rattle.std.proofs.Common.{◌≡◌, true, sym, subst}
 use Rattle.cs_base.specs.NodeId.{is_node}
 use Rattle.cs_base.specs.declared.node_id.NodeId.{NodeId}
 use Rattle.cs_node_rules.specs.Site.{start_view}
-use Rattle.cs_node.specs.Cores.{StandsFor}
+use Rattle.cs_node.specs.Cores.{CoreStandsFor}
 use Rattle.cs_log.specs.contracts.slot_order.SlotOrderOrder.TheImpl as order
 use Rattle.cs_replay.specs.Site.{site_of_schedule, net_of_schedule}
 use Rattle.cs_replay.proofs.starting.start_node.Goals as goal
@@ -29,5 +29,5 @@ returns g c =
     let site = site_of_schedule approves schedule in
     let keys = c.in_ok-keys.keys in
     let speaks = c.keys_of_a_master_speak.ensures schedule.config schedule.master schedule.liars c.args.name keys c.requires.playable.few_shards c.requires.node c.in_ok-keys.ensures in
-    subst (λ (name : NodeId). IfOk c.start.result (λ core. StandsFor order.ghosts.stands g.J.Judge.is_approved site core (start_view site name))) c.in_ok-keys.ensures.me
+    subst (λ (name : NodeId). IfOk c.start.result (λ core. CoreStandsFor order.ghosts.stands g.J.Judge.is_approved site core (start_view site name))) c.in_ok-keys.ensures.me
     (c.start.ensures schedule.genesis c.requires.genesis (net_of_schedule schedule) speaks)

@@ -3,7 +3,7 @@ use denote.Ref.{Bor}
 use Rattle.std.proofs.Common.{◌≡◌, ◌≢◌, refl, arith}
 use Rattle.cs_base.specs.Lines.{views}
 use Rattle.cs_sched.specs.Events.{say_said}
-use Rattle.cs_sched_types.specs.declared.schedule.Schedule.{Schedule}
+use Rattle.cs_sched.specs.declared.schedule.Schedule.{Schedule}
 use Rattle.cs_text.specs.declared.cause.Cause.TheVariants as cause
 use Rattle.cs_sched.proofs.events.read_say.Goals as goal
 use Rattle.cs_sched.proofs.events.read_say.Goals.{in_default-via-then-fields-lt4, in_default-via-else-fields-lt4+else-fields-lt5}

@@ -1,9 +1,9 @@
 use Rattle.std.proofs.Common.{◌≡◌, ◌++◌, take, drop, sym, ap, ◌∙◌}
 use Rattle.std.proofs.lemmas.List.{take-append-drop, map-append}
-use Rattle.cs_outer.specs.Link.{Offers}
+use Rattle.cs_io.specs.Link.{Offers}
 use Rattle.cs_wire.specs.declared.input.Out.{Out}
 use Rattle.cs_serve.specs.Offering.{offers_in}
-use Rattle.cs_outer.specs.laws.Told.{changes-before}
+use Rattle.cs_io.specs.laws.Told.{changes-before}
 use Rattle.cs_serve.proofs.offering.offer.Goals as goal
 
 pub returns-in-Memory-clause-front : goal.returns-in-Memory-clause-front

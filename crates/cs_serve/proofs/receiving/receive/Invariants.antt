@@ -1,6 +1,6 @@
 use Rattle.std.proofs.Common.{◌≡◌, ◌+◌, ◌-◌, ◌^◌, ◌<◌, ◌≤◌}
 use Rattle.std.specs.Prelude.{min}
-use Rattle.cs_outer.specs.Told.{Stays}
+use Rattle.cs_io.specs.Told.{Stays}
 use Rattle.cs_serve.proofs.receiving.receive.Given as goal
 
 abbrev pub invariant-loop-missed : goal.invariant-loop-missed

@@ -1,9 +1,9 @@
 use Rattle.std.proofs.Common.{◌≡◌, refl, arith}
 use Rattle.cs_node_rules.specs.Deployment.{site_of}
-use Rattle.cs_node.specs.Cores.{StandsFor}
+use Rattle.cs_node.specs.Cores.{CoreStandsFor}
 use Rattle.cs_serve.specs.declared.ending.End.TheVariants.{LinkFault, WriteFault}
-use Rattle.cs_outer.specs.laws.Told.{stays-same, stays-both}
-use Rattle.cs_outer.specs.Outside.{beside}
+use Rattle.cs_io.specs.laws.Told.{stays-same, stays-both}
+use Rattle.cs_io.specs.Outside.{beside}
 use Rattle.std.proofs.lemmas.Bool.{iff_false}
 use Rattle.cs_serve.specs.laws.Taken.{few-more}
 use Rattle.cs_serve.proofs.Turns.{serves-nothing, begins, goes-on, ends, done, le_same, le_more, cause_later}
@@ -13,7 +13,7 @@ pub loop-buf-init : goal.loop-buf-init
 loop-buf-init g c = record {
   so_far = λ setup net v is.
       let site = site_of setup net g.O.Order.rules g.O.Carried.carrier in
-      begins (StandsFor g.O.Order.stands g.J.Judge.is_approved site) site v c.args.until (beside (g.L.Link.told c.args.link.now) (g.K.Sink.written c.args.out.now)) c.args.core is;
+      begins (CoreStandsFor g.O.Order.stands g.J.Judge.is_approved site) site v c.args.until (beside (g.L.Link.told c.args.link.now) (g.K.Sink.written c.args.out.now)) c.args.core is;
   few = omega arith;
   bound = stays-same (g.L.Link.told c.args.link.now).bound;
   link = le_same (g.L.Link.faults c.args.link.now);
@@ -27,7 +27,7 @@ loop-buf-preserved g c =
     record {
       so_far = λ setup net v is.
           let site = site_of setup net g.O.Order.rules g.O.Carried.carrier in
-          goes-on (StandsFor g.O.Order.stands g.J.Judge.is_approved site) site v c.args.until c.loop-buf.turns c.loop-buf.ticks (beside (g.L.Link.told c.args.link.now) (g.K.Sink.written c.args.out.now)) (beside (g.L.Link.told c.loop-buf.link) (g.K.Sink.written c.loop-buf.out)) (beside (g.L.Link.told c.take_turn.new.link) (g.K.Sink.written c.take_turn.new.out))
+          goes-on (CoreStandsFor g.O.Order.stands g.J.Judge.is_approved site) site v c.args.until c.loop-buf.turns c.loop-buf.ticks (beside (g.L.Link.told c.args.link.now) (g.K.Sink.written c.args.out.now)) (beside (g.L.Link.told c.loop-buf.link) (g.K.Sink.written c.loop-buf.out)) (beside (g.L.Link.told c.take_turn.new.link) (g.K.Sink.written c.take_turn.new.out))
           c.loop-buf.core (iff_false c.is_over.ensures.over c.loop-buf-test.true) (so_far.so_far setup net v is) c.in-Ok-take_turn.next c.in-Ok-take_turn.ticked c.from-ticks.result c.from-ticks.ensures (λ w stood. turn.takes setup net w stood);
       few = few-more c.loop-buf.turns c.loop-buf.ticks c.from-ticks.result c.in-Ok-take_turn.ticked c.from-ticks.ensures so_far.few;
       bound = stays-both (g.L.Link.told c.args.link.now).bound (g.L.Link.told c.loop-buf.link).bound (g.L.Link.told c.take_turn.new.link).bound so_far.bound turn.bound;
@@ -44,13 +44,13 @@ overflow_add-ticks g c =
 pub returns-in_default-clause-serves : goal.returns-in_default-clause-serves
 returns-in_default-clause-serves g c = λ setup net v is.
     let site = site_of setup net g.O.Order.rules g.O.Carried.carrier in
-    serves-nothing (StandsFor g.O.Order.stands g.J.Judge.is_approved site) site v c.args.until (beside (g.L.Link.told c.args.link.now) (g.K.Sink.written c.args.out.now)) c.args.core is
+    serves-nothing (CoreStandsFor g.O.Order.stands g.J.Judge.is_approved site) site v c.args.until (beside (g.L.Link.told c.args.link.now) (g.K.Sink.written c.args.out.now)) c.args.core is
 
 pub returns-in-Err-clause-serves : goal.returns-in-Err-clause-serves
 returns-in-Err-clause-serves g c = λ setup net v is.
     let site = site_of setup net g.O.Order.rules g.O.Carried.carrier in
     let turn = c.in-Err.ensures in
-    ends (StandsFor g.O.Order.stands g.J.Judge.is_approved site) site v c.args.until c.loop-buf.turns c.loop-buf.ticks (beside (g.L.Link.told c.args.link.now) (g.K.Sink.written c.args.out.now)) (beside (g.L.Link.told c.loop-buf.link) (g.K.Sink.written c.loop-buf.out)) (beside (g.L.Link.told c.take_turn.new.link) (g.K.Sink.written c.take_turn.new.out))
+    ends (CoreStandsFor g.O.Order.stands g.J.Judge.is_approved site) site v c.args.until c.loop-buf.turns c.loop-buf.ticks (beside (g.L.Link.told c.args.link.now) (g.K.Sink.written c.args.out.now)) (beside (g.L.Link.told c.loop-buf.link) (g.K.Sink.written c.loop-buf.out)) (beside (g.L.Link.told c.take_turn.new.link) (g.K.Sink.written c.take_turn.new.out))
     c.loop-buf.core (iff_false c.is_over.ensures.over c.loop-buf-test.true) (c.loop-buf.invariant.so_far setup net v is) c.in-Err.ended turn.ended (λ w stood. turn.takes setup net w stood)
 
 pub returns-in-Err-clause-kept : goal.returns-in-Err-clause-kept
@@ -71,7 +71,7 @@ returns-in-Err-clause-sink g c =
 pub returns-clause-serves : goal.returns-clause-serves
 returns-clause-serves g c = λ setup net v is.
     let site = site_of setup net g.O.Order.rules g.O.Carried.carrier in
-    done (StandsFor g.O.Order.stands g.J.Judge.is_approved site) site v c.args.until c.loop-buf.turns c.loop-buf.ticks (beside (g.L.Link.told c.args.link.now) (g.K.Sink.written c.args.out.now)) (beside (g.L.Link.told c.loop-buf.link) (g.K.Sink.written c.loop-buf.out))
+    done (CoreStandsFor g.O.Order.stands g.J.Judge.is_approved site) site v c.args.until c.loop-buf.turns c.loop-buf.ticks (beside (g.L.Link.told c.args.link.now) (g.K.Sink.written c.args.out.now)) (beside (g.L.Link.told c.loop-buf.link) (g.K.Sink.written c.loop-buf.out))
     c.loop-buf.core (c.is_over.ensures.over.0 c.loop-buf-test.false) (c.loop-buf.invariant.so_far setup net v is)
 
 pub returns-clause-kept : goal.returns-clause-kept

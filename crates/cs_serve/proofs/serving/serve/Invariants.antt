@@ -1,19 +1,19 @@
 use Rattle.std.proofs.Common.{◌-◌, ◌^◌, ◌≤◌}
-use Rattle.cs_outer.specs.Told.{Stays}
-use Rattle.cs_outer.specs.Outside.{beside}
+use Rattle.cs_io.specs.Told.{Stays}
+use Rattle.cs_io.specs.Outside.{beside}
 use Rattle.cs_node_state.specs.Setup.{Setup}
 use Rattle.cs_node_rules.specs.Net.{Net}
 use Rattle.cs_node_rules.specs.Site.{View}
 use Rattle.cs_node_rules.specs.Deployment.{site_of}
-use Rattle.cs_node.specs.Cores.{StandsFor}
+use Rattle.cs_node.specs.Cores.{CoreStandsFor}
 use Rattle.cs_serve.proofs.Turns.{SoFar}
 use Rattle.cs_serve.proofs.serving.serve.Given as goal
 
 abbrev pub invariant-loop-buf : goal.invariant-loop-buf
 invariant-loop-buf g l = record {
   so_far : (setup : Setup) (net : Net) (v : View g.row.O-Message.Denot)
-      → StandsFor g.O.Order.stands g.J.Judge.is_approved (site_of setup net g.O.Order.rules g.O.Carried.carrier) l.fn.core v
-      → SoFar (StandsFor g.O.Order.stands g.J.Judge.is_approved (site_of setup net g.O.Order.rules g.O.Carried.carrier)) (site_of setup net g.O.Order.rules g.O.Carried.carrier) v l.until l.turns l.ticks
+      → CoreStandsFor g.O.Order.stands g.J.Judge.is_approved (site_of setup net g.O.Order.rules g.O.Carried.carrier) l.fn.core v
+      → SoFar (CoreStandsFor g.O.Order.stands g.J.Judge.is_approved (site_of setup net g.O.Order.rules g.O.Carried.carrier)) (site_of setup net g.O.Order.rules g.O.Carried.carrier) v l.until l.turns l.ticks
       (beside (g.L.Link.told l.initial.link) (g.K.Sink.written l.initial.out))
       (beside (g.L.Link.told l.link) (g.K.Sink.written l.out))
       l.core;

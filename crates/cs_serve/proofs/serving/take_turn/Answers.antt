@@ -1,11 +1,11 @@
 use Rattle.std.proofs.Common.{◌≡◌, ℕ, List, [], ◌∷◌, Some, refl, sym, subst, arith}
 use Rattle.std.proofs.lemmas.Result.{err_from_is_err_and}
-use Rattle.cs_outer.specs.Told.{Changes}
-use Rattle.cs_outer.specs.declared.link.MemInput.{MemInput}
-use Rattle.cs_outer.specs.declared.link.MemInput.TheVariants as came
-use Rattle.cs_outer.specs.Outside.{beside}
+use Rattle.cs_io.specs.Told.{Changes}
+use Rattle.cs_io.specs.declared.link.MemInput.{MemInput}
+use Rattle.cs_io.specs.declared.link.MemInput.TheVariants as came
+use Rattle.cs_io.specs.Outside.{beside}
 use Rattle.cs_node_rules.specs.Deployment.{site_of}
-use Rattle.cs_node.specs.Cores.{StandsFor}
+use Rattle.cs_node.specs.Cores.{CoreStandsFor}
 use Rattle.cs_serve.specs.declared.ending.End.TheVariants.{Done}
 use Rattle.cs_serve.specs.Giving.{given_of}
 use Rattle.cs_serve.proofs.Giving.{Gives-kept}
@@ -18,7 +18,7 @@ returns-in_ok-core-in-Datagram-clause-takes g c = λ setup net v is.
     record {
       inputs = given_of (came.Datagram c.split_at.result.0.now) ∷ [];
       one = (given_of (came.Datagram c.split_at.result.0.now), refl, refl);
-      passes = passes-answer (StandsFor g.O.Order.stands g.J.Judge.is_approved site) site v (came.Datagram c.split_at.result.0.now) (beside (g.L.Link.told c.args.link.now) (g.K.Sink.written c.args.out.now)) (beside (g.L.Link.told c.receive.new.link) (g.K.Sink.written c.args.out.now)) (beside (g.L.Link.told c.answer.new.link) (g.K.Sink.written c.answer.new.out)) (Done, Some c.in_ok-core-in-Datagram.core)
+      passes = passes-answer (CoreStandsFor g.O.Order.stands g.J.Judge.is_approved site) site v (came.Datagram c.split_at.result.0.now) (beside (g.L.Link.told c.args.link.now) (g.K.Sink.written c.args.out.now)) (beside (g.L.Link.told c.receive.new.link) (g.K.Sink.written c.args.out.now)) (beside (g.L.Link.told c.answer.new.link) (g.K.Sink.written c.answer.new.out)) (Done, Some c.in_ok-core-in-Datagram.core)
           (subst (λ (bytes : List ℕ). Changes (λ (before now : List MemInput). before ≡ came.Datagram bytes ∷ now) (g.L.Link.told c.args.link.now).left (g.L.Link.told c.receive.new.link).left) (sym c.split_at.ensures.front) c.in-Datagram.ensures.input.1) c.in-Datagram.ensures.missed c.in-Datagram.ensures.offered refl c.answer.ensures.left c.answer.ensures.missed (c.in_ok-core-in-Datagram.ensures.answers setup net v is);
     }
 
@@ -30,7 +30,7 @@ returns-in_err-core-in-Datagram-clause-takes g c = λ setup net v is.
     (record {
       inputs = given_of (came.Datagram c.split_at.result.0.now) ∷ [];
       one = omega arith;
-      passes = passes-answer (StandsFor g.O.Order.stands g.J.Judge.is_approved site) site v (came.Datagram c.split_at.result.0.now) (beside (g.L.Link.told c.args.link.now) (g.K.Sink.written c.args.out.now)) (beside (g.L.Link.told c.receive.new.link) (g.K.Sink.written c.args.out.now)) (beside (g.L.Link.told c.answer.new.link) (g.K.Sink.written c.answer.new.out)) c.in_err-core-in-Datagram.field-0.0
+      passes = passes-answer (CoreStandsFor g.O.Order.stands g.J.Judge.is_approved site) site v (came.Datagram c.split_at.result.0.now) (beside (g.L.Link.told c.args.link.now) (g.K.Sink.written c.args.out.now)) (beside (g.L.Link.told c.receive.new.link) (g.K.Sink.written c.args.out.now)) (beside (g.L.Link.told c.answer.new.link) (g.K.Sink.written c.answer.new.out)) c.in_err-core-in-Datagram.field-0.0
           (subst (λ (bytes : List ℕ). Changes (λ (before now : List MemInput). before ≡ came.Datagram bytes ∷ now) (g.L.Link.told c.args.link.now).left (g.L.Link.told c.receive.new.link).left) (sym c.split_at.ensures.front) c.in-Datagram.ensures.input.1) c.in-Datagram.ensures.missed c.in-Datagram.ensures.offered refl c.answer.ensures.left c.answer.ensures.missed (c.in_err-core-in-Datagram.ensures.answers setup net v is);
     })
 
@@ -40,7 +40,7 @@ returns-in_ok-core-in-Tick-clause-takes g c = λ setup net v is.
     record {
       inputs = given_of came.Tick ∷ [];
       one = (given_of came.Tick, refl, refl);
-      passes = passes-answer (StandsFor g.O.Order.stands g.J.Judge.is_approved site) site v came.Tick (beside (g.L.Link.told c.args.link.now) (g.K.Sink.written c.args.out.now)) (beside (g.L.Link.told c.receive.new.link) (g.K.Sink.written c.args.out.now)) (beside (g.L.Link.told c.answer-in-Tick.new.link) (g.K.Sink.written c.answer-in-Tick.new.out)) (Done, Some c.in_ok-core-in-Tick.core)
+      passes = passes-answer (CoreStandsFor g.O.Order.stands g.J.Judge.is_approved site) site v came.Tick (beside (g.L.Link.told c.args.link.now) (g.K.Sink.written c.args.out.now)) (beside (g.L.Link.told c.receive.new.link) (g.K.Sink.written c.args.out.now)) (beside (g.L.Link.told c.answer-in-Tick.new.link) (g.K.Sink.written c.answer-in-Tick.new.out)) (Done, Some c.in_ok-core-in-Tick.core)
           c.in-Tick.ensures.input c.in-Tick.ensures.missed c.in-Tick.ensures.offered refl c.answer-in-Tick.ensures.left c.answer-in-Tick.ensures.missed (c.in_ok-core-in-Tick.ensures.answers setup net v is);
     }
 
@@ -52,18 +52,18 @@ returns-in_err-core-in-Tick-clause-takes g c = λ setup net v is.
     (record {
       inputs = given_of came.Tick ∷ [];
       one = omega arith;
-      passes = passes-answer (StandsFor g.O.Order.stands g.J.Judge.is_approved site) site v came.Tick (beside (g.L.Link.told c.args.link.now) (g.K.Sink.written c.args.out.now)) (beside (g.L.Link.told c.receive.new.link) (g.K.Sink.written c.args.out.now)) (beside (g.L.Link.told c.answer-in-Tick.new.link) (g.K.Sink.written c.answer-in-Tick.new.out)) c.in_err-core-in-Tick.field-0.0
+      passes = passes-answer (CoreStandsFor g.O.Order.stands g.J.Judge.is_approved site) site v came.Tick (beside (g.L.Link.told c.args.link.now) (g.K.Sink.written c.args.out.now)) (beside (g.L.Link.told c.receive.new.link) (g.K.Sink.written c.args.out.now)) (beside (g.L.Link.told c.answer-in-Tick.new.link) (g.K.Sink.written c.answer-in-Tick.new.out)) c.in_err-core-in-Tick.field-0.0
           c.in-Tick.ensures.input c.in-Tick.ensures.missed c.in-Tick.ensures.offered refl c.answer-in-Tick.ensures.left c.answer-in-Tick.ensures.missed (c.in_err-core-in-Tick.ensures.answers setup net v is);
     })
 
 pub returns-in-End-clause-takes : goal.returns-in-End-clause-takes
 returns-in-End-clause-takes g c = λ setup net v is.
     let site = site_of setup net g.O.Order.rules g.O.Carried.carrier in
-    turn-ended (StandsFor g.O.Order.stands g.J.Judge.is_approved site) site v (beside (g.L.Link.told c.args.link.now) (g.K.Sink.written c.args.out.now)) (beside (g.L.Link.told c.receive.new.link) (g.K.Sink.written c.args.out.now)) c.args.core is c.in-End.ensures.input.1 c.in-End.ensures.input.0
+    turn-ended (CoreStandsFor g.O.Order.stands g.J.Judge.is_approved site) site v (beside (g.L.Link.told c.args.link.now) (g.K.Sink.written c.args.out.now)) (beside (g.L.Link.told c.receive.new.link) (g.K.Sink.written c.args.out.now)) c.args.core is c.in-End.ensures.input.1 c.in-End.ensures.input.0
     (Gives-kept (beside (g.L.Link.told c.args.link.now) (g.K.Sink.written c.args.out.now)) (beside (g.L.Link.told c.receive.new.link) (g.K.Sink.written c.args.out.now)) c.in-End.ensures.offered refl)
 
 pub returns-in-Failed-clause-takes : goal.returns-in-Failed-clause-takes
 returns-in-Failed-clause-takes g c = λ setup net v is.
     let site = site_of setup net g.O.Order.rules g.O.Carried.carrier in
-    turn-failed (StandsFor g.O.Order.stands g.J.Judge.is_approved site) site v (beside (g.L.Link.told c.args.link.now) (g.K.Sink.written c.args.out.now)) (beside (g.L.Link.told c.receive.new.link) (g.K.Sink.written c.args.out.now)) c.args.core is c.in-Failed.ensures.input c.in-Failed.ensures.missed
+    turn-failed (CoreStandsFor g.O.Order.stands g.J.Judge.is_approved site) site v (beside (g.L.Link.told c.args.link.now) (g.K.Sink.written c.args.out.now)) (beside (g.L.Link.told c.receive.new.link) (g.K.Sink.written c.args.out.now)) c.args.core is c.in-Failed.ensures.input c.in-Failed.ensures.missed
     (Gives-kept (beside (g.L.Link.told c.args.link.now) (g.K.Sink.written c.args.out.now)) (beside (g.L.Link.told c.receive.new.link) (g.K.Sink.written c.args.out.now)) c.in-Failed.ensures.offered refl)

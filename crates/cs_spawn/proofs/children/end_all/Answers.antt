@@ -1,7 +1,7 @@
 use Rattle.std.proofs.Common.{◌≡◌, ℕ, ◌<◌, Bool, false, List, length, get_or, refl, arith, subst}
 use Rattle.std.proofs.lemmas.List.{take_all}
-use Rattle.cs_outer.specs.laws.Told.{stays-same, stays-both}
-use Rattle.cs_outer.specs.Spawner.{EndsThese}
+use Rattle.cs_io.specs.laws.Told.{stays-same, stays-both}
+use Rattle.cs_io.specs.Spawner.{EndsThese}
 use Rattle.cs_spawn.proofs.Plans.{all_at}
 use Rattle.cs_spawn.proofs.Left.{rise-below, ends-none, ends-next, spared-next}
 use Rattle.cs_spawn.proofs.children.end_all.Goals as goal

@@ -1,6 +1,6 @@
 use Rattle.std.proofs.Common.{◌≡◌, ◌≤◌, take}
-use Rattle.cs_outer.specs.Told.{Stays}
-use Rattle.cs_outer.specs.Spawner.{EndsThese}
+use Rattle.cs_io.specs.Told.{Stays}
+use Rattle.cs_io.specs.Spawner.{EndsThese}
 use Rattle.cs_spawn.proofs.children.end_all.Given as goal
 
 abbrev pub invariant-loop-child : goal.invariant-loop-child

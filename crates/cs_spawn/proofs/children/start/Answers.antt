@@ -1,6 +1,6 @@
 use Rattle.std.proofs.Common.{[], ◌∷◌, inl, refl, map, string_bytes}
-use Rattle.cs_outer.specs.laws.Told.{stays-same}
-use Rattle.cs_outer.specs.Outside.{SpawnerTold, Beside, beside}
+use Rattle.cs_io.specs.laws.Told.{stays-same}
+use Rattle.cs_io.specs.Outside.{SpawnerTold, Beside, beside}
 use Rattle.cs_spawn.specs.Deeds.{Start}
 use Rattle.cs_spawn.proofs.Going.{starts-none, front-kept}
 use Rattle.cs_spawn.proofs.children.start.Goals as goal

@@ -1,8 +1,8 @@
 use Rattle.std.proofs.Common.{[], ◌∷◌, ◌≡◌, ◌<◌, ℕ, List, get_or, refl, ap, ◌∙◌, arith}
 use Rattle.cs_base.specs.declared.node_id.NodeId.{NodeId}
-use Rattle.cs_outer.specs.Outside.{SpawnerTold, Beside, beside}
+use Rattle.cs_io.specs.Outside.{SpawnerTold, Beside, beside}
 use Rattle.cs_spawn.specs.Words.{node_title}
-use Rattle.cs_spawn.specs.Deeds.{Deed, Wait}
+use Rattle.cs_spawn.specs.Deeds.{ClusterDeed, Wait}
 use Rattle.cs_spawn.proofs.Going.{more-children}
 use Rattle.cs_spawn.proofs.Plans.{all_at}
 use Rattle.cs_spawn.proofs.Steps.{each-wants, each-next, each-stops}
@@ -10,7 +10,7 @@ use Rattle.cs_spawn.proofs.running.await_nodes.Goals as goal
 
 pub returns-in_err-title-clause-does : goal.returns-in_err-title-clause-does
 returns-in_err-title-clause-does g c =
-    let f : NodeId × ℕ → Deed = λ node. Wait (node_title node.0) node.1 in
+    let f : NodeId × ℕ → ClusterDeed = λ node. Wait (node_title node.0) node.1 in
     let a : Beside SpawnerTold = beside (g.P.Spawner.told c.args.spawner.now) (g.K.Sink.written c.args.out.now) in
     let b : Beside SpawnerTold = beside (g.P.Spawner.told c.loop-node.spawner) (g.K.Sink.written c.loop-node.out) in
     each-wants f c.args.running.now c.loop-node.node-index a b c.args.left.now.items c.loop-node.left.items c.from_residual.result c.loop-node.invariant.does c.from_residual.ensures.1
@@ -26,7 +26,7 @@ await_end-requires g c =
 
 pub returns-in_err-await_end-clause-does : goal.returns-in_err-await_end-clause-does
 returns-in_err-await_end-clause-does g c =
-    let f : NodeId × ℕ → Deed = λ node. Wait (node_title node.0) node.1 in
+    let f : NodeId × ℕ → ClusterDeed = λ node. Wait (node_title node.0) node.1 in
     let a : Beside SpawnerTold = beside (g.P.Spawner.told c.args.spawner.now) (g.K.Sink.written c.args.out.now) in
     let b : Beside SpawnerTold = beside (g.P.Spawner.told c.loop-node.spawner) (g.K.Sink.written c.loop-node.out) in
     let d : Beside SpawnerTold = beside (g.P.Spawner.told c.await_end.new.spawner) (g.K.Sink.written c.await_end.new.out) in
@@ -40,7 +40,7 @@ returns-in_err-await_end-clause-does g c =
 
 pub loop-node-preserved : goal.loop-node-preserved
 loop-node-preserved g c =
-    let f : NodeId × ℕ → Deed = λ node. Wait (node_title node.0) node.1 in
+    let f : NodeId × ℕ → ClusterDeed = λ node. Wait (node_title node.0) node.1 in
     let a : Beside SpawnerTold = beside (g.P.Spawner.told c.args.spawner.now) (g.K.Sink.written c.args.out.now) in
     let b : Beside SpawnerTold = beside (g.P.Spawner.told c.loop-node.spawner) (g.K.Sink.written c.loop-node.out) in
     let d : Beside SpawnerTold = beside (g.P.Spawner.told c.await_end.new.spawner) (g.K.Sink.written c.await_end.new.out) in

@@ -1,5 +1,5 @@
 use Rattle.std.proofs.Common.{◌≡◌, ◌≤◌, take}
-use Rattle.cs_outer.specs.Outside.{beside}
+use Rattle.cs_io.specs.Outside.{beside}
 use Rattle.cs_spawn.specs.Deeds.{node_waits}
 use Rattle.cs_spawn.proofs.Going.{Done}
 use Rattle.cs_spawn.proofs.running.await_nodes.Given as goal

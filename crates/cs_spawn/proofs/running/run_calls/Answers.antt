@@ -4,7 +4,7 @@ use Rattle.cs_spawn.proofs.Going.{more-children}
 use Rattle.cs_spawn.specs.Words.{client_words, client_title}
 use Rattle.cs_spawn.specs.Deeds.{Start, Wait}
 use Rattle.std.proofs.Common.{[], ◌∷◌}
-use Rattle.cs_outer.specs.Outside.{SpawnerTold, Beside, beside}
+use Rattle.cs_io.specs.Outside.{SpawnerTold, Beside, beside}
 use Rattle.cs_spawn.proofs.running.run_calls.Goals as goal
 
 pub returns-in_err-run_call-clause-does : goal.returns-in_err-run_call-clause-does

@@ -1,5 +1,5 @@
 use Rattle.std.proofs.Common.{◌≡◌, ◌+◌, ◌≤◌, take}
-use Rattle.cs_outer.specs.Outside.{beside}
+use Rattle.cs_io.specs.Outside.{beside}
 use Rattle.cs_spawn.specs.Deeds.{call_deeds}
 use Rattle.cs_spawn.proofs.Going.{Done}
 use Rattle.cs_spawn.proofs.running.run_calls.Given as goal

@@ -1,9 +1,9 @@
 use Rattle.std.proofs.Common.{[], ◌∷◌, ◌≡◌, ◌+◌, ◌++◌, sym, ℕ, List, None, Result, Err, map, string_bytes, get_or, refl, ap, subst, ◌∙◌, arith}
 use Rattle.std.proofs.lemmas.List.{take_all}
 use Rattle.cs_base.specs.declared.node_id.NodeId.{NodeId}
-use Rattle.cs_outer.specs.Outside.{SpawnerTold, Beside, beside}
+use Rattle.cs_io.specs.Outside.{SpawnerTold, Beside, beside}
 use Rattle.cs_spawn.specs.Words.{node_words}
-use Rattle.cs_spawn.specs.Deeds.{Deed, Start, node_starts}
+use Rattle.cs_spawn.specs.Deeds.{ClusterDeed, Start, node_starts}
 use Rattle.cs_spawn.specs.declared.error.ClusterError.{ClusterError}
 use Rattle.cs_spawn.specs.declared.error.ClusterError.TheVariants.{Memory}
 use Rattle.cs_spawn.proofs.Going.{Done, more-children}
@@ -13,14 +13,14 @@ use Rattle.cs_spawn.proofs.running.start_nodes.Goals as goal
 
 pub returns-in_err-words-clause-does : goal.returns-in_err-words-clause-does
 returns-in_err-words-clause-does g c = λ w.
-    let f : NodeId → Deed = λ me. Start (node_words c.args.plan.now me) in
+    let f : NodeId → ClusterDeed = λ me. Start (node_words c.args.plan.now me) in
     let a : Beside SpawnerTold = beside (g.P.Spawner.told c.args.spawner.now) w in
     let b : Beside SpawnerTold = beside (g.P.Spawner.told c.loop-me.spawner) w in
     each-wants f c.args.nodes.now c.loop-me.me-index a b c.args.left.now.items c.loop-me.left.items c.from_residual.result (c.loop-me.invariant.does w) c.from_residual.ensures.1
 
 pub returns-in_err-child-clause-does : goal.returns-in_err-child-clause-does
 returns-in_err-child-clause-does g c = λ w.
-    let f : NodeId → Deed = λ me. Start (node_words c.args.plan.now me) in
+    let f : NodeId → ClusterDeed = λ me. Start (node_words c.args.plan.now me) in
     let a : Beside SpawnerTold = beside (g.P.Spawner.told c.args.spawner.now) w in
     let b : Beside SpawnerTold = beside (g.P.Spawner.told c.loop-me.spawner) w in
     let d : Beside SpawnerTold = beside (g.P.Spawner.told c.start.new.spawner) w in
@@ -34,7 +34,7 @@ returns-in_err-child-clause-does g c = λ w.
 
 pub loop-me-preserved : goal.loop-me-preserved
 loop-me-preserved g c =
-    let f : NodeId → Deed = λ me. Start (node_words c.args.plan.now me) in
+    let f : NodeId → ClusterDeed = λ me. Start (node_words c.args.plan.now me) in
     let nodes = c.args.nodes.now in
     let i = c.loop-me.me-index in
     let none : NodeId = record { shard = 0; index = 0 } in
@@ -61,7 +61,7 @@ loop-me-preserved g c =
 
 pub returns-in_default-clause-does : goal.returns-in_default-clause-does
 returns-in_default-clause-does g c = λ w.
-    let f : NodeId → Deed = λ me. Start (node_words c.args.plan.now me) in
+    let f : NodeId → ClusterDeed = λ me. Start (node_words c.args.plan.now me) in
     let a : Beside SpawnerTold = beside (g.P.Spawner.told c.args.spawner.now) w in
     let b : Beside SpawnerTold = beside (g.P.Spawner.told c.loop-me.spawner) w in
     let d : Beside SpawnerTold = beside (g.P.Spawner.told c.start.new.spawner) w in

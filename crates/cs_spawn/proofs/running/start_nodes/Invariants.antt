@@ -1,5 +1,5 @@
 use Rattle.std.proofs.Common.{◌≡◌, ℕ, ◌+◌, ◌≤◌, List, Option, take}
-use Rattle.cs_outer.specs.Outside.{beside}
+use Rattle.cs_io.specs.Outside.{beside}
 use Rattle.cs_spawn.specs.Deeds.{numbered, node_starts}
 use Rattle.cs_spawn.proofs.Going.{Done}
 use Rattle.cs_spawn.proofs.running.start_nodes.Given as goal

@@ -1,5 +1,5 @@
 use Rattle.std.proofs.Common.{◌++◌, ◌∙◌, ap}
-use Rattle.cs_tx_form.specs.declared.trace.Trace.{Trace}
+use Rattle.cs_tx_types.specs.declared.trace.Trace.{Trace}
 use Rattle.cs_table.specs.Pieces.{pieces_in}
 use Rattle.cs_table.proofs.Adding.{trace_more}
 use Rattle.cs_table.proofs.pieces.add_references.Goals as goal

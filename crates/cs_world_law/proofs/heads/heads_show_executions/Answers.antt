@@ -1,7 +1,7 @@
 -- The log of a node is that of its executions, and so is what its checkpoints cover.
 use Rattle.std.proofs.Common.{ℕ, ◌<◌, ◌^◌, List, map, sym, ◌∙◌, subst, arith}
-use Rattle.cs_checkpoint.specs.Chain.{checkpoint_of}
-use Rattle.cs_checkpoint.specs.Shown.{Shows, NoProofCollision}
+use Rattle.cs_check_rules.specs.Chain.{checkpoint_of}
+use Rattle.cs_check_rules.specs.Shown.{Shows, NoProofCollision}
 use Rattle.cs_ledger.specs.Ledger.{Bytes}
 use Rattle.cs_node_rules.specs.World.{trail_of, view_of, firsts_of}
 use Rattle.cs_world_law.specs.Steps.{executions_of}

@@ -1,10 +1,12 @@
 -- A world of a deployment is a story, whose first executions are allowed steps of the shards together: the theorem on these does the rest.
-use Rattle.std.proofs.Common.{◌≡◌, inl, inr, true, false, List, [], ◌∷◌, ◌++◌, length, Some, refl, sym, ap, ◌∙◌, subst, append_assoc}
+use Rattle.std.proofs.Common.{◌≡◌, inl, inr, true, false, List, [], ◌∷◌, ◌++◌, length, map, Some, refl, sym, ap, ◌∙◌, subst, append_assoc}
 use Rattle.std.proofs.lemmas.Bool.{both_ways}
-use Rattle.cs_tx_form.specs.declared.session.Session.{Session}
-use Rattle.cs_tx_form.specs.declared.entry.Entry.TheVariants.{Prepare}
+use Rattle.cs_base.specs.declared.node_id.NodeId.{NodeId}
+use Rattle.cs_tx_types.specs.declared.session.Session.{Session}
+use Rattle.cs_tx_types.specs.declared.entry.Entry.{Entry}
+use Rattle.cs_tx_types.specs.declared.entry.Entry.TheVariants.{Prepare}
 use Rattle.cs_wire_message.specs.declared.message.Message.TheVariants as message
-use Rattle.cs_ledger.specs.Ledger.{IsIn, Serial, IsSpentOnce, genesis_ledger, ledger_of}
+use Rattle.cs_ledger.specs.Ledger.{Item, IsIn, Serial, IsSpentOnce, genesis_ledger, ledger_of}
 use Rattle.cs_ledger.specs.Session as Seen
 use Rattle.cs_ledger.specs.Session.{Object as Named, all_items}
 use Rattle.cs_ledger.specs.Table.{Commit, Abort, Accepted, Aborted, Table, table_of, free_object}
@@ -12,19 +14,23 @@ use Rattle.cs_ledger.specs.Standing.{stands_aborted}
 use Rattle.cs_ledger.specs.ShardWorld.{log, sessions, sessions_of, votes_in, decided_in, all_commit}
 use Rattle.cs_ledger.specs.ShardWorld as World
 use Rattle.cs_ledger.proofs.Decisions.{decided_behind, all_concerned}
-use Rattle.cs_node_state.specs.Setup.{digest_of, is_fit}
-use Rattle.cs_tx_form.specs.Session.{session_in}
+use Rattle.cs_ledger.specs.Table as Shard
+use Rattle.cs_node_state.specs.Setup.{Setup, digest_of, is_fit, entry_of}
+use Rattle.cs_tx_types.specs.Session.{session_in}
 use Rattle.cs_node_rules.specs.Signs.{Sent}
 use Rattle.cs_node_rules.specs.Site.{signs_of}
 use Rattle.cs_node_rules.specs.World.{firsts_of, steps_of, slots_of, trail_of}
 use Rattle.cs_node_rules.specs.Ready.{Executed, AcceptsLocked}
 use Rattle.cs_node_law.specs.Made.{view_at, log_in}
-use Rattle.cs_world_law.specs.Worlds.{IsSerial, SpendsOnce, ExecutesGiven, ExecutesFit}
+use Rattle.cs_node_law.proofs.Views.{me-same}
+use Rattle.cs_node_law.proofs.Logs.{seen, seen_log, table-is}
+use Rattle.cs_world_law.specs.Worlds.{IsSerial, SpendsOnce, ExecutesGiven, ExecutesKnown, ExecutesFit, HoldsFree}
 use Rattle.cs_world_law.specs.Steps.{StepsAllowed, AllComputed, StepsComputed, VotesOnce, TellsCommitted, TellsBefore}
 use Rattle.cs_world_law.specs.Chain.{moments}
 use Rattle.cs_world_law.proofs.Stories.{trail-same, firsts-same}
 use Rattle.cs_world_law.proofs.Told.{computed-earlier}
 use Rattle.cs_world_law.proofs.Middle.{decided-session, voted-session, known-there, commit-later, serial-once, whole-table}
+use Rattle.cs_world_law.proofs.Chosen.{executes-chosen}
 use Rattle.cs_world_law.proofs.Before.{settled-before}
 use Rattle.cs_world_law.proofs.Standing.{aborted-log}
 use Rattle.cs_world_law.proofs.Clients.{log-sessions, told, told-accepted, told-aborted}
@@ -32,13 +38,28 @@ use Rattle.cs_world_law.proofs.Readiness.{prepare-fit, accepts-locked}
 use Rattle.cs_world_law.proofs.Sending.{world-tells}
 use Rattle.cs_world_law.proofs.Freedom.{votes-free, prepare-own}
 use Rattle.cs_world_law.proofs.Alone.{leads-alone}
-use Rattle.cs_world_law.proofs.Whole.{place, At, Here, by-world, by-node, sound, story, made, within, executed, fine, came, follow, lawful-trusted, lawful-here, names, whole, until, accepts-here, aborts-here}
+use Rattle.cs_world_law.proofs.Whole.{place, At, Here, by-world, by-node, sound, story, made, level, within, executed, fine, came, follow, lawful-trusted, lawful-here, names, whole, until, accepts-here, aborts-here}
 use Rattle.cs_world_law.proofs.worlds.settled_world.Goals as goal
 
 -- nothing was executed before the first event
 no-split : {A B : Type 0} (later : List B) (x : B) (earlier : List B) → [] ≡ later ++ x ∷ earlier → A
 no-split {A} [] x earlier e = absurd cc
 no-split {A} (other ∷ later) x earlier e = absurd cc
+
+-- a log, as the ledger sees it
+seen-map : (setup : Setup) (log : List Entry) → seen setup log ≡ map (entry_of setup) log
+seen-map setup [] = refl
+seen-map setup (entry ∷ log) = ap (λ (l : List Shard.Entry). entry_of setup entry ∷ l) (seen-map setup log)
+
+-- no sessions are told apart
+none-apart : (genesis : List Item) → World.AreNamedApart genesis []
+none-apart genesis = record {
+  session = λ x y i j same. absurd i;
+  transaction = λ x y i j same. absurd i;
+  outputs = λ x y a b i j k l same. absurd i;
+  places = λ x i. absurd i;
+  genesis_names = λ x a i j k. absurd i;
+}
 
 pub returns-clause-serial : goal.returns-clause-serial
 returns-clause-serial g c carrier carries config net genesis approves world few small is_net is_world apart =
@@ -87,12 +108,25 @@ returns-clause-executed g c carrier carries config net genesis approves world fe
     let site = At rules p in
     by-world rules p (λ z. ExecutesGiven site z) (λ i entry e. no-split e.later _ e.earlier e.split) (λ some i entry e. (executed rules p some i entry e).session)
 
+pub returns-clause-executed_known : goal.returns-clause-executed_known
+returns-clause-executed_known g c carrier carries config net genesis approves world few small is_net is_world =
+    let rules = g.O.Order.rules in
+    let p = place rules g.met.O.Order.law g.met.O.Order.holds c.marks_are_made.ensures.made carrier carries config net genesis approves world few small is_net is_world in
+    let site = At rules p in
+    by-world rules p (λ z. ExecutesKnown site z) (λ i entry e. no-split e.later _ e.earlier e.split) (λ some i entry e. (executed rules p some i entry e).listed)
+
 pub returns-clause-executed_fit : goal.returns-clause-executed_fit
 returns-clause-executed_fit g c carrier carries config net genesis approves world few small is_net is_world =
     let rules = g.O.Order.rules in
     let p = place rules g.met.O.Order.law g.met.O.Order.holds c.marks_are_made.ensures.made carrier carries config net genesis approves world few small is_net is_world in
     let site = At rules p in
     by-world rules p (λ z. ExecutesFit site z) (λ i entry e. no-split e.later _ e.earlier e.split) (λ some i entry e. (executed rules p some i entry e).fits)
+
+pub returns-clause-executes_chosen : goal.returns-clause-executes_chosen
+returns-clause-executes_chosen g c carrier carries config net genesis approves world few small is_net is_world =
+    let rules = g.O.Order.rules in
+    let p = place rules g.met.O.Order.law g.met.O.Order.holds c.marks_are_made.ensures.made carrier carries config net genesis approves world few small is_net is_world in
+    λ i hi. executes-chosen (At rules p) i (trail_of i world) (level rules p (by-node rules p i hi) i)
 
 pub returns-clause-allowed : goal.returns-clause-allowed
 returns-clause-allowed g c carrier carries config net genesis approves world few small is_net is_world apart =
@@ -287,6 +321,28 @@ returns-clause-accepts_locked g c carrier carries config net genesis approves wo
 
 pub returns-clause-objects : goal.returns-clause-objects
 returns-clause-objects g c carrier carries config net genesis approves world few small is_net is_world apart =
+    let rules = g.O.Order.rules in
+    let p = place rules g.met.O.Order.law g.met.O.Order.holds c.marks_are_made.ensures.made carrier carries config net genesis approves world few small is_net is_world in
+    let site = At rules p in
+    by-world rules p (λ z. HoldsFree site z) (λ shard name object free. c.composition.ensures.objects site.setup.rules [] (tt, none-apart site.setup.rules.genesis) shard name object free)
+    (λ some shard name object free.
+    let m = whole rules p some apart in
+    subst (λ h. (ledger_of (genesis_ledger site.setup.rules.genesis) h).active name ≡ Some object) (sym m.history_is)
+    (c.composition.ensures.objects site.setup.rules (steps_of site.setup (firsts_of world)) m.world_is shard name object free))
+
+pub returns-clause-tables : goal.returns-clause-tables
+returns-clause-tables g c carrier carries config net genesis approves world few small is_net is_world =
+    let rules = g.O.Order.rules in
+    let p = place rules g.met.O.Order.law g.met.O.Order.holds c.marks_are_made.ensures.made carrier carries config net genesis approves world few small is_net is_world in
+    let site = At rules p in
+    λ i hi.
+    let t = trail_of i world in
+    table-is site i t
+    ∙ ap (λ (n : NodeId). table_of site.setup.rules n.shard (seen_log site t)) (me-same site i t)
+    ∙ ap (λ l. table_of site.setup.rules i.shard l) (seen-map site.setup (log_in (signs_of t)))
+
+pub returns-clause-node_objects : goal.returns-clause-node_objects
+returns-clause-node_objects g c carrier carries config net genesis approves world few small is_net is_world apart =
     let rules = g.O.Order.rules in
     let p = place rules g.met.O.Order.law g.met.O.Order.holds c.marks_are_made.ensures.made carrier carries config net genesis approves world few small is_net is_world in
     let site = At rules p in

@@ -1,10 +1,10 @@
 use Rattle.std.proofs.Common.{◌≡◌, ◌∙◌, ◌++◌, List, [], ◌∷◌, length, drop, map, refl, sym, ap, subst, append_assoc}
 use Rattle.std.specs.List.{AllByRecursion}
 use Rattle.cs_tx_value.specs.Object.{ObjectFits}
-use Rattle.cs_tx_form.specs.Transaction.{Keyed}
+use Rattle.cs_tx_types.specs.Transaction.{Keyed}
 use Rattle.cs_tx.specs.Sessions.{item_of}
 use Rattle.cs_audit.specs.declared.ledger.Ledger.{Ledger}
-use Rattle.cs_audit.specs.Ledgers.{Shows, with_objects}
+use Rattle.cs_audit.specs.Ledgers.{ShowsLedger, with_objects}
 use Rattle.cs_audit.proofs.Shown.{brings, one-brought, popped, recursion-front, recursion-last}
 use Rattle.cs_audit.proofs.ledger.Ledger.bring.Goals as goal
 
@@ -25,7 +25,7 @@ loop-item-preserved-in_ok-insert c =
     record {
       all = ap (λ xs. shorter ++ xs) parts ∙ sym (append_assoc shorter (item ∷ []) done) ∙ ap (λ xs. xs ++ done) (sym cut) ∙ inv.all;
       shows = λ ledger shows.
-          subst (λ (xs : List Keyed). Shows new (with_objects (map item_of xs) ledger)) (sym parts)
+          subst (λ (xs : List Keyed). ShowsLedger new (with_objects (map item_of xs) ledger)) (sym parts)
           (one-brought ledger new left done item (brings old new (with_objects (map item_of done) ledger) item.0 item.1 (inv.shows ledger shows) fit c.in_ok-insert.ensures.updates.0 refl));
     }
 
@@ -46,6 +46,6 @@ loop-item-preserved c =
     record {
       all = ap (λ xs. shorter ++ xs) parts ∙ sym (append_assoc shorter (item ∷ []) done) ∙ ap (λ xs. xs ++ done) (sym cut) ∙ inv.all;
       shows = λ ledger shows.
-          subst (λ (xs : List Keyed). Shows new (with_objects (map item_of xs) ledger)) (sym parts)
+          subst (λ (xs : List Keyed). ShowsLedger new (with_objects (map item_of xs) ledger)) (sym parts)
           (one-brought ledger new left done item (brings old new (with_objects (map item_of done) ledger) item.0 item.1 (inv.shows ledger shows) fit c.in_ok-insert.ensures.updates.0 refl));
     }

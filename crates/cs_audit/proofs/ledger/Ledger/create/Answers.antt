@@ -1,9 +1,9 @@
 use Rattle.std.proofs.Common.{◌≡◌, ◌∙◌, ◌++◌, List, true, false, refl, sym, ap, take, rules}
 use Rattle.std.proofs.Math.ListN.{drop_of_length-le}
-use Rattle.cs_tx_form.specs.Transaction.{Keyed}
+use Rattle.cs_tx_types.specs.Transaction.{Keyed}
 use Rattle.cs_tx.specs.Uses.{names}
 use Rattle.cs_audit.specs.declared.ledger.Ledger.{Ledger}
-use Rattle.cs_audit.specs.Ledgers.{with_names}
+use Rattle.cs_audit.specs.Ledgers.{with_created}
 use Rattle.cs_audit.proofs.Shown.{creates, one-created, rest-new, rest-old, all-new, is-new, is-old, all_new}
 use Rattle.cs_audit.proofs.ledger.Ledger.create.Goals as goal
 
@@ -17,7 +17,7 @@ loop-item-preserved c ledger shows =
     let inv = c.loop-item.invariant ledger shows in
     let yes : c.in_ok-insert.field-0 ≡ true = search rules in
     record {
-      shows = one-created ledger new outputs k item c.loop-item-test.true c.item-item.is (creates old new (with_names (names (take k outputs)) ledger) item.0 inv.shows c.in_ok-insert.ensures.keys refl);
+      shows = one-created ledger new outputs k item c.loop-item-test.true c.item-item.is (creates old new (with_created (names (take k outputs)) ledger) item.0 inv.shows c.in_ok-insert.ensures.keys refl);
       left = sym (rest-new ledger.created outputs k item c.loop-item-test.true c.item-item.is
           (sym (inv.shows.created item.0) ∙ is-new _ (sym c.in_ok-insert.ensures.added ∙ yes))) ∙ inv.left;
     }

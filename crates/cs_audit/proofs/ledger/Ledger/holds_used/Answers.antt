@@ -1,5 +1,5 @@
 use Rattle.std.proofs.Common.{◌≡◌, ◌∙◌, List, true, false, sym, ap, map, rules}
-use Rattle.cs_tx_form.specs.Transaction.{Keyed}
+use Rattle.cs_tx_types.specs.Transaction.{Keyed}
 use Rattle.cs_tx.specs.Sessions.{item_of}
 use Rattle.cs_audit_rules.specs.History.{holds_all}
 use Rattle.cs_audit.proofs.Shown.{uses-go-on, no-inputs, no-references}

@@ -1,11 +1,11 @@
 use Rattle.std.proofs.Common.{◌≡◌, ◌∙◌, ◌&&◌, List, true, false, sym, ap, map, rules, subst}
 use Rattle.std.specs.List.{flat_map}
-use Rattle.cs_tx_form.specs.declared.trace.Trace.{Trace}
-use Rattle.cs_tx_form.specs.Transaction.{Keyed}
+use Rattle.cs_tx_types.specs.declared.trace.Trace.{Trace}
+use Rattle.cs_tx_types.specs.Transaction.{Keyed}
 use Rattle.cs_tx.specs.Sessions.{item_of}
 use Rattle.cs_tx.specs.Uses.{names as names_in}
 use Rattle.cs_ledger.specs.Ledger.{names, apart, all_differ}
-use Rattle.cs_audit.specs.Ledgers.{Shows, without, with_names, with_objects, seen_tx}
+use Rattle.cs_audit.specs.Ledgers.{ShowsLedger, without, with_created, with_objects, seen_tx}
 use Rattle.cs_audit.proofs.Shown.{uses_held}
 use Rattle.cs_audit.proofs.Taking.{room, after}
 use Rattle.cs_audit.proofs.ledger.Ledger.take.Goals as goal
@@ -40,10 +40,10 @@ returns-clause-takes c approves ledger named shows =
 pub returns-clause-after : goal.returns-clause-after
 returns-clause-after c approves ledger named shows taken =
     let new : c.in_ok-create.field-0 ≡ true = search rules in
-    let created = with_names (names_in c.as_slice-2.result.now) ledger in
+    let created = with_created (names_in c.as_slice-2.result.now) ledger in
     let used = without (names_in (flat_map (λ trace. trace.inputs) c.as_slice-3.result.now)) created in
     let Says : List Keyed × List Trace → Type 0 = λ x.
-    Shows c.bring.new.self (with_objects (map item_of c.in_ok-outputs.outputs.items) (without (names_in (flat_map (λ trace. trace.inputs) x.1)) (with_names (names_in x.0) ledger))) in
+    ShowsLedger c.bring.new.self (with_objects (map item_of c.in_ok-outputs.outputs.items) (without (names_in (flat_map (λ trace. trace.inputs) x.1)) (with_created (names_in x.0) ledger))) in
     after approves ledger c.args.tx.now c.args.digest.now named c.in_ok-outputs.outputs.items c.in_ok-outputs.ensures.outputs c.bring.new.self
     (subst Says (λ i. (c.as_slice-2.ensures.value i, c.as_slice-3.ensures i))
     (c.in_ok-bring.ensures used (c.use_inputs_up.ensures created (c.in_ok-create.ensures.shows ledger shows new))))

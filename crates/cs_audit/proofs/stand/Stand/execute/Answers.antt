@@ -1,5 +1,5 @@
 use Rattle.std.proofs.Common.{true}
-use Rattle.cs_tx_form.specs.Session.{session_in}
+use Rattle.cs_tx_types.specs.Session.{session_in}
 use Rattle.cs_audit.proofs.Executing.{anchored, executes}
 use Rattle.cs_audit.proofs.stand.Stand.execute.Goals as goal
 

@@ -1,10 +1,10 @@
 use Rattle.std.proofs.lemmas.Bool.{eq-eqb}
 use Rattle.std.proofs.Common.{◌≡◌, ◌∙◌, true, false, [], sym, ap, nat_eq, length, arith, rules}
-use Rattle.cs_tx_form.specs.declared.effect.Effect.{Effect}
+use Rattle.cs_tx_types.specs.declared.effect.Effect.{Effect}
 use Rattle.cs_node_state.specs.Setup.{Setup, is_fit}
-use Rattle.cs_tx_form.specs.Session.{session_in}
-use Rattle.cs_node_pool.specs.Deployed.{deployed}
-use Rattle.cs_checkpoint.specs.Chain.{KeptLog, kept_of}
+use Rattle.cs_tx_types.specs.Session.{session_in}
+use Rattle.cs_node_pool.specs.Deployed.{deployed_setup}
+use Rattle.cs_check_rules.specs.Chain.{KeptLog, kept_of}
 use Rattle.cs_check.specs.Leaves.{Chained}
 use Rattle.cs_audit_rules.specs.Slots.{is_judged}
 use Rattle.cs_audit.specs.declared.stand.Stand.{Stand}
@@ -17,7 +17,7 @@ push-requires-clause-leaves g c = (c.in_ok-effect.ensures [] (λ tx. false)).pla
 pub returns : goal.returns
 returns g c log kept_is genesis =
     let approves = g.J.Judge.is_approved c.args.judge.now in
-    let setup : Setup = deployed c.args.self.now.config genesis approves in
+    let setup : Setup = deployed_setup c.args.self.now.config genesis approves in
     let s : Stand = c.args.self.now in
     let mid : Stand = c.execute.new.self in
     let new : Stand = c.push.new.self in

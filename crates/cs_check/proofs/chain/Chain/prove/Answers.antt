@@ -2,11 +2,11 @@ use Rattle.std.proofs.Common.{◌≡◌, ◌+◌, ◌*◌, ◌/◌, ◌≤◌, �
 use Rattle.std.specs.Prelude.{slice_get, Err}
 use Rattle.std.proofs.lemmas.Bool.{cases_lt, both_ways}
 use Rattle.std.proofs.lemmas.Option.{slice_get_read}
-use Rattle.cs_merkle.specs.Tree.{leaves_of}
-use Rattle.cs_checkpoint.specs.Chain.{kept_of, cut_slot, Covered, covered_of}
+use Rattle.cs_merkle.specs.Tree.{leaves_of_vectors}
+use Rattle.cs_check_rules.specs.Chain.{kept_of, cut_slot, Covered, covered_of}
 use Rattle.cs_check.specs.Kept.{kept_by}
 use Rattle.cs_check.specs.Leaves.{Chained}
-use Rattle.cs_checkpoint.proofs.Covered.{chain_shows}
+use Rattle.cs_check_rules.proofs.Covered.{chain_shows}
 use Rattle.cs_check.specs.declared.chain.ProveError.TheVariants.{NotYet, Cut}
 use Rattle.cs_check.proofs.Keeping.{heads_long, covered_long, cut_is, covered_at, enough, proof_is}
 use Rattle.cs_check.proofs.chain.Chain.prove.Goals as goal
@@ -14,7 +14,7 @@ use Rattle.cs_check.proofs.chain.Chain.prove.Goals as goal
 pub returns-in_ok-prove-in-Some-get-clause-proof :
     goal.returns-in_ok-prove-in-Some-get-clause-proof
 returns-in_ok-prove-in-Some-get-clause-proof c = λ log is.
-    let kept = kept_by c.self.inside.shard c.self.inside.slots c.self.inside.covered.items (leaves_of c.self.inside.uncovered.items) c.self.inside.heads.items in
+    let kept = kept_by c.self.inside.shard c.self.inside.slots c.self.inside.covered.items (leaves_of_vectors c.self.inside.uncovered.items) c.self.inside.heads.items in
     let here : kept ≡ kept_of log = ap (λ (x : Chained). x.kept) c.self.view_is ∙ is in
     let covered : Covered = c.in-Some-get.covered.now in
     let within : c.in-Some.place < c.self.inside.covered.len = c.in-Some-get.ensures.variant.0 refl in
@@ -30,7 +30,7 @@ returns-in_ok-prove-in-Some-get-clause-proof c = λ log is.
 pub returns-in_ok-prove-in-Some-get-clause-shown :
     goal.returns-in_ok-prove-in-Some-get-clause-shown
 returns-in_ok-prove-in-Some-get-clause-shown c = λ log is of_slot.
-    let kept = kept_by c.self.inside.shard c.self.inside.slots c.self.inside.covered.items (leaves_of c.self.inside.uncovered.items) c.self.inside.heads.items in
+    let kept = kept_by c.self.inside.shard c.self.inside.slots c.self.inside.covered.items (leaves_of_vectors c.self.inside.uncovered.items) c.self.inside.heads.items in
     let here : kept ≡ kept_of log = ap (λ (x : Chained). x.kept) c.self.view_is ∙ is in
     let within : c.in-Some.place < c.self.inside.covered.len = c.in-Some-get.ensures.variant.0 refl in
     let whole : 16 * (c.args.slot / 16) + 16 ≤ length log.leaves =
@@ -40,7 +40,7 @@ returns-in_ok-prove-in-Some-get-clause-shown c = λ log is of_slot.
 
 pub returns-in-None-get-clause-not_yet : goal.returns-in-None-get-clause-not_yet
 returns-in-None-get-clause-not_yet c = λ log is.
-    let kept = kept_by c.self.inside.shard c.self.inside.slots c.self.inside.covered.items (leaves_of c.self.inside.uncovered.items) c.self.inside.heads.items in
+    let kept = kept_by c.self.inside.shard c.self.inside.slots c.self.inside.covered.items (leaves_of_vectors c.self.inside.uncovered.items) c.self.inside.heads.items in
     let here : kept ≡ kept_of log = ap (λ (x : Chained). x.kept) c.self.view_is ∙ is in
     let none : c.self.inside.covered.len ≤ c.in-Some.place =
     elim (cases_lt c.in-Some.place c.self.inside.covered.len) [
@@ -55,7 +55,7 @@ returns-in-None-get-clause-not_yet c = λ log is.
 
 pub returns-in-None-get-clause-cut : goal.returns-in-None-get-clause-cut
 returns-in-None-get-clause-cut c = λ log is.
-    let kept = kept_by c.self.inside.shard c.self.inside.slots c.self.inside.covered.items (leaves_of c.self.inside.uncovered.items) c.self.inside.heads.items in
+    let kept = kept_by c.self.inside.shard c.self.inside.slots c.self.inside.covered.items (leaves_of_vectors c.self.inside.uncovered.items) c.self.inside.heads.items in
     let here : kept ≡ kept_of log = ap (λ (x : Chained). x.kept) c.self.view_is ∙ is in
     let uncut : cut_slot log ≤ c.args.slot =
     omega (arith, cut_is log kept here, c.self.inside.heads.ok.0, c.self.inside.covered.ok.0) in (

@@ -1,7 +1,7 @@
 use Rattle.std.proofs.Common.{◌≡◌, ◌++◌, drop}
 use Rattle.std.specs.Prelude.{option_map}
 use Rattle.std.specs.List.{AllByRecursion}
-use Rattle.cs_tx_form.specs.Session.{DummyFits}
+use Rattle.cs_tx_types.specs.Session.{DummyFits}
 use Rattle.cs_client.specs.Dummies.{dummies_for}
 use Rattle.cs_client.specs.Kept.{dummy_kept}
 use Rattle.cs_client.proofs.beliefs.Beliefs.dummies.Given as goal

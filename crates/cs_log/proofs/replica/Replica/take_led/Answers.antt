@@ -1,6 +1,6 @@
 use Rattle.std.proofs.Common.{◌≡◌, ◌+◌, ◌-◌, ◌<◌, ℕ, length, sym, subst, arith}
 use Rattle.std.proofs.lemmas.Result.{IfOk-weaker}
-use Rattle.cs_order_rules.specs.Facts.{open_slot, slot_of}
+use Rattle.cs_order_rules.specs.Facts.{open_slot, slot_of_message}
 use Rattle.cs_log.specs.Later.{ShowLater}
 use Rattle.cs_log.specs.Replicas.{kept, next_slot}
 use Rattle.cs_log.proofs.LaterSlots.{slot_at, some_at}
@@ -9,7 +9,7 @@ use Rattle.cs_log.proofs.replica.Replica.take_led.Goals as goal
 
 pub returns-then-slot-open-clause-call : goal.returns-then-slot-open-clause-call
 returns-then-slot-open-clause-call c = λ s p.
-    let here : slot_of c.args.message ≡ next_slot (kept c.args.self.now).log = (let a = c.slot_of-slot.ensures in let b = c.open_slot-open.ensures.slot in let same = c.if-slot-open.true in omega arith) in
+    let here : slot_of_message c.args.message ≡ next_slot (kept c.args.self.now).log = (let a = c.slot_of-slot.ensures in let b = c.open_slot-open.ensures.slot in let same = c.if-slot-open.true in omega arith) in
     round_took (kept c.args.self.now) s c.take.new.self c.args.from c.args.message c.in_ok-fresh.fresh p c.requires.other here (c.in_ok-fresh.ensures.call s (open_slot s) s.view p.shows)
 
 pub take_at-requires-clause-may : goal.take_at-requires-clause-may
@@ -18,7 +18,7 @@ take_at-requires-clause-may c =
     let s = c.requires.seen.0 in
     let p = c.requires.seen.1 in
     let place : ℕ = c.slot_of-slot.result - c.open_slot-open.result - 1 in
-    let slot : slot_of c.args.message ≡ next_slot k.log + 1 + (c.slot_of-slot.result - c.open_slot-open.result - 1) = (let a = c.slot_of-slot.ensures in let b = c.open_slot-open.ensures.slot in let low = c.requires.slot in let other = c.if-slot-open.false in omega arith) in
+    let slot : slot_of_message c.args.message ≡ next_slot k.log + 1 + (c.slot_of-slot.result - c.open_slot-open.result - 1) = (let a = c.slot_of-slot.ensures in let b = c.open_slot-open.ensures.slot in let low = c.requires.slot in let other = c.if-slot-open.false in omega arith) in
     let first : c.open_slot-open.result + 1 ≡ open_slot s + 1 = (let a = c.open_slot-open.ensures.slot in let b = next_is k s p in omega arith) in
     let shown = c.in_ok-extend.ensures.shown s (sym p.f) (sym p.me) p.views (subst (λ n. ShowLater k.later s n) (sym first) p.later) in
     may_take k s c.extend.new.later.items place c.args.from c.args.message p c.requires.member c.requires.other c.requires.led slot (subst (λ n. ShowLater c.extend.new.later.items s n) first shown)
@@ -28,7 +28,7 @@ returns-clause-call c = λ s p.
     let k = kept c.args.self.now in
     let later = c.extend.new.later.items in
     let place : ℕ = c.slot_of-slot.result - c.open_slot-open.result - 1 in
-    let slot : slot_of c.args.message ≡ next_slot k.log + 1 + (c.slot_of-slot.result - c.open_slot-open.result - 1) = (let a = c.slot_of-slot.ensures in let b = c.open_slot-open.ensures.slot in let low = c.requires.slot in let other = c.if-slot-open.false in omega arith) in
+    let slot : slot_of_message c.args.message ≡ next_slot k.log + 1 + (c.slot_of-slot.result - c.open_slot-open.result - 1) = (let a = c.slot_of-slot.ensures in let b = c.open_slot-open.ensures.slot in let low = c.requires.slot in let other = c.if-slot-open.false in omega arith) in
     let first : c.open_slot-open.result + 1 ≡ open_slot s + 1 = (let a = c.open_slot-open.ensures.slot in let b = next_is k s p in omega arith) in
     let shown = c.in_ok-extend.ensures.shown s (sym p.f) (sym p.me) p.views (subst (λ n. ShowLater k.later s n) (sym first) p.later) in
     let show = subst (λ n. ShowLater later s n) first shown in

@@ -1,6 +1,6 @@
 use Rattle.std.proofs.Common.{◌≡◌, length, subst, arith}
 use Rattle.std.proofs.lemmas.List.{length-map}
-use Rattle.cs_merkle.specs.Tree.{leaves_of}
+use Rattle.cs_merkle.specs.Tree.{leaves_of_vectors}
 use Rattle.cs_merkle_kept.proofs.Whole.{length_zipped}
 use Rattle.cs_merkle_kept.proofs.incremental.Incremental.len.Goals as goal
 
@@ -16,5 +16,5 @@ returns c =
       c.self.inside.keys.ok.0,
       length-map keys (λ v. v.items),
       long,
-      length_zipped (leaves_of keys) hashes long,
+      length_zipped (leaves_of_vectors keys) hashes long,
     ))

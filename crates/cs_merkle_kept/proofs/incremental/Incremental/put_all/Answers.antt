@@ -2,9 +2,9 @@ use Rattle.std.proofs.Common.{◌≡◌, ℕ, ◌+◌, ◌-◌, ◌*◌, ◌^◌
 use Rattle.std.specs.Prelude.{zip}
 use Rattle.std.specs.Map.{keys_of}
 use Rattle.std.proofs.lemmas.List.{length-map}
-use Rattle.cs_merkle.specs.Tree.{leaves_of}
+use Rattle.cs_merkle.specs.Tree.{leaves_of_vectors}
 use Rattle.cs_merkle_kept.specs.Levels.{IsHeight}
-use Rattle.cs_merkle_kept.specs.Leaves.{entry_of, entries_of}
+use Rattle.cs_merkle_kept.specs.Leaves.{leaf_entry, leaf_entries}
 use Rattle.cs_merkle_kept.specs.Counts.{AreOldKeys, IsFirstNew}
 use Rattle.cs_merkle_kept.proofs.Whole.{keys_zipped, length_zipped, few_named, few_old, few_new}
 use Rattle.cs_merkle_kept.proofs.incremental.Incremental.put_all.Goals as goal
@@ -12,7 +12,7 @@ use Rattle.cs_merkle_kept.proofs.incremental.Incremental.put_all.Goals as goal
 pub returns-clause-once : goal.returns-clause-once
 returns-clause-once g c =
     let put = c.in_ok-places.ensures in
-    let keys' = leaves_of c.put_leaves.new.keys.items in
+    let keys' = leaves_of_vectors c.put_leaves.new.keys.items in
     let hashes' = c.put_leaves.new.hashes.items in
     let long = length_zipped keys' hashes' put.kept.long in
     subst (λ (n : ℕ). c.raise.new.steps ≤ c.args.steps.now + (n - 1)) (sym long)
@@ -24,10 +24,10 @@ returns-clause-few_old g c = λ height fits olds.
     let put = c.in_ok-places.ensures in
     let places = c.in_ok-places.places.items in
     let first = c.in_ok-places.first in
-    let keys = leaves_of c.tree.inside.keys.items in
+    let keys = leaves_of_vectors c.tree.inside.keys.items in
     let hashes = c.tree.inside.hashes.items in
-    let entries = entries_of c.args.leaves.now in
-    let keys' = leaves_of c.put_leaves.new.keys.items in
+    let entries = leaf_entries c.args.leaves.now in
+    let keys' = leaves_of_vectors c.put_leaves.new.keys.items in
     let hashes' = c.put_leaves.new.hashes.items in
     let tall_at = length c.raise.new.levels.items in
     let was : zip keys hashes ≡ c.args.self.now = c.tree.view_is ∙ c.replace-tree.ensures.value in
@@ -43,17 +43,17 @@ returns-clause-few_old g c = λ height fits olds.
     few_old (length places) (length hashes') first tall_at height c.args.steps.now c.raise.new.steps
     (length c.args.leaves.now) tall
     (subst (λ (n : ℕ). n ≤ 2 ^ height) (length_zipped keys' hashes' put.kept.long) fits)
-    (all.0 ∙ length-map c.args.leaves.now entry_of) all.1 bound
+    (all.0 ∙ length-map c.args.leaves.now leaf_entry) all.1 bound
 
 pub returns-clause-few_new : goal.returns-clause-few_new
 returns-clause-few_new g c = λ height before place fits new.
     let put = c.in_ok-places.ensures in
     let places = c.in_ok-places.places.items in
     let first = c.in_ok-places.first in
-    let keys = leaves_of c.tree.inside.keys.items in
+    let keys = leaves_of_vectors c.tree.inside.keys.items in
     let hashes = c.tree.inside.hashes.items in
-    let entries = entries_of c.args.leaves.now in
-    let keys' = leaves_of c.put_leaves.new.keys.items in
+    let entries = leaf_entries c.args.leaves.now in
+    let keys' = leaves_of_vectors c.put_leaves.new.keys.items in
     let hashes' = c.put_leaves.new.hashes.items in
     let tall_at = length c.raise.new.levels.items in
     let was : zip keys hashes ≡ c.args.self.now = c.tree.view_is ∙ c.replace-tree.ensures.value in

@@ -1,7 +1,7 @@
 use Rattle.std.proofs.Common.{◌≡◌, ℕ, ◌-◌, ◌<◌, get_or, [], List, length, sym, ap, ◌∙◌, subst, arith}
 use Rattle.std.specs.Map.{keys_of, values_of}
 use Rattle.std.proofs.lemmas.List.{length-map, get_or_read, nil_from_length}
-use Rattle.cs_merkle.specs.Tree.{leaves_of}
+use Rattle.cs_merkle.specs.Tree.{leaves_of_vectors}
 use Rattle.cs_merkle_kept.specs.Levels.{hash_over, levels_of}
 use Rattle.cs_merkle_kept.specs.Leaves.{AreRising}
 use Rattle.cs_merkle_kept.proofs.Hashes.{over_none, over_leaves}
@@ -23,7 +23,7 @@ index-requires c =
 
 pub returns-in-Some-clause-hashes : goal.returns-in-Some-clause-hashes
 returns-in-Some-clause-hashes c =
-    let keys = leaves_of c.self.inside.keys.items in
+    let keys = leaves_of_vectors c.self.inside.keys.items in
     let hashes = c.self.inside.hashes.items in
     let levels = c.self.inside.levels.items in
     let v = c.in-Some.top.now in
@@ -45,7 +45,7 @@ returns-in-Some-clause-leaves c = λ leaves of.
 
 pub returns-in-Some-first-clause-hashes : goal.returns-in-Some-first-clause-hashes
 returns-in-Some-first-clause-hashes c =
-    let keys = leaves_of c.self.inside.keys.items in
+    let keys = leaves_of_vectors c.self.inside.keys.items in
     let hashes = c.self.inside.hashes.items in
     let levels = c.self.inside.levels.items in
     let none = c.in-None.ensures.item.3 in
@@ -65,7 +65,7 @@ returns-in-Some-first-clause-leaves c = λ leaves of.
 
 pub returns-in-None-first-clause-hashes : goal.returns-in-None-first-clause-hashes
 returns-in-None-first-clause-hashes c =
-    let keys = leaves_of c.self.inside.keys.items in
+    let keys = leaves_of_vectors c.self.inside.keys.items in
     let hashes = c.self.inside.hashes.items in
     let none = c.in-None-first.ensures.item.3 in
     let empty : hashes ≡ [] =
@@ -82,12 +82,12 @@ pub returns-in-Some-clause-rising : goal.returns-in-Some-clause-rising
 returns-in-Some-clause-rising c =
     let kept = c.self.invariant.kept in
     subst AreRising
-    (sym (keys_zipped (leaves_of c.self.inside.keys.items) c.self.inside.hashes.items kept.long)
+    (sym (keys_zipped (leaves_of_vectors c.self.inside.keys.items) c.self.inside.hashes.items kept.long)
     ∙ ap keys_of c.self.view_is) kept.rising
 
 pub returns-in-Some-first-clause-rising : goal.returns-in-Some-first-clause-rising
 returns-in-Some-first-clause-rising c =
     let kept = c.self.invariant.kept in
     subst AreRising
-    (sym (keys_zipped (leaves_of c.self.inside.keys.items) c.self.inside.hashes.items kept.long)
+    (sym (keys_zipped (leaves_of_vectors c.self.inside.keys.items) c.self.inside.hashes.items kept.long)
     ∙ ap keys_of c.self.view_is) kept.rising

@@ -1,9 +1,9 @@
 use Rattle.std.proofs.Common.{[], List, Option, sym, subst, ap, ◌∙◌, IfOk}
 use Rattle.cs_node_rules.specs.Site.{Mark}
-use Rattle.cs_node_pool.specs.Deployed.{deployed}
+use Rattle.cs_node_pool.specs.Deployed.{deployed_setup}
 use Rattle.cs_node.specs.Proposals.{admits_pending}
 use Rattle.cs_node.specs.Steps.{TurnDone}
-use Rattle.cs_node.specs.Cores.{KeepsView, site_at, view_at}
+use Rattle.cs_node.specs.Cores.{KeepsView, site_at, core_view}
 use Rattle.cs_node.proofs.Candidates.{pending-there, echo-none}
 use Rattle.cs_node.proofs.Doing.{echoed-here}
 use Rattle.cs_node.proofs.engine.Engine.echo.Goals as goal
@@ -12,26 +12,26 @@ pub returns-then-branch-clause-done : goal.returns-then-branch-clause-done
 returns-then-branch-clause-done g c = λ net genesis log h seated.
     let held = c.args.self.now.sbac in
     let approves = g.J.Judge.is_approved c.args.self.now.judge in
-    let some = pending-there (deployed held.config [] approves) held.me.shard held.pool (g.O.Order.awaits c.args.self.now.order) (sym (c.in_ok-admits_pending.ensures.admitted []) ∙ c.if-branch.true) in
+    let some = pending-there (deployed_setup held.config [] approves) held.me.shard held.pool (g.O.Order.awaits c.args.self.now.order) (sym (c.in_ok-admits_pending.ensures.admitted []) ∙ c.if-branch.true) in
     echoed-here g.O.Order.stands g.J.Judge.is_approved g.O.Order.rules g.O.Carried.carrier net c.args.self.now genesis log h c.args.draft.now c.hand_out.new.draft seated c.echo.new.self c.new-outgoing.result.items c.echo.new.out.items c.new-outgoing.ensures.items
     (c.in_ok-hand_out.ensures.tells net genesis approves) (g.O.Order.rules.pending h)
-    (ap (admits_pending (deployed held.config genesis approves) held.me.shard held.pool) (sym (c.in_ok-admits_pending.ensures.awaits h seated.stood)) ∙ sym (c.in_ok-admits_pending.ensures.admitted genesis) ∙ c.if-branch.true)
+    (ap (admits_pending (deployed_setup held.config genesis approves) held.me.shard held.pool) (sym (c.in_ok-admits_pending.ensures.awaits h seated.stood)) ∙ sym (c.in_ok-admits_pending.ensures.admitted genesis) ∙ c.if-branch.true)
     (c.in_ok-echo.ensures.call some h seated.stood)
 
 pub returns-then-branch-clause-falls : goal.returns-then-branch-clause-falls
 returns-then-branch-clause-falls g c = λ went.
     let held = c.args.self.now.sbac in
     let approves = g.J.Judge.is_approved c.args.self.now.judge in
-    c.in_ok-echo.ensures.falls (pending-there (deployed held.config [] approves) held.me.shard held.pool (g.O.Order.awaits c.args.self.now.order) (sym (c.in_ok-admits_pending.ensures.admitted []) ∙ c.if-branch.true))
+    c.in_ok-echo.ensures.falls (pending-there (deployed_setup held.config [] approves) held.me.shard held.pool (g.O.Order.awaits c.args.self.now.order) (sym (c.in_ok-admits_pending.ensures.admitted []) ∙ c.if-branch.true))
 
 pub returns-clause-done : goal.returns-clause-done
 returns-clause-done g c = λ net genesis log h seated.
     let held = c.args.self.now.sbac in
     let approves = g.J.Judge.is_approved c.args.self.now.judge in
     let carried = g.O.Carried.carrier in
-    let setup = deployed held.config genesis approves in
+    let setup = deployed_setup held.config genesis approves in
     let site = site_at g.O.Order.rules carried net held genesis approves in
-    let v = view_at log held h in
+    let v = core_view log held h in
     let P : Option (List (Mark g.row.O-Message.Denot)) → Type 0 = λ found. IfOk c.propose.result (λ went. TurnDone site found v went c.args.draft.now c.propose.new.draft (KeepsView g.O.Order.stands g.J.Judge.is_approved setup c.propose.new.self)) in
     subst P (sym (echo-none setup net g.O.Order.rules carried v (g.O.Order.rules.pending h)
     (ap (admits_pending setup held.me.shard held.pool) (sym (c.in_ok-admits_pending.ensures.awaits h seated.stood)) ∙ sym (c.in_ok-admits_pending.ensures.admitted genesis) ∙ c.if-branch.false))) (c.propose.ensures.done net genesis log h seated)

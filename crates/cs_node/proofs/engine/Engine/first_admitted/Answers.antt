@@ -1,5 +1,5 @@
 use Rattle.std.proofs.Common.{Some, refl, ap, sym, ◌∙◌}
-use Rattle.cs_node_pool.specs.Deployed.{deployed}
+use Rattle.cs_node_pool.specs.Deployed.{deployed_setup}
 use Rattle.cs_node.proofs.Candidates.{passed-over, taken-up}
 use Rattle.cs_node.proofs.engine.Engine.first_admitted.Goals as goal
 
@@ -10,7 +10,7 @@ pub loop-proposed-preserved : goal.loop-proposed-preserved
 loop-proposed-preserved g c = λ genesis.
     let held = c.args.self.now.sbac in
     c.loop-proposed.invariant genesis
-    ∙ passed-over (deployed held.config genesis (g.J.Judge.is_approved c.args.self.now.judge)) held.me.shard held.pool c.args.candidates.now c.as_slice-proposed-items.result.now c.loop-proposed.proposed-index c.proposed-item.result c.in_ok-admits.field-0
+    ∙ passed-over (deployed_setup held.config genesis (g.J.Judge.is_approved c.args.self.now.judge)) held.me.shard held.pool c.args.candidates.now c.as_slice-proposed-items.result.now c.loop-proposed.proposed-index c.proposed-item.result c.in_ok-admits.field-0
     c.as_slice-proposed-items.ensures c.loop-proposed-test.true c.proposed-item.is (c.in_ok-admits.ensures genesis) c.if-branch.false
 
 pub returns-then-branch : goal.returns-then-branch
@@ -18,5 +18,5 @@ returns-then-branch g c = λ genesis.
     let held = c.args.self.now.sbac in
     ap (λ p. Some p) c.in_ok-copy.ensures
     ∙ sym (c.loop-proposed.invariant genesis
-    ∙ taken-up (deployed held.config genesis (g.J.Judge.is_approved c.args.self.now.judge)) held.me.shard held.pool c.args.candidates.now c.as_slice-proposed-items.result.now c.loop-proposed.proposed-index c.proposed-item.result c.in_ok-admits.field-0
+    ∙ taken-up (deployed_setup held.config genesis (g.J.Judge.is_approved c.args.self.now.judge)) held.me.shard held.pool c.args.candidates.now c.as_slice-proposed-items.result.now c.loop-proposed.proposed-index c.proposed-item.result c.in_ok-admits.field-0
     c.as_slice-proposed-items.ensures c.loop-proposed-test.true c.proposed-item.is (c.in_ok-admits.ensures genesis) c.if-branch.true)

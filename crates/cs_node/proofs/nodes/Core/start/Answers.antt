@@ -5,11 +5,11 @@ use Rattle.cs_node_rules.specs.Site.{start_view}
 use Rattle.cs_node_rules.specs.Deployment.{site_of}
 use Rattle.cs_node_rules.proofs.Starting.{start-quiet}
 use Rattle.cs_table.specs.Genesis.{twice, genesis_rules}
-use Rattle.cs_node_pool.specs.Deployed.{deployed}
+use Rattle.cs_node_pool.specs.Deployed.{deployed_setup}
 use Rattle.cs_sbac.specs.Held.{Held}
 use Rattle.cs_node.specs.Cores.{KeepsView}
 use Rattle.cs_node.specs.Speaking.{Speaks}
-use Rattle.cs_genesis.proofs.Fit.{all-fit}
+use Rattle.cs_sbac.proofs.Fit.{all-fit}
 use Rattle.cs_node.proofs.Starting.{begun_with, started}
 use Rattle.cs_node.proofs.nodes.Core.start.Goals as goal
 
@@ -26,7 +26,7 @@ returns-clause-stands g c = λ objects named net speaks.
     let rules = g.O.Order.rules in
     let carried = g.O.Carried.carrier in
     let me = c.args.keys.me in
-    let setup = deployed c.args.config objects (approves c.args.judge) in
+    let setup = deployed_setup c.args.config objects (approves c.args.judge) in
     let site = site_of setup net rules carried in
     let held : NodeId → Held = begun_with c.args.config c.in-Ok.table c.in_ok-sbac.sbac.archived.hashed in
     let sbac-is : c.in_ok-sbac.sbac ≡ held me = c.in_ok-sbac.ensures ∙ ap held c.me-me.ensures in

@@ -1,7 +1,7 @@
 use Rattle.std.proofs.Common.{◌≡◌, ◌∙◌, ◌+◌, Some, length, bytes_eq, refl, subst, arith}
 use Rattle.indexmap.proofs.CallerLemmas.{insert_entry-new}
 use Rattle.cs_node_pool.specs.declared.kept.Kept.{Kept}
-use Rattle.cs_node_pool.specs.Seats.{sessions_in}
+use Rattle.cs_node_pool.specs.Seats.{seats_taken}
 use Rattle.cs_node_pool.proofs.Picking.{Marked}
 use Rattle.cs_node_pool.proofs.Closing.{sessions-few}
 use Rattle.cs_node_pool.proofs.Keeping.{placed-pushed}
@@ -10,7 +10,7 @@ use Rattle.cs_node_pool.proofs.kept.Kept.add.Goals as goal
 pub overflow_add-self : goal.overflow_add-self
 overflow_add-self c =
     let few = sessions-few c.args.self.now.seats.entries in
-    let number : c.args.self.now.sessions ≡ sessions_in c.args.self.now.seats.entries = c.requires.placed.sessions in
+    let number : c.args.self.now.sessions ≡ seats_taken c.args.self.now.seats.entries = c.requires.placed.sessions in
     omega (arith, few, number, c.len-index.ensures.len, c.len-index.ensures.small)
 
 pub returns-clause-seats : goal.returns-clause-seats

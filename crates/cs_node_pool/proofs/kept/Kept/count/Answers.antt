@@ -3,7 +3,7 @@ use Rattle.indexmap.specs.IndexMap.{set_value_at, with_value_at}
 use Rattle.cs_node_state.specs.Pool.{with_ballot}
 use Rattle.cs_node_pool.specs.Calls.{counted_in}
 use Rattle.cs_node_pool.specs.declared.kept.Kept.{Kept}
-use Rattle.cs_node_pool.specs.Seats.{place_at, seated, pooled_in, passes, is_due, reseated, IsRightIn}
+use Rattle.cs_node_pool.specs.Seats.{seat_of_place, seated, pooled_in, passes, is_due, reseated, IsRightIn}
 use Rattle.cs_node_pool.proofs.Places.{At, at-first, absent, found-at, place-got, unchanged}
 use Rattle.cs_node_pool.proofs.Right.{right-at}
 use Rattle.cs_node_pool.proofs.Keeping.{pool-changed, sound-changed, waiting-kept, unique-set, ballot-session, ballot-waits}
@@ -31,7 +31,7 @@ returns-clause-answer c =
     let n = c.in-Some.index in
     let place = c.in-Some-get_index_mut.place.now in
     let at : At d old.seats.entries n = at-first d old.seats.entries n (sym c.in-Some.ensures.index) in
-    let got : place_at n old.seats.entries ≡ place = place-got old.seats.entries n place (sym c.in-Some-get_index_mut.ensures.value) in
+    let got : seat_of_place n old.seats.entries ≡ place = place-got old.seats.entries n place (sym c.in-Some-get_index_mut.ensures.value) in
     c.in_ok-answer.ensures.answer
     ∙ ap (counted_in c.args.ballot.sender) (ap pooled_in (sym got) ∙ sym (found-at d old.seats.entries n c.requires.placed.unique at))
 
@@ -44,13 +44,13 @@ returns-clause-sound c =
     let n = c.in-Some.index in
     let place = c.in-Some-get_index_mut.place.now in
     let at : At d old.seats.entries n = at-first d old.seats.entries n (sym c.in-Some.ensures.index) in
-    let got : place_at n old.seats.entries ≡ place = place-got old.seats.entries n place (sym c.in-Some-get_index_mut.ensures.value) in
+    let got : seat_of_place n old.seats.entries ≡ place = place-got old.seats.entries n place (sym c.in-Some-get_index_mut.ensures.value) in
     let new : Kept = record { seats = with_value_at old.seats n c.take_vote.new.place; sessions = old.sessions; waiting = old.waiting; ready = c.mark.new.chosen } in
-    let is : c.take_vote.new.place ≡ reseated config.f change (place_at n old.seats.entries) = c.in_ok-answer.ensures.place ∙ ap (reseated config.f change) (sym got) in
-    let entries : new.seats.entries ≡ set_value_at old.seats.entries n (reseated config.f change (place_at n old.seats.entries)) = ap (set_value_at old.seats.entries n) is in
+    let is : c.take_vote.new.place ≡ reseated config.f change (seat_of_place n old.seats.entries) = c.in_ok-answer.ensures.place ∙ ap (reseated config.f change) (sym got) in
+    let entries : new.seats.entries ≡ set_value_at old.seats.entries n (reseated config.f change (seat_of_place n old.seats.entries)) = ap (set_value_at old.seats.entries n) is in
     sound-changed config change (ballot-session c.args.ballot) old new d n at entries c.requires
     (unique-set old.seats.entries n c.take_vote.new.place c.requires.placed.unique) refl
-    (waiting-kept config change (ballot-session c.args.ballot) old new d n at entries c.requires (ballot-waits config.f c.args.ballot (place_at n old.seats.entries)))
+    (waiting-kept config change (ballot-session c.args.ballot) old new d n at entries c.requires (ballot-waits config.f c.args.ballot (seat_of_place n old.seats.entries)))
     c.is_due.result (c.is_due.ensures ∙ ap (passes is_due) is) (c.in_ok-mark.ensures.has, c.in_ok-mark.ensures.rising)
 
 pub returns-clause-pool : goal.returns-clause-pool
@@ -62,7 +62,7 @@ returns-clause-pool c =
     let n = c.in-Some.index in
     let place = c.in-Some-get_index_mut.place.now in
     let at : At d old.seats.entries n = at-first d old.seats.entries n (sym c.in-Some.ensures.index) in
-    let got : place_at n old.seats.entries ≡ place = place-got old.seats.entries n place (sym c.in-Some-get_index_mut.ensures.value) in
+    let got : seat_of_place n old.seats.entries ≡ place = place-got old.seats.entries n place (sym c.in-Some-get_index_mut.ensures.value) in
     let new : Kept = record { seats = with_value_at old.seats n c.take_vote.new.place; sessions = old.sessions; waiting = old.waiting; ready = c.mark.new.chosen } in
-    let is : c.take_vote.new.place ≡ reseated config.f change (place_at n old.seats.entries) = c.in_ok-answer.ensures.place ∙ ap (reseated config.f change) (sym got) in
+    let is : c.take_vote.new.place ≡ reseated config.f change (seat_of_place n old.seats.entries) = c.in_ok-answer.ensures.place ∙ ap (reseated config.f change) (sym got) in
     pool-changed config change (ballot-session c.args.ballot) old new d n at (ap (set_value_at old.seats.entries n) is) c.requires

@@ -1,6 +1,6 @@
 use Rattle.std.proofs.Common.{◌∙◌, ap, sym, subst, Some, None}
-use Rattle.cs_tx_form.specs.declared.entry.Entry.TheVariants.{Decide}
-use Rattle.cs_tx_form.specs.Session.{SessionFits}
+use Rattle.cs_tx_types.specs.declared.entry.Entry.TheVariants.{Decide}
+use Rattle.cs_tx_types.specs.Session.{SessionFits}
 use Rattle.cs_node_state.specs.Admission.{decide_due}
 use Rattle.cs_node_pool.specs.Seats.{is_due}
 use Rattle.cs_node_pool.proofs.Right.{right-fits, fits-first}

@@ -1,8 +1,8 @@
 use Rattle.std.proofs.Common.{◌≡◌, ◌∙◌, sym, subst}
-use Rattle.cs_node_state.specs.Setup.{concerns}
+use Rattle.cs_node_state.specs.Setup.{is_concerned_shard}
 use Rattle.cs_tx.specs.Uses as Uses
 use Rattle.cs_sbac.specs.Held.{Held, IsFit}
-use Rattle.cs_node_pool.specs.Deployed.{deployed}
+use Rattle.cs_node_pool.specs.Deployed.{deployed_setup}
 use Rattle.cs_node_pool.proofs.Concerned.{concerns-session}
 use Rattle.cs_sbac.proofs.Settings.{formed, some_anchor}
 use Rattle.cs_sbac.proofs.sbac.Sbac.concerns.Goals as goal
@@ -14,7 +14,7 @@ anchor-requires c =
 
 pub returns : goal.returns
 returns c genesis approves =
-    let Says : Held → Type 0 = λ held. c.is_some.result ≡ concerns (deployed held.config genesis approves) c.args.session.now c.args.shard in
+    let Says : Held → Type 0 = λ held. c.is_some.result ≡ is_concerned_shard (deployed_setup held.config genesis approves) c.args.session.now c.args.shard in
     subst Says c.self.view_is
     (c.is_some.ensures
     ∙ some_anchor c.anchor.result (Uses.concerns c.self.inside.config c.args.session.now c.args.shard) c.anchor.ensures.concerned

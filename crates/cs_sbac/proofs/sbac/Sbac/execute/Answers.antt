@@ -1,14 +1,14 @@
 use Rattle.std.proofs.Common.{◌≡◌, ◌∙◌, sym, subst, true, false, None, rules}
-use Rattle.cs_tx_form.specs.declared.session.Session.{Session}
+use Rattle.cs_tx_types.specs.declared.session.Session.{Session}
 use Rattle.cs_tx.specs.WellFormed.{IsWellFormed}
-use Rattle.cs_tx_form.specs.Session.{session_in}
+use Rattle.cs_tx_types.specs.Session.{session_in}
 use Rattle.cs_sbac.specs.Held.{Held}
-use Rattle.cs_node_pool.specs.Deployed.{deployed}
+use Rattle.cs_node_pool.specs.Deployed.{deployed_setup}
 use Rattle.cs_sbac.specs.Calls.{Executes}
 use Rattle.cs_sbac.proofs.Settings.{formed, known-formed, known-named}
 use Rattle.cs_check.proofs.Hashing.{leaves_stay}
 use Rattle.cs_sbac.proofs.Running.{stays, marked, anchored, executes, executes-nothing}
-use Rattle.cs_tx_form.specs.declared.effect.Effect.TheVariants.{Void}
+use Rattle.cs_tx_types.specs.declared.effect.Effect.TheVariants.{Void}
 use Rattle.cs_sbac.proofs.sbac.Sbac.execute.Goals as goal
 
 pub run-requires-clause-anchored : goal.run-requires-clause-anchored
@@ -41,7 +41,7 @@ pub returns-then-not-fit : goal.returns-then-not-fit
 returns-then-not-fit c genesis approves log =
     let whole : c.self.inside.whole ≡ true = search rules in
     let unfit : c.in_ok-fit.fit ≡ false = search rules in
-    let Does : Held → Type 0 = λ held. Executes (deployed held.config genesis approves) log c.args.entry.now held held (record { effect = Void; voted = None }) in
+    let Does : Held → Type 0 = λ held. Executes (deployed_setup held.config genesis approves) log c.args.entry.now held held (record { effect = Void; voted = None }) in
     subst Does c.self.view_is
     (executes-nothing c.self.inside.config c.self.inside.me c.self.inside.table (c.self.invariant.placed whole) genesis approves c.root_is_shown.ensures.keys c.self.inside.archive log c.args.entry.now c.self.inside.pool.sessions
     (sym (c.in_ok-fit.ensures.fit genesis approves) ∙ unfit))
@@ -51,7 +51,7 @@ returns c genesis approves log =
     let whole : c.self.inside.whole ≡ true = search rules in
     let fit : c.in_ok-fit.fit ≡ true = search rules in
     let after : Held = record { config = c.self.inside.config; me = c.self.inside.me; table = c.run.new.table; pool = c.run.new.pool.sessions; archived = c.self.inside.archive } in
-    let Does : Held → Type 0 = λ held. Executes (deployed held.config genesis approves) log c.args.entry.now held after c.in_ok-outcome.outcome in
+    let Does : Held → Type 0 = λ held. Executes (deployed_setup held.config genesis approves) log c.args.entry.now held after c.in_ok-outcome.outcome in
     subst Does c.self.view_is
     (executes c.self.inside.config c.self.inside.me c.self.inside.table (c.self.invariant.placed whole) genesis approves c.root_is_shown.ensures.keys c.self.inside.archive log c.args.entry.now c.run.new.table c.self.inside.pool.sessions c.run.new.pool.sessions c.in_ok-outcome.outcome
     (sym (c.in_ok-fit.ensures.fit genesis approves) ∙ fit) c.root_is_shown-2.ensures.keys (c.in_ok-outcome.ensures.runs approves))

@@ -1,16 +1,16 @@
 use Rattle.std.proofs.Common.{◌≡◌, ℕ, Option, None, sym, ap, ◌∙◌, arith}
 use Rattle.cs_order.specs.declared.proposed.Proposed.{Proposed}
 use Rattle.cs_order.specs.Limits.{view_bound}
-use Rattle.cs_order_rules.specs.Slot.{entry_of, quorum}
+use Rattle.cs_order_rules.specs.Slot.{chosen_entry, quorum}
 use Rattle.cs_order.proofs.Searches.{first_none, first_at, first_more, first_ends}
 use Rattle.cs_slot.specs.Kept.{KeptSlot, seen_in}
 use Rattle.cs_slot.proofs.slot.Slot.by_confirm.Goals as goal
 
 abbrev found : KeptSlot → ℕ → Option Proposed
-found k view = entry_of (seen_in k) (quorum k.f ((seen_in k).confirm view))
+found k view = chosen_entry (seen_in k) (quorum k.f ((seen_in k).confirm view))
 
 unknown : (k : KeptSlot) (view : ℕ) → quorum k.f ((seen_in k).confirm view) ≡ None → found k view ≡ None
-unknown k view none = ap (entry_of (seen_in k)) none
+unknown k view none = ap (chosen_entry (seen_in k)) none
 
 pub loop-view-init : goal.loop-view-init
 loop-view-init c = first_none (found c.args.self.now)

@@ -1,7 +1,7 @@
 use Rattle.std.proofs.Common.{◌≤◌, List, length, sym, ap, ◌∙◌, subst}
 use Rattle.std.proofs.lemmas.Bool.{both_ways}
 use Rattle.cs_base.specs.declared.limits.TheConstants.{MOST_PLACES}
-use Rattle.cs_tx_form.specs.Record.{Place}
+use Rattle.cs_tx_types.specs.Record.{Place}
 use Rattle.cs_table.specs.Seen.{seen_record}
 use Rattle.cs_tx.specs.Sessions.{key_seen}
 use Rattle.cs_table.specs.Changes.{changed_record}

@@ -1,5 +1,0 @@
-use Rattle.cs_accept.proofs.Accepting.{read_contract, contract_read}
-use Rattle.cs_accept.proofs.judging.contracts_are_read.Goals as goal
-
-pub returns : goal.returns
-returns c = λ text contract. (read_contract text contract, contract_read text contract)

@@ -1,4 +1,0 @@
-pub mod Positions
-pub mod Faults
-pub mod Judging
-pub mod Accepting

@@ -1,3 +1,0 @@
-pub mod Covered
-pub mod Placed
-pub mod Told

@@ -1,7 +1,0 @@
-use Rattle.std.proofs.Common.{take}
-use Rattle.std.specs.List.{AllByRecursion}
-use Rattle.cs_tx_value.specs.Object.{DigestFits}
-use Rattle.cs_archive.proofs.fitting.digests_fit.Given as goal
-
-abbrev pub invariant-loop-digest : goal.invariant-loop-digest
-invariant-loop-digest l = AllByRecursion DigestFits (take l.digest-index l.digests)

@@ -1,0 +1,34 @@
+-- The limits of the program by their numbers: other definitions have them by their names.
+use Rattle.std.specs.Prelude.{◌≡◌}
+use Rattle.cs_base.specs.declared.limits.TheConstants.{MOST_SHARDS, MOST_LIARS, MOST_DUMMIES, MOST_DATAGRAM, MOST_GENESIS, MOST_SCHEDULE, MOST_EVENTS, MOST_SENT}
+use Rattle.cs_base.specs.declared.node_id.TheConstants.{CLIENTS}
+use Rattle.cs_lang_token.specs.declared.limits.TheConstants.{MOST_TEXT, MOST_COST}
+use Rattle.cs_sched.specs.declared.limits.TheConstants.{MOST_CONTRACTS}
+use Rattle.cs_gen.specs.declared.limits.TheConstants.{MOST_SIZE}
+use Rattle.cs_serve.specs.declared.receiving.TheConstants.{MOST_MISSED}
+use Rattle.cs_deploy.specs.declared.loading.TheConstants.{MOST_FILE}
+use Rattle.cs_deploy.specs.declared.limits.TheConstants.{MOST_MASTER}
+use Rattle.cs_audit_dump.specs.declared.limits.TheConstants.{MOST_DUMP}
+
+-- those of a deployment
+pub record DeploymentLimitsAre : Type 0 where
+  pub shards : MOST_SHARDS ≡ 16
+  pub liars : MOST_LIARS ≡ 5  -- of a shard
+  pub dummies : MOST_DUMMIES ≡ 64
+  pub clients : CLIENTS ≡ 16
+  pub datagram : MOST_DATAGRAM ≡ 32768  -- bytes
+  pub missed : MOST_MISSED ≡ 64  -- receives that fail in a row
+  pub file : MOST_FILE ≡ 16777216  -- bytes
+  pub master : MOST_MASTER ≡ 65  -- bytes of a master key that is read
+
+-- those of texts
+pub record TextLimitsAre : Type 0 where
+  pub contract : MOST_TEXT ≡ 65536  -- bytes
+  pub cost : MOST_COST ≡ 1000000  -- of a check
+  pub contracts : MOST_CONTRACTS ≡ 64
+  pub genesis : MOST_GENESIS ≡ 65536
+  pub schedule : MOST_SCHEDULE ≡ 16777216  -- bytes, and of a claim
+  pub events : MOST_EVENTS ≡ 1000000
+  pub sent : MOST_SENT ≡ 268435456  -- bytes that the nodes of a replay send
+  pub dump : MOST_DUMP ≡ 67108864  -- bytes
+  pub size : MOST_SIZE ≡ 1000  -- of a simulation

@@ -1,0 +1,32 @@
+//! What is read of bytes and of texts is what was written so.
+ghost use Rattle.std.specs.Prelude.{◌≡◌, ◌↔◌, ℕ, List, Some};
+ghost use Rattle.cs_base.specs.Fields.{IsBytes, IsForm};
+ghost use Rattle.cs_tx_value.specs.Object.{object_encoding, ObjectFits, object_at};
+ghost use Rattle.cs_tx_types.specs.Session.{entry_encoding, EntryFits};
+ghost use Rattle.cs_tx_types.specs.Reading.{entry_at};
+ghost use Rattle.cs_wire.specs.declared.keys.Keys.{Keys};
+ghost use Rattle.cs_wire.specs.Opened.{Opened, opened};
+ghost use Rattle.cs_wire.specs.OpenedAs.{IsOpenedAs};
+ghost use Rattle.cs_lang.specs.declared.tree.ContractTree.{ContractTree};
+ghost use Rattle.cs_lang.specs.Texts.{IsContract};
+ghost use Rattle.cs_types.specs.Accepting.{contract_of};
+
+use cs_types::contracts_are_read;
+use cs_wire::datagrams_open_as_they_are_sealed;
+
+/// What is read is what was written so: datagrams are those that were sealed, entries and objects
+/// are read from their encodings, and contract texts are what the grammar spells. So who believes
+/// how these are written need not believe how they are read.
+///
+/// It does nothing: its contract is a theorem, which a caller has by calling it.
+pub fn what_is_read_was_written()
+    ensures datagrams { (keys : Keys) (bytes : List ℕ) (said : Opened) → IsBytes bytes
+        → (opened keys bytes ≡ said) ↔ IsOpenedAs keys bytes said }
+    ensures entries { IsForm entry_encoding EntryFits entry_at }
+    ensures objects { IsForm object_encoding ObjectFits object_at }
+    ensures contracts { (text : List ℕ) (contract : ContractTree)
+        → (contract_of text ≡ Some contract) ↔ IsContract text contract }
+{
+    datagrams_open_as_they_are_sealed();
+    contracts_are_read();
+}

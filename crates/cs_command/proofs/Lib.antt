@@ -1,3 +1,0 @@
-pub mod Closings
-pub mod Sources
-pub mod Digits

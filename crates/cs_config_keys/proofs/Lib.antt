@@ -1,5 +1,0 @@
-mod Counting
-mod Names
-pub mod Listed
-mod Tables
-mod Back

@@ -1,9 +1,0 @@
-use Rattle.std.proofs.Common.{◌≡◌, take}
-use Rattle.cs_config_keys.specs.Printed.{list_with, AllListedFit}
-use Rattle.cs_config_keys.proofs.listing.list_with.Given as goal
-
-abbrev pub invariant-loop-name : goal.invariant-loop-name
-invariant-loop-name l = record {
-  is : l.list ≡ list_with l.master l.me (take l.name-index l.names);
-  fits : AllListedFit l.list;
-}

@@ -1,4 +1,0 @@
-pub mod Answered
-pub mod Decided
-pub mod Going
-pub mod Reading

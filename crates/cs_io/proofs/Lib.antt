@@ -1,0 +1,5 @@
+mod Filed
+mod Arrivals
+pub mod Closings
+pub mod Digits
+pub mod Sources

@@ -1,0 +1,11 @@
+pub mod Told
+pub mod Store
+pub mod Files
+pub mod Link
+pub mod Spawner
+pub mod Outside
+pub mod Until
+pub mod InMemory
+pub mod laws
+pub mod Answers
+pub mod Numbers

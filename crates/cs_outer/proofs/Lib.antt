@@ -1,2 +1,0 @@
-mod Filed
-mod Arrivals

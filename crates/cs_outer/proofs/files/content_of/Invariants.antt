@@ -1,6 +1,0 @@
-use Rattle.std.proofs.Common.{◌≡◌, drop}
-use Rattle.cs_outer.specs.Files.{content_in}
-use Rattle.cs_outer.proofs.files.content_of.Given as goal
-
-abbrev pub invariant-loop-file : goal.invariant-loop-file
-invariant-loop-file l = content_in (drop l.file-index l.files) l.name ≡ content_in l.files l.name

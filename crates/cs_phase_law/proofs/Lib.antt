@@ -1,2 +1,0 @@
-pub mod OneEcho
-pub mod Resting

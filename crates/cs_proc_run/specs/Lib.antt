@@ -1,4 +1,0 @@
-pub mod Acting
-pub mod Methods
-pub mod Tasks
-pub mod laws

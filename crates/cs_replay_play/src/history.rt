@@ -1,0 +1,240 @@
+//! The history, kept from the executions as they come.
+ghost use Rattle.std.specs.Prelude.{◌≡◌, ◌<◌, ◌==◌, [], IfOk, OnOk, List, replicate};
+ghost use Rattle.cs_tx_types.specs.Session.{SessionFits, EntryFits, session_in};
+ghost use Rattle.cs_node_state.specs.Setup.{Setup};
+ghost use Rattle.cs_replay_rules.specs.Aborts.{with_aborted_digest};
+ghost use Rattle.cs_node_rules.specs.World.{Execution, with_first_execution};
+ghost use Rattle.cs_node_rules.specs.Signs.{Did};
+ghost use Rattle.cs_table.specs.Effects.{effect_of};
+ghost use Rattle.cs_table.specs.Seen.{vote_of};
+ghost use Rattle.std.specs.List.{list_all};
+ghost use Rattle.cs_tx.specs.Digest.{digest_of_session};
+ghost use Rattle.cs_replay_play.specs.Kept.{KeepsHistory, IsBeforeFirst, is_commit, all_voted_commit, after_vote, told_next, after_execution, kept_after, with_abort};
+
+use cs_base::{Config, Memory};
+use cs_node::Effect;
+use cs_tx::{Digest, Entry, Session, Vote, concerned, tx_digest};
+use indexmap::IndexSet;
+use std::alloc::Global;
+use std::marker::Model;
+
+/// What was executed so far, as far as the history and the count of aborts need it. For the history
+/// the first execution of a slot counts, for aborts each.
+#[derive(Drop)]
+pub struct History {
+    config: Config,
+    // How many slots of each shard were executed. The number of a slot is below 2^64.
+    slots: Vec<u128>,
+    // The shards that voted commit, each with the session's digest.
+    commits: IndexSet<(u16, Digest)>,
+    // The transactions on which every concerned shard has voted commit, in that order.
+    told: IndexSet<Digest>,
+    // The sessions on which a node decided abort, in the order in which one first did.
+    aborted: IndexSet<Digest>,
+}
+
+impl Model for History {
+    ghost use Rattle.cs_replay_play.specs.Kept.{KeptHistory};
+    ghost use Rattle.std.specs.Prelude.{◌≡◌, length};
+
+    ghost Value = { KeptHistory };
+
+    ghost view = { λ h. record {
+      config = h.config;
+      slots = h.slots.items;
+      commits = h.commits.keys;
+      told = h.told.keys;
+      aborted = h.aborted.keys;
+    } };
+
+    ghost invariant = { λ h. length h.slots.items ≡ h.config.shards };
+}
+
+impl History {
+    /// Before the first execution.
+    pub fn new(alloc: Global, config: Config) -> Result<History, Memory>
+        ensures empty { IfOk result IsBeforeFirst }
+        ensures none { IfOk result (λ history. history.aborted ≡ []) }
+        ensures config { IfOk result (λ history. history.config ≡ config) }
+    {
+        Ok(History {
+            config,
+            slots: vec![in alloc; 0; config.shards as usize]?,
+            commits: IndexSet::new(alloc),
+            told: IndexSet::new(alloc),
+            aborted: IndexSet::new(alloc),
+        })
+    }
+
+    /// The digests of the transactions, in the order of the history.
+    pub fn told(&self) -> &[Digest]
+        ensures { result.now ≡ self.now.told }
+    {
+        self.told.as_slice()
+    }
+
+    /// The digests of the sessions on which a node decided abort, in the order in which one first
+    /// did.
+    pub fn aborted(&self) -> &[Digest]
+        ensures { result.now ≡ self.now.aborted }
+    {
+        self.aborted.as_slice()
+    }
+
+    /// Adds the execution of an entry, whose session has this digest, at a node of the shard. Nothing
+    /// is added to the history of a shard that the configuration doesn't have.
+    pub fn execute(
+        &mut self,
+        alloc: Global,
+        shard: u16,
+        slot: u64,
+        entry: &Entry,
+        digest: &Digest,
+        effect: Effect,
+    ) -> Result<(), Memory>
+        requires fits { EntryFits entry.now }
+        requires named { digest.now ≡ digest_of_session (session_in entry.now) }
+        ensures kept { (setup : Setup) (firsts : List Execution)
+            → shard < self.old.config.shards → KeepsHistory setup firsts self.old
+            → OnOk result (KeepsHistory setup
+            (with_first_execution shard (Did slot entry.now (effect_of effect)) firsts) self.new) }
+        ensures aborted { OnOk result (self.new.aborted
+            ≡ with_abort entry.now (effect_of effect) self.old.aborted) }
+        ensures config { OnOk result (self.new.config ≡ self.old.config) }
+    {
+        self.enter(alloc, shard, slot, entry, digest, effect)?;
+        self.note_abort(entry, digest, effect)
+    }
+
+    // The session of an execution that decides abort on it.
+    fn note_abort(&mut self, entry: &Entry, digest: &Digest, effect: Effect) -> Result<(), Memory>
+        requires { digest.now ≡ digest_of_session (session_in entry.now) }
+        ensures { OnOk result (self.new ≡ record self.old {
+          aborted = with_abort entry.now (effect_of effect) self.old.aborted;
+        }) }
+    {
+        match (entry, effect) {
+            (Entry::Prepare(_), Effect::Voted(Vote::Abort)) => self.abort(digest),
+            (Entry::Decide(_, _), Effect::Aborted) => self.abort(digest),
+            _ => Ok(()),
+        }
+    }
+
+    fn abort(&mut self, digest: &Digest) -> Result<(), Memory>
+        ensures { OnOk result (self.new ≡ record self.old {
+          aborted = with_aborted_digest digest.now self.old.aborted;
+        }) }
+    {
+        self.aborted.insert(*digest)?;
+        Ok(())
+    }
+
+    fn enter(
+        &mut self,
+        alloc: Global,
+        shard: u16,
+        slot: u64,
+        entry: &Entry,
+        digest: &Digest,
+        effect: Effect,
+    ) -> Result<(), Memory>
+        requires fits { EntryFits entry.now }
+        requires named { digest.now ≡ digest_of_session (session_in entry.now) }
+        ensures kept { shard < self.old.config.shards
+            → OnOk result (self.new ≡ kept_after self.old shard slot entry.now (effect_of effect)) }
+        ensures aborted { OnOk result (self.new.aborted ≡ self.old.aborted) }
+        ensures config { OnOk result (self.new.config ≡ self.old.config) }
+    {
+        let place = shard as usize;
+        if place >= self.slots.len() {
+            return Ok(());
+        }
+        let known = self.slots[place];
+        if u128::from(slot) < known {
+            return Ok(());
+        }
+        self.slots[place] = known + 1;
+        self.note(alloc, shard, entry, digest, effect)
+    }
+
+    // What a new execution gives: a vote on a session. What is void gives nothing.
+    fn note(
+        &mut self,
+        alloc: Global,
+        shard: u16,
+        entry: &Entry,
+        digest: &Digest,
+        effect: Effect,
+    ) -> Result<(), Memory>
+        requires fits { EntryFits entry.now }
+        requires named { digest.now ≡ digest_of_session (session_in entry.now) }
+        ensures { OnOk result (self.new ≡ after_execution self.old shard entry.now (effect_of effect)) }
+    {
+        match (entry, effect) {
+            (Entry::Prepare(session), Effect::Voted(vote)) => {
+                self.prepare(alloc, shard, session, *digest, vote)
+            }
+            _ => Ok(()),
+        }
+    }
+
+    // A vote on a session: where it is the last of its commit votes, the transaction is told.
+    fn prepare(
+        &mut self,
+        alloc: Global,
+        shard: u16,
+        session: &Session,
+        digest: Digest,
+        vote: Vote,
+    ) -> Result<(), Memory>
+        requires fits { SessionFits session.now }
+        requires digest { digest ≡ digest_of_session session.now }
+        ensures { OnOk result (self.new ≡ told_next
+            (after_vote self.old shard (digest_of_session session.now) (vote_of vote)) session.now) }
+    {
+        if vote == Vote::Commit {
+            self.commits.insert((shard, digest))?;
+        }
+        self.tell(alloc, session, digest)
+    }
+
+    // Tells the transaction of a session, where every concerned shard has voted commit.
+    fn tell(&mut self, alloc: Global, session: &Session, digest: Digest) -> Result<(), Memory>
+        requires fits { SessionFits session.now }
+        requires digest { digest ≡ digest_of_session session.now }
+        ensures { OnOk result (self.new ≡ told_next self.old session.now) }
+    {
+        if self.has_all_commits(alloc, session, digest)? {
+            let transaction = tx_digest(alloc, &session.tx)?;
+            self.told.insert(transaction)?;
+        }
+        Ok(())
+    }
+
+    fn has_all_commits(
+        &self,
+        alloc: Global,
+        session: &Session,
+        digest: Digest,
+    ) -> Result<bool, Memory>
+        requires fits { SessionFits session.now }
+        requires digest { digest ≡ digest_of_session session.now }
+        ensures { IfOk result (λ all.
+            all ≡ all_voted_commit self.now.config self.now.commits session.now) }
+    {
+        let shards = concerned(alloc, session, &self.config)?;
+        Ok(self.have_committed(shards.as_slice(), digest))
+    }
+
+    fn have_committed(&self, shards: &[u16], digest: Digest) -> bool
+        ensures { result ≡ list_all (is_commit self.now.commits digest) shards.now }
+    {
+        shards.iter().all(|shard| self.has_commit(*shard, digest))
+    }
+
+    fn has_commit(&self, shard: u16, digest: Digest) -> bool
+        ensures { result ≡ is_commit self.now.commits digest shard }
+    {
+        self.commits.contains(&(shard, digest))
+    }
+}

@@ -1,0 +1,6 @@
+use Rattle.cs_run_law.proofs.Families.{family_speaks}
+use Rattle.cs_run_law.proofs.Reaching.{file-reaches}
+use Rattle.cs_run_law.proofs.running.keys_of_files_speak.Goals as goal
+
+pub returns : goal.returns
+returns c = λ config text keys liars i is mine. family_speaks config keys liars i mine (file-reaches config text (keys i) is)

@@ -1,6 +1,0 @@
-//! Schedules, as they are read, printed and replayed.
-#![tactic(auto)]
-
-mod schedule;
-
-pub use schedule::{Event, Schedule};

@@ -1,4 +1,0 @@
-pub mod Repeats
-pub mod Courses
-pub mod Generated
-pub mod Ended

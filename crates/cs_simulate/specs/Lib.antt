@@ -1,4 +1,0 @@
-pub mod Keys
-pub mod Unforged
-pub mod Simulated
-pub mod Reports

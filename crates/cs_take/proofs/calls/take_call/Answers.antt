@@ -1,9 +1,0 @@
-use Rattle.std.proofs.Common.{List, ℕ, Err, subst}
-use Rattle.cs_config.specs.Call.{GivesCall}
-use Rattle.cs_take.proofs.Steps.{call-not}
-use Rattle.cs_take.proofs.calls.take_call.Goals as goal
-
-pub returns-clause-taken : goal.returns-clause-taken
-returns-clause-taken g c =
-    call-not c.args.name.now (g.E.Store.files c.args.store.now) c.in_ok-bytes.bytes c.in-Err.error c.unread.result
-    c.in_ok-bytes.ensures.taken (subst (λ (bytes : List ℕ). GivesCall (Err c.in-Err.error) bytes) c.as_slice.ensures c.in-Err.ensures.given) c.unread.ensures.told

@@ -1,0 +1,49 @@
+-- What an honest node does of what its order chose and handed out.
+use Rattle.std.specs.Prelude.{◌≡◌, ℕ, true, List, [], ◌∷◌, ◌++◌, map, Option, Some, None}
+use Rattle.std.specs.List.{enumerate_from}
+use Rattle.cs_base.specs.declared.node_id.NodeId.{NodeId}
+use Rattle.cs_tx_types.specs.declared.entry.Entry.{Entry}
+use Rattle.cs_order.specs.declared.answers.Outgoing.{Outgoing}
+use Rattle.cs_order.specs.Deeds.{Deed, sent_by, chosen_in}
+use Rattle.cs_ledger.specs.Ledger.{IsIn}
+use Rattle.cs_node_rules.specs.Members.{others}
+use Rattle.cs_node_rules.specs.Signs.{Sign, Sent}
+use Rattle.cs_node_rules.specs.Site.{Site}
+use Rattle.cs_node_rules.specs.World.{Happening, Execution, view_of}
+use Rattle.cs_world_law.specs.Worlds.{is_honest, signs_at}
+use Rattle.cs_world_law.specs.Shown.{executed_by}
+
+-- their slots with the entries, the oldest first
+abbrev pub slots_with_entries : List Execution → List (ℕ × Entry)
+slots_with_entries [] = []
+slots_with_entries (e ∷ earlier) = slots_with_entries earlier ++ (e.slot, e.entry) ∷ []
+
+-- Each honest node has executed what its order chose: slot by slot, from slot 0 on, and nothing else.
+abbrev pub ExecutesChosen : {M : Type 0} → Site M → List (Happening M) → Type 0
+ExecutesChosen {M} site world =
+    (i : NodeId) → is_honest site i ≡ true →
+    slots_with_entries (executed_by i world)
+    ≡ enumerate_from 0 (map site.entry_in (chosen_in (view_of site world i).member.deeds))
+
+-- the message has been sent to each other member of the shard
+abbrev pub IsSentToAll : {M : Type 0} → Site M → NodeId → List Sign → M → Type 0
+IsSentToAll {M} site me signs m =
+    (to : NodeId) → IsIn to (others site.setup.f me (me.shard ∷ [])) → IsIn (Sent to (site.carrier.written m)) signs
+
+-- for whom a message is that an order handed out: each other member, or the one that it names
+abbrev pub recipients : ℕ → NodeId → Option ℕ → List NodeId
+recipients f me None = others f me (me.shard ∷ [])
+recipients f me (Some index) = record { shard = me.shard; index = index } ∷ []
+
+-- the message is proper, reads as it was, and has been sent to whom it is for
+pub record IsSaid {M : Type 0} (site : Site M) (me : NodeId) (signs : List Sign) (out : Outgoing M) : Type 0 where
+  pub proper : site.machine.proper out.message ≡ true
+  pub back : site.carrier.read (site.carrier.written out.message) ≡ Some out.message
+  pub sent : (to : NodeId) → IsIn to (recipients site.setup.f me out.to) →
+      IsIn (Sent to (site.carrier.written out.message)) signs
+
+-- So is all that the order of an honest node handed out.
+abbrev pub SaysHanded : {M : Type 0} → Site M → List (Happening M) → Type 0
+SaysHanded {M} site world =
+    (i : NodeId) → is_honest site i ≡ true → (deed : Deed M) → IsIn deed (view_of site world i).member.deeds →
+    (out : Outgoing M) → IsIn out (sent_by deed) → IsSaid site i (signs_at i world) out
