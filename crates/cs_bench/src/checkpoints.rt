@@ -4,7 +4,7 @@ ghost use Rattle.cs_tx_value.specs.Object.{ObjectFits};
 
 use crate::table::{coins, session};
 use cs_base::{Config, Key, Memory, NodeId};
-use cs_checkpoint::Leaf;
+use cs_check_rules::Leaf;
 use cs_sbac::Sbac;
 use cs_table::{Table, TableError};
 use cs_tx::{Effect, Encoded, Entry, Object, Session, Vote};

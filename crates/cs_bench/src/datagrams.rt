@@ -1,6 +1,6 @@
 //! Datagrams of one size, sealed and opened.
 use cs_base::{CLIENT_SHARD, Memory, NodeId, Sequence};
-use cs_tx_form::{Session, Trace, Tx};
+use cs_tx_types::{Session, Trace, Tx};
 use cs_tx_value::{Digest, Name, Value};
 use cs_wire::{Keys, open, seal};
 use cs_wire_message::Message;

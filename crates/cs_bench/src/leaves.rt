@@ -6,7 +6,7 @@ ghost use Rattle.cs_check.specs.Leaves.{HasLeaves};
 use crate::table::{coins, shard};
 use cs_base::Memory;
 use cs_check::Chain;
-use cs_checkpoint::{Leaf, encode_leaf};
+use cs_check_rules::{Leaf, encode_leaf};
 use cs_table::Table;
 use cs_test_samples::spend;
 use cs_tx::{Effect, Encoded, Entry};

@@ -1,6 +1,6 @@
 //! The members of one shard, which order entries with all messages delivered.
 use cs_base::{Memory, Sequence};
-use cs_checkpoint::KEPT_SLOTS;
+use cs_check_rules::KEPT_SLOTS;
 use cs_log::SlotOrder;
 use cs_order::{May, Order, Outgoing, Proposed, Step};
 use cs_order_rules::{Change, OrderMessage};

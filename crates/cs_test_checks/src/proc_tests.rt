@@ -3,7 +3,7 @@ use cs_approve::Book;
 use cs_base::{Memory, Sequence, print_bytes};
 use cs_proc::{Call, ProcError, run_method};
 use cs_tx::tx_digest;
-use cs_tx_form::{Trace, Tx};
+use cs_tx_types::{Trace, Tx};
 use cs_tx_value::{Digest, Encoded, Name, Object, Value};
 use sha2::{Digest as Hasher, Sha256};
 use std::alloc::Global;

@@ -3,7 +3,7 @@ use cs_approve::Book;
 use cs_base::{CLIENT_SHARD, Config, Key, Memory, NodeId, Sequence};
 use cs_client::ClientCore;
 use cs_config::{CallFile, Site};
-use cs_outer::Text;
+use cs_io::Text;
 use cs_test_samples::{TOKEN, coin, spend};
 use cs_tx::{State, Value, genesis_key, session_digest};
 use cs_tx_value::{Digest, Encoded};

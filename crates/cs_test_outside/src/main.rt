@@ -5,8 +5,8 @@
 ghost use Rattle.std.specs.Prelude.{◌≡◌, ◌+◌, length};
 
 use cs_base::{CLIENT_SHARD, MOST_DATAGRAM, NodeId};
-use cs_outer::{Arrived, Link, Spawner, Started, Store};
-use cs_outside::{Children, FileStore, UdpLink};
+use cs_io::{Arrived, Link, Spawner, Started, Store};
+use cs_os::{Children, FileStore, UdpLink};
 use std::fs::{self, Permissions};
 use std::os::unix::fs::{PermissionsExt, symlink};
 use std::process::{self, ExitCode};

@@ -1,7 +1,7 @@
 //! Transfers of coins, and sessions of one transfer.
 use crate::coins::{TOKEN, coin};
 use cs_base::{Memory, Sequence};
-use cs_tx_form::{Session, Trace, Tx};
+use cs_tx_types::{Session, Trace, Tx};
 use cs_tx_value::{Digest, Name, Object};
 use std::alloc::Global;
 

@@ -4,6 +4,4 @@
 #[cfg(test)]
 mod change_tests;
 #[cfg(test)]
-mod order_open_tests;
-#[cfg(test)]
 mod slot_tests;

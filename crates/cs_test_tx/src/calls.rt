@@ -1,7 +1,7 @@
 //! Calls on a table, by sessions that have a key there.
 use cs_table::Table;
 use cs_tx::{Encoded, Session, Vote, session_digest};
-use cs_tx_form::Effect;
+use cs_tx_types::Effect;
 use std::alloc::Global;
 use std::process::Abort;
 use std::test::Fail;

@@ -4,7 +4,7 @@ use cs_base::{Config, Key, Memory};
 use cs_table::Table;
 use cs_test_samples::spend;
 use cs_tx::{Session, Vote};
-use cs_tx_form::Effect;
+use cs_tx_types::Effect;
 use std::alloc::Global;
 use std::process::Abort;
 use std::test::Fail;

@@ -4,7 +4,7 @@ use cs_base::{Config, Key, Memory};
 use cs_table::{Table, TableError};
 use cs_test_samples::{coin, spend};
 use cs_tx::{Encoded, Session, State, Vote, genesis_key};
-use cs_tx_form::Effect;
+use cs_tx_types::Effect;
 use std::alloc::Global;
 use std::process::Abort;
 use std::test::Fail;

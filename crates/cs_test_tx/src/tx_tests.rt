@@ -1,4 +1,4 @@
-ghost use Rattle.cs_tx_form.specs.Transaction.{TxFits};
+ghost use Rattle.cs_tx_types.specs.Transaction.{TxFits};
 
 use cs_base::{Config, Key, Sequence, Writer};
 use cs_tx::*;

@@ -1,5 +1,4 @@
 //! Numbers that look random, the same at each run, for trials.
-#![tactic(auto)]
 
 ghost use Rattle.std.specs.Prelude.{◌<◌};
 
