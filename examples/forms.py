@@ -1,5 +1,5 @@
-"""The encodings, digests, keys and datagrams of docs/FORMATS.md, for scripts that make up schedules of their own; and the program run
-on a text."""
+"""The encodings, digests, keys and datagrams of docs/FORMATS.md, for scripts that make up schedules of their own; the tables of texts/;
+and the program run on a text."""
 import hashlib
 import hmac
 import subprocess
@@ -174,6 +174,13 @@ def say(sender, receiver, kind, body):
 
 def inject(receiver, datagram):
     return f"inject {receiver} {datagram.hex() or '-'}"
+
+
+def rows_of(path):
+    """The rows of a table of texts/. Its first line says what stands in them; lines without a tab say where the answers come from."""
+    for line in path.read_text().splitlines()[1:]:
+        if "\t" in line:
+            yield line.split("\t")
 
 
 def run(program, words, text=b"", **given):

@@ -19,19 +19,23 @@ NODE_ENDS = ["--ticks", "12000"]
 CLIENT_ENDS = ["--ticks", "3000"]
 # A deployment uses the 272 ports from its base port on. Those of the system's own choice begin above these.
 PORTS = 272
-FIRST, LAST = 10000, 31000
+BASES = range(10000, 31000, 300)
+# Above them, for a script that runs beside another one.
+BASES_ABOVE = range(61000, 65000, 300)
+# The port of the last node that a deployment could have is kept, so that no other script takes this base meanwhile.
+KEPT, kept = 255, []
 
 
-def free_base(besides=()):
-    """A base port, none of these, of which no port is taken at this moment. Where it looks first hangs on the number of this process."""
-    bases = [base for base in range(FIRST, LAST, 300) if base not in besides]
-    for number in range(len(bases)):
-        base = bases[(os.getpid() + number) % len(bases)]
+def free_base(among=BASES):
+    """A base port of which no port is taken. Where it looks first hangs on the number of this process."""
+    for number in range(len(among)):
+        base = among[(os.getpid() + number) % len(among)]
         taken = []
         try:
             for port in range(base, base + PORTS):
                 taken.append(socket.socket(socket.AF_INET, socket.SOCK_DGRAM))
                 taken[-1].bind(("127.0.0.1", port))
+            kept.append(taken.pop(KEPT))
             return base
         except OSError:
             pass
