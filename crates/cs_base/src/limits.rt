@@ -59,6 +59,10 @@ pub const BOOK_PLACES: u16 = 1_024;
 /// lock, if it aborts.
 pub const MOST_PLACES: u16 = 1_025;
 
+/// The most sessions that read one object at a time: a record with them all still grows by 2 KiB
+/// alone, and what is told of it stays far below a datagram.
+pub const MOST_READERS: u8 = 64;
+
 /// The most sessions that wait in a pool: at 8,351 bytes each they take 34 MB.
 pub const MOST_WAITING: usize = 4_096;
 

@@ -21,7 +21,7 @@ use Rattle.cs_tx.specs.Sessions.{key_seen}
 use Rattle.cs_ledger.specs.Ledger.{Bytes, is_empty}
 use Rattle.cs_ledger.specs.Session as ledger
 use Rattle.cs_ledger.specs.Table as table
-use Rattle.cs_ledger.specs.Table.{Table, Unknown, Active, Locked, Inactive}
+use Rattle.cs_ledger.specs.Table.{Table, Unknown, Active, Locked, Inactive, Shared}
 use Rattle.cs_ledger.proofs.Basics as basics
 use Rattle.cs_table.specs.Seen.{Stored, IsStored, AllStored, has_name, is_under, row_in, seen, seen_row, seen_record, unknown_record, IsKeyInWidth, KeysInWidth}
 use Rattle.cs_table.specs.Changes.{MarksTouched}
@@ -74,6 +74,7 @@ unknown_is r = by_state r.state r.book
     by_state (Active o) book h = absurd (both_ways true h refl)
     by_state (Locked o by) book h = absurd (both_ways true h refl)
     by_state (Inactive by) book h = absurd (both_ways true h refl)
+    by_state (Shared o readers) book h = absurd (both_ways true h refl)
 
 pub leaves_stay : (old new : Stored) (h : Hashed) → MarksTouched old new → HasLeavesBut old.touched h (seen old) → HasLeavesBut new.touched h (seen new)
 leaves_stay old new h marks has = record {

@@ -45,6 +45,7 @@ state_shown state.Unknown = refl
 state_shown (state.Active object) = refl
 state_shown (state.Locked object by) = refl
 state_shown (state.Inactive by) = refl
+state_shown (state.Shared object readers) = refl
 
 vote_shown : (v : Vote) → vote_bytes (vote_of v) ≡ vote_encoding v
 vote_shown vote.Abort = refl
@@ -117,6 +118,7 @@ unknown_is table.Unknown (place ∷ book) e = absurd (both_ways _ e refl)
 unknown_is (table.Active object) book e = absurd (both_ways _ e refl)
 unknown_is (table.Locked object by) book e = absurd (both_ways _ e refl)
 unknown_is (table.Inactive by) book e = absurd (both_ways _ e refl)
+unknown_is (table.Shared object readers) book e = absurd (both_ways _ e refl)
 
 pub stored_known : (r : Record) → IsStored r → is_known_record (seen_record r) ≡ true
 stored_known r stored =

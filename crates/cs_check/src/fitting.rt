@@ -15,7 +15,7 @@ fn state_fits(state: &State)
 {
     match state {
         State::Locked(_, by) | State::Inactive(by) => digest_fits(by),
-        State::Unknown | State::Active(_) => {}
+        State::Unknown | State::Active(_) | State::Shared(_, _) => {}
     }
 }
 

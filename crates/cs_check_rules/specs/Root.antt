@@ -1,11 +1,11 @@
 -- The root over the records of a table, as the ledger sees it.
 use Rattle.std.specs.Prelude.{◌++◌, List, [], ◌∷◌, length, map}
 use Rattle.std.specs.Int.{w16, w64, to_be_bytes}
-use Rattle.cs_base.specs.Fields.{each}
+use Rattle.cs_base.specs.Fields.{each, counted}
 use Rattle.cs_merkle.specs.Tree.{merkle_tree_hash}
 use Rattle.cs_ledger.specs.Ledger.{Bytes}
 use Rattle.cs_ledger.specs.Session.{Key, Object, Dummy}
-use Rattle.cs_ledger.specs.Table.{Vote, Commit, Abort, State, Unknown, Active, Locked, Inactive, Record, Table}
+use Rattle.cs_ledger.specs.Table.{Vote, Commit, Abort, State, Unknown, Active, Locked, Inactive, Shared, Record, Table}
 
 -- ---- encodings, where objects are encoded already
 
@@ -18,6 +18,7 @@ state_bytes Unknown = 0 ∷ []
 state_bytes (Active object) = 1 ∷ object
 state_bytes (Locked object by) = 2 ∷ (object ++ by)
 state_bytes (Inactive by) = 3 ∷ by
+state_bytes (Shared object readers) = 4 ∷ (object ++ counted (λ reader. reader) readers)
 
 abbrev pub vote_bytes : Vote → Bytes
 vote_bytes Abort = 0 ∷ []

@@ -7,6 +7,7 @@ deployment-limits = record {
   shards = refl;
   liars = refl;
   dummies = refl;
+  readers = refl;
   clients = refl;
   datagram = refl;
   missed = refl;

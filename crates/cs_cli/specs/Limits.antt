@@ -1,6 +1,6 @@
 -- The limits of the program by their numbers: other definitions have them by their names.
 use Rattle.std.specs.Prelude.{◌≡◌}
-use Rattle.cs_base.specs.declared.limits.TheConstants.{MOST_SHARDS, MOST_LIARS, MOST_DUMMIES, MOST_DATAGRAM, MOST_GENESIS, MOST_SCHEDULE, MOST_EVENTS, MOST_SENT}
+use Rattle.cs_base.specs.declared.limits.TheConstants.{MOST_SHARDS, MOST_LIARS, MOST_DUMMIES, MOST_READERS, MOST_DATAGRAM, MOST_GENESIS, MOST_SCHEDULE, MOST_EVENTS, MOST_SENT}
 use Rattle.cs_base.specs.declared.node_id.TheConstants.{CLIENTS}
 use Rattle.cs_lang_token.specs.declared.limits.TheConstants.{MOST_TEXT, MOST_COST}
 use Rattle.cs_sched.specs.declared.limits.TheConstants.{MOST_CONTRACTS}
@@ -15,6 +15,7 @@ pub record DeploymentLimitsAre : Type 0 where
   pub shards : MOST_SHARDS ≡ 16
   pub liars : MOST_LIARS ≡ 5  -- of a shard
   pub dummies : MOST_DUMMIES ≡ 64
+  pub readers : MOST_READERS ≡ 64  -- of an object at a time
   pub clients : CLIENTS ≡ 16
   pub datagram : MOST_DATAGRAM ≡ 32768  -- bytes
   pub missed : MOST_MISSED ≡ 64  -- receives that fail in a row

@@ -15,7 +15,7 @@ use Rattle.cs_tx_types.specs.declared.state.State.TheVariants as state
 use Rattle.cs_tx_types.specs.State.{StateFits}
 use Rattle.cs_client.specs.declared.beliefs.Asked.{Asked}
 use Rattle.cs_client.specs.declared.errand.Errand.{Errand}
-use Rattle.cs_client.specs.Objects.{active, word_on, words_on, first_believed, shard_of_name}
+use Rattle.cs_client.specs.Objects.{active, free_in, word_told, word_on, words_on, first_believed, shard_of_name}
 use Rattle.cs_client.specs.Dummies.{serial_by, serials_in}
 use Rattle.cs_client.specs.Kept.{Told, told_by_inputs, asked_with, asked_on, shards_below, unheard_on, unheard, with_word, word_of_name, serials_kept, told_with_state, heard_of, WordFits, AskedFits, HasAll, ToldFits, FlagsSayWords, ToldMarked}
 use Rattle.cs_client.proofs.Members.{node_at, same-each}
@@ -102,11 +102,23 @@ unheard-marked config inputs reads =
     let one : (name : List ℕ) → FlagsSayWords config.f (unheard_on n name) = λ name. sym (ap is_some (none-believed config.f n (replicate n None))) in
     record { inputs = all-map (FlagsSayWords config.f) (unheard_on n) inputs one; reads = all-map (FlagsSayWords config.f) (unheard_on n) reads one }
 
-pub active-fits : (s : State) → StateFits s → WordFits (active s)
+active-fits : (s : State) → StateFits s → WordFits (active s)
 active-fits state.Unknown fits = tt
 active-fits (state.Active object) fits = fits
 active-fits (state.Locked object session) fits = tt
 active-fits (state.Inactive session) fits = tt
+active-fits (state.Shared object readers) fits = tt
+
+free-fits : (s : State) → StateFits s → WordFits (free_in s)
+free-fits state.Unknown fits = tt
+free-fits (state.Active object) fits = fits
+free-fits (state.Locked object session) fits = tt
+free-fits (state.Inactive session) fits = tt
+free-fits (state.Shared object readers) fits = fits.0
+
+pub word-fits : (k : Key) (s : State) → StateFits s → WordFits (word_told k s)
+word-fits (key.Object name) s fits = free-fits s fits
+word-fits (key.Dummy shard serial) s fits = active-fits s fits
 
 told-fits : (n f : ℕ) (name : List ℕ) (index : ℕ) (word : Option Object) → WordFits word → (asked : Asked) → AskedFits n asked → AskedFits n (word_of_name f name index word asked)
 told-fits n f name index word fits asked before = by (bytes_eq asked.name name) where
@@ -135,24 +147,24 @@ has-words config from told known fits =
     omega arith
 
 -- what is told of a key of this shard, and of one of another
-pub heard-here : (config : Config) (from : NodeId) (k : Key) (s : State) (told : Told) → shard_of_key config.shards k ≡ from.shard → heard_of config from k s told ≡ told_with_state config.f from k (active s) told
+pub heard-here : (config : Config) (from : NodeId) (k : Key) (s : State) (told : Told) → shard_of_key config.shards k ≡ from.shard → heard_of config from k s told ≡ told_with_state config.f from k (word_told k s) told
 heard-here config from k s told here =
-    ap (λ t. if t then told_with_state config.f from k (active s) told else told) (is-one (shard_of_key config.shards k) from.shard here)
+    ap (λ t. if t then told_with_state config.f from k (word_told k s) told else told) (is-one (shard_of_key config.shards k) from.shard here)
 
 pub heard-apart : (config : Config) (from : NodeId) (k : Key) (s : State) (told : Told) → (shard_of_key config.shards k ≡ from.shard → ⊥) → heard_of config from k s told ≡ told
 heard-apart config from k s told apart =
-    ap (λ t. if t then told_with_state config.f from k (active s) told else told) (isn't (shard_of_key config.shards k) from.shard apart)
+    ap (λ t. if t then told_with_state config.f from k (word_told k s) told else told) (isn't (shard_of_key config.shards k) from.shard apart)
 
 pub heard-fits : (config : Config) (from : NodeId) (k : Key) (s : State) (told : Told) → is_node config from ≡ true → StateFits s → ToldFits config told → ToldFits config (heard_of config from k s told)
 heard-fits config from k s told known fits before = by (shard_of_key config.shards k == from.shard) k where
-  by : (here : Bool) (k : Key) → ToldFits config (if here then told_with_state config.f from k (active s) told else told)
+  by : (here : Bool) (k : Key) → ToldFits config (if here then told_with_state config.f from k (word_told k s) told else told)
   by false k = before
   by true (key.Object name) =
       let n = 3 * config.f + 1 in
-      let one = told-fits n config.f name from.index (active s) (active-fits s fits) in
+      let one = told-fits n config.f name from.index (free_in s) (free-fits s fits) in
       record {
-        inputs = all-changed (AskedFits n) (word_of_name config.f name from.index (active s)) told.inputs one before.inputs;
-        reads = all-changed (AskedFits n) (word_of_name config.f name from.index (active s)) told.reads one before.reads;
+        inputs = all-changed (AskedFits n) (word_of_name config.f name from.index (free_in s)) told.inputs one before.inputs;
+        reads = all-changed (AskedFits n) (word_of_name config.f name from.index (free_in s)) told.reads one before.reads;
         shards = before.shards;
         serials = before.serials;
       }
@@ -172,12 +184,12 @@ heard-fits config from k s told known fits before = by (shard_of_key config.shar
 
 pub heard-marked : (config : Config) (from : NodeId) (k : Key) (s : State) (told : Told) → ToldMarked config.f told → ToldMarked config.f (heard_of config from k s told)
 heard-marked config from k s told before = by (shard_of_key config.shards k == from.shard) k where
-  by : (here : Bool) (k : Key) → ToldMarked config.f (if here then told_with_state config.f from k (active s) told else told)
+  by : (here : Bool) (k : Key) → ToldMarked config.f (if here then told_with_state config.f from k (word_told k s) told else told)
   by false k = before
   by true (key.Object name) =
-      let one = told-marked config.f name from.index (active s) in
+      let one = told-marked config.f name from.index (free_in s) in
       record {
-        inputs = all-changed (FlagsSayWords config.f) (word_of_name config.f name from.index (active s)) told.inputs one before.inputs;
-        reads = all-changed (FlagsSayWords config.f) (word_of_name config.f name from.index (active s)) told.reads one before.reads;
+        inputs = all-changed (FlagsSayWords config.f) (word_of_name config.f name from.index (free_in s)) told.inputs one before.inputs;
+        reads = all-changed (FlagsSayWords config.f) (word_of_name config.f name from.index (free_in s)) told.reads one before.reads;
       }
   by true (key.Dummy shard serial) = record { inputs = before.inputs; reads = before.reads }

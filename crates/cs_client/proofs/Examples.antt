@@ -45,6 +45,12 @@ a_lesser_one_of_one_node_does_not = refl
 what_is_locked_is_taken_back : told_in (1 ∷ []) (message.Told (key.Object (1 ∷ [])) (state.Locked (coin 5) [])) ≡ Some None
 what_is_locked_is_taken_back = refl
 
+what_is_shared_is_there : told_in (1 ∷ []) (message.Told (key.Object (1 ∷ [])) (state.Shared (coin 5) ([] ∷ []))) ≡ Some (Some (coin 5))
+what_is_shared_is_there = refl
+
+a_shared_dummy_is_not_active : dummy_word_in 0 (message.Told (key.Dummy 0 3) (state.Shared (coin 1) ([] ∷ []))) ≡ Some None
+a_shared_dummy_is_not_active = refl
+
 another_name_is_not_told_of : told_in (1 ∷ []) (message.Told (key.Object (2 ∷ [])) (state.Active (coin 5))) ≡ None
 another_name_is_not_told_of = refl
 

@@ -20,7 +20,7 @@ use Rattle.cs_wire_message.specs.declared.message.Message.{Message}
 use Rattle.cs_wire_message.specs.declared.message.Message.TheVariants as message
 use Rattle.cs_client.specs.declared.errand.Errand.{Errand}
 use Rattle.cs_client.specs.Inputs.{Input, heard, from_node, said_from, latest, or_none}
-use Rattle.cs_client.specs.Objects.{active, object_told, told_in, word_on, shard_of_name, words_on}
+use Rattle.cs_client.specs.Objects.{active, free_in, word_told, object_told, told_in, word_on, shard_of_name, words_on}
 use Rattle.cs_client.specs.Dummies.{serial_told, dummy_told, dummy_word_in, serial_by, serials_in}
 use Rattle.cs_client.specs.Kept.{Told, told_by_inputs, asked_on, asked_with, shards_below, with_word, word_of_name, told_with_state, heard_of, serials_kept}
 use Rattle.cs_client.proofs.Members.{node_at, same-members, same-shards, same-each, set-members, set-shards, each-changed, get-shards}
@@ -235,31 +235,31 @@ told-elsewhere e input past from (key.Object told) s said apart =
     (λ name. elim (cases_Bool (bytes_eq name told)) [
       | inl same ↦ elsewhere e input past from (key.Object told) s said name
           (λ q. apart (ap (shard_of_name e.config) (sym ((bytes_eq-Decides name told).0 same)) ∙ sym q))
-      | inr other ↦ untold e input past from (key.Object told) s said name (ap (λ t. if t then Some (active s) else None) other)
+      | inr other ↦ untold e input past from (key.Object told) s said name (ap (λ t. if t then Some (free_in s) else None) other)
     ])
     (λ shard low. serial-untold e input past from (key.Object told) s said shard refl)
 
 told-object : (e : Errand) (input : Input) (past : List Input) (from : NodeId) (told : List ℕ) (s : State) → heard e.keys input ≡ Some (from, message.Told (key.Object told) s)
     → from.index < 3 * e.config.f + 1 → shard_of_name e.config told ≡ from.shard
-    → told_by_inputs e (input ∷ past) ≡ told_with_state e.config.f from (key.Object told) (active s) (told_by_inputs e past)
+    → told_by_inputs e (input ∷ past) ≡ told_with_state e.config.f from (key.Object told) (free_in s) (told_by_inputs e past)
 told-object e input past from told s said low at =
     let before = asked_on e.config e.keys past in
     let after = asked_on e.config e.keys (input ∷ past) in
-    let change = word_of_name e.config.f told from.index (active s) in
+    let change = word_of_name e.config.f told from.index (free_in s) in
     let each : (name : List ℕ) → after name ≡ change (before name) = λ name.
     elim (cases_Bool (bytes_eq name told)) [
       | inl same ↦
           ap (asked_with e.config.f name)
-          (words-set e input past from (key.Object told) s said name (active s)
+          (words-set e input past from (key.Object told) s said name (free_in s)
           (sym at ∙ ap (shard_of_name e.config) (sym ((bytes_eq-Decides name told).0 same))) low
-          (ap (λ t. if t then Some (active s) else None) same))
-          ∙ sym (ap (λ t. if t then with_word e.config.f from.index (active s) (before name) else before name) same)
+          (ap (λ t. if t then Some (free_in s) else None) same))
+          ∙ sym (ap (λ t. if t then with_word e.config.f from.index (free_in s) (before name) else before name) same)
       | inr other ↦
           asked-none e.config e.keys input past name
-          (untold e input past from (key.Object told) s said name (ap (λ t. if t then Some (active s) else None) other))
-          ∙ sym (ap (λ t. if t then with_word e.config.f from.index (active s) (before name) else before name) other)
+          (untold e input past from (key.Object told) s said name (ap (λ t. if t then Some (free_in s) else None) other))
+          ∙ sym (ap (λ t. if t then with_word e.config.f from.index (free_in s) (before name) else before name) other)
     ] in
-    told-eq (told_by_inputs e (input ∷ past)) (told_with_state e.config.f from (key.Object told) (active s) (told_by_inputs e past))
+    told-eq (told_by_inputs e (input ∷ past)) (told_with_state e.config.f from (key.Object told) (free_in s) (told_by_inputs e past))
     (each-changed before after change e.call.inputs each)
     (each-changed before after change e.call.reads each)
     (same-shards (serials_in e.config e.keys (input ∷ past)) (serials_in e.config e.keys past) e.config.shards
@@ -290,14 +290,14 @@ pub told-heard : (e : Errand) (input : Input) (past : List Input) (from : NodeId
     → is_node e.config from ≡ true → told_by_inputs e (input ∷ past) ≡ heard_of e.config from k s (told_by_inputs e past)
 told-heard e input past from k s said known =
     elim (cases_eq (shard_of_key e.config.shards k) from.shard) [
-      | inl same ↦ here k s said same ∙ sym (ap (λ t. if t then told_with_state e.config.f from k (active s) (told_by_inputs e past) else told_by_inputs e past) (is-one (shard_of_key e.config.shards k) from.shard same))
-      | inr apart ↦ told-elsewhere e input past from k s said apart ∙ sym (ap (λ t. if t then told_with_state e.config.f from k (active s) (told_by_inputs e past) else told_by_inputs e past) (isn't (shard_of_key e.config.shards k) from.shard apart))
+      | inl same ↦ here k s said same ∙ sym (ap (λ t. if t then told_with_state e.config.f from k (word_told k s) (told_by_inputs e past) else told_by_inputs e past) (is-one (shard_of_key e.config.shards k) from.shard same))
+      | inr apart ↦ told-elsewhere e input past from k s said apart ∙ sym (ap (λ t. if t then told_with_state e.config.f from k (word_told k s) (told_by_inputs e past) else told_by_inputs e past) (isn't (shard_of_key e.config.shards k) from.shard apart))
     ]
   where
     place : (from.shard < e.config.shards) × (from.index < 3 * e.config.f + 1)
     place = is_in e.config from known
 
     here : (k : Key) (s : State) → heard e.keys input ≡ Some (from, message.Told k s) → shard_of_key e.config.shards k ≡ from.shard
-        → told_by_inputs e (input ∷ past) ≡ told_with_state e.config.f from k (active s) (told_by_inputs e past)
+        → told_by_inputs e (input ∷ past) ≡ told_with_state e.config.f from k (word_told k s) (told_by_inputs e past)
     here (key.Object told) s said at = told-object e input past from told s said place.1 at
     here (key.Dummy other number) s said at = told-dummy e input past from other number s said place.0 place.1 at

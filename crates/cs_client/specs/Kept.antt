@@ -15,7 +15,7 @@ use Rattle.cs_client.specs.declared.beliefs.Asked.{Asked}
 use Rattle.cs_client.specs.declared.beliefs.Objects.{Objects}
 use Rattle.cs_client.specs.declared.errand.Errand.{Errand}
 use Rattle.cs_client.specs.Inputs.{Input}
-use Rattle.cs_client.specs.Objects.{active, words_on, believed_in}
+use Rattle.cs_client.specs.Objects.{word_told, words_on, believed_in}
 use Rattle.cs_client.specs.Dummies.{serials_in, least_named}
 use Rattle.cs_client.specs.Calls.{objects_with}
 
@@ -88,7 +88,9 @@ told_with_state f from (key.Dummy shard serial) word told =
 -- what a node told of a key, where it is one of the key's shard
 abbrev pub heard_of : Config → NodeId → Key → State → Told → Told
 heard_of config from key state told =
-    if shard_of_key config.shards key == from.shard then told_with_state config.f from key (active state) told else told
+    if shard_of_key config.shards key == from.shard
+    then told_with_state config.f from key (word_told key state) told
+    else told
 
 -- ---- its form
 

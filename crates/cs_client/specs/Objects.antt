@@ -23,17 +23,28 @@ active state.Unknown = None
 active (state.Active object) = Some object
 active (state.Locked object session) = None
 active (state.Inactive session) = None
+active (state.Shared object readers) = None
 
--- what is told of the object of this name: an object with which it is active, or that it isn't
+-- the object that is there to be read: its state is active, or shared
+abbrev pub free_in : State → Option Object
+free_in (state.Shared object readers) = Some object
+free_in s = active s
+
+-- what is said of a key: the object that is there under a name, or with which a dummy is active
+abbrev pub word_told : Key → State → Option Object
+word_told (key.Object name) s = free_in s
+word_told (key.Dummy shard serial) s = active s
+
+-- what is told of the object of this name: one that is there, or that none is
 abbrev pub object_told : List ℕ → Key → State → Option (Option Object)
-object_told name (key.Object told) s = if bytes_eq name told then Some (active s) else None
+object_told name (key.Object told) s = if bytes_eq name told then Some (free_in s) else None
 object_told name (key.Dummy shard serial) s = None
 
 abbrev pub told_in : List ℕ → Message → Option (Option Object)
 told_in name (message.Told key state) = object_told name key state
 told_in name m = None
 
--- a node's last word on a name: an object with which it is active, or none
+-- a node's last word on a name: an object that is there, or none
 abbrev pub word_on : Keys → List ℕ → List Input → NodeId → Option Object
 word_on keys name inputs node =
     or_none (latest (λ input. option_and_then (told_in name) (said_from keys node input)) inputs)

@@ -3,7 +3,7 @@ ghost use Rattle.std.specs.Prelude.{◌≡◌, ◌+◌, ◌*◌, ◌≤◌, map,
 ghost use Rattle.cs_client.specs.Kept.{unheard_on, with_word, word_of_name, WordFits, AskedFits, EachFits, are_settled, objects_believed};
 
 use crate::dummies::least_named;
-use crate::objects::{active, believed, copy_word, put_word};
+use crate::objects::{believed, copy_word, put_word, word_told};
 use cs_base::{Config, Key, Memory, NodeId, Sequence, shard_of};
 use cs_tx_types::State;
 use cs_tx_value::{Digest, Encoded, Object};
@@ -11,7 +11,7 @@ use std::alloc::Global;
 use std::marker::Model;
 
 /// A name of which nodes are asked, with the last word of each node of its shard: the object that
-/// it told as active, or none.
+/// it told as active or shared, or none.
 #[derive(Drop)]
 pub struct Asked {
     pub name: Digest,
@@ -252,7 +252,7 @@ impl Beliefs {
         if shard_of(config, &key) != from.shard {
             return Ok(());
         }
-        self.hear_key(alloc, config, from, key, &active(state))
+        self.hear_key(alloc, config, from, key, &word_told(&key, state))
     }
 
     /// The objects to be used up and those to be read, where one is believed under each name.

@@ -1,21 +1,29 @@
 //! What nodes say of objects, and what is believed of it.
 ghost use Rattle.std.specs.Prelude.{◌≡◌, ◌<◌, ℕ, length, slice_set, count_by, option_copied, IfOk};
 ghost use Rattle.cs_tx_value.specs.Object.{ObjectFits};
-ghost use Rattle.cs_client.specs.Objects.{active, word_is, voices, believed_in};
+ghost use Rattle.cs_tx_types.specs.State.{StateFits};
+ghost use Rattle.cs_client.specs.Objects.{word_told, word_is, voices, believed_in};
 ghost use Rattle.cs_client.specs.Kept.{WordFits, WordsFit};
 
-use cs_base::{Memory, Sequence};
+use cs_base::{Key, Memory, Sequence};
 use cs_tx_types::State;
 use cs_tx_value::{Encoded, Object};
 use std::alloc::Global;
 use std::mem;
 
-/// The object that a state is active with.
-pub fn active(state: State) -> Option<Object>
-    ensures { result ≡ active state }
+/// The object that is said of a key by its state: under a name one that is active or shared, of a
+/// dummy one that is active.
+pub fn word_told(key: &Key, state: State) -> Option<Object>
+    requires { StateFits state }
+    ensures word { result ≡ word_told key.now state }
+    ensures fits { WordFits result }
 {
     match state {
         State::Active(object) => Some(object),
+        State::Shared(object, _) => match key {
+            Key::Object(_) => Some(object),
+            Key::Dummy(_, _) => None,
+        },
         State::Unknown | State::Locked(_, _) | State::Inactive(_) => None,
     }
 }

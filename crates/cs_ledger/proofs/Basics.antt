@@ -1,10 +1,10 @@
 -- Lists of items and keys.
-use Rattle.std.proofs.Common.{◌≡◌, ℕ, List, [], ◌∷◌, ◌++◌, Bool, true, false, ◌||◌, ◌⊎◌, inl, inr, Some, refl, sym, ap, ◌∙◌}
+use Rattle.std.proofs.Common.{◌≡◌, ℕ, List, [], ◌∷◌, ◌++◌, true, false, ◌⊎◌, inl, inr, Some, refl, sym, ap, ◌∙◌}
 use Rattle.std.specs.Prelude.{bytes_eq}
 use Rattle.std.specs.Cmp.Lexicographic.{bytes_decides}
 use Rattle.std.proofs.lemmas.Bool.{cases_Bool, and_parts, and_from, or_cases, or_left, or_right, eqb-true, eq-eqb, both_ways}
 use Rattle.cs_ledger.specs.Ledger.{Bytes, IsIn}
-use Rattle.cs_ledger.specs.Session.{Key, Object, Dummy, Piece, key_eq, has_key, first_key, Rules, Session, used_up, read_only, anchor}
+use Rattle.cs_ledger.specs.Session.{Key, Object, Dummy, Piece, key_eq, has_key, first_key, Rules, Session, used_up, anchor}
 
 pub same_bytes : (a b : Bytes) → bytes_eq a b ≡ true → a ≡ b
 same_bytes a b e = (bytes_decides a b).0 e
@@ -62,24 +62,6 @@ piece_has piece (other ∷ pieces) (inr h) = or_right _ _ (piece_has piece piece
 pub first_is : (pieces : List Piece) (key : Key) → first_key pieces ≡ Some key → (piece : Piece) × (IsIn piece pieces) × (key ≡ piece.key)
 first_is [] key e = cc
 first_is (piece ∷ pieces) key e = let same : key ≡ piece.key = cc in (piece, inl refl, same)
-
--- the session uses up the key in a shard, or reads it there
-abbrev pub touches : Rules → Session → ℕ → Key → Bool
-touches rules x shard key = has_key key (used_up rules x shard) || has_key key (read_only rules x shard)
-
-abbrev pub IsPiece : Rules → Session → ℕ → Piece → Type 0
-IsPiece rules x shard piece = IsIn piece (used_up rules x shard) ⊎ IsIn piece (read_only rules x shard)
-
-pub touched_piece : (rules : Rules) (x : Session) (shard : ℕ) (key : Key) → touches rules x shard key ≡ true → (piece : Piece) × (IsPiece rules x shard piece) × (key ≡ piece.key)
-touched_piece rules x shard key e =
-    elim (or_cases _ _ e) [
-      | inl u ↦ let p = has_piece key _ u in (p.0, inl p.1, p.2)
-      | inr r ↦ let p = has_piece key _ r in (p.0, inr p.1, p.2)
-    ]
-
-pub piece_touched : (rules : Rules) (x : Session) (shard : ℕ) (piece : Piece) → IsPiece rules x shard piece → touches rules x shard piece.key ≡ true
-piece_touched rules x shard piece (inl h) = or_left _ _ (piece_has piece _ h)
-piece_touched rules x shard piece (inr h) = or_right _ _ (piece_has piece _ h)
 
 -- the anchor is one of the keys that are used up
 pub anchor_piece : (rules : Rules) (x : Session) (shard : ℕ) (key : Key) → anchor rules x shard ≡ Some key → (piece : Piece) × (IsIn piece (used_up rules x shard)) × (key ≡ piece.key)

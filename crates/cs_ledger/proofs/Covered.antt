@@ -4,12 +4,12 @@ use Rattle.std.specs.Prelude.{bytes_eq, ◌==◌, if◌then◌else◌}
 use Rattle.std.proofs.lemmas.Bool.{cond_both, both_ways, eq-eqb}
 use Rattle.cs_ledger.specs.Ledger.{Bytes, Item, Transaction, IsIn, names, has, object_named}
 use Rattle.cs_ledger.specs.Session.{AreToldApart, Session, Rules, Key, Object, Piece, has_key, object_under, objects_in, used_up, read_only, anchor}
-use Rattle.cs_ledger.specs.Table.{Abort, State, Unknown, Active, Locked, Table, Entry, is_locked_by, locked, released, made, accept_state, with_locks, with_vote, with_accepted, with_aborted, new_pieces, session_of, exec, start}
-use Rattle.cs_ledger.proofs.Basics.{same_bytes, touches}
-use Rattle.cs_ledger.proofs.Names.{used_object, read_object, input_used, new_object, has_item, object_piece, under_piece}
+use Rattle.cs_ledger.specs.Table.{Abort, State, Unknown, Locked, Table, Entry, is_locked_by, locked, released, joined_by, vacated_by, lock_state, undo_state, made, accept_state, with_locks, with_vote, with_accepted, with_aborted, new_pieces, session_of, exec, start}
+use Rattle.cs_ledger.proofs.Basics.{same_bytes}
+use Rattle.cs_ledger.proofs.Names.{used_object, read_object, new_object, object_piece, under_piece}
 use Rattle.cs_ledger.proofs.Changes.{Nothing, Locks, Notes, Accepts, Aborts, change}
-use Rattle.cs_ledger.proofs.States.{IsReadable, lock_cases, lock_active, lock_unknown, accept_active, accept_locked, accept_unknown, undo_active, undo_locked, undo_unknown}
-use Rattle.cs_ledger.proofs.Kept.{Kept, Known, Holding, own, held_is_locked, read_is_piece, two_locks}
+use Rattle.cs_ledger.proofs.States.{IsReadable, lock_cases, lock_readable, lock_unknown, accept_readable, accept_locked, accept_unknown, undo_readable, undo_locked, undo_unknown}
+use Rattle.cs_ledger.proofs.Kept.{Kept, Known, Holding, own, held_is_locked, two_locks}
 use Rattle.cs_ledger.proofs.Entries.{IsBacked, same_out}
 
 -- the session has all its commit votes and the name is one of its inputs
@@ -37,69 +37,56 @@ accept_home P true read d new state u r n (inl e) = inr (u refl)
 accept_home P false true d new state u r n (inl e) = inr (r refl)
 accept_home P false false d new state u r n (inl e) = made_unknown P new state e n
 
-lock_home : (P : Type 0) (b : Bool) (d : Bytes) (state : State) → (state ≡ Unknown) ⊎ P → ((if b then locked d state else state) ≡ Unknown) ⊎ P
-lock_home P true d state (inl e) = inl (ap (locked d) e)
-lock_home P false d state (inl e) = inl e
-lock_home P b d state (inr p) = inr p
+lock_home : (P : Type 0) (used read : Bool) (d : Bytes) (state : State) → (state ≡ Unknown) ⊎ P → (lock_state used read d state ≡ Unknown) ⊎ P
+lock_home P true read d state (inl e) = inl (ap (locked d) e)
+lock_home P false true d state (inl e) = inl (ap (joined_by d) e)
+lock_home P false false d state (inl e) = inl e
+lock_home P used read d state (inr p) = inr p
 
-undo_home : (P : Type 0) (b : Bool) (state : State) → (state ≡ Unknown) ⊎ P → ((if b then released state else state) ≡ Unknown) ⊎ P
-undo_home P true state (inl e) = inl (ap released e)
-undo_home P false state (inl e) = inl e
-undo_home P b state (inr p) = inr p
+undo_home : (P : Type 0) (used read : Bool) (d : Bytes) (state : State) → (state ≡ Unknown) ⊎ P → (undo_state used read d state ≡ Unknown) ⊎ P
+undo_home P true read d state (inl e) = inl (ap released e)
+undo_home P false true d state (inl e) = inl (ap (vacated_by d) e)
+undo_home P false false d state (inl e) = inl e
+undo_home P used read d state (inr p) = inr p
 
 module _ (rules : Rules) (known : List Session) (unique : AreToldApart known) (commits aborts : Session → Type 0) (active : Bytes → Option Bytes) (history : List Transaction) (listed : (x : Session) → IsIn x known → commits x → IsIn x.transaction history) (no_both : (x : Session) → IsIn x known → commits x → aborts x → ⊥) (shard : ℕ) (t : Table) (kept : Kept rules known commits aborts shard t) (covered : Covered rules known commits active history shard t) where
   module _ (y : Session) (knows : IsIn y known) (key : Key) (is : anchor rules y shard ≡ Some key) where
     covered_lock : Covered rules known commits active history shard (with_locks t y.digest (used_up rules y shard) (read_only rules y shard))
     covered_lock =
+        let used = λ (name : Bytes). has_key (Object name) (used_up rules y shard) in
+        let read = λ (name : Bytes). has_key (Object name) (read_only rules y shard) in
         record {
-          active_is = λ name object e. covered.active_is name object (lock_active (touches rules y shard (Object name)) y.digest (t.at (Object name)).state object e);
+          active_is = λ name object e. covered.active_is name object (lock_readable (used name) (read name) y.digest (t.at (Object name)).state object e);
           locked_is = λ name object d e.
-              elim (lock_cases (touches rules y shard (Object name)) y.digest (t.at (Object name)).state object d e) [
+              elim (lock_cases (used name) (read name) y.digest (t.at (Object name)).state object d e) [
                 | inl before ↦ covered.locked_is name object d before
-                | inr now ↦ inl (covered.active_is name object now.1)
+                | inr now ↦ inl (covered.active_is name object (inl now.1))
               ];
-          home = λ name. lock_home (rules.shard_of name ≡ shard) (touches rules y shard (Object name)) y.digest (t.at (Object name)).state (covered.home name);
-          unknown_is = λ name e. covered.unknown_is name (lock_unknown (touches rules y shard (Object name)) y.digest (t.at (Object name)).state e);
+          home = λ name. lock_home (rules.shard_of name ≡ shard) (used name) (read name) y.digest (t.at (Object name)).state (covered.home name);
+          unknown_is = λ name e. covered.unknown_is name (lock_unknown (used name) (read name) y.digest (t.at (Object name)).state e);
         }
 
     -- a key that the session holds, and that the ledger does not have, is one of its inputs
-    own_input : Holding rules shard t y → (name object d : Bytes) → touches rules y shard (Object name) ≡ true → (t.at (Object name)).state ≡ Locked object d → Known known (Takes_up commits name) d → commits y × (has_key (Object name) (used_up rules y shard) ≡ true)
+    own_input : Holding rules shard t y → (name object d : Bytes) → has_key (Object name) (used_up rules y shard) ≡ true → (t.at (Object name)).state ≡ Locked object d → Known known (Takes_up commits name) d → commits y
     own_input hy name object d has e by =
         let l = held_is_locked rules known unique shard t y hy (Object name) has in
         let same : by.x.digest ≡ y.digest = by.digest ∙ two_locks rules known unique shard t _ object l.0 d y.digest e l.1 in
         let xy : by.x ≡ y = unique by.x y by.knows knows same in
-        let item = has_item name by.x.transaction.inputs by.holds.input in
-        let home = at_home (rules.shard_of name ≡ shard) _ _ (covered.home name) e (λ q. cc) in
-        let used : has_key (Object item.0.name) (used_up rules by.x shard) ≡ true = input_used rules by.x shard item.0 item.1 (ap rules.shard_of (sym item.2) ∙ home) in (
-          subst commits xy by.holds.all,
-          ap (λ n. has_key (Object n) (used_up rules y shard)) item.2
-              ∙ ap (λ (z : Session). has_key (Object item.0.name) (used_up rules z shard)) (sym xy)
-              ∙ used,
-        )
+        subst commits xy by.holds.all
 
     covered_accept : is_locked_by y.digest (t.at key).state ≡ true → commits y → Covered rules known commits active history shard (with_accepted rules shard t y)
     covered_accept held all =
         let hy = own rules known unique shard t commits aborts kept y knows key is held in
         record {
           active_is = λ name object e.
-              let a = accept_active (has_key (Object name) (used_up rules y shard)) (has_key (Object name) (read_only rules y shard)) y.digest (object_under (new_pieces rules shard t y) (Object name)) (t.at (Object name)).state object e in
-              elim a.1 [
+              elim (accept_readable (has_key (Object name) (used_up rules y shard)) (has_key (Object name) (read_only rules y shard)) y.digest (object_under (new_pieces rules shard t y) (Object name)) (t.at (Object name)).state object e) [
                 | inl before ↦ covered.active_is name object before
-                | inr later ↦ elim later [
-                  | inl read ↦
-                      elim (covered.locked_is name object read.1.0 read.1.1) [
-                        | inl there ↦ there
-                        | inr by ↦
-                            let o = own_input hy name object read.1.0 (read_is_piece rules known unique shard t y (Object name) read.0) read.1.1 by in
-                            absurd (both_ways _ a.0 o.1)
-                      ]
-                  | inr new ↦
-                      let n = new_object rules y shard t name object new.1 in
-                      covered.unknown_is name new.0 n.4 y.transaction (listed y knows all) n.0 n.1 n.2 ∙ ap Some n.3
-                ]
+                | inr new ↦
+                    let n = new_object rules y shard t name object new.1 in
+                    covered.unknown_is name new.0 n.4 y.transaction (listed y knows all) n.0 n.1 n.2 ∙ ap Some n.3
               ];
           locked_is = λ name object d e.
-              covered.locked_is name object d (accept_locked (has_key (Object name) (used_up rules y shard)) (has_key (Object name) (read_only rules y shard)) y.digest (object_under (new_pieces rules shard t y) (Object name)) (t.at (Object name)).state object d e).2;
+              covered.locked_is name object d (accept_locked (has_key (Object name) (used_up rules y shard)) (has_key (Object name) (read_only rules y shard)) y.digest (object_under (new_pieces rules shard t y) (Object name)) (t.at (Object name)).state object d e).1;
           home = λ name.
               accept_home (rules.shard_of name ≡ shard) (has_key (Object name) (used_up rules y shard)) (has_key (Object name) (read_only rules y shard)) y.digest (object_under (new_pieces rules shard t y) (Object name)) (t.at (Object name)).state
               (λ u. (used_object rules y shard name u).3)
@@ -115,17 +102,17 @@ module _ (rules : Rules) (known : List Session) (unique : AreToldApart known) (c
         let hy = own rules known unique shard t commits aborts kept y knows key is held in
         record {
           active_is = λ name object e.
-              elim (undo_active (touches rules y shard (Object name)) (t.at (Object name)).state object e) [
+              elim (undo_readable (has_key (Object name) (used_up rules y shard)) (has_key (Object name) (read_only rules y shard)) y.digest (t.at (Object name)).state object e) [
                 | inl before ↦ covered.active_is name object before
                 | inr lost ↦
                     elim (covered.locked_is name object lost.1.0 lost.1.1) [
                       | inl there ↦ there
-                      | inr by ↦ absurd (no_both y knows (own_input hy name object lost.1.0 lost.0 lost.1.1 by).0 one)
+                      | inr by ↦ absurd (no_both y knows (own_input hy name object lost.1.0 lost.0 lost.1.1 by) one)
                     ]
               ];
-          locked_is = λ name object d e. covered.locked_is name object d (undo_locked (touches rules y shard (Object name)) (t.at (Object name)).state object d e).1;
-          home = λ name. undo_home (rules.shard_of name ≡ shard) (touches rules y shard (Object name)) (t.at (Object name)).state (covered.home name);
-          unknown_is = λ name e. covered.unknown_is name (undo_unknown (touches rules y shard (Object name)) (t.at (Object name)).state e);
+          locked_is = λ name object d e. covered.locked_is name object d (undo_locked (has_key (Object name) (used_up rules y shard)) (has_key (Object name) (read_only rules y shard)) y.digest (t.at (Object name)).state object d e).1;
+          home = λ name. undo_home (rules.shard_of name ≡ shard) (has_key (Object name) (used_up rules y shard)) (has_key (Object name) (read_only rules y shard)) y.digest (t.at (Object name)).state (covered.home name);
+          unknown_is = λ name e. covered.unknown_is name (undo_unknown (has_key (Object name) (used_up rules y shard)) (has_key (Object name) (read_only rules y shard)) y.digest (t.at (Object name)).state e);
         }
 
     covered_note : Covered rules known commits active history shard (with_vote t key y.digest Abort)
@@ -143,9 +130,11 @@ module _ (rules : Rules) (known : List Session) (unique : AreToldApart known) (c
         | Aborts y key what is held to ↦ same_out P _ _ to (covered_abort y (subst (λ e. IsIn (session_of e) known) what knows) key is held (subst (λ e. IsBacked commits aborts e) what backed))
       ]
 
-made_active : (o : Option Bytes) (object : Bytes) → made o Unknown ≡ Active object → o ≡ Some object
-made_active None object e = cc
-made_active (Some other) object e = let q : other ≡ object = cc in ap Some q
+made_active : (o : Option Bytes) (object : Bytes) → IsReadable object (made o Unknown) → o ≡ Some object
+made_active None object (inl e) = cc
+made_active None object (inr s) = absurd (let q = s.1 in cc)
+made_active (Some other) object (inl e) = let q : other ≡ object = cc in ap Some q
+made_active (Some other) object (inr s) = absurd (let q = s.1 in cc)
 
 made_is_unknown : (o : Option Bytes) → (made o Unknown ≡ Unknown) ⊎ ((object : Bytes) × (o ≡ Some object))
 made_is_unknown None = inl refl

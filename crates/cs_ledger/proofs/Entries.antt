@@ -1,13 +1,14 @@
 -- What one entry keeps, whichever of the changes it makes.
-use Rattle.std.proofs.Common.{◌≡◌, ℕ, List, [], ◌∷◌, ◌++◌, Bool, inl, Some, refl, sym, ap, ◌∙◌, subst}
+use Rattle.std.proofs.Common.{◌≡◌, ℕ, List, [], ◌∷◌, ◌++◌, Bool, Some, refl, sym, ap, ◌∙◌, subst}
 use Rattle.std.specs.Prelude.{if◌then◌else◌}
+use Rattle.std.proofs.lemmas.Bool.{and_parts}
 use Rattle.cs_ledger.specs.Ledger.{IsIn}
-use Rattle.cs_ledger.specs.Session.{AreToldApart, Session, Rules, Key, used_up, read_only, anchor}
+use Rattle.cs_ledger.specs.Session.{AreToldApart, Session, Rules, Key, has_key, used_up, read_only, anchor}
 use Rattle.cs_ledger.specs.Table.{Vote, Commit, Abort, Table, Entry, Prepare, Decide, Voted, Outcome, with_locks, with_vote, session_of, exec}
-use Rattle.cs_ledger.proofs.Basics.{key_refl, anchor_piece, touches}
+use Rattle.cs_ledger.proofs.Basics.{key_refl, anchor_piece}
 use Rattle.cs_ledger.proofs.Settled.{settled, open_parts, held_settles, settled_own}
 use Rattle.cs_ledger.proofs.Changes.{settled_at, Nothing, Locks, Notes, Accepts, Aborts, change}
-use Rattle.cs_ledger.proofs.States.{ready_piece, lock_takes, held_if_locked}
+use Rattle.cs_ledger.proofs.States.{ready_at, lock_takes, held_if_locked}
 use Rattle.cs_ledger.proofs.Kept.{Kept, kept_lock, kept_note, kept_accept, kept_abort, fixed_lock, fixed_note, fixed_accept, fixed_abort, anchor_is_piece}
 
 -- what a step's being allowed says of a decision
@@ -84,8 +85,8 @@ module _ (rules : Rules) (known : List Session) (unique : AreToldApart known) (s
               is = is;
               fixed =
                   let p = anchor_piece rules y shard key is in
-                  let ready_key = ap (λ z. (t.at z).state) p.2 ∙ ready_piece rules y shard t ready p.0 (inl p.1) in
-                  let state = lock_takes (touches rules y shard key) y.digest (t.at key).state p.0.object (anchor_is_piece rules known unique shard t y key is) ready_key in
+                  let ready_key = ap (λ z. (t.at z).state) p.2 ∙ ready_at t (used_up rules y shard) (and_parts _ _ ready).0 p.0 p.1 in
+                  let state = lock_takes (has_key key (used_up rules y shard)) (has_key key (read_only rules y shard)) y.digest (t.at key).state p.0.object (anchor_is_piece rules known unique shard t y key is) ready_key in
                   held_settles _ (t.at key).book y.digest (held_if_locked y.digest p.0.object y.digest _ state refl)
                   ∙ ap Some (sym (effect_vote _ _ vote Commit to refl effect));
             }))

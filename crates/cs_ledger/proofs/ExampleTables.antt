@@ -1,9 +1,9 @@
--- What one table does: a consumed coin, an early session, a full book, a reference. All by computation.
+-- What one table does: a consumed coin, an early session, a full book, references. All by computation.
 use Rattle.std.proofs.Common.{◌≡◌, ℕ, zero, suc, List, [], ◌∷◌, length, true, refl}
 use Rattle.std.specs.Prelude.{if◌then◌else◌}
 use Rattle.cs_ledger.specs.Ledger.{Bytes, Item, Transaction}
 use Rattle.cs_ledger.specs.Session.{Session, Rules, Object, key_eq}
-use Rattle.cs_ledger.specs.Table.{Commit, Abort, Book, Table, Active, Locked, Unknown, Entry, Prepare, Decide, Voted, Accepted, Skipped, Outcome, exec, table_of}
+use Rattle.cs_ledger.specs.Table.{Commit, Abort, Book, State, Table, Active, Unknown, Shared, Entry, Prepare, Decide, Voted, Accepted, Skipped, Outcome, exec, table_of}
 use Rattle.cs_ledger.specs.Standing.{stands_aborted}
 
 abbrev one_shard : Rules
@@ -106,10 +106,6 @@ forged = session (205 ∷ []) (record {
 other_value : (after [] (Prepare forged)).effect ≡ Voted Abort
 other_value = refl
 
--- a reference is locked too
-abbrev reading : Session
-reading = session (206 ∷ []) (moving (103 ∷ []) (2 ∷ []) (5 ∷ []) (record { name = 1 ∷ []; object = 5 ∷ [] } ∷ []))
-
 -- a table of two coins, the first with a book of that many votes on other sessions
 abbrev filled : ℕ → Book
 filled zero = []
@@ -125,9 +121,6 @@ worn n = record {
 
 abbrev on : Table → Entry → Outcome
 on t entry = exec one_shard 0 t entry
-
-reference_is_locked : ((on (worn 0) (Prepare reading)).table.at (Object (1 ∷ []))).state ≡ Locked (5 ∷ []) (206 ∷ [])
-reference_is_locked = refl
 
 -- the last place but one: free keys commit, the abort takes a place, and the next session finds the record worn
 abbrev held : Table
@@ -150,3 +143,58 @@ stays_1024 = refl
 
 aborts_at_1024 : (on (worn 1024) (Prepare x1)).effect ≡ Voted Abort
 aborts_at_1024 = refl
+
+-- ---- sessions that read the first coin
+
+-- of the first coin, which these sessions read, and of a coin for each of three sessions
+abbrev read_by_all : List Bytes → Table
+read_by_all readers = record {
+  at = λ key. if key_eq key (Object (1 ∷ []))
+      then record { state = Shared (5 ∷ []) readers; book = [] }
+      else record { state = Active (5 ∷ []); book = [] };
+  next = 0;
+}
+
+abbrev the_coin : Item
+the_coin = record { name = 1 ∷ []; object = 5 ∷ [] }
+
+-- a session that moves a coin of its own, and names the first one as a reference twice
+abbrev reading : ℕ → Session
+reading n = session (n ∷ []) (moving (n ∷ []) (n ∷ []) (n ∷ n ∷ []) (the_coin ∷ the_coin ∷ []))
+
+abbrev at_coin : Table → State
+at_coin t = (t.at (Object (1 ∷ []))).state
+
+abbrev one_reads : Table
+one_reads = (on (worn 0) (Prepare (session (2 ∷ []) (moving (2 ∷ []) (2 ∷ []) (5 ∷ []) (the_coin ∷ the_coin ∷ []))))).table
+
+abbrev two_read : Table
+two_read = (on (read_by_all ((6 ∷ []) ∷ [])) (Prepare (reading 7))).table
+
+a_reference_counts_once : at_coin one_reads ≡ Shared (5 ∷ []) ((2 ∷ []) ∷ [])
+a_reference_counts_once = refl
+
+a_second_reads_behind_the_first : at_coin two_read ≡ Shared (5 ∷ []) ((6 ∷ []) ∷ (7 ∷ []) ∷ [])
+a_second_reads_behind_the_first = refl
+
+nobody_uses_up_what_is_read : (on two_read (Prepare x1)).effect ≡ Voted Abort
+nobody_uses_up_what_is_read = refl
+
+a_reader_that_is_accepted_leaves : at_coin (on two_read (Decide (reading 7) Commit)).table ≡ Shared (5 ∷ []) ((6 ∷ []) ∷ [])
+a_reader_that_is_accepted_leaves = refl
+
+a_reader_that_is_aborted_leaves : at_coin (on two_read (Decide (reading 7) Abort)).table ≡ Shared (5 ∷ []) ((6 ∷ []) ∷ [])
+a_reader_that_is_aborted_leaves = refl
+
+the_last_one_leaves_it_active : at_coin (on (on (read_by_all []) (Prepare (reading 7))).table (Decide (reading 7) Commit)).table ≡ Active (5 ∷ [])
+the_last_one_leaves_it_active = refl
+
+abbrev so_many : ℕ → List Bytes
+so_many zero = []
+so_many (suc n) = (100 ∷ n ∷ []) ∷ so_many n
+
+a_64th_may_read : (on (read_by_all (so_many 63)) (Prepare (reading 7))).effect ≡ Voted Commit
+a_64th_may_read = refl
+
+a_65th_may_not : (on (read_by_all (so_many 64)) (Prepare (reading 7))).effect ≡ Voted Abort
+a_65th_may_not = refl

@@ -1,15 +1,15 @@
 -- What each entry keeps true of the table of its shard.
 use Rattle.std.proofs.Common.{◌≡◌, ℕ, ◌<◌, ◌≤◌, List, [], ◌∷◌, ◌++◌, length, Bool, true, false, ◌&&◌, ◌⊎◌, inl, inr, Option, Some, None, refl, sym, ap, ◌∙◌, subst, arith, length-append}
 use Rattle.std.specs.Prelude.{bytes_eq, if◌then◌else◌, nat_lt}
-use Rattle.std.proofs.lemmas.Bool.{cases_Bool, both_ways, false_from_ne_true, ltb-true, lt-ltb, and_from, or_left, or_right}
+use Rattle.std.proofs.lemmas.Bool.{cases_Bool, and_parts, both_ways, false_from_ne_true, ltb-true, lt-ltb, and_from}
 use Rattle.cs_ledger.specs.Ledger.{Bytes, IsIn}
 use Rattle.cs_base.specs.Options.{or_else}
 use Rattle.cs_ledger.specs.Session.{AreToldApart, Session, Rules, Key, Piece, key_eq, has_key, object_under, used_up, read_only, anchor}
-use Rattle.cs_ledger.specs.Table.{Vote, Commit, Abort, Book, State, Active, Locked, Inactive, Table, is_locked_by, vote_in, lock_state, undo_state, accept_state, is_ready, locked, released, with_locks, with_vote, with_accepted, with_aborted, new_pieces}
-use Rattle.cs_ledger.proofs.Basics.{same_bytes, bytes_from, same_key, key_refl, piece_has, touches, IsPiece, touched_piece, piece_touched, anchor_used}
-use Rattle.cs_ledger.proofs.Settled.{settled, open_parts, held_settles, settled_used, settled_released, settled_locked, settled_made, settled_noted, settled_own, vote_in-append, vote_in-other}
+use Rattle.cs_ledger.specs.Table.{Vote, Commit, Abort, Book, State, Active, Locked, Inactive, Shared, Table, is_locked_by, vote_in, lock_state, undo_state, accept_state, all_ready, all_readable, is_ready, released, with_locks, with_vote, with_accepted, with_aborted, new_pieces}
+use Rattle.cs_ledger.proofs.Basics.{same_bytes, bytes_from, same_key, key_refl, has_piece, piece_has, anchor_used}
+use Rattle.cs_ledger.proofs.Settled.{settled, open_parts, held_settles, settled_used, settled_released, settled_locked, settled_joined, settled_left, settled_made, settled_noted, settled_own, vote_in-append, vote_in-other}
 use Rattle.cs_ledger.proofs.Changes.{settled_at}
-use Rattle.cs_ledger.proofs.States.{ready_piece, IsRead, locked_by, held_if_locked, lock_cases, lock_keeps, lock_takes, lock_inactive, accept_locked, accept_keeps, accept_inactive, undo_locked, undo_keeps, undo_inactive}
+use Rattle.cs_ledger.proofs.States.{ready_at, open_at, IsRead, locked_by, held_if_locked, lock_cases, lock_keeps, lock_keeps_read, lock_takes, lock_reads, lock_inactive, accept_locked, accept_keeps, accept_keeps_read, accept_inactive, undo_locked, undo_keeps, undo_keeps_read, undo_inactive}
 
 -- a session holds all its keys in a shard, with the carried objects, and is not in the book of its anchor
 pub record Holding (rules : Rules) (shard : ℕ) (t : Table) (x : Session) : Type 0 where
@@ -26,7 +26,7 @@ pub record LockedBy (rules : Rules) (known : List Session) (shard : ℕ) (t : Ta
   pub knows : IsIn x known
   pub digest : x.digest ≡ d
   pub piece : Piece
-  pub within : IsPiece rules x shard piece
+  pub within : IsIn piece (used_up rules x shard)
   pub key_is : key ≡ piece.key
   pub object_is : object ≡ piece.object
   pub holding : Holding rules shard t x
@@ -92,27 +92,13 @@ module _ (rules : Rules) (known : List Session) (unique : AreToldApart known) (s
   pub two_locks : (state : State) (a b d e : Bytes) → state ≡ Locked a d → state ≡ Locked b e → d ≡ e
   two_locks state a b d e p q = cc
 
-  held_piece : (x : Session) → Holding rules shard t x → (piece : Piece) → IsPiece rules x shard piece → (t.at piece.key).state ≡ Locked piece.object x.digest
-  held_piece x h piece (inl i) = h.all piece i
-  held_piece x h piece (inr i) = h.reads piece i
-
-  pub held_is_locked : (x : Session) → Holding rules shard t x → (key : Key) → touches rules x shard key ≡ true → (object : Bytes) × ((t.at key).state ≡ Locked object x.digest)
+  pub held_is_locked : (x : Session) → Holding rules shard t x → (key : Key) → has_key key (used_up rules x shard) ≡ true → (object : Bytes) × ((t.at key).state ≡ Locked object x.digest)
   held_is_locked x h key e =
-      let p = touched_piece rules x shard key e in
-      (p.0.object, ap (λ k. (t.at k).state) p.2 ∙ held_piece x h p.0 p.1)
+      let p = has_piece key _ e in
+      (p.0.object, ap (λ k. (t.at k).state) p.2 ∙ h.all p.0 p.1)
 
-  pub used_is_piece : (x : Session) (key : Key) → has_key key (used_up rules x shard) ≡ true → touches rules x shard key ≡ true
-  used_is_piece x key e = or_left _ _ e
-
-  pub read_is_piece : (x : Session) (key : Key) → has_key key (read_only rules x shard) ≡ true → touches rules x shard key ≡ true
-  read_is_piece x key e = or_right (has_key key (used_up rules x shard)) _ e
-
-  pub piece_is_either : (x : Session) (piece : Piece) → IsPiece rules x shard piece → has_key piece.key (used_up rules x shard) ≡ false → has_key piece.key (read_only rules x shard) ≡ false → ⊥
-  piece_is_either x piece (inl a) u r = both_ways _ u (piece_has piece _ a)
-  piece_is_either x piece (inr a) u r = both_ways _ r (piece_has piece _ a)
-
-  pub anchor_is_piece : (x : Session) (key : Key) → anchor rules x shard ≡ Some key → touches rules x shard key ≡ true
-  anchor_is_piece x key e = used_is_piece x key (anchor_used rules x shard key e)
+  pub anchor_is_piece : (x : Session) (key : Key) → anchor rules x shard ≡ Some key → has_key key (used_up rules x shard) ≡ true
+  anchor_is_piece x key e = anchor_used rules x shard key e
 
   module _ (commits aborts : Session → Type 0) (kept : Kept rules known commits aborts shard t) (y : Session) (knows : IsIn y known) (key : Key) (is : anchor rules y shard ≡ Some key) where
     -- the session that has its anchor locked holds all its keys
@@ -123,27 +109,32 @@ module _ (rules : Rules) (known : List Session) (unique : AreToldApart known) (s
         let same : by.x ≡ y = unique by.x y by.knows knows by.digest in
         subst (λ z. Holding rules shard t z) same by.holding
 
-    -- a key that another session locks is none of a session that holds its keys
-    others : Holding rules shard t y → (k : Key) (object d : Bytes) → (t.at k).state ≡ Locked object d → (y.digest ≡ d → ⊥) → touches rules y shard k ≡ false
+    -- a key that another session locks or reads is none that a session uses up that holds its keys
+    others : Holding rules shard t y → (k : Key) (object d : Bytes) → (t.at k).state ≡ Locked object d → (y.digest ≡ d → ⊥) → has_key k (used_up rules y shard) ≡ false
     others h k object d e ne =
         false_from_ne_true _ (λ has. let l = held_is_locked y h k has in ne (two_locks _ l.0 object y.digest d l.1 e))
 
-    others_used : Holding rules shard t y → (k : Key) (object d : Bytes) → (t.at k).state ≡ Locked object d → (y.digest ≡ d → ⊥) → has_key k (used_up rules y shard) ≡ false
-    others_used h k object d e ne = false_from_ne_true _ (λ has. both_ways _ (others h k object d e ne) (used_is_piece y k has))
-
-    others_read : Holding rules shard t y → (k : Key) (object d : Bytes) → (t.at k).state ≡ Locked object d → (y.digest ≡ d → ⊥) → has_key k (read_only rules y shard) ≡ false
-    others_read h k object d e ne = false_from_ne_true _ (λ has. both_ways _ (others h k object d e ne) (read_is_piece y k has))
+    others_read : Holding rules shard t y → (k : Key) (object d : Bytes) → IsRead object d (t.at k).state → (y.digest ≡ d → ⊥) → has_key k (used_up rules y shard) ≡ false
+    others_read h k object d (inl e) ne = others h k object d e ne
+    others_read h k object d (inr s) ne =
+        false_from_ne_true _ (λ has.
+        let l = held_is_locked y h k has in
+        let q : Locked l.0 y.digest ≡ Shared object s.0 = sym l.1 ∙ s.1 in cc)
 
     anchor_locked : (x : Session) → (h : Holding rules shard t x) → (object : Bytes) × ((t.at h.key).state ≡ Locked object x.digest)
     anchor_locked x h = held_is_locked x h h.key (anchor_is_piece x h.key h.is)
 
     pub kept_lock : settled_at t key y.digest ≡ None → is_ready t (used_up rules y shard) (read_only rules y shard) ≡ true → Kept rules known commits aborts shard (with_locks t y.digest (used_up rules y shard) (read_only rules y shard))
-    kept_lock free ready =
+    kept_lock free both =
+        let ready : all_ready t (used_up rules y shard) ≡ true = (and_parts _ _ both).0 in
+        let readable : all_readable t (read_only rules y shard) ≡ true = (and_parts (all_ready t (used_up rules y shard)) _ both).1 in
+        let used = λ (k : Key). has_key k (used_up rules y shard) in
+        let read = λ (k : Key). has_key k (read_only rules y shard) in
         let was = open_parts (t.at key).state (t.at key).book y.digest free in
         let room : length (t.at key).book < 1024 = ltb-true _ _ was.3 in
         record {
           locked = λ k object d e.
-              elim (lock_cases (touches rules y shard k) y.digest (t.at k).state object d e) [
+              elim (lock_cases (used k) (read k) y.digest (t.at k).state object d e) [
                 | inl before ↦
                     let by = kept.locked k object d before in
                     record {
@@ -155,8 +146,8 @@ module _ (rules : Rules) (known : List Session) (unique : AreToldApart known) (s
                       key_is = by.key_is;
                       object_is = by.object_is;
                       holding = record {
-                        all = λ piece h. lock_keeps (touches rules y shard piece.key) y.digest (t.at piece.key).state piece.object by.x.digest (by.holding.all piece h);
-                        reads = λ piece h. lock_keeps (touches rules y shard piece.key) y.digest (t.at piece.key).state piece.object by.x.digest (by.holding.reads piece h);
+                        all = λ piece h. lock_keeps (used piece.key) (read piece.key) y.digest (t.at piece.key).state piece.object by.x.digest (by.holding.all piece h);
+                        reads = λ piece h. lock_keeps_read (used piece.key) (read piece.key) y.digest (t.at piece.key).state piece.object by.x.digest (by.holding.reads piece h);
                         key = by.holding.key;
                         is = by.holding.is;
                         unnoted = by.holding.unnoted;
@@ -164,10 +155,8 @@ module _ (rules : Rules) (known : List Session) (unique : AreToldApart known) (s
                       };
                     }
                 | inr now ↦
-                    let p = touched_piece rules y shard k now.0 in
-                    let state : (t.at k).state ≡ Active p.0.object = ap (λ z. (t.at z).state) p.2 ∙ ready_piece rules y shard t ready p.0 p.1 in
-                    let takes : (piece : Piece) → IsPiece rules y shard piece → lock_state (has_key piece.key (used_up rules y shard)) (has_key piece.key (read_only rules y shard)) y.digest (t.at piece.key).state ≡ Locked piece.object y.digest = λ piece h.
-                    lock_takes (touches rules y shard piece.key) y.digest (t.at piece.key).state piece.object (piece_touched rules y shard piece h) (ready_piece rules y shard t ready piece h) in
+                    let p = has_piece k _ now.0 in
+                    let state : (t.at k).state ≡ Active p.0.object = ap (λ z. (t.at z).state) p.2 ∙ ready_at t _ ready p.0 p.1 in
                     let object_is : object ≡ p.0.object = let q : Active object ≡ Active p.0.object = sym now.1 ∙ state in cc in
                     record {
                       x = y;
@@ -178,8 +167,10 @@ module _ (rules : Rules) (known : List Session) (unique : AreToldApart known) (s
                       key_is = p.2;
                       object_is = object_is;
                       holding = record {
-                        all = λ piece h. takes piece (inl h);
-                        reads = λ piece h. takes piece (inr h);
+                        all = λ piece h. lock_takes (used piece.key) (read piece.key) y.digest (t.at piece.key).state piece.object (piece_has piece _ h) (ready_at t _ ready piece h);
+                        reads = λ piece h. lock_reads (used piece.key) (read piece.key) y.digest (t.at piece.key).state piece.object
+                            (λ u. let q = has_piece piece.key (used_up rules y shard) u in (q.0.object, ap (λ z. (t.at z).state) q.2 ∙ ready_at t _ ready q.0 q.1))
+                            (piece_has piece _ h) (open_at t _ readable piece h);
                         key = key;
                         is = is;
                         unnoted = was.1;
@@ -187,7 +178,7 @@ module _ (rules : Rules) (known : List Session) (unique : AreToldApart known) (s
                       };
                     }
               ];
-          inactive = λ k d e. kept.inactive k d (lock_inactive (touches rules y shard k) y.digest (t.at k).state d e);
+          inactive = λ k d e. kept.inactive k d (lock_inactive (used k) (read k) y.digest (t.at k).state d e);
           noted = λ k d e. kept.noted k d e;
         }
 
@@ -237,15 +228,10 @@ module _ (rules : Rules) (known : List Session) (unique : AreToldApart known) (s
         record {
           locked = λ k object d e.
               let was = accept_locked (has_key k (used_up rules y shard)) (has_key k (read_only rules y shard)) y.digest (object_under (new_pieces rules shard t y) k) (t.at k).state object d e in
-              let by = kept.locked k object d was.2 in
+              let by = kept.locked k object d was.1 in
               let ne : y.digest ≡ by.x.digest → ⊥ = λ same.
               let yx : by.x ≡ y = unique by.x y by.knows knows (sym same) in
-              piece_is_either y by.piece (subst (λ z. IsPiece rules z shard by.piece) yx by.within)
-              (ap (λ z. has_key z (used_up rules y shard)) (sym by.key_is) ∙ was.0)
-              (ap (λ z. has_key z (read_only rules y shard)) (sym by.key_is) ∙ was.1) in
-              let stays : (piece : Piece) → (t.at piece.key).state ≡ Locked piece.object by.x.digest → accept_state (has_key piece.key (used_up rules y shard)) (has_key piece.key (read_only rules y shard)) y.digest (object_under (new_pieces rules shard t y) piece.key) (t.at piece.key).state ≡ Locked piece.object by.x.digest = λ piece l.
-              accept_keeps (has_key piece.key (used_up rules y shard)) (has_key piece.key (read_only rules y shard)) y.digest (object_under (new_pieces rules shard t y) piece.key) (t.at piece.key).state piece.object by.x.digest
-              (others_used hy piece.key piece.object by.x.digest l ne) (others_read hy piece.key piece.object by.x.digest l ne) l in
+              both_ways _ was.0 (rw by.key_is (piece_has by.piece _ (subst (λ z. IsIn by.piece (used_up rules z shard)) yx by.within))) in
               record {
                 x = by.x;
                 knows = by.knows;
@@ -255,8 +241,14 @@ module _ (rules : Rules) (known : List Session) (unique : AreToldApart known) (s
                 key_is = by.key_is;
                 object_is = by.object_is;
                 holding = record {
-                  all = λ piece h. stays piece (by.holding.all piece h);
-                  reads = λ piece h. stays piece (by.holding.reads piece h);
+                  all = λ piece h.
+                      let l = by.holding.all piece h in
+                      accept_keeps (has_key piece.key (used_up rules y shard)) (has_key piece.key (read_only rules y shard)) y.digest (object_under (new_pieces rules shard t y) piece.key) (t.at piece.key).state piece.object by.x.digest
+                      (others hy piece.key piece.object by.x.digest l ne) l;
+                  reads = λ piece h.
+                      let l = by.holding.reads piece h in
+                      accept_keeps_read (has_key piece.key (used_up rules y shard)) (has_key piece.key (read_only rules y shard)) y.digest (object_under (new_pieces rules shard t y) piece.key) (t.at piece.key).state piece.object by.x.digest
+                      (others_read hy piece.key piece.object by.x.digest l ne) ne l;
                   key = by.holding.key;
                   is = by.holding.is;
                   unnoted = by.holding.unnoted;
@@ -277,14 +269,12 @@ module _ (rules : Rules) (known : List Session) (unique : AreToldApart known) (s
         let note : Bytes × Vote = (y.digest, Commit) in
         record {
           locked = λ k object d e.
-              let was = undo_locked (touches rules y shard k) (t.at k).state object d e in
+              let was = undo_locked (has_key k (used_up rules y shard)) (has_key k (read_only rules y shard)) y.digest (t.at k).state object d e in
               let by = kept.locked k object d was.1 in
               let h = by.holding in
               let ne : y.digest ≡ by.x.digest → ⊥ = λ same.
               let yx : by.x ≡ y = unique by.x y by.knows knows (sym same) in
-              both_ways _ was.0 (rw by.key_is (piece_touched rules y shard by.piece (subst (λ z. IsPiece rules z shard by.piece) yx by.within))) in
-              let stays : (piece : Piece) → (t.at piece.key).state ≡ Locked piece.object by.x.digest → undo_state (has_key piece.key (used_up rules y shard)) (has_key piece.key (read_only rules y shard)) (t.at piece.key).state ≡ Locked piece.object by.x.digest = λ piece l.
-              undo_keeps (touches rules y shard piece.key) (t.at piece.key).state (Locked piece.object by.x.digest) (others hy piece.key piece.object by.x.digest l ne) l in
+              both_ways _ was.0 (rw by.key_is (piece_has by.piece _ (subst (λ z. IsIn by.piece (used_up rules z shard)) yx by.within))) in
               let l = anchor_locked by.x h in
               let m = locked_by y.digest (t.at key).state held in
               let apart : key_eq h.key key ≡ false = false_from_ne_true _ (λ same.
@@ -301,15 +291,19 @@ module _ (rules : Rules) (known : List Session) (unique : AreToldApart known) (s
                 key_is = by.key_is;
                 object_is = by.object_is;
                 holding = record {
-                  all = λ piece i. stays piece (h.all piece i);
-                  reads = λ piece i. stays piece (h.reads piece i);
+                  all = λ piece i.
+                      let lp = h.all piece i in
+                      undo_keeps (has_key piece.key (used_up rules y shard)) (has_key piece.key (read_only rules y shard)) y.digest (t.at piece.key).state piece.object by.x.digest (others hy piece.key piece.object by.x.digest lp ne) lp;
+                  reads = λ piece i.
+                      let lp = h.reads piece i in
+                      undo_keeps_read (has_key piece.key (used_up rules y shard)) (has_key piece.key (read_only rules y shard)) y.digest (t.at piece.key).state piece.object by.x.digest (others_read hy piece.key piece.object by.x.digest lp ne) ne lp;
                   key = h.key;
                   is = h.is;
                   unnoted = ap (λ z. vote_in z by.x.digest) book ∙ h.unnoted;
                   short = subst (λ z. length z ≤ 1024) (sym book) h.short;
                 };
               };
-          inactive = λ k d e. kept.inactive k d (undo_inactive (touches rules y shard k) (t.at k).state d e);
+          inactive = λ k d e. kept.inactive k d (undo_inactive (has_key k (used_up rules y shard)) (has_key k (read_only rules y shard)) y.digest (t.at k).state d e);
           noted = λ k d e.
               elim (more_commit (key_eq k key && nat_lt (length (t.at k).book) 1025) (t.at k).book d y.digest e) [
                 | inl before ↦ kept.noted k d before
@@ -329,12 +323,13 @@ module _ (rules : Rules) (known : List Session) (unique : AreToldApart known) (s
           let e : settled_at t k x.digest ≡ settled_at t key y.digest = λ i. settled_at t (same_anchor same i) (same i) in
           let f : Some vote ≡ None = sym fixed ∙ e ∙ free in cc
 
+      fixed_lock_state : (used read : Bool) → settled_at t key y.digest ≡ None → settled (lock_state used read y.digest (t.at k).state) (t.at k).book x.digest ≡ Some vote
+      fixed_lock_state true read free = settled_locked (t.at k).state y.digest x.digest (t.at k).book vote (differs free) fixed
+      fixed_lock_state false true free = settled_joined y.digest (t.at k).state (t.at k).book x.digest vote fixed
+      fixed_lock_state false false free = fixed
+
       pub fixed_lock : settled_at t key y.digest ≡ None → settled_at (with_locks t y.digest (used_up rules y shard) (read_only rules y shard)) k x.digest ≡ Some vote
-      fixed_lock free =
-          elim (cases_Bool (touches rules y shard k)) as (λ _. settled_at (with_locks t y.digest (used_up rules y shard) (read_only rules y shard)) k x.digest ≡ Some vote) [
-            | inl e ↦ ap (λ (b : Bool). settled (if b then locked y.digest (t.at k).state else (t.at k).state) (t.at k).book x.digest) e ∙ settled_locked (t.at k).state y.digest x.digest (t.at k).book vote (differs free) fixed
-            | inr e ↦ ap (λ (b : Bool). settled (if b then locked y.digest (t.at k).state else (t.at k).state) (t.at k).book x.digest) e ∙ fixed
-          ]
+      fixed_lock free = fixed_lock_state (has_key k (used_up rules y shard)) (has_key k (read_only rules y shard)) free
 
       pub fixed_note : settled_at t key y.digest ≡ None → settled_at (with_vote t key y.digest Abort) k x.digest ≡ Some vote
       fixed_note free = more_settled (key_eq k key) (t.at k).state (t.at k).book ((y.digest, Abort)) x.digest vote (differs free) fixed
@@ -348,22 +343,24 @@ module _ (rules : Rules) (known : List Session) (unique : AreToldApart known) (s
           let goal = λ (used read : Bool). settled (accept_state used read y.digest new state) book x.digest in
           elim (cases_Bool (has_key k (used_up rules y shard))) as (λ _. goal (has_key k (used_up rules y shard)) (has_key k (read_only rules y shard)) ≡ Some vote) [
             | inl u ↦
-                let l = held_is_locked y hy k (used_is_piece y k u) in
+                let l = held_is_locked y hy k u in
                 (ap (λ b. goal b (has_key k (read_only rules y shard))) u)
                 ∙ settled_used l.0 y.digest x.digest book vote (ap (λ s. settled s book x.digest) (sym l.1) ∙ fixed)
             | inr u ↦
                 ap (λ b. goal b (has_key k (read_only rules y shard))) u
                 ∙ elim (cases_Bool (has_key k (read_only rules y shard))) as (λ _. goal false (has_key k (read_only rules y shard)) ≡ Some vote) [
-                  | inl r ↦
-                      let l = held_is_locked y hy k (read_is_piece y k r) in
-                      let ne : x.digest ≡ y.digest → ⊥ = λ same.
-                      both_ways _ u (ap (λ z. has_key z (used_up rules y shard)) (same_anchor same) ∙ anchor_used rules y shard key is) in
-                      ap (goal false) r
-                      ∙ ap (λ s. settled (released s) book x.digest) l.1
-                      ∙ settled_released l.0 y.digest x.digest book vote ne (ap (λ s. settled s book x.digest) (sym l.1) ∙ fixed)
+                  | inl r ↦ ap (goal false) r ∙ settled_left y.digest state book x.digest vote fixed
                   | inr r ↦ ap (goal false) r ∙ settled_made new state book x.digest vote fixed
                 ]
           ]
+
+      fixed_undo_state : Holding rules shard t y → (x.digest ≡ y.digest → ⊥) → (used read : Bool) → has_key k (used_up rules y shard) ≡ used → settled (undo_state used read y.digest (t.at k).state) (t.at k).book x.digest ≡ Some vote
+      fixed_undo_state hy ne true read e =
+          let l = held_is_locked y hy k e in
+          ap (λ s. settled (released s) (t.at k).book x.digest) l.1
+          ∙ settled_released l.0 y.digest x.digest (t.at k).book vote ne (ap (λ s. settled s (t.at k).book x.digest) (sym l.1) ∙ fixed)
+      fixed_undo_state hy ne false true e = settled_left y.digest (t.at k).state (t.at k).book x.digest vote fixed
+      fixed_undo_state hy ne false false e = fixed
 
       pub fixed_abort : is_locked_by y.digest (t.at key).state ≡ true → settled_at (with_aborted t y.digest key (used_up rules y shard) (read_only rules y shard)) k x.digest ≡ Some vote
       fixed_abort held =
@@ -372,8 +369,7 @@ module _ (rules : Rules) (known : List Session) (unique : AreToldApart known) (s
           let state = (t.at k).state in
           let book = (t.at k).book in
           let noted = key_eq k key && nat_lt (length book) 1025 in
-          let goal = λ (has full : Bool). settled (if has then released state else state) (more full book note) x.digest in
-          elim (cases_Bool (bytes_eq x.digest y.digest)) as (λ _. goal (touches rules y shard k) noted ≡ Some vote) [
+          elim (cases_Bool (bytes_eq x.digest y.digest)) as (λ _. settled (undo_state (has_key k (used_up rules y shard)) (has_key k (read_only rules y shard)) y.digest state) (more noted book note) x.digest ≡ Some vote) [
             | inl e ↦
                 let same = same_bytes x.digest y.digest e in
                 let l = held_is_locked y hy key (anchor_is_piece y key is) in
@@ -382,7 +378,7 @@ module _ (rules : Rules) (known : List Session) (unique : AreToldApart known) (s
                 let short : length (t.at key).book ≤ 1024 = subst (λ z. length (t.at z).book ≤ 1024) at hy.short in
                 let full : (key_eq key key && nat_lt (length (t.at key).book) 1025) ≡ true = and_from _ _ (key_refl key) (lt-ltb _ _ (omega (arith, short))) in
                 let after : settled_at (with_aborted t y.digest key (used_up rules y shard) (read_only rules y shard)) key y.digest ≡ Some Commit =
-                (λ i. settled (if anchor_is_piece y key is i then released (l.1 i) else l.1 i) (more (full i) (t.at key).book note) y.digest)
+                (λ i. settled (undo_state (anchor_is_piece y key is i) (has_key key (read_only rules y shard)) y.digest (l.1 i)) (more (full i) (t.at key).book note) y.digest)
                 ∙ settled_own (Active l.0) (t.at key).book y.digest Commit refl unnoted in
                 let before : settled_at t key y.digest ≡ Some Commit =
                 held_settles (t.at key).state (t.at key).book y.digest (held_if_locked y.digest l.0 y.digest _ l.1 refl) in
@@ -391,12 +387,6 @@ module _ (rules : Rules) (known : List Session) (unique : AreToldApart known) (s
                 ∙ after ∙ sym before ∙ sym moved ∙ fixed
             | inr other ↦
                 let ne : x.digest ≡ y.digest → ⊥ = λ same. both_ways _ other (bytes_from _ _ same) in
-                more_settled noted (if touches rules y shard k then released state else state) book note x.digest vote ne
-                (elim (cases_Bool (touches rules y shard k)) as (λ _. settled (if touches rules y shard k then released state else state) book x.digest ≡ Some vote) [
-                  | inl e ↦
-                      let l = held_is_locked y hy k e in
-                      (λ i. settled (if e i then released (l.1 i) else l.1 i) book x.digest)
-                      ∙ settled_released l.0 y.digest x.digest book vote ne (ap (λ s. settled s book x.digest) (sym l.1) ∙ fixed)
-                  | inr e ↦ ap (λ (b : Bool). settled (if b then released state else state) book x.digest) e ∙ fixed
-                ])
+                more_settled noted (undo_state (has_key k (used_up rules y shard)) (has_key k (read_only rules y shard)) y.digest state) book note x.digest vote ne
+                (fixed_undo_state hy ne (has_key k (used_up rules y shard)) (has_key k (read_only rules y shard)) refl)
           ]

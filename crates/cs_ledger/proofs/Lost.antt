@@ -1,15 +1,15 @@
 -- A session whose standing is Aborted stays so.
 use Rattle.std.proofs.Common.{◌≡◌, ℕ, List, [], ◌∷◌, ◌++◌, length, Bool, true, false, not, ◌&&◌, ◌||◌, ◌⊎◌, inl, inr, Option, Some, None, refl, sym, ap, ◌∙◌, subst}
-use Rattle.std.specs.Prelude.{is_some, if◌then◌else◌, nat_lt}
+use Rattle.std.specs.Prelude.{is_some, nat_lt}
 use Rattle.cs_ledger.specs.Ledger.{Bytes, IsIn}
 use Rattle.cs_ledger.specs.Session.{AreToldApart, Session, Rules, Key, key_eq, has_key, used_up, read_only, anchor, object_under}
-use Rattle.cs_ledger.specs.Table.{Vote, Commit, Abort, Book, State, Unknown, Active, Locked, Inactive, Table, Entry, session_of, exec, is_locked_by, is_inactive, accept_state, vote_in, has_room, locked, released, made, new_pieces}
+use Rattle.cs_ledger.specs.Table.{Vote, Commit, Abort, Book, State, Unknown, Active, Locked, Inactive, Shared, Table, Entry, session_of, exec, is_locked_by, is_inactive, lock_state, undo_state, accept_state, vote_in, has_room, released, vacated_by, read_by, without_reader, made, new_pieces}
 use Rattle.cs_ledger.specs.Standing.{is_inactive_by, stands_aborted}
-use Rattle.cs_ledger.proofs.Basics.{bytes_differ, touches}
+use Rattle.cs_ledger.proofs.Basics.{bytes_differ}
 use Rattle.cs_ledger.proofs.Settled.{open_parts, vote_in-other, stays_full}
 use Rattle.cs_ledger.proofs.Changes.{settled_at, Nothing, Locks, Notes, Accepts, Aborts, change}
 use Rattle.cs_ledger.proofs.States.{locked_by}
-use Rattle.cs_ledger.proofs.Kept.{Kept, own, held_is_locked, read_is_piece, more}
+use Rattle.cs_ledger.proofs.Kept.{Kept, own, held_is_locked, more}
 use Rattle.cs_ledger.proofs.Entries.{same_out}
 
 abbrev is_lost : State → Book → Bytes → Bool
@@ -29,17 +29,35 @@ abbrev pub lost_at : Table → Key → Bytes → Bool
 lost_at t key d = stands_aborted (t.at key) d
 
 -- another session's changes of a state
-other_lock : (b : Bool) (by d : Bytes) (state : State) (book : Book) → (d ≡ by → ⊥) → is_lost state book d ≡ true → is_lost (if b then locked by state else state) book d ≡ true
-other_lock true by d Unknown book ne e = e
-other_lock true by d (Active object) book ne e =
+other_lock : (used read : Bool) (by d : Bytes) (state : State) (book : Book) → (d ≡ by → ⊥) → is_lost state book d ≡ true → is_lost (lock_state used read by state) book d ≡ true
+other_lock true read by d Unknown book ne e = e
+other_lock true read by d (Active object) book ne e =
     ap (λ held. lost false (is_some (vote_in book d)) false (has_room book) held) (bytes_differ d by ne) ∙ e
-other_lock true by d (Locked object other) book ne e = e
-other_lock true by d (Inactive other) book ne e = e
-other_lock false by d state book ne e = e
+other_lock true read by d (Locked object other) book ne e = e
+other_lock true read by d (Inactive other) book ne e = e
+other_lock true read by d (Shared object readers) book ne e = e
+other_lock false true by d Unknown book ne e = e
+other_lock false true by d (Active object) book ne e = e
+other_lock false true by d (Locked object other) book ne e = e
+other_lock false true by d (Inactive other) book ne e = e
+other_lock false true by d (Shared object readers) book ne e = e
+other_lock false false by d state book ne e = e
 
 other_release : (object by d : Bytes) (book : Book) → (d ≡ by → ⊥) → is_lost (Locked object by) book d ≡ true → is_lost (Active object) book d ≡ true
 other_release object by d book ne e =
     ap (λ held. lost false (is_some (vote_in book d)) false (has_room book) held) (sym (bytes_differ d by ne)) ∙ e
+
+-- who reads a key, and who leaves it, makes no other standing of whom it is the anchor
+other_readers : (object : Bytes) (readers more : List Bytes) (book : Book) (d : Bytes) → is_lost (Shared object readers) book d ≡ true → is_lost (read_by object more) book d ≡ true
+other_readers object readers [] book d e = e
+other_readers object readers (reader ∷ more) book d e = e
+
+other_leaves : (by d : Bytes) (state : State) (book : Book) → is_lost state book d ≡ true → is_lost (vacated_by by state) book d ≡ true
+other_leaves by d Unknown book e = e
+other_leaves by d (Active object) book e = e
+other_leaves by d (Locked object other) book e = e
+other_leaves by d (Inactive other) book e = e
+other_leaves by d (Shared object readers) book e = other_readers object readers (without_reader by readers) book d e
 
 other_use : (by d : Bytes) (book : Book) → (d ≡ by → ⊥) → is_lost (Inactive by) book d ≡ true
 other_use by d book ne =
@@ -55,6 +73,7 @@ other_made (Some object) Unknown book d e = e
 other_made (Some object) (Active other) book d e = e
 other_made (Some object) (Locked other by) book d e = e
 other_made (Some object) (Inactive by) book d e = e
+other_made (Some object) (Shared other readers) book d e = e
 
 other_note : (b : Bool) (state : State) (book : Book) (note : Bytes × Vote) (d : Bytes) → (d ≡ note.0 → ⊥) → is_lost state book d ≡ true → is_lost state (more b book note) d ≡ true
 other_note true state book note d ne e =
@@ -97,20 +116,17 @@ module _ (rules : Rules) (known : List Session) (unique : AreToldApart known) (s
 
     lost_accept : is_locked_by y.digest (t.at key).state ≡ true → (used read : Bool) → has_key k (used_up rules y shard) ≡ used → has_key k (read_only rules y shard) ≡ read → is_lost (accept_state used read y.digest (object_under (new_pieces rules shard t y) k) (t.at k).state) (t.at k).book x.digest ≡ true
     lost_accept held true read u r = other_use y.digest x.digest (t.at k).book (held_differs held)
-    lost_accept held false true u r =
-        let h = own rules known unique shard t commits aborts kept y knows key is held in
-        let l = held_is_locked rules known unique shard t y h k (read_is_piece rules known unique shard t y k r) in
-        ap (λ s. is_lost (released s) (t.at k).book x.digest) l.1
-        ∙ other_release l.0 y.digest x.digest (t.at k).book (held_differs held) (ap (λ s. is_lost s (t.at k).book x.digest) (sym l.1) ∙ was)
+    lost_accept held false true u r = other_leaves y.digest x.digest (t.at k).state (t.at k).book was
     lost_accept held false false u r = other_made (object_under (new_pieces rules shard t y) k) (t.at k).state (t.at k).book x.digest was
 
-    lost_undo : is_locked_by y.digest (t.at key).state ≡ true → (b : Bool) → touches rules y shard k ≡ b → is_lost (if b then released (t.at k).state else (t.at k).state) (t.at k).book x.digest ≡ true
-    lost_undo held true p =
+    lost_undo : is_locked_by y.digest (t.at key).state ≡ true → (used read : Bool) → has_key k (used_up rules y shard) ≡ used → is_lost (undo_state used read y.digest (t.at k).state) (t.at k).book x.digest ≡ true
+    lost_undo held true read u =
         let h = own rules known unique shard t commits aborts kept y knows key is held in
-        let l = held_is_locked rules known unique shard t y h k p in
+        let l = held_is_locked rules known unique shard t y h k u in
         ap (λ s. is_lost (released s) (t.at k).book x.digest) l.1
         ∙ other_release l.0 y.digest x.digest (t.at k).book (held_differs held) (ap (λ s. is_lost s (t.at k).book x.digest) (sym l.1) ∙ was)
-    lost_undo held false p = was
+    lost_undo held false true u = other_leaves y.digest x.digest (t.at k).state (t.at k).book was
+    lost_undo held false false u = was
 
   -- the standing Aborted stays
   pub lost_entry : (entry : Entry) → IsIn (session_of entry) known → lost_at (exec rules shard t entry).table k x.digest ≡ true
@@ -120,7 +136,7 @@ module _ (rules : Rules) (known : List Session) (unique : AreToldApart known) (s
         | Nothing same idle repeats ↦ subst P (sym same) was
         | Locks y key what is free ready to ↦
             let ky = subst (λ e. IsIn (session_of e) known) what knows in
-            same_out P _ _ to (other_lock (touches rules y shard k) y.digest x.digest (t.at k).state (t.at k).book (open_differs y ky key is free) was)
+            same_out P _ _ to (other_lock (has_key k (used_up rules y shard)) (has_key k (read_only rules y shard)) y.digest x.digest (t.at k).state (t.at k).book (open_differs y ky key is free) was)
         | Notes y key what is free to ↦
             let ky = subst (λ e. IsIn (session_of e) known) what knows in
             same_out P _ _ to (other_note (key_eq k key) (t.at k).state (t.at k).book ((y.digest, Abort)) x.digest (open_differs y ky key is free) was)
@@ -130,6 +146,6 @@ module _ (rules : Rules) (known : List Session) (unique : AreToldApart known) (s
         | Aborts y key what is held to ↦
             let ky = subst (λ e. IsIn (session_of e) known) what knows in
             same_out P _ _ to
-            (other_note (key_eq k key && nat_lt (length (t.at k).book) 1025) (if touches rules y shard k then released (t.at k).state else (t.at k).state) (t.at k).book ((y.digest, Commit)) x.digest (held_differs y ky key is held)
-            (lost_undo y ky key is held (touches rules y shard k) refl))
+            (other_note (key_eq k key && nat_lt (length (t.at k).book) 1025) (undo_state (has_key k (used_up rules y shard)) (has_key k (read_only rules y shard)) y.digest (t.at k).state) (t.at k).book ((y.digest, Commit)) x.digest (held_differs y ky key is held)
+            (lost_undo y ky key is held (has_key k (used_up rules y shard)) (has_key k (read_only rules y shard)) refl))
       ]

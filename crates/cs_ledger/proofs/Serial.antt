@@ -5,12 +5,12 @@ use Rattle.std.proofs.lemmas.Bool.{cases_Bool, both_ways, or_cases, or_left, or_
 use Rattle.cs_ledger.specs.Ledger.{Bytes, Item, Transaction, Ledger, IsIn, is_well_formed, names, has, object_named, genesis_ledger, ledger_after, ledger_of, Takes, Serial}
 use Rattle.cs_base.specs.Options.{or_else}
 use Rattle.cs_ledger.specs.Session.{Session, Rules, Object}
-use Rattle.cs_ledger.specs.Table.{Vote, Commit, State, Unknown, Active, Locked, Inactive, Table, is_held_by}
+use Rattle.cs_ledger.specs.Table.{Vote, Commit, State, Unknown, Active, Locked, Inactive, Shared, Table, is_held_by}
 use Rattle.cs_ledger.specs.ShardWorld.{is_listed, AreNamedApart}
 use Rattle.cs_ledger.proofs.Basics.{same_bytes, bytes_from, in_left, in_right, in_either}
 use Rattle.cs_ledger.proofs.Names.{item_has, has_item, item_named, named_item, at_none, at_item}
 use Rattle.cs_ledger.proofs.Settled.{settle}
-use Rattle.cs_ledger.proofs.States.{IsRead}
+use Rattle.cs_ledger.proofs.States.{IsRead, IsReadable}
 use Rattle.cs_ledger.proofs.Covered.{Covered}
 
 pub ledger_of-append : (ledger : Ledger) (txs : List Transaction) (tx : Transaction) → ledger_of ledger (txs ++ tx ∷ []) ≡ ledger_after (ledger_of ledger txs) tx
@@ -63,7 +63,16 @@ pub held_is : (d : Bytes) (state : State) → is_held_by d state ≡ true → ((
 held_is d Unknown e = cc
 held_is d (Active object) e = cc
 held_is d (Locked object by) e = inl (object, ap (Locked object) (sym (same_bytes d by e)))
+held_is d (Shared object readers) e = cc
 held_is d (Inactive by) e = inr (ap Inactive (sym (same_bytes d by e)))
+
+not_readable : (state : State) (held by object : Bytes) → state ≡ Locked held by → IsReadable object state → ⊥
+not_readable state held by object l (inl e) = let q : Locked held by ≡ Active object = sym l ∙ e in cc
+not_readable state held by object l (inr s) = let q : Locked held by ≡ Shared object s.0 = sym l ∙ s.1 in cc
+
+no_object : (state : State) (object : Bytes) → state ≡ Unknown → IsReadable object state → ⊥
+no_object state object u (inl e) = let q : Unknown ≡ Active object = sym u ∙ e in cc
+no_object state object u (inr s) = let q : Unknown ≡ Shared object s.0 = sym u ∙ s.1 in cc
 
 unless_none : (b : Bool) (o : Option Bytes) (object : Bytes) → (if b then None else o) ≡ Some object → o ≡ Some object
 unless_none true o object e = cc
@@ -85,7 +94,8 @@ module _ (rules : Rules) (known : List Session) (apart : AreNamedApart rules.gen
       ]
 
   in_ledger : (item : Item) → IsRead item.object y.digest ((tables (rules.shard_of item.name)).at (Object item.name)).state → ledger.active item.name ≡ Some item.object
-  in_ledger item l =
+  in_ledger item (inr s) = (covered (rules.shard_of item.name)).active_is item.name item.object (inr (s.0, s.1))
+  in_ledger item (inl l) =
       elim ((covered (rules.shard_of item.name)).locked_is item.name item.object y.digest l) [
         | inl there ↦ there
         | inr by ↦
@@ -98,7 +108,7 @@ module _ (rules : Rules) (known : List Session) (apart : AreNamedApart rules.gen
       record {
         well_formed = well;
         approved = approved;
-        inputs = λ item h. in_ledger item (locks item h);
+        inputs = λ item h. in_ledger item (inl (locks item h));
         references = λ item h. in_ledger item (reads item h);
         fresh = fresh;
         differ = apart.places y knows;
@@ -155,8 +165,8 @@ module _ (rules : Rules) (known : List Session) (apart : AreNamedApart rules.gen
             elim (cases_Bool (has name (names y.transaction.inputs))) [
               | inl t ↦
                   elim (old.home name) [
-                    | inl u ↦ absurd (let q : Unknown ≡ Active object = sym u ∙ e in cc)
-                    | inr home ↦ absurd (let l = locked_here name t home in let q : Locked l.0 y.digest ≡ Active object = sym l.1 ∙ e in cc)
+                    | inl u ↦ absurd (no_object _ object u e)
+                    | inr home ↦ absurd (let l = locked_here name t home in not_readable _ l.0 y.digest object l.1 e)
                   ]
               | inr f ↦ stays name object (old.active_is name object e) f
             ];

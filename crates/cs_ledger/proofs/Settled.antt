@@ -1,10 +1,10 @@
 -- What a record says of a session once its shard has voted.
-use Rattle.std.proofs.Common.{◌≡◌, ◌≤◌, [], ◌∷◌, ◌++◌, length, Bool, true, false, Option, Some, None, refl, sym, ap, ◌∙◌, arith, length-append}
+use Rattle.std.proofs.Common.{◌≡◌, ◌≤◌, List, [], ◌∷◌, ◌++◌, length, Bool, true, false, Option, Some, None, refl, sym, ap, ◌∙◌, arith, length-append}
 use Rattle.std.specs.Prelude.{bytes_eq, if◌then◌else◌}
 use Rattle.std.proofs.lemmas.Bool.{ltb-false, le-ltb}
 use Rattle.cs_ledger.specs.Ledger.{Bytes}
 use Rattle.cs_base.specs.Options.{or_else}
-use Rattle.cs_ledger.specs.Table.{Vote, Commit, Abort, Book, State, Unknown, Active, Locked, Inactive, is_held_by, is_inactive, vote_in, has_room, locked, made}
+use Rattle.cs_ledger.specs.Table.{Vote, Commit, Abort, Book, State, Unknown, Active, Locked, Inactive, Shared, is_held_by, is_inactive, vote_in, has_room, locked, joined_by, vacated_by, read_by, without_reader, made}
 use Rattle.cs_ledger.proofs.Basics.{bytes_refl, bytes_differ}
 
 abbrev pub settle : Bool → Option Vote → Bool → Bool → Option Vote
@@ -49,6 +49,25 @@ settled_locked (Active object) by d book vote ne e =
     ap (λ b. settle b (vote_in book d) false (has_room book)) (bytes_differ d by ne) ∙ e
 settled_locked (Locked object other) by d book vote ne e = e
 settled_locked (Inactive other) by d book vote ne e = e
+settled_locked (Shared object readers) by d book vote ne e = e
+
+pub settled_joined : (by : Bytes) (state : State) (book : Book) (d : Bytes) (vote : Vote) → settled state book d ≡ Some vote → settled (joined_by by state) book d ≡ Some vote
+settled_joined by Unknown book d vote e = e
+settled_joined by (Active object) book d vote e = e
+settled_joined by (Locked object other) book d vote e = e
+settled_joined by (Inactive other) book d vote e = e
+settled_joined by (Shared object readers) book d vote e = e
+
+settled_shared : (object : Bytes) (readers more : List Bytes) (book : Book) (d : Bytes) (vote : Vote) → settled (Shared object readers) book d ≡ Some vote → settled (read_by object more) book d ≡ Some vote
+settled_shared object readers [] book d vote e = e
+settled_shared object readers (r ∷ more) book d vote e = e
+
+pub settled_left : (by : Bytes) (state : State) (book : Book) (d : Bytes) (vote : Vote) → settled state book d ≡ Some vote → settled (vacated_by by state) book d ≡ Some vote
+settled_left by Unknown book d vote e = e
+settled_left by (Active object) book d vote e = e
+settled_left by (Locked object other) book d vote e = e
+settled_left by (Inactive other) book d vote e = e
+settled_left by (Shared object readers) book d vote e = settled_shared object readers (without_reader by readers) book d vote e
 
 pub settled_made : (new : Option Bytes) (state : State) (book : Book) (d : Bytes) (vote : Vote) → settled state book d ≡ Some vote → settled (made new state) book d ≡ Some vote
 settled_made None state book d vote e = e
@@ -56,6 +75,7 @@ settled_made (Some object) Unknown book d vote e = e
 settled_made (Some object) (Active other) book d vote e = e
 settled_made (Some object) (Locked other by) book d vote e = e
 settled_made (Some object) (Inactive by) book d vote e = e
+settled_made (Some object) (Shared other readers) book d vote e = e
 
 pub vote_in-append : (book : Book) (note : Bytes × Vote) (d : Bytes) → vote_in (book ++ note ∷ []) d ≡ or_else (vote_in book d) (if bytes_eq d note.0 then Some note.1 else None)
 vote_in-append [] note d = refl

@@ -1,7 +1,7 @@
 -- The table of a shard, and what executing an entry does to it.
 use Rattle.std.specs.Prelude.{ℕ, ◌+◌, ◌-◌, ◌^◌, Bool, true, false, not, ◌&&◌, ◌||◌, List, [], ◌∷◌, ◌++◌, length, Option, Some, None, bytes_eq, ◌==◌, nat_lt, if◌then◌else◌}
-use Rattle.cs_base.specs.declared.limits.TheConstants.{BOOK_PLACES, MOST_PLACES}
-use Rattle.cs_ledger.specs.Ledger.{Bytes, is_empty}
+use Rattle.cs_base.specs.declared.limits.TheConstants.{BOOK_PLACES, MOST_PLACES, MOST_READERS}
+use Rattle.cs_ledger.specs.Ledger.{Bytes, has, is_empty}
 use Rattle.cs_ledger.specs.Session.{Session, Rules, Key, Object, Dummy, Piece, key_eq, has_key, object_under, objects_in, dummies_in, used_up, read_only, anchor, concerns, well_formed}
 
 pub data Vote : Type 0 where
@@ -13,6 +13,7 @@ pub data State : Type 0 where
   Active : (object : Bytes) → State
   Locked : (object by : Bytes) → State
   Inactive : (by : Bytes) → State
+  Shared : (object : Bytes) (readers : List Bytes) → State  -- read by these sessions, in the order in which they came
 
 -- the sessions' digests, and how each was voted on
 abbrev pub Book : Type 0
@@ -48,6 +49,7 @@ is_held_by d Unknown = false
 is_held_by d (Active object) = false
 is_held_by d (Locked object by) = bytes_eq d by
 is_held_by d (Inactive by) = bytes_eq d by
+is_held_by d (Shared object readers) = false
 
 abbrev pub is_locked_by : Bytes → State → Bool
 is_locked_by d (Locked object by) = bytes_eq d by
@@ -61,12 +63,23 @@ abbrev pub is_active_with : Bytes → State → Bool
 is_active_with object (Active held) = bytes_eq object held
 is_active_with object _ = false
 
--- the object that stands under a key, for whoever would use it
+-- one more session may read an object that these read
+abbrev pub has_seat : List Bytes → Bool
+has_seat readers = nat_lt (length readers) MOST_READERS
+
+-- Active, or Shared with a seat, with exactly that object
+abbrev pub is_readable_with : Bytes → State → Bool
+is_readable_with object (Active held) = bytes_eq object held
+is_readable_with object (Shared held readers) = bytes_eq object held && has_seat readers
+is_readable_with object _ = false
+
+-- the object that stands under a key, for whoever would read it
 abbrev pub free_object : State → Option Bytes
 free_object (Active object) = Some object
+free_object (Shared object readers) = Some object
 free_object _ = None
 
--- an object is there, which no session holds
+-- an object is there, which no session holds or reads
 abbrev pub is_free : State → Bool
 is_free (Active object) = true
 is_free _ = false
@@ -93,9 +106,14 @@ abbrev pub all_ready : Table → List Piece → Bool
 all_ready t [] = true
 all_ready t (piece ∷ pieces) = is_active_with piece.object (t.at piece.key).state && all_ready t pieces
 
+-- each key is Active, or Shared with a seat, with exactly the carried object
+abbrev pub all_readable : Table → List Piece → Bool
+all_readable t [] = true
+all_readable t (piece ∷ pieces) = is_readable_with piece.object (t.at piece.key).state && all_readable t pieces
+
 -- what may be used up is there to be used up, and what is read there to be read
 abbrev pub is_ready : Table → List Piece → List Piece → Bool
-is_ready t used read = all_ready t used && all_ready t read
+is_ready t used read = all_ready t used && all_readable t read
 
 abbrev pub locked : Bytes → State → State
 locked d (Active object) = Locked object d
@@ -104,6 +122,31 @@ locked d state = state
 abbrev pub released : State → State
 released (Locked object by) = Active object
 released state = state
+
+-- who isn't among the readers comes behind them, where there is a seat
+abbrev pub with_reader : Bytes → List Bytes → List Bytes
+with_reader d readers = if has d readers || not (has_seat readers) then readers else readers ++ d ∷ []
+
+-- a session joins the readers
+abbrev pub joined_by : Bytes → State → State
+joined_by d (Active object) = Shared object (d ∷ [])
+joined_by d (Shared object readers) = Shared object (with_reader d readers)
+joined_by d state = state
+
+abbrev pub without_reader : Bytes → List Bytes → List Bytes
+without_reader d [] = []
+without_reader d (reader ∷ readers) =
+    if bytes_eq d reader then without_reader d readers else reader ∷ without_reader d readers
+
+-- what nobody reads is Active
+abbrev pub read_by : Bytes → List Bytes → State
+read_by object [] = Active object
+read_by object (reader ∷ readers) = Shared object (reader ∷ readers)
+
+-- a session leaves the readers
+abbrev pub vacated_by : Bytes → State → State
+vacated_by d (Shared object readers) = read_by object (without_reader d readers)
+vacated_by d state = state
 
 -- an object comes into being; one that was there, or is used up, does not come back
 abbrev pub appeared : Bytes → State → State
@@ -114,19 +157,19 @@ abbrev pub made : Option Bytes → State → State
 made (Some object) state = appeared object state
 made None state = state
 
--- what a session locks: what it uses up, and what it reads
+-- a session locks what it uses up, and joins the readers of what it only reads
 abbrev pub lock_state : Bool → Bool → Bytes → State → State
-lock_state used read d state = if used || read then locked d state else state
+lock_state used read d state = if used then locked d state else if read then joined_by d state else state
 
--- what a session lets go when it is aborted
-abbrev pub undo_state : Bool → Bool → State → State
-undo_state used read state = if used || read then released state else state
+-- when it is aborted it lets go what it locked, and leaves the readers
+abbrev pub undo_state : Bool → Bool → Bytes → State → State
+undo_state used read d state = if used then released state else if read then vacated_by d state else state
 
 -- what a session makes of a key when it is accepted
 abbrev pub accept_state : Bool → Bool → Bytes → Option Bytes → State → State
-accept_state used read d new state = if used then Inactive d else if read then released state else made new state
+accept_state used read d new state = if used then Inactive d else if read then vacated_by d state else made new state
 
--- all the session's keys here become Locked by it
+-- what the session uses up here becomes Locked by it, and it is a reader of what it only reads
 abbrev pub with_locks : Table → Bytes → List Piece → List Piece → Table
 with_locks t d used read =
     record {
@@ -151,7 +194,7 @@ with_vote t anchor d vote =
 abbrev pub voted : Table → Vote → Outcome
 voted t vote = record { table = t; effect = Voted vote }
 
--- the keys here are all Active with exactly the carried objects, or one of them is not
+-- each of its keys here is there for it, with exactly the carried object, or one of them is not
 abbrev pub prepare_fresh : Table → Bytes → Key → List Piece → List Piece → Outcome
 prepare_fresh t d anchor used read =
     if is_ready t used read
@@ -172,7 +215,7 @@ prepare_unless t d anchor used read None =
     if is_inactive (t.at anchor).state then voted t Abort else prepare_open t d anchor used read
 
 -- the vote of a shard on a session, the first case that applies: it holds its anchor; it is in the anchor's book;
--- another has used up the anchor; all its keys are free; otherwise
+-- another has used up the anchor; all its keys are there for it; otherwise
 abbrev pub prepare : Table → Bytes → Key → List Piece → List Piece → Outcome
 prepare t d anchor used read =
     if is_held_by d (t.at anchor).state
@@ -203,12 +246,12 @@ with_accepted rules shard t x =
       next = t.next + length (new_dummy rules shard t (dummies_in rules shard x.dummies));
     }
 
--- all the session's keys here become Active again, and its commit vote goes into the anchor's book
+-- what it locked here is Active again, it leaves the readers, and its commit vote goes into the anchor's book
 abbrev pub with_aborted : Table → Bytes → Key → List Piece → List Piece → Table
 with_aborted t d anchor used read =
     record {
       at = λ key. record {
-        state = undo_state (has_key key used) (has_key key read) (t.at key).state;
+        state = undo_state (has_key key used) (has_key key read) d (t.at key).state;
         book = if key_eq key anchor && has_place (t.at key).book
             then (t.at key).book ++ (d, Commit) ∷ []
             else (t.at key).book;

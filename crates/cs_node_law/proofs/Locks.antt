@@ -4,7 +4,7 @@ use Rattle.std.specs.Prelude.{bytes_eq}
 use Rattle.std.proofs.lemmas.Bool.{and_from, or_left, or_right}
 use Rattle.cs_ledger.specs.Ledger.{Bytes}
 use Rattle.cs_ledger.specs.Session.{Rules, Key, Object, Dummy, has_key, objects_in, anchor, used_up, read_only, object_under}
-use Rattle.cs_ledger.specs.Table.{Commit, State, Unknown, Active, Locked, Inactive, Table, Entry, Outcome, is_locked_by, locked, released, made, lock_state, undo_state, accept_state, new_pieces, exec, table_of}
+use Rattle.cs_ledger.specs.Table.{Commit, State, Unknown, Active, Locked, Inactive, Shared, Table, Entry, Outcome, is_locked_by, locked, released, joined_by, vacated_by, read_by, without_reader, made, lock_state, undo_state, accept_state, new_pieces, exec, table_of}
 use Rattle.cs_ledger.specs.ShardWorld.{votes_in, is_prepare_of, is_vote}
 use Rattle.cs_ledger.proofs.Changes.{Change, Nothing, Locks, Notes, Accepts, Aborts, change}
 use Rattle.cs_node_state.specs.Setup.{digest_of}
@@ -18,6 +18,25 @@ not-released d Unknown h = cc
 not-released d (Active object) h = cc
 not-released d (Locked object by) h = cc
 not-released d (Inactive by) h = cc
+not-released d (Shared object readers) h = cc
+
+not-joined : (d by : Bytes) (s : State) → is_locked_by d (joined_by by s) ≡ true → is_locked_by d s ≡ true
+not-joined d by Unknown h = h
+not-joined d by (Active object) h = cc
+not-joined d by (Locked object other) h = h
+not-joined d by (Inactive other) h = h
+not-joined d by (Shared object readers) h = cc
+
+not-shared : (d object : Bytes) (readers : List Bytes) → is_locked_by d (read_by object readers) ≡ true → ⊥
+not-shared d object [] h = cc
+not-shared d object (reader ∷ readers) h = cc
+
+not-vacated : (d by : Bytes) (s : State) → is_locked_by d (vacated_by by s) ≡ true → is_locked_by d s ≡ true
+not-vacated d by Unknown h = h
+not-vacated d by (Active object) h = h
+not-vacated d by (Locked object other) h = h
+not-vacated d by (Inactive other) h = h
+not-vacated d by (Shared object readers) h = absurd (not-shared d object (without_reader by readers) h)
 
 not-made : (d : Bytes) (o : Option Bytes) (s : State) → is_locked_by d (made o s) ≡ true → is_locked_by d s ≡ true
 not-made d None s h = h
@@ -25,26 +44,28 @@ not-made d (Some object) Unknown h = cc
 not-made d (Some object) (Active held) h = h
 not-made d (Some object) (Locked held by) h = h
 not-made d (Some object) (Inactive by) h = h
+not-made d (Some object) (Shared held readers) h = h
 
 newly-locked : (d by : Bytes) (s : State) → is_locked_by d (locked by s) ≡ true → (is_locked_by d s ≡ true) ⊎ (bytes_eq d by ≡ true)
 newly-locked d by Unknown h = inl h
 newly-locked d by (Active object) h = inr h
 newly-locked d by (Locked object other) h = inl h
 newly-locked d by (Inactive other) h = inl h
+newly-locked d by (Shared object readers) h = inl h
 
 by-lock : (used read : Bool) (d by : Bytes) (s : State) → is_locked_by d (lock_state used read by s) ≡ true → (is_locked_by d s ≡ true) ⊎ (bytes_eq d by ≡ true)
 by-lock true read d by s h = newly-locked d by s h
-by-lock false true d by s h = newly-locked d by s h
+by-lock false true d by s h = inl (not-joined d by s h)
 by-lock false false d by s h = inl h
 
-by-undo : (used read : Bool) (d : Bytes) (s : State) → is_locked_by d (undo_state used read s) ≡ true → is_locked_by d s ≡ true
-by-undo true read d s h = absurd (not-released d s h)
-by-undo false true d s h = absurd (not-released d s h)
-by-undo false false d s h = h
+by-undo : (used read : Bool) (d by : Bytes) (s : State) → is_locked_by d (undo_state used read by s) ≡ true → is_locked_by d s ≡ true
+by-undo true read d by s h = absurd (not-released d s h)
+by-undo false true d by s h = not-vacated d by s h
+by-undo false false d by s h = h
 
 by-accept : (used read : Bool) (d by : Bytes) (new : Option Bytes) (s : State) → is_locked_by d (accept_state used read by new s) ≡ true → is_locked_by d s ≡ true
 by-accept true read d by new s h = cc
-by-accept false true d by new s h = absurd (not-released d s h)
+by-accept false true d by new s h = not-vacated d by s h
 by-accept false false d by new s h = not-made d new s h
 
 module _ (r : Rules) (shard : ℕ) (t : Table) (d : Bytes) (key : Key) where
@@ -68,7 +89,7 @@ module _ (r : Rules) (shard : ℕ) (t : Table) (d : Bytes) (key : Key) where
   lock-from entry out (Accepts x k what is held to) h =
       inl (by-accept (has_key key (used_up r x shard)) (has_key key (read_only r x shard)) d x.digest (object_under (new_pieces r shard t x) key) (t.at key).state (subst (λ o. IsAt o) to h))
   lock-from entry out (Aborts x k what is held to) h =
-      inl (by-undo (has_key key (used_up r x shard)) (has_key key (read_only r x shard)) d (t.at key).state (subst (λ o. IsAt o) to h))
+      inl (by-undo (has_key key (used_up r x shard)) (has_key key (read_only r x shard)) d x.digest (t.at key).state (subst (λ o. IsAt o) to h))
 
 at-start : (r : Rules) (shard : ℕ) (d : Bytes) (key : Key) → is_locked_by d ((table_of r shard []).at key).state ≡ true → ⊥
 at-start r shard d (Object name) h = let q : false ≡ true = not-made d (object_under (objects_in r shard r.genesis) (Object name)) Unknown h in cc

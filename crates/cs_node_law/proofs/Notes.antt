@@ -7,7 +7,7 @@ use Rattle.cs_tx_types.specs.declared.vote.Vote.TheVariants as tx
 use Rattle.cs_ledger.specs.Ledger.{Bytes}
 use Rattle.cs_base.specs.Options.{or_else}
 use Rattle.cs_ledger.specs.Session.{Rules, Key, Object, Dummy, has_key, key_eq, objects_in, anchor, used_up, read_only, object_under}
-use Rattle.cs_ledger.specs.Table.{Vote, Commit, Abort, Book, State, Unknown, Active, Locked, Inactive, Table, Entry, Outcome, Effect, Voted, is_locked_by, vote_in, locked, released, made, lock_state, undo_state, accept_state, new_pieces, exec, table_of}
+use Rattle.cs_ledger.specs.Table.{Vote, Commit, Abort, Book, State, Unknown, Active, Locked, Inactive, Shared, Table, Entry, Outcome, Effect, Voted, is_locked_by, vote_in, locked, released, joined_by, vacated_by, read_by, without_reader, made, lock_state, undo_state, accept_state, new_pieces, exec, table_of}
 use Rattle.cs_ledger.specs.Standing.{is_inactive_by, recorded}
 use Rattle.cs_ledger.specs.ShardWorld.{votes_in, is_prepare_of, is_vote}
 use Rattle.cs_ledger.proofs.Basics.{same_bytes}
@@ -27,12 +27,32 @@ of-locked d by Unknown h = cc
 of-locked d by (Active object) h = cc
 of-locked d by (Locked object other) h = cc
 of-locked d by (Inactive other) h = h
+of-locked d by (Shared object readers) h = cc
 
 of-released : (d : Bytes) (s : State) → is_inactive_by d (released s) ≡ true → is_inactive_by d s ≡ true
 of-released d Unknown h = cc
 of-released d (Active object) h = cc
 of-released d (Locked object by) h = cc
 of-released d (Inactive by) h = h
+of-released d (Shared object readers) h = cc
+
+of-joined : (d by : Bytes) (s : State) → is_inactive_by d (joined_by by s) ≡ true → is_inactive_by d s ≡ true
+of-joined d by Unknown h = cc
+of-joined d by (Active object) h = cc
+of-joined d by (Locked object other) h = cc
+of-joined d by (Inactive other) h = h
+of-joined d by (Shared object readers) h = cc
+
+of-shared : (d object : Bytes) (readers : List Bytes) → is_inactive_by d (read_by object readers) ≡ true → ⊥
+of-shared d object [] h = cc
+of-shared d object (reader ∷ readers) h = cc
+
+of-vacated : (d by : Bytes) (s : State) → is_inactive_by d (vacated_by by s) ≡ true → is_inactive_by d s ≡ true
+of-vacated d by Unknown h = cc
+of-vacated d by (Active object) h = cc
+of-vacated d by (Locked object other) h = cc
+of-vacated d by (Inactive other) h = h
+of-vacated d by (Shared object readers) h = absurd (of-shared d object (without_reader by readers) h)
 
 of-made : (d : Bytes) (o : Option Bytes) (s : State) → is_inactive_by d (made o s) ≡ true → is_inactive_by d s ≡ true
 of-made d None s h = h
@@ -40,20 +60,21 @@ of-made d (Some object) Unknown h = cc
 of-made d (Some object) (Active held) h = cc
 of-made d (Some object) (Locked held by) h = cc
 of-made d (Some object) (Inactive by) h = h
+of-made d (Some object) (Shared held readers) h = cc
 
 pub by-lock : (used read : Bool) (d by : Bytes) (s : State) → is_inactive_by d (lock_state used read by s) ≡ true → is_inactive_by d s ≡ true
 by-lock true read d by s h = of-locked d by s h
-by-lock false true d by s h = of-locked d by s h
+by-lock false true d by s h = of-joined d by s h
 by-lock false false d by s h = h
 
-pub by-undo : (used read : Bool) (d : Bytes) (s : State) → is_inactive_by d (undo_state used read s) ≡ true → is_inactive_by d s ≡ true
-by-undo true read d s h = of-released d s h
-by-undo false true d s h = of-released d s h
-by-undo false false d s h = h
+pub by-undo : (used read : Bool) (d by : Bytes) (s : State) → is_inactive_by d (undo_state used read by s) ≡ true → is_inactive_by d s ≡ true
+by-undo true read d by s h = of-released d s h
+by-undo false true d by s h = of-vacated d by s h
+by-undo false false d by s h = h
 
 pub by-accept : (used read : Bool) (d by : Bytes) (new : Option Bytes) (s : State) → is_inactive_by d (accept_state used read by new s) ≡ true → (is_inactive_by d s ≡ true) ⊎ (bytes_eq d by ≡ true)
 by-accept true read d by new s h = inr h
-by-accept false true d by new s h = inl (of-released d s h)
+by-accept false true d by new s h = inl (of-vacated d by s h)
 by-accept false false d by new s h = inl (of-made d new s h)
 
 module _ (r : Rules) (shard : ℕ) (t : Table) (d : Bytes) (key : Key) where
@@ -75,7 +96,7 @@ module _ (r : Rules) (shard : ℕ) (t : Table) (d : Bytes) (key : Key) where
         | inr new ↦ inr (x.digest, k, new, held)
       ]
   used-from entry out (Aborts x k what is held to) h =
-      inl (by-undo (has_key key (used_up r x shard)) (has_key key (read_only r x shard)) d (t.at key).state (subst (λ (o : Outcome). IsUsed o.table) to h))
+      inl (by-undo (has_key key (used_up r x shard)) (has_key key (read_only r x shard)) d x.digest (t.at key).state (subst (λ (o : Outcome). IsUsed o.table) to h))
 
 -- a lock of this digest was voted commit
 held-voted : (r : Rules) (shard : ℕ) (d by : Bytes) (at : Key) (log : List Entry) → bytes_eq d by ≡ true → is_locked_by by ((table_of r shard log).at at).state ≡ true → votes_in r shard d Commit log ≡ true

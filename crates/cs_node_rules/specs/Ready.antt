@@ -17,7 +17,8 @@ use Rattle.cs_node_rules.specs.Site.{Site, View}
 use Rattle.cs_node_rules.specs.Trail.{turn_marks}
 use Rattle.cs_node_rules.specs.World.{Happening, view_of}
 
--- each key of the session here is Active with exactly the carried object; it isn't in the anchor's book, which has room
+-- Each input and the dummy of the session here is Active, and each reference Active or Shared with a seat, with exactly
+-- the carried object; it isn't in the anchor's book, which has room.
 pub record IsFree (setup : Setup) (shard : ℕ) (t : Shard.Table) (x : Session) : Type 0 where
   pub key : Key
   pub is_anchor : anchor setup.rules (setup.session_of x) shard ≡ Some key

@@ -27,6 +27,7 @@ state_told Shard.Unknown = state.Unknown
 state_told (Shard.Active object) = state.Active (object_of_bytes object)
 state_told (Shard.Locked object by) = state.Locked (object_of_bytes object) by
 state_told (Shard.Inactive by) = state.Inactive by
+state_told (Shard.Shared object readers) = state.Shared (object_of_bytes object) readers
 
 abbrev pub told_at : Shard.Table → Key → State
 told_at t key = state_told (t.at (key_seen key)).state

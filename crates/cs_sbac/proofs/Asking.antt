@@ -31,6 +31,7 @@ told-again state.Unknown h = refl
 told-again (state.Active o) h = ap (λ (x : Object). state.Active x) (object-again o h)
 told-again (state.Locked o by) h = ap (λ (x : Object). state.Locked x by) (object-again o h)
 told-again (state.Inactive by) h = refl
+told-again (state.Shared o readers) h = ap (λ (x : Object). state.Shared x readers) (object-again o h.0)
 
 abbrev told-of : Option Record → State
 told-of row = state_told (seen_row row).state

@@ -18,6 +18,7 @@ use cs_base::{Key, Memory};
 use cs_table::Standing;
 use cs_tx::{Digest, Encoded, Session, State, Vote, anchor};
 use cs_tx_types::{digest_fits, key_fits};
+use cs_tx_value::copy_each;
 use std::alloc::Global;
 
 fn is_accepted(standing: Standing) -> Option<bool>
@@ -45,6 +46,10 @@ fn copy_state(alloc: Global, state: &State) -> Result<State, Memory>
         State::Inactive(by) => {
             digest_fits(by);
             Ok(State::Inactive(*by))
+        }
+        State::Shared(object, readers) => {
+            let object = object.copy(alloc)?;
+            Ok(State::Shared(object, copy_each(alloc, readers)?))
         }
     }
 }

@@ -2,7 +2,7 @@
 use Rattle.std.proofs.Common.{◌≡◌, ℕ, suc, ◌+◌, ◌<◌, ◌==◌, nat_lt, Bool, true, false, not, ◌&&◌, ◌||◌, if◌then◌else◌, List, [], ◌∷◌, ◌++◌, length, get_or, take, drop, map, Some, None, refl, sym, ap, ◌∙◌, subst, add-one, drop-cons, arith}
 use Rattle.cs_ledger.specs.Session as ledger
 use Rattle.cs_ledger.specs.Table as table
-use Rattle.cs_ledger.specs.Table.{State, Unknown, Active, Locked, Inactive, Record, Table}
+use Rattle.cs_ledger.specs.Table.{State, Unknown, Active, Locked, Inactive, Shared, Record, Table}
 use Rattle.cs_table.specs.declared.piece.Piece.{Piece}
 use Rattle.cs_table.specs.Seen.{Stored, seen, seen_piece}
 use Rattle.cs_tx.specs.Sessions.{key_seen}
@@ -49,6 +49,7 @@ appeared_known o Unknown = refl
 appeared_known o (Active x) = refl
 appeared_known o (Locked x by) = refl
 appeared_known o (Inactive by) = refl
+appeared_known o (Shared x readers) = refl
 
 shown_more : (same had : Bool) (o : List ℕ) (r : Record) → is_unknown r.state ≡ not had → is_unknown (if same then appeared_record o r else r).state ≡ not (had || same)
 shown_more true true o r h = appeared_known o r.state
@@ -130,6 +131,7 @@ appeared_again o Unknown = refl
 appeared_again o (Active x) = refl
 appeared_again o (Locked x by) = refl
 appeared_again o (Inactive by) = refl
+appeared_again o (Shared x readers) = refl
 
 one_dummy : (new had : Bool) (o : List ℕ) (r : Record) → (if new then appeared_record o (if had then appeared_record o r else r) else (if had then appeared_record o r else r)) ≡ (if had || new then appeared_record o r else r)
 one_dummy true true o r = ap (λ s. record { state = s; book = r.book }) (appeared_again o r.state)

@@ -4,12 +4,12 @@ use Rattle.cs_ledger.specs.Ledger.{Bytes}
 use Rattle.cs_ledger.specs.Session.{Key, Piece}
 use Rattle.cs_ledger.specs.Table as ledger
 use Rattle.cs_ledger.specs.Table.{Record, Table}
-use Rattle.cs_table.specs.declared.change.Change.TheVariants.{Lock, Release, UseUp}
+use Rattle.cs_table.specs.declared.change.Change.TheVariants.{Lock, Release, UseUp, Join, Leave}
 use Rattle.cs_table.specs.Seen.{Stored, seen}
-use Rattle.cs_table.specs.Changes.{Becomes, changed, changed_record, noted_record, changed_each, appeared_each}
+use Rattle.cs_table.specs.Changes.{Becomes, changed, changed_record, noted_record, changed_each, changed_but, appeared_each}
 use Rattle.cs_table.specs.Effects.{settled_vote, or_lost, ComesTo, accepted}
-use Rattle.cs_table.proofs.Each.{locks, aborts_noted, aborts_full, accepts, books_kept}
-use Rattle.cs_table.proofs.Weights.{AllGain, all_after, one_gains, each_gains, made_gain, voting, deciding, locks_gain, releases_gain, uses_gain, appears_gain, notes_gain}
+use Rattle.cs_table.proofs.Each.{locks, aborts_noted, aborts_full, accepts, books_kept, books_kept_but}
+use Rattle.cs_table.proofs.Weights.{AllGain, all_after, one_gains, each_gains, but_gains, made_gain, voting, deciding, locks_gain, joins_gain, leaves_gain, releases_gain, uses_gain, appears_gain, notes_gain}
 use Rattle.cs_table.proofs.Marked.{marks_self, marks_after}
 
 pub becomes_self : (a : Stored) → Becomes a a (seen a)
@@ -42,15 +42,27 @@ becomes_same a b t u e h = record { shows = h.shows ∙ e; shards = h.shards; sh
 lock_lifts : (d : Bytes) (ps : List Piece) → Lifts voting (changed_each (changed_record (Lock d)) ps)
 lock_lifts d ps t = each_gains voting (changed_record (Lock d)) (locks_gain d) ps t
 
-pub locked : (a b c : Stored) (d : Bytes) (used read : List Piece) → Becomes a b (changed_each (changed_record (Lock d)) used (seen a)) → Becomes b c (changed_each (changed_record (Lock d)) read (seen b)) → Becomes a c (ledger.with_locks (seen a) d used read)
+abbrev joined_all : Bytes → List Piece → List Piece → Table → Table
+joined_all d used ps t = changed_but used (changed_record (Join d)) ps t
+
+join_lifts : (d : Bytes) (used ps : List Piece) → Lifts voting (joined_all d used ps)
+join_lifts d used ps t = but_gains voting (changed_record (Join d)) (joins_gain d) used ps t
+
+pub locked : (a b c : Stored) (d : Bytes) (used read : List Piece) → Becomes a b (changed_each (changed_record (Lock d)) used (seen a)) → Becomes b c (joined_all d used read (seen b)) → Becomes a c (ledger.with_locks (seen a) d used read)
 locked a b c d used read one two = becomes_same a c _ _ (locks d used read (seen a))
-    (after voting a b c (changed_each (changed_record (Lock d)) used) (changed_each (changed_record (Lock d)) read) (lock_lifts d used) (lock_lifts d read) one two)
+    (after voting a b c (changed_each (changed_record (Lock d)) used) (joined_all d used read) (lock_lifts d used) (join_lifts d used read) one two)
 
 abbrev released_all : List Piece → Table → Table
 released_all ps t = changed_each (changed_record Release) ps t
 
 release_lifts : (d : Bytes) (ps : List Piece) → Lifts (deciding d) (released_all ps)
 release_lifts d ps t = each_gains (deciding d) (changed_record Release) (releases_gain d) ps t
+
+abbrev left_all : Bytes → List Piece → List Piece → Table → Table
+left_all d used ps t = changed_but used (changed_record (Leave d)) ps t
+
+leave_lifts : (d : Bytes) (used ps : List Piece) → Lifts (deciding d) (left_all d used ps)
+leave_lifts d used ps t = but_gains (deciding d) (changed_record (Leave d)) (leaves_gain d) used ps t
 
 use_lifts : (d : Bytes) (ps : List Piece) → Lifts (deciding d) (changed_each (changed_record (UseUp d)) ps)
 use_lifts d ps t = each_gains (deciding d) (changed_record (UseUp d)) (uses_gain d) ps t
@@ -62,31 +74,31 @@ note_lifts : (d session : Bytes) (vote : ledger.Vote) (anchor : Key) → Lifts (
 note_lifts d session vote anchor t = one_gains (deciding d) (noted_record session vote) (notes_gain d session vote) anchor t
 
 -- a book has a place as before
-pub still_place : (a b c : Stored) (used read : List Piece) (k : Key) → Becomes a b (released_all used (seen a)) → Becomes b c (released_all read (seen b)) → ledger.has_place ((seen a).at k).book ≡ true → ledger.has_place ((seen c).at k).book ≡ true
-still_place a b c used read k one two room =
-    ap (λ (t : Table). ledger.has_place (t.at k).book) two.shows ∙ ap ledger.has_place (books_kept Release read (seen b) k)
+pub still_place : (a b c : Stored) (d : Bytes) (used read : List Piece) (k : Key) → Becomes a b (released_all used (seen a)) → Becomes b c (left_all d used read (seen b)) → ledger.has_place ((seen a).at k).book ≡ true → ledger.has_place ((seen c).at k).book ≡ true
+still_place a b c d used read k one two room =
+    ap (λ (t : Table). ledger.has_place (t.at k).book) two.shows ∙ ap ledger.has_place (books_kept_but used (Leave d) read (seen b) k)
     ∙ ap (λ (t : Table). ledger.has_place (t.at k).book) one.shows ∙ ap ledger.has_place (books_kept Release used (seen a) k)
     ∙ room
 
-pub aborted_full : (a b c : Stored) (d : Bytes) (anchor : Key) (used read : List Piece) → ledger.has_place ((seen a).at anchor).book ≡ false → Becomes a b (released_all used (seen a)) → Becomes b c (released_all read (seen b)) → Becomes a c (ledger.with_aborted (seen a) d anchor used read)
+pub aborted_full : (a b c : Stored) (d : Bytes) (anchor : Key) (used read : List Piece) → ledger.has_place ((seen a).at anchor).book ≡ false → Becomes a b (released_all used (seen a)) → Becomes b c (left_all d used read (seen b)) → Becomes a c (ledger.with_aborted (seen a) d anchor used read)
 aborted_full a b c d anchor used read full one two = becomes_same a c _ _ (aborts_full d anchor used read (seen a) full)
-    (after (deciding d) a b c (released_all used) (released_all read) (release_lifts d used) (release_lifts d read) one two)
+    (after (deciding d) a b c (released_all used) (left_all d used read) (release_lifts d used) (leave_lifts d used read) one two)
 
-pub aborted_noted : (a b c e : Stored) (d : Bytes) (anchor : Key) (used read : List Piece) → ledger.has_place ((seen a).at anchor).book ≡ true → Becomes a b (released_all used (seen a)) → Becomes b c (released_all read (seen b)) → Becomes c e (changed (noted_record d ledger.Commit) anchor (seen c)) → Becomes a e (ledger.with_aborted (seen a) d anchor used read)
+pub aborted_noted : (a b c e : Stored) (d : Bytes) (anchor : Key) (used read : List Piece) → ledger.has_place ((seen a).at anchor).book ≡ true → Becomes a b (released_all used (seen a)) → Becomes b c (left_all d used read (seen b)) → Becomes c e (changed (noted_record d ledger.Commit) anchor (seen c)) → Becomes a e (ledger.with_aborted (seen a) d anchor used read)
 aborted_noted a b c e d anchor used read room one two three =
     becomes_same a e _ _ (aborts_noted d anchor used read (seen a) room)
-    (after (deciding d) a c e (λ t. released_all read (released_all used t)) (changed (noted_record d ledger.Commit) anchor)
-    (both_lift (deciding d) (released_all used) (released_all read) (release_lifts d used) (release_lifts d read))
+    (after (deciding d) a c e (λ t. left_all d used read (released_all used t)) (changed (noted_record d ledger.Commit) anchor)
+    (both_lift (deciding d) (released_all used) (left_all d used read) (release_lifts d used) (leave_lifts d used read))
     (note_lifts d d ledger.Commit anchor)
-    (after (deciding d) a b c (released_all used) (released_all read) (release_lifts d used) (release_lifts d read) one two) three)
+    (after (deciding d) a b c (released_all used) (left_all d used read) (release_lifts d used) (leave_lifts d used read) one two) three)
 
-pub carried : (a b c e : Stored) (d : Bytes) (used read made : List Piece) → Becomes a b (released_all read (seen a)) → Becomes b c (changed_each (changed_record (UseUp d)) used (seen b)) → Becomes c e (appeared_each read made (seen c)) → Becomes a e (accepted d used read made (seen a).next (seen a))
+pub carried : (a b c e : Stored) (d : Bytes) (used read made : List Piece) → Becomes a b (left_all d used read (seen a)) → Becomes b c (changed_each (changed_record (UseUp d)) used (seen b)) → Becomes c e (appeared_each read made (seen c)) → Becomes a e (accepted d used read made (seen a).next (seen a))
 carried a b c e d used read made one two three =
     becomes_same a e _ _ (accepts d used read made (seen a))
-    (after (deciding d) a c e (λ t. changed_each (changed_record (UseUp d)) used (released_all read t)) (appeared_each read made)
-    (both_lift (deciding d) (released_all read) (changed_each (changed_record (UseUp d)) used) (release_lifts d read) (use_lifts d used))
+    (after (deciding d) a c e (λ t. changed_each (changed_record (UseUp d)) used (left_all d used read t)) (appeared_each read made)
+    (both_lift (deciding d) (left_all d used read) (changed_each (changed_record (UseUp d)) used) (leave_lifts d used read) (use_lifts d used))
     (make_lifts d read made)
-    (after (deciding d) a b c (released_all read) (changed_each (changed_record (UseUp d)) used) (release_lifts d read) (use_lifts d used) one two) three)
+    (after (deciding d) a b c (left_all d used read) (changed_each (changed_record (UseUp d)) used) (leave_lifts d used read) (use_lifts d used) one two) three)
 
 -- ---- the vote on a session, by its cases
 

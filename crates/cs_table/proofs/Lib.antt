@@ -1,4 +1,5 @@
 pub mod Rows
+pub mod ReaderLists
 pub mod Weights
 pub mod Marked
 pub mod Listed

@@ -46,6 +46,7 @@ active_free state.Unknown = refl
 active_free (state.Active object) = refl
 active_free (state.Locked object by) = refl
 active_free (state.Inactive by) = refl
+active_free (state.Shared object readers) = refl
 
 -- whether the dummy of this serial is active in the rows
 abbrev free_in : Rows → ℕ → ℕ → Bool

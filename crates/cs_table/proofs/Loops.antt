@@ -6,7 +6,7 @@ use Rattle.cs_ledger.specs.Table.{Record, Table}
 use Rattle.cs_table.specs.declared.piece.Piece.{Piece}
 use Rattle.cs_tx.specs.Sessions.{key_seen}
 use Rattle.cs_table.specs.Seen.{Stored, seen, seen_piece}
-use Rattle.cs_table.specs.Changes.{MarksTouched, Becomes, changed, appeared_record, appeared_each}
+use Rattle.cs_table.specs.Changes.{MarksTouched, Becomes, changed, changed_but, appeared_record, appeared_each}
 use Rattle.cs_table.proofs.Weights.{AllGain, all_stay, all_after}
 use Rattle.cs_table.proofs.Marked.{marks_self, marks_after}
 
@@ -71,3 +71,16 @@ hidden read p is ps t = hides read p true is ps t
 pub shown : (read : List Carried) (p : Piece) (o : Bytes) → o ≡ (seen_piece p).object → has_key (key_seen p.key) read ≡ false → (ps : List Carried) (t : Table)
     → appeared_each read (seen_piece p ∷ ps) t ≡ appeared_each read ps (changed (appeared_record o) (key_seen p.key) t)
 shown read p o same is ps t = hides read p false is ps t ∙ ap (λ (x : Bytes). appeared_each read ps (changed (appeared_record x) (key_seen p.key) t)) (sym same)
+
+-- whether a key that is read is used up too
+passes : (used : List Carried) (step : Record → Record) (p : Piece) (b : Bool) → has_key (key_seen p.key) used ≡ b → (ps : List Carried) (t : Table)
+    → changed_but used step (seen_piece p ∷ ps) t ≡ (if b then changed_but used step ps t else changed_but used step ps (changed step (key_seen p.key) t))
+passes used step p b is ps t = ap (λ (passed : Bool). if passed then changed_but used step ps t else changed_but used step ps (changed step (key_seen p.key) t)) is
+
+pub passed : (used : List Carried) (step : Record → Record) (p : Piece) → has_key (key_seen p.key) used ≡ true → (ps : List Carried) (t : Table)
+    → changed_but used step (seen_piece p ∷ ps) t ≡ changed_but used step ps t
+passed used step p is ps t = passes used step p true is ps t
+
+pub not_passed : (used : List Carried) (step : Record → Record) (p : Piece) → has_key (key_seen p.key) used ≡ false → (ps : List Carried) (t : Table)
+    → changed_but used step (seen_piece p ∷ ps) t ≡ changed_but used step ps (changed step (key_seen p.key) t)
+not_passed used step p is ps t = passes used step p false is ps t

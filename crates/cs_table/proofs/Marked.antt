@@ -8,14 +8,15 @@ use Rattle.cs_base.specs.declared.key.Key.TheVariants as key
 use Rattle.cs_ledger.specs.Ledger.{Bytes}
 use Rattle.cs_ledger.specs.Session as ledger
 use Rattle.cs_ledger.specs.Table as table
-use Rattle.cs_ledger.specs.Table.{Record, Table, State, Unknown, Active, Locked, Inactive, Vote}
+use Rattle.cs_ledger.specs.Table.{Record, Table, State, Unknown, Active, Locked, Inactive, Shared, Vote, without_reader}
 use Rattle.cs_ledger.proofs.Basics as basics
 use Rattle.cs_tx.specs.Sessions.{key_seen}
 use Rattle.cs_table.specs.declared.change.Change.{Change}
-use Rattle.cs_table.specs.declared.change.Change.TheVariants.{Lock, Release, UseUp}
+use Rattle.cs_table.specs.declared.change.Change.TheVariants.{Lock, Release, UseUp, Join, Leave}
 use Rattle.cs_table.specs.Seen.{Stored, seen, has_name, is_under, unknown_record}
 use Rattle.cs_table.specs.Changes.{MarksTouched, changed, changed_record, appeared_record, noted_record}
 use Rattle.cs_table.proofs.Rows.{key_cmp, same_key, key_sym}
+use Rattle.cs_table.proofs.ReaderLists.{shared_unknown}
 use Rattle.cs_table.proofs.Weights.{AllGain, never_back}
 
 -- ---- one step after another
@@ -108,12 +109,28 @@ locked_known d Unknown h = refl
 locked_known d (Active o) h = absurd (let no_way = h in cc)
 locked_known d (Locked o by) h = h
 locked_known d (Inactive by) h = h
+locked_known d (Shared o readers) h = h
 
 released_known : (s : State) → table.released s ≡ Unknown → s ≡ Unknown
 released_known Unknown h = refl
 released_known (Active o) h = h
 released_known (Locked o by) h = absurd (let no_way = h in cc)
 released_known (Inactive by) h = h
+released_known (Shared o readers) h = h
+
+joined_known : (d : Bytes) (s : State) → table.joined_by d s ≡ Unknown → s ≡ Unknown
+joined_known d Unknown h = refl
+joined_known d (Active o) h = absurd (let no_way = h in cc)
+joined_known d (Locked o by) h = h
+joined_known d (Inactive by) h = h
+joined_known d (Shared o readers) h = absurd (let no_way = h in cc)
+
+vacated_known : (d : Bytes) (s : State) → table.vacated_by d s ≡ Unknown → s ≡ Unknown
+vacated_known d Unknown h = refl
+vacated_known d (Active o) h = h
+vacated_known d (Locked o by) h = h
+vacated_known d (Inactive by) h = h
+vacated_known d (Shared o readers) h = absurd (shared_unknown o (without_reader d readers) h)
 
 in_state : (r : Record) → r ≡ unknown_record → r.state ≡ Unknown
 in_state r h = ap (λ (x : Record). x.state) h
@@ -125,12 +142,15 @@ pub changed_known : (change : Change) (r : Record) → changed_record change r �
 changed_known (Lock d) r h = record_is r (locked_known d r.state (in_state (changed_record (Lock d) r) h)) (in_book (changed_record (Lock d) r) h)
 changed_known Release r h = record_is r (released_known r.state (in_state (changed_record Release r) h)) (in_book (changed_record Release r) h)
 changed_known (UseUp d) r h = absurd (let no_way : Inactive d ≡ Unknown = in_state (changed_record (UseUp d) r) h in cc)
+changed_known (Join d) r h = record_is r (joined_known d r.state (in_state (changed_record (Join d) r) h)) (in_book (changed_record (Join d) r) h)
+changed_known (Leave d) r h = record_is r (vacated_known d r.state (in_state (changed_record (Leave d) r) h)) (in_book (changed_record (Leave d) r) h)
 
 appeared_known : (o : Bytes) (s : State) → table.appeared o s ≡ Unknown → s ≡ Unknown
 appeared_known o Unknown h = refl
 appeared_known o (Active x) h = h
 appeared_known o (Locked x by) h = h
 appeared_known o (Inactive by) h = h
+appeared_known o (Shared x readers) h = h
 
 pub appears_known : (o : Bytes) (r : Record) → appeared_record o r ≡ unknown_record → r ≡ unknown_record
 appears_known o r h = record_is r (appeared_known o r.state (in_state (appeared_record o r) h)) (in_book (appeared_record o r) h)

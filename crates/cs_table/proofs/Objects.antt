@@ -1,13 +1,14 @@
 -- Objects that fit are equal where their encodings are.
-use Rattle.std.proofs.Common.{◌≡◌, ℕ, Bool, true, List, [], ◌++◌, bytes_eq, Some, ◌↔◌, IsTrue, sym, ap, ◌∙◌, subst}
+use Rattle.std.proofs.Common.{◌≡◌, ℕ, Bool, true, List, [], ◌++◌, bytes_eq, Some, ◌↔◌, IsTrue, ◌&&◌, sym, ap, ◌∙◌, subst}
 use Rattle.cs_tx_value.specs.declared.object.Object.{Object}
 use Rattle.cs_tx_value.specs.Object.{object_encoding, ObjectFits, object_at}
 use Rattle.cs_tx_value.specs.laws.Object.{object_form}
 use Rattle.cs_ledger.proofs.Basics.{same_bytes, bytes_refl}
 use Rattle.cs_base.specs.declared.key.Key.{Key}
-use Rattle.cs_tx_types.specs.declared.state.State.TheVariants.{Active}
+use Rattle.cs_tx_types.specs.declared.state.State.{State}
+use Rattle.cs_tx_types.specs.declared.state.State.TheVariants.{Active, Shared}
 use Rattle.cs_ledger.specs.Session.{Key as Name}
-use Rattle.cs_ledger.specs.Table.{is_active_with}
+use Rattle.cs_ledger.specs.Table.{is_active_with, is_readable_with, has_seat}
 use Rattle.cs_tx_types.specs.declared.record.Record.{Record}
 use Rattle.cs_table.specs.Seen.{row_in, seen_row, seen_state, HoldsFit}
 use Rattle.cs_table.proofs.Rows.{same_tests}
@@ -31,3 +32,14 @@ active_is rows name row object carried r found is fits held same =
     same_encoding object carried (subst HoldsFit is held) fits r same
     ∙ ap (λ state. is_active_with (object_encoding carried) (seen_state state)) (sym is)
     ∙ ap (λ o. is_active_with (object_encoding carried) (seen_row o).state) found
+
+-- whether a state has exactly the carried object, for one more session to read
+pub active_held : (state : State) (object carried : Object) (r : Bool) → state ≡ Active object → ObjectFits carried → HoldsFit state → IsTrue r ↔ (object ≡ carried) → r ≡ is_readable_with (object_encoding carried) (seen_state state)
+active_held state object carried r is fits held same =
+    same_encoding object carried (subst HoldsFit is held) fits r same
+    ∙ ap (λ s. is_readable_with (object_encoding carried) (seen_state s)) (sym is)
+
+pub shared_held : (state : State) (object carried : Object) (readers : List (List ℕ)) (r : Bool) → state ≡ Shared object readers → ObjectFits carried → HoldsFit state → IsTrue r ↔ (object ≡ carried) → (r && has_seat readers) ≡ is_readable_with (object_encoding carried) (seen_state state)
+shared_held state object carried readers r is fits held same =
+    ap (λ (b : Bool). b && has_seat readers) (same_encoding object carried (subst HoldsFit is held).0 fits r same)
+    ∙ ap (λ s. is_readable_with (object_encoding carried) (seen_state s)) (sym is)

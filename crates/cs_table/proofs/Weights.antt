@@ -1,13 +1,14 @@
 -- With each step of one call a record stays, or weighs more: so none comes back to what it was before the call.
-use Rattle.std.proofs.Common.{◌≡◌, ℕ, ◌+◌, ◌<◌, Bool, true, false, if◌then◌else◌, List, [], ◌∷◌, length, length-append, ◌⊎◌, inl, inr, bytes_eq, refl, sym, ap, ◌∙◌, subst, arith}
+use Rattle.std.proofs.Common.{◌≡◌, ℕ, ◌+◌, ◌≤◌, ◌<◌, Bool, true, false, not, ◌||◌, if◌then◌else◌, List, [], ◌∷◌, ◌++◌, length, length-append, ◌⊎◌, inl, inr, bytes_eq, refl, sym, ap, ◌∙◌, subst, arith}
 use Rattle.std.proofs.lemmas.Bool.{cases_Bool}
-use Rattle.cs_ledger.specs.Ledger.{Bytes}
+use Rattle.cs_ledger.specs.Ledger.{Bytes, has, is_empty}
 use Rattle.cs_ledger.specs.Session.{Key, Piece, key_eq, has_key}
-use Rattle.cs_ledger.specs.Table.{Record, Table, State, Unknown, Active, Locked, Inactive, Vote, locked, released, appeared}
+use Rattle.cs_ledger.specs.Table.{Record, Table, State, Unknown, Active, Locked, Inactive, Shared, Vote, has_seat, locked, released, joined_by, vacated_by, read_by, with_reader, without_reader, appeared}
 use Rattle.cs_ledger.proofs.Basics.{same_bytes, bytes_refl}
 use Rattle.cs_table.specs.declared.change.Change.{Change}
-use Rattle.cs_table.specs.declared.change.Change.TheVariants.{Lock, Release, UseUp}
-use Rattle.cs_table.specs.Changes.{with_state, changed, changed_record, appeared_record, noted_record, changed_each, appeared_each}
+use Rattle.cs_table.specs.declared.change.Change.TheVariants.{Lock, Release, UseUp, Join, Leave}
+use Rattle.cs_table.specs.Changes.{with_state, changed, changed_record, appeared_record, noted_record, changed_each, changed_but, appeared_each}
+use Rattle.cs_table.proofs.ReaderLists.{with_same, with_more, without_none, without_has}
 
 abbrev pub Gains : (Record → ℕ) → Record → Record → Type 0
 Gains weight r s = (s ≡ r) ⊎ (weight r < weight s)
@@ -47,6 +48,19 @@ module _ (weight : Record → ℕ) where
     each_gains (p ∷ ps) t =
         all_after t (changed step p.key t) (changed_each step ps (changed step p.key t)) (one_gains p.key t) (each_gains ps (changed step p.key t))
 
+    module _ (used : List Piece) where
+      by_used : (b : Bool) (t u v : Table) → AllGain weight t u → AllGain weight t v → AllGain weight t (if b then u else v)
+      by_used true t u v passed changes = passed
+      by_used false t u v passed changes = changes
+
+      pub but_gains : (ps : List Piece) (t : Table) → AllGain weight t (changed_but used step ps t)
+      but_gains [] t = all_stay t
+      but_gains (p ∷ ps) t =
+          let more : Table = changed step p.key t in
+          by_used (has_key p.key used) t (changed_but used step ps t) (changed_but used step ps more)
+          (but_gains ps t)
+          (all_after t more (changed_but used step ps more) (one_gains p.key t) (but_gains ps more))
+
   module _ (gains : (object : Bytes) (r : Record) → Gains weight r (appeared_record object r)) (read : List Piece) where
     by_hidden : (b : Bool) (t u v : Table) → AllGain weight t u → AllGain weight t v → AllGain weight t (if b then u else v)
     by_hidden true t u v hidden shown = hidden
@@ -62,16 +76,19 @@ module _ (weight : Record → ℕ) where
 
 -- ---- weights
 
--- while a session is voted on, keys are locked and a vote is noted
+-- while a session is voted on, keys are locked, it joins readers, and a vote is noted
 abbrev voting_stage : State → ℕ
 voting_stage (Locked object by) = 1
+voting_stage (Shared object readers) = 1 + length readers
 voting_stage state = 0
 
--- while it is carried out, what is locked is free again, what is free is used up, and what nothing is known of comes into being
+-- while it is carried out, what is locked is free again, it leaves the readers, what is free is used up, and what nothing
+-- is known of comes into being
 abbrev deciding_stage : Bytes → State → ℕ
 deciding_stage d Unknown = 0
 deciding_stage d (Locked object by) = 0
 deciding_stage d (Active object) = 1
+deciding_stage d (Shared object readers) = if is_empty readers || has d readers then 0 else 1
 deciding_stage d (Inactive by) = if bytes_eq d by then 2 else 1
 
 abbrev staged : (State → ℕ) → Record → ℕ
@@ -88,6 +105,8 @@ abbrev pub weight_of : Change → Record → ℕ
 weight_of (Lock d) = voting
 weight_of Release = deciding []
 weight_of (UseUp d) = deciding d
+weight_of (Join d) = voting
+weight_of (Leave d) = deciding d
 
 abbrev Climbs : (State → ℕ) → State → State → Type 0
 Climbs stage s t = (t ≡ s) ⊎ (stage s < stage t)
@@ -101,18 +120,66 @@ locks_climb d Unknown = inl refl
 locks_climb d (Active object) = inr (omega arith)
 locks_climb d (Locked object by) = inl refl
 locks_climb d (Inactive by) = inl refl
+locks_climb d (Shared object readers) = inl refl
+
+joins_climb : (d : Bytes) (s : State) → Climbs voting_stage s (joined_by d s)
+joins_climb d Unknown = inl refl
+joins_climb d (Active object) = inr (omega arith)
+joins_climb d (Locked object by) = inl refl
+joins_climb d (Inactive by) = inl refl
+joins_climb d (Shared object readers) = elim (cases_Bool (has d readers || not (has_seat readers))) [
+  | inl same ↦ inl (ap (λ (rs : List Bytes). Shared object rs) (with_same d readers same))
+  | inr more ↦
+      let longer : length (with_reader d readers) ≡ length (readers ++ d ∷ []) = ap (λ (rs : List Bytes). length rs) (with_more d readers more) in
+      inr (omega (arith, longer, length-append readers (d ∷ [])))
+]
 
 releases_climb : (d : Bytes) (s : State) → Climbs (deciding_stage d) s (released s)
 releases_climb d Unknown = inl refl
 releases_climb d (Active object) = inl refl
 releases_climb d (Locked object by) = inr (omega arith)
 releases_climb d (Inactive by) = inl refl
+releases_climb d (Shared object readers) = inl refl
+
+abbrev unless_read : Bool → ℕ
+unless_read reads = if reads then 0 else 1
+
+if_zero : (b : Bool) → b ≡ true → unless_read b ≡ 0
+if_zero b h = ap unless_read h
+
+if_one : (b : Bool) → b ≡ false → unless_read b ≡ 1
+if_one b h = ap unless_read h
+
+if_low : (b : Bool) → unless_read b ≤ 1
+if_low true = omega arith
+if_low false = omega arith
+
+-- who doesn't read it any more
+left_stage : (d object : Bytes) (readers : List Bytes) → has d readers ≡ false → deciding_stage d (read_by object readers) ≡ 1
+left_stage d object [] none = refl
+left_stage d object (reader ∷ readers) none = if_one (has d (reader ∷ readers)) none
+
+leaves_climb : (d : Bytes) (s : State) → Climbs (deciding_stage d) s (vacated_by d s)
+leaves_climb d Unknown = inl refl
+leaves_climb d (Active object) = inl refl
+leaves_climb d (Locked object by) = inl refl
+leaves_climb d (Inactive by) = inl refl
+leaves_climb d (Shared object readers) = elim (cases_Bool (is_empty readers || has d readers)) [
+  | inl reads ↦
+      inr (omega (arith, if_zero (is_empty readers || has d readers) reads, left_stage d object (without_reader d readers) (without_has d readers)))
+  | inr other ↦ inl (others readers other)
+]
+  where
+    others : (rs : List Bytes) → (is_empty rs || has d rs) ≡ false → read_by object (without_reader d rs) ≡ Shared object rs
+    others [] h = cc
+    others (reader ∷ rs) h = ap (read_by object) (without_none d (reader ∷ rs) h)
 
 appears_climb : (d object : Bytes) (s : State) → Climbs (deciding_stage d) s (appeared object s)
 appears_climb d object Unknown = inr (omega arith)
 appears_climb d object (Active held) = inl refl
 appears_climb d object (Locked held by) = inl refl
 appears_climb d object (Inactive by) = inl refl
+appears_climb d object (Shared held readers) = inl refl
 
 used_stage : (d : Bytes) → deciding_stage d (Inactive d) ≡ 2
 used_stage d = ap (λ (b : Bool). if b then 2 else 1) (bytes_refl d)
@@ -124,6 +191,7 @@ uses_climb : (d : Bytes) (s : State) → Climbs (deciding_stage d) s (Inactive d
 uses_climb d Unknown = inr (omega (arith, used_stage d))
 uses_climb d (Active object) = inr (omega (arith, used_stage d))
 uses_climb d (Locked object by) = inr (omega (arith, used_stage d))
+uses_climb d (Shared object readers) = inr (omega (arith, used_stage d, if_low (is_empty readers || has d readers)))
 uses_climb d (Inactive by) = elim (cases_Bool (bytes_eq d by)) [
   | inl same ↦ inl (ap (λ (x : Bytes). Inactive x) (same_bytes d by same))
   | inr other ↦ inr (omega (arith, used_stage d, other_stage d by other))
@@ -133,6 +201,12 @@ uses_climb d (Inactive by) = elim (cases_Bool (bytes_eq d by)) [
 
 pub locks_gain : (d : Bytes) (r : Record) → Gains voting r (changed_record (Lock d) r)
 locks_gain d r = state_gains voting_stage r (locked d r.state) (locks_climb d r.state)
+
+pub joins_gain : (d : Bytes) (r : Record) → Gains voting r (changed_record (Join d) r)
+joins_gain d r = state_gains voting_stage r (joined_by d r.state) (joins_climb d r.state)
+
+pub leaves_gain : (d : Bytes) (r : Record) → Gains (deciding d) r (changed_record (Leave d) r)
+leaves_gain d r = state_gains (deciding_stage d) r (vacated_by d r.state) (leaves_climb d r.state)
 
 pub releases_gain : (d : Bytes) (r : Record) → Gains (deciding d) r (changed_record Release r)
 releases_gain d r = state_gains (deciding_stage d) r (released r.state) (releases_climb d r.state)
@@ -150,3 +224,5 @@ pub change_gains : (change : Change) (r : Record) → Gains (weight_of change) r
 change_gains (Lock d) r = locks_gain d r
 change_gains Release r = releases_gain [] r
 change_gains (UseUp d) r = uses_gain d r
+change_gains (Join d) r = joins_gain d r
+change_gains (Leave d) r = leaves_gain d r

@@ -2,15 +2,17 @@
 use Rattle.std.specs.Prelude.{◌≡◌, ℕ, true, false, if◌then◌else◌, List, [], ◌∷◌, ◌++◌}
 use Rattle.cs_ledger.specs.Ledger.{Bytes}
 use Rattle.cs_ledger.specs.Session.{Key, Piece, key_eq, has_key}
-use Rattle.cs_ledger.specs.Table.{Vote, State, Inactive, Record, Table, locked, released, appeared}
+use Rattle.cs_ledger.specs.Table.{Vote, State, Inactive, Record, Table, locked, released, joined_by, vacated_by, appeared}
 use Rattle.cs_table.specs.declared.change.Change.{Change}
-use Rattle.cs_table.specs.declared.change.Change.TheVariants.{Lock, Release, UseUp}
+use Rattle.cs_table.specs.declared.change.Change.TheVariants.{Lock, Release, UseUp, Join, Leave}
 use Rattle.cs_table.specs.Seen.{Stored, seen, has_name, unknown_record}
 
 abbrev pub changed_state : Change → State → State
 changed_state (Lock by) state = locked by state
 changed_state Release state = released state
 changed_state (UseUp by) state = Inactive by
+changed_state (Join by) state = joined_by by state
+changed_state (Leave by) state = vacated_by by state
 
 abbrev pub with_state : State → Record → Record
 with_state state r = record { state = state; book = r.book }
@@ -32,6 +34,14 @@ changed change key t = record { at = λ name. if key_eq name key then change (t.
 abbrev pub changed_each : (Record → Record) → List Piece → Table → Table
 changed_each change [] t = t
 changed_each change (piece ∷ pieces) t = changed_each change pieces (changed change piece.key t)
+
+-- the records of these keys, but of those that are used up
+abbrev pub changed_but : List Piece → (Record → Record) → List Piece → Table → Table
+changed_but used change [] t = t
+changed_but used change (piece ∷ pieces) t =
+    if has_key piece.key used
+    then changed_but used change pieces t
+    else changed_but used change pieces (changed change piece.key t)
 
 -- these objects come into being, but under keys that are read
 abbrev pub appeared_each : List Piece → List Piece → Table → Table

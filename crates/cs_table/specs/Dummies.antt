@@ -7,7 +7,7 @@ use Rattle.cs_ledger.specs.Session as ledger
 use Rattle.cs_ledger.specs.Table.{Table, has_active_dummy}
 use Rattle.cs_tx_types.specs.declared.record.Record.{Record}
 
--- an object is there, which no session holds
+-- an object is there, which no session holds or reads
 abbrev pub is_active : State → Bool
 is_active (state.Active object) = true
 is_active _ = false

@@ -9,6 +9,7 @@ use Rattle.cs_tx_types.specs.declared.vote.Vote.{Vote}
 use Rattle.cs_tx_types.specs.declared.vote.Vote.TheVariants as vote
 use Rattle.cs_tx_types.specs.declared.state.State.{State}
 use Rattle.cs_tx_types.specs.declared.state.State.TheVariants as state
+use Rattle.cs_tx_types.specs.State.{ReadersFit}
 use Rattle.cs_ledger.specs.Session as ledger
 use Rattle.cs_ledger.specs.Table as table
 use Rattle.cs_tx_types.specs.declared.record.Record.{Record}
@@ -24,6 +25,7 @@ seen_state state.Unknown = table.Unknown
 seen_state (state.Active object) = table.Active (object_encoding object)
 seen_state (state.Locked object by) = table.Locked (object_encoding object) by
 seen_state (state.Inactive by) = table.Inactive by
+seen_state (state.Shared object readers) = table.Shared (object_encoding object) readers
 
 abbrev pub seen_place : List ℕ × Vote → List ℕ × table.Vote
 seen_place place = (place.0, vote_of place.1)
@@ -73,14 +75,15 @@ seen s = record { at = λ name. seen_row (row_in s.rows name); next = s.next }
 abbrev pub shown_at : Stored → Key → table.Record
 shown_at s key = (seen s).at (key_seen key)
 
--- the object of a state is within all limits
+-- the object of a state is within all limits, and so are its readers
 abbrev pub HoldsFit : State → Type 0
 HoldsFit state.Unknown = Unit {0}
 HoldsFit (state.Active object) = ObjectFits object
 HoldsFit (state.Locked object by) = ObjectFits object
 HoldsFit (state.Inactive by) = Unit {0}
+HoldsFit (state.Shared object readers) = ObjectFits object × ReadersFit readers
 
--- its object is within all limits, and its book has no more places than there may be
+-- its state is within all limits, and its book has no more places than there may be
 pub record IsKeptRecord (r : Record) : Type 0 where
   pub holds : HoldsFit r.state
   pub places : length r.book ≤ MOST_PLACES

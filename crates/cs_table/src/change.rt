@@ -10,4 +10,8 @@ pub enum Change {
     Release,
     /// What is there is used up by it.
     UseUp(Digest),
+    /// What is there to be read is read by it.
+    Join(Digest),
+    /// What is read by it is read by it no more.
+    Leave(Digest),
 }

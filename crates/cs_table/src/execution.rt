@@ -83,7 +83,7 @@ impl Table {
         ensures { result
             ≡ is_all_ready (seen self.now) (map seen_piece used.now) (map seen_piece read.now) }
     {
-        self.all_active(used) && self.all_active(read)
+        self.all_active(used) && self.all_readable(read)
     }
 
     fn lock(
@@ -98,7 +98,7 @@ impl Table {
             (map seen_piece used.now) (map seen_piece read.now))) }
     {
         self.change_each(alloc, used, Change::Lock(*session))?;
-        self.change_each(alloc, read, Change::Lock(*session))?;
+        self.change_read(alloc, used, read, Change::Join(*session))?;
         Ok(())
     }
 
@@ -132,7 +132,7 @@ impl Table {
         Ok(Vote::Abort)
     }
 
-    /// Frees the keys of a session again, and notes its vote.
+    /// Frees what a session locked, lets it leave the readers, and notes its vote.
     pub(crate) fn undo(
         &mut self,
         alloc: Global,
@@ -147,15 +147,15 @@ impl Table {
     {
         let has_place = self.has_place(anchor);
         self.change_each(alloc, used, Change::Release)?;
-        self.change_each(alloc, read, Change::Release)?;
+        self.change_read(alloc, used, read, Change::Leave(*session))?;
         if has_place {
             self.note(alloc, anchor, *session, Vote::Commit)?;
         }
         Ok(())
     }
 
-    /// Uses up the first keys of a session, frees those that it read, and brings objects into
-    /// being.
+    /// Uses up the first keys of a session, lets it leave the readers of the others, and brings
+    /// objects into being.
     pub(crate) fn carry_out(
         &mut self,
         alloc: Global,
@@ -169,7 +169,7 @@ impl Table {
             (accepted session.now (map seen_piece used.now) (map seen_piece read.now)
             (map seen_piece made.now) (seen self.old).next (seen self.old))) }
     {
-        self.change_each(alloc, read, Change::Release)?;
+        self.change_read(alloc, used, read, Change::Leave(*session))?;
         self.change_each(alloc, used, Change::UseUp(*session))?;
         self.appear_each(alloc, read, made)?;
         Ok(())

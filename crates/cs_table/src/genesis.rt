@@ -88,7 +88,8 @@ impl Table {
         match self.record(key) {
             Some(row) => match &row.state {
                 State::Unknown => true,
-                State::Active(_) | State::Locked(_, _) | State::Inactive(_) => false,
+                State::Active(_) | State::Locked(_, _) | State::Inactive(_) | State::Shared(_, _) =>
+                    false,
             },
             None => true,
         }

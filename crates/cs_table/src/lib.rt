@@ -7,6 +7,7 @@ mod genesis;
 mod listing;
 mod piece;
 mod pieces;
+mod readers;
 mod record;
 mod sessions;
 mod several;

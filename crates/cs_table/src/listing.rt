@@ -20,13 +20,13 @@ pub type Records<'a> = Iter<'a, Key, Record>;
 /// The touched keys.
 pub type Touched<'a> = btree_set::Iter<'a, Key>;
 
-/// Whether an object is there, which no session holds.
+/// Whether an object is there, which no session holds or reads.
 fn is_active(row: &Record) -> bool
     ensures { result ≡ is_active row.now.state }
 {
     match &row.state {
         State::Active(_) => true,
-        State::Unknown | State::Locked(_, _) | State::Inactive(_) => false,
+        State::Unknown | State::Locked(_, _) | State::Inactive(_) | State::Shared(_, _) => false,
     }
 }
 

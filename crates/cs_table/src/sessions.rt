@@ -70,9 +70,9 @@ impl Table {
         Ok(anchor.is_some())
     }
 
-    /// Votes on a session, whose digest is given. Where the vote is commit its keys are locked by
-    /// it; a new abort is noted in the book of its anchor, where there is room. The session is well
-    /// formed, and concerns the shard.
+    /// Votes on a session, whose digest is given. Where the vote is commit what it uses up is locked
+    /// by it, and it is a reader of what it only reads; a new abort is noted in the book of its
+    /// anchor, where there is room. The session is well formed, and concerns the shard.
     pub fn prepare(
         &mut self,
         alloc: Global,

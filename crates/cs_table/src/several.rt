@@ -2,10 +2,10 @@
 ghost use Rattle.std.specs.Prelude.{◌≡◌, OnOk, map, option_map};
 ghost use Rattle.cs_table.specs.Pieces.{PiecesFit};
 ghost use Rattle.cs_ledger.specs.Session.{has_key as is_named};
-ghost use Rattle.cs_ledger.specs.Table.{all_ready, vote_in};
+ghost use Rattle.cs_ledger.specs.Table.{all_ready, all_readable, vote_in};
 ghost use Rattle.cs_table.specs.Seen.{seen, vote_of, seen_piece, seen_place};
 ghost use Rattle.cs_tx.specs.Sessions.{key_seen};
-ghost use Rattle.cs_table.specs.Changes.{changed_each, appeared_each, changed_record, Becomes};
+ghost use Rattle.cs_table.specs.Changes.{changed_each, changed_but, appeared_each, changed_record, Becomes};
 
 use crate::change::Change;
 use crate::piece::Piece;
@@ -52,6 +52,19 @@ impl Table {
         true
     }
 
+    /// Whether under each key there is exactly the carried object, for one more session to read.
+    pub(crate) fn all_readable(&self, pieces: &[Piece]) -> bool
+        requires { PiecesFit pieces.now }
+        ensures { result ≡ all_readable (seen self.now) (map seen_piece pieces.now) }
+    {
+        for piece in pieces {
+            if !self.has_readable(piece) {
+                return false;
+            }
+        }
+        true
+    }
+
     /// Changes the state of each key.
     pub(crate) fn change_each(
         &mut self,
@@ -64,6 +77,26 @@ impl Table {
     {
         for piece in pieces {
             self.change(alloc, &piece.key, change)?;
+        }
+        Ok(())
+    }
+
+    /// Changes the state of each key that is read, but of those that are used up too.
+    pub(crate) fn change_read(
+        &mut self,
+        alloc: Global,
+        used: &[Piece],
+        read: &[Piece],
+        change: Change,
+    ) -> Result<(), Memory>
+        ensures { OnOk result (Becomes self.old self.new
+            (changed_but (map seen_piece used.now) (changed_record change)
+            (map seen_piece read.now) (seen self.old))) }
+    {
+        for piece in read {
+            if !has_key(used, &piece.key) {
+                self.change(alloc, &piece.key, change)?;
+            }
         }
         Ok(())
     }

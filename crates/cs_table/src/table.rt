@@ -2,13 +2,14 @@
 ghost use Rattle.std.specs.Prelude.{◌≡◌, [], ◌+◌, ◌-◌, ◌<◌, ◌^◌, ◌||◌, ◌&&◌, true, IfSome, OnOk, option_copied};
 ghost use Rattle.cs_tx_value.specs.Object.{object_encoding, ObjectFits};
 ghost use Rattle.cs_ledger.specs.Session.{Key as Name, key_eq};
-ghost use Rattle.cs_ledger.specs.Table.{is_active_with, has_place};
-ghost use Rattle.cs_table.specs.Seen.{seen, shown_at, row_in, vote_of, seen_record, seen_row, unknown_record, HoldsFit, IsKeptRecord, IsStored, RowFits, has_name, forgotten, IsKeyInWidth, IsKeptTable};
+ghost use Rattle.cs_ledger.specs.Table.{is_active_with, is_readable_with, has_place};
+ghost use Rattle.cs_table.specs.Seen.{seen, shown_at, row_in, vote_of, seen_record, seen_row, seen_state, unknown_record, HoldsFit, IsKeptRecord, IsStored, RowFits, has_name, forgotten, IsKeyInWidth, IsKeptTable};
 ghost use Rattle.cs_tx.specs.Sessions.{key_seen};
 ghost use Rattle.cs_table.specs.Changes.{with_next, changed, changed_record, appeared_record, noted_record, ShowsTable, Becomes};
 
 use crate::change::Change;
 use crate::piece::Piece;
+use crate::readers::has_seat;
 use crate::record;
 use cs_base::{Config, Key, Memory};
 use cs_tx::{Digest, Object, State, Vote};
@@ -135,8 +136,22 @@ impl Table {
         match self.record(&piece.key) {
             Some(row) => match &row.state {
                 State::Active(object) => object.same(&piece.object),
-                State::Unknown | State::Locked(_, _) | State::Inactive(_) => false,
+                State::Unknown | State::Locked(_, _) | State::Inactive(_) | State::Shared(_, _) =>
+                    false,
             },
+            None => false,
+        }
+    }
+
+    /// Whether exactly this object is under its key, for one more session to read.
+    pub(crate) fn has_readable(&self, piece: &Piece) -> bool
+        requires { ObjectFits piece.now.object }
+        ensures { result
+            ≡ is_readable_with (object_encoding piece.now.object)
+            (shown_at self.now piece.now.key).state }
+    {
+        match self.record(&piece.key) {
+            Some(row) => is_readable(&row.state, &piece.object),
             None => false,
         }
     }
@@ -180,7 +195,7 @@ impl Table {
             (changed (changed_record change) (key_seen key.now) (seen self.old))) }
     {
         let mut row = self.take(alloc, key);
-        let moved = record::change(&mut row, change);
+        let moved = record::change(alloc, &mut row, change)?;
         self.put(*key, row, moved)?;
         Ok(())
     }
@@ -214,6 +229,19 @@ impl Table {
         record::note(&mut row, session, vote)?;
         self.put(*key, row, true)?;
         Ok(())
+    }
+}
+
+// Whether the state has exactly this object, for one more session to read.
+fn is_readable(state: &State, object: &Object) -> bool
+    requires object { ObjectFits object.now }
+    requires state { HoldsFit state.now }
+    ensures { result ≡ is_readable_with (object_encoding object.now) (seen_state state.now) }
+{
+    match state {
+        State::Active(held) => held.same(object),
+        State::Shared(held, readers) => held.same(object) && has_seat(readers),
+        State::Unknown | State::Locked(_, _) | State::Inactive(_) => false,
     }
 }
 

@@ -19,7 +19,7 @@ pub(crate) fn is_locked_by(row: &Record, session: &Digest) -> bool
 {
     match &row.state {
         State::Locked(_, by) => *session == *by,
-        State::Unknown | State::Active(_) | State::Inactive(_) => false,
+        State::Unknown | State::Active(_) | State::Inactive(_) | State::Shared(_, _) => false,
     }
 }
 
@@ -55,7 +55,9 @@ pub(crate) fn standing(row: &Record, session: &Digest) -> Standing
                 Standing::Aborted
             }
         }
-        State::Unknown | State::Active(_) | State::Locked(_, _) => open_or_aborted(row, session),
+        State::Unknown | State::Active(_) | State::Locked(_, _) | State::Shared(_, _) => {
+            open_or_aborted(row, session)
+        }
     }
 }
 
@@ -86,7 +88,7 @@ fn is_used_by(row: &Record, session: &Digest) -> bool
 {
     match &row.state {
         State::Inactive(by) => *session == *by,
-        State::Unknown | State::Active(_) | State::Locked(_, _) => false,
+        State::Unknown | State::Active(_) | State::Locked(_, _) | State::Shared(_, _) => false,
     }
 }
 
@@ -95,7 +97,7 @@ fn is_held_by(row: &Record, session: &Digest) -> bool
 {
     match &row.state {
         State::Locked(_, by) | State::Inactive(by) => *session == *by,
-        State::Unknown | State::Active(_) => false,
+        State::Unknown | State::Active(_) | State::Shared(_, _) => false,
     }
 }
 
@@ -104,6 +106,6 @@ fn lost(row: &Record) -> Option<Vote>
 {
     match &row.state {
         State::Inactive(_) => Some(Vote::Abort),
-        State::Unknown | State::Active(_) | State::Locked(_, _) => None,
+        State::Unknown | State::Active(_) | State::Locked(_, _) | State::Shared(_, _) => None,
     }
 }

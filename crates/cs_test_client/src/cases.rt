@@ -23,8 +23,9 @@ pub(crate) const READ: Digest = [0; 32];
 #[derive(Clone, Copy)]
 pub(crate) enum Word {
     Tick,
-    // The coin is active and worth so much; the one that is read.
+    // The coin is active, or shared, and worth so much; the one that is read.
     Coin(i64),
+    SharedCoin(i64),
     Read(i64),
     // The coin isn't active.
     NoCoin,
@@ -122,9 +123,17 @@ fn active(alloc: Global, worth: i64) -> Result<State, Memory> {
     Ok(State::Active(coin(alloc, worth)?))
 }
 
+// The state of a coin that one session reads.
+fn shared(alloc: Global, worth: i64) -> Result<State, Memory> {
+    let mut readers = Sequence::new(alloc);
+    readers.push([0; 32])?;
+    Ok(State::Shared(coin(alloc, worth)?, readers))
+}
+
 fn told(alloc: Global, case: &Case, word: Word) -> Result<Message, Memory> {
     let (key, state) = match word {
         Word::Coin(worth) => (Key::Object(case.name), active(alloc, worth)?),
+        Word::SharedCoin(worth) => (Key::Object(case.name), shared(alloc, worth)?),
         Word::Read(worth) => (Key::Object(READ), active(alloc, worth)?),
         Word::Dummy(shard, serial) => (Key::Dummy(shard, serial), active(alloc, 1)?),
         Word::NoDummy(shard, serial) => (Key::Dummy(shard, serial), State::Unknown),

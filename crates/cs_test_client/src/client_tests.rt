@@ -124,7 +124,7 @@ const LIES: [Step; 16] = [
     (0, 0, Word::NoCoin, &[]),
     (0, 1, Word::Coin(5), &[]),
     (0, 0, Word::Tick, &[(10, 0)]),
-    (0, 2, Word::Coin(5), &[(1, 0)]),
+    (0, 2, Word::SharedCoin(5), &[(1, 0)]),
     (0, 3, Word::Aborted, &[]),
     (0, 3, Word::Aborted, &[]),
     (0, 1, Word::Accepted, &[]),

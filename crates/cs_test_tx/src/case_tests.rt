@@ -17,22 +17,25 @@ enum Holds {
     TheCoin,
     AnotherCoin,
     Locked,
+    Read,
     Used,
 }
 
-const ANCHORS: [Holds; 5] = [
+const ANCHORS: [Holds; 6] = [
     Holds::Nothing,
     Holds::TheCoin,
     Holds::AnotherCoin,
     Holds::Locked,
+    Holds::Read,
     Holds::Used,
 ];
 
-const OTHERS: [Holds; 4] = [
+const OTHERS: [Holds; 5] = [
     Holds::Nothing,
     Holds::TheCoin,
     Holds::AnotherCoin,
     Holds::Locked,
+    Holds::Read,
 ];
 
 /// What is in the book of the anchor.
@@ -61,6 +64,11 @@ const INPUT: Digest = [2; 32];
 
 const REFERENCE: Digest = [3; 32];
 
+/// The coin that a session uses up as it reads the coin of this name.
+fn of_reader(name: Digest) -> Digest {
+    [10 + name[0] % 10; 32]
+}
+
 /// A session that uses up two coins of 5 and reads a third.
 fn session(alloc: Global) -> Result<Session, Memory> {
     let mut transfer = Transfer::new(alloc);
@@ -73,7 +81,7 @@ fn session(alloc: Global) -> Result<Session, Memory> {
 fn worth(holds: Holds) -> i64 {
     match holds {
         Holds::AnotherCoin => 6,
-        Holds::Nothing | Holds::TheCoin | Holds::Locked | Holds::Used => 5,
+        Holds::Nothing | Holds::TheCoin | Holds::Locked | Holds::Read | Holds::Used => 5,
     }
 }
 
@@ -91,17 +99,33 @@ fn begun(rt: &impl Abort, alloc: Global, case: &Case) -> Result<Table, Fail> {
     let anchor = coin(alloc, worth(case.anchor))?;
     let input = coin(alloc, worth(case.input))?;
     let reference = coin(alloc, worth(case.reference))?;
+    let readers = [coin(alloc, 5)?, coin(alloc, 5)?, coin(alloc, 5)?];
     assert!(rt; anchor.fits() && input.fits() && reference.fits());
+    assert!(rt; readers[0].fits() && readers[1].fits() && readers[2].fits());
+    let [of_anchor, of_input, of_reference] = readers;
     let objects = [
         (key(1, case.anchor), anchor),
         (key(2, case.input), input),
         (key(3, case.reference), reference),
+        (Key::Object(of_reader(ANCHOR)), of_anchor),
+        (Key::Object(of_reader(INPUT)), of_input),
+        (Key::Object(of_reader(REFERENCE)), of_reference),
     ];
     let config = Config::new(1, 0, 0).expect(rt, "a configuration");
     Ok(Table::genesis(alloc, config, 0, &objects)?)
 }
 
-/// Another session locks the coin of this name, or uses it up.
+/// Another session reads the coin of this name.
+fn read(rt: &impl Abort, alloc: Global, table: &mut Table, name: Digest) -> Result<(), Fail> {
+    let mut transfer = Transfer::new(alloc);
+    transfer.inputs.push((of_reader(name), coin(alloc, 5)?))?;
+    transfer.references.push((name, coin(alloc, 5)?))?;
+    let reader = transfer.into_session(alloc, 2)?;
+    assert!(rt; prepared(rt, alloc, table, &reader)? == Vote::Commit);
+    Ok(())
+}
+
+/// Another session reads or locks the coin of this name, or uses it up.
 fn hold(
     rt: &impl Abort,
     alloc: Global,
@@ -109,6 +133,9 @@ fn hold(
     name: Digest,
     holds: Holds,
 ) -> Result<(), Fail> {
+    if holds == Holds::Read {
+        return read(rt, alloc, table, name);
+    }
     let other = spend(alloc, name, 5, &[], 2)?;
     if holds == Holds::Locked || holds == Holds::Used {
         assert!(rt; prepared(rt, alloc, table, &other)? == Vote::Commit);
@@ -161,28 +188,35 @@ fn table_of(rt: &impl Abort, alloc: Global, session: &Session, case: &Case) -> R
     Ok(table)
 }
 
+/// What else the session names is there for it: a coin that it uses up nobody holds or reads, and one
+/// that it reads nobody holds.
+fn others_free(case: &Case) -> bool {
+    let is_readable = case.reference == Holds::TheCoin || case.reference == Holds::Read;
+    case.input == Holds::TheCoin && is_readable
+}
+
 /// A session can have committed only where its keys were free once. The book of a coin that is
 /// used up is empty. A worn book, which takes many sessions, is tried with the other coins free.
 fn is_reached(case: &Case) -> bool {
-    let was_free = |holds| holds == Holds::TheCoin || holds == Holds::Locked;
-    let others_free = case.input == Holds::TheCoin && case.reference == Holds::TheCoin;
+    let was_free = |holds| holds == Holds::TheCoin
+        || holds == Holds::Locked
+        || holds == Holds::Read;
     match (case.anchor, case.book) {
         (Holds::Used, book) => book == Book::Empty,
         (anchor, Book::ItsCommit) => {
             was_free(anchor) && was_free(case.input) && was_free(case.reference)
         }
-        (_, Book::Worn) => others_free,
+        (_, Book::Worn) => others_free(case),
         _ => true,
     }
 }
 
 /// The first case that applies: it is in the book; another has used up the anchor; all its keys
-/// are free; none of these.
+/// are there for it; none of these.
 fn vote_by_cases(case: &Case) -> Vote {
-    let others_free = case.input == Holds::TheCoin && case.reference == Holds::TheCoin;
     match (case.anchor, case.book) {
         (_, Book::ItsCommit) => Vote::Commit,
-        (Holds::TheCoin, Book::Empty) if others_free => Vote::Commit,
+        (Holds::TheCoin, Book::Empty) if others_free(case) => Vote::Commit,
         _ => Vote::Abort,
     }
 }

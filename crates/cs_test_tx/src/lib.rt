@@ -7,6 +7,8 @@ mod calls;
 #[cfg(test)]
 mod case_tests;
 #[cfg(test)]
+mod reader_tests;
+#[cfg(test)]
 mod table_dummy_tests;
 #[cfg(test)]
 mod table_tests;

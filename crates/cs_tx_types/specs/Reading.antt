@@ -1,8 +1,10 @@
 -- What stands at the front of a list of bytes.
-use Rattle.std.specs.Prelude.{ℕ, zero, suc, List, Some, None}
+use Rattle.std.specs.Prelude.{◌≡◌, ℕ, zero, suc, List, Some, None, Result, Ok, Err}
 use Rattle.std.specs.Int.{w8, w16, w64}
-use Rattle.cs_base.specs.declared.limits.TheConstants.{MOST_TX}
-use Rattle.cs_base.specs.Fields.{Found, ◌<$>◌, number_at, bytes_at, counted_at, pair_at, some_at, within_at}
+use Rattle.cs_base.specs.declared.limits.TheConstants.{MOST_READERS, MOST_TX}
+use Rattle.cs_base.specs.Fields.{Found, ◌<$>◌, number_at, bytes_at, counted_at, pair_at, some_at, tested_at, within_at}
+use Rattle.cs_tx_value.specs.declared.form.FormError.{FormError}
+use Rattle.cs_tx_value.specs.declared.form.FormError.TheVariants.{BadForm}
 use Rattle.cs_tx_value.specs.declared.object.Object.{Object}
 use Rattle.cs_tx_value.specs.declared.value.Value.{Value}
 use Rattle.cs_tx_value.specs.Kinds.{kinds_at}
@@ -19,6 +21,7 @@ use Rattle.cs_tx_types.specs.declared.entry.Entry.{Entry}
 use Rattle.cs_tx_types.specs.declared.entry.Entry.TheVariants as entry
 use Rattle.cs_tx_types.specs.declared.state.State.{State}
 use Rattle.cs_tx_types.specs.declared.state.State.TheVariants as state
+use Rattle.cs_tx_types.specs.State.{readers_differ}
 use Rattle.cs_tx_types.specs.Transaction.{Keyed}
 
 abbrev pub keyed_at : List ℕ → Found Keyed
@@ -100,12 +103,25 @@ entry_at = kinds_at entry_kind_at
 abbrev pub locked_state : Object × List ℕ → State
 locked_state p = state.Locked p.0 p.1
 
+-- one to so many readers, of which none stands twice
+abbrev pub readers_at : List ℕ → Found (List (List ℕ))
+readers_at = tested_at readers_differ (some_at MOST_READERS (bytes_at 32))
+
+-- what a call that takes no memory wrote into its places is what a reader finds
+abbrev pub Fills : Result Unit FormError → List (List ℕ) → List ℕ → Found (List (List ℕ)) → Type 0
+Fills (Ok done) places rest found = found ≡ Some (places, rest)
+Fills (Err e) places rest found = (e ≡ BadForm) × (found ≡ None)
+
+abbrev pub shared_state : Object × List (List ℕ) → State
+shared_state p = state.Shared p.0 p.1
+
 abbrev pub state_kind_at : ℕ → List ℕ → Found State
 state_kind_at zero bytes = Some (state.Unknown, bytes)
 state_kind_at (suc zero) bytes = state.Active <$> object_at bytes
 state_kind_at (suc (suc zero)) bytes = locked_state <$> pair_at object_at (bytes_at 32) bytes
 state_kind_at (suc (suc (suc zero))) bytes = state.Inactive <$> bytes_at 32 bytes
-state_kind_at (suc (suc (suc (suc kind)))) bytes = None
+state_kind_at (suc (suc (suc (suc zero)))) bytes = shared_state <$> pair_at object_at readers_at bytes
+state_kind_at (suc (suc (suc (suc (suc kind))))) bytes = None
 
 abbrev pub state_at : List ℕ → Found State
 state_at = kinds_at state_kind_at

@@ -10,6 +10,7 @@ mod fitting;
 mod leaf;
 mod limits;
 mod proof;
+mod readers;
 mod record;
 mod session;
 mod sized;

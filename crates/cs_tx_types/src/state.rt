@@ -1,15 +1,19 @@
 //! States of records.
-use cs_base::{Cursor, Memory, Writer};
-use cs_tx_value::{Digest, Encoded, FormError, Object};
+use crate::readers::{read_readers, readers_fit, room_readers, skip_readers, write_readers};
+use cs_base::{Cursor, Memory, Sequence, Writer};
+use cs_tx_value::{Digest, Encoded, FormError, Object, copy_each};
 use std::alloc::Global;
 
-/// The state of a key's record. A lock and what consumed an object name a session by its digest.
+/// The state of a key's record. A lock, what consumed an object, and its readers name sessions by
+/// their digests. A shared one that fits has 1 to 64 readers, all different, in the order in which
+/// they came.
 #[derive(Drop)]
 pub enum State {
     Unknown,
     Active(Object),
     Locked(Object, Digest),
     Inactive(Digest),
+    Shared(Object, Sequence<Digest>),
 }
 
 impl Encoded for State {
@@ -39,6 +43,11 @@ impl Encoded for State {
                 Ok(State::Locked(object, session))
             }
             3 => Ok(State::Inactive(Digest::read(alloc, cursor)?)),
+            4 => {
+                let object = Object::read(alloc, cursor)?;
+                let readers = read_readers(alloc, cursor)?;
+                Ok(State::Shared(object, readers))
+            }
             _ => Err(FormError::BadForm),
         }
     }
@@ -53,6 +62,10 @@ impl Encoded for State {
                 Digest::skip(cursor)
             }
             3 => Digest::skip(cursor),
+            4 => {
+                Object::skip(cursor)?;
+                skip_readers(cursor)
+            }
             _ => Err(FormError::BadForm),
         }
     }
@@ -73,6 +86,11 @@ impl Encoded for State {
                 out.u8(3)?;
                 session.encode(out)
             }
+            State::Shared(object, readers) => {
+                out.u8(4)?;
+                object.encode(out)?;
+                write_readers(readers, out)
+            }
         }
     }
 
@@ -82,6 +100,7 @@ impl Encoded for State {
             State::Active(object) => object.fits(),
             State::Locked(object, session) => object.fits() && session.fits(),
             State::Inactive(session) => session.fits(),
+            State::Shared(object, readers) => object.fits() && readers_fit(readers),
         }
     }
 
@@ -95,6 +114,10 @@ impl Encoded for State {
                 session.room(room)
             }
             State::Inactive(session) => session.room(room),
+            State::Shared(object, readers) => {
+                let room = object.room(room)?;
+                room_readers(readers, room)
+            }
         }
     }
 
@@ -104,6 +127,10 @@ impl Encoded for State {
             State::Active(object) => Ok(State::Active(object.copy(alloc)?)),
             State::Locked(object, session) => Ok(State::Locked(object.copy(alloc)?, *session)),
             State::Inactive(session) => Ok(State::Inactive(*session)),
+            State::Shared(object, readers) => {
+                let object = object.copy(alloc)?;
+                Ok(State::Shared(object, copy_each(alloc, readers)?))
+            }
         }
     }
 

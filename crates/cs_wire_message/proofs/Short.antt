@@ -20,7 +20,7 @@ use Rattle.cs_tx_types.specs.declared.checkpoint.Checkpoint.{Checkpoint}
 use Rattle.cs_tx_types.specs.declared.proof.Proof.{Proof}
 use Rattle.cs_tx_types.specs.Session.{session_encoding, vote_encoding, entry_encoding}
 use Rattle.cs_tx_types.specs.laws.Session.{session_short, entry_short}
-use Rattle.cs_tx_types.specs.State.{state_encoding, StateFits}
+use Rattle.cs_tx_types.specs.State.{readers_encoding, state_encoding, StateFits}
 use Rattle.cs_tx_types.specs.Sized.{sized}
 use Rattle.cs_tx_types.specs.laws.Sized.{length_sized}
 use Rattle.cs_tx_types.specs.Log.{effect_encoding, leaf_encoding, LeafFits, checkpoint_encoding, CheckpointFits, proof_encoding, ProofFits}
@@ -33,11 +33,26 @@ key_short : (k : Key) → KeyFits k → length (key_encoding k) ≤ 33
 key_short (key.Object digest) fits = omega (arith, fits.0)
 key_short (key.Dummy shard serial) fits = omega arith
 
-state_short : (s : State) → StateFits s → length (state_encoding s) ≤ 4129
+abbrev digests_of : List (List ℕ) → List ℕ
+digests_of digests = each (λ digest. digest) digests
+
+digests_length : (digests : List (List ℕ)) → AllByRecursion DigestFits digests → length (digests_of digests) ≡ 32 * length digests
+digests_length [] fits = refl
+digests_length (digest ∷ digests) fits =
+    omega (arith, fits.0.0, length-append digest (digests_of digests), digests_length digests fits.1)
+
+state_short : (s : State) → StateFits s → length (state_encoding s) ≤ 6146
 state_short state.Unknown fits = omega arith
 state_short (state.Active object) fits = omega (arith, fits.small)
 state_short (state.Locked object by) fits = omega (arith, fits.0.small, fits.1.0, length-append (object_encoding object) by)
 state_short (state.Inactive by) fits = omega (arith, fits.0)
+state_short (state.Shared object readers) fits = omega (
+  arith,
+  fits.0.small,
+  fits.1.0.1.0,
+  digests_length readers fits.1.0.1.1,
+  length-append (object_encoding object) (readers_encoding readers),
+)
 
 vote_one : (v : Vote) → length (vote_encoding v) ≡ 1
 vote_one vote.Abort = refl
@@ -73,13 +88,6 @@ checkpoint_length c fits = omega (
   length-append c.leaf_root c.table_root,
 )
 
-abbrev hashes : List (List ℕ) → List ℕ
-hashes path = each (λ digest. digest) path
-
-path_length : (path : List (List ℕ)) → AllByRecursion DigestFits path → length (hashes path) ≡ 32 * length path
-path_length [] fits = refl
-path_length (digest ∷ path) fits = omega (arith, fits.0.0, length-append digest (hashes path), path_length path fits.1)
-
 proof_short : (p : Proof) → ProofFits p → length (proof_encoding p) ≤ 9000
 proof_short p fits = omega (
   arith,
@@ -87,7 +95,7 @@ proof_short p fits = omega (
   checkpoint_length p.checkpoint fits.checkpoint,
   leaf_short p.leaf fits.leaf,
   length_sized leaf_encoding p.leaf,
-  path_length p.path fits.path.1,
+  digests_length p.path fits.path.1,
   length-append (checkpoint_encoding p.checkpoint) (p.place ∷ (sized leaf_encoding p.leaf ++ counted (λ digest. digest) p.path)),
   length-append (sized leaf_encoding p.leaf) (counted (λ digest. digest) p.path),
 )

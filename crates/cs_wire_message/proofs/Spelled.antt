@@ -4,6 +4,7 @@ use Rattle.std.specs.Int.{w16, w32, w64, to_be_bytes, cast_unsigned}
 use Rattle.std.specs.List.{AllByRecursion}
 use Rattle.cs_base.specs.declared.key.Key.{Key}
 use Rattle.cs_base.specs.declared.key.Key.TheVariants as key
+use Rattle.cs_base.specs.declared.limits.TheConstants.{MOST_READERS}
 use Rattle.cs_base.specs.Fields.{IsBytes, each, counted}
 use Rattle.cs_tx_value.specs.declared.object.Object.{Object}
 use Rattle.cs_tx_value.specs.declared.value.Value.{Value, out-Value, roll-Value}
@@ -30,7 +31,7 @@ use Rattle.cs_tx_types.specs.declared.state.State.{State}
 use Rattle.cs_tx_types.specs.declared.state.State.TheVariants as state
 use Rattle.cs_tx_types.specs.Transaction.{Keyed, keyed_encoding, KeyedFits, trace_front, trace_back, trace_encoding, TraceFits, tx_encoding, TxFits}
 use Rattle.cs_tx_types.specs.Session.{dummy_encoding, session_encoding, SessionFits, vote_encoding, entry_encoding, EntryFits}
-use Rattle.cs_tx_types.specs.State.{state_encoding, StateFits}
+use Rattle.cs_tx_types.specs.State.{readers_encoding, state_encoding, StateFits}
 use Rattle.cs_tx_types.specs.Sized.{sized}
 use Rattle.cs_tx_types.specs.Log.{effect_encoding, leaf_encoding, LeafFits, checkpoint_encoding, CheckpointFits, proof_encoding, ProofFits}
 use Rattle.cs_wire_message.specs.declared.change.Change.{Change}
@@ -210,6 +211,10 @@ bytes-state state.Unknown fits = byte 0 (omega arith)
 bytes-state (state.Active object) fits = cons 1 _ (omega arith) (bytes-object object fits)
 bytes-state (state.Locked object by) fits = cons 2 _ (omega arith) (join (object_encoding object) by (bytes-object object fits.0) (small by fits.1.1))
 bytes-state (state.Inactive by) fits = cons 3 by (omega arith) (small by fits.1)
+bytes-state (state.Shared object readers) fits =
+    cons 4 _ (omega arith)
+    (join (object_encoding object) (readers_encoding readers) (bytes-object object fits.0)
+    (bytes-counted (λ digest. digest) DigestFits (λ digest f. small digest f.1) MOST_READERS (omega arith) readers fits.1.0.1))
 
 -- ---- messages
 

@@ -4,7 +4,7 @@ use Rattle.std.specs.Prelude.{◌==◌}
 use Rattle.std.proofs.lemmas.Bool.{cond_both, both_ways, and_parts, and_from, or_cases, not-true, eq-eqb}
 use Rattle.cs_ledger.specs.Ledger.{Bytes, Item, Transaction, IsIn, is_empty, names, has, all_differ}
 use Rattle.cs_ledger.specs.Session.{Session, Rules, Key, Object, Piece, key_eq, has_key, objects_in, dummies_in, object_under, first_key, used_up, read_only, anchor, all_items, concerns, well_formed}
-use Rattle.cs_ledger.specs.Table.{Vote, Commit, State, Unknown, Active, Locked, Inactive, Table, Prepare, Decide, Accepted, Skipped, Void, Outcome, is_held_by, is_locked_by, is_inactive, has_room, vote_in, made, accept_state, new_dummy, new_pieces, with_accepted, session_of, act, exec, table_of}
+use Rattle.cs_ledger.specs.Table.{Vote, Commit, State, Unknown, Active, Locked, Inactive, Shared, Table, Prepare, Decide, Accepted, Skipped, Void, Outcome, is_held_by, is_locked_by, is_inactive, has_room, vote_in, made, accept_state, new_dummy, new_pieces, with_accepted, session_of, act, exec, table_of}
 use Rattle.cs_ledger.specs.ShardWorld.{Step, log, shard_votes, votes_in, is_vote, is_prepare_of, all_commit, IsAllowed, AllAllowed, sessions, AreNamedApart}
 use Rattle.cs_ledger.proofs.Basics.{same_bytes, bytes_from, in_left, piece_has}
 use Rattle.cs_ledger.proofs.Kept.{own}
@@ -18,6 +18,7 @@ held-once a b Unknown e f = cc
 held-once a b (Active object) e f = cc
 held-once a b (Locked object by) e f = same_bytes a by e ∙ sym (same_bytes b by f)
 held-once a b (Inactive by) e f = same_bytes a by e ∙ sym (same_bytes b by f)
+held-once a b (Shared object readers) e f = cc
 
 -- where there is an input, it is the anchor, whatever the dummies are
 first-of : (objects a b : List Piece) (piece : Piece) → IsIn piece objects → first_key (objects ++ a) ≡ first_key (objects ++ b)
@@ -145,7 +146,7 @@ module _ (rules : Rules) (known : List Session) (apart : AreNamedApart rules.gen
         let k = Object p.item.name in
         let unknown = unknown-before p.item p.within in
         let holding = own rules known apart.session shard Before (commits_in rules past) (aborts_in rules past) (facts.kept shard) x knows key is held in
-        let f = free rules known apart.session (commits_in rules past) (aborts_in rules past) shard Before (facts.kept shard) x k Unknown holding unknown (λ object q. cc) in
+        let f = free rules known apart.session (commits_in rules past) (aborts_in rules past) shard Before (facts.kept shard) x k Unknown holding unknown (λ object q. cc) (λ object readers q. cc) in
         let new = under-own rules shard x.transaction.outputs (new_dummy rules shard Before (dummies_in rules shard x.dummies)) p.item (apart.places x knows) p.within p.home in
         let state : ((with_accepted rules shard Before x).at k).state ≡ Active p.item.object =
         ap (λ b. accept_state b (has_key k (read_only rules x shard)) x.digest (object_under (new_pieces rules shard Before x) k) (Before.at k).state) f.0

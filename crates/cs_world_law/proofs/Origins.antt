@@ -3,11 +3,11 @@ use Rattle.std.proofs.Common.{◌≡◌, ◌⊎◌, inl, inr, ℕ, Bool, true, f
 use Rattle.std.proofs.lemmas.Bool.{cases_Bool}
 use Rattle.cs_ledger.specs.Ledger.{Bytes, Item, IsIn, names}
 use Rattle.cs_ledger.specs.Session.{AreToldApart, Session, Rules, Key, Object, Piece, has_key, objects_in, object_under, used_up, read_only, anchor, all_items}
-use Rattle.cs_ledger.specs.Table.{Commit, State, Unknown, Locked, Inactive, Table, Entry, is_locked_by, made, lock_state, undo_state, accept_state, new_pieces, session_of, exec, table_of, start}
+use Rattle.cs_ledger.specs.Table.{Commit, State, Unknown, Locked, Inactive, Shared, Table, Entry, is_locked_by, made, lock_state, undo_state, accept_state, new_pieces, session_of, exec, table_of, start}
 use Rattle.cs_ledger.specs.ShardWorld.{Step, log, AllAllowed, sessions}
-use Rattle.cs_ledger.proofs.Basics.{anchor_used}
+use Rattle.cs_ledger.proofs.Basics.{anchor_used, has_piece}
 use Rattle.cs_ledger.proofs.Changes.{Nothing, Locks, Notes, Accepts, Aborts, change}
-use Rattle.cs_ledger.proofs.Kept.{Kept, Holding, own, held_is_locked, used_is_piece, read_is_piece}
+use Rattle.cs_ledger.proofs.Kept.{Kept, Holding, own, held_is_locked}
 use Rattle.cs_ledger.proofs.Entries.{IsBacked, same_out}
 use Rattle.cs_ledger.proofs.Names.{new_object, object_piece, under_piece, item_named}
 use Rattle.cs_ledger.proofs.Votes.{log_at, all_more, commits_in, aborts_in, backed, facts_of}
@@ -38,15 +38,15 @@ lock-inactive true read d by s e = ap (lock_state true read d) e
 lock-inactive false true d by s e = ap (lock_state false true d) e
 lock-inactive false false d by s e = e
 
-undo-unknown : (used read : Bool) (s : State) → s ≡ Unknown → undo_state used read s ≡ Unknown
-undo-unknown true read s e = ap (undo_state true read) e
-undo-unknown false true s e = ap (undo_state false true) e
-undo-unknown false false s e = e
+undo-unknown : (used read : Bool) (d : Bytes) (s : State) → s ≡ Unknown → undo_state used read d s ≡ Unknown
+undo-unknown true read d s e = ap (undo_state true read d) e
+undo-unknown false true d s e = ap (undo_state false true d) e
+undo-unknown false false d s e = e
 
-undo-inactive : (used read : Bool) (by : Bytes) (s : State) → s ≡ Inactive by → undo_state used read s ≡ Inactive by
-undo-inactive true read by s e = ap (undo_state true read) e
-undo-inactive false true by s e = ap (undo_state false true) e
-undo-inactive false false by s e = e
+undo-inactive : (used read : Bool) (d by : Bytes) (s : State) → s ≡ Inactive by → undo_state used read d s ≡ Inactive by
+undo-inactive true read d by s e = ap (undo_state true read d) e
+undo-inactive false true d by s e = ap (undo_state false true d) e
+undo-inactive false false d by s e = e
 
 module _ (rules : Rules) (known : List Session) (unique : AreToldApart known) (commits aborts : Session → Type 0) (shard : ℕ) (t : Table) (kept : Kept rules known commits aborts shard t) where
   -- makers stay where inactive anchors do
@@ -61,16 +61,23 @@ module _ (rules : Rules) (known : List Session) (unique : AreToldApart known) (c
         | inr from ↦ inr (elim from [ inl first ↦ inl first | inr m ↦ inr (maker-stays u name gone m) ])
       ]
 
-  -- a session that holds its keys uses up no key that is Inactive, and none that is Unknown
+  -- a session that holds its keys uses up and reads no key that is Inactive, and none that is Unknown
   pub free : (x : Session) (key : Key) (state : State) → Holding rules shard t x → (t.at key).state ≡ state → ((object : Bytes) → Locked object x.digest ≡ state → ⊥)
+      → ((object : Bytes) (readers : List Bytes) → Shared object readers ≡ state → ⊥)
       → (has_key key (used_up rules x shard) ≡ false) × (has_key key (read_only rules x shard) ≡ false)
-  free x key state h e not = (
+  free x key state h e not shared = (
     elim (cases_Bool (has_key key (used_up rules x shard))) [
-      | inl has ↦ let l = held_is_locked rules known unique shard t x h key (used_is_piece rules known unique shard t x key has) in absurd (not l.0 (sym l.1 ∙ e))
+      | inl has ↦ let l = held_is_locked rules known unique shard t x h key has in absurd (not l.0 (sym l.1 ∙ e))
       | inr lacks ↦ lacks
     ],
     elim (cases_Bool (has_key key (read_only rules x shard))) [
-      | inl has ↦ let l = held_is_locked rules known unique shard t x h key (read_is_piece rules known unique shard t x key has) in absurd (not l.0 (sym l.1 ∙ e))
+      | inl has ↦
+          let p = has_piece key (read_only rules x shard) has in
+          let at : (t.at p.0.key).state ≡ state = ap (λ k. (t.at k).state) (sym p.2) ∙ e in
+          elim (h.reads p.0 p.1) [
+            | inl l ↦ absurd (not p.0.object (sym l ∙ at))
+            | inr s ↦ absurd (shared p.0.object s.0 (sym s.1 ∙ at))
+          ]
       | inr lacks ↦ lacks
     ],
   )
@@ -85,7 +92,7 @@ module _ (rules : Rules) (known : List Session) (unique : AreToldApart known) (c
     -- what is Inactive stays so
     still-gone : (k : Key) (by : Bytes) → (t.at k).state ≡ Inactive by → After k (t.at k).state ≡ Inactive by
     still-gone k by e =
-        let f = free x k (Inactive by) holding e (λ object q. cc) in
+        let f = free x k (Inactive by) holding e (λ object q. cc) (λ object readers q. cc) in
         ap (λ b. accept_state b (has_key k (read_only rules x shard)) x.digest (object_under (new_pieces rules shard t x) k) (t.at k).state) f.0
         ∙ ap (λ b. accept_state false b x.digest (object_under (new_pieces rules shard t x) k) (t.at k).state) f.1
         ∙ ap (λ s. made (object_under (new_pieces rules shard t x) k) s) e
@@ -99,7 +106,7 @@ module _ (rules : Rules) (known : List Session) (unique : AreToldApart known) (c
     appears : (name : Bytes) → (t.at (Object name)).state ≡ Unknown → (After (Object name) (t.at (Object name)).state ≡ Unknown) ⊎ ((item : Item) × (IsIn item x.transaction.outputs) × (item.name ≡ name))
     appears name e =
         let k = Object name in
-        let f = free x k Unknown holding e (λ object q. cc) in
+        let f = free x k Unknown holding e (λ object q. cc) (λ object readers q. cc) in
         let is = ap (λ b. accept_state b (has_key k (read_only rules x shard)) x.digest (object_under (new_pieces rules shard t x) k) (t.at k).state) f.0
         ∙ ap (λ b. accept_state false b x.digest (object_under (new_pieces rules shard t x) k) (t.at k).state) f.1
         ∙ ap (λ s. made (object_under (new_pieces rules shard t x) k) s) e in
@@ -144,7 +151,7 @@ module _ (rules : Rules) (known : List Session) (unique : AreToldApart known) (c
             (origins-accepted x (subst (λ e. IsIn (session_of e) known) what knows) key is held (subst (λ e. IsBacked commits aborts e) what backed) _ (λ k. refl) origins)
         | Aborts x key what is held to ↦
             same_out (λ z. HasOrigins rules known commits shard z) _ _ to
-            (origins-stay _ (λ k by. undo-inactive (has_key k (used_up rules x shard)) (has_key k (read_only rules x shard)) by (t.at k).state) (λ k. undo-unknown (has_key k (used_up rules x shard)) (has_key k (read_only rules x shard)) (t.at k).state) origins)
+            (origins-stay _ (λ k by. undo-inactive (has_key k (used_up rules x shard)) (has_key k (read_only rules x shard)) x.digest by (t.at k).state) (λ k. undo-unknown (has_key k (used_up rules x shard)) (has_key k (read_only rules x shard)) x.digest (t.at k).state) origins)
       ]
 
 -- at the start there are the genesis objects alone

@@ -4,7 +4,7 @@ use Rattle.std.specs.Prelude.{bytes_eq, is_some}
 use Rattle.std.proofs.lemmas.Bool.{and_from, or_left, or_right}
 use Rattle.cs_ledger.specs.Ledger.{Bytes, IsIn}
 use Rattle.cs_ledger.specs.Session.{AreToldApart, Session, Rules, Key, has_key, key_eq, anchor, used_up, read_only, object_under}
-use Rattle.cs_ledger.specs.Table.{Vote, Commit, Abort, State, Unknown, Active, Locked, Inactive, Record, Table, Entry, Outcome, Effect, Accepted, Aborted, is_held_by, is_locked_by, is_inactive, vote_in, has_room, new_pieces, exec, table_of}
+use Rattle.cs_ledger.specs.Table.{Vote, Commit, Abort, State, Unknown, Active, Locked, Inactive, Shared, Record, Table, Entry, Outcome, Effect, Accepted, Aborted, is_held_by, is_locked_by, is_inactive, vote_in, has_room, new_pieces, exec, table_of}
 use Rattle.cs_ledger.specs.Standing.{is_inactive_by, has_lost, stands_accepted, stands_aborted}
 use Rattle.cs_ledger.specs.ShardWorld.{votes_in, decided_in, is_decide_of, is_effect, sessions_of}
 use Rattle.cs_ledger.proofs.Settled.{settle, settled}
@@ -34,7 +34,7 @@ module _ (r : Rules) (shard : ℕ) (t : Table) (d : Bytes) (key : Key) (entry : 
         | inr new ↦ inr (subst (λ (o : Outcome). (is_decide_of d entry && is_effect Accepted o.effect) ≡ true) (sym to) (subst (λ e. (is_decide_of d e && true) ≡ true) (sym what) (and-true (bytes_eq d x.digest) new)))
       ]
   used-now (Aborts x k what is held to) h =
-      inl (by-undo (has_key key (used_up r x shard)) (has_key key (read_only r x shard)) d (t.at key).state (subst (λ (o : Outcome). IsUsed o.table) to h))
+      inl (by-undo (has_key key (used_up r x shard)) (has_key key (read_only r x shard)) d x.digest (t.at key).state (subst (λ (o : Outcome). IsUsed o.table) to h))
 
   -- a commit that is noted was noted before, or the session is aborted now
   abbrev IsNoted : Table → Type 0
@@ -91,6 +91,8 @@ lost-parts (Active object) true d used h = cc
 lost-parts (Active object) false d used h = (refl, refl)
 lost-parts (Locked object by) room d used h = let n = neither room (bytes_eq d by) h in (n.1, ap not n.0)
 lost-parts (Inactive by) room d used h = (used, refl)
+lost-parts (Shared object readers) true d used h = cc
+lost-parts (Shared object readers) false d used h = (refl, refl)
 
 settle-lost : (held gone room : Bool) → held ≡ false → (gone || not room) ≡ true → settle held None gone room ≡ Some Abort
 settle-lost true gone room h e = cc

@@ -2,9 +2,9 @@
 use Rattle.std.proofs.Common.{◌≡◌, ℕ, zero, suc, ◌*◌, ◌≤◌, ◌<◌, ◌^◌, ◌++◌, List, [], ◌∷◌, length, Some, refl, arith}
 use Rattle.std.specs.Int.{w16, w64, to_be_bytes}
 use Rattle.std.proofs.lemmas.List.{length-append}
-use Rattle.cs_base.specs.declared.limits.TheConstants.{MOST_TX, MOST_SESSION, MOST_ENTRY}
+use Rattle.cs_base.specs.declared.limits.TheConstants.{MOST_READERS, MOST_TX, MOST_SESSION, MOST_ENTRY}
 use Rattle.cs_base.specs.Fields.{IsBytes, IsForm, counted, each, Splits, pair_at, bytes_at}
-use Rattle.cs_base.proofs.Forms.{wide16, wide64, number_form, byte_form, bytes_form, pair_of, counted_of, some_of, within_of, mapped_of, weaker_form}
+use Rattle.cs_base.proofs.Forms.{wide16, wide64, number_form, byte_form, bytes_form, pair_of, counted_of, some_of, tested_of, within_of, mapped_of, weaker_form}
 use Rattle.cs_tx_value.specs.Encoding.{value_encoding, ValueFits, AtMost}
 use Rattle.cs_tx_value.specs.laws.Kinds.{kinds_form, takes_part, part_kinded, takes_bare, bare_kinded, Kinded}
 use Rattle.cs_tx_value.specs.laws.Value.{value_form}
@@ -23,8 +23,8 @@ use Rattle.cs_tx_types.specs.declared.state.State.{State}
 use Rattle.cs_tx_types.specs.declared.state.State.TheVariants as state
 use Rattle.cs_tx_types.specs.Transaction.{keyed_encoding, KeyedFits, trace_encoding, TraceFits, tx_encoding, TxFits}
 use Rattle.cs_tx_types.specs.Session.{dummy_encoding, session_encoding, SessionFits, vote_encoding, entry_encoding, EntryFits}
-use Rattle.cs_tx_types.specs.State.{state_encoding, StateFits}
-use Rattle.cs_tx_types.specs.Reading.{keyed_at, Front, Back, front_at, back_at, trace_of_parts, trace_at, tx_of, tx_at, session_of_parts, session_at, vote_kind_at, vote_at, decide_entry, entry_kind_at, entry_at, locked_state, state_kind_at, state_at}
+use Rattle.cs_tx_types.specs.State.{readers_differ, readers_encoding, ReadersFit, state_encoding, StateFits}
+use Rattle.cs_tx_types.specs.Reading.{keyed_at, Front, Back, front_at, back_at, trace_of_parts, trace_at, tx_of, tx_at, session_of_parts, session_at, vote_kind_at, vote_at, decide_entry, entry_kind_at, entry_at, locked_state, readers_at, shared_state, state_kind_at, state_at}
 
 -- ---- traces and transactions
 
@@ -127,6 +127,12 @@ entry_form = kinds_form entry_encoding EntryFits entry_kind_at entry_takes entry
 locked_form : IsForm (λ p. object_encoding p.0 ++ p.1) (λ p. ObjectFits p.0 × DigestFits p.1) (pair_at object_at (bytes_at 32))
 locked_form = pair_of object_form (bytes_form 32)
 
+readers_form : IsForm readers_encoding ReadersFit readers_at
+readers_form = tested_of (some_of (bytes_form 32) MOST_READERS (omega arith)) readers_differ
+
+shared_form : IsForm (λ p. object_encoding p.0 ++ readers_encoding p.1) (λ p. ObjectFits p.0 × ReadersFit p.1) (pair_at object_at readers_at)
+shared_form = pair_of object_form readers_form
+
 state_takes : (kind : ℕ) (bytes : List ℕ) (s : State) (rest : List ℕ) → IsBytes bytes
     → state_kind_at kind bytes ≡ Some (s, rest) → Splits (kind ∷ bytes) (state_encoding s) rest × StateFits s
 state_takes zero bytes s rest fits is =
@@ -139,7 +145,9 @@ state_takes (suc (suc zero)) bytes s rest fits is =
 state_takes (suc (suc (suc zero))) bytes s rest fits is =
     takes_part state_encoding StateFits state_kind_at (bytes_form 32) state.Inactive 3 (λ d. refl) (λ d h. h) bytes s
     rest fits is
-state_takes (suc (suc (suc (suc kind)))) bytes s rest fits is = absurd cc
+state_takes (suc (suc (suc (suc zero)))) bytes s rest fits is =
+    takes_part state_encoding StateFits state_kind_at shared_form shared_state 4 (λ p. refl) (λ p h. h) bytes s rest fits is
+state_takes (suc (suc (suc (suc (suc kind))))) bytes s rest fits is = absurd cc
 
 state_again : (s : State) (rest : List ℕ) → StateFits s → Kinded state_encoding state_kind_at s rest
 state_again state.Unknown rest fits =
@@ -153,6 +161,9 @@ state_again (state.Locked o d) rest fits =
 state_again (state.Inactive d) rest fits =
     part_kinded state_encoding StateFits state_kind_at (bytes_form 32) state.Inactive 3 (omega arith) (λ d. refl)
     (λ bytes. refl) d rest fits
+state_again (state.Shared o readers) rest fits =
+    part_kinded state_encoding StateFits state_kind_at shared_form shared_state 4 (omega arith) (λ p. refl) (λ bytes. refl)
+    (o, readers) rest fits
 
 pub state_form : IsForm state_encoding StateFits state_at
 state_form = kinds_form state_encoding StateFits state_kind_at state_takes state_again

@@ -5,7 +5,7 @@ use Rattle.cs_ledger.specs.Session.{all_items}
 use Rattle.cs_ledger.specs.Table.{Commit, Abort, Accepted, Aborted}
 use Rattle.cs_ledger.specs.ShardWorld.{sessions}
 use Rattle.cs_ledger.proofs.Names.{at_some, item_named}
-use Rattle.cs_ledger.proofs.States.{free_active}
+use Rattle.cs_ledger.proofs.States.{free_readable}
 use Rattle.cs_ledger.proofs.Votes.{one_vote, no_both, among_some}
 use Rattle.cs_ledger.proofs.Decisions.{decided_behind, votes_concern, all_concerned}
 use Rattle.cs_ledger.proofs.Spent.{spent_once}
@@ -47,7 +47,7 @@ returns-clause-accepted c rules past w x k shard e =
 
 pub returns-clause-objects : goal.returns-clause-objects
 returns-clause-objects c rules past w shard name object e =
-    ((world rules past w).story.covered shard).active_is name object (free_active _ object e)
+    ((world rules past w).story.covered shard).active_is name object (free_readable _ object e)
 
 pub returns-clause-complete : goal.returns-clause-complete
 returns-clause-complete c rules past w x k shard among all = is_listed rules past w x k all shard among
