@@ -1,6 +1,6 @@
 -- Saving one key file after the other.
 use Rattle.std.proofs.Common.{◌≡◌, ◌⊎◌, inl, inr, ℕ, ◌+◌, ◌<◌, Bool, true, false, List, [], ◌∷◌, ◌++◌, length, get_or, take, drop, Option, Some, None, Result, Ok, Err, refl, sym, ap, subst, ◌∙◌, append_assoc}
-use Rattle.std.specs.Prelude.{IsSomeAnd, IsOkAnd, IsErrAnd}
+use Rattle.std.specs.Prelude.{IsSomeAnd, IsErrAnd}
 use Rattle.std.specs.List.{AllByRecursion}
 use Rattle.std.specs.Str.{bytes_eq}
 use Rattle.std.proofs.lemmas.Bool.{false≢true}
@@ -10,9 +10,8 @@ use Rattle.cs_base.specs.declared.config.Config.{Config}
 use Rattle.cs_base.specs.declared.node_id.NodeId.{NodeId}
 use Rattle.cs_io.specs.Told.{Changes}
 use Rattle.cs_io.specs.Store.{Files, Replaces, MayReplace}
-use Rattle.cs_wire.specs.Keys.{IsOfMaster}
-use Rattle.cs_config.specs.File.{keys_of}
 use Rattle.cs_config.specs.FileNames.{key_file}
+use Rattle.cs_config.specs.KeyText.{IsKeyFile}
 use Rattle.cs_config.specs.Saving.{HoldsKeys, SavesKeys, SavesFront, SavesBefore, SavesUpTo}
 use Rattle.cs_config.specs.declared.saving.SaveError.{SaveError}
 use Rattle.cs_config.specs.declared.saving.SaveError.TheVariants.{Fault, Memory}
@@ -31,9 +30,9 @@ module _ (config : Config) (master : List ℕ) where
   pub saves-nil : (files : Files) → SavesKeys config master [] files files
   saves-nil files = record { held = tt; others = λ file none. refl }
 
-  one-saved : (me : NodeId) (text : List ℕ) (before now : Files) → IsOkAnd (keys_of config text) (IsOfMaster config master me) → Replaces (key_file me) text before now → SavesKeys config master (me ∷ []) before now
+  one-saved : (me : NodeId) (text : List ℕ) (before now : Files) → IsKeyFile config master me text → Replaces (key_file me) text before now → SavesKeys config master (me ∷ []) before now
   one-saved me text before now ok is = record {
-    held = (subst (λ (o : Option (List ℕ)). IsSomeAnd o (λ t. IsOkAnd (keys_of config t) (IsOfMaster config master me))) (sym is.0) ok, tt);
+    held = (subst (λ (o : Option (List ℕ)). IsSomeAnd o (IsKeyFile config master me)) (sym is.0) ok, tt);
     others = λ file none. is.1 file (λ same. none.0 (sym same));
   }
 
@@ -46,21 +45,21 @@ module _ (config : Config) (master : List ℕ) where
     ];
   }
 
-  may-one : (me : NodeId) (text : List ℕ) (before now : Files) → IsOkAnd (keys_of config text) (IsOfMaster config master me) → MayReplace (key_file me) text before now → SavesKeys config master [] before now ⊎ SavesKeys config master (me ∷ []) before now
+  may-one : (me : NodeId) (text : List ℕ) (before now : Files) → IsKeyFile config master me text → MayReplace (key_file me) text before now → SavesKeys config master [] before now ⊎ SavesKeys config master (me ∷ []) before now
   may-one me text before now ok is = elim is.0 [
     | inl new ↦ inr (one-saved me text before now ok (new, is.1))
     | inr old ↦ inl (none-saved me before now old is.1)
   ]
 
   -- the store failed at it
-  pub fault-at : (me : NodeId) (name bytes text : List ℕ) (old new : Option Files) → name ≡ key_file me → bytes ≡ text → IsOkAnd (keys_of config text) (IsOfMaster config master me)
+  pub fault-at : (me : NodeId) (name bytes text : List ℕ) (old new : Option Files) → name ≡ key_file me → bytes ≡ text → IsKeyFile config master me text
       → Changes (MayReplace name bytes) old new → Changes (SavesBefore me config master (me ∷ [])) old new
   fault-at me name bytes text None new named same ok is = tt
   fault-at me name bytes text (Some before) None named same ok is = absurd is
   fault-at me name bytes text (Some before) (Some now) named same ok is = record { done = []; rest = []; front = refl; saved = may-one me text before now ok (rw (← named, ← same) is) }
 
   -- memory ran out at it
-  pub want-at : (me : NodeId) (name bytes text : List ℕ) (old new : Option Files) → name ≡ key_file me → bytes ≡ text → IsOkAnd (keys_of config text) (IsOfMaster config master me)
+  pub want-at : (me : NodeId) (name bytes text : List ℕ) (old new : Option Files) → name ≡ key_file me → bytes ≡ text → IsKeyFile config master me text
       → Changes (MayReplace name bytes) old new → Changes (SavesFront config master (me ∷ [])) old new
   want-at me name bytes text None new named same ok is = tt
   want-at me name bytes text (Some before) None named same ok is = absurd is
@@ -87,7 +86,7 @@ module _ (config : Config) (master : List ℕ) where
   kept : (x : NodeId) (b c : Files) → IsNamed config x → HoldsKeys config master b x → (ys : List NodeId) → AllNamed ys → AllByRecursion (HoldsKeys config master c) ys
       → (AllByRecursion (λ me. key_file me ≡ key_file x → ⊥) ys → c (key_file x) ≡ b (key_file x)) → HoldsKeys config master c x
   kept x b c named held [] others holds same =
-      subst (λ (o : Option (List ℕ)). IsSomeAnd o (λ t. IsOkAnd (keys_of config t) (IsOfMaster config master x))) (sym (same tt)) held
+      subst (λ (o : Option (List ℕ)). IsSomeAnd o (IsKeyFile config master x)) (sym (same tt)) held
   kept x b c named held (y ∷ ys) others holds same = elim (same_or_other (key_file y) (key_file x)) [
     | inl is ↦ subst (HoldsKeys config master c) (same_file config y x others.0 named is) holds.0
     | inr other ↦ kept x b c named held ys others.1 holds.1 (λ none. same (other, none))

@@ -8,5 +8,6 @@ mod Counting
 pub mod Listed
 mod Names
 mod KeyTables
+mod KeyTexts
 mod Filed
 mod Named

@@ -10,5 +10,6 @@ pub mod File
 pub mod Named
 pub mod Peer
 pub mod Printed
+pub mod KeyText
 pub mod FileNames
 pub mod Saving

@@ -1,19 +1,17 @@
 -- Saving key files, one after the other.
-use Rattle.std.specs.Prelude.{◌≡◌, ◌≢◌, ◌⊎◌, ℕ, List, [], ◌∷◌, ◌++◌, IsSomeAnd, IsOkAnd, Result, Ok, Err}
+use Rattle.std.specs.Prelude.{◌≡◌, ◌≢◌, ◌⊎◌, ℕ, List, [], ◌∷◌, ◌++◌, IsSomeAnd, Result, Ok, Err}
 use Rattle.std.specs.List.{AllByRecursion}
 use Rattle.cs_base.specs.declared.config.Config.{Config}
 use Rattle.cs_base.specs.declared.node_id.NodeId.{NodeId}
 use Rattle.cs_io.specs.Store.{Files}
-use Rattle.cs_wire.specs.Keys.{IsOfMaster}
-use Rattle.cs_config.specs.File.{keys_of}
 use Rattle.cs_config.specs.FileNames.{key_file}
+use Rattle.cs_config.specs.KeyText.{IsKeyFile}
 use Rattle.cs_config.specs.declared.saving.SaveError.{SaveError}
 use Rattle.cs_config.specs.declared.saving.SaveError.TheVariants.{Fault, Memory}
 
--- the key file of a name holds the keys that the master gives it
+-- the key file of a name holds the keys that the master gives it, and nothing else
 abbrev pub HoldsKeys : Config → List ℕ → Files → NodeId → Type 0
-HoldsKeys config master files me =
-    IsSomeAnd (files (key_file me)) (λ text. IsOkAnd (keys_of config text) (IsOfMaster config master me))
+HoldsKeys config master files me = IsSomeAnd (files (key_file me)) (IsKeyFile config master me)
 
 -- the key files of these hold their keys, and every other file is as it was
 pub record SavesKeys (config : Config) (master : List ℕ) (names : List NodeId) (before now : Files) : Type 0 where

@@ -31,7 +31,7 @@ pub use limits::{
 };
 pub use naming::key_file;
 pub use plan::{Plan, read_plan};
-pub use printing::print_keys;
+pub use printing::{key_files_tell_keys_alone, print_keys};
 pub use readable::Readable;
 pub use reading::read_keys;
 pub use saving::{SaveError, save_keys};

@@ -1,12 +1,12 @@
 //! Printing key files.
-ghost use Rattle.std.specs.Prelude.{◌≡◌, ◌≤◌, true, Some, IfOk, IsOkAnd, string_bytes};
+ghost use Rattle.std.specs.Prelude.{◌≡◌, ◌≤◌, true, false, Some, IfOk, string_bytes};
 ghost use Rattle.hex.specs.Hex.{encode_lower};
 ghost use Rattle.toml.specs.Data.{string, array, members_depth, members_have_valid_dates};
 ghost use Rattle.toml.specs.Parse.{parse_document};
+ghost use Rattle.toml.specs.Text.{IsDocumentText};
 ghost use Rattle.toml.specs.View.{view, table_view};
 ghost use Rattle.cs_base.specs.NodeId.{is_named, node_text};
-ghost use Rattle.cs_wire.specs.Keys.{IsOfMaster};
-ghost use Rattle.cs_config.specs.File.{keys_of};
+ghost use Rattle.cs_config.specs.KeyText.{IsKeyFile, KeysAloneTell};
 ghost use Rattle.cs_config.specs.Printed.{peer_data, peers_data, keys_data};
 
 use crate::Site;
@@ -17,7 +17,7 @@ use std::alloc::Global;
 use toml::{Table, Value};
 
 /// The key file that a master key gives a node or client of the site, with all others as its
-/// peers.
+/// peers: their keys, and nothing else.
 pub fn print_keys(
     alloc: Global,
     site: &Site,
@@ -25,8 +25,7 @@ pub fn print_keys(
     me: NodeId,
 ) -> Result<Vec<u8>, Memory>
     requires { is_named site.now.config me ≡ true }
-    ensures { IfOk result (λ text. IsOkAnd
-        (keys_of site.now.config text.items) (IsOfMaster site.now.config master.now me)) }
+    ensures { IfOk result (λ text. IsKeyFile site.now.config master.now me text.items) }
 {
     let list = list_with_all(alloc, &site.config, master, me)?;
     let table = keys_table(alloc, me, list.as_slice())?;
@@ -34,12 +33,22 @@ pub fn print_keys(
     Ok(text.into_bytes())
 }
 
+/// A key file tells of the master key what its keys tell: two master keys that give a name the same
+/// keys give it the same file.
+///
+/// It does nothing: its contract is a theorem, which a caller has by calling it.
+pub fn key_files_tell_keys_alone()
+    ensures { KeysAloneTell }
+{}
+
 // The text of a table that is flat enough to be read again, and holds no date.
 fn print_table(alloc: Global, table: &Table) -> Result<String, Memory>
     requires flat { members_depth (table_view table.now) ≤ 3 }
     requires undated { members_have_valid_dates (table_view table.now) ≡ true }
-    ensures { IfOk result (λ text.
+    ensures reads_back { IfOk result (λ text.
         parse_document (string_bytes text) ≡ Some (table_view table.now)) }
+    ensures text { IfOk result (λ text.
+        IsDocumentText false (table_view table.now) (string_bytes text)) }
 {
     match toml::table_to_string(alloc, table) {
         Ok(text) => Ok(text),
