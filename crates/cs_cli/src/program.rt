@@ -38,6 +38,7 @@ ghost use Rattle.cs_node_rules.specs.Site.{Site, start_view};
 ghost use Rattle.cs_node_rules.specs.World.{trail_of};
 ghost use Rattle.cs_wire.specs.declared.keys.Keys.{Keys as FileKeys};
 ghost use Rattle.cs_config.specs.File.{keys_of};
+ghost use Rattle.cs_config.specs.KeyText.{KeysAloneTell};
 ghost use Rattle.cs_node.specs.Speaking.{Speaks};
 ghost use Rattle.cs_world_law.specs.Worlds.{net_of_keys};
 ghost use Rattle.cs_serve.specs.Serving.{trail};
@@ -60,6 +61,7 @@ use crate::telling::tell_source;
 use crate::words::{Command, read_words};
 use cs_audit_law::dumps_are_answered_yes;
 use cs_base::{Sink, Source, print};
+use cs_config::key_files_tell_keys_alone;
 use cs_deploy::{run_client, run_cluster, run_keys, run_keys_read, run_node};
 use cs_io::{Link, Spawner, Store, closing};
 use cs_replay::{replay_source, schedules_are_sound};
@@ -135,6 +137,9 @@ pub fn run<S: Source, K: Sink, E: Store, L: Link, P: Spawner>(
     ensures keys_speak { (config : Config) (text : List ℕ) (keys : NodeId → FileKeys)
         (liars : List NodeId) (i : NodeId) → keys_of config text ≡ Ok (keys i) → (keys i).me ≡ i
         → Speaks config (net_of_keys config keys liars) (keys i) }
+    // A key file tells no more of the master key than the keys that it holds: two master keys that
+    // give a name the same keys give it the same file.
+    ensures keys_alone { KeysAloneTell }
     // Nodes that run make a world of what they are given: each does in it what it does where it is
     // served. Where nothing is forged, what is true of the worlds of schedules is true of it.
     ensures trails { (site : Site OrderMessage) (given : List Given) (i : NodeId)
@@ -178,6 +183,7 @@ pub fn run<S: Source, K: Sink, E: Store, L: Link, P: Spawner>(
     shown_claims_are_covered();
     audited_dumps_are_sound();
     keys_of_files_speak();
+    key_files_tell_keys_alone();
     nodes_serve_their_trails();
     running_nodes_are_sound();
     match read_words(words) {

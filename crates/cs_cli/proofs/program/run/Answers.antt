@@ -42,6 +42,12 @@ returns-in-Some-clause-keys_speak g c = c.keys_of_files_speak.ensures
 pub returns-in-None-clause-keys_speak : goal.returns-in-None-clause-keys_speak
 returns-in-None-clause-keys_speak g c = c.keys_of_files_speak.ensures
 
+pub returns-in-Some-clause-keys_alone : goal.returns-in-Some-clause-keys_alone
+returns-in-Some-clause-keys_alone g c = c.key_files_tell_keys_alone.ensures
+
+pub returns-in-None-clause-keys_alone : goal.returns-in-None-clause-keys_alone
+returns-in-None-clause-keys_alone g c = c.key_files_tell_keys_alone.ensures
+
 pub returns-in-Some-clause-dumps_pass : goal.returns-in-Some-clause-dumps_pass
 returns-in-Some-clause-dumps_pass g c = λ text schedule is.
     answers_yes schedule (c.dumps_are_answered_yes.ensures MOST_DUMP (omega arith) (is_approved_by schedule.contracts) schedule (given_playable (Ok schedule) MOST_SCHEDULE text is))
