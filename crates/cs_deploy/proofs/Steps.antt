@@ -96,8 +96,18 @@ gave Come a e (Err x) is takes = subst (λ (y : Untaken). TakesFiles Come a (Err
 -- ---- a call
 
 call-of-not : (name bytes : List ℕ) (t : Taken (List ℕ)) (error : ConfigError) (why : Untaken) → t ≡ Ok bytes → GivesCall (Err error) bytes → Refuses name (cause_of_config error) why → IsFileRefusal (CallOf name t) why
-call-of-not name bytes t error why first is told =
-    refusal (CallOf name t) name (cause_of_config error) why (subst (λ (t : Taken (List ℕ)). CallOf name t (Err (name, cause_of_config error))) (sym first) (error, refl, is)) told
+call-of-not name bytes t error why first is told = by error is told
+  where
+    other : (error : ConfigError) → (error ≡ config.Memory → ⊥) → GivesCall (Err error) bytes → Refuses name (cause_of_config error) why → IsFileRefusal (CallOf name t) why
+    other error known is told =
+        refusal (CallOf name t) name (cause_of_config error) why
+        (subst (λ (t : Taken (List ℕ)). CallOf name t (Err (name, cause_of_config error))) (sym first) (error, known, refl, is)) told
+
+    by : (error : ConfigError) → GivesCall (Err error) bytes → Refuses name (cause_of_config error) why → IsFileRefusal (CallOf name t) why
+    by config.Memory is told = refusal-fault (CallOf name t) name why told
+    by config.Toml is told = other config.Toml (λ e. absurd cc) is told
+    by (config.Field f) is told = other (config.Field f) (λ e. absurd cc) is told
+    by (config.Limit f) is told = other (config.Limit f) (λ e. absurd cc) is told
 
 pub call-not : (name : List ℕ) (a : Option Files) (bytes : List ℕ) (error : ConfigError) (why : Untaken)
     → TakesFiles (FilesCome (bytes_taken name)) a (Ok bytes) → GivesCall (Err error) bytes → Refuses name (cause_of_config error) why → TakesFiles (CallComes name) a (Err why)

@@ -1,20 +1,23 @@
 -- What a client takes: its setup, and then its call.
-use Rattle.std.specs.Prelude.{◌≡◌, ℕ, List, Ok, Err}
+use Rattle.std.specs.Prelude.{◌≡◌, ◌≢◌, ℕ, List, Ok, Err}
 use Rattle.cs_io.specs.Store.{Files}
 use Rattle.cs_config.specs.declared.call.CallFile.{CallFile}
 use Rattle.cs_config.specs.declared.error.ConfigError.{ConfigError}
+use Rattle.cs_config.specs.declared.error.ConfigError.TheVariants as config
 use Rattle.cs_config.specs.Call.{GivesCall}
 use Rattle.cs_deploy.specs.declared.keys.Role.TheVariants.{Client}
 use Rattle.cs_deploy.specs.declared.setups.Setup.{Setup}
 use Rattle.cs_deploy.specs.Taking.{Taken, bytes_taken, cause_of_config}
 use Rattle.cs_deploy.specs.Files.{setup_taken}
 
--- what the bytes of a call file of this name come to; that arguments fit is told by a relation
+-- What the bytes of a call file of this name come to. That arguments fit is told by a relation; want of memory is no
+-- refusal of a file.
 abbrev pub CallOf : List ℕ → Taken (List ℕ) → Taken CallFile → Type 0
 CallOf name (Err refusal) outcome = Err refusal ≡ outcome
 CallOf name (Ok bytes) (Ok call) = GivesCall (Ok call) bytes
 CallOf name (Ok bytes) (Err refusal) =
-    (error : ConfigError) × (refusal ≡ (name, cause_of_config error)) × GivesCall (Err error) bytes
+    (error : ConfigError) × (error ≢ config.Memory) × (refusal ≡ (name, cause_of_config error))
+    × GivesCall (Err error) bytes
 
 abbrev pub CallComes : List ℕ → Files → Taken CallFile → Type 0
 CallComes name files outcome = CallOf name (bytes_taken name files) outcome
