@@ -28,7 +28,7 @@ pub untaken-decided : {A : Type 0} (Come : Files → Taken A → Type 0) (Done :
 untaken-decided {A} Come Done Failed None written written' status is stores writes = λ other. tt
 untaken-decided {A} Come Done Failed (Some told) written written' status is stores writes = λ other. by is.why is.is_so is.failed is.told other
   where
-    by : (why : Untaken) → AnswersTaken (Come told) (Err why) → (IsStoreFault why → Failed) → TellsUntaken why written written' status → status ≢ 8 → (outcome : Taken A) × Come told outcome × EndsBy Done outcome status
+    by : (why : Untaken) → AnswersTaken Come told (Err why) → (IsStoreFault why → Failed) → TellsUntaken why written written' status → status ≢ 8 → (outcome : Taken A) × Come told outcome × EndsBy Done outcome status
     by (untaken.Refused name cause.Fault) so failed tells other = absurd (stores (failed tt))
     by (untaken.Refused name cause.Absent) so failed tells other = (Err (name, cause.Absent), so, (tells.verdict writes other).0)
     by (untaken.Refused name cause.TooLong) so failed tells other = (Err (name, cause.TooLong), so, (tells.verdict writes other).0)

@@ -4,6 +4,7 @@ pub mod Decided
 mod Names
 mod Steps
 mod Texts
+mod Takes
 pub mod Answered
 pub mod DecidedKeys
 pub mod Going

@@ -1,5 +1,5 @@
 -- The contracts of a site, one after the other.
-use Rattle.std.proofs.Common.{◌≡◌, ℕ, suc, ◌+◌, ◌<◌, ◌≤◌, Bool, true, false, List, [], ◌∷◌, ◌++◌, length, get_or, take, drop, Option, Some, None, Ok, Err, refl, sym, ap, subst, ◌∙◌, cond, drop-cons, add-one}
+use Rattle.std.proofs.Common.{◌≡◌, ◌⊎◌, inl, inr, ℕ, suc, ◌+◌, ◌<◌, ◌≤◌, Bool, true, false, List, [], ◌∷◌, ◌++◌, length, get_or, take, drop, Option, Some, None, Ok, Err, refl, sym, ap, subst, ◌∙◌, cond, drop-cons, add-one}
 use Rattle.std.specs.Prelude.{if◌then◌else◌}
 use Rattle.std.specs.List.{position_from}
 use Rattle.std.proofs.lemmas.List.{take_more, take_all, take-append-drop}
@@ -10,9 +10,10 @@ use Rattle.cs_approve.specs.Books.{first_refused}
 use Rattle.cs_deploy.specs.declared.cause.Cause.{Cause}
 use Rattle.cs_deploy.specs.declared.cause.Cause.TheVariants as cause
 use Rattle.cs_deploy.specs.declared.cause.Untaken.{Untaken}
-use Rattle.cs_deploy.specs.Taking.{Taken, ◌>>=◌, TakesFiles, FilesCome, bytes_taken}
+use Rattle.cs_deploy.specs.Taking.{Taken, ◌>>=◌, without, IsStoreFault, TakesFiles, FilesCome, bytes_taken}
+use Rattle.cs_deploy.specs.Refusing.{Refuses}
 use Rattle.cs_deploy.specs.Files.{accepted_text, text_taken, texts_taken}
-use Rattle.cs_deploy.proofs.Steps.{takes-so, then-next, back, refusal-so}
+use Rattle.cs_deploy.proofs.Steps.{takes-ok, takes-not, first-not, then-next, back, refusal-so, Stable, stable-same, stable-then, stable-bytes}
 
 -- ---- one text
 
@@ -21,8 +22,24 @@ accepts name text is = ap (λ (b : Bool). if b then Err (name, cause.Contract) e
 
 pub text-accepted : (name text : List ℕ) (a : Option Files) → TakesFiles (FilesCome (bytes_taken name)) a (Ok text) → is_refused text ≡ false → TakesFiles (FilesCome (text_taken name)) a (Ok text)
 text-accepted name text a loaded is =
-    then-next (bytes_taken name) (λ files text. accepted_text name text) a text (Ok text) loaded
-    (takes-so (λ (outcome : Taken (List ℕ)). accepted_text name text ≡ outcome) a (Ok text) (accepts name text is))
+    then-next (bytes_taken name) (λ files text. accepted_text name text) a text (Ok text) (stable-bytes name) loaded
+    (takes-ok (λ (outcome : Taken (List ℕ)). accepted_text name text ≡ outcome) a text (accepts name text is))
+
+-- a text that is no contract is refused
+refuses : (name text : List ℕ) → is_refused text ≡ true → accepted_text name text ≡ Err (name, cause.Contract)
+refuses name text is = ap (λ (b : Bool). if b then Err (name, cause.Contract) else Ok text) is
+
+pub text-refused : (name text : List ℕ) (a : Option Files) (why : Untaken) → TakesFiles (FilesCome (bytes_taken name)) a (Ok text) → is_refused text ≡ true → Refuses name cause.Contract why → (IsStoreFault why → ⊥)
+    → TakesFiles (FilesCome (text_taken name)) a (Err why)
+text-refused name text a why loaded is told sound =
+    then-next (bytes_taken name) (λ files text. accepted_text name text) a text (Err why) (stable-bytes name) loaded
+    (takes-not (λ (outcome : Taken (List ℕ)). accepted_text name text ≡ outcome) a name cause.Contract why sound (refuses name text is) told)
+
+pub text-not : (name : List ℕ) (a : Option Files) (why : Untaken) → TakesFiles (FilesCome (bytes_taken name)) a (Err why) → TakesFiles (FilesCome (text_taken name)) a (Err why)
+text-not name a why = first-not (bytes_taken name) (λ files text. accepted_text name text) a why
+
+stable-text : (name : List ℕ) → Stable (text_taken name)
+stable-text name = stable-then (bytes_taken name) (λ files text. accepted_text name text) (stable-bytes name) (λ text. stable-same (accepted_text name text))
 
 -- ---- all texts
 
@@ -56,9 +73,15 @@ one-more names name texts text files is next =
     parted-ok names (name ∷ []) texts files is
     ∙ ap (λ (r : Taken (List ℕ)). (r >>= λ text. Ok (text ∷ [])) >>= λ more. Ok (texts ++ more)) next
 
-first-not : (names : List (List ℕ)) (name : List ℕ) (rest : List (List ℕ)) (texts : Texts) (files : Files) (told : List ℕ × Cause)
+pub stable-texts : (names : List (List ℕ)) → Stable (texts_taken names)
+stable-texts [] = stable-same (Ok [])
+stable-texts (name ∷ names) =
+    stable-then (text_taken name) (λ files text. texts_taken names files >>= λ texts. Ok (text ∷ texts)) (stable-text name)
+    (λ text. stable-then (texts_taken names) (λ files texts. Ok (text ∷ texts)) (stable-texts names) (λ texts. stable-same (Ok (text ∷ texts))))
+
+one-not : (names : List (List ℕ)) (name : List ℕ) (rest : List (List ℕ)) (texts : Texts) (files : Files) (told : List ℕ × Cause)
     → texts_taken names files ≡ Ok texts → text_taken name files ≡ Err told → texts_taken (names ++ name ∷ rest) files ≡ Err told
-first-not names name rest texts files told is next =
+one-not names name rest texts files told is next =
     parted-ok names (name ∷ rest) texts files is
     ∙ ap (λ (r : Taken (List ℕ)). (r >>= λ text. texts_taken rest files >>= λ texts. Ok (text ∷ texts)) >>= λ more. Ok (texts ++ more)) next
 
@@ -86,8 +109,13 @@ module _ (names : List (List ℕ)) (i : ℕ) (name other : List ℕ) (within : i
       by : (a : Option Files) → TakesFiles (FilesCome (texts_taken (take i names))) a (Ok texts) → TakesFiles (FilesCome (text_taken name)) a (Err why) → TakesFiles (FilesCome (texts_taken names)) a (Err why)
       by None before next = tt
       by (Some files) before next =
-          refusal-so (λ (outcome : Taken (List ℕ)). text_taken name files ≡ outcome) (λ (outcome : Taken Texts). texts_taken names files ≡ outcome)
-          (λ told so. ap (λ (l : List (List ℕ)). texts_taken l files) whole ∙ first-not (take i names) name (drop (i + 1) names) texts files told before so)
+          refusal-so (FilesCome (text_taken name)) (FilesCome (texts_taken names)) files
+          (λ told so. ap (λ (l : List (List ℕ)). texts_taken l files) whole ∙ one-not (take i names) name (drop (i + 1) names) texts files told before so)
+          (λ gone so. let now = without gone files in ap (λ (l : List (List ℕ)). texts_taken l now) whole ∙ (elim (stable-texts (take i names) gone files) [
+            | inl same ↦ one-not (take i names) name (drop (i + 1) names) texts now (gone, cause.Absent) (same ∙ before) so
+            | inr absent ↦ parted (take i names) (name ∷ drop (i + 1) names) now
+                ∙ ap (λ (s : Taken Texts). s >>= λ first. texts_taken (name ∷ drop (i + 1) names) now >>= λ more. Ok (first ++ more)) absent
+          ]))
           why next
 
 pub texts-all : (names : List (List ℕ)) (i : ℕ) (texts : List (List ℕ)) (a : Option Files) → length names ≤ i → TakesFiles (FilesCome (texts_taken (take i names))) a (Ok texts) → TakesFiles (FilesCome (texts_taken names)) a (Ok texts)

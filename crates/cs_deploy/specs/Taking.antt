@@ -1,5 +1,6 @@
 -- What taking files comes to, one after the other.
 use Rattle.std.specs.Prelude.{◌≡◌, ℕ, nat_lt, List, length, Option, Some, None, IfSome, Result, Ok, Err, if◌then◌else◌}
+use Rattle.std.specs.Str.{bytes_eq}
 use Rattle.cs_io.specs.Store.{Files}
 use Rattle.cs_config.specs.declared.error.ConfigError.{ConfigError}
 use Rattle.cs_config.specs.declared.error.ConfigError.TheVariants as config
@@ -49,19 +50,28 @@ IsStoreFault (untaken.Refused name cause.Fault) = Unit {0}
 IsStoreFault (untaken.Refused name c) = ⊥
 IsStoreFault untaken.Memory = ⊥
 
--- this is what it comes to, unless the store failed or memory ran out
-abbrev pub IsFileRefusal : {A : Type 0} → (Taken A → Type 0) → Untaken → Type 0
-IsFileRefusal {A} Is (untaken.Refused name cause.Fault) = Unit {0}
-IsFileRefusal {A} Is (untaken.Refused name c) = Is (Err (name, c))
-IsFileRefusal {A} Is untaken.Memory = Unit {0}
+-- the same files, but for that of one name, which isn't there
+abbrev pub without : List ℕ → Files → Files
+without name files other = if bytes_eq other name then None else files other
 
-abbrev pub AnswersTaken : {A : Type 0} → (Taken A → Type 0) → Result A Untaken → Type 0
-AnswersTaken {A} Is (Ok x) = Is (Ok x)
-AnswersTaken {A} Is (Err why) = IsFileRefusal Is why
+-- The store may fail at the file of this name: were it not there, just this would be told. So it is one of those that
+-- are taken, and all before it were.
+abbrev pub MayFailAt : {A : Type 0} → (Files → Taken A → Type 0) → Files → List ℕ → Type 0
+MayFailAt {A} Come files name = Come (without name files) (Err (name, cause.Absent))
+
+-- this is what the files come to; or the store failed at one of them, or memory ran out
+abbrev pub IsFileRefusal : {A : Type 0} → (Files → Taken A → Type 0) → Files → Untaken → Type 0
+IsFileRefusal {A} Come files (untaken.Refused name cause.Fault) = MayFailAt Come files name
+IsFileRefusal {A} Come files (untaken.Refused name c) = Come files (Err (name, c))
+IsFileRefusal {A} Come files untaken.Memory = Unit {0}
+
+abbrev pub AnswersTaken : {A : Type 0} → (Files → Taken A → Type 0) → Files → Result A Untaken → Type 0
+AnswersTaken {A} Come files (Ok x) = Come files (Ok x)
+AnswersTaken {A} Come files (Err why) = IsFileRefusal Come files why
 
 -- what the files come to is answered, where the store tells them
 abbrev pub TakesFiles : {A : Type 0} → (Files → Taken A → Type 0) → Option Files → Result A Untaken → Type 0
-TakesFiles {A} Come files result = IfSome files (λ told. AnswersTaken (Come told) result)
+TakesFiles {A} Come files result = IfSome files (λ told. AnswersTaken Come told result)
 
 -- what the files come to as a function of them
 abbrev pub FilesCome : {A : Type 0} → (Files → Taken A) → Files → Taken A → Type 0
