@@ -5,3 +5,4 @@ pub mod Fields
 pub mod Steps
 pub mod Walk
 pub mod Again
+mod Before

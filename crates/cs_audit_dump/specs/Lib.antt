@@ -6,3 +6,4 @@ pub mod Said
 pub mod Text
 pub mod Printed
 pub mod Again
+pub mod Before

@@ -10,6 +10,6 @@ mod places;
 mod reader;
 
 pub use dump::{Dump, Log};
-pub use law::printed_dumps_are_read;
+pub use law::{dumps_are_read_behind_lines, printed_dumps_are_read};
 pub use limits::MOST_DUMP;
 pub use reader::parse_dump;

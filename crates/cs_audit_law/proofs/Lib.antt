@@ -16,3 +16,4 @@ pub mod Counts
 pub mod Digests
 pub mod Dumped
 pub mod Formed
+pub mod Printed

@@ -1,10 +1,11 @@
 -- The answer to the dump of a replay.
-use Rattle.std.specs.Prelude.{◌≡◌, ℕ, ◌≤◌, Bool, List, length, map, Ok}
+use Rattle.std.specs.Prelude.{◌≡◌, ℕ, ◌≤◌, Bool, List, ◌++◌, length, map, Ok}
 use Rattle.cs_tx_types.specs.declared.transaction.Tx.{Tx}
 use Rattle.cs_ledger.specs.Ledger.{Bytes, Transaction}
 use Rattle.cs_sched.specs.declared.schedule.Schedule.{Schedule}
 use Rattle.cs_node_rules.specs.Collisions.{NoCollision}
 use Rattle.cs_replay_rules.specs.Dumps.{dump_text}
+use Rattle.cs_replay_rules.specs.Play.{lines}
 use Rattle.cs_replay.specs.Site.{site_of_schedule}
 use Rattle.cs_replay.specs.Played.{world_of, history_of}
 use Rattle.cs_audit_dump.specs.declared.dump.Dump.{Dump}
@@ -22,12 +23,19 @@ pub record IsYes (limit : ℕ) (approves : Tx → Bool) (contracts history : Lis
   pub contracts_are : dump.contracts ≡ contracts
   pub verdict : verdict_of approves dump ≡ Yes history
 
--- Where no hashed strings collide, that is so of what a replay dumps within the limit, with the history of the replay.
+-- within the limit that is so of a text alone, and behind this one
+pub record AreYes (limit : ℕ) (approves : Tx → Bool) (contracts history : List Bytes) (before text : Bytes)
+    : Type 0 where
+  pub alone : length text ≤ limit → IsYes limit approves contracts history text
+  pub behind : length (before ++ text) ≤ limit → IsYes limit approves contracts history (before ++ text)
+
+-- Where no hashed strings collide, that is so of what a replay dumps, alone and behind all that it prints before, with
+-- the history of the replay.
 abbrev pub IsAnsweredYes : ℕ → (Tx → Bool) → Schedule → Type 0
 IsAnsweredYes limit approves schedule =
     (traced : Bool) →
     let site = site_of_schedule approves schedule in
     let world = world_of approves traced schedule in
-    let text = dump_text site schedule.contracts world in
-    NoCollision site schedule.genesis world → length text ≤ limit
-    → IsYes limit approves schedule.contracts (digests (history_of approves traced schedule)) text
+    NoCollision site schedule.genesis world
+    → AreYes limit approves schedule.contracts (digests (history_of approves traced schedule))
+    (lines site traced schedule.events) (dump_text site schedule.contracts world)

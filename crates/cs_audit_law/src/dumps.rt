@@ -7,13 +7,13 @@ ghost use Rattle.cs_sched.specs.Playable.{IsPlayable};
 ghost use Rattle.cs_audit_law.specs.Answered.{IsAnsweredYes};
 
 use crate::worlds_pass_audit;
-use cs_audit_dump::printed_dumps_are_read;
+use cs_audit_dump::{dumps_are_read_behind_lines, printed_dumps_are_read};
 use cs_log::SlotOrder;
 use cs_replay::schedules_are_sound;
 use cs_replay_rules::schedules_play_worlds;
 
 /// What is answered to the dump of every schedule that can be played, whatever its judge approves
-/// of.
+/// of, and to all that its replay prints.
 ///
 /// It does nothing: its contract is a theorem, which a caller has by calling it.
 pub fn dumps_are_answered_yes()
@@ -24,4 +24,5 @@ pub fn dumps_are_answered_yes()
     schedules_are_sound();
     worlds_pass_audit::<SlotOrder>();
     printed_dumps_are_read();
+    dumps_are_read_behind_lines();
 }

@@ -1,5 +1,5 @@
 -- What is known of every dump that is read.
-use Rattle.std.proofs.Common.{◌≡◌, ℕ, ◌+◌, cond, List, [], ◌∷◌, length, Option, Some, None, Ok, ◌≤◌, true, refl, sym, ap, subst, ◌∙◌, arith}
+use Rattle.std.proofs.Common.{◌≡◌, ℕ, ◌+◌, cond, List, [], ◌∷◌, ◌++◌, length, Option, Some, None, Ok, ◌≤◌, true, refl, sym, ap, subst, ◌∙◌, arith}
 use Rattle.std.specs.List.{AllByRecursion, position_from}
 use Rattle.std.proofs.lemmas.List.Elements.{recursion_from_All}
 use Rattle.cs_types.specs.Accepting.{is_refused}
@@ -11,18 +11,19 @@ use Rattle.cs_audit_dump.specs.Formed.{IsFormed}
 use Rattle.cs_audit_dump.specs.Text.{dump_of}
 use Rattle.cs_audit_dump.proofs.Whole.{given_formed}
 use Rattle.cs_audit_rules.specs.declared.verdict.Fault.{Fault}
+use Rattle.cs_audit_rules.specs.declared.verdict.Verdict.TheVariants.{Yes}
 use Rattle.cs_audit_rules.specs.Sound.{SaysSound}
 use Rattle.cs_audit_rules.specs.Verdicts.{first_fault, verdict_by, verdict_of}
 use Rattle.cs_audit_rules.proofs.Unbroken.{unbroken_sound}
 use Rattle.cs_sched.specs.declared.schedule.Schedule.{Schedule}
 use Rattle.cs_replay_rules.specs.Dumps.{dump_text}
-use Rattle.cs_replay_rules.specs.Play.{Course, Goes, Stops, Forges, played_by}
+use Rattle.cs_replay_rules.specs.Play.{Course, Goes, Stops, Forges, played_by, lines}
 use Rattle.cs_node_rules.specs.Site.{Site}
 use Rattle.cs_replay.specs.Answers.{course_status, dump_behind}
-use Rattle.cs_replay.specs.Played.{course_of, world_of}
+use Rattle.cs_replay.specs.Played.{course_of, world_of, history_of}
 use Rattle.cs_replay.specs.Site.{site_of_schedule}
 use Rattle.cs_audit_dump.specs.declared.limits.TheConstants.{MOST_DUMP}
-use Rattle.cs_audit_law.specs.Answered.{IsAnsweredYes}
+use Rattle.cs_audit_law.specs.Answered.{digests, IsYes, IsAnsweredYes}
 use Rattle.cs_cli.specs.Audited.{dump_setup, dump_verdict, verdict_answer, audited, audit_answer, DumpsAreAnsweredYes}
 
 none_refused : (place : ℕ) (texts : List (List ℕ)) → AllByRecursion IsContractText texts → position_from is_refused place texts ≡ None
@@ -45,6 +46,13 @@ says_sound limit text dump is = by (first_fault (dump_setup dump) dump) refl
     by None none = unbroken_sound (is_approved_by dump.contracts) dump (given_formed (Ok dump) limit text is) none
     by (Some fault) broken = tt
 
+-- what is read as a dump of its contracts is answered by their book
+told_yes : (schedule : Schedule) (history : List (List ℕ)) (text : List ℕ) → IsYes MOST_DUMP (is_approved_by schedule.contracts) schedule.contracts history text → audit_answer MOST_DUMP text ≡ verdict_answer (Yes history)
+told_yes schedule history text is =
+    ap audited is.read
+    ∙ ap (λ (contracts : List (List ℕ)). verdict_answer (verdict_of (is_approved_by contracts) is.dump)) is.contracts_are
+    ∙ ap verdict_answer is.verdict
+
 -- behind a course that is done stands the dump of its world
 dumped_world : {M : Type 0} (site : Site M) (contracts : List (List ℕ)) (course : Course M) → course_status course ≡ 0 → dump_behind true site contracts course ≡ dump_text site contracts (played_by course).world
 dumped_world site contracts (Goes p) done = refl
@@ -52,13 +60,17 @@ dumped_world site contracts (Stops p line) done = absurd (omega arith)
 dumped_world site contracts (Forges p line) done = absurd (omega arith)
 
 pub answers_yes : (schedule : Schedule) → IsAnsweredYes MOST_DUMP (is_approved_by schedule.contracts) schedule → DumpsAreAnsweredYes schedule
-answers_yes schedule answered = λ traced done apart small.
+answers_yes schedule answered = λ traced done apart.
     let approves = is_approved_by schedule.contracts in
     let course = course_of approves traced schedule in
     let site = site_of_schedule approves schedule in
-    let same : dump_behind true site schedule.contracts course ≡ dump_text site schedule.contracts (world_of approves traced schedule) =
-    dumped_world site schedule.contracts course done in
-    let yes = answered traced apart (subst (λ (t : List ℕ). length t ≤ MOST_DUMP) same small) in
-    ap (audit_answer MOST_DUMP) same ∙ ap audited yes.read
-    ∙ ap (λ (contracts : List (List ℕ)). verdict_answer (verdict_of (is_approved_by contracts) yes.dump)) yes.contracts_are
-    ∙ ap verdict_answer yes.verdict
+    let before = lines site traced schedule.events in
+    let dumped = dump_behind true site schedule.contracts course in
+    let text = dump_text site schedule.contracts (world_of approves traced schedule) in
+    let same : dumped ≡ text = dumped_world site schedule.contracts course done in
+    let yes = answered traced apart in (
+      λ small. ap (λ (t : List ℕ). audit_answer MOST_DUMP (before ++ t)) same
+          ∙ told_yes schedule (digests (history_of approves traced schedule)) (before ++ text) (yes.behind (subst (λ (t : List ℕ). length (before ++ t) ≤ MOST_DUMP) same small)),
+      λ small. ap (audit_answer MOST_DUMP) same
+          ∙ told_yes schedule (digests (history_of approves traced schedule)) text (yes.alone (subst (λ (t : List ℕ). length t ≤ MOST_DUMP) same small)),
+    )

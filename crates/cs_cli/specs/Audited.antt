@@ -6,7 +6,7 @@ use Rattle.cs_approve.specs.Approval.{is_approved_by}
 use Rattle.cs_text.specs.declared.cause.Refusal.{Refusal}
 use Rattle.cs_sched.specs.declared.schedule.Schedule.{Schedule}
 use Rattle.cs_node_rules.specs.Collisions.{NoCollision}
-use Rattle.cs_replay.specs.Answers.{refusal_answer, course_status, dump_behind}
+use Rattle.cs_replay.specs.Answers.{refusal_answer, schedule_answer, dump_behind}
 use Rattle.cs_replay.specs.Played.{course_of, world_of, history_of}
 use Rattle.cs_replay.specs.Site.{site_of_schedule}
 use Rattle.cs_audit_dump.specs.declared.limits.TheConstants.{MOST_DUMP}
@@ -37,15 +37,20 @@ audited (Err refusal) = refusal_answer refusal
 abbrev pub audit_answer : ℕ → List ℕ → Answer
 audit_answer limit text = audited (dump_of limit text)
 
--- Where no hashed strings collide, the answer to what a replay of status 0 dumps, within the limit, is yes with the
--- history that it printed.
+-- yes with this history, where the text is within the limit
+abbrev pub IsAnsweredYesWith : List (List ℕ) → List ℕ → Type 0
+IsAnsweredYesWith history text = length text ≤ MOST_DUMP → audit_answer MOST_DUMP text ≡ verdict_answer (Yes history)
+
+-- Where no hashed strings collide, the answer to all that a replay of status 0 prints with its dump, and to the dump
+-- alone, is yes with the history that it printed.
 abbrev pub DumpsAreAnsweredYes : Schedule → Type 0
 DumpsAreAnsweredYes schedule =
     (traced : Bool) →
     let approves = is_approved_by schedule.contracts in
     let site = site_of_schedule approves schedule in
     let course = course_of approves traced schedule in
-    let dumped = dump_behind true site schedule.contracts course in
-    course_status course ≡ 0 → NoCollision site schedule.genesis (world_of approves traced schedule)
-    → length dumped ≤ MOST_DUMP
-    → audit_answer MOST_DUMP dumped ≡ verdict_answer (Yes (digests (history_of approves traced schedule)))
+    let answer = schedule_answer approves (record { traced = traced; dumps = true }) schedule in
+    let history = digests (history_of approves traced schedule) in
+    answer.status ≡ 0 → NoCollision site schedule.genesis (world_of approves traced schedule)
+    → IsAnsweredYesWith history answer.printed
+    × IsAnsweredYesWith history (dump_behind true site schedule.contracts course)
