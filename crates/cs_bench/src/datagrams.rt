@@ -35,19 +35,26 @@ fn texts(alloc: Global, bytes: usize) -> Result<Sequence<Value>, Memory> {
     Ok(texts)
 }
 
-// A Submit of a session of 50 bytes and these texts, which have 3 bytes more each.
-fn submit(alloc: Global, bytes: u32) -> Result<Message, Memory> {
-    let mut traces = Sequence::new(alloc);
-    traces.push(Trace {
+// A trace of this method and these parameters.
+fn trace(alloc: Global, method: Name, parameters: Sequence<Value>) -> Trace {
+    Trace {
         contract: [7; 32],
-        method: Name::from_vec(Vec::from_slice(alloc, b"m")?),
+        method,
         inputs: Sequence::new(alloc),
         references: Sequence::new(alloc),
-        parameters: texts(alloc, bytes as usize)?,
+        parameters,
         outputs: Sequence::new(alloc),
         returns: Sequence::new(alloc),
         deps: Sequence::new(alloc),
-    })?;
+    }
+}
+
+// A Submit of a session of 50 bytes and these texts, which have 3 bytes more each.
+fn submit(alloc: Global, bytes: u32) -> Result<Message, Memory> {
+    let method = Name::from_vec(Vec::from_slice(alloc, b"m")?);
+    let parameters = texts(alloc, bytes as usize)?;
+    let mut traces = Sequence::new(alloc);
+    traces.push(trace(alloc, method, parameters))?;
     Ok(Message::Submit(Session {
         tx: Tx { traces },
         number: 0,

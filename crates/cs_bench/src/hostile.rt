@@ -1,5 +1,5 @@
 //! A shard of 16 members, of which five liars fill all views of its open slot and of those that may be told ahead.
-use crate::slots::{Shard, entry_of, turn};
+use crate::slots::{Shard, entry_of, take};
 use cs_base::{Memory, SLOTS_AHEAD, Sequence, VIEW_BOUND};
 use cs_log::SlotOrder;
 use cs_order::{Order, Outgoing};
@@ -65,8 +65,7 @@ fn lie(
     for liar in HONEST..3 * F + 1 {
         for kind in 0..KINDS {
             if let Some(message) = lie_of(alloc, slot, view, liar, kind)? {
-                order.take(alloc, liar, message)?;
-                turn(alloc, order, out)?;
+                take(alloc, order, liar, message, out)?;
                 taken = taken.saturating_add(1);
             }
         }
@@ -83,22 +82,21 @@ fn lie_of(
     kind: u8,
 ) -> Result<Option<OrderMessage>, Memory> {
     let digest = digest_of(slot, view, liar, kind);
-    let message = match kind {
-        0 if view > 0 && leads(slot, view, liar) => OrderMessage::Propose {
+    match kind {
+        0 if view > 0 && leads(slot, view, liar) => Ok(Some(OrderMessage::Propose {
             slot,
             view,
             entry: entry_of(alloc, digest)?,
-        },
-        1 => OrderMessage::Echo { slot, view, digest },
-        2 => OrderMessage::Confirm { slot, view, digest },
-        3 if view > 0 => OrderMessage::Change {
+        })),
+        1 => Ok(Some(OrderMessage::Echo { slot, view, digest })),
+        2 => Ok(Some(OrderMessage::Confirm { slot, view, digest })),
+        3 if view > 0 => Ok(Some(OrderMessage::Change {
             slot,
             view,
             change: change_of(alloc, view, digest)?,
-        },
-        _ => return Ok(None),
-    };
-    Ok(Some(message))
+        })),
+        _ => Ok(None),
+    }
 }
 
 fn leads(slot: u64, view: u16, member: u16) -> bool {

@@ -4,8 +4,8 @@ use cs_lang::{Contract, LangError, parse};
 use cs_types::{TypeError, accept};
 use std::alloc::Global;
 
-/// A statement's front, of 41 bytes.
-const CONDITION: &[u8] = b"if 1 < 2 and not (3 == 4 - 5 * len(x\"\")) ";
+/// A statement, of 45 bytes.
+const STATEMENT: &[u8] = b"if 1 < 2 and not (3 == 4 - 5 * len(x\"\")) { }\n";
 
 /// The statements of a method.
 const STATEMENTS: u8 = 20;
@@ -14,19 +14,24 @@ const STATEMENTS: u8 = 20;
 const FOOT: &[u8] =
     b"} } // a comment that fills the method up to 1,024 bytes: ------------------------------\n";
 
-// A text of so many methods, at most 100, of 1,024 bytes each.
+// A method of this number, of 1,024 bytes.
+fn add_method(text: &mut Vec<u8>, number: u8) -> Result<(), Memory> {
+    let digits = [b'0' + number / 10, b'0' + number % 10];
+    text.extend_from_slice(b"method m")?;
+    text.extend_from_slice(&digits)?;
+    text.extend_from_slice(b" { procedure { } check {\n")?;
+    for _ in 0..STATEMENTS {
+        text.extend_from_slice(STATEMENT)?;
+    }
+    text.extend_from_slice(FOOT)?;
+    Ok(())
+}
+
+// A text of so many methods, at most 100.
 fn text(alloc: Global, methods: u8) -> Result<Vec<u8>, Memory> {
     let mut text = Vec::new(alloc);
     for number in 0..methods {
-        text.extend_from_slice(b"method m")?;
-        text.push(b'0' + number / 10)?;
-        text.push(b'0' + number % 10)?;
-        text.extend_from_slice(b" { procedure { } check {\n")?;
-        for _ in 0..STATEMENTS {
-            text.extend_from_slice(CONDITION)?;
-            text.extend_from_slice(b"{ }\n")?;
-        }
-        text.extend_from_slice(FOOT)?;
+        add_method(&mut text, number)?;
     }
     Ok(text)
 }

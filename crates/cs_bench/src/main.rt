@@ -50,53 +50,157 @@ const NOT_ALL: u8 = 1;
 /// The words are none that are known.
 const OTHER_WORDS: u8 = 2;
 
+/// The greatest number among the words.
+const MOST: u32 = 1_000_000;
+
+/// What the first word calls for.
+#[derive(Clone, Copy)]
+enum Part {
+    Table,
+    Slots(Extent),
+    Hostile,
+    Hash,
+    Sized(Task),
+}
+
+/// What is done so many times on something of a size.
+#[derive(Clone, Copy)]
+enum Task {
+    Merkle,
+    Root,
+    Leaves,
+    Slots,
+    Seal,
+    Open,
+    Parse,
+    Accept,
+}
+
+/// A word behind the first one.
+#[derive(Clone, Copy)]
+enum Word {
+    Number(u32),
+    Keys(Keys),
+    Kind(Kind),
+    Other,
+}
+
 fn main(rt: HostRuntime) -> ExitCode {
-    let words = match read_words(&rt) {
-        Ok(words) => words,
+    let (part, words) = match read_words(&rt) {
+        Ok(read) => read,
         Err(_) => return ExitCode::from(OTHER_WORDS),
     };
-    match run(&rt, words.as_slice()) {
+    let Some(part) = part else {
+        return ExitCode::from(OTHER_WORDS);
+    };
+    match run(&rt, part, words.as_slice()) {
         Ok(status) => ExitCode::from(status),
         Err(_) => ExitCode::from(8),
     }
 }
 
-// The words behind the program's name.
-fn read_words(rt: &HostRuntime) -> io::Result<Vec<String>> {
+// What the word behind the program's name calls for, and the words behind that.
+fn read_words(rt: &HostRuntime) -> io::Result<(Option<Part>, Vec<Word>)> {
+    let mut args = env::args(rt)?.skip(1);
+    let part = match args.next() {
+        Some(word) => part_of(word.as_str()),
+        None => None,
+    };
     let mut words = Vec::new(rt.alloc());
-    for word in env::args(rt)?.skip(1) {
-        words.push(word)?;
+    for word in args {
+        words.push(word_of(word.as_str()))?;
     }
-    Ok(words)
+    Ok((part, words))
 }
 
-fn run(rt: &HostRuntime, words: &[String]) -> Result<u8, Memory> {
-    let alloc = rt.alloc();
-    match words {
-        [first, views] if first.as_str() == "hostile" => run_hostile(rt, number(views)),
-        [first, rows @ ..] if first.as_str() == "hash" => run_hashes(rt, rows),
-        [first, objects, sessions, rounds] if first.as_str() == "table" => {
-            run_table(alloc, number(objects), number(sessions), number(rounds))
-        }
-        [first, objects, slots, keys] => {
-            run_slots(
-                alloc,
-                first.as_str(),
-                number(objects),
-                number(slots),
-                keys.as_str(),
-            )
-        }
-        [first, size, count] => run_sized(alloc, first.as_str(), number(size), number(count)),
-        _ => Ok(OTHER_WORDS),
+fn part_of(word: &str) -> Option<Part> {
+    match word {
+        "table" => Some(Part::Table),
+        "checkpoints" => Some(Part::Slots(Extent::Closed)),
+        "executions" => Some(Part::Slots(Extent::Executed)),
+        "hostile" => Some(Part::Hostile),
+        "hash" => Some(Part::Hash),
+        _ => match task_of(word) {
+            Some(task) => Some(Part::Sized(task)),
+            None => None,
+        },
     }
 }
 
-fn run_hostile(rt: &HostRuntime, views: Option<u32>) -> Result<u8, Memory> {
-    let Some(views) = views else {
+fn task_of(word: &str) -> Option<Task> {
+    match word {
+        "merkle" => Some(Task::Merkle),
+        "root" => Some(Task::Root),
+        "leaves" => Some(Task::Leaves),
+        "slots" => Some(Task::Slots),
+        "seal" => Some(Task::Seal),
+        "open" => Some(Task::Open),
+        "parse" => Some(Task::Parse),
+        "accept" => Some(Task::Accept),
+        _ => None,
+    }
+}
+
+fn word_of(word: &str) -> Word {
+    match word {
+        "old" => Word::Keys(Keys::Old),
+        "new" => Word::Keys(Keys::New),
+        "tag" => Word::Kind(Kind::Tag),
+        "digest" => Word::Kind(Kind::Digest),
+        _ => number_of(word),
+    }
+}
+
+fn number_of(word: &str) -> Word {
+    match word.parse::<u32>() {
+        Ok(number) if number <= MOST => Word::Number(number),
+        _ => Word::Other,
+    }
+}
+
+fn run(rt: &HostRuntime, part: Part, words: &[Word]) -> Result<u8, Memory> {
+    match part {
+        Part::Table => run_table(rt.alloc(), words),
+        Part::Slots(extent) => run_slots(rt.alloc(), extent, words),
+        Part::Hostile => run_hostile(rt, words),
+        Part::Hash => run_hashes(rt, words),
+        Part::Sized(task) => run_sized(rt.alloc(), task, words),
+    }
+}
+
+fn run_table(alloc: Global, words: &[Word]) -> Result<u8, Memory> {
+    let [
+        Word::Number(objects),
+        Word::Number(sessions),
+        Word::Number(rounds),
+    ] = words
+    else {
         return Ok(OTHER_WORDS);
     };
-    let views = u16::try_from(views).unwrap_or(u16::MAX);
+    table::run(alloc, *objects, *sessions, *rounds)?;
+    Ok(DONE)
+}
+
+// Slots that are executed, and closed where checkpoints are measured.
+fn run_slots(alloc: Global, extent: Extent, words: &[Word]) -> Result<u8, Memory> {
+    let [Word::Number(objects), Word::Number(slots), Word::Keys(keys)] = words else {
+        return Ok(OTHER_WORDS);
+    };
+    let measured = Measured {
+        objects: *objects,
+        slots: *slots,
+        keys: *keys,
+        extent,
+    };
+    let all = checkpoints::run(alloc, &measured)?;
+    Ok(if all { DONE } else { NOT_ALL })
+}
+
+fn run_hostile(rt: &HostRuntime, words: &[Word]) -> Result<u8, Memory> {
+    let [Word::Number(views)] = words else {
+        return Ok(OTHER_WORDS);
+    };
+    let views = u16::try_from(*views).unwrap_or(u16::MAX);
     let Some(times) = hostile::measure(rt, views)? else {
         return Ok(NOT_ALL);
     };
@@ -108,13 +212,13 @@ fn run_hostile(rt: &HostRuntime, views: Option<u32>) -> Result<u8, Memory> {
 }
 
 // A kind, a length and a count each.
-fn run_hashes(rt: &HostRuntime, words: &[String]) -> Result<u8, Memory> {
+fn run_hashes(rt: &HostRuntime, words: &[Word]) -> Result<u8, Memory> {
     if words.len() % 3 != 0 {
         return Ok(OTHER_WORDS);
     }
     let mut mixed = 0u8;
     for at in 0..words.len() / 3 {
-        let Some(row) = row_of(&words[3 * at], &words[3 * at + 1], &words[3 * at + 2]) else {
+        let Some(row) = row_of(words[3 * at], words[3 * at + 1], words[3 * at + 2]) else {
             return Ok(OTHER_WORDS);
         };
         mixed ^= hash_row(rt.alloc(), &row)?;
@@ -123,140 +227,39 @@ fn run_hashes(rt: &HostRuntime, words: &[String]) -> Result<u8, Memory> {
     Ok(if printed.is_ok() { DONE } else { NOT_ALL })
 }
 
-fn row_of(kind: &str, length: &str, count: &str) -> Option<Row> {
-    let kind = match kind {
-        "tag" => Kind::Tag,
-        "digest" => Kind::Digest,
-        _ => return None,
-    };
-    Some(Row {
-        kind,
-        length: number(length)?,
-        count: number(count)?,
-    })
-}
-
-fn run_table(
-    alloc: Global,
-    objects: Option<u32>,
-    sessions: Option<u32>,
-    rounds: Option<u32>,
-) -> Result<u8, Memory> {
-    let (Some(objects), Some(sessions), Some(rounds)) = (objects, sessions, rounds) else {
-        return Ok(OTHER_WORDS);
-    };
-    table::run(alloc, objects, sessions, rounds)?;
-    Ok(DONE)
-}
-
-// Slots that are executed, and closed where checkpoints are measured.
-fn run_slots(
-    alloc: Global,
-    word: &str,
-    objects: Option<u32>,
-    slots: Option<u32>,
-    keys: &str,
-) -> Result<u8, Memory> {
-    let (Some(extent), Some(objects), Some(slots), Some(keys)) = (
-        extent_of(word),
-        objects,
-        slots,
-        keys_of(keys),
-    ) else {
-        return Ok(OTHER_WORDS);
-    };
-    let measured = Measured {
-        objects,
-        slots,
-        keys,
-        extent,
-    };
-    let all = checkpoints::run(alloc, &measured)?;
-    Ok(if all { DONE } else { NOT_ALL })
-}
-
-fn extent_of(word: &str) -> Option<Extent> {
-    match word {
-        "checkpoints" => Some(Extent::Closed),
-        "executions" => Some(Extent::Executed),
-        _ => None,
-    }
-}
-
-fn keys_of(word: &str) -> Option<Keys> {
-    match word {
-        "old" => Some(Keys::Old),
-        "new" => Some(Keys::New),
+fn row_of(kind: Word, length: Word, count: Word) -> Option<Row> {
+    match (kind, length, count) {
+        (Word::Kind(kind), Word::Number(length), Word::Number(count)) => Some(Row {
+            kind,
+            length,
+            count,
+        }),
         _ => None,
     }
 }
 
 // What is done so many times with something of a size.
-fn run_sized(
-    alloc: Global,
-    word: &str,
-    size: Option<u32>,
-    count: Option<u32>,
-) -> Result<u8, Memory> {
-    let (Some(part), Some(size), Some(count)) = (part_of(word), size, count) else {
+fn run_sized(alloc: Global, task: Task, words: &[Word]) -> Result<u8, Memory> {
+    let [Word::Number(size), Word::Number(count)] = words else {
         return Ok(OTHER_WORDS);
     };
-    run_part(alloc, part, size, count)
+    let done = run_task(alloc, task, *size, *count)?;
+    Ok(if done == *count { DONE } else { NOT_ALL })
 }
 
-/// A part of the ledger that is run so many times on something of a size.
-#[derive(Clone, Copy)]
-enum Part {
-    Merkle,
-    Root,
-    Leaves,
-    Slots,
-    Seal,
-    Open,
-    Parse,
-    Accept,
-}
-
-fn part_of(word: &str) -> Option<Part> {
-    match word {
-        "merkle" => Some(Part::Merkle),
-        "root" => Some(Part::Root),
-        "leaves" => Some(Part::Leaves),
-        "slots" => Some(Part::Slots),
-        "seal" => Some(Part::Seal),
-        "open" => Some(Part::Open),
-        "parse" => Some(Part::Parse),
-        "accept" => Some(Part::Accept),
-        _ => None,
-    }
-}
-
-fn run_part(alloc: Global, part: Part, size: u32, count: u32) -> Result<u8, Memory> {
-    match part {
-        Part::Merkle => {
-            merkle::run(alloc, size, count)?;
-            Ok(DONE)
+// How often it was done.
+fn run_task(alloc: Global, task: Task, size: u32, count: u32) -> Result<u32, Memory> {
+    match task {
+        Task::Merkle => {
+            let roots = merkle::run(alloc, size, count)?;
+            Ok(u32::try_from(roots.len()).unwrap_or(0))
         }
-        Part::Root => {
-            table::root_often(alloc, size, count)?;
-            Ok(DONE)
-        }
-        Part::Leaves => Ok(status(leaves::run(alloc, size, count)?, count)),
-        Part::Slots => Ok(status(slots::run(alloc, size, count)?, count)),
-        Part::Seal => Ok(status(seal_often(alloc, size, count)?, count)),
-        Part::Open => Ok(status(open_often(alloc, size, count)?, count)),
-        Part::Parse => Ok(status(read_often(alloc, size, count)?, count)),
-        Part::Accept => Ok(status(accept_often(alloc, size, count)?, count)),
-    }
-}
-
-fn status(done: u32, count: u32) -> u8 {
-    if done == count { DONE } else { NOT_ALL }
-}
-
-fn number(word: &str) -> Option<u32> {
-    match word.parse::<u32>() {
-        Ok(number) if number <= 1_000_000 => Some(number),
-        _ => None,
+        Task::Root => table::root_often(alloc, size, count),
+        Task::Leaves => leaves::run(alloc, size, count),
+        Task::Slots => slots::run(alloc, size, count),
+        Task::Seal => seal_often(alloc, size, count),
+        Task::Open => open_often(alloc, size, count),
+        Task::Parse => read_often(alloc, size, count),
+        Task::Accept => accept_often(alloc, size, count),
     }
 }

@@ -81,7 +81,6 @@ impl Shard {
         let mut out = Vec::new(alloc);
         if let Some(order) = self.orders.get_mut(usize::from(me)) {
             propose(alloc, order, number, &mut out)?;
-            turn(alloc, order, &mut out)?;
         }
         self.post(alloc, me, out.as_slice())?;
         for _ in 0..8 {
@@ -111,8 +110,7 @@ impl Shard {
         let me = letter.to;
         let mut out = Vec::new(alloc);
         if let Some(order) = self.orders.get_mut(usize::from(me)) {
-            order.take(alloc, letter.from, letter.message)?;
-            turn(alloc, order, &mut out)?;
+            take(alloc, order, letter.from, letter.message, &mut out)?;
         }
         self.post(alloc, me, out.as_slice())
     }
@@ -148,9 +146,11 @@ impl Shard {
 /// An entry whose digest tells its number.
 fn entry(alloc: Global, number: u32) -> Result<Proposed, Memory> {
     let mut digest = [0; 32];
-    for (place, byte) in digest.iter_mut().zip(number.to_be_bytes()) {
-        *place = byte;
-    }
+    let bytes = number.to_be_bytes();
+    digest[0] = bytes[0];
+    digest[1] = bytes[1];
+    digest[2] = bytes[2];
+    digest[3] = bytes[3];
     entry_of(alloc, digest)
 }
 
@@ -165,20 +165,33 @@ pub fn entry_of(alloc: Global, digest: [u8; 32]) -> Result<Proposed, Memory> {
     })
 }
 
+/// A member proposes the entry of a number, where it may, and does what follows.
 fn propose(
     alloc: Global,
     order: &mut SlotOrder,
     number: u32,
     out: &mut Vec<Outgoing<OrderMessage>>,
 ) -> Result<(), Memory> {
-    match order.may_propose(alloc)? {
-        May::Free => order.propose(alloc, entry(alloc, number)?, out),
-        May::No | May::Only(_) => Ok(()),
+    if let May::Free = order.may_propose(alloc)? {
+        order.propose(alloc, entry(alloc, number)?, out)?;
     }
+    turn(alloc, order, out)
+}
+
+/// A member takes a message, and does what follows.
+pub fn take(
+    alloc: Global,
+    order: &mut SlotOrder,
+    from: u16,
+    message: OrderMessage,
+    out: &mut Vec<Outgoing<OrderMessage>>,
+) -> Result<(), Memory> {
+    order.take(alloc, from, message)?;
+    turn(alloc, order, out)
 }
 
 /// All that a member does at once.
-pub fn turn(
+fn turn(
     alloc: Global,
     order: &mut SlotOrder,
     out: &mut Vec<Outgoing<OrderMessage>>,
@@ -217,31 +230,30 @@ fn copy_change(alloc: Global, change: &Change) -> Result<Change, Memory> {
 }
 
 fn copy(alloc: Global, message: &OrderMessage) -> Result<OrderMessage, Memory> {
-    let copied = match message {
-        OrderMessage::Propose { slot, view, entry } => OrderMessage::Propose {
+    match message {
+        OrderMessage::Propose { slot, view, entry } => Ok(OrderMessage::Propose {
             slot: *slot,
             view: *view,
             entry: entry.copy(alloc)?,
-        },
-        OrderMessage::Echo { slot, view, digest } => OrderMessage::Echo {
+        }),
+        OrderMessage::Echo { slot, view, digest } => Ok(OrderMessage::Echo {
             slot: *slot,
             view: *view,
             digest: *digest,
-        },
-        OrderMessage::Confirm { slot, view, digest } => OrderMessage::Confirm {
+        }),
+        OrderMessage::Confirm { slot, view, digest } => Ok(OrderMessage::Confirm {
             slot: *slot,
             view: *view,
             digest: *digest,
-        },
-        OrderMessage::Change { slot, view, change } => OrderMessage::Change {
+        }),
+        OrderMessage::Change { slot, view, change } => Ok(OrderMessage::Change {
             slot: *slot,
             view: *view,
             change: copy_change(alloc, change)?,
-        },
-        OrderMessage::Done { slot, entry } => OrderMessage::Done {
+        }),
+        OrderMessage::Done { slot, entry } => Ok(OrderMessage::Done {
             slot: *slot,
             entry: entry.copy(alloc)?,
-        },
-    };
-    Ok(copied)
+        }),
+    }
 }

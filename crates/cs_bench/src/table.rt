@@ -49,19 +49,28 @@ pub fn session(alloc: Global, name: Digest, object: &Object) -> Result<Session, 
     transfer.into_session(alloc, 1)
 }
 
-/// Prepares a session so many times, and then decides it.
-fn spend(alloc: Global, table: &mut Table, session: &Session, rounds: u32) -> Result<(), Memory> {
-    for _ in 0..rounds {
-        if session.fits() && table.has_anchor(alloc, session)? {
-            let digest = session_digest(alloc, session)?;
-            table.prepare(alloc, session, &digest)?;
-        }
+fn prepare(alloc: Global, table: &mut Table, session: &Session) -> Result<(), Memory> {
+    if session.fits() && table.has_anchor(alloc, session)? {
+        let digest = session_digest(alloc, session)?;
+        table.prepare(alloc, session, &digest)?;
     }
+    Ok(())
+}
+
+fn decide(alloc: Global, table: &mut Table, session: &Session) -> Result<(), Memory> {
     if session.fits() && table.has_anchor(alloc, session)? {
         let digest = session_digest(alloc, session)?;
         table.decide(alloc, session, &digest, Vote::Commit)?;
     }
     Ok(())
+}
+
+/// Prepares a session so many times, and then decides it.
+fn spend(alloc: Global, table: &mut Table, session: &Session, rounds: u32) -> Result<(), Memory> {
+    for _ in 0..rounds {
+        prepare(alloc, table, session)?;
+    }
+    decide(alloc, table, session)
 }
 
 fn spend_coin(
@@ -92,16 +101,17 @@ pub fn shard(alloc: Global, objects: &[(Key, Object)]) -> Result<Option<Table>, 
     }
 }
 
-/// Makes the shard, and so many times the root over its records, as each checkpoint does.
-pub fn root_often(alloc: Global, count: u32, rounds: u32) -> Result<(), Memory> {
+/// Makes the shard, and so many times the root over its records, as each checkpoint does: how many
+/// roots were made.
+pub fn root_often(alloc: Global, count: u32, rounds: u32) -> Result<u32, Memory> {
     let objects = coins(alloc, count)?;
     let Some(table) = shard(alloc, &objects)? else {
-        return Ok(());
+        return Ok(0);
     };
     for _ in 0..rounds {
         table_root(alloc, &table)?;
     }
-    Ok(())
+    Ok(rounds)
 }
 
 /// Makes the shard, and spends coins that lie at equal distances.
