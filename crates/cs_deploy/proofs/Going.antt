@@ -15,7 +15,7 @@ use Rattle.cs_deploy.specs.Cluster.{ClusterGoes}
 use Rattle.cs_deploy.proofs.Answered.{rose-later}
 use Rattle.cs_io.specs.laws.Told.{stays-same, changes-after}
 
--- no child was started, and none was told to end
+-- no child was started, no start was tried, and no child was told to end
 pub idle-same : (told : SpawnerTold) (written written' : Option (List ℕ)) → IsIdle (beside told written) (beside told written')
 idle-same told written written' = record {
   starts = record {
@@ -23,6 +23,7 @@ idle-same told written written' = record {
     children = let same : told.children ≡ told.children + 0 = omega arith in same;
     statuses = stays-same told.statuses;
   };
+  tried = refl;
   ended = refl;
 }
   where

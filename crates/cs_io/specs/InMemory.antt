@@ -51,6 +51,7 @@ abbrev pub spawner_told : MemSpawner → SpawnerTold
 spawner_told s = record {
   started = Some s.started;
   children = length s.started;
+  unstarted = s.unstarted;
   statuses = Some (slice_index s.statuses.items);
   ended = flag_at s.ended.items;
 }

@@ -19,6 +19,7 @@ pub record LinkTold : Type 0 where
 pub record SpawnerTold : Type 0 where
   pub started : Option Children  -- the words of each
   pub children : ℕ  -- how many were started
+  pub unstarted : ℕ  -- how many starts gave no child, up to 2^64 - 1
   pub statuses : Option (ℕ → ℕ)  -- the status with which each ends
   pub ended : ℕ → Bool  -- whether each was told to end, whatever came of it
 

@@ -1,5 +1,5 @@
 -- The children of a spawner, and what its calls do to them.
-use Rattle.std.specs.Prelude.{◌≡◌, ℕ, ◌+◌, Bool, false, ◌||◌, ◌==◌, List, [], ◌∷◌, ◌++◌, length, slice_index_or, Option, IfSome}
+use Rattle.std.specs.Prelude.{◌≡◌, ℕ, ◌+◌, ◌-◌, ◌^◌, min, Bool, false, ◌||◌, ◌==◌, List, [], ◌∷◌, ◌++◌, length, slice_index_or, Option, IfSome}
 use Rattle.std.specs.List.{list_any}
 use Rattle.cs_io.specs.Told.{Changes, Stays}
 use Rattle.cs_io.specs.declared.spawner.Started.{Started}
@@ -23,6 +23,12 @@ abbrev pub children_after : ℕ → Started → ℕ
 children_after before (started.Started n) = before + 1
 children_after before started.Failed = before
 children_after before started.Memory = before
+
+-- how many starts gave no child, one more or as many
+abbrev pub unstarted_after : ℕ → Started → ℕ
+unstarted_after before (started.Started n) = before
+unstarted_after before started.Failed = min (before + 1) (2 ^ 64 - 1)
+unstarted_after before started.Memory = min (before + 1) (2 ^ 64 - 1)
 
 -- a wait gave the status of that child, or nothing
 abbrev pub Waits : Option (ℕ → ℕ) → ℕ → Waited → Type 0

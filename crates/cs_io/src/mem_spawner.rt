@@ -2,7 +2,7 @@
 ghost use Rattle.std.specs.Prelude.{◌≡◌, ◌<◌, ◌++◌, ◌∷◌, [], ℕ, false, length, map, string_bytes, slice_index, Some, IfOk, OnOk, OnErr};
 ghost use Rattle.cs_base.specs.Outside.{HasCause};
 ghost use Rattle.cs_io.specs.Told.{Stays};
-ghost use Rattle.cs_io.specs.Spawner.{SpawnerStarts, Waits, EndsThese, children_after, flag_at};
+ghost use Rattle.cs_io.specs.Spawner.{SpawnerStarts, Waits, EndsThese, children_after, unstarted_after, flag_at};
 
 use crate::spawner::{Spawner, Started, Stopped, Waited};
 use crate::text::Text;
@@ -17,6 +17,7 @@ pub struct MemSpawner {
     statuses: Vec<u8>,
     started: Sequence<Sequence<Text>>,
     ended: Vec<bool>,
+    unstarted: u64,
     failures: Failures,
     ghost flagged: { length ended.items ≡ length started },
 }
@@ -30,6 +31,7 @@ impl MemSpawner {
     pub fn new(alloc: Global, statuses: Vec<u8>, fails: Vec<u32>) -> Self
         ensures started { (⟦<MemSpawner as Spawner>⟧.told result).started ≡ Some [] }
         ensures children { (⟦<MemSpawner as Spawner>⟧.told result).children ≡ 0 }
+        ensures unstarted { (⟦<MemSpawner as Spawner>⟧.told result).unstarted ≡ 0 }
         ensures statuses { (⟦<MemSpawner as Spawner>⟧.told result).statuses
             ≡ Some (slice_index statuses.items) }
         ensures ended { (⟦<MemSpawner as Spawner>⟧.told result).ended ≡ (λ _. false) }
@@ -41,6 +43,7 @@ impl MemSpawner {
             statuses,
             started: Sequence::new(alloc),
             ended: Vec::new(alloc),
+            unstarted: 0,
             failures: Failures::new(fails),
         }
     }
@@ -67,6 +70,7 @@ impl MemSpawner {
         ensures err { OnErr result (self.new.started ≡ self.old.started) }
         ensures ended { flag_at self.new.ended.items ≡ flag_at self.old.ended.items }
         ensures statuses { self.new.statuses ≡ self.old.statuses }
+        ensures unstarted { self.new.unstarted ≡ self.old.unstarted }
         ensures failures { self.new.failures ≡ self.old.failures }
     {
         let kept = copy_words(self.alloc, words)?;
@@ -104,6 +108,8 @@ impl Spawner for MemSpawner {
             (map string_bytes words.now) result }
         ensures children { (spawner_told self.new).children
             ≡ children_after (spawner_told self.old).children result }
+        ensures unstarted { (spawner_told self.new).unstarted
+            ≡ unstarted_after (spawner_told self.old).unstarted result }
         ensures number { (n : ℕ) → result ≡ Started.Started n → n ≡ (spawner_told self.old).children }
         ensures statuses { Stays (spawner_told self.old).statuses (spawner_told self.new).statuses }
         ensures ended { (spawner_told self.new).ended ≡ (spawner_told self.old).ended }
@@ -115,12 +121,16 @@ impl Spawner for MemSpawner {
             (result ≡ Started.Failed) }
     {
         if self.failures.is_due() {
+            self.unstarted = self.unstarted.saturating_add(1);
             return Started::Failed;
         }
         let number = self.started.len();
         match self.keep(words) {
             Ok(()) => Started::Started(number as u64),
-            Err(Memory) => Started::Memory,
+            Err(Memory) => {
+                self.unstarted = self.unstarted.saturating_add(1);
+                Started::Memory
+            }
         }
     }
 
@@ -129,6 +139,7 @@ impl Spawner for MemSpawner {
         ensures status { Waits (spawner_told self.old).statuses number result }
         ensures started { Stays (spawner_told self.old).started (spawner_told self.new).started }
         ensures children { (spawner_told self.new).children ≡ (spawner_told self.old).children }
+        ensures unstarted { (spawner_told self.new).unstarted ≡ (spawner_told self.old).unstarted }
         ensures statuses { Stays (spawner_told self.old).statuses (spawner_told self.new).statuses }
         ensures ended { (spawner_told self.new).ended ≡ (spawner_told self.old).ended }
         ensures cause { HasCause (spawner_faults self.old) (spawner_faults self.new)
@@ -151,6 +162,7 @@ impl Spawner for MemSpawner {
             (number ∷ []) (spawner_told self.old).ended (spawner_told self.new).ended }
         ensures started { Stays (spawner_told self.old).started (spawner_told self.new).started }
         ensures children { (spawner_told self.new).children ≡ (spawner_told self.old).children }
+        ensures unstarted { (spawner_told self.new).unstarted ≡ (spawner_told self.old).unstarted }
         ensures statuses { Stays (spawner_told self.old).statuses (spawner_told self.new).statuses }
         ensures cause { HasCause (spawner_faults self.old) (spawner_faults self.new)
             (result ≡ Stopped.Failed) }

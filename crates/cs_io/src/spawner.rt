@@ -3,7 +3,7 @@
 ghost use Rattle.std.specs.Prelude.{◌≡◌, ◌<◌, ◌≤◌, [], ◌∷◌, ℕ, false, map, string_bytes};
 ghost use Rattle.cs_base.specs.Outside.{HasCause};
 ghost use Rattle.cs_io.specs.Told.{Stays};
-ghost use Rattle.cs_io.specs.Spawner.{SpawnerStarts, Waits, EndsThese, children_after};
+ghost use Rattle.cs_io.specs.Spawner.{SpawnerStarts, Waits, EndsThese, children_after, unstarted_after};
 ghost use Rattle.cs_io.specs.Outside.{SpawnerTold};
 
 /// What came of starting a child.
@@ -39,7 +39,8 @@ pub enum Stopped {
 /// children that were started before it.
 pub trait Spawner {
     /// What the spawner has told so far: how many children were started and which of them were told
-    /// to end; and the words of each and the status with which it ends, where it tells that.
+    /// to end; how many starts gave no child; and the words of each and the status with which it
+    /// ends, where it tells that.
     ghost told: { Self → SpawnerTold };
 
     /// How often the spawner has failed, up to 2^64 - 1.
@@ -50,6 +51,8 @@ pub trait Spawner {
         ensures words { SpawnerStarts
             (told self.old).started (told self.new).started (map string_bytes words.now) result }
         ensures children { (told self.new).children ≡ children_after (told self.old).children result }
+        ensures unstarted { (told self.new).unstarted
+            ≡ unstarted_after (told self.old).unstarted result }
         ensures number { (n : ℕ) → result ≡ Started.Started n → n ≡ (told self.old).children }
         ensures statuses { Stays (told self.old).statuses (told self.new).statuses }
         ensures ended { (told self.new).ended ≡ (told self.old).ended }
@@ -61,6 +64,7 @@ pub trait Spawner {
         ensures status { Waits (told self.old).statuses number result }
         ensures started { Stays (told self.old).started (told self.new).started }
         ensures children { (told self.new).children ≡ (told self.old).children }
+        ensures unstarted { (told self.new).unstarted ≡ (told self.old).unstarted }
         ensures statuses { Stays (told self.old).statuses (told self.new).statuses }
         ensures ended { (told self.new).ended ≡ (told self.old).ended }
         ensures cause { HasCause (faults self.old) (faults self.new) (result ≡ Waited.Failed) };
@@ -72,6 +76,7 @@ pub trait Spawner {
         ensures ended { EndsThese (number ∷ []) (told self.old).ended (told self.new).ended }
         ensures started { Stays (told self.old).started (told self.new).started }
         ensures children { (told self.new).children ≡ (told self.old).children }
+        ensures unstarted { (told self.new).unstarted ≡ (told self.old).unstarted }
         ensures statuses { Stays (told self.old).statuses (told self.new).statuses }
         ensures cause { HasCause (faults self.old) (faults self.new) (result ≡ Stopped.Failed) };
 

@@ -18,6 +18,7 @@ pub struct Children<'a, R: Processes> {
     alloc: Global,
     children: Vec<Child<R::Started>>,
     ended: Vec<bool>,
+    unstarted: u64,
     faults: u64,
     ghost flagged: { length ended.items ≡ vec_len children },
 }
@@ -29,6 +30,7 @@ impl<'a, R: Processes> Children<'a, R> {
             alloc,
             children: Vec::new(alloc),
             ended: Vec::new(alloc),
+            unstarted: 0,
             faults: 0,
         }
     }
@@ -53,6 +55,7 @@ impl<R: Processes> Spawner for Children<'_, R> {
     ghost told = { λ s. record {
       started = None;
       children = vec_len s.children;
+      unstarted = s.unstarted;
       statuses = None;
       ended = flag_at s.ended.items;
     } };
@@ -65,6 +68,7 @@ impl<R: Processes> Spawner for Children<'_, R> {
         let number = self.children.len() as u64;
         // Room first, so that no child runs that isn't kept.
         if self.children.reserve(1).is_err() || self.ended.reserve(1).is_err() {
+            self.unstarted = self.unstarted.saturating_add(1);
             return Started::Memory;
         }
         match spawn(self.system, self.alloc, words) {
@@ -73,8 +77,12 @@ impl<R: Processes> Spawner for Children<'_, R> {
                 self.ended.push(false).unwrap();
                 Started::Started(number)
             }
-            Err(error) if error.kind() == ErrorKind::OutOfMemory => Started::Memory,
+            Err(error) if error.kind() == ErrorKind::OutOfMemory => {
+                self.unstarted = self.unstarted.saturating_add(1);
+                Started::Memory
+            }
             Err(_) => {
+                self.unstarted = self.unstarted.saturating_add(1);
                 self.faults = self.faults.saturating_add(1);
                 Started::Failed
             }

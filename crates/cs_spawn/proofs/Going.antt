@@ -1,5 +1,5 @@
 -- One deed after the other.
-use Rattle.std.proofs.Common.{◌≡◌, ◌⊎◌, inl, inr, ℕ, ◌+◌, List, [], ◌∷◌, ◌++◌, length, Option, Some, None, Result, Ok, Err, refl, sym, ap, subst, ◌∙◌, arith, append_assoc, append-nil, length-append}
+use Rattle.std.proofs.Common.{◌≡◌, ◌⊎◌, inl, inr, ℕ, ◌+◌, ◌≤◌, List, [], ◌∷◌, ◌++◌, length, Option, Some, None, Result, Ok, Err, refl, sym, ap, subst, ◌∙◌, arith, append_assoc, append-nil, length-append}
 use Rattle.std.specs.Prelude.{IsErrAnd, IsErrOf, filter, not, ◌==◌}
 use Rattle.std.specs.Io.KnownBytes.{Appends}
 use Rattle.std.proofs.KnownBytes.{Appends-nil, Appends-trans}
@@ -11,7 +11,7 @@ use Rattle.cs_io.specs.Spawner.{Children}
 use Rattle.cs_io.specs.Outside.{SpawnerTold, Beside}
 use Rattle.cs_spawn.specs.Words.{child_end_line}
 use Rattle.cs_spawn.specs.Deeds.{ClusterDeed, Start, Wait, words_in, left_after}
-use Rattle.cs_spawn.specs.Running.{ChildEndsWith, AreLines, StartsChildren, DoesDeeds, DoesFront, BreaksOff, ClusterFails, Leaves, Goes}
+use Rattle.cs_spawn.specs.Running.{ChildEndsWith, AreLines, StartsChildren, TriesFirst, DoesDeeds, DoesFront, BreaksOff, ClusterFails, Leaves, Goes}
 use Rattle.cs_spawn.specs.declared.error.ClusterError.{ClusterError}
 use Rattle.cs_spawn.specs.declared.error.ClusterError.TheVariants.{SpawnFault, WriteFault, Memory}
 
@@ -108,9 +108,9 @@ left_after-append left next (Start words ∷ xs) ys =
     left_after-append (left ++ next ∷ []) (next + 1) xs ys ∙ ap (λ n. left_after later n ys) same
 left_after-append left next (Wait title number ∷ xs) ys = left_after-append (filter (λ n. not (n == number)) left) next xs ys
 
--- all of these deeds were done, with these children left before and after
+-- all of these deeds were done, each start at the first try, with these children left before and after
 abbrev pub Done : List ClusterDeed → List ℕ → List ℕ → Beside SpawnerTold → Beside SpawnerTold → Type 0
-Done deeds left left' old new = DoesDeeds deeds old new × Leaves left left' old new deeds
+Done deeds left left' old new = DoesDeeds deeds old new × Leaves left left' old new deeds × (new.told.unstarted ≡ old.told.unstarted)
 
 leaves-after : (a b c : Beside SpawnerTold) (l m n : List ℕ) (xs ys : List ClusterDeed) → Done xs l m a b → Leaves m n b c ys → Leaves l n a c (xs ++ ys)
 leaves-after a b c l m n xs ys p q = record {
@@ -121,10 +121,23 @@ leaves-after a b c l m n xs ys p q = record {
 }
 
 pub done-nil : (left : List ℕ) (a : Beside SpawnerTold) → Done [] left left a a
-done-nil left a = (does-nil a, record { ended = refl; left = refl })
+done-nil left a = (does-nil a, record { ended = refl; left = refl }, refl)
 
 pub done-more : (a b c : Beside SpawnerTold) (l m n : List ℕ) (xs ys : List ClusterDeed) → Done xs l m a b → Done ys m n b c → Done (xs ++ ys) l n a c
-done-more a b c l m n xs ys p q = (does-more a b c xs ys p.0 q.0, leaves-after a b c l m n xs ys p q.1)
+done-more a b c l m n xs ys p q = (does-more a b c xs ys p.0 q.0, leaves-after a b c l m n xs ys p q.1, q.2 ∙ p.2)
+
+-- ---- what was tried of the others
+
+-- none of these
+tries-none : (deeds : List ClusterDeed) (before now : ℕ) → now ≡ before → TriesFirst deeds before now
+tries-none [] before now is = is
+tries-none (Start words ∷ deeds) before now is = omega (arith, is)
+tries-none (Wait title number ∷ deeds) before now is = is
+
+tries-more : (deeds more : List ClusterDeed) (before now : ℕ) → TriesFirst deeds before now → TriesFirst (deeds ++ more) before now
+tries-more [] more before now is = tries-none more before now is
+tries-more (Start words ∷ deeds) more before now is = is
+tries-more (Wait title number ∷ deeds) more before now is = is
 
 -- ---- how it ends
 
@@ -135,6 +148,7 @@ module _ (a b c : Beside SpawnerTold) (l m n : List ℕ) (xs ys : List ClusterDe
     rest = q.rest;
     front = ap (λ l. xs ++ l) q.front ∙ sym (append_assoc xs q.done q.rest);
     does = does-more a b c xs q.done p.0 q.does;
+    tried = subst (λ (before : ℕ). TriesFirst q.rest before c.told.unstarted) p.2 q.tried;
     left = leaves-after a b c l m n xs q.done p q.left;
   }
 
@@ -150,6 +164,7 @@ module _ (a b c : Beside SpawnerTold) (l m n : List ℕ) (xs ys : List ClusterDe
     middle = q.middle;
     does = does-more a b q.middle xs q.done p.0 q.does;
     kept = q.kept;
+    tried = q.tried ∙ p.2;
     written = q.written;
     left = subst (λ (d : List ClusterDeed). Leaves l n a c d) (sym (append_assoc xs q.done (Wait q.title q.number ∷ [])))
         (leaves-after a b c l m n xs (q.done ++ Wait q.title q.number ∷ []) p q.left);
@@ -174,6 +189,7 @@ module _ (Left : List ClusterDeed → Type 0) (a b : Beside SpawnerTold) (xs ys 
     rest = p.rest ++ ys;
     front = ap (λ l. l ++ ys) p.front ∙ append_assoc p.done p.rest ys;
     does = p.does;
+    tried = tries-more p.rest ys a.told.unstarted b.told.unstarted p.tried;
     left = p.left;
   }
 
@@ -189,6 +205,7 @@ module _ (Left : List ClusterDeed → Type 0) (a b : Beside SpawnerTold) (xs ys 
     middle = p.middle;
     does = p.does;
     kept = p.kept;
+    tried = p.tried;
     written = p.written;
     left = p.left;
   }
@@ -208,7 +225,7 @@ goes-so a b l m deeds e (Err x) gives p = subst (λ (y : ClusterError). ClusterF
 -- memory ran out after these
 pub wants-there : {A : Type 0} (a b : Beside SpawnerTold) (l m : List ℕ) (whole xs ys : List ClusterDeed) (result : Result A ClusterError) → whole ≡ xs ++ ys → Done xs l m a b → IsErrAnd result (λ x. x ≡ Memory) → Goes whole l m a b result
 wants-there a b l m whole xs ys result parts p gives =
-    goes-so a b l m whole Memory result gives (inl (record { done = xs; rest = ys; front = parts; does = p.0; left = p.1 }))
+    goes-so a b l m whole Memory result gives (inl (record { done = xs; rest = ys; front = parts; does = p.0; tried = tries-none ys a.told.unstarted b.told.unstarted p.2; left = p.1 }))
 
 -- before any of these
 pub wants-at_once : {A : Type 0} (a : Beside SpawnerTold) (l : List ℕ) (deeds : List ClusterDeed) (result : Result A ClusterError) → IsErrAnd result (λ x. x ≡ Memory) → Goes deeds l l a a result
@@ -239,14 +256,15 @@ not-the-sink {A} e (Err x) before gives other = record {
 -- ---- one deed
 
 -- none was started, or the spawner failed at a wait
-pub front-kept : (a b : Beside SpawnerTold) (l m : List ℕ) (deeds : List ClusterDeed) → StartsChildren [] a b → b.told.ended ≡ a.told.ended → b.written ≡ a.written → m ≡ l → DoesFront (Leaves l m a b) deeds a b
-front-kept a b l m deeds starts ended written left =
-    record { done = []; rest = deeds; front = refl; does = does-none a b starts written; left = record { ended = ended; left = left } }
+pub front-kept : (a b : Beside SpawnerTold) (l m : List ℕ) (deeds : List ClusterDeed) → StartsChildren [] a b → TriesFirst deeds a.told.unstarted b.told.unstarted → b.told.ended ≡ a.told.ended → b.written ≡ a.written → m ≡ l
+    → DoesFront (Leaves l m a b) deeds a b
+front-kept a b l m deeds starts tried ended written left =
+    record { done = []; rest = deeds; front = refl; does = does-none a b starts written; tried = tried; left = record { ended = ended; left = left } }
 
 -- a child has ended, and isn't left; a front of its line was printed
-pub wait-broke : (a b : Beside SpawnerTold) (l m title : List ℕ) (number status : ℕ) → ChildEndsWith a.told.statuses number status → StartsChildren [] a b → b.told.ended ≡ a.told.ended → m ≡ filter (λ n. not (n == number)) l
+pub wait-broke : (a b : Beside SpawnerTold) (l m title : List ℕ) (number status : ℕ) → ChildEndsWith a.told.statuses number status → StartsChildren [] a b → b.told.unstarted ≡ a.told.unstarted → b.told.ended ≡ a.told.ended → m ≡ filter (λ n. not (n == number)) l
     → AppendsFront a.written b.written (child_end_line title status) → BreaksOff (Leaves l m a b) (Wait title number ∷ []) a b
-wait-broke a b l m title number status ends starts ended left written = record {
+wait-broke a b l m title number status ends starts tried ended left written = record {
   done = [];
   title = title;
   number = number;
@@ -257,6 +275,7 @@ wait-broke a b l m title number status ends starts ended left written = record {
   middle = a;
   does = does-nil a;
   kept = starts;
+  tried = tried;
   written = written;
   left = record { ended = ended; left = left };
 }

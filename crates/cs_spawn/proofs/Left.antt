@@ -10,7 +10,7 @@ use Rattle.cs_io.specs.Spawner.{EndsThese}
 use Rattle.cs_io.specs.Outside.{SpawnerTold, Beside}
 use Rattle.cs_spawn.specs.Words.{child_end_line}
 use Rattle.cs_spawn.specs.Deeds.{ClusterDeed, Start, Wait, words_in, left_after}
-use Rattle.cs_spawn.specs.Running.{StartsChildren, DoesDeeds, DoesFront, BreaksOff, ClusterFails, EndsLeft, Leaves, RiseBetween}
+use Rattle.cs_spawn.specs.Running.{StartsChildren, TriesFirst, DoesDeeds, DoesFront, BreaksOff, ClusterFails, EndsLeft, Leaves, RiseBetween}
 use Rattle.cs_spawn.specs.declared.error.ClusterError.{ClusterError}
 use Rattle.cs_spawn.specs.declared.error.ClusterError.TheVariants.{SpawnFault, WriteFault, Memory}
 use Rattle.cs_spawn.proofs.Plans.{next_taken}
@@ -137,7 +137,7 @@ module _ (a m : Beside SpawnerTold) (left : List ℕ) where
       spared-all a.told.children m.told.children left m.told.ended (left-rises deeds e p)
       (λ n more. ap (λ (f : ℕ → Bool). f n) (kept-ended deeds e p) ∙ spared n more)
 
-  module _ (z : Beside SpawnerTold) (kept : StartsChildren [] m z) (written : z.written ≡ m.written) (ends : EndsThese left m.told.ended z.told.ended) where
+  module _ (z : Beside SpawnerTold) (kept : StartsChildren [] m z) (tried : z.told.unstarted ≡ m.told.unstarted) (written : z.written ≡ m.written) (ends : EndsThese left m.told.ended z.told.ended) where
     were_ended : (done : List ClusterDeed) → Leaves [] left a m done → EndsLeft a z done
     were_ended done p =
         subst (λ (l : List ℕ). EndsThese l a.told.ended z.told.ended) p.left
@@ -149,6 +149,7 @@ module _ (a m : Beside SpawnerTold) (left : List ℕ) where
       rest = p.rest;
       front = p.front;
       does = subst (λ (l : List ClusterDeed). DoesDeeds l a z) (append-nil p.done) (does-more a m z p.done [] p.does (does-none m z kept written));
+      tried = subst (λ (now : ℕ). TriesFirst p.rest a.told.unstarted now) (sym tried) p.tried;
       left = were_ended p.done p.left;
     }
 
@@ -164,6 +165,7 @@ module _ (a m : Beside SpawnerTold) (left : List ℕ) where
       middle = p.middle;
       does = p.does;
       kept = starts-more p.middle m z [] [] p.kept kept;
+      tried = tried ∙ p.tried;
       written = subst (λ (w : Option (List ℕ)). AppendsFront p.middle.written w (child_end_line p.title p.status)) (sym written) p.written;
       left = were_ended (p.done ++ Wait p.title p.number ∷ []) p.left;
     }

@@ -28,10 +28,18 @@ pub record StartsChildren (words : Children) (old new : Beside SpawnerTold) : Ty
   pub children : new.told.children ≡ old.told.children + length words
   pub statuses : Stays old.told.statuses new.told.statuses
 
--- no child was started, and none was told to end
+-- no child was started, no start was tried, and no child was told to end
 pub record IsIdle (old new : Beside SpawnerTold) : Type 0 where
   pub starts : StartsChildren [] old new
+  pub tried : new.told.unstarted ≡ old.told.unstarted
   pub ended : new.told.ended ≡ old.told.ended
+
+-- Of these deeds, none of which was done, the first was tried once at most where it is a start: so many starts gave no
+-- child before and now.
+abbrev pub TriesFirst : List ClusterDeed → ℕ → ℕ → Type 0
+TriesFirst [] before now = now ≡ before
+TriesFirst (Start words ∷ deeds) before now = now ≤ before + 1
+TriesFirst (Wait title number ∷ deeds) before now = now ≡ before
 
 -- all of these deeds were done, and no others
 pub record DoesDeeds (deeds : List ClusterDeed) (old new : Beside SpawnerTold) : Type 0 where
@@ -40,12 +48,14 @@ pub record DoesDeeds (deeds : List ClusterDeed) (old new : Beside SpawnerTold) :
   pub told : AreLines old.told.statuses deeds lines
   pub written : Appends old.written new.written lines
 
--- a front of these was done, with such children left
+-- A front of these was done, each start at the first try, with such children left; and of the others none but the next
+-- was tried.
 pub record DoesFront (Left : List ClusterDeed → Type 0) (deeds : List ClusterDeed) (old new : Beside SpawnerTold) : Type 0 where
   pub done : List ClusterDeed
   pub rest : List ClusterDeed
   pub front : deeds ≡ done ++ rest
   pub does : DoesDeeds done old new
+  pub tried : TriesFirst rest old.told.unstarted new.told.unstarted
   pub left : Left done
 
 -- All deeds before a wait were done; then the child had ended, and of its line a front was written. Such children are
@@ -61,6 +71,7 @@ pub record BreaksOff (Left : List ClusterDeed → Type 0) (deeds : List ClusterD
   pub middle : Beside SpawnerTold
   pub does : DoesDeeds done old middle
   pub kept : StartsChildren [] middle new
+  pub tried : new.told.unstarted ≡ old.told.unstarted
   pub written : AppendsFront middle.written new.written (child_end_line title status)
   pub left : Left (done ++ Wait title number ∷ [])
 
@@ -77,9 +88,11 @@ ClusterFails Left deeds old new Memory = DoesFront Left deeds old new ⊎ Breaks
 abbrev pub EndsLeft : Beside SpawnerTold → Beside SpawnerTold → List ClusterDeed → Type 0
 EndsLeft old new done = EndsThese (left_after [] old.told.children done) old.told.ended new.told.ended
 
--- All deeds were done; or a part of them, and then the children that are left were told to end.
+-- All deeds were done, each start at the first try; or a part of them, and then the children that are left were told to
+-- end.
 abbrev pub ClusterEnds : {A : Type 0} → List ClusterDeed → Beside SpawnerTold → Beside SpawnerTold → Result A ClusterError → Type 0
-ClusterEnds {A} deeds old new (Ok x) = DoesDeeds deeds old new × (new.told.ended ≡ old.told.ended)
+ClusterEnds {A} deeds old new (Ok x) =
+    DoesDeeds deeds old new × (new.told.ended ≡ old.told.ended) × (new.told.unstarted ≡ old.told.unstarted)
 ClusterEnds {A} deeds old new (Err error) = ClusterFails (EndsLeft old new) deeds old new error
 
 -- none was told to end; these are left, of those that were left before and those that were started
@@ -89,7 +102,8 @@ pub record Leaves (before now : List ℕ) (old new : Beside SpawnerTold) (done :
 
 -- all deeds were done, or a part of them
 abbrev pub Goes : {A : Type 0} → List ClusterDeed → List ℕ → List ℕ → Beside SpawnerTold → Beside SpawnerTold → Result A ClusterError → Type 0
-Goes {A} deeds before now old new (Ok x) = DoesDeeds deeds old new × Leaves before now old new deeds
+Goes {A} deeds before now old new (Ok x) =
+    DoesDeeds deeds old new × Leaves before now old new deeds × (new.told.unstarted ≡ old.told.unstarted)
 Goes {A} deeds before now old new (Err error) = ClusterFails (Leaves before now old new) deeds old new error
 
 -- these numbers rise, from the first on, and end before the last

@@ -89,6 +89,7 @@ pub fn end_all<P: Spawner>(spawner: &mut P, children: &[u64])
     ensures ended { EndsThese children.now (P.told spawner.old).ended (P.told spawner.new).ended }
     ensures started { Stays (P.told spawner.old).started (P.told spawner.new).started }
     ensures children { (P.told spawner.new).children ≡ (P.told spawner.old).children }
+    ensures unstarted { (P.told spawner.new).unstarted ≡ (P.told spawner.old).unstarted }
     ensures statuses { Stays (P.told spawner.old).statuses (P.told spawner.new).statuses }
     ensures faults { P.faults spawner.old ≤ P.faults spawner.new }
 {

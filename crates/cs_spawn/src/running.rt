@@ -17,8 +17,8 @@ use cs_wire::all_nodes;
 use std::alloc::Global;
 
 /// Runs a plan: starts all nodes of the site, runs the calls one after the other, and waits for the
-/// nodes; prints a line for each child that has ended. It ends at the first fault, and tells each
-/// child to end then that was started and not waited for.
+/// nodes; prints a line for each child that has ended. It ends at the first fault, so that each
+/// child is started once, and tells each child to end then that was started and not waited for.
 pub fn cluster<P: Spawner, K: Sink>(
     alloc: Global,
     spawner: &mut P,

@@ -34,3 +34,4 @@ pub mod OneEcho
 pub mod Resting
 pub mod Handing
 pub mod Saying
+pub mod Example

@@ -1,4 +1,4 @@
-use Rattle.std.proofs.Common.{◌≡◌, ℕ, ◌<◌, Bool, false, List, length, get_or, refl, arith, subst}
+use Rattle.std.proofs.Common.{◌≡◌, ℕ, ◌<◌, Bool, false, List, length, get_or, refl, arith, subst, ◌∙◌}
 use Rattle.std.proofs.lemmas.List.{take_all}
 use Rattle.cs_io.specs.laws.Told.{stays-same, stays-both}
 use Rattle.cs_io.specs.Spawner.{EndsThese}
@@ -11,6 +11,7 @@ loop-child-init g c = record {
   ended = ends-none (g.P.Spawner.told c.args.spawner.now).ended;
   started = stays-same (g.P.Spawner.told c.args.spawner.now).started;
   children = refl;
+  unstarted = refl;
   statuses = stays-same (g.P.Spawner.told c.args.spawner.now).statuses;
   faults = omega arith;
 }
@@ -41,6 +42,7 @@ loop-child-preserved g c =
       ended = ends-next (g.P.Spawner.told c.args.spawner.now).ended (g.P.Spawner.told c.loop-child.spawner).ended (g.P.Spawner.told c.end.new.self).ended children i c.loop-child-test.true c.loop-child.invariant.ended c.end.ensures.ended;
       started = stays-both _ _ _ c.loop-child.invariant.started c.end.ensures.started;
       children = omega (arith, so_many, same);
+      unstarted = c.end.ensures.unstarted ∙ c.loop-child.invariant.unstarted;
       statuses = stays-both _ _ _ c.loop-child.invariant.statuses c.end.ensures.statuses;
       faults = omega (arith, faults, later);
     }

@@ -39,5 +39,5 @@ returns-clause-does g c =
     let e = c.in-Err.error in
     let fails : ClusterFails (Leaves [] left a m) deeds a m e = subst (λ (l : List ℕ). ClusterFails (Leaves l left a m) deeds a m e) c.new-left.ensures.items c.in-Err.ensures.does in
     let z : Beside SpawnerTold = beside (g.P.Spawner.told c.end_all.new.spawner) (g.K.Sink.written c.run_children.new.out) in
-    fails-ended a m left z (starts-none m z c.end_all.ensures.started c.end_all.ensures.children c.end_all.ensures.statuses) refl
+    fails-ended a m left z (starts-none m z c.end_all.ensures.started c.end_all.ensures.children c.end_all.ensures.statuses) c.end_all.ensures.unstarted refl
     (subst (λ (l : List ℕ). EndsThese l m.told.ended z.told.ended) c.deref.ensures.value c.end_all.ensures.ended) deeds e fails
