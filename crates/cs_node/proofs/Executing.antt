@@ -20,7 +20,7 @@ use Rattle.cs_check_rules.specs.Chain.{head_of, made_last}
 use Rattle.cs_node_state.specs.Bench.{Bench, Ran, is_locked, pool_after, executed, effect_from, next_leaf, with_leaf, slot_executed, told_by, vote_told, own_pool, bench_executed}
 use Rattle.cs_node_rules.specs.Signs.{Sign, Did, Headed, bench_after, sends, own_signs, vote_signs, entered_signs, ran_signs, headed_signs, execution_signs}
 use Rattle.cs_node.specs.declared.draft.Note.TheVariants.{Executed}
-use Rattle.cs_node.specs.declared.draft.Draft.{Draft}
+use Rattle.cs_node.specs.Drafts.{Draft}
 use Rattle.cs_node.specs.Notes.{notes_of, said_of, spoken, TellsSigns}
 use Rattle.cs_node.specs.Steps.{Makes}
 use Rattle.cs_node.proofs.Sums.{notes-append, said-append, notes-sends, bench-append, bench-sends, tells-more}

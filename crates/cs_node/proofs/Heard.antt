@@ -32,7 +32,7 @@ use Rattle.cs_node_rules.specs.Carrying.{is_of_order, is_ordering, Carries}
 use Rattle.cs_node_pool.specs.Deployed.{deployed_setup}
 use Rattle.cs_sbac.specs.Held.{Held, bench_of}
 use Rattle.cs_node.specs.declared.engine.Engine.{Engine}
-use Rattle.cs_node.specs.declared.draft.Draft.{Draft}
+use Rattle.cs_node.specs.Drafts.{Draft}
 use Rattle.cs_node.specs.Notes.{TellsSigns}
 use Rattle.cs_node.specs.Signing.{Leaves, Does}
 use Rattle.cs_node.specs.Steps.{MakesMarks}

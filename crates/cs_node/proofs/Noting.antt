@@ -8,7 +8,7 @@ use Rattle.cs_tx_types.specs.declared.vote.Vote.TheVariants.{Commit, Abort}
 use Rattle.cs_wire_message.specs.Message.{MessageFits}
 use Rattle.cs_node.specs.declared.draft.Note.{Note}
 use Rattle.cs_node.specs.declared.draft.Said.{Said}
-use Rattle.cs_node.specs.declared.draft.Draft.{Draft}
+use Rattle.cs_node.specs.Drafts.{Draft}
 use Rattle.cs_node_state.specs.Bench.{effect_from}
 use Rattle.cs_node.specs.Notes.{NoteFits, NotesFit, AllSaidFit, DraftFits}
 

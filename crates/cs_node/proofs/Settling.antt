@@ -3,7 +3,7 @@ use Rattle.std.proofs.Common.{◌≡◌, ℕ, zero, suc, ◌<◌, ◌^◌, true,
 use Rattle.cs_node_rules.specs.Signs.{Sign}
 use Rattle.cs_node_rules.specs.Site.{Input, Mark, In, Site, View, view_after, signs_of}
 use Rattle.cs_node_rules.specs.Trail.{turn_marks, continued, settled, input_marks, event_marks}
-use Rattle.cs_node.specs.declared.draft.Draft.{Draft}
+use Rattle.cs_node.specs.Drafts.{Draft}
 use Rattle.cs_node.specs.Notes.{nothing_said, TellsSigns}
 use Rattle.cs_node.specs.Steps.{MakesMarks, TurnDone, Settles, Settling, Drafts}
 use Rattle.cs_node.proofs.Sums.{signs-append, view-append, marks-none, marks-more}

@@ -19,7 +19,7 @@ use Rattle.cs_sbac.specs.Held.{Held, bench_of}
 use Rattle.cs_node.specs.declared.engine.Engine.{Engine}
 use Rattle.cs_node.specs.declared.nodes.Core.{Core}
 use Rattle.cs_node.specs.declared.outs.Made.{Made}
-use Rattle.cs_node.specs.declared.draft.Draft.{Draft}
+use Rattle.cs_node.specs.Drafts.{Draft}
 use Rattle.cs_node.specs.Notes.{nothing_said, spoken, outs_of, outs_for, AllReached}
 use Rattle.cs_node.specs.Speaking.{Speaks}
 use Rattle.cs_node.specs.Steps.{node_view, MakesMarks, TurnDone, Settles, Settling, Drafts, Event}

@@ -20,7 +20,7 @@ use Rattle.cs_sbac.specs.declared.answers.Entered.TheVariants.{New}
 use Rattle.cs_sbac.specs.declared.answers.Entered.TheVariants as Entering
 use Rattle.cs_sbac.specs.Held.{Held, bench_of, with_pool}
 use Rattle.cs_sbac.specs.Calls.{entered_in, pool_entered}
-use Rattle.cs_node.specs.declared.draft.Draft.{Draft}
+use Rattle.cs_node.specs.Drafts.{Draft}
 use Rattle.cs_node.specs.Notes.{TellsSigns}
 use Rattle.cs_node.specs.Signing.{Leaves}
 use Rattle.cs_node.specs.Steps.{Makes}

@@ -8,7 +8,7 @@ use Rattle.cs_node_rules.specs.Signs.{Sign, Dropped, Took, Entered, Viewed, Did,
 use Rattle.cs_node_rules.specs.Site.{Mark, In, Ordered, Plain, Site, View, mark_step, view_after, plain, signs_of}
 use Rattle.cs_node.specs.declared.draft.Note.TheVariants as note
 use Rattle.cs_node.specs.declared.draft.Said.{Said}
-use Rattle.cs_node.specs.declared.draft.Draft.{Draft}
+use Rattle.cs_node.specs.Drafts.{Draft}
 use Rattle.cs_node_state.specs.Bench.{effect_from}
 use Rattle.cs_node.specs.Notes.{notes_of, said_of, to_each, spoken, TellsSigns}
 use Rattle.cs_node.specs.Steps.{Makes, MakesMarks, TurnDone}

@@ -28,7 +28,7 @@ use Rattle.cs_node_pool.specs.Deployed.{deployed_setup}
 use Rattle.cs_sbac.specs.Held.{bench_of}
 use Rattle.cs_node_pool.specs.Calls.{locked_in}
 use Rattle.cs_node.specs.declared.engine.Engine.{Engine}
-use Rattle.cs_node.specs.declared.draft.Draft.{Draft}
+use Rattle.cs_node.specs.Drafts.{Draft}
 use Rattle.cs_node.specs.Notes.{TellsSigns}
 use Rattle.cs_node.specs.Steps.{MakesMarks}
 use Rattle.cs_node.specs.Cores.{IsSeated, KeepsView, core_view}

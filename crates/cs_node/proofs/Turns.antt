@@ -11,7 +11,7 @@ use Rattle.cs_node_rules.specs.Members.{is_other_member, others}
 use Rattle.cs_node_rules.specs.Signs.{Sign, Viewed, Sent, bench_after, execution_signs}
 use Rattle.cs_node_rules.specs.Site.{Mark, Ordered, Site, View, view_after, plain}
 use Rattle.cs_node_rules.specs.Trail.{out_signs, handed, with_deed, entered_view, moving, proposing, cut_marks, step_marks, turn_marks}
-use Rattle.cs_node.specs.declared.draft.Draft.{Draft}
+use Rattle.cs_node.specs.Drafts.{Draft}
 use Rattle.cs_node.specs.Notes.{TellsSigns}
 use Rattle.cs_node.specs.Steps.{Makes, MakesMarks, TurnDone, log_cut_at}
 use Rattle.cs_node.proofs.Sums.{with_bench, tells-nothing, bench-append, bench-sends, turn-some, marks-plain}

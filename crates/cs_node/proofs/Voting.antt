@@ -24,7 +24,7 @@ use Rattle.cs_sbac.specs.declared.answers.Entered.TheVariants as enter
 use Rattle.cs_sbac.specs.Held.{Held, bench_of, with_pool}
 use Rattle.cs_node_pool.specs.Calls.{counted_in}
 use Rattle.cs_sbac.specs.Calls.{entered_in, pool_entered_with}
-use Rattle.cs_node.specs.declared.draft.Draft.{Draft}
+use Rattle.cs_node.specs.Drafts.{Draft}
 use Rattle.cs_node.specs.Notes.{TellsSigns}
 use Rattle.cs_node.specs.Signing.{Leaves}
 use Rattle.cs_node.specs.Steps.{Makes}

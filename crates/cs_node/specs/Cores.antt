@@ -12,7 +12,7 @@ use Rattle.cs_node_rules.specs.Deployment.{site_of}
 use Rattle.cs_node_rules.specs.Ready.{IsQuiet}
 use Rattle.cs_node_pool.specs.Deployed.{deployed_setup}
 use Rattle.cs_sbac.specs.Held.{Held, bench_of}
-use Rattle.cs_node.specs.declared.draft.Draft.{Draft}
+use Rattle.cs_node.specs.Drafts.{Draft}
 use Rattle.cs_node.specs.declared.engine.Engine.{Engine}
 use Rattle.cs_node.specs.declared.nodes.Core.{Core}
 use Rattle.cs_node.specs.Speaking.{Speaks}

@@ -1,3 +1,4 @@
+pub mod Drafts
 pub mod Notes
 pub mod Setups
 pub mod Speaking

@@ -11,7 +11,7 @@ use Rattle.cs_node_rules.specs.Signs.{Sign, bench_after}
 use Rattle.cs_node_rules.specs.Site.{Input, Mark, In, Site, View, view_after, signs_of}
 use Rattle.cs_node_rules.specs.Trail.{turn_marks, settled, drops, event_marks}
 use Rattle.cs_node.specs.declared.draft.Note.TheVariants as note
-use Rattle.cs_node.specs.declared.draft.Draft.{Draft}
+use Rattle.cs_node.specs.Drafts.{Draft}
 use Rattle.cs_node.specs.declared.outs.Made.{Made}
 use Rattle.cs_node.specs.Notes.{nothing_said, notes_of, outs_of, TellsSigns}
 

@@ -3,7 +3,6 @@ ghost use Rattle.std.specs.Prelude.{OnOk, Bool};
 ghost use Rattle.cs_tx_types.specs.declared.transaction.Tx.{Tx};
 ghost use Rattle.cs_wire_message.specs.Message.{AskedKeyFits, IsSlot};
 ghost use Rattle.cs_node_rules.specs.Signs.{ask_signs, ask_proof_signs};
-ghost use Rattle.cs_node.specs.Notes.{DraftFits};
 ghost use Rattle.cs_node.specs.Signing.{Does};
 
 use crate::draft::Draft;
@@ -22,10 +21,9 @@ pub fn ask(
     asked: Option<Key>,
 ) -> Result<(), Memory>
     requires { AskedKeyFits asked }
-    ensures made { (approves : Tx → Bool) →
+    ensures { (approves : Tx → Bool) →
         Does approves sbac.now sbac.now draft.old draft.new result
         (λ setup b. ask_signs setup sbac.now.me.shard b sender asked) }
-    ensures fits { DraftFits draft.old → OnOk result (DraftFits draft.new) }
 {
     if !sender.is_client() {
         return draft.drop_it(Cause::Role);
@@ -47,10 +45,9 @@ pub fn ask_proof(
     slot: u64,
 ) -> Result<(), Memory>
     requires { IsSlot slot }
-    ensures made { (approves : Tx → Bool) →
+    ensures { (approves : Tx → Bool) →
         Does approves sbac.now sbac.now draft.old draft.new result
         (λ setup b. ask_proof_signs b sender slot) }
-    ensures fits { DraftFits draft.old → OnOk result (DraftFits draft.new) }
 {
     if !sender.is_client() {
         return draft.drop_it(Cause::Role);

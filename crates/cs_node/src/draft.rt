@@ -2,7 +2,7 @@
 ghost use Rattle.std.specs.Prelude.{◌≡◌, ◌∷◌, ◌++◌, [], OnOk};
 ghost use Rattle.cs_tx_types.specs.Session.{EntryFits};
 ghost use Rattle.cs_wire_message.specs.Message.{MessageFits};
-ghost use Rattle.cs_node.specs.Notes.{nothing_said, TellsSigns, DraftFits};
+ghost use Rattle.cs_node.specs.Notes.{nothing_said, TellsSigns};
 ghost use Rattle.cs_node_rules.specs.Signs.{Dropped, Viewed, Headed, Sent, sends};
 
 use cs_base::{Memory, NodeId, Sequence};
@@ -11,6 +11,7 @@ use cs_sbac::Effect;
 use cs_tx::{Digest, Entry};
 use cs_wire_message::Message;
 use std::alloc::Global;
+use std::marker::Model;
 
 /// What a node tells of an input.
 #[derive(Drop)]
@@ -42,11 +43,28 @@ pub struct Said {
     pub message: Message,
 }
 
-/// What an event has made so far, the oldest first.
+/// What an event has made so far, the oldest first. Executed entries have encodings, and what is
+/// said has a body.
 #[derive(Drop)]
 pub struct Draft {
-    pub notes: Sequence<Note>,
-    pub said: Sequence<Said>,
+    pub(crate) notes: Sequence<Note>,
+    pub(crate) said: Sequence<Said>,
+}
+
+impl Model for Draft {
+    ghost use Rattle.std.specs.Coded.{codes};
+    ghost use Rattle.cs_tx_value.specs.contracts.value.Value as values;
+    ghost use Rattle.cs_node.specs.Drafts as drafts;
+
+    ghost Value = { drafts.Draft };
+
+    ghost coded = { Prim.hlevel (codes, values.the_row.coded) };
+
+    ghost use Rattle.cs_node.specs.Notes.{DraftFits};
+
+    ghost view = { λ d. record { notes = d.notes; said = d.said } };
+
+    ghost invariant = { λ d. DraftFits (record { notes = d.notes; said = d.said }) };
 }
 
 impl Draft {
@@ -62,8 +80,7 @@ impl Draft {
 
     /// Notes that the input is dropped.
     pub fn drop_it(&mut self, cause: Cause) -> Result<(), Memory>
-        ensures tells { OnOk result (TellsSigns (Dropped cause ∷ []) self.old self.new) }
-        ensures fits { DraftFits self.old → OnOk result (DraftFits self.new) }
+        ensures { OnOk result (TellsSigns (Dropped cause ∷ []) self.old self.new) }
     {
         self.notes.push(Note::Dropped(cause))?;
         Ok(())
@@ -71,11 +88,10 @@ impl Draft {
 
     /// Notes what an execution came to.
     pub fn note_execution(&mut self, slot: u64, entry: Entry, effect: Effect) -> Result<(), Memory>
+        requires { EntryFits entry }
         ensures notes { let note = Note.Executed slot entry effect in
             OnOk result (self.new.notes ≡ self.old.notes ++ note ∷ []) }
         ensures said { OnOk result (self.new.said ≡ self.old.said) }
-        ensures fits { EntryFits entry → DraftFits self.old →
-            OnOk result (DraftFits self.new) }
     {
         self.notes.push(Note::Executed {
             slot,
@@ -87,8 +103,7 @@ impl Draft {
 
     /// Notes a view that the order entered.
     pub fn note_view(&mut self, slot: u64, view: u16) -> Result<(), Memory>
-        ensures tells { OnOk result (TellsSigns (Viewed slot view ∷ []) self.old self.new) }
-        ensures fits { DraftFits self.old → OnOk result (DraftFits self.new) }
+        ensures { OnOk result (TellsSigns (Viewed slot view ∷ []) self.old self.new) }
     {
         self.notes.push(Note::Viewed { slot, view })?;
         Ok(())
@@ -96,8 +111,7 @@ impl Draft {
 
     /// Notes a checkpoint that was made.
     pub fn note_head(&mut self, number: u64, head: Digest) -> Result<(), Memory>
-        ensures tells { OnOk result (TellsSigns (Headed number head ∷ []) self.old self.new) }
-        ensures fits { DraftFits self.old → OnOk result (DraftFits self.new) }
+        ensures { OnOk result (TellsSigns (Headed number head ∷ []) self.old self.new) }
     {
         self.notes.push(Note::Headed { number, head })?;
         Ok(())
@@ -105,8 +119,8 @@ impl Draft {
 
     /// Says something to these, one after the other.
     pub fn say_to(&mut self, to: Sequence<NodeId>, message: Message) -> Result<(), Memory>
-        ensures tells { OnOk result (TellsSigns (sends to message) self.old self.new) }
-        ensures fits { MessageFits message → DraftFits self.old → OnOk result (DraftFits self.new) }
+        requires { MessageFits message }
+        ensures { OnOk result (TellsSigns (sends to message) self.old self.new) }
     {
         self.said.push(Said { to, message })?;
         Ok(())
@@ -114,8 +128,8 @@ impl Draft {
 
     /// Says something to one.
     pub fn say(&mut self, alloc: Global, to: NodeId, message: Message) -> Result<(), Memory>
-        ensures tells { OnOk result (TellsSigns (Sent to message ∷ []) self.old self.new) }
-        ensures fits { MessageFits message → DraftFits self.old → OnOk result (DraftFits self.new) }
+        requires { MessageFits message }
+        ensures { OnOk result (TellsSigns (Sent to message ∷ []) self.old self.new) }
     {
         let mut names = Sequence::new(alloc);
         names.push(to)?;

@@ -7,7 +7,7 @@ ghost use Rattle.cs_node_rules.specs.Net.{Net};
 ghost use Rattle.cs_node_rules.specs.Trail.{handed, entered_view, due_marks, candidate_marks, propose_marks, echo_marks, turn_marks, input_marks};
 ghost use Rattle.cs_node_state.specs.Admission.{due};
 ghost use Rattle.cs_node_pool.specs.Deployed.{deployed_setup};
-ghost use Rattle.cs_node.specs.Notes.{TellsSigns, DraftFits};
+ghost use Rattle.cs_node.specs.Notes.{TellsSigns};
 ghost use Rattle.cs_node.specs.Proposals.{pool_admits, admits_pending, first_admitted};
 ghost use Rattle.cs_node.specs.Speaking.{Speaks, input_of};
 ghost use Rattle.cs_node.specs.Steps.{MakesMarks, Settles, log_cut_at};
@@ -43,12 +43,11 @@ impl<O: Carried, J: Judge + Drop> Engine<O, J> {
         draft: &mut Draft,
         input: Input<'_>,
     ) -> Result<(), Memory>
-        ensures marks { keys.now.me ≡ self.old.sbac.me →
+        ensures { keys.now.me ≡ self.old.sbac.me →
             Leads O.stands J.is_approved O.rules O.carrier self.old self.new (λ site v After.
             Speaks self.old.sbac.config site.net keys.now →
             let marks = input_marks site v (input_of input.entry) in
             OnOk result (MakesMarks site marks v draft.old draft.new After)) }
-        ensures fits { DraftFits draft.old → OnOk result (DraftFits draft.new) }
     {
         match input {
             Input::Datagram(bytes) => self.hear_datagram(alloc, keys, draft, bytes),
@@ -58,9 +57,8 @@ impl<O: Carried, J: Judge + Drop> Engine<O, J> {
 
     /// Applies the rules until none applies.
     pub fn settle(&mut self, alloc: Global, draft: &mut Draft) -> Result<(), Memory>
-        ensures marks { Leads O.stands J.is_approved O.rules O.carrier self.old self.new
+        ensures { Leads O.stands J.is_approved O.rules O.carrier self.old self.new
             (λ site v After. OnOk result (Settles site v draft.old draft.new After)) }
-        ensures fits { DraftFits draft.old → OnOk result (DraftFits draft.new) }
     {
         while self.turn(alloc, draft)? {}
         Ok(())
@@ -72,7 +70,6 @@ impl<O: Carried, J: Judge + Drop> Engine<O, J> {
             draft.old draft.new result (λ site v. turn_marks site v) }
         ensures falls { IfOk result (λ went. went ≡ true →
             O.rest self.new.order < O.rest self.old.order) }
-        ensures fits { DraftFits draft.old → OnOk result (DraftFits draft.new) }
     {
         let slot = self.order.open_slot();
         let view = self.order.view();
@@ -101,14 +98,13 @@ impl<O: Carried, J: Judge + Drop> Engine<O, J> {
         before: u16,
         outgoing: Vec<Outgoing<O::Message>>,
     ) -> Result<(), Memory>
-        ensures tells { (net : Net) (genesis : List AnyObject) (h : Member O.Message) →
+        ensures { (net : Net) (genesis : List AnyObject) (h : Member O.Message) →
             O.stands self.now.order h →
             let approves = J.is_approved self.now.judge in
             let site = site_at O.rules O.carrier net self.now.sbac genesis approves in
             let said = handed site self.now.sbac.me outgoing.items in
             let entered = entered_view slot before (O.rules.view h) in
             OnOk result (TellsSigns (said ++ entered) draft.old draft.new) }
-        ensures fits { DraftFits draft.old → OnOk result (DraftFits draft.new) }
     {
         note_entered_view(draft, slot, before, self.order.view())?;
         hand_out::<O>(alloc, &self.sbac, draft, outgoing)?;
@@ -121,7 +117,6 @@ impl<O: Carried, J: Judge + Drop> Engine<O, J> {
             draft.old draft.new result (λ site v. echo_marks site v (O.rules.pending v.member)) }
         ensures falls { IfOk result (λ went. went ≡ true →
             O.rest self.new.order < O.rest self.old.order) }
-        ensures fits { DraftFits draft.old → OnOk result (DraftFits draft.new) }
     {
         if self.admits_pending(alloc)? {
             let mut outgoing = Vec::new(alloc);
@@ -167,7 +162,6 @@ impl<O: Carried, J: Judge + Drop> Engine<O, J> {
             (λ site v. propose_marks site v (O.rules.may_propose v.member)) }
         ensures falls { IfOk result (λ went. went ≡ true →
             O.rest self.new.order < O.rest self.old.order) }
-        ensures fits { DraftFits draft.old → OnOk result (DraftFits draft.new) }
     {
         match self.order.may_propose(alloc)? {
             May::No => Ok(false),
@@ -183,7 +177,6 @@ impl<O: Carried, J: Judge + Drop> Engine<O, J> {
             draft.old draft.new result (λ site v. due_marks site v (due site.setup v.bench.pool)) }
         ensures falls { IfOk result (λ went. went ≡ true →
             O.rest self.new.order < O.rest self.old.order) }
-        ensures fits { DraftFits draft.old → OnOk result (DraftFits draft.new) }
     {
         match self.sbac.due(alloc)? {
             None => Ok(false),
@@ -209,7 +202,6 @@ impl<O: Carried, J: Judge + Drop> Engine<O, J> {
             draft.old draft.new result (λ site v. candidate_marks site v candidates) }
         ensures falls { IfOk result (λ went. went ≡ true →
             O.rest self.new.order < O.rest self.old.order) }
-        ensures fits { DraftFits draft.old → OnOk result (DraftFits draft.new) }
     {
         match self.first_admitted(alloc, &candidates)? {
             None => Ok(false),
@@ -244,8 +236,7 @@ impl<O: Carried, J: Judge + Drop> Engine<O, J> {
 
 // Notes the view that was entered, if one was.
 fn note_entered_view(draft: &mut Draft, slot: u64, before: u16, after: u16) -> Result<(), Memory>
-    ensures tells { OnOk result (TellsSigns (entered_view slot before after) draft.old draft.new) }
-    ensures fits { DraftFits draft.old → OnOk result (DraftFits draft.new) }
+    ensures { OnOk result (TellsSigns (entered_view slot before after) draft.old draft.new) }
 {
     if before < after {
         return draft.note_view(slot, after);

@@ -3,7 +3,6 @@ ghost use Rattle.std.specs.Prelude.{◌≡◌, IfOk, OnOk, Bool};
 ghost use Rattle.cs_tx_types.specs.declared.transaction.Tx.{Tx};
 ghost use Rattle.cs_tx_types.specs.Session.{EntryFits};
 ghost use Rattle.cs_node_rules.specs.Signs.{execution_signs};
-ghost use Rattle.cs_node.specs.Notes.{DraftFits};
 ghost use Rattle.cs_node.specs.Proposals.{entry_in};
 ghost use Rattle.cs_node.specs.Signing.{Does};
 
@@ -37,10 +36,9 @@ pub fn execute(
     slot: u64,
     proposed: &Proposed,
 ) -> Result<(), Memory>
-    ensures made { (approves : Tx → Bool) →
+    ensures { (approves : Tx → Bool) →
         Does approves sbac.old sbac.new draft.old draft.new result
         (λ setup b. execution_signs setup sbac.old.me b slot (entry_in proposed.now)) }
-    ensures fits { DraftFits draft.old → OnOk result (DraftFits draft.new) }
 {
     let entry = chosen(alloc, proposed)?;
     let outcome = sbac.execute(alloc, &entry)?;

@@ -1,7 +1,7 @@
 //! What an order hands out.
 ghost use Rattle.std.specs.Prelude.{OnOk};
 ghost use Rattle.cs_node_rules.specs.Trail.{out_signs, handed};
-ghost use Rattle.cs_node.specs.Notes.{TellsSigns, DraftFits};
+ghost use Rattle.cs_node.specs.Notes.{TellsSigns};
 ghost use Rattle.cs_node.specs.Cores.{AtEverySite};
 
 use crate::draft::Draft;
@@ -19,9 +19,8 @@ fn say_out<O: Carried>(
     draft: &mut Draft,
     out: Outgoing<O::Message>,
 ) -> Result<(), Memory>
-    ensures tells { AtEverySite O.rules O.carrier sbac.now (λ site.
+    ensures { AtEverySite O.rules O.carrier sbac.now (λ site.
         OnOk result (TellsSigns (out_signs site sbac.now.me out.to out.message) draft.old draft.new)) }
-    ensures fits { DraftFits draft.old → OnOk result (DraftFits draft.new) }
 {
     let me = sbac.me();
     let message = O::write(alloc, &out.message)?;
@@ -50,9 +49,8 @@ pub fn hand_out<O: Carried>(
     draft: &mut Draft,
     outgoing: Vec<Outgoing<O::Message>>,
 ) -> Result<(), Memory>
-    ensures tells { AtEverySite O.rules O.carrier sbac.now (λ site.
+    ensures { AtEverySite O.rules O.carrier sbac.now (λ site.
         OnOk result (TellsSigns (handed site sbac.now.me outgoing.items) draft.old draft.new)) }
-    ensures fits { DraftFits draft.old → OnOk result (DraftFits draft.new) }
 {
     for out in outgoing {
         say_out::<O>(alloc, sbac, draft, out)?;

@@ -2,7 +2,6 @@
 ghost use Rattle.std.specs.Prelude.{OnOk, Bool};
 ghost use Rattle.cs_tx_types.specs.declared.transaction.Tx.{Tx};
 ghost use Rattle.cs_node_rules.specs.Signs.{head_signs};
-ghost use Rattle.cs_node.specs.Notes.{DraftFits};
 ghost use Rattle.cs_node.specs.Signing.{Does};
 
 use crate::draft::Draft;
@@ -19,10 +18,9 @@ pub fn hear_head(
     sender: NodeId,
     checkpoint: Checkpoint,
 ) -> Result<(), Memory>
-    ensures made { (approves : Tx → Bool) →
+    ensures { (approves : Tx → Bool) →
         Does approves sbac.old sbac.new draft.old draft.new result
         (λ setup b. head_signs setup sbac.old.me b sender checkpoint) }
-    ensures fits { DraftFits draft.old → OnOk result (DraftFits draft.new) }
 {
     if !is_other_member(sbac.config(), sbac.me(), sender) {
         return draft.drop_it(Cause::Role);

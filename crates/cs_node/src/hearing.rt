@@ -4,7 +4,6 @@ ghost use Rattle.cs_wire_message.specs.Message.{MessageFits};
 ghost use Rattle.cs_node_rules.specs.Site.{Datagram};
 ghost use Rattle.cs_node_rules.specs.declared.cause.Cause.TheVariants.{Role};
 ghost use Rattle.cs_node_rules.specs.Trail.{drops, taking_marks, member_marks, want_marks, message_marks, input_marks};
-ghost use Rattle.cs_node.specs.Notes.{DraftFits};
 ghost use Rattle.cs_node.specs.Speaking.{Speaks};
 ghost use Rattle.cs_node.specs.Steps.{MakesMarks};
 ghost use Rattle.cs_node.specs.Cores.{Leads, LeadsBy};
@@ -36,12 +35,11 @@ impl<O: Carried, J: Judge + Drop> Engine<O, J> {
         draft: &mut Draft,
         bytes: &[u8],
     ) -> Result<(), Memory>
-        ensures marks { keys.now.me ≡ self.old.sbac.me →
+        ensures { keys.now.me ≡ self.old.sbac.me →
             Leads O.stands J.is_approved O.rules O.carrier self.old self.new (λ site v After.
             Speaks self.old.sbac.config site.net keys.now →
             let marks = input_marks site v (Datagram bytes.now) in
             OnOk result (MakesMarks site marks v draft.old draft.new After)) }
-        ensures fits { DraftFits draft.old → OnOk result (DraftFits draft.new) }
     {
         match read(alloc, keys, bytes)? {
             Ok((sender, message)) => self.hear(alloc, draft, sender, message)?,
@@ -59,9 +57,8 @@ impl<O: Carried, J: Judge + Drop> Engine<O, J> {
         message: Message,
     ) -> Result<(), Memory>
         requires { MessageFits message }
-        ensures marks { LeadsBy O.stands J.is_approved O.rules O.carrier self.old self.new
+        ensures { LeadsBy O.stands J.is_approved O.rules O.carrier self.old self.new
             draft.old draft.new result (λ site v. message_marks site v sender message) }
-        ensures fits { DraftFits draft.old → OnOk result (DraftFits draft.new) }
     {
         match message {
             Message::Submit(session) => {
@@ -100,10 +97,9 @@ impl<O: Carried, J: Judge + Drop> Engine<O, J> {
         message: Message,
     ) -> Result<(), Memory>
         requires { MessageFits message }
-        ensures marks { LeadsBy O.stands J.is_approved O.rules O.carrier self.old self.new
+        ensures { LeadsBy O.stands J.is_approved O.rules O.carrier self.old self.new
             draft.old draft.new result
             (λ site v. member_marks site v sender (O.carrier.read message)) }
-        ensures fits { DraftFits draft.old → OnOk result (DraftFits draft.new) }
     {
         match O::read(alloc, message)? {
             None => {
@@ -128,12 +124,11 @@ impl<O: Carried, J: Judge + Drop> Engine<O, J> {
         from: u16,
         message: O::Message,
     ) -> Result<(), Memory>
-        ensures marks { from ≤ 3 * self.old.sbac.config.f → from ≢ self.old.sbac.me.index →
+        ensures { from ≤ 3 * self.old.sbac.config.f → from ≢ self.old.sbac.me.index →
             O.rules.proper message ≡ true →
             LeadsBy O.stands J.is_approved O.rules O.carrier self.old self.new
             draft.old draft.new result
             (λ site v. taking_marks from message (O.rules.taking v.member from message)) }
-        ensures fits { DraftFits draft.old → OnOk result (DraftFits draft.new) }
     {
         match self.order.take(alloc, from, message)? {
             Took::Taken => {}
@@ -153,9 +148,8 @@ impl<O: Carried, J: Judge + Drop> Engine<O, J> {
         sender: NodeId,
         slot: u64,
     ) -> Result<(), Memory>
-        ensures marks { LeadsBy O.stands J.is_approved O.rules O.carrier self.now self.now
+        ensures { LeadsBy O.stands J.is_approved O.rules O.carrier self.now self.now
             draft.old draft.new result (λ site v. want_marks site v sender slot) }
-        ensures fits { DraftFits draft.old → OnOk result (DraftFits draft.new) }
     {
         if !is_other_member(self.sbac.config(), self.sbac.me(), sender) {
             draft.drop_it(Cause::Role)?;

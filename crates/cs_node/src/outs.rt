@@ -5,7 +5,7 @@ ghost use Rattle.cs_base.specs.declared.config.Config.{Config};
 ghost use Rattle.cs_wire_message.specs.Message.{MessageFits};
 ghost use Rattle.cs_wire.specs.Keys.{row_of};
 ghost use Rattle.cs_node_rules.specs.Net.{Net};
-ghost use Rattle.cs_node.specs.Notes.{AllSaidFit, DraftFits, AllReached, to_each, spoken, outs_for};
+ghost use Rattle.cs_node.specs.Notes.{NotesFit, AllSaidFit, AllReached, to_each, spoken, outs_for};
 ghost use Rattle.cs_node.specs.Speaking.{Speaks};
 
 use crate::draft::{Draft, Note, Said};
@@ -87,8 +87,8 @@ fn seal_each(alloc: Global, keys: &Keys, said: &[Said]) -> Result<Sequence<Out>,
 
 /// Seals what an event says.
 pub fn seal_draft(alloc: Global, keys: &Keys, draft: Draft) -> Result<Made, Memory>
-    requires { DraftFits draft }
     ensures notes { IfOk result (λ made. made.notes ≡ draft.notes) }
+    ensures fits { IfOk result (λ made. NotesFit made.notes) }
     ensures outs { (config : Config) (net : Net) →
         Speaks config net keys.now → AllReached keys.now (spoken draft.said) →
         IfOk result (λ made. made.outs ≡ outs_for net keys.now.me (spoken draft.said)) }

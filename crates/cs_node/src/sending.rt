@@ -8,7 +8,7 @@ ghost use Rattle.cs_node_state.specs.Setup.{concerned};
 ghost use Rattle.cs_node_rules.specs.Members.{others};
 ghost use Rattle.cs_node_rules.specs.Signs.{sends, vote_signs, headed_signs, asked_again};
 ghost use Rattle.cs_sbac.specs.Held.{IsFit};
-ghost use Rattle.cs_node.specs.Notes.{TellsSigns, DraftFits};
+ghost use Rattle.cs_node.specs.Notes.{TellsSigns};
 ghost use Rattle.cs_node_pool.specs.Deployed.{AtEverySetup};
 
 use crate::draft::Draft;
@@ -56,9 +56,8 @@ pub fn say_vote(
     requires fits { SessionFits session.now }
     // Only on a fit session is a vote given.
     requires fit { IsSome voted → IsFit sbac.now session.now }
-    ensures tells { AtEverySetup sbac.now.config (λ setup.
+    ensures { AtEverySetup sbac.now.config (λ setup.
         OnOk result (TellsSigns (vote_signs setup sbac.now.me session.now voted) draft.old draft.new)) }
-    ensures fits { DraftFits draft.old → OnOk result (DraftFits draft.new) }
 {
     let Some((vote, asks)) = voted else {
         return Ok(());
@@ -81,10 +80,9 @@ pub fn say_vote(
 // Asks all whom a locked session concerns for their votes. The node itself has voted commit.
 fn ask_votes(alloc: Global, sbac: &Sbac, draft: &mut Draft, session: Session) -> Result<(), Memory>
     requires { SessionFits session }
-    ensures tells { AtEverySetup sbac.now.config (λ setup.
+    ensures { AtEverySetup sbac.now.config (λ setup.
         let signs = vote_signs setup sbac.now.me session (Some (Commit, true)) in
         OnOk result (TellsSigns signs draft.old draft.new)) }
-    ensures fits { DraftFits draft.old → OnOk result (DraftFits draft.new) }
 {
     let names = voters(alloc, sbac, &session)?;
     draft.say_to(
@@ -99,9 +97,8 @@ fn ask_votes(alloc: Global, sbac: &Sbac, draft: &mut Draft, session: Session) ->
 
 /// Asks again for the votes on all locked sessions.
 pub fn ask_again(alloc: Global, sbac: &Sbac, draft: &mut Draft) -> Result<(), Memory>
-    ensures tells { AtEverySetup sbac.now.config (λ setup.
+    ensures { AtEverySetup sbac.now.config (λ setup.
         OnOk result (TellsSigns (asked_again setup sbac.now.me sbac.now.pool) draft.old draft.new)) }
-    ensures fits { DraftFits draft.old → OnOk result (DraftFits draft.new) }
 {
     let sessions = sbac.locked(alloc)?;
     for session in sessions {
@@ -117,10 +114,9 @@ pub fn say_made(
     draft: &mut Draft,
     made: Option<Checkpoint>,
 ) -> Result<(), Memory>
-    ensures tells { AtEverySetup sbac.now.config (λ setup.
+    ensures { AtEverySetup sbac.now.config (λ setup.
         let signs = headed_signs setup sbac.now.me made in
         OnOk result (TellsSigns signs draft.old draft.new)) }
-    ensures fits { DraftFits draft.old → OnOk result (DraftFits draft.new) }
 {
     let Some(checkpoint) = made else {
         return Ok(());
@@ -135,9 +131,8 @@ pub fn say_made(
 /// Asks the other members of the shard for what was chosen in a slot.
 pub fn want(alloc: Global, sbac: &Sbac, draft: &mut Draft, slot: u64) -> Result<(), Memory>
     requires { IsSlot slot }
-    ensures tells { let members = others sbac.now.config.f sbac.now.me (sbac.now.me.shard ∷ []) in
+    ensures { let members = others sbac.now.config.f sbac.now.me (sbac.now.me.shard ∷ []) in
         OnOk result (TellsSigns (sends members (message.Want slot)) draft.old draft.new) }
-    ensures fits { DraftFits draft.old → OnOk result (DraftFits draft.new) }
 {
     let me = sbac.me();
     let names = others(alloc, sbac.config(), me, &[me.shard])?;

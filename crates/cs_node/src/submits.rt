@@ -4,7 +4,6 @@ ghost use Rattle.cs_tx_types.specs.Session.{SessionFits};
 ghost use Rattle.cs_tx.specs.Digest.{digest_of_session};
 ghost use Rattle.cs_node_rules.specs.Signs.{entering_signs, submit_signs};
 ghost use Rattle.cs_sbac.specs.Held.{IsFit};
-ghost use Rattle.cs_node.specs.Notes.{DraftFits};
 ghost use Rattle.cs_node.specs.Signing.{Does};
 
 use crate::draft::Draft;
@@ -27,9 +26,8 @@ fn enter<J: Judge>(
     requires fits { SessionFits session }
     requires formed { IsFit sbac.old session }
     requires named { digest ≡ digest_of_session session }
-    ensures made { Does (J.is_approved judge.now) sbac.old sbac.new draft.old draft.new result
+    ensures { Does (J.is_approved judge.now) sbac.old sbac.new draft.old draft.new result
         (λ setup b. entering_signs setup b session) }
-    ensures fits { DraftFits draft.old → OnOk result (DraftFits draft.new) }
 {
     if sbac.pooled(&digest)? {
         return draft.drop_it(Cause::Repeat);
@@ -53,9 +51,8 @@ pub fn submit<J: Judge>(
     session: Session,
 ) -> Result<(), Memory>
     requires { SessionFits session }
-    ensures made { Does (J.is_approved judge.now) sbac.old sbac.new draft.old draft.new result
+    ensures { Does (J.is_approved judge.now) sbac.old sbac.new draft.old draft.new result
         (λ setup b. submit_signs setup sbac.old.me.shard b sender session) }
-    ensures fits { DraftFits draft.old → OnOk result (DraftFits draft.new) }
 {
     if !sender.is_client() {
         return draft.drop_it(Cause::Role);

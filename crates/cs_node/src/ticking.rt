@@ -2,7 +2,6 @@
 ghost use Rattle.std.specs.Prelude.{OnOk, is_some};
 ghost use Rattle.cs_node_state.specs.Admission.{due};
 ghost use Rattle.cs_node_rules.specs.Trail.{again_marks, waiting_marks, tick_marks};
-ghost use Rattle.cs_node.specs.Notes.{DraftFits};
 ghost use Rattle.cs_node.specs.Cores.{LeadsBy};
 
 use crate::draft::Draft;
@@ -17,9 +16,8 @@ use std::alloc::Global;
 impl<O: Carried, J: Judge + Drop> Engine<O, J> {
     /// Says again what others may have missed, and lets the order wait a tick longer.
     pub(crate) fn tick(&mut self, alloc: Global, draft: &mut Draft) -> Result<(), Memory>
-        ensures marks { LeadsBy O.stands J.is_approved O.rules O.carrier self.old self.new
+        ensures { LeadsBy O.stands J.is_approved O.rules O.carrier self.old self.new
             draft.old draft.new result (λ site v. tick_marks site v) }
-        ensures fits { DraftFits draft.old → OnOk result (DraftFits draft.new) }
     {
         self.say_again(alloc, draft)?;
         self.wait(alloc, draft)?;
@@ -27,9 +25,8 @@ impl<O: Carried, J: Judge + Drop> Engine<O, J> {
     }
 
     fn say_again(&self, alloc: Global, draft: &mut Draft) -> Result<(), Memory>
-        ensures marks { LeadsBy O.stands J.is_approved O.rules O.carrier self.now self.now
+        ensures { LeadsBy O.stands J.is_approved O.rules O.carrier self.now self.now
             draft.old draft.new result (λ site v. again_marks site v) }
-        ensures fits { DraftFits draft.old → OnOk result (DraftFits draft.new) }
     {
         let mut outgoing = Vec::new(alloc);
         self.order.resend(alloc, &mut outgoing)?;
@@ -41,10 +38,9 @@ impl<O: Carried, J: Judge + Drop> Engine<O, J> {
     }
 
     fn wait(&mut self, alloc: Global, draft: &mut Draft) -> Result<(), Memory>
-        ensures marks { LeadsBy O.stands J.is_approved O.rules O.carrier self.old self.new
+        ensures { LeadsBy O.stands J.is_approved O.rules O.carrier self.old self.new
             draft.old draft.new result
             (λ site v. waiting_marks site v (is_some (due site.setup v.bench.pool))) }
-        ensures fits { DraftFits draft.old → OnOk result (DraftFits draft.new) }
     {
         let slot = self.order.open_slot();
         let view = self.order.view();

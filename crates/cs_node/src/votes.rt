@@ -8,7 +8,6 @@ ghost use Rattle.cs_node_state.specs.Pool.{found, pool_has_room};
 ghost use Rattle.cs_node_state.specs.Bench.{noted};
 ghost use Rattle.cs_node_rules.specs.Signs.{Took, Entered as Enters, guarded, asking_signs, voted_signs};
 ghost use Rattle.cs_sbac.specs.Held.{IsFit};
-ghost use Rattle.cs_node.specs.Notes.{DraftFits};
 ghost use Rattle.cs_node.specs.Signing.{Does};
 
 use crate::draft::Draft;
@@ -34,10 +33,9 @@ fn enter_voted<J: Judge>(
     requires formed { IsFit sbac.old session }
     requires named { digest ≡ digest_of_session session }
     requires new { found (digest_of_session session) sbac.old.pool ≡ None }
-    ensures made { Does (J.is_approved judge.now) sbac.old sbac.new draft.old draft.new result
+    ensures { Does (J.is_approved judge.now) sbac.old sbac.new draft.old draft.new result
         (λ setup b. let signs = Took ballot.sender ballot.vote session ∷ Enters session ∷ [] in
         guarded (is_approved setup session) Denied (guarded (pool_has_room b.pool) Full signs)) }
-    ensures fits { DraftFits draft.old → OnOk result (DraftFits draft.new) }
 {
     if !judge.approves(alloc, &session.tx)? {
         return draft.drop_it(Cause::Denied);
@@ -64,10 +62,9 @@ fn answer_vote<J: Judge>(
     requires formed { IsFit sbac.old session }
     requires named { digest ≡ digest_of_session session }
     requires new { found (digest_of_session session) sbac.old.pool ≡ None }
-    ensures made { Does (J.is_approved judge.now) sbac.old sbac.new draft.old draft.new result
+    ensures { Does (J.is_approved judge.now) sbac.old sbac.new draft.old draft.new result
         (λ setup b. let on_record = noted setup sbac.old.me.shard b.table session in
         asking_signs setup b ballot.sender ballot.vote asks session on_record) }
-    ensures fits { DraftFits draft.old → OnOk result (DraftFits draft.new) }
 {
     if !asks {
         return draft.drop_it(Cause::Unasked);
@@ -96,9 +93,8 @@ pub fn hear_vote<J: Judge>(
     session: Session,
 ) -> Result<(), Memory>
     requires { SessionFits session }
-    ensures made { Does (J.is_approved judge.now) sbac.old sbac.new draft.old draft.new result
+    ensures { Does (J.is_approved judge.now) sbac.old sbac.new draft.old draft.new result
         (λ setup b. voted_signs setup sbac.old.me.shard b ballot.sender ballot.vote asks session) }
-    ensures fits { DraftFits draft.old → OnOk result (DraftFits draft.new) }
 {
     if ballot.sender.is_client() {
         return draft.drop_it(Cause::Role);

@@ -15,8 +15,8 @@ use Rattle.cs_node.proofs.Executing.{bench_closed, execution-makes, voted-fit}
 use Rattle.cs_node.proofs.Noting.{effect-again}
 use Rattle.cs_node.proofs.executions.execute.Goals as goal
 
-pub returns-clause-made : goal.returns-clause-made
-returns-clause-made c = λ approves genesis log kept_is.
+pub returns : goal.returns
+returns c = λ approves genesis log kept_is.
     let held = c.args.sbac.now in
     let setup = deployed_setup held.config genesis approves in
     let me = held.me in
@@ -34,7 +34,7 @@ returns-clause-made c = λ approves genesis log kept_is.
     let config_is = ap (λ (h : Held). h.config) c.forget_touched.ensures ∙ c.in_ok-made.ensures.config ∙ ran.config_stays in
     let me_is = ap (λ (h : Held). h.me) c.forget_touched.ensures ∙ c.in_ok-made.ensures.me ∙ ran.me_stays in
     let S : List Sign → Type 0 = λ signs. TellsSigns signs c.args.draft.now c.say_vote.new.draft in
-    let said = subst S (λ i. vote_signs (deployed_setup (ran.config_stays i) genesis approves) (ran.me_stays i) (c.session.ensures.is i) (ran.voted_is i)) (c.in_ok-say_vote.ensures.tells genesis approves) in
+    let said = subst S (λ i. vote_signs (deployed_setup (ran.config_stays i) genesis approves) (ran.me_stays i) (c.session.ensures.is i) (ran.voted_is i)) (c.in_ok-say_vote.ensures genesis approves) in
     let noted = c.in_ok-note_execution.ensures.notes ∙ ap (λ effect. c.say_vote.new.draft.notes ++ Executed c.args.slot entry effect ∷ []) result_is in
     let H : List Sign → Type 0 = λ signs. TellsSigns signs c.note_execution.new.self c.say_made.new.draft in
     let P : Entry → Type 0 = λ e. Leaves setup held (execution_signs setup me old c.args.slot e) old c.forget_touched.new.self c.args.draft.now c.say_made.new.draft in
@@ -47,7 +47,7 @@ returns-clause-made c = λ approves genesis log kept_is.
       makes = execution-makes setup me old new c.args.slot entry c.args.draft.now c.say_vote.new.draft c.note_execution.new.self c.say_made.new.draft closed said noted c.in_ok-note_execution.ensures.said
           (subst H (λ i. headed_signs (deployed_setup (config_is i) genesis approves) (me_is i) (c.in_ok-made.ensures.made log left i)) heads);
     }))
-    (c.say_made.ensures.tells genesis approves)
+    (c.say_made.ensures genesis approves)
 
 pub say_vote-requires-clause-fit : goal.say_vote-requires-clause-fit
 say_vote-requires-clause-fit c = λ some genesis approves.

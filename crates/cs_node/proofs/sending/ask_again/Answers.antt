@@ -18,19 +18,16 @@ ask_votes-requires c =
     fits-at all (length c.loop-session.yielded) c.in-Some.session t.0 t.1 c.in_ok-sessions.ensures.fits
 
 pub loop-session-preserved : goal.loop-session-preserved
-loop-session-preserved c = record {
-  told = λ genesis approves.
-      let setup = deployed_setup c.args.sbac.now.config genesis approves in
-      let me = c.args.sbac.now.me in
-      let x = c.in-Some.session in
-      let P : List Sign → Type 0 = λ signs. TellsSigns signs c.args.draft.now c.ask_votes.new.draft in
-      subst P (sym (asked-push setup me c.loop-session.yielded x))
-      (tells-more (asked_of setup me c.loop-session.yielded) (vote_signs setup me x (Some (Commit, true))) c.args.draft.now c.loop-session.draft c.ask_votes.new.draft (c.loop-session.invariant.told genesis approves) (c.in_ok-ask_votes.ensures.tells genesis approves));
-  fits = λ fits. c.in_ok-ask_votes.ensures.fits (c.loop-session.invariant.fits fits);
-}
+loop-session-preserved c = λ genesis approves.
+    let setup = deployed_setup c.args.sbac.now.config genesis approves in
+    let me = c.args.sbac.now.me in
+    let x = c.in-Some.session in
+    let P : List Sign → Type 0 = λ signs. TellsSigns signs c.args.draft.now c.ask_votes.new.draft in
+    subst P (sym (asked-push setup me c.loop-session.yielded x))
+    (tells-more (asked_of setup me c.loop-session.yielded) (vote_signs setup me x (Some (Commit, true))) c.args.draft.now c.loop-session.draft c.ask_votes.new.draft (c.loop-session.invariant genesis approves) (c.in_ok-ask_votes.ensures genesis approves))
 
-pub returns-clause-tells : goal.returns-clause-tells
-returns-clause-tells c = λ genesis approves.
+pub returns : goal.returns
+returns c = λ genesis approves.
     let all = c.in_ok-sessions.sessions.items in
     let road = YieldsList-from_vec {s = c.into_iter-session-iterator.result} all (search rules) (search rules) in
     let t = YieldsList-end road c.loop-session.yielded c.loop-session.session-iterator c.loop-session.yielded_by c.next.result c.next.new.self c.in-None.is c.next.ensures.steps in
@@ -38,4 +35,4 @@ returns-clause-tells c = λ genesis approves.
     let me = c.args.sbac.now.me in
     let is = sym (map-id c.loop-session.yielded) ∙ t.0 ∙ c.in_ok-sessions.ensures.sessions in
     let P : List Sign → Type 0 = λ signs. TellsSigns signs c.args.draft.now c.loop-session.draft in
-    subst P (ap (asked_of setup me) is ∙ asked-locked setup me c.args.sbac.now.pool) (c.loop-session.invariant.told genesis approves)
+    subst P (ap (asked_of setup me) is ∙ asked-locked setup me c.args.sbac.now.pool) (c.loop-session.invariant genesis approves)

@@ -7,8 +7,8 @@ use Rattle.cs_node.specs.Cores.{KeepsView, site_at, core_view}
 use Rattle.cs_node.proofs.Heard.{member-here, other-low, other-apart}
 use Rattle.cs_node.proofs.engine.Engine.hear_member.Goals as goal
 
-pub returns-else-not-is_other_member-clause-marks : goal.returns-else-not-is_other_member-clause-marks
-returns-else-not-is_other_member-clause-marks g c = λ net genesis log h seated.
+pub returns-else-not-is_other_member : goal.returns-else-not-is_other_member
+returns-else-not-is_other_member g c = λ net genesis log h seated.
     let core = c.args.self.now in
     let approves = g.J.Judge.is_approved core.judge in
     let site = site_at g.O.Order.rules g.O.Carried.carrier net core.sbac genesis approves in
@@ -17,5 +17,5 @@ returns-else-not-is_other_member-clause-marks g c = λ net genesis log h seated.
     let other : is_other_member core.sbac.config.f core.sbac.me c.args.sender ≡ true = sym (c.if-not-is_other_member.ensures ∙ (λ i. is_other_member (c.config.ensures i).f (c.me.ensures i) c.args.sender)) in
     let P : List (Mark g.row.O-Message.Denot) → Type 0 = λ marks. OnOk c.take.result (MakesMarks site marks v c.args.draft.now c.take.new.draft (KeepsView g.O.Order.stands g.J.Judge.is_approved (deployed_setup core.sbac.config genesis approves) c.take.new.self)) in
     subst P (sym (member-here g.O.Order.stands g.J.Judge.is_approved g.O.Order.rules g.O.Carried.carrier net c.args.self.now genesis log h c.args.draft.now c.args.draft.now seated c.args.sender (g.O.Carried.carrier.read c.args.message) c.in-Some.message carries other))
-    (c.take.ensures.marks (other-low core.sbac.config.f core.sbac.me c.args.sender other) (other-apart core.sbac.config.f core.sbac.me c.args.sender other)
+    (c.take.ensures (other-low core.sbac.config.f core.sbac.me c.args.sender other) (other-apart core.sbac.config.f core.sbac.me c.args.sender other)
     (g.met.O.Carried.carries.proper c.args.message c.in-Some.message c.requires carries) net genesis log h seated)

@@ -14,8 +14,8 @@ returns-clause-event g c = λ setup net v is.
     let site = site_of setup net rules carried in
     event-sealed stands approves site core c.settle.new.self v (input_of c.args.input) c.settle.new.draft c.in_ok-made.made is
     (event-done stands approves rules carried net core.engine c.take_in.new.self c.settle.new.self setup v (input_of c.args.input) c.new-draft.result c.take_in.new.draft c.settle.new.draft is.keeps c.new-draft.ensures
-    (λ genesis log h seated. c.in_ok-take_in.ensures.marks (same-me stands approves site core v is) net genesis log h seated is.speaks)
-    (λ genesis log h seated. c.in_ok-settle.ensures.marks net genesis log h seated))
+    (λ genesis log h seated. c.in_ok-take_in.ensures (same-me stands approves site core v is) net genesis log h seated is.speaks)
+    (λ genesis log h seated. c.in_ok-settle.ensures net genesis log h seated))
     c.in_ok-made.ensures.notes (c.in_ok-made.ensures.outs core.engine.sbac.config net is.speaks)
 
 pub returns-clause-dropped : goal.returns-clause-dropped
