@@ -1,12 +1,12 @@
 -- What the table became is what executing the entry gives, and what is stored then is what is known then.
 use Rattle.std.proofs.Common.{◌≡◌, Bool, true, ◌&&◌, List, Option, Some, None, IsSome, is_some, option_map, refl, ap, sym, subst, ◌∙◌}
 use Rattle.std.specs.Prelude.{if◌then◌else◌}
+use Rattle.cs_tx.specs.Votes.{vote_of}
 use Rattle.cs_tx_types.specs.Session.{session_in}
 use Rattle.cs_tx_value.specs.declared.object.Object.{Object}
 use Rattle.cs_tx_types.specs.declared.transaction.Tx.{Tx}
 use Rattle.cs_tx_types.specs.declared.session.Session.{Session}
 use Rattle.cs_tx_types.specs.declared.vote.Vote.{Vote}
-use Rattle.cs_tx_types.specs.declared.vote.Vote.TheVariants.{Commit, Abort}
 use Rattle.cs_tx_types.specs.declared.effect.Effect.{Effect}
 use Rattle.cs_tx_types.specs.declared.entry.Entry.{Entry}
 use Rattle.cs_tx_types.specs.declared.entry.Entry.TheVariants.{Prepare, Decide}
@@ -19,7 +19,7 @@ use Rattle.cs_ledger.specs.Table as Shard
 use Rattle.cs_table.specs.Calls.{anchor_in, decide_outcome}
 use Rattle.cs_table.specs.Effects.{ComesTo, effect_of}
 use Rattle.cs_table.specs.Pieces.{rules_in}
-use Rattle.cs_table.specs.Seen.{Stored, seen, vote_of}
+use Rattle.cs_table.specs.Seen.{Stored, seen}
 use Rattle.cs_check.specs.Root.{keys_in}
 use Rattle.cs_check.proofs.Hashing.{leaves_stay}
 use Rattle.cs_check_rules.specs.Keys.{AreKnown, keys_after}
@@ -34,9 +34,8 @@ use Rattle.cs_audit.specs.Standing.{IsPlaced, entry_seen, acted, StandExecutes}
 
 -- a decision, as the table has it and as the setup has it
 pub decides : (told new : Stored) (y : Seen.Session) (vote : Vote) (effect : Shard.Effect)
-    → ComesTo (decide_outcome told y (vote_of vote)) told new effect → ComesTo (acted told (Shard.Decide y (Setup.vote_of vote))) told new effect
-decides told new y Commit effect comes = comes
-decides told new y Abort effect comes = comes
+    → ComesTo (decide_outcome told y (vote_of vote)) told new effect → ComesTo (acted told (Shard.Decide y (vote_of vote))) told new effect
+decides told new y vote effect comes = comes
 
 some-still : (o : Option ours.Key) → is_some (option_map key_seen o) ≡ is_some o
 some-still None = refl
@@ -94,7 +93,7 @@ module _ (s : Stand) (placed : IsPlaced s) (genesis : List Object) (approves : T
         };
       }
   executes (Decide vote x) new effect fit old_known new_known comes =
-      let e : Shard.Entry = Shard.Decide (ledger_session approves x) (Setup.vote_of vote) in
+      let e : Shard.Entry = Shard.Decide (ledger_session approves x) (vote_of vote) in
       let same : acted s.table e ≡ ran e = same-outcome e fit in
       let shows : seen new ≡ (ran e).table = comes.table_is.shows ∙ ap (λ (o : Shard.Outcome). o.table) same in
       record {

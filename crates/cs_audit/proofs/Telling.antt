@@ -4,11 +4,12 @@ use Rattle.std.specs.Prelude.{if◌then◌else◌, bytes_eq, find}
 use Rattle.std.specs.Map.{lookup}
 use Rattle.std.specs.Option.{option_and_then}
 use Rattle.std.proofs.lemmas.Bool.{true≢false}
+use Rattle.cs_base.specs.Lists.{IsIn}
 use Rattle.cs_base.specs.Options.{or_else}
 use Rattle.cs_tx_types.specs.declared.session.Session.{Session}
 use Rattle.cs_tx_types.specs.declared.transaction.Tx.{Tx}
 use Rattle.cs_tx.specs.Digest.{digest_of_tx}
-use Rattle.cs_ledger.specs.Ledger.{Bytes, Ledger as Plain, IsIn, has, ledger_after}
+use Rattle.cs_ledger.specs.Ledger.{Bytes, Ledger as Plain, has, ledger_after}
 use Rattle.cs_ledger.proofs.Basics.{same_bytes, bytes_refl, bytes_from}
 use Rattle.cs_audit_dump.specs.declared.dump.Log.{Log}
 use Rattle.cs_audit.specs.declared.ledger.Ledger.{Ledger}

@@ -6,13 +6,14 @@ use Rattle.std.proofs.Math.Seq.{drop-cons}
 use Rattle.std.proofs.Math.ListN.{drop_of_length-le}
 use Rattle.std.proofs.lemmas.List.{take_more, length-take-le}
 use Rattle.std.proofs.lemmas.Bool.{and_parts}
+use Rattle.cs_base.specs.Lists.{IsIn}
 use Rattle.cs_tx_types.specs.declared.entry.Entry.{Entry}
 use Rattle.cs_tx_types.specs.declared.entry.Entry.TheVariants.{Prepare, Decide}
 use Rattle.cs_tx_types.specs.declared.leaf.Leaf.{Leaf}
 use Rattle.cs_tx_types.specs.declared.session.Session.{Session}
 use Rattle.cs_tx_types.specs.declared.transaction.Tx.{Tx}
 use Rattle.cs_tx.specs.Sessions.{ledger_session}
-use Rattle.cs_ledger.specs.Ledger.{Bytes, Transaction, Ledger as Plain, IsIn, has, is_well_formed, ledger_after, genesis_ledger}
+use Rattle.cs_ledger.specs.Ledger.{Bytes, Transaction, Ledger as Plain, has, is_well_formed, ledger_after, genesis_ledger}
 use Rattle.cs_ledger.specs.Session as Seen
 use Rattle.cs_node_state.specs.Setup.{Setup, is_fit}
 use Rattle.cs_tx_types.specs.Session.{session_in}

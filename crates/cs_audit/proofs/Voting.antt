@@ -17,11 +17,11 @@ use Rattle.cs_ledger.specs.ShardWorld.{is_vote}
 use Rattle.cs_ledger.specs.Table.{Vote, Commit, Abort}
 use Rattle.cs_ledger.proofs.Basics.{same_bytes}
 use Rattle.cs_table.specs.Effects.{effect_of}
-use Rattle.cs_node_state.specs.Setup.{Setup}
+use Rattle.cs_node_state.specs.Setup.{Setup, prepares}
 use Rattle.cs_tx_types.specs.Session.{session_in}
 use Rattle.cs_node_pool.specs.Deployed.{deployed_setup}
 use Rattle.cs_audit_dump.specs.declared.dump.Log.{Log}
-use Rattle.cs_audit_rules.specs.Support.{prepares, has_vote, log_at}
+use Rattle.cs_audit_rules.specs.Support.{has_vote, log_at}
 use Rattle.cs_audit.specs.Votes.{KeptVotes}
 use Rattle.cs_audit.specs.Kept.{no_votes, is_kept, with_shard_digest, votes_noted, digest_of_leaf, log_votes, logs_votes, KeepsVotes}
 

@@ -2,12 +2,12 @@
 use Rattle.std.specs.Prelude.{ℕ, List, ◌++◌, length, Option, Some, None, codes}
 use Rattle.std.specs.Fmt.{decimal}
 use Rattle.std.specs.List.{flat_map}
-use Rattle.cs_base.specs.Codes.{bytes_text}
 use Rattle.cs_audit_rules.specs.declared.verdict.Rule.{Rule}
 use Rattle.cs_audit_rules.specs.declared.verdict.Rule.TheVariants as rule
 use Rattle.cs_audit_rules.specs.declared.verdict.Fault.{Fault}
 use Rattle.cs_audit_rules.specs.declared.verdict.Verdict.{Verdict}
 use Rattle.cs_audit_rules.specs.declared.verdict.Verdict.TheVariants.{Yes, No}
+use Rattle.cs_tx.specs.Lines.{tx_line}
 
 abbrev pub rule_word : Rule → List ℕ
 rule_word rule.Slot = codes "slot"
@@ -27,9 +27,6 @@ abbrev pub audit_fault_text : Fault → List ℕ
 audit_fault_text fault =
     codes "no " ++ (rule_word fault.rule ++ (codes " " ++ (shard_text fault.shard ++ (codes " "
     ++ (decimal fault.slot ++ codes "\n")))))
-
-abbrev pub tx_line : List ℕ → List ℕ
-tx_line digest = codes "tx " ++ (bytes_text digest ++ codes "\n")
 
 abbrev pub yes_text : List (List ℕ) → List ℕ
 yes_text history = codes "yes " ++ (decimal (length history) ++ (codes "\n" ++ flat_map tx_line history))

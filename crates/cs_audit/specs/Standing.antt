@@ -1,5 +1,6 @@
 -- A shard whose log is executed anew, and what its calls come to.
 use Rattle.std.specs.Prelude.{◌≡◌, Bool, List, Option, Some, None}
+use Rattle.cs_tx.specs.Votes.{vote_of}
 use Rattle.cs_tx_types.specs.declared.effect.Effect.{Effect}
 use Rattle.cs_tx_types.specs.declared.entry.Entry.{Entry}
 use Rattle.cs_tx_types.specs.declared.entry.Entry.TheVariants.{Prepare, Decide}
@@ -16,7 +17,7 @@ use Rattle.cs_check_rules.specs.Chain.{Log, kept_of}
 use Rattle.cs_check.specs.Root.{keys_in}
 use Rattle.cs_check.specs.Leaves.{HasLeavesBut}
 use Rattle.cs_check_rules.specs.Keys.{keys_after}
-use Rattle.cs_node_state.specs.Setup.{Setup, vote_of, entry_of}
+use Rattle.cs_node_state.specs.Setup.{Setup, entry_of}
 use Rattle.cs_audit_rules.specs.declared.verdict.Rule.{Rule}
 use Rattle.cs_audit_rules.specs.Slots.{broken_by}
 use Rattle.cs_audit_rules.specs.Stands as rules

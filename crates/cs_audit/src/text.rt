@@ -1,7 +1,8 @@
 //! What is printed of a verdict.
 ghost use Rattle.std.specs.Prelude.{◌≡◌, Some, IfOk, string_bytes};
 ghost use Rattle.std.specs.List.{flat_map};
-ghost use Rattle.cs_audit.specs.Printed.{rule_word, shard_text, audit_fault_text, tx_line, yes_text, verdict_text as text_of, verdict_status as status_of};
+ghost use Rattle.cs_tx.specs.Lines.{tx_line};
+ghost use Rattle.cs_audit.specs.Printed.{rule_word, shard_text, audit_fault_text, yes_text, verdict_text as text_of, verdict_status as status_of};
 
 use cs_audit_rules::{Fault, Rule, Verdict};
 use cs_base::{Memory, print_bytes};

@@ -6,7 +6,7 @@ use Rattle.cs_tx_value.specs.Object.{DigestFits}
 use Rattle.cs_order_rules.specs.declared.message.OrderMessage.{OrderMessage}
 use Rattle.cs_replay_rules.specs.Dumps.{dump_text}
 use Rattle.cs_node_rules.specs.Site.{Site}
-use Rattle.cs_node_rules.specs.World.{Happening, firsts_of, history}
+use Rattle.cs_node_rules.specs.World.{Happening, firsts_of, recorded_history}
 use Rattle.cs_world_law.specs.Worlds.{ExecutesFit}
 use Rattle.cs_sched.specs.declared.schedule.Schedule.{Schedule}
 use Rattle.cs_sched.specs.Playable.{IsPlayable}
@@ -40,7 +40,7 @@ module _ (limit : ℕ) (low : limit < 2 ^ 64) (again : DumpIsReadAgain limit) (a
   printed longest = dump_same site world longest (leaves_there site.setup (firsts_of world)) schedule.config schedule.contracts schedule.genesis refl refl refl refl
 
   pub answered : DumpsFirsts site world → PassesAudit site world → LeavesFit site world → ExecutesFit site world → length text ≤ limit
-      → IsYes limit approves schedule.contracts (digests (history site world)) text
+      → IsYes limit approves schedule.contracts (digests (recorded_history site world)) text
   answered longest passes fit executed small =
       let same = printed longest in
       let short : length (printed_dump dump) ≤ limit = subst (λ (t : List ℕ). length t ≤ limit) (sym same) small in

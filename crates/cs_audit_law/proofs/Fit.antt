@@ -1,10 +1,11 @@
 -- The session of each step is well formed, and concerns its shard.
 use Rattle.std.proofs.Common.{◌≡◌, inl, inr, ℕ, true, false, ◌&&◌, List, [], ◌∷◌, refl, sym, ap, subst, ◌∙◌}
 use Rattle.std.proofs.lemmas.Bool.{and_parts, and_from, or_cases, both_ways}
+use Rattle.cs_base.specs.Lists.{IsIn}
 use Rattle.cs_tx_types.specs.declared.entry.Entry.{Entry}
 use Rattle.cs_tx_types.specs.declared.entry.Entry.TheVariants.{Prepare, Decide}
 use Rattle.cs_tx_types.specs.declared.vote.Vote.TheVariants as vote
-use Rattle.cs_ledger.specs.Ledger.{Bytes, IsIn}
+use Rattle.cs_ledger.specs.Ledger.{Bytes}
 use Rattle.cs_ledger.specs.Session as Seen
 use Rattle.cs_ledger.specs.Session.{Rules, AreToldApart, all_items, well_formed}
 use Rattle.cs_ledger.specs.Table as Shard

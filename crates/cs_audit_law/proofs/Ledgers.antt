@@ -2,7 +2,8 @@
 use Rattle.std.proofs.Common.{◌≡◌, ◌⊎◌, inl, inr, Bool, true, false, ◌||◌, List, [], ◌∷◌, ◌++◌, map, Option, Some, None, refl, sym, ap, subst, ◌∙◌, append_assoc, append-nil}
 use Rattle.std.specs.Prelude.{not, bytes_eq, find, if◌then◌else◌}
 use Rattle.std.proofs.lemmas.Bool.{and_parts, and_from, or_cases, or_left, or_right, both_ways}
-use Rattle.cs_ledger.specs.Ledger.{Bytes, Item, Transaction, Ledger, IsIn, names, has, all_differ, apart, ledger_after, Takes, HoldsAll, Serial}
+use Rattle.cs_base.specs.Lists.{IsIn}
+use Rattle.cs_ledger.specs.Ledger.{Bytes, Item, Transaction, Ledger, names, has, all_differ, apart, ledger_after, Takes, HoldsAll, Serial}
 use Rattle.cs_ledger.proofs.Basics.{same_bytes, bytes_from}
 use Rattle.cs_world_law.proofs.Counting.{all-from}
 use Rattle.cs_audit_rules.specs.declared.verdict.Fault.{Fault}

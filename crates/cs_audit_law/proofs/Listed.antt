@@ -3,11 +3,12 @@ use Rattle.std.proofs.Common.{◌≡◌, inl, inr, ℕ, zero, suc, ◌<◌, ◌=
 use Rattle.std.specs.Prelude.{not, bytes_eq, if◌then◌else◌}
 use Rattle.std.specs.List.{flat_map}
 use Rattle.std.proofs.lemmas.Bool.{cases_lt, and_parts, both_ways, eq-eqb}
+use Rattle.cs_base.specs.Lists.{IsIn}
 use Rattle.cs_tx_types.specs.declared.entry.Entry.{Entry}
 use Rattle.cs_tx_types.specs.declared.entry.Entry.TheVariants.{Prepare, Decide}
 use Rattle.cs_tx_types.specs.declared.session.Session.{Session}
 use Rattle.cs_tx_types.specs.declared.leaf.Leaf.{Leaf}
-use Rattle.cs_ledger.specs.Ledger.{Bytes, Transaction, IsIn, has, all_differ, Serial, genesis_ledger}
+use Rattle.cs_ledger.specs.Ledger.{Bytes, Transaction, has, all_differ, Serial, genesis_ledger}
 use Rattle.cs_ledger.specs.Session as Seen
 use Rattle.cs_ledger.specs.Session.{concerns}
 use Rattle.cs_ledger.specs.Table as Shard

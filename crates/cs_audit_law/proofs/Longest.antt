@@ -8,7 +8,7 @@ use Rattle.cs_base.specs.declared.node_id.NodeId.{NodeId}
 use Rattle.cs_base.specs.NodeId.{members_below}
 use Rattle.cs_tx_types.specs.declared.entry.Entry.{Entry}
 use Rattle.cs_tx_types.specs.declared.leaf.Leaf.{Leaf}
-use Rattle.cs_ledger.specs.Ledger.{IsIn}
+use Rattle.cs_base.specs.Lists.{IsIn}
 use Rattle.cs_ledger.specs.Table.{Table, exec}
 use Rattle.cs_ledger.specs.ShardWorld.{log}
 use Rattle.cs_ledger.proofs.Basics.{in_left, in_right, in_either}

@@ -28,7 +28,7 @@ use Rattle.cs_node_rules.specs.Signs.{Sign, Dropped, Took, Entered, Viewed, Did,
 use Rattle.cs_node_rules.specs.Lines.{effect_text, slot_line, error_text, drop_cause_text, drop_line, view_line, head_line, if_traced, sign_line, sign_lines, Parcel, parcels_of}
 use Rattle.cs_node_rules.specs.Site as Given
 use Rattle.cs_node_rules.specs.Site.{Input, Datagram, Site}
-use Rattle.cs_node_rules.specs.World.{happens, is_genuine, history}
+use Rattle.cs_node_rules.specs.World.{happens, is_genuine, recorded_history}
 use Rattle.cs_sched.specs.declared.schedule.Event.{Event}
 use Rattle.cs_sched.specs.declared.schedule.Event.TheVariants.{Say, Inject, Deliver, Tick, Drain}
 use Rattle.cs_replay_rules.specs.Lines.{datagram_kind, sent_line, sent_lines, at_line, event_lines, forged_line, limit_line, transaction_lines, history_text}
@@ -417,7 +417,7 @@ module _ {M : Type 0} (site : Site M) (traced : Bool) where
   all-prints (e ∷ events) p are = then-prints (play site traced e.0 e.1 p) (play_all site traced events) (play-prints e.0 e.1 p are) (all-prints events)
 
   closing-prints : (course : Course M) → Prints course → AreLines (closing_text site course)
-  closing-prints (Goes p) are = more-lines p.text (history_text (history site p.world)) are (history-are (history site p.world))
+  closing-prints (Goes p) are = more-lines p.text (history_text (recorded_history site p.world)) are (history-are (recorded_history site p.world))
   closing-prints (Stops p line) are = more-lines p.text (limit_line line) are (limit-are line)
   closing-prints (Forges p line) are = more-lines p.text (forged_line line) are (forged-are line)
 

@@ -19,7 +19,7 @@ use Rattle.cs_node_state.specs.Setup.{Setup}
 use Rattle.cs_replay_rules.specs.Dumps.{dumped_leaf, dumped_head, log_text, number_line, dumped_genesis, dumped_contract, shard_log, logs_text, dump_text}
 use Rattle.cs_replay_rules.specs.Lines.{transaction_lines, history_text}
 use Rattle.cs_node_rules.specs.Site.{Site}
-use Rattle.cs_node_rules.specs.World.{Happening, Execution, firsts_of, history}
+use Rattle.cs_node_rules.specs.World.{Happening, Execution, firsts_of, recorded_history}
 use Rattle.cs_text.specs.Printed.{line_text, number_words, bytes_words}
 use Rattle.cs_sched.specs.Printed.{contract_lines, genesis_lines}
 use Rattle.cs_audit_dump.specs.Printed.{leaf_words, head_words, tx_words, log_words, log_lines, logs_lines, config_lines, dump_history_lines, dump_lines, printed_dump}
@@ -148,10 +148,10 @@ module _ {M : Type 0} (site : Site M) (world : List (Happening M)) (dumps : Dump
   dump_same config contracts genesis shards f dummies genesis_is =
       let logs = dumped_logs site.setup (firsts_of world) site.setup.shards in
       let told_lines = dump_history_lines (told_digests site.setup (firsts_of world)) ++ (codes "end" ∷ []) ∷ [] in
-      let told_part = told_same (history site world) (told_digests site.setup (firsts_of world)) refl in
-      let logs_part : each line_text (logs_lines 0 logs ++ told_lines) ≡ logs_text site world site.setup.shards ++ (history_text (history site world) ++ codes "end\n") =
+      let told_part = told_same (recorded_history site world) (told_digests site.setup (firsts_of world)) refl in
+      let logs_part : each line_text (logs_lines 0 logs ++ told_lines) ≡ logs_text site world site.setup.shards ++ (history_text (recorded_history site world) ++ codes "end\n") =
       each-append line_text (logs_lines 0 logs) told_lines ∙ (λ i. logs_same site.setup.shards i ++ told_part i) in
-      let genesis_part : each line_text (genesis_lines genesis ++ (logs_lines 0 logs ++ told_lines)) ≡ flat_map dumped_genesis site.setup.rules.genesis ++ (logs_text site world site.setup.shards ++ (history_text (history site world) ++ codes "end\n")) =
+      let genesis_part : each line_text (genesis_lines genesis ++ (logs_lines 0 logs ++ told_lines)) ≡ flat_map dumped_genesis site.setup.rules.genesis ++ (logs_text site world site.setup.shards ++ (history_text (recorded_history site world) ++ codes "end\n")) =
       each-append line_text (genesis_lines genesis) (logs_lines 0 logs ++ told_lines)
       ∙ (λ i. (objects_same 0 genesis ∙ ap (flat_map dumped_genesis) (sym genesis_is)) i ++ logs_part i) in
       let contracts_same : each line_text (contract_lines contracts) ≡ flat_map dumped_contract contracts = each-same line_text (bytes_words (codes "contract")) dumped_contract contract_same contracts in

@@ -4,23 +4,21 @@ use Rattle.std.specs.Prelude.{if◌then◌else◌}
 use Rattle.std.specs.List.{list_any}
 use Rattle.std.proofs.lemmas.Bool.{cases_lt, or_left, or_right}
 use Rattle.std.proofs.lemmas.List.{get_or_append_left, get_or_push}
-use Rattle.cs_tx_types.specs.declared.entry.Entry.{Entry}
-use Rattle.cs_tx_types.specs.declared.entry.Entry.TheVariants.{Prepare, Decide}
+use Rattle.cs_base.specs.Lists.{IsIn}
 use Rattle.cs_tx_types.specs.declared.session.Session.{Session}
 use Rattle.cs_tx_types.specs.declared.leaf.Leaf.{Leaf}
-use Rattle.cs_ledger.specs.Ledger.{Bytes, IsIn}
+use Rattle.cs_ledger.specs.Ledger.{Bytes}
 use Rattle.cs_ledger.specs.Table.{Vote, Commit, Abort}
 use Rattle.cs_ledger.specs.ShardWorld.{is_vote}
 use Rattle.cs_table.specs.Effects.{effect_of}
-use Rattle.cs_node_state.specs.Setup.{Setup, digest_of, concerned}
-use Rattle.cs_node_rules.specs.World as World
+use Rattle.cs_node_state.specs.Setup.{Setup, digest_of, concerned, prepares}
 use Rattle.cs_node_rules.specs.World.{Execution, is_recorded, all_recorded}
 use Rattle.cs_world_law.specs.Steps.{executions_of}
 use Rattle.cs_world_law.specs.Shown.{leaf_by, leaves_of}
 use Rattle.cs_world_law.proofs.Counting.{all-in, all-from, concerned-in}
 use Rattle.cs_audit_dump.specs.declared.dump.Log.{Log}
 use Rattle.cs_audit_dump.specs.Drafts.{empty_dump_log}
-use Rattle.cs_audit_rules.specs.Support.{prepares, has_vote, log_at, all_logs_commit, one_log_aborts}
+use Rattle.cs_audit_rules.specs.Support.{has_vote, log_at, all_logs_commit, one_log_aborts}
 use Rattle.cs_audit_law.specs.Dumped.{dumped_leaves, dumped_log, dumped_logs}
 use Rattle.cs_audit_law.proofs.Unbroken.{effect_back, count_logs}
 
@@ -42,18 +40,12 @@ any-from test (y ∷ xs) x (inr within) is = or_right _ _ (any-from test xs x wi
 
 -- ---- one log
 
-same_prepares : (setup : Setup) (d : Bytes) (entry : Entry) → prepares setup d entry ≡ World.prepares setup d entry
-same_prepares setup d (Prepare x) = refl
-same_prepares setup d (Decide vote x) = refl
-
 module _ (setup : Setup) (vote : Vote) (d : Bytes) where
   abbrev votes_so : Leaf → Bool
   votes_so leaf = prepares setup d leaf.entry && is_vote vote (effect_of leaf.result)
 
-  same_vote : (e : Execution) → votes_so (leaf_by e) ≡ (World.prepares setup d e.entry && is_vote vote e.effect)
-  same_vote e =
-      ap (λ b. b && is_vote vote (effect_of (leaf_by e).result)) (same_prepares setup d e.entry)
-      ∙ ap (λ f. World.prepares setup d e.entry && is_vote vote f) (effect_back e.effect)
+  same_vote : (e : Execution) → votes_so (leaf_by e) ≡ (prepares setup d e.entry && is_vote vote e.effect)
+  same_vote e = ap (λ f. prepares setup d e.entry && is_vote vote f) (effect_back e.effect)
 
   pub vote_told : (firsts : List Execution) (shard : ℕ) → list_any votes_so (dumped_leaves shard firsts) ≡ is_recorded setup firsts d vote shard
   vote_told [] shard = refl
@@ -61,12 +53,12 @@ module _ (setup : Setup) (vote : Vote) (d : Bytes) where
     where
       by : (b : Bool) → list_any votes_so (dumped_leaves shard earlier) ≡ is_recorded setup earlier d vote shard
           → list_any votes_so (leaves_of (if b then e ∷ executions_of shard earlier else executions_of shard earlier))
-          ≡ ((b && (World.prepares setup d e.entry && is_vote vote e.effect)) || is_recorded setup earlier d vote shard)
+          ≡ ((b && (prepares setup d e.entry && is_vote vote e.effect)) || is_recorded setup earlier d vote shard)
       by false before = before
       by true before =
           any_end votes_so (dumped_leaves shard earlier) (leaf_by e)
           ∙ ap (λ b. b || list_any votes_so (dumped_leaves shard earlier)) (same_vote e)
-          ∙ ap (λ b. (World.prepares setup d e.entry && is_vote vote e.effect) || b) before
+          ∙ ap (λ b. (prepares setup d e.entry && is_vote vote e.effect) || b) before
 
 -- ---- the logs of all shards
 

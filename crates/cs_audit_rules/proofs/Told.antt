@@ -3,11 +3,12 @@ use Rattle.std.proofs.Common.{◌≡◌, inl, inr, Bool, true, false, ◌&&◌, 
 use Rattle.std.specs.Prelude.{not, bytes_eq}
 use Rattle.std.specs.List.{list_all, flat_map}
 use Rattle.std.proofs.lemmas.Bool.{cases_Bool, and_parts, and_from, or_cases, or_left, or_right, both_ways, true≢false}
+use Rattle.cs_base.specs.Lists.{IsIn}
 use Rattle.cs_tx_types.specs.declared.entry.Entry.{Entry}
 use Rattle.cs_tx_types.specs.declared.entry.Entry.TheVariants.{Prepare, Decide}
 use Rattle.cs_tx_types.specs.declared.leaf.Leaf.{Leaf}
 use Rattle.cs_tx_types.specs.declared.session.Session.{Session}
-use Rattle.cs_ledger.specs.Ledger.{Bytes, Item, Transaction, Ledger, IsIn, names, has, all_differ, apart, is_well_formed, ledger_after, Takes, HoldsAll, Serial, genesis_ledger}
+use Rattle.cs_ledger.specs.Ledger.{Bytes, Item, Transaction, Ledger, names, has, all_differ, apart, is_well_formed, ledger_after, Takes, HoldsAll, Serial, genesis_ledger}
 use Rattle.cs_ledger.proofs.Basics.{same_bytes, bytes_from}
 use Rattle.cs_node_state.specs.Setup.{Setup}
 use Rattle.cs_audit_dump.specs.declared.dump.Log.{Log}

@@ -10,7 +10,7 @@ use Rattle.cs_ledger.specs.ShardWorld.{vote_eq}
 use Rattle.cs_ledger.specs.Table.{Effect, Voted, Accepted, Aborted, Skipped, Void}
 use Rattle.cs_check_rules.specs.Chain.{head_of, made_last}
 use Rattle.cs_table.specs.Effects.{effect_of}
-use Rattle.cs_node_state.specs.Setup.{Setup, is_fit, is_approved}
+use Rattle.cs_node_state.specs.Setup.{Setup, is_fit, is_session_approved}
 use Rattle.cs_tx_types.specs.Session.{session_in}
 use Rattle.cs_audit_dump.specs.declared.dump.Log.{Log}
 use Rattle.cs_audit_rules.specs.declared.verdict.Fault.{Fault}
@@ -22,7 +22,7 @@ use Rattle.cs_audit_rules.specs.Stands.{Stand, start_stand, outcome_of, after_le
 
 -- a vote is given on an approved transaction
 abbrev pub is_judged : Setup → Entry → Bool
-is_judged setup (Prepare x) = is_approved setup x
+is_judged setup (Prepare x) = is_session_approved setup x
 is_judged setup (Decide vote x) = true
 
 abbrev pub same_effect : Effect → Effect → Bool

@@ -1,16 +1,17 @@
 -- A sound dump. No auditor is in it.
 use Rattle.std.specs.Prelude.{◌≡◌, ℕ, Bool, true, List, ◌∷◌, ◌++◌, length, map, slice_get, Some, None}
+use Rattle.cs_base.specs.Lists.{IsIn}
 use Rattle.cs_tx_types.specs.declared.entry.Entry.{Entry}
 use Rattle.cs_tx_types.specs.declared.entry.Entry.TheVariants.{Prepare, Decide}
 use Rattle.cs_tx_types.specs.declared.leaf.Leaf.{Leaf}
 use Rattle.cs_tx_types.specs.declared.session.Session.{Session}
 use Rattle.cs_tx_types.specs.declared.transaction.Tx.{Tx}
-use Rattle.cs_ledger.specs.Ledger.{Bytes, Transaction, IsIn, all_differ, Serial, genesis_ledger}
+use Rattle.cs_ledger.specs.Ledger.{Bytes, Transaction, all_differ, Serial, genesis_ledger}
 use Rattle.cs_ledger.specs.Session as Seen
 use Rattle.cs_ledger.specs.Table.{Table, exec, start, table_after}
 use Rattle.cs_check_rules.specs.Chain.{chain_head}
 use Rattle.cs_table.specs.Effects.{effect_of}
-use Rattle.cs_node_state.specs.Setup.{Setup, entry_of, is_approved}
+use Rattle.cs_node_state.specs.Setup.{Setup, entry_of, is_session_approved}
 use Rattle.cs_tx_types.specs.Session.{session_in}
 use Rattle.cs_audit_dump.specs.declared.dump.Dump.{Dump}
 use Rattle.cs_audit_dump.specs.declared.dump.Log.{Log}
@@ -29,7 +30,7 @@ table_behind setup shard leaves =
     table_after setup.rules shard (start setup.rules shard) (map (λ leaf. entry_of setup leaf.entry) leaves)
 
 abbrev pub IsJudged : Setup → Entry → Type 0
-IsJudged setup (Prepare x) = is_approved setup x ≡ true
+IsJudged setup (Prepare x) = is_session_approved setup x ≡ true
 IsJudged setup (Decide vote x) = Unit {0}
 
 -- a leaf behind those before it

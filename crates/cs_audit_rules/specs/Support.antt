@@ -1,18 +1,17 @@
 -- The votes in the logs of a dump, and the decisions that they support.
-use Rattle.std.specs.Prelude.{ℕ, ◌+◌, Bool, true, false, ◌&&◌, bytes_eq, if◌then◌else◌, List, [], ◌∷◌, Option, Some, None}
+use Rattle.std.specs.Prelude.{ℕ, ◌+◌, Bool, true, ◌&&◌, if◌then◌else◌, List, [], ◌∷◌, Option, Some, None}
 use Rattle.std.specs.List.{list_any, list_all, slice_index_or}
 use Rattle.cs_base.specs.Options.{or_else}
 use Rattle.cs_tx_types.specs.declared.effect.Effect.{Effect}
 use Rattle.cs_tx_types.specs.declared.effect.Effect.TheVariants as effect
-use Rattle.cs_tx_types.specs.declared.entry.Entry.{Entry}
-use Rattle.cs_tx_types.specs.declared.entry.Entry.TheVariants.{Prepare, Decide}
+use Rattle.cs_tx_types.specs.declared.entry.Entry.TheVariants.{Prepare}
 use Rattle.cs_tx_types.specs.declared.leaf.Leaf.{Leaf}
 use Rattle.cs_tx_types.specs.declared.session.Session.{Session}
 use Rattle.cs_ledger.specs.Ledger.{Bytes}
 use Rattle.cs_ledger.specs.ShardWorld.{is_vote}
 use Rattle.cs_ledger.specs.Table.{Vote, Commit, Abort}
 use Rattle.cs_table.specs.Effects.{effect_of}
-use Rattle.cs_node_state.specs.Setup.{Setup, digest_of, concerned}
+use Rattle.cs_node_state.specs.Setup.{Setup, digest_of, concerned, prepares}
 use Rattle.cs_tx_types.specs.Session.{session_in}
 use Rattle.cs_audit_dump.specs.declared.dump.Log.{Log}
 use Rattle.cs_audit_dump.specs.Drafts.{empty_dump_log}
@@ -21,11 +20,6 @@ use Rattle.cs_audit_rules.specs.declared.verdict.Rule.TheVariants as rule
 use Rattle.cs_audit_rules.specs.Slots.{fault_at}
 
 -- ---- votes
-
--- the entry is a Prepare of the session of this digest
-abbrev pub prepares : Setup → Bytes → Entry → Bool
-prepares setup d (Prepare x) = bytes_eq d (digest_of setup x)
-prepares setup d (Decide vote x) = false
 
 -- the log has such a Prepare, with this vote as its result
 abbrev pub has_vote : Setup → Vote → Bytes → Log → Bool

@@ -1,5 +1,6 @@
 pub mod formers
 pub mod Options
+pub mod Lists
 pub mod Fields
 pub mod Config
 pub mod NodeId
@@ -10,3 +11,4 @@ pub mod InMemory
 pub mod Answers
 pub mod Lines
 pub mod Codes
+pub mod Characters

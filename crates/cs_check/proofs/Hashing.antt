@@ -9,6 +9,7 @@ use Rattle.std.specs.Ordering.{is_eq, match_ordering}
 use Rattle.std.specs.declared.cmp.Ordering.{Ordering}
 use Rattle.std.proofs.lemmas.Bool.{both_ways, cases_Bool}
 use Rattle.std.proofs.lemmas.Map.Made.{lookup-map_values}
+use Rattle.cs_base.specs.Lists.{is_empty}
 use Rattle.cs_base.specs.declared.key.Key.{Key}
 use Rattle.cs_base.specs.declared.key.Key.TheVariants as key
 use Rattle.cs_tx_value.specs.Key.{key_encoding, KeyFits}
@@ -18,12 +19,12 @@ use Rattle.cs_merkle.specs.Tree.{leaf_hash}
 use Rattle.cs_merkle_kept.specs.declared.leaf.Leaf.{Leaf}
 use Rattle.cs_merkle_kept.specs.Leaves.{KeyedHashes, all_put, AreRising, leaf_entry, leaf_entries}
 use Rattle.cs_tx.specs.Sessions.{key_seen}
-use Rattle.cs_ledger.specs.Ledger.{Bytes, is_empty}
+use Rattle.cs_ledger.specs.Ledger.{Bytes}
 use Rattle.cs_ledger.specs.Session as ledger
 use Rattle.cs_ledger.specs.Table as table
 use Rattle.cs_ledger.specs.Table.{Table, Unknown, Active, Locked, Inactive, Shared}
 use Rattle.cs_ledger.proofs.Basics as basics
-use Rattle.cs_table.specs.Seen.{Stored, IsStored, AllStored, has_name, is_under, row_in, seen, seen_row, seen_record, unknown_record, IsKeyInWidth, KeysInWidth}
+use Rattle.cs_table.specs.Seen.{Stored, IsStored, AllStored, has_key_named, is_under, row_in, seen, seen_row, seen_record, unknown_record, IsKeyInWidth, KeysInWidth}
 use Rattle.cs_table.specs.Changes.{MarksTouched}
 use Rattle.cs_table.proofs.Rows.{key_cmp, same_key, key_sym}
 use Rattle.cs_check_rules.specs.Keys.{is_known_record}
@@ -172,7 +173,7 @@ one_more false false shown cur next is = is
 pub takes_more : (t : Table) (k : Key) (keys : List Key) (cur next : List (Key × Bytes)) → ((name : ledger.Key) → lookup (is_under name) next ≡ leaves_taken t (k ∷ []) cur name)
     → (name : ledger.Key) → leaves_taken t keys next name ≡ leaves_taken t (k ∷ keys) cur name
 takes_more t k keys cur next is name =
-    one_more (is_under name k) (has_name keys name) (shown_leaf t name) (lookup (is_under name) cur) (lookup (is_under name) next) (is name)
+    one_more (is_under name k) (has_key_named keys name) (shown_leaf t name) (lookup (is_under name) cur) (lookup (is_under name) next) (is name)
 
 -- ---- the leaves of a table, once the touched ones are taken over
 
@@ -190,16 +191,16 @@ pub takes_touched : (touched : List Key) (h new : Hashed) (t : Table) → new.tr
 takes_touched touched h new t tree is has name wide =
     ap (λ (es : KeyedHashes). option_or (lookup (is_under name) new.waiting) (leaf_hash_in es (ledger_key_bytes name))) tree
     ∙ ap (λ (found : Option Bytes). option_or found (leaf_hash_in h.tree (ledger_key_bytes name))) (is name)
-    ∙ if_taken (has_name touched name) (shown_leaf t name) (lookup (is_under name) h.waiting) (leaf_hash_in h.tree (ledger_key_bytes name))
+    ∙ if_taken (has_key_named touched name) (shown_leaf t name) (lookup (is_under name) h.waiting) (leaf_hash_in h.tree (ledger_key_bytes name))
     (has.same name wide)
     (λ none. has.none name wide (if_unknown (is_known_record (t.at name)) _ none))
 
 -- a name that is no row's
-no_row : (rows : Rows) (name : ledger.Key) → has_name (keys_of rows) name ≡ false → row_in rows name ≡ None
+no_row : (rows : Rows) (name : ledger.Key) → has_key_named (keys_of rows) name ≡ false → row_in rows name ≡ None
 no_row [] name none = refl
 no_row (row ∷ rows) name none = by_test (is_under name row.0) (no_row rows name) none
   where
-    by_test : (b : Bool) → (has_name (keys_of rows) name ≡ false → row_in rows name ≡ None) → (b || has_name (keys_of rows) name) ≡ false → cond b (Some row.1) (row_in rows name) ≡ None
+    by_test : (b : Bool) → (has_key_named (keys_of rows) name ≡ false → row_in rows name ≡ None) → (b || has_key_named (keys_of rows) name) ≡ false → cond b (Some row.1) (row_in rows name) ≡ None
     by_test true later h = absurd (both_ways true h refl)
     by_test false later h = later h
 

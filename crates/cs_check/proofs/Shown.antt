@@ -6,6 +6,7 @@ use Rattle.std.specs.List.Sorted.{IsStrictlySortedBy}
 use Rattle.std.specs.Cmp.{tied_itself}
 use Rattle.std.proofs.lemmas.Bool.{cases_Bool, both_ways}
 use Rattle.std.proofs.lemmas.List.{length-map}
+use Rattle.cs_tx.specs.Votes.{vote_of}
 use Rattle.cs_base.specs.Fields.{each}
 use Rattle.cs_base.specs.declared.key.Key.{Key}
 use Rattle.cs_base.specs.declared.key.Key.TheVariants as key
@@ -20,11 +21,11 @@ use Rattle.cs_tx_types.specs.State.{state_encoding}
 use Rattle.cs_tx_types.specs.Record.{place_encoding, record_encoding}
 use Rattle.cs_merkle.specs.Tree.{merkle_tree_hash}
 use Rattle.cs_tx.specs.Sessions.{key_seen}
-use Rattle.cs_ledger.specs.Ledger.{IsIn}
+use Rattle.cs_base.specs.Lists.{IsIn}
 use Rattle.cs_ledger.specs.Session as ledger
 use Rattle.cs_ledger.specs.Table as table
 use Rattle.cs_ledger.proofs.Basics.{same_key, key_refl}
-use Rattle.cs_table.specs.Seen.{Stored, IsStored, AllStored, vote_of, seen_state, seen_place, seen_record, seen_row, row_in, is_under, unknown_record, seen}
+use Rattle.cs_table.specs.Seen.{Stored, IsStored, AllStored, seen_state, seen_place, seen_record, seen_row, row_in, is_under, unknown_record, seen}
 use Rattle.cs_table.proofs.Rows.{key_cmp}
 use Rattle.cs_check_rules.specs.Keys.{key_order, IsRising, is_known_record, AreKnown}
 use Rattle.cs_check_rules.specs.Root.{ledger_key_bytes, state_bytes, vote_bytes, place_bytes, record_bytes, leaf_under, root_under}

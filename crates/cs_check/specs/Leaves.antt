@@ -13,7 +13,7 @@ use Rattle.cs_tx.specs.Sessions.{key_seen}
 use Rattle.cs_ledger.specs.Ledger.{Bytes}
 use Rattle.cs_ledger.specs.Session as ledger
 use Rattle.cs_ledger.specs.Table.{Record, Table}
-use Rattle.cs_table.specs.Seen.{has_name, is_under, IsKeyInWidth}
+use Rattle.cs_table.specs.Seen.{has_key_named, is_under, IsKeyInWidth}
 use Rattle.cs_check_rules.specs.Keys.{is_known_record}
 use Rattle.cs_check_rules.specs.Root.{ledger_key_bytes, record_bytes}
 
@@ -51,14 +51,14 @@ HasLeaves h t = (name : ledger.Key) → IsKeyInWidth name → leaf_hash_of h nam
 
 -- so of every key that isn't touched; and where the table knows nothing of a key, there is no leaf
 pub record HasLeavesBut (touched : List Key) (h : Hashed) (t : Table) : Type 0 where
-  pub same : (name : ledger.Key) → IsKeyInWidth name → has_name touched name ≡ false →
+  pub same : (name : ledger.Key) → IsKeyInWidth name → has_key_named touched name ≡ false →
       leaf_hash_of h name ≡ shown_leaf t name
   pub none : (name : ledger.Key) → IsKeyInWidth name → is_known_record (t.at name) ≡ false → leaf_hash_of h name ≡ None
 
 -- the leaves of these keys are taken over
 abbrev pub leaves_taken : Table → List Key → List (Key × Bytes) → ledger.Key → Option Bytes
 leaves_taken t keys waiting name =
-    if has_name keys name
+    if has_key_named keys name
     then option_or (shown_leaf t name) (lookup (is_under name) waiting)
     else lookup (is_under name) waiting
 

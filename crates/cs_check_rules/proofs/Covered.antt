@@ -17,7 +17,7 @@ use Rattle.cs_merkle.specs.Collisions.{strings_in, strings_by, NoTreeCollision}
 use Rattle.cs_merkle.proofs.Roots.{path_shows}
 use Rattle.cs_merkle.proofs.Shown.{shown_is_there}
 use Rattle.cs_check_rules.specs.Chain.{Log, covered_leaves, head_of, checkpoint_of, IsProofOf}
-use Rattle.cs_check_rules.specs.Shown.{Shows, IsOver, head_string, NoProofCollision, IsOf}
+use Rattle.cs_check_rules.specs.Shown.{Shows, CoversLeaves, head_string, NoProofCollision, IsOf}
 
 first_there : (x : List ℕ) (xs : List (List ℕ)) → Contains (x ∷ xs) x
 first_there x xs = (0, omega arith, refl)
@@ -35,7 +35,7 @@ one_value {X} write Fits read form x y fits_x fits_y same =
     let pairs : (x, []) ≡ (y, []) = cc in
     ap (λ (p : X × List ℕ). p.0) pairs
 
-one_checkpoint : (c : Checkpoint) (leaves : List (List ℕ)) (p : Proof) → IsOver c leaves →
+one_checkpoint : (c : Checkpoint) (leaves : List (List ℕ)) (p : Proof) → CoversLeaves c leaves →
     ProofFits p → NoProofCollision c leaves p → Shows (head_of c) p → p.checkpoint ≡ c
 one_checkpoint c leaves p over fits apart shows =
     let strings : head_string c ≡ head_string p.checkpoint =
@@ -48,7 +48,7 @@ one_checkpoint c leaves p over fits apart shows =
     one_value checkpoint_encoding CheckpointFits checkpoint_at checkpoint_form p.checkpoint c
     fits.checkpoint over.fits same
 
-pub covered : (c : Checkpoint) (leaves : List (List ℕ)) (p : Proof) → IsOver c leaves →
+pub covered : (c : Checkpoint) (leaves : List (List ℕ)) (p : Proof) → CoversLeaves c leaves →
     ProofFits p → NoProofCollision c leaves p → Shows (head_of c) p → IsOf c leaves p
 covered c leaves p over fits apart shows =
     let same = one_checkpoint c leaves p over fits apart shows in
@@ -68,7 +68,7 @@ covered c leaves p over fits apart shows =
     record { checkpoint = same; leaf = leaf_is; path = path_is }
 
 pub covered_leaf : (c : Checkpoint) (leaves : List Leaf) (p : Proof) → All LeafFits leaves →
-    IsOver c (map leaf_encoding leaves) → ProofFits p →
+    CoversLeaves c (map leaf_encoding leaves) → ProofFits p →
     NoProofCollision c (map leaf_encoding leaves) p → Shows (head_of c) p →
     slice_get leaves p.place ≡ Some p.leaf
 covered_leaf c leaves p all over fits apart shows =

@@ -1,7 +1,7 @@
 -- What is among the keys as keys come among them.
 use Rattle.std.proofs.Common.{◌≡◌, ℕ, zero, suc, ◌<◌, Ordering, Less, Equal, Greater, List, [], ◌∷◌, inl, inr, true, refl, sym, subst, arith}
 use Rattle.std.proofs.lemmas.Bool.{or_cases, both_ways, cases_lt}
-use Rattle.cs_ledger.specs.Ledger.{IsIn}
+use Rattle.cs_base.specs.Lists.{IsIn}
 use Rattle.cs_ledger.specs.Session.{Rules, Session, Key, Dummy, Piece, key_eq, has_key, used_up, read_only}
 use Rattle.cs_ledger.specs.Table.{Table, new_pieces}
 use Rattle.cs_ledger.proofs.Basics.{same_key}

@@ -1,15 +1,15 @@
 -- The keys of which a table knows something, in rising order. A table gives a record to every key, so they are told from
 -- those that were named.
-use Rattle.std.specs.Prelude.{◌≡◌, ℕ, zero, suc, Bool, true, false, not, ◌&&◌, List, [], ◌∷◌}
+use Rattle.std.specs.Prelude.{◌≡◌, ℕ, zero, suc, Bool, true, not, ◌&&◌, List, [], ◌∷◌}
 use Rattle.std.specs.Ordering.{nat_cmp, ordering_then}
 use Rattle.std.specs.declared.cmp.Ordering.{Ordering}
 use Rattle.std.specs.declared.cmp.Ordering.TheVariants.{Less, Equal, Greater}
 use Rattle.std.specs.Cmp.Lexicographic.{slice_cmp}
 use Rattle.std.specs.List.{filter}
 use Rattle.std.specs.List.Sorted.{IsStrictlySortedBy}
-use Rattle.cs_ledger.specs.Ledger.{IsIn, is_empty}
+use Rattle.cs_base.specs.Lists.{IsIn, is_empty}
 use Rattle.cs_ledger.specs.Session.{Session, Rules, Key, Object, Dummy, Piece, objects_in, used_up, read_only}
-use Rattle.cs_ledger.specs.Table.{State, Unknown, Record, Table, Entry, new_pieces, session_of, exec, start}
+use Rattle.cs_ledger.specs.Table.{Record, Table, Entry, new_pieces, session_of, exec, start, is_unknown}
 
 -- ---- keys in order
 
@@ -41,10 +41,6 @@ with_keys_of [] keys = keys
 with_keys_of (piece ∷ pieces) keys = with_keys_of pieces (with_key piece.key keys)
 
 -- ---- what is known of a key
-
-abbrev pub is_unknown : State → Bool
-is_unknown Unknown = true
-is_unknown _ = false
 
 abbrev pub is_known_record : Record → Bool
 is_known_record r = not (is_unknown r.state && is_empty r.book)

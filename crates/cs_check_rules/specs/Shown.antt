@@ -18,7 +18,7 @@ pub record Shows (head : List ℕ) (proof : Proof) : Type 0 where
   pub slot : proof.leaf.slot ≡ COVERED * proof.checkpoint.number + proof.place
 
 -- a checkpoint that fits, over these leaves
-pub record IsOver (c : Checkpoint) (leaves : List (List ℕ)) : Type 0 where
+pub record CoversLeaves (c : Checkpoint) (leaves : List (List ℕ)) : Type 0 where
   pub fits : CheckpointFits c
   pub all : length leaves ≡ COVERED
   pub root : c.leaf_root ≡ merkle_tree_hash leaves

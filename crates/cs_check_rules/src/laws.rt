@@ -5,17 +5,17 @@ ghost use Rattle.cs_tx_types.specs.declared.leaf.Leaf.{Leaf};
 ghost use Rattle.cs_tx_types.specs.declared.proof.Proof.{Proof};
 ghost use Rattle.cs_tx_types.specs.Log.{leaf_encoding, LeafFits, ProofFits};
 ghost use Rattle.cs_check_rules.specs.Chain.{head_of};
-ghost use Rattle.cs_check_rules.specs.Shown.{Shows, IsOver, IsOf, NoProofCollision};
+ghost use Rattle.cs_check_rules.specs.Shown.{Shows, CoversLeaves, IsOf, NoProofCollision};
 
 /// Where the strings hashed for a checkpoint and for a proof don't collide, a proof that shows its
 /// leaf under the checkpoint's head is of that shard and number, and its leaf is the one that the
 /// checkpoint has at that place.
 pub fn shown_leaf_is_covered()
     ensures bytes { (c : Checkpoint) (leaves : List (List ℕ)) (proof : Proof) →
-        IsOver c leaves → ProofFits proof → NoProofCollision c leaves proof →
+        CoversLeaves c leaves → ProofFits proof → NoProofCollision c leaves proof →
         Shows (head_of c) proof → IsOf c leaves proof }
     ensures leaf { (c : Checkpoint) (leaves : List Leaf) (proof : Proof) →
-        All LeafFits leaves → IsOver c (map leaf_encoding leaves) → ProofFits proof →
+        All LeafFits leaves → CoversLeaves c (map leaf_encoding leaves) → ProofFits proof →
         NoProofCollision c (map leaf_encoding leaves) proof → Shows (head_of c) proof →
         slice_get leaves proof.place ≡ Some proof.leaf }
 {}

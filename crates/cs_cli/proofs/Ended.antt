@@ -21,7 +21,7 @@ use Rattle.cs_replay.specs.Closing.{summary_of}
 use Rattle.cs_replay.specs.Played.{course_of, history_of, aborted_of, world_of, sent_of}
 use Rattle.cs_replay.specs.Site.{site_of_schedule}
 use Rattle.cs_replay.specs.declared.outcome.Summary.{Summary}
-use Rattle.cs_gen.specs.Schedules.{schedule_of}
+use Rattle.cs_gen.specs.Schedules.{drawn_schedule}
 use Rattle.cs_gen.specs.Sound.{IsPlayableUnlessTwice}
 use Rattle.cs_cli.specs.Keys.{repeated_key}
 use Rattle.cs_cli.specs.Simulated.{done_answer, course_answer, played_answer, answer_by, simulate_answer, IsEndOfReplay}
@@ -63,7 +63,7 @@ by-ends number size schedule (Some place) plain = inr (inl refl)
 -- a simulation is answered by 0, 3 or 13
 pub simulate-ends : (number size : ℕ) → IsEndOfReplay (simulate_answer number size)
 unfolding simulate_answer
-simulate-ends number size = by-ends number size (schedule_of number size) (repeated_key (schedule_of number size).genesis) (injects-nothing number size)
+simulate-ends number size = by-ends number size (drawn_schedule number size) (repeated_key (drawn_schedule number size).genesis) (injects-nothing number size)
 
 -- and by nothing else
 pub ended-other : (answer : Answer) (n : ℕ) → IsEndOfReplay answer → 0 ≢ n → 3 ≢ n → 13 ≢ n → answer.status ≢ n
@@ -72,7 +72,7 @@ ended-other answer n (inr (inl is)) zero three thirteen = λ same. three (sym is
 ended-other answer n (inr (inr is)) zero three thirteen = λ same. thirteen (sym is ∙ same)
 
 -- the answer to the schedule of a number and a size
-pub answered : (number size : ℕ) (schedule : Schedule) (place : Option ℕ) → schedule ≡ schedule_of number size → place ≡ repeated_key schedule.genesis → answer_by number size schedule place ≡ simulate_answer number size
+pub answered : (number size : ℕ) (schedule : Schedule) (place : Option ℕ) → schedule ≡ drawn_schedule number size → place ≡ repeated_key schedule.genesis → answer_by number size schedule place ≡ simulate_answer number size
 unfolding simulate_answer
 answered number size schedule place is found =
     ap (answer_by number size schedule) found ∙ ap (λ (s : Schedule). answer_by number size s (repeated_key s.genesis)) is
@@ -80,13 +80,13 @@ answered number size schedule place is found =
 -- ---- what it is played by
 
 -- no object of it has the key of an earlier one
-pub can-play : (number size : ℕ) (schedule : Schedule) (objects : List Object) → IsPlayableUnlessTwice number size → schedule ≡ schedule_of number size → objects ≡ schedule.genesis
+pub can-play : (number size : ℕ) (schedule : Schedule) (objects : List Object) → IsPlayableUnlessTwice number size → schedule ≡ drawn_schedule number size → objects ≡ schedule.genesis
     → None ≡ repeated_key objects → IsPlayable schedule
 can-play number size schedule objects law is of_genesis none =
     subst IsPlayable (sym is)
-    (law (keys-differ (schedule_of number size).genesis (sym (none ∙ ap repeated_key (of_genesis ∙ ap (λ (s : Schedule). s.genesis) is)))))
+    (law (keys-differ (drawn_schedule number size).genesis (sym (none ∙ ap repeated_key (of_genesis ∙ ap (λ (s : Schedule). s.genesis) is)))))
 
-pub injects-none : (number size : ℕ) (schedule : Schedule) → schedule ≡ schedule_of number size → InjectsNothing schedule
+pub injects-none : (number size : ℕ) (schedule : Schedule) → schedule ≡ drawn_schedule number size → InjectsNothing schedule
 injects-none number size schedule is = subst InjectsNothing (sym is) (injects-nothing number size)
 
 -- ---- what is printed of it

@@ -13,7 +13,7 @@ use Rattle.cs_sched.specs.declared.schedule.Event.TheVariants.{Drain}
 use Rattle.cs_gen.specs.Draws.{state_after}
 use Rattle.cs_gen.specs.Coins.{coin, worths_below}
 use Rattle.cs_gen.specs.Rounds.{round_tx, round_session, concerned_by, second_number, submitted, submitted_to, submitted_again, round_with, events_of, events_below}
-use Rattle.cs_gen.specs.Schedules.{schedule_of}
+use Rattle.cs_gen.specs.Schedules.{drawn_schedule}
 use Rattle.cs_gen.specs.declared.limits.TheConstants.{MOST_SIZE}
 use Rattle.cs_gen.proofs.Fitting.{coin_fits}
 use Rattle.cs_gen.proofs.Rounded.{events-none, events-more}
@@ -55,8 +55,8 @@ none-numbered : (n : ℕ) (events : List Event) → NoneOf events → AllByRecur
 none-numbered n [] none = tt
 none-numbered n (event ∷ events) none = (none.0, none-numbered (n + 1) events none.1)
 
-pub injects-nothing : (number size : ℕ) → InjectsNothing (schedule_of number size)
-unfolding schedule_of
+pub injects-nothing : (number size : ℕ) → InjectsNothing (drawn_schedule number size)
+unfolding drawn_schedule
 injects-nothing number size =
     let first = state_after number 4 in
     let worths = worths_below first size in
@@ -68,15 +68,15 @@ coins-fit : (worths : List ℕ) → AllByRecursion (λ worth. worth < 2 ^ 63) wo
 coins-fit [] small = tt
 coins-fit (worth ∷ worths) small = (coin_fits worth small.0, coins-fit worths small.1)
 
-pub objects-fit : (number size : ℕ) → All ObjectFits (schedule_of number size).genesis
-unfolding schedule_of
+pub objects-fit : (number size : ℕ) → All ObjectFits (drawn_schedule number size).genesis
+unfolding drawn_schedule
 objects-fit number size =
     let worths = worths_below (state_after number 4) size in
     All-from_recursion ObjectFits (map coin worths)
     (coins-fit worths (recursion_from_All (λ worth. worth < 2 ^ 63) worths (worths-fit (state_after number 4) size)))
 
-pub few-objects : (number size : ℕ) → size ≤ MOST_SIZE → length (schedule_of number size).genesis ≤ MOST_GENESIS
-unfolding schedule_of
+pub few-objects : (number size : ℕ) → size ≤ MOST_SIZE → length (drawn_schedule number size).genesis ≤ MOST_GENESIS
+unfolding drawn_schedule
 few-objects number size few =
     let worths = worths_below (state_after number 4) size in
     omega (arith, length-map worths coin, length-worths (state_after number 4) size, few)

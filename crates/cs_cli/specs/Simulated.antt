@@ -15,7 +15,7 @@ use Rattle.cs_replay.specs.Closing.{summary_of}
 use Rattle.cs_replay.specs.Played.{course_of}
 use Rattle.cs_replay.specs.Site.{site_of_schedule}
 use Rattle.cs_replay.specs.declared.outcome.Summary.{Summary}
-use Rattle.cs_gen.specs.Schedules.{schedule_of}
+use Rattle.cs_gen.specs.Schedules.{drawn_schedule}
 use Rattle.cs_cli.specs.Keys.{repeated_key}
 
 -- ---- the five lines of a simulation
@@ -63,7 +63,7 @@ answer_by number size schedule (Some place) = refusal_answer (record { line = 5 
 -- the answer to a number and a size
 unfoldable pub simulate_answer : ℕ → ℕ → Answer
 simulate_answer number size =
-    let schedule = schedule_of number size in answer_by number size schedule (repeated_key schedule.genesis)
+    let schedule = drawn_schedule number size in answer_by number size schedule (repeated_key schedule.genesis)
 
 -- done, or refused for a key or a limit
 abbrev pub IsEndOfReplay : Answer → Type 0

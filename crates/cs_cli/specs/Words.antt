@@ -2,11 +2,9 @@
 use Rattle.std.specs.Prelude.{ℕ, Bool, true, false, not, ◌&&◌, List, [], ◌∷◌, Option, Some, None, codes, if◌then◌else◌, map, option_map, String, string_bytes}
 use Rattle.std.specs.declared.alloc.Global.{Global}
 use Rattle.std.specs.Str.{bytes_eq}
-use Rattle.cs_io.specs.declared.until.Until.{Until}
 use Rattle.cs_replay.specs.declared.schedule.Mode.{Mode}
 use Rattle.cs_cli.specs.declared.words.Command.{Command}
 use Rattle.cs_cli.specs.declared.words.Command.TheVariants.{Replay, Contract, Verify, Audit, Simulate, ReadKeys, Deploy}
-use Rattle.cs_cli.specs.declared.deployments.Deployment.TheVariants as deployment
 use Rattle.cs_cli.specs.Numbers.{simulated}
 use Rattle.cs_cli.specs.Deployed.{reads_master, deployment_of_word}
 
@@ -46,19 +44,6 @@ flagged flag (option ∷ other ∷ options) = None
 abbrev pub plain_command : Command → List (List ℕ) → Option Command
 plain_command command [] = Some command
 plain_command command (option ∷ options) = None
-
--- the commands of a deployment
-abbrev pub Node : ℕ → ℕ → Until → Command
-Node site keys until = Deploy (deployment.Node site keys until)
-
-abbrev pub Client : ℕ → ℕ → ℕ → Until → Command
-Client site keys call until = Deploy (deployment.Client site keys call until)
-
-abbrev pub Keys : ℕ → List ℕ → Command
-Keys site master = Deploy (deployment.Keys site master)
-
-abbrev pub Cluster : ℕ → Command
-Cluster plan = Deploy (deployment.Cluster plan)
 
 -- the command of a word and the words behind it
 abbrev pub command_of_word : List ℕ → List (List ℕ) → Option Command

@@ -17,7 +17,7 @@ use Rattle.cs_client.specs.declared.beliefs.Asked.{Asked}
 use Rattle.cs_client.specs.declared.errand.Errand.{Errand}
 use Rattle.cs_client.specs.Objects.{active, free_in, word_told, word_on, words_on, first_believed, shard_of_name}
 use Rattle.cs_client.specs.Dummies.{serial_by, serials_in}
-use Rattle.cs_client.specs.Kept.{Told, told_by_inputs, asked_with, asked_on, shards_below, unheard_on, unheard, with_word, word_of_name, serials_kept, told_with_state, heard_of, WordFits, AskedFits, HasAll, ToldFits, FlagsSayWords, ToldMarked}
+use Rattle.cs_client.specs.Kept.{WordsTold, told_by_inputs, asked_with, asked_on, shards_below, unheard_on, unheard, with_word, word_of_name, serials_kept, told_with_state, heard_of, WordFits, AskedFits, HasAll, ToldFits, FlagsSayWords, ToldMarked}
 use Rattle.cs_client.proofs.Members.{node_at, same-each}
 use Rattle.cs_client.proofs.Telling.{is_in, is-one, isn't, told-eq}
 
@@ -138,7 +138,7 @@ kept-all n (words ∷ serials) zero less all = all.0
 kept-all n (words ∷ serials) (suc shard) less all = kept-all n serials shard (omega arith) all.1
 
 -- a node of the configuration has its place among the words of its shard
-pub has-words : (config : Config) (from : NodeId) (told : Told) → is_node config from ≡ true → ToldFits config told → from.index < length (serials_kept told.serials from.shard)
+pub has-words : (config : Config) (from : NodeId) (told : WordsTold) → is_node config from ≡ true → ToldFits config told → from.index < length (serials_kept told.serials from.shard)
 has-words config from told known fits =
     let place = is_in config from known in
     let many = fits.shards in
@@ -147,15 +147,15 @@ has-words config from told known fits =
     omega arith
 
 -- what is told of a key of this shard, and of one of another
-pub heard-here : (config : Config) (from : NodeId) (k : Key) (s : State) (told : Told) → shard_of_key config.shards k ≡ from.shard → heard_of config from k s told ≡ told_with_state config.f from k (word_told k s) told
+pub heard-here : (config : Config) (from : NodeId) (k : Key) (s : State) (told : WordsTold) → shard_of_key config.shards k ≡ from.shard → heard_of config from k s told ≡ told_with_state config.f from k (word_told k s) told
 heard-here config from k s told here =
     ap (λ t. if t then told_with_state config.f from k (word_told k s) told else told) (is-one (shard_of_key config.shards k) from.shard here)
 
-pub heard-apart : (config : Config) (from : NodeId) (k : Key) (s : State) (told : Told) → (shard_of_key config.shards k ≡ from.shard → ⊥) → heard_of config from k s told ≡ told
+pub heard-apart : (config : Config) (from : NodeId) (k : Key) (s : State) (told : WordsTold) → (shard_of_key config.shards k ≡ from.shard → ⊥) → heard_of config from k s told ≡ told
 heard-apart config from k s told apart =
     ap (λ t. if t then told_with_state config.f from k (word_told k s) told else told) (isn't (shard_of_key config.shards k) from.shard apart)
 
-pub heard-fits : (config : Config) (from : NodeId) (k : Key) (s : State) (told : Told) → is_node config from ≡ true → StateFits s → ToldFits config told → ToldFits config (heard_of config from k s told)
+pub heard-fits : (config : Config) (from : NodeId) (k : Key) (s : State) (told : WordsTold) → is_node config from ≡ true → StateFits s → ToldFits config told → ToldFits config (heard_of config from k s told)
 heard-fits config from k s told known fits before = by (shard_of_key config.shards k == from.shard) k where
   by : (here : Bool) (k : Key) → ToldFits config (if here then told_with_state config.f from k (word_told k s) told else told)
   by false k = before
@@ -182,7 +182,7 @@ heard-fits config from k s told known fits before = by (shard_of_key config.shar
             (length-set words from.index word ∙ kept-all n told.serials from.shard (omega arith) before.serials);
       }
 
-pub heard-marked : (config : Config) (from : NodeId) (k : Key) (s : State) (told : Told) → ToldMarked config.f told → ToldMarked config.f (heard_of config from k s told)
+pub heard-marked : (config : Config) (from : NodeId) (k : Key) (s : State) (told : WordsTold) → ToldMarked config.f told → ToldMarked config.f (heard_of config from k s told)
 heard-marked config from k s told before = by (shard_of_key config.shards k == from.shard) k where
   by : (here : Bool) (k : Key) → ToldMarked config.f (if here then told_with_state config.f from k (word_told k s) told else told)
   by false k = before

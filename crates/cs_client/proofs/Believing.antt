@@ -9,7 +9,7 @@ use Rattle.cs_client.specs.declared.beliefs.Asked.{Asked}
 use Rattle.cs_client.specs.declared.beliefs.Objects.{Objects}
 use Rattle.cs_client.specs.Objects.{believed_in}
 use Rattle.cs_client.specs.Calls.{objects_with}
-use Rattle.cs_client.specs.Kept.{Told, FlagsSayWords, ToldMarked, are_settled, objects_believed, objects_kept}
+use Rattle.cs_client.specs.Kept.{WordsTold, FlagsSayWords, ToldMarked, are_settled, objects_believed, objects_kept}
 
 abbrev objects : List Keyed → List Keyed → Objects
 objects i r = record { inputs = i; reads = r }
@@ -31,11 +31,11 @@ none-then : {A B : Type 0} (f : A → Option B) (o : Option A) → ((x : A) → 
 none-then f None h = refl
 none-then f (Some x) h = h x
 
-pub inputs-unsettled : (f : ℕ) (told : Told) → ToldMarked f told → are_settled told.inputs ≡ false → None ≡ objects_kept f told
+pub inputs-unsettled : (f : ℕ) (told : WordsTold) → ToldMarked f told → are_settled told.inputs ≡ false → None ≡ objects_kept f told
 inputs-unsettled f told marked unsettled =
     sym (ap (option_and_then (λ i. option_map (λ r. objects i r) (objects_believed f told.reads))) (none-in f told.inputs marked.inputs unsettled))
 
-pub reads-unsettled : (f : ℕ) (told : Told) → ToldMarked f told → are_settled told.reads ≡ false → None ≡ objects_kept f told
+pub reads-unsettled : (f : ℕ) (told : WordsTold) → ToldMarked f told → are_settled told.reads ≡ false → None ≡ objects_kept f told
 reads-unsettled f told marked unsettled =
     sym (none-then (λ i. option_map (objects i) (objects_believed f told.reads)) (objects_believed f told.inputs)
     (λ i. map-none (objects i) (objects_believed f told.reads) (none-in f told.reads marked.reads unsettled)))

@@ -18,7 +18,7 @@ use Rattle.cs_client.specs.declared.errand.Errand.{Errand}
 use Rattle.cs_client.specs.declared.phases.Phase.{Phase as Kept}
 use Rattle.cs_client.specs.declared.phases.Phase.TheVariants as kept
 use Rattle.cs_client.specs.declared.phases.Submission.{Submission}
-use Rattle.cs_client.specs.Inputs.{Input, heard, from_node, said_from}
+use Rattle.cs_client.specs.Inputs.{ClientInput, heard, from_node, said_from}
 use Rattle.cs_client.specs.Phases.{Submitting, phase}
 use Rattle.cs_client.specs.Knowing.{says_decided, has_decided}
 use Rattle.cs_client.specs.Voices.{Pairwise, Marked, Heard, HeardThere, HeardFrom}
@@ -50,7 +50,7 @@ two-nodes : (config : Config) (from node : NodeId) → is_node config from ≡ f
 two-nodes config from node other is =
     let place = is_in config node is in stranger config from node.shard node.index other place.0 place.1
 
-module _ (e : Errand) (past : List Input) (input : Input) where
+module _ (e : Errand) (past : List ClientInput) (input : ClientInput) where
   -- what a node says by the input of the session that is submitted
   abbrev now : Bool → NodeId → Bool
   now accepted node = option_map_or (says_decided (phase e past) accepted) (said_from e.keys node input) false
@@ -117,7 +117,7 @@ marked-so from shard n says here =
           ∙ sym (ap (λ t. t && says) (isn't n from.index other))
     ]
 
-module _ (e : Errand) (past : List Input) (input : Input) (from : NodeId) (digest : List ℕ) (so : Bool) (said : heard e.keys input ≡ Some (from, message.Decided digest so)) where
+module _ (e : Errand) (past : List ClientInput) (input : ClientInput) (from : NodeId) (digest : List ℕ) (so : Bool) (said : heard e.keys input ≡ Some (from, message.Decided digest so)) where
   -- whether it decides so
   abbrev sense : Bool → Bool
   sense accepted = if accepted then so else not so

@@ -24,15 +24,15 @@ use Rattle.cs_client.specs.declared.phases.Phase.TheVariants as kept
 use Rattle.cs_client.specs.declared.phases.Wanted.{Wanted}
 use Rattle.cs_client.specs.declared.phases.Submission.{Submission}
 use Rattle.cs_client.specs.Nodes.{nodes_of_shards}
-use Rattle.cs_client.specs.Inputs.{Input}
+use Rattle.cs_client.specs.Inputs.{ClientInput}
 use Rattle.cs_client.specs.Dummies.{dummies_for}
 use Rattle.cs_client.specs.Calls.{call_on, call_with, ran_with}
 use Rattle.cs_client.specs.Endings.{ending_of}
-use Rattle.cs_client.specs.Sessions.{has_input, bare, with_dummies, is_bare, bare_shards}
+use Rattle.cs_client.specs.Sessions.{has_input, session_without_dummies, with_dummies, is_bare, bare_shards}
 use Rattle.cs_client.specs.Phases.{Phase, Asking, Wanting, Submitting, Idle, provided, wanting, after_method, after_call, phase}
 use Rattle.cs_client.specs.Knowing.{knows}
 use Rattle.cs_client.specs.Sayings.{say_to_each, wants, submits, again, on_entering, out_of, outs_of_sayings}
-use Rattle.cs_client.specs.Kept.{Told, objects_believed, objects_kept}
+use Rattle.cs_client.specs.Kept.{WordsTold, objects_believed, objects_kept}
 use Rattle.cs_client.specs.Seen.{Client, phase_seen, PhaseFits, IsSoundClient, known_kept, dummies_kept, ready_kept, next_kept, IsFresh, Enters, HasMoved, IsRefusedNow, ClientMoves}
 use Rattle.cs_client.specs.Hearing.{Keeps, Hears, ClientTakesIn}
 use Rattle.cs_client.specs.Standing.{ClientStandsFor, HasStepped, Steps}
@@ -72,11 +72,11 @@ not-asking p asking later = absurd (subst IsLater asking later)
 -- ---- from the first phase to those after it
 
 entered-bare : (e : Errand) (dummy : ℕ → Option ℕ) (tx : Tx) (next : Kept) (before mid after : List Out) → has_input tx ≡ true
-    → mid ≡ before ++ outs_of_sayings e.keys (wants e (bare tx e.call.number))
-    → Enters e (Wanting (bare tx e.call.number)) (wanting e.config dummy (bare tx e.call.number)) next mid after
+    → mid ≡ before ++ outs_of_sayings e.keys (wants e (session_without_dummies tx e.call.number))
+    → Enters e (Wanting (session_without_dummies tx e.call.number)) (wanting e.config dummy (session_without_dummies tx e.call.number)) next mid after
     → Enters e Asking (after_method e dummy (Ok tx.traces)) next before after
 entered-bare e dummy tx next before mid after some said enters =
-    let x = bare tx e.call.number in
+    let x = session_without_dummies tx e.call.number in
     let new = wanting e.config dummy x in
     let is : after_method e dummy (Ok tx.traces) ≡ new = ap (λ t. if t then new else Idle) some in
     subst (λ p. Enters e Asking p next before after) (sym is) (record {
@@ -91,7 +91,7 @@ entered-bare e dummy tx next before mid after some said enters =
           ∙ ap (outs_of_sayings e.keys) (sym (entered-asking e x (dummies_for dummy (bare_shards e.config x)))))));
     })
 
-pub entered : (e : Errand) (dummy : ℕ → Option ℕ) (tx : Tx) (x : Session) (next : Kept) (before mid after : List Out) → has_input tx ≡ true → x ≡ bare tx e.call.number
+pub entered : (e : Errand) (dummy : ℕ → Option ℕ) (tx : Tx) (x : Session) (next : Kept) (before mid after : List Out) → has_input tx ≡ true → x ≡ session_without_dummies tx e.call.number
     → mid ≡ before ++ outs_of_sayings e.keys (wants e x) → Enters e (Wanting x) (wanting e.config dummy x) next mid after
     → Enters e Asking (after_method e dummy (Ok tx.traces)) next before after
 entered e dummy tx x next before mid after some is said enters =
@@ -104,7 +104,7 @@ entered e dummy tx x next before mid after some is said enters =
 abbrev both : List Keyed → List Keyed → Objects
 both i r = record { inputs = i; reads = r }
 
-ready-from : (e : Errand) (told : Told) (o : Objects) → objects_kept e.config.f told ≡ Some o → ready_kept e told ≡ Some (call_on e.call o.inputs o.reads)
+ready-from : (e : Errand) (told : WordsTold) (o : Objects) → objects_kept e.config.f told ≡ Some o → ready_kept e told ≡ Some (call_on e.call o.inputs o.reads)
 ready-from e told o is = by (objects_believed e.config.f told.inputs) (objects_believed e.config.f told.reads) is where
   by : (inputs reads : Option (List Keyed)) → option_and_then (λ i. option_map (both i) reads) inputs ≡ Some o → call_with e.call inputs reads ≡ Some (call_on e.call o.inputs o.reads)
   by None reads is = absurd cc
@@ -114,7 +114,7 @@ ready-from e told o is = by (objects_believed e.config.f told.inputs) (objects_b
 same-call : (a b : Call) → Some a ≡ Some b → a ≡ b
 same-call a b is = cc
 
-pub called-moves : (e : Errand) (told : Told) (o : Objects) (tx : Tx) (next : Kept) (before after : List Out) → objects_kept e.config.f told ≡ Some o
+pub called-moves : (e : Errand) (told : WordsTold) (o : Objects) (tx : Tx) (next : Kept) (before after : List Out) → objects_kept e.config.f told ≡ Some o
     → IsMadeTransaction e.book tx (ran_with e (call_on e.call o.inputs o.reads)) → Enters e Asking (after_method e (dummies_kept e told) (Ok tx.traces)) next before after → IsFresh e.config next
     → HasMoved e told kept.Asking next before after
 called-moves e told o tx next before after is made enters fresh =
@@ -128,7 +128,7 @@ called-moves e told o tx next before after is made enters fresh =
       made = λ other asking has. (tx, subst (λ c. IsMadeTransaction e.book tx (ran_with e c)) (same-call call other (sym ready ∙ has)) made);
     }
 
-called-refused : (e : Errand) (told : Told) (o : Objects) (cause : ProcError) → objects_kept e.config.f told ≡ Some o
+called-refused : (e : Errand) (told : WordsTold) (o : Objects) (cause : ProcError) → objects_kept e.config.f told ≡ Some o
     → AnswersCall e.book (ran_with e (call_on e.call o.inputs o.reads)) (Err cause) → (cause ≡ refusal.Memory → ⊥) → IsRefusedNow e told kept.Asking cause
 called-refused e told o cause is refused other = record {
   asking = refl;
@@ -139,7 +139,7 @@ called-refused e told o cause is refused other = record {
 }
 
 -- however the run of the method ended without a transaction
-pub called-ended : (e : Errand) (told : Told) (o : Objects) (cause : ProcError) (before after : List Out) → objects_kept e.config.f told ≡ Some o
+pub called-ended : (e : Errand) (told : WordsTold) (o : Objects) (cause : ProcError) (before after : List Out) → objects_kept e.config.f told ≡ Some o
     → AnswersCall e.book (ran_with e (call_on e.call o.inputs o.reads)) (Err cause) → ClientMoves e told kept.Asking (Err (ending_of cause)) before after
 called-ended e told o refusal.Memory before after is refused = tt
 called-ended e told o refusal.NoMethod before after is refused = called-refused e told o refusal.NoMethod is refused (λ q. cc)
@@ -150,7 +150,7 @@ called-ended e told o (refusal.CheckerNo place) before after is refused = called
 
 -- ---- other phases
 
-pub wanting-moves : (e : Errand) (told : Told) (wanted : Wanted) (next : Kept) (before after : List Out)
+pub wanting-moves : (e : Errand) (told : WordsTold) (wanted : Wanted) (next : Kept) (before after : List Out)
     → Enters e (Wanting wanted.session) (wanting e.config (dummies_kept e told) wanted.session) next before after → IsFresh e.config next
     → HasMoved e told (kept.Wanting wanted) next before after
 wanting-moves e told wanted next before after enters fresh = record {
@@ -159,7 +159,7 @@ wanting-moves e told wanted next before after enters fresh = record {
   made = λ call asking ready. not-asking (Wanting wanted.session) asking tt;
 }
 
-pub submitting-stays : (e : Errand) (told : Told) (s : Submission) (outs : List Out) → PhaseFits e.config (kept.Submitting s)
+pub submitting-stays : (e : Errand) (told : WordsTold) (s : Submission) (outs : List Out) → PhaseFits e.config (kept.Submitting s)
     → HasMoved e told (kept.Submitting s) (kept.Submitting s) outs outs
 submitting-stays e told s outs fits = record {
   enters = record { seen = refl; fits = fits; said = sym (append-nil outs) };
@@ -167,7 +167,7 @@ submitting-stays e told s outs fits = record {
   made = λ call asking ready. not-asking (Submitting s.session) asking tt;
 }
 
-pub idle-stays : (e : Errand) (told : Told) (outs : List Out) → HasMoved e told kept.Idle kept.Idle outs outs
+pub idle-stays : (e : Errand) (told : WordsTold) (outs : List Out) → HasMoved e told kept.Idle kept.Idle outs outs
 idle-stays e told outs = record {
   enters = record { seen = refl; fits = tt; said = sym (append-nil outs) };
   voices = tt;
@@ -176,11 +176,11 @@ idle-stays e told outs = record {
 
 -- ---- inputs
 
-pub takes-datagram : (e : Errand) (past : List Input) (bytes : List ℕ) (told : Told) (now : Kept) (told' : Told) (now' : Kept) (outs : List Out)
+pub takes-datagram : (e : Errand) (past : List ClientInput) (bytes : List ℕ) (told : WordsTold) (now : Kept) (told' : WordsTold) (now' : Kept) (outs : List Out)
     → Hears e past (came.Datagram bytes) told now told' now' → outs ≡ [] → ClientTakesIn e past (came.Datagram bytes) told now told' now' outs
 takes-datagram e past bytes told now told' now' outs hears none = record { hears = hears; says = λ keeps. none }
 
-pub takes-tick : (e : Errand) (past : List Input) (told : Told) (now : Kept) (outs : List Out) → IsSoundClient e told now
+pub takes-tick : (e : Errand) (past : List ClientInput) (told : WordsTold) (now : Kept) (outs : List Out) → IsSoundClient e told now
     → outs ≡ outs_of_sayings e.keys (again e (known_kept e.config.f now) (phase_seen now)) → ClientTakesIn e past came.Tick told now told now outs
 takes-tick e past told now outs sound said = record {
   hears = unheard-taken e past came.Tick told now sound refl;
@@ -192,7 +192,7 @@ takes-tick e past told now outs sound said = record {
 
 -- ---- a step
 
-module _ (e : Errand) (past : List Input) (input : Input) (told : Told) (now : Kept) (told' : Told) (now' : Kept) (first after : List Out)
+module _ (e : Errand) (past : List ClientInput) (input : ClientInput) (told : WordsTold) (now : Kept) (told' : WordsTold) (now' : Kept) (first after : List Out)
     (keeps : Keeps e past (phase e past) told now) (takes : ClientTakesIn e past input told now told' now' first) where
   stepped : (next : Kept) → HasMoved e told' now' next first after → HasStepped e past input (record { errand = e; beliefs = told'; phase = next }) after
   stepped next goes =
@@ -208,7 +208,7 @@ module _ (e : Errand) (past : List Input) (input : Input) (told : Told) (now : K
   failed (error.Refused cause) moves = moved-refused e past input told' now' (takes.hears.keeps keeps) cause moves
 
 -- a client that stands for inputs, by its parts
-pub has-stepped : (e held : Errand) (past : List Input) (input : Input) (client : Client) (told : Told) (now : Kept) (told' : Told) (now' next : Kept) (first after : List Out)
+pub has-stepped : (e held : Errand) (past : List ClientInput) (input : ClientInput) (client : Client) (told : WordsTold) (now : Kept) (told' : WordsTold) (now' next : Kept) (first after : List Out)
     → record { errand = held; beliefs = told; phase = now } ≡ client → ClientStandsFor e past client → ClientTakesIn held past input told now told' now' first
     → HasMoved held told' now' next first after → HasStepped e past input (record { errand = held; beliefs = told'; phase = next }) after
 has-stepped e held past input client told now told' now' next first after is stands takes goes = by held (ap (λ (c : Client). c.errand) is ∙ stands.errand_is) takes goes where
@@ -222,7 +222,7 @@ has-stepped e held past input client told now told' now' next first after is sta
       (subst (λ h. ClientTakesIn h past input told now told' now' first) own takes) next
       (subst (λ h. HasMoved h told' now' next first after) own goes))
 
-pub has-failed : (e held : Errand) (past : List Input) (input : Input) (client : Client) (told : Told) (now : Kept) (told' : Told) (now' : Kept) (first after : List Out) (err : ClientError)
+pub has-failed : (e held : Errand) (past : List ClientInput) (input : ClientInput) (client : Client) (told : WordsTold) (now : Kept) (told' : WordsTold) (now' : Kept) (first after : List Out) (err : ClientError)
     → record { errand = held; beliefs = told; phase = now } ≡ client → ClientStandsFor e past client → ClientTakesIn held past input told now told' now' first
     → ClientMoves held told' now' (Err err) first after → Steps e past input (Err err)
 has-failed e held past input client told now told' now' first after err is stands takes moves =

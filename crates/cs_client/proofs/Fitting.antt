@@ -17,7 +17,7 @@ use Rattle.cs_tx_types.specs.Session.{SessionFits, DummyFits}
 use Rattle.cs_tx.specs.Uses.{names, is_in, is_among, concerns, concerned_below}
 use Rattle.cs_client.specs.Objects.{shard_of_name}
 use Rattle.cs_client.specs.Dummies.{with_dummy, dummies_for}
-use Rattle.cs_client.specs.Sessions.{has_input, bare, with_dummies, is_bare, bare_shards}
+use Rattle.cs_client.specs.Sessions.{has_input, session_without_dummies, with_dummies, is_bare, bare_shards}
 
 -- ---- how many shards are left
 
@@ -131,5 +131,5 @@ dummies-fit config dummy x dummies fits some are each =
     record { tx = fits.tx; number = fits.number; dummies = (omega arith, each) }
 
 -- and without them
-pub bare-fits : (tx : Tx) (number : ℕ) → TxFits tx → number < 2 ^ 64 → SessionFits (bare tx number)
+pub bare-fits : (tx : Tx) (number : ℕ) → TxFits tx → number < 2 ^ 64 → SessionFits (session_without_dummies tx number)
 bare-fits tx number fits small = record { tx = fits; number = small; dummies = (omega arith, tt) }

@@ -9,7 +9,7 @@ use Rattle.cs_quorum.specs.Marks.{Marks, is_marked}
 use Rattle.cs_client.specs.declared.errand.Errand.{Errand}
 use Rattle.cs_client.specs.declared.phases.Phase.{Phase as Kept}
 use Rattle.cs_client.specs.declared.phases.Phase.TheVariants as kept
-use Rattle.cs_client.specs.Inputs.{Input}
+use Rattle.cs_client.specs.Inputs.{ClientInput}
 use Rattle.cs_client.specs.Phases.{phase}
 use Rattle.cs_client.specs.Knowing.{has_decided, knows_decided, outcome, known_in, knows}
 use Rattle.cs_client.specs.Voices.{is_enough}
@@ -18,13 +18,13 @@ use Rattle.cs_client.specs.Hearing.{KeepsTally, KeepsVoices, KeepsHeard}
 use Rattle.cs_client.proofs.Members.{node_at}
 use Rattle.cs_client.proofs.Counted.{counts-alike, all-paired, any-paired}
 
-enough : (e : Errand) (accepted : Bool) (inputs : List Input) (shard : ℕ) (tally : Marks) → KeepsTally e accepted inputs shard tally → is_enough e.config.f tally ≡ knows_decided e accepted inputs shard
+enough : (e : Errand) (accepted : Bool) (inputs : List ClientInput) (shard : ℕ) (tally : Marks) → KeepsTally e accepted inputs shard tally → is_enough e.config.f tally ≡ knows_decided e accepted inputs shard
 enough e accepted inputs shard tally keeps =
     ap (nat_lt e.config.f)
     (ap (λ n. count_below n (is_marked tally)) keeps.members
     ∙ counts-alike (3 * e.config.f + 1) (is_marked tally) (λ n. has_decided e accepted inputs (node_at shard n)) keeps.marks)
 
-kept-known : (e : Errand) (inputs : List Input) (now : Kept) → PhaseFits e.config now → KeepsHeard e inputs now → known_kept e.config.f now ≡ known_in e inputs (phase_seen now)
+kept-known : (e : Errand) (inputs : List ClientInput) (now : Kept) → PhaseFits e.config now → KeepsHeard e inputs now → known_kept e.config.f now ≡ known_in e inputs (phase_seen now)
 kept-known e inputs kept.Asking fits heard = refl
 kept-known e inputs (kept.Wanting wanted) fits heard = refl
 kept-known e inputs kept.Idle fits heard = refl
@@ -40,5 +40,5 @@ kept-known e inputs (kept.Submitting s) fits heard =
     ∙ ap (outcome digest (list_all (knows_decided e true inputs) shards)) aborted)
 
 -- what is known in a phase that is kept of these inputs
-pub known-so : (e : Errand) (inputs : List Input) (now : Kept) → PhaseFits e.config now → phase_seen now ≡ phase e inputs → KeepsHeard e inputs now → known_kept e.config.f now ≡ knows e inputs
+pub known-so : (e : Errand) (inputs : List ClientInput) (now : Kept) → PhaseFits e.config now → phase_seen now ≡ phase e inputs → KeepsHeard e inputs now → known_kept e.config.f now ≡ knows e inputs
 known-so e inputs now fits is heard = kept-known e inputs now fits heard ∙ ap (known_in e inputs) is

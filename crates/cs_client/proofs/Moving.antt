@@ -15,19 +15,19 @@ use Rattle.cs_quorum.specs.Marks.{Marks}
 use Rattle.cs_proc.specs.declared.call.Call.{Call}
 use Rattle.cs_proc.specs.declared.error.ProcError.{ProcError}
 use Rattle.cs_proc.specs.Calling.{CallRan}
-use Rattle.cs_proc.specs.Answering.{tx_of}
+use Rattle.cs_tx_types.specs.Transaction.{tx_of}
 use Rattle.cs_client.specs.declared.errand.Errand.{Errand}
 use Rattle.cs_client.specs.declared.phases.Phase.{Phase as Kept}
 use Rattle.cs_client.specs.declared.phases.Phase.TheVariants as kept
-use Rattle.cs_client.specs.Inputs.{Input, said_from}
+use Rattle.cs_client.specs.Inputs.{ClientInput, said_from}
 use Rattle.cs_client.specs.Objects.{believed}
 use Rattle.cs_client.specs.Dummies.{serials_in, least_named, dummy_believed, with_dummy, dummies_for}
 use Rattle.cs_client.specs.Calls.{objects_with, objects_for, call_with, ready, ran_with}
-use Rattle.cs_client.specs.Sessions.{has_input, bare, is_bare, bare_shards}
+use Rattle.cs_client.specs.Sessions.{has_input, session_without_dummies, is_bare, bare_shards}
 use Rattle.cs_client.specs.Phases.{Phase, Asking, Wanting, Submitting, Idle, provided, wanting, after_method, moved, phase}
 use Rattle.cs_client.specs.Knowing.{says_decided, has_decided, knows}
 use Rattle.cs_client.specs.Sayings.{again, at_tick, on_entering, says_at, out_of, outs_of_sayings}
-use Rattle.cs_client.specs.Kept.{Told, told_by_inputs, asked_on, objects_believed}
+use Rattle.cs_client.specs.Kept.{WordsTold, told_by_inputs, asked_on, objects_believed}
 use Rattle.cs_client.specs.Voices.{IsBlank}
 use Rattle.cs_client.specs.Seen.{phase_seen, dummies_kept, ready_kept, next_kept, IsFresh, StaysOrFresh, IsApproved, HasMoved, IsRefusedNow}
 use Rattle.cs_client.specs.Hearing.{KeepsTally, KeepsHeard, Keeps}
@@ -36,16 +36,16 @@ use Rattle.cs_client.proofs.Members.{node_at, get-shards}
 
 -- ---- the call and the dummies that are believed
 
-objects-kept : (config : Config) (keys : Keys) (inputs : List Input) (names : List (List ℕ)) → objects_believed config.f (map (asked_on config keys inputs) names) ≡ objects_for (believed config keys inputs) names
+objects-kept : (config : Config) (keys : Keys) (inputs : List ClientInput) (names : List (List ℕ)) → objects_believed config.f (map (asked_on config keys inputs) names) ≡ objects_for (believed config keys inputs) names
 objects-kept config keys inputs [] = refl
 objects-kept config keys inputs (name ∷ names) = ap (objects_with name (believed config keys inputs name)) (objects-kept config keys inputs names)
 
-ready-so : (e : Errand) (inputs : List Input) → ready_kept e (told_by_inputs e inputs) ≡ ready e inputs
+ready-so : (e : Errand) (inputs : List ClientInput) → ready_kept e (told_by_inputs e inputs) ≡ ready e inputs
 ready-so e inputs =
     ap (λ i. call_with e.call i (objects_believed e.config.f (told_by_inputs e inputs).reads)) (objects-kept e.config e.keys inputs e.call.inputs)
     ∙ ap (λ r. call_with e.call (objects_for (believed e.config e.keys inputs) e.call.inputs) r) (objects-kept e.config e.keys inputs e.call.reads)
 
-dummy-so : (e : Errand) (inputs : List Input) (shard : ℕ) → shard < e.config.shards → dummies_kept e (told_by_inputs e inputs) shard ≡ dummy_believed e.config e.keys inputs shard
+dummy-so : (e : Errand) (inputs : List ClientInput) (shard : ℕ) → shard < e.config.shards → dummies_kept e (told_by_inputs e inputs) shard ≡ dummy_believed e.config e.keys inputs shard
 dummy-so e inputs shard low =
     ap (λ o. least_named e.config.f (unwrap_or o [])) (get-shards (serials_in e.config e.keys inputs) e.config.shards shard low)
 
@@ -86,7 +86,7 @@ wanting-alike config d d' x same =
 begun-alike : (e : Errand) (d d' : ℕ → Option ℕ) (run : CallRan) → ((s : ℕ) → s < e.config.shards → d s ≡ d' s) → after_method e d run ≡ after_method e d' run
 begun-alike e d d' (Err error) same = refl
 begun-alike e d d' (Ok traces) same =
-    ap (λ p. if has_input (tx_of traces) then p else Idle) (wanting-alike e.config d d' (bare (tx_of traces) e.call.number) same)
+    ap (λ p. if has_input (tx_of traces) then p else Idle) (wanting-alike e.config d d' (session_without_dummies (tx_of traces) e.call.number) same)
 
 moved-alike : (e : Errand) (d d' : ℕ → Option ℕ) (call : Option Call) (p : Phase) → ((s : ℕ) → s < e.config.shards → d s ≡ d' s) → moved e d call p ≡ moved e d' call p
 moved-alike e d d' (Some call) Asking same = begun-alike e d d' (ran_with e call) same
@@ -96,7 +96,7 @@ moved-alike e d d' call (Submitting x) same = refl
 moved-alike e d d' call Idle same = refl
 
 -- the phase that follows by what is kept of the inputs is that by the inputs
-pub next-so : (e : Errand) (past : List Input) (input : Input) (told : Told) (before : Phase) → told ≡ told_by_inputs e (input ∷ past) → before ≡ phase e past → next_kept e told before ≡ phase e (input ∷ past)
+pub next-so : (e : Errand) (past : List ClientInput) (input : ClientInput) (told : WordsTold) (before : Phase) → told ≡ told_by_inputs e (input ∷ past) → before ≡ phase e past → next_kept e told before ≡ phase e (input ∷ past)
 next-so e past input told before is at =
     ap (λ t. next_kept e t before) is
     ∙ (ap (next_kept e (told_by_inputs e (input ∷ past))) at
@@ -124,19 +124,19 @@ decides-nothing (Wanting x) accepted (Some m) h = refl
 decides-nothing (Submitting x) accepted (Some m) h = absurd h
 decides-nothing Idle accepted (Some m) h = refl
 
-none-decided : (e : Errand) (accepted : Bool) (past : List Input) (input : Input) (node : NodeId) → IsBefore (phase e past) → has_decided e accepted (input ∷ past) node ≡ false
+none-decided : (e : Errand) (accepted : Bool) (past : List ClientInput) (input : ClientInput) (node : NodeId) → IsBefore (phase e past) → has_decided e accepted (input ∷ past) node ≡ false
 none-decided e accepted [] input node h = ap (λ t. t || false) (decides-nothing Asking accepted (said_from e.keys node input) h)
 none-decided e accepted (last ∷ past) input node h =
     ap (λ t. t || has_decided e accepted (last ∷ past) node) (decides-nothing (phase e (last ∷ past)) accepted (said_from e.keys node input) h)
     ∙ none-decided e accepted past last node (before-moved e (dummy_believed e.config e.keys (last ∷ past)) (ready e (last ∷ past)) (phase e past) h)
 
-blank-kept : (e : Errand) (accepted : Bool) (past : List Input) (input : Input) (shard : ℕ) (tally : Marks) → IsBefore (phase e past) → IsBlank e.config.f tally → KeepsTally e accepted (input ∷ past) shard tally
+blank-kept : (e : Errand) (accepted : Bool) (past : List ClientInput) (input : ClientInput) (shard : ℕ) (tally : Marks) → IsBefore (phase e past) → IsBlank e.config.f tally → KeepsTally e accepted (input ∷ past) shard tally
 blank-kept e accepted past input shard tally h blank = record {
   members = blank.members;
   marks = λ n less. blank.unmarked n ∙ sym (none-decided e accepted past input (node_at shard n) h);
 }
 
-fresh-heard : (e : Errand) (past : List Input) (input : Input) (new : Kept) → IsBefore (phase e past) → IsFresh e.config new → KeepsHeard e (input ∷ past) new
+fresh-heard : (e : Errand) (past : List ClientInput) (input : ClientInput) (new : Kept) → IsBefore (phase e past) → IsFresh e.config new → KeepsHeard e (input ∷ past) new
 fresh-heard e past input kept.Asking h fresh = tt
 fresh-heard e past input (kept.Wanting wanted) h fresh = tt
 fresh-heard e past input kept.Idle h fresh = tt
@@ -151,7 +151,7 @@ fresh-heard e past input (kept.Submitting s) h fresh = record {
       };
 }
 
-next-heard : (e : Errand) (past : List Input) (input : Input) (old new : Kept) → phase_seen old ≡ phase e past → KeepsHeard e (input ∷ past) old → StaysOrFresh e.config old new → KeepsHeard e (input ∷ past) new
+next-heard : (e : Errand) (past : List ClientInput) (input : ClientInput) (old new : Kept) → phase_seen old ≡ phase e past → KeepsHeard e (input ∷ past) old → StaysOrFresh e.config old new → KeepsHeard e (input ∷ past) new
 next-heard e past input kept.Asking new at heard after = fresh-heard e past input new (subst IsBefore at tt) after
 next-heard e past input (kept.Wanting wanted) new at heard after = fresh-heard e past input new (subst IsBefore at tt) after
 next-heard e past input kept.Idle new at heard after = fresh-heard e past input new (subst IsBefore at tt) after
@@ -159,7 +159,7 @@ next-heard e past input (kept.Submitting s) new at heard after = subst (KeepsHea
 
 -- ---- a step
 
-module _ (e : Errand) (past : List Input) (input : Input) (told : Told) (old : Kept) (keeps : Keeps e (input ∷ past) (phase e past) told old) where
+module _ (e : Errand) (past : List ClientInput) (input : ClientInput) (told : WordsTold) (old : Kept) (keeps : Keeps e (input ∷ past) (phase e past) told old) where
   next-is : next_kept e told (phase_seen old) ≡ phase e (input ∷ past)
   next-is = next-so e past input told (phase_seen old) keeps.told_is keeps.phase_is
 

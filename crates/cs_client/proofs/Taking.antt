@@ -18,12 +18,12 @@ use Rattle.cs_client.specs.declared.phases.Phase.{Phase as Kept}
 use Rattle.cs_client.specs.declared.phases.Phase.TheVariants as kept
 use Rattle.cs_client.specs.declared.phases.Submission.{Submission}
 use Rattle.cs_client.specs.Nodes.{nodes_of_shards}
-use Rattle.cs_client.specs.Inputs.{Input, heard}
+use Rattle.cs_client.specs.Inputs.{ClientInput, heard}
 use Rattle.cs_client.specs.Objects.{told_in}
 use Rattle.cs_client.specs.Dummies.{dummy_word_in}
 use Rattle.cs_client.specs.Phases.{Phase, Asking, Wanting, Submitting, Idle, phase}
 use Rattle.cs_client.specs.Knowing.{is_decision, says_decided}
-use Rattle.cs_client.specs.Kept.{Told, told_by_inputs, heard_of, ToldFits, ToldMarked}
+use Rattle.cs_client.specs.Kept.{WordsTold, told_by_inputs, heard_of, ToldFits, ToldMarked}
 use Rattle.cs_client.specs.Voices.{Pairwise, HeardThere, HeardFrom, VoicesFit, EachFits}
 use Rattle.cs_client.specs.Seen.{phase_seen, SubmissionFits, IsSoundClient, VoicesAfter, CountsIn, Counts}
 use Rattle.cs_client.specs.Hearing.{KeepsHeard, Hears}
@@ -39,18 +39,18 @@ on-ok (Err e) P Q follows h = tt
 
 -- ---- nothing changes
 
-pub nothing-taken : (e : Errand) (past : List Input) (input : Input) (told : Told) (now : Kept) → IsSoundClient e told now → told_by_inputs e (input ∷ past) ≡ told_by_inputs e past
+pub nothing-taken : (e : Errand) (past : List ClientInput) (input : ClientInput) (told : WordsTold) (now : Kept) → IsSoundClient e told now → told_by_inputs e (input ∷ past) ≡ told_by_inputs e past
     → (KeepsHeard e past now → KeepsHeard e (input ∷ past) now) → Hears e past input told now told now
 nothing-taken e past input told now sound same heard = record {
   sound = sound;
   keeps = λ k. record { told_is = k.told_is ∙ sym same; phase_is = k.phase_is; heard = heard k.heard };
 }
 
-pub unheard-taken : (e : Errand) (past : List Input) (input : Input) (told : Told) (now : Kept) → IsSoundClient e told now → heard e.keys input ≡ None → Hears e past input told now told now
+pub unheard-taken : (e : Errand) (past : List ClientInput) (input : ClientInput) (told : WordsTold) (now : Kept) → IsSoundClient e told now → heard e.keys input ≡ None → Hears e past input told now told now
 unheard-taken e past input told now sound none =
     nothing-taken e past input told now sound (unheard-told e input past none) (unheard-heard e past input now none)
 
-pub stranger-taken : (e : Errand) (past : List Input) (input : Input) (told : Told) (now : Kept) (from : NodeId) (m : Message) → IsSoundClient e told now → heard e.keys input ≡ Some (from, m) → is_node e.config from ≡ false → Hears e past input told now told now
+pub stranger-taken : (e : Errand) (past : List ClientInput) (input : ClientInput) (told : WordsTold) (now : Kept) (from : NodeId) (m : Message) → IsSoundClient e told now → heard e.keys input ≡ Some (from, m) → is_node e.config from ≡ false → Hears e past input told now told now
 stranger-taken e past input told now from m sound said other =
     nothing-taken e past input told now sound (stranger-told e input past from m said other) (stranger-heard e past input from m said now other)
 
@@ -74,7 +74,7 @@ is-other (message.Told k s) tells says = absurd (tells k s refl)
 is-other (message.Decided digest so) tells says = absurd (says digest so refl)
 is-other m tells says = plain m (λ n. refl) (λ n. refl) (λ d a. refl)
 
-pub other-taken : (e : Errand) (past : List Input) (input : Input) (told : Told) (now : Kept) (from : NodeId) (m : Message) → IsSoundClient e told now → heard e.keys input ≡ Some (from, m) → IsOther m → Hears e past input told now told now
+pub other-taken : (e : Errand) (past : List ClientInput) (input : ClientInput) (told : WordsTold) (now : Kept) (from : NodeId) (m : Message) → IsSoundClient e told now → heard e.keys input ≡ Some (from, m) → IsOther m → Hears e past input told now told now
 other-taken e past input told now from m sound said other =
     nothing-taken e past input told now sound (other-told e input past from m said other.names other.dummies)
     (other-heard e past input from m said now (other.decisions (phase e past)))
@@ -87,7 +87,7 @@ told-decides k s (Wanting x) accepted = refl
 told-decides k s (Submitting x) accepted = refl
 told-decides k s Idle accepted = refl
 
-pub told-taken : (e : Errand) (past : List Input) (input : Input) (told told' : Told) (now : Kept) (from : NodeId) (k : Key) (s : State) → IsSoundClient e told now
+pub told-taken : (e : Errand) (past : List ClientInput) (input : ClientInput) (told told' : WordsTold) (now : Kept) (from : NodeId) (k : Key) (s : State) → IsSoundClient e told now
     → heard e.keys input ≡ Some (from, message.Told k s) → is_node e.config from ≡ true → StateFits s → told' ≡ heard_of e.config from k s told → Hears e past input told now told' now
 told-taken e past input told told' now from k s sound said known fits is = record {
   sound = record {
@@ -131,7 +131,7 @@ counts-fit config from digest so old new counts fits = record {
 }
 
 -- where nothing is submitted yet
-idle-counted : (e : Errand) (past : List Input) (input : Input) (told : Told) (old new : Kept) (from : NodeId) (digest : List ℕ) (so : Bool) → IsSoundClient e told old
+idle-counted : (e : Errand) (past : List ClientInput) (input : ClientInput) (told : WordsTold) (old new : Kept) (from : NodeId) (digest : List ℕ) (so : Bool) → IsSoundClient e told old
     → heard e.keys input ≡ Some (from, message.Decided digest so) → ((accepted : Bool) → says_decided (phase_seen old) accepted (message.Decided digest so) ≡ false) → new ≡ old → Hears e past input told old told new
 idle-counted e past input told old new from digest so sound said none still =
     subst (λ now. Hears e past input told old told now) (sym still) (record {
@@ -144,7 +144,7 @@ idle-counted e past input told old new from digest so sound said none still =
       };
     })
 
-pub decided-taken : (e : Errand) (past : List Input) (input : Input) (told : Told) (old new : Kept) (from : NodeId) (digest : List ℕ) (so : Bool) → IsSoundClient e told old
+pub decided-taken : (e : Errand) (past : List ClientInput) (input : ClientInput) (told : WordsTold) (old new : Kept) (from : NodeId) (digest : List ℕ) (so : Bool) → IsSoundClient e told old
     → heard e.keys input ≡ Some (from, message.Decided digest so) → Counts from digest so old new → Hears e past input told old told new
 decided-taken e past input told kept.Asking new from digest so sound said counts = idle-counted e past input told kept.Asking new from digest so sound said (λ accepted. refl) counts
 decided-taken e past input told (kept.Wanting wanted) new from digest so sound said counts = idle-counted e past input told (kept.Wanting wanted) new from digest so sound said (λ accepted. refl) counts

@@ -19,10 +19,10 @@ use Rattle.cs_wire.specs.declared.keys.Keys.{Keys}
 use Rattle.cs_wire_message.specs.declared.message.Message.{Message}
 use Rattle.cs_wire_message.specs.declared.message.Message.TheVariants as message
 use Rattle.cs_client.specs.declared.errand.Errand.{Errand}
-use Rattle.cs_client.specs.Inputs.{Input, heard, from_node, said_from, latest, or_none}
+use Rattle.cs_client.specs.Inputs.{ClientInput, heard, from_node, said_from, latest, or_none}
 use Rattle.cs_client.specs.Objects.{active, free_in, word_told, object_told, told_in, word_on, shard_of_name, words_on}
 use Rattle.cs_client.specs.Dummies.{serial_told, dummy_told, dummy_word_in, serial_by, serials_in}
-use Rattle.cs_client.specs.Kept.{Told, told_by_inputs, asked_on, asked_with, shards_below, with_word, word_of_name, told_with_state, heard_of, serials_kept}
+use Rattle.cs_client.specs.Kept.{WordsTold, told_by_inputs, asked_on, asked_with, shards_below, with_word, word_of_name, told_with_state, heard_of, serials_kept}
 use Rattle.cs_client.proofs.Members.{node_at, same-members, same-shards, same-each, set-members, set-shards, each-changed, get-shards}
 
 -- ---- names of nodes
@@ -54,13 +54,13 @@ is_in config node is = (grind (arith, nat_tests), grind (arith, nat_tests))
 
 -- ---- what is found last
 
-latest-none : {A : Type 0} (found : Input → Option A) (input : Input) (past : List Input) → found input ≡ None → latest found (input ∷ past) ≡ latest found past
+latest-none : {A : Type 0} (found : ClientInput → Option A) (input : ClientInput) (past : List ClientInput) → found input ≡ None → latest found (input ∷ past) ≡ latest found past
 latest-none found input past none = ap (λ o. or_else o (latest found past)) none
 
-latest-some : {A : Type 0} (found : Input → Option A) (input : Input) (past : List Input) (x : A) → found input ≡ Some x → latest found (input ∷ past) ≡ Some x
+latest-some : {A : Type 0} (found : ClientInput → Option A) (input : ClientInput) (past : List ClientInput) (x : A) → found input ≡ Some x → latest found (input ∷ past) ≡ Some x
 latest-some found input past x some = ap (λ o. or_else o (latest found past)) some
 
-module _ (config : Config) (keys : Keys) (input : Input) (past : List Input) where
+module _ (config : Config) (keys : Keys) (input : ClientInput) (past : List ClientInput) where
   -- what a node is found to say of a name, and of dummies
   abbrev word : List ℕ → NodeId → Option (Option Object)
   word name node = option_and_then (told_in name) (said_from keys node input)
@@ -129,10 +129,10 @@ module _ (config : Config) (keys : Keys) (input : Input) (past : List Input) whe
 
 -- ---- all that is told
 
-pub told-eq : (a b : Told) → a.inputs ≡ b.inputs → a.reads ≡ b.reads → a.serials ≡ b.serials → a ≡ b
+pub told-eq : (a b : WordsTold) → a.inputs ≡ b.inputs → a.reads ≡ b.reads → a.serials ≡ b.serials → a ≡ b
 told-eq a b i r s = λ k. record { inputs = i k; reads = r k; serials = s k }
 
-pub silent : (e : Errand) (input : Input) (past : List Input)
+pub silent : (e : Errand) (input : ClientInput) (past : List ClientInput)
     → ((name : List ℕ) (i : ℕ) → i < 3 * e.config.f + 1 → word e.config e.keys input past name (node_at (shard_of_name e.config name) i) ≡ None)
     → ((shard : ℕ) → shard < e.config.shards → (i : ℕ) → i < 3 * e.config.f + 1 → serial e.config e.keys input past (node_at shard i) ≡ None)
     → told_by_inputs e (input ∷ past) ≡ told_by_inputs e past
@@ -145,7 +145,7 @@ silent e input past words serials =
     (λ shard less. serials-none e.config e.keys input past shard (serials shard less)))
 
 -- what doesn't open tells nothing
-pub unheard-told : (e : Errand) (input : Input) (past : List Input) → heard e.keys input ≡ None → told_by_inputs e (input ∷ past) ≡ told_by_inputs e past
+pub unheard-told : (e : Errand) (input : ClientInput) (past : List ClientInput) → heard e.keys input ≡ None → told_by_inputs e (input ∷ past) ≡ told_by_inputs e past
 unheard-told e input past none =
     silent e input past
     (λ name i less. ap (λ s. option_and_then (told_in name) (from_node (node_at (shard_of_name e.config name) i) s)) none)
@@ -158,14 +158,14 @@ name-low config name = let some : 0 < config.shards = config.some_shard in mod_b
 pub stranger : (config : Config) (from : NodeId) (shard i : ℕ) → is_node config from ≡ false → shard < config.shards → i < 3 * config.f + 1 → same_name from (node_at shard i) ≡ false
 stranger config from shard i other low less = grind (arith, nat_tests)
 
-pub stranger-told : (e : Errand) (input : Input) (past : List Input) (from : NodeId) (m : Message) → heard e.keys input ≡ Some (from, m) → is_node e.config from ≡ false → told_by_inputs e (input ∷ past) ≡ told_by_inputs e past
+pub stranger-told : (e : Errand) (input : ClientInput) (past : List ClientInput) (from : NodeId) (m : Message) → heard e.keys input ≡ Some (from, m) → is_node e.config from ≡ false → told_by_inputs e (input ∷ past) ≡ told_by_inputs e past
 stranger-told e input past from m said other =
     silent e input past
     (λ name i less. word-not e.config e.keys input past from m said name (node_at (shard_of_name e.config name) i) (stranger e.config from (shard_of_name e.config name) i other (name-low e.config name) less))
     (λ shard low i less. serial-not e.config e.keys input past from m said (node_at shard i) (stranger e.config from shard i other low less))
 
 -- nor does a message that tells of no key
-pub other-told : (e : Errand) (input : Input) (past : List Input) (from : NodeId) (m : Message) → heard e.keys input ≡ Some (from, m)
+pub other-told : (e : Errand) (input : ClientInput) (past : List ClientInput) (from : NodeId) (m : Message) → heard e.keys input ≡ Some (from, m)
     → ((name : List ℕ) → told_in name m ≡ None) → ((shard : ℕ) → dummy_word_in shard m ≡ None) → told_by_inputs e (input ∷ past) ≡ told_by_inputs e past
 other-told e input past from m said names dummies =
     silent e input past
@@ -174,7 +174,7 @@ other-told e input past from m said names dummies =
 
 -- ---- a node tells of a key
 
-module _ (e : Errand) (input : Input) (past : List Input) (from : NodeId) (k : Key) (s : State) (said : heard e.keys input ≡ Some (from, message.Told k s)) where
+module _ (e : Errand) (input : ClientInput) (past : List ClientInput) (from : NodeId) (k : Key) (s : State) (said : heard e.keys input ≡ Some (from, message.Told k s)) where
   -- all nodes of the name's shard say nothing new
   abbrev NoWord : List ℕ → Type 0
   NoWord name = (i : ℕ) → i < 3 * e.config.f + 1 → word e.config e.keys input past name (node_at (shard_of_name e.config name) i) ≡ None
@@ -220,7 +220,7 @@ module _ (e : Errand) (input : Input) (past : List Input) (from : NodeId) (k : K
       (serial-not e.config e.keys input past from (message.Told k s) said (node_at from.shard i) (other-index from (node_at from.shard i) (λ q. apart (sym q)))))
 
 -- who isn't of the key's shard tells nothing
-told-elsewhere : (e : Errand) (input : Input) (past : List Input) (from : NodeId) (k : Key) (s : State) → heard e.keys input ≡ Some (from, message.Told k s)
+told-elsewhere : (e : Errand) (input : ClientInput) (past : List ClientInput) (from : NodeId) (k : Key) (s : State) → heard e.keys input ≡ Some (from, message.Told k s)
     → (shard_of_key e.config.shards k ≡ from.shard → ⊥) → told_by_inputs e (input ∷ past) ≡ told_by_inputs e past
 told-elsewhere e input past from (key.Dummy other number) s said apart =
     silent e input past
@@ -239,7 +239,7 @@ told-elsewhere e input past from (key.Object told) s said apart =
     ])
     (λ shard low. serial-untold e input past from (key.Object told) s said shard refl)
 
-told-object : (e : Errand) (input : Input) (past : List Input) (from : NodeId) (told : List ℕ) (s : State) → heard e.keys input ≡ Some (from, message.Told (key.Object told) s)
+told-object : (e : Errand) (input : ClientInput) (past : List ClientInput) (from : NodeId) (told : List ℕ) (s : State) → heard e.keys input ≡ Some (from, message.Told (key.Object told) s)
     → from.index < 3 * e.config.f + 1 → shard_of_name e.config told ≡ from.shard
     → told_by_inputs e (input ∷ past) ≡ told_with_state e.config.f from (key.Object told) (free_in s) (told_by_inputs e past)
 told-object e input past from told s said low at =
@@ -265,7 +265,7 @@ told-object e input past from told s said low at =
     (same-shards (serials_in e.config e.keys (input ∷ past)) (serials_in e.config e.keys past) e.config.shards
     (λ shard less. serials-none e.config e.keys input past shard (serial-untold e input past from (key.Object told) s said shard refl)))
 
-told-dummy : (e : Errand) (input : Input) (past : List Input) (from : NodeId) (other number : ℕ) (s : State) → heard e.keys input ≡ Some (from, message.Told (key.Dummy other number) s)
+told-dummy : (e : Errand) (input : ClientInput) (past : List ClientInput) (from : NodeId) (other number : ℕ) (s : State) → heard e.keys input ≡ Some (from, message.Told (key.Dummy other number) s)
     → from.shard < e.config.shards → from.index < 3 * e.config.f + 1 → other ≡ from.shard
     → told_by_inputs e (input ∷ past) ≡ told_with_state e.config.f from (key.Dummy other number) (active s) (told_by_inputs e past)
 told-dummy e input past from other number s said here low at =
@@ -286,7 +286,7 @@ told-dummy e input past from other number s said here low at =
     (λ shard less apart. serials-none e.config e.keys input past shard (serial-elsewhere e input past from k s said shard (λ q. apart (sym q)))))
 
 -- what a node tells of a key
-pub told-heard : (e : Errand) (input : Input) (past : List Input) (from : NodeId) (k : Key) (s : State) → heard e.keys input ≡ Some (from, message.Told k s)
+pub told-heard : (e : Errand) (input : ClientInput) (past : List ClientInput) (from : NodeId) (k : Key) (s : State) → heard e.keys input ≡ Some (from, message.Told k s)
     → is_node e.config from ≡ true → told_by_inputs e (input ∷ past) ≡ heard_of e.config from k s (told_by_inputs e past)
 told-heard e input past from k s said known =
     elim (cases_eq (shard_of_key e.config.shards k) from.shard) [

@@ -6,7 +6,7 @@ use Rattle.cs_config.specs.declared.call.CallFile.{CallFile}
 use Rattle.cs_proc.specs.declared.call.Call.{Call}
 use Rattle.cs_proc.specs.Calling.{CallRan, ran}
 use Rattle.cs_client.specs.declared.errand.Errand.{Errand}
-use Rattle.cs_client.specs.Inputs.{Input}
+use Rattle.cs_client.specs.Inputs.{ClientInput}
 use Rattle.cs_client.specs.Objects.{believed}
 
 -- these names, each with its object, where each has one
@@ -33,7 +33,7 @@ abbrev pub call_with : CallFile → Option (List Keyed) → Option (List Keyed) 
 call_with call inputs reads = option_and_then (λ i. option_map (λ r. call_on call i r) reads) inputs
 
 -- the call that is made, where all its objects are believed
-abbrev pub ready : Errand → List Input → Option Call
+abbrev pub ready : Errand → List ClientInput → Option Call
 ready e inputs =
     let object = believed e.config e.keys inputs in
     call_with e.call (objects_for object e.call.inputs) (objects_for object e.call.reads)

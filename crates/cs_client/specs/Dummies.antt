@@ -9,7 +9,7 @@ use Rattle.cs_wire.specs.declared.keys.Keys.{Keys}
 use Rattle.cs_wire_message.specs.declared.message.Message.{Message}
 use Rattle.cs_wire_message.specs.declared.message.Message.TheVariants as message
 use Rattle.cs_client.specs.Nodes.{nodes_in}
-use Rattle.cs_client.specs.Inputs.{Input, said_from, latest, or_none}
+use Rattle.cs_client.specs.Inputs.{ClientInput, said_from, latest, or_none}
 use Rattle.cs_client.specs.Objects.{active}
 
 -- ---- what a node says
@@ -28,11 +28,11 @@ dummy_word_in shard (message.Told key state) = dummy_told shard key state
 dummy_word_in shard m = None
 
 -- a node's last word on any dummy of its shard: the serial of one that is active, or none
-abbrev pub serial_by : Keys → List Input → NodeId → Option ℕ
+abbrev pub serial_by : Keys → List ClientInput → NodeId → Option ℕ
 serial_by keys inputs node =
     or_none (latest (λ input. option_and_then (dummy_word_in node.shard) (said_from keys node input)) inputs)
 
-abbrev pub serials_in : Config → Keys → List Input → ℕ → List (Option ℕ)
+abbrev pub serials_in : Config → Keys → List ClientInput → ℕ → List (Option ℕ)
 serials_in config keys inputs shard = map (serial_by keys inputs) (nodes_in config.f shard)
 
 -- ---- what is believed
@@ -57,7 +57,7 @@ least_word f all least None = least
 abbrev pub least_named : ℕ → List (Option ℕ) → Option ℕ
 least_named f words = fold (least_word f words) None words
 
-abbrev pub dummy_believed : Config → Keys → List Input → ℕ → Option ℕ
+abbrev pub dummy_believed : Config → Keys → List ClientInput → ℕ → Option ℕ
 dummy_believed config keys inputs shard = least_named config.f (serials_in config keys inputs shard)
 
 -- the shards, each with its dummy, where each has one

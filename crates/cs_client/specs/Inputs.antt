@@ -12,12 +12,12 @@ use Rattle.cs_wire.specs.Opened.{Opened, opened}
 use Rattle.cs_wire_message.specs.declared.message.Message.{Message}
 
 -- the bytes of a datagram, or the word that some time has passed
-abbrev pub Input : Type 0
-Input = MemInput
+abbrev pub ClientInput : Type 0
+ClientInput = MemInput
 
-abbrev pub input_of : Given → Input
-input_of (given.Datagram bytes) = came.Datagram bytes.now
-input_of given.Tick = came.Tick
+abbrev pub client_input : Given → ClientInput
+client_input (given.Datagram bytes) = came.Datagram bytes.now
+client_input given.Tick = came.Tick
 
 -- who says what, if anyone
 abbrev pub Said : Type 0
@@ -28,7 +28,7 @@ said_by_opened (Ok said) = Some said
 said_by_opened (Err error) = None
 
 -- a datagram says what it opens to
-abbrev pub heard : Keys → Input → Said
+abbrev pub heard : Keys → ClientInput → Said
 heard keys (came.Datagram bytes) = said_by_opened (opened keys bytes)
 heard keys came.Tick = None
 
@@ -38,11 +38,11 @@ from_node node (Some said) = if same_name said.0 node then Some said.1 else None
 from_node node None = None
 
 -- what a node says by an input
-abbrev pub said_from : Keys → NodeId → Input → Option Message
+abbrev pub said_from : Keys → NodeId → ClientInput → Option Message
 said_from keys node input = from_node node (heard keys input)
 
 -- what is found in the last input in which something is found
-abbrev pub latest : {A : Type 0} → (Input → Option A) → List Input → Option A
+abbrev pub latest : {A : Type 0} → (ClientInput → Option A) → List ClientInput → Option A
 latest {A} found [] = None
 latest {A} found (input ∷ past) = or_else (found input) (latest found past)
 

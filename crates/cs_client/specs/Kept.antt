@@ -14,13 +14,13 @@ use Rattle.cs_wire.specs.declared.keys.Keys.{Keys}
 use Rattle.cs_client.specs.declared.beliefs.Asked.{Asked}
 use Rattle.cs_client.specs.declared.beliefs.Objects.{Objects}
 use Rattle.cs_client.specs.declared.errand.Errand.{Errand}
-use Rattle.cs_client.specs.Inputs.{Input}
+use Rattle.cs_client.specs.Inputs.{ClientInput}
 use Rattle.cs_client.specs.Objects.{word_told, words_on, believed_in}
 use Rattle.cs_client.specs.Dummies.{serials_in, least_named}
 use Rattle.cs_client.specs.Calls.{objects_with}
 
 -- the last words of nodes on all that a client is to know
-pub record Told : Type 0 where
+pub record WordsTold : Type 0 where
   pub inputs : List Asked
   pub reads : List Asked
   pub serials : List (List (Option ℕ))  -- of each shard
@@ -30,14 +30,14 @@ pub record Told : Type 0 where
 abbrev pub asked_with : ℕ → List ℕ → List (Option Object) → Asked
 asked_with f name words = record { name = name; words = words; settled = is_some (believed_in f words) }
 
-abbrev pub asked_on : Config → Keys → List Input → List ℕ → Asked
+abbrev pub asked_on : Config → Keys → List ClientInput → List ℕ → Asked
 asked_on config keys inputs name = asked_with config.f name (words_on config keys name inputs)
 
 abbrev pub shards_below : ℕ → List ℕ
 shards_below zero = []
 shards_below (suc n) = shards_below n ++ n ∷ []
 
-abbrev pub told_by_inputs : Errand → List Input → Told
+abbrev pub told_by_inputs : Errand → List ClientInput → WordsTold
 told_by_inputs e inputs = record {
   inputs = map (asked_on e.config e.keys inputs) e.call.inputs;
   reads = map (asked_on e.config e.keys inputs) e.call.reads;
@@ -49,7 +49,7 @@ told_by_inputs e inputs = record {
 abbrev pub unheard_on : ℕ → List ℕ → Asked
 unheard_on members name = record { name = name; words = replicate members None; settled = false }
 
-abbrev pub unheard : Config → List (List ℕ) → List (List ℕ) → Told
+abbrev pub unheard : Config → List (List ℕ) → List (List ℕ) → WordsTold
 unheard config inputs reads = record {
   inputs = map (unheard_on (3 * config.f + 1)) inputs;
   reads = map (unheard_on (3 * config.f + 1)) reads;
@@ -74,7 +74,7 @@ abbrev pub with_serial : ℕ → ℕ → Option ℕ → List (List (Option ℕ))
 with_serial shard index word serials = slice_set serials shard (slice_set (serials_kept serials shard) index word)
 
 -- a node of the key's shard told of it
-abbrev pub told_with_state : ℕ → NodeId → Key → Option Object → Told → Told
+abbrev pub told_with_state : ℕ → NodeId → Key → Option Object → WordsTold → WordsTold
 told_with_state f from (key.Object name) word told =
     record told {
       inputs = map (word_of_name f name from.index word) told.inputs;
@@ -86,7 +86,7 @@ told_with_state f from (key.Dummy shard serial) word told =
     }
 
 -- what a node told of a key, where it is one of the key's shard
-abbrev pub heard_of : Config → NodeId → Key → State → Told → Told
+abbrev pub heard_of : Config → NodeId → Key → State → WordsTold → WordsTold
 heard_of config from key state told =
     if shard_of_key config.shards key == from.shard
     then told_with_state config.f from key (word_told key state) told
@@ -114,7 +114,7 @@ abbrev pub HasAll : ℕ → List (Option ℕ) → Type 0
 HasAll members words = length words ≡ members
 
 -- words of all nodes of all shards
-pub record ToldFits (config : Config) (told : Told) : Type 0 where
+pub record ToldFits (config : Config) (told : WordsTold) : Type 0 where
   pub inputs : EachFits (3 * config.f + 1) told.inputs
   pub reads : EachFits (3 * config.f + 1) told.reads
   pub shards : length told.serials ≡ config.shards
@@ -137,12 +137,12 @@ abbrev pub dummy_kept : ℕ → List (List (Option ℕ)) → ℕ → Option ℕ
 dummy_kept f serials shard = least_named f (serials_kept serials shard)
 
 -- the objects of both, where there are both
-abbrev pub objects_kept : ℕ → Told → Option Objects
+abbrev pub objects_kept : ℕ → WordsTold → Option Objects
 objects_kept f told =
     option_and_then (λ i. option_map (λ r. record { inputs = i; reads = r }) (objects_believed f told.reads))
     (objects_believed f told.inputs)
 
 -- all flags say what the words do
-pub record ToldMarked (f : ℕ) (told : Told) : Type 0 where
+pub record ToldMarked (f : ℕ) (told : WordsTold) : Type 0 where
   pub inputs : AllByRecursion (FlagsSayWords f) told.inputs
   pub reads : AllByRecursion (FlagsSayWords f) told.reads

@@ -12,7 +12,7 @@ use Rattle.cs_wire_message.specs.declared.message.Message.TheVariants as message
 use Rattle.cs_client.specs.declared.errand.Errand.{Errand}
 use Rattle.cs_client.specs.declared.known.Known.{Known}
 use Rattle.cs_client.specs.declared.known.Known.TheVariants as known
-use Rattle.cs_client.specs.Inputs.{Input, said_from}
+use Rattle.cs_client.specs.Inputs.{ClientInput, said_from}
 use Rattle.cs_client.specs.Phases.{Phase, Asking, Wanting, Submitting, Idle, phase}
 
 -- a message says that the session of this digest is accepted, or that it is aborted
@@ -29,19 +29,19 @@ says_decided (Submitting x) accepted m = is_decision (digest_of_session x) accep
 says_decided Idle accepted m = false
 
 -- a node has said so since submission began
-abbrev pub has_decided : Errand → Bool → List Input → NodeId → Bool
+abbrev pub has_decided : Errand → Bool → List ClientInput → NodeId → Bool
 has_decided e accepted [] node = false
 has_decided e accepted (input ∷ past) node =
     option_map_or (says_decided (phase e past) accepted) (said_from e.keys node input) false
     || has_decided e accepted past node
 
 -- how many nodes of a shard have said so
-abbrev pub deciders : Errand → Bool → List Input → ℕ → ℕ
+abbrev pub deciders : Errand → Bool → List ClientInput → ℕ → ℕ
 deciders e accepted inputs shard =
     count_below (3 * e.config.f + 1) (λ index. has_decided e accepted inputs (record { shard = shard; index = index }))
 
 -- f+1 of them have
-abbrev pub knows_decided : Errand → Bool → List Input → ℕ → Bool
+abbrev pub knows_decided : Errand → Bool → List ClientInput → ℕ → Bool
 knows_decided e accepted inputs shard = nat_lt e.config.f (deciders e accepted inputs shard)
 
 -- accepted, where f+1 nodes of each shard say so; else aborted, where f+1 nodes of one say so
@@ -49,18 +49,18 @@ abbrev pub outcome : List ℕ → Bool → Bool → Known
 outcome digest accepted aborted =
     if accepted then known.Accepted digest else if aborted then known.Aborted digest else known.Open
 
-abbrev pub known_of : Errand → List Input → Session → Known
+abbrev pub known_of : Errand → List ClientInput → Session → Known
 known_of e inputs x =
     outcome (digest_of_session x)
     (list_all (knows_decided e true inputs) (concerned_shards e.config x))
     (list_any (knows_decided e false inputs) (concerned_shards e.config x))
 
-abbrev pub known_in : Errand → List Input → Phase → Known
+abbrev pub known_in : Errand → List ClientInput → Phase → Known
 known_in e inputs Asking = known.Open
 known_in e inputs (Wanting x) = known.Open
 known_in e inputs (Submitting x) = known_of e inputs x
 known_in e inputs Idle = known.Open
 
 -- what a client knows after these inputs
-abbrev pub knows : Errand → List Input → Known
+abbrev pub knows : Errand → List ClientInput → Known
 knows e inputs = known_in e inputs (phase e inputs)

@@ -13,7 +13,7 @@ use Rattle.cs_wire.specs.declared.keys.Keys.{Keys}
 use Rattle.cs_wire_message.specs.declared.message.Message.{Message}
 use Rattle.cs_wire_message.specs.declared.message.Message.TheVariants as message
 use Rattle.cs_client.specs.Nodes.{nodes_in}
-use Rattle.cs_client.specs.Inputs.{Input, said_from, latest, or_none}
+use Rattle.cs_client.specs.Inputs.{ClientInput, said_from, latest, or_none}
 
 -- ---- what a node says
 
@@ -45,7 +45,7 @@ told_in name (message.Told key state) = object_told name key state
 told_in name m = None
 
 -- a node's last word on a name: an object that is there, or none
-abbrev pub word_on : Keys → List ℕ → List Input → NodeId → Option Object
+abbrev pub word_on : Keys → List ℕ → List ClientInput → NodeId → Option Object
 word_on keys name inputs node =
     or_none (latest (λ input. option_and_then (told_in name) (said_from keys node input)) inputs)
 
@@ -53,7 +53,7 @@ abbrev pub shard_of_name : Config → List ℕ → ℕ
 shard_of_name config name = shard_of_key config.shards (key.Object name)
 
 -- the last words of the nodes of its shard
-abbrev pub words_on : Config → Keys → List ℕ → List Input → List (Option Object)
+abbrev pub words_on : Config → Keys → List ℕ → List ClientInput → List (Option Object)
 words_on config keys name inputs = map (word_on keys name inputs) (nodes_in config.f (shard_of_name config name))
 
 -- ---- what is believed
@@ -77,5 +77,5 @@ first_believed f all (Some object ∷ words) =
 abbrev pub believed_in : ℕ → List (Option Object) → Option Object
 believed_in f words = first_believed f words words
 
-abbrev pub believed : Config → Keys → List Input → List ℕ → Option Object
+abbrev pub believed : Config → Keys → List ClientInput → List ℕ → Option Object
 believed config keys inputs name = believed_in config.f (words_on config keys name inputs)

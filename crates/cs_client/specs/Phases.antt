@@ -4,12 +4,12 @@ use Rattle.cs_base.specs.declared.config.Config.{Config}
 use Rattle.cs_tx_types.specs.declared.session.Session.{Session}
 use Rattle.cs_proc.specs.declared.call.Call.{Call}
 use Rattle.cs_proc.specs.Calling.{CallRan}
-use Rattle.cs_proc.specs.Answering.{tx_of}
+use Rattle.cs_tx_types.specs.Transaction.{tx_of}
 use Rattle.cs_client.specs.declared.errand.Errand.{Errand}
-use Rattle.cs_client.specs.Inputs.{Input}
+use Rattle.cs_client.specs.Inputs.{ClientInput}
 use Rattle.cs_client.specs.Dummies.{dummy_believed, dummies_for}
 use Rattle.cs_client.specs.Calls.{ready, ran_with}
-use Rattle.cs_client.specs.Sessions.{has_input, bare, with_dummies, bare_shards}
+use Rattle.cs_client.specs.Sessions.{has_input, session_without_dummies, with_dummies, bare_shards}
 
 pub data Phase : Type 0 where
   Asking : Phase  -- it asks for the objects of its call
@@ -33,7 +33,9 @@ wanting config dummy x = provided x (dummies_for dummy (bare_shards config x))
 -- what the method came to: a transaction with an input goes on; after a refusal nothing comes
 abbrev pub after_method : Errand → Dummies → CallRan → Phase
 after_method e dummy (Ok traces) =
-    if has_input (tx_of traces) then wanting e.config dummy (bare (tx_of traces) e.call.number) else Idle
+    if has_input (tx_of traces)
+    then wanting e.config dummy (session_without_dummies (tx_of traces) e.call.number)
+    else Idle
 after_method e dummy (Err error) = Idle
 
 -- the method is run, where all objects of the call are believed
@@ -48,7 +50,7 @@ moved e dummy call (Wanting x) = wanting e.config dummy x
 moved e dummy call (Submitting x) = Submitting x
 moved e dummy call Idle = Idle
 
-abbrev pub phase : Errand → List Input → Phase
+abbrev pub phase : Errand → List ClientInput → Phase
 phase e [] = Asking
 phase e (input ∷ past) =
     moved e (dummy_believed e.config e.keys (input ∷ past)) (ready e (input ∷ past)) (phase e past)

@@ -19,7 +19,7 @@ use Rattle.cs_client.specs.declared.errand.Errand.{Errand}
 use Rattle.cs_client.specs.declared.known.Known.{Known}
 use Rattle.cs_client.specs.declared.known.Known.TheVariants as known
 use Rattle.cs_client.specs.Nodes.{nodes_in, nodes_of_shards}
-use Rattle.cs_client.specs.Inputs.{Input}
+use Rattle.cs_client.specs.Inputs.{ClientInput}
 use Rattle.cs_client.specs.Objects.{shard_of_name}
 use Rattle.cs_client.specs.Sessions.{bare_shards}
 use Rattle.cs_client.specs.Phases.{Phase, Asking, Wanting, Submitting, Idle, phase}
@@ -65,7 +65,7 @@ again e so_far (Wanting x) = wants e x
 again e so_far (Submitting x) = where_open so_far (submits e x)
 again e so_far Idle = []
 
-abbrev pub at_tick : Input → List Saying → List Saying
+abbrev pub at_tick : ClientInput → List Saying → List Saying
 at_tick (came.Datagram bytes) sayings = []
 at_tick came.Tick sayings = sayings
 
@@ -77,12 +77,12 @@ on_entering e (Wanting y) (Submitting x) = submits e x
 on_entering e old new = []
 
 -- what a client says at an input, after those before it
-abbrev pub says_at : Errand → Input → List Input → List Saying
+abbrev pub says_at : Errand → ClientInput → List ClientInput → List Saying
 says_at e input past =
     at_tick input (again e (knows e past) (phase e past)) ++ on_entering e (phase e past) (phase e (input ∷ past))
 
 -- all that it says at these inputs, the oldest first
-abbrev pub says_by : Errand → List Input → List Saying
+abbrev pub says_by : Errand → List ClientInput → List Saying
 says_by e [] = []
 says_by e (input ∷ past) = says_by e past ++ says_at e input past
 

@@ -30,7 +30,7 @@ use Rattle.cs_client.specs.Sessions.{has_input, bare_shards}
 use Rattle.cs_client.specs.Phases.{Phase, Asking, Wanting, Submitting, Idle, moved}
 use Rattle.cs_client.specs.Knowing.{outcome}
 use Rattle.cs_client.specs.Sayings.{on_entering, outs_of_sayings}
-use Rattle.cs_client.specs.Kept.{Told, ToldFits, ToldMarked, objects_believed, dummy_kept}
+use Rattle.cs_client.specs.Kept.{WordsTold, ToldFits, ToldMarked, objects_believed, dummy_kept}
 use Rattle.cs_client.specs.Voices.{is_enough, AreUnheard, EachFits, EachHeard}
 
 abbrev pub phase_seen : Kept → Phase
@@ -64,11 +64,11 @@ PhaseFits config kept.Idle = Unit {0}
 
 pub record Client : Type 0 where
   pub errand : Errand
-  pub beliefs : Told
+  pub beliefs : WordsTold
   pub phase : Kept
 
 -- what is kept has its form
-pub record IsSoundClient (e : Errand) (told : Told) (phase : Kept) : Type 0 where
+pub record IsSoundClient (e : Errand) (told : WordsTold) (phase : Kept) : Type 0 where
   pub told_fits : ToldFits e.config told
   pub told_marked : ToldMarked e.config.f told
   pub phase_fits : PhaseFits e.config phase
@@ -109,14 +109,14 @@ Counts from digest accepted kept.Idle new = new ≡ kept.Idle
 
 -- ---- how one follows on another
 
-abbrev pub dummies_kept : Errand → Told → ℕ → Option ℕ
+abbrev pub dummies_kept : Errand → WordsTold → ℕ → Option ℕ
 dummies_kept e told = dummy_kept e.config.f told.serials
 
 -- the call on the objects that are believed
-abbrev pub ready_kept : Errand → Told → Option Call
+abbrev pub ready_kept : Errand → WordsTold → Option Call
 ready_kept e told = call_with e.call (objects_believed e.config.f told.inputs) (objects_believed e.config.f told.reads)
 
-abbrev pub next_kept : Errand → Told → Phase → Phase
+abbrev pub next_kept : Errand → WordsTold → Phase → Phase
 next_kept e told old = moved e (dummies_kept e told) (ready_kept e told) old
 
 -- of a session that is newly submitted nothing has been heard
@@ -144,14 +144,14 @@ abbrev pub IsApproved : Contracts → CallRan → Type 0
 IsApproved contracts run = (tx : Tx) × IsMadeTransaction contracts tx run
 
 -- the phase moved on; where the first one ended, the method was run
-pub record HasMoved (e : Errand) (told : Told) (old next : Kept) (before after : List Out) : Type 0 where
+pub record HasMoved (e : Errand) (told : WordsTold) (old next : Kept) (before after : List Out) : Type 0 where
   pub enters : Enters e (phase_seen old) (next_kept e told (phase_seen old)) next before after
   pub voices : StaysOrFresh e.config old next
   pub made : (call : Call) → phase_seen old ≡ Asking → ready_kept e told ≡ Some call
       → IsApproved e.book (ran_with e call)
 
 -- the first phase ends, and the method is refused
-pub record IsRefusedNow (e : Errand) (told : Told) (old : Kept) (cause : ProcError) : Type 0 where
+pub record IsRefusedNow (e : Errand) (told : WordsTold) (old : Kept) (cause : ProcError) : Type 0 where
   pub asking : phase_seen old ≡ Asking
   pub call : Call
   pub ready_is : ready_kept e told ≡ Some call
@@ -159,7 +159,7 @@ pub record IsRefusedNow (e : Errand) (told : Told) (old : Kept) (cause : ProcErr
   pub cause_is : cause ≡ refusal.Memory → ⊥
 
 -- what moving on comes to; memory may run out
-abbrev pub ClientMoves : Errand → Told → Kept → Result Kept ClientError → List Out → List Out → Type 0
+abbrev pub ClientMoves : Errand → WordsTold → Kept → Result Kept ClientError → List Out → List Out → Type 0
 ClientMoves e told old (Ok next) before after = HasMoved e told old next before after
 ClientMoves e told old (Err (error.Refused cause)) before after = IsRefusedNow e told old cause
 ClientMoves e told old (Err error.Memory) before after = Unit {0}

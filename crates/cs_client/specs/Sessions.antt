@@ -11,8 +11,8 @@ abbrev pub has_input : Tx → Bool
 has_input tx = list_any (λ trace. nat_lt 0 (length trace.inputs)) tx.traces
 
 -- the session of this number, as long as it lacks its dummies
-abbrev pub bare : Tx → ℕ → Session
-bare tx number = record { tx = tx; number = number; dummies = [] }
+abbrev pub session_without_dummies : Tx → ℕ → Session
+session_without_dummies tx number = record { tx = tx; number = number; dummies = [] }
 
 abbrev pub with_dummies : Session → List (ℕ × ℕ) → Session
 with_dummies x dummies = record { tx = x.tx; number = x.number; dummies = dummies }

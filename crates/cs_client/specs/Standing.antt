@@ -12,7 +12,7 @@ use Rattle.cs_proc.specs.Answering.{AnswersCall}
 use Rattle.cs_client.specs.declared.errand.Errand.{Errand}
 use Rattle.cs_client.specs.declared.error.ClientError.{ClientError}
 use Rattle.cs_client.specs.declared.error.ClientError.TheVariants as error
-use Rattle.cs_client.specs.Inputs.{Input}
+use Rattle.cs_client.specs.Inputs.{ClientInput}
 use Rattle.cs_client.specs.Calls.{ready, ran_with}
 use Rattle.cs_client.specs.Phases.{Asking, phase}
 use Rattle.cs_client.specs.Sayings.{says_at, outs_of_sayings}
@@ -24,12 +24,12 @@ abbrev pub errand_for : Site → Keys → Contracts → CallFile → Errand
 errand_for site keys book call = record { config = site.config; keys = keys; book = book; call = call }
 
 -- The client stands for these inputs: what it keeps is the function of them.
-pub record ClientStandsFor (e : Errand) (inputs : List Input) (client : Client) : Type 0 where
+pub record ClientStandsFor (e : Errand) (inputs : List ClientInput) (client : Client) : Type 0 where
   pub errand_is : client.errand ≡ e
   pub keeps : Keeps e inputs (phase e inputs) client.beliefs client.phase
 
 -- The client stands for one input more, and this is what it says. Where the first phase ends, its method was run.
-pub record HasStepped (e : Errand) (past : List Input) (input : Input)
+pub record HasStepped (e : Errand) (past : List ClientInput) (input : ClientInput)
     (client : Client) (outs : List Out) : Type 0 where
   pub stands : ClientStandsFor e (input ∷ past) client
   pub says : outs ≡ outs_of_sayings e.keys (says_at e input past)
@@ -37,7 +37,8 @@ pub record HasStepped (e : Errand) (past : List Input) (input : Input)
       → IsApproved e.book (ran_with e call)
 
 -- the first phase ends at this input, and its method is refused
-pub record MethodIsRefused (e : Errand) (past : List Input) (input : Input) (cause : ProcError) : Type 0 where
+pub record MethodIsRefused (e : Errand) (past : List ClientInput) (input : ClientInput) (cause : ProcError)
+    : Type 0 where
   pub asking : phase e past ≡ Asking
   pub call : Call
   pub ready_is : ready e (input ∷ past) ≡ Some call
@@ -45,7 +46,7 @@ pub record MethodIsRefused (e : Errand) (past : List Input) (input : Input) (cau
   pub cause_is : cause ≡ refusal.Memory → ⊥
 
 -- what a step comes to; memory may run out
-abbrev pub Steps : Errand → List Input → Input → Result (Client × List Out) ClientError → Type 0
+abbrev pub Steps : Errand → List ClientInput → ClientInput → Result (Client × List Out) ClientError → Type 0
 Steps e past input (Ok stepped) = HasStepped e past input stepped.0 stepped.1
 Steps e past input (Err (error.Refused cause)) = MethodIsRefused e past input cause
 Steps e past input (Err error.Memory) = Unit {0}

@@ -41,9 +41,9 @@ pub struct Beliefs {
 impl Model for Beliefs {
     ghost use Rattle.std.specs.Coded.{codes};
     ghost use Rattle.cs_tx_value.specs.contracts.value.Value as value;
-    ghost use Rattle.cs_client.specs.Kept.{Told};
+    ghost use Rattle.cs_client.specs.Kept.{WordsTold};
 
-    ghost Value = { Told };
+    ghost Value = { WordsTold };
 
     ghost coded = { Prim.hlevel (codes, value.the_row.coded) };
 

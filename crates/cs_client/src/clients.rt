@@ -3,7 +3,7 @@ ghost use Rattle.std.specs.Prelude.{◌≡◌, ◌≤◌, ◌*◌, true, List, S
 ghost use Rattle.cs_base.specs.NodeId.{is_node};
 ghost use Rattle.cs_io.specs.declared.link.MemInput.TheVariants as came;
 ghost use Rattle.cs_wire_message.specs.Message.{MessageFits};
-ghost use Rattle.cs_client.specs.Inputs.{Input as Given, heard, input_of};
+ghost use Rattle.cs_client.specs.Inputs.{ClientInput, heard, client_input};
 ghost use Rattle.cs_client.specs.Phases.{phase as phase_after};
 ghost use Rattle.cs_client.specs.Kept.{ToldFits, ToldMarked};
 ghost use Rattle.cs_client.specs.Seen.{PhaseFits, Counts};
@@ -83,7 +83,7 @@ fn take(
     requires told { ToldFits errand.now.config beliefs.old }
     requires marked { ToldMarked errand.now.config.f beliefs.old }
     requires phase { PhaseFits errand.now.config phase.old }
-    ensures { (past : List Given) (input : Given) →
+    ensures { (past : List ClientInput) (input : ClientInput) →
         heard errand.now.keys input ≡ Some (from, message) →
         OnOk result (Hears errand.now past input beliefs.old phase.old beliefs.new phase.new) }
 {
@@ -108,7 +108,7 @@ fn hear(
     requires told { ToldFits errand.now.config beliefs.old }
     requires marked { ToldMarked errand.now.config.f beliefs.old }
     requires phase { PhaseFits errand.now.config phase.old }
-    ensures { (past : List Given) →
+    ensures { (past : List ClientInput) →
         let input = came.Datagram bytes.now in
         OnOk result (Hears errand.now past input beliefs.old phase.old beliefs.new phase.new) }
 {
@@ -134,8 +134,8 @@ fn take_in(
     requires told { ToldFits errand.now.config beliefs.old }
     requires marked { ToldMarked errand.now.config.f beliefs.old }
     requires phase { PhaseFits errand.now.config phase.old }
-    ensures { (past : List Given) →
-        let given = input_of input.entry in
+    ensures { (past : List ClientInput) →
+        let given = client_input input.entry in
         IfOk result (ClientTakesIn errand.now past given beliefs.old phase.old beliefs.new phase.new) }
 {
     match input {
@@ -154,7 +154,7 @@ fn take_in(
 impl ClientCore {
     ghost use Rattle.std.specs.Prelude.{◌≡◌, List, [], IfOk};
     ghost use Rattle.cs_client.specs.declared.errand.Errand.{Errand as AnyErrand};
-    ghost use Rattle.cs_client.specs.Inputs.{Input as Given, input_of};
+    ghost use Rattle.cs_client.specs.Inputs.{ClientInput, client_input};
     ghost use Rattle.cs_client.specs.Knowing.{knows};
     ghost use Rattle.cs_client.specs.Standing.{errand_for, ClientStandsFor, Steps};
 
@@ -196,8 +196,8 @@ impl ClientCore {
         alloc: Global,
         input: Input<'_>,
     ) -> Result<(ClientCore, Sequence<Out>), ClientError>
-        ensures { (e : AnyErrand) (past : List Given) → ClientStandsFor e past self →
-            Steps e past (input_of input.entry) result }
+        ensures { (e : AnyErrand) (past : List ClientInput) → ClientStandsFor e past self →
+            Steps e past (client_input input.entry) result }
     {
         let ClientCore {
             errand,
@@ -216,7 +216,7 @@ impl ClientCore {
 
     /// What the client knows of its session.
     pub fn known(&self) -> Known
-        ensures { (e : AnyErrand) (inputs : List Given) → ClientStandsFor e inputs self.now →
+        ensures { (e : AnyErrand) (inputs : List ClientInput) → ClientStandsFor e inputs self.now →
             result ≡ knows e inputs }
     {
         known_in(&self.errand, &self.phase)

@@ -3,7 +3,7 @@ ghost use Rattle.std.specs.Prelude.{◌≡◌, IfOk};
 ghost use Rattle.cs_tx_types.specs.Session.{SessionFits};
 ghost use Rattle.cs_tx_types.specs.Transaction.{TxFits};
 ghost use Rattle.cs_tx.specs.Uses.{inputs_of, names, is_among};
-ghost use Rattle.cs_client.specs.Sessions.{has_input, bare, with_dummies, bare_shards};
+ghost use Rattle.cs_client.specs.Sessions.{has_input, session_without_dummies, with_dummies, bare_shards};
 
 use cs_base::{Config, Key, Memory, Sequence, shard_of};
 use cs_tx::concerned;
@@ -24,7 +24,7 @@ pub fn has_input(tx: &Tx) -> bool
 /// The session of a transaction that lacks its dummies.
 pub fn bare(alloc: Global, tx: Tx, number: u64) -> Session
     requires { TxFits tx }
-    ensures session { result ≡ bare tx number }
+    ensures session { result ≡ session_without_dummies tx number }
     ensures fits { SessionFits result }
 {
     Session {

@@ -3,7 +3,7 @@ use Rattle.std.specs.Prelude.{◌≡◌, ◌⊎◌, ℕ, List, Result, Ok, Err}
 use Rattle.std.specs.List.{AllByRecursion}
 use Rattle.toml.specs.Data.{Members, as_integer, as_str}
 use Rattle.cs_tx_value.specs.Encoding.{ValueFits}
-use Rattle.cs_config.specs.Reading.{◌>>=◌, toml_table_of, one_of, each_of, number_within}
+use Rattle.cs_config.specs.Reading.{◌>>=◌, toml_table_of, one_of, each_of, number_between}
 use Rattle.cs_config.specs.Items.{hex_digest, arg_of}
 use Rattle.cs_config.specs.Contract.{contract_id_of}
 use Rattle.cs_config.specs.declared.limits.TheConstants.{LAST_NUMBER}
@@ -34,7 +34,7 @@ call_draft_of members = do
 -- the call, where its number has no sign
 abbrev pub call_with_number : CallDraft → Result CallFile ConfigError
 call_with_number draft = do
-  number ← number_within field.Number 0 LAST_NUMBER draft.number
+  number ← number_between field.Number 0 LAST_NUMBER draft.number
   Ok (record {
     contract = draft.contract.0;
     method = draft.method;

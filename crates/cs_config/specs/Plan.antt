@@ -1,7 +1,7 @@
 -- A plan file: the site, the master key, the turns of each node and client, the calls.
 use Rattle.std.specs.Prelude.{ℕ, List, Result, Ok}
 use Rattle.toml.specs.Data.{Members, as_integer, as_str}
-use Rattle.cs_config.specs.Reading.{◌>>=◌, toml_table_of, one_of, each_of, number_within, few_of}
+use Rattle.cs_config.specs.Reading.{◌>>=◌, toml_table_of, one_of, each_of, number_between, few_of}
 use Rattle.cs_config.specs.Items.{hex_digest}
 use Rattle.cs_config.specs.declared.limits.TheConstants.{MOST_TURNS, MOST_CALLS}
 use Rattle.cs_config.specs.declared.error.FileField.TheVariants as field
@@ -21,7 +21,7 @@ plan_draft_of members = do
 -- the fields, each in its range
 abbrev pub plan_within : PlanDraft → Result Plan ConfigError
 plan_within draft = do
-  turns ← number_within field.Turns 1 MOST_TURNS draft.turns
+  turns ← number_between field.Turns 1 MOST_TURNS draft.turns
   calls ← few_of field.Calls MOST_CALLS draft.calls
   Ok (record { site = draft.site; master = draft.master; turns = turns; calls = calls })
 

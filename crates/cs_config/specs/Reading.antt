@@ -53,9 +53,9 @@ abbrev pub each_of : {A : Type 0} → (Data → Option A) → FileField → Memb
 each_of read = one_of (λ held. option_and_then (each_item read) (as_array held))
 
 -- a number from the least to the most
-abbrev pub number_within : FileField → ℕ → ℕ → ℤ → Result ℕ ConfigError
-number_within field least most (pos n) = if nat_le least n && nat_le n most then Ok n else Err (Limit field)
-number_within field least most (negsuc n) = Err (Limit field)
+abbrev pub number_between : FileField → ℕ → ℕ → ℤ → Result ℕ ConfigError
+number_between field least most (pos n) = if nat_le least n && nat_le n most then Ok n else Err (Limit field)
+number_between field least most (negsuc n) = Err (Limit field)
 
 -- no more than so many
 abbrev pub few_of : {A : Type 0} → FileField → ℕ → List A → Result (List A) ConfigError

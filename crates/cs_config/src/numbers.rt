@@ -1,13 +1,13 @@
 //! Numbers of a file, and their ranges.
 ghost use Rattle.std.specs.Prelude.{◌≡◌, ◌≤◌, ◌<◌, ◌^◌, IfOk, length};
-ghost use Rattle.cs_config.specs.Reading.{number_within, few_of};
+ghost use Rattle.cs_config.specs.Reading.{number_between, few_of};
 
 use crate::error::{ConfigError, FileField};
 use cs_base::Sequence;
 
 /// The number, from the least to the most.
 pub fn within(field: FileField, value: i64, least: u64, most: u64) -> Result<u64, ConfigError>
-    ensures given { result ≡ number_within field least most value }
+    ensures given { result ≡ number_between field least most value }
     ensures low { IfOk result (λ number. least ≤ number) }
     ensures high { IfOk result (λ number. number ≤ most) }
 {

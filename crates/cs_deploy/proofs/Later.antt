@@ -4,7 +4,7 @@ use Rattle.std.specs.Io.KnownBytes.{Appends}
 use Rattle.std.proofs.Common.{◌≡◌, ◌+◌, ◌-◌, ◌^◌, ◌++◌, List, [], ◌∷◌, map, Option, ap, subst, ◌∙◌}
 use Rattle.cs_base.specs.Answers.{AppendsFront}
 use Rattle.cs_ledger.specs.Ledger.{Bytes}
-use Rattle.cs_node_rules.specs.Site.{Input as Given, Site, View}
+use Rattle.cs_node_rules.specs.Site.{Input, Site, View}
 use Rattle.cs_io.specs.Told.{Stays}
 use Rattle.cs_io.specs.Link.{Offers}
 use Rattle.cs_io.specs.Outside.{LinkTold, Beside, beside}
@@ -16,7 +16,7 @@ use Rattle.cs_serve.specs.declared.receiving.TheConstants.{MOST_MISSED}
 use Rattle.cs_serve.specs.Giving.{given_of, Gives, GivesFront}
 use Rattle.cs_serve.specs.Serving.{missed_past, NodeEnds, Serves}
 use Rattle.cs_client.specs.declared.errand.Errand.{Errand}
-use Rattle.cs_client.specs.Inputs.{Input}
+use Rattle.cs_client.specs.Inputs.{ClientInput}
 use Rattle.cs_proc.specs.declared.error.ProcError.{ProcError}
 use Rattle.cs_serve.specs.declared.client_ending.Ending.{Ending}
 use Rattle.cs_serve.specs.declared.client_ending.Ending.TheVariants.{Knows, Refused, LinkFault, Memory}
@@ -27,7 +27,7 @@ use Rattle.cs_deploy.specs.Node.{ServesFrom}
 
 -- ---- a node
 
-abbrev Came : List Given → List MemInput → List MemInput → Type 0
+abbrev Came : List Input → List MemInput → List MemInput → Type 0
 Came inputs before now = (taken : List MemInput) × (before ≡ taken ++ now) × (inputs ≡ reverse (map given_of taken))
 
 -- what was given from the bind on was given from before it on
@@ -58,7 +58,7 @@ serves-later site v until b a a' w w' ending stays kept same unwritten serves = 
   };
 }
   where
-    by : (ending : End) (inputs : List Given) → NodeEnds site v inputs (beside a' w') b ending → NodeEnds site v inputs (beside a w) b ending
+    by : (ending : End) (inputs : List Input) → NodeEnds site v inputs (beside a' w') b ending → NodeEnds site v inputs (beside a w) b ending
     by end.Done inputs (missed, gives) = (missed ∙ ap (λ n. missed_past n inputs) same, gives-later a a' w w' b kept unwritten _ _ gives)
     by end.Ended inputs (left, gives) = (left, gives-later a a' w w' b kept unwritten _ _ gives)
     by end.LinkFault inputs (missed, gives) = (missed ∙ ap (λ n. min (missed_past n inputs + MOST_MISSED) (2 ^ 64 - 1)) same, gives-later a a' w w' b kept unwritten _ _ gives)
@@ -76,8 +76,8 @@ serves-alone {C} {M} stands site v until a b result serves = record {
 
 -- ---- a client
 
-abbrev Taken : List Input → List Input → List Input → Type 0
-Taken inputs before now = (taken : List Input) × (before ≡ taken ++ now) × (inputs ≡ reverse taken)
+abbrev Taken : List ClientInput → List ClientInput → List ClientInput → Type 0
+Taken inputs before now = (taken : List ClientInput) × (before ≡ taken ++ now) × (inputs ≡ reverse taken)
 
 pub attends-later : (e : Errand) (until : Until) (a b c : LinkTold) (ending : Ending) → Stays a.left b.left → Stays a.offered b.offered → b.missed ≡ a.missed → attend.Attends e until b c ending → attend.Attends e until a c ending
 attends-later e until a b c ending stays kept same attends = record {
@@ -88,11 +88,11 @@ attends-later e until a b c ending stays kept same attends = record {
   ends = by ending attends.inputs attends.ends;
 }
   where
-    refused : (inputs : List Input) (cause : ProcError) → attend.EndsRefused e inputs b c cause → attend.EndsRefused e inputs a c cause
+    refused : (inputs : List ClientInput) (cause : ProcError) → attend.EndsRefused e inputs b c cause → attend.EndsRefused e inputs a c cause
     refused [] cause ends = ends
     refused (input ∷ past) cause (is, adds) = (is, adds-later a.offered b.offered c.offered _ kept adds)
 
-    by : (ending : Ending) (inputs : List Input) → attend.ClientEnds e until inputs b c ending → attend.ClientEnds e until inputs a c ending
+    by : (ending : Ending) (inputs : List ClientInput) → attend.ClientEnds e until inputs b c ending → attend.ClientEnds e until inputs a c ending
     by (Knows so) inputs (is, over, adds) = (is, over, adds-later a.offered b.offered c.offered _ kept adds)
     by (Refused cause) inputs ends = refused inputs cause ends
     by LinkFault inputs (missing, is, adds) =

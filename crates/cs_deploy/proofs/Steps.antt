@@ -13,7 +13,7 @@ use Rattle.cs_deploy.specs.declared.cause.Cause.{Cause}
 use Rattle.cs_deploy.specs.declared.cause.Cause.TheVariants as cause
 use Rattle.cs_deploy.specs.declared.cause.Untaken.{Untaken}
 use Rattle.cs_deploy.specs.declared.cause.Untaken.TheVariants as untaken
-use Rattle.cs_deploy.specs.Taking.{Taken, ◌>>=◌, content_taken, without, MayFailAt, IsFileRefusal, IsStoreFault, AnswersTaken, TakesFiles, FilesCome, bytes_taken, cause_of_config, read_as}
+use Rattle.cs_deploy.specs.Taking.{Taken, ◌>>=◌, content_taken, without_file, MayFailAt, IsFileRefusal, IsStoreFault, AnswersTaken, TakesFiles, FilesCome, bytes_taken, cause_of_config, read_as}
 use Rattle.cs_deploy.specs.Refusing.{Refuses}
 use Rattle.cs_deploy.specs.Calls.{CallOf, CallComes}
 
@@ -63,18 +63,18 @@ refusal-so Come So files each fails (untaken.Refused name cause.Key) is = each (
 
 -- that is told, or nothing changes
 abbrev pub Stable : {A : Type 0} → (Files → Taken A) → Type 0
-Stable {A} from = (gone : List ℕ) (files : Files) → (from (without gone files) ≡ from files) ⊎ (from (without gone files) ≡ Err (gone, cause.Absent))
+Stable {A} from = (gone : List ℕ) (files : Files) → (from (without_file gone files) ≡ from files) ⊎ (from (without_file gone files) ≡ Err (gone, cause.Absent))
 
 pub stable-same : {A : Type 0} (t : Taken A) → Stable (λ files. t)
 stable-same t gone files = inl refl
 
 pub stable-then : {A B : Type 0} (from : Files → Taken A) (next : Files → A → Taken B) → Stable from → ((x : A) → Stable (λ files. next files x)) → Stable (λ files. from files >>= next files)
 stable-then {A} {B} from next first later gone files = elim (first gone files) [
-  | inl same ↦ subst (λ (t : Taken A). ((t >>= next (without gone files)) ≡ (from files >>= next files)) ⊎ ((t >>= next (without gone files)) ≡ Err (gone, cause.Absent))) (sym same) (by (from files))
-  | inr absent ↦ inr (ap (λ (t : Taken A). t >>= next (without gone files)) absent)
+  | inl same ↦ subst (λ (t : Taken A). ((t >>= next (without_file gone files)) ≡ (from files >>= next files)) ⊎ ((t >>= next (without_file gone files)) ≡ Err (gone, cause.Absent))) (sym same) (by (from files))
+  | inr absent ↦ inr (ap (λ (t : Taken A). t >>= next (without_file gone files)) absent)
 ]
   where
-    by : (t : Taken A) → ((t >>= next (without gone files)) ≡ (t >>= next files)) ⊎ ((t >>= next (without gone files)) ≡ Err (gone, cause.Absent))
+    by : (t : Taken A) → ((t >>= next (without_file gone files)) ≡ (t >>= next files)) ⊎ ((t >>= next (without_file gone files)) ≡ Err (gone, cause.Absent))
     by (Ok x) = later x gone files
     by (Err told) = inl refl
 
@@ -102,7 +102,7 @@ pub first-not : {A B : Type 0} (from : Files → Taken A) (next : Files → A �
 first-not from next None why takes = tt
 first-not {A} {B} from next (Some files) why takes =
     refusal-so (FilesCome from) (FilesCome (λ files. from files >>= next files)) files (λ told so. ap (λ (t : Taken A). t >>= next files) so)
-    (λ name so. ap (λ (t : Taken A). t >>= next (without name files)) so) why takes
+    (λ name so. ap (λ (t : Taken A). t >>= next (without_file name files)) so) why takes
 
 -- it is done, and then the next one
 pub then-next : {A B : Type 0} (from : Files → Taken A) (next : Files → A → Taken B) (a : Option Files) (x : A) (result : Result B Untaken)
@@ -112,8 +112,8 @@ then-next {A} {B} from next (Some files) x (Ok y) stable first later = ap (λ (t
 then-next {A} {B} from next (Some files) x (Err why) stable first later =
     refusal-so (FilesCome (λ now. next now x)) (FilesCome (λ now. from now >>= next now)) files (λ told so. ap (λ (t : Taken A). t >>= next files) first ∙ so)
     (λ name so. elim (stable name files) [
-      | inl same ↦ ap (λ (t : Taken A). t >>= next (without name files)) (same ∙ first) ∙ so
-      | inr absent ↦ ap (λ (t : Taken A). t >>= next (without name files)) absent
+      | inl same ↦ ap (λ (t : Taken A). t >>= next (without_file name files)) (same ∙ first) ∙ so
+      | inr absent ↦ ap (λ (t : Taken A). t >>= next (without_file name files)) absent
     ]) why later
 
 -- what no file decides is done
@@ -162,7 +162,7 @@ memory-told Come a result is = gave Come a untaken.Memory result is (by a)
 -- a call file isn't taken
 pub call-absent : (name : List ℕ) (a : Option Files) (why : Untaken) → TakesFiles (FilesCome (bytes_taken name)) a (Err why) → TakesFiles (CallComes name) a (Err why)
 call-absent name None why takes = tt
-call-absent name (Some files) why takes = refusal-so (FilesCome (bytes_taken name)) (CallComes name) files (λ told so. by (bytes_taken name files) told so) (λ gone so. by (bytes_taken name (without gone files)) (gone, cause.Absent) so) why takes
+call-absent name (Some files) why takes = refusal-so (FilesCome (bytes_taken name)) (CallComes name) files (λ told so. by (bytes_taken name files) told so) (λ gone so. by (bytes_taken name (without_file gone files)) (gone, cause.Absent) so) why takes
   where
     by : (t : Taken (List ℕ)) (told : List ℕ × Cause) → t ≡ Err told → CallOf name t (Err told)
     by t told is = subst (λ (u : Taken (List ℕ)). CallOf name u (Err told)) (sym is) refl

@@ -23,7 +23,7 @@ use Rattle.cs_deploy.specs.declared.keys.Role.{Role}
 use Rattle.cs_deploy.specs.declared.keys.Role.TheVariants.{Client}
 use Rattle.cs_deploy.specs.declared.setups.Setup.{Setup}
 use Rattle.cs_deploy.specs.declared.loading.TheConstants.{MOST_FILE}
-use Rattle.cs_deploy.specs.Taking.{Taken, ◌>>=◌, content_taken, without, IsStoreFault, TakesFiles, FilesCome, bytes_taken, cause_of_config, read_as}
+use Rattle.cs_deploy.specs.Taking.{Taken, ◌>>=◌, content_taken, without_file, IsStoreFault, TakesFiles, FilesCome, bytes_taken, cause_of_config, read_as}
 use Rattle.cs_deploy.specs.Refusing.{Refuses}
 use Rattle.cs_deploy.specs.Files.{site_taken, plan_taken, cluster_taken, texts_taken, repeats, keys_apart, is_right, right_keys, keys_taken, setup_taken}
 use Rattle.cs_deploy.specs.Calls.{CallComes, ThenCall, ClientComes}
@@ -212,7 +212,7 @@ module _ (site_name keys_name call_name : List ℕ) where
   client-no-setup (Some files) why takes =
       refusal-so (FilesCome (setup_taken Client site_name keys_name)) (ClientComes site_name keys_name call_name) files
       (λ told so. by (setup_taken Client site_name keys_name files) files told so)
-      (λ gone so. by (setup_taken Client site_name keys_name (without gone files)) (without gone files) (gone, cause.Absent) so) why takes
+      (λ gone so. by (setup_taken Client site_name keys_name (without_file gone files)) (without_file gone files) (gone, cause.Absent) so) why takes
     where
       by : (t : Taken Setup) (files : Files) (told : List ℕ × Cause) → t ≡ Err told → ThenCall t (calls files) (Err told)
       by t files told is = subst (λ (u : Taken Setup). ThenCall u (calls files) (Err told)) (sym is) refl
@@ -224,8 +224,8 @@ module _ (site_name keys_name call_name : List ℕ) where
       refusal-so (CallComes call_name) (ClientComes site_name keys_name call_name) files
       (λ told so. subst (λ (t : Taken Setup). ThenCall t (calls files) (Err told)) (sym first) so)
       (λ gone so. elim (stable-setup Client site_name keys_name gone files) [
-        | inl same ↦ subst (λ (t : Taken Setup). ThenCall t (calls (without gone files)) (Err (gone, cause.Absent))) (sym (same ∙ first)) so
-        | inr absent ↦ subst (λ (t : Taken Setup). ThenCall t (calls (without gone files)) (Err (gone, cause.Absent))) (sym absent) refl
+        | inl same ↦ subst (λ (t : Taken Setup). ThenCall t (calls (without_file gone files)) (Err (gone, cause.Absent))) (sym (same ∙ first)) so
+        | inr absent ↦ subst (λ (t : Taken Setup). ThenCall t (calls (without_file gone files)) (Err (gone, cause.Absent))) (sym absent) refl
       ]) why later
 
   pub client-ok : (a : Option Files) (setup : Setup) (call : CallFile) → TakesFiles (FilesCome (setup_taken Client site_name keys_name)) a (Ok setup) → TakesFiles (CallComes call_name) a (Ok call)

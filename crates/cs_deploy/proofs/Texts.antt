@@ -10,7 +10,7 @@ use Rattle.cs_approve.specs.Books.{first_refused}
 use Rattle.cs_deploy.specs.declared.cause.Cause.{Cause}
 use Rattle.cs_deploy.specs.declared.cause.Cause.TheVariants as cause
 use Rattle.cs_deploy.specs.declared.cause.Untaken.{Untaken}
-use Rattle.cs_deploy.specs.Taking.{Taken, ◌>>=◌, without, IsStoreFault, TakesFiles, FilesCome, bytes_taken}
+use Rattle.cs_deploy.specs.Taking.{Taken, ◌>>=◌, without_file, IsStoreFault, TakesFiles, FilesCome, bytes_taken}
 use Rattle.cs_deploy.specs.Refusing.{Refuses}
 use Rattle.cs_deploy.specs.Files.{accepted_text, text_taken, texts_taken}
 use Rattle.cs_deploy.proofs.Steps.{takes-ok, takes-not, first-not, then-next, back, refusal-so, Stable, stable-same, stable-then, stable-bytes}
@@ -111,7 +111,7 @@ module _ (names : List (List ℕ)) (i : ℕ) (name other : List ℕ) (within : i
       by (Some files) before next =
           refusal-so (FilesCome (text_taken name)) (FilesCome (texts_taken names)) files
           (λ told so. ap (λ (l : List (List ℕ)). texts_taken l files) whole ∙ one-not (take i names) name (drop (i + 1) names) texts files told before so)
-          (λ gone so. let now = without gone files in ap (λ (l : List (List ℕ)). texts_taken l now) whole ∙ (elim (stable-texts (take i names) gone files) [
+          (λ gone so. let now = without_file gone files in ap (λ (l : List (List ℕ)). texts_taken l now) whole ∙ (elim (stable-texts (take i names) gone files) [
             | inl same ↦ one-not (take i names) name (drop (i + 1) names) texts now (gone, cause.Absent) (same ∙ before) so
             | inr absent ↦ parted (take i names) (name ∷ drop (i + 1) names) now
                 ∙ ap (λ (s : Taken Texts). s >>= λ first. texts_taken (name ∷ drop (i + 1) names) now >>= λ more. Ok (first ++ more)) absent

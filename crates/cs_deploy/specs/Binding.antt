@@ -11,7 +11,7 @@ use Rattle.cs_deploy.specs.Taking.{Taken, TakesFiles}
 use Rattle.cs_deploy.specs.Untaken.{IsSilent, IsUntaken}
 
 -- The link was left alone, but for what it is bound as.
-pub record IsQuiet (old new : LinkTold) : Type 0 where
+pub record LinkIsQuiet (old new : LinkTold) : Type 0 where
   pub left : Stays old.left new.left
   pub offered : Stays old.offered new.offered
   pub missed : new.missed ≡ old.missed
@@ -19,7 +19,7 @@ pub record IsQuiet (old new : LinkTold) : Type 0 where
 -- The link was left alone.
 pub record IsUntouched (old new : LinkTold) : Type 0 where
   pub bound : Stays old.bound new.bound
-  pub quiet : IsQuiet old new
+  pub quiet : LinkIsQuiet old new
 
 -- Memory ran out before the link was bound.
 pub record IsShort (old new : Beside LinkTold) (status : ℕ) : Type 0 where
@@ -33,13 +33,13 @@ link_answer = record { status = 7; printed = codes "link fault\n" }
 pub record IsUnbound (me : NodeId) (base_port : ℕ) (LinkFailed : Type 0) (old new : Beside LinkTold) (status : ℕ) : Type 0 where
   pub failed : LinkFailed
   pub bound : Binds old.told.bound new.told.bound me base_port bind.Failed
-  pub quiet : IsQuiet old.told new.told
+  pub quiet : LinkIsQuiet old.told new.told
   pub told : Answers link_answer old.written new.written status
 
 -- The link was bound, and all else left alone.
 pub record IsBound (me : NodeId) (base_port : ℕ) (old new : Beside LinkTold) : Type 0 where
   pub bound : Binds old.told.bound new.told.bound me base_port bind.Done
-  pub quiet : IsQuiet old.told new.told
+  pub quiet : LinkIsQuiet old.told new.told
   pub unwritten : new.written ≡ old.written
 
 -- what comes of binding it, with the status of a program whose link could not be bound
@@ -50,7 +50,7 @@ BindsOrTells me base_port LinkFailed old new (Err status) = IsUnbound me base_po
 -- ---- files first
 
 -- A file isn't taken, and the link is left alone.
-pub record IsRefused {A : Type 0} (Come : Files → Taken A → Type 0) (StoreFailed : Type 0) (files : Option Files)
+pub record FileIsRefused {A : Type 0} (Come : Files → Taken A → Type 0) (StoreFailed : Type 0) (files : Option Files)
     (old new : Beside LinkTold) (status : ℕ) : Type 0 where
   pub untouched : IsUntouched old.told new.told
   pub untaken : IsUntaken Come StoreFailed files old.written new.written status
@@ -59,5 +59,5 @@ pub record IsRefused {A : Type 0} (Come : Files → Taken A → Type 0) (StoreFa
 abbrev pub Runs : {A : Type 0} → (Files → Taken A → Type 0) → (A → Beside LinkTold → Beside LinkTold → ℕ → Type 0) → Type 0
     → Option Files → Beside LinkTold → Beside LinkTold → ℕ → Type 0
 Runs {A} Come Goes StoreFailed files old new status =
-    IsRefused Come StoreFailed files old new status
+    FileIsRefused Come StoreFailed files old new status
     ⊎ ((taken : A) × TakesFiles Come files (Ok taken) × Goes taken old new status)

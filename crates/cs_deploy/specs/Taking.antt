@@ -51,13 +51,13 @@ IsStoreFault (untaken.Refused name c) = ⊥
 IsStoreFault untaken.Memory = ⊥
 
 -- the same files, but for that of one name, which isn't there
-abbrev pub without : List ℕ → Files → Files
-without name files other = if bytes_eq other name then None else files other
+abbrev pub without_file : List ℕ → Files → Files
+without_file name files other = if bytes_eq other name then None else files other
 
 -- The store may fail at the file of this name: were it not there, just this would be told. So it is one of those that
 -- are taken, and all before it were.
 abbrev pub MayFailAt : {A : Type 0} → (Files → Taken A → Type 0) → Files → List ℕ → Type 0
-MayFailAt {A} Come files name = Come (without name files) (Err (name, cause.Absent))
+MayFailAt {A} Come files name = Come (without_file name files) (Err (name, cause.Absent))
 
 -- this is what the files come to; or the store failed at one of them, or memory ran out
 abbrev pub IsFileRefusal : {A : Type 0} → (Files → Taken A → Type 0) → Files → Untaken → Type 0

@@ -27,9 +27,9 @@ use Rattle.cs_lang.specs.declared.tree.Access.TheVariants as access
 use Rattle.cs_lang.specs.declared.tree.Access.TheVariants.{rolls-Field, rolls-Index}
 use Rattle.cs_lang.specs.declared.tree.Access.TheOpen.{Access-F, Shape-F}
 use Rattle.cs_lang.specs.declared.tree.Access.TheFolds.{fold-roll-Access, fold-roll-Shape, fold_out-Expr, fold_out-Link, fold_out-Step}
-use Rattle.cs_eval.specs.Meaning.{Sight, run_of, meaning, items_run, named_run, kind_of_meant, Meant, Linking, Stepping, access_means, shape_means, expr_means, link_means, step_means, expr_meant, shape_meant, link_meant, step_meant, access_meant}
+use Rattle.cs_eval.specs.Meaning.{Environment, run_of, meaning, items_run, named_run, kind_of_meant, Meant, Linking, Stepping, access_means, shape_means, expr_means, link_means, step_means, expr_meant, shape_meant, link_meant, step_meant, access_meant}
 
-module _ (sight : Sight) where
+module _ (sight : Environment) where
   pub expr_is : (e : Expr) → expr_meant sight e ≡ shape_meant sight (out-Expr e).shape (out-Expr e).place
   unfolding expr_meant shape_meant
   expr_is e = fold_out-Expr (ℕ → Stepping) (ℕ → Meant) Meant Linking Stepping (access_means sight) (shape_means sight) (expr_means sight) (link_means sight) (step_means sight) e
@@ -218,7 +218,7 @@ map_map : {A B C : Type 0} (f : A → B) (h : B → C) (xs : List A) → map h (
 map_map f h [] = refl
 map_map f h (x ∷ xs) = ap (λ (ys : List _). h (f x) ∷ ys) (map_map f h xs)
 
-pub body_items : (sight : Sight) (e : Expr) (items : List Expr) → (out-Expr e).shape ≡ shape.List items
+pub body_items : (sight : Environment) (e : Expr) (items : List Expr) → (out-Expr e).shape ≡ shape.List items
     → (expr_meant sight e).body ≡ items_run (out-Expr e).place [] (map (meaning sight) items)
 body_items sight e items is =
     body_list sight e items is ∙ ap (λ (rs : List (Run Datum)). items_run (out-Expr e).place [] rs) (map_map (expr_meant sight) run_of items)
@@ -239,26 +239,26 @@ pub kind_of_name : (scene : Scene) (names : List Named) (e : Expr) (name : List 
     → (expr_meant (seen_from scene names) e).kind ≡ kind_named name names
 kind_of_name scene names e name is = kind_name (seen_from scene names) e name is
 
-kinds_first : (sight : Sight) (items : List Expr) (first : Expr) → 1 ≤ length items → first ≡ get_or items 0 first
+kinds_first : (sight : Environment) (items : List Expr) (first : Expr) → 1 ≤ length items → first ≡ get_or items 0 first
     → list_kind (map kind_of_meant (map (expr_meant sight) items)) ≡ option_and_then list_kind_of (expr_meant sight first).kind
 kinds_first sight [] first some is = absurd (omega arith)
 kinds_first sight (x ∷ xs) first some is = ap (λ (y : Expr). option_and_then list_kind_of (expr_meant sight y).kind) (sym is)
 
-pub kind_of_list : (sight : Sight) (e : Expr) (items : List Expr) (first : Expr) → (out-Expr e).shape ≡ shape.List items
+pub kind_of_list : (sight : Environment) (e : Expr) (items : List Expr) (first : Expr) → (out-Expr e).shape ≡ shape.List items
     → 1 ≤ length items → first ≡ get_or items 0 first → (expr_meant sight e).kind ≡ option_and_then list_kind_of (expr_meant sight first).kind
 kind_of_list sight e items first is some at = kind_list sight e items is ∙ kinds_first sight items first some at
 
-kinds_none : (sight : Sight) (items : List Expr) → length items < 1 → list_kind (map kind_of_meant (map (expr_meant sight) items)) ≡ None
+kinds_none : (sight : Environment) (items : List Expr) → length items < 1 → list_kind (map kind_of_meant (map (expr_meant sight) items)) ≡ None
 kinds_none sight [] none = refl
 kinds_none sight (x ∷ xs) none = absurd (omega arith)
 
-pub kind_of_none : (sight : Sight) (e : Expr) (items : List Expr) → (out-Expr e).shape ≡ shape.List items → length items < 1 → None ≡ (expr_meant sight e).kind
+pub kind_of_none : (sight : Environment) (e : Expr) (items : List Expr) → (out-Expr e).shape ≡ shape.List items → length items < 1 → None ≡ (expr_meant sight e).kind
 kind_of_none sight e items is none = sym (kind_list sight e items is ∙ kinds_none sight items none)
 
-pub units_steps : (sight : Sight) (e : Expr) (start : Expr) (steps : List Step) → (out-Expr e).shape ≡ shape.Path start steps → (expr_meant sight e).units ≡ length steps
+pub units_steps : (sight : Environment) (e : Expr) (start : Expr) (steps : List Step) → (out-Expr e).shape ≡ shape.Path start steps → (expr_meant sight e).units ≡ length steps
 units_steps sight e start steps is = units_path sight e start steps is ∙ length-map steps (step_meant sight)
 
-pub units_links : (sight : Sight) (e : Expr) (r : Rank) (start : Expr) (links : List Link) → (out-Expr e).shape ≡ shape.Chain r start links → (expr_meant sight e).units ≡ length links
+pub units_links : (sight : Environment) (e : Expr) (r : Rank) (start : Expr) (links : List Link) → (out-Expr e).shape ≡ shape.Chain r start links → (expr_meant sight e).units ≡ length links
 units_links sight e r start links is = units_chain sight e r start links is ∙ length-map links (link_meant sight)
 
 pub ruleset bodies = (body_items, body_named, body_call, body_returned, body_number, body_bytes, body_truth, body_name, body_list, body_empty, body_len, body_sha256, body_concat, body_called, body_depint, body_path, body_not, body_negative, body_compared, body_chain)

@@ -19,7 +19,7 @@ use Rattle.cs_eval_values.specs.Datums.{Datum}
 use Rattle.cs_eval_values.specs.Operators.{unary, binary, left_decides, list_of, with_item}
 use Rattle.cs_eval.specs.declared.frame.Frame.{Frame}
 use Rattle.cs_eval.specs.declared.frame.Next.{Next}
-use Rattle.cs_eval.specs.Meaning.{Sight, Meant, Linking, Stepping, of_one, of_right, of_two, item_run, items_run, link_run, links_run, chain_run, step_run, steps_run, path_run, run_of, expr_meant, meaning, link_meant}
+use Rattle.cs_eval.specs.Meaning.{Environment, Meant, Linking, Stepping, of_one, of_right, of_two, item_run, items_run, link_run, links_run, chain_run, step_run, steps_run, path_run, run_of, expr_meant, meaning, link_meant}
 use Rattle.cs_eval.specs.Machine.{MachineMoves, continued, resumed, then_resumed}
 use Rattle.cs_eval.proofs.RunLaws.{spend_none, spend_spend, spend_bind, bind_bind, gives_bind, under}
 use Rattle.cs_eval.proofs.Layers.{link_is}
@@ -35,11 +35,11 @@ stops_bind stop.Memory n r f is = tt
 pub stops_is : {A : Type 0} (e : Stop) (n : ℕ) (r s : Run A) → r ≡ s → Stops e n s → Stops e n r
 stops_is {A} e n r s is h = let P : Run A → Type 0 = λ x. Stops e n x in subst P (sym is) h
 
-pub moves_is : (sight : Sight) (answer : Result Next Stop) (n : ℕ) (r s : Run Datum) (fs : List Frame) → r ≡ s → MachineMoves sight answer n s fs → MachineMoves sight answer n r fs
+pub moves_is : (sight : Environment) (answer : Result Next Stop) (n : ℕ) (r s : Run Datum) (fs : List Frame) → r ≡ s → MachineMoves sight answer n s fs → MachineMoves sight answer n r fs
 moves_is sight answer n r s fs is h = let P : Run Datum → Type 0 = λ x. MachineMoves sight answer n x fs in subst P (sym is) h
 
 -- so much is spent before
-pub moves_spent : (sight : Sight) (answer : Result Next Stop) (n : ℕ) (r : Run Datum) (fs : List Frame) → MachineMoves sight answer 0 r fs → MachineMoves sight answer n (spend n r) fs
+pub moves_spent : (sight : Environment) (answer : Result Next Stop) (n : ℕ) (r : Run Datum) (fs : List Frame) → MachineMoves sight answer 0 r fs → MachineMoves sight answer n (spend n r) fs
 moves_spent sight (Ok next) n r fs is =
     ap (spend n) is ∙ spend_spend n 0 (continued sight next fs) ∙ ap (λ (k : ℕ). spend k (continued sight next fs)) (add-zero n)
 moves_spent sight (Err (stop.Answer b)) n r fs is = ap (spend n) is ∙ ap (λ (k : ℕ). Answered b k) (add-zero n)
@@ -118,13 +118,13 @@ module _ (g : Datum → Run Datum) where
   steps_first s ss d = bind_bind (step_run d s) (steps_run ss) g
 
 -- the left side is all that counts
-pub link_decided : (sight : Sight) (l : Link) (left : Datum) (g : Datum → Run Datum) → left_decides (out-Link l).operator left ≡ true
+pub link_decided : (sight : Environment) (l : Link) (left : Datum) (g : Datum → Run Datum) → left_decides (out-Link l).operator left ≡ true
     → (link_run left (link_meant sight l) >>= g) ≡ spend 0 (g left)
 link_decided sight l left g is =
     ap (λ (k : Linking). link_run left k >>= g) (link_is sight l)
     ∙ ap (λ b. (cond b (gives left) (of_right (two.Linked (out-Link l).operator) (out-Link l).place left (meaning sight (out-Link l).right))) >>= g) is
 
-pub link_goes_on : (sight : Sight) (l : Link) (left : Datum) → left_decides (out-Link l).operator left ≡ false
+pub link_goes_on : (sight : Environment) (l : Link) (left : Datum) → left_decides (out-Link l).operator left ≡ false
     → link_run left (link_meant sight l) ≡ of_right (two.Linked (out-Link l).operator) (out-Link l).place left (meaning sight (out-Link l).right)
 link_goes_on sight l left is =
     ap (λ (k : Linking). link_run left k) (link_is sight l)
@@ -140,11 +140,11 @@ whole (Trapped why place n) = ap (λ (k : ℕ). Trapped why place k) (omega arit
 
 -- ---- answers of calls
 
-pub moves_err : (sight : Sight) (answer : Result Next Stop) (e : Stop) (n : ℕ) (r : Run Datum) (fs : List Frame) → answer ≡ Err e → Stops e n r → MachineMoves sight answer n r fs
+pub moves_err : (sight : Environment) (answer : Result Next Stop) (e : Stop) (n : ℕ) (r : Run Datum) (fs : List Frame) → answer ≡ Err e → Stops e n r → MachineMoves sight answer n r fs
 moves_err sight answer e n r fs is h = let P : Result Next Stop → Type 0 = λ a. MachineMoves sight a n r fs in subst P (sym is) h
 
 -- the frame of the right part is on top
-pub right_on_top : (sight : Sight) (op : Binary) (place : ℕ) (a : Datum) (right : Expr) (fs more : List Frame) → more ≡ frame.Second op a place ∷ fs
+pub right_on_top : (sight : Environment) (op : Binary) (place : ℕ) (a : Datum) (right : Expr) (fs more : List Frame) → more ≡ frame.Second op a place ∷ fs
     → then_resumed sight fs (of_right op place a (meaning sight right)) ≡ spend 0 (meaning sight right >>= resumed sight more)
 right_on_top sight op place a right fs more is =
     right_next (resumed sight fs) op place a (meaning sight right)
@@ -158,7 +158,7 @@ opened_front (x ∷ xs) link some is =
     ap (λ (y : Link). y ∷ xs) (sym is) ∙ ap (λ (ys : List Link). link ∷ ys) (sym (take_all (length (x ∷ xs) - 1) xs (omega arith)))
 
 -- the first operator, and then the others
-pub chain_on_top : (sight : Sight) (links : List Link) (link : Link) (rest : Bor (List Link)) (left : Datum) (fs more : List Frame)
+pub chain_on_top : (sight : Environment) (links : List Link) (link : Link) (rest : Bor (List Link)) (left : Datum) (fs more : List Frame)
     → links ≡ link ∷ rest.now → more ≡ frame.Chain rest ∷ fs
     → then_resumed sight fs (links_run (map (link_meant sight) links) left) ≡ then_resumed sight more (link_run left (link_meant sight link))
 chain_on_top sight links link rest left fs more opened is =

@@ -14,9 +14,9 @@ told_kind (Ok k) = Some k
 told_kind (Err e) = None
 
 -- the kind of a field of an object
-abbrev pub field_of_kind : ContractTree → Text → Kind → Option Kind
-field_of_kind contract name (kind.Object number) = told_kind (field_kind contract number name)
-field_of_kind contract name k = None
+abbrev pub kind_of_field : ContractTree → Text → Kind → Option Kind
+kind_of_field contract name (kind.Object number) = told_kind (field_kind contract number name)
+kind_of_field contract name k = None
 
 -- the kind of a list, from those of its items
 abbrev pub list_kind : List (Option Kind) → Option Kind

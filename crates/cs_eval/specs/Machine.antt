@@ -12,15 +12,15 @@ use Rattle.cs_eval.specs.declared.frame.Frame.{Frame}
 use Rattle.cs_eval.specs.declared.frame.Frame.TheVariants as frame
 use Rattle.cs_eval.specs.declared.frame.Next.{Next}
 use Rattle.cs_eval.specs.declared.frame.Next.TheVariants as next
-use Rattle.cs_eval.specs.Meaning.{Sight, meaning, items_run, links_run, steps_run, link_meant, step_meant}
+use Rattle.cs_eval.specs.Meaning.{Environment, meaning, items_run, links_run, steps_run, link_meant, step_meant}
 
 -- where an expression stands
-abbrev pub seen_from : Scene → List Named → Sight
+abbrev pub seen_from : Scene → List Named → Environment
 seen_from scene names = record { contract = scene.contract.now; view = scene.view.now; names = names }
 
 -- ---- expressions
 
-module _ (sight : Sight) where
+module _ (sight : Environment) where
   -- what the frames make of a value
   abbrev pub resumed : List Frame → Datum → Run Datum
   resumed [] d = gives d
@@ -47,7 +47,7 @@ module _ (sight : Sight) where
 -- ---- what calls answer
 
 -- so much was spent, and the rest is what is done next
-abbrev pub MachineMoves : Sight → Result Next Stop → ℕ → Run Datum → List Frame → Type 0
+abbrev pub MachineMoves : Environment → Result Next Stop → ℕ → Run Datum → List Frame → Type 0
 MachineMoves sight (Ok n) units run fs = run ≡ spend units (continued sight n fs)
 MachineMoves sight (Err e) units run fs = Stops e units run
 

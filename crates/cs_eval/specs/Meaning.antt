@@ -27,10 +27,10 @@ use Rattle.cs_eval_values.specs.Datums.{Datum, Plain}
 use Rattle.cs_eval_values.specs.Operators.{int, truth, text, unary, binary, left_decides, list_of, with_item, int_number}
 use Rattle.cs_eval_values.specs.Views.{field_of, is_called, returned_int}
 use Rattle.cs_eval_values.specs.Namings.{Named, datum_named, kind_named}
-use Rattle.cs_eval.specs.Kinds.{field_of_kind, list_kind, cost_of_comparing}
+use Rattle.cs_eval.specs.Kinds.{kind_of_field, list_kind, cost_of_comparing}
 
 -- where an expression stands: the contract, what is looked at, and the names in sight
-pub record Sight : Type 0 where
+pub record Environment : Type 0 where
   pub contract : ContractTree
   pub view : View
   pub names : List Named
@@ -120,24 +120,24 @@ steps_kind k (s ∷ ss) = steps_kind (step_kind k s) ss
 abbrev pub kind_of_meant : Meant → Option Kind
 kind_of_meant m = m.kind
 
-abbrev pub access_means : Sight → Access-F (ℕ → Stepping) (ℕ → Meant) Meant Linking Stepping → ℕ → Stepping
+abbrev pub access_means : Environment → Access-F (ℕ → Stepping) (ℕ → Meant) Meant Linking Stepping → ℕ → Stepping
 access_means sight (Access-F.Field name) place =
-    record { kind = field_of_kind sight.contract name; run = field_of sight.contract.types name.bytes place }
+    record { kind = kind_of_field sight.contract name; run = field_of sight.contract.types name.bytes place }
 access_means sight (Access-F.Index index) place =
     record { kind = item_kind; run = λ d. of_right two.Index place d (run_of index) }
 
-abbrev pub step_means : Sight → Step-F (ℕ → Stepping) (ℕ → Meant) Meant Linking Stepping → Stepping
+abbrev pub step_means : Environment → Step-F (ℕ → Stepping) (ℕ → Meant) Meant Linking Stepping → Stepping
 step_means sight s = s.access s.place
 
-abbrev pub link_means : Sight → Link-F (ℕ → Stepping) (ℕ → Meant) Meant Linking Stepping → Linking
+abbrev pub link_means : Environment → Link-F (ℕ → Stepping) (ℕ → Meant) Meant Linking Stepping → Linking
 link_means sight l = record { operator = l.operator; place = l.place; right = l.right }
 
-abbrev pub expr_means : Sight → Expr-F (ℕ → Stepping) (ℕ → Meant) Meant Linking Stepping → Meant
+abbrev pub expr_means : Environment → Expr-F (ℕ → Stepping) (ℕ → Meant) Meant Linking Stepping → Meant
 expr_means sight e = e.shape e.place
 
 -- hashing, joining and comparing bytes count 16 more; the operators of a chain and the steps of a
 -- path are nodes of their own
-abbrev pub shape_means : Sight → Shape-F (ℕ → Stepping) (ℕ → Meant) Meant Linking Stepping → ℕ → Meant
+abbrev pub shape_means : Environment → Shape-F (ℕ → Stepping) (ℕ → Meant) Meant Linking Stepping → ℕ → Meant
 shape_means sight (Shape-F.Number n) place = meant (Some int_kind) 1 (int_number n place)
 shape_means sight (Shape-F.Bytes bytes) place = meant (Some bytes_kind) 1 (gives (text bytes))
 shape_means sight (Shape-F.Truth b) place = meant (Some bool_kind) 1 (gives (truth b))
@@ -161,7 +161,7 @@ shape_means sight (Shape-F.Compared c left right) place =
 shape_means sight (Shape-F.Chain rank start links) place =
     meant (Some (kind_of_rank rank)) (length links) (chain_run (run_of start) links)
 
-module _ (sight : Sight) where
+module _ (sight : Environment) where
   unfoldable pub expr_meant : Expr → Meant
   expr_meant =
       fold-Expr (ℕ → Stepping) (ℕ → Meant) Meant Linking Stepping (access_means sight) (shape_means sight)

@@ -7,7 +7,7 @@ ghost use Rattle.cs_eval_values.specs.Datums.{Plain};
 ghost use Rattle.cs_eval_values.specs.Runs.{gives};
 ghost use Rattle.cs_eval_values.specs.Operators.{with_item as item_added};
 ghost use Rattle.cs_eval_values.specs.Namings.{Named};
-ghost use Rattle.cs_eval.specs.Meaning.{Sight, named_run, of_one, of_right, of_two, items_run, link_run, links_run, steps_run, chain_run, path_run, expr_meant, link_meant, step_meant, meaning};
+ghost use Rattle.cs_eval.specs.Meaning.{Environment, named_run, of_one, of_right, of_two, items_run, link_run, links_run, steps_run, chain_run, path_run, expr_meant, link_meant, step_meant, meaning};
 ghost use Rattle.cs_eval.specs.Places.{in_turn, in_front, places, places_of_link, places_of_step};
 ghost use Rattle.cs_eval.specs.Work.{all_work, work, work_of_link, work_of_step, frame_work, frames_work, left_work};
 ghost use Rattle.cs_eval.specs.Room.{frame_places, HasRoomFor, HasRoom};
@@ -54,7 +54,7 @@ fn open_one<'a>(
     place: usize,
 ) -> Next<'a>
     requires { HasRoomFor (places part.now + 1) frames.old }
-    ensures moves { (sight : Sight) → MachineMoves sight (Ok result) 0
+    ensures moves { (sight : Environment) → MachineMoves sight (Ok result) 0
         (then_resumed sight frames.old.items
         (of_one operation place (meaning sight part.now))) frames.new.items }
     ensures smaller { left_work result frames.new.items
@@ -76,7 +76,7 @@ fn open_two<'a>(
     place: usize,
 ) -> Next<'a>
     requires { HasRoomFor (max (places left.now) (places right.now) + 1) frames.old }
-    ensures moves { (sight : Sight) → MachineMoves sight (Ok result) 0
+    ensures moves { (sight : Environment) → MachineMoves sight (Ok result) 0
         (then_resumed sight frames.old.items
         (of_two operation place (meaning sight left.now) (meaning sight right.now)))
         frames.new.items }
@@ -98,7 +98,7 @@ fn open_right<'a>(
     place: usize,
 ) -> Next<'a>
     requires { HasRoomFor (places right.now + 1) frames.old }
-    ensures moves { (sight : Sight) → MachineMoves sight (Ok result) 0
+    ensures moves { (sight : Environment) → MachineMoves sight (Ok result) 0
         (then_resumed sight frames.old.items
         (of_right operation place left.entry (meaning sight right.now))) frames.new.items }
     ensures smaller { left_work result frames.new.items
@@ -115,7 +115,7 @@ fn open_right<'a>(
 fn open_chain<'a>(frames: &mut Stack<Frame<'a>>, start: &'a Expr, links: &'a [Link]) -> Next<'a>
     requires { HasRoomFor
         (in_front (places start.now) (map places_of_link links.now)) frames.old }
-    ensures moves { (sight : Sight) → MachineMoves sight (Ok result) 0
+    ensures moves { (sight : Environment) → MachineMoves sight (Ok result) 0
         (then_resumed sight frames.old.items
         (chain_run (meaning sight start.now) (map (link_meant sight) links.now))) frames.new.items }
     ensures smaller { left_work result frames.new.items
@@ -137,7 +137,7 @@ fn open_chain<'a>(frames: &mut Stack<Frame<'a>>, start: &'a Expr, links: &'a [Li
 fn open_path<'a>(frames: &mut Stack<Frame<'a>>, start: &'a Expr, steps: &'a [Step]) -> Next<'a>
     requires { HasRoomFor
         (in_front (places start.now) (map places_of_step steps.now)) frames.old }
-    ensures moves { (sight : Sight) → MachineMoves sight (Ok result) 0
+    ensures moves { (sight : Environment) → MachineMoves sight (Ok result) 0
         (then_resumed sight frames.old.items
         (path_run (meaning sight start.now) (map (step_meant sight) steps.now))) frames.new.items }
     ensures smaller { left_work result frames.new.items
@@ -164,7 +164,7 @@ fn on_items<'a>(
     place: usize,
 ) -> Result<Next<'a>, Stop>
     requires { HasRoomFor (in_turn (map places items.now)) frames.old }
-    ensures moves { (sight : Sight) → MachineMoves sight result 0
+    ensures moves { (sight : Environment) → MachineMoves sight result 0
         (then_resumed sight frames.old.items
         (items_run place values (map (meaning sight) items.now))) frames.new.items }
     ensures smaller { IfOk result (λ n. left_work n frames.new.items
@@ -289,7 +289,7 @@ fn on_link<'a>(
     left: Held<'a>,
 ) -> Result<Next<'a>, Stop>
     requires { HasRoomFor (places_of_link link.now) frames.old }
-    ensures moves { (sight : Sight) → MachineMoves sight result 0
+    ensures moves { (sight : Environment) → MachineMoves sight result 0
         (then_resumed sight frames.old.items
         (link_run left.entry (link_meant sight link.now))) frames.new.items }
     ensures smaller { IfOk result (λ n. left_work n frames.new.items
@@ -312,7 +312,7 @@ fn on_chain<'a>(
     left: Held<'a>,
 ) -> Result<Next<'a>, Stop>
     requires { HasRoomFor (in_turn (map places_of_link links.now)) frames.old }
-    ensures moves { (sight : Sight) → MachineMoves sight result 0
+    ensures moves { (sight : Environment) → MachineMoves sight result 0
         (then_resumed sight frames.old.items
         (links_run (map (link_meant sight) links.now) left.entry)) frames.new.items }
     ensures smaller { IfOk result (λ n. left_work n frames.new.items
@@ -395,7 +395,7 @@ fn on_item<'a>(
     place: usize,
 ) -> Result<Next<'a>, Stop>
     requires { HasRoomFor (in_turn (map places rest.now)) frames.old }
-    ensures moves { (sight : Sight) → MachineMoves sight result 0
+    ensures moves { (sight : Environment) → MachineMoves sight result 0
         (items_resumed sight frames.old.items place (map (meaning sight) rest.now)
         (item_added place items item.entry)) frames.new.items }
     ensures smaller { IfOk result (λ n. left_work n frames.new.items

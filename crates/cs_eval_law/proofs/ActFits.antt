@@ -26,7 +26,7 @@ use Rattle.cs_eval_values.specs.Runs.{Run, Gave, Answered, Trapped, gives, answe
 use Rattle.cs_eval_values.specs.Datums.{Datum, items_of, bool_of}
 use Rattle.cs_eval_values.specs.Operators.{given_bool}
 use Rattle.cs_eval_values.specs.Namings.{Named, with_named, with_datum}
-use Rattle.cs_eval.specs.Meaning.{Sight, Meant, run_of, expr_meant}
+use Rattle.cs_eval.specs.Meaning.{Environment, Meant, run_of, expr_meant}
 use Rattle.cs_eval_law.specs.Acting.{Naming, numbers, value_run, value_kind, let_run, set_run, condition, if_run, answer_run, turn_run, turns_run, for_in_run, for_to_run, one_run, all_run}
 use Rattle.cs_eval_law.proofs.Within.{Within, within_less, within_plus, within_left, within_right, spent_spend, spent_bind, within_bind, free_or, ok_is, After, after_spend, after_bind, after_any, within_after, within_then, some_is}
 use Rattle.cs_eval_law.proofs.ExprFits.{Fits, told_bind, fits_wanted}
@@ -135,7 +135,7 @@ never_fits true place told r checks = λ a is. absurd cc
 never_fits false place told r checks = absurd cc
 
 module _ (sight : InSight) (view : View) (names : List Named) (alike : Alike sight.names names) where
-  abbrev here : Sight
+  abbrev here : Environment
   here = record { contract = sight.contract; view = view; names = names }
 
   -- ---- names and values

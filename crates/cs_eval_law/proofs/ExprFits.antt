@@ -31,8 +31,8 @@ use Rattle.cs_eval_values.specs.Datums.{Datum, Plain}
 use Rattle.cs_eval_values.specs.Operators.{unary, binary, left_decides, list_of, with_item, int_number}
 use Rattle.cs_eval_values.specs.Views.{field_of, is_called, returned_int}
 use Rattle.cs_eval_values.specs.Namings.{Named, datum_named, kind_named}
-use Rattle.cs_eval.specs.Kinds.{told_kind, field_of_kind as field_kind_given, list_kind, cost_of_comparing}
-use Rattle.cs_eval.specs.Meaning.{Sight, Meant, Linking, Stepping, run_of, meant, kind_of_meant, named_run, of_one, of_right, of_two, item_run, items_run, link_run, links_run, chain_run, step_run, steps_run, path_run, steps_kind}
+use Rattle.cs_eval.specs.Kinds.{told_kind, kind_of_field, list_kind, cost_of_comparing}
+use Rattle.cs_eval.specs.Meaning.{Environment, Meant, Linking, Stepping, run_of, meant, kind_of_meant, named_run, of_one, of_right, of_two, item_run, items_run, link_run, links_run, chain_run, step_run, steps_run, path_run, steps_kind}
 use Rattle.cs_eval_law.proofs.Within.{Within, within_less, within_plus, spent_spend, spent_bind, within_bind, free_or, ok_is}
 use Rattle.cs_eval_law.proofs.Free.{free_unary, free_binary, free_item, free_list, free_field, free_returned, free_leaf}
 
@@ -354,13 +354,13 @@ fits_path start m ts ss h all i is =
     )
 
 field_kind_is : (sight : InSight) (name : Text) (k l : Kind) (first : ℕ) → field_of_kind sight name k first ≡ Ok l
-    → field_kind_given sight.contract name k ≡ Some l
+    → kind_of_field sight.contract name k ≡ Some l
 field_kind_is sight name (kind.Object n) l first is = ap told_kind is
 field_kind_is sight name (kind.Value b lists) l first is = absurd cc
 field_kind_is sight name (kind.Objects n) l first is = absurd cc
 
 pub fits_field : (sight : InSight) (name : Text) (first place : ℕ)
-    → StepFits (field_judged sight name first) (record { kind = field_kind_given sight.contract name; run = field_of sight.contract.types name.bytes place })
+    → StepFits (field_judged sight name first) (record { kind = kind_of_field sight.contract name; run = field_of sight.contract.types name.bytes place })
 fits_field sight name first place j i is =
     let found = told_bind (field_of_kind sight name j.kind first) (λ k. judged k (plus j.cost 1)) i is in
     let made : record { kind = found.0; cost = plus j.cost 1 } ≡ i = ok_is _ i _ refl found.2 in (

@@ -24,7 +24,7 @@ use Rattle.cs_types_kinds.specs.declared.expressions.Items.{Items}
 use Rattle.cs_types_kinds.specs.Told.{Told, mistyped, unbound, told_through as told_through, plus}
 use Rattle.cs_types_kinds.specs.Kinds.{int_kind as int_kind, bool as bool_kind, bytes_kind as bytes_kind, same_kind, list_kind_of as list_of_kind, item_kind as item_kind, is_list, joins, has_length, spelled_kind}
 use Rattle.cs_types_kinds.specs.Scopes.{InSight, name_seen}
-use Rattle.cs_types_kinds.specs.Lookups.{method_number, or_mistyped, declared_kind, is_named_field, named_field, field_kind_in as told_field, field_kind}
+use Rattle.cs_types_kinds.specs.Lookups.{method_number, or_mistyped, declared_kind, is_named_field, named_field, field_kind_in as told_field, field_kind, is_field}
 use Rattle.cs_types_kinds.specs.Judging.{JudgedPart, judged, wanted, seen_judged, name_judged, empty_of, empty_judged, method_judged, called_judged, depint_judged, or_first, kind_of_list, first_item, next_item, any_item, items_of_parts, items_judged, list_judged, len_judged, sha256_judged, concat_with, concat_judged, not_judged, negative_judged, compares, comparing_cost, compared_with, compared_judged, kind_of_rank, link_added, chained, chain_judged, field_of_kind, field_judged, index_judged, step_taken, path_judged}
 use Rattle.cs_eval_values.specs.declared.stop.Cause.TheVariants as cause
 use Rattle.cs_eval_values.specs.declared.operators.Unary.{Unary}
@@ -36,9 +36,9 @@ use Rattle.cs_eval_values.specs.Runs.{Run, gives, spend, ◌>>=◌, through, or_
 use Rattle.cs_eval_values.specs.Datums.{Datum, Plain, One, Many, object_of_datum}
 use Rattle.cs_eval_values.specs.Operators.{int, truth, text, unary, binary, left_decides, list_of, with_item, int_number}
 use Rattle.cs_eval_values.specs.Filling.{is_list_of, has_kind, values_fit}
-use Rattle.cs_eval_values.specs.Views.{is_field, field_place, field_value, type_named, field_in, field_of, is_called, int_of_value, returned, returned_int}
+use Rattle.cs_eval_values.specs.Views.{field_place, field_value, type_named, field_in, field_of, is_called, int_of_value, returned, returned_int}
 use Rattle.cs_eval_values.specs.Namings.{Named, is_of_name, find_named, datum_in, kind_in, datum_named, kind_named}
-use Rattle.cs_eval.specs.Kinds.{field_of_kind as field_kind_given, list_kind, cost_of_comparing}
+use Rattle.cs_eval.specs.Kinds.{kind_of_field, list_kind, cost_of_comparing}
 use Rattle.cs_eval.specs.Meaning.{Meant, Linking, Stepping, run_of, meant, kind_of_meant, named_run, of_one, of_right, of_two, item_run, items_run, link_run, links_run, chain_run, steps_run, path_run, steps_kind}
 use Rattle.cs_eval_law.proofs.Within.{ok_is, some_is}
 use Rattle.cs_eval_law.proofs.ExprFits.{told_bind}
@@ -330,7 +330,7 @@ told_of : (name : Text) (o : Option TypeDef) (t : TypeDef) (k : Kind) → o ≡ 
 told_of name o t k is told = ap (told_field name) (sym is) ∙ told
 
 pub yields_field : (sight : InSight) (name : Text) (first place : ℕ)
-    → StepYields sight.contract.types (field_judged sight name first) (record { kind = field_kind_given sight.contract name; run = field_of sight.contract.types name.bytes place })
+    → StepYields sight.contract.types (field_judged sight name first) (record { kind = kind_of_field sight.contract name; run = field_of sight.contract.types name.bytes place })
 yields_field sight name first place j i is d hd =
     let found = told_bind (field_of_kind sight name j.kind first) (λ k. judged k (plus j.cost 1)) i is in
     let made : record { kind = found.0; cost = plus j.cost 1 } ≡ i = ok_is _ i _ refl found.2 in

@@ -3,6 +3,7 @@ use Rattle.std.proofs.Common.{◌≡◌, ℕ, zero, suc, ◌+◌, ◌≤◌, Boo
 use Rattle.std.specs.Prelude.{slice_get, unwrap_or, nat_lt, nat_le, is_some, ◌||◌, ◌&&◌, not}
 use Rattle.std.specs.List.{list_all}
 use Rattle.std.proofs.lemmas.Bool.Decides.{nat_tests}
+use Rattle.cs_base.specs.Lists.{is_empty}
 use Rattle.cs_base.specs.Fields.{◌>>=◌ as ◌>?◌}
 use Rattle.cs_lang_token.specs.declared.limits.TheConstants.{MOST_ITEMS, MOST_COST, MOST_METHODS}
 use Rattle.cs_lang_token.specs.Grammar.{◌>>=◌ as ◌>>-◌}
@@ -24,7 +25,7 @@ use Rattle.cs_types_kinds.specs.Told.{Told, mistyped, unbound, told_through as t
 use Rattle.cs_types_kinds.specs.Kinds.{spelled_kind}
 use Rattle.cs_types_kinds.specs.Scopes.{in_sight, is_declared, with_name}
 use Rattle.cs_types_kinds.specs.Lookups.{type_number, method_number, or_mistyped}
-use Rattle.cs_types.specs.Declaring.{slot_kind, slot_of_type, is_nil, slot_told, slots_told, name_told, names_told, method_names, types_told}
+use Rattle.cs_types.specs.Declaring.{slot_kind, slot_of_type, slot_told, slots_told, name_told, names_told, method_names, types_told}
 use Rattle.cs_types.specs.Accepted.{body_told, method_costs, method_told, methods_told, judged_costs, first_dear, or_dear, Accepted, IsAccepted}
 use Rattle.cs_eval_values.specs.declared.view.View.{View}
 use Rattle.cs_eval_values.specs.Datums.{Datum, Plain, One, Many}
@@ -80,11 +81,11 @@ module _ (contract : List ℕ) (types : List TypeDef) (u : Use) (can : in_sight 
       let Q : Filled → Type 0 = λ f. Alike es f.0 in
       subst P (ok_is es more (Ok es) refl told) (subst Q (some_is so_far next is) a)
   each_alike (s ∷ ss) es more so_far next a told is =
-      let first = told_bind (slot_told types u s (is_nil ss) es) (λ names. slots_told types u ss names) more told in
+      let first = told_bind (slot_told types u s (is_empty ss) es) (λ names. slots_told types u ss names) more told in
       let filled_one = some_bind (slot_filled contract types so_far s) (each_filled contract types ss) next is in
       each_alike ss first.0 more filled_one.0 next
       (slot_alike s es first.0 so_far filled_one.0 a (type_number s.object.bytes types)
-      (unless_is (is_declared s.name.bytes es || s.many && not (is_nil ss)) s.name.place (slot_of_type s u es (type_number s.object.bytes types)) first.0 first.1) filled_one.1)
+      (unless_is (is_declared s.name.bytes es || s.many && not (is_empty ss)) s.name.place (slot_of_type s u es (type_number s.object.bytes types)) first.0 first.1) filled_one.1)
       first.2 filled_one.2
 
   taken_names : (f : Filled) (names : List Named) → all_taken f ≡ Some names → f.0 ≡ names

@@ -19,7 +19,7 @@ use Rattle.cs_eval_values.specs.declared.view.View.{View}
 use Rattle.cs_eval_values.specs.Namings.{Named}
 use Rattle.cs_eval_values.specs.Operators.{truth, text}
 use Rattle.cs_eval_values.specs.Views.{is_called, returned_int}
-use Rattle.cs_eval.specs.Meaning.{Sight, Meant, Linking, Stepping, access_means, shape_means, expr_meant, shape_meant, link_meant, step_meant, access_meant}
+use Rattle.cs_eval.specs.Meaning.{Environment, Meant, Linking, Stepping, access_means, shape_means, expr_meant, shape_meant, link_meant, step_meant, access_meant}
 use Rattle.cs_eval_law.specs.Acting.{seen_with}
 use Rattle.cs_eval_law.proofs.Free.{free_returned}
 use Rattle.cs_eval_law.proofs.Trees.{access_part, shape_told, access_told, told_shape, told_access, told_expr, told_link, told_step, shape_from, access_from, meant_shape, meant_access, meant_expr, meant_link, meant_step}
@@ -86,7 +86,7 @@ steps_along t u m n is same h =
     subst P (sym is) (subst Q (sym same) h)
 
 module _ (sight : InSight) (view : View) (names : List Named) (alike : Alike sight.names names) where
-  abbrev w : Sight
+  abbrev w : Environment
   w = seen_with sight.contract view names
 
   exprs_fit : (es : List E) → AllFit (map (part_of sight) (map (λ e. e.0) es)) (map (expr_meant w) (map (λ e. e.0) es))

@@ -21,7 +21,7 @@ use Rattle.cs_eval_values.specs.declared.view.View.{View}
 use Rattle.cs_eval_values.specs.Namings.{Named}
 use Rattle.cs_eval_values.specs.Operators.{truth, text}
 use Rattle.cs_eval_values.specs.Views.{is_called}
-use Rattle.cs_eval.specs.Meaning.{Sight, Meant, Linking, Stepping, access_means, shape_means, expr_meant, shape_meant, link_meant, step_meant, access_meant}
+use Rattle.cs_eval.specs.Meaning.{Environment, Meant, Linking, Stepping, access_means, shape_means, expr_meant, shape_meant, link_meant, step_meant, access_meant}
 use Rattle.cs_eval_law.specs.Acting.{seen_with}
 use Rattle.cs_eval_law.proofs.Alike.{Alike, alike_seen}
 use Rattle.cs_eval_law.proofs.Kinded.{true_and, bool_has, bytes_has}
@@ -89,7 +89,7 @@ module _ (sight : InSight) where
       subst P (sym is) (subst Q (sym same) h)
 
 module _ (sight : InSight) (view : View) (names : List Named) (alike : Alike sight.names names) (kinded : AreKinded sight.contract.types names) where
-  abbrev w : Sight
+  abbrev w : Environment
   w = seen_with sight.contract view names
 
   exprs_yield : (es : List E) → every itself (map expr_fits (map (λ e. e.0) es)) ≡ true → AllYield sight.contract.types (map (part_of sight) (map (λ e. e.0) es)) (map (expr_meant w) (map (λ e. e.0) es))
@@ -162,7 +162,7 @@ expr_step x y is = subst (λ z. ExprYields (roll-Expr z)) is (λ fit sight view 
 
 link_step : (x : Link-F Access Shape Expr Link Step) (y : Link-F A S E L T) → link_below y ≡ x → LinkClaim (roll-Link x)
 link_step x y is = subst (λ z. LinkClaim (roll-Link z)) is (λ r fit sight view names alike kinded.
-    let w : Sight = seen_with sight.contract view names in
+    let w : Environment = seen_with sight.contract view names in
     let t = true_and (is_of_rank r y.operator) (expr_fits y.right.0) (sym (ap (λ (f : LinkFits). f r) (fit_link (link_below y))) ∙ fit) in (
       yields_along sight _ _ _ _ (ap (λ (p : JudgedPart). p.found) (told_link sight (link_below y))) (ap (λ (l : Linking). l.right) (meant_link w (link_below y)))
           (y.right.1 t.1 sight view names alike kinded),

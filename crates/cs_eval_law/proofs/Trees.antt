@@ -13,7 +13,7 @@ use Rattle.cs_types_kinds.specs.Told.{Told}
 use Rattle.cs_types_kinds.specs.Scopes.{InSight}
 use Rattle.cs_types_kinds.specs.Judging.{JudgedPart, Stepped}
 use Rattle.cs_types_kinds.specs.Parts.{Shaped, access_from_parts, shape_from_parts, expr_from_parts, link_from_parts, step_from_parts, part_of, shape_part, link_part, step_part}
-use Rattle.cs_eval.specs.Meaning.{Sight, Meant, Linking, Stepping, access_means, shape_means, expr_means, link_means, step_means, expr_meant, shape_meant, link_meant, step_meant, access_meant}
+use Rattle.cs_eval.specs.Meaning.{Environment, Meant, Linking, Stepping, access_means, shape_means, expr_means, link_means, step_means, expr_meant, shape_meant, link_meant, step_meant, access_meant}
 
 unfoldable pub access_part : InSight → Access → Stepped
 access_part sight =
@@ -57,7 +57,7 @@ module _ (sight : InSight) where
   told_step x =
       fold-roll-Step Stepped Shaped JudgedPart JudgedPart (Judged → Told Judged) (access_from_parts sight) (shape_from_parts sight) (expr_from_parts sight) (link_from_parts sight) (step_from_parts sight) x
 
-module _ (sight : Sight) where
+module _ (sight : Environment) where
   abbrev pub shape_from : Shape-F Access Shape Expr Link Step → Shape-F (ℕ → Stepping) (ℕ → Meant) Meant Linking Stepping
   shape_from x = map-Shape Access Shape Expr Link Step (ℕ → Stepping) (ℕ → Meant) Meant Linking Stepping (access_meant sight) (shape_meant sight) (expr_meant sight) (link_meant sight) (step_meant sight) x
 

@@ -17,7 +17,7 @@ use Rattle.cs_eval_values.specs.Runs.{Run, gives, answers, traps, spend, ◌>>=�
 use Rattle.cs_eval_values.specs.Datums.{Datum, items_of}
 use Rattle.cs_eval_values.specs.Operators.{int, given_bool}
 use Rattle.cs_eval_values.specs.Namings.{Named, with_named, with_datum}
-use Rattle.cs_eval.specs.Meaning.{Sight, meaning, kind_given}
+use Rattle.cs_eval.specs.Meaning.{Environment, meaning, kind_given}
 
 -- what something makes of the names in sight
 abbrev pub Naming : Type 0
@@ -31,7 +31,7 @@ numbers (suc n) from = int (pos from) ∷ numbers n (from + 1)
 -- ---- statements
 
 module _ (contract : ContractTree) (view : View) where
-  abbrev pub seen_with : List Named → Sight
+  abbrev pub seen_with : List Named → Environment
   seen_with names = record { contract = contract; view = view; names = names }
 
   abbrev pub value_run : Expr → List Named → Run Datum

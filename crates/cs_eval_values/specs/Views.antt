@@ -1,11 +1,10 @@
 -- What a view says to a check.
 use Rattle.std.specs.Prelude.{ℕ, ℤ, Bool, false, ◌&&◌, List, [], ◌∷◌, slice_get, position, Option, None, Some, if◌then◌else◌}
 use Rattle.std.specs.Str.{bytes_eq}
-use Rattle.cs_lang.specs.declared.tree.Field.{Field}
 use Rattle.cs_lang.specs.declared.tree.TypeDef.{TypeDef}
 use Rattle.cs_tx_value.specs.declared.object.Object.{Object}
 use Rattle.cs_tx_value.specs.declared.value.Value.{Value, out-Value}
-use Rattle.cs_types_kinds.specs.Lookups.{is_type}
+use Rattle.cs_types_kinds.specs.Lookups.{is_type, is_field}
 use Rattle.cs_eval_values.specs.declared.stop.Cause.TheVariants as cause
 use Rattle.cs_eval_values.specs.declared.view.View.{View}
 use Rattle.cs_eval_values.specs.declared.view.Dep.{Dep}
@@ -14,9 +13,6 @@ use Rattle.cs_eval_values.specs.Datums.{Datum, Plain, int_in, object_of_datum}
 use Rattle.cs_eval_values.specs.Operators.{int, truth}
 
 -- ---- fields of objects
-
-abbrev pub is_field : List ℕ → Field → Bool
-is_field name f = bytes_eq f.name.bytes name
 
 abbrev pub field_place : List ℕ → Option TypeDef → Option ℕ
 field_place name None = None

@@ -1,9 +1,10 @@
 //! Fields of objects, and deps.
 ghost use Rattle.std.specs.Prelude.{◌≡◌, position, slice_get};
 ghost use Rattle.std.specs.Option.{option_copied};
+ghost use Rattle.cs_types_kinds.specs.Lookups.{is_field};
 ghost use Rattle.cs_eval_values.specs.Answers.{RunEnds};
 ghost use Rattle.cs_eval_values.specs.Datums.{int_in};
-ghost use Rattle.cs_eval_values.specs.Views.{is_field, type_named, field_in, field_of as field_run, is_called as is_called_in, int_of_value, returned, returned_int as returned_run};
+ghost use Rattle.cs_eval_values.specs.Views.{type_named, field_in, field_of as field_run, is_called as is_called_in, int_of_value, returned, returned_int as returned_run};
 
 use crate::held::Held;
 use crate::stop::{Cause, Stop};

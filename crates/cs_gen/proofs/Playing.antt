@@ -19,7 +19,7 @@ use Rattle.cs_sched.specs.Playable.{IsPlayableEvent}
 use Rattle.cs_gen.specs.Draws.{state_after}
 use Rattle.cs_gen.specs.Coins.{coin, worths_below}
 use Rattle.cs_gen.specs.Rounds.{layout, round_tx, round_session, concerned_by, second_number, submitted, submitted_to, submitted_again, round_with, events_of, events_below}
-use Rattle.cs_gen.specs.Schedules.{schedule_of}
+use Rattle.cs_gen.specs.Schedules.{drawn_schedule}
 use Rattle.cs_gen.specs.Sound.{IsPlayableUnlessTwice, HasOwnLines}
 use Rattle.cs_gen.specs.declared.limits.TheConstants.{MOST_SIZE}
 use Rattle.cs_gen.proofs.Worths.{worths-fit, length-worths}
@@ -109,7 +109,7 @@ coins-fit [] small = tt
 coins-fit (worth ∷ worths) small = (coin_fits worth small.0, coins-fit worths small.1)
 
 pub playable : (number size : ℕ) → size ≤ MOST_SIZE → IsPlayableUnlessTwice number size
-unfolding schedule_of
+unfolding drawn_schedule
 playable number size few differ =
     let first = state_after number 4 in
     let worths = worths_below first size in
@@ -139,7 +139,7 @@ numbered-again n [] = refl
 numbered-again n (event ∷ events) = ap (λ (rest : List (ℕ × Event)). (n, event) ∷ rest) (numbered-again (n + 1) events)
 
 pub own_lines : (number size : ℕ) → HasOwnLines number size
-unfolding schedule_of
+unfolding drawn_schedule
 own_lines number size =
     let first = state_after number 4 in
     let worths = worths_below first size in
@@ -147,4 +147,4 @@ own_lines number size =
     let before : 6 + (0 + (0 + length (map coin worths))) ≡ 6 + length worths = omega (arith, length-map worths coin) in
     let same : numbered_events (6 + (0 + (0 + length (map coin worths)))) (enumerate_from (6 + length worths) plain) ≡ enumerate_from (6 + length worths) plain =
     ap (λ (n : ℕ). numbered_events n (enumerate_from (6 + length worths) plain)) before ∙ numbered-again (6 + length worths) plain in
-    λ i. record (schedule_of number size) { events = same i }
+    λ i. record (drawn_schedule number size) { events = same i }

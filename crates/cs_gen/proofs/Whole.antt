@@ -9,7 +9,7 @@ use Rattle.cs_sched.specs.declared.schedule.Schedule.{Schedule}
 use Rattle.cs_gen.specs.Draws.{state_after}
 use Rattle.cs_gen.specs.Coins.{coin, worths_below}
 use Rattle.cs_gen.specs.Rounds.{layout, events_below}
-use Rattle.cs_gen.specs.Schedules.{master_of, schedule_of}
+use Rattle.cs_gen.specs.Schedules.{drawn_master, drawn_schedule}
 use Rattle.cs_gen.proofs.Worths.{length-worths}
 
 abbrev parts : Config → List ℕ → List NodeId → List (List ℕ) → List Object → List (ℕ × Event) → Schedule
@@ -25,7 +25,7 @@ pub record Made (number size : ℕ) (config : Config) (master : List ℕ) (liars
   pub plain : List Event
   pub begins : start ≡ number
   pub of_config : config ≡ layout
-  pub of_master : master ≡ master_of start
+  pub of_master : master ≡ drawn_master start
   pub of_first : first ≡ state_after start 4
   pub of_worths : worths ≡ worths_below first size
   pub of_last : last ≡ state_after first size
@@ -37,8 +37,8 @@ pub record Made (number size : ℕ) (config : Config) (master : List ℕ) (liars
   pub of_events : events ≡ enumerate_from line plain
 
 pub whole : (number size : ℕ) (config : Config) (master : List ℕ) (liars : List NodeId) (contracts : List (List ℕ)) (genesis : List Object) (events : List (ℕ × Event))
-    → Made number size config master liars contracts genesis events → parts config master liars contracts genesis events ≡ schedule_of number size
-unfolding schedule_of
+    → Made number size config master liars contracts genesis events → parts config master liars contracts genesis events ≡ drawn_schedule number size
+unfolding drawn_schedule
 whole number size config master liars contracts genesis events m =
     let first = state_after number 4 in
     let worths = worths_below first size in
@@ -46,7 +46,7 @@ whole number size config master liars contracts genesis events m =
     let first_is : m.first ≡ first = m.of_first ∙ ap (λ (s : ℕ). state_after s 4) m.begins in
     let worths_are : m.worths ≡ worths = m.of_worths ∙ ap (λ (s : ℕ). worths_below s size) first_is in
     let last_is : m.last ≡ last = m.of_last ∙ ap (λ (s : ℕ). state_after s size) first_is in
-    let master_is : master ≡ master_of number = m.of_master ∙ ap master_of m.begins in
+    let master_is : master ≡ drawn_master number = m.of_master ∙ ap drawn_master m.begins in
     let genesis_is : genesis ≡ map coin worths = m.of_genesis ∙ ap (map coin) worths_are in
     let plain_is : m.plain ≡ events_below last worths (length worths) =
     m.of_plain ∙ ap (λ (s : ℕ). events_below s m.worths (length m.worths)) last_is ∙ ap (λ (ws : List ℕ). events_below last ws (length ws)) worths_are in

@@ -8,8 +8,8 @@ use Rattle.cs_gen.specs.Coins.{coin, worths_below}
 use Rattle.cs_gen.specs.Rounds.{layout, events_below}
 
 -- the master is four states in a row, the first of them behind this one
-abbrev pub master_of : ℕ → List ℕ
-master_of state =
+abbrev pub drawn_master : ℕ → List ℕ
+drawn_master state =
     to_be_bytes w64 (state_after state 1)
     ++ to_be_bytes w64 (state_after state 2)
     ++ to_be_bytes w64 (state_after state 3)
@@ -28,7 +28,7 @@ schedule_with master worths state = record {
 }
 
 -- the schedule of a number and a size: four draws for the master, one for each coin, two for each round
-unfoldable pub schedule_of : ℕ → ℕ → Schedule
-schedule_of number size =
+unfoldable pub drawn_schedule : ℕ → ℕ → Schedule
+drawn_schedule number size =
     let first_coin = state_after number 4 in
-    schedule_with (master_of number) (worths_below first_coin size) (state_after first_coin size)
+    schedule_with (drawn_master number) (worths_below first_coin size) (state_after first_coin size)

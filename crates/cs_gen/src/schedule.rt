@@ -2,7 +2,7 @@
 ghost use Rattle.std.specs.Prelude.{◌≡◌, ◌+◌, ◌<◌, ◌≤◌, ◌^◌, IfOk, OnOk};
 ghost use Rattle.std.specs.List.{enumerate_from};
 ghost use Rattle.cs_gen.specs.Draws.{state_after};
-ghost use Rattle.cs_gen.specs.Schedules.{master_of, schedule_of};
+ghost use Rattle.cs_gen.specs.Schedules.{drawn_master, drawn_schedule};
 
 use crate::coins::{coins, draw_worths, token};
 use crate::draws::Draws;
@@ -16,7 +16,7 @@ use std::alloc::Global;
 
 // The master: four states in a row.
 fn draw_master(alloc: Global, draws: &mut Draws) -> Result<Digest, Memory>
-    ensures master { IfOk result (λ master. master ≡ master_of draws.old.state) }
+    ensures master { IfOk result (λ master. master ≡ drawn_master draws.old.state) }
     ensures state { OnOk result (draws.new.state ≡ state_after draws.old.state 4) }
 {
     let mut out = Writer::new(alloc);
@@ -47,7 +47,7 @@ fn numbered(alloc: Global, first: u64, events: Vec<Event>) -> Result<Sequence<(u
 /// split. The events are numbered by the lines of the schedule's own text.
 pub fn schedule_of(alloc: Global, number: u64, size: u32) -> Result<Schedule, Memory>
     requires { size ≤ MOST_SIZE }
-    ensures { IfOk result (λ schedule. schedule ≡ schedule_of number size) }
+    ensures { IfOk result (λ schedule. schedule ≡ drawn_schedule number size) }
 {
     let mut draws = Draws::new(number);
     let master = draw_master(alloc, &mut draws)?;

@@ -3,7 +3,7 @@ use Rattle.std.proofs.Common.{◌≡◌, ℕ, ◌<◌, ◌≤◌, ◌^◌, true,
 use Rattle.std.specs.List.{list_all}
 use Rattle.std.specs.Str.Parse.{digits_value, ParsesUnsigned}
 use Rattle.std.proofs.lemmas.Str.Parse.{IsDigitsTest, IsNumeralModel, numerals_by_value, parse_gives, digits_value_short}
-use Rattle.cs_io.specs.Numbers.{is_digit}
+use Rattle.cs_base.specs.Characters.{is_digit}
 
 digits : IsDigitsTest (λ ds. list_all is_digit ds ≡ true)
 digits = search rules

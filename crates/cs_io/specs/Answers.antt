@@ -15,7 +15,7 @@ abbrev pub read_fault_answer : Answer
 read_fault_answer = record { status = 5; printed = codes "read fault\n" }
 
 -- the text that the source had is answered so
-pub record GivesText (limit : ℕ) (answer_to : List ℕ → Answer) (left left' written written' : Option (List ℕ))
+pub record AnswersText (limit : ℕ) (answer_to : List ℕ → Answer) (left left' written written' : Option (List ℕ))
     (status : ℕ) : Type 0 where
   pub text : List ℕ
   pub is_text : IsTextOf limit left text
@@ -27,7 +27,7 @@ abbrev pub SourceGives : ℕ → (List ℕ → Answer) → Option (List ℕ) →
     → Type 0 → ℕ → Type 0
 SourceGives limit answer_to left left' written written' ReadFailed status =
     (ReadFailed × Answers read_fault_answer written written' status)
-    ⊎ GivesText limit answer_to left left' written written' status
+    ⊎ AnswersText limit answer_to left left' written written' status
 
 -- where no fault came about, the answer to the text is given and all of it printed, unless memory ran out
 abbrev pub GivesWhole : ℕ → (List ℕ → Answer) → Option (List ℕ) → Option (List ℕ) → Option (List ℕ) → ℕ → Type 0

@@ -4,7 +4,7 @@ use Rattle.cs_base.specs.declared.failures.Failures.{Failures}
 use Rattle.cs_base.specs.declared.limits.TheConstants.{MOST_DATAGRAM}
 use Rattle.cs_io.specs.Files.{content_in}
 use Rattle.cs_io.specs.Store.{Files}
-use Rattle.cs_io.specs.Spawner.{flag_at}
+use Rattle.cs_io.specs.Spawner.{flag_of}
 use Rattle.cs_io.specs.Outside.{LinkTold, SpawnerTold}
 use Rattle.cs_io.specs.declared.link.MemInput.{MemInput}
 use Rattle.cs_io.specs.declared.link.MemInput.TheVariants.{Datagram, Tick}
@@ -53,7 +53,7 @@ spawner_told s = record {
   children = length s.started;
   unstarted = s.unstarted;
   statuses = Some (slice_index s.statuses.items);
-  ended = flag_at s.ended.items;
+  ended = flag_of s.ended.items;
 }
 
 abbrev pub spawner_failures : MemSpawner → Failures

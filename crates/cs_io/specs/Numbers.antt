@@ -2,9 +2,7 @@
 use Rattle.std.specs.Prelude.{ℕ, nat_lt, nat_le, Bool, ◌&&◌, List, length, Option, Some, None, if◌then◌else◌}
 use Rattle.std.specs.List.{list_all}
 use Rattle.std.specs.Str.Parse.{digits_value}
-
-abbrev pub is_digit : ℕ → Bool
-is_digit code = nat_le 48 code && nat_le code 57
+use Rattle.cs_base.specs.Characters.{is_digit}
 
 -- 1 to 18 digits
 abbrev pub is_short_number : List ℕ → Bool

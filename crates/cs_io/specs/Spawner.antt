@@ -40,5 +40,5 @@ abbrev pub EndsThese : List ℕ → (ℕ → Bool) → (ℕ → Bool) → Type 0
 EndsThese numbers before now = (n : ℕ) → now n ≡ (before n || list_any (λ number. number == n) numbers)
 
 -- the flag of each child; one that isn't there counts as false
-abbrev pub flag_at : List Bool → ℕ → Bool
-flag_at flags number = slice_index_or flags number false
+abbrev pub flag_of : List Bool → ℕ → Bool
+flag_of flags number = slice_index_or flags number false

@@ -2,7 +2,7 @@
 ghost use Rattle.std.specs.Prelude.{◌≡◌, ◌<◌, ◌++◌, ◌∷◌, [], ℕ, false, length, map, string_bytes, slice_index, Some, IfOk, OnOk, OnErr};
 ghost use Rattle.cs_base.specs.Outside.{HasCause};
 ghost use Rattle.cs_io.specs.Told.{Stays};
-ghost use Rattle.cs_io.specs.Spawner.{SpawnerStarts, Waits, EndsThese, children_after, unstarted_after, flag_at};
+ghost use Rattle.cs_io.specs.Spawner.{SpawnerStarts, Waits, EndsThese, children_after, unstarted_after, flag_of};
 
 use crate::spawner::{Spawner, Started, Stopped, Waited};
 use crate::text::Text;
@@ -68,7 +68,7 @@ impl MemSpawner {
         ensures ok { OnOk result
             (self.new.started ≡ self.old.started ++ map string_bytes words.now ∷ []) }
         ensures err { OnErr result (self.new.started ≡ self.old.started) }
-        ensures ended { flag_at self.new.ended.items ≡ flag_at self.old.ended.items }
+        ensures ended { flag_of self.new.ended.items ≡ flag_of self.old.ended.items }
         ensures statuses { self.new.statuses ≡ self.old.statuses }
         ensures unstarted { self.new.unstarted ≡ self.old.unstarted }
         ensures failures { self.new.failures ≡ self.old.failures }

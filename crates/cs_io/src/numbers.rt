@@ -1,7 +1,8 @@
 //! Numbers among the words of a command.
 ghost use Rattle.std.specs.Prelude.{◌≡◌};
 ghost use Rattle.std.specs.List.{list_all};
-ghost use Rattle.cs_io.specs.Numbers.{is_digit, short_number};
+ghost use Rattle.cs_base.specs.Characters.{is_digit};
+ghost use Rattle.cs_io.specs.Numbers.{short_number};
 
 // Whether there are digits alone.
 fn are_digits(word: &[u8]) -> bool

@@ -50,9 +50,10 @@ abbrev pub with_one : {X : Type 0} → List X → X → List X
 with_one xs x = xs ++ x ∷ []
 
 -- what was held is given back, with the place of the sign behind it
-abbrev pub Closes : {X : Type 0} → Result (X × ℕ) Stop → X → List Token → Result (ℕ × List Token) (List Token) → Type 0
-Closes (Ok p) held rest found = (p.0 ≡ held) × (found ≡ Ok (p.1, rest))
-Closes (Err e) held rest found = ReaderFails e rest found
+abbrev pub ReadsClosingSign : {X : Type 0} → Result (X × ℕ) Stop → X → List Token
+    → Result (ℕ × List Token) (List Token) → Type 0
+ReadsClosingSign (Ok p) held rest found = (p.0 ≡ held) × (found ≡ Ok (p.1, rest))
+ReadsClosingSign (Err e) held rest found = ReaderFails e rest found
 
 -- ---- kinds, fields, slots
 
@@ -119,11 +120,11 @@ bracket_at items room = mapped_at listed (pair_read (sign_at kind.OpenList room)
 abbrev pub two_at : Reader Expr → Reader (Expr × (ℕ × Expr))
 two_at r = pair_read r (pair_read (keyword_at kind.Comma) r)
 
-abbrev pub concat_of : Reader (Expr × (ℕ × Expr)) → Bool → Reader Expr
-concat_of two room = mapped_at concat_expr (pair_read (keyword_at kind.Concat) (in_parentheses_at two room))
+abbrev pub concat_reader : Reader (Expr × (ℕ × Expr)) → Bool → Reader Expr
+concat_reader two room = mapped_at concat_expr (pair_read (keyword_at kind.Concat) (in_parentheses_at two room))
 
 abbrev pub concat_at : Reader Expr → Bool → Reader Expr
-concat_at inside = concat_of (two_at inside)
+concat_at inside = concat_reader (two_at inside)
 
 abbrev pub called_at : Bool → Reader Expr
 called_at room =
@@ -226,15 +227,15 @@ comparisons_at =
     (either_at (is (kind.Greater ∷ [])) (mapped_at (comparing comparison.Greater) (keyword_at kind.Greater))
     (mapped_at (comparing comparison.GreaterOrEqual) (keyword_at kind.GreaterOrEqual))))))
 
-abbrev pub compared_of : Reader Expr → Reader ((Comparison × ℕ) × Expr) → Reader Expr
-compared_of r side =
+abbrev pub compared_reader : Reader Expr → Reader ((Comparison × ℕ) × Expr) → Reader Expr
+compared_reader r side =
     mapped_at compared_expr
     (pair_read r
     (either_at (is comparison_kinds) (mapped_at Some side)
     (nothing_at None)))
 
 abbrev pub compared_at : Reader Expr → Reader Expr
-compared_at r = compared_of r (pair_read comparisons_at r)
+compared_at r = compared_reader r (pair_read comparisons_at r)
 
 abbrev pub signed_at : (Part → Reader Expr) → Reader ValueKind → Bool → Reader Expr
 signed_at inside kinds room = signed_of (inside Signed) room (post_at (inside Whole) kinds room)
@@ -287,7 +288,7 @@ unfoldable pub sha256_level : ℕ → Reader Expr
 sha256_level left = sha256_at (inside_expr left Whole) (room_of left)
 
 unfoldable pub concat_level : ℕ → Reader Expr
-concat_level left = concat_of (inside_two left) (room_of left)
+concat_level left = concat_reader (inside_two left) (room_of left)
 
 unfoldable pub called_level : ℕ → Reader Expr
 called_level left = called_at (room_of left)
@@ -332,7 +333,7 @@ unfoldable pub side_level : ℕ → Reader ((Comparison × ℕ) × Expr)
 side_level left = pair_read comparisons_at (ranked_sum left)
 
 unfoldable pub compared_level : ℕ → Reader Expr
-compared_level left = compared_of (ranked_sum left) (side_level left)
+compared_level left = compared_reader (ranked_sum left) (side_level left)
 
 unfoldable pub no_level : ℕ → Reader Expr
 no_level left = no_of (inside_expr left Negated) (room_of left) (compared_level left)

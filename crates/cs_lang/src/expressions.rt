@@ -7,7 +7,7 @@ ghost use Rattle.cs_lang_token.specs.Rules.{sign_at, name_token_at};
 ghost use Rattle.cs_lang_token.specs.declared.kind.Kind.TheVariants as kind;
 ghost use Rattle.cs_lang.specs.declared.tree.Rank.TheVariants as rank;
 ghost use Rattle.cs_lang.specs.Trees.{tree, field_step};
-ghost use Rattle.cs_lang.specs.Readers.{Closes, keyword_at, kinds_of, side_level, two_level, operators_at, comparisons_at, comparison_kinds, ranked, ranked_onward, ranked_turn, below, no_level, compared_level, signed_level, post_level, post_onward, post_turn, step_kinds, access_level, primary_level, worded_level, group_level, bracket_level, empty_level, len_level, sha256_level, concat_level, called_level, depint_level, items_level, items_onward, items_turn};
+ghost use Rattle.cs_lang.specs.Readers.{ReadsClosingSign, keyword_at, kinds_of, side_level, two_level, operators_at, comparisons_at, comparison_kinds, ranked, ranked_onward, ranked_turn, below, no_level, compared_level, signed_level, post_level, post_onward, post_turn, step_kinds, access_level, primary_level, worded_level, group_level, bracket_level, empty_level, len_level, sha256_level, concat_level, called_level, depint_level, items_level, items_onward, items_turn};
 
 use crate::kinds::value_kind;
 use crate::nodes::{boxed, grouped, with_comparison, with_link, with_step};
@@ -96,7 +96,7 @@ fn comparison(cursor: &mut Cursor<'_>) -> Result<(Comparison, usize), Stop>
 
 /// What is held until the sign behind it was passed, and the place of the sign.
 pub fn closed<T: Drop>(cursor: &mut Cursor<'_>, sign: Kind, held: T) -> Result<(T, usize), Stop>
-    ensures { Closes result held cursor.new (sign_at sign true cursor.old) }
+    ensures { ReadsClosingSign result held cursor.new (sign_at sign true cursor.old) }
 {
     let place = cursor.sign(sign)?;
     Ok((held, place))

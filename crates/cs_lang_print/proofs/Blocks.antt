@@ -14,7 +14,7 @@ use Rattle.cs_lang.specs.Rules.{keyword as word_rule, Whole, expression, argumen
 use Rattle.cs_lang_print.specs.Words.{word, ending, each_text, behind_comma, with_commas}
 use Rattle.cs_lang_print.specs.Expressions.{expr_text}
 use Rattle.cs_lang_print.specs.Statements.{name_text, arguments_text, block_until, statements_text, statement_text}
-use Rattle.cs_lang_print.specs.Places.{bare_text, bare, bare_block, bare_statement}
+use Rattle.cs_lang_print.specs.Places.{bare_text, bare_expr, bare_block, bare_statement}
 use Rattle.cs_lang_token.proofs.Spans.{IsWord}
 use Rattle.cs_lang_print.proofs.Actions.{statement_is, statements_are, action_let, action_set, action_if, action_ifelse, action_forin, action_forto, action_make, action_call, action_answer}
 use Rattle.cs_lang_print.proofs.Says.{Says, both, no_place, unplaced, says_pair, says_mapped, says_left, says_right, says_nothing, says_same, says_text, says_then_nothing, says_many_none, says_many_more, says_word, says_sign, says_ending, says_name, says_number}
@@ -34,7 +34,7 @@ pub says_becomes : Says no_place (sign kind.Becomes true) 0 (word (codes "="))
 says_becomes = says_sign kind.Becomes (codes "=") (omega arith) (λ place rest. refl)
 
 -- with levels enough for the recursion
-says_whole : (left : ℕ) (e : Expr) → Good 0 left e → (n : ℕ) → left + 2 ≤ n → Says bare (expression n left Whole) e (expr_text e)
+says_whole : (left : ℕ) (e : Expr) → Good 0 left e → (n : ℕ) → left + 2 ≤ n → Says bare_expr (expression n left Whole) e (expr_text e)
 says_whole left e g zero le = absurd (omega (arith, le))
 says_whole left e g (suc zero) le = absurd (omega (arith, le))
 says_whole left e g (suc (suc m)) le =
@@ -42,19 +42,19 @@ says_whole left e g (suc (suc m)) le =
     let most = g.1 in
     g.2.spelt.says 0 m left (omega arith) (omega (arith, le)) (omega arith)
 
-says_items : (left : ℕ) (es : List Expr) → Every (Good 0 left) es → (n : ℕ) → left + 2 ≤ n → Says (map bare) (either (commas (expression n left Whole)) (nothing [])) es (with_commas expr_text es)
-says_items left [] g n le = says_right (says_nothing (map bare) [])
+says_items : (left : ℕ) (es : List Expr) → Every (Good 0 left) es → (n : ℕ) → left + 2 ≤ n → Says (map bare_expr) (either (commas (expression n left Whole)) (nothing [])) es (with_commas expr_text es)
+says_items left [] g n le = says_right (says_nothing (map bare_expr) [])
 says_items left (e ∷ es) g zero le = absurd (omega (arith, le))
 says_items left (e ∷ es) g (suc zero) le = absurd (omega (arith, le))
 says_items left (e ∷ es) g (suc (suc m)) le =
     let k = all_good left (e ∷ es) g in
     let most = k.1 in
-    says_left (says_row bare (expression (suc (suc m)) left Whole) expr_text (e ∷ es) (omega arith) (k.2 m left (omega (arith, le)) (omega arith)))
+    says_left (says_row bare_expr (expression (suc (suc m)) left Whole) expr_text (e ∷ es) (omega arith) (k.2 m left (omega (arith, le)) (omega arith)))
 
-says_arguments : (left : ℕ) (es : List Expr) → room_of left ≡ true → Every (Good 0 (less_one left)) es → (n : ℕ) → left + 2 ≤ n → Says (map bare) (arguments (expression n (less_one left) Whole) (room_of left)) es (arguments_text es)
+says_arguments : (left : ℕ) (es : List Expr) → room_of left ≡ true → Every (Good 0 (less_one left)) es → (n : ℕ) → left + 2 ≤ n → Says (map bare_expr) (arguments (expression n (less_one left) Whole) (room_of left)) es (arguments_text es)
 says_arguments left es room g n le =
     let one = room_one left room in
-    says_mapped {B = both no_place (both (map bare) no_place)} {x = (0, (es, 0))} (map bare) inner (λ z. refl)
+    says_mapped {B = both no_place (both (map bare_expr) no_place)} {x = (0, (es, 0))} (map bare_expr) inner (λ z. refl)
     (says_pair (says_gate kind.Open (room_of left) (word (codes "(")) room says_open) (says_pair (says_items (less_one left) es g n (omega (arith, le))) says_close))
 
 -- the statements of a block, with room for so many levels
@@ -160,7 +160,7 @@ module _ (left : ℕ) (E F : Rule Expr) (B : Rule Block) (whole : Gives E (Good 
       says_text (statement_text (for_of (place, (name', (Items e, b))))) (sym (statement_is (for_of (place, (name', (Items e, b)))) ∙ action_forin name' e b)) (says_right (says_right (says_right (says_left (says_same (for_of (place, (name', (Items e, b)))) (move_for (0, (name', (Items e, b))) ∙ sym (move_for (place, (name', (Items e, b)))))
       (says_mapped {B = bare_for} {x = (0, (name', (Items e, b)))} bare_statement for_of move_for
       (says_pair says_for (says_pair (says_name name' is) (says_pair
-      (says_left (says_mapped {B = both no_place bare} {x = (0, e)} bare_range range_of (λ z. refl) (says_pair (says_word kind.In (codes "in") (record { letter = refl; all = refl; short = omega arith; kind = refl })) (says_whole left e g n le))))
+      (says_left (says_mapped {B = both no_place bare_expr} {x = (0, e)} bare_range range_of (λ z. refl) (says_pair (says_word kind.In (codes "in") (record { letter = refl; all = refl; short = omega arith; kind = refl })) (says_whole left e g n le))))
       (h n le (ending (codes "}")) says_closed))))))))))
   for_says place name' (Numbers k) b is g h n le =
       says_text (statement_text (for_of (place, (name', (Numbers k, b))))) (sym (statement_is (for_of (place, (name', (Numbers k, b)))) ∙ action_forto name' k b)) (says_right (says_right (says_right (says_left (says_same (for_of (place, (name', (Numbers k, b)))) (move_for (0, (name', (Numbers k, b))) ∙ sym (move_for (place, (name', (Numbers k, b)))))
@@ -191,14 +191,14 @@ module _ (left : ℕ) (E F : Rule Expr) (B : Rule Block) (whole : Gives E (Good 
   call_says place name' (Arguments es) end is g n le =
       says_text (statement_text (call_of (place, (name', (Arguments es, end))))) (sym (statement_is (call_of (place, (name', (Arguments es, end)))) ∙ action_call [] name' es)) (says_right (says_right (says_right (says_right (says_right (says_left (says_same (call_of (place, (name', (Arguments es, end)))) (move_call (0, (name', (Arguments es, 0))) ∙ sym (move_call (place, (name', (Arguments es, end)))))
       (says_mapped {B = bare_call} {x = (0, (name', (Arguments es, 0)))} bare_statement call_of move_call
-      (says_pair says_call (says_pair (says_name name' is) (says_pair (says_left (says_mapped {B = map bare} {x = es} bare_rest Arguments (λ z. refl) (says_arguments left es g.0 g.1 n le))) says_semicolon)))))))))))
+      (says_pair says_call (says_pair (says_name name' is) (says_pair (says_left (says_mapped {B = map bare_expr} {x = es} bare_rest Arguments (λ z. refl) (says_arguments left es g.0 g.1 n le))) says_semicolon)))))))))))
   call_says place name' (Binds names method es) end is g n le =
       says_text (statement_text (call_of (place, (name', (Binds names method es, end)))))
       (call_text (name_text name') (each_text (behind_comma name_text) names) (name_text method) (arguments_text es) ∙ sym (statement_is (call_of (place, (name', (Binds names method es, end)))) ∙ action_call (name' ∷ names) method es))
       (says_right (says_right (says_right (says_right (says_right (says_left (says_same (call_of (place, (name', (Binds names method es, end)))) (move_call (0, (name', (Binds names method es, 0))) ∙ sym (move_call (place, (name', (Binds names method es, end)))))
       (says_mapped {B = bare_call} {x = (0, (name', (Binds names method es, 0)))} bare_statement call_of move_call
       (says_pair says_call (says_pair (says_name name' is) (says_pair
-      (says_right (says_mapped {B = both (map bare_text) (both no_place (both bare_text (map bare)))} {x = (names, (0, (method, es)))} bare_rest binds_of (λ z. refl)
+      (says_right (says_mapped {B = both (map bare_text) (both no_place (both bare_text (map bare_expr)))} {x = (names, (0, (method, es)))} bare_rest binds_of (λ z. refl)
       (says_pair (says_same names (ap (map bare_text) (names_back names)) (says_mapped {B = map (both no_place bare_text)} {x = comma_names names} (map bare_text) names_in_list move_names (says_names names g.0)))
       (says_pair says_becomes (says_pair (says_name method g.1) (says_arguments left es g.2.0 g.2.1 n le))))))
       says_semicolon)))))))))))
@@ -212,7 +212,7 @@ module _ (left : ℕ) (E F : Rule Expr) (B : Rule Block) (whole : Gives E (Good 
   answer_good : Gives (mapped answer_of (pair (word_rule kind.Answer) (pair E (word_rule kind.Semicolon)))) (StatementGood left)
   answer_good = gives_mapped (StatementGood left) answer_of (gives_pair (gives_sign kind.Answer true) (gives_pair whole (gives_sign kind.Semicolon true))) (λ p h n le.
       says_text (statement_text (answer_of p)) (sym (statement_is (answer_of p) ∙ action_answer p.1.0)) (says_right (says_right (says_right (says_right (says_right (says_right (says_same (answer_of p) (move_answer (0, (p.1.0, 0)) ∙ sym (move_answer p))
-      (says_mapped {B = both no_place (both bare no_place)} {x = (0, (p.1.0, 0))} bare_statement answer_of move_answer
+      (says_mapped {B = both no_place (both bare_expr no_place)} {x = (0, (p.1.0, 0))} bare_statement answer_of move_answer
       (says_pair (says_word kind.Answer (codes "answer") (record { letter = refl; all = refl; short = omega arith; kind = refl })) (says_pair (says_whole left p.1.0 h.1.0 n le) says_semicolon)))))))))))
 
   pub statement_good : Gives (statement_rule B E F (room_of left)) (StatementGood left)

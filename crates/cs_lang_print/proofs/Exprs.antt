@@ -23,7 +23,7 @@ use Rattle.cs_lang.specs.Rules.{keyword as word_rule, kinds, in_parentheses as p
 use Rattle.cs_lang_print.specs.Words.{word, quoted, each_text, behind_comma, with_commas, operator_text, comparison_text}
 use Rattle.cs_lang_print.specs.Spelling.{Spelled, tightness_of, operand_tightness}
 use Rattle.cs_lang_print.specs.Expressions.{spelled, kind_text, access_text, expr_text}
-use Rattle.cs_lang_print.specs.Places.{bare_text, bare}
+use Rattle.cs_lang_print.specs.Places.{bare_text, bare_expr}
 use Rattle.cs_lang_print.proofs.KindTexts.{kind_int, kind_bool, kind_bytes, kind_list}
 use Rattle.cs_lang_print.proofs.Layers.{tightness_number, tightness_bytes, tightness_truth, tightness_name, tightness_list, tightness_empty, tightness_len, tightness_sha256, tightness_concat, tightness_called, tightness_depint, tightness_not, tightness_negative, tightness_compared, text_number, text_bytes, text_truth, text_name, text_list, text_empty, text_len, text_sha256, text_concat, text_called, text_depint, text_not, text_negative, text_compared, access_field, access_index}
 use Rattle.cs_lang_print.proofs.Says.{Says, both, no_place, unplaced, says_pair, says_mapped, says_left, says_right, says_same, says_text, says_many_none, says_many_more, says_word, says_sign, says_name, says_number, says_bytes}
@@ -104,7 +104,7 @@ says_row {X} B R text (x ∷ xs) some h =
     (says_mapped {B = both B (map (both no_place B))} {x = (x, map (λ (y : X). (0, y)) xs)} (map B) first_and_rest (move_all B) (says_pair h.0 (says_others B R text xs h.1)))
 
 -- the levels of all of them
-pub all_good : (m : ℕ) (xs : List Expr) → Every (Good 0 m) xs → (l : ℕ) × (l ≤ m) × ((n rest : ℕ) → l ≤ n → l ≤ rest → Every (λ (e : Expr). Says bare (at0 n rest) e (expr_text e)) xs)
+pub all_good : (m : ℕ) (xs : List Expr) → Every (Good 0 m) xs → (l : ℕ) × (l ≤ m) × ((n rest : ℕ) → l ≤ n → l ≤ rest → Every (λ (e : Expr). Says bare_expr (at0 n rest) e (expr_text e)) xs)
 all_good m [] h = (0, omega arith, λ n rest a b. tt)
 all_good m (x ∷ xs) h =
     let k = all_good m xs h.1 in
@@ -116,7 +116,7 @@ all_good m (x ∷ xs) h =
 
 -- ---- primary expressions
 
-primary_good : (left : ℕ) (e : Expr) (l : ℕ) (s : List ℕ) → (spelled e).tightness ≡ 8 → (spelled e).text ≡ s → l ≤ left → ((n rest : ℕ) → l ≤ n → l ≤ rest → Says bare (at8 n rest) e s) → ((r : Rank) → is_chain r e ≡ false) → is_path e ≡ false → Good 8 left e
+primary_good : (left : ℕ) (e : Expr) (l : ℕ) (s : List ℕ) → (spelled e).tightness ≡ 8 → (spelled e).text ≡ s → l ≤ left → ((n rest : ℕ) → l ≤ n → l ≤ rest → Says bare_expr (at8 n rest) e s) → ((r : Rank) → is_chain r e ≡ false) → is_path e ≡ false → Good 8 left e
 primary_good left e l s tight text le says no_chain no_path =
     let same : levels_within 8 e l ≡ l = levels_tight 8 e l 8 tight (omega arith) in
     (l, omega arith, known_plain e l (spelt_at e l 8 tight (λ n rest a b. says_text (spelled e).text (sym text) (says n rest a b))) no_chain no_path)
@@ -138,66 +138,66 @@ module _ (left : ℕ) (I : Whose → Rule Expr) (K : Rule ValueKind) (whole : Gi
       let one = room_one left h.0 in
       let le = k.1 in
       primary_good left (listed p) (suc k.0) (word (codes "[") ++ (with_commas expr_text p.1.0 ++ word (codes "]"))) (tightness_list (listed p) p.1.0 refl) (text_list (listed p) p.1.0 refl) (omega arith)
-      (opened (λ n rest. Says bare (at8 n rest) (listed p) (word (codes "[") ++ (with_commas expr_text p.1.0 ++ word (codes "]")))) k.0 (λ n rest a b.
+      (opened (λ n rest. Says bare_expr (at8 n rest) (listed p) (word (codes "[") ++ (with_commas expr_text p.1.0 ++ word (codes "]")))) k.0 (λ n rest a b.
       says_right (says_left (says_same (listed p) (move_listed (0, (p.1.0, 0)) ∙ sym (move_listed p))
-      (says_mapped {B = both no_place (both (map bare) no_place)} {x = (0, (p.1.0, 0))} bare listed move_listed (says_pair says_open_list (says_pair (says_row bare (at0 n rest) expr_text p.1.0 h.1.0.0 (k.2 n rest a b)) says_close_list)))))))
+      (says_mapped {B = both no_place (both (map bare_expr) no_place)} {x = (0, (p.1.0, 0))} bare_expr listed move_listed (says_pair says_open_list (says_pair (says_row bare_expr (at0 n rest) expr_text p.1.0 h.1.0.0 (k.2 n rest a b)) says_close_list)))))))
       (λ r. ap (shape_is_chain r) (out_list p.1.0)) (ap shape_is_path (out_list p.1.0)))
 
   number_good : Gives (mapped number_expr number) (Good 8 left)
   number_good = gives_mapped (Good 8 left) number_expr gives_number (λ n small.
       primary_good left (number_expr n) 0 (word (decimal n.value)) (tightness_number (number_expr n) n.value refl) (text_number (number_expr n) n.value refl) (omega arith)
-      (λ m rest a b. says_right (says_right (says_left (says_mapped {B = unplaced} bare number_expr move_number (says_number n small)))))
+      (λ m rest a b. says_right (says_right (says_left (says_mapped {B = unplaced} bare_expr number_expr move_number (says_number n small)))))
       (λ r. ap (shape_is_chain r) (out_number n.value)) (ap shape_is_path (out_number n.value)))
 
   bytes_good : Gives (mapped bytes_expr bytes) (Good 8 left)
   bytes_good = gives_mapped (Good 8 left) bytes_expr gives_bytes (λ t h.
       primary_good left (bytes_expr t) 0 (quoted t.bytes) (tightness_bytes (bytes_expr t) t.bytes refl) (text_bytes (bytes_expr t) t.bytes refl) (omega arith)
-      (λ m rest a b. says_right (says_right (says_right (says_left (says_mapped {B = bare_text} bare bytes_expr move_bytes (says_bytes t h.0 h.1))))))
+      (λ m rest a b. says_right (says_right (says_right (says_left (says_mapped {B = bare_text} bare_expr bytes_expr move_bytes (says_bytes t h.0 h.1))))))
       (λ r. ap (shape_is_chain r) (out_bytes t.bytes)) (ap shape_is_path (out_bytes t.bytes)))
 
   name_good : Gives (mapped name_expr name) (Good 8 left)
   name_good = gives_mapped (Good 8 left) name_expr gives_name (λ t is.
       primary_good left (name_expr t) 0 (word t.bytes) (tightness_name (name_expr t) t.bytes refl) (text_name (name_expr t) t.bytes refl) (omega arith)
-      (λ m rest a b. says_right (says_right (says_right (says_right (says_left (says_mapped {B = bare_text} bare name_expr move_name (says_name t is)))))))
+      (λ m rest a b. says_right (says_right (says_right (says_right (says_left (says_mapped {B = bare_text} bare_expr name_expr move_name (says_name t is)))))))
       (λ r. ap (shape_is_chain r) (out_name t.bytes)) (ap shape_is_path (out_name t.bytes)))
 
   true_good : Gives (mapped (truth_expr true) (word_rule kind.True)) (Good 8 left)
   true_good = gives_mapped (Good 8 left) (truth_expr true) (gives_sign kind.True true) (λ place h.
       primary_good left (truth_expr true place) 0 (word (codes "true")) (tightness_truth (truth_expr true place) true refl) (text_truth (truth_expr true place) true refl) (omega arith)
       (λ m rest a b. says_right (says_right (says_right (says_right (says_right (says_left (says_same (truth_expr true place) (move_truth true 0 ∙ sym (move_truth true place))
-      (says_mapped {B = no_place} {x = 0} bare (truth_expr true) (move_truth true) (says_word kind.True (codes "true") (record { letter = refl; all = refl; short = omega arith; kind = refl }))))))))))
+      (says_mapped {B = no_place} {x = 0} bare_expr (truth_expr true) (move_truth true) (says_word kind.True (codes "true") (record { letter = refl; all = refl; short = omega arith; kind = refl }))))))))))
       (λ r. ap (shape_is_chain r) (out_truth true)) (ap shape_is_path (out_truth true)))
 
   false_good : Gives (mapped (truth_expr false) (word_rule kind.False)) (Good 8 left)
   false_good = gives_mapped (Good 8 left) (truth_expr false) (gives_sign kind.False true) (λ place h.
       primary_good left (truth_expr false place) 0 (word (codes "false")) (tightness_truth (truth_expr false place) false refl) (text_truth (truth_expr false place) false refl) (omega arith)
       (λ m rest a b. says_right (says_right (says_right (says_right (says_right (says_right (says_left (says_same (truth_expr false place) (move_truth false 0 ∙ sym (move_truth false place))
-      (says_mapped {B = no_place} {x = 0} bare (truth_expr false) (move_truth false) (says_word kind.False (codes "false") (record { letter = refl; all = refl; short = omega arith; kind = refl })))))))))))
+      (says_mapped {B = no_place} {x = 0} bare_expr (truth_expr false) (move_truth false) (says_word kind.False (codes "false") (record { letter = refl; all = refl; short = omega arith; kind = refl })))))))))))
       (λ r. ap (shape_is_chain r) (out_truth false)) (ap shape_is_path (out_truth false)))
 
   empty_good : Gives (mapped empty_expr (pair (word_rule kind.Empty) K)) (Good 8 left)
   empty_good = gives_mapped (Good 8 left) empty_expr (gives_pair (gives_sign kind.Empty true) kinds') (λ p h.
       primary_good left (empty_expr p) h.1.0 (word (codes "empty") ++ kind_text p.1) (tightness_empty (empty_expr p) p.1 refl) (text_empty (empty_expr p) p.1 refl) h.1.1
       (λ m rest a b. says_right (says_right (says_right (says_right (says_right (says_right (says_right (says_left (says_same (empty_expr p) (move_empty (0, p.1) ∙ sym (move_empty p))
-      (says_mapped {B = both no_place same_as} {x = (0, p.1)} bare empty_expr move_empty (says_pair (says_word kind.Empty (codes "empty") (record { letter = refl; all = refl; short = omega arith; kind = refl })) (h.1.2 m rest a b))))))))))))
+      (says_mapped {B = both no_place same_as} {x = (0, p.1)} bare_expr empty_expr move_empty (says_pair (says_word kind.Empty (codes "empty") (record { letter = refl; all = refl; short = omega arith; kind = refl })) (h.1.2 m rest a b))))))))))))
       (λ r. ap (shape_is_chain r) (out_empty p.1)) (ap shape_is_path (out_empty p.1)))
 
   len_good : Gives (mapped len_expr (pair (word_rule kind.Len) (parenthesized (I Whole) (room_of left)))) (Good 8 left)
   len_good = gives_mapped (Good 8 left) len_expr (gives_pair (gives_sign kind.Len true) (gives_pair (gives_sign kind.Open (room_of left)) (gives_pair whole (gives_sign kind.Close true)))) (λ p h.
       let e = p.1.1.0 in
       primary_good left (len_expr p) (suc h.1.1.0.0) (word (codes "len") ++ (word (codes "(") ++ (expr_text p.1.1.0 ++ word (codes ")")))) (tightness_len (len_expr p) p.1.1.0 refl) (text_len (len_expr p) p.1.1.0 refl) (within_one 0 p.1.1.0 h.1.1.0.0 h.1.1.0.1 h.1.0)
-      (opened (λ n rest. Says bare (at8 n rest) (len_expr p) (word (codes "len") ++ (word (codes "(") ++ (expr_text p.1.1.0 ++ word (codes ")"))))) h.1.1.0.0 (λ n rest a b.
+      (opened (λ n rest. Says bare_expr (at8 n rest) (len_expr p) (word (codes "len") ++ (word (codes "(") ++ (expr_text p.1.1.0 ++ word (codes ")"))))) h.1.1.0.0 (λ n rest a b.
       says_right (says_right (says_right (says_right (says_right (says_right (says_right (says_right (says_left (says_same (len_expr p) (move_len (0, (0, (p.1.1.0, 0))) ∙ sym (move_len p))
-      (says_mapped {B = both no_place (both no_place (both bare no_place))} {x = (0, (0, (p.1.1.0, 0)))} bare len_expr move_len
+      (says_mapped {B = both no_place (both no_place (both bare_expr no_place))} {x = (0, (0, (p.1.1.0, 0)))} bare_expr len_expr move_len
       (says_pair (says_word kind.Len (codes "len") (record { letter = refl; all = refl; short = omega arith; kind = refl })) (says_pair says_open (says_pair (h.1.1.0.2.spelt.says 0 n rest (omega arith) a b) says_close)))))))))))))))
       (λ r. ap (shape_is_chain r) (out_len p.1.1.0)) (ap shape_is_path (out_len p.1.1.0)))
 
   sha256_good : Gives (mapped sha256_expr (pair (word_rule kind.Sha256) (parenthesized (I Whole) (room_of left)))) (Good 8 left)
   sha256_good = gives_mapped (Good 8 left) sha256_expr (gives_pair (gives_sign kind.Sha256 true) (gives_pair (gives_sign kind.Open (room_of left)) (gives_pair whole (gives_sign kind.Close true)))) (λ p h.
       primary_good left (sha256_expr p) (suc h.1.1.0.0) (word (codes "sha256") ++ (word (codes "(") ++ (expr_text p.1.1.0 ++ word (codes ")")))) (tightness_sha256 (sha256_expr p) p.1.1.0 refl) (text_sha256 (sha256_expr p) p.1.1.0 refl) (within_one 0 p.1.1.0 h.1.1.0.0 h.1.1.0.1 h.1.0)
-      (opened (λ n rest. Says bare (at8 n rest) (sha256_expr p) (word (codes "sha256") ++ (word (codes "(") ++ (expr_text p.1.1.0 ++ word (codes ")"))))) h.1.1.0.0 (λ n rest a b.
+      (opened (λ n rest. Says bare_expr (at8 n rest) (sha256_expr p) (word (codes "sha256") ++ (word (codes "(") ++ (expr_text p.1.1.0 ++ word (codes ")"))))) h.1.1.0.0 (λ n rest a b.
       says_right (says_right (says_right (says_right (says_right (says_right (says_right (says_right (says_right (says_left (says_same (sha256_expr p) (move_sha256 (0, (0, (p.1.1.0, 0))) ∙ sym (move_sha256 p))
-      (says_mapped {B = both no_place (both no_place (both bare no_place))} {x = (0, (0, (p.1.1.0, 0)))} bare sha256_expr move_sha256
+      (says_mapped {B = both no_place (both no_place (both bare_expr no_place))} {x = (0, (0, (p.1.1.0, 0)))} bare_expr sha256_expr move_sha256
       (says_pair (says_word kind.Sha256 (codes "sha256") (record { letter = refl; all = refl; short = omega arith; kind = refl })) (says_pair says_open (says_pair (h.1.1.0.2.spelt.says 0 n rest (omega arith) a b) says_close))))))))))))))))
       (λ r. ap (shape_is_chain r) (out_sha256 p.1.1.0)) (ap shape_is_path (out_sha256 p.1.1.0)))
 
@@ -211,9 +211,9 @@ module _ (left : ℕ) (I : Whose → Rule Expr) (K : Rule ValueKind) (whole : Gi
       let lb = within_one 0 p.1.1.0.1.1 h.1.1.0.1.1.0 h.1.1.0.1.1.1 h.1.0 in
       let l = max h.1.1.0.0.0 h.1.1.0.1.1.0 in
       primary_good left (concat_expr p) (suc (max h.1.1.0.0.0 h.1.1.0.1.1.0)) (word (codes "concat") ++ (word (codes "(") ++ ((expr_text p.1.1.0.0 ++ (word (codes ",") ++ expr_text p.1.1.0.1.1)) ++ word (codes ")")))) (tightness_concat (concat_expr p) p.1.1.0.0 p.1.1.0.1.1 refl) (text_concat (concat_expr p) p.1.1.0.0 p.1.1.0.1.1 refl) (omega arith)
-      (opened (λ n rest. Says bare (at8 n rest) (concat_expr p) (word (codes "concat") ++ (word (codes "(") ++ ((expr_text p.1.1.0.0 ++ (word (codes ",") ++ expr_text p.1.1.0.1.1)) ++ word (codes ")"))))) (max h.1.1.0.0.0 h.1.1.0.1.1.0) (λ n rest q r.
+      (opened (λ n rest. Says bare_expr (at8 n rest) (concat_expr p) (word (codes "concat") ++ (word (codes "(") ++ ((expr_text p.1.1.0.0 ++ (word (codes ",") ++ expr_text p.1.1.0.1.1)) ++ word (codes ")"))))) (max h.1.1.0.0.0 h.1.1.0.1.1.0) (λ n rest q r.
       says_right (says_right (says_right (says_right (says_right (says_right (says_right (says_right (says_right (says_right (says_left (says_same (concat_expr p) (move_concat (0, (0, ((p.1.1.0.0, (0, p.1.1.0.1.1)), 0))) ∙ sym (move_concat p))
-      (says_mapped {B = both no_place (both no_place (both (both bare (both no_place bare)) no_place))} {x = (0, (0, ((p.1.1.0.0, (0, p.1.1.0.1.1)), 0)))} bare concat_expr move_concat
+      (says_mapped {B = both no_place (both no_place (both (both bare_expr (both no_place bare_expr)) no_place))} {x = (0, (0, ((p.1.1.0.0, (0, p.1.1.0.1.1)), 0)))} bare_expr concat_expr move_concat
       (says_pair (says_word kind.Concat (codes "concat") (record { letter = refl; all = refl; short = omega arith; kind = refl })) (says_pair says_open (says_pair
       (says_pair (h.1.1.0.0.2.spelt.says 0 n rest (omega arith) (omega (arith, q)) (omega (arith, r))) (says_pair says_comma (h.1.1.0.1.1.2.spelt.says 0 n rest (omega arith) (omega (arith, q)) (omega (arith, r))))) says_close)))))))))))))))))
       (λ r. ap (shape_is_chain r) (out_concat p.1.1.0.0 p.1.1.0.1.1)) (ap shape_is_path (out_concat p.1.1.0.0 p.1.1.0.1.1)))
@@ -224,9 +224,9 @@ module _ (left : ℕ) (I : Whose → Rule Expr) (K : Rule ValueKind) (whole : Gi
       let dep = p.1.1.0.0 in
       let method = p.1.1.0.1.1 in
       primary_good left (called_expr p) 1 (word (codes "called") ++ (word (codes "(") ++ ((word (decimal p.1.1.0.0.value) ++ (word (codes ",") ++ word p.1.1.0.1.1.bytes)) ++ word (codes ")")))) (tightness_called (called_expr p) p.1.1.0.0.value p.1.1.0.1.1 refl) (text_called (called_expr p) p.1.1.0.0.value p.1.1.0.1.1 refl) (omega arith)
-      (opened (λ n rest. Says bare (at8 n rest) (called_expr p) (word (codes "called") ++ (word (codes "(") ++ ((word (decimal p.1.1.0.0.value) ++ (word (codes ",") ++ word p.1.1.0.1.1.bytes)) ++ word (codes ")"))))) 0 (λ n rest q r.
+      (opened (λ n rest. Says bare_expr (at8 n rest) (called_expr p) (word (codes "called") ++ (word (codes "(") ++ ((word (decimal p.1.1.0.0.value) ++ (word (codes ",") ++ word p.1.1.0.1.1.bytes)) ++ word (codes ")"))))) 0 (λ n rest q r.
       says_right (says_right (says_right (says_right (says_right (says_right (says_right (says_right (says_right (says_right (says_right (says_left (says_same (called_expr p) (move_called (0, (0, ((p.1.1.0.0, (0, p.1.1.0.1.1)), 0))) ∙ sym (move_called p))
-      (says_mapped {B = both no_place (both no_place (both (both unplaced (both no_place bare_text)) no_place))} {x = (0, (0, ((p.1.1.0.0, (0, p.1.1.0.1.1)), 0)))} bare called_expr move_called
+      (says_mapped {B = both no_place (both no_place (both (both unplaced (both no_place bare_text)) no_place))} {x = (0, (0, ((p.1.1.0.0, (0, p.1.1.0.1.1)), 0)))} bare_expr called_expr move_called
       (says_pair (says_word kind.Called (codes "called") (record { letter = refl; all = refl; short = omega arith; kind = refl })) (says_pair says_open (says_pair
       (says_pair (says_number p.1.1.0.0 h.1.1.0.0) (says_pair says_comma (says_name p.1.1.0.1.1 h.1.1.0.1.1))) says_close))))))))))))))))))
       (λ r. ap (shape_is_chain r) (out_called p.1.1.0.0.value p.1.1.0.1.1)) (ap shape_is_path (out_called p.1.1.0.0.value p.1.1.0.1.1)))
@@ -235,9 +235,9 @@ module _ (left : ℕ) (I : Whose → Rule Expr) (K : Rule ValueKind) (whole : Gi
   depint_good = gives_mapped (Good 8 left) depint_expr (gives_pair (gives_sign kind.DepInt true) (gives_pair (gives_sign kind.Open (room_of left)) (gives_pair (gives_pair gives_number (gives_pair (gives_sign kind.Comma true) gives_number)) (gives_sign kind.Close true)))) (λ p h.
       let one = room_one left h.1.0 in
       primary_good left (depint_expr p) 1 (word (codes "depint") ++ (word (codes "(") ++ ((word (decimal p.1.1.0.0.value) ++ (word (codes ",") ++ word (decimal p.1.1.0.1.1.value))) ++ word (codes ")")))) (tightness_depint (depint_expr p) p.1.1.0.0.value p.1.1.0.1.1.value refl) (text_depint (depint_expr p) p.1.1.0.0.value p.1.1.0.1.1.value refl) (omega arith)
-      (opened (λ n rest. Says bare (at8 n rest) (depint_expr p) (word (codes "depint") ++ (word (codes "(") ++ ((word (decimal p.1.1.0.0.value) ++ (word (codes ",") ++ word (decimal p.1.1.0.1.1.value))) ++ word (codes ")"))))) 0 (λ n rest q r.
+      (opened (λ n rest. Says bare_expr (at8 n rest) (depint_expr p) (word (codes "depint") ++ (word (codes "(") ++ ((word (decimal p.1.1.0.0.value) ++ (word (codes ",") ++ word (decimal p.1.1.0.1.1.value))) ++ word (codes ")"))))) 0 (λ n rest q r.
       says_right (says_right (says_right (says_right (says_right (says_right (says_right (says_right (says_right (says_right (says_right (says_right (says_same (depint_expr p) (move_depint (0, (0, ((p.1.1.0.0, (0, p.1.1.0.1.1)), 0))) ∙ sym (move_depint p))
-      (says_mapped {B = both no_place (both no_place (both (both unplaced (both no_place unplaced)) no_place))} {x = (0, (0, ((p.1.1.0.0, (0, p.1.1.0.1.1)), 0)))} bare depint_expr move_depint
+      (says_mapped {B = both no_place (both no_place (both (both unplaced (both no_place unplaced)) no_place))} {x = (0, (0, ((p.1.1.0.0, (0, p.1.1.0.1.1)), 0)))} bare_expr depint_expr move_depint
       (says_pair (says_word kind.DepInt (codes "depint") (record { letter = refl; all = refl; short = omega arith; kind = refl })) (says_pair says_open (says_pair
       (says_pair (says_number p.1.1.0.0 h.1.1.0.0) (says_pair says_comma (says_number p.1.1.0.1.1 h.1.1.0.1.1))) says_close))))))))))))))))))
       (λ r. ap (shape_is_chain r) (out_depint p.1.1.0.0.value p.1.1.0.1.1.value)) (ap shape_is_path (out_depint p.1.1.0.0.value p.1.1.0.1.1.value)))
@@ -262,7 +262,7 @@ module _ (left : ℕ) (I : Whose → Rule Expr) (K : Rule ValueKind) (whole : Gi
     within_one 0 p.1.0 h.1.0.0 h.1.0.1 h.0,
     opened (λ n rest. Says bare_way (path_link n rest true) (index_step p) (path_text (index_step p))) h.1.0.0 (λ n rest a b.
         says_text (access_text (access.Index p.1.0)) (sym (access_index p.1.0)) (says_right (says_same (index_step p) (move_index (0, (p.1.0, 0)) ∙ sym (move_index p))
-        (says_mapped {B = both no_place (both bare no_place)} {x = (0, (p.1.0, 0))} bare_way index_step move_index (says_pair says_open_list (says_pair (h.1.0.2.spelt.says 0 n rest (omega arith) a b) says_close_list)))))),
+        (says_mapped {B = both no_place (both bare_expr no_place)} {x = (0, (p.1.0, 0))} bare_way index_step move_index (says_pair says_open_list (says_pair (h.1.0.2.spelt.says 0 n rest (omega arith) a b) says_close_list)))))),
   ))
 
   no_access : Gives (access_rule (I Whole) (room_of left) false) (λ x. ⊥)
@@ -296,9 +296,9 @@ module _ (left : ℕ) (I : Whose → Rule Expr) (K : Rule ValueKind) (whole : Gi
         omega arith,
         known_plain (negative_expr p) (suc (levels_within 6 p.1 h.1.0))
             (spelt_at (negative_expr p) (suc (levels_within 6 p.1 h.1.0)) 6 tight
-            (opened (λ n rest. Says bare (at6 n rest) (negative_expr p) (spelled (negative_expr p)).text) (levels_within 6 p.1 h.1.0) (λ n rest a b.
+            (opened (λ n rest. Says bare_expr (at6 n rest) (negative_expr p) (spelled (negative_expr p)).text) (levels_within 6 p.1 h.1.0) (λ n rest a b.
             says_text (spelled (negative_expr p)).text (sym (text_negative (negative_expr p) p.1 refl)) (says_left (says_same (negative_expr p) (move_negative (0, p.1) ∙ sym (move_negative p))
-            (says_mapped {B = both no_place bare} {x = (0, p.1)} bare negative_expr move_negative (says_pair (says_sign kind.Minus (codes "-") (omega arith) (λ place rest. refl)) (says_within p.1 h.1.0 h.1.2.spelt 6 n rest (omega arith) a b))))))))
+            (says_mapped {B = both no_place bare_expr} {x = (0, p.1)} bare_expr negative_expr move_negative (says_pair (says_sign kind.Minus (codes "-") (omega arith) (λ place rest. refl)) (says_within p.1 h.1.0 h.1.2.spelt 6 n rest (omega arith) a b))))))))
             (λ r. ap (shape_is_chain r) (out_negative p.1)) (ap shape_is_path (out_negative p.1)),
       ))
 
@@ -353,7 +353,7 @@ module _ (left : ℕ) (I : Whose → Rule Expr) (K : Rule ValueKind) (whole : Gi
   operand_more rank.Sum = omega arith
   operand_more rank.Product = omega arith
 
-  chain_folds : (r : Rank) (e : Expr) (s : List ℕ) (n rest : ℕ) → Says bare (mapped (joined_pair (with_link r)) (pair (rule_at (operand_tightness r) n rest) (links (chain_link r n rest) 64))) e s → Says bare (rule_at (tightness_of r) n rest) e s
+  chain_folds : (r : Rank) (e : Expr) (s : List ℕ) (n rest : ℕ) → Says bare_expr (mapped (joined_pair (with_link r)) (pair (rule_at (operand_tightness r) n rest) (links (chain_link r n rest) 64))) e s → Says bare_expr (rule_at (tightness_of r) n rest) e s
   chain_folds rank.Or e s n rest a = a
   chain_folds rank.And e s n rest a = a
   chain_folds rank.Sum e s n rest a = a
@@ -409,7 +409,7 @@ module _ (left : ℕ) (I : Whose → Rule Expr) (K : Rule ValueKind) (whole : Gi
         known_plain (compared_expr (x, Some q)) (max (levels_within 4 x g.0) (levels_within 4 q.1 h.1.0))
             (spelt_at (compared_expr (x, Some q)) (max (levels_within 4 x g.0) (levels_within 4 q.1 h.1.0)) 3 tight (λ n rest a b.
             says_text (spelled (compared_expr (x, Some q))).text (sym (text_compared (compared_expr (x, Some q)) q.0.0 x q.1 refl))
-            (says_mapped {B = both bare (if_some bare_side)} {x = (x, Some q)} bare compared_expr move_compared
+            (says_mapped {B = both bare_expr (if_some bare_side)} {x = (x, Some q)} bare_expr compared_expr move_compared
             (says_pair (says_within x g.0 g.2.spelt 4 n rest (omega arith) (omega (arith, a)) (omega (arith, b)))
             (says_left (says_mapped {B = bare_side} {x = q} (if_some bare_side) Some (λ z. refl) (says_pair h.0 (says_within q.1 h.1.0 h.1.2.spelt 4 n rest (omega arith) (omega (arith, a)) (omega (arith, b))))))))))
             (λ r. ap (shape_is_chain r) (out_compared q.0.0 x q.1)) (ap shape_is_path (out_compared q.0.0 x q.1)),
@@ -428,9 +428,9 @@ module _ (left : ℕ) (I : Whose → Rule Expr) (K : Rule ValueKind) (whole : Gi
         omega arith,
         known_plain (not_expr p) (suc (levels_within 2 p.1 h.1.0))
             (spelt_at (not_expr p) (suc (levels_within 2 p.1 h.1.0)) 2 tight
-            (opened (λ n rest. Says bare (at2 n rest) (not_expr p) (spelled (not_expr p)).text) (levels_within 2 p.1 h.1.0) (λ n rest a b.
+            (opened (λ n rest. Says bare_expr (at2 n rest) (not_expr p) (spelled (not_expr p)).text) (levels_within 2 p.1 h.1.0) (λ n rest a b.
             says_text (spelled (not_expr p)).text (sym (text_not (not_expr p) p.1 refl)) (says_left (says_same (not_expr p) (move_not (0, p.1) ∙ sym (move_not p))
-            (says_mapped {B = both no_place bare} {x = (0, p.1)} bare not_expr move_not (says_pair (says_word kind.Not (codes "not") (record { letter = refl; all = refl; short = omega arith; kind = refl })) (says_within p.1 h.1.0 h.1.2.spelt 2 n rest (omega arith) a b))))))))
+            (says_mapped {B = both no_place bare_expr} {x = (0, p.1)} bare_expr not_expr move_not (says_pair (says_word kind.Not (codes "not") (record { letter = refl; all = refl; short = omega arith; kind = refl })) (says_within p.1 h.1.0 h.1.2.spelt 2 n rest (omega arith) a b))))))))
             (λ r. ap (shape_is_chain r) (out_not p.1)) (ap shape_is_path (out_not p.1)),
       ))
 

@@ -8,7 +8,7 @@ use Rattle.cs_lang_token.specs.Rules.{joined_left, joined_pair}
 use Rattle.cs_lang.specs.declared.tree.Expr.{Expr}
 use Rattle.cs_lang_print.specs.Spelling.{Spelled, parenthesized, held_together, run_text}
 use Rattle.cs_lang_print.specs.Expressions.{spelled}
-use Rattle.cs_lang_print.specs.Places.{bare}
+use Rattle.cs_lang_print.specs.Places.{bare_expr}
 use Rattle.cs_lang_print.proofs.Says.{Says, says_same, says_text}
 use Rattle.cs_lang_print.proofs.Rungs.{at8, rule_at, lift, says_around}
 use Rattle.cs_lang_print.proofs.Runs.{Part, Low, item_of, part_text, deep, below_deep, deep_more, deep_few, run_says}
@@ -20,9 +20,9 @@ levels_within t e l = if nat_lt (spelled e).tightness t then suc l else l
 
 -- Its text spells it by each rule that asks no more of it than it holds, where so many levels are left.
 pub record Spelt (e : Expr) (l : ℕ) : Type 0 where
-  pub says : (t n left : ℕ) → t ≤ (spelled e).tightness → l ≤ n → l ≤ left → Says bare (rule_at t n left) e (spelled e).text
+  pub says : (t n left : ℕ) → t ≤ (spelled e).tightness → l ≤ n → l ≤ left → Says bare_expr (rule_at t n left) e (spelled e).text
 
-pub spelt_at : (e : Expr) (l t : ℕ) → (spelled e).tightness ≡ t → ((n left : ℕ) → l ≤ n → l ≤ left → Says bare (rule_at t n left) e (spelled e).text) → Spelt e l
+pub spelt_at : (e : Expr) (l t : ℕ) → (spelled e).tightness ≡ t → ((n left : ℕ) → l ≤ n → l ≤ left → Says bare_expr (rule_at t n left) e (spelled e).text) → Spelt e l
 spelt_at e l t is says = record { says = λ k n left le a b. lift t k n left (omega (arith, is, le)) (says n left a b) }
 
 pub opened : (P : ℕ → ℕ → Type 0) (l : ℕ) → ((n left : ℕ) → l ≤ n → l ≤ left → P (suc n) (suc left)) → (n left : ℕ) → suc l ≤ n → suc l ≤ left → P n left
@@ -30,16 +30,16 @@ opened P l f zero left a b = absurd (omega (arith, a))
 opened P l f (suc n) zero a b = absurd (omega (arith, b))
 opened P l f (suc n) (suc left) a b = f n left (omega (arith, a)) (omega (arith, b))
 
-around : (e : Expr) (l : ℕ) → Spelt e l → (n left : ℕ) → suc l ≤ n → suc l ≤ left → Says bare (at8 n left) e (parenthesized (spelled e).text)
-around e l s = opened (λ n left. Says bare (at8 n left) e (parenthesized (spelled e).text)) l (λ n left a b. says_around n left (s.says 0 n left (omega arith) a b))
+around : (e : Expr) (l : ℕ) → Spelt e l → (n left : ℕ) → suc l ≤ n → suc l ≤ left → Says bare_expr (at8 n left) e (parenthesized (spelled e).text)
+around e l s = opened (λ n left. Says bare_expr (at8 n left) e (parenthesized (spelled e).text)) l (λ n left a b. says_around n left (s.says 0 n left (omega arith) a b))
 
 not_less : (a t : ℕ) → nat_lt a t ≡ false → t ≤ a
 not_less a t e = grind (arith, nat_tests)
 
-pub says_within : (e : Expr) (l : ℕ) → Spelt e l → (t n left : ℕ) → t ≤ 8 → levels_within t e l ≤ n → levels_within t e l ≤ left → Says bare (rule_at t n left) e (held_together t (spelled e))
+pub says_within : (e : Expr) (l : ℕ) → Spelt e l → (t n left : ℕ) → t ≤ 8 → levels_within t e l ≤ n → levels_within t e l ≤ left → Says bare_expr (rule_at t n left) e (held_together t (spelled e))
 says_within e l s t n left tight a b = go (nat_lt (spelled e).tightness t) refl a b
   where
-    go : (c : Bool) → nat_lt (spelled e).tightness t ≡ c → (if c then suc l else l) ≤ n → (if c then suc l else l) ≤ left → Says bare (rule_at t n left) e (if c then parenthesized (spelled e).text else (spelled e).text)
+    go : (c : Bool) → nat_lt (spelled e).tightness t ≡ c → (if c then suc l else l) ≤ n → (if c then suc l else l) ≤ left → Says bare_expr (rule_at t n left) e (if c then parenthesized (spelled e).text else (spelled e).text)
     go true is p q = lift 8 t n left tight (around e l s n left p q)
     go false is p q = s.says t n left (not_less (spelled e).tightness t is) p q
 
@@ -91,12 +91,12 @@ joined_last f [] e x = refl
 joined_last f (y ∷ xs) e x = joined_last f xs (f e y) x
 
 -- a chain or a path: what it begins with, and its parts
-pub record RunAt {X : Type 0} (f : Expr → X → Expr) (B : X → X) (moves : (e : Expr) (x : X) → bare (f e x) ≡ f (bare e) (B x)) (link : ℕ → ℕ → Bool → Rule X) (text : X → List ℕ) (w : ℕ) (Built : Expr → Expr → List (List ℕ) → Type 0) (e start : Expr) (v : ℕ) (first : Part B link text) (others : List (Part B link text)) : Type 0 where
-  pub says : (n left : ℕ) → v ≤ n → v ≤ left → Says bare (rule_at w n left) start (held_together w (spelled start))
+pub record RunAt {X : Type 0} (f : Expr → X → Expr) (B : X → X) (moves : (e : Expr) (x : X) → bare_expr (f e x) ≡ f (bare_expr e) (B x)) (link : ℕ → ℕ → Bool → Rule X) (text : X → List ℕ) (w : ℕ) (Built : Expr → Expr → List (List ℕ) → Type 0) (e start : Expr) (v : ℕ) (first : Part B link text) (others : List (Part B link text)) : Type 0 where
+  pub says : (n left : ℕ) → v ≤ n → v ≤ left → Says bare_expr (rule_at w n left) start (held_together w (spelled start))
   pub built : Built e start (map (part_text f B moves link text) (first ∷ others))
-  pub same : bare e ≡ bare (joined_left f start (map (item_of f B moves link text) (first ∷ others)))
+  pub same : bare_expr e ≡ bare_expr (joined_left f start (map (item_of f B moves link text) (first ∷ others)))
 
-pub record Run {X : Type 0} (f : Expr → X → Expr) (B : X → X) (moves : (e : Expr) (x : X) → bare (f e x) ≡ f (bare e) (B x)) (link : ℕ → ℕ → Bool → Rule X) (text : X → List ℕ) (w : ℕ) (Built : Expr → Expr → List (List ℕ) → Type 0) (e : Expr) (l : ℕ) : Type 0 where
+pub record Run {X : Type 0} (f : Expr → X → Expr) (B : X → X) (moves : (e : Expr) (x : X) → bare_expr (f e x) ≡ f (bare_expr e) (B x)) (link : ℕ → ℕ → Bool → Rule X) (text : X → List ℕ) (w : ℕ) (Built : Expr → Expr → List (List ℕ) → Type 0) (e : Expr) (l : ℕ) : Type 0 where
   pub start : Expr
   pub v : ℕ
   pub first : Part B link text
@@ -108,8 +108,8 @@ pub record Run {X : Type 0} (f : Expr → X → Expr) (B : X → X) (moves : (e 
 abbrev pub IsItem : {X : Type 0} → (X → X) → (ℕ → ℕ → Bool → Rule X) → (X → List ℕ) → ℕ → X → Type 0
 IsItem B link text left x = (k : ℕ) × (k ≤ left) × ((n rest : ℕ) → k ≤ n → k ≤ rest → Says B (link n rest true) x (text x))
 
-module _ {X : Type 0} (f : Expr → X → Expr) (B : X → X) (moves : (e : Expr) (x : X) → bare (f e x) ≡ f (bare e) (B x)) (link : ℕ → ℕ → Bool → Rule X) (text : X → List ℕ)
-    (u w : ℕ) (tight : w ≤ 8) (under : u < w) (folds : (e : Expr) (s : List ℕ) (n left : ℕ) → Says bare (mapped (joined_pair f) (pair (rule_at w n left) (links (link n left) 64))) e s → Says bare (rule_at u n left) e s)
+module _ {X : Type 0} (f : Expr → X → Expr) (B : X → X) (moves : (e : Expr) (x : X) → bare_expr (f e x) ≡ f (bare_expr e) (B x)) (link : ℕ → ℕ → Bool → Rule X) (text : X → List ℕ)
+    (u w : ℕ) (tight : w ≤ 8) (under : u < w) (folds : (e : Expr) (s : List ℕ) (n left : ℕ) → Says bare_expr (mapped (joined_pair f) (pair (rule_at w n left) (links (link n left) 64))) e s → Says bare_expr (rule_at u n left) e s)
     (Built : Expr → Expr → List (List ℕ) → Type 0)
     (built_add : (e s : Expr) (ts : List (List ℕ)) (x : X) → Built e s ts → Built (f e x) s (ts ++ text x ∷ []))
     (built_is : (e s : Expr) (ts : List (List ℕ)) → Built e s ts → spelled e ≡ record { tightness = u; text = run_text (held_together w (spelled s)) ts }) where
@@ -126,8 +126,8 @@ module _ {X : Type 0} (f : Expr → X → Expr) (B : X → X) (moves : (e : Expr
   run_add e start v first others h p = record {
     says = h.says;
     built = subst (λ (ts : List (List ℕ)). Built (f e p.item) start ts) (sym (map_append (part_text f B moves link text) (first ∷ others) (p ∷ []))) (built_add e start (texts (first ∷ others)) p.item h.built);
-    same = moves e p.item ∙ ap (λ (x : Expr). f x (B p.item)) h.same ∙ sym (moves (joined_left f start (items (first ∷ others))) p.item) ∙ ap bare (sym (joined_last f (items (first ∷ others)) start p.item))
-        ∙ ap (λ (l : List X). bare (joined_left f start l)) (sym (map_append (item_of f B moves link text) (first ∷ others) (p ∷ [])));
+    same = moves e p.item ∙ ap (λ (x : Expr). f x (B p.item)) h.same ∙ sym (moves (joined_left f start (items (first ∷ others))) p.item) ∙ ap bare_expr (sym (joined_last f (items (first ∷ others)) start p.item))
+        ∙ ap (λ (l : List X). bare_expr (joined_left f start l)) (sym (map_append (item_of f B moves link text) (first ∷ others) (p ∷ [])));
   }
 
   run_add_all : (qs : List (Part B link text)) (e start : Expr) (v : ℕ) (first : Part B link text) (others : List (Part B link text)) → At e start v first others → At (joined_left f e (items qs)) start v first (others ++ qs)

@@ -9,10 +9,11 @@ use Rattle.std.proofs.lemmas.Bool.{eqb-true}
 use Rattle.std.proofs.lemmas.Bool.Decides.{nat_tests}
 use Rattle.std.proofs.lemmas.Str.Parse.{IsNumeralModel, numerals_by_fold}
 use Rattle.std.proofs.lemmas.Fmt.{digits_decimal, digits_value-decimal, decimal_digit, decimal_nonempty, first_decimal}
+use Rattle.cs_base.specs.Characters.{is_digit}
 use Rattle.cs_lang_token.specs.declared.kind.Kind.{Kind}
 use Rattle.cs_lang_token.specs.declared.kind.Kind.TheVariants as kind
 use Rattle.cs_lang_token.specs.declared.lexeme.Lexeme.{Lexeme}
-use Rattle.cs_lang_token.specs.Tokens.{is_blank, is_digit, is_letter, is_name_character, is_hex, run_length, kind_of_word, name_lexeme, number_from, number_lexeme, hex_value, hex_bytes, is_first, starts, quoted_at, byte_text_at, lexeme_at, sign_at, blank_length}
+use Rattle.cs_lang_token.specs.Tokens.{is_blank, is_letter, is_name_character, is_hex, run_length, kind_of_word, name_lexeme, number_from, number_lexeme, hex_value, hex_bytes, is_first, starts, quoted_at, byte_text_at, lexeme_at, sign_at, blank_length}
 use Rattle.cs_lang_token.proofs.Spans.{and_first, and_second, and_false, all_pass, run_is, IsWord, AllBytes}
 use Rattle.cs_base.specs.Options.{or_else}
 use Rattle.cs_lang_print.specs.Words.{hex_digit, hex_text}

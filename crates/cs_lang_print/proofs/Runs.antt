@@ -8,7 +8,7 @@ use Rattle.cs_lang_token.specs.Rules.{joined_left, joined_pair}
 use Rattle.cs_lang.specs.declared.tree.Expr.{Expr}
 use Rattle.cs_lang_print.specs.Words.{each_text}
 use Rattle.cs_lang_print.specs.Spelling.{parenthesized, held, run_on, run_text}
-use Rattle.cs_lang_print.specs.Places.{bare}
+use Rattle.cs_lang_print.specs.Places.{bare_expr}
 use Rattle.cs_lang_print.proofs.Says.{Says, both, says_pair, says_mapped, says_same, says_text, says_links_none, says_links_more}
 use Rattle.cs_lang_print.proofs.Moves.{move_joined}
 use Rattle.cs_lang_print.proofs.Rungs.{rule_at, lift, says_around}
@@ -42,7 +42,7 @@ each_last : {X : Type 0} (text : X → List ℕ) (xs : List X) (x : X) → each_
 each_last text [] x = append-nil (text x)
 each_last text (y ∷ xs) x = ap (λ t. text y ++ t) (each_last text xs x) ∙ sym (append_assoc (text y) (each_text text xs) (text x))
 
-module _ {X : Type 0} (f : Expr → X → Expr) (B : X → X) (moves : (e : Expr) (x : X) → bare (f e x) ≡ f (bare e) (B x)) (link : ℕ → ℕ → Bool → Rule X) (text : X → List ℕ) where
+module _ {X : Type 0} (f : Expr → X → Expr) (B : X → X) (moves : (e : Expr) (x : X) → bare_expr (f e x) ≡ f (bare_expr e) (B x)) (link : ℕ → ℕ → Bool → Rule X) (text : X → List ℕ) where
   -- each level is at most this
   abbrev pub Low : ℕ → List (Part B link text) → Type 0
   Low n [] = Unit {0}
@@ -101,27 +101,27 @@ module _ {X : Type 0} (f : Expr → X → Expr) (B : X → X) (moves : (e : Expr
   says_parts (suc k) n left (p ∷ ps) low high few = says_links_more (link n left) (p.says n left low.0 high.0) (says_parts k n left ps low.1 high.1 (omega (arith, few)))
 
 -- a chain that has room for as many more operators as stand before the next parenthesis
-pub record Half {X : Type 0} (f : Expr → X → Expr) (B : X → X) (moves : (e : Expr) (x : X) → bare (f e x) ≡ f (bare e) (B x)) (link : ℕ → ℕ → Bool → Rule X) (text : X → List ℕ) (w : ℕ) (before : List ℕ) (whole : Expr) (n left more : ℕ) : Type 0 where
+pub record Half {X : Type 0} (f : Expr → X → Expr) (B : X → X) (moves : (e : Expr) (x : X) → bare_expr (f e x) ≡ f (bare_expr e) (B x)) (link : ℕ → ℕ → Bool → Rule X) (text : X → List ℕ) (w : ℕ) (before : List ℕ) (whole : Expr) (n left more : ℕ) : Type 0 where
   pub start : Expr
   pub begins : List ℕ
-  pub says : Says bare (rule_at w n left) start begins
+  pub says : Says bare_expr (rule_at w n left) start begins
   pub parts : List (Part B link text)
   pub low : Low f B moves link text n parts
   pub high : Low f B moves link text left parts
-  pub same : bare whole ≡ bare (joined_left f start (map (item_of f B moves link text) parts))
+  pub same : bare_expr whole ≡ bare_expr (joined_left f start (map (item_of f B moves link text) parts))
   pub written : before ≡ begins ++ each_text (part_text f B moves link text) parts
   pub room : length parts + more % 64 ≤ 64
 
-module _ {X : Type 0} (f : Expr → X → Expr) (B : X → X) (moves : (e : Expr) (x : X) → bare (f e x) ≡ f (bare e) (B x)) (link : ℕ → ℕ → Bool → Rule X) (text : X → List ℕ)
-    (u w : ℕ) (tight : w ≤ 8) (folds : (e : Expr) (s : List ℕ) (n left : ℕ) → Says bare (mapped (joined_pair f) (pair (rule_at w n left) (links (link n left) 64))) e s → Says bare (rule_at u n left) e s) where
+module _ {X : Type 0} (f : Expr → X → Expr) (B : X → X) (moves : (e : Expr) (x : X) → bare_expr (f e x) ≡ f (bare_expr e) (B x)) (link : ℕ → ℕ → Bool → Rule X) (text : X → List ℕ)
+    (u w : ℕ) (tight : w ≤ 8) (folds : (e : Expr) (s : List ℕ) (n left : ℕ) → Says bare_expr (mapped (joined_pair f) (pair (rule_at w n left) (links (link n left) 64))) e s → Says bare_expr (rule_at u n left) e s) where
   abbrev Halved : List ℕ → Expr → ℕ → ℕ → ℕ → Type 0
   Halved = Half f B moves link text w
 
-  half_says : (before : List ℕ) (whole : Expr) (n left more : ℕ) → Halved before whole n left more → Says bare (rule_at u n left) whole before
+  half_says : (before : List ℕ) (whole : Expr) (n left more : ℕ) → Halved before whole n left more → Says bare_expr (rule_at u n left) whole before
   half_says before whole n left more h =
       let few : length h.parts ≤ 64 = (let r = h.room in omega arith) in
       folds whole before n left (says_same whole (sym h.same) (says_text before (sym h.written)
-      (says_mapped {B = both bare (map B)} bare (joined_pair f) (λ z. move_joined f B moves z.1 z.0)
+      (says_mapped {B = both bare_expr (map B)} bare_expr (joined_pair f) (λ z. move_joined f B moves z.1 z.0)
       (says_pair h.says (says_parts f B moves link text 64 n left h.parts h.low h.high few)))))
 
   half_add : (before : List ℕ) (whole : Expr) (n left had more : ℕ) (h : Halved before whole n left had) → length h.parts + (1 + more % 64) ≤ 64 → (p : Part B link text) → p.level ≤ n → p.level ≤ left → Halved (before ++ text p.item) (f whole p.item) n left more
@@ -135,8 +135,8 @@ module _ {X : Type 0} (f : Expr → X → Expr) (B : X → X) (moves : (e : Expr
         parts = h.parts ++ p ∷ [];
         low = low_last f B moves link text n h.parts p h.low low;
         high = low_last f B moves link text left h.parts p h.high high;
-        same = moves whole p.item ∙ ap (λ (e : Expr). f e (B p.item)) h.same ∙ sym (moves (joined_left f h.start its) p.item) ∙ ap bare (sym (joined_last f its h.start p.item))
-            ∙ ap (λ (l : List X). bare (joined_left f h.start l)) (sym (map_append (item_of f B moves link text) h.parts (p ∷ [])));
+        same = moves whole p.item ∙ ap (λ (e : Expr). f e (B p.item)) h.same ∙ sym (moves (joined_left f h.start its) p.item) ∙ ap bare_expr (sym (joined_last f its h.start p.item))
+            ∙ ap (λ (l : List X). bare_expr (joined_left f h.start l)) (sym (map_append (item_of f B moves link text) h.parts (p ∷ [])));
         written = ap (λ (t : List ℕ). t ++ text p.item) h.written ∙ append_assoc h.begins (each_text (part_text f B moves link text) h.parts) (text p.item)
             ∙ ap (λ (t : List ℕ). h.begins ++ t) (sym (each_last (part_text f B moves link text) h.parts p));
         room = omega arith;
@@ -191,9 +191,9 @@ module _ {X : Type 0} (f : Expr → X → Expr) (B : X → X) (moves : (e : Expr
             (run_half ps (before ++ t) (f whole p.item) a b n left added one two low.1 high.1)
       ])
 
-  pub run_says : (start : Expr) (begins : List ℕ) (v : ℕ) → ((n left : ℕ) → v ≤ n → v ≤ left → Says bare (rule_at w n left) start begins) → (first : Part B link text) (others : List (Part B link text)) (n left : ℕ)
+  pub run_says : (start : Expr) (begins : List ℕ) (v : ℕ) → ((n left : ℕ) → v ≤ n → v ≤ left → Says bare_expr (rule_at w n left) start begins) → (first : Part B link text) (others : List (Part B link text)) (n left : ℕ)
       → v + length others / 64 ≤ n → v + length others / 64 ≤ left → Below f B moves link text n (first ∷ others) → Below f B moves link text left (first ∷ others)
-      → Says bare (rule_at u n left) (joined_left f start (map (item_of f B moves link text) (first ∷ others))) (run_text begins (map (part_text f B moves link text) (first ∷ others)))
+      → Says bare_expr (rule_at u n left) (joined_left f start (map (item_of f B moves link text) (first ∷ others))) (run_text begins (map (part_text f B moves link text) (first ∷ others)))
   run_says start begins v says first others n left one two low high =
       let k = length others / 64 in
       let a = n - length others / 64 in

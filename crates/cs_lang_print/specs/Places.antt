@@ -56,8 +56,8 @@ link_layer l = roll-Link (record { operator = l.operator; first = 0; place = 0; 
 abbrev pub step_layer : Step-F Access Shape Expr Link Step → Step
 step_layer s = roll-Step (record { first = 0; place = 0; access = s.access })
 
-unfoldable pub bare : Expr → Expr
-bare = fold-Expr Access Shape Expr Link Step access_layer shape_layer expr_layer link_layer step_layer
+unfoldable pub bare_expr : Expr → Expr
+bare_expr = fold-Expr Access Shape Expr Link Step access_layer shape_layer expr_layer link_layer step_layer
 
 unfoldable pub bare_shape : Shape → Shape
 bare_shape = fold-Shape Access Shape Expr Link Step access_layer shape_layer expr_layer link_layer step_layer
@@ -72,16 +72,16 @@ unfoldable pub bare_access : Access → Access
 bare_access = fold-Access Access Shape Expr Link Step access_layer shape_layer expr_layer link_layer step_layer
 
 abbrev pub action_layer : Action-F Action Block Statement → Action
-action_layer (Action-F.Let name value) = action.Let (bare_text name) (bare value)
-action_layer (Action-F.Set name value) = action.Set (bare_text name) (bare value)
-action_layer (Action-F.If condition block) = action.If (bare condition) block
-action_layer (Action-F.IfElse condition block other) = action.IfElse (bare condition) block other
-action_layer (Action-F.ForIn name list block) = action.ForIn (bare_text name) (bare list) block
+action_layer (Action-F.Let name value) = action.Let (bare_text name) (bare_expr value)
+action_layer (Action-F.Set name value) = action.Set (bare_text name) (bare_expr value)
+action_layer (Action-F.If condition block) = action.If (bare_expr condition) block
+action_layer (Action-F.IfElse condition block other) = action.IfElse (bare_expr condition) block other
+action_layer (Action-F.ForIn name list block) = action.ForIn (bare_text name) (bare_expr list) block
 action_layer (Action-F.ForTo name count block) = action.ForTo (bare_text name) count block
-action_layer (Action-F.Make slot object values) = action.Make (bare_text slot) (bare_text object) (map bare values)
+action_layer (Action-F.Make slot object values) = action.Make (bare_text slot) (bare_text object) (map bare_expr values)
 action_layer (Action-F.Call names method arguments) =
-    action.Call (map bare_text names) (bare_text method) (map bare arguments)
-action_layer (Action-F.Answer value) = action.Answer (bare value)
+    action.Call (map bare_text names) (bare_text method) (map bare_expr arguments)
+action_layer (Action-F.Answer value) = action.Answer (bare_expr value)
 
 abbrev pub statement_layer : Statement-F Action Block Statement → Statement
 statement_layer s = roll-Statement (record { place = 0; action = s.action })

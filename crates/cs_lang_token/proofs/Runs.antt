@@ -1,7 +1,8 @@
 -- How long a run at the front is.
 use Rattle.std.proofs.Common.{◌≡◌, ℕ, zero, suc, ◌+◌, ◌<◌, ◌≤◌, Bool, true, false, cond, not, List, [], ◌∷◌, length, take, refl, sym, ap, ◌∙◌, subst, arith}
 use Rattle.std.specs.Prelude.{position, unwrap_or, Option, None, Some, ◌||◌}
-use Rattle.cs_lang_token.specs.Tokens.{run_length, starts, is_letter, is_digit, is_name_character}
+use Rattle.cs_base.specs.Characters.{is_digit}
+use Rattle.cs_lang_token.specs.Tokens.{run_length, starts, is_letter, is_name_character}
 
 some_positive : (b : Bool) (m n : ℕ) → 0 < unwrap_or (cond b (Some (1 + m)) None) (suc n)
 some_positive true m n = omega arith

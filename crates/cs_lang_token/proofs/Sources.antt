@@ -5,13 +5,14 @@ use Rattle.std.specs.Str.{bytes_eq}
 use Rattle.std.proofs.lemmas.Bool.{eqb-true}
 use Rattle.std.proofs.lemmas.Bool.Decides.{nat_tests}
 use Rattle.std.proofs.lemmas.List.{length-take}
+use Rattle.cs_base.specs.Characters.{is_digit}
 use Rattle.cs_lang_token.specs.declared.token.Token.{Token}
 use Rattle.cs_lang_token.specs.declared.kind.Kind.{Kind}
 use Rattle.cs_lang_token.specs.declared.kind.Kind.TheVariants as kind
 use Rattle.cs_lang_token.specs.declared.lexeme.Lexeme.{Lexeme}
 use Rattle.cs_lang_token.specs.Kinds.{code, among, is}
 use Rattle.cs_lang_token.specs.Grammar.{TokenMark, without_marks, ◌>>=◌}
-use Rattle.cs_lang_token.specs.Tokens.{is_digit, is_letter, is_name_character, is_hex, run_length, kind_of_value_word, kind_of_logic_word, kind_of_statement_word, kind_of_word, name_lexeme, number_from, number_lexeme, hex_value, hex_bytes, is_first, quoted_at, byte_text_at, operator_sign, one_sign, two_sign, signed_lexeme, sign_at, lexeme_at, blank_length, token_of, token_piece, piece_at, after_piece, tokens_from, tokens_of}
+use Rattle.cs_lang_token.specs.Tokens.{is_letter, is_name_character, is_hex, run_length, kind_of_value_word, kind_of_logic_word, kind_of_statement_word, kind_of_word, name_lexeme, number_from, number_lexeme, hex_value, hex_bytes, is_first, quoted_at, byte_text_at, operator_sign, one_sign, two_sign, signed_lexeme, sign_at, lexeme_at, blank_length, token_of, token_piece, piece_at, after_piece, tokens_from, tokens_of}
 use Rattle.cs_base.specs.Options.{or_else}
 use Rattle.cs_lang_token.proofs.Spans.{IsWord, AllBytes, and_second, run_most, all_run, starts_run}
 use Rattle.cs_lang_token.proofs.Gives.{IsToken, Fine}

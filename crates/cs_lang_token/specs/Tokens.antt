@@ -7,14 +7,12 @@ use Rattle.cs_lang_token.specs.declared.kind.Kind.TheVariants as kind
 use Rattle.cs_lang_token.specs.declared.lexeme.Lexeme.{Lexeme}
 use Rattle.cs_lang_token.specs.Grammar.{◌>>=◌}
 use Rattle.cs_base.specs.Options.{or_else}
+use Rattle.cs_base.specs.Characters.{is_digit}
 
 -- ---- characters
 
 abbrev pub is_blank : ℕ → Bool
 is_blank c = c == 32 || c == 9 || c == 13 || c == 10
-
-abbrev pub is_digit : ℕ → Bool
-is_digit c = nat_le 48 c && nat_le c 57
 
 abbrev pub is_letter : ℕ → Bool
 is_letter c = nat_le 65 c && nat_le c 90 || nat_le 97 c && nat_le c 122 || c == 95

@@ -1,6 +1,7 @@
 //! The longest token at the front of a text.
 ghost use Rattle.std.specs.Prelude.{◌≡◌, ℕ, ◌+◌, ◌<◌, ◌≤◌, ◌==◌, ◌∷◌, List, true, not, position, take, length, Some, IfOk, IfSome};
-ghost use Rattle.cs_lang_token.specs.Tokens.{is_blank, is_digit, is_letter, is_name_character, is_hex, is_first, starts, run_length, kind_of_word, kind_of_statement_word, kind_of_logic_word, kind_of_value_word, name_lexeme, number_from, number_lexeme, hex_value, hex_bytes, quoted_at, byte_text_at, operator_sign, one_sign, two_sign, sign_at, HasBytes, byte_text_or_word_at, lexeme_at, blank_length};
+ghost use Rattle.cs_base.specs.Characters.{is_digit};
+ghost use Rattle.cs_lang_token.specs.Tokens.{is_blank, is_letter, is_name_character, is_hex, is_first, starts, run_length, kind_of_word, kind_of_statement_word, kind_of_logic_word, kind_of_value_word, name_lexeme, number_from, number_lexeme, hex_value, hex_bytes, quoted_at, byte_text_at, operator_sign, one_sign, two_sign, sign_at, HasBytes, byte_text_or_word_at, lexeme_at, blank_length};
 
 use crate::kind::Kind;
 use crate::limits::{MOST_DIGITS, MOST_NAME, MOST_NUMBER};

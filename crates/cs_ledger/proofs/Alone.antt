@@ -1,7 +1,7 @@
 -- One shard by itself, over every list of entries.
 use Rattle.std.proofs.Common.{◌≡◌, ℕ, List, [], ◌∷◌, ◌++◌, true, false, ◌&&◌, inl, inr, Some, refl, sym, ap, ◌∙◌, subst}
 use Rattle.std.proofs.lemmas.Bool.{both_ways, and_parts, or_cases}
-use Rattle.cs_ledger.specs.Ledger.{IsIn}
+use Rattle.cs_base.specs.Lists.{IsIn}
 use Rattle.cs_ledger.specs.Session.{AreToldApart, Session, Rules, Key, anchor}
 use Rattle.cs_ledger.specs.Table.{Vote, Commit, Abort, Entry, Prepare, Decide, Voted, session_of, exec, table_of}
 use Rattle.cs_ledger.specs.ShardWorld.{is_vote, is_prepare_of, votes_in, sessions_of}

@@ -3,7 +3,8 @@ use Rattle.std.proofs.Common.{◌≡◌, ℕ, List, [], ◌∷◌, ◌++◌, tru
 use Rattle.std.specs.Prelude.{bytes_eq}
 use Rattle.std.specs.Cmp.Lexicographic.{bytes_decides}
 use Rattle.std.proofs.lemmas.Bool.{cases_Bool, and_parts, and_from, or_cases, or_left, or_right, eqb-true, eq-eqb, both_ways}
-use Rattle.cs_ledger.specs.Ledger.{Bytes, IsIn}
+use Rattle.cs_base.specs.Lists.{IsIn}
+use Rattle.cs_ledger.specs.Ledger.{Bytes}
 use Rattle.cs_ledger.specs.Session.{Key, Object, Dummy, Piece, key_eq, has_key, first_key, Rules, Session, used_up, anchor}
 
 pub same_bytes : (a b : Bytes) → bytes_eq a b ≡ true → a ≡ b

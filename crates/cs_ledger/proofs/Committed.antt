@@ -1,6 +1,6 @@
 -- What holds of a session on which every concerned shard votes commit.
 use Rattle.std.proofs.Common.{◌≡◌, ℕ, List, true, refl}
-use Rattle.cs_ledger.specs.Ledger.{IsIn}
+use Rattle.cs_base.specs.Lists.{IsIn}
 use Rattle.cs_ledger.specs.Session.{Rules, Session, concerns, all_items}
 use Rattle.cs_ledger.specs.Table.{Commit, Abort, Aborted}
 use Rattle.cs_ledger.specs.ShardWorld.{Step, IsShardWorld, sessions, shard_votes, decides, all_commit, history}

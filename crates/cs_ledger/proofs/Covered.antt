@@ -2,7 +2,8 @@
 use Rattle.std.proofs.Common.{◌≡◌, ℕ, List, [], ◌∷◌, Bool, true, false, ◌⊎◌, inl, inr, Option, Some, None, refl, sym, ap, ◌∙◌, subst}
 use Rattle.std.specs.Prelude.{bytes_eq, ◌==◌, if◌then◌else◌}
 use Rattle.std.proofs.lemmas.Bool.{cond_both, both_ways, eq-eqb}
-use Rattle.cs_ledger.specs.Ledger.{Bytes, Item, Transaction, IsIn, names, has, object_named}
+use Rattle.cs_base.specs.Lists.{IsIn}
+use Rattle.cs_ledger.specs.Ledger.{Bytes, Item, Transaction, names, has, object_named}
 use Rattle.cs_ledger.specs.Session.{AreToldApart, Session, Rules, Key, Object, Piece, has_key, object_under, objects_in, used_up, read_only, anchor}
 use Rattle.cs_ledger.specs.Table.{Abort, State, Unknown, Locked, Table, Entry, is_locked_by, locked, released, joined_by, vacated_by, lock_state, undo_state, made, accept_state, with_locks, with_vote, with_accepted, with_aborted, new_pieces, session_of, exec, start}
 use Rattle.cs_ledger.proofs.Basics.{same_bytes}

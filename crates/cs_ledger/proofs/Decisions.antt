@@ -2,7 +2,8 @@
 use Rattle.std.proofs.Common.{◌≡◌, ℕ, List, [], ◌∷◌, true, false, ◌&&◌, inl, inr, Option, Some, None, refl, sym, ap, ◌∙◌, subst}
 use Rattle.std.specs.Prelude.{◌==◌}
 use Rattle.std.proofs.lemmas.Bool.{both_ways, and_parts, or_cases, eqb-true}
-use Rattle.cs_ledger.specs.Ledger.{Bytes, Item, IsIn}
+use Rattle.cs_base.specs.Lists.{IsIn}
+use Rattle.cs_ledger.specs.Ledger.{Bytes, Item}
 use Rattle.cs_ledger.specs.Session.{AreToldApart, Session, Rules, all_items, concerns, is_among}
 use Rattle.cs_ledger.specs.Table.{Vote, Commit, Abort, Table, Entry, Prepare, Decide, Effect, Voted, Accepted, Aborted, Skipped, Void, Outcome, session_of, exec, table_of}
 use Rattle.cs_ledger.specs.ShardWorld.{Step, is_vote, log, is_prepare_of, votes_in, shard_votes, all_commit, all_vote, one_aborts, IsAllowed, AllAllowed, sessions, decides, decided_in, is_decide_of, is_effect}

@@ -2,7 +2,7 @@
 use Rattle.std.proofs.Common.{◌≡◌, ℕ, List, [], ◌∷◌, ◌++◌, Bool, Some, refl, sym, ap, ◌∙◌, subst}
 use Rattle.std.specs.Prelude.{if◌then◌else◌}
 use Rattle.std.proofs.lemmas.Bool.{and_parts}
-use Rattle.cs_ledger.specs.Ledger.{IsIn}
+use Rattle.cs_base.specs.Lists.{IsIn}
 use Rattle.cs_ledger.specs.Session.{AreToldApart, Session, Rules, Key, has_key, used_up, read_only, anchor}
 use Rattle.cs_ledger.specs.Table.{Vote, Commit, Abort, Table, Entry, Prepare, Decide, Voted, Outcome, with_locks, with_vote, session_of, exec}
 use Rattle.cs_ledger.proofs.Basics.{key_refl, anchor_piece}

@@ -1,7 +1,8 @@
 -- One world with two shards: a coin of shard 0 becomes a coin of shard 1.
 use Rattle.std.proofs.Common.{◌≡◌, ℕ, List, [], ◌∷◌, true, inl, inr, refl, sym, ap, ◌∙◌, subst, arith}
 use Rattle.std.specs.Prelude.{slice_index}
-use Rattle.cs_ledger.specs.Ledger.{Bytes, Item, Transaction, IsIn, names, all_differ}
+use Rattle.cs_base.specs.Lists.{IsIn}
+use Rattle.cs_ledger.specs.Ledger.{Bytes, Item, Transaction, names, all_differ}
 use Rattle.cs_ledger.specs.Session.{Session, Rules, Object, Dummy}
 use Rattle.cs_ledger.specs.Table.{Commit, Active, Inactive, Prepare, Decide, Accepted, table_of}
 use Rattle.cs_ledger.specs.ShardWorld.{Step, log, decides, AllAllowed, history, sessions, AreNamedApart, IsShardWorld}

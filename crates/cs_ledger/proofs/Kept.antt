@@ -2,7 +2,8 @@
 use Rattle.std.proofs.Common.{◌≡◌, ℕ, ◌<◌, ◌≤◌, List, [], ◌∷◌, ◌++◌, length, Bool, true, false, ◌&&◌, ◌⊎◌, inl, inr, Option, Some, None, refl, sym, ap, ◌∙◌, subst, arith, length-append}
 use Rattle.std.specs.Prelude.{bytes_eq, if◌then◌else◌, nat_lt}
 use Rattle.std.proofs.lemmas.Bool.{cases_Bool, and_parts, both_ways, false_from_ne_true, ltb-true, lt-ltb, and_from}
-use Rattle.cs_ledger.specs.Ledger.{Bytes, IsIn}
+use Rattle.cs_base.specs.Lists.{IsIn}
+use Rattle.cs_ledger.specs.Ledger.{Bytes}
 use Rattle.cs_base.specs.Options.{or_else}
 use Rattle.cs_ledger.specs.Session.{AreToldApart, Session, Rules, Key, Piece, key_eq, has_key, object_under, used_up, read_only, anchor}
 use Rattle.cs_ledger.specs.Table.{Vote, Commit, Abort, Book, State, Active, Locked, Inactive, Shared, Table, is_locked_by, vote_in, lock_state, undo_state, accept_state, all_ready, all_readable, is_ready, released, with_locks, with_vote, with_accepted, with_aborted, new_pieces}

@@ -1,7 +1,8 @@
 -- A session whose standing is Aborted stays so.
 use Rattle.std.proofs.Common.{◌≡◌, ℕ, List, [], ◌∷◌, ◌++◌, length, Bool, true, false, not, ◌&&◌, ◌||◌, ◌⊎◌, inl, inr, Option, Some, None, refl, sym, ap, ◌∙◌, subst}
 use Rattle.std.specs.Prelude.{is_some, nat_lt}
-use Rattle.cs_ledger.specs.Ledger.{Bytes, IsIn}
+use Rattle.cs_base.specs.Lists.{IsIn}
+use Rattle.cs_ledger.specs.Ledger.{Bytes}
 use Rattle.cs_ledger.specs.Session.{AreToldApart, Session, Rules, Key, key_eq, has_key, used_up, read_only, anchor, object_under}
 use Rattle.cs_ledger.specs.Table.{Vote, Commit, Abort, Book, State, Unknown, Active, Locked, Inactive, Shared, Table, Entry, session_of, exec, is_locked_by, is_inactive, lock_state, undo_state, accept_state, vote_in, has_room, released, vacated_by, read_by, without_reader, made, new_pieces}
 use Rattle.cs_ledger.specs.Standing.{is_inactive_by, stands_aborted}

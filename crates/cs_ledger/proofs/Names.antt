@@ -2,7 +2,8 @@
 use Rattle.std.proofs.Common.{◌≡◌, ℕ, List, [], ◌∷◌, Bool, true, not, ◌&&◌, inl, inr, Some, None, refl, sym, ap, ◌∙◌}
 use Rattle.std.specs.Prelude.{bytes_eq, ◌==◌, if◌then◌else◌, nat_lt}
 use Rattle.std.proofs.lemmas.Bool.{cases_Bool, cond_both, both_ways, and_parts, or_cases, or_left, or_right, eqb-true, eqb-false, not-true}
-use Rattle.cs_ledger.specs.Ledger.{is_empty, Bytes, Item, IsIn, names, has, object_named, all_differ}
+use Rattle.cs_base.specs.Lists.{IsIn, is_empty}
+use Rattle.cs_ledger.specs.Ledger.{Bytes, Item, names, has, object_named, all_differ}
 use Rattle.cs_ledger.specs.Session.{Session, Rules, Key, Object, Dummy, Piece, DummyName, key_eq, has_key, object_under, objects_in, dummies_in, used_up, read_only}
 use Rattle.cs_ledger.specs.Table.{Table, new_dummy, new_pieces}
 use Rattle.cs_ledger.proofs.Basics.{same_bytes, bytes_from, same_key, in_left, in_either, has_piece, piece_has}

@@ -1,7 +1,8 @@
 -- In a serial history no object is consumed twice.
 use Rattle.std.proofs.Common.{◌≡◌, List, [], ◌∷◌, Bool, true, false, ◌⊎◌, inl, inr, Option, Some, None, refl, sym, ap, ◌∙◌, subst}
 use Rattle.std.specs.Prelude.{if◌then◌else◌}
-use Rattle.cs_ledger.specs.Ledger.{Bytes, Item, Transaction, Ledger, IsIn, names, has, object_named, ledger_after, Takes, Serial, IsSpentOnce}
+use Rattle.cs_base.specs.Lists.{IsIn}
+use Rattle.cs_ledger.specs.Ledger.{Bytes, Item, Transaction, Ledger, names, has, object_named, ledger_after, Takes, Serial, IsSpentOnce}
 use Rattle.cs_base.specs.Options.{or_else}
 use Rattle.cs_ledger.proofs.Basics.{in_left, in_right}
 use Rattle.cs_ledger.proofs.Names.{at_none, at_some, item_has, item_named, named_item}

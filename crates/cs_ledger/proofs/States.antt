@@ -2,7 +2,8 @@
 use Rattle.std.proofs.Common.{◌≡◌, List, [], ◌∷◌, ◌++◌, Bool, true, false, ◌⊎◌, inl, inr, Option, Some, None, refl, sym, ap, ◌∙◌, subst}
 use Rattle.std.specs.Prelude.{not, ◌||◌, bytes_eq, if◌then◌else◌}
 use Rattle.std.proofs.lemmas.Bool.{cond_both, and_parts, both_ways, or_cases, or_left, or_right}
-use Rattle.cs_ledger.specs.Ledger.{Bytes, IsIn, has}
+use Rattle.cs_base.specs.Lists.{IsIn}
+use Rattle.cs_ledger.specs.Ledger.{Bytes, has}
 use Rattle.cs_ledger.specs.Session.{Piece}
 use Rattle.cs_ledger.specs.Table.{State, Unknown, Active, Locked, Inactive, Shared, Table, is_held_by, is_locked_by, is_active_with, free_object, is_readable_with, has_seat, all_ready, all_readable, locked, joined_by, vacated_by, read_by, with_reader, without_reader, made, lock_state, undo_state, accept_state}
 use Rattle.cs_ledger.proofs.Basics.{same_bytes, bytes_from, bytes_refl}

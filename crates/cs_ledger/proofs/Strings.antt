@@ -2,7 +2,8 @@
 use Rattle.std.proofs.Common.{◌≡◌, ℕ, List, [], ◌∷◌, ◌++◌, length, true, false, ◌||◌, inl, inr, refl, sym, ap, ◌∙◌, subst, arith}
 use Rattle.std.specs.Prelude.{bytes_eq}
 use Rattle.std.proofs.lemmas.Bool.{cases_Bool, both_ways, and_parts, and_from, not-true, not_from_false, false_from_ne_true}
-use Rattle.cs_ledger.specs.Ledger.{Bytes, Item, IsIn, names, has, all_differ}
+use Rattle.cs_base.specs.Lists.{IsIn}
+use Rattle.cs_ledger.specs.Ledger.{Bytes, Item, names, has, all_differ}
 use Rattle.cs_ledger.specs.Session.{Session}
 use Rattle.cs_ledger.specs.ShardWorld.{AreNamedApart}
 use Rattle.cs_ledger.specs.Strings.{Output, Written, WrittenSession, Origin, transaction_string, output_string, genesis_string, written_outputs, transaction_of, session_from, sessions_from, genesis_of_origins, places_of, Genesis, OfSession, OfTransaction, OfOutput, NoHashCollision, IsFaithful}

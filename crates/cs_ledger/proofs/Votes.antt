@@ -2,7 +2,8 @@
 use Rattle.std.proofs.Common.{◌≡◌, ℕ, List, [], ◌∷◌, true, false, ◌&&◌, ◌⊎◌, inl, inr, Option, Some, None, refl, sym, ap, ◌∙◌, subst}
 use Rattle.std.specs.Prelude.{◌==◌, nat_lt}
 use Rattle.std.proofs.lemmas.Bool.{cond_both, both_ways, and_parts, and_from, or_cases, or_left, or_right, eqb-true}
-use Rattle.cs_ledger.specs.Ledger.{is_empty, Bytes, Item, IsIn}
+use Rattle.cs_base.specs.Lists.{IsIn, is_empty}
+use Rattle.cs_ledger.specs.Ledger.{Bytes, Item}
 use Rattle.cs_ledger.specs.Session.{AreToldApart, Session, Rules, Key, Object, Dummy, all_items, object_under, objects_in, is_among}
 use Rattle.cs_ledger.specs.Table.{Vote, Commit, Abort, State, Unknown, Active, Table, Entry, Prepare, Decide, Effect, Voted, Accepted, Aborted, Skipped, Void, session_of, exec, table_of, start, start_state, made}
 use Rattle.cs_ledger.specs.ShardWorld.{Step, log, is_vote, is_prepare_of, votes_in, shard_votes, all_vote, one_votes, all_commit, one_aborts, IsAllowed, AllAllowed, sessions}

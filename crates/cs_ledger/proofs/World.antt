@@ -2,7 +2,8 @@
 use Rattle.std.proofs.Common.{◌≡◌, ℕ, List, [], ◌∷◌, ◌++◌, true, false, not, ◌&&◌, ◌⊎◌, inl, inr, Option, refl, sym, ap, ◌∙◌, subst}
 use Rattle.std.specs.Prelude.{bytes_eq}
 use Rattle.std.proofs.lemmas.Bool.{cases_Bool, cond_both, both_ways, and_parts, and_cases, not-true, not-false}
-use Rattle.cs_ledger.specs.Ledger.{is_empty, Bytes, Item, Transaction, Ledger, IsIn, names, genesis_ledger, ledger_of}
+use Rattle.cs_base.specs.Lists.{IsIn, is_empty}
+use Rattle.cs_ledger.specs.Ledger.{Bytes, Item, Transaction, Ledger, names, genesis_ledger, ledger_of}
 use Rattle.cs_ledger.specs.Session.{Session, Rules, Object, all_items}
 use Rattle.cs_ledger.specs.Table.{Vote, Commit, Abort, Locked, Table, Entry, Prepare, Decide, session_of, table_of, is_held_by, is_inactive, vote_in, has_room}
 use Rattle.cs_ledger.specs.ShardWorld.{Step, all_vote, log, shard_votes, all_commit, IsAllowed, AllAllowed, sessions, is_listed, history, AreNamedApart}

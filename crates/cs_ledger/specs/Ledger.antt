@@ -1,6 +1,7 @@
 -- The plain ledger. It has no shards, votes, locks, sessions or messages.
-use Rattle.std.specs.Prelude.{◌≡◌, ℕ, Bool, true, false, not, ◌&&◌, ◌||◌, ◌⊎◌, List, [], ◌∷◌, ◌++◌, Option, Some, None, bytes_eq, if◌then◌else◌}
+use Rattle.std.specs.Prelude.{◌≡◌, ℕ, Bool, true, false, not, ◌&&◌, ◌||◌, List, [], ◌∷◌, ◌++◌, Option, Some, None, bytes_eq, if◌then◌else◌}
 use Rattle.cs_base.specs.Options.{or_else}
+use Rattle.cs_base.specs.Lists.{IsIn, is_empty}
 
 -- the 32 bytes of a name or a digest, or the encoding of an object
 abbrev pub Bytes : Type 0
@@ -27,14 +28,6 @@ names (item ∷ items) = item.name ∷ names items
 abbrev pub has : Bytes → List Bytes → Bool
 has name [] = false
 has name (other ∷ others) = bytes_eq name other || has name others
-
-abbrev pub IsIn : {A : Type 0} → A → List A → Type 0
-IsIn x [] = ⊥
-IsIn x (y ∷ ys) = (x ≡ y) ⊎ IsIn x ys
-
-abbrev pub is_empty : {A : Type 0} → List A → Bool
-is_empty [] = true
-is_empty (x ∷ xs) = false
 
 -- no name stands twice
 abbrev pub all_differ : List Bytes → Bool

@@ -1,6 +1,7 @@
 -- A session: a transaction, and what ties it to the shards.
 use Rattle.std.specs.Prelude.{◌≡◌, ℕ, Bool, true, false, not, ◌&&◌, ◌||◌, List, [], ◌∷◌, ◌++◌, Option, Some, None, bytes_eq, ◌==◌, nat_lt, if◌then◌else◌}
-use Rattle.cs_ledger.specs.Ledger.{Bytes, Item, Transaction, IsIn, is_well_formed}
+use Rattle.cs_base.specs.Lists.{IsIn}
+use Rattle.cs_ledger.specs.Ledger.{Bytes, Item, Transaction, is_well_formed}
 
 -- the name of a dummy: its shard, and its serial number there
 pub record DummyName : Type 0 where

@@ -1,6 +1,7 @@
 -- The shards together: one log each, with no node, message or quorum.
 use Rattle.std.specs.Prelude.{◌≡◌, ℕ, Bool, true, false, not, ◌&&◌, ◌||◌, List, [], ◌∷◌, ◌++◌, bytes_eq, ◌==◌, if◌then◌else◌}
-use Rattle.cs_ledger.specs.Ledger.{Bytes, Item, Transaction, names, all_differ, IsIn}
+use Rattle.cs_base.specs.Lists.{IsIn}
+use Rattle.cs_ledger.specs.Ledger.{Bytes, Item, Transaction, names, all_differ}
 use Rattle.cs_ledger.specs.Session.{Session, AreToldApart, Rules, all_items, concerns, well_formed}
 use Rattle.cs_ledger.specs.Table.{Vote, Commit, Abort, Entry, Prepare, Decide, Effect, Voted, Accepted, Aborted, table_of, exec, session_of}
 

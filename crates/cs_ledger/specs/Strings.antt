@@ -1,6 +1,7 @@
 -- The strings that are hashed, and that they do not collide.
 use Rattle.std.specs.Prelude.{◌≡◌, Bool, true, List, [], ◌∷◌, ◌++◌}
-use Rattle.cs_ledger.specs.Ledger.{Bytes, Item, Transaction, IsIn, all_differ}
+use Rattle.cs_base.specs.Lists.{IsIn}
+use Rattle.cs_ledger.specs.Ledger.{Bytes, Item, Transaction, all_differ}
 use Rattle.cs_ledger.specs.Session.{Session, DummyName}
 
 -- an output: its place in the transaction (two numbers of two bytes), and the object

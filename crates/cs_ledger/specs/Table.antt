@@ -1,7 +1,8 @@
 -- The table of a shard, and what executing an entry does to it.
 use Rattle.std.specs.Prelude.{ℕ, ◌+◌, ◌-◌, ◌^◌, Bool, true, false, not, ◌&&◌, ◌||◌, List, [], ◌∷◌, ◌++◌, length, Option, Some, None, bytes_eq, ◌==◌, nat_lt, if◌then◌else◌}
+use Rattle.cs_base.specs.Lists.{is_empty}
 use Rattle.cs_base.specs.declared.limits.TheConstants.{BOOK_PLACES, MOST_PLACES, MOST_READERS}
-use Rattle.cs_ledger.specs.Ledger.{Bytes, has, is_empty}
+use Rattle.cs_ledger.specs.Ledger.{Bytes, has}
 use Rattle.cs_ledger.specs.Session.{Session, Rules, Key, Object, Dummy, Piece, key_eq, has_key, object_under, objects_in, dummies_in, used_up, read_only, anchor, concerns, well_formed}
 
 pub data Vote : Type 0 where
@@ -83,6 +84,10 @@ free_object _ = None
 abbrev pub is_free : State → Bool
 is_free (Active object) = true
 is_free _ = false
+
+abbrev pub is_unknown : State → Bool
+is_unknown Unknown = true
+is_unknown _ = false
 
 -- the dummy of this serial is active
 abbrev pub has_active_dummy : Table → ℕ → ℕ → Bool

@@ -1,7 +1,8 @@
 // What holds of all shards together.
 
 ghost use Rattle.std.specs.Prelude.{◌≡◌, ℕ, List, true, length, Some};
-ghost use Rattle.cs_ledger.specs.Ledger.{Bytes, IsIn, IsSpentOnce, Serial, genesis_ledger, ledger_of};
+ghost use Rattle.cs_base.specs.Lists.{IsIn};
+ghost use Rattle.cs_ledger.specs.Ledger.{Bytes, IsSpentOnce, Serial, genesis_ledger, ledger_of};
 ghost use Rattle.cs_ledger.specs.Session.{Rules, concerns, Session, Object};
 ghost use Rattle.cs_ledger.specs.Table.{Vote, Abort, Accepted, Aborted, free_object, table_of};
 ghost use Rattle.cs_ledger.specs.ShardWorld.{Step, all_commit, IsShardWorld, sessions, shard_votes, decides, log, history, AreNamedApart};

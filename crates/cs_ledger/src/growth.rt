@@ -1,7 +1,7 @@
 // What stays true of the shards, whatever steps come later. Steps are newest first.
 
 ghost use Rattle.std.specs.Prelude.{◌≡◌, ℕ, List, true, ◌++◌};
-ghost use Rattle.cs_ledger.specs.Ledger.{IsIn};
+ghost use Rattle.cs_base.specs.Lists.{IsIn};
 ghost use Rattle.cs_ledger.specs.Session.{Rules, Session, concerns};
 ghost use Rattle.cs_ledger.specs.Table.{Vote, Abort, Aborted};
 ghost use Rattle.cs_ledger.specs.ShardWorld.{Step, IsShardWorld, sessions, shard_votes, decides, all_commit, one_aborts, history};

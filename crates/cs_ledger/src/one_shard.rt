@@ -1,7 +1,7 @@
 // What holds of one shard by itself, whatever entries come.
 
 ghost use Rattle.std.specs.Prelude.{◌≡◌, ℕ, List, true, Some, ◌++◌};
-ghost use Rattle.cs_ledger.specs.Ledger.{IsIn};
+ghost use Rattle.cs_base.specs.Lists.{IsIn};
 ghost use Rattle.cs_ledger.specs.Session.{AreToldApart, Rules, Session, Key, anchor};
 ghost use Rattle.cs_ledger.specs.Table.{Vote, Entry, table_of};
 ghost use Rattle.cs_ledger.specs.Standing.{stands_aborted};

@@ -1,7 +1,7 @@
 -- What is kept mirrors what the member sees, after each call.
 use Rattle.std.proofs.Common.{◌≡◌, ◌≢◌, ℕ, ◌+◌, ◌*◌, ◌<◌, ◌≤◌, ◌==◌, min, Bool, true, false, not, List, [], ◌∷◌, ◌++◌, length, length-append, length-drop, Option, Some, None, is_some, slice_get, slice_set, inl, inr, refl, sym, ap, ◌∙◌, subst, ne_eqb, arith}
 use Rattle.cs_order.specs.Limits.{last_slot, view_bound}
-use Rattle.cs_order.specs.Lists.{IsIn}
+use Rattle.cs_base.specs.Lists.{IsIn}
 use Rattle.cs_order.specs.Kept.{KeepsFrom}
 use Rattle.cs_order.specs.declared.proposed.Proposed.{Proposed}
 use Rattle.cs_order_rules.specs.declared.message.Change.{Change}

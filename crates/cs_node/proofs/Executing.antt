@@ -1,5 +1,6 @@
 -- An execution with the node's own vote is what its signs say.
 use Rattle.std.proofs.Common.{◌≡◌, ℕ, Bool, true, false, cond, List, [], ◌∷◌, ◌++◌, Option, Some, None, bytes_eq, IsSome, is_some, refl, ap, sym, subst, ◌∙◌, arith, append_assoc, append-nil}
+use Rattle.cs_tx.specs.Votes.{vote_of}
 use Rattle.cs_base.specs.declared.node_id.NodeId.{NodeId}
 use Rattle.cs_tx_types.specs.declared.session.Session.{Session}
 use Rattle.cs_tx_types.specs.declared.vote.Vote.{Vote}
@@ -11,7 +12,7 @@ use Rattle.cs_ledger.specs.Table as Chosen
 use Rattle.cs_ledger.specs.Table.{Effect, Voted, Accepted, Aborted, Skipped, Void, Outcome, act}
 use Rattle.cs_node_state.specs.declared.pooled.Pooled.{Pooled}
 use Rattle.cs_wire_message.specs.declared.message.Message.TheVariants as message
-use Rattle.cs_node_state.specs.Setup.{Setup, digest_of, concerned, is_fit, vote_of, vote_from}
+use Rattle.cs_node_state.specs.Setup.{Setup, digest_of, concerned, is_fit, vote_from}
 use Rattle.cs_tx_types.specs.Session.{session_in}
 use Rattle.cs_node_rules.specs.Members.{others}
 use Rattle.cs_node_state.specs.Pool.{Pool, found, is_pooled, pool_changed, with_ballot, as_locked, entering, pushed, entered, entered_locked}

@@ -10,7 +10,7 @@ use Rattle.cs_wire_message.specs.declared.message.Message.TheVariants as message
 use Rattle.cs_node_rules.specs.declared.cause.Cause.{Cause}
 use Rattle.cs_node_rules.specs.declared.cause.Cause.TheVariants.{Mine, Role, Malformed, Repeat, Denied, Full}
 use Rattle.cs_check_rules.specs.Chain.{Log, kept_of}
-use Rattle.cs_node_state.specs.Setup.{Setup, digest_of, is_fit, is_approved}
+use Rattle.cs_node_state.specs.Setup.{Setup, digest_of, is_fit, is_session_approved}
 use Rattle.cs_node_state.specs.Pool.{Pool, is_pooled, pool_has_room, pushed, entered}
 use Rattle.cs_node_state.specs.Bench.{Bench, decision_on}
 use Rattle.cs_node_state.specs.Asked.{told_at, key_asked}
@@ -62,13 +62,13 @@ module _ (setup : Setup) (me : NodeId) (b : Bench) (x : Session) where
   pub repeated : is_pooled (digest_of setup x) b.pool ≡ true → signs ≡ Dropped Repeat ∷ []
   repeated pooled = rw pooled refl
 
-  pub denied : is_pooled (digest_of setup x) b.pool ≡ false → is_approved setup x ≡ false → signs ≡ Dropped Denied ∷ []
+  pub denied : is_pooled (digest_of setup x) b.pool ≡ false → is_session_approved setup x ≡ false → signs ≡ Dropped Denied ∷ []
   denied pooled approved = rw (pooled, approved) refl
 
-  pub full : is_pooled (digest_of setup x) b.pool ≡ false → is_approved setup x ≡ true → pool_has_room b.pool ≡ false → signs ≡ Dropped Full ∷ []
+  pub full : is_pooled (digest_of setup x) b.pool ≡ false → is_session_approved setup x ≡ true → pool_has_room b.pool ≡ false → signs ≡ Dropped Full ∷ []
   full pooled approved room = rw (pooled, approved, room) refl
 
-  pub entered-makes : (pool : Pool) (old : Draft) → is_pooled (digest_of setup x) b.pool ≡ false → is_approved setup x ≡ true → pool_has_room b.pool ≡ true → pool ≡ pushed (digest_of setup x) x false b.pool
+  pub entered-makes : (pool : Pool) (old : Draft) → is_pooled (digest_of setup x) b.pool ≡ false → is_session_approved setup x ≡ true → pool_has_room b.pool ≡ true → pool ≡ pushed (digest_of setup x) x false b.pool
       → Makes setup me signs b (record b { pool = pool }) old old
   entered-makes pool old pooled approved room is =
       let P : List Sign → Type 0 = λ made. Makes setup me made b (record b { pool = pool }) old old in
@@ -87,7 +87,7 @@ stays setup made held log old new kept_is makes = record { log = log; kept_is = 
 
 -- the last test is that of the pool itself
 module _ (setup : Setup) (held held' : Held) (log : Log) (kept_is : held.archived.kept ≡ kept_of log) (x : Session) (answer : Entered)
-    (pooled : is_pooled (digest_of setup x) held.pool ≡ false) (approved : is_approved setup x ≡ true) (answered : answer ≡ entered_in held.pool) (left : held' ≡ with_pool held (pool_entered (digest_of setup x) x held.pool)) where
+    (pooled : is_pooled (digest_of setup x) held.pool ≡ false) (approved : is_session_approved setup x ≡ true) (answered : answer ≡ entered_in held.pool) (left : held' ≡ with_pool held (pool_entered (digest_of setup x) x held.pool)) where
   abbrev made_signs : List Sign
   made_signs = entering_signs setup (bench_of log held) x
 

@@ -12,7 +12,7 @@ use Rattle.cs_node_state.specs.declared.ballot.Ballot.{Ballot}
 use Rattle.cs_node_rules.specs.declared.cause.Cause.TheVariants.{Role, Malformed, Repeat, Unasked, Denied, Full}
 use Rattle.cs_node_state.specs.declared.pooled.Pooled.{Pooled}
 use Rattle.cs_check_rules.specs.Chain.{Log, kept_of}
-use Rattle.cs_node_state.specs.Setup.{Setup, digest_of, is_concerned_shard, is_fit, is_approved}
+use Rattle.cs_node_state.specs.Setup.{Setup, digest_of, is_concerned_shard, is_fit, is_session_approved}
 use Rattle.cs_node_state.specs.Evidence.{has_voted}
 use Rattle.cs_node_state.specs.Pool.{Pool, found, pool_changed, changed_at, with_ballot, pushed, entered, pool_has_room}
 use Rattle.cs_node_state.specs.Bench.{Bench}
@@ -143,7 +143,7 @@ module _ (setup : Setup) (shard : ℕ) (b : Bench) (sender : NodeId) (vote : Vot
   asked-known known given ask is = ap (asking_signs setup b sender vote asks x) is ∙ ap (λ a. guarded a Unasked (Sent sender (message.Voted given false x) ∷ [])) ask
 
   abbrev enters : List Sign
-  enters = guarded (is_approved setup x) Denied (guarded (pool_has_room b.pool) Full (Took sender vote x ∷ Entered x ∷ []))
+  enters = guarded (is_session_approved setup x) Denied (guarded (pool_has_room b.pool) Full (Took sender vote x ∷ Entered x ∷ []))
 
   pub asked-new : (known : Option Vote) → asks ≡ true → known ≡ None → asking_signs setup b sender vote asks x known ≡ enters
   asked-new known ask is = ap (asking_signs setup b sender vote asks x) is ∙ ap (λ a. guarded a Unasked enters) ask
@@ -174,9 +174,9 @@ second-makes setup held held' log kept_is ballot x signs old new is left t tells
 
 -- a session enters with a vote
 module _ (setup : Setup) (held held' : Held) (log : Log) (kept_is : held.archived.kept ≡ kept_of log) (ballot : Ballot) (x : Session) (answer : Answer)
-    (none : found (digest_of setup x) held.pool ≡ None) (approved : is_approved setup x ≡ true) (answered : answer ≡ entered_in held.pool) (left : held' ≡ with_pool held (pool_entered_with (digest_of setup x) x ballot held.pool)) where
+    (none : found (digest_of setup x) held.pool ≡ None) (approved : is_session_approved setup x ≡ true) (answered : answer ≡ entered_in held.pool) (left : held' ≡ with_pool held (pool_entered_with (digest_of setup x) x ballot held.pool)) where
   abbrev signs : List Sign
-  signs = guarded (is_approved setup x) Denied (guarded (pool_has_room held.pool) Full (Took ballot.sender ballot.vote x ∷ Entered x ∷ []))
+  signs = guarded (is_session_approved setup x) Denied (guarded (pool_has_room held.pool) Full (Took ballot.sender ballot.vote x ∷ Entered x ∷ []))
 
   pub new-voted : (draft : Draft) → answer ≡ enter.New → Leaves setup held signs (bench_of log held) held' draft draft
   new-voted draft new =
@@ -205,7 +205,7 @@ module _ (setup : Setup) (held held' : Held) (log : Log) (kept_is : held.archive
       let P : Held → Type 0 = λ h. Leaves setup held signs (bench_of log held) h old new in
       subst P (sym same) (stays setup signs held log old new kept_is (dropped-makes setup held.me (bench_of log held) signs Full old new full tells))
 
-pub denied-voted : (setup : Setup) (me : NodeId) (b : Bench) (ballot : Ballot) (x : Session) (old new : Draft) → is_approved setup x ≡ false → TellsSigns (Dropped Denied ∷ []) old new
-    → Makes setup me (guarded (is_approved setup x) Denied (guarded (pool_has_room b.pool) Full (Took ballot.sender ballot.vote x ∷ Entered x ∷ []))) b b old new
+pub denied-voted : (setup : Setup) (me : NodeId) (b : Bench) (ballot : Ballot) (x : Session) (old new : Draft) → is_session_approved setup x ≡ false → TellsSigns (Dropped Denied ∷ []) old new
+    → Makes setup me (guarded (is_session_approved setup x) Denied (guarded (pool_has_room b.pool) Full (Took ballot.sender ballot.vote x ∷ Entered x ∷ []))) b b old new
 denied-voted setup me b ballot x old new approved tells =
-    dropped-makes setup me b (guarded (is_approved setup x) Denied (guarded (pool_has_room b.pool) Full (Took ballot.sender ballot.vote x ∷ Entered x ∷ []))) Denied old new (rw approved refl) tells
+    dropped-makes setup me b (guarded (is_session_approved setup x) Denied (guarded (pool_has_room b.pool) Full (Took ballot.sender ballot.vote x ∷ Entered x ∷ []))) Denied old new (rw approved refl) tells

@@ -3,7 +3,7 @@ ghost use Rattle.std.specs.Prelude.{◌≡◌, ◌∷◌, [], None, OnOk};
 ghost use Rattle.cs_tx_types.specs.Session.{SessionFits};
 ghost use Rattle.cs_tx.specs.Digest.{digest_of_session};
 ghost use Rattle.cs_node_rules.specs.declared.cause.Cause.TheVariants.{Denied, Full};
-ghost use Rattle.cs_node_state.specs.Setup.{is_approved};
+ghost use Rattle.cs_node_state.specs.Setup.{is_session_approved};
 ghost use Rattle.cs_node_state.specs.Pool.{found, pool_has_room};
 ghost use Rattle.cs_node_state.specs.Bench.{noted};
 ghost use Rattle.cs_node_rules.specs.Signs.{Took, Entered as Enters, guarded, asking_signs, voted_signs};
@@ -35,7 +35,7 @@ fn enter_voted<J: Judge>(
     requires new { found (digest_of_session session) sbac.old.pool ≡ None }
     ensures { Does (J.is_approved judge.now) sbac.old sbac.new draft.old draft.new result
         (λ setup b. let signs = Took ballot.sender ballot.vote session ∷ Enters session ∷ [] in
-        guarded (is_approved setup session) Denied (guarded (pool_has_room b.pool) Full signs)) }
+        guarded (is_session_approved setup session) Denied (guarded (pool_has_room b.pool) Full signs)) }
 {
     if !judge.approves(alloc, &session.tx)? {
         return draft.drop_it(Cause::Denied);

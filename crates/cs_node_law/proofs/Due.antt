@@ -4,7 +4,7 @@ use Rattle.cs_tx_types.specs.declared.vote.Vote.{Vote}
 use Rattle.cs_tx_types.specs.declared.vote.Vote.TheVariants.{Commit, Abort}
 use Rattle.cs_tx_types.specs.declared.entry.Entry.{Entry}
 use Rattle.cs_tx_types.specs.declared.entry.Entry.TheVariants.{Prepare, Decide}
-use Rattle.cs_ledger.specs.Ledger.{IsIn}
+use Rattle.cs_base.specs.Lists.{IsIn}
 use Rattle.cs_base.specs.Options.{or_else}
 use Rattle.cs_node_state.specs.declared.pooled.Pooled.{Pooled}
 use Rattle.cs_node_state.specs.Setup.{Setup, concerned}

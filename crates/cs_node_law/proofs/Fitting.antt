@@ -20,11 +20,11 @@ use Rattle.cs_wire_message.proofs.Short.{body_short}
 use Rattle.cs_wire.specs.Opened.{Opened, keys_of_master}
 use Rattle.cs_order.specs.declared.proposed.Proposed.{Proposed}
 use Rattle.cs_order.specs.declared.answers.May.TheVariants.{Only}
-use Rattle.cs_order.specs.Lists as Order
+use Rattle.cs_base.specs.Lists.{IsIn}
 use Rattle.cs_order.specs.Deeds.{Deed, Took_in, Advanced, Echoed, Proposing, Ticked, Resent, Replied, Cut, Member, Machine}
 use Rattle.cs_order.specs.Runs.{KeepsRules, AllKeepRules, held_in}
 use Rattle.cs_order.specs.Law.{Holds}
-use Rattle.cs_ledger.specs.Ledger.{Bytes, IsIn}
+use Rattle.cs_ledger.specs.Ledger.{Bytes}
 use Rattle.cs_ledger.specs.Session as Seen
 use Rattle.cs_ledger.proofs.Basics.{in_either}
 use Rattle.cs_node_rules.specs.Net.{net_of}
@@ -74,12 +74,12 @@ entries-fit (message.Done slot other) fits entry (inr none) = absurd none
 entries-fit said fits entry i = absurd i
 
 -- an entry of a message, as it is proposed
-written-entry : (entries : List Entry) (p : Proposed) → Order.IsIn p (map proposed_of entries) → (entry : Entry) × (IsIn entry entries) × (p ≡ proposed_of entry)
+written-entry : (entries : List Entry) (p : Proposed) → IsIn p (map proposed_of entries) → (entry : Entry) × (IsIn entry entries) × (p ≡ proposed_of entry)
 written-entry [] p i = absurd i
 written-entry (entry ∷ entries) p (inl e) = (entry, inl refl, e)
 written-entry (entry ∷ entries) p (inr i) = let r = written-entry entries p i in (r.0, inr r.1, r.2)
 
-held-either : {M : Type 0} (machine : Machine M) (p : Proposed) (a b : List Proposed) → Order.IsIn p (a ++ b) → Order.IsIn p a ⊎ Order.IsIn p b
+held-either : {M : Type 0} (machine : Machine M) (p : Proposed) (a b : List Proposed) → IsIn p (a ++ b) → IsIn p a ⊎ IsIn p b
 held-either machine p [] b i = inr i
 held-either machine p (x ∷ a) b (inl e) = inl (inl e)
 held-either machine p (x ∷ a) b (inr i) = elim (held-either machine p a b i) [ inl here ↦ inl (inr here) | inr there ↦ inr there ]
@@ -135,7 +135,7 @@ module _ {M : Type 0} (machine : Machine M) (carrier : Carrier M) (config : Conf
 
       -- each entry that was handed in has an encoding; so has each session that was voted on
       pub record AllFit (t : List (Mark M)) : Type 0 where
-        pub held : (p : Proposed) → Order.IsIn p (held_in machine (Deeds t)) → IsEntry p
+        pub held : (p : Proposed) → IsIn p (held_in machine (Deeds t)) → IsEntry p
         pub voted : (x : Session) → HasVotedOn x (signs_of t) → SessionFits x
 
       module _ (t : List (Mark M)) (made : AllMade At me t) (bytes : AllBytes t) (fit : AllFit t) where
@@ -156,9 +156,9 @@ module _ {M : Type 0} (machine : Machine M) (carrier : Carrier M) (config : Conf
             let same : At.entry_in p ≡ is.entry = ap (λ (q : Proposed). At.entry_in q) is.is ∙ ap entry_or_void (whole-again entry_encoding EntryFits entry_at entry_form is.entry is.fits) in
             subst EntryFits (sym same) is.fits
 
-        taken-fits : (from : ℕ) (m : M) → IsTaken At (view_at At me t) t from m → (p : Proposed) → Order.IsIn p (machine.carried m) → IsEntry p
+        taken-fits : (from : ℕ) (m : M) → IsTaken At (view_at At me t) t from m → (p : Proposed) → IsIn p (machine.carried m) → IsEntry p
         taken-fits from m taken p i =
-            let w = written-entry (entries_in taken.said) p (subst (λ (ps : List Proposed). Order.IsIn p ps) (carries.entries taken.said m taken.reads) i) in
+            let w = written-entry (entries_in taken.said) p (subst (λ (ps : List Proposed). IsIn p ps) (carries.entries taken.said m taken.reads) i) in
             record {
               entry = w.0;
               fits = given-fits entries_in EntryFits entries-fit (view_at At me t).me t bytes w.0 (heard-given At entries_in me t _ taken.said w.0 taken.heard w.1);

@@ -2,6 +2,7 @@
 use Rattle.std.proofs.Common.{◌≡◌, ◌≢◌, inl, inr, ℕ, ◌+◌, ◌*◌, ◌≤◌, ◌^◌, Bool, true, false, not, List, [], ◌∷◌, ◌++◌, length, Option, Some, None, is_some, sym, ◌∙◌, ap, subst, refl, append_assoc, arith}
 use Rattle.std.specs.Prelude.{Ok, Err, ◌==◌, nat_lt}
 use Rattle.std.proofs.lemmas.Bool.{cond_both, and_parts, eqb-true}
+use Rattle.cs_base.specs.Lists.{IsIn}
 use Rattle.cs_base.specs.declared.key.Key.{Key}
 use Rattle.cs_base.specs.declared.node_id.NodeId.{NodeId}
 use Rattle.cs_base.specs.Key.{shard_of_key}
@@ -17,13 +18,13 @@ use Rattle.cs_order.specs.declared.answers.Took.{Took as Answer}
 use Rattle.cs_order.specs.declared.answers.Took.TheVariants as took
 use Rattle.cs_order.specs.Deeds.{Deed, Took_in, Ticked, Resent, Replied, Member, chosen_in}
 use Rattle.cs_wire.specs.Opened.{Opened}
-use Rattle.cs_ledger.specs.Ledger.{Bytes, IsIn}
+use Rattle.cs_ledger.specs.Ledger.{Bytes}
 use Rattle.cs_ledger.specs.Table as Shard
 use Rattle.cs_node_rules.specs.declared.cause.Cause.{Cause}
 use Rattle.cs_node_rules.specs.declared.cause.Cause.TheVariants.{Unopened, Mine, Role, Malformed, Old, Far, Leader, Repeat, Unasked, Denied, Full, NoProof}
 use Rattle.cs_node_rules.proofs.Heard.{heard}
 use Rattle.cs_node_state.specs.declared.pooled.Pooled.{Pooled}
-use Rattle.cs_node_state.specs.Setup.{digest_of, is_concerned_shard, concerned, is_fit, is_approved}
+use Rattle.cs_node_state.specs.Setup.{digest_of, is_concerned_shard, concerned, is_fit, is_session_approved}
 use Rattle.cs_node_state.specs.Admission.{due}
 use Rattle.cs_node_state.specs.Evidence.{has_voted}
 use Rattle.cs_node_rules.specs.Members.{is_other_member, others}
@@ -74,7 +75,7 @@ module _ {M : Type 0} (site : Site M) (me : NodeId) (t : List (Mark M)) (bytes :
   sent : (to : NodeId) (said : Message) → SignMade site (view_at site me Given) Given (Sent to said) → Makes (Sent to said ∷ [])
   sent to said made = sign-level site me Given (Sent to said) (λ past. refl) given made
 
-  offered : (sender : NodeId) (said : Message) (x : Session) → Says sender said → IsIn x (sessions_in said) → is_fit site.setup Now.me.shard x ≡ true → is_approved site.setup x ≡ true → IsOffered site (view_at site me Given) Given x
+  offered : (sender : NodeId) (said : Message) (x : Session) → Says sender said → IsIn x (sessions_in said) → is_fit site.setup Now.me.shard x ≡ true → is_session_approved site.setup x ≡ true → IsOffered site (view_at site me Given) Given x
   offered sender said x e about fit approved =
       record { sender = sender; said = said; heard = record { bytes = bytes; is_current = refl; reads = e }; about = about; fit = fit; approved = approved }
 
@@ -97,7 +98,7 @@ module _ {M : Type 0} (site : Site M) (me : NodeId) (t : List (Mark M)) (bytes :
   submitted sender x (Some accepted) e client fit is = sent sender (message.Decided (digest_of site.setup x) accepted) (inr (client, stands sender x accepted e fit is))
   submitted sender x None e client fit is =
       tested (not (is_pooled (digest_of site.setup x) Now.bench.pool)) Repeat _
-      (λ new. tested (is_approved site.setup x) Denied _
+      (λ new. tested (is_session_approved site.setup x) Denied _
       (λ approved. tested (pool_has_room Now.bench.pool) Full _
       (λ room. sign-level site me Given (Entered x) (λ past. refl) given (inl (offered sender (message.Submit x) x e (inl refl) fit approved)))))
 
@@ -131,7 +132,7 @@ module _ {M : Type 0} (site : Site M) (me : NodeId) (t : List (Mark M)) (bytes :
         tested again Unasked _ (λ a. sent sender (message.Voted before false x) (inr (notes-given site me Given x before given.made is, knows)))
     asking None is =
         tested again Unasked _
-        (λ a. tested (is_approved site.setup x) Denied _
+        (λ a. tested (is_session_approved site.setup x) Denied _
         (λ approved. tested (pool_has_room Now.bench.pool) Full _
         (λ room.
         let new = sign-level site me Given (Entered x) (λ past. refl) given (inl (offered sender (message.Voted vote again x) x e (inl refl) fit approved)) in

@@ -7,10 +7,9 @@ use Rattle.cs_ledger.specs.Ledger.{Bytes}
 use Rattle.cs_ledger.specs.Table.{Vote, Effect, Table, exec, table_of}
 use Rattle.cs_ledger.specs.Table as Shard
 use Rattle.cs_ledger.specs.ShardWorld.{votes_in, is_prepare_of, is_vote}
-use Rattle.cs_node_state.specs.Setup.{Setup, entry_of}
+use Rattle.cs_node_state.specs.Setup.{Setup, entry_of, prepares}
 use Rattle.cs_node_rules.specs.Signs.{Dropped, Took, Entered, Viewed, Did, Headed, Kept, Sent}
 use Rattle.cs_node_rules.specs.Site.{Mark, In, Ordered, Plain, Site, signs_of}
-use Rattle.cs_node_rules.specs.World.{prepares}
 use Rattle.cs_node_law.specs.Made.{view_at, log_in, has_given, AllMade}
 
 -- a log, as the ledger sees it

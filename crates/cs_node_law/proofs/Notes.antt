@@ -2,6 +2,7 @@
 use Rattle.std.proofs.Common.{◌≡◌, ◌⊎◌, inl, inr, ℕ, Bool, true, false, ◌&&◌, if◌then◌else◌, List, [], ◌∷◌, ◌++◌, Option, Some, None, sym, ◌∙◌, ap, subst, refl}
 use Rattle.std.specs.Prelude.{bytes_eq, nat_lt, ◌==◌}
 use Rattle.std.proofs.lemmas.Bool.{and_from, or_left, or_right}
+use Rattle.cs_tx.specs.Votes.{vote_of}
 use Rattle.cs_tx_types.specs.declared.vote.Vote.{Vote as Said}
 use Rattle.cs_tx_types.specs.declared.vote.Vote.TheVariants as tx
 use Rattle.cs_ledger.specs.Ledger.{Bytes}
@@ -13,7 +14,7 @@ use Rattle.cs_ledger.specs.ShardWorld.{votes_in, is_prepare_of, is_vote}
 use Rattle.cs_ledger.proofs.Basics.{same_bytes}
 use Rattle.cs_ledger.proofs.Settled.{vote_in-append}
 use Rattle.cs_ledger.proofs.Changes.{Change, Nothing, Locks, Notes, Accepts, Aborts, change}
-use Rattle.cs_node_state.specs.Setup.{digest_of, vote_of}
+use Rattle.cs_node_state.specs.Setup.{digest_of}
 use Rattle.cs_node_state.specs.Bench.{vote_read, noted_at}
 use Rattle.cs_node_rules.specs.Site.{Site}
 use Rattle.cs_node_law.specs.Made.{view_at, NotesAreGiven}

@@ -3,6 +3,8 @@ use Rattle.std.proofs.Common.{◌≡◌, ◌⊎◌, inl, inr, ℕ, Bool, true, f
 use Rattle.std.specs.Prelude.{Ok, bytes_eq}
 use Rattle.std.specs.Map.{lookup, remove_entry, set_value}
 use Rattle.std.proofs.lemmas.Bool.{cases_Bool, cond_both}
+use Rattle.cs_tx.specs.Votes.{vote_of}
+use Rattle.cs_base.specs.Lists.{IsIn}
 use Rattle.cs_base.specs.declared.node_id.NodeId.{NodeId}
 use Rattle.cs_tx_types.specs.declared.session.Session.{Session}
 use Rattle.cs_tx_types.specs.declared.vote.Vote.{Vote}
@@ -10,14 +12,14 @@ use Rattle.cs_tx_types.specs.declared.entry.Entry.{Entry}
 use Rattle.cs_tx_types.specs.declared.entry.Entry.TheVariants.{Prepare, Decide}
 use Rattle.cs_wire_message.specs.declared.message.Message.{Message}
 use Rattle.cs_wire.specs.Opened.{Opened}
-use Rattle.cs_ledger.specs.Ledger.{Bytes, IsIn}
+use Rattle.cs_ledger.specs.Ledger.{Bytes}
 use Rattle.cs_ledger.specs.Session as Seen
 use Rattle.cs_ledger.specs.Table as Shard
 use Rattle.cs_ledger.specs.Table.{Commit, Effect, Voted, Accepted, Aborted, Skipped, Void, Table}
 use Rattle.cs_ledger.proofs.Basics.{in_left, in_either, same_bytes}
 use Rattle.cs_node_state.specs.declared.ballot.Ballot.{Ballot}
 use Rattle.cs_node_state.specs.declared.pooled.Pooled.{Pooled}
-use Rattle.cs_node_state.specs.Setup.{Setup, digest_of, is_fit, is_approved, entry_of, vote_of}
+use Rattle.cs_node_state.specs.Setup.{Setup, digest_of, is_fit, is_session_approved, entry_of}
 use Rattle.cs_tx_types.specs.Session.{session_in}
 use Rattle.cs_node_state.specs.Evidence.{has_voted}
 use Rattle.cs_node_state.specs.Pool.{Pool, found, is_pooled, without_session, changed_at, pool_changed, with_ballot, as_locked, entering, pushed}
@@ -111,7 +113,7 @@ HasTaken setup d who vote (Sent to message ∷ past) = HasTaken setup d who vote
 pub record IsSourced {M : Type 0} (site : Site M) (me : NodeId) (t : List (Mark M)) (e : Place) : Type 0 where
   pub digest : e.0 ≡ digest_of site.setup e.1.session
   pub fit : is_fit site.setup me.shard e.1.session ≡ true
-  pub source : ((is_approved site.setup e.1.session ≡ true) × IsIn e.1.session (sessions_given site me t)) ⊎ HasVotedOn e.1.session (signs_of t)
+  pub source : ((is_session_approved site.setup e.1.session ≡ true) × IsIn e.1.session (sessions_given site me t)) ⊎ HasVotedOn e.1.session (signs_of t)
   pub ballots : (b : Ballot) → IsIn b e.1.ballots → HasTaken site.setup e.0 b.sender b.vote (signs_of t)
   pub locked : e.1.locked ≡ true → has_given site.setup e.0 Commit (signs_of t) ≡ true
 
@@ -207,7 +209,7 @@ module _ {M : Type 0} (site : Site M) (me : NodeId) (t : List (Mark M)) where
             let moved : IsSourced site me t (o.0, change o.1) = record {
               digest = s.digest ∙ ap (digest_of site.setup) (sym (session o.1));
               fit = ap (λ x. is_fit site.setup me.shard x) (session o.1) ∙ s.fit;
-              source = subst (λ x. ((is_approved site.setup x ≡ true) × IsIn x (sessions_given site me t)) ⊎ HasVotedOn x (signs_of t)) (sym (session o.1)) s.source;
+              source = subst (λ x. ((is_session_approved site.setup x ≡ true) × IsIn x (sessions_given site me t)) ⊎ HasVotedOn x (signs_of t)) (sym (session o.1)) s.source;
               ballots = λ b j. elim (ballots o.1 b j) [ inl old ↦ s.ballots b old | inr taken ↦ subst (λ k. HasTaken site.setup k b.sender b.vote (signs_of t)) new.2 taken ];
               locked = λ h. elim (locked o.1 h) [ inl old ↦ s.locked old | inr given ↦ subst (λ k. has_given site.setup k Commit (signs_of t) ≡ true) new.2 given ];
             } in
@@ -215,7 +217,7 @@ module _ {M : Type 0} (site : Site M) (me : NodeId) (t : List (Mark M)) where
       ]
 
   pub sourced-pushed : (x : Session) (locked : Bool) (pool : Pool) → AllSourced pool → is_fit site.setup me.shard x ≡ true
-      → ((is_approved site.setup x ≡ true) × IsIn x (sessions_given site me t)) ⊎ HasVotedOn x (signs_of t) → (locked ≡ true → has_given site.setup (digest_of site.setup x) Commit (signs_of t) ≡ true)
+      → ((is_session_approved site.setup x ≡ true) × IsIn x (sessions_given site me t)) ⊎ HasVotedOn x (signs_of t) → (locked ≡ true → has_given site.setup (digest_of site.setup x) Commit (signs_of t) ≡ true)
       → AllSourced (pushed (digest_of site.setup x) x locked pool)
   sourced-pushed x locked pool all fit source given e i =
       elim (in_either e pool ((digest_of site.setup x, entering x locked) ∷ []) i) [

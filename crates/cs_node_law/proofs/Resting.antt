@@ -9,7 +9,7 @@ use Rattle.cs_order.specs.declared.answers.Step.{Step}
 use Rattle.cs_order.specs.declared.answers.Step.TheVariants.{Chosen, Moved, Quiet}
 use Rattle.cs_order.specs.declared.answers.May.{May}
 use Rattle.cs_order.specs.declared.answers.May.TheVariants.{No, Free, Only}
-use Rattle.cs_order.specs.Lists as Order
+use Rattle.cs_base.specs.Lists.{IsIn}
 use Rattle.cs_order.specs.Deeds.{Advanced, Echoed, Proposing, Cut, Member, did, chosen_in}
 use Rattle.cs_order.specs.Calls.{Proposable}
 use Rattle.cs_order.specs.Law.{ComesToRest, Holds}
@@ -60,7 +60,7 @@ module _ {M : Type 0} (site : Site M) where
         let P : May → Type 0 = λ may. Proposable may (site.proposed_of entry) in
         proposing-falls v (site.proposed_of entry) (subst P (sym is) tt)
 
-    candidate-falls : (v : View M) (all candidates : List Proposed) → site.machine.may_propose v.member ≡ Only all → ((p : Proposed) → Order.IsIn p candidates → Order.IsIn p all) → TurnFalls v (candidate_marks site v candidates)
+    candidate-falls : (v : View M) (all candidates : List Proposed) → site.machine.may_propose v.member ≡ Only all → ((p : Proposed) → IsIn p candidates → IsIn p all) → TurnFalls v (candidate_marks site v candidates)
     candidate-falls v all [] is within = tt
     candidate-falls v all (p ∷ more) is within =
         let P : May → Type 0 = λ may. Proposable may p in

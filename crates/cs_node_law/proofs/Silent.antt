@@ -2,6 +2,8 @@
 use Rattle.std.proofs.Common.{◌≡◌, ◌⊎◌, inl, inr, ℕ, zero, suc, ◌+◌, ◌*◌, Bool, true, false, if◌then◌else◌, List, [], ◌∷◌, ◌++◌, length, Option, Some, None, sym, ◌∙◌, ap, subst, refl, append_assoc}
 use Rattle.std.specs.Prelude.{nat_lt}
 use Rattle.std.proofs.lemmas.Bool.{cond_both, or_right}
+use Rattle.cs_tx.specs.Votes.{vote_of}
+use Rattle.cs_base.specs.Lists.{IsIn}
 use Rattle.cs_base.specs.declared.node_id.NodeId.{NodeId}
 use Rattle.cs_tx_types.specs.declared.session.Session.{Session}
 use Rattle.cs_wire_message.specs.declared.message.Message.{Message}
@@ -10,10 +12,10 @@ use Rattle.cs_order.specs.declared.answers.Outgoing.{Outgoing}
 use Rattle.cs_order.specs.Deeds.{Deed, sent_by, chosen_in}
 use Rattle.cs_order.specs.Runs.{IsFor}
 use Rattle.cs_check_rules.specs.Chain.{chain_head}
-use Rattle.cs_ledger.specs.Ledger.{Bytes, IsIn}
+use Rattle.cs_ledger.specs.Ledger.{Bytes}
 use Rattle.cs_ledger.specs.Table.{Vote}
 use Rattle.cs_ledger.proofs.Basics.{in_right, in_either}
-use Rattle.cs_node_state.specs.Setup.{Setup, digest_of, vote_of}
+use Rattle.cs_node_state.specs.Setup.{Setup, digest_of}
 use Rattle.cs_base.specs.NodeId.{same_name, members_below}
 use Rattle.cs_node_rules.specs.Members.{is_other_member, members, except, others}
 use Rattle.cs_node_rules.specs.Signs.{Sign, Dropped, Took, Entered, Viewed, Did, Headed, Kept, Sent, sends}

@@ -5,6 +5,7 @@ use Rattle.std.proofs.lemmas.Bool.{cond_both, and_from, or_left}
 use Rattle.std.proofs.lemmas.Option.{slice_get-get_or}
 use Rattle.std.proofs.lemmas.List.{length-append}
 use Rattle.std.proofs.Math.Seq.{get_or-append_seam}
+use Rattle.cs_tx.specs.Votes.{vote_of}
 use Rattle.cs_base.specs.declared.node_id.NodeId.{NodeId}
 use Rattle.cs_tx_types.specs.declared.session.Session.{Session}
 use Rattle.cs_tx_types.specs.declared.vote.Vote as Tx
@@ -16,7 +17,7 @@ use Rattle.cs_order.specs.declared.answers.Step.{Step}
 use Rattle.cs_order.specs.declared.answers.Step.TheVariants.{Chosen, Moved, Quiet}
 use Rattle.cs_order.specs.declared.answers.May.{May}
 use Rattle.cs_order.specs.declared.answers.May.TheVariants.{No, Free, Only}
-use Rattle.cs_order.specs.Lists as Order
+use Rattle.cs_base.specs.Lists.{IsIn}
 use Rattle.cs_order.specs.Deeds.{Deed, Advanced, Echoed, Proposing, Cut, Member, chosen_in}
 use Rattle.cs_order.specs.Calls.{Proposable}
 use Rattle.cs_ledger.specs.Session as Seen
@@ -24,7 +25,7 @@ use Rattle.cs_ledger.specs.Table.{Vote, Commit, Abort, Effect, Voted, Accepted, 
 use Rattle.cs_ledger.specs.Table as Shard
 use Rattle.cs_ledger.specs.ShardWorld.{is_vote}
 use Rattle.cs_ledger.proofs.Basics.{bytes_refl}
-use Rattle.cs_node_state.specs.Setup.{Setup, digest_of, concerned, vote_of, vote_from}
+use Rattle.cs_node_state.specs.Setup.{Setup, digest_of, concerned, vote_from}
 use Rattle.cs_tx_types.specs.Session.{session_in}
 use Rattle.cs_node_state.specs.Admission.{due}
 use Rattle.cs_node_rules.specs.Members.{others}
@@ -241,7 +242,7 @@ module _ {M : Type 0} (site : Site M) (me : NodeId) where
       let may : Proposable (site.machine.may_propose (view_at site me t).member) p = subst (λ m. Proposable m p) (sym e) tt in
       deed-level site me t (Proposing p (site.machine.proposing (view_at site me t).member p)) l ((may, refl), inl (record { entry = entry; is = refl; due = d })) refl
 
-  candidate-level : (t : List (Mark M)) (all candidates : List Proposed) → IsLevel site me t → site.machine.may_propose (view_at site me t).member ≡ Only all → ((p : Proposed) → Order.IsIn p candidates → Order.IsIn p all) → TurnLevel t (candidate_marks site (view_at site me t) candidates)
+  candidate-level : (t : List (Mark M)) (all candidates : List Proposed) → IsLevel site me t → site.machine.may_propose (view_at site me t).member ≡ Only all → ((p : Proposed) → IsIn p candidates → IsIn p all) → TurnLevel t (candidate_marks site (view_at site me t) candidates)
   candidate-level t all [] l e within = tt
   candidate-level t all (p ∷ more) l e within =
       cond_both (admits_proposed site (view_at site me t) p) _ _ (λ o. TurnLevel t o)

@@ -1,5 +1,6 @@
 -- Why a mark may stand after the marks of its node that came before it. Marks and signs are newest first.
 use Rattle.std.specs.Prelude.{◌≡◌, ◌⊎◌, ℕ, Bool, true, false, ◌&&◌, ◌||◌, List, [], ◌∷◌, ◌++◌, length, Option, Some, None, Ok, slice_get}
+use Rattle.cs_tx.specs.Votes.{vote_of}
 use Rattle.cs_base.specs.declared.node_id.NodeId.{NodeId}
 use Rattle.cs_base.specs.NodeId.{is_client}
 use Rattle.cs_tx_value.specs.Object.{DigestFits}
@@ -14,20 +15,20 @@ use Rattle.cs_wire_message.specs.Message.{MessageFits}
 use Rattle.cs_check_rules.specs.Chain.{chain_head, cut_slot}
 use Rattle.cs_order.specs.declared.proposed.Proposed.{Proposed}
 use Rattle.cs_order.specs.declared.answers.May.TheVariants.{Only}
-use Rattle.cs_order.specs.Lists as Order
+use Rattle.cs_base.specs.Lists.{IsIn}
 use Rattle.cs_order.specs.Deeds.{Deed, Took_in, Advanced, Echoed, Proposing, Ticked, Resent, Replied, Cut, sent_by, chosen_in, kept_from}
 use Rattle.cs_order.specs.Runs.{KeepsRules, IsFor}
-use Rattle.cs_ledger.specs.Ledger.{Bytes, IsIn}
+use Rattle.cs_ledger.specs.Ledger.{Bytes}
 use Rattle.cs_ledger.specs.Table.{Vote, Commit, Effect, Voted, exec}
 use Rattle.cs_ledger.specs.ShardWorld.{is_vote}
 use Rattle.cs_node_rules.specs.declared.cause.Cause.{Cause}
-use Rattle.cs_node_state.specs.Setup.{Setup, digest_of, is_concerned_shard, is_fit, is_approved, vote_of, entry_of}
+use Rattle.cs_node_state.specs.Setup.{Setup, digest_of, is_concerned_shard, is_fit, is_session_approved, entry_of, prepares}
 use Rattle.cs_node_state.specs.Admission.{due}
 use Rattle.cs_node_state.specs.Bench.{is_locked, noted, decision_on}
 use Rattle.cs_node_rules.specs.Signs.{Sign, Dropped, Took, Entered, Viewed, Did, Headed, Kept, Sent}
 use Rattle.cs_node_rules.specs.Site.{Input, Datagram, Tick, Mark, In, Ordered, Plain, Site, View, start_view, view_after, signs_of}
 use Rattle.cs_node_rules.specs.Trail.{admits_proposed, opened_marks, event_marks}
-use Rattle.cs_node_rules.specs.World.{Happening, view_of, IsLife, prepares}
+use Rattle.cs_node_rules.specs.World.{Happening, view_of, IsLife}
 use Rattle.cs_node_rules.specs.Ready.{IsQuiet}
 use Rattle.cs_node_rules.specs.Collisions.{sessions_in, given}
 use Rattle.cs_node_rules.specs.Carrying.{is_ordering}
@@ -95,7 +96,7 @@ pub record IsOffered {M : Type 0} (site : Site M) (v : View M) (t : List (Mark M
   pub heard : IsHeard site v t sender said
   pub about : IsIn x (sessions_in said)
   pub fit : is_fit site.setup v.me.shard x ≡ true
-  pub approved : is_approved site.setup x ≡ true
+  pub approved : is_session_approved site.setup x ≡ true
 
 -- a node of a concerned shard votes on this session
 pub record IsVoted {M : Type 0} (site : Site M) (v : View M) (t : List (Mark M))
@@ -127,7 +128,7 @@ pub record IsDue {M : Type 0} (site : Site M) (v : View M) (proposed : Proposed)
 pub record IsCandidate {M : Type 0} (site : Site M) (v : View M) (proposed : Proposed) : Type 0 where
   pub candidates : List Proposed
   pub may : site.machine.may_propose v.member ≡ Only candidates
-  pub within : Order.IsIn proposed candidates
+  pub within : IsIn proposed candidates
   pub admitted : admits_proposed site v proposed ≡ true
 
 -- Why the node lets its order do this deed.

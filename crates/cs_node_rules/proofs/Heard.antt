@@ -11,7 +11,7 @@ use Rattle.cs_wire_message.specs.declared.message.Message.TheVariants as message
 use Rattle.cs_check_rules.specs.Heads.{is_news}
 use Rattle.cs_check_rules.specs.Proofs.{proof_of}
 use Rattle.cs_node_state.specs.declared.pooled.Pooled.{Pooled}
-use Rattle.cs_node_state.specs.Setup.{Setup, digest_of, is_concerned_shard, is_fit, is_approved}
+use Rattle.cs_node_state.specs.Setup.{Setup, digest_of, is_concerned_shard, is_fit, is_session_approved}
 use Rattle.cs_node_state.specs.Evidence.{has_voted}
 use Rattle.cs_node_state.specs.Pool.{found, is_pooled, pool_has_room}
 use Rattle.cs_node_state.specs.Bench.{Bench, decision_on, noted}
@@ -41,12 +41,12 @@ module _ (setup : Setup) (me : NodeId) (b : Bench) (sender : NodeId) where
   heard-submitted x (Some accepted) = (refl, tt)
   heard-submitted x None =
       heard-guarded (not (is_pooled (digest_of setup x) b.pool)) _ _
-      (heard-guarded (is_approved setup x) _ _ (heard-guarded (pool_has_room b.pool) _ _ tt))
+      (heard-guarded (is_session_approved setup x) _ _ (heard-guarded (pool_has_room b.pool) _ _ tt))
 
   heard-asking : (vote : Vote) (asks : Bool) (x : Session) (known : Option Vote) → AllHeard sender (asking_signs setup b sender vote asks x known)
   heard-asking vote asks x (Some known) = heard-guarded asks _ _ (refl, tt)
   heard-asking vote asks x None =
-      heard-guarded asks _ _ (heard-guarded (is_approved setup x) _ _ (heard-guarded (pool_has_room b.pool) _ _ tt))
+      heard-guarded asks _ _ (heard-guarded (is_session_approved setup x) _ _ (heard-guarded (pool_has_room b.pool) _ _ tt))
 
   heard-ballot : (vote : Vote) (asks : Bool) (x : Session) (pooled : Option Pooled) → AllHeard sender (ballot_signs setup me.shard b sender vote asks x pooled)
   heard-ballot vote asks x (Some p) = heard-guarded (not (has_voted sender p.ballots)) _ _ tt

@@ -6,7 +6,7 @@ use Rattle.cs_wire_message.specs.declared.message.Message.{Message}
 use Rattle.cs_wire_message.specs.Classes.{Class, OfOrder, class_of}
 use Rattle.cs_wire_message.specs.Message.{MessageFits}
 use Rattle.cs_order.specs.declared.proposed.Proposed.{Proposed}
-use Rattle.cs_order.specs.Lists.{IsIn}
+use Rattle.cs_base.specs.Lists.{IsIn}
 use Rattle.cs_order.specs.Deeds.{Machine}
 use Rattle.cs_node_rules.specs.Collisions.{entries_in}
 use Rattle.cs_node_rules.specs.Deployment.{proposed_of}

@@ -2,6 +2,7 @@
 use Rattle.std.specs.Prelude.{◌≡◌, ℕ, List, [], ◌∷◌, ◌++◌, Some, Ok, Err, slice_get}
 use Rattle.std.specs.Int.{w16, w32, to_be_bytes}
 use Rattle.sha2.specs.Sha256.{sha256}
+use Rattle.cs_base.specs.Lists.{IsIn}
 use Rattle.cs_tx_value.specs.declared.object.Object.{Object}
 use Rattle.cs_tx_value.specs.Object.{object_encoding}
 use Rattle.cs_tx_types.specs.declared.trace.Trace.{Trace}
@@ -15,7 +16,7 @@ use Rattle.cs_base.specs.declared.node_id.NodeId.{NodeId}
 use Rattle.cs_wire_message.specs.declared.message.Message.{Message}
 use Rattle.cs_wire_message.specs.declared.message.Message.TheVariants as message
 use Rattle.cs_wire.specs.Opened.{Opened}
-use Rattle.cs_ledger.specs.Ledger.{Bytes, IsIn}
+use Rattle.cs_ledger.specs.Ledger.{Bytes}
 use Rattle.cs_node_rules.specs.Site.{Datagram, Tick, Mark, In, Ordered, Plain, Site}
 use Rattle.cs_node_rules.specs.World.{Happening}
 

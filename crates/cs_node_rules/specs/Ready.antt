@@ -6,7 +6,7 @@ use Rattle.cs_tx_types.specs.declared.vote.Vote.TheVariants.{Commit}
 use Rattle.cs_tx_types.specs.declared.entry.Entry.{Entry}
 use Rattle.cs_tx_types.specs.declared.entry.Entry.TheVariants.{Prepare, Decide}
 use Rattle.cs_wire_message.specs.declared.message.Message.TheVariants as message
-use Rattle.cs_ledger.specs.Ledger.{IsIn}
+use Rattle.cs_base.specs.Lists.{IsIn}
 use Rattle.cs_ledger.specs.Session.{Key, Piece, anchor, used_up, read_only, objects_in}
 use Rattle.cs_ledger.specs.Table as Shard
 use Rattle.cs_node_state.specs.Setup.{Setup, digest_of, concerned}

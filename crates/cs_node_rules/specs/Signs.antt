@@ -19,7 +19,7 @@ use Rattle.cs_ledger.specs.Table.{Effect}
 use Rattle.cs_node_rules.specs.declared.cause.Cause.{Cause}
 use Rattle.cs_node_rules.specs.declared.cause.Cause.TheVariants.{Mine, Role, Malformed, Repeat, Unasked, Denied, Full, NoProof}
 use Rattle.cs_node_state.specs.declared.pooled.Pooled.{Pooled}
-use Rattle.cs_node_state.specs.Setup.{Setup, digest_of, is_concerned_shard, concerned, is_fit, is_approved}
+use Rattle.cs_node_state.specs.Setup.{Setup, digest_of, is_concerned_shard, concerned, is_fit, is_session_approved}
 use Rattle.cs_tx_types.specs.Session.{session_in}
 use Rattle.cs_node_state.specs.Evidence.{has_voted}
 use Rattle.cs_node_rules.specs.Members.{is_other_member, others}
@@ -63,7 +63,7 @@ guarded holds cause signs = if holds then signs else Dropped cause ∷ []
 abbrev pub entering_signs : Setup → Bench → Session → List Sign
 entering_signs setup b x =
     guarded (not (is_pooled (digest_of setup x) b.pool)) Repeat
-    (guarded (is_approved setup x) Denied
+    (guarded (is_session_approved setup x) Denied
     (guarded (pool_has_room b.pool) Full (Entered x ∷ [])))
 
 -- the client of a decided session is told; an undecided one enters
@@ -95,7 +95,7 @@ asking_signs setup b sender vote asks x (Some noted) =
     guarded asks Unasked (Sent sender (message.Voted noted false x) ∷ [])
 asking_signs setup b sender vote asks x None =
     guarded asks Unasked
-    (guarded (is_approved setup x) Denied
+    (guarded (is_session_approved setup x) Denied
     (guarded (pool_has_room b.pool) Full (Took sender vote x ∷ Entered x ∷ [])))
 
 -- of each node the first vote on a session of the pool is taken

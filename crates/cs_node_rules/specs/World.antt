@@ -10,7 +10,7 @@ use Rattle.cs_tx_types.specs.declared.entry.Entry.TheVariants.{Prepare, Decide}
 use Rattle.cs_ledger.specs.Ledger.{Bytes, Transaction}
 use Rattle.cs_ledger.specs.Table.{Vote, Commit, Abort, Effect, Voted, Accepted, Aborted}
 use Rattle.cs_ledger.specs.ShardWorld.{Step, is_vote, is_listed}
-use Rattle.cs_node_state.specs.Setup.{Setup, digest_of, concerned, entry_of}
+use Rattle.cs_node_state.specs.Setup.{Setup, digest_of, concerned, entry_of, prepares}
 use Rattle.cs_base.specs.NodeId.{same_name}
 use Rattle.cs_node_rules.specs.Net.{Net}
 use Rattle.cs_node_rules.specs.Lines.{Parcel, parcels_of}
@@ -117,10 +117,6 @@ abbrev pub firsts_of : {M : Type 0} → List (Happening M) → List Execution
 firsts_of {M} [] = []
 firsts_of {M} (h ∷ past) = firsts_after h.node.shard (firsts_of past) (signs_of h.marks)
 
-abbrev pub prepares : Setup → Bytes → Entry → Bool
-prepares setup d (Prepare x) = bytes_eq d (digest_of setup x)
-prepares setup d (Decide vote x) = false
-
 -- the vote of a shard on a session, as its first execution recorded it
 abbrev pub is_recorded : Setup → List Execution → Bytes → Vote → ℕ → Bool
 is_recorded setup [] d vote shard = false
@@ -149,8 +145,8 @@ told_transactions setup [] = []
 told_transactions setup (e ∷ earlier) = told_after setup (e ∷ earlier) e.entry e.effect (told_transactions setup earlier)
 
 -- the history, by the effects that nodes recorded
-abbrev pub history : {M : Type 0} → Site M → List (Happening M) → List Transaction
-history {M} site world = told_transactions site.setup (firsts_of world)
+abbrev pub recorded_history : {M : Type 0} → Site M → List (Happening M) → List Transaction
+recorded_history {M} site world = told_transactions site.setup (firsts_of world)
 
 -- an execution decides accept on a session of that digest, or abort
 abbrev pub accepts_by : Setup → Bytes → Entry → Effect → Bool

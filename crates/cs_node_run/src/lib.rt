@@ -9,7 +9,7 @@ ghost use Rattle.cs_tx_types.specs.Session.{EntryFits, session_in};
 ghost use Rattle.cs_tx.specs.Digest.{digest_of_session};
 ghost use Rattle.cs_node_rules.specs.Lines.{slot_line, effect_text, head_line};
 ghost use Rattle.cs_table.specs.Effects.{effect_of};
-ghost use Rattle.cs_table.specs.Seen.{vote_of};
+ghost use Rattle.cs_tx.specs.Votes.{vote_of};
 ghost use Rattle.cs_ledger.specs.Table.{Voted};
 
 use cs_base::{Memory, NodeId, print_bytes};

@@ -6,7 +6,7 @@ use Rattle.cs_tx_types.specs.declared.entry.Entry.{Entry}
 use Rattle.cs_tx_types.specs.declared.entry.Entry.TheVariants.{Prepare, Decide}
 use Rattle.cs_base.specs.Options.{or_else}
 use Rattle.cs_node_state.specs.declared.pooled.Pooled.{Pooled}
-use Rattle.cs_node_state.specs.Setup.{Setup, digest_of, is_concerned_shard, concerned, is_fit, is_approved}
+use Rattle.cs_node_state.specs.Setup.{Setup, digest_of, is_concerned_shard, concerned, is_fit, is_session_approved}
 use Rattle.cs_node_state.specs.Evidence.{is_decided, decided_vote}
 use Rattle.cs_node_state.specs.Pool.{Pool, found}
 
@@ -17,7 +17,7 @@ is_decided_in f shards vote (Some p) = is_decided f shards vote p.ballots
 
 -- a session that may be voted on; a decision that the votes taken on a pooled session support
 abbrev pub admits : Setup → ℕ → Pool → Entry → Bool
-admits setup shard pool (Prepare x) = is_fit setup shard x && is_approved setup x
+admits setup shard pool (Prepare x) = is_fit setup shard x && is_session_approved setup x
 admits setup shard pool (Decide vote x) =
     is_concerned_shard setup x shard && is_decided_in setup.f (concerned setup x) vote (found (digest_of setup x) pool)
 

@@ -8,11 +8,11 @@ use Rattle.cs_order.specs.Counts.{count_below}
 use Rattle.cs_node_state.specs.declared.ballot.Ballot.{Ballot}
 use Rattle.cs_base.specs.NodeId.{same_name}
 
-abbrev pub vote_eq : Vote → Vote → Bool
-vote_eq Commit Commit = true
-vote_eq Abort Abort = true
-vote_eq Commit Abort = false
-vote_eq Abort Commit = false
+abbrev pub same_vote : Vote → Vote → Bool
+same_vote Commit Commit = true
+same_vote Abort Abort = true
+same_vote Commit Abort = false
+same_vote Abort Commit = false
 
 abbrev pub has_voted : NodeId → List Ballot → Bool
 has_voted name ballots = list_any (λ b. same_name b.sender name) ballots
@@ -20,7 +20,7 @@ has_voted name ballots = list_any (λ b. same_name b.sender name) ballots
 -- this node of a shard gave this vote
 abbrev pub has_ballot : ℕ → ℕ → Vote → List Ballot → Bool
 has_ballot shard index vote ballots =
-    list_any (λ b. same_name b.sender (record { shard = shard; index = index }) && vote_eq b.vote vote) ballots
+    list_any (λ b. same_name b.sender (record { shard = shard; index = index }) && same_vote b.vote vote) ballots
 
 -- f + 1 nodes of a shard gave this vote
 abbrev pub has_support : ℕ → List Ballot → Vote → ℕ → Bool

@@ -1,5 +1,5 @@
 -- What is the same at all nodes of a deployment, and what the ledger sees of a session and of an entry.
-use Rattle.std.specs.Prelude.{ℕ, zero, suc, Bool, ◌&&◌, if◌then◌else◌, List, [], ◌∷◌, ◌++◌}
+use Rattle.std.specs.Prelude.{ℕ, zero, suc, Bool, ◌&&◌, if◌then◌else◌, List, [], ◌∷◌, ◌++◌, false, bytes_eq}
 use Rattle.cs_tx_types.specs.declared.session.Session.{Session}
 use Rattle.cs_tx_types.specs.declared.vote.Vote.{Vote}
 use Rattle.cs_tx_types.specs.declared.vote.Vote.TheVariants.{Commit, Abort}
@@ -8,6 +8,7 @@ use Rattle.cs_tx_types.specs.declared.entry.Entry.TheVariants.{Prepare, Decide}
 use Rattle.cs_ledger.specs.Ledger.{Bytes}
 use Rattle.cs_ledger.specs.Session as Seen
 use Rattle.cs_ledger.specs.Table as Shard
+use Rattle.cs_tx.specs.Votes.{vote_of}
 
 pub record Setup : Type 0 where
   pub shards : ℕ
@@ -17,6 +18,11 @@ pub record Setup : Type 0 where
 
 abbrev pub digest_of : Setup → Session → Bytes
 digest_of setup x = (setup.session_of x).digest
+
+-- the entry is a Prepare of the session of this digest
+abbrev pub prepares : Setup → Bytes → Entry → Bool
+prepares setup d (Prepare x) = bytes_eq d (digest_of setup x)
+prepares setup d (Decide vote x) = false
 
 abbrev pub is_concerned_shard : Setup → Session → ℕ → Bool
 is_concerned_shard setup x shard = Seen.concerns setup.rules (setup.session_of x) shard
@@ -34,12 +40,8 @@ abbrev pub is_fit : Setup → ℕ → Session → Bool
 is_fit setup shard x = Seen.well_formed setup.rules (setup.session_of x) && is_concerned_shard setup x shard
 
 -- the check of each trace says yes
-abbrev pub is_approved : Setup → Session → Bool
-is_approved setup x = (setup.session_of x).transaction.approved
-
-abbrev pub vote_of : Vote → Shard.Vote
-vote_of Commit = Shard.Commit
-vote_of Abort = Shard.Abort
+abbrev pub is_session_approved : Setup → Session → Bool
+is_session_approved setup x = (setup.session_of x).transaction.approved
 
 abbrev pub vote_from : Shard.Vote → Vote
 vote_from Shard.Commit = Commit

@@ -9,7 +9,7 @@ use Rattle.cs_order.specs.declared.answers.Step.TheVariants.{Chosen, Moved, Quie
 use Rattle.cs_order.specs.declared.answers.May.{May}
 use Rattle.cs_order.specs.declared.answers.May.TheVariants.{No, Free, Only}
 use Rattle.cs_order.specs.Deeds.{Took_in, Advanced, Echoed, Proposing, Ticked, Resent, Replied, Cut, Member, Machine, did}
-use Rattle.cs_order.specs.Lists.{IsIn}
+use Rattle.cs_base.specs.Lists.{IsIn}
 
 -- this entry may be proposed
 abbrev pub Proposable : May → Proposed → Type 0

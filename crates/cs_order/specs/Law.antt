@@ -4,7 +4,7 @@ use Rattle.cs_order.specs.declared.proposed.Proposed.{Proposed}
 use Rattle.cs_order.specs.declared.answers.Outgoing.{Outgoing}
 use Rattle.cs_order.specs.declared.answers.Step.TheVariants.{Chosen, Quiet}
 use Rattle.cs_order.specs.declared.answers.May.TheVariants.{Only}
-use Rattle.cs_order.specs.Lists.{IsIn}
+use Rattle.cs_base.specs.Lists.{IsIn}
 use Rattle.cs_order.specs.Digests.{HaveDigests}
 use Rattle.cs_order.specs.Deeds.{Deed, Took_in, Advanced, Echoed, Proposing, Ticked, Resent, Replied, Cut, Member, Machine, did, sent_by, chosen_in, entry_of_slot}
 use Rattle.cs_order.specs.Calls.{Proposable}

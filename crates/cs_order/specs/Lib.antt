@@ -1,5 +1,4 @@
 pub mod Counts
-pub mod Lists
 pub mod Digests
 pub mod Limits
 pub mod Deeds

@@ -4,7 +4,7 @@ use Rattle.cs_order.specs.declared.proposed.Proposed.{Proposed}
 use Rattle.cs_order.specs.declared.answers.Outgoing.{Outgoing}
 use Rattle.cs_order.specs.declared.answers.Took.TheVariants.{Taken}
 use Rattle.cs_order.specs.declared.answers.Step.TheVariants.{Quiet}
-use Rattle.cs_order.specs.Lists.{IsIn}
+use Rattle.cs_base.specs.Lists.{IsIn}
 use Rattle.cs_order.specs.Counts.{count_below}
 use Rattle.cs_order.specs.Deeds.{Deed, Took_in, Advanced, Echoed, Proposing, Ticked, Resent, Replied, Cut, Member, Machine, sent_by, chosen_in}
 use Rattle.cs_order.specs.Calls.{Proposable}

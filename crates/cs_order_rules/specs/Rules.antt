@@ -120,13 +120,13 @@ safe s digest = is_safe s.f (change_of s s.view) s.view digest
 
 -- Echo, without admission: the leader's proposal of the view, where it is safe, nothing was echoed
 -- in the view, and the digest is one of the most that are echoed in a slot.
-abbrev pub has_place : Sight → List ℕ → Bool
-has_place s digest =
+abbrev pub has_echo_place : Sight → List ℕ → Bool
+has_echo_place s digest =
     let lines = echoed_in s.me (open_slot s) s.taken in
     nat_lt (length lines) MOST_ECHOED || list_any (λ (line : List ℕ × ℕ). bytes_eq line.0 digest) lines
 
 abbrev pub may_echo : Sight → Proposed → Bool
-may_echo s e = (((s.view == 0) || safe s e.digest) && not (is_some (own echo_said s))) && has_place s e.digest
+may_echo s e = (((s.view == 0) || safe s e.digest) && not (is_some (own echo_said s))) && has_echo_place s e.digest
 
 abbrev pub if_may_echo : Sight → Option Proposed → Option Proposed
 if_may_echo s None = None

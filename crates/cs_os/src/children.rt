@@ -1,6 +1,6 @@
 //! Child programs of this same program.
 ghost use Rattle.std.specs.Prelude.{◌≡◌, None, length, vec_len};
-ghost use Rattle.cs_io.specs.Spawner.{flag_at};
+ghost use Rattle.cs_io.specs.Spawner.{flag_of};
 ghost use Rattle.cs_io.specs.laws.Flags.{spared_past};
 
 use cs_io::{Spawner, Started, Stopped, Waited};
@@ -57,7 +57,7 @@ impl<R: Processes> Spawner for Children<'_, R> {
       children = vec_len s.children;
       unstarted = s.unstarted;
       statuses = None;
-      ended = flag_at s.ended.items;
+      ended = flag_of s.ended.items;
     } };
 
     ghost faults = { λ s. s.faults };

@@ -1,6 +1,6 @@
 //! When a link gives its ticks.
 ghost use Rattle.std.specs.Prelude.{◌≡◌, ◌+◌, ◌-◌, ◌^◌, min};
-ghost use Rattle.cs_os.specs.Pace.{is_due, rest_until_tick, next_of};
+ghost use Rattle.cs_os.specs.Pace.{is_tick_due, rest_until_tick, next_of};
 
 /// A tick comes so many milliseconds after the last one.
 pub const TICK: u64 = 20;
@@ -25,7 +25,7 @@ pub struct Pace {
 }
 
 fn is_due(passed: Option<u64>, came: u64) -> bool
-    ensures { result ≡ is_due passed came }
+    ensures { result ≡ is_tick_due passed came }
 {
     match passed {
         Some(passed) => passed >= TICK,

@@ -28,11 +28,11 @@ use Rattle.cs_eval_check.proofs.Turns.{condition_holds, condition_misfits, no_mo
 use Rattle.cs_proc_parts.specs.declared.ending.Ending.TheVariants as ending
 use Rattle.cs_proc_parts.specs.declared.ending.Halt.{Halt}
 use Rattle.cs_proc_parts.specs.declared.progress.Doing.{Doing}
-use Rattle.cs_proc_parts.specs.Courses.{Course, Went, Ended, goes, spending, ◌>>=◌, or_ends, evaluated, Halts}
+use Rattle.cs_proc_parts.specs.Courses.{ProcedureCourse, Went, Ended, goes, spending, ◌>>=◌, or_ends, evaluated, Halts}
 use Rattle.cs_proc_parts.specs.Creating.{room_for, with_made}
 use Rattle.cs_proc.specs.declared.procedures_running.Running.{Running}
-use Rattle.cs_proc.specs.Acting.{Act, Calls, with_names, let_does, set_does, turns_do, gone_over, for_in_does, for_to_does, arguments_run, object_of, put_does, make_does, block_does}
-use Rattle.cs_proc.specs.Tasks.{finished, other_does, choice_does, calls_at, left_to, then_left, Acts}
+use Rattle.cs_proc.specs.Acting.{ProcedureStep, Calls, with_names, let_does, set_does, turns_do, gone_over, for_in_does, for_to_does, arguments_run, object_of, put_does, make_does, block_does}
+use Rattle.cs_proc.specs.Tasks.{finished, other_does, choice_does, calls_at, rest_of_procedure, then_rest_of_procedure, Acts}
 use Rattle.cs_proc.proofs.Laws.{spending_none, went_bind, went_on, went_last, halts_is, halts_bind, evaluated_gave, halts_part}
 use Rattle.cs_proc.proofs.Turns.{acts_spent}
 
@@ -94,7 +94,7 @@ module _ (contract : ContractTree) (view : View) (s : Doing) where
   -- ---- objects that are made
 
   module _ (slot object : Text) (values : List Expr) (place : ℕ) where
-    after_values : List Value → Course Doing
+    after_values : List Value → ProcedureCourse Doing
     after_values vs = or_ends (ending.Trap cause.Misfit place) (room_for slot.bytes s.made) >>= λ room. put_does contract view slot (object_of contract view object vs) place room s
 
     made_of : (vs : List Value) (n : ℕ) → arguments_run contract view values place s.names ≡ Gave vs n → make_does contract view slot object values place s ≡ spending n (after_values vs)
@@ -129,7 +129,7 @@ module _ (contract : ContractTree) (view : View) (s : Doing) where
 -- ---- choices
 
 module _ (contract : ContractTree) (view : View) (calls : Calls) (c : Expr) (b : Block) (other : Option (Bor Block)) (place : ℕ) (s : Doing) (ts : List Task) where
-  chosen : Bool → Course Doing
+  chosen : Bool → ProcedureCourse Doing
   chosen holds = cond holds (block_does contract view calls b s) (other_does contract view calls other s)
 
   choice_halts : (e : Halt) (n : ℕ) → Halts e n (evaluated (condition contract view c place s.names)) → Halts e n (choice_does contract view calls c b other place s >>= finished contract view calls ts)
@@ -165,34 +165,34 @@ module _ (contract : ContractTree) (view : View) (calls : Calls) (c : Expr) (b :
 
 module _ (scene : Scene) (above : ℕ) (c : Expr) (b : Block) (other : Option (Bor Block)) (place n : ℕ) (before mid after : Running) where
   pub none_decided : (e : Halt) → Halts e n (evaluated (condition scene.contract.now scene.view.now c place before.doing.names))
-      → Halts e n (then_left scene above before.tasks.items (choice_does scene.contract.now scene.view.now (calls_at scene above) c b other place before.doing))
+      → Halts e n (then_rest_of_procedure scene above before.tasks.items (choice_does scene.contract.now scene.view.now (calls_at scene above) c b other place before.doing))
   none_decided e h = choice_halts scene.contract.now scene.view.now (calls_at scene above) c b other place before.doing before.tasks.items e n h
 
   -- one of two blocks is done next
   pub one_chosen : (answer : Result Unit Halt) → condition scene.contract.now scene.view.now c place before.doing.names ≡ Gave true n → mid.doing ≡ before.doing → mid.tasks.items ≡ before.tasks.items
-      → Acts scene above answer 0 (then_left scene above mid.tasks.items (block_does scene.contract.now scene.view.now (calls_at scene above) b mid.doing)) after
-      → Acts scene above answer n (then_left scene above before.tasks.items (choice_does scene.contract.now scene.view.now (calls_at scene above) c b other place before.doing)) after
+      → Acts scene above answer 0 (then_rest_of_procedure scene above mid.tasks.items (block_does scene.contract.now scene.view.now (calls_at scene above) b mid.doing)) after
+      → Acts scene above answer n (then_rest_of_procedure scene above before.tasks.items (choice_does scene.contract.now scene.view.now (calls_at scene above) c b other place before.doing)) after
   one_chosen answer holds doing tasks h =
-      acts_spent scene above answer n 0 n _ (then_left scene above mid.tasks.items (block_does scene.contract.now scene.view.now (calls_at scene above) b mid.doing)) after (omega arith)
+      acts_spent scene above answer n 0 n _ (then_rest_of_procedure scene above mid.tasks.items (block_does scene.contract.now scene.view.now (calls_at scene above) b mid.doing)) after (omega arith)
       (choice_one scene.contract.now scene.view.now (calls_at scene above) c b other place before.doing before.tasks.items n holds
-      ∙ ap (λ (ts : List Task). spending n (block_does scene.contract.now scene.view.now (calls_at scene above) b before.doing >>= left_to scene above ts)) (sym tasks)
-      ∙ ap (λ (s : Doing). spending n (block_does scene.contract.now scene.view.now (calls_at scene above) b s >>= left_to scene above mid.tasks.items)) (sym doing)) h
+      ∙ ap (λ (ts : List Task). spending n (block_does scene.contract.now scene.view.now (calls_at scene above) b before.doing >>= rest_of_procedure scene above ts)) (sym tasks)
+      ∙ ap (λ (s : Doing). spending n (block_does scene.contract.now scene.view.now (calls_at scene above) b s >>= rest_of_procedure scene above mid.tasks.items)) (sym doing)) h
 
   pub other_chosen : (answer : Result Unit Halt) (o : Bor Block) → other ≡ Some o → condition scene.contract.now scene.view.now c place before.doing.names ≡ Gave false n → mid.doing ≡ before.doing → mid.tasks.items ≡ before.tasks.items
-      → Acts scene above answer 0 (then_left scene above mid.tasks.items (block_does scene.contract.now scene.view.now (calls_at scene above) o.now mid.doing)) after
-      → Acts scene above answer n (then_left scene above before.tasks.items (choice_does scene.contract.now scene.view.now (calls_at scene above) c b other place before.doing)) after
+      → Acts scene above answer 0 (then_rest_of_procedure scene above mid.tasks.items (block_does scene.contract.now scene.view.now (calls_at scene above) o.now mid.doing)) after
+      → Acts scene above answer n (then_rest_of_procedure scene above before.tasks.items (choice_does scene.contract.now scene.view.now (calls_at scene above) c b other place before.doing)) after
   other_chosen answer o is holds doing tasks h =
-      acts_spent scene above answer n 0 n _ (then_left scene above mid.tasks.items (block_does scene.contract.now scene.view.now (calls_at scene above) o.now mid.doing)) after (omega arith)
+      acts_spent scene above answer n 0 n _ (then_rest_of_procedure scene above mid.tasks.items (block_does scene.contract.now scene.view.now (calls_at scene above) o.now mid.doing)) after (omega arith)
       (choice_other scene.contract.now scene.view.now (calls_at scene above) c b other place before.doing before.tasks.items o n is holds
-      ∙ ap (λ (ts : List Task). spending n (block_does scene.contract.now scene.view.now (calls_at scene above) o.now before.doing >>= left_to scene above ts)) (sym tasks)
-      ∙ ap (λ (s : Doing). spending n (block_does scene.contract.now scene.view.now (calls_at scene above) o.now s >>= left_to scene above mid.tasks.items)) (sym doing)) h
+      ∙ ap (λ (ts : List Task). spending n (block_does scene.contract.now scene.view.now (calls_at scene above) o.now before.doing >>= rest_of_procedure scene above ts)) (sym tasks)
+      ∙ ap (λ (s : Doing). spending n (block_does scene.contract.now scene.view.now (calls_at scene above) o.now s >>= rest_of_procedure scene above mid.tasks.items)) (sym doing)) h
 
   pub none_chosen : other ≡ None → condition scene.contract.now scene.view.now c place before.doing.names ≡ Gave false n → after.doing ≡ before.doing → after.tasks.items ≡ before.tasks.items
-      → then_left scene above before.tasks.items (choice_does scene.contract.now scene.view.now (calls_at scene above) c b other place before.doing) ≡ spending n (left_to scene above after.tasks.items after.doing)
+      → then_rest_of_procedure scene above before.tasks.items (choice_does scene.contract.now scene.view.now (calls_at scene above) c b other place before.doing) ≡ spending n (rest_of_procedure scene above after.tasks.items after.doing)
   none_chosen is holds doing tasks =
       choice_none scene.contract.now scene.view.now (calls_at scene above) c b other place before.doing before.tasks.items n is holds
-      ∙ ap (λ (ts : List Task). spending n (left_to scene above ts before.doing)) (sym tasks)
-      ∙ ap (λ (s : Doing). spending n (left_to scene above after.tasks.items s)) (sym doing)
+      ∙ ap (λ (ts : List Task). spending n (rest_of_procedure scene above ts before.doing)) (sym tasks)
+      ∙ ap (λ (s : Doing). spending n (rest_of_procedure scene above after.tasks.items s)) (sym doing)
 
 -- ---- loops
 
@@ -214,7 +214,7 @@ module _ (contract : ContractTree) (view : View) (calls : Calls) (s : Doing) (ts
   over_given name list k d n is gave =
       over_is name list k is ∙ ap (λ r. r then λ e. or_trap cause.Misfit name.place (items_of e) then λ items. gives (k, take MOST_ITEMS items)) gave
 
-  on : Text → Act → Kind × List Datum → Course Doing
+  on : Text → ProcedureStep → Kind × List Datum → ProcedureCourse Doing
   on name each over = turns_do contract view name.bytes over.0 each over.1 s
 
   -- by the kind of its items, if they have one
@@ -222,13 +222,13 @@ module _ (contract : ContractTree) (view : View) (calls : Calls) (s : Doing) (ts
   over_by name list o =
       or_trap cause.Misfit name.place o then λ k. value_run contract view list s.names then λ d. or_trap cause.Misfit name.place (items_of d) then λ items. gives (k, take MOST_ITEMS items)
 
-  pub in_kindless : (name : Text) (list : Expr) (each : Act) → option_and_then item_kind (value_kind contract view list s.names) ≡ None
+  pub in_kindless : (name : Text) (list : Expr) (each : ProcedureStep) → option_and_then item_kind (value_kind contract view list s.names) ≡ None
       → (for_in_does contract view name list each s >>= finished contract view calls ts) ≡ Ended (ending.Trap cause.Misfit name.place) 0
   unfolding over_by on
   in_kindless name list each is =
       ap (λ (o : Option Kind). (evaluated (over_by name list o) >>= on name each) >>= finished contract view calls ts) is
 
-  pub in_halts : (name : Text) (list : Expr) (each : Act) (k : Kind) (e : Halt) (n : ℕ) → option_and_then item_kind (value_kind contract view list s.names) ≡ Some k
+  pub in_halts : (name : Text) (list : Expr) (each : ProcedureStep) (k : Kind) (e : Halt) (n : ℕ) → option_and_then item_kind (value_kind contract view list s.names) ≡ Some k
       → Halts e n (evaluated (value_run contract view list s.names)) → Halts e n (for_in_does contract view name list each s >>= finished contract view calls ts)
   unfolding on
   in_halts name list each k e n is h =
@@ -237,7 +237,7 @@ module _ (contract : ContractTree) (view : View) (calls : Calls) (s : Doing) (ts
       (halts_is e n (evaluated (gone_over contract view name list s.names)) _ (ap (λ r. evaluated r) (over_is name list k is))
       (halts_part e n (value_run contract view list s.names) (λ d. or_trap cause.Misfit name.place (items_of d) then λ items. gives (k, take MOST_ITEMS items)) h)))
 
-  pub in_misfits : (name : Text) (list : Expr) (each : Act) (k : Kind) (d : Datum) (n : ℕ) → option_and_then item_kind (value_kind contract view list s.names) ≡ Some k → value_run contract view list s.names ≡ Gave d n
+  pub in_misfits : (name : Text) (list : Expr) (each : ProcedureStep) (k : Kind) (d : Datum) (n : ℕ) → option_and_then item_kind (value_kind contract view list s.names) ≡ Some k → value_run contract view list s.names ≡ Gave d n
       → false ≡ is_some (items_of d) → (for_in_does contract view name list each s >>= finished contract view calls ts) ≡ Ended (ending.Trap cause.Misfit name.place) n
   unfolding on
   in_misfits name list each k d n is gave none =

@@ -5,7 +5,7 @@ use Rattle.cs_lang.specs.declared.tree.ContractTree.{ContractTree}
 use Rattle.cs_lang.specs.declared.tree.Method.{Method}
 use Rattle.cs_proc_parts.specs.declared.ending.Halt.{Halt}
 use Rattle.cs_proc_parts.specs.declared.progress.Progress.{Progress}
-use Rattle.cs_proc_parts.specs.Courses.{Course, Went, CourseComes}
+use Rattle.cs_proc_parts.specs.Courses.{ProcedureCourse, Went, CourseComes}
 use Rattle.cs_proc.specs.declared.call.Call.{Call}
 use Rattle.cs_proc.specs.Calling.{CallRan, call_ran_of, method_ran, numbered_ran}
 use Rattle.cs_proc.specs.Answering.{RunAnswers, TellsRun}
@@ -14,7 +14,7 @@ pub told_through : (run : Result Progress Halt) (p : Progress) (told : CallRan) 
     → ((n : ℕ) → RunAnswers (call_ran_of (Went p n)) told) → TellsRun run told
 told_through run p told is h n course comes =
     let went : course ≡ Went p n = subst (λ (r : Result Progress Halt). CourseComes r n course) is comes in
-    subst (λ (c : Course Progress). RunAnswers (call_ran_of c) told) (sym went) (h n)
+    subst (λ (c : ProcedureCourse Progress). RunAnswers (call_ran_of c) told) (sym went) (h n)
 
 module _ (contract : ContractTree) (call : Call) (found : Option ℕ) (number : ℕ) (m : Method) (told : CallRan) where
   pub numbered_told : found ≡ Some number → slice_get contract.methods number ≡ Some m

@@ -23,10 +23,10 @@ use Rattle.cs_eval_check.proofs.Turns.{one_more}
 use Rattle.cs_proc_parts.specs.declared.ending.Halt.{Halt}
 use Rattle.cs_proc_parts.specs.declared.ending.Halt.TheVariants as halt
 use Rattle.cs_proc_parts.specs.declared.progress.Doing.{Doing}
-use Rattle.cs_proc_parts.specs.Courses.{Course, goes, spending, ◌>>=◌, course_through, Halts}
+use Rattle.cs_proc_parts.specs.Courses.{ProcedureCourse, goes, spending, ◌>>=◌, course_through, Halts}
 use Rattle.cs_proc.specs.declared.procedures_running.Running.{Running}
-use Rattle.cs_proc.specs.Acting.{Act, Calls, with_names, turn_does, turns_do, all_do, block_does, statement_does, action_does}
-use Rattle.cs_proc.specs.Tasks.{finished, calls_at, left_to, then_left, TasksDo, Acts}
+use Rattle.cs_proc.specs.Acting.{ProcedureStep, Calls, with_names, turn_does, turns_do, all_do, block_does, statement_does, action_does}
+use Rattle.cs_proc.specs.Tasks.{finished, calls_at, rest_of_procedure, then_rest_of_procedure, TasksDo, Acts}
 use Rattle.cs_proc.proofs.Laws.{spending_spending, spending_none, spending_bind, bind_bind, under, went_bind, halts_bind, halts_is, halts_spent}
 use Rattle.cs_proc.proofs.Actions.{statement_is, block_is}
 
@@ -34,23 +34,23 @@ use Rattle.cs_proc.proofs.Actions.{statement_is, block_is}
 
 module _ (scene : Scene) (above : ℕ) where
   -- so much is spent before
-  pub acts_spent : (answer : Result Unit Halt) (k m n : ℕ) (c d : Course Doing) (after : Running) → n ≡ k + m → c ≡ spending k d → Acts scene above answer m d after → Acts scene above answer n c after
+  pub acts_spent : (answer : Result Unit Halt) (k m n : ℕ) (c d : ProcedureCourse Doing) (after : Running) → n ≡ k + m → c ≡ spending k d → Acts scene above answer m d after → Acts scene above answer n c after
   acts_spent (Ok done) k m n c d after more is h = (
-    is ∙ ap (spending k) h.0 ∙ spending_spending k m (left_to scene above after.tasks.items after.doing)
-        ∙ ap (λ (j : ℕ). spending j (left_to scene above after.tasks.items after.doing)) (sym more),
+    is ∙ ap (spending k) h.0 ∙ spending_spending k m (rest_of_procedure scene above after.tasks.items after.doing)
+        ∙ ap (λ (j : ℕ). spending j (rest_of_procedure scene above after.tasks.items after.doing)) (sym more),
     h.1,
   )
   acts_spent (Err e) k m n c d after more is h = halts_spent e k m n c d more is h
 
   -- what was done goes on with the tasks
-  pub does_acts : (answer : Result Unit Halt) (n : ℕ) (c d : Course Doing) (before : List Task) (after : Running) → c ≡ d → after.tasks.items ≡ before → TasksDo answer n d after
-      → Acts scene above answer n (then_left scene above before c) after
+  pub does_acts : (answer : Result Unit Halt) (n : ℕ) (c d : ProcedureCourse Doing) (before : List Task) (after : Running) → c ≡ d → after.tasks.items ≡ before → TasksDo answer n d after
+      → Acts scene above answer n (then_rest_of_procedure scene above before c) after
   does_acts (Ok done) n c d before after is same h = (
-    went_bind c after.doing n (left_to scene above before) (is ∙ h.0)
-        ∙ ap (λ (ts : List Task). spending n (left_to scene above ts after.doing)) (sym same),
+    went_bind c after.doing n (rest_of_procedure scene above before) (is ∙ h.0)
+        ∙ ap (λ (ts : List Task). spending n (rest_of_procedure scene above ts after.doing)) (sym same),
     h.1,
   )
-  does_acts (Err e) n c d before after is same h = halts_bind e n c (left_to scene above before) (halts_is e n c d is h)
+  does_acts (Err e) n c d before after is same h = halts_bind e n c (rest_of_procedure scene above before) (halts_is e n c d is h)
 
 -- ---- blocks
 
@@ -66,7 +66,7 @@ front_opened (s ∷ ss) one rest some first behind_it =
     ap (λ (z : Statement). z ∷ ss) (sym first) ∙ ap (λ (zs : List Statement). one ∷ zs) (sym (behind_it ∙ take_all (length (s ∷ ss) - 1) ss (omega arith)))
 
 module _ (contract : ContractTree) (view : View) (calls : Calls) where
-  every : List Statement → Act
+  every : List Statement → ProcedureStep
   every ss = all_do contract view calls (map (statement_does contract view calls) ss)
 
   -- a block whose names end, and some before them
@@ -115,8 +115,8 @@ module _ (contract : ContractTree) (view : View) (calls : Calls) where
       ≡ spending 1 (finished contract view calls (task.Statements ss ∷ task.Leave (length s.names) ∷ task.Loop next ∷ ts) (with_names s (with_named s.names l.name.now l.kind d)))
   unfolding every
   loop_turn l next ss d s ts is behind_it opened =
-      let each : Act = block_does contract view calls l.each.now in
-      let go : Doing → Datum → Course Doing = turn_does contract view l.name.now l.kind each in
+      let each : ProcedureStep = block_does contract view calls l.each.now in
+      let go : Doing → Datum → ProcedureCourse Doing = turn_does contract view l.name.now l.kind each in
       let rest : List Datum = left_in l.source (l.at + 1) in
       let begun : Doing = with_names s (with_named s.names l.name.now l.kind d) in
       ap (λ (ds : List Datum). turns_do contract view l.name.now l.kind each ds s >>= finished contract view calls ts) (one_more l.source l.at d is)
@@ -147,48 +147,48 @@ module _ (scene : Scene) (above : ℕ) where
   -- a block is done next
   pub block_acts : (answer : Result Unit Halt) (b : Block) (ss : Bor (List Statement)) (n : ℕ) (before after : Running) → before.frames.items ≡ [] → ss.now ≡ (out-Block b).statements → n ≡ length before.doing.names
       → OnOk answer (after.tasks.items ≡ task.Statements ss ∷ task.Leave n ∷ before.tasks.items) → OnOk answer (after.doing ≡ before.doing) → OnOk answer (after.frames ≡ before.frames) → IfErr answer (λ e. e ≡ halt.Memory)
-      → Acts scene above answer 0 (then_left scene above before.tasks.items (block_does scene.contract.now scene.view.now (calls_at scene above) b before.doing)) after
+      → Acts scene above answer 0 (then_rest_of_procedure scene above before.tasks.items (block_does scene.contract.now scene.view.now (calls_at scene above) b before.doing)) after
   block_acts (Ok done) b ss n before after idle opened count tasks doing frames memory = (
     entered scene.contract.now scene.view.now (calls_at scene above) b ss before.doing before.tasks.items opened
-        ∙ ap (λ (i : ℕ). left_to scene above (task.Statements ss ∷ task.Leave i ∷ before.tasks.items) before.doing) (sym count)
-        ∙ ap (λ (ts : List Task). left_to scene above ts before.doing) (sym tasks)
-        ∙ ap (λ (s : Doing). left_to scene above after.tasks.items s) (sym doing)
-        ∙ sym (spending_none (left_to scene above after.tasks.items after.doing)),
+        ∙ ap (λ (i : ℕ). rest_of_procedure scene above (task.Statements ss ∷ task.Leave i ∷ before.tasks.items) before.doing) (sym count)
+        ∙ ap (λ (ts : List Task). rest_of_procedure scene above ts before.doing) (sym tasks)
+        ∙ ap (λ (s : Doing). rest_of_procedure scene above after.tasks.items s) (sym doing)
+        ∙ sym (spending_none (rest_of_procedure scene above after.tasks.items after.doing)),
     ap (λ (s : Stacked Frame). s.items) frames ∙ idle,
   )
   block_acts (Err e) b ss n before after idle opened count tasks doing frames memory =
-      let P : Halt → Type 0 = λ h. Halts h 0 (then_left scene above before.tasks.items (block_does scene.contract.now scene.view.now (calls_at scene above) b before.doing)) in subst P (sym memory) tt
+      let P : Halt → Type 0 = λ h. Halts h 0 (then_rest_of_procedure scene above before.tasks.items (block_does scene.contract.now scene.view.now (calls_at scene above) b before.doing)) in subst P (sym memory) tt
 
   -- the next of statements begins
   pub statement_acts : (answer : Result Unit Halt) (ss : List Statement) (one : Statement) (rest : Bor (List Statement)) (m n : ℕ) (before mid after : Running)
       → 1 ≤ length ss → one ≡ get_or ss 0 one → rest.now ≡ take (length ss - 1) (drop 1 ss) → n ≡ 1 + m → mid.tasks.items ≡ task.Statements rest ∷ before.tasks.items → mid.doing ≡ before.doing
-      → Acts scene above answer m (then_left scene above mid.tasks.items (action_does scene.contract.now scene.view.now (calls_at scene above) (out-Statement one).action (out-Statement one).place mid.doing)) after
-      → Acts scene above answer n (then_left scene above before.tasks.items (all_do scene.contract.now scene.view.now (calls_at scene above) (map (statement_does scene.contract.now scene.view.now (calls_at scene above)) ss) before.doing)) after
+      → Acts scene above answer m (then_rest_of_procedure scene above mid.tasks.items (action_does scene.contract.now scene.view.now (calls_at scene above) (out-Statement one).action (out-Statement one).place mid.doing)) after
+      → Acts scene above answer n (then_rest_of_procedure scene above before.tasks.items (all_do scene.contract.now scene.view.now (calls_at scene above) (map (statement_does scene.contract.now scene.view.now (calls_at scene above)) ss) before.doing)) after
   unfolding every
   statement_acts answer ss one rest m n before mid after some first behind_it more tasks doing h =
-      acts_spent scene above answer 1 m n _ (then_left scene above mid.tasks.items (action_does scene.contract.now scene.view.now (calls_at scene above) (out-Statement one).action (out-Statement one).place mid.doing)) after more
+      acts_spent scene above answer 1 m n _ (then_rest_of_procedure scene above mid.tasks.items (action_does scene.contract.now scene.view.now (calls_at scene above) (out-Statement one).action (out-Statement one).place mid.doing)) after more
       (next_statement scene.contract.now scene.view.now (calls_at scene above) ss one rest before.doing before.tasks.items some first behind_it
-      ∙ ap (λ (ts : List Task). spending 1 (action_does scene.contract.now scene.view.now (calls_at scene above) (out-Statement one).action (out-Statement one).place before.doing >>= left_to scene above ts)) (sym tasks)
-      ∙ ap (λ (s : Doing). spending 1 (action_does scene.contract.now scene.view.now (calls_at scene above) (out-Statement one).action (out-Statement one).place s >>= left_to scene above mid.tasks.items)) (sym doing)) h
+      ∙ ap (λ (ts : List Task). spending 1 (action_does scene.contract.now scene.view.now (calls_at scene above) (out-Statement one).action (out-Statement one).place before.doing >>= rest_of_procedure scene above ts)) (sym tasks)
+      ∙ ap (λ (s : Doing). spending 1 (action_does scene.contract.now scene.view.now (calls_at scene above) (out-Statement one).action (out-Statement one).place s >>= rest_of_procedure scene above mid.tasks.items)) (sym doing)) h
 
   -- a turn begins
   pub turn_acts : (answer : Result Unit Halt) (l next : Loop) (ss : Bor (List Statement)) (d : Datum) (count n : ℕ) (before mid after : Running)
       → Some d ≡ first_datum (left_in l.source l.at) → next ≡ record l { at = l.at + 1 } → ss.now ≡ (out-Block l.each.now).statements → count ≡ length before.doing.names → n ≡ 1
       → mid.tasks.items ≡ task.Loop next ∷ before.tasks.items → mid.doing ≡ with_names before.doing (with_named before.doing.names l.name.now l.kind d) → mid.frames.items ≡ []
       → OnOk answer (after.tasks.items ≡ task.Statements ss ∷ task.Leave count ∷ mid.tasks.items) → OnOk answer (after.doing ≡ mid.doing) → OnOk answer (after.frames ≡ mid.frames) → IfErr answer (λ e. e ≡ halt.Memory)
-      → Acts scene above answer n (left_to scene above (task.Loop l ∷ before.tasks.items) before.doing) after
+      → Acts scene above answer n (rest_of_procedure scene above (task.Loop l ∷ before.tasks.items) before.doing) after
   turn_acts (Ok done) l next ss d count n before mid after is behind_it opened counted one tasks doing idle tasks2 doing2 frames2 memory =
       let begun : Doing = with_names before.doing (with_named before.doing.names l.name.now l.kind d) in (
         loop_turn scene.contract.now scene.view.now (calls_at scene above) l next ss d before.doing before.tasks.items is behind_it opened
-            ∙ ap (λ (i : ℕ). spending 1 (left_to scene above (task.Statements ss ∷ task.Leave i ∷ task.Loop next ∷ before.tasks.items) begun)) (sym counted)
-            ∙ ap (λ (ts : List Task). spending 1 (left_to scene above (task.Statements ss ∷ task.Leave count ∷ ts) begun)) (sym tasks)
-            ∙ ap (λ (ts : List Task). spending 1 (left_to scene above ts begun)) (sym tasks2)
-            ∙ ap (λ (s : Doing). spending 1 (left_to scene above after.tasks.items s)) (sym (doing2 ∙ doing))
-            ∙ ap (λ (i : ℕ). spending i (left_to scene above after.tasks.items after.doing)) (sym one),
+            ∙ ap (λ (i : ℕ). spending 1 (rest_of_procedure scene above (task.Statements ss ∷ task.Leave i ∷ task.Loop next ∷ before.tasks.items) begun)) (sym counted)
+            ∙ ap (λ (ts : List Task). spending 1 (rest_of_procedure scene above (task.Statements ss ∷ task.Leave count ∷ ts) begun)) (sym tasks)
+            ∙ ap (λ (ts : List Task). spending 1 (rest_of_procedure scene above ts begun)) (sym tasks2)
+            ∙ ap (λ (s : Doing). spending 1 (rest_of_procedure scene above after.tasks.items s)) (sym (doing2 ∙ doing))
+            ∙ ap (λ (i : ℕ). spending i (rest_of_procedure scene above after.tasks.items after.doing)) (sym one),
         ap (λ (s : Stacked Frame). s.items) frames2 ∙ idle,
       )
   turn_acts (Err e) l next ss d count n before mid after is behind_it opened counted one tasks doing idle tasks2 doing2 frames2 memory =
-      let P : Halt → Type 0 = λ h. Halts h n (left_to scene above (task.Loop l ∷ before.tasks.items) before.doing) in subst P (sym memory) tt
+      let P : Halt → Type 0 = λ h. Halts h n (rest_of_procedure scene above (task.Loop l ∷ before.tasks.items) before.doing) in subst P (sym memory) tt
 
 -- ---- what is left to do
 

@@ -9,19 +9,19 @@ use Rattle.cs_proc_parts.specs.declared.ending.Halt.{Halt}
 use Rattle.cs_proc_parts.specs.declared.progress.Progress.{Progress}
 use Rattle.cs_proc_parts.specs.declared.progress.Doing.{Doing}
 use Rattle.cs_proc_parts.specs.declared.progress.Opened.{Opened}
-use Rattle.cs_proc_parts.specs.Courses.{Course, Went, spending, ◌>>=◌, or_ends, CourseComes}
+use Rattle.cs_proc_parts.specs.Courses.{ProcedureCourse, Went, spending, ◌>>=◌, or_ends, CourseComes}
 use Rattle.cs_proc_parts.specs.Beginning.{opened_method}
 use Rattle.cs_proc_parts.specs.Closing.{closed}
 use Rattle.cs_proc.specs.Acting.{block_does}
 use Rattle.cs_proc.specs.Methods.{opened_run, method_run}
-use Rattle.cs_proc.specs.Tasks.{calls_at, left_to, then_left}
+use Rattle.cs_proc.specs.Tasks.{calls_at, rest_of_procedure, then_rest_of_procedure}
 use Rattle.cs_proc.proofs.Laws.{spending_none, went_bind, bind_goes, comes_spent}
 
 module _ (scene : Scene) (above : ℕ) (m : Method) (arguments : List Value) (p : Progress) where
-  whole : Course Progress
+  whole : ProcedureCourse Progress
   whole = method_run scene.contract.now scene.view.now (calls_at scene above) m arguments p
 
-  block : Opened → Course Doing
+  block : Opened → ProcedureCourse Doing
   block o = block_does scene.contract.now scene.view.now (calls_at scene above) m.procedure o.doing
 
   begun : (o : Opened) → opened_method scene.view.now.contract scene.contract.now.types m arguments p ≡ Some o
@@ -32,14 +32,14 @@ module _ (scene : Scene) (above : ℕ) (m : Method) (arguments : List Value) (p 
       ∙ spending_none (opened_run scene.contract.now scene.view.now (calls_at scene above) m o)
 
   -- what is left to do of the block is all of it
-  left_is : (o : Opened) (before tasks : List Task) (s : Doing) → before ≡ [] → then_left scene above before (block o) ≡ spending 0 (left_to scene above tasks s)
-      → block o ≡ left_to scene above tasks s
+  left_is : (o : Opened) (before tasks : List Task) (s : Doing) → before ≡ [] → then_rest_of_procedure scene above before (block o) ≡ spending 0 (rest_of_procedure scene above tasks s)
+      → block o ≡ rest_of_procedure scene above tasks s
   left_is o before tasks s none is =
-      sym (bind_goes (block o)) ∙ ap (λ (ts : List Task). then_left scene above ts (block o)) (sym none) ∙ is ∙ spending_none (left_to scene above tasks s)
+      sym (bind_goes (block o)) ∙ ap (λ (ts : List Task). then_rest_of_procedure scene above ts (block o)) (sym none) ∙ is ∙ spending_none (rest_of_procedure scene above tasks s)
 
   pub procedure_comes : (answer : Result Progress Halt) (o : Opened) (before tasks : List Task) (s t : Doing) (n : ℕ) → opened_method scene.view.now.contract scene.contract.now.types m arguments p ≡ Some o → before ≡ []
-      → then_left scene above before (block_does scene.contract.now scene.view.now (calls_at scene above) m.procedure o.doing) ≡ spending 0 (left_to scene above tasks s)
-      → left_to scene above tasks s ≡ Went t n → CourseComes answer 0 (closed scene.view.now.contract m o.front t)
+      → then_rest_of_procedure scene above before (block_does scene.contract.now scene.view.now (calls_at scene above) m.procedure o.doing) ≡ spending 0 (rest_of_procedure scene above tasks s)
+      → rest_of_procedure scene above tasks s ≡ Went t n → CourseComes answer 0 (closed scene.view.now.contract m o.front t)
       → CourseComes answer n (method_run scene.contract.now scene.view.now (calls_at scene above) m arguments p)
   unfolding whole block
   procedure_comes answer o before tasks s t n is none left went h =

@@ -27,16 +27,16 @@ use Rattle.cs_eval_law.specs.Acting.{Naming, numbers, value_run, value_kind, let
 use Rattle.cs_proc_parts.specs.declared.ending.Ending.TheVariants as ending
 use Rattle.cs_proc_parts.specs.declared.progress.Progress.{Progress}
 use Rattle.cs_proc_parts.specs.declared.progress.Doing.{Doing}
-use Rattle.cs_proc_parts.specs.Courses.{Course, goes, ends, spending, ◌>>=◌, course_through, or_ends, evaluated}
+use Rattle.cs_proc_parts.specs.Courses.{ProcedureCourse, goes, ends, spending, ◌>>=◌, course_through, or_ends, evaluated}
 use Rattle.cs_proc_parts.specs.Creating.{room_for, with_made}
 
 -- what something makes of what a procedure works on
-abbrev pub Act : Type 0
-Act = Doing → Course Doing
+abbrev pub ProcedureStep : Type 0
+ProcedureStep = Doing → ProcedureCourse Doing
 
 -- what a method makes of its arguments and of how far the transaction has come
 abbrev pub Procedure : Type 0
-Procedure = List Value → Progress → Course Progress
+Procedure = List Value → Progress → ProcedureCourse Progress
 
 -- a method that is called, and its procedure
 pub record Callee : Type 0 where
@@ -85,7 +85,7 @@ with_dep s p names =
     record { names = names; made = s.made; deps = s.deps ++ dep_number_of (last_number p.traces) ∷ []; progress = p }
 
 -- the caller goes on: its names are bound, and the last trace is one more that it stands on
-abbrev pub called_back : List Text → List Field → ℕ → Doing → Progress → Course Doing
+abbrev pub called_back : List Text → List Field → ℕ → Doing → Progress → ProcedureCourse Doing
 called_back names fields place s p =
     or_ends (ending.Trap cause.Misfit place) (names_bound fields (last_returns p.traces) 0 names s.names) >>= λ more.
     goes (with_dep s p more)
@@ -94,28 +94,28 @@ called_back names fields place s p =
 
 module _ (contract : ContractTree) (view : View) where
   -- what changes names alone
-  abbrev pub naming_does : Naming → Act
+  abbrev pub naming_does : Naming → ProcedureStep
   naming_does f s = evaluated (f s.names) >>= λ names. goes (with_names s names)
 
-  abbrev pub let_does : Text → Expr → Act
+  abbrev pub let_does : Text → Expr → ProcedureStep
   let_does name value = naming_does (let_run contract view name value)
 
-  abbrev pub set_does : Text → Expr → Act
+  abbrev pub set_does : Text → Expr → ProcedureStep
   set_does name value = naming_does (set_run contract view name value)
 
-  abbrev pub if_does : Expr → Act → Act → ℕ → Act
+  abbrev pub if_does : Expr → ProcedureStep → ProcedureStep → ℕ → ProcedureStep
   if_does e block other place s =
       evaluated (condition contract view e place s.names) >>= λ holds. if holds then block s else other s
 
   -- ---- loops
 
   -- a turn spends 1, and its name ends with it
-  abbrev pub turn_does : List ℕ → Kind → Act → Doing → Datum → Course Doing
+  abbrev pub turn_does : List ℕ → Kind → ProcedureStep → Doing → Datum → ProcedureCourse Doing
   turn_does name k each s d =
       spending 1 (each (with_names s (with_named s.names name k d)) >>= λ t.
       goes (with_names t (take (length s.names) t.names)))
 
-  abbrev pub turns_do : List ℕ → Kind → Act → List Datum → Act
+  abbrev pub turns_do : List ℕ → Kind → ProcedureStep → List Datum → ProcedureStep
   turns_do name k each items s = course_through (turn_does name k each) s items
 
   -- what a loop goes over, which is no more than a list has, and the kind of its items
@@ -125,11 +125,11 @@ module _ (contract : ContractTree) (view : View) where
       value_run contract view list names then λ d.
       or_trap cause.Misfit name.place (items_of d) then λ items. gives (k, take MOST_ITEMS items)
 
-  abbrev pub for_in_does : Text → Expr → Act → Act
+  abbrev pub for_in_does : Text → Expr → ProcedureStep → ProcedureStep
   for_in_does name list each s =
       evaluated (gone_over name list s.names) >>= λ over. turns_do name.bytes over.0 each over.1 s
 
-  abbrev pub for_to_does : Text → ℕ → Act → Act
+  abbrev pub for_to_does : Text → ℕ → ProcedureStep → ProcedureStep
   for_to_does name count each = turns_do name.bytes int_kind each (numbers (min count MOST_TURNS) 0)
 
   -- ---- objects and calls
@@ -146,14 +146,14 @@ module _ (contract : ContractTree) (view : View) where
   object_of name values = record { contract = view.contract; type_name = name.bytes; values = values }
 
   -- a slot for one object takes one alone
-  abbrev pub put_does : Text → Object → ℕ → Bool → Act
+  abbrev pub put_does : Text → Object → ℕ → Bool → ProcedureStep
   put_does slot o place room s =
       if room
       then goes (record { names = s.names; made = with_made slot.bytes o s.made; deps = s.deps; progress = s.progress })
       else ends (ending.Filled place)
 
   -- the values come first
-  abbrev pub make_does : Text → Text → List Expr → ℕ → Act
+  abbrev pub make_does : Text → Text → List Expr → ℕ → ProcedureStep
   make_does slot object values place s =
       evaluated (arguments_run values place s.names) >>= λ vs.
       or_ends (ending.Trap cause.Misfit place) (room_for slot.bytes s.made) >>= λ room.
@@ -161,7 +161,7 @@ module _ (contract : ContractTree) (view : View) where
 
   module _ (calls : Calls) where
     -- the arguments come first; the method takes its objects when it runs
-    abbrev pub call_does : List Text → Text → List Expr → ℕ → Act
+    abbrev pub call_does : List Text → Text → List Expr → ℕ → ProcedureStep
     call_does names method arguments place s =
         evaluated (arguments_run arguments place s.names) >>= λ vs.
         or_ends (ending.Trap cause.Misfit method.place) (calls method.bytes) >>= λ c.
@@ -170,7 +170,7 @@ module _ (contract : ContractTree) (view : View) where
     -- ---- whole statements
 
     -- only checks answer
-    abbrev pub action_means : Action-F (ℕ → Act) Act Act → ℕ → Act
+    abbrev pub action_means : Action-F (ℕ → ProcedureStep) ProcedureStep ProcedureStep → ℕ → ProcedureStep
     action_means (Action-F.Let name value) place = let_does name value
     action_means (Action-F.Set name value) place = set_does name value
     action_means (Action-F.If e block) place = if_does e block goes place
@@ -182,25 +182,26 @@ module _ (contract : ContractTree) (view : View) where
     action_means (Action-F.Answer e) place = λ s. ends (ending.Trap cause.Misfit place)
 
     -- a statement spends 1 before its parts
-    abbrev pub statement_means : Statement-F (ℕ → Act) Act Act → Act
+    abbrev pub statement_means : Statement-F (ℕ → ProcedureStep) ProcedureStep ProcedureStep → ProcedureStep
     statement_means one s = spending 1 (one.action one.place s)
 
-    abbrev pub one_does : Doing → Act → Course Doing
+    abbrev pub one_does : Doing → ProcedureStep → ProcedureCourse Doing
     one_does s statement = statement s
 
     -- one after the other
-    abbrev pub all_do : List Act → Act
+    abbrev pub all_do : List ProcedureStep → ProcedureStep
     all_do statements s = course_through one_does s statements
 
     -- the names of a block end with it
-    abbrev pub block_means : Block-F (ℕ → Act) Act Act → Act
+    abbrev pub block_means : Block-F (ℕ → ProcedureStep) ProcedureStep ProcedureStep → ProcedureStep
     block_means b s = all_do b.statements s >>= λ t. goes (with_names t (take (length s.names) t.names))
 
-    unfoldable pub block_does : Block → Act
-    block_does = fold-Block (ℕ → Act) Act Act action_means block_means statement_means
+    unfoldable pub block_does : Block → ProcedureStep
+    block_does = fold-Block (ℕ → ProcedureStep) ProcedureStep ProcedureStep action_means block_means statement_means
 
-    unfoldable pub statement_does : Statement → Act
-    statement_does = fold-Statement (ℕ → Act) Act Act action_means block_means statement_means
+    unfoldable pub statement_does : Statement → ProcedureStep
+    statement_does =
+        fold-Statement (ℕ → ProcedureStep) ProcedureStep ProcedureStep action_means block_means statement_means
 
-    unfoldable pub action_does : Action → ℕ → Act
-    action_does = fold-Action (ℕ → Act) Act Act action_means block_means statement_means
+    unfoldable pub action_does : Action → ℕ → ProcedureStep
+    action_does = fold-Action (ℕ → ProcedureStep) ProcedureStep ProcedureStep action_means block_means statement_means

@@ -2,18 +2,15 @@
 use Rattle.std.specs.Prelude.{◌≡◌, ℕ, ◌+◌, true, List, [], ◌∷◌, Option, Some, None, Result, Ok, Err, if◌then◌else◌}
 use Rattle.cs_tx_types.specs.declared.trace.Trace.{Trace}
 use Rattle.cs_tx_types.specs.declared.transaction.Tx.{Tx}
-use Rattle.cs_tx_types.specs.Transaction.{TxFits}
+use Rattle.cs_tx_types.specs.Transaction.{TxFits, tx_of}
 use Rattle.cs_proc_parts.specs.declared.ending.Halt.{Halt}
 use Rattle.cs_proc_parts.specs.declared.progress.Progress.{Progress}
-use Rattle.cs_proc_parts.specs.Courses.{Course, CourseComes}
+use Rattle.cs_proc_parts.specs.Courses.{ProcedureCourse, CourseComes}
 use Rattle.cs_approve.specs.Books.{Contracts}
 use Rattle.cs_approve.specs.Approval.{is_trace_approved, is_approved}
 use Rattle.cs_proc.specs.declared.error.ProcError.{ProcError}
 use Rattle.cs_proc.specs.declared.error.ProcError.TheVariants as error
 use Rattle.cs_proc.specs.Calling.{CallRan, call_ran_of}
-
-abbrev pub tx_of : List Trace → Tx
-tx_of traces = record { traces = traces }
 
 -- the number of the first of these traces that isn't approved, among all, where theirs begin with this one
 abbrev pub first_no_from : Contracts → List Trace → ℕ → List Trace → Option ℕ
@@ -60,4 +57,5 @@ RunAnswers run (Err e) = run ≡ Err e
 
 -- what is told of a run, whatever course it comes to with whatever it spent
 abbrev pub TellsRun : Result Progress Halt → CallRan → Type 0
-TellsRun run told = (n : ℕ) → (course : Course Progress) → CourseComes run n course → RunAnswers (call_ran_of course) told
+TellsRun run told =
+    (n : ℕ) → (course : ProcedureCourse Progress) → CourseComes run n course → RunAnswers (call_ran_of course) told

@@ -10,7 +10,7 @@ use Rattle.cs_eval_values.specs.declared.view.View.{View}
 use Rattle.cs_proc_parts.specs.declared.ending.Ending.{Ending}
 use Rattle.cs_proc_parts.specs.declared.ending.Ending.TheVariants as ending
 use Rattle.cs_proc_parts.specs.declared.progress.Progress.{Progress}
-use Rattle.cs_proc_parts.specs.Courses.{Course, Went, Ended}
+use Rattle.cs_proc_parts.specs.Courses.{ProcedureCourse, Went, Ended}
 use Rattle.cs_proc_parts.specs.Closing.{is_used_up}
 use Rattle.cs_proc.specs.Methods.{method_run, called}
 use Rattle.cs_approve.specs.Books.{Contracts, contract_under}
@@ -29,7 +29,7 @@ refusal_of (ending.Filled place) = error.Trap place
 refusal_of (ending.Unfilled place) = error.Trap place
 refusal_of ending.Missing = error.BadArgs
 
-abbrev pub call_ran_of : Course Progress → CallRan
+abbrev pub call_ran_of : ProcedureCourse Progress → CallRan
 call_ran_of (Went p n) = if is_used_up p then Ok p.traces else Err error.BadArgs
 call_ran_of (Ended why n) = Err (refusal_of why)
 

@@ -7,14 +7,14 @@ use Rattle.cs_eval_values.specs.declared.view.View.{View}
 use Rattle.cs_proc_parts.specs.declared.ending.Ending.TheVariants as ending
 use Rattle.cs_proc_parts.specs.declared.progress.Progress.{Progress}
 use Rattle.cs_proc_parts.specs.declared.progress.Opened.{Opened}
-use Rattle.cs_proc_parts.specs.Courses.{Course, or_ends, ◌>>=◌}
+use Rattle.cs_proc_parts.specs.Courses.{ProcedureCourse, or_ends, ◌>>=◌}
 use Rattle.cs_proc_parts.specs.Beginning.{opened_method}
 use Rattle.cs_proc_parts.specs.Closing.{closed}
 use Rattle.cs_proc.specs.Acting.{Procedure, Callee, Calls, block_does}
 
 module _ (contract : ContractTree) (view : View) where
   -- its procedure, from the slots that are filled to the trace that is added
-  abbrev pub opened_run : Calls → Method → Opened → Course Progress
+  abbrev pub opened_run : Calls → Method → Opened → ProcedureCourse Progress
   opened_run calls m o = block_does contract view calls m.procedure o.doing >>= closed view.contract m o.front
 
   -- a method takes its objects from the front of those that are left, and runs its procedure

@@ -6,7 +6,7 @@ ghost use Rattle.cs_eval_check.specs.TaskWork.{work_of_statement, work_of_action
 ghost use Rattle.cs_proc_parts.specs.Courses.{CourseComes};
 ghost use Rattle.cs_proc.specs.Acting.{call_does, all_do, statement_does, action_does};
 ghost use Rattle.cs_proc.specs.Methods.{method_run};
-ghost use Rattle.cs_proc.specs.Tasks.{calls_at, left_to, then_left, TasksDo, Acts, FindsMethod};
+ghost use Rattle.cs_proc.specs.Tasks.{calls_at, rest_of_procedure, then_rest_of_procedure, TasksDo, Acts, FindsMethod};
 
 use crate::binding::call_back;
 use crate::procedures_running::Running;
@@ -89,7 +89,7 @@ fn act<'a, L: Ledger>(
 ) -> Result<(), Halt>
     requires { running.old.frames.items ≡ [] }
     ensures acts { Acts scene.now above result (steps.new - steps.old)
-        (then_left scene.now above running.old.tasks.items
+        (then_rest_of_procedure scene.now above running.old.tasks.items
         (action_does scene.now.contract.now scene.now.view.now (calls_at scene.now above)
         action.now place running.old.doing)) running.new }
     ensures counted { steps.old ≤ steps.new }
@@ -143,7 +143,7 @@ fn on_statements<'a, L: Ledger>(
 ) -> Result<(), Halt>
     requires { running.old.frames.items ≡ [] }
     ensures acts { Acts scene.now above result (steps.new - steps.old)
-        (then_left scene.now above running.old.tasks.items
+        (then_rest_of_procedure scene.now above running.old.tasks.items
         (all_do scene.now.contract.now scene.now.view.now (calls_at scene.now above)
         (map (statement_does scene.now.contract.now scene.now.view.now (calls_at scene.now above))
         statements.now) running.old.doing)) running.new }
@@ -179,7 +179,7 @@ fn go_on<'a, L: Ledger>(
 ) -> Result<(), Halt>
     requires { running.old.frames.items ≡ [] }
     ensures acts { Acts scene.now above result (steps.new - steps.old)
-        (left_to scene.now above (task.entry ∷ running.old.tasks.items) running.old.doing) running.new }
+        (rest_of_procedure scene.now above (task.entry ∷ running.old.tasks.items) running.old.doing) running.new }
     ensures counted { steps.old ≤ steps.new }
     ensures smaller { OnOk result (tasks_work running.new.tasks.items
         < task_work task.entry + tasks_work running.old.tasks.items) }
@@ -204,7 +204,7 @@ fn run<'a, L: Ledger>(
 ) -> Result<(), Halt>
     requires { running.old.frames.items ≡ [] }
     ensures does { TasksDo result (steps.new - steps.old)
-        (left_to scene.now above running.old.tasks.items running.old.doing) running.new }
+        (rest_of_procedure scene.now above running.old.tasks.items running.old.doing) running.new }
     ensures counted { steps.old ≤ steps.new }
 {
     while let Some(task) = running.tasks.pop() {

@@ -9,7 +9,7 @@ ghost use Rattle.cs_eval_check.specs.TaskWork.{turns_work, work_of_block, work_o
 ghost use Rattle.cs_proc_parts.specs.declared.ending.Ending.TheVariants as ending;
 ghost use Rattle.cs_proc_parts.specs.declared.ending.Halt.TheVariants as halt;
 ghost use Rattle.cs_proc.specs.Acting.{let_does, set_does, for_in_does, for_to_does, argument_run, arguments_run, object_of, make_does, block_does};
-ghost use Rattle.cs_proc.specs.Tasks.{choice_does, calls_at, left_to, then_left, RunGivesValue, TasksDo, Acts};
+ghost use Rattle.cs_proc.specs.Tasks.{choice_does, calls_at, rest_of_procedure, then_rest_of_procedure, RunGivesValue, TasksDo, Acts};
 
 use crate::procedures_running::Running;
 use cs_base::{Memory, Sequence};
@@ -51,7 +51,7 @@ fn enter<'a>(
 pub fn enter_block<'a>(running: &mut Running<'a>, block: &'a Block) -> Result<(), Halt>
     requires { running.old.frames.items ≡ [] }
     ensures acts { (scene : Seeing) (above : ℕ) → Acts scene above result 0
-        (then_left scene above running.old.tasks.items
+        (then_rest_of_procedure scene above running.old.tasks.items
         (block_does scene.contract.now scene.view.now (calls_at scene above)
         block.now running.old.doing)) running.new }
     ensures idle { OnOk result (running.new.frames.items ≡ []) }
@@ -167,7 +167,7 @@ pub fn choose<'a, L: Ledger>(
 ) -> Result<(), Halt>
     requires { running.old.frames.items ≡ [] }
     ensures acts { (above : ℕ) → Acts scene.now above result (steps.new - steps.old)
-        (then_left scene.now above running.old.tasks.items
+        (then_rest_of_procedure scene.now above running.old.tasks.items
         (choice_does scene.now.contract.now scene.now.view.now (calls_at scene.now above)
         condition.now block.now other.entry place running.old.doing)) running.new }
     ensures counted { steps.old ≤ steps.new }
@@ -195,7 +195,7 @@ pub fn for_in<'a, L: Ledger>(
 ) -> Result<(), Halt>
     requires { running.old.frames.items ≡ [] }
     ensures acts { (above : ℕ) → Acts scene.now above result (steps.new - steps.old)
-        (then_left scene.now above running.old.tasks.items
+        (then_rest_of_procedure scene.now above running.old.tasks.items
         (for_in_does scene.now.contract.now scene.now.view.now name.now list.now
         (block_does scene.now.contract.now scene.now.view.now (calls_at scene.now above)
         each.now) running.old.doing)) running.new }
@@ -234,7 +234,7 @@ pub fn for_to<'a>(
 ) -> Result<(), Halt>
     requires { running.old.frames.items ≡ [] }
     ensures acts { (scene : Seeing) (above : ℕ) → Acts scene above result 0
-        (then_left scene above running.old.tasks.items
+        (then_rest_of_procedure scene above running.old.tasks.items
         (for_to_does scene.contract.now scene.view.now name.now count
         (block_does scene.contract.now scene.view.now (calls_at scene above) each.now)
         running.old.doing)) running.new }
@@ -262,7 +262,7 @@ pub fn turn<'a, L: Ledger>(
 ) -> Result<(), Halt>
     requires { running.old.frames.items ≡ [] }
     ensures acts { (above : ℕ) → Acts scene.now above result (steps.new - steps.old)
-        (left_to scene.now above (task_is.Loop looping.entry ∷ running.old.tasks.items)
+        (rest_of_procedure scene.now above (task_is.Loop looping.entry ∷ running.old.tasks.items)
         running.old.doing) running.new }
     ensures counted { steps.old ≤ steps.new }
     ensures smaller { OnOk result (tasks_work running.new.tasks.items

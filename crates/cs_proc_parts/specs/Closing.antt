@@ -1,6 +1,7 @@
 -- How a method ends: its trace comes behind those that it called.
 use Rattle.std.specs.Prelude.{ℕ, Bool, ◌&&◌, List, [], ◌∷◌, ◌++◌, Option, Some, if◌then◌else◌, option_and_then}
 use Rattle.std.specs.List.{list_all}
+use Rattle.cs_base.specs.Lists.{is_empty}
 use Rattle.cs_base.specs.Fields.{◌>>=◌ as ◌then◌}
 use Rattle.cs_lang.specs.declared.tree.Field.{Field}
 use Rattle.cs_lang.specs.declared.tree.Method.{Method}
@@ -13,8 +14,8 @@ use Rattle.cs_proc_parts.specs.declared.ending.Ending.TheVariants as ending
 use Rattle.cs_proc_parts.specs.declared.progress.Front.{Front}
 use Rattle.cs_proc_parts.specs.declared.progress.Progress.{Progress}
 use Rattle.cs_proc_parts.specs.declared.progress.Doing.{Doing}
-use Rattle.cs_proc_parts.specs.Courses.{Course, goes, ends, or_ends, ◌>>=◌}
-use Rattle.cs_proc_parts.specs.Creating.{is_nil, is_filled, all_made}
+use Rattle.cs_proc_parts.specs.Courses.{ProcedureCourse, goes, ends, or_ends, ◌>>=◌}
+use Rattle.cs_proc_parts.specs.Creating.{is_filled, all_made}
 
 -- the value of a name
 abbrev pub value_named : List Named → List ℕ → Option Value
@@ -45,10 +46,10 @@ with_trace p t = record { inputs = p.inputs; reads = p.reads; traces = p.traces 
 
 -- no object is left over
 abbrev pub is_used_up : Progress → Bool
-is_used_up p = is_nil p.inputs && is_nil p.reads
+is_used_up p = is_empty p.inputs && is_empty p.reads
 
 -- a method ends at its closing brace, where its slots for one object have to be filled
-abbrev pub closed : List ℕ → Method → Front → Doing → Course Progress
+abbrev pub closed : List ℕ → Method → Front → Doing → ProcedureCourse Progress
 closed contract m front s =
     if list_all is_filled s.made
     then (or_ends (ending.Trap cause.Misfit m.end) (values_returned s.names [] m.returns) >>= λ returns.

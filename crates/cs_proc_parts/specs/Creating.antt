@@ -1,8 +1,9 @@
 -- The slots that a procedure fills.
-use Rattle.std.specs.Prelude.{ℕ, suc, Bool, true, false, not, ◌||◌, List, [], ◌∷◌, ◌++◌, map, Option, Some, None, if◌then◌else◌}
+use Rattle.std.specs.Prelude.{ℕ, suc, Bool, not, ◌||◌, List, [], ◌∷◌, ◌++◌, map, Option, Some, None, if◌then◌else◌}
 use Rattle.std.specs.Str.{bytes_eq}
 use Rattle.cs_lang.specs.declared.tree.Slot.{Slot}
 use Rattle.cs_tx_value.specs.declared.object.Object.{Object}
+use Rattle.cs_base.specs.Lists.{is_empty}
 
 -- a slot, whether it is for any number of objects, and those that were made for it
 pub record Created : Type 0 where
@@ -26,13 +27,9 @@ abbrev pub find_created : List ℕ → List Created → Option Created
 find_created name [] = None
 find_created name (c ∷ cs) = if is_created name c then Some c else find_created name cs
 
-abbrev pub is_nil : {X : Type 0} → List X → Bool
-is_nil [] = true
-is_nil (x ∷ xs) = false
-
 -- a slot for one object takes one alone
 abbrev pub slot_has_room : Created → Bool
-slot_has_room c = c.many || is_nil c.objects
+slot_has_room c = c.many || is_empty c.objects
 
 abbrev pub room_in : Option Created → Option Bool
 room_in None = None
@@ -52,7 +49,7 @@ with_made name o (c ∷ cs) = if is_created name c then with_object o c ∷ cs e
 
 -- a slot for one object has to be filled
 abbrev pub is_filled : Created → Bool
-is_filled c = c.many || not (is_nil c.objects)
+is_filled c = c.many || not (is_empty c.objects)
 
 -- all that was made, in the order of the slots
 abbrev pub all_made : List Created → List Object

@@ -1,7 +1,7 @@
 //! Objects beside their keys.
 ghost use Rattle.std.specs.Prelude.{◌≡◌, length, map, take, drop, IfOk};
 ghost use Rattle.cs_eval_values.specs.Lending.{lent_object};
-ghost use Rattle.cs_proc_parts.specs.Creating.{is_nil};
+ghost use Rattle.cs_base.specs.Lists.{is_empty};
 
 use cs_base::{Memory, Sequence};
 use cs_eval_values::Objects;
@@ -44,7 +44,7 @@ impl<'a> Keyed<'a> {
 
     /// Whether there is none.
     pub fn is_empty(&self) -> bool
-        ensures { result ≡ is_nil self.now }
+        ensures { result ≡ is_empty self.now }
     {
         match self.items {
             [] => true,

@@ -2,7 +2,8 @@
 ghost use Rattle.std.specs.Prelude.{◌≡◌, ◌++◌, map, IfOk, OnOk};
 ghost use Rattle.std.specs.List.{list_all};
 ghost use Rattle.std.specs.Option.{option_map};
-ghost use Rattle.cs_proc_parts.specs.Creating.{is_nil, place_created, find_created, room_for, with_made, is_filled, all_made, empty_slot, empty_slots};
+ghost use Rattle.cs_base.specs.Lists.{is_empty};
+ghost use Rattle.cs_proc_parts.specs.Creating.{place_created, find_created, room_for, with_made, is_filled, all_made, empty_slot, empty_slots};
 
 use cs_base::{Memory, Sequence};
 use cs_lang::Slot;
@@ -18,7 +19,7 @@ struct Entry<'a> {
 }
 
 fn is_empty(objects: &[Object]) -> bool
-    ensures { result ≡ is_nil objects.now }
+    ensures { result ≡ is_empty objects.now }
 {
     match objects {
         [] => true,

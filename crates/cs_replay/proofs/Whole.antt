@@ -8,7 +8,7 @@ use Rattle.cs_sched.specs.declared.schedule.Schedule.{Schedule}
 use Rattle.cs_replay.specs.Settled.{IsSetupOf}
 use Rattle.cs_replay_play.proofs.Printed.{same-count}
 use Rattle.cs_node_rules.specs.Site.{Site}
-use Rattle.cs_node_rules.specs.World.{history}
+use Rattle.cs_node_rules.specs.World.{recorded_history}
 use Rattle.cs_replay_rules.specs.Lines.{history_text, limit_line, forged_line}
 use Rattle.cs_replay_rules.specs.Play.{Played, Course, Goes, Stops, Forges, played_by, size_of, closing_text, unplayed, play_all, lines}
 use Rattle.cs_replay.specs.declared.outcome.Summary.{Summary}
@@ -39,7 +39,7 @@ two-more text front rest first second is =
 -- the lines of the events alone are a front
 pub front-of-lines : {M : Type 0} (site : Site M) (dumps : Bool) (contracts : List (List ℕ)) (course : Course M) (a b : Option (List ℕ)) → AppendsFront a b (played_by course).text → AppendsFront a b (whole_text site dumps contracts course)
 front-of-lines site dumps contracts (Goes p) a b (front, rest, is, written) =
-    let told = history_text (history site p.world) in
+    let told = history_text (recorded_history site p.world) in
     let behind = dump_behind dumps site contracts (Goes p) in
     (front, (rest ++ told) ++ behind, two-more p.text front rest told behind is, written)
 front-of-lines site dumps contracts (Stops p line) a b (front, rest, is, written) =
@@ -66,7 +66,7 @@ module _ {O J M : Type 0} (stands : O → Member M → Type 0) (approves : J →
   -- what is kept has the numbers of what was played
   sums-are : (q : Played M) → Stands stands approves rules carrier s r q → sums_of r ≡ summary_of here q
   sums-are q st =
-      let accepted : length r.history.told ≡ length (history here q.world) = ap length st.kept.told ∙ same-count (history here q.world) in
+      let accepted : length r.history.told ≡ length (recorded_history here q.world) = ap length st.kept.told ∙ same-count (recorded_history here q.world) in
       let aborts = ap length st.aborted in
       let sent = ap size_of st.parcels in
       λ i. record { accepted = accepted i; aborted = aborts i; events = st.events i; sent = sent i }
@@ -83,7 +83,7 @@ module _ {O J M : Type 0} (stands : O → Member M → Type 0) (approves : J →
   whole-done : (q : Played M) (text : List ℕ) → course ≡ Goes q → Stands stands approves rules carrier s r q → EndsWith stands approves rules carrier r schedule dumps text → all_lines ≡ q.text ++ text
   whole-done q text goes st ends =
       ap (whole_text here dumps schedule.contracts) goes
-      ∙ append_assoc q.text (history_text (history here q.world)) (dump_behind dumps here schedule.contracts (Goes q))
+      ∙ append_assoc q.text (history_text (recorded_history here q.world)) (dump_behind dumps here schedule.contracts (Goes q))
       ∙ ap (λ t. q.text ++ t) (sym (ends s q st setup))
 
   whole-refused : (q : Played M) (refused : Course M) (text line : List ℕ) → whole_text here dumps schedule.contracts refused ≡ (q.text ++ line) ++ [] → course ≡ refused → text ≡ line → all_lines ≡ q.text ++ text

@@ -8,7 +8,7 @@ use Rattle.cs_order.specs.Deeds.{Member, Machine}
 use Rattle.cs_sched.specs.declared.schedule.Schedule.{Schedule}
 use Rattle.cs_replay_rules.specs.Aborts.{aborted}
 use Rattle.cs_node_rules.specs.Site.{Carrier, Site}
-use Rattle.cs_node_rules.specs.World.{Happening, history}
+use Rattle.cs_node_rules.specs.World.{Happening, recorded_history}
 use Rattle.cs_replay_rules.specs.Lines.{history_text, limit_line, forged_line}
 use Rattle.cs_replay_rules.specs.Play.{Played, Course, Goes, Stops, Forges, size_of, closing_text}
 use Rattle.cs_replay_play.specs.declared.halt.Halt.{Halt}
@@ -25,7 +25,7 @@ use Rattle.cs_replay.specs.declared.outcome.ReplayError.TheVariants.{Forged, Lim
 -- the numbers of what was played
 abbrev pub summary_of : {M : Type 0} → Site M → Played M → Summary
 summary_of {M} site p = record {
-  accepted = length (history site p.world);
+  accepted = length (recorded_history site p.world);
   aborted = length (aborted site.setup p.world);
   events = length p.world;
   sent = size_of p.parcels;
@@ -43,7 +43,7 @@ sums_of {O} {J} {M} r = record {
 -- the history, and where it is wanted the dump
 abbrev pub end_text : {M : Type 0} → Bool → Site M → List Bytes → List (Happening M) → Bytes
 end_text {M} dumps site contracts world =
-    history_text (history site world) ++ dump_if dumps site contracts world
+    history_text (recorded_history site world) ++ dump_if dumps site contracts world
 
 -- a text is that of what a replay of the schedule stands for
 abbrev pub EndsWith : {O J M : Type 0} → (O → Member M → Type 0) → (J → Tx → Bool) → Machine M → Carrier M

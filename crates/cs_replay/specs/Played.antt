@@ -7,7 +7,7 @@ use Rattle.cs_sched.specs.declared.schedule.Schedule.{Schedule}
 use Rattle.cs_replay_rules.specs.Aborts.{aborted}
 use Rattle.cs_node_rules.specs.Lines.{Parcel}
 use Rattle.cs_replay_rules.specs.Play.{Course, unplayed, played_by, play_all}
-use Rattle.cs_node_rules.specs.World.{Happening, history}
+use Rattle.cs_node_rules.specs.World.{Happening, recorded_history}
 use Rattle.cs_replay.specs.Site.{setup_of_schedule, site_of_schedule}
 
 -- the events of a schedule, played at nodes whose judge approves so
@@ -19,7 +19,8 @@ abbrev pub world_of : (Tx → Bool) → Bool → Schedule → List (Happening Or
 world_of approves traced schedule = (played_by (course_of approves traced schedule)).world
 
 abbrev pub history_of : (Tx → Bool) → Bool → Schedule → List Transaction
-history_of approves traced schedule = history (site_of_schedule approves schedule) (world_of approves traced schedule)
+history_of approves traced schedule =
+    recorded_history (site_of_schedule approves schedule) (world_of approves traced schedule)
 
 -- the sessions on which a node decided abort
 abbrev pub aborted_of : (Tx → Bool) → Bool → Schedule → List Bytes

@@ -3,12 +3,13 @@ use Rattle.std.proofs.Common.{◌≡◌, suc, ◌++◌, List, [], ◌∷◌, len
 use Rattle.std.specs.Prelude.{codes}
 use Rattle.std.specs.List.{flat_map}
 use Rattle.std.specs.Fmt.{decimal}
+use Rattle.cs_tx.specs.Lines.{tx_line}
 use Rattle.cs_base.specs.Codes.{bytes_text}
 use Rattle.cs_ledger.specs.Ledger.{Transaction}
 use Rattle.cs_replay_rules.specs.Lines.{transaction_lines, history_text}
 use Rattle.cs_node_rules.specs.Site.{Site}
-use Rattle.cs_node_rules.specs.World.{Happening, told_transactions, firsts_of, history}
-use Rattle.cs_replay_play.specs.Digests.{digests_of, tx_line, history_lines}
+use Rattle.cs_node_rules.specs.World.{Happening, told_transactions, firsts_of, recorded_history}
+use Rattle.cs_replay_play.specs.Digests.{digests_of, history_lines}
 use Rattle.cs_replay_play.specs.Kept.{KeptHistory, KeepsHistory}
 
 transactions-printed : (txs : List Transaction) → flat_map tx_line (digests_of txs) ≡ transaction_lines txs
@@ -27,5 +28,5 @@ history-printed txs =
     ∙ ap (λ more. codes "history " ++ (decimal (length txs) ++ (codes "\n" ++ more))) (transactions-printed txs)
 
 -- what is kept gives the lines of the history
-pub history-kept : {M : Type 0} (site : Site M) (world : List (Happening M)) (kept : KeptHistory) → KeepsHistory site.setup (firsts_of world) kept → history_lines kept.told ≡ history_text (history site world)
+pub history-kept : {M : Type 0} (site : Site M) (world : List (Happening M)) (kept : KeptHistory) → KeepsHistory site.setup (firsts_of world) kept → history_lines kept.told ≡ history_text (recorded_history site world)
 history-kept site world kept k = ap history_lines k.told ∙ history-printed (told_transactions site.setup (firsts_of world))

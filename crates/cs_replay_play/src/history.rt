@@ -6,7 +6,7 @@ ghost use Rattle.cs_replay_rules.specs.Aborts.{with_aborted_digest};
 ghost use Rattle.cs_node_rules.specs.World.{Execution, with_first_execution};
 ghost use Rattle.cs_node_rules.specs.Signs.{Did};
 ghost use Rattle.cs_table.specs.Effects.{effect_of};
-ghost use Rattle.cs_table.specs.Seen.{vote_of};
+ghost use Rattle.cs_tx.specs.Votes.{vote_of};
 ghost use Rattle.std.specs.List.{list_all};
 ghost use Rattle.cs_tx.specs.Digest.{digest_of_session};
 ghost use Rattle.cs_replay_play.specs.Kept.{KeepsHistory, IsBeforeFirst, is_commit, all_voted_commit, after_vote, told_next, after_execution, kept_after, with_abort};

@@ -3,6 +3,7 @@ use Rattle.std.proofs.Common.{◌≡◌, inl, inr, ℕ, zero, suc, ◌*◌, ◌�
 use Rattle.std.specs.Prelude.{if◌then◌else◌, ◌==◌, Ok, Err, slice_get, slice_set, bytes_eq}
 use Rattle.std.proofs.lemmas.Bool.{cond_both, cases_Bool, and_parts, and_from, or_left, or_right, or_cases, eqb-true, eq-eqb}
 use Rattle.std.proofs.lemmas.List.Elements.{All-tail}
+use Rattle.cs_base.specs.Lists.{IsIn}
 use Rattle.cs_base.specs.Fields.{IsBytes}
 use Rattle.cs_base.specs.declared.config.Config.{Config}
 use Rattle.cs_base.specs.declared.node_id.NodeId.{NodeId}
@@ -20,7 +21,7 @@ use Rattle.cs_sched.specs.declared.schedule.Event.TheVariants as event
 use Rattle.cs_wire.specs.Keys.{key_between}
 use Rattle.cs_wire.specs.Opens.{IsName}
 use Rattle.cs_wire.specs.Opened.{Opened, keys_of_master}
-use Rattle.cs_ledger.specs.Ledger.{Bytes, IsIn}
+use Rattle.cs_ledger.specs.Ledger.{Bytes}
 use Rattle.cs_ledger.specs.Session as Seen
 use Rattle.cs_ledger.proofs.Basics.{in_either, bytes_refl}
 use Rattle.cs_node_rules.specs.Signs.{Dropped, Took, Entered, Viewed, Did, Headed, Kept, Sent}
@@ -33,7 +34,7 @@ use Rattle.cs_replay_rules.specs.Play.{Played, unplayed, Course, Goes, Stops, Fo
 use Rattle.cs_node_rules.specs.Carrying.{Carries}
 use Rattle.cs_node_law.specs.Made.{view_at, AllMade, IsLevel}
 use Rattle.cs_node_law.specs.Given.{InputIsBytes, AreBytes}
-use Rattle.cs_replay_rules.specs.PlayedWorlds.{IsSaid, IsGivable, IsPlayed, PlaysWorlds}
+use Rattle.cs_replay_rules.specs.PlayedWorlds.{IsSayable, IsGivable, IsPlayed, PlaysWorlds}
 use Rattle.cs_node_law.proofs.Inputs.{event-level}
 use Rattle.cs_node_law.proofs.NoIns.{inputs_in, event-inputs}
 use Rattle.cs_node_law.proofs.Sealing.{bytes-datagram}
@@ -302,7 +303,7 @@ module _ {M : Type 0} (machine : Machine M) (holds : Holds machine) (carrier : C
             then-played (delivers At traced line number (slice_get p.parcels number) p) (drained At traced line times) (delivers-played number (slice_get p.parcels number) p refl h) later
 
     -- what is said opens, if at all, as from its speaker, who is no honest node
-    said-genuine : (from to : NodeId) (kind : ℕ) (body : Bytes) (parcels : List Parcel) → IsSaid config net from to kind body → is_genuine net to (net.datagram from to kind body) parcels ≡ true
+    said-genuine : (from to : NodeId) (kind : ℕ) (body : Bytes) (parcels : List Parcel) → IsSayable config net from to kind body → is_genuine net to (net.datagram from to kind body) parcels ≡ true
     said-genuine from to kind body parcels said = go (net.opened to (net.datagram from to kind body)) refl
       where
         short : (n : ℕ) → n ≤ 32719 → n < 2 ^ 32

@@ -9,7 +9,7 @@ use Rattle.cs_base.specs.Codes.{bytes_text}
 use Rattle.cs_check_rules.specs.Chain.{Log, empty_log, head_of, checkpoint_of}
 use Rattle.cs_ledger.specs.Ledger.{Bytes, Item}
 use Rattle.cs_node_rules.specs.Site.{Site}
-use Rattle.cs_node_rules.specs.World.{Happening, view_of, history}
+use Rattle.cs_node_rules.specs.World.{Happening, view_of, recorded_history}
 use Rattle.cs_replay_rules.specs.Lines.{history_text}
 
 -- ---- the log of one node
@@ -68,4 +68,4 @@ dump_text {M} site contracts world =
     ++ (number_line (codes "faulty ") site.setup.f
     ++ (number_line (codes "dummies ") site.setup.rules.dummies
     ++ (flat_map dumped_contract contracts ++ (flat_map dumped_genesis site.setup.rules.genesis
-    ++ (logs_text site world site.setup.shards ++ (history_text (history site world) ++ codes "end\n")))))))
+    ++ (logs_text site world site.setup.shards ++ (history_text (recorded_history site world) ++ codes "end\n")))))))

@@ -8,7 +8,7 @@ use Rattle.cs_sched.specs.declared.schedule.Event.TheVariants.{Say, Inject, Deli
 use Rattle.cs_node_rules.specs.Signs.{Sign}
 use Rattle.cs_node_rules.specs.Site as Given
 use Rattle.cs_node_rules.specs.Site.{Input, Datagram, Mark, Site, signs_of}
-use Rattle.cs_node_rules.specs.World.{Happening, happens, is_genuine, history}
+use Rattle.cs_node_rules.specs.World.{Happening, happens, is_genuine, recorded_history}
 use Rattle.cs_node_rules.specs.Lines.{Parcel, parcels_of}
 use Rattle.cs_replay_rules.specs.Lines.{event_lines, limit_line, forged_line, history_text}
 
@@ -140,7 +140,7 @@ play_all {M} site traced (e ∷ events) p = then_plays (play site traced e.0 e.1
 
 -- the history, or the line of the event that was refused
 abbrev pub closing_text : {M : Type 0} → Site M → Course M → Bytes
-closing_text {M} site (Goes p) = p.text ++ history_text (history site p.world)
+closing_text {M} site (Goes p) = p.text ++ history_text (recorded_history site p.world)
 closing_text {M} site (Stops p line) = p.text ++ limit_line line
 closing_text {M} site (Forges p line) = p.text ++ forged_line line
 

@@ -23,7 +23,7 @@ use Rattle.cs_node_state.specs.Deployed.{setup_of}
 use Rattle.cs_node_law.specs.Given.{AreBytes}
 
 -- one that is no honest node says something to an honest node
-pub record IsSaid (config : Config) (net : Net) (from to : NodeId) (kind : ℕ) (body : Bytes) : Type 0 where
+pub record IsSayable (config : Config) (net : Net) (from to : NodeId) (kind : ℕ) (body : Bytes) : Type 0 where
   pub speaker : is_named config from ≡ true
   pub lies : net.is_honest from ≡ false
   pub listener : net.is_honest to ≡ true
@@ -33,7 +33,7 @@ pub record IsSaid (config : Config) (net : Net) (from to : NodeId) (kind : ℕ) 
 
 -- what the event gives is made of bytes, and is for an honest node
 abbrev pub IsGivable : Config → Net → Event → Type 0
-IsGivable config net (event.Say from to kind body) = IsSaid config net from to kind body
+IsGivable config net (event.Say from to kind body) = IsSayable config net from to kind body
 IsGivable config net (event.Inject to bytes) = (net.is_honest to ≡ true) × IsBytes bytes
 IsGivable config net (event.Deliver number) = Unit {0}
 IsGivable config net (event.Tick node) = net.is_honest node ≡ true

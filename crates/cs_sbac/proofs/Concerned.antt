@@ -95,7 +95,7 @@ module _ (config : Config) (genesis : List Object) (approves : Tx → Bool) (x :
         ap (λ b. b || Uses.is_among config shard names) other ∙ none-above names high
 
     above : config.shards ≤ shard → Setup.is_concerned_shard setup x shard ≡ false
-    above high = concerns-session config genesis approves x shard ∙ none-above (Uses.names_of x.tx) high
+    above high = concerns-session config genesis approves x shard ∙ none-above (Uses.used_names x.tx) high
 
     -- whether it is one of those of the session, whatever shard it is
     pub contains-any : list_any is_it (Setup.concerned setup x) ≡ Setup.is_concerned_shard setup x shard

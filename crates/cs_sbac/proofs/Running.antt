@@ -1,6 +1,7 @@
 -- What the table and the pool became is what the execution of the entry gives.
 use Rattle.std.proofs.Common.{◌≡◌, ℕ, Bool, true, false, ◌&&◌, List, Option, Some, None, IsSome, is_some, option_map, refl, ap, sym, subst, ◌∙◌}
 use Rattle.std.specs.Prelude.{if◌then◌else◌}
+use Rattle.cs_tx.specs.Votes.{vote_of}
 use Rattle.cs_tx_types.specs.Session.{session_in}
 use Rattle.cs_base.specs.declared.config.Config.{Config}
 use Rattle.cs_base.specs.declared.key.Key as ours
@@ -20,7 +21,7 @@ use Rattle.cs_ledger.specs.Session as Seen
 use Rattle.cs_ledger.specs.Table as Shard
 use Rattle.cs_tx_types.specs.declared.effect.Effect.{Effect}
 use Rattle.cs_tx_types.specs.declared.effect.Effect.TheVariants.{Voted, Accepted, Aborted, Skipped, Void}
-use Rattle.cs_table.specs.Seen.{Stored, seen, vote_of}
+use Rattle.cs_table.specs.Seen.{Stored, seen}
 use Rattle.cs_table.specs.Pieces.{rules_in}
 use Rattle.cs_table.specs.Changes.{Becomes, MarksTouched}
 use Rattle.cs_table.specs.Effects.{ComesTo, effect_of}
@@ -40,23 +41,19 @@ use Rattle.cs_check.specs.Root.{keys_in}
 use Rattle.cs_check.specs.Archives.{Archived}
 use Rattle.cs_sbac.specs.Held.{Held, IsOfNode}
 use Rattle.cs_node_pool.specs.Deployed.{deployed_setup}
-use Rattle.cs_sbac.specs.Calls.{placed, left, accepted_by, Runs, RunsEntry, Executes}
+use Rattle.cs_sbac.specs.Calls.{placed, left, accepted_by, RunsSession, RunsEntry, Executes}
 use Rattle.cs_sbac.proofs.RulesAlike.{acts, anchors}
 
 vote-back : (v : Vote) → Setup.vote_from (vote_of v) ≡ v
 vote-back Commit = refl
 vote-back Abort = refl
 
-same-vote : (v : Vote) → vote_of v ≡ Setup.vote_of v
-same-vote Commit = refl
-same-vote Abort = refl
-
 -- ---- after a vote
 
 pub voted-run : (me : NodeId) (x : Session) (y : Seen.Session) (told tnew : Stored) (pold pnew : Pool) (vote : Vote) (locked : Bool)
     → ComesTo (prepare_outcome told y) told tnew (Shard.Voted (vote_of vote)) → locked ≡ holds_at (seen tnew) y.digest (anchor_in tnew y)
     → pnew ≡ own_pool me y.digest (Some (vote, locked)) (placed locked y.digest x pold)
-    → Runs me x y.digest (prepare_outcome told y) (anchor_in told y) told tnew pold pnew (record { effect = Voted vote; voted = Some (vote, locked) })
+    → RunsSession me x y.digest (prepare_outcome told y) (anchor_in told y) told tnew pold pnew (record { effect = Voted vote; voted = Some (vote, locked) })
 voted-run me x y told tnew pold pnew vote locked comes holds pool =
     let o : Shard.Outcome = prepare_outcome told y in
     let e : Shard.Voted (vote_of vote) ≡ o.effect = comes.effect_is in
@@ -94,7 +91,7 @@ module _ (me : NodeId) (x : Session) (y : Seen.Session) (told tnew : Stored) (po
   l = is_locked_at o.table y.digest (anchor_in told y)
 
   abbrev Ran : Effect → Type 0
-  Ran effect = Runs me x y.digest o (anchor_in told y) told tnew pold pnew (record { effect = effect; voted = None })
+  Ran effect = RunsSession me x y.digest o (anchor_in told y) told tnew pold pnew (record { effect = effect; voted = None })
 
   quiet : (effect : Effect) (is : Shard.Effect) → effect_of effect ≡ is → is ≡ o.effect → None ≡ told_by is l → pnew ≡ pool_after is l y.digest x pold → Becomes told tnew o.table → Ran effect
   quiet effect is e f none pool table = record {
@@ -112,7 +109,7 @@ module _ (me : NodeId) (x : Session) (y : Seen.Session) (told tnew : Stored) (po
   by (Voted v) e pool table = absurd (never-votes (rules_in told.shards) told.shard (seen told) y (vote_of vote) (anchor_in told y) (vote_of v) e)
 
   pub decided-run : (effect : Effect) → ComesTo (decide_outcome told y (vote_of vote)) told tnew (effect_of effect) → pnew ≡ left effect y.digest pold
-      → Runs me x y.digest (decide_outcome told y (vote_of vote)) (anchor_in told y) told tnew pold pnew (record { effect = effect; voted = None })
+      → RunsSession me x y.digest (decide_outcome told y (vote_of vote)) (anchor_in told y) told tnew pold pnew (record { effect = effect; voted = None })
   decided-run effect comes pool = by effect comes.effect_is pool comes.table_is
 
 -- ---- the table stays that of the shard
@@ -158,10 +155,10 @@ module _ (config : Config) (me : NodeId) (told : Stored) (of : IsOfNode config m
         ∙ ap (λ b. if b then Shard.act setup.rules me.shard (seen told) e (Seen.anchor setup.rules (Shard.session_of e) me.shard) else record { table = seen told; effect = Shard.Void }) (sym fit)
 
     moved : (x : Session) (o p : Shard.Outcome) (tnew : Stored) (pold pnew : Pool) (answer : Outcome) → o ≡ p
-        → Runs me x (ledger_session approves x).digest o (anchor_in told (ledger_session approves x)) told tnew pold pnew answer
-        → Runs me x (ledger_session approves x).digest p (Seen.anchor setup.rules (ledger_session approves x) me.shard) told tnew pold pnew answer
+        → RunsSession me x (ledger_session approves x).digest o (anchor_in told (ledger_session approves x)) told tnew pold pnew answer
+        → RunsSession me x (ledger_session approves x).digest p (Seen.anchor setup.rules (ledger_session approves x) me.shard) told tnew pold pnew answer
     moved x o p tnew pold pnew answer e r =
-        let P : Shard.Outcome × Option Seen.Key → Type 0 = λ q. Runs me x (ledger_session approves x).digest q.0 q.1 told tnew pold pnew answer in
+        let P : Shard.Outcome × Option Seen.Key → Type 0 = λ q. RunsSession me x (ledger_session approves x).digest q.0 q.1 told tnew pold pnew answer in
         subst P (λ i. (e i, same-anchor (ledger_session approves x) i)) r
 
     module _ (old_known : AreKnown (keys_in told.rows) (seen told)) where
@@ -186,7 +183,7 @@ module _ (config : Config) (me : NodeId) (told : Stored) (of : IsOfNode config m
         executes (Prepare x) tnew pold pnew answer fit known r =
             let y : Seen.Session = ledger_session approves x in
             let e : Shard.Entry = Shard.Prepare y in
-            let s : Runs me x y.digest (Shard.exec setup.rules me.shard (seen told) e) (Seen.anchor setup.rules y me.shard) told tnew pold pnew answer =
+            let s : RunsSession me x y.digest (Shard.exec setup.rules me.shard (seen told) e) (Seen.anchor setup.rules y me.shard) told tnew pold pnew answer =
             moved x (prepare_outcome told y) (Shard.exec setup.rules me.shard (seen told) e) tnew pold pnew answer (same-outcome e fit) r in
             let keys = known-after e tnew known s.table_is.shows in
             record {
@@ -199,10 +196,10 @@ module _ (config : Config) (me : NodeId) (told : Stored) (of : IsOfNode config m
             }
         executes (Decide vote x) tnew pold pnew answer fit known r =
             let y : Seen.Session = ledger_session approves x in
-            let e : Shard.Entry = Shard.Decide y (Setup.vote_of vote) in
-            let s : Runs me x y.digest (Shard.exec setup.rules me.shard (seen told) e) (Seen.anchor setup.rules y me.shard) told tnew pold pnew answer =
+            let e : Shard.Entry = Shard.Decide y (vote_of vote) in
+            let s : RunsSession me x y.digest (Shard.exec setup.rules me.shard (seen told) e) (Seen.anchor setup.rules y me.shard) told tnew pold pnew answer =
             moved x (decide_outcome told y (vote_of vote)) (Shard.exec setup.rules me.shard (seen told) e) tnew pold pnew answer
-            (ap (decide_outcome told y) (same-vote vote) ∙ same-outcome e fit) r in
+            (same-outcome e fit) r in
             let keys = known-after e tnew known s.table_is.shows in
             record {
               effect_is = s.effect_is;

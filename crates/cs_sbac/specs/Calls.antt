@@ -1,5 +1,6 @@
 -- What calls on table, pool and archive together answer, and what they leave.
 use Rattle.std.specs.Prelude.{◌≡◌, Bool, true, false, if◌then◌else◌, Option, Some, None}
+use Rattle.cs_tx.specs.Votes.{vote_of}
 use Rattle.cs_base.specs.declared.node_id.NodeId.{NodeId}
 use Rattle.cs_ledger.specs.Ledger.{Bytes}
 use Rattle.cs_ledger.specs.Session.{Key}
@@ -14,7 +15,7 @@ use Rattle.cs_tx_types.specs.declared.effect.Effect.TheVariants.{Voted, Accepted
 use Rattle.cs_check_rules.specs.Chain.{Log}
 use Rattle.cs_table.specs.declared.standing.Standing.{Standing}
 use Rattle.cs_table.specs.declared.standing.Standing.TheVariants as Standings
-use Rattle.cs_table.specs.Seen.{Stored, vote_of}
+use Rattle.cs_table.specs.Seen.{Stored}
 use Rattle.cs_table.specs.Changes.{Becomes}
 use Rattle.cs_table.specs.Effects.{effect_of}
 use Rattle.cs_table.specs.Calls.{anchor_in, prepare_outcome, decide_outcome}
@@ -71,7 +72,7 @@ left Skipped d pool = pool
 left Void d pool = pool
 
 -- The table came to this outcome on the session x of this digest, whose anchor is this.
-pub record Runs (me : NodeId) (x : Session) (d : Bytes) (outcome : Shard.Outcome) (anchor : Option Key)
+pub record RunsSession (me : NodeId) (x : Session) (d : Bytes) (outcome : Shard.Outcome) (anchor : Option Key)
     (told tnew : Stored) (pold pnew : Pool) (answer : Outcome) : Type 0 where
   pub effect_is : effect_of answer.effect ≡ outcome.effect
   pub voted_is : answer.voted ≡ told_by outcome.effect (is_locked_at outcome.table d anchor)
@@ -81,10 +82,10 @@ pub record Runs (me : NodeId) (x : Session) (d : Bytes) (outcome : Shard.Outcome
 
 abbrev pub RunsEntry : (Tx → Bool) → NodeId → Entry → Stored → Stored → Pool → Pool → Outcome → Type 0
 RunsEntry approves me (Prepare x) told tnew pold pnew answer =
-    Runs me x (ledger_session approves x).digest
+    RunsSession me x (ledger_session approves x).digest
     (prepare_outcome told (ledger_session approves x)) (anchor_in told (ledger_session approves x))
     told tnew pold pnew answer
 RunsEntry approves me (Decide vote x) told tnew pold pnew answer =
-    Runs me x (ledger_session approves x).digest
+    RunsSession me x (ledger_session approves x).digest
     (decide_outcome told (ledger_session approves x) (vote_of vote)) (anchor_in told (ledger_session approves x))
     told tnew pold pnew answer

@@ -5,11 +5,11 @@ ghost use Rattle.cs_tx_types.specs.Session.{SessionFits, EntryFits, session_in};
 ghost use Rattle.cs_tx.specs.Digest.{digest_of_session};
 ghost use Rattle.cs_tx.specs.Sessions.{ledger_session};
 ghost use Rattle.cs_tx.specs.WellFormed.{IsWellFormed};
-ghost use Rattle.cs_table.specs.Seen.{vote_of};
+ghost use Rattle.cs_tx.specs.Votes.{vote_of};
 ghost use Rattle.cs_table.specs.Calls.{anchor_in, prepare_outcome, decide_outcome};
 ghost use Rattle.cs_node_state.specs.Pool.{entering};
 ghost use Rattle.cs_node_state.specs.Bench.{own_pool};
-ghost use Rattle.cs_sbac.specs.Calls.{placed, left, Runs, RunsEntry};
+ghost use Rattle.cs_sbac.specs.Calls.{placed, left, RunsSession, RunsEntry};
 
 use crate::answers::Outcome;
 use crate::setting::formed_shards;
@@ -96,7 +96,7 @@ fn prepare(
     requires anchored { IsSome (anchor_in table.old (ledger_session (λ tx. true) session.now)) }
     ensures runs { (approves : Tx → Bool) → IfOk result (λ answer.
         let x = ledger_session approves session.now in
-        Runs me session.now x.digest (prepare_outcome table.old x) (anchor_in table.old x)
+        RunsSession me session.now x.digest (prepare_outcome table.old x) (anchor_in table.old x)
         table.old table.new pool.old.sessions pool.new.sessions answer) }
     ensures config { pool.new.config ≡ pool.old.config }
 {
@@ -134,7 +134,7 @@ fn decide(
     requires anchored { IsSome (anchor_in table.old (ledger_session (λ tx. true) session.now)) }
     ensures runs { (approves : Tx → Bool) → IfOk result (λ answer.
         let x = ledger_session approves session.now in
-        Runs me session.now x.digest (decide_outcome table.old x (vote_of vote)) (anchor_in table.old x)
+        RunsSession me session.now x.digest (decide_outcome table.old x (vote_of vote)) (anchor_in table.old x)
         table.old table.new pool.old.sessions pool.new.sessions answer) }
     ensures config { pool.new.config ≡ pool.old.config }
 {

@@ -12,7 +12,7 @@ use Rattle.cs_io.specs.Link.{Offers}
 use Rattle.cs_io.specs.declared.link.MemInput.{MemInput}
 use Rattle.cs_io.specs.Outside.{LinkTold, Beside}
 use Rattle.cs_serve.specs.Offering.{AddsOffers}
-use Rattle.cs_serve.specs.Giving.{given_of, Takes, Gives, GivesFront}
+use Rattle.cs_serve.specs.Giving.{given_of, TakesInputs, Gives, GivesFront}
 use Rattle.cs_serve.specs.laws.Offering.{adds-none, adds-more, front-all, front-more}
 
 -- ---- lines
@@ -67,7 +67,7 @@ GivesFront-all a b xs one p = record {
 abbrev Came : List Input → List MemInput → List MemInput → Type 0
 Came inputs before now = (taken : List MemInput) × (before ≡ taken ++ now) × (inputs ≡ reverse (map given_of taken))
 
-pub Takes-nil : (a b : Beside LinkTold) → Stays a.told.left b.told.left → Takes [] a b
+pub Takes-nil : (a b : Beside LinkTold) → Stays a.told.left b.told.left → TakesInputs [] a b
 Takes-nil a b stays = nil a.told.left b.told.left stays
   where
     nil : (a b : Option (List MemInput)) → Stays a b → Changes (Came []) a b
@@ -75,7 +75,7 @@ Takes-nil a b stays = nil a.told.left b.told.left stays
     nil (Some x) None stays = absurd stays
     nil (Some x) (Some y) stays = ([], sym stays, refl)
 
-pub Takes-more : (a b c : Beside LinkTold) (first later : List Input) → Takes first a b → Takes later b c → Takes (later ++ first) a c
+pub Takes-more : (a b c : Beside LinkTold) (first later : List Input) → TakesInputs first a b → TakesInputs later b c → TakesInputs (later ++ first) a c
 Takes-more a b c first later p q = more a.told.left b.told.left c.told.left p q
   where
     both : (x y z : List MemInput) → Came first x y → Came later y z → Came (later ++ first) x z
@@ -93,7 +93,7 @@ Takes-more a b c first later p q = more a.told.left b.told.left c.told.left p q
     more (Some x) (Some y) (Some z) p q = both x y z p q
 
 -- the first that was left
-pub Takes-one : (a b : Beside LinkTold) (first : MemInput) → Changes (λ (before now : List MemInput). before ≡ first ∷ now) a.told.left b.told.left → Takes (given_of first ∷ []) a b
+pub Takes-one : (a b : Beside LinkTold) (first : MemInput) → Changes (λ (before now : List MemInput). before ≡ first ∷ now) a.told.left b.told.left → TakesInputs (given_of first ∷ []) a b
 Takes-one a b first gone = one a.told.left b.told.left gone
   where
     one : (a b : Option (List MemInput)) → Changes (λ (before now : List MemInput). before ≡ first ∷ now) a b → Changes (Came (given_of first ∷ [])) a b

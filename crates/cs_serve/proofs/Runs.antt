@@ -12,7 +12,7 @@ use Rattle.cs_wire.specs.declared.input.Out.{Out}
 use Rattle.cs_serve.specs.Offering.{offers_in, AddsOffers, AddsFront}
 use Rattle.cs_client.specs.declared.errand.Errand.{Errand}
 use Rattle.cs_client.specs.declared.known.Known.TheVariants as known
-use Rattle.cs_client.specs.Inputs.{Input}
+use Rattle.cs_client.specs.Inputs.{ClientInput}
 use Rattle.cs_client.specs.Knowing.{knows}
 use Rattle.cs_client.specs.Sayings.{says_at, outs_of_sayings}
 use Rattle.cs_client.specs.Seen.{Client}
@@ -20,7 +20,7 @@ use Rattle.cs_client.specs.Standing.{ClientStandsFor}
 use Rattle.cs_serve.specs.declared.client_ending.Ending.{Ending}
 use Rattle.cs_serve.specs.declared.client_ending.Ending.TheVariants.{Knows, Refused, LinkFault, Memory}
 use Rattle.cs_io.specs.Outside.{LinkTold}
-use Rattle.cs_serve.specs.Attending.{is_tick, ClientTakes, offers_by, offers_at, WasOpen, missed_past, Attends, Says, GoesBy, ClientAnswers, Goes}
+use Rattle.cs_serve.specs.Attending.{is_tick, ClientTakes, offers_by, offers_at, WasOpen, missed_past, Attends, Says, GoesBy, ClientAnswers, ClientTakesTurn}
 use Rattle.cs_io.specs.laws.Told.{stays-same, stays-both}
 use Rattle.cs_serve.specs.laws.Taken.{ticks-more, over-by, still-by}
 use Rattle.cs_serve.specs.laws.Offering.{adds-none, adds-more, adds-still, adds-later, front-later, front-more}
@@ -28,7 +28,7 @@ use Rattle.cs_serve.proofs.Told.{offers-more, takes-none, takes-still, takes-mor
 
 -- ---- one turn
 
-goes-later : (e : Errand) (past : List Input) (input : Input) (a b c : Option Offers) (result : Result Client Ending) → Stays a b → GoesBy e past input b c result → GoesBy e past input a c result
+goes-later : (e : Errand) (past : List ClientInput) (input : ClientInput) (a b c : Option Offers) (result : Result Client Ending) → Stays a b → GoesBy e past input b c result → GoesBy e past input a c result
 goes-later e past input a b c (Ok client) stays goes = (goes.0, goes.1, adds-later a b c (offers_at e input past) stays goes.2)
 goes-later e past input a b c (Err (Knows so)) stays goes = (goes.0, goes.1, adds-later a b c (offers_at e input past) stays goes.2)
 goes-later e past input a b c (Err (Refused cause)) stays goes = (goes.0, stays-both a b c stays goes.1)
@@ -36,7 +36,7 @@ goes-later e past input a b c (Err LinkFault) stays goes = absurd goes
 goes-later e past input a b c (Err Memory) stays goes = front-later a b c (offers_at e input past) stays goes
 
 -- what is said at an input
-pub goes-said : (e : Errand) (past : List Input) (input : Input) (outs : List Out) (old new : Option Offers) (result : Result Client Ending) → outs ≡ outs_of_sayings e.keys (says_at e input past) → Says e (input ∷ past) (offers_in outs) old new result → GoesBy e past input old new result
+pub goes-said : (e : Errand) (past : List ClientInput) (input : ClientInput) (outs : List Out) (old new : Option Offers) (result : Result Client Ending) → outs ≡ outs_of_sayings e.keys (says_at e input past) → Says e (input ∷ past) (offers_in outs) old new result → GoesBy e past input old new result
 goes-said e past input outs old new result is says = by result (subst (λ (o : List Out). Says e (input ∷ past) (offers_in o) old new result) is says)
   where
     by : (result : Result Client Ending) → Says e (input ∷ past) (offers_at e input past) old new result → GoesBy e past input old new result
@@ -47,11 +47,11 @@ goes-said e past input outs old new result is says = by result (subst (λ (o : L
     by (Err Memory) says = says
 
 -- nothing of it was offered, for want of memory
-pub none-offered : (e : Errand) (past : List Input) (input : Input) (a : Option Offers) → AddsFront (offers_at e input past) a a
+pub none-offered : (e : Errand) (past : List ClientInput) (input : ClientInput) (a : Option Offers) → AddsFront (offers_at e input past) a a
 none-offered e past input a = ([], offers_at e input past, refl, adds-none a)
 
 -- the first input that was left was taken and answered
-pub answered : (e : Errand) (past : List Input) (input : Input) (a b c : LinkTold) (result : Result Client Ending) → Changes (λ (before now : List Input). before ≡ input ∷ now) a.left b.left → b.missed ≡ 0 → Stays a.offered b.offered
+pub answered : (e : Errand) (past : List ClientInput) (input : ClientInput) (a b c : LinkTold) (result : Result Client Ending) → Changes (λ (before now : List ClientInput). before ≡ input ∷ now) a.left b.left → b.missed ≡ 0 → Stays a.offered b.offered
     → Stays b.left c.left → c.missed ≡ b.missed → GoesBy e past input b.offered c.offered result → ClientAnswers e past a c result
 answered e past input a b c result gone missed offered left same goes = record {
   input = input;
@@ -61,8 +61,8 @@ answered e past input a b c result gone missed offered left same goes = record {
 }
 
 -- and the run goes on
-pub went-on : (e : Errand) (past : List Input) (input : Input) (a b c : LinkTold) (client : Client) (ticked : Bool) → ticked ≡ is_tick input → Changes (λ (before now : List Input). before ≡ input ∷ now) a.left b.left → b.missed ≡ 0
-    → Stays a.offered b.offered → Stays b.left c.left → c.missed ≡ b.missed → GoesBy e past input b.offered c.offered (Ok client) → Goes e past a c (Ok (client, ticked))
+pub went-on : (e : Errand) (past : List ClientInput) (input : ClientInput) (a b c : LinkTold) (client : Client) (ticked : Bool) → ticked ≡ is_tick input → Changes (λ (before now : List ClientInput). before ≡ input ∷ now) a.left b.left → b.missed ≡ 0
+    → Stays a.offered b.offered → Stays b.left c.left → c.missed ≡ b.missed → GoesBy e past input b.offered c.offered (Ok client) → ClientTakesTurn e past a c (Ok (client, ticked))
 went-on e past input a b c client ticked is gone missed offered left same goes = (
   record {
     input = input;
@@ -74,7 +74,7 @@ went-on e past input a b c client ticked is gone missed offered left same goes =
 )
 
 -- and that ended the run
-pub ended-so : (e : Errand) (past : List Input) (a c : LinkTold) (ending : Ending) → ClientAnswers e past a c (Err ending) → Goes e past a c (Err ending)
+pub ended-so : (e : Errand) (past : List ClientInput) (a c : LinkTold) (ending : Ending) → ClientAnswers e past a c (Err ending) → ClientTakesTurn e past a c (Err ending)
 ended-so e past a c (Knows known.Open) one = absurd (one.goes.1 refl)
 ended-so e past a c (Knows (known.Accepted digest)) one = one
 ended-so e past a c (Knows (known.Aborted digest)) one = one
@@ -86,7 +86,7 @@ ended-so e past a c Memory one = one
 
 -- so many inputs were taken, so many of them ticks, none of them too many, and nothing is known yet
 pub record SoFar (e : Errand) (until : Until) (turns ticks : ℕ) (old new : LinkTold) (client : Client) : Type 0 where
-  pub inputs : List Input
+  pub inputs : List ClientInput
   pub all : length inputs ≡ turns
   pub ticked : count_by is_tick inputs ≡ ticks
   pub needed : AreNeeded is_tick until inputs
@@ -112,15 +112,15 @@ begins e until a client stands = record {
 }
 
 -- what is offered at one input more
-offered-more : (e : Errand) (past : List Input) (input : Input) (a b c : Option Offers) → AddsOffers (offers_by e past) a b → AddsOffers (offers_at e input past) b c → AddsOffers (offers_by e (input ∷ past)) a c
+offered-more : (e : Errand) (past : List ClientInput) (input : ClientInput) (a b c : Option Offers) → AddsOffers (offers_by e past) a b → AddsOffers (offers_at e input past) b c → AddsOffers (offers_by e (input ∷ past)) a c
 offered-more e past input a b c first later =
     subst (λ xs. AddsOffers xs a c) (sym (offers-more e input past)) (adds-more a b c (offers_by e past) (offers_at e input past) first later)
 
-one-more : (input : Input) (past : List Input) (n : ℕ) → length past ≡ n → length (input ∷ past) ≡ n + 1
+one-more : (input : ClientInput) (past : List ClientInput) (n : ℕ) → length past ≡ n → length (input ∷ past) ≡ n + 1
 one-more input past n is = omega arith
 
 pub goes-on : (e : Errand) (until : Until) (turns ticks : ℕ) (a b c : LinkTold) (client next : Client) (ticked : Bool) (more : ℕ) → more ≡ from_bool ticked → (IsOver until turns ticks → ⊥) → SoFar e until turns ticks a b client
-    → ((past : List Input) → ClientStandsFor e past client → Goes e past b c (Ok (next, ticked))) → SoFar e until (turns + 1) (ticks + more) a c next
+    → ((past : List ClientInput) → ClientStandsFor e past client → ClientTakesTurn e past b c (Ok (next, ticked))) → SoFar e until (turns + 1) (ticks + more) a c next
 goes-on e until turns ticks a b c client next ticked more counted still so turn =
     let both = turn so.inputs so.stands in
     let one = both.0 in
@@ -160,7 +160,7 @@ over e until turns ticks a b client enough so = record {
 }
 
 module _ (e : Errand) (until : Until) (turns ticks : ℕ) (a b c : LinkTold) (client : Client) (still : IsOver until turns ticks → ⊥) (so : SoFar e until turns ticks a b client) where
-  one-needed : (input : Input) → AreNeeded is_tick until (input ∷ so.inputs)
+  one-needed : (input : ClientInput) → AreNeeded is_tick until (input ∷ so.inputs)
   one-needed input = still-by is_tick until so.inputs turns ticks so.all so.ticked still
 
   at-last : (ending : Ending) → (one : ClientAnswers e so.inputs b c (Err ending)) → Attends e until a c ending
@@ -193,7 +193,7 @@ module _ (e : Errand) (until : Until) (turns ticks : ℕ) (a b c : LinkTold) (cl
         (front-more a.offered b.offered c.offered (offers_by e so.inputs) (offers_at e one.input so.inputs) so.offered one.goes);
   }
 
-  pub ends-so : (ending : Ending) → ((past : List Input) → ClientStandsFor e past client → Goes e past b c (Err ending)) → Attends e until a c ending
+  pub ends-so : (ending : Ending) → ((past : List ClientInput) → ClientStandsFor e past client → ClientTakesTurn e past b c (Err ending)) → Attends e until a c ending
   ends-so (Knows known.Open) turn =
       let one = turn so.inputs so.stands in
       record {

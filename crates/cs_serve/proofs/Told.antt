@@ -8,7 +8,7 @@ use Rattle.cs_io.specs.laws.Told.{changes-before}
 use Rattle.cs_wire.specs.declared.input.Out.{Out}
 use Rattle.cs_serve.specs.Offering.{offers_in}
 use Rattle.cs_client.specs.declared.errand.Errand.{Errand}
-use Rattle.cs_client.specs.Inputs.{Input}
+use Rattle.cs_client.specs.Inputs.{ClientInput}
 use Rattle.cs_client.specs.Sayings.{says_at, says_by, out_of, outs_of_sayings}
 use Rattle.cs_io.specs.Outside.{LinkTold}
 use Rattle.cs_serve.specs.Attending.{ClientTakes, offers_by, offers_at}
@@ -16,48 +16,48 @@ use Rattle.cs_serve.specs.Attending.{ClientTakes, offers_by, offers_at}
 -- ---- offers
 
 -- what is said at an input comes after what was said before
-pub offers-more : (e : Errand) (input : Input) (past : List Input) → offers_by e (input ∷ past) ≡ offers_by e past ++ offers_at e input past
+pub offers-more : (e : Errand) (input : ClientInput) (past : List ClientInput) → offers_by e (input ∷ past) ≡ offers_by e past ++ offers_at e input past
 offers-more e input past =
     ap offers_in (flat_map-append (out_of e.keys) (says_by e past) (says_at e input past))
     ∙ map-append (λ (out : Out). (out.to, out.bytes)) (outs_of_sayings e.keys (says_by e past)) (outs_of_sayings e.keys (says_at e input past))
 
 -- ---- inputs
 
-abbrev Came : List Input → List Input → List Input → Type 0
-Came inputs before now = (taken : List Input) × (before ≡ taken ++ now) × (inputs ≡ reverse taken)
+abbrev Came : List ClientInput → List ClientInput → List ClientInput → Type 0
+Came inputs before now = (taken : List ClientInput) × (before ≡ taken ++ now) × (inputs ≡ reverse taken)
 
 pub takes-none : (a b : LinkTold) → Stays a.left b.left → ClientTakes [] a b
 takes-none a b stays = none a.left b.left stays
   where
-    none : (a b : Option (List Input)) → Stays a b → Changes (Came []) a b
+    none : (a b : Option (List ClientInput)) → Stays a b → Changes (Came []) a b
     none None b stays = tt
     none (Some x) None stays = absurd stays
     none (Some x) (Some y) stays = ([], sym stays, refl)
 
-pub takes-still : (a b c : LinkTold) (inputs : List Input) → ClientTakes inputs a b → Stays b.left c.left → ClientTakes inputs a c
+pub takes-still : (a b c : LinkTold) (inputs : List ClientInput) → ClientTakes inputs a b → Stays b.left c.left → ClientTakes inputs a c
 takes-still a b c inputs = changes-before (Came inputs) a.left b.left c.left
 
-pub takes-more : (a b c : LinkTold) (first later : List Input) → ClientTakes first a b → ClientTakes later b c → ClientTakes (later ++ first) a c
+pub takes-more : (a b c : LinkTold) (first later : List ClientInput) → ClientTakes first a b → ClientTakes later b c → ClientTakes (later ++ first) a c
 takes-more a b c first later p q = more a.left b.left c.left p q
   where
-    both : (x y z : List Input) → Came first x y → Came later y z → Came (later ++ first) x z
+    both : (x y z : List ClientInput) → Came first x y → Came later y z → Came (later ++ first) x z
     both x y z (one, before, is) (two, then, too) = (
       one ++ two,
       before ∙ ap (λ l. one ++ l) then ∙ sym (append_assoc one two z),
       ap (λ l. l ++ first) too ∙ ap (λ l. reverse two ++ l) is ∙ sym (reverse-append one two),
     )
 
-    more : (a b c : Option (List Input)) → Changes (Came first) a b → Changes (Came later) b c → Changes (Came (later ++ first)) a c
+    more : (a b c : Option (List ClientInput)) → Changes (Came first) a b → Changes (Came later) b c → Changes (Came (later ++ first)) a c
     more None b c p q = tt
     more (Some x) None c p q = absurd p
     more (Some x) (Some y) None p q = absurd q
     more (Some x) (Some y) (Some z) p q = both x y z p q
 
 -- the first that was left
-pub takes-one : (a b c : LinkTold) (first : Input) → Changes (λ (before now : List Input). before ≡ first ∷ now) a.left b.left → Stays b.left c.left → ClientTakes (first ∷ []) a c
+pub takes-one : (a b c : LinkTold) (first : ClientInput) → Changes (λ (before now : List ClientInput). before ≡ first ∷ now) a.left b.left → Stays b.left c.left → ClientTakes (first ∷ []) a c
 takes-one a b c first gone stays = changes-before (Came (first ∷ [])) a.left b.left c.left (one a.left b.left gone) stays
   where
-    one : (a b : Option (List Input)) → Changes (λ (before now : List Input). before ≡ first ∷ now) a b → Changes (Came (first ∷ [])) a b
+    one : (a b : Option (List ClientInput)) → Changes (λ (before now : List ClientInput). before ≡ first ∷ now) a b → Changes (Came (first ∷ [])) a b
     one None b gone = tt
     one (Some x) None gone = absurd gone
     one (Some x) (Some y) gone = (first ∷ [], gone, refl)

@@ -14,8 +14,8 @@ use Rattle.cs_io.specs.declared.link.MemInput.{MemInput}
 use Rattle.cs_serve.specs.declared.ending.End.{End}
 use Rattle.cs_serve.specs.declared.ending.End.TheVariants.{Done, Ended, LinkFault, WriteFault, Memory}
 use Rattle.cs_serve.specs.declared.receiving.TheConstants.{MOST_MISSED}
-use Rattle.cs_serve.specs.Giving.{given_of, is_tick, Takes, Gives, GivesFront}
-use Rattle.cs_serve.specs.Serving.{trail, offers_of, lines_of, NodeGivesAll, GivesPart, missed_past, NodeEnds, Passes, Serves, TakesTurn, GivesBy, NodeAnswers}
+use Rattle.cs_serve.specs.Giving.{given_of, is_tick, TakesInputs, Gives, GivesFront}
+use Rattle.cs_serve.specs.Serving.{trail, offers_of, lines_of, NodeGivesAll, GivesPart, missed_past, NodeEnds, ServesInputs, Serves, TakesTurn, GivesBy, NodeAnswers}
 use Rattle.cs_io.specs.Until.{IsOver, AreEnough, AreNeeded}
 use Rattle.cs_io.specs.declared.until.Until.{Until}
 use Rattle.cs_io.specs.laws.Told.{stays-same, changes-after, changes-before}
@@ -63,7 +63,7 @@ module _ {C M : Type 0} (stands : C → View M → Type 0) (site : Site M) where
   -- ---- turns
 
   -- none was taken yet
-  pub passes-none : (v : View M) (a b : Beside LinkTold) (core : C) → stands core v → Stays a.told.left b.told.left → b.told.missed ≡ a.told.missed → Gives [] [] a b → Passes stands site v [] a b (Done, Some core)
+  pub passes-none : (v : View M) (a b : Beside LinkTold) (core : C) → stands core v → Stays a.told.left b.told.left → b.told.missed ≡ a.told.missed → Gives [] [] a b → ServesInputs stands site v [] a b (Done, Some core)
   passes-none v a b core is left missed gives = record {
     takes = Takes-nil a b left;
     ends = (missed, gives);
@@ -79,7 +79,7 @@ module _ {C M : Type 0} (stands : C → View M → Type 0) (site : Site M) where
   ends-more v first later a b c p Memory q = part-more v first later a b c p.1 q
 
   -- then some more
-  pub passes-more : (v : View M) (first later : List Input) (a b c : Beside LinkTold) (core : C) (result : End × Option C) → Passes stands site v first a b (Done, Some core) → Passes stands site (after site v first) later b c result → Passes stands site v (later ++ first) a c result
+  pub passes-more : (v : View M) (first later : List Input) (a b c : Beside LinkTold) (core : C) (result : End × Option C) → ServesInputs stands site v first a b (Done, Some core) → ServesInputs stands site (after site v first) later b c result → ServesInputs stands site v (later ++ first) a c result
   passes-more v first later a b c core result p q = record {
     takes = Takes-more a b c first later p.takes q.takes;
     ends = ends-more v first later a b c p.ends result.0 q.ends;
@@ -126,7 +126,7 @@ module _ {C M : Type 0} (stands : C → View M → Type 0) (site : Site M) where
   ends-one v input a b missed Memory gives = subst (λ (marks : List (Mark M)). GivesPart site v marks a b) (sym (trail-one site v input)) gives
 
   -- an input was taken and answered
-  passes-one : (v : View M) (input : Input) (a b : Beside LinkTold) (result : End × Option C) → b.told.missed ≡ 0 → Takes (input ∷ []) a b → NodeAnswers stands site v input a b result → Passes stands site v (input ∷ []) a b result
+  passes-one : (v : View M) (input : Input) (a b : Beside LinkTold) (result : End × Option C) → b.told.missed ≡ 0 → TakesInputs (input ∷ []) a b → NodeAnswers stands site v input a b result → ServesInputs stands site v (input ∷ []) a b result
   passes-one v input a b result missed takes answers = record {
     takes = takes;
     ends = ends-one v input a b missed result.0 answers.gives;
@@ -160,12 +160,12 @@ module _ {C M : Type 0} (stands : C → View M → Type 0) (site : Site M) where
   }
 
   -- the first that was left is gone
-  takes-later : (a b c : Beside LinkTold) (first : MemInput) → Changes (λ (before now : List MemInput). before ≡ first ∷ now) a.told.left b.told.left → Stays b.told.left c.told.left → Takes (given_of first ∷ []) a c
+  takes-later : (a b c : Beside LinkTold) (first : MemInput) → Changes (λ (before now : List MemInput). before ≡ first ∷ now) a.told.left b.told.left → Stays b.told.left c.told.left → TakesInputs (given_of first ∷ []) a c
   takes-later a b c first gone stays = Takes-one a c first (changes-before (λ (before now : List MemInput). before ≡ first ∷ now) a.told.left b.told.left c.told.left gone stays)
 
   -- the first input that was left was taken and answered
   pub passes-answer : (v : View M) (first : MemInput) (a b c : Beside LinkTold) (result : End × Option C) → Changes (λ (before now : List MemInput). before ≡ first ∷ now) a.told.left b.told.left → b.told.missed ≡ 0 → Stays a.told.offered b.told.offered → b.written ≡ a.written
-      → Stays b.told.left c.told.left → c.told.missed ≡ b.told.missed → NodeAnswers stands site v (given_of first) b c result → Passes stands site v (given_of first ∷ []) a c result
+      → Stays b.told.left c.told.left → c.told.missed ≡ b.told.missed → NodeAnswers stands site v (given_of first) b c result → ServesInputs stands site v (given_of first ∷ []) a c result
   passes-answer v first a b c result gone missed offered written left same answers =
       passes-one v (given_of first) a c result (same ∙ missed) (takes-later a b c first gone left) (answers-later v (given_of first) a b c result offered written answers)
 
@@ -177,7 +177,7 @@ pub record SoFar {C M : Type 0} (stands : C → View M → Type 0) (site : Site 
   pub all : length inputs ≡ turns
   pub ticked : count_by is_tick inputs ≡ ticks
   pub needed : AreNeeded is_tick until inputs
-  pub passes : Passes stands site v inputs old new (Done, Some core)
+  pub passes : ServesInputs stands site v inputs old new (Done, Some core)
 
 module _ {C M : Type 0} (stands : C → View M → Type 0) (site : Site M) (v : View M) (until : Until) where
   pub begins : (a : Beside LinkTold) (core : C) → stands core v → SoFar stands site v until 0 0 a a core
@@ -208,7 +208,7 @@ module _ {C M : Type 0} (stands : C → View M → Type 0) (site : Site M) (v : 
         let p = turn (after site v so.inputs) so.passes.after in
         let input = p.one.0 in
         let one : p.inputs ≡ input ∷ [] = p.one.1 in
-        let q = subst (λ (later : List Input). Passes stands site (after site v so.inputs) later b c (Done, Some next)) one p.passes in
+        let q = subst (λ (later : List Input). ServesInputs stands site (after site v so.inputs) later b c (Done, Some next)) one p.passes in
         record {
           inputs = input ∷ so.inputs;
           all = (let all = so.all in omega arith);

@@ -11,7 +11,7 @@ use Rattle.cs_serve.specs.declared.receiving.TheConstants.{MOST_MISSED}
 use Rattle.cs_serve.specs.Offering.{offers_in, AddsOffers, AddsFront}
 use Rattle.cs_client.specs.declared.errand.Errand.{Errand}
 use Rattle.cs_client.specs.declared.known.Known.TheVariants as known
-use Rattle.cs_client.specs.Inputs.{Input}
+use Rattle.cs_client.specs.Inputs.{ClientInput}
 use Rattle.cs_client.specs.Knowing.{knows}
 use Rattle.cs_client.specs.Sayings.{says_at, says_by, outs_of_sayings}
 use Rattle.cs_client.specs.Seen.{Client}
@@ -19,47 +19,48 @@ use Rattle.cs_client.specs.Standing.{ClientStandsFor, MethodIsRefused}
 use Rattle.cs_serve.specs.declared.client_ending.Ending.{Ending}
 use Rattle.cs_serve.specs.declared.client_ending.Ending.TheVariants.{Knows, Refused, LinkFault, Memory}
 
-abbrev pub is_tick : Input → Bool
+abbrev pub is_tick : ClientInput → Bool
 is_tick (came.Datagram bytes) = false
 is_tick came.Tick = true
 
 -- the first inputs that were left are gone, and are these, the newest first
-abbrev pub ClientTakes : List Input → LinkTold → LinkTold → Type 0
+abbrev pub ClientTakes : List ClientInput → LinkTold → LinkTold → Type 0
 ClientTakes inputs old new =
-    Changes (λ before now. (taken : List Input) × (before ≡ taken ++ now) × (inputs ≡ reverse taken)) old.left new.left
+    Changes (λ before now. (taken : List ClientInput)
+    × (before ≡ taken ++ now) × (inputs ≡ reverse taken)) old.left new.left
 
 -- all that the client says at these inputs, as datagrams with who they are for
-abbrev pub offers_by : Errand → List Input → Offers
+abbrev pub offers_by : Errand → List ClientInput → Offers
 offers_by e inputs = offers_in (outs_of_sayings e.keys (says_by e inputs))
 
-abbrev pub offers_at : Errand → Input → List Input → Offers
+abbrev pub offers_at : Errand → ClientInput → List ClientInput → Offers
 offers_at e input past = offers_in (outs_of_sayings e.keys (says_at e input past))
 
 -- ---- how it ends
 
 -- before the last of these inputs nothing was known
-abbrev pub WasOpen : Errand → List Input → Type 0
+abbrev pub WasOpen : Errand → List ClientInput → Type 0
 WasOpen e [] = Unit {0}
 WasOpen e (input ∷ past) = (knows e past ≡ known.Open) × WasOpen e past
 
 -- no more inputs were to be taken, or none was left
-abbrev pub InputsAreOver : Until → List Input → LinkTold → Type 0
+abbrev pub InputsAreOver : Until → List ClientInput → LinkTold → Type 0
 InputsAreOver until inputs new = AreEnough is_tick until inputs ⊎ IfSome new.left (λ left. left ≡ [])
 
 -- so many receives in a row had failed, before the link was asked again
-abbrev pub missed_past : ℕ → List Input → ℕ
+abbrev pub missed_past : ℕ → List ClientInput → ℕ
 missed_past before [] = before
 missed_past before (input ∷ past) = 0
 
 -- the method is refused at the last of these inputs; of that one nothing is said
-abbrev pub EndsRefused : Errand → List Input → LinkTold → LinkTold → ProcError → Type 0
+abbrev pub EndsRefused : Errand → List ClientInput → LinkTold → LinkTold → ProcError → Type 0
 EndsRefused e [] old new cause = ⊥
 EndsRefused e (input ∷ past) old new cause =
     MethodIsRefused e past input cause × AddsOffers (offers_by e past) old.offered new.offered
 
 -- Knows: so much is known; where it is nothing, the inputs are over. LinkFault: so many receives in a row failed. With
 -- these all that the client says was offered; for want of memory a front of it.
-abbrev pub ClientEnds : Errand → Until → List Input → LinkTold → LinkTold → Ending → Type 0
+abbrev pub ClientEnds : Errand → Until → List ClientInput → LinkTold → LinkTold → Ending → Type 0
 ClientEnds e until inputs old new (Knows so) =
     (knows e inputs ≡ so) × (so ≡ known.Open → InputsAreOver until inputs new)
     × AddsOffers (offers_by e inputs) old.offered new.offered
@@ -72,7 +73,7 @@ ClientEnds e until inputs old new Memory = AddsFront (offers_by e inputs) old.of
 -- A client was run: these inputs were taken, none of them too many, and before the last of them nothing was known; and
 -- it ended so.
 pub record Attends (e : Errand) (until : Until) (old new : LinkTold) (ending : Ending) : Type 0 where
-  pub inputs : List Input
+  pub inputs : List ClientInput
   pub needed : AreNeeded is_tick until inputs
   pub takes : ClientTakes inputs old new
   pub unknown : WasOpen e inputs
@@ -81,7 +82,7 @@ pub record Attends (e : Errand) (until : Until) (old new : LinkTold) (ending : E
 -- ---- one input
 
 -- these were offered, and the client, which stands for these inputs, knows nothing yet; or this is how it ends
-abbrev pub Says : Errand → List Input → Offers → Option Offers → Option Offers → Result Client Ending → Type 0
+abbrev pub Says : Errand → List ClientInput → Offers → Option Offers → Option Offers → Result Client Ending → Type 0
 Says e inputs offers old new (Ok client) =
     ClientStandsFor e inputs client × (knows e inputs ≡ known.Open) × AddsOffers offers old new
 Says e inputs offers old new (Err (Knows so)) = (knows e inputs ≡ so) × (so ≢ known.Open) × AddsOffers offers old new
@@ -90,13 +91,15 @@ Says e inputs offers old new (Err LinkFault) = ⊥
 Says e inputs offers old new (Err Memory) = AddsFront offers old new
 
 -- an input was answered, or the method is refused at it
-abbrev pub GoesBy : Errand → List Input → Input → Option Offers → Option Offers → Result Client Ending → Type 0
+abbrev pub GoesBy : Errand → List ClientInput → ClientInput → Option Offers → Option Offers
+    → Result Client Ending → Type 0
 GoesBy e past input old new (Err (Refused cause)) = MethodIsRefused e past input cause × Stays old new
 GoesBy e past input old new result = Says e (input ∷ past) (offers_at e input past) old new result
 
 -- the first input that was left is gone, and was answered
-pub record ClientAnswers (e : Errand) (past : List Input) (old new : LinkTold) (result : Result Client Ending) : Type 0 where
-  pub input : Input
+pub record ClientAnswers (e : Errand) (past : List ClientInput) (old new : LinkTold) (result : Result Client Ending)
+    : Type 0 where
+  pub input : ClientInput
   pub takes : ClientTakes (input ∷ []) old new
   pub missed : new.missed ≡ 0
   pub goes : GoesBy e past input old.offered new.offered result
@@ -114,8 +117,9 @@ pub record HasFailed (old new : LinkTold) : Type 0 where
   pub offered : Stays old.offered new.offered
 
 -- what came of one turn, which tells whether its input was a tick
-abbrev pub Goes : Errand → List Input → LinkTold → LinkTold → Result (Client × Bool) Ending → Type 0
-Goes e past old new (Ok (client, ticked)) = (one : ClientAnswers e past old new (Ok client)) × (ticked ≡ is_tick one.input)
-Goes e past old new (Err (Knows known.Open)) = HasNone old new
-Goes e past old new (Err LinkFault) = HasFailed old new
-Goes e past old new (Err ending) = ClientAnswers e past old new (Err ending)
+abbrev pub ClientTakesTurn : Errand → List ClientInput → LinkTold → LinkTold → Result (Client × Bool) Ending → Type 0
+ClientTakesTurn e past old new (Ok (client, ticked)) =
+    (one : ClientAnswers e past old new (Ok client)) × (ticked ≡ is_tick one.input)
+ClientTakesTurn e past old new (Err (Knows known.Open)) = HasNone old new
+ClientTakesTurn e past old new (Err LinkFault) = HasFailed old new
+ClientTakesTurn e past old new (Err ending) = ClientAnswers e past old new (Err ending)

@@ -21,8 +21,8 @@ is_tick (Datagram bytes) = false
 is_tick Tick = true
 
 -- the first inputs that were left are gone, and are these, the newest first
-abbrev pub Takes : List Input → Beside LinkTold → Beside LinkTold → Type 0
-Takes inputs old new =
+abbrev pub TakesInputs : List Input → Beside LinkTold → Beside LinkTold → Type 0
+TakesInputs inputs old new =
     Changes (λ before now. (taken : List MemInput)
     × (before ≡ taken ++ now) × (inputs ≡ reverse (map given_of taken))) old.told.left new.told.left
 

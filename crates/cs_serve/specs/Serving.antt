@@ -11,7 +11,7 @@ use Rattle.cs_io.specs.declared.until.Until.{Until}
 use Rattle.cs_serve.specs.declared.ending.End.{End}
 use Rattle.cs_serve.specs.declared.ending.End.TheVariants.{Done, Ended, LinkFault, WriteFault, Memory}
 use Rattle.cs_serve.specs.declared.receiving.TheConstants.{MOST_MISSED}
-use Rattle.cs_serve.specs.Giving.{is_tick, Takes, Gives, GivesFront}
+use Rattle.cs_serve.specs.Giving.{is_tick, TakesInputs, Gives, GivesFront}
 
 -- ---- what a node does
 
@@ -57,9 +57,9 @@ NodeEnds {M} site v inputs old new WriteFault = GivesPart site v (trail site v i
 NodeEnds {M} site v inputs old new Memory = GivesPart site v (trail site v inputs) old new
 
 -- These inputs were taken, it ended so, and the node, if there is one, stands for the view after them.
-pub record Passes {C M : Type 0} (stands : C → View M → Type 0) (site : Site M) (v : View M) (inputs : List Input)
+pub record ServesInputs {C M : Type 0} (stands : C → View M → Type 0) (site : Site M) (v : View M) (inputs : List Input)
     (old new : Beside LinkTold) (result : End × Option C) : Type 0 where
-  pub takes : Takes inputs old new
+  pub takes : TakesInputs inputs old new
   pub ends : NodeEnds site v inputs old new result.0
   pub after : IfSome result.1 (λ core. stands core (view_after site (trail site v inputs) v))
 
@@ -69,7 +69,7 @@ pub record Serves {C M : Type 0} (stands : C → View M → Type 0) (site : Site
   pub inputs : List Input
   pub needed : AreNeeded is_tick until inputs
   pub enough : result.0 ≡ Done → AreEnough is_tick until inputs
-  pub passes : Passes stands site v inputs old new result
+  pub passes : ServesInputs stands site v inputs old new result
 
 -- ---- one turn
 
@@ -79,9 +79,9 @@ served {C} (Ok core) = (Done, Some core)
 served {C} (Err ended) = ended
 
 -- the same of a turn, which tells whether its input was a tick
-abbrev pub turned : {C : Type 0} → Result (C × Bool) (End × Option C) → End × Option C
-turned {C} (Ok (core, ticked)) = (Done, Some core)
-turned {C} (Err ended) = ended
+abbrev pub served_turn : {C : Type 0} → Result (C × Bool) (End × Option C) → End × Option C
+served_turn {C} (Ok (core, ticked)) = (Done, Some core)
+served_turn {C} (Err ended) = ended
 
 -- one input was taken, and it is a tick or isn't; or one at most, where that ended the serving
 abbrev pub TakesOne : {C : Type 0} → List Input → Result (C × Bool) (End × Option C) → Type 0
@@ -92,7 +92,7 @@ pub record TakesTurn {C M : Type 0} (stands : C → View M → Type 0) (site : S
     (result : Result (C × Bool) (End × Option C)) : Type 0 where
   pub inputs : List Input
   pub one : TakesOne inputs result
-  pub passes : Passes stands site v inputs old new (turned result)
+  pub passes : ServesInputs stands site v inputs old new (served_turn result)
 
 -- what an input makes was given; or a front of it
 abbrev pub GivesBy : {M : Type 0} → Site M → View M → List (Mark M) → Beside LinkTold → Beside LinkTold → End → Type 0

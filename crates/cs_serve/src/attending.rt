@@ -4,10 +4,10 @@ ghost use Rattle.cs_base.specs.Outside.{HasCause};
 ghost use Rattle.cs_base.specs.declared.limits.TheConstants.{MOST_DATAGRAM};
 ghost use Rattle.cs_io.specs.Told.{Stays};
 ghost use Rattle.cs_client.specs.declared.errand.Errand.{Errand};
-ghost use Rattle.cs_client.specs.Inputs.{Input as Given, input_of};
+ghost use Rattle.cs_client.specs.Inputs.{ClientInput, client_input};
 ghost use Rattle.cs_client.specs.Standing.{ClientStandsFor};
 ghost use Rattle.cs_serve.specs.Offering.{offers_in};
-ghost use Rattle.cs_serve.specs.Attending.{Attends, Goes, GoesBy, Says};
+ghost use Rattle.cs_serve.specs.Attending.{Attends, ClientTakesTurn, GoesBy, Says};
 
 use crate::client_ending::Ending;
 use crate::{offer, receive};
@@ -54,7 +54,7 @@ fn take_turn<L: Link>(
     buf: &mut [u8],
 ) -> Result<(ClientCore, bool), Ending>
     requires { length buf.old ≡ MOST_DATAGRAM + 1 }
-    ensures goes { (e : Errand) (past : List Given) → ClientStandsFor e past client → Goes e past
+    ensures goes { (e : Errand) (past : List ClientInput) → ClientStandsFor e past client → ClientTakesTurn e past
         (L.told link.old) (L.told link.new) result }
     ensures bound { Stays (L.told link.old).bound (L.told link.new).bound }
     ensures cause { HasCause (L.faults link.old) (L.faults link.new)
@@ -82,8 +82,8 @@ fn answer<L: Link>(
     input: Input<'_>,
     link: &mut L,
 ) -> Result<ClientCore, Ending>
-    ensures goes { (e : Errand) (past : List Given) → ClientStandsFor e past client →
-        GoesBy e past (input_of input.entry) (L.told link.old).offered (L.told link.new).offered result }
+    ensures goes { (e : Errand) (past : List ClientInput) → ClientStandsFor e past client →
+        GoesBy e past (client_input input.entry) (L.told link.old).offered (L.told link.new).offered result }
     ensures only { IsErrOf result Ending.LinkFault → ⊥ }
     ensures left { Stays (L.told link.old).left (L.told link.new).left }
     ensures bound { Stays (L.told link.old).bound (L.told link.new).bound }
@@ -99,7 +99,7 @@ fn answer<L: Link>(
 
 // Offers what the client says, and asks it what it knows.
 fn say<L: Link>(client: ClientCore, outs: Sequence<Out>, link: &mut L) -> Result<ClientCore, Ending>
-    ensures says { (e : Errand) (inputs : List Given) → ClientStandsFor e inputs client →
+    ensures says { (e : Errand) (inputs : List ClientInput) → ClientStandsFor e inputs client →
         Says e inputs (offers_in outs) (L.told link.old).offered (L.told link.new).offered result }
     ensures only { IsErrOf result Ending.LinkFault → ⊥ }
     ensures left { Stays (L.told link.old).left (L.told link.new).left }

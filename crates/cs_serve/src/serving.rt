@@ -14,7 +14,7 @@ ghost use Rattle.cs_node.specs.Speaking.{input_of};
 ghost use Rattle.cs_serve.specs.Offering.{offers_in};
 ghost use Rattle.cs_serve.specs.Giving.{Gives, GivesFront};
 ghost use Rattle.cs_serve.specs.Telling.{served_notes_text};
-ghost use Rattle.cs_serve.specs.Serving.{NodeAnswers, Serves, TakesTurn, served, turned};
+ghost use Rattle.cs_serve.specs.Serving.{NodeAnswers, Serves, TakesTurn, served, served_turn};
 
 use crate::ending::End;
 use crate::offering::offer;
@@ -87,9 +87,9 @@ fn take_turn<O: Carried, J: Judge + Drop, L: Link, K: Sink>(
     ensures kept { IfErr result (λ ended. ended.0 ≢ End.Memory → IsSome ended.1) }
     ensures bound { Stays (L.told link.old).bound (L.told link.new).bound }
     ensures link { HasCause (L.faults link.old) (L.faults link.new)
-        ((turned result).0 ≡ End.LinkFault) }
+        ((served_turn result).0 ≡ End.LinkFault) }
     ensures sink { HasCause (K.faults out.old) (K.faults out.new)
-        ((turned result).0 ≡ End.WriteFault) }
+        ((served_turn result).0 ≡ End.WriteFault) }
 {
     match receive(link, buf) {
         Arrived::Datagram(count) => {

@@ -11,7 +11,7 @@ use Rattle.cs_io.specs.Spawner.{Children}
 use Rattle.cs_io.specs.Outside.{SpawnerTold, Beside}
 use Rattle.cs_spawn.specs.Words.{child_end_line}
 use Rattle.cs_spawn.specs.Deeds.{ClusterDeed, Start, Wait, words_in, left_after}
-use Rattle.cs_spawn.specs.Running.{ChildEndsWith, AreLines, StartsChildren, TriesFirst, DoesDeeds, DoesFront, BreaksOff, ClusterFails, Leaves, Goes}
+use Rattle.cs_spawn.specs.Running.{ChildEndsWith, AreLines, StartsChildren, TriesFirst, DoesDeeds, DoesFront, BreaksOff, ClusterFails, LeavesChildren, ClusterGoesOn}
 use Rattle.cs_spawn.specs.declared.error.ClusterError.{ClusterError}
 use Rattle.cs_spawn.specs.declared.error.ClusterError.TheVariants.{SpawnFault, WriteFault, Memory}
 
@@ -110,9 +110,9 @@ left_after-append left next (Wait title number ∷ xs) ys = left_after-append (f
 
 -- all of these deeds were done, each start at the first try, with these children left before and after
 abbrev pub Done : List ClusterDeed → List ℕ → List ℕ → Beside SpawnerTold → Beside SpawnerTold → Type 0
-Done deeds left left' old new = DoesDeeds deeds old new × Leaves left left' old new deeds × (new.told.unstarted ≡ old.told.unstarted)
+Done deeds left left' old new = DoesDeeds deeds old new × LeavesChildren left left' old new deeds × (new.told.unstarted ≡ old.told.unstarted)
 
-leaves-after : (a b c : Beside SpawnerTold) (l m n : List ℕ) (xs ys : List ClusterDeed) → Done xs l m a b → Leaves m n b c ys → Leaves l n a c (xs ++ ys)
+leaves-after : (a b c : Beside SpawnerTold) (l m n : List ℕ) (xs ys : List ClusterDeed) → Done xs l m a b → LeavesChildren m n b c ys → LeavesChildren l n a c (xs ++ ys)
 leaves-after a b c l m n xs ys p q = record {
   ended = q.ended ∙ p.1.ended;
   left = q.left ∙ ap (λ k. left_after m k ys) p.0.starts.children
@@ -142,7 +142,7 @@ tries-more (Wait title number ∷ deeds) more before now is = is
 -- ---- how it ends
 
 module _ (a b c : Beside SpawnerTold) (l m n : List ℕ) (xs ys : List ClusterDeed) (p : Done xs l m a b) where
-  front-after : DoesFront (Leaves m n b c) ys b c → DoesFront (Leaves l n a c) (xs ++ ys) a c
+  front-after : DoesFront (LeavesChildren m n b c) ys b c → DoesFront (LeavesChildren l n a c) (xs ++ ys) a c
   front-after q = record {
     done = xs ++ q.done;
     rest = q.rest;
@@ -152,7 +152,7 @@ module _ (a b c : Beside SpawnerTold) (l m n : List ℕ) (xs ys : List ClusterDe
     left = leaves-after a b c l m n xs q.done p q.left;
   }
 
-  breaks-after : BreaksOff (Leaves m n b c) ys b c → BreaksOff (Leaves l n a c) (xs ++ ys) a c
+  breaks-after : BreaksOff (LeavesChildren m n b c) ys b c → BreaksOff (LeavesChildren l n a c) (xs ++ ys) a c
   breaks-after q = record {
     done = xs ++ q.done;
     title = q.title;
@@ -166,19 +166,19 @@ module _ (a b c : Beside SpawnerTold) (l m n : List ℕ) (xs ys : List ClusterDe
     kept = q.kept;
     tried = q.tried ∙ p.2;
     written = q.written;
-    left = subst (λ (d : List ClusterDeed). Leaves l n a c d) (sym (append_assoc xs q.done (Wait q.title q.number ∷ [])))
+    left = subst (λ (d : List ClusterDeed). LeavesChildren l n a c d) (sym (append_assoc xs q.done (Wait q.title q.number ∷ [])))
         (leaves-after a b c l m n xs (q.done ++ Wait q.title q.number ∷ []) p q.left);
   }
 
   -- these deeds were done, and the next failed so
-  fails-after : (e : ClusterError) → ClusterFails (Leaves m n b c) ys b c e → ClusterFails (Leaves l n a c) (xs ++ ys) a c e
+  fails-after : (e : ClusterError) → ClusterFails (LeavesChildren m n b c) ys b c e → ClusterFails (LeavesChildren l n a c) (xs ++ ys) a c e
   fails-after SpawnFault q = front-after q
   fails-after WriteFault q = breaks-after q
   fails-after Memory (inl q) = inl (front-after q)
   fails-after Memory (inr q) = inr (breaks-after q)
 
   -- these deeds were done, and the next ended so
-  pub goes-after : {A : Type 0} (result : Result A ClusterError) → Goes ys m n b c result → Goes (xs ++ ys) l n a c result
+  pub goes-after : {A : Type 0} (result : Result A ClusterError) → ClusterGoesOn ys m n b c result → ClusterGoesOn (xs ++ ys) l n a c result
   goes-after (Ok x) q = done-more a b c l m n xs ys p q
   goes-after (Err e) q = fails-after e q
 
@@ -218,29 +218,29 @@ module _ (Left : List ClusterDeed → Type 0) (a b : Beside SpawnerTold) (xs ys 
   fails-early Memory (inr p) = inr (breaks-early p)
 
 -- the error is handed on
-pub goes-so : {A : Type 0} (a b : Beside SpawnerTold) (l m : List ℕ) (deeds : List ClusterDeed) (e : ClusterError) (result : Result A ClusterError) → IsErrAnd result (λ x. x ≡ e) → ClusterFails (Leaves l m a b) deeds a b e → Goes deeds l m a b result
+pub goes-so : {A : Type 0} (a b : Beside SpawnerTold) (l m : List ℕ) (deeds : List ClusterDeed) (e : ClusterError) (result : Result A ClusterError) → IsErrAnd result (λ x. x ≡ e) → ClusterFails (LeavesChildren l m a b) deeds a b e → ClusterGoesOn deeds l m a b result
 goes-so a b l m deeds e (Ok x) gives p = absurd gives
-goes-so a b l m deeds e (Err x) gives p = subst (λ (y : ClusterError). ClusterFails (Leaves l m a b) deeds a b y) (sym gives) p
+goes-so a b l m deeds e (Err x) gives p = subst (λ (y : ClusterError). ClusterFails (LeavesChildren l m a b) deeds a b y) (sym gives) p
 
 -- memory ran out after these
-pub wants-there : {A : Type 0} (a b : Beside SpawnerTold) (l m : List ℕ) (whole xs ys : List ClusterDeed) (result : Result A ClusterError) → whole ≡ xs ++ ys → Done xs l m a b → IsErrAnd result (λ x. x ≡ Memory) → Goes whole l m a b result
+pub wants-there : {A : Type 0} (a b : Beside SpawnerTold) (l m : List ℕ) (whole xs ys : List ClusterDeed) (result : Result A ClusterError) → whole ≡ xs ++ ys → Done xs l m a b → IsErrAnd result (λ x. x ≡ Memory) → ClusterGoesOn whole l m a b result
 wants-there a b l m whole xs ys result parts p gives =
     goes-so a b l m whole Memory result gives (inl (record { done = xs; rest = ys; front = parts; does = p.0; tried = tries-none ys a.told.unstarted b.told.unstarted p.2; left = p.1 }))
 
 -- before any of these
-pub wants-at_once : {A : Type 0} (a : Beside SpawnerTold) (l : List ℕ) (deeds : List ClusterDeed) (result : Result A ClusterError) → IsErrAnd result (λ x. x ≡ Memory) → Goes deeds l l a a result
+pub wants-at_once : {A : Type 0} (a : Beside SpawnerTold) (l : List ℕ) (deeds : List ClusterDeed) (result : Result A ClusterError) → IsErrAnd result (λ x. x ≡ Memory) → ClusterGoesOn deeds l l a a result
 wants-at_once a l deeds result gives = wants-there a a l l deeds [] deeds result refl (done-nil l a) gives
 
 -- these failed so, before the others
-pub stops-early : {A : Type 0} (a b : Beside SpawnerTold) (l m : List ℕ) (xs ys : List ClusterDeed) (e : ClusterError) (result : Result A ClusterError) → ClusterFails (Leaves l m a b) xs a b e → IsErrAnd result (λ x. x ≡ e) → Goes (xs ++ ys) l m a b result
-stops-early a b l m xs ys e result p gives = goes-so a b l m (xs ++ ys) e result gives (fails-early (Leaves l m a b) a b xs ys e p)
+pub stops-early : {A : Type 0} (a b : Beside SpawnerTold) (l m : List ℕ) (xs ys : List ClusterDeed) (e : ClusterError) (result : Result A ClusterError) → ClusterFails (LeavesChildren l m a b) xs a b e → IsErrAnd result (λ x. x ≡ e) → ClusterGoesOn (xs ++ ys) l m a b result
+stops-early a b l m xs ys e result p gives = goes-so a b l m (xs ++ ys) e result gives (fails-early (LeavesChildren l m a b) a b xs ys e p)
 
 -- the same, after some were done
-pub stops-there : {A : Type 0} (a b c : Beside SpawnerTold) (l m n : List ℕ) (whole xs one ys : List ClusterDeed) (e : ClusterError) (result : Result A ClusterError) → whole ≡ (xs ++ one) ++ ys → Done xs l m a b → ClusterFails (Leaves m n b c) one b c e
-    → IsErrAnd result (λ x. x ≡ e) → Goes whole l n a c result
+pub stops-there : {A : Type 0} (a b c : Beside SpawnerTold) (l m n : List ℕ) (whole xs one ys : List ClusterDeed) (e : ClusterError) (result : Result A ClusterError) → whole ≡ (xs ++ one) ++ ys → Done xs l m a b → ClusterFails (LeavesChildren m n b c) one b c e
+    → IsErrAnd result (λ x. x ≡ e) → ClusterGoesOn whole l n a c result
 stops-there a b c l m n whole xs one ys e result parts p q gives =
-    goes-so a c l n whole e result gives (subst (λ (d : List ClusterDeed). ClusterFails (Leaves l n a c) d a c e) (sym parts)
-    (fails-early (Leaves l n a c) a c (xs ++ one) ys e (fails-after a b c l m n xs one p e q)))
+    goes-so a c l n whole e result gives (subst (λ (d : List ClusterDeed). ClusterFails (LeavesChildren l n a c) d a c e) (sym parts)
+    (fails-early (LeavesChildren l n a c) a c (xs ++ one) ys e (fails-after a b c l m n xs one p e q)))
 
 -- the sink isn't at fault
 pub not-the-sink : {A : Type 0} (e : ClusterError) (result : Result A ClusterError) (before : ℕ) → IsErrAnd result (λ x. x ≡ e) → (e ≡ WriteFault → ⊥) → HasCause before before (IsErrOf result WriteFault)
@@ -257,13 +257,13 @@ not-the-sink {A} e (Err x) before gives other = record {
 
 -- none was started, or the spawner failed at a wait
 pub front-kept : (a b : Beside SpawnerTold) (l m : List ℕ) (deeds : List ClusterDeed) → StartsChildren [] a b → TriesFirst deeds a.told.unstarted b.told.unstarted → b.told.ended ≡ a.told.ended → b.written ≡ a.written → m ≡ l
-    → DoesFront (Leaves l m a b) deeds a b
+    → DoesFront (LeavesChildren l m a b) deeds a b
 front-kept a b l m deeds starts tried ended written left =
     record { done = []; rest = deeds; front = refl; does = does-none a b starts written; tried = tried; left = record { ended = ended; left = left } }
 
 -- a child has ended, and isn't left; a front of its line was printed
 pub wait-broke : (a b : Beside SpawnerTold) (l m title : List ℕ) (number status : ℕ) → ChildEndsWith a.told.statuses number status → StartsChildren [] a b → b.told.unstarted ≡ a.told.unstarted → b.told.ended ≡ a.told.ended → m ≡ filter (λ n. not (n == number)) l
-    → AppendsFront a.written b.written (child_end_line title status) → BreaksOff (Leaves l m a b) (Wait title number ∷ []) a b
+    → AppendsFront a.written b.written (child_end_line title status) → BreaksOff (LeavesChildren l m a b) (Wait title number ∷ []) a b
 wait-broke a b l m title number status ends starts tried ended left written = record {
   done = [];
   title = title;

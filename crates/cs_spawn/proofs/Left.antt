@@ -10,7 +10,7 @@ use Rattle.cs_io.specs.Spawner.{EndsThese}
 use Rattle.cs_io.specs.Outside.{SpawnerTold, Beside}
 use Rattle.cs_spawn.specs.Words.{child_end_line}
 use Rattle.cs_spawn.specs.Deeds.{ClusterDeed, Start, Wait, words_in, left_after}
-use Rattle.cs_spawn.specs.Running.{StartsChildren, TriesFirst, DoesDeeds, DoesFront, BreaksOff, ClusterFails, EndsLeft, Leaves, RiseBetween}
+use Rattle.cs_spawn.specs.Running.{StartsChildren, TriesFirst, DoesDeeds, DoesFront, BreaksOff, ClusterFails, EndsLeft, LeavesChildren, RiseBetween}
 use Rattle.cs_spawn.specs.declared.error.ClusterError.{ClusterError}
 use Rattle.cs_spawn.specs.declared.error.ClusterError.TheVariants.{SpawnFault, WriteFault, Memory}
 use Rattle.cs_spawn.proofs.Plans.{next_taken}
@@ -100,13 +100,13 @@ spared-all first last (x ∷ xs) told rise spared =
 -- ---- a cluster that breaks off
 
 module _ (a m : Beside SpawnerTold) (left : List ℕ) where
-  front-rises : (deeds : List ClusterDeed) → DoesFront (Leaves [] left a m) deeds a m → RiseBetween a.told.children m.told.children left
+  front-rises : (deeds : List ClusterDeed) → DoesFront (LeavesChildren [] left a m) deeds a m → RiseBetween a.told.children m.told.children left
   front-rises deeds p =
       subst (λ (n : ℕ). RiseBetween a.told.children n left) (sym p.does.starts.children)
       (subst (λ (l : List ℕ). RiseBetween a.told.children (a.told.children + length (words_in p.done)) l) (sym p.left.left)
       (rise-after a.told.children a.told.children [] p.done (omega arith) tt))
 
-  break-rises : (deeds : List ClusterDeed) → BreaksOff (Leaves [] left a m) deeds a m → RiseBetween a.told.children m.told.children left
+  break-rises : (deeds : List ClusterDeed) → BreaksOff (LeavesChildren [] left a m) deeds a m → RiseBetween a.told.children m.told.children left
   break-rises deeds p =
       let done : List ClusterDeed = p.done ++ Wait p.title p.number ∷ [] in
       let many : words_in done ≡ words_in p.done = words_in-append p.done (Wait p.title p.number ∷ []) ∙ append-nil (words_in p.done) in
@@ -119,31 +119,31 @@ module _ (a m : Beside SpawnerTold) (left : List ℕ) where
       (rise-after a.told.children a.told.children [] done (omega arith) tt))
 
   -- the numbers of the children that are left rise, from the first on
-  pub left-rises : (deeds : List ClusterDeed) (e : ClusterError) → ClusterFails (Leaves [] left a m) deeds a m e → RiseBetween a.told.children m.told.children left
+  pub left-rises : (deeds : List ClusterDeed) (e : ClusterError) → ClusterFails (LeavesChildren [] left a m) deeds a m e → RiseBetween a.told.children m.told.children left
   left-rises deeds SpawnFault p = front-rises deeds p
   left-rises deeds WriteFault p = break-rises deeds p
   left-rises deeds Memory (inl p) = front-rises deeds p
   left-rises deeds Memory (inr p) = break-rises deeds p
 
-  kept-ended : (deeds : List ClusterDeed) (e : ClusterError) → ClusterFails (Leaves [] left a m) deeds a m e → m.told.ended ≡ a.told.ended
+  kept-ended : (deeds : List ClusterDeed) (e : ClusterError) → ClusterFails (LeavesChildren [] left a m) deeds a m e → m.told.ended ≡ a.told.ended
   kept-ended deeds SpawnFault p = p.left.ended
   kept-ended deeds WriteFault p = p.left.ended
   kept-ended deeds Memory (inl p) = p.left.ended
   kept-ended deeds Memory (inr p) = p.left.ended
 
   -- they weren't told to end, since they weren't before they were started
-  pub left-spared : (deeds : List ClusterDeed) (e : ClusterError) → ClusterFails (Leaves [] left a m) deeds a m e → ((n : ℕ) → a.told.children ≤ n → a.told.ended n ≡ false) → AllByRecursion (λ n. m.told.ended n ≡ false) left
+  pub left-spared : (deeds : List ClusterDeed) (e : ClusterError) → ClusterFails (LeavesChildren [] left a m) deeds a m e → ((n : ℕ) → a.told.children ≤ n → a.told.ended n ≡ false) → AllByRecursion (λ n. m.told.ended n ≡ false) left
   left-spared deeds e p spared =
       spared-all a.told.children m.told.children left m.told.ended (left-rises deeds e p)
       (λ n more. ap (λ (f : ℕ → Bool). f n) (kept-ended deeds e p) ∙ spared n more)
 
   module _ (z : Beside SpawnerTold) (kept : StartsChildren [] m z) (tried : z.told.unstarted ≡ m.told.unstarted) (written : z.written ≡ m.written) (ends : EndsThese left m.told.ended z.told.ended) where
-    were_ended : (done : List ClusterDeed) → Leaves [] left a m done → EndsLeft a z done
+    were_ended : (done : List ClusterDeed) → LeavesChildren [] left a m done → EndsLeft a z done
     were_ended done p =
         subst (λ (l : List ℕ). EndsThese l a.told.ended z.told.ended) p.left
         (subst (λ (f : ℕ → Bool). EndsThese left f z.told.ended) p.ended ends)
 
-    front-ended : (deeds : List ClusterDeed) → DoesFront (Leaves [] left a m) deeds a m → DoesFront (EndsLeft a z) deeds a z
+    front-ended : (deeds : List ClusterDeed) → DoesFront (LeavesChildren [] left a m) deeds a m → DoesFront (EndsLeft a z) deeds a z
     front-ended deeds p = record {
       done = p.done;
       rest = p.rest;
@@ -153,7 +153,7 @@ module _ (a m : Beside SpawnerTold) (left : List ℕ) where
       left = were_ended p.done p.left;
     }
 
-    break-ended : (deeds : List ClusterDeed) → BreaksOff (Leaves [] left a m) deeds a m → BreaksOff (EndsLeft a z) deeds a z
+    break-ended : (deeds : List ClusterDeed) → BreaksOff (LeavesChildren [] left a m) deeds a m → BreaksOff (EndsLeft a z) deeds a z
     break-ended deeds p = record {
       done = p.done;
       title = p.title;
@@ -171,7 +171,7 @@ module _ (a m : Beside SpawnerTold) (left : List ℕ) where
     }
 
     -- then they were told to end
-    pub fails-ended : (deeds : List ClusterDeed) (e : ClusterError) → ClusterFails (Leaves [] left a m) deeds a m e → ClusterFails (EndsLeft a z) deeds a z e
+    pub fails-ended : (deeds : List ClusterDeed) (e : ClusterError) → ClusterFails (LeavesChildren [] left a m) deeds a m e → ClusterFails (EndsLeft a z) deeds a z e
     fails-ended deeds SpawnFault p = front-ended deeds p
     fails-ended deeds WriteFault p = break-ended deeds p
     fails-ended deeds Memory (inl p) = inl (front-ended deeds p)

@@ -96,15 +96,17 @@ ClusterEnds {A} deeds old new (Ok x) =
 ClusterEnds {A} deeds old new (Err error) = ClusterFails (EndsLeft old new) deeds old new error
 
 -- none was told to end; these are left, of those that were left before and those that were started
-pub record Leaves (before now : List ℕ) (old new : Beside SpawnerTold) (done : List ClusterDeed) : Type 0 where
+pub record LeavesChildren (before now : List ℕ) (old new : Beside SpawnerTold) (done : List ClusterDeed) : Type 0 where
   pub ended : new.told.ended ≡ old.told.ended
   pub left : now ≡ left_after before old.told.children done
 
 -- all deeds were done, or a part of them
-abbrev pub Goes : {A : Type 0} → List ClusterDeed → List ℕ → List ℕ → Beside SpawnerTold → Beside SpawnerTold → Result A ClusterError → Type 0
-Goes {A} deeds before now old new (Ok x) =
-    DoesDeeds deeds old new × Leaves before now old new deeds × (new.told.unstarted ≡ old.told.unstarted)
-Goes {A} deeds before now old new (Err error) = ClusterFails (Leaves before now old new) deeds old new error
+abbrev pub ClusterGoesOn : {A : Type 0} → List ClusterDeed → List ℕ → List ℕ → Beside SpawnerTold → Beside SpawnerTold
+    → Result A ClusterError → Type 0
+ClusterGoesOn {A} deeds before now old new (Ok x) =
+    DoesDeeds deeds old new × LeavesChildren before now old new deeds × (new.told.unstarted ≡ old.told.unstarted)
+ClusterGoesOn {A} deeds before now old new (Err error) =
+    ClusterFails (LeavesChildren before now old new) deeds old new error
 
 -- these numbers rise, from the first on, and end before the last
 abbrev pub RiseBetween : ℕ → ℕ → List ℕ → Type 0

@@ -6,7 +6,7 @@ ghost use Rattle.cs_io.specs.Told.{Stays};
 ghost use Rattle.cs_io.specs.Spawner.{EndsThese};
 ghost use Rattle.cs_io.specs.Outside.{beside};
 ghost use Rattle.cs_spawn.specs.Deeds.{Start, Wait};
-ghost use Rattle.cs_spawn.specs.Running.{Goes, RiseBetween};
+ghost use Rattle.cs_spawn.specs.Running.{ClusterGoesOn, RiseBetween};
 
 use crate::error::ClusterError;
 use crate::words::end_line;
@@ -21,7 +21,7 @@ pub fn start<P: Spawner>(
     left: &mut Vec<u64>,
 ) -> Result<u64, ClusterError>
     ensures does { (written : Option (List ℕ)) →
-        Goes (Start (map string_bytes words.now) ∷ []) left.old.items left.new.items
+        ClusterGoesOn (Start (map string_bytes words.now) ∷ []) left.old.items left.new.items
         (beside (P.told spawner.old) written)
         (beside (P.told spawner.new) written) result }
     ensures number { IfOk result (λ number. number ≡ (P.told spawner.old).children) }
@@ -61,7 +61,7 @@ pub fn await_end<P: Spawner, K: Sink>(
     out: &mut K,
 ) -> Result<(), ClusterError>
     requires { child < (P.told spawner.old).children }
-    ensures does { Goes (Wait title.now child ∷ []) left.old.items left.new.items
+    ensures does { ClusterGoesOn (Wait title.now child ∷ []) left.old.items left.new.items
         (beside (P.told spawner.old) (K.written out.old))
         (beside (P.told spawner.new) (K.written out.new)) result }
     ensures spawner { HasCause (P.faults spawner.old) (P.faults spawner.new)

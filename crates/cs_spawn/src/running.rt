@@ -5,7 +5,7 @@ ghost use Rattle.cs_base.specs.Outside.{HasCause};
 ghost use Rattle.cs_io.specs.Outside.{beside};
 ghost use Rattle.cs_spawn.specs.Words.{client_words, client_title};
 ghost use Rattle.cs_spawn.specs.Deeds.{Start, Wait, numbered, node_starts, call_deeds, node_waits, cluster_deeds};
-ghost use Rattle.cs_spawn.specs.Running.{ClusterEnds, Goes};
+ghost use Rattle.cs_spawn.specs.Running.{ClusterEnds, ClusterGoesOn};
 
 use crate::children::{await_end, end_all, start};
 use crate::error::ClusterError;
@@ -53,7 +53,7 @@ fn run_children<P: Spawner, K: Sink>(
     left: &mut Vec<u64>,
     out: &mut K,
 ) -> Result<(), ClusterError>
-    ensures does { Goes (cluster_deeds plan.now site.now.config (P.told spawner.old).children)
+    ensures does { ClusterGoesOn (cluster_deeds plan.now site.now.config (P.told spawner.old).children)
         left.old.items left.new.items
         (beside (P.told spawner.old) (K.written out.old))
         (beside (P.told spawner.new) (K.written out.new)) result }
@@ -76,7 +76,7 @@ fn start_nodes<P: Spawner>(
     nodes: &[NodeId],
     left: &mut Vec<u64>,
 ) -> Result<Sequence<(NodeId, u64)>, ClusterError>
-    ensures does { (written : Option (List ℕ)) → Goes (node_starts plan.now nodes.now)
+    ensures does { (written : Option (List ℕ)) → ClusterGoesOn (node_starts plan.now nodes.now)
         left.old.items left.new.items
         (beside (P.told spawner.old) written)
         (beside (P.told spawner.new) written) result }
@@ -105,7 +105,7 @@ fn run_calls<P: Spawner, K: Sink>(
     left: &mut Vec<u64>,
     out: &mut K,
 ) -> Result<(), ClusterError>
-    ensures does { Goes (call_deeds plan.now 0 (P.told spawner.old).children plan.now.calls)
+    ensures does { ClusterGoesOn (call_deeds plan.now 0 (P.told spawner.old).children plan.now.calls)
         left.old.items left.new.items
         (beside (P.told spawner.old) (K.written out.old))
         (beside (P.told spawner.new) (K.written out.new)) result }
@@ -130,7 +130,7 @@ fn run_call<P: Spawner, K: Sink>(
     left: &mut Vec<u64>,
     out: &mut K,
 ) -> Result<(), ClusterError>
-    ensures does { Goes
+    ensures does { ClusterGoesOn
         (Start (client_words plan.now call.now)
         ∷ Wait (client_title number) (P.told spawner.old).children ∷ [])
         left.old.items left.new.items
@@ -156,7 +156,7 @@ fn await_nodes<P: Spawner, K: Sink>(
     out: &mut K,
 ) -> Result<(), ClusterError>
     requires { AllByRecursion (λ node. node.1 < (P.told spawner.old).children) running.now }
-    ensures does { Goes (node_waits running.now) left.old.items left.new.items
+    ensures does { ClusterGoesOn (node_waits running.now) left.old.items left.new.items
         (beside (P.told spawner.old) (K.written out.old))
         (beside (P.told spawner.new) (K.written out.new)) result }
     ensures spawner { HasCause (P.faults spawner.old) (P.faults spawner.new)

@@ -2,12 +2,12 @@
 use Rattle.std.proofs.Common.{◌≡◌, ℕ, suc, ◌+◌, ◌<◌, ◌==◌, nat_lt, Bool, true, false, not, ◌&&◌, ◌||◌, if◌then◌else◌, List, [], ◌∷◌, ◌++◌, length, get_or, take, drop, map, Some, None, refl, sym, ap, ◌∙◌, subst, add-one, drop-cons, arith}
 use Rattle.cs_ledger.specs.Session as ledger
 use Rattle.cs_ledger.specs.Table as table
-use Rattle.cs_ledger.specs.Table.{State, Unknown, Active, Locked, Inactive, Shared, Record, Table}
+use Rattle.cs_ledger.specs.Table.{State, Unknown, Active, Locked, Inactive, Shared, Record, Table, is_unknown}
 use Rattle.cs_table.specs.declared.piece.Piece.{Piece}
 use Rattle.cs_table.specs.Seen.{Stored, seen, seen_piece}
 use Rattle.cs_tx.specs.Sessions.{key_seen}
 use Rattle.cs_table.specs.Changes.{Becomes, changed, appeared_record, appeared_each}
-use Rattle.cs_table.specs.Genesis.{second_of, is_unknown, is_dummy_below, with_dummy_objects, empty}
+use Rattle.cs_table.specs.Genesis.{second_of, is_dummy_below, with_dummy_objects, empty}
 use Rattle.std.proofs.Math.Seq.{take-suc}
 use Rattle.cs_tx_value.specs.declared.object.Object.{Object}
 use Rattle.cs_tx_value.specs.Object.{object_encoding}

@@ -7,7 +7,7 @@ use Rattle.cs_tx_value.specs.declared.object.Object.{Object}
 use Rattle.cs_tx_types.specs.declared.transaction.Tx.{Tx}
 use Rattle.cs_tx_types.specs.declared.session.Session.{Session}
 use Rattle.cs_tx.specs.Digest.{digest_of_session}
-use Rattle.cs_ledger.specs.Ledger.{is_empty}
+use Rattle.cs_base.specs.Lists.{is_empty}
 use Rattle.cs_ledger.specs.Session as ledger
 use Rattle.cs_ledger.specs.Table as table
 use Rattle.cs_ledger.specs.Table.{Outcome, Vote, Table}

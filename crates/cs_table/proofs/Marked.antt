@@ -13,7 +13,7 @@ use Rattle.cs_ledger.proofs.Basics as basics
 use Rattle.cs_tx.specs.Sessions.{key_seen}
 use Rattle.cs_table.specs.declared.change.Change.{Change}
 use Rattle.cs_table.specs.declared.change.Change.TheVariants.{Lock, Release, UseUp, Join, Leave}
-use Rattle.cs_table.specs.Seen.{Stored, seen, has_name, is_under, unknown_record}
+use Rattle.cs_table.specs.Seen.{Stored, seen, has_key_named, is_under, unknown_record}
 use Rattle.cs_table.specs.Changes.{MarksTouched, changed, changed_record, appeared_record, noted_record}
 use Rattle.cs_table.proofs.Rows.{key_cmp, same_key, key_sym}
 use Rattle.cs_table.proofs.ReaderLists.{shared_unknown}
@@ -34,7 +34,7 @@ marks_chain a b c never one two = record {
       let late = two.untouched name h in
       let early = one.untouched name late.0 in
       (early.0, late.1 ∙ early.1);
-  touched = λ name late early back. elim (cases_Bool (has_name b.touched name)) [
+  touched = λ name late early back. elim (cases_Bool (has_key_named b.touched name)) [
     | inl mid ↦ never name (one.touched name mid early) back
     | inr mid ↦ two.touched name late mid (back ∙ sym (one.untouched name mid).1)
   ];
@@ -74,23 +74,23 @@ if_known true r s known h = known h
 if_known false r s known h = h
 
 pub marks_at : (a b c : Stored) (f : Record → Record) (k : ledger.Key) (moved : Bool) → seen c ≡ changed f k (seen a) → b.touched ≡ a.touched
-    → ((name : ledger.Key) → has_name c.touched name ≡ (has_name b.touched name || (moved && ledger.key_eq name k)))
+    → ((name : ledger.Key) → has_key_named c.touched name ≡ (has_key_named b.touched name || (moved && ledger.key_eq name k)))
     → (moved ≡ false → f ((seen a).at k) ≡ (seen a).at k)
     → (moved ≡ true → f ((seen a).at k) ≡ (seen a).at k → ⊥)
     → ((r : Record) → f r ≡ unknown_record → r ≡ unknown_record)
     → MarksTouched a c
 marks_at a b c f k moved shows same touched stays moves known = record {
   untouched = λ name h.
-      let parts = or_false (has_name a.touched name) (moved && ledger.key_eq name k)
-      (sym (touched name ∙ ap (λ (ts : List Key). has_name ts name || (moved && ledger.key_eq name k)) same) ∙ h) in (
+      let parts = or_false (has_key_named a.touched name) (moved && ledger.key_eq name k)
+      (sym (touched name ∙ ap (λ (ts : List Key). has_key_named ts name || (moved && ledger.key_eq name k)) same) ∙ h) in (
         parts.0,
         ap (λ (t : Table). t.at name) shows
             ∙ if_kept (ledger.key_eq name k) moved (f ((seen a).at name)) ((seen a).at name) parts.1
             (λ here unmoved. subst (λ (z : ledger.Key). f ((seen a).at z) ≡ (seen a).at z) (sym (basics.same_key name k here)) (stays unmoved)),
       );
   touched = λ name late early back.
-      let parts = moved_here (has_name a.touched name) moved (ledger.key_eq name k)
-      (sym (touched name ∙ ap (λ (ts : List Key). has_name ts name || (moved && ledger.key_eq name k)) same) ∙ late) early in
+      let parts = moved_here (has_key_named a.touched name) moved (ledger.key_eq name k)
+      (sym (touched name ∙ ap (λ (ts : List Key). has_key_named ts name || (moved && ledger.key_eq name k)) same) ∙ late) early in
       let stays_here : f ((seen a).at name) ≡ (seen a).at name =
       sym (if_first (ledger.key_eq name k) (f ((seen a).at name)) ((seen a).at name) parts.1) ∙ sym (ap (λ (t : Table). t.at name) shows) ∙ back in
       moves parts.0 (subst (λ (z : ledger.Key). f ((seen a).at z) ≡ (seen a).at z) (basics.same_key name k parts.1) stays_here);
@@ -171,7 +171,7 @@ noted_other d vote r h = longer r.book (d, vote) (ap (λ (x : Record). x.book) h
 
 -- ---- a key that is touched
 
-has_is : (keys : List Key) (q : Key) → list_any (is_at (key_cmp q)) keys ≡ has_name keys (key_seen q)
+has_is : (keys : List Key) (q : Key) → list_any (is_at (key_cmp q)) keys ≡ has_key_named keys (key_seen q)
 has_is [] q = refl
 has_is (k ∷ keys) q = rw (same_key q k) (ap (λ (b : Bool). is_under (key_seen q) k || b) (has_is keys q))
 
@@ -182,14 +182,14 @@ or_cond false true = refl
 or_cond false false = refl
 
 module _ (k : Key) (old new : List Key) (updates : (q : Key) → list_any (is_at (key_cmp q)) new ≡ cond (is_at (key_cmp k) q) true (list_any (is_at (key_cmp q)) old)) where
-  touched_at : (q : Key) → has_name new (key_seen q) ≡ (has_name old (key_seen q) || (true && ledger.key_eq (key_seen q) (key_seen k)))
+  touched_at : (q : Key) → has_key_named new (key_seen q) ≡ (has_key_named old (key_seen q) || (true && ledger.key_eq (key_seen q) (key_seen k)))
   touched_at q =
       sym (has_is new q) ∙ updates q
       ∙ ap (λ (test : Bool). cond test true (list_any (is_at (key_cmp q)) old)) (same_key k q ∙ key_sym (key_seen k) (key_seen q))
       ∙ ap (λ (b : Bool). cond (ledger.key_eq (key_seen q) (key_seen k)) true b) (has_is old q)
-      ∙ or_cond (ledger.key_eq (key_seen q) (key_seen k)) (has_name old (key_seen q))
+      ∙ or_cond (ledger.key_eq (key_seen q) (key_seen k)) (has_key_named old (key_seen q))
 
-  pub touched_more : (name : ledger.Key) → has_name new name ≡ (has_name old name || (true && ledger.key_eq name (key_seen k)))
+  pub touched_more : (name : ledger.Key) → has_key_named new name ≡ (has_key_named old name || (true && ledger.key_eq name (key_seen k)))
   touched_more (ledger.Object d) = touched_at (key.Object d)
   touched_more (ledger.Dummy s n) = touched_at (key.Dummy s n)
 

@@ -3,10 +3,11 @@ use Rattle.std.proofs.Common.{◌≡◌, suc, ◌+◌, ◌≤◌, ◌<◌, Bool,
 use Rattle.std.specs.Prelude.{◌↔◌}
 use Rattle.std.specs.List.{filter, list_any, AllByRecursion}
 use Rattle.std.proofs.lemmas.Bool.{cases_Bool, both_ways, cond_both, ltb-true}
+use Rattle.cs_base.specs.Lists.{is_empty}
 use Rattle.cs_base.specs.declared.limits.TheConstants.{MOST_READERS}
 use Rattle.cs_tx_value.specs.Object.{DigestFits}
 use Rattle.cs_tx_types.specs.State.{readers_differ, ReadersFit}
-use Rattle.cs_ledger.specs.Ledger.{Bytes, has, is_empty}
+use Rattle.cs_ledger.specs.Ledger.{Bytes, has}
 use Rattle.cs_ledger.specs.Table.{Unknown, Active, Shared, has_seat, with_reader, without_reader, read_by, joined_by, vacated_by}
 use Rattle.cs_ledger.proofs.Basics.{same_bytes, bytes_refl}
 

@@ -1,7 +1,8 @@
 -- With each step of one call a record stays, or weighs more: so none comes back to what it was before the call.
 use Rattle.std.proofs.Common.{◌≡◌, ℕ, ◌+◌, ◌≤◌, ◌<◌, Bool, true, false, not, ◌||◌, if◌then◌else◌, List, [], ◌∷◌, ◌++◌, length, length-append, ◌⊎◌, inl, inr, bytes_eq, refl, sym, ap, ◌∙◌, subst, arith}
 use Rattle.std.proofs.lemmas.Bool.{cases_Bool}
-use Rattle.cs_ledger.specs.Ledger.{Bytes, has, is_empty}
+use Rattle.cs_base.specs.Lists.{is_empty}
+use Rattle.cs_ledger.specs.Ledger.{Bytes, has}
 use Rattle.cs_ledger.specs.Session.{Key, Piece, key_eq, has_key}
 use Rattle.cs_ledger.specs.Table.{Record, Table, State, Unknown, Active, Locked, Inactive, Shared, Vote, has_seat, locked, released, joined_by, vacated_by, read_by, with_reader, without_reader, appeared}
 use Rattle.cs_ledger.proofs.Basics.{same_bytes, bytes_refl}

@@ -5,7 +5,7 @@ use Rattle.cs_ledger.specs.Session.{Key, Piece, key_eq, has_key}
 use Rattle.cs_ledger.specs.Table.{Vote, State, Inactive, Record, Table, locked, released, joined_by, vacated_by, appeared}
 use Rattle.cs_table.specs.declared.change.Change.{Change}
 use Rattle.cs_table.specs.declared.change.Change.TheVariants.{Lock, Release, UseUp, Join, Leave}
-use Rattle.cs_table.specs.Seen.{Stored, seen, has_name, unknown_record}
+use Rattle.cs_table.specs.Seen.{Stored, seen, has_key_named, unknown_record}
 
 abbrev pub changed_state : Change → State → State
 changed_state (Lock by) state = locked by state
@@ -64,9 +64,9 @@ pub record ShowsTable (old new : Stored) (table : Table) : Type 0 where
 -- A key that isn't touched wasn't so before, and has the record that it had; one that is touched now and wasn't so before
 -- has another record than it had; and nothing that was known is forgotten.
 pub record MarksTouched (old new : Stored) : Type 0 where
-  pub untouched : (name : Key) → has_name new.touched name ≡ false →
-      (has_name old.touched name ≡ false) × ((seen new).at name ≡ (seen old).at name)
-  pub touched : (name : Key) → has_name new.touched name ≡ true → has_name old.touched name ≡ false →
+  pub untouched : (name : Key) → has_key_named new.touched name ≡ false →
+      (has_key_named old.touched name ≡ false) × ((seen new).at name ≡ (seen old).at name)
+  pub touched : (name : Key) → has_key_named new.touched name ≡ true → has_key_named old.touched name ≡ false →
       (seen new).at name ≡ (seen old).at name → ⊥
   pub known : (name : Key) → (seen new).at name ≡ unknown_record → (seen old).at name ≡ unknown_record
 

@@ -1,11 +1,12 @@
 -- What an execution came to, and what it left.
 use Rattle.std.specs.Prelude.{◌≡◌, ℕ, Bool, true, false, if◌then◌else◌, List, Option, Some, None}
+use Rattle.cs_tx.specs.Votes.{vote_of}
 use Rattle.cs_tx_types.specs.declared.effect.Effect.{Effect}
 use Rattle.cs_tx_types.specs.declared.effect.Effect.TheVariants as effect
 use Rattle.cs_ledger.specs.Ledger.{Bytes}
 use Rattle.cs_ledger.specs.Session.{Piece, has_key, object_under}
 use Rattle.cs_ledger.specs.Table as ledger
-use Rattle.cs_table.specs.Seen.{Stored, vote_of}
+use Rattle.cs_table.specs.Seen.{Stored}
 use Rattle.cs_table.specs.Changes.{Becomes}
 
 abbrev pub effect_of : Effect → ledger.Effect

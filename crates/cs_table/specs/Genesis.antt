@@ -1,12 +1,12 @@
 -- The table with which a shard begins.
-use Rattle.std.specs.Prelude.{◌≡◌, ℕ, ◌==◌, nat_lt, Bool, true, false, ◌&&◌, if◌then◌else◌, List, [], ◌∷◌, ◌++◌, map, Option, Some, None, Result, Ok, Err}
+use Rattle.std.specs.Prelude.{◌≡◌, ℕ, ◌==◌, nat_lt, Bool, false, ◌&&◌, if◌then◌else◌, List, [], ◌∷◌, ◌++◌, map, Option, Some, None, Result, Ok, Err}
 use Rattle.cs_base.specs.declared.config.Config.{Config}
 use Rattle.cs_base.specs.declared.key.Key.{Key}
 use Rattle.cs_base.specs.declared.key.Key.TheVariants as key
 use Rattle.cs_tx_value.specs.declared.object.Object.{Object}
 use Rattle.cs_tx_types.specs.Transaction.{Keyed}
 use Rattle.cs_ledger.specs.Session as ledger
-use Rattle.cs_ledger.specs.Table.{State, Unknown, Table}
+use Rattle.cs_ledger.specs.Table.{Unknown, Table}
 use Rattle.cs_table.specs.declared.piece.Piece.{Piece}
 use Rattle.cs_table.specs.declared.genesis.TableError.{TableError}
 use Rattle.cs_table.specs.declared.genesis.TableError.TheVariants.{Duplicate, Memory}
@@ -44,10 +44,6 @@ second_of before (p ∷ ps) =
 -- the first key of the shard that stands twice
 abbrev pub twice : ℕ → ℕ → List (Key × Object) → Option Key
 twice shards shard objects = second_of [] (pieces_in shards shard (keyed_of objects))
-
-abbrev pub is_unknown : State → Bool
-is_unknown Unknown = true
-is_unknown _ = false
 
 -- a call finds the key that stands twice, unless memory ran out
 abbrev pub FindsKeyTwice : {A : Type 0} → Result A TableError → Option Key → Type 0

@@ -6,7 +6,6 @@ use Rattle.cs_base.specs.declared.limits.TheConstants.{MOST_PLACES}
 use Rattle.cs_base.specs.declared.key.Key.{Key}
 use Rattle.cs_tx_value.specs.Object.{object_encoding, ObjectFits}
 use Rattle.cs_tx_types.specs.declared.vote.Vote.{Vote}
-use Rattle.cs_tx_types.specs.declared.vote.Vote.TheVariants as vote
 use Rattle.cs_tx_types.specs.declared.state.State.{State}
 use Rattle.cs_tx_types.specs.declared.state.State.TheVariants as state
 use Rattle.cs_tx_types.specs.State.{ReadersFit}
@@ -15,10 +14,7 @@ use Rattle.cs_ledger.specs.Table as table
 use Rattle.cs_tx_types.specs.declared.record.Record.{Record}
 use Rattle.cs_table.specs.declared.piece.Piece.{Piece}
 use Rattle.cs_tx.specs.Sessions.{key_seen}
-
-abbrev pub vote_of : Vote → table.Vote
-vote_of vote.Commit = table.Commit
-vote_of vote.Abort = table.Abort
+use Rattle.cs_tx.specs.Votes.{vote_of}
 
 abbrev pub seen_state : State → table.State
 seen_state state.Unknown = table.Unknown
@@ -49,8 +45,8 @@ abbrev pub is_under : ledger.Key → Key → Bool
 is_under name key = ledger.key_eq name (key_seen key)
 
 -- whether a name is that of one of these keys
-abbrev pub has_name : List Key → ledger.Key → Bool
-has_name keys name = list_any (is_under name) keys
+abbrev pub has_key_named : List Key → ledger.Key → Bool
+has_key_named keys name = list_any (is_under name) keys
 
 -- no key is touched
 abbrev pub forgotten : Stored → Stored

@@ -1,7 +1,8 @@
 //! Voting on a session, and carrying decisions out, over the keys that it has in the shard.
 ghost use Rattle.std.specs.Prelude.{◌≡◌, OnOk, IfOk, map, option_map};
+ghost use Rattle.cs_tx.specs.Votes.{vote_of};
 ghost use Rattle.cs_ledger.specs.Table.{prepare, with_locks, with_aborted, is_locked_by, has_room as is_fresh, has_place, is_ready as is_all_ready, Voted};
-ghost use Rattle.cs_table.specs.Seen.{seen, shown_at, vote_of, seen_piece};
+ghost use Rattle.cs_table.specs.Seen.{seen, shown_at, seen_piece};
 ghost use Rattle.cs_tx.specs.Sessions.{key_seen};
 ghost use Rattle.cs_table.specs.Changes.{Becomes};
 ghost use Rattle.cs_table.specs.Effects.{ComesTo, settled_vote, accepted};

@@ -2,12 +2,12 @@
 ghost use Rattle.std.specs.Prelude.{◌≡◌, OnOk, IfOk, All, map, []};
 ghost use Rattle.cs_base.specs.declared.config.Config.{Config};
 ghost use Rattle.cs_tx_value.specs.Object.{ObjectFits, object_encoding};
-ghost use Rattle.cs_ledger.specs.Table.{start};
+ghost use Rattle.cs_ledger.specs.Table.{start, is_unknown};
 ghost use Rattle.cs_table.specs.Seen.{seen, shown_at, seen_piece};
 ghost use Rattle.cs_table.specs.Changes.{Becomes, appeared_each};
 ghost use Rattle.cs_table.specs.Pieces.{pieces_in, PiecesFit};
 ghost use Rattle.cs_tx.specs.Dummies.{dummy_object as the_dummy};
-ghost use Rattle.cs_table.specs.Genesis.{keyed_of, genesis_rules, second_of, twice, is_unknown, FindsKeyTwice, with_dummy_objects, empty};
+ghost use Rattle.cs_table.specs.Genesis.{keyed_of, genesis_rules, second_of, twice, FindsKeyTwice, with_dummy_objects, empty};
 
 use crate::piece::Piece;
 use crate::pieces::{add_piece, dummy_object};

@@ -1,7 +1,8 @@
 //! The sessions that read an object.
 ghost use Rattle.std.specs.Prelude.{◌≡◌, ◌∷◌, [], ◌&&◌, ◌||◌, not, IfOk};
+ghost use Rattle.cs_base.specs.Lists.{is_empty};
 ghost use Rattle.cs_tx_types.specs.State.{ReadersFit};
-ghost use Rattle.cs_ledger.specs.Ledger.{has, is_empty};
+ghost use Rattle.cs_ledger.specs.Ledger.{has};
 ghost use Rattle.cs_ledger.specs.Table.{has_seat, with_reader, without_reader};
 
 use cs_base::{MOST_READERS, Memory, Sequence};

@@ -1,8 +1,9 @@
 //! What becomes of the record of a key.
 ghost use Rattle.std.specs.Prelude.{◌≡◌, ◌↔◌, ◌+◌, false, [], length, IsTrue, IfOk, OnOk};
+ghost use Rattle.cs_tx.specs.Votes.{vote_of};
 ghost use Rattle.cs_tx_value.specs.Object.{object_encoding, ObjectFits};
 ghost use Rattle.cs_table.specs.Changes.{changed_state, changed_record, appeared_record, noted_record};
-ghost use Rattle.cs_table.specs.Seen.{seen_record, seen_state, vote_of, unknown_record, HoldsFit};
+ghost use Rattle.cs_table.specs.Seen.{seen_record, seen_state, unknown_record, HoldsFit};
 ghost use Rattle.cs_ledger.specs.Table.{locked, released, joined_by, vacated_by};
 ghost use Rattle.cs_tx_types.specs.declared.state.State.TheVariants.{Unknown};
 

@@ -1,11 +1,12 @@
 //! The calls on a session.
 ghost use Rattle.std.specs.Prelude.{◌≡◌, ◌==◌, ◌+◌, ◌++◌, Bool, true, length, IsSome, is_some, IfOk, OnOk, map, option_map};
+ghost use Rattle.cs_tx.specs.Votes.{vote_of};
 ghost use Rattle.cs_tx_types.specs.declared.transaction.Tx.{Tx};
 ghost use Rattle.cs_tx_types.specs.Session.{SessionFits};
 ghost use Rattle.cs_tx.specs.Digest.{digest_of_session};
 ghost use Rattle.cs_ledger.specs.Table.{Voted};
 ghost use Rattle.cs_ledger.specs.Session.{first_key as first_of};
-ghost use Rattle.cs_table.specs.Seen.{seen, vote_of, seen_piece};
+ghost use Rattle.cs_table.specs.Seen.{seen, seen_piece};
 ghost use Rattle.cs_table.specs.Pieces.{used_in, read_in, PiecesFit};
 ghost use Rattle.cs_tx.specs.Sessions.{ledger_session, dummy_name, key_seen};
 ghost use Rattle.cs_table.specs.Effects.{ComesTo, effect_of};

@@ -1,9 +1,10 @@
 //! What is done to several keys, one after the other.
 ghost use Rattle.std.specs.Prelude.{◌≡◌, OnOk, map, option_map};
+ghost use Rattle.cs_tx.specs.Votes.{vote_of};
 ghost use Rattle.cs_table.specs.Pieces.{PiecesFit};
 ghost use Rattle.cs_ledger.specs.Session.{has_key as is_named};
 ghost use Rattle.cs_ledger.specs.Table.{all_ready, all_readable, vote_in};
-ghost use Rattle.cs_table.specs.Seen.{seen, vote_of, seen_piece, seen_place};
+ghost use Rattle.cs_table.specs.Seen.{seen, seen_piece, seen_place};
 ghost use Rattle.cs_tx.specs.Sessions.{key_seen};
 ghost use Rattle.cs_table.specs.Changes.{changed_each, changed_but, appeared_each, changed_record, Becomes};
 

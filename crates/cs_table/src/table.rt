@@ -1,9 +1,10 @@
 //! The table of a shard.
 ghost use Rattle.std.specs.Prelude.{◌≡◌, [], ◌+◌, ◌-◌, ◌<◌, ◌^◌, ◌||◌, ◌&&◌, true, IfSome, OnOk, option_copied};
+ghost use Rattle.cs_tx.specs.Votes.{vote_of};
 ghost use Rattle.cs_tx_value.specs.Object.{object_encoding, ObjectFits};
 ghost use Rattle.cs_ledger.specs.Session.{Key as Name, key_eq};
 ghost use Rattle.cs_ledger.specs.Table.{is_active_with, is_readable_with, has_place};
-ghost use Rattle.cs_table.specs.Seen.{seen, shown_at, row_in, vote_of, seen_record, seen_row, seen_state, unknown_record, HoldsFit, IsKeptRecord, IsStored, RowFits, has_name, forgotten, IsKeyInWidth, IsKeptTable};
+ghost use Rattle.cs_table.specs.Seen.{seen, shown_at, row_in, seen_record, seen_row, seen_state, unknown_record, HoldsFit, IsKeptRecord, IsStored, RowFits, has_key_named, forgotten, IsKeyInWidth, IsKeptTable};
 ghost use Rattle.cs_tx.specs.Sessions.{key_seen};
 ghost use Rattle.cs_table.specs.Changes.{with_next, changed, changed_record, appeared_record, noted_record, ShowsTable, Becomes};
 
@@ -175,8 +176,8 @@ impl Table {
         requires fits { IsKeptRecord row }
         ensures shown { OnOk result (ShowsTable self.old self.new
             (changed (λ r. seen_record row) (key_seen key) (seen self.old))) }
-        ensures touched { OnOk result ((name : Name) → has_name self.new.touched name
-            ≡ (has_name self.old.touched name || (moved && key_eq name (key_seen key)))) }
+        ensures touched { OnOk result ((name : Name) → has_key_named self.new.touched name
+            ≡ (has_key_named self.old.touched name || (moved && key_eq name (key_seen key)))) }
     {
         in_width(&key);
         touch(&mut self.touched, key, moved)?;
@@ -258,8 +259,8 @@ fn in_width(key: &Key)
 }
 
 fn touch(touched: &mut BTreeSet<Key>, key: Key, moved: bool) -> Result<(), Memory>
-    ensures { OnOk result ((name : Name) → has_name touched.new.keys name
-        ≡ (has_name touched.old.keys name || (moved && key_eq name (key_seen key)))) }
+    ensures { OnOk result ((name : Name) → has_key_named touched.new.keys name
+        ≡ (has_key_named touched.old.keys name || (moved && key_eq name (key_seen key)))) }
 {
     if moved {
         touched.insert(key)?;

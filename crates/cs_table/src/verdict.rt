@@ -1,10 +1,11 @@
 //! What the record of its anchor says of a session.
 ghost use Rattle.std.specs.Prelude.{◌≡◌, option_map, None, if◌then◌else◌};
+ghost use Rattle.cs_tx.specs.Votes.{vote_of};
 ghost use Rattle.cs_ledger.specs.Standing.{recorded, is_inactive_by};
 ghost use Rattle.cs_table.specs.Calls.{standing_of, is_over};
 ghost use Rattle.cs_table.specs.declared.standing.Standing.TheVariants.{Aborted, Open};
 ghost use Rattle.cs_ledger.specs.Table.{is_held_by, is_inactive, is_locked_by, has_room};
-ghost use Rattle.cs_table.specs.Seen.{seen_record, vote_of};
+ghost use Rattle.cs_table.specs.Seen.{seen_record};
 ghost use Rattle.cs_table.specs.Effects.{settled_vote, or_lost};
 
 use crate::several::vote_in_book;

@@ -17,7 +17,7 @@ use Rattle.cs_eval_values.specs.declared.stop.Cause.TheVariants as cause
 use Rattle.cs_eval_values.specs.Runs.{Run, Gave, Trapped}
 use Rattle.cs_eval_values.specs.Datums.{Datum}
 use Rattle.cs_eval_values.specs.Operators.{int, truth, text}
-use Rattle.cs_eval.specs.Meaning.{Sight, Meant, Linking, run_of, shape_means, expr_meant, link_meant, meaning}
+use Rattle.cs_eval.specs.Meaning.{Environment, Meant, Linking, run_of, shape_means, expr_meant, link_meant, meaning}
 use Rattle.cs_eval_law.proofs.Trees.{shape_from, meant_shape, meant_expr, meant_link}
 
 abbrev Part : Type 0
@@ -30,7 +30,7 @@ expr place x = roll-Expr (record { first = place; place = place; shape = roll-Sh
 abbrev number : ℕ → Part
 number n = Shape-F.Number n
 
-module _ (sight : Sight) where
+module _ (sight : Environment) where
   means : (place : ℕ) (x : Part) → expr_meant sight (expr place x) ≡ shape_means sight (shape_from sight x) place
   means place x = meant_expr sight (record { first = place; place = place; shape = roll-Shape x }) ∙ ap (λ (f : ℕ → Meant). f place) (meant_shape sight x)
 

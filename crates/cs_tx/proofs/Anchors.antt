@@ -13,7 +13,7 @@ use Rattle.cs_base.specs.declared.key.Key.TheVariants as key
 use Rattle.cs_tx_types.specs.declared.session.Session.{Session}
 use Rattle.cs_tx_types.specs.declared.trace.Trace.{Trace}
 use Rattle.cs_tx_types.specs.Transaction.{Keyed}
-use Rattle.cs_tx.specs.Uses.{inputs_of, names, names_of, is_in, is_among, concerns, dummy_in, anchor_among, anchor_of}
+use Rattle.cs_tx.specs.Uses.{inputs_of, names, used_names, is_in, is_among, concerns, dummy_in, anchor_among, anchor_of}
 use Rattle.cs_tx.specs.WellFormed.{IsWellFormed, wants_dummy, is_served}
 use Rattle.cs_tx.proofs.Faults.{passed}
 
@@ -55,12 +55,12 @@ module _ (config : Config) (x : Session) (shard : ℕ) where
   abbrev has_one : Bool
   has_one = is_among config shard (names (inputs_of x.tx)) || list_any (λ dummy. dummy.0 == shard) x.dummies
 
-  wants : (dummies : List (ℕ × ℕ)) → list_all (λ dummy. wants_dummy config (names (inputs_of x.tx)) (names_of x.tx) dummy.0) dummies ≡ true → list_any (λ dummy. dummy.0 == shard) dummies ≡ true → wants_dummy config (names (inputs_of x.tx)) (names_of x.tx) shard ≡ true
+  wants : (dummies : List (ℕ × ℕ)) → list_all (λ dummy. wants_dummy config (names (inputs_of x.tx)) (used_names x.tx) dummy.0) dummies ≡ true → list_any (λ dummy. dummy.0 == shard) dummies ≡ true → wants_dummy config (names (inputs_of x.tx)) (used_names x.tx) shard ≡ true
   wants [] all any = absurd (both_ways false refl any)
   wants (d ∷ ds) all any =
-      let h = and_parts (wants_dummy config (names (inputs_of x.tx)) (names_of x.tx) d.0) _ all in
+      let h = and_parts (wants_dummy config (names (inputs_of x.tx)) (used_names x.tx) d.0) _ all in
       elim (or_cases (d.0 == shard) _ any) [
-        | inl here ↦ subst (λ (n : ℕ). wants_dummy config (names (inputs_of x.tx)) (names_of x.tx) n ≡ true) (eqb-true _ _ here) h.0
+        | inl here ↦ subst (λ (n : ℕ). wants_dummy config (names (inputs_of x.tx)) (used_names x.tx) n ≡ true) (eqb-true _ _ here) h.0
         | inr later ↦ wants ds h.1 later
       ]
 
@@ -83,7 +83,7 @@ module _ (config : Config) (x : Session) (shard : ℕ) where
   has_one-is : IsWellFormed config x → has_one ≡ concerns config x shard
   has_one-is fits =
       elim (cases_Bool (concerns config x shard)) [
-        | inl there ↦ serves (names_of x.tx) (passed config x fits).served there ∙ sym there
+        | inl there ↦ serves (used_names x.tx) (passed config x fits).served there ∙ sym there
         | inr not_there ↦ false_from_ne_true has_one (λ e. both_ways (concerns config x shard) not_there (one-concerns fits e)) ∙ sym not_there
       ]
 

@@ -5,6 +5,7 @@ use Rattle.std.specs.List.{AllByRecursion}
 use Rattle.std.specs.Int.{w16, to_be_bytes}
 use Rattle.std.specs.Cmp.Lexicographic.{bytes_decides}
 use Rattle.std.proofs.lemmas.Bool.{and_from, or_parts, or_from, not_from_false, false_from_ne_true}
+use Rattle.cs_base.specs.Lists.{IsIn}
 use Rattle.cs_base.specs.Fields.{IsForm, Found, whole_at}
 use Rattle.cs_base.proofs.Forms.{whole-again, some_is}
 use Rattle.cs_tx_value.specs.declared.object.Object.{Object}
@@ -15,7 +16,7 @@ use Rattle.cs_tx_types.specs.Transaction.{tx_encoding, TraceFits, TxFits}
 use Rattle.cs_tx_types.specs.Session.{session_encoding, SessionFits}
 use Rattle.cs_tx_types.specs.laws.Session.{tx_form, session_form}
 use Rattle.cs_tx.specs.Sessions.{outputs_written_at, outputs_written, written_tx, written_of}
-use Rattle.cs_ledger.specs.Ledger.{IsIn, has, all_differ}
+use Rattle.cs_ledger.specs.Ledger.{has, all_differ}
 use Rattle.cs_ledger.specs.Strings.{Output, WrittenSession, IsFaithful, places_of}
 
 -- ---- one encoding is that of one value

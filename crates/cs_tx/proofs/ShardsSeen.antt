@@ -5,7 +5,7 @@ use Rattle.cs_tx_types.specs.declared.transaction.Tx.{Tx}
 use Rattle.cs_tx_types.specs.declared.session.Session.{Session}
 use Rattle.cs_tx_types.specs.Transaction.{Keyed}
 use Rattle.cs_tx.specs.Uses as Uses
-use Rattle.cs_tx.specs.Uses.{inputs_of, references_of, outputs_of, names, names_of}
+use Rattle.cs_tx.specs.Uses.{inputs_of, references_of, outputs_of, names, used_names}
 use Rattle.cs_ledger.specs.Session as Seen
 use Rattle.cs_base.specs.Key.{shard_of_key}
 use Rattle.cs_base.specs.declared.key.Key.TheVariants as key
@@ -25,7 +25,7 @@ all-items approves x =
     ∙ ap (λ zs. map item_of ins ++ zs) (sym (map-append item_of refs (outputs_of x.tx)))
     ∙ sym (map-append item_of ins (refs ++ outputs_of x.tx))
 
-pub names-everything : (tx : Tx) → names (everything tx) ≡ names_of tx
+pub names-everything : (tx : Tx) → names (everything tx) ≡ used_names tx
 names-everything tx =
     let name : Keyed → List ℕ = λ item. item.0 in
     map-append name (inputs_of tx) (references_of tx ++ outputs_of tx)

@@ -1,6 +1,7 @@
 -- A session is well formed where the ledger's session is.
 use Rattle.std.proofs.Common.{◌≡◌, ℕ, nat_lt, nat_eq, Bool, true, false, not, ◌||◌, ◌&&◌, List, [], ◌∷◌, ◌++◌, map, length, Option, Some, None, is_none, bytes_eq, refl, ap, sym, ◌∙◌, if◌then◌else◌, arith}
 use Rattle.std.specs.List.{list_any, list_all}
+use Rattle.cs_base.specs.Lists.{is_empty}
 use Rattle.cs_base.specs.Options.{or_else}
 use Rattle.cs_base.specs.Key.{shard_of_key}
 use Rattle.cs_base.specs.declared.config.Config.{Config}
@@ -11,7 +12,7 @@ use Rattle.cs_tx.specs.declared.malformed.Malformed.{Malformed}
 use Rattle.cs_tx.specs.declared.malformed.Malformed.TheVariants.{NoInput}
 use Rattle.cs_tx_types.specs.Transaction.{Keyed}
 use Rattle.cs_tx.specs.Uses as Uses
-use Rattle.cs_tx.specs.Uses.{inputs_of, references_of, names, names_of}
+use Rattle.cs_tx.specs.Uses.{inputs_of, references_of, names, used_names}
 use Rattle.cs_tx.specs.WellFormed as Tests
 use Rattle.cs_ledger.specs.Ledger as Ledger
 use Rattle.cs_ledger.specs.Session as Seen
@@ -94,7 +95,7 @@ apart-none : (names : List (List ℕ)) → Ledger.apart names [] ≡ true
 apart-none [] = refl
 apart-none (name ∷ names) = apart-none names
 
-some-input : (items : List Keyed) → not (Ledger.is_empty (map item_of items)) ≡ is_none (Tests.no_input (names items))
+some-input : (items : List Keyed) → not (is_empty (map item_of items)) ≡ is_none (Tests.no_input (names items))
 some-input [] = refl
 some-input (item ∷ items) =
     let some : nat_eq (length (names (item ∷ items))) 0 ≡ false = grind arith in
@@ -120,15 +121,15 @@ module _ (rules : Seen.Rules) (config : Config) (placed : IsPlaced rules config)
   inputs = names (inputs_of x.tx)
 
   abbrev wanted : ℕ × ℕ → Bool
-  wanted dummy = Tests.wants_dummy config inputs (names_of x.tx) dummy.0
+  wanted dummy = Tests.wants_dummy config inputs (used_names x.tx) dummy.0
 
   abbrev served : List ℕ → Bool
   served name = Tests.is_served config inputs x.dummies name
 
-  wants-dummy : (shard : ℕ) → Seen.wants_dummy rules seen.transaction shard ≡ Tests.wants_dummy config inputs (names_of x.tx) shard
+  wants-dummy : (shard : ℕ) → Seen.wants_dummy rules seen.transaction shard ≡ Tests.wants_dummy config inputs (used_names x.tx) shard
   wants-dummy shard =
       ap (λ b. b && not (Seen.is_among rules shard seen.transaction.inputs)) (concerns-session_of rules config placed approves x shard)
-      ∙ ap (λ b. Uses.is_among config shard (names_of x.tx) && not b) (among rules config placed shard (inputs_of x.tx))
+      ∙ ap (λ b. Uses.is_among config shard (used_names x.tx) && not b) (among rules config placed shard (inputs_of x.tx))
 
   each-wanted : (dummies : List (ℕ × ℕ)) → Seen.each_is_wanted rules seen.transaction (map dummy_name dummies) ≡ list_all wanted dummies
   each-wanted [] = refl
@@ -149,7 +150,7 @@ module _ (rules : Seen.Rules) (config : Config) (placed : IsPlaced rules config)
       ∙ ap (λ b. served item.0 && b) (each-served items)
 
   abbrev right : Bool
-  right = Tests.are_right config inputs (names_of x.tx) x.dummies
+  right = Tests.are_right config inputs (used_names x.tx) x.dummies
 
   has-its-dummies : Seen.has_its_dummies rules seen ≡ right
   has-its-dummies =

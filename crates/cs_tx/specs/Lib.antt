@@ -1,5 +1,7 @@
 pub mod Digest
+pub mod Lines
 pub mod Uses
+pub mod Votes
 pub mod WellFormed
 pub mod Token
 pub mod Sessions

@@ -25,8 +25,8 @@ abbrev pub names : List Keyed → List (List ℕ)
 names items = map (λ item. item.0) items
 
 -- every name that a transaction uses
-abbrev pub names_of : Tx → List (List ℕ)
-names_of tx = names (inputs_of tx) ++ (names (references_of tx) ++ names (outputs_of tx))
+abbrev pub used_names : Tx → List (List ℕ)
+used_names tx = names (inputs_of tx) ++ (names (references_of tx) ++ names (outputs_of tx))
 
 -- every name that was found
 abbrev pub all_of : Names → List (List ℕ)
@@ -42,7 +42,7 @@ is_among config shard names = list_any (is_in config shard) names
 
 -- the shard is that of an input, a reference or an output
 abbrev pub concerns : Config → Session → ℕ → Bool
-concerns config x shard = is_among config shard (names_of x.tx)
+concerns config x shard = is_among config shard (used_names x.tx)
 
 -- the concerned ones of the shards below n, in rising order
 abbrev pub concerned_below : Config → Session → ℕ → List ℕ

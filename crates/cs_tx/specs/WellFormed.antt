@@ -10,7 +10,7 @@ use Rattle.cs_tx_types.specs.declared.trace.Trace.{Trace}
 use Rattle.cs_tx_types.specs.declared.session.Session.{Session}
 use Rattle.cs_tx.specs.declared.malformed.Malformed.{Malformed}
 use Rattle.cs_tx.specs.declared.malformed.Malformed.TheVariants as malformed
-use Rattle.cs_tx.specs.Uses.{inputs_of, references_of, names, names_of, is_among}
+use Rattle.cs_tx.specs.Uses.{inputs_of, references_of, names, used_names, is_among}
 
 -- ---- the transaction has an input
 
@@ -99,7 +99,7 @@ fault_of config x =
     (or_else (used_twice (first_twice (names (references_of x.tx)) [] (names (inputs_of x.tx))))
     (or_else (foreign (first_failing has_own_objects 0 x.tx.traces))
     (or_else (late_dep (first_failing has_earlier_deps 0 x.tx.traces))
-    (wrong_dummies (are_right config (names (inputs_of x.tx)) (names_of x.tx) x.dummies)))))
+    (wrong_dummies (are_right config (names (inputs_of x.tx)) (used_names x.tx) x.dummies)))))
 
 abbrev pub IsWellFormed : Config → Session → Type 0
 IsWellFormed config x = fault_of config x ≡ None

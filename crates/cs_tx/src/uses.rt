@@ -2,7 +2,7 @@
 ghost use Rattle.std.specs.Prelude.{◌≡◌, ◌↔◌, IfOk, IsNone, Some, false, find};
 ghost use Rattle.std.specs.List.{flat_map};
 ghost use Rattle.cs_tx_types.specs.Session.{SessionFits};
-ghost use Rattle.cs_tx.specs.Uses.{is_in, is_among, concerns, concerned_shards, names, names_of, dummy_in, anchor_of};
+ghost use Rattle.cs_tx.specs.Uses.{is_in, is_among, concerns, concerned_shards, names, used_names, dummy_in, anchor_of};
 ghost use Rattle.cs_tx.specs.WellFormed.{IsWellFormed};
 
 use crate::names::Names;

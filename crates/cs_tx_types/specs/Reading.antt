@@ -22,7 +22,7 @@ use Rattle.cs_tx_types.specs.declared.entry.Entry.TheVariants as entry
 use Rattle.cs_tx_types.specs.declared.state.State.{State}
 use Rattle.cs_tx_types.specs.declared.state.State.TheVariants as state
 use Rattle.cs_tx_types.specs.State.{readers_differ}
-use Rattle.cs_tx_types.specs.Transaction.{Keyed}
+use Rattle.cs_tx_types.specs.Transaction.{Keyed, tx_of}
 
 abbrev pub keyed_at : List ℕ → Found Keyed
 keyed_at = pair_at (bytes_at 32) object_at
@@ -60,9 +60,6 @@ back_at =
 
 unfoldable pub trace_at : List ℕ → Found Trace
 trace_at bytes = trace_of_parts <$> pair_at front_at back_at bytes
-
-abbrev pub tx_of : List Trace → Tx
-tx_of traces = record { traces = traces }
 
 unfoldable pub tx_at : List ℕ → Found Tx
 tx_at = within_at MOST_TX (λ bytes. tx_of <$> some_at MOST_TRACES trace_at bytes)
@@ -108,9 +105,9 @@ abbrev pub readers_at : List ℕ → Found (List (List ℕ))
 readers_at = tested_at readers_differ (some_at MOST_READERS (bytes_at 32))
 
 -- what a call that takes no memory wrote into its places is what a reader finds
-abbrev pub Fills : Result Unit FormError → List (List ℕ) → List ℕ → Found (List (List ℕ)) → Type 0
-Fills (Ok done) places rest found = found ≡ Some (places, rest)
-Fills (Err e) places rest found = (e ≡ BadForm) × (found ≡ None)
+abbrev pub FillsReaders : Result Unit FormError → List (List ℕ) → List ℕ → Found (List (List ℕ)) → Type 0
+FillsReaders (Ok done) places rest found = found ≡ Some (places, rest)
+FillsReaders (Err e) places rest found = (e ≡ BadForm) × (found ≡ None)
 
 abbrev pub shared_state : Object × List (List ℕ) → State
 shared_state p = state.Shared p.0 p.1

@@ -34,6 +34,9 @@ trace_back t =
 abbrev pub trace_encoding : Trace → List ℕ
 trace_encoding t = trace_front t ++ trace_back t
 
+abbrev pub tx_of : List Trace → Tx
+tx_of traces = record { traces = traces }
+
 pub record TraceFits (t : Trace) : Type 0 where
   pub contract : DigestFits t.contract
   pub method : NameFits t.method

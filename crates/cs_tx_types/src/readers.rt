@@ -4,7 +4,7 @@ ghost use Rattle.std.specs.List.{list_any};
 ghost use Rattle.cs_base.specs.Fields.{bytes_at, many_at};
 ghost use Rattle.cs_tx_value.specs.Reading.{ReadsValue, Passes, Begins, LeavesRoom};
 ghost use Rattle.cs_tx_types.specs.State.{readers_differ, readers_encoding, ReadersFit};
-ghost use Rattle.cs_tx_types.specs.Reading.{readers_at, Fills};
+ghost use Rattle.cs_tx_types.specs.Reading.{readers_at, FillsReaders};
 
 use cs_base::{Cursor, MOST_READERS, Memory, Sequence, Writer};
 use cs_tx_value::{Digest, Encoded, FormError, few_fit, read_some, room_counted, write_counted};
@@ -43,7 +43,7 @@ pub fn read_readers(alloc: Global, cursor: &mut Cursor<'_>) -> Result<Sequence<D
 // As many digests as there are places for.
 #[tactic(auto, using(crate::proofs::Filling::filled_more, crate::proofs::Filling::filled_not, crate::proofs::Filling::filled_all))]
 fn fill(cursor: &mut Cursor<'_>, places: &mut [Digest]) -> Result<(), FormError>
-    ensures { Fills result places.new cursor.new
+    ensures { FillsReaders result places.new cursor.new
         (many_at (bytes_at 32) (length places.old) cursor.old) }
 {
     for place in 0..places.len() {

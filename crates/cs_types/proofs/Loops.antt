@@ -2,6 +2,7 @@
 use Rattle.std.proofs.Common.{◌≡◌, ℕ, ◌+◌, ◌<◌, ◌≤◌, Bool, List, [], ◌∷◌, ◌++◌, length, take, drop, get_or, map, Ok, Err, sym, ap, ◌∙◌, add-one}
 use Rattle.std.proofs.Math.Seq.{take-suc}
 use Rattle.std.proofs.lemmas.List.{drop_all, take_all}
+use Rattle.cs_base.specs.Lists.{is_empty}
 use Rattle.cs_lang_token.specs.Grammar.{◌>>=◌}
 use Rattle.cs_lang_token.specs.declared.token.Text.{Text}
 use Rattle.cs_lang.specs.declared.tree.Expr.{Expr}
@@ -18,7 +19,7 @@ use Rattle.cs_types_kinds.proofs.Loops.{opened}
 use Rattle.cs_types.specs.Answers.{Fails}
 use Rattle.cs_types.proofs.Faults.{fails_first, fails_as}
 use Rattle.cs_types.specs.Stating.{field_wanted, fields_wanted, one_bound, bound}
-use Rattle.cs_types.specs.Declaring.{is_nil, slot_told, slots_told}
+use Rattle.cs_types.specs.Declaring.{slot_told, slots_told}
 
 -- ---- one after the other
 
@@ -107,16 +108,16 @@ module _ (types : List TypeDef) (u : Use) where
   pub slots_done : (xs : List Slot) (i : ℕ) (names : List Entry) (t : Told (List Entry)) → length xs ≤ i → slots_told types u (drop i xs) names ≡ t → t ≡ Ok names
   slots_done xs i names t le h = sym h ∙ ap (λ (ys : List Slot). slots_told types u ys names) (drop_all i xs le)
 
-  slots_next : (xs : List Slot) (i : ℕ) (x : Slot) (last : Bool) (names : List Entry) (t : Told (List Entry)) → i < length xs → x ≡ get_or xs i x → is_nil (drop (i + 1) xs) ≡ last
+  slots_next : (xs : List Slot) (i : ℕ) (x : Slot) (last : Bool) (names : List Entry) (t : Told (List Entry)) → i < length xs → x ≡ get_or xs i x → is_empty (drop (i + 1) xs) ≡ last
       → slots_told types u (drop i xs) names ≡ t → (slot_told types u x last names >>= λ more. slots_told types u (drop (i + 1) xs) more) ≡ t
   slots_next xs i x last names t lt is end h =
       ap (λ (b : Bool). slot_told types u x b names >>= λ more. slots_told types u (drop (i + 1) xs) more) (sym end)
       ∙ sym (ap (λ (ys : List Slot). slots_told types u ys names) (opened xs i x lt is)) ∙ h
 
-  pub slots_step : (xs : List Slot) (i : ℕ) (x : Slot) (last : Bool) (names more : List Entry) (t : Told (List Entry)) → i < length xs → x ≡ get_or xs i x → is_nil (drop (i + 1) xs) ≡ last
+  pub slots_step : (xs : List Slot) (i : ℕ) (x : Slot) (last : Bool) (names more : List Entry) (t : Told (List Entry)) → i < length xs → x ≡ get_or xs i x → is_empty (drop (i + 1) xs) ≡ last
       → slot_told types u x last names ≡ Ok more → slots_told types u (drop i xs) names ≡ t → slots_told types u (drop (i + 1) xs) more ≡ t
   slots_step xs i x last names more t lt is end e h = sym (ap (λ (r : Told (List Entry)). r >>= λ m. slots_told types u (drop (i + 1) xs) m) e) ∙ slots_next xs i x last names t lt is end h
 
-  pub slots_fails : (xs : List Slot) (i : ℕ) (x : Slot) (last : Bool) (names : List Entry) (e : TypeError) (t : Told (List Entry)) → i < length xs → x ≡ get_or xs i x → is_nil (drop (i + 1) xs) ≡ last
+  pub slots_fails : (xs : List Slot) (i : ℕ) (x : Slot) (last : Bool) (names : List Entry) (e : TypeError) (t : Told (List Entry)) → i < length xs → x ≡ get_or xs i x → is_empty (drop (i + 1) xs) ≡ last
       → Fails e (slot_told types u x last names) → slots_told types u (drop i xs) names ≡ t → Fails e t
   slots_fails xs i x last names e t lt is end f h = fails_as e _ t (slots_next xs i x last names t lt is end h) (fails_first e (slot_told types u x last names) (λ m. slots_told types u (drop (i + 1) xs) m) f)

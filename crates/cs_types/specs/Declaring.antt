@@ -1,7 +1,6 @@
 -- What is told of declarations: the names that they bring into sight.
-use Rattle.std.specs.Prelude.{ℕ, Bool, true, false, nat_le, not, ◌&&◌, ◌||◌, List, [], ◌∷◌, ◌++◌, length, is_some, Option, None, Some, Ok, if◌then◌else◌}
+use Rattle.std.specs.Prelude.{ℕ, Bool, nat_le, not, ◌&&◌, ◌||◌, List, [], ◌∷◌, ◌++◌, length, is_some, Option, None, Some, Ok, if◌then◌else◌}
 use Rattle.std.specs.List.{list_any}
-use Rattle.std.specs.Str.{bytes_eq}
 use Rattle.cs_lang_token.specs.declared.limits.TheConstants.{MOST_FIELDS, MOST_TYPES}
 use Rattle.cs_lang_token.specs.Grammar.{◌>>=◌}
 use Rattle.cs_lang.specs.declared.tree.Field.{Field}
@@ -15,12 +14,10 @@ use Rattle.cs_types_kinds.specs.declared.scope.Use.TheVariants as usage
 use Rattle.cs_types_kinds.specs.declared.scope.Entry.{Entry}
 use Rattle.cs_types_kinds.specs.Told.{Told, mistyped, unbound, told_through}
 use Rattle.cs_types_kinds.specs.Scopes.{is_declared, with_name}
-use Rattle.cs_types_kinds.specs.Lookups.{type_number, declared_kind}
+use Rattle.cs_types_kinds.specs.Lookups.{type_number, declared_kind, is_field}
+use Rattle.cs_base.specs.Lists.{is_empty}
 
 -- ---- types
-
-abbrev pub is_field : List ℕ → Field → Bool
-is_field name f = bytes_eq f.name.bytes name
 
 -- so many fields at most, of distinct names
 abbrev pub field_told : List Field → Field → Told (List Field)
@@ -55,13 +52,9 @@ slot_told types u slot last names =
     if is_declared slot.name.bytes names || slot.many && not last then mistyped slot.name.place
     else slot_of_type slot u names (type_number slot.object.bytes types)
 
-abbrev pub is_nil : {X : Type 0} → List X → Bool
-is_nil [] = true
-is_nil (x ∷ xs) = false
-
 abbrev pub slots_told : List TypeDef → Use → List Slot → List Entry → Told (List Entry)
 slots_told types u [] names = Ok names
-slots_told types u (s ∷ ss) names = slot_told types u s (is_nil ss) names >>= λ more. slots_told types u ss more
+slots_told types u (s ∷ ss) names = slot_told types u s (is_empty ss) names >>= λ more. slots_told types u ss more
 
 -- a field, which repeats no name
 abbrev pub name_told : Use → List Entry → Field → Told (List Entry)

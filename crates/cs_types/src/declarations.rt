@@ -1,8 +1,10 @@
 //! Types, slots and fields.
 ghost use Rattle.std.specs.Prelude.{◌≡◌, ◌++◌, ◌∷◌, [], length};
 ghost use Rattle.std.specs.List.{list_any};
+ghost use Rattle.cs_types_kinds.specs.Lookups.{is_field};
+ghost use Rattle.cs_base.specs.Lists.{is_empty};
 ghost use Rattle.cs_types.specs.Steps.{StatementPasses, BindsNames};
-ghost use Rattle.cs_types.specs.Declaring.{is_field, field_told, fields_told, type_told, types_told, slot_kind, slot_told, is_nil, slots_told, name_told, names_told, use_of_created, use_of_returned, method_names};
+ghost use Rattle.cs_types.specs.Declaring.{field_told, fields_told, type_told, types_told, slot_kind, slot_told, slots_told, name_told, names_told, use_of_created, use_of_returned, method_names};
 
 use cs_lang::{Field, Method, Slot, TypeDef};
 use cs_lang_token::{MOST_FIELDS, MOST_TYPES};
@@ -98,7 +100,7 @@ fn add_slot(
 }
 
 fn is_nil(slots: &[Slot]) -> bool
-    ensures { result ≡ is_nil slots.now }
+    ensures { result ≡ is_empty slots.now }
 {
     match slots {
         [] => true,

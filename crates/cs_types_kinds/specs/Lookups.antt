@@ -17,6 +17,9 @@ is_type name t = bytes_eq t.name.bytes name
 abbrev pub is_method : List ℕ → Method → Bool
 is_method name m = bytes_eq m.name.bytes name
 
+abbrev pub is_field : List ℕ → Field → Bool
+is_field name f = bytes_eq f.name.bytes name
+
 -- the number of the type of this name
 abbrev pub type_number : List ℕ → List TypeDef → Option ℕ
 type_number name types = position (is_type name) types

@@ -9,7 +9,7 @@ use Rattle.cs_tx_types.specs.declared.proof.Proof.{Proof}
 use Rattle.cs_tx_types.specs.Log.{leaf_encoding, LeafFits, ProofFits}
 use Rattle.cs_merkle.specs.Path.{path_length, root_by, ShowsLeaf}
 use Rattle.cs_check_rules.specs.Chain.{head_of}
-use Rattle.cs_check_rules.specs.Shown.{Shows, IsOver, NoProofCollision}
+use Rattle.cs_check_rules.specs.Shown.{Shows, CoversLeaves, NoProofCollision}
 use Rattle.cs_check_rules.proofs.Covered.{covered, covered_leaf}
 use Rattle.cs_verify.specs.declared.claim.Claim.{Claim}
 use Rattle.cs_verify.specs.declared.judging.Verdict.{Verdict}

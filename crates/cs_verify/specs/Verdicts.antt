@@ -16,7 +16,7 @@ use Rattle.cs_tx_types.specs.Log.{leaf_encoding, LeafFits, ProofFits}
 use Rattle.cs_tx.specs.Digest.{digest_of_session}
 use Rattle.cs_check_rules.specs.Chain.{head_of}
 use Rattle.cs_merkle.specs.Path.{path_length, root_by}
-use Rattle.cs_check_rules.specs.Shown.{Shows, IsOver, NoProofCollision}
+use Rattle.cs_check_rules.specs.Shown.{Shows, CoversLeaves, NoProofCollision}
 use Rattle.cs_text.specs.Refusals.{refusal_status, refusal_text}
 use Rattle.cs_text.specs.declared.cause.Refusal.{Refusal}
 use Rattle.cs_verify.specs.declared.claim.Claim.{Claim}
@@ -63,7 +63,7 @@ pub record IsCovered (c : Checkpoint) (leaves : List Leaf) (p : Proof) : Type 0 
 abbrev pub VerdictTells : List ℕ → Verdict → Type 0
 VerdictTells head (Shown p) =
     (c : Checkpoint) (leaves : List Leaf) → head_of c ≡ head →
-    All LeafFits leaves → IsOver c (map leaf_encoding leaves) →
+    All LeafFits leaves → CoversLeaves c (map leaf_encoding leaves) →
     NoProofCollision c (map leaf_encoding leaves) p → IsCovered c leaves p
 VerdictTells head NotShown = Unit {0}
 VerdictTells head (Refused refusal) = Unit {0}

@@ -2,7 +2,8 @@
 use Rattle.std.proofs.Common.{◌≡◌, ◌⊎◌, inl, inr, ℕ, true, false, not, ◌&&◌, List, [], ◌∷◌, ◌++◌, Some, refl, sym, ap, ◌∙◌, subst, if◌then◌else◌}
 use Rattle.std.specs.Prelude.{◌==◌}
 use Rattle.std.proofs.lemmas.Bool.{cond_both, both_ways, and_parts, and_from, or_cases, not-true, eq-eqb}
-use Rattle.cs_ledger.specs.Ledger.{Bytes, Item, Transaction, IsIn, is_empty, names, has, all_differ}
+use Rattle.cs_base.specs.Lists.{IsIn, is_empty}
+use Rattle.cs_ledger.specs.Ledger.{Bytes, Item, Transaction, names, has, all_differ}
 use Rattle.cs_ledger.specs.Session.{Session, Rules, Key, Object, Piece, key_eq, has_key, objects_in, dummies_in, object_under, first_key, used_up, read_only, anchor, all_items, concerns, well_formed}
 use Rattle.cs_ledger.specs.Table.{Vote, Commit, State, Unknown, Active, Locked, Inactive, Shared, Table, Prepare, Decide, Accepted, Skipped, Void, Outcome, is_held_by, is_locked_by, is_inactive, has_room, vote_in, made, accept_state, new_dummy, new_pieces, with_accepted, session_of, act, exec, table_of}
 use Rattle.cs_ledger.specs.ShardWorld.{Step, log, shard_votes, votes_in, is_vote, is_prepare_of, all_commit, IsAllowed, AllAllowed, sessions, AreNamedApart}

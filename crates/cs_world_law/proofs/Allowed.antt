@@ -12,14 +12,14 @@ use Rattle.cs_order.specs.declared.proposed.Proposed.{Proposed}
 use Rattle.cs_order.specs.Deeds.{Deed, Took_in, Advanced, Echoed, Proposing, Ticked, Resent, Replied, Cut, Member, chosen_in}
 use Rattle.cs_order.specs.Runs.{member_of}
 use Rattle.cs_order.specs.Law.{Admits, Admitted}
-use Rattle.cs_ledger.specs.Ledger.{IsIn}
+use Rattle.cs_base.specs.Lists.{IsIn}
 use Rattle.cs_ledger.specs.Session as Seen
 use Rattle.cs_ledger.specs.Session.{all_items}
 use Rattle.cs_ledger.specs.Table as Shard
 use Rattle.cs_ledger.specs.Table.{Effect}
 use Rattle.cs_ledger.specs.ShardWorld.{Step, shard_votes, IsAllowed, AllAllowed, sessions}
 use Rattle.cs_node_state.specs.declared.pooled.Pooled.{Pooled}
-use Rattle.cs_node_state.specs.Setup.{Setup, digest_of, is_concerned_shard, concerned, is_fit, is_approved, entry_of}
+use Rattle.cs_node_state.specs.Setup.{Setup, digest_of, is_concerned_shard, concerned, is_fit, is_session_approved, entry_of}
 use Rattle.cs_tx_types.specs.Session.{session_in}
 use Rattle.cs_node_state.specs.Evidence.{has_support, is_decided}
 use Rattle.cs_node_state.specs.Pool.{found}
@@ -63,7 +63,7 @@ fine-earlier {M} site known (e ∷ later) earlier f = fine-earlier site known la
 module _ {M : Type 0} (site : Site M) (sound : IsSoundSite site) (known : Known) where
   -- what stands behind an entry that an honest node of a shard admitted
   abbrev pub IsBehind : List (Moment M) → ℕ → Entry → Type 0
-  IsBehind story shard (Prepare x) = (is_fit site.setup shard x ≡ true) × (is_approved site.setup x ≡ true)
+  IsBehind story shard (Prepare x) = (is_fit site.setup shard x ≡ true) × (is_session_approved site.setup x ≡ true)
   IsBehind story shard (Decide tx.Commit x) =
       (is_concerned_shard site.setup x shard ≡ true) × ((t : ℕ) → t < site.setup.shards → is_concerned_shard site.setup x t ≡ true → IsGiver site sound known story (digest_of site.setup x) Shard.Commit t)
   IsBehind story shard (Decide tx.Abort x) =
@@ -96,7 +96,7 @@ module _ {M : Type 0} (site : Site M) (sound : IsSoundSite site) (known : Known)
       subst (λ (n : NodeId). IsSourced site n t e) (me-same site j t) (pool-sourced site j t (made-all site known j story story_is) e i)
 
   admits-behind : (story : List (Moment M)) (j : NodeId) (entry : Entry) → Story site known story → admits site.setup j.shard (view_at site j (trail_at j story)).bench.pool entry ≡ true → IsBehind story j.shard entry
-  admits-behind story j (Prepare x) story_is e = and_parts (is_fit site.setup j.shard x) (is_approved site.setup x) e
+  admits-behind story j (Prepare x) story_is e = and_parts (is_fit site.setup j.shard x) (is_session_approved site.setup x) e
   admits-behind story j (Decide vote x) story_is e =
       let pool = (view_at site j (trail_at j story)).bench.pool in
       let d = digest_of site.setup x in
@@ -111,14 +111,14 @@ module _ {M : Type 0} (site : Site M) (sound : IsSoundSite site) (known : Known)
 
   -- what every honest node voted on is approved
   abbrev AllApproved : List (Moment M) → Type 0
-  AllApproved story = (i : NodeId) (x : Session) → is_honest site i ≡ true → HasVotedOn x (signs_of (trail_at i story)) → is_approved site.setup x ≡ true
+  AllApproved story = (i : NodeId) (x : Session) → is_honest site i ≡ true → HasVotedOn x (signs_of (trail_at i story)) → is_session_approved site.setup x ≡ true
 
   due-behind : (story : List (Moment M)) (j : NodeId) (entry : Entry) → Story site known story → AllApproved story → is_honest site j ≡ true → IsDueFrom site.setup (view_at site j (trail_at j story)).bench.pool entry → IsBehind story j.shard entry
   due-behind story j entry story_is approved honest d =
       let e = d.0 in
       let x = e.1.session in
       let s = sourced story j e story_is d.1 in
-      let fine : is_approved site.setup x ≡ true = elim s.source [ inl new ↦ new.0 | inr voted ↦ approved j x honest voted ] in
+      let fine : is_session_approved site.setup x ≡ true = elim s.source [ inl new ↦ new.0 | inr voted ↦ approved j x honest voted ] in
       elim d.2 [
         | inl prepare ↦ subst (λ z. IsBehind story j.shard z) (sym prepare) (s.fit, fine)
         | inr decision ↦ subst (λ z. IsBehind story j.shard z) (sym decision.1)
@@ -196,7 +196,7 @@ module _ {M : Type 0} (site : Site M) (sound : IsSoundSite site) (known : Known)
         subst (λ z. IsBehind past node.shard z) made.reads (admitted-behind node.shard past made.proposed story.1 approved admitted)
 
     approved-step : (node : NodeId) (mark : Mark M) (past : List (Moment M)) (i : NodeId) (x : Session) → Story site known (record { node = node; mark = mark } ∷ past) → AllApproved past → is_honest site i ≡ true
-        → HasVotedOn x (signs_of (mark ∷ trail_at i past)) → is_approved site.setup x ≡ true
+        → HasVotedOn x (signs_of (mark ∷ trail_at i past)) → is_session_approved site.setup x ≡ true
     approved-step node (In input) past i x story all honest h = all i x honest h
     approved-step node (Ordered deed) past i x story all honest h = all i x honest h
     approved-step node (Plain (Dropped cause)) past i x story all honest h = all i x honest h
@@ -213,7 +213,7 @@ module _ {M : Type 0} (site : Site M) (sound : IsSoundSite site) (known : Known)
     pub all-approved : (story : List (Moment M)) → Story site known story → AllApproved story
     all-approved [] story i x honest h = absurd h
     all-approved (m ∷ past) story i x honest h =
-        trail-both (λ t. HasVotedOn x (signs_of t) → is_approved site.setup x ≡ true) i m past
+        trail-both (λ t. HasVotedOn x (signs_of t) → is_session_approved site.setup x ≡ true) i m past
         (λ own voted. approved-step m.node m.mark past i x story (λ j y k v. all-approved past story.1 j y k v) honest voted)
         (λ voted. all-approved past story.1 i x honest voted) h
 

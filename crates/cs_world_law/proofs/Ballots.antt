@@ -1,6 +1,7 @@
 -- A vote that an honest node took of an honest node is one that it gave, and f + 1 ballots hold one of an honest node.
 use Rattle.std.proofs.Common.{◌≡◌, inl, inr, ℕ, zero, suc, ◌+◌, ◌*◌, ◌<◌, Bool, true, false, not, ◌&&◌, if◌then◌else◌, List, [], ◌∷◌, arith, sym, ◌∙◌, ap, subst, refl}
 use Rattle.std.proofs.lemmas.Bool.{and_parts, both_ways, ltb-true}
+use Rattle.cs_tx.specs.Votes.{vote_of}
 use Rattle.cs_base.specs.declared.node_id.NodeId.{NodeId}
 use Rattle.cs_tx_types.specs.declared.session.Session.{Session}
 use Rattle.cs_tx_types.specs.declared.vote.Vote as Tx
@@ -10,8 +11,8 @@ use Rattle.cs_order.specs.Counts.{count_below}
 use Rattle.cs_ledger.specs.Ledger.{Bytes}
 use Rattle.cs_ledger.specs.Table.{Vote}
 use Rattle.cs_node_state.specs.declared.ballot.Ballot.{Ballot}
-use Rattle.cs_node_state.specs.Setup.{Setup, digest_of, vote_of}
-use Rattle.cs_node_state.specs.Evidence.{vote_eq, has_ballot, has_support}
+use Rattle.cs_node_state.specs.Setup.{Setup, digest_of}
+use Rattle.cs_node_state.specs.Evidence.{same_vote, has_ballot, has_support}
 use Rattle.cs_base.specs.NodeId.{same_name}
 use Rattle.cs_node_rules.specs.Signs.{Dropped, Took, Entered, Viewed, Did, Headed, Kept, Sent}
 use Rattle.cs_node_rules.specs.Site.{Mark, In, Ordered, Plain, Site, signs_of}
@@ -44,10 +45,10 @@ module _ {M : Type 0} (site : Site M) (sound : IsSoundSite site) (known : Known)
         | inl o ↦ absurd (both_ways false refl o.1.ordering)
         | inr w ↦ elim w as (λ z. has_given site.setup (digest_of site.setup x) (vote_of vote) (signs_of (trail_at sender past)) ≡ true) [
           | inl c ↦
-              let same_vote : vote ≡ c.vote = (let e = c.is in cc) in
+              let vote_is : vote ≡ c.vote = (let e = c.is in cc) in
               let same : x ≡ c.x = (let e = c.is in cc) in
               ap (λ z. has_given site.setup (digest_of site.setup z) (vote_of vote) (signs_of (trail_at sender past))) same
-              ∙ ap (λ z. has_given site.setup (digest_of site.setup c.x) (vote_of z) (signs_of (trail_at sender past))) same_vote
+              ∙ ap (λ z. has_given site.setup (digest_of site.setup c.x) (vote_of z) (signs_of (trail_at sender past))) vote_is
               ∙ c.given
           | inr other ↦ elim other as (λ z. has_given site.setup (digest_of site.setup x) (vote_of vote) (signs_of (trail_at sender past)) ≡ true) [
             | inl want ↦ absurd (let e = want.1 in cc)
@@ -121,7 +122,7 @@ not-false : (b : Bool) → not b ≡ false → b ≡ true
 not-false true e = refl
 not-false false e = cc
 
-votes-same : (a b : Tx.Vote) → vote_eq a b ≡ true → a ≡ b
+votes-same : (a b : Tx.Vote) → same_vote a b ≡ true → a ≡ b
 votes-same tx.Commit tx.Commit e = refl
 votes-same tx.Abort tx.Abort e = refl
 votes-same tx.Commit tx.Abort e = cc
@@ -146,8 +147,8 @@ module _ {M : Type 0} (site : Site M) (sound : IsSoundSite site) (known : Known)
       let many = ltb-true site.setup.f (count_below n (λ index. has_ballot shard index vote e.1.ballots)) support in
       let x = pick n (λ index. has_ballot shard index vote e.1.ballots) (λ index. not (is_honest site (at shard index))) (omega arith) in
       let honest = not-false (is_honest site (at shard x.k)) x.not_other in
-      let b = any-in (λ (b : Ballot). same_name b.sender (at shard x.k) && vote_eq b.vote vote) e.1.ballots x.is in
-      let parts = and_parts (same_name b.0.sender (at shard x.k)) (vote_eq b.0.vote vote) b.2 in
+      let b = any-in (λ (b : Ballot). same_name b.sender (at shard x.k) && same_vote b.vote vote) e.1.ballots x.is in
+      let parts = and_parts (same_name b.0.sender (at shard x.k)) (same_vote b.0.vote vote) b.2 in
       let who = same-name b.0.sender (at shard x.k) parts.0 in
       let taken = s.ballots b.0 b.1 in
       let own : HasTaken site.setup e.0 (at shard x.k) vote (signs_of (trail_at j story)) =

@@ -1,6 +1,6 @@
 -- A decision that is first executed and accepts has all commit votes before it.
 use Rattle.std.proofs.Common.{◌≡◌, inl, ℕ, true, List, ◌∷◌, map, sym, ap, ◌∙◌, subst}
-use Rattle.cs_ledger.specs.Ledger.{IsIn}
+use Rattle.cs_base.specs.Lists.{IsIn}
 use Rattle.cs_ledger.specs.Session as Seen
 use Rattle.cs_ledger.specs.Session.{Rules, all_items}
 use Rattle.cs_ledger.specs.Table.{Commit, Abort, Table, Entry, Decide, Voted, Accepted, Aborted, Outcome, exec, table_of, session_of}

@@ -2,8 +2,9 @@
 use Rattle.std.proofs.Common.{◌≡◌, inl, inr, ℕ, zero, suc, ◌<◌, ◌==◌, Bool, true, false, if◌then◌else◌, List, [], ◌∷◌, refl, ap, sym, ◌∙◌, subst, arith}
 use Rattle.std.specs.List.{list_any, list_all}
 use Rattle.std.proofs.lemmas.Bool.{cases_Bool, and_parts, and_from, or_cases, or_left, or_right, eqb-true, eqb-false, eq-eqb}
+use Rattle.cs_base.specs.Lists.{IsIn}
 use Rattle.cs_tx_types.specs.declared.session.Session.{Session}
-use Rattle.cs_ledger.specs.Ledger.{Item, IsIn}
+use Rattle.cs_ledger.specs.Ledger.{Item}
 use Rattle.cs_ledger.specs.Session as Seen
 use Rattle.cs_ledger.specs.Session.{Rules, is_among}
 use Rattle.cs_ledger.specs.Table.{Vote}

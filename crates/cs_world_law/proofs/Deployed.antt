@@ -6,6 +6,7 @@ use Rattle.std.proofs.lemmas.Bool.{cases_Bool, and_parts, eqb-true, ltb-true}
 use Rattle.std.proofs.lemmas.Nat.{mod_below}
 use Rattle.sha2.specs.Sha256.{sha256}
 use Rattle.sha2.proofs.Facts256.{length-sha256}
+use Rattle.cs_base.specs.Lists.{IsIn}
 use Rattle.cs_base.specs.Fields.{IsBytes}
 use Rattle.cs_base.specs.declared.node_id.NodeId.{NodeId}
 use Rattle.cs_base.specs.declared.node_id.TheConstants.{CLIENT_SHARD, CLIENTS}
@@ -46,7 +47,7 @@ use Rattle.cs_tx.specs.Sessions.{outputs_written_at, outputs_written, written_of
 use Rattle.cs_tx.proofs.Faithful.{are-faithful}
 use Rattle.cs_order.specs.Deeds.{Machine}
 use Rattle.cs_order.specs.Law.{Law, Holds}
-use Rattle.cs_ledger.specs.Ledger.{Bytes, Item, IsIn}
+use Rattle.cs_ledger.specs.Ledger.{Bytes, Item}
 use Rattle.cs_ledger.specs.Session as Seen
 use Rattle.cs_ledger.specs.ShardWorld as World
 use Rattle.cs_ledger.specs.Strings as Strings

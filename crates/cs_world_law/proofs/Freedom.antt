@@ -9,10 +9,9 @@ use Rattle.cs_tx_types.specs.declared.entry.Entry.TheVariants.{Prepare}
 use Rattle.cs_wire_message.specs.declared.message.Message.{Message}
 use Rattle.cs_wire_message.specs.declared.message.Message.TheVariants as message
 use Rattle.cs_order.specs.declared.proposed.Proposed.{Proposed}
-use Rattle.cs_order.specs.Lists as Order
+use Rattle.cs_base.specs.Lists.{IsIn}
 use Rattle.cs_order.specs.Deeds.{Deed, Took_in, Advanced, Echoed, Proposing, Ticked, Resent, Replied, Cut, Member, chosen_in}
 use Rattle.cs_order.specs.Runs.{entries_handed_in, held_in}
-use Rattle.cs_ledger.specs.Ledger.{IsIn}
 use Rattle.cs_ledger.specs.Session as Seen
 use Rattle.cs_ledger.specs.Session.{Key, anchor, used_up, read_only, has_key}
 use Rattle.cs_ledger.specs.Table as Shard
@@ -88,7 +87,7 @@ module _ {M : Type 0} (site : Site M) (sound : IsSoundSite site) (known : Known)
   only-me from f none a b = omega arith
 
   -- what a node holds is its own, and fits
-  own-fit : (t : List (Mark M)) → AllMade site me t → AllWithin site known me t → (p : Proposed) → Order.IsIn p (held_in site.machine (deeds_in t)) → is_fit site.setup me.shard (session_in (site.entry_in p)) ≡ true
+  own-fit : (t : List (Mark M)) → AllMade site me t → AllWithin site known me t → (p : Proposed) → IsIn p (held_in site.machine (deeds_in t)) → is_fit site.setup me.shard (session_in (site.entry_in p)) ≡ true
   own-fit [] made within p i = absurd i
   own-fit (In input ∷ t) made within p i = own-fit t made.1 within.1 p i
   own-fit (Plain sign ∷ t) made within p i = own-fit t made.1 within.1 p i
@@ -98,8 +97,8 @@ module _ {M : Type 0} (site : Site M) (sound : IsSoundSite site) (known : Known)
         | inr before ↦ own-fit t made.1 within.1 p before
       ]
     where
-      by : (deed : Deed M) → AllMade site me (Ordered deed ∷ t) → AllWithin site known me (Ordered deed ∷ t) → Order.IsIn p (entries_handed_in site.machine deed)
-          → ((q : Proposed) → Order.IsIn q (held_in site.machine (deeds_in t)) → is_fit site.setup me.shard (session_in (site.entry_in q)) ≡ true) → is_fit site.setup me.shard (session_in (site.entry_in p)) ≡ true
+      by : (deed : Deed M) → AllMade site me (Ordered deed ∷ t) → AllWithin site known me (Ordered deed ∷ t) → IsIn p (entries_handed_in site.machine deed)
+          → ((q : Proposed) → IsIn q (held_in site.machine (deeds_in t)) → is_fit site.setup me.shard (session_in (site.entry_in q)) ≡ true) → is_fit site.setup me.shard (session_in (site.entry_in p)) ≡ true
       by (Took_in from m) made within j held =
           let keeps = (deeds-kept site sound known me (Ordered (Took_in from m) ∷ t) made).0 in
           absurd (keeps.1 (only-me from site.setup.f trusted keeps.0 (sound.index me honest)))
@@ -121,7 +120,7 @@ module _ {M : Type 0} (site : Site M) (sound : IsSoundSite site) (known : Known)
                 ap (λ z. is_fit site.setup me.shard (session_in z)) read ∙ ap (λ z. is_fit site.setup me.shard z) session ∙ s.fit
             | inr candidate ↦
                 let may = ap site.machine.may_propose (sym (member-is site me t)) ∙ candidate.may in
-                held p (subst (λ z. Order.IsIn z (held_in site.machine (deeds_in t))) (sym same) (sound.holds.offered site.setup.f me.index (deeds_in t) (deeds-kept site sound known me t made.1) candidate.candidates proposed may candidate.within))
+                held p (subst (λ z. IsIn z (held_in site.machine (deeds_in t))) (sym same) (sound.holds.offered site.setup.f me.index (deeds_in t) (deeds-kept site sound known me t made.1) candidate.candidates proposed may candidate.within))
           ]
 
   -- so a Prepare that it executed is of a session that fits

@@ -18,7 +18,7 @@ use Rattle.cs_order.specs.declared.answers.May.{May}
 use Rattle.cs_order.specs.declared.answers.May.TheVariants.{No, Free, Only}
 use Rattle.cs_order.specs.Deeds.{Deed, Took_in, Advanced, Echoed, Proposing, Ticked, Resent, Replied, Cut, did, sent_by, chosen_in}
 use Rattle.cs_wire.specs.Opened.{Opened}
-use Rattle.cs_ledger.specs.Ledger.{IsIn}
+use Rattle.cs_base.specs.Lists.{IsIn}
 use Rattle.cs_ledger.proofs.Basics.{in_left, in_right, in_either}
 use Rattle.cs_check_rules.specs.Chain.{kept_slots}
 use Rattle.cs_node_state.specs.Admission.{due}

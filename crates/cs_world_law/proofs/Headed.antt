@@ -4,15 +4,16 @@ use Rattle.std.specs.Prelude.{nat_lt, slice_get, All}
 use Rattle.std.proofs.lemmas.Bool.{cases_Bool, eqb-true, ltb-true}
 use Rattle.std.proofs.lemmas.List.{length_push, length-map, take-map, drop-map}
 use Rattle.std.proofs.lemmas.List.Elements.{All-push, All-take, All-drop, All-get_or}
+use Rattle.cs_base.specs.Lists.{IsIn}
 use Rattle.cs_base.specs.declared.node_id.NodeId.{NodeId}
 use Rattle.cs_tx_value.specs.Object.{DigestFits}
 use Rattle.cs_tx_types.specs.declared.leaf.Leaf.{Leaf}
 use Rattle.cs_tx_types.specs.Log.{leaf_encoding, LeafFits, CheckpointFits}
 use Rattle.cs_merkle.specs.Tree.{merkle_tree_hash}
 use Rattle.cs_check_rules.specs.Chain.{Log, empty_log, with_slot, covered_leaves, head_of, checkpoint_of, chain_head}
-use Rattle.cs_check_rules.specs.Shown.{IsOver}
+use Rattle.cs_check_rules.specs.Shown.{CoversLeaves}
 use Rattle.cs_check.proofs.Chains.{checkpoint_stays}
-use Rattle.cs_ledger.specs.Ledger.{Bytes, IsIn}
+use Rattle.cs_ledger.specs.Ledger.{Bytes}
 use Rattle.cs_node_rules.specs.Signs.{Sign, Headed}
 use Rattle.cs_node_rules.specs.Site.{Mark, In, Ordered, Plain, Site, signs_of}
 use Rattle.cs_node_law.specs.Made.{IsMade, AllMade}
@@ -131,7 +132,7 @@ module _ {M : Type 0} (site : Site M) (me : NodeId) where
     pub fit : All LeafFits part
     pub within : (leaf : Leaf) → IsIn leaf part → IsIn leaf (leaves_of (DoneAt site me t))
     pub is : covered_leaves (LogAt site me t) number ≡ map leaf_encoding part
-    pub over : IsOver (checkpoint_of (LogAt site me t) number) (map leaf_encoding part)
+    pub over : CoversLeaves (checkpoint_of (LogAt site me t) number) (map leaf_encoding part)
     pub head_is : head_of (checkpoint_of (LogAt site me t) number) ≡ head
 
   checkpoint-fits : (t : List (Mark M)) (number : ℕ) → me.shard < 2 ^ 16 → number < 2 ^ 64 → number < length (LogAt site me t).table_roots → CheckpointFits (checkpoint_of (LogAt site me t) number)

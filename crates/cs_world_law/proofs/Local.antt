@@ -9,10 +9,10 @@ use Rattle.cs_wire_message.specs.declared.message.Message.{Message}
 use Rattle.cs_wire_message.specs.declared.message.Message.TheVariants as message
 use Rattle.cs_wire.specs.Opened.{Opened}
 use Rattle.cs_order.specs.declared.proposed.Proposed.{Proposed}
-use Rattle.cs_order.specs.Lists as Order
+use Rattle.cs_base.specs.Lists.{IsIn}
 use Rattle.cs_order.specs.Deeds.{Deed, Took_in, Advanced, Echoed, Proposing, Ticked, Resent, Replied, Cut, Member, chosen_in}
 use Rattle.cs_order.specs.Runs.{KeepsRules, AllKeepRules, entries_handed_in as entries_by, held_in}
-use Rattle.cs_ledger.specs.Ledger.{Bytes, IsIn}
+use Rattle.cs_ledger.specs.Ledger.{Bytes}
 use Rattle.cs_ledger.specs.Table.{Effect}
 use Rattle.cs_ledger.proofs.Basics.{in_either}
 use Rattle.cs_node_rules.specs.Signs.{Dropped, Took, Entered, Viewed, Did, Headed, Kept, Sent}
@@ -30,12 +30,12 @@ use Rattle.cs_node_law.proofs.Fitting.{session-fits, entry-fits, sessions-fit, e
 
 -- ---- messages and entries
 
-pub order-either : {A : Type 0} (x : A) (xs ys : List A) → Order.IsIn x (xs ++ ys) → Order.IsIn x xs ⊎ Order.IsIn x ys
+pub order-either : {A : Type 0} (x : A) (xs ys : List A) → IsIn x (xs ++ ys) → IsIn x xs ⊎ IsIn x ys
 order-either x [] ys h = inr h
 order-either x (z ∷ xs) ys (inl e) = inl (inl e)
 order-either x (z ∷ xs) ys (inr h) = elim (order-either x xs ys h) [ inl a ↦ inl (inr a) | inr b ↦ inr b ]
 
-in-map : {A B : Type 0} (f : A → B) (y : B) (xs : List A) → Order.IsIn y (map f xs) → (x : A) × (IsIn x xs) × (y ≡ f x)
+in-map : {A B : Type 0} (f : A → B) (y : B) (xs : List A) → IsIn y (map f xs) → (x : A) × (IsIn x xs) × (y ≡ f x)
 in-map f y [] i = absurd i
 in-map f y (x ∷ xs) (inl e) = (x, inl refl, e)
 in-map f y (x ∷ xs) (inr i) = let r = in-map f y xs i in (r.0, inr r.1, r.2)
@@ -101,7 +101,7 @@ module _ {M : Type 0} (site : Site M) (sound : IsSoundSite site) (known : Known)
   deeds-kept (Ordered deed ∷ t) made = (subst (λ (h : Member M). KeepsRules site.machine h deed) (member-is site me t) made.0.0, deeds-kept t made.1)
 
   pub record IsLocal (t : List (Mark M)) : Type 0 where
-    pub held : (p : Proposed) → Order.IsIn p (held_in site.machine (deeds_in t)) → IsListed known p
+    pub held : (p : Proposed) → IsIn p (held_in site.machine (deeds_in t)) → IsListed known p
     pub voted : (x : Session) → HasVotedOn x (signs_of t) → IsOurs known x
 
   pooled-ours : (t : List (Mark M)) (e : Place) → AllMade site me t → AllWithin site known me t → IsLocal t → IsIn e (view_at site me t).bench.pool → IsOurs known e.1.session
@@ -126,11 +126,11 @@ module _ {M : Type 0} (site : Site M) (sound : IsSoundSite site) (known : Known)
 
   -- the entries that a deed hands in
   pub by-deed : (t : List (Mark M)) (deed : Deed M) → AllMade site me t → AllWithin site known me t → IsLocal t → IsMade site me t (Ordered deed) → IsWithinKnown site known me (Ordered deed)
-      → (p : Proposed) → Order.IsIn p (entries_by site.machine deed) → IsListed known p
+      → (p : Proposed) → IsIn p (entries_by site.machine deed) → IsListed known p
   by-deed t (Took_in from m) made within l is in_known p i =
       let k = is.1 in
       let f = fine t (record { shard = (view_at site me t).me.shard; index = from }) k.said within k.heard in
-      let r = in-map proposed_of p (entries_in k.said) (subst (λ z. Order.IsIn p z) (sound.carries.entries k.said m k.reads) i) in
+      let r = in-map proposed_of p (entries_in k.said) (subst (λ z. IsIn p z) (sound.carries.entries k.said m k.reads) i) in
       record { entry = r.0; fits = entries-fit k.said f.fits r.0 r.1; is = r.2; session = f.sessions (session_in r.0) (entry-session k.said r.0 r.1); listed = f.entries r.0 r.1 }
   by-deed t (Advanced step sent) made within l is in_known p i = absurd i
   by-deed t (Echoed sent) made within l is in_known p i = absurd i
@@ -154,7 +154,7 @@ module _ {M : Type 0} (site : Site M) (sound : IsSoundSite site) (known : Known)
             }
         | inr candidate ↦
             let may = ap site.machine.may_propose (sym (member-is site me t)) ∙ candidate.may in
-            l.held p (subst (λ z. Order.IsIn z (held_in site.machine (deeds_in t))) (sym same) (sound.holds.offered site.setup.f me.index (deeds_in t) (deeds-kept t made) candidate.candidates proposed may candidate.within))
+            l.held p (subst (λ z. IsIn z (held_in site.machine (deeds_in t))) (sym same) (sound.holds.offered site.setup.f me.index (deeds_in t) (deeds-kept t made) candidate.candidates proposed may candidate.within))
       ]
 
   -- what was chosen was handed in, and read back

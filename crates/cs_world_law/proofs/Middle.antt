@@ -1,9 +1,10 @@
 -- What the theorem on the shards together says of first executions.
 use Rattle.std.proofs.Common.{◌≡◌, inl, inr, ℕ, true, false, ◌&&◌, List, [], ◌∷◌, ◌++◌, length, map, refl, sym, ap, ◌∙◌, subst, arith}
 use Rattle.std.proofs.lemmas.Bool.{and_parts, or_cases, both_ways}
+use Rattle.cs_base.specs.Lists.{IsIn}
 use Rattle.cs_base.specs.declared.node_id.NodeId.{NodeId}
 use Rattle.cs_tx_types.specs.declared.session.Session.{Session}
-use Rattle.cs_ledger.specs.Ledger.{Bytes, Item, Transaction, IsIn, Ledger, Serial, uses_once, ledger_after}
+use Rattle.cs_ledger.specs.Ledger.{Bytes, Item, Transaction, Ledger, Serial, uses_once, ledger_after}
 use Rattle.cs_ledger.specs.Session as Seen
 use Rattle.cs_ledger.specs.Session.{all_items}
 use Rattle.cs_ledger.specs.Table.{Vote, Commit, Effect, Entry, Prepare, Decide, table_of, exec, session_of}

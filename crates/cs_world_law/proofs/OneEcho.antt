@@ -1,7 +1,7 @@
 -- A member takes one echo of each member in a view, so what it confirmed is what the echoes that it has agree on.
 use Rattle.std.proofs.Common.{◌≡◌, ℕ, true, false, List, [], ◌∷◌, ◌⊎◌, inl, inr, subst, arith}
 use Rattle.std.proofs.lemmas.Bool.{and_from}
-use Rattle.cs_order.specs.Lists.{IsIn}
+use Rattle.cs_base.specs.Lists.{IsIn}
 use Rattle.cs_order.specs.Deeds.{Deed, Member, did}
 use Rattle.cs_order.specs.Deeds as deed
 use Rattle.cs_order.specs.Runs.{KeepsRules, AllKeepRules}

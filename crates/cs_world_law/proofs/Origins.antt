@@ -1,7 +1,8 @@
 -- An object that a shard knows was there at the start, or is an output of a session that has used up its anchor there.
 use Rattle.std.proofs.Common.{◌≡◌, ◌⊎◌, inl, inr, ℕ, Bool, true, false, List, [], ◌∷◌, Option, Some, None, refl, sym, ap, ◌∙◌, subst}
 use Rattle.std.proofs.lemmas.Bool.{cases_Bool}
-use Rattle.cs_ledger.specs.Ledger.{Bytes, Item, IsIn, names}
+use Rattle.cs_base.specs.Lists.{IsIn}
+use Rattle.cs_ledger.specs.Ledger.{Bytes, Item, names}
 use Rattle.cs_ledger.specs.Session.{AreToldApart, Session, Rules, Key, Object, Piece, has_key, objects_in, object_under, used_up, read_only, anchor, all_items}
 use Rattle.cs_ledger.specs.Table.{Commit, State, Unknown, Locked, Inactive, Shared, Table, Entry, is_locked_by, made, lock_state, undo_state, accept_state, new_pieces, session_of, exec, table_of, start}
 use Rattle.cs_ledger.specs.ShardWorld.{Step, log, AllAllowed, sessions}

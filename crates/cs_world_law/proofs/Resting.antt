@@ -7,7 +7,7 @@ use Rattle.cs_base.specs.declared.limits.TheConstants.{MOST_ECHOED}
 use Rattle.cs_order.specs.Counts.{when}
 use Rattle.cs_order.specs.Limits.{last_slot}
 use Rattle.cs_order.specs.Deeds.{Machine}
-use Rattle.cs_order.specs.Lists.{IsIn}
+use Rattle.cs_base.specs.Lists.{IsIn}
 use Rattle.cs_order.specs.declared.proposed.Proposed.{Proposed}
 use Rattle.cs_order.specs.declared.answers.Step.{Step}
 use Rattle.cs_order.specs.declared.answers.Step.TheVariants as step
@@ -16,7 +16,7 @@ use Rattle.cs_order_rules.specs.declared.message.OrderMessage.TheVariants as mes
 use Rattle.cs_order_rules.specs.Facts.{Sight, open_slot, echo_said, confirm_said, done_said, first_of}
 use Rattle.cs_order_rules.specs.Safe.{SafeAt}
 use Rattle.cs_order_rules.specs.Slot.{is_digest, votes, with_digest}
-use Rattle.cs_order_rules.specs.Rules.{proposal, change_of, own, seen_now, echoed_in, choice, view_to_enter, confirming, step_by, may_echo, if_may_echo, pending, safe, has_place}
+use Rattle.cs_order_rules.specs.Rules.{proposal, change_of, own, seen_now, echoed_in, choice, view_to_enter, confirming, step_by, may_echo, if_may_echo, pending, safe, has_echo_place}
 use Rattle.cs_order_rules.specs.SlotMachine.{slot_machine, sight}
 use Rattle.cs_order_law.specs.laws.Quorum.{meet}
 use Rattle.cs_order_law.specs.laws.SlotFacts.{first_of_is, confirm_said_is}
@@ -64,10 +64,10 @@ all_others d (line ∷ lines) h =
 abbrev lines_of : Sight → List (List ℕ × ℕ)
 lines_of s = echoed_in s.me (open_slot s) s.taken
 
-placed : (s : Sight) (d : List ℕ) → others_echoed s d < MOST_ECHOED → has_place s d ≡ true
+placed : (s : Sight) (d : List ℕ) → others_echoed s d < MOST_ECHOED → has_echo_place s d ≡ true
 placed s d few = by_listed (list_any (λ (line : List ℕ × ℕ). bytes_eq line.0 d) (lines_of s)) refl
   where
-    by_listed : (b : Bool) → list_any (λ (line : List ℕ × ℕ). bytes_eq line.0 d) (lines_of s) ≡ b → has_place s d ≡ true
+    by_listed : (b : Bool) → list_any (λ (line : List ℕ × ℕ). bytes_eq line.0 d) (lines_of s) ≡ b → has_echo_place s d ≡ true
     by_listed true listed = or_right (nat_lt (length (lines_of s)) MOST_ECHOED) _ listed
     by_listed false listed = or_left _ _ (lt-ltb (length (lines_of s)) MOST_ECHOED (subst (λ n. n < MOST_ECHOED) (all_others d (lines_of s) listed) few))
 

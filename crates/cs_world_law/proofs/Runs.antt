@@ -3,6 +3,7 @@ use Rattle.std.proofs.Common.{◌≡◌, ◌⊎◌, inl, inr, ℕ, ◌==◌, ◌
 use Rattle.std.specs.Prelude.{Ok}
 use Rattle.std.proofs.lemmas.Bool.{cond_both, both_ways, or_right, eqb-true}
 use Rattle.sha2.proofs.Facts256.{length-sha256}
+use Rattle.cs_tx.specs.Votes.{vote_of}
 use Rattle.cs_base.specs.declared.node_id.NodeId.{NodeId}
 use Rattle.cs_base.specs.NodeId.{is_client}
 use Rattle.cs_tx_types.specs.declared.checkpoint.Checkpoint.{Checkpoint}
@@ -13,7 +14,7 @@ use Rattle.cs_wire_message.specs.declared.message.Message.{Message}
 use Rattle.cs_wire_message.specs.declared.message.Message.TheVariants as message
 use Rattle.cs_wire_message.specs.Message.{MessageFits}
 use Rattle.cs_order.specs.declared.proposed.Proposed.{Proposed}
-use Rattle.cs_order.specs.Lists as Order
+use Rattle.cs_base.specs.Lists.{IsIn}
 use Rattle.cs_order.specs.laws.Lists.{IsIn-right}
 use Rattle.cs_order.specs.laws.Digests.{digest-passes}
 use Rattle.cs_order.specs.Digests.{digest_fits}
@@ -21,9 +22,9 @@ use Rattle.cs_order.specs.Deeds.{Deed, Took_in, Advanced, Echoed, Proposing, Tic
 use Rattle.cs_order.specs.Runs.{Act, KeepsRules, AllKeepRules, IsFor, HandedOut, Genuine, IsRun, deeds_of, entries_handed_in, held_in, handed_in, EntriesToldApart, Follows as Next}
 use Rattle.cs_order.specs.Law.{IsLawful}
 use Rattle.cs_tx.specs.Digest.{digest_of_entry}
-use Rattle.cs_ledger.specs.Ledger.{Bytes, IsIn}
+use Rattle.cs_ledger.specs.Ledger.{Bytes}
 use Rattle.cs_ledger.specs.Table.{Vote}
-use Rattle.cs_node_state.specs.Setup.{Setup, digest_of, vote_of}
+use Rattle.cs_node_state.specs.Setup.{Setup, digest_of}
 use Rattle.cs_node_rules.specs.Net.{sealed_by_net}
 use Rattle.cs_node_rules.specs.Signs.{Sign, Dropped, Took, Entered, Viewed, Did, Headed, Kept, Sent}
 use Rattle.cs_node_rules.specs.Site.{Mark, In, Ordered, Plain, Site, signs_of}
@@ -63,13 +64,13 @@ pub record IsOrdered {M : Type 0} (site : Site M) (to : ℕ) (said : Message) (d
   pub ordering : is_ordering said ≡ true
   pub back : (m : M) → site.carrier.read said ≡ Some m → HandedBy m to deeds
 
-pub handed-is : {M : Type 0} (site : Site M) (sound : IsSoundSite site) (me to : ℕ) (said : Message) (deeds : List (Deed M)) → AllKeepRules site.machine site.setup.f me deeds → ((p : Proposed) → Order.IsIn p (held_in site.machine deeds) → IsEntry p)
+pub handed-is : {M : Type 0} (site : Site M) (sound : IsSoundSite site) (me to : ℕ) (said : Message) (deeds : List (Deed M)) → AllKeepRules site.machine site.setup.f me deeds → ((p : Proposed) → IsIn p (held_in site.machine deeds) → IsEntry p)
     → IsHanded site to said deeds → IsOrdered site to said deeds
 handed-is {M} site sound me to said [] kept all h = absurd h
 handed-is {M} site sound me to said (deed ∷ past) kept all (inl now) =
     let m = now.0 in
     let proper = sound.holds.proper site.setup.f me deed past kept (λ p i. entry-digest p (all p i)) m to now.1.0 in
-    let entries = λ (p : Proposed) (i : Order.IsIn p (site.machine.carried m)). all p (sound.holds.sent site.setup.f me deed past kept m to now.1.0 p i) in
+    let entries = λ (p : Proposed) (i : IsIn p (site.machine.carried m)). all p (sound.holds.sent site.setup.f me deed past kept m to now.1.0 p i) in
     record {
       fits = subst MessageFits now.1.1 (sound.carries.fits m);
       ordering = subst (λ z. is_ordering z ≡ true) now.1.1 (sound.carries.ours m proper entries);
@@ -175,7 +176,7 @@ module _ {M : Type 0} (site : Site M) (sound : IsSoundSite site) (known : Known)
       elim (said-of sender t i s.said made within s.sent) as (λ z. IsTold i sender past said) [
         | inl h ↦
             let l = local site sound known sender t made within in
-            let entries = λ (p : Proposed) (j : Order.IsIn p (held_in site.machine (deeds_in t))). let k = l.held p j in let e : IsEntry p = record { entry = k.entry; fits = k.fits; is = k.is } in e in
+            let entries = λ (p : Proposed) (j : IsIn p (held_in site.machine (deeds_in t))). let k = l.held p j in let e : IsEntry p = record { entry = k.entry; fits = k.fits; is = k.is } in e in
             let o = handed-is site sound sender.index i.index s.said (deeds_in t) (deeds-kept site sound known sender t made) entries h.1 in
             let same = sound.exact sender i sender s.said said there here o.fits opens in
             inl (h.0, subst (λ z. IsOrdered site i.index z (deeds_in t)) (sym same) o)
@@ -256,21 +257,21 @@ module _ {M : Type 0} (site : Site M) (sound : IsSoundSite site) (known : Known)
   -- ---- its law
 
   handed-step : (shard : ℕ) (node : NodeId) (mark : Mark M) (past : List (Moment M)) (p : Proposed) → Story site known past → MomentFollows site known past (record { node = node; mark = mark })
-      → (Order.IsIn p (handed_in site.machine (shard_acts shard past)) → IsListed known p) → Order.IsIn p (handed_in site.machine (acts_at shard node mark (shard_acts shard past))) → IsListed known p
+      → (IsIn p (handed_in site.machine (shard_acts shard past)) → IsListed known p) → IsIn p (handed_in site.machine (acts_at shard node mark (shard_acts shard past))) → IsListed known p
   handed-step shard node (In input) past p story follows before = before
   handed-step shard node (Plain sign) past p story follows before = before
   handed-step shard node (Ordered deed) past p story follows before =
       let t = trail_at node past in
       let made = made-all site known node past story in
       let within = within-all site known node past story in
-      cond_both (node.shard == shard) (record { member = node.index; deed = deed } ∷ shard_acts shard past) (shard_acts shard past) (λ l. Order.IsIn p (handed_in site.machine l) → IsListed known p)
+      cond_both (node.shard == shard) (record { member = node.index; deed = deed } ∷ shard_acts shard past) (shard_acts shard past) (λ l. IsIn p (handed_in site.machine l) → IsListed known p)
       (λ e i. elim (order-either p (entries_handed_in site.machine deed) (handed_in site.machine (shard_acts shard past)) i) [
         | inl now ↦ by-deed site sound known node t deed made within (local site sound known node t made within) follows.made follows.within p now
         | inr old ↦ before old
       ])
       (λ e. before)
 
-  handed-listed : (story : List (Moment M)) (shard : ℕ) (p : Proposed) → Story site known story → Order.IsIn p (handed_in site.machine (shard_acts shard story)) → IsListed known p
+  handed-listed : (story : List (Moment M)) (shard : ℕ) (p : Proposed) → Story site known story → IsIn p (handed_in site.machine (shard_acts shard story)) → IsListed known p
   handed-listed [] shard p story i = absurd i
   handed-listed (m ∷ past) shard p story i = handed-step shard m.node m.mark past p story.1 story.0 (handed-listed past shard p story.1) i
 

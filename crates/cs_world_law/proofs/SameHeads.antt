@@ -1,6 +1,7 @@
 -- Of the heads that honest nodes of a shard noted, those of one number are one.
 use Rattle.std.proofs.Common.{◌≡◌, ℕ, List, [], ◌∷◌, ◌++◌, length, map, refl, sym, ap, ◌∙◌, subst}
 use Rattle.std.proofs.lemmas.List.{map-append}
+use Rattle.cs_base.specs.Lists.{IsIn}
 use Rattle.cs_base.specs.declared.node_id.NodeId.{NodeId}
 use Rattle.cs_tx_types.specs.declared.entry.Entry.{Entry}
 use Rattle.cs_tx_types.specs.declared.leaf.Leaf.{Leaf}
@@ -8,7 +9,7 @@ use Rattle.cs_tx_types.specs.Log.{leaf_encoding}
 use Rattle.cs_check_rules.specs.Chain.{Log, with_slot}
 use Rattle.cs_check_rules.specs.Keys.{keys_after}
 use Rattle.cs_check_rules.specs.Root.{root_under}
-use Rattle.cs_ledger.specs.Ledger.{Bytes, IsIn}
+use Rattle.cs_ledger.specs.Ledger.{Bytes}
 use Rattle.cs_ledger.specs.Session.{Key}
 use Rattle.cs_ledger.specs.Table.{Table, exec}
 use Rattle.cs_node_state.specs.Setup.{Setup, entry_of}

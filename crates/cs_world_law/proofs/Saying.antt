@@ -4,7 +4,7 @@ use Rattle.std.proofs.lemmas.Bool.{cond_both}
 use Rattle.cs_base.specs.declared.node_id.NodeId.{NodeId}
 use Rattle.cs_order.specs.declared.proposed.Proposed.{Proposed}
 use Rattle.cs_order.specs.declared.answers.Outgoing.{Outgoing}
-use Rattle.cs_order.specs.Lists as Order
+use Rattle.cs_base.specs.Lists.{IsIn}
 use Rattle.cs_order.specs.laws.Lists.{IsIn-right}
 use Rattle.cs_order.specs.Deeds.{Deed, Took_in, Advanced, Echoed, Proposing, Ticked, Resent, Replied, Cut, Member, Machine, sent_by, entry_of_slot}
 use Rattle.cs_order.specs.Runs.{KeepsRules, AllKeepRules, IsFor, entries_handed_in, held_in}
@@ -14,7 +14,6 @@ use Rattle.cs_order_rules.specs.Facts.{Facts, Sight, open_slot, proposal_said, e
 use Rattle.cs_order_rules.specs.Rules.{to_all, change_told, sent_by_rules, choice, view_to_enter, confirming, pending, echo_sent, propose_sent, is_slot_over, tick_sent, own, sent_again, resend_sent, reply_with}
 use Rattle.cs_order_rules.specs.SlotMachine.{with_own, facts_in, slot_machine, sight}
 use Rattle.cs_order_law.specs.laws.SlotFacts.{first_of_is, echo_said_is, confirm_said_is}
-use Rattle.cs_ledger.specs.Ledger.{IsIn}
 use Rattle.cs_ledger.proofs.Basics.{in_either}
 use Rattle.cs_node_rules.specs.Members.{is_other_member, others}
 use Rattle.cs_node_rules.specs.Signs.{Sent}
@@ -133,7 +132,7 @@ abbrev IsWell : {M : Type 0} → Site M → M → Type 0
 IsWell {M} site m = (site.machine.proper m ≡ true) × (site.carrier.read (site.carrier.written m) ≡ Some m)
 
 well-said : {M : Type 0} (site : Site M) (sound : IsSoundSite site) (me : ℕ) (deeds : List (Deed M)) → AllKeepRules site.machine site.setup.f me deeds
-    → ((p : Proposed) → Order.IsIn p (held_in site.machine deeds) → IsEntry p)
+    → ((p : Proposed) → IsIn p (held_in site.machine deeds) → IsEntry p)
     → (deed : Deed M) → IsIn deed deeds → (out : Outgoing M) → IsIn out (sent_by deed) → IsWell site out.message
 well-said {M} site sound me [] kept all deed i out j = absurd i
 well-said {M} site sound me (first ∷ past) kept all deed (inr i) out j =
@@ -142,7 +141,7 @@ well-said {M} site sound me (first ∷ past) kept all deed (inl e) out j =
     let m = out.message in
     let given = is-for (sent_by first) out (subst (λ (d : Deed M). IsIn out (sent_by d)) e j) in
     let proper = sound.holds.proper site.setup.f me first past kept (λ p k. entry-digest p (all p k)) m (whom out.to) given in
-    let entries = λ (p : Proposed) (k : Order.IsIn p (site.machine.carried m)). all p (sound.holds.sent site.setup.f me first past kept m (whom out.to) given p k) in
+    let entries = λ (p : Proposed) (k : IsIn p (site.machine.carried m)). all p (sound.holds.sent site.setup.f me first past kept m (whom out.to) given p k) in
     (proper, sound.carries.back m proper entries)
 
 -- ---- what is sent
@@ -157,7 +156,7 @@ out-sign {M} site me (Some k) m other to (inl e) =
     subst (λ b. IsIn (Sent to said) (if b then Sent name said ∷ [] else [])) (sym (other k refl)) (inl (ap (λ (n : NodeId). Sent n said) e))
 
 module _ (site : Site OrderMessage) (sound : IsSoundSite site) (machine_is : site.machine ≡ slot_machine) (me : NodeId) (t : List (Mark OrderMessage))
-    (kept : AllKeepRules site.machine site.setup.f me.index (deeds_in t)) (entries : (p : Proposed) → Order.IsIn p (held_in site.machine (deeds_in t)) → IsEntry p) (handled : AreHandled site me t) where
+    (kept : AllKeepRules site.machine site.setup.f me.index (deeds_in t)) (entries : (p : Proposed) → IsIn p (held_in site.machine (deeds_in t)) → IsEntry p) (handled : AreHandled site me t) where
   pub said-so : (deed : Deed OrderMessage) → IsIn deed (deeds_in t) → (out : Outgoing OrderMessage) → IsIn out (sent_by deed) → IsSaid site me (signs_of t) out
   said-so deed i out j =
       let well = well-said site sound me.index (deeds_in t) kept entries deed i out j in
@@ -174,8 +173,8 @@ module _ (site : Site OrderMessage) (sound : IsSoundSite site) (machine_is : sit
 
 -- ---- what a member took as its own it handed out for all
 
-with-own : (me : ℕ) (outs : List (Outgoing OrderMessage)) (facts : Facts) (m : OrderMessage) → IsToAll outs → Order.IsIn (me, m) (with_own me outs facts)
-    → IsIn (to_each m) outs ⊎ Order.IsIn (me, m) facts
+with-own : (me : ℕ) (outs : List (Outgoing OrderMessage)) (facts : Facts) (m : OrderMessage) → IsToAll outs → IsIn (me, m) (with_own me outs facts)
+    → IsIn (to_each m) outs ⊎ IsIn (me, m) facts
 with-own me [] facts m all i = inr i
 with-own me (out ∷ outs) facts m all (inl e) =
     let same : m ≡ out.message = ap (λ (x : ℕ × OrderMessage). x.1) e in
@@ -194,14 +193,14 @@ later-deed deed deeds m h = (h.0, inr h.1, h.2)
 
 module _ (f me : ℕ) where
   own-deed : (deed : Deed OrderMessage) (sent : List (Outgoing OrderMessage)) (past : List (Deed OrderMessage)) (m : OrderMessage) → sent_by deed ≡ sent → IsToAll sent
-      → (Order.IsIn (me, m) (facts_in me past) → IsHandedOut past m) → Order.IsIn (me, m) (with_own me sent (facts_in me past)) → IsHandedOut (deed ∷ past) m
+      → (IsIn (me, m) (facts_in me past) → IsHandedOut past m) → IsIn (me, m) (with_own me sent (facts_in me past)) → IsHandedOut (deed ∷ past) m
   own-deed deed sent past m is all before i =
       elim (with-own me sent (facts_in me past) m all i) [
         | inl h ↦ (deed, inl refl, subst (λ l. IsIn (to_each m) l) (sym is) h)
         | inr h ↦ later-deed deed past m (before h)
       ]
 
-  pub own-said : (deeds : List (Deed OrderMessage)) → AllKeepRules slot_machine f me deeds → (m : OrderMessage) → Order.IsIn (me, m) (facts_in me deeds) → IsHandedOut deeds m
+  pub own-said : (deeds : List (Deed OrderMessage)) → AllKeepRules slot_machine f me deeds → (m : OrderMessage) → IsIn (me, m) (facts_in me deeds) → IsHandedOut deeds m
   own-said [] kept m i = absurd i
   own-said (Took_in from n ∷ past) kept m (inl e) = absurd (kept.0.1 (sym (ap (λ (x : ℕ × OrderMessage). x.0) e)))
   own-said (Took_in from n ∷ past) kept m (inr i) = later-deed (Took_in from n) past m (own-said past kept.1 m i)
@@ -227,11 +226,11 @@ module _ (f me : ℕ) where
   echo-told deeds kept d e =
       let s = sight (record { f = f; me = me; deeds = deeds }) in
       let r = first_of_is (echo_said (open_slot s) s.view) s.taken s.me d e in
-      own-said deeds kept (message.Echo (open_slot s) s.view d) (subst (λ (m : OrderMessage). Order.IsIn (me, m) (facts_in me deeds)) (echo_said_is (open_slot s) s.view d r.0 r.2) r.1)
+      own-said deeds kept (message.Echo (open_slot s) s.view d) (subst (λ (m : OrderMessage). IsIn (me, m) (facts_in me deeds)) (echo_said_is (open_slot s) s.view d r.0 r.2) r.1)
 
   pub confirm-told : (deeds : List (Deed OrderMessage)) → AllKeepRules slot_machine f me deeds → let s = sight (record { f = f; me = me; deeds = deeds }) in (d : List ℕ) → own confirm_said s ≡ Some d
       → IsHandedOut deeds (message.Confirm (open_slot s) s.view d)
   confirm-told deeds kept d e =
       let s = sight (record { f = f; me = me; deeds = deeds }) in
       let r = first_of_is (confirm_said (open_slot s) s.view) s.taken s.me d e in
-      own-said deeds kept (message.Confirm (open_slot s) s.view d) (subst (λ (m : OrderMessage). Order.IsIn (me, m) (facts_in me deeds)) (confirm_said_is (open_slot s) s.view d r.0 r.2) r.1)
+      own-said deeds kept (message.Confirm (open_slot s) s.view d) (subst (λ (m : OrderMessage). IsIn (me, m) (facts_in me deeds)) (confirm_said_is (open_slot s) s.view d r.0 r.2) r.1)

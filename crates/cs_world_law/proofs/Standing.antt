@@ -2,7 +2,8 @@
 use Rattle.std.proofs.Common.{◌≡◌, ◌⊎◌, inl, inr, ℕ, Bool, true, false, not, ◌&&◌, ◌||◌, List, [], ◌∷◌, Option, Some, None, sym, ◌∙◌, ap, subst, refl}
 use Rattle.std.specs.Prelude.{bytes_eq, is_some}
 use Rattle.std.proofs.lemmas.Bool.{and_from, or_left, or_right}
-use Rattle.cs_ledger.specs.Ledger.{Bytes, IsIn}
+use Rattle.cs_base.specs.Lists.{IsIn}
+use Rattle.cs_ledger.specs.Ledger.{Bytes}
 use Rattle.cs_ledger.specs.Session.{AreToldApart, Session, Rules, Key, has_key, key_eq, anchor, used_up, read_only, object_under}
 use Rattle.cs_ledger.specs.Table.{Vote, Commit, Abort, State, Unknown, Active, Locked, Inactive, Shared, Record, Table, Entry, Outcome, Effect, Accepted, Aborted, is_held_by, is_locked_by, is_inactive, vote_in, has_room, new_pieces, exec, table_of}
 use Rattle.cs_ledger.specs.Standing.{is_inactive_by, has_lost, stands_accepted, stands_aborted}

@@ -3,6 +3,7 @@ use Rattle.std.proofs.Common.{◌≡◌, ◌⊎◌, inl, inr, Bool, true, false,
 use Rattle.std.specs.Prelude.{Ok, bytes_eq}
 use Rattle.std.specs.List.{list_any}
 use Rattle.std.proofs.lemmas.Bool.{cond_both, and_parts, or_cases, both_ways}
+use Rattle.cs_base.specs.Lists.{IsIn}
 use Rattle.cs_base.specs.declared.node_id.NodeId.{NodeId}
 use Rattle.cs_base.specs.Fields.{IsBytes}
 use Rattle.cs_tx_types.specs.declared.session.Session.{Session}
@@ -10,7 +11,7 @@ use Rattle.cs_tx_types.specs.declared.entry.Entry.{Entry}
 use Rattle.cs_wire_message.specs.declared.message.Message.{Message}
 use Rattle.cs_wire_message.specs.Message.{MessageFits}
 use Rattle.cs_wire.specs.Opened.{Opened}
-use Rattle.cs_ledger.specs.Ledger.{Bytes, IsIn}
+use Rattle.cs_ledger.specs.Ledger.{Bytes}
 use Rattle.cs_ledger.proofs.Basics.{same_bytes, in_left, in_right}
 use Rattle.cs_base.specs.NodeId.{same_name}
 use Rattle.cs_node_rules.specs.Net.{sealed_by_net}

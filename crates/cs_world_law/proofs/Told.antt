@@ -11,10 +11,10 @@ use Rattle.cs_ledger.specs.Table.{Vote, Commit, exec, table_of}
 use Rattle.cs_ledger.specs.ShardWorld.{Step, log, shard_votes, votes_in, is_vote, is_listed, all_commit, IsAllowed, AllAllowed}
 use Rattle.cs_ledger.specs.ShardWorld as World
 use Rattle.cs_ledger.proofs.Votes.{all_at}
-use Rattle.cs_node_state.specs.Setup.{Setup, digest_of, concerned, entry_of}
+use Rattle.cs_node_state.specs.Setup.{Setup, digest_of, concerned, entry_of, prepares}
 use Rattle.cs_node_rules.specs.Signs.{Dropped, Took, Entered, Viewed, Did, Headed, Kept, Sent}
 use Rattle.cs_node_rules.specs.Site.{Mark, In, Ordered, Plain, Site}
-use Rattle.cs_node_rules.specs.World.{Execution, steps_of, slots_of, prepares, is_recorded, all_recorded, is_voted, told_transactions, told_after}
+use Rattle.cs_node_rules.specs.World.{Execution, steps_of, slots_of, is_recorded, all_recorded, is_voted, told_transactions, told_after}
 use Rattle.cs_node_law.proofs.Views.{me-same}
 use Rattle.cs_node_law.proofs.Logs.{seen, seen_log, effect-is, prepares-seen}
 use Rattle.cs_world_law.proofs.Counting.{all-in, all-from, in-concerned, concerned-in, among-item, item-among, votes-all}

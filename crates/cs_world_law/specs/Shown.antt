@@ -1,12 +1,13 @@
 -- What an honest node keeps of what it executed, and what is shown under the heads of its checkpoints.
 use Rattle.std.specs.Prelude.{◌≡◌, ℕ, ◌≤◌, ◌^◌, true, List, [], ◌∷◌, ◌++◌, length, map}
+use Rattle.cs_base.specs.Lists.{IsIn}
 use Rattle.cs_base.specs.declared.node_id.NodeId.{NodeId}
 use Rattle.cs_tx_types.specs.declared.leaf.Leaf.{Leaf}
 use Rattle.cs_tx_types.specs.declared.proof.Proof.{Proof}
 use Rattle.cs_tx_types.specs.Log.{leaf_encoding, ProofFits}
 use Rattle.cs_check_rules.specs.Chain.{covered_leaves, checkpoint_of}
 use Rattle.cs_check_rules.specs.Shown.{Shows, NoProofCollision}
-use Rattle.cs_ledger.specs.Ledger.{Bytes, IsIn}
+use Rattle.cs_ledger.specs.Ledger.{Bytes}
 use Rattle.cs_node_state.specs.Bench.{effect_from}
 use Rattle.cs_node_rules.specs.Signs.{Headed}
 use Rattle.cs_node_rules.specs.Site.{Site}

@@ -1,9 +1,10 @@
 -- What is said of the first executions of a world: the steps of the shards' logs, and the history as these come.
 use Rattle.std.specs.Prelude.{◌≡◌, ℕ, ◌==◌, true, if◌then◌else◌, List, [], ◌∷◌, ◌++◌}
+use Rattle.cs_base.specs.Lists.{IsIn}
 use Rattle.cs_base.specs.declared.node_id.NodeId.{NodeId}
 use Rattle.cs_tx_types.specs.declared.session.Session.{Session}
 use Rattle.cs_tx_types.specs.declared.entry.Entry.{Entry}
-use Rattle.cs_ledger.specs.Ledger.{Bytes, IsIn}
+use Rattle.cs_ledger.specs.Ledger.{Bytes}
 use Rattle.cs_ledger.specs.Table.{Vote, Effect, Accepted, table_of, exec}
 use Rattle.cs_ledger.specs.ShardWorld.{log, AllAllowed}
 use Rattle.cs_node_state.specs.Setup.{Setup, digest_of, is_concerned_shard, entry_of}

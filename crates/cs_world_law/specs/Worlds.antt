@@ -1,6 +1,7 @@
 -- Worlds of any number of shards, and what is said of them.
 use Rattle.std.specs.Prelude.{◌≡◌, ℕ, ◌<◌, ◌≤◌, Bool, true, not, ◌&&◌, List, [], length, map, Option, Some, None}
 use Rattle.std.specs.List.{list_any}
+use Rattle.cs_base.specs.Lists.{IsIn}
 use Rattle.cs_base.specs.declared.config.Config.{Config}
 use Rattle.cs_base.specs.declared.node_id.NodeId.{NodeId}
 use Rattle.cs_base.specs.NodeId.{is_node, same_name}
@@ -17,7 +18,7 @@ use Rattle.cs_wire.specs.Opened.{opened}
 use Rattle.cs_wire.specs.Datagram.{datagram_with}
 use Rattle.cs_order.specs.Deeds.{Machine}
 use Rattle.cs_order.specs.Runs.{FewLiars}
-use Rattle.cs_ledger.specs.Ledger.{Bytes, Transaction, IsIn, Serial, IsSpentOnce, genesis_ledger, ledger_of, uses_once}
+use Rattle.cs_ledger.specs.Ledger.{Bytes, Transaction, Serial, IsSpentOnce, genesis_ledger, ledger_of, uses_once}
 use Rattle.cs_ledger.specs.Session as Seen
 use Rattle.cs_ledger.specs.Table.{table_of, free_object}
 use Rattle.cs_ledger.specs.ShardWorld.{log}
@@ -25,7 +26,7 @@ use Rattle.cs_node_state.specs.Setup.{digest_of, entry_of}
 use Rattle.cs_node_rules.specs.Net.{Net}
 use Rattle.cs_node_rules.specs.Signs.{Sign}
 use Rattle.cs_node_rules.specs.Site.{Carrier, Site, signs_of}
-use Rattle.cs_node_rules.specs.World.{Happening, trail_of, view_of, IsLife, AreHonest, NoForgery, firsts_of, steps_of, slots_of, history, accepts_in, aborts_in}
+use Rattle.cs_node_rules.specs.World.{Happening, trail_of, view_of, IsLife, AreHonest, NoForgery, firsts_of, steps_of, slots_of, recorded_history, accepts_in, aborts_in}
 use Rattle.cs_node_rules.specs.Ready.{Executed, VotesFree, AcceptsLocked}
 use Rattle.cs_node_rules.specs.Collisions.{known_sessions, known_entries, NoCollision}
 use Rattle.cs_node_rules.specs.Carrying.{Carries}
@@ -55,12 +56,13 @@ signs_at {M} i world = signs_of (trail_of i world)
 
 -- The history is one that the plain ledger takes, and every check says yes.
 abbrev pub IsSerial : {M : Type 0} → Site M → List (Happening M) → Type 0
-IsSerial {M} site world = Serial (genesis_ledger site.setup.rules.genesis) (history site world)
+IsSerial {M} site world = Serial (genesis_ledger site.setup.rules.genesis) (recorded_history site world)
 
 -- No object is an input of two transactions of the history, nor twice of one.
 abbrev pub SpendsOnce : {M : Type 0} → Site M → List (Happening M) → Type 0
 SpendsOnce {M} site world =
-    IsSpentOnce (history site world) × ((tx : Transaction) → IsIn tx (history site world) → uses_once tx ≡ true)
+    IsSpentOnce (recorded_history site world)
+    × ((tx : Transaction) → IsIn tx (recorded_history site world) → uses_once tx ≡ true)
 
 -- No two honest nodes, of any shards, decide a session differently.
 abbrev pub DecidesOnce : {M : Type 0} → Site M → List (Happening M) → Type 0
@@ -88,7 +90,7 @@ abbrev pub TellsAccepted : {M : Type 0} → Site M → List (Happening M) → Ty
 TellsAccepted {M} site world =
     (i : NodeId) (x : Session) → is_honest site i ≡ true → IsIn x (known_sessions site world) →
     accepts_in site.setup (digest_of site.setup x) (signs_at i world) ≡ true →
-    IsIn (site.setup.session_of x).transaction (history site world)
+    IsIn (site.setup.session_of x).transaction (recorded_history site world)
 
 -- The node has executed every slot that its shard has.
 abbrev pub IsUpToDate : {M : Type 0} → NodeId → List (Happening M) → Type 0
@@ -97,7 +99,7 @@ IsUpToDate {M} i world = length (log_in (signs_at i world)) ≡ slots_of i.shard
 -- after the history the object is in the ledger, under its name
 abbrev pub IsHeld : {M : Type 0} → Site M → List (Happening M) → Bytes → Bytes → Type 0
 IsHeld {M} site world name object =
-    (ledger_of (genesis_ledger site.setup.rules.genesis) (history site world)).active name ≡ Some object
+    (ledger_of (genesis_ledger site.setup.rules.genesis) (recorded_history site world)).active name ≡ Some object
 
 -- An object that is free in the table to which the log of a shard comes is in the ledger after the history.
 abbrev pub HoldsFree : {M : Type 0} → Site M → List (Happening M) → Type 0

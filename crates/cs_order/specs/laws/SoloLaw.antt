@@ -5,7 +5,7 @@ use Rattle.cs_order.specs.declared.proposed.Proposed.{Proposed}
 use Rattle.cs_order.specs.declared.answers.Step.{Step}
 use Rattle.cs_order.specs.declared.answers.Step.TheVariants as step
 use Rattle.cs_order.specs.declared.answers.May.TheVariants as may
-use Rattle.cs_order.specs.Lists.{IsIn}
+use Rattle.cs_base.specs.Lists.{IsIn}
 use Rattle.cs_order.specs.laws.Lists.{IsIn-right, slice_get-push}
 use Rattle.cs_order.specs.Limits.{last_slot}
 use Rattle.cs_order.specs.Deeds.{Deed, Member, Machine, sent_by, chosen_by, chosen_in}

@@ -1,6 +1,6 @@
 -- The digests that members say are those of entries that were handed in.
 use Rattle.std.proofs.Common.{◌≡◌, ℕ, ◌+◌, ◌*◌, true, List, [], ◌∷◌, inl, inr, refl, subst, arith}
-use Rattle.cs_order.specs.Lists.{IsIn}
+use Rattle.cs_base.specs.Lists.{IsIn}
 use Rattle.cs_order.specs.laws.Lists.{IsIn-left, IsIn-right}
 use Rattle.cs_order.specs.Digests.{digest_fits, HaveDigests}
 use Rattle.cs_order.specs.Deeds.{Deed, Member, did}

@@ -1,6 +1,6 @@
 -- What a member gives was handed in.
 use Rattle.std.proofs.Common.{◌≡◌, ℕ, ◌+◌, ◌*◌, ◌==◌, Bool, true, false, not, ◌||◌, if◌then◌else◌, is_some, List, [], ◌∷◌, Option, Some, None, slice_get, inl, inr, refl, sym, ap, ◌∙◌, subst, arith}
-use Rattle.cs_order.specs.Lists.{IsIn}
+use Rattle.cs_base.specs.Lists.{IsIn}
 use Rattle.cs_order.specs.laws.Lists.{IsIn-right, slice_get-push}
 use Rattle.cs_order.specs.Deeds.{Deed, Member}
 use Rattle.cs_order.specs.Runs.{AllKeepRules, held_in, entries_handed_in}

@@ -5,7 +5,7 @@ use Rattle.std.proofs.lemmas.Option.{slice_get_within}
 use Rattle.std.proofs.lemmas.Bool.Decides.{eqb_tells}
 use Rattle.cs_base.specs.declared.limits.TheConstants.{MOST_ECHOED}
 use Rattle.cs_order.specs.Counts.{when}
-use Rattle.cs_order.specs.Lists.{IsIn}
+use Rattle.cs_base.specs.Lists.{IsIn}
 use Rattle.cs_order.specs.laws.Lists.{IsIn-right}
 use Rattle.cs_order.specs.Digests.{HaveDigests}
 use Rattle.cs_order.specs.Limits.{last_slot, view_bound}
@@ -20,7 +20,7 @@ use Rattle.cs_order_rules.specs.declared.message.OrderMessage.{OrderMessage}
 use Rattle.cs_order_rules.specs.declared.message.OrderMessage.TheVariants as message
 use Rattle.cs_order_rules.specs.Slot.{prepared, in_view}
 use Rattle.cs_order_rules.specs.Facts.{Facts, Sight, open_slot, slot_of_message, is_place, is_below, pair_below, proper, confirm_said, echo_in}
-use Rattle.cs_order_rules.specs.Rules.{seen_now, choice, view_to_enter, confirming, step_by, sent_by_rules as advance_by, pending, echo_sent, has_place, proposal, change_to, is_slot_over, insert_line, with_line, echoed_in, change_told}
+use Rattle.cs_order_rules.specs.Rules.{seen_now, choice, view_to_enter, confirming, step_by, sent_by_rules as advance_by, pending, echo_sent, has_echo_place, proposal, change_to, is_slot_over, insert_line, with_line, echoed_in, change_told}
 use Rattle.cs_order_rules.specs.SlotMachine.{slot_machine, sight}
 use Rattle.cs_order_law.specs.laws.SafeFacts.{and_right}
 use Rattle.cs_order_law.specs.laws.SlotFacts.{same_number, first_of_is, confirm_said_is, last_found_is, if_may_echo_is}
@@ -89,7 +89,7 @@ advance_short h sound short None None None x sent is moved same = absurd (moved 
 own_echo : (s : Sight) (d : List ℕ) → echoed_in s.me (open_slot s) ((s.me, message.Echo (open_slot s) s.view d) ∷ s.taken) ≡ insert_line (d, s.view) (lines s)
 own_echo s d = rw (same_number s.me, same_number (open_slot s)) refl
 
-place_short : (s : Sight) (d : List ℕ) → has_place s d ≡ true → IsShort s → length (insert_line (d, s.view) (lines s)) ≤ MOST_ECHOED
+place_short : (s : Sight) (d : List ℕ) → has_echo_place s d ≡ true → IsShort s → length (insert_line (d, s.view) (lines s)) ≤ MOST_ECHOED
 place_short s d place short =
     elim (or_cases (nat_lt (length (lines s)) MOST_ECHOED) _ place) [
       | inl room ↦ (let lt = ltb-true (length (lines s)) MOST_ECHOED room in let more = insert_length (d, s.view) (lines s) in omega arith)
@@ -100,7 +100,7 @@ echo_short : (h : Member OrderMessage) → IsShort (sight h) → (o : Option Pro
 echo_short h short None sent p same = rw (← same) short
 echo_short h short (Some e) sent p same =
     let s = sight h in
-    let place = and_right _ (has_place s e.digest) (if_may_echo_is s (proposal s s.view) e p).1 in
+    let place = and_right _ (has_echo_place s e.digest) (if_may_echo_is s (proposal s s.view) e p).1 in
     rw (← same) (rw (own_echo s e.digest) (place_short s e.digest place short))
 
 tick_short : (h : Member OrderMessage) (due b : Bool) (sent : List (Outgoing OrderMessage)) → IsShort (sight h) → (if b then change_to (sight h) ((sight h).view + 1) else []) ≡ sent → IsShort (sight (did (deed.Ticked due sent) h))

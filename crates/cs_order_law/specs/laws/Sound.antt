@@ -1,6 +1,6 @@
 -- What holds of each member alone, whatever it is given.
 use Rattle.std.proofs.Common.{◌≡◌, ◌≢◌, ℕ, ◌+◌, ◌*◌, ◌≤◌, ◌<◌, Bool, true, List, [], ◌∷◌, ◌++◌, Option, Some, ◌⊎◌, inl, inr, refl, sym, ap, ◌∙◌, arith}
-use Rattle.cs_order.specs.Lists.{IsIn}
+use Rattle.cs_base.specs.Lists.{IsIn}
 use Rattle.cs_order.specs.Counts.{count_below}
 use Rattle.cs_order.specs.Deeds.{Deed}
 use Rattle.cs_order.specs.Deeds as deed

@@ -1,7 +1,7 @@
 -- Each deed of a member is a step, and hands out what the member has said or chosen.
 use Rattle.std.proofs.Common.{◌≡◌, ◌≢◌, ℕ, ◌+◌, ◌*◌, ◌≤◌, ◌<◌, ◌==◌, nat_lt, Bool, true, false, ◌||◌, if◌then◌else◌, List, [], ◌∷◌, ◌++◌, length-append, Option, Some, None, IsSome, slice_get, ◌⊎◌, inl, inr, refl, sym, ap, ◌∙◌, subst, arith, ◌^◌, min, ltb-true}
 use Rattle.cs_order_law.specs.laws.SafeFacts.{and_right}
-use Rattle.cs_order.specs.Lists.{IsIn}
+use Rattle.cs_base.specs.Lists.{IsIn}
 use Rattle.cs_order.specs.Deeds.{Deed, Member, did, sent_by, kept_from, entry_from, entry_of_slot}
 use Rattle.cs_order.specs.Runs.{KeepsRules, IsFor}
 use Rattle.cs_order.specs.Deeds as deed

@@ -1,7 +1,7 @@
 -- No two quorums of one slot confirm different digests, whatever the views.
 use Rattle.std.proofs.Common.{◌≡◌, ℕ, zero, suc, ◌+◌, ◌*◌, ◌≤◌, ◌<◌, Bool, true, not, List, Option, Some, ◌⊎◌, inl, inr, sym, ◌∙◌, arith}
 use Rattle.cs_order.specs.Counts.{count_below}
-use Rattle.cs_order.specs.Lists.{IsIn}
+use Rattle.cs_base.specs.Lists.{IsIn}
 use Rattle.cs_order_rules.specs.declared.message.Change.{Change}
 use Rattle.cs_order_law.specs.laws.Quorum.{two_quorums, one_honest}
 use Rattle.cs_order_rules.specs.Safe.{says_none, says_allowed, says_echoed, SafeAt}

@@ -21,10 +21,10 @@ use Rattle.cs_tx_types.specs.declared.entry.Entry.{Entry}
 use Rattle.cs_tx_types.specs.declared.entry.Entry.TheVariants as entry
 use Rattle.cs_tx_types.specs.declared.state.State.{State}
 use Rattle.cs_tx_types.specs.declared.state.State.TheVariants as state
-use Rattle.cs_tx_types.specs.Transaction.{keyed_encoding, KeyedFits, trace_encoding, TraceFits, tx_encoding, TxFits}
+use Rattle.cs_tx_types.specs.Transaction.{keyed_encoding, KeyedFits, trace_encoding, TraceFits, tx_encoding, TxFits, tx_of}
 use Rattle.cs_tx_types.specs.Session.{dummy_encoding, session_encoding, SessionFits, vote_encoding, entry_encoding, EntryFits}
 use Rattle.cs_tx_types.specs.State.{readers_differ, readers_encoding, ReadersFit, state_encoding, StateFits}
-use Rattle.cs_tx_types.specs.Reading.{keyed_at, Front, Back, front_at, back_at, trace_of_parts, trace_at, tx_of, tx_at, session_of_parts, session_at, vote_kind_at, vote_at, decide_entry, entry_kind_at, entry_at, locked_state, readers_at, shared_state, state_kind_at, state_at}
+use Rattle.cs_tx_types.specs.Reading.{keyed_at, Front, Back, front_at, back_at, trace_of_parts, trace_at, tx_at, session_of_parts, session_at, vote_kind_at, vote_at, decide_entry, entry_kind_at, entry_at, locked_state, readers_at, shared_state, state_kind_at, state_at}
 
 -- ---- traces and transactions
 

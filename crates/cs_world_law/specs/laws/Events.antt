@@ -3,11 +3,11 @@ use Rattle.std.proofs.Common.{◌≡◌, ℕ, nat_lt, true, List, [], ◌∷◌,
 use Rattle.std.proofs.lemmas.Bool.{cond_both}
 use Rattle.cs_base.specs.declared.node_id.NodeId.{NodeId}
 use Rattle.cs_tx_types.specs.declared.session.Session.{Session}
-use Rattle.cs_ledger.specs.Ledger.{IsIn}
+use Rattle.cs_base.specs.Lists.{IsIn}
 use Rattle.cs_node_state.specs.Setup.{digest_of, is_concerned_shard}
 use Rattle.cs_node_rules.specs.Signs.{Sign, Dropped, Took, Entered, Viewed, Did, Headed, Kept, Sent}
 use Rattle.cs_node_rules.specs.Site.{Site, signs_of}
-use Rattle.cs_node_rules.specs.World.{Happening, Execution, slots_of, with_first_execution, firsts_after, firsts_of, all_recorded, history, aborts_in}
+use Rattle.cs_node_rules.specs.World.{Happening, Execution, slots_of, with_first_execution, firsts_after, firsts_of, all_recorded, recorded_history, aborts_in}
 use Rattle.cs_node_rules.specs.Collisions.{known_sessions}
 use Rattle.cs_world_law.specs.Worlds.{is_honest, signs_at}
 use Rattle.cs_world_law.specs.Steps.{IsOlderPart, TellsCommitted}
@@ -55,7 +55,7 @@ pub committed-at-events : {M : Type 0} (site : Site M) (world : List (Happening 
     (later earlier : List (Happening M)) → world ≡ later ++ earlier →
     (x : Session) → IsIn x (known_sessions site world) → (shard : ℕ) → is_concerned_shard site.setup x shard ≡ true →
     all_recorded site.setup (firsts_of earlier) x ≡ true →
-    IsIn (site.setup.session_of x).transaction (history site earlier)
+    IsIn (site.setup.session_of x).transaction (recorded_history site earlier)
     × ((i : NodeId) → is_honest site i ≡ true →
     aborts_in site.setup (digest_of site.setup x) (signs_at i world) ≡ true → ⊥)
 committed-at-events {M} site world tells later earlier split =

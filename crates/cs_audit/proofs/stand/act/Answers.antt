@@ -2,7 +2,7 @@ use Rattle.std.proofs.Common.{sym, subst}
 use Rattle.cs_tx_types.specs.declared.entry.Entry.{Entry}
 use Rattle.cs_ledger.specs.Table.{Voted}
 use Rattle.cs_table.specs.Effects.{ComesTo}
-use Rattle.cs_table.specs.Seen.{vote_of}
+use Rattle.cs_tx.specs.Votes.{vote_of}
 use Rattle.cs_audit.specs.Standing.{entry_seen, acted}
 use Rattle.cs_audit.proofs.stand.act.Goals as goal
 

@@ -2,7 +2,7 @@ use Rattle.std.proofs.Common.{◌≡◌, ◌<◌, true, Ok, Err, length, sym, �
 use Rattle.std.proofs.lemmas.Bool.Decides.{nat_tests}
 use Rattle.std.specs.List.{list_all}
 use Rattle.std.specs.Str.Parse.{digits_value}
-use Rattle.cs_io.specs.Numbers.{is_digit}
+use Rattle.cs_base.specs.Characters.{is_digit}
 use Rattle.cs_io.proofs.Digits.{parsed}
 use Rattle.cs_io.proofs.numbers.read_short_number.Goals as goal
 

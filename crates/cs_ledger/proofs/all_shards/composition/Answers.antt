@@ -1,6 +1,7 @@
 -- The theorem is what the invariants of the world say.
 use Rattle.std.proofs.Common.{◌≡◌, refl, subst}
-use Rattle.cs_ledger.specs.Ledger.{IsIn, genesis_ledger, names}
+use Rattle.cs_base.specs.Lists.{IsIn}
+use Rattle.cs_ledger.specs.Ledger.{genesis_ledger, names}
 use Rattle.cs_ledger.specs.Session.{all_items}
 use Rattle.cs_ledger.specs.Table.{Commit, Abort, Accepted, Aborted}
 use Rattle.cs_ledger.specs.ShardWorld.{sessions}

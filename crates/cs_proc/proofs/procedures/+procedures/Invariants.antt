@@ -1,7 +1,7 @@
 use Rattle.std.proofs.Common.{◌≡◌, ◌+◌, ◌-◌, ◌*◌, ◌≤◌, []}
 use Rattle.cs_eval_check.specs.TaskWork.{tasks_work}
 use Rattle.cs_proc_parts.specs.Courses.{spending}
-use Rattle.cs_proc.specs.Tasks.{left_to}
+use Rattle.cs_proc.specs.Tasks.{rest_of_procedure}
 use Rattle.cs_proc.proofs.procedures.+procedures.Given as goal
 
 abbrev pub decreases-run_procedure : goal.decreases-run_procedure
@@ -26,7 +26,7 @@ abbrev pub invariant-run-loop-task : goal.invariant-run-loop-task
 invariant-run-loop-task g l = record {
   counted : l.initial.steps ≤ l.steps;
   idle : l.running.frames.items ≡ [];
-  comes : left_to l.scene l.above l.initial.running.tasks.items l.initial.running.doing ≡ spending (l.steps - l.initial.steps) (left_to l.scene l.above l.running.tasks.items l.running.doing);
+  comes : rest_of_procedure l.scene l.above l.initial.running.tasks.items l.initial.running.doing ≡ spending (l.steps - l.initial.steps) (rest_of_procedure l.scene l.above l.running.tasks.items l.running.doing);
 }
 
 abbrev pub decreases-run-loop-task : goal.decreases-run-loop-task

@@ -2,7 +2,7 @@ use Rattle.std.proofs.Common.{◌≡◌, ◌++◌, take, string_bytes}
 use Rattle.std.specs.Prelude.{codes}
 use Rattle.std.specs.List.{flat_map}
 use Rattle.std.specs.Fmt.{decimal}
-use Rattle.cs_replay_play.specs.Digests.{tx_line}
+use Rattle.cs_tx.specs.Lines.{tx_line}
 use Rattle.cs_replay_play.proofs.lines.history_text.Given as goal
 
 abbrev pub invariant-loop-digest : goal.invariant-loop-digest

@@ -3,7 +3,7 @@ use Rattle.std.proofs.Common.{◌≡◌, ℕ, List, ◌∷◌, Err, refl, sym, s
 use Rattle.std.proofs.lemmas.Result.{err_from_is_err_and}
 use Rattle.cs_io.specs.Told.{Changes}
 use Rattle.cs_io.specs.declared.link.MemInput.TheVariants as came
-use Rattle.cs_client.specs.Inputs.{Input}
+use Rattle.cs_client.specs.Inputs.{ClientInput}
 use Rattle.cs_serve.proofs.Runs.{answered, went-on, ended-so, le_more}
 use Rattle.cs_serve.proofs.attending.take_turn.Goals as goal
 
@@ -13,7 +13,7 @@ returns-in_ok-client-in-Datagram-clause-goes g c = λ e past stands.
     (g.L.Link.told c.args.link.now)
     (g.L.Link.told c.receive.new.link)
     (g.L.Link.told c.answer.new.link)
-    c.in_ok-client-in-Datagram.client false refl (subst (λ (bytes : List ℕ). Changes (λ (before now : List Input). before ≡ came.Datagram bytes ∷ now) (g.L.Link.told c.args.link.now).left (g.L.Link.told c.receive.new.link).left) (sym c.split_at.ensures.front) c.in-Datagram.ensures.input.1)
+    c.in_ok-client-in-Datagram.client false refl (subst (λ (bytes : List ℕ). Changes (λ (before now : List ClientInput). before ≡ came.Datagram bytes ∷ now) (g.L.Link.told c.args.link.now).left (g.L.Link.told c.receive.new.link).left) (sym c.split_at.ensures.front) c.in-Datagram.ensures.input.1)
     c.in-Datagram.ensures.missed c.in-Datagram.ensures.offered c.answer.ensures.left c.answer.ensures.missed (c.in_ok-client-in-Datagram.ensures.goes e past stands)
 
 pub returns-in_err-client-in-Datagram-clause-goes : goal.returns-in_err-client-in-Datagram-clause-goes
@@ -25,7 +25,7 @@ returns-in_err-client-in-Datagram-clause-goes g c = λ e past stands.
     (g.L.Link.told c.args.link.now)
     (g.L.Link.told c.receive.new.link)
     (g.L.Link.told c.answer.new.link)
-    (Err c.in_err-client-in-Datagram.field-0.0) (subst (λ (bytes : List ℕ). Changes (λ (before now : List Input). before ≡ came.Datagram bytes ∷ now) (g.L.Link.told c.args.link.now).left (g.L.Link.told c.receive.new.link).left) (sym c.split_at.ensures.front) c.in-Datagram.ensures.input.1)
+    (Err c.in_err-client-in-Datagram.field-0.0) (subst (λ (bytes : List ℕ). Changes (λ (before now : List ClientInput). before ≡ came.Datagram bytes ∷ now) (g.L.Link.told c.args.link.now).left (g.L.Link.told c.receive.new.link).left) (sym c.split_at.ensures.front) c.in-Datagram.ensures.input.1)
     c.in-Datagram.ensures.missed c.in-Datagram.ensures.offered c.answer.ensures.left c.answer.ensures.missed (c.in_err-client-in-Datagram.ensures.goes e past stands)))
 
 pub returns-in_ok-client-in-Tick-clause-goes : goal.returns-in_ok-client-in-Tick-clause-goes

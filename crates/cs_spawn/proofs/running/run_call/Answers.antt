@@ -2,7 +2,7 @@ use Rattle.std.proofs.Common.{[], ◌∷◌, ◌≡◌, ap, subst, ◌∙◌, Li
 use Rattle.cs_io.specs.Outside.{SpawnerTold, Beside, beside}
 use Rattle.cs_spawn.specs.Words.{client_words, client_title}
 use Rattle.cs_spawn.specs.Deeds.{Start, Wait}
-use Rattle.cs_spawn.specs.Running.{ClusterFails, Leaves, Goes}
+use Rattle.cs_spawn.specs.Running.{ClusterFails, LeavesChildren, ClusterGoesOn}
 use Rattle.cs_spawn.proofs.Going.{Done, goes-after, wants-at_once, stops-early, not-the-sink, more-children}
 use Rattle.cs_spawn.proofs.running.run_call.Goals as goal
 
@@ -23,7 +23,7 @@ returns-in_err-child-clause-does g c =
     let spelled : map string_bytes c.deref.result.now ≡ client_words c.args.plan.now c.args.call.now = ap (map string_bytes) c.deref.ensures.value ∙ c.in_ok-words.ensures in
     let e = c.in_err-child.field-0.0 in
     stops-early a b c.args.left.now.items c.start.new.left.items (Start (client_words c.args.plan.now c.args.call.now) ∷ []) (Wait (client_title c.args.number) (g.P.Spawner.told c.args.spawner.now).children ∷ []) e c.from_residual-in_err-child.result
-    (subst (λ (words : List (List ℕ)). ClusterFails (Leaves c.args.left.now.items c.start.new.left.items a b) (Start words ∷ []) a b e) spelled (c.in_err-child.ensures.does (g.K.Sink.written c.args.out.now))) c.from_residual-in_err-child.ensures.1
+    (subst (λ (words : List (List ℕ)). ClusterFails (LeavesChildren c.args.left.now.items c.start.new.left.items a b) (Start words ∷ []) a b e) spelled (c.in_err-child.ensures.does (g.K.Sink.written c.args.out.now))) c.from_residual-in_err-child.ensures.1
 
 pub returns-in_err-child-clause-sink : goal.returns-in_err-child-clause-sink
 returns-in_err-child-clause-sink g c =
@@ -51,5 +51,5 @@ returns-clause-does g c =
     goes-after a b d l m n (Start (client_words c.args.plan.now c.args.call.now) ∷ []) (Wait (client_title c.args.number) (g.P.Spawner.told c.args.spawner.now).children ∷ [])
     (subst (λ (words : List (List ℕ)). Done (Start words ∷ []) l m a b) spelled (c.in_ok-child.ensures.does (g.K.Sink.written c.args.out.now)))
     result
-    (subst (λ (title : List ℕ). Goes (Wait title (g.P.Spawner.told c.args.spawner.now).children ∷ []) m n b d result) titled
-    (subst (λ (child : ℕ). Goes (Wait c.deref-2.result.now child ∷ []) m n b d result) c.in_ok-child.ensures.number c.await_end.ensures.does))
+    (subst (λ (title : List ℕ). ClusterGoesOn (Wait title (g.P.Spawner.told c.args.spawner.now).children ∷ []) m n b d result) titled
+    (subst (λ (child : ℕ). ClusterGoesOn (Wait c.deref-2.result.now child ∷ []) m n b d result) c.in_ok-child.ensures.number c.await_end.ensures.does))

@@ -4,7 +4,7 @@ use Rattle.cs_base.specs.declared.node_id.NodeId.{NodeId}
 use Rattle.cs_wire.specs.AllNames.{nodes_of}
 use Rattle.cs_io.specs.Outside.{SpawnerTold, Beside, beside}
 use Rattle.cs_spawn.specs.Deeds.{numbered, node_starts, call_deeds, node_waits, cluster_deeds}
-use Rattle.cs_spawn.specs.Running.{ClusterFails, Leaves, Goes}
+use Rattle.cs_spawn.specs.Running.{ClusterFails, LeavesChildren, ClusterGoesOn}
 use Rattle.cs_spawn.proofs.Going.{Done, goes-after, wants-at_once, stops-early, stops-there, not-the-sink, more-children}
 use Rattle.cs_spawn.proofs.Plans.{many-starts, numbered-below}
 use Rattle.cs_spawn.proofs.running.run_children.Goals as goal
@@ -24,7 +24,7 @@ returns-in_err-running-clause-does g c =
     let same : c.as_slice.result.now ≡ nodes = c.as_slice.ensures ∙ c.in_ok-nodes.ensures in
     let e = c.in_err-running.field-0.0 in
     stops-early a b c.args.left.now.items c.start_nodes.new.left.items (node_starts plan nodes) (call_deeds plan 0 (first + length nodes) plan.calls ++ node_waits (numbered first nodes)) e c.from_residual-in_err-running.result
-    (subst (λ (l : List NodeId). ClusterFails (Leaves c.args.left.now.items c.start_nodes.new.left.items a b) (node_starts plan l) a b e) same (c.in_err-running.ensures.does (g.K.Sink.written c.args.out.now))) c.from_residual-in_err-running.ensures.1
+    (subst (λ (l : List NodeId). ClusterFails (LeavesChildren c.args.left.now.items c.start_nodes.new.left.items a b) (node_starts plan l) a b e) same (c.in_err-running.ensures.does (g.K.Sink.written c.args.out.now))) c.from_residual-in_err-running.ensures.1
 
 pub returns-in_err-running-clause-sink : goal.returns-in_err-running-clause-sink
 returns-in_err-running-clause-sink g c =
@@ -46,7 +46,7 @@ returns-in_err-run_calls-clause-does g c =
     let waits = node_waits (numbered first nodes) in
     stops-there a b d c.args.left.now.items c.start_nodes.new.left.items c.run_calls.new.left.items (node_starts plan nodes ++ (calls ++ waits)) (node_starts plan nodes) calls waits e c.from_residual-in_err-run_calls.result
     (sym (append_assoc (node_starts plan nodes) calls waits)) started
-    (subst (λ (n : ℕ). ClusterFails (Leaves c.start_nodes.new.left.items c.run_calls.new.left.items b d) (call_deeds plan 0 n plan.calls) b d e) so_many c.in_err-run_calls.ensures.does) c.from_residual-in_err-run_calls.ensures.1
+    (subst (λ (n : ℕ). ClusterFails (LeavesChildren c.start_nodes.new.left.items c.run_calls.new.left.items b d) (call_deeds plan 0 n plan.calls) b d e) so_many c.in_err-run_calls.ensures.does) c.from_residual-in_err-run_calls.ensures.1
 
 pub await_nodes-requires : goal.await_nodes-requires
 await_nodes-requires g c =
@@ -82,4 +82,4 @@ returns-clause-does g c =
     let result = c.await_nodes.result in
     goes-after a b z c.args.left.now.items c.start_nodes.new.left.items c.await_nodes.new.left.items (node_starts plan nodes) (calls ++ waits) started result
     (goes-after b d z c.start_nodes.new.left.items c.run_calls.new.left.items c.await_nodes.new.left.items calls waits (subst (λ (n : ℕ). Done (call_deeds plan 0 n plan.calls) c.start_nodes.new.left.items c.run_calls.new.left.items b d) so_many c.in_ok-run_calls.ensures.does) result
-    (subst (λ (l : List (NodeId × ℕ)). Goes (node_waits l) c.run_calls.new.left.items c.await_nodes.new.left.items d z result) running c.await_nodes.ensures.does))
+    (subst (λ (l : List (NodeId × ℕ)). ClusterGoesOn (node_waits l) c.run_calls.new.left.items c.await_nodes.new.left.items d z result) running c.await_nodes.ensures.does))

@@ -3,7 +3,7 @@ use Rattle.std.proofs.Common.{◌≡◌, ℕ, true, List, Some, refl, sym, subst
 use Rattle.cs_base.specs.declared.node_id.NodeId.{NodeId}
 use Rattle.cs_order.specs.declared.proposed.Proposed.{Proposed}
 use Rattle.cs_order.specs.declared.answers.Outgoing.{Outgoing}
-use Rattle.cs_order.specs.Lists as Order
+use Rattle.cs_base.specs.Lists.{IsIn}
 use Rattle.cs_order.specs.Deeds.{Deed, Member, sent_by}
 use Rattle.cs_order.specs.Runs.{held_in}
 use Rattle.cs_order_rules.specs.declared.message.OrderMessage.{OrderMessage}
@@ -13,7 +13,6 @@ use Rattle.cs_order_rules.specs.Rules.{own}
 use Rattle.cs_order_rules.specs.SlotMachine.{slot_machine, sight}
 use Rattle.cs_order_law.specs.laws.Sound.{Sound}
 use Rattle.cs_order_law.specs.laws.Sights.{sound as sound_member}
-use Rattle.cs_ledger.specs.Ledger.{IsIn}
 use Rattle.cs_node_rules.specs.Carrying.{IsEntry}
 use Rattle.cs_node_rules.specs.World.{trail_of, view_of}
 use Rattle.cs_node_rules.specs.Trail.{admits_proposed}
@@ -39,7 +38,7 @@ said-here p i honest deed there out handed =
     let some = by-node slot_machine p i honest in
     let t = trail_of i p.world in
     let known = local site (sound slot_machine p some) (Here slot_machine p) i t (made slot_machine p some i) (within slot_machine p some i) in
-    let entries = λ (e : Proposed) (j : Order.IsIn e (held_in site.machine (deeds_in t))). let k = known.held e j in let is : IsEntry e = record { entry = k.entry; fits = k.fits; is = k.is } in is in
+    let entries = λ (e : Proposed) (j : IsIn e (held_in site.machine (deeds_in t))). let k = known.held e j in let is : IsEntry e = record { entry = k.entry; fits = k.fits; is = k.is } in is in
     let deeds = deeds-kept site (sound slot_machine p some) (Here slot_machine p) i t (made slot_machine p some i) in
     said-so site (sound slot_machine p some) refl i t deeds entries (world-handled site p.world p.is_world.life i) deed there out handed
 

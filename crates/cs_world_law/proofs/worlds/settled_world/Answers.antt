@@ -1,12 +1,13 @@
 -- A world of a deployment is a story, whose first executions are allowed steps of the shards together: the theorem on these does the rest.
 use Rattle.std.proofs.Common.{◌≡◌, inl, inr, true, false, List, [], ◌∷◌, ◌++◌, length, map, Some, refl, sym, ap, ◌∙◌, subst, append_assoc}
 use Rattle.std.proofs.lemmas.Bool.{both_ways}
+use Rattle.cs_base.specs.Lists.{IsIn}
 use Rattle.cs_base.specs.declared.node_id.NodeId.{NodeId}
 use Rattle.cs_tx_types.specs.declared.session.Session.{Session}
 use Rattle.cs_tx_types.specs.declared.entry.Entry.{Entry}
 use Rattle.cs_tx_types.specs.declared.entry.Entry.TheVariants.{Prepare}
 use Rattle.cs_wire_message.specs.declared.message.Message.TheVariants as message
-use Rattle.cs_ledger.specs.Ledger.{Item, IsIn, Serial, IsSpentOnce, genesis_ledger, ledger_of}
+use Rattle.cs_ledger.specs.Ledger.{Item, Serial, IsSpentOnce, genesis_ledger, ledger_of}
 use Rattle.cs_ledger.specs.Session as Seen
 use Rattle.cs_ledger.specs.Session.{Object as Named, all_items}
 use Rattle.cs_ledger.specs.Table.{Commit, Abort, Accepted, Aborted, Table, table_of, free_object}

@@ -1,5 +1,5 @@
 use Rattle.std.proofs.Common.{◌∙◌, sym, ap, true}
-use Rattle.cs_table.specs.Seen.{vote_of}
+use Rattle.cs_tx.specs.Votes.{vote_of}
 use Rattle.cs_tx_types.specs.declared.vote.Vote.{Vote}
 use Rattle.cs_tx.specs.Sessions.{ledger_session}
 use Rattle.cs_table.proofs.Calls.{decide_skips, decide_accepts, decide_aborts, no_anchor, at_vote}

@@ -1,6 +1,7 @@
 use Rattle.std.proofs.Common.{length, true, sym, ap, ◌∙◌, subst}
 use Rattle.std.proofs.lemmas.Bool.{both_ways}
-use Rattle.cs_table.specs.Seen.{vote_of, seen_record, shown_at, HoldsFit}
+use Rattle.cs_tx.specs.Votes.{vote_of}
+use Rattle.cs_table.specs.Seen.{seen_record, shown_at, HoldsFit}
 use Rattle.cs_table.proofs.Known.{one_more}
 use Rattle.cs_tx.specs.Sessions.{key_seen}
 use Rattle.cs_table.specs.Changes.{noted_record}
