@@ -1,4 +1,4 @@
-//! A slot worked by hand, and the counts one below and at each threshold.
+//! Slots worked by hand, and the counts one below and at each threshold.
 
 use cs_base::{Memory, Sequence};
 use cs_order::Proposed;
@@ -7,233 +7,127 @@ use std::alloc::Global;
 use std::process::Abort;
 use std::test::Fail;
 
-/// How many members tell enough in a shard of 3f+1.
-struct Threshold {
-    f: u16,
-    /// So many echo or confirm one digest.
-    quorum: u16,
-    /// So many are done with one entry.
-    witnesses: u16,
+/// What a member says of the one entry, in view 0.
+enum Said {
+    Propose,
+    Echo(u16),
+    Confirm(u16),
+    Done(u16),
 }
 
-const THRESHOLDS: [Threshold; 6] = [
-    Threshold {
-        f: 0,
-        quorum: 1,
-        witnesses: 1,
-    },
-    Threshold {
-        f: 1,
-        quorum: 3,
-        witnesses: 2,
-    },
-    Threshold {
-        f: 2,
-        quorum: 5,
-        witnesses: 3,
-    },
-    Threshold {
-        f: 3,
-        quorum: 7,
-        witnesses: 4,
-    },
-    Threshold {
-        f: 4,
-        quorum: 9,
-        witnesses: 5,
-    },
-    Threshold {
-        f: 5,
-        quorum: 11,
-        witnesses: 6,
-    },
+/// What is said, and then whether it is no repeat, whether the slot's own member is to confirm the
+/// entry, and whether that is chosen.
+type Row = (Said, bool, bool, bool);
+
+/// The leader proposes, three of four echo, and three others confirm.
+const AGREED: [Row; 8] = [
+    (Said::Propose, true, false, false),
+    (Said::Echo(0), true, false, false),
+    (Said::Echo(1), true, false, false),
+    (Said::Echo(1), false, false, false),
+    (Said::Echo(2), true, true, false),
+    (Said::Confirm(1), true, true, false),
+    (Said::Confirm(2), true, true, false),
+    (Said::Confirm(3), true, true, true),
 ];
 
-/// What the members of the table say.
+/// What is confirmed is chosen once its entry is known.
+const KNOWN_LATE: [Row; 4] = [
+    (Said::Confirm(1), true, false, false),
+    (Said::Confirm(2), true, false, false),
+    (Said::Confirm(3), true, false, false),
+    (Said::Done(2), true, false, true),
+];
+
+/// Two of four are done.
+const DONE: [Row; 3] = [
+    (Said::Done(2), true, false, false),
+    (Said::Done(2), false, false, false),
+    (Said::Done(3), true, false, true),
+];
+
 const DIGEST: [u8; 32] = [4; 32];
 
-fn entry(alloc: Global, name: u8) -> Result<Proposed, Memory> {
-    let bytes = Vec::from_slice(alloc, &[name, 7])?;
+fn entry(alloc: Global) -> Result<Proposed, Memory> {
+    let bytes = Vec::from_slice(alloc, &[4, 7])?;
     Ok(Proposed {
-        digest: [name; 32],
+        digest: DIGEST,
         bytes: Sequence::from_vec(bytes),
     })
 }
 
-fn name_of(entry: Option<&Proposed>) -> Option<u8> {
-    entry.map(|entry| entry.digest[0])
+/// Slot 0 hears it; its own member is 0, which leads view 0.
+fn hear(rt: &impl Abort, alloc: Global, slot: &mut Slot, said: &Said) -> Result<bool, Fail> {
+    assert!(rt; slot.f() == 1 && slot.number() == 0 && slot.me() == 0);
+    Ok(match *said {
+        Said::Propose => slot.propose(0, 0, entry(alloc)?)?,
+        Said::Echo(member) if member <= 3 => slot.echo(member, 0, DIGEST)?,
+        Said::Confirm(member) if 0 < member && member <= 3 => slot.confirm(member, 0, DIGEST)?,
+        Said::Done(member) if member <= 3 => slot.done(member, entry(alloc)?)?,
+        _ => false,
+    })
 }
 
-#[test]
-fn one_slot_by_hand(rt: HostRuntime) -> Result<(), Fail> {
-    let alloc = rt.alloc();
-    let digest = [4; 32];
+fn stands_as(rt: &impl Abort, alloc: Global, rows: &[Row]) -> Result<(), Fail> {
     let mut slot = Slot::new(alloc, 1, 0, 0)?;
-    let proposed = slot.propose(0, 0, entry(alloc, 4)?)?;
-    let echoed = (slot.echo(0, 0, digest)?, slot.echo(1, 0, digest)?);
-    assert!(rt; proposed && echoed.0 && echoed.1 && slot.to_confirm().is_none());
-    let again = slot.echo(1, 0, digest)?;
-    let third = slot.echo(2, 0, digest)?;
-    assert!(rt; !again && third);
-    assert_eq!(rt; slot.to_confirm(), Some(digest));
-    assert!(rt; slot.chosen().is_none() && slot.prepared().is_none());
-    let confirmed = (slot.confirm(1, 0, digest)?, slot.confirm(2, 0, digest)?);
-    assert!(rt; confirmed.0 && confirmed.1 && slot.chosen().is_none());
-    slot.confirm(3, 0, digest)?;
-    assert_eq!(rt; name_of(slot.chosen()), Some(4));
-    assert_eq!(rt; name_of(slot.proposal(0)), Some(4));
-    assert_eq!(rt; name_of(slot.with_digest(&digest)), Some(4));
-    assert_eq!(rt;
-        (slot.echo_of(0, 2), slot.confirm_of(0, 0)),
-        (Some(digest), None)
-    );
-    slot.enter(1);
-    assert_eq!(rt;
-        (slot.f(), slot.number(), slot.me(), slot.view()),
-        (1, 0, 0, 1)
-    );
-    assert!(rt; slot.to_confirm().is_none() && slot.proposal(1).is_none());
+    for (said, fresh, confirms, chosen) in rows {
+        assert!(rt; hear(rt, alloc, &mut slot, said)? == *fresh);
+        assert!(rt; slot.to_confirm().is_some() == *confirms);
+        assert!(rt; slot.chosen().is_some() == *chosen);
+    }
     Ok(())
 }
 
 #[test]
-fn an_entry_that_is_known_by_done_alone(rt: HostRuntime) -> Result<(), Fail> {
-    let alloc = rt.alloc();
-    let digest = [4; 32];
-    let mut slot = Slot::new(alloc, 1, 0, 0)?;
-    slot.confirm(1, 0, digest)?;
-    slot.confirm(2, 0, digest)?;
-    slot.confirm(3, 0, digest)?;
-    assert!(rt; slot.chosen().is_none());
-    let fresh = slot.done(2, entry(alloc, 4)?)?;
-    assert!(rt; fresh);
-    assert_eq!(rt; name_of(slot.chosen()), Some(4));
-    let mut other = Slot::new(alloc, 1, 0, 0)?;
-    other.done(2, entry(alloc, 4)?)?;
-    assert!(rt; other.chosen().is_none());
-    other.done(3, entry(alloc, 4)?)?;
-    assert_eq!(rt; name_of(other.chosen()), Some(4));
-    Ok(())
+fn slots_of_four_members_by_hand(rt: HostRuntime) -> Result<(), Fail> {
+    stands_as(&rt, rt.alloc(), &AGREED)?;
+    stands_as(&rt, rt.alloc(), &KNOWN_LATE)?;
+    stands_as(&rt, rt.alloc(), &DONE)
 }
 
-/// Slot 0 as its last member sees it, with the leader's proposal.
-fn proposed(rt: &impl Abort, alloc: Global, f: u16) -> Result<Slot, Fail> {
+/// All members echo, one after the other: from 2f+1 on the last member is to confirm.
+fn echoes(rt: &impl Abort, alloc: Global, f: u16) -> Result<(), Fail> {
     assert!(rt; f <= 5);
     let mut slot = Slot::new(alloc, f, 0, 3 * f)?;
-    let fresh = slot.propose(0, 0, entry(alloc, 4)?)?;
-    assert!(rt; fresh);
-    Ok(slot)
-}
-
-fn echo(rt: &impl Abort, slot: &mut Slot, member: u16) -> Result<(), Fail> {
-    assert!(rt; slot.f() <= 5);
-    assert!(rt; member <= 3 * slot.f());
-    let fresh = slot.echo(member, 0, DIGEST)?;
-    assert!(rt; fresh);
-    Ok(())
-}
-
-fn echoed_by(rt: &impl Abort, alloc: Global, f: u16, count: u16) -> Result<Slot, Fail> {
-    let mut slot = proposed(rt, alloc, f)?;
-    for member in 0..count {
-        echo(rt, &mut slot, member)?;
+    for member in 0..=3 * f {
+        assert!(rt; slot.f() == f);
+        slot.echo(member, 0, DIGEST)?;
+        assert_eq!(rt; slot.to_confirm().is_some(), member >= 2 * f);
     }
-    Ok(slot)
-}
-
-/// The slot's own member confirms what it is to confirm.
-fn confirm_own(rt: &impl Abort, slot: &mut Slot) -> Result<(), Fail> {
-    let digest = slot.to_confirm().expect(rt, "a digest to confirm");
-    assert!(rt; slot.f() <= 5);
-    assert!(rt; slot.me() <= 3 * slot.f());
-    let fresh = slot.confirm(slot.me(), slot.view(), digest)?;
-    assert!(rt; fresh);
     Ok(())
 }
 
-fn confirm(rt: &impl Abort, slot: &mut Slot, member: u16) -> Result<(), Fail> {
-    if member == slot.me() {
-        return confirm_own(rt, slot);
+/// The others confirm what the leader proposed: from 2f+1 on it is chosen.
+fn confirms(rt: &impl Abort, alloc: Global, f: u16) -> Result<(), Fail> {
+    assert!(rt; f <= 5);
+    let mut slot = Slot::new(alloc, f, 0, 3 * f)?;
+    slot.propose(0, 0, entry(alloc)?)?;
+    for member in 0..3 * f {
+        assert!(rt; slot.f() == f && slot.me() == 3 * f);
+        slot.confirm(member, 0, DIGEST)?;
+        assert_eq!(rt; slot.chosen().is_some(), member >= 2 * f);
     }
-    assert!(rt; slot.f() <= 5);
-    assert!(rt; member <= 3 * slot.f());
-    let fresh = slot.confirm(member, 0, DIGEST)?;
-    assert!(rt; fresh);
     Ok(())
 }
 
-/// A quorum echoed, and so many confirm.
-fn confirmed_by(rt: &impl Abort, alloc: Global, row: &Threshold, count: u16) -> Result<Slot, Fail> {
-    let mut slot = echoed_by(rt, alloc, row.f, row.quorum)?;
-    for member in 0..count {
-        confirm(rt, &mut slot, member)?;
-    }
-    Ok(slot)
-}
-
-fn done(rt: &impl Abort, alloc: Global, slot: &mut Slot, member: u16) -> Result<(), Fail> {
-    assert!(rt; slot.f() <= 5);
-    assert!(rt; member <= 3 * slot.f());
-    let fresh = slot.done(member, entry(alloc, 4)?)?;
-    assert!(rt; fresh);
-    Ok(())
-}
-
-fn done_by(rt: &impl Abort, alloc: Global, f: u16, count: u16) -> Result<Slot, Fail> {
-    let mut slot = proposed(rt, alloc, f)?;
-    for member in 0..count {
-        done(rt, alloc, &mut slot, member)?;
-    }
-    Ok(slot)
-}
-
-fn confirms_at(rt: &impl Abort, alloc: Global, row: &Threshold) -> Result<(), Fail> {
-    let below = echoed_by(rt, alloc, row.f, row.quorum.saturating_sub(1))?;
-    assert!(rt; below.to_confirm().is_none());
-    let mut slot = echoed_by(rt, alloc, row.f, row.quorum)?;
-    assert_eq!(rt; slot.to_confirm(), Some(DIGEST));
-    confirm_own(rt, &mut slot)?;
-    assert!(rt; slot.to_confirm().is_none());
-    assert_eq!(rt; slot.prepared(), Some((0, DIGEST)));
-    Ok(())
-}
-
-fn chooses_by_confirm_at(rt: &impl Abort, alloc: Global, row: &Threshold) -> Result<(), Fail> {
-    let below = confirmed_by(rt, alloc, row, row.quorum.saturating_sub(1))?;
-    assert!(rt; below.chosen().is_none());
-    let slot = confirmed_by(rt, alloc, row, row.quorum)?;
-    assert_eq!(rt; name_of(slot.chosen()), Some(4));
-    Ok(())
-}
-
-fn chooses_by_done_at(rt: &impl Abort, alloc: Global, row: &Threshold) -> Result<(), Fail> {
-    let below = done_by(rt, alloc, row.f, row.witnesses.saturating_sub(1))?;
-    assert!(rt; below.chosen().is_none());
-    let slot = done_by(rt, alloc, row.f, row.witnesses)?;
-    assert_eq!(rt; name_of(slot.chosen()), Some(4));
-    Ok(())
-}
-
-#[test]
-fn a_member_confirms_at_2f_and_1_echoes(rt: HostRuntime) -> Result<(), Fail> {
-    for row in &THRESHOLDS {
-        confirms_at(&rt, rt.alloc(), row)?;
+/// All members are done with an entry: from f+1 on it is chosen.
+fn dones(rt: &impl Abort, alloc: Global, f: u16) -> Result<(), Fail> {
+    assert!(rt; f <= 5);
+    let mut slot = Slot::new(alloc, f, 0, 0)?;
+    for member in 0..=3 * f {
+        assert!(rt; slot.f() == f);
+        slot.done(member, entry(alloc)?)?;
+        assert_eq!(rt; slot.chosen().is_some(), member >= f);
     }
     Ok(())
 }
 
 #[test]
-fn an_entry_is_chosen_at_2f_and_1_confirms(rt: HostRuntime) -> Result<(), Fail> {
-    for row in &THRESHOLDS {
-        chooses_by_confirm_at(&rt, rt.alloc(), row)?;
-    }
-    Ok(())
-}
-
-#[test]
-fn an_entry_is_chosen_at_f_and_1_done(rt: HostRuntime) -> Result<(), Fail> {
-    for row in &THRESHOLDS {
-        chooses_by_done_at(&rt, rt.alloc(), row)?;
+fn counts_one_below_and_at_each_threshold(rt: HostRuntime) -> Result<(), Fail> {
+    for f in 0..=5 {
+        echoes(&rt, rt.alloc(), f)?;
+        confirms(&rt, rt.alloc(), f)?;
+        dones(&rt, rt.alloc(), f)?;
     }
     Ok(())
 }
