@@ -48,69 +48,142 @@ fn reads(
     transfer.into_session(alloc, number)
 }
 
-/// How many sessions read the price, and which came last; none where it is active.
-fn readers(rt: &impl Abort, table: &Table) -> (usize, Option<Digest>) {
+/// What is done with a session, and what that answers.
+enum Act {
+    Votes(Vote),
+    Decides(Vote, Effect),
+}
+
+/// Which session of a list it is done with, and then how many read the price, and which of the list
+/// came last.
+type Row = (usize, Act, usize, Option<usize>);
+
+fn carry_out(
+    rt: &impl Abort,
+    alloc: Global,
+    table: &mut Table,
+    session: &Session,
+    wanted: &Act,
+) -> Result<(), Fail> {
+    match wanted {
+        Act::Votes(vote) => assert!(rt; prepared(rt, alloc, table, session)? == *vote),
+        Act::Decides(vote, effect) => {
+            assert!(rt; decided(rt, alloc, table, session, *vote)? == *effect);
+        }
+    }
+    Ok(())
+}
+
+/// The sessions that read the price, in order; none where it is active.
+fn readers<'a>(rt: &impl Abort, table: &'a Table) -> &'a [Digest] {
     let row = table.record(&Key::Object(PRICE)).expect(rt, "a record");
     match &row.state {
-        State::Active(_) => (0, None),
-        State::Shared(_, readers) => match readers.as_slice().last() {
-            Some(last) => (readers.len(), Some(*last)),
-            None => (0, None),
-        },
+        State::Active(_) => &[],
+        State::Shared(_, readers) => readers.as_slice(),
         _ => panic!(rt; "neither active nor shared"),
     }
 }
+
+/// Whether so many read the price, and the session of this place came last.
+fn are_readers(
+    rt: &impl Abort,
+    alloc: Global,
+    table: &Table,
+    count: usize,
+    last: Option<&Session>,
+) -> Result<bool, Fail> {
+    let Some(session) = last else {
+        return Ok(readers(rt, table).is_empty() && count == 0);
+    };
+    assert!(rt; session.fits());
+    let digest = session_digest(alloc, session)?;
+    let found = readers(rt, table);
+    Ok(found.len() == count && found.last() == Some(&digest))
+}
+
+fn play(
+    rt: &impl Abort,
+    alloc: Global,
+    table: &mut Table,
+    sessions: &[Session],
+    rows: &[Row],
+) -> Result<(), Fail> {
+    for (at, what, count, last) in rows {
+        let session = sessions.get(*at).expect(rt, "a session");
+        carry_out(rt, alloc, table, session, what)?;
+        let last = last.and_then(|at| sessions.get(at));
+        assert!(rt; are_readers(rt, alloc, table, *count, last)?);
+    }
+    Ok(())
+}
+
+const COMMITS: Act = Act::Votes(Vote::Commit);
+
+const ABORTS: Act = Act::Votes(Vote::Abort);
+
+const ACCEPTED: Act = Act::Decides(Vote::Commit, Effect::Accepted);
+
+const ABORTED: Act = Act::Decides(Vote::Abort, Effect::Aborted);
+
+/// Two sessions read the price, the first of them by two references, and a third would use it up.
+const TWO: [Row; 5] = [
+    (0, COMMITS, 1, Some(0)),
+    (1, COMMITS, 2, Some(1)),
+    (2, ABORTS, 2, Some(1)),
+    (0, ACCEPTED, 1, Some(1)),
+    (1, ABORTED, 0, None),
+];
 
 #[test]
 fn two_sessions_read_an_object(rt: HostRuntime) -> Result<(), Fail> {
     let alloc = rt.alloc();
     let mut table = coins(&rt, alloc)?;
-    let x1 = reads(alloc, FIRST, 5, 2, 1)?;
-    let x2 = reads(alloc, SECOND, 5, 1, 2)?;
-    let uses = spend(alloc, PRICE, 5, &[5], 3)?;
-    let d1 = session_digest(alloc, &x1)?;
-    let d2 = session_digest(alloc, &x2)?;
-    assert!(rt; prepared(&rt, alloc, &mut table, &x1)? == Vote::Commit);
-    assert!(rt; readers(&rt, &table) == (1, Some(d1)));
-    assert!(rt; prepared(&rt, alloc, &mut table, &x2)? == Vote::Commit);
-    assert!(rt; readers(&rt, &table) == (2, Some(d2)));
-    assert!(rt; prepared(&rt, alloc, &mut table, &uses)? == Vote::Abort);
-    assert!(rt; decided(&rt, alloc, &mut table, &x1, Vote::Commit)? == Effect::Accepted);
-    assert!(rt; readers(&rt, &table) == (1, Some(d2)));
-    assert!(rt; decided(&rt, alloc, &mut table, &x2, Vote::Abort)? == Effect::Aborted);
-    assert!(rt; readers(&rt, &table) == (0, None));
-    Ok(())
+    let sessions = [
+        reads(alloc, FIRST, 5, 2, 1)?,
+        reads(alloc, SECOND, 5, 1, 2)?,
+        spend(alloc, PRICE, 5, &[5], 3)?,
+    ];
+    play(&rt, alloc, &mut table, &sessions, &TWO)
 }
 
 /// A table in which a coin was split into 64 of 1, and the digest of the transaction that did it.
 fn split(rt: &impl Abort, alloc: Global) -> Result<(Table, Digest), Fail> {
     let mut table = coins(rt, alloc)?;
     let split = spend(alloc, FIRST, 5, &[1; 64], 0)?;
-    assert!(rt; prepared(rt, alloc, &mut table, &split)? == Vote::Commit);
-    assert!(rt; decided(rt, alloc, &mut table, &split, Vote::Commit)? == Effect::Accepted);
+    carry_out(rt, alloc, &mut table, &split, &COMMITS)?;
+    carry_out(rt, alloc, &mut table, &split, &ACCEPTED)?;
     let digest = tx_digest(alloc, &split.tx)?;
     Ok((table, digest))
 }
+
+/// Sessions that read the price: 64 that use up these coins, and two more of another coin.
+fn many(alloc: Global, digest: &Digest) -> Result<Vec<Session>, Memory> {
+    let mut sessions = Vec::new(alloc);
+    for place in 0..64 {
+        sessions.push(reads(alloc, output_name(digest, 0, place), 1, 1, 1)?)?;
+    }
+    sessions.push(reads(alloc, SECOND, 5, 1, 1)?)?;
+    sessions.push(reads(alloc, SECOND, 5, 1, 2)?)?;
+    Ok(sessions)
+}
+
+/// Behind 64 readers: the 65th is late, and stays so once it was; another comes behind one that left.
+const LATE: [Row; 4] = [
+    (64, ABORTS, 64, Some(63)),
+    (0, ACCEPTED, 63, Some(63)),
+    (64, ABORTS, 63, Some(63)),
+    (65, COMMITS, 64, Some(65)),
+];
 
 #[test]
 fn a_65th_session_reads_once_one_has_left(rt: HostRuntime) -> Result<(), Fail> {
     let alloc = rt.alloc();
     let (mut table, digest) = split(&rt, alloc)?;
-    for place in 0..64 {
-        let x = reads(alloc, output_name(&digest, 0, place), 1, 1, 1)?;
-        assert!(rt; prepared(&rt, alloc, &mut table, &x)? == Vote::Commit);
+    let sessions = many(alloc, &digest)?;
+    for session in sessions.iter().take(64) {
+        carry_out(&rt, alloc, &mut table, session, &COMMITS)?;
     }
-    assert!(rt; readers(&rt, &table).0 == 64);
-    let late = reads(alloc, SECOND, 5, 1, 1)?;
-    assert!(rt; prepared(&rt, alloc, &mut table, &late)? == Vote::Abort);
-    let first = reads(alloc, output_name(&digest, 0, 0), 1, 1, 1)?;
-    assert!(rt; decided(&rt, alloc, &mut table, &first, Vote::Commit)? == Effect::Accepted);
-    assert!(rt; prepared(&rt, alloc, &mut table, &late)? == Vote::Abort);
-    let again = reads(alloc, SECOND, 5, 1, 2)?;
-    let last = session_digest(alloc, &again)?;
-    assert!(rt; prepared(&rt, alloc, &mut table, &again)? == Vote::Commit);
-    assert!(rt; readers(&rt, &table) == (64, Some(last)));
-    Ok(())
+    play(&rt, alloc, &mut table, sessions.as_slice(), &LATE)
 }
 
 /// A state that is read by so many, of which the last one stands twice or not.
