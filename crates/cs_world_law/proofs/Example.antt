@@ -48,7 +48,7 @@ use Rattle.cs_world_law.specs.Agreement.{MayBeEchoed, IsProposed}
 -- ---- stand-ins
 
 -- a session is told by its number alone
-abbrev session : ℕ → Session
+abbrev pub session : ℕ → Session
 session number = record no_session { number = number }
 
 abbrev coin : ℕ → ℕ → Item
@@ -71,7 +71,7 @@ bytes_of (Prepare x) = 0 ∷ x.number ∷ []
 bytes_of (Decide Commit x) = 1 ∷ x.number ∷ []
 bytes_of (Decide Abort x) = 2 ∷ x.number ∷ []
 
-abbrev proposed : Entry → Proposed
+abbrev pub proposed : Entry → Proposed
 proposed entry = record { digest = bytes_of entry ++ replicate 30 0; bytes = bytes_of entry }
 
 abbrev entry_of_bytes : Bytes → Entry
@@ -80,7 +80,7 @@ entry_of_bytes (suc zero ∷ number ∷ []) = Decide Commit (session number)
 entry_of_bytes (suc (suc n) ∷ number ∷ []) = Decide Abort (session number)
 entry_of_bytes _ = Prepare (session 0)
 
-abbrev written : OrderMessage → Message
+abbrev pub written : OrderMessage → Message
 written (order.Propose slot view p) = message.Propose slot view (entry_of_bytes p.bytes)
 written (order.Echo slot view digest) = message.Echo slot view digest
 written (order.Confirm slot view digest) = message.Confirm slot view digest
@@ -95,10 +95,10 @@ heard (message.Change slot view c) = Some (order.Change slot view (record { prep
 heard (message.Done slot entry) = Some (order.Done slot (proposed entry))
 heard said = None
 
-abbrev member : ℕ → NodeId
+abbrev pub member : ℕ → NodeId
 member index = record { shard = 0; index = index }
 
-abbrev client : NodeId
+abbrev pub client : NodeId
 client = record { shard = 65535; index = 0 }
 
 -- a member's index, or else the client's number
@@ -116,7 +116,7 @@ abbrev opened_as : Bytes → Opened
 opened_as (from ∷ kind ∷ body) = said_by (name_of from) (message_whole kind body)
 opened_as _ = Err error.Short
 
-abbrev site : Site OrderMessage
+abbrev pub site : Site OrderMessage
 site = record {
   setup = record {
     shards = 1;
@@ -136,26 +136,26 @@ site = record {
 }
 
 -- what a name says to a member
-abbrev said : NodeId → ℕ → Message → Input
+abbrev pub said : NodeId → ℕ → Message → Input
 said from to m = Datagram (sealed_by_net site.net from (member to) m)
 
 -- ---- what happens
 
-abbrev Marks : Type 0
+abbrev pub Marks : Type 0
 Marks = List (Mark OrderMessage)
 
-abbrev Happenings : Type 0
+abbrev pub Happenings : Type 0
 Happenings = List (Happening OrderMessage)
 
 -- a deed of a member's order, and what it sends by it
-abbrev does : ℕ → Deed OrderMessage → Marks
+abbrev pub does : ℕ → Deed OrderMessage → Marks
 does index deed = plain (handed site (member index) (sent_by deed)) ++ Ordered deed ∷ []
 
 -- a member is given this, and does that, which has the newest first
-abbrev event : ℕ → Input → Marks → Happening OrderMessage
+abbrev pub event : ℕ → Input → Marks → Happening OrderMessage
 event index input marks = record { node = member index; input = input; marks = marks ++ In input ∷ [] }
 
-abbrev vote : Entry
+abbrev pub vote : Entry
 vote = Prepare (session 16)
 
 abbrev decision : Entry
@@ -176,7 +176,7 @@ echo = Echoed (to_all (order.Echo 0 0 d))
 abbrev confirm : Deed OrderMessage
 confirm = Advanced Moved (to_all (order.Confirm 0 0 d))
 
-abbrev takes : ℕ → OrderMessage → Marks
+abbrev pub takes : ℕ → OrderMessage → Marks
 takes from m = Ordered (Took_in from m) ∷ []
 
 -- the vote goes to the other members, and the member takes its own
@@ -194,7 +194,7 @@ submitted = event 0 (said client 0 (message.Submit (session 16))) (does 0 echo +
 abbrev echoed_1 : Happenings
 echoed_1 = event 1 (said (member 0) 1 (message.Propose 0 0 vote)) (does 1 echo ++ takes 0 (order.Propose 0 0 (proposed vote))) ∷ submitted
 
-abbrev echoed_2 : Happenings
+abbrev pub echoed_2 : Happenings
 echoed_2 = event 2 (said (member 0) 2 (message.Propose 0 0 vote)) (does 2 echo ++ takes 0 (order.Propose 0 0 (proposed vote))) ∷ echoed_1
 
 abbrev one_echo : Happenings
@@ -221,7 +221,7 @@ abbrev other_confirm : Happenings
 other_confirm = event 1 (said (member 0) 1 (message.Confirm 0 0 d)) (takes 0 (order.Confirm 0 0 d)) ∷ voted_0
 
 -- nobody submitted it to member 1
-abbrev voted_1 : Happenings
+abbrev pub voted_1 : Happenings
 voted_1 = event 1 (said (member 3) 1 (message.Confirm 0 0 d)) (votes_so 1 (Entered (session 16) ∷ []) ++ takes 3 (order.Confirm 0 0 d)) ∷ other_confirm
 
 -- two votes support the decision, and member 1 leads the first view of slot 1
@@ -236,19 +236,19 @@ decided =
 -- ---- each member keeps the rules
 
 -- the last event made the marks that the rules give
-abbrev IsRuled : Happenings → Type 0
+abbrev pub IsRuled : Happenings → Type 0
 IsRuled [] = Unit {0}
 IsRuled (h ∷ past) = h.marks ≡ event_marks site (view_of site past h.node) h.input
 
-rules_submitted : IsRuled submitted
+pub rules_submitted : IsRuled submitted
 unfolding event_marks settled count_below any_below first_below last_below last_found upto_at many_at some_at pair_at tested_at within_at kinds_at front_at back_at trace_at tx_at session_at propose_at step_at voted_at flag_at
 rules_submitted = refl
 
-rules_echoed_1 : IsRuled echoed_1
+pub rules_echoed_1 : IsRuled echoed_1
 unfolding event_marks settled count_below any_below first_below last_below last_found upto_at many_at some_at pair_at tested_at within_at kinds_at front_at back_at trace_at tx_at session_at propose_at step_at voted_at flag_at
 rules_echoed_1 = refl
 
-rules_echoed_2 : IsRuled echoed_2
+pub rules_echoed_2 : IsRuled echoed_2
 unfolding event_marks settled count_below any_below first_below last_below last_found upto_at many_at some_at pair_at tested_at within_at kinds_at front_at back_at trace_at tx_at session_at propose_at step_at voted_at flag_at
 rules_echoed_2 = refl
 
@@ -293,7 +293,7 @@ life = (rules_decided, (rules_voted_1, (rules_other_confirm, (rules_voted_0, (ru
 
 -- ---- each part of the second phase has its premise met
 
-abbrev view_at : ℕ → Happenings → View OrderMessage
+abbrev pub view_at : ℕ → Happenings → View OrderMessage
 view_at index world = view_of site world (member index)
 
 abbrev sight_at : ℕ → Happenings → Sight
@@ -339,10 +339,10 @@ has_chosen = refl
 
 -- ---- so it is a world
 
-abbrev are_honest : Net → List (Happening OrderMessage) → Bool
+abbrev pub are_honest : Net → List (Happening OrderMessage) → Bool
 are_honest net world = list_all (λ (h : Happening OrderMessage). net.is_honest h.node) world
 
-honest-so : (net : Net) (world : List (Happening OrderMessage)) → are_honest net world ≡ true → AreHonest net world
+pub honest-so : (net : Net) (world : List (Happening OrderMessage)) → are_honest net world ≡ true → AreHonest net world
 honest-so net [] is = tt
 honest-so net (h ∷ past) is = let parts = and_parts _ _ is in (parts.0, honest-so net past parts.1)
 
@@ -354,23 +354,23 @@ input-so : (input : Input) → is_of_bytes input ≡ true → InputIsBytes input
 input-so (Datagram bytes) is = bytes-are bytes is
 input-so Tick is = tt
 
-abbrev are_of_bytes : List (Happening OrderMessage) → Bool
+abbrev pub are_of_bytes : List (Happening OrderMessage) → Bool
 are_of_bytes world = list_all (λ (h : Happening OrderMessage). is_of_bytes h.input) world
 
-bytes-so : (world : List (Happening OrderMessage)) → are_of_bytes world ≡ true → AreBytes world
+pub bytes-so : (world : List (Happening OrderMessage)) → are_of_bytes world ≡ true → AreBytes world
 bytes-so [] is = tt
 bytes-so (h ∷ past) is = let parts = and_parts _ _ is in (input-so h.input parts.0, bytes-so past parts.1)
 
-abbrev are_genuine : Net → List (Happening OrderMessage) → Bool
+abbrev pub are_genuine : Net → List (Happening OrderMessage) → Bool
 are_genuine net [] = true
 are_genuine net (h ∷ past) = is_genuine_input net h.node h.input (sent_in net past) && are_genuine net past
 
-genuine-so : (net : Net) (world : List (Happening OrderMessage)) → are_genuine net world ≡ true → NoForgery net world
+pub genuine-so : (net : Net) (world : List (Happening OrderMessage)) → are_genuine net world ≡ true → NoForgery net world
 genuine-so net [] is = tt
 genuine-so net (h ∷ past) is = let parts = and_parts _ _ is in (parts.0, genuine-so net past parts.1)
 
 -- one of four lies
-few : (shard : ℕ) → shard < 1 → FewLiars 1 (λ index. is_honest site (record { shard = shard; index = index }))
+pub few : (shard : ℕ) → shard < 1 → FewLiars 1 (λ index. is_honest site (record { shard = shard; index = index }))
 unfolding count_below
 few zero below = lit≤ tt
 few (suc shard) below = absurd (omega arith)

@@ -35,3 +35,4 @@ pub mod Resting
 pub mod Handing
 pub mod Saying
 pub mod Example
+pub mod ExampleViews
