@@ -99,10 +99,9 @@ fn begun(rt: &impl Abort, alloc: Global, case: &Case) -> Result<Table, Fail> {
     let anchor = coin(alloc, worth(case.anchor))?;
     let input = coin(alloc, worth(case.input))?;
     let reference = coin(alloc, worth(case.reference))?;
-    let readers = [coin(alloc, 5)?, coin(alloc, 5)?, coin(alloc, 5)?];
+    let (of_anchor, of_input, of_reference) = (coin(alloc, 5)?, coin(alloc, 5)?, coin(alloc, 5)?);
     assert!(rt; anchor.fits() && input.fits() && reference.fits());
-    assert!(rt; readers[0].fits() && readers[1].fits() && readers[2].fits());
-    let [of_anchor, of_input, of_reference] = readers;
+    assert!(rt; of_anchor.fits() && of_input.fits() && of_reference.fits());
     let objects = [
         (key(1, case.anchor), anchor),
         (key(2, case.input), input),

@@ -152,6 +152,7 @@ fn split(rt: &impl Abort, alloc: Global) -> Result<(Table, Digest), Fail> {
     let split = spend(alloc, FIRST, 5, &[1; 64], 0)?;
     carry_out(rt, alloc, &mut table, &split, &COMMITS)?;
     carry_out(rt, alloc, &mut table, &split, &ACCEPTED)?;
+    assert!(rt; split.tx.fits());
     let digest = tx_digest(alloc, &split.tx)?;
     Ok((table, digest))
 }
