@@ -12,10 +12,8 @@ use cs_base::{Config, Key, Memory, NodeId, Sequence, shard_of};
 use cs_tx_types::Session;
 use cs_tx_value::{Digest, Encoded};
 use cs_wire::{Keys, Message, Out};
+use cs_wire_message::kinds::SUBMIT;
 use std::alloc::Global;
-
-/// The kind of a message that submits a session.
-const SUBMIT: u8 = 1;
 
 // Asks the nodes of its shard for an object.
 fn ask(

@@ -8,15 +8,7 @@ ghost use Rattle.cs_gen.specs.Draws.{state_after};
 use crate::draws::Draws;
 use cs_base::{Memory, Sequence};
 use cs_tx::{Digest, Name, Object, Value};
-use sha2::{Digest as Hasher, Sha256};
 use std::alloc::Global;
-
-// The id of the contract `token`.
-pub(crate) fn token() -> Digest
-    ensures { result ≡ token_id }
-{
-    Sha256::digest(b"token")
-}
 
 pub(crate) fn coin(alloc: Global, token: &Digest, worth: u64) -> Result<Object, Memory>
     requires token { token.now ≡ token_id }

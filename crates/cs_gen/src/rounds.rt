@@ -15,13 +15,11 @@ use crate::sessions::{Offer, make_offer};
 use cs_base::{CLIENT_SHARD, Memory, NodeId, Sequence};
 use cs_sched::Event;
 use cs_tx::{Digest, Encoded, Session};
+use cs_wire_message::kinds::SUBMIT;
 use std::alloc::Global;
 
 // How many nodes a shard has.
 const MEMBERS: u16 = 4;
-
-// The kind of the datagrams by which a client submits a session.
-const SUBMIT: u8 = 1;
 
 // The client that submits all sessions.
 const CLIENT: NodeId = NodeId {

@@ -4,14 +4,14 @@ ghost use Rattle.std.specs.List.{enumerate_from};
 ghost use Rattle.cs_gen.specs.Draws.{state_after};
 ghost use Rattle.cs_gen.specs.Schedules.{drawn_master, drawn_schedule};
 
-use crate::coins::{coins, draw_worths, token};
+use crate::coins::{coins, draw_worths};
 use crate::draws::Draws;
 use crate::limits::MOST_SIZE;
 use crate::rounds::draw_events;
 use crate::sessions::layout;
 use cs_base::{Memory, Sequence, Writer};
 use cs_sched::{Event, Schedule};
-use cs_tx::Digest;
+use cs_tx::{Digest, id_of_token};
 use std::alloc::Global;
 
 // The master: four states in a row.
@@ -52,7 +52,7 @@ pub fn schedule_of(alloc: Global, number: u64, size: u32) -> Result<Schedule, Me
     let mut draws = Draws::new(number);
     let master = draw_master(alloc, &mut draws)?;
     let worths = draw_worths(alloc, &mut draws, size)?;
-    let token = token();
+    let token = id_of_token();
     let genesis = coins(alloc, &token, &worths)?;
     let events = draw_events(alloc, &token, &mut draws, &worths)?;
     Ok(Schedule {
