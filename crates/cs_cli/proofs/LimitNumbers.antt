@@ -1,6 +1,6 @@
 -- The limits have their numbers.
 use Rattle.std.proofs.Common.{refl}
-use Rattle.cs_cli.specs.Limits.{DeploymentLimitsAre, TextLimitsAre}
+use Rattle.cs_cli.specs.Limits.{DeploymentLimitsAre, TextLimitsAre, LedgerLimitsAre, OrderLimitsAre}
 
 pub deployment-limits : DeploymentLimitsAre
 deployment-limits = record {
@@ -26,4 +26,29 @@ text-limits = record {
   sent = refl;
   dump = refl;
   size = refl;
+}
+
+pub ledger-limits : LedgerLimitsAre
+ledger-limits = record {
+  object = refl;
+  transaction = refl;
+  session = refl;
+  entry = refl;
+  traces = refl;
+  objects = refl;
+  values = refl;
+  deps = refl;
+  book = refl;
+  waiting = refl;
+}
+
+pub order-limits : OrderLimitsAre
+order-limits = record {
+  least = refl;
+  view = refl;
+  slot = refl;
+  ahead = refl;
+  echoed = refl;
+  covered = refl;
+  kept = refl;
 }

@@ -1,7 +1,9 @@
 -- The limits of the program by their numbers: other definitions have them by their names.
 use Rattle.std.specs.Prelude.{◌≡◌}
-use Rattle.cs_base.specs.declared.limits.TheConstants.{MOST_SHARDS, MOST_LIARS, MOST_DUMMIES, MOST_READERS, MOST_DATAGRAM, MOST_GENESIS, MOST_SCHEDULE, MOST_EVENTS, MOST_SENT}
+use Rattle.cs_base.specs.declared.limits.TheConstants.{MOST_SHARDS, MOST_LIARS, MOST_DUMMIES, MOST_READERS, LEAST_DATAGRAM, MOST_DATAGRAM, MOST_GENESIS, MOST_SCHEDULE, MOST_EVENTS, MOST_SENT, MOST_OBJECT, MOST_TX, MOST_SESSION, MOST_ENTRY, BOOK_PLACES, MOST_WAITING, LAST_VIEW, LAST_SLOT, SLOTS_AHEAD, MOST_ECHOED}
 use Rattle.cs_base.specs.declared.node_id.TheConstants.{CLIENTS}
+use Rattle.cs_tx_types.specs.declared.limits.TheConstants.{MOST_TRACES, MOST_TRACE_OBJECTS, MOST_TRACE_VALUES, MOST_DEPS, COVERED}
+use Rattle.cs_check_rules.specs.declared.kept.TheConstants.{KEPT_SLOTS}
 use Rattle.cs_lang_token.specs.declared.limits.TheConstants.{MOST_TEXT, MOST_COST}
 use Rattle.cs_sched.specs.declared.limits.TheConstants.{MOST_CONTRACTS}
 use Rattle.cs_gen.specs.declared.limits.TheConstants.{MOST_SIZE}
@@ -33,3 +35,26 @@ pub record TextLimitsAre : Type 0 where
   pub sent : MOST_SENT ≡ 268435456  -- bytes that the nodes of a replay send
   pub dump : MOST_DUMP ≡ 67108864  -- bytes
   pub size : MOST_SIZE ≡ 1000  -- of a simulation
+
+-- those of transactions, and of what a shard keeps
+pub record LedgerLimitsAre : Type 0 where
+  pub object : MOST_OBJECT ≡ 4096  -- bytes, as the next three
+  pub transaction : MOST_TX ≡ 8192
+  pub session : MOST_SESSION ≡ 8351
+  pub entry : MOST_ENTRY ≡ 8353
+  pub traces : MOST_TRACES ≡ 16
+  pub objects : MOST_TRACE_OBJECTS ≡ 64  -- inputs, references or outputs of a trace
+  pub values : MOST_TRACE_VALUES ≡ 16  -- parameters or returns of one
+  pub deps : MOST_DEPS ≡ 15
+  pub book : BOOK_PLACES ≡ 1024
+  pub waiting : MOST_WAITING ≡ 4096  -- sessions at a node
+
+-- those of slots, views and checkpoints
+pub record OrderLimitsAre : Type 0 where
+  pub least : LEAST_DATAGRAM ≡ 49  -- bytes
+  pub view : LAST_VIEW ≡ 1023
+  pub slot : LAST_SLOT ≡ 4611686018427387903
+  pub ahead : SLOTS_AHEAD ≡ 15  -- above the open slot
+  pub echoed : MOST_ECHOED ≡ 16  -- digests of a member in a slot
+  pub covered : COVERED ≡ 16  -- slots of a checkpoint
+  pub kept : KEPT_SLOTS ≡ 1024

@@ -47,7 +47,7 @@ ghost use Rattle.cs_io.specs.Outside.{Object, told_of, faults_of, outside};
 ghost use Rattle.cs_cli.specs.Answers.{words_answer};
 ghost use Rattle.cs_cli.specs.Done.{DeploymentDoes, CommandDoes};
 ghost use Rattle.cs_cli.specs.Alone.{DeploymentLeaves, CommandLeaves, LeavesAlone};
-ghost use Rattle.cs_cli.specs.Limits.{DeploymentLimitsAre, TextLimitsAre};
+ghost use Rattle.cs_cli.specs.Limits.{DeploymentLimitsAre, TextLimitsAre, LedgerLimitsAre, OrderLimitsAre};
 ghost use Rattle.cs_cli.specs.declared.words.Command.{Command};
 ghost use Rattle.cs_cli.specs.declared.words.Command.TheVariants.{Simulate};
 
@@ -159,9 +159,11 @@ pub fn run<S: Source, K: Sink, E: Store, L: Link, P: Spawner>(
         → schedule_of MOST_SCHEDULE text ≡ Ok schedule
         → IsSound (is_approved_by schedule.contracts) schedule }
 
-    // The limits that clauses have by name are these numbers.
+    // These limits, which clauses have by name, are these numbers.
     ensures deployment_limits { DeploymentLimitsAre }
     ensures text_limits { TextLimitsAre }
+    ensures ledger_limits { LedgerLimitsAre }
+    ensures order_limits { OrderLimitsAre }
 
     // What is read is what was written so. Bytes open as a message exactly where they are its
     // datagram, sealed under the key that is held, and else the first test that fails is told;

@@ -8,7 +8,7 @@ use Rattle.cs_cli.proofs.Ended.{simulate-ends}
 use Rattle.cs_cli.specs.Words.{texts_of}
 use Rattle.cs_cli.proofs.Doing.{does-as}
 use Rattle.cs_cli.proofs.Leaving.{leaves-as}
-use Rattle.cs_cli.proofs.LimitNumbers.{deployment-limits, text-limits}
+use Rattle.cs_cli.proofs.LimitNumbers.{deployment-limits, text-limits, ledger-limits, order-limits}
 use Rattle.cs_cli.proofs.Simulations.{command-small}
 use Rattle.cs_cli.proofs.program.run.Goals as goal
 
@@ -98,8 +98,20 @@ returns-in-Some-clause-deployment_limits g c = deployment-limits
 pub returns-in-Some-clause-text_limits : goal.returns-in-Some-clause-text_limits
 returns-in-Some-clause-text_limits g c = text-limits
 
+pub returns-in-Some-clause-ledger_limits : goal.returns-in-Some-clause-ledger_limits
+returns-in-Some-clause-ledger_limits g c = ledger-limits
+
+pub returns-in-Some-clause-order_limits : goal.returns-in-Some-clause-order_limits
+returns-in-Some-clause-order_limits g c = order-limits
+
 pub returns-in-None-clause-deployment_limits : goal.returns-in-None-clause-deployment_limits
 returns-in-None-clause-deployment_limits g c = deployment-limits
 
 pub returns-in-None-clause-text_limits : goal.returns-in-None-clause-text_limits
 returns-in-None-clause-text_limits g c = text-limits
+
+pub returns-in-None-clause-ledger_limits : goal.returns-in-None-clause-ledger_limits
+returns-in-None-clause-ledger_limits g c = ledger-limits
+
+pub returns-in-None-clause-order_limits : goal.returns-in-None-clause-order_limits
+returns-in-None-clause-order_limits g c = order-limits
