@@ -50,6 +50,12 @@ def coin_key(place):
     return hashlib.sha256(b"G" + struct.pack(">I", place) + COIN).hexdigest()
 
 
+def hosts_text(addresses, tick=None):
+    """The hosts file of these addresses, each under its name, with a tick or without."""
+    hosts = "".join(f'{{name = "{name}", address = "{address}"}}, ' for name, address in addresses.items())
+    return f"hosts = [{hosts}]\n" + (f"tick = {tick}\n" if tick is not None else "")
+
+
 def end_with(process):
     """Ends a process that has a session of its own, with all that it started there, unless it has ended."""
     if process.poll() is None:
@@ -58,14 +64,19 @@ def end_with(process):
 
 
 class Ledger:
-    """One shard of 3f+1 nodes in a folder of its own, whose coins are used up one after the other."""
+    """One shard of 3f+1 nodes in a folder of its own, whose coins are used up one after the other. Where addresses are given, the nodes
+    are there, as a hosts file says, and the clients at their own, if they have one."""
 
-    def __init__(self, program, folder, faulty=1, coins=4000):
+    def __init__(self, program, folder, faulty=1, coins=4000, addresses=(), clients_at=None):
         self.program, self.folder, self.base_port = Path(program).resolve(), Path(folder), free_base()
         self.nodes, self.clients, self.coins = {}, set(), iter(range(coins))
         self.accepted, self.others = [], []
         self.lock, self.stopping, self.payers = threading.Lock(), threading.Event(), []
-        self.size = 3 * faulty + 1
+        self.size, self.addresses, self.hosts = 3 * faulty + 1, addresses, ["--hosts", "hosts.toml"] if addresses else []
+        if addresses:
+            clients = {f"c.{client}": clients_at for client in range(16)} if clients_at else {}
+            nodes = {f"0.{index}": address for index, address in enumerate(addresses)}
+            (self.folder / "hosts.toml").write_text(hosts_text(nodes | clients))
         # A client looks at no genesis object: it is told the state of its coin.
         for name, genesis in ("site.toml", [COIN.hex()] * coins), ("of-clients.toml", []):
             site = {"shards": 1, "faulty": faulty, "dummies": 0, "base_port": self.base_port, "contracts": [], "genesis": genesis}
@@ -84,18 +95,23 @@ class Ledger:
         for payer in self.payers:
             payer.join()
 
-    def start(self, *words, **outputs):
-        return subprocess.Popen([self.program, *words], cwd=self.folder, stdin=subprocess.DEVNULL, stderr=subprocess.DEVNULL,
+    def enter(self, host):
+        """What stands before the program's words where the node of this number runs, or, of none, the clients; and in which folder."""
+        return [], self.folder
+
+    def start(self, host, *words, **outputs):
+        before, folder = self.enter(host)
+        return subprocess.Popen([*before, self.program, *words], cwd=folder, stdin=subprocess.DEVNULL, stderr=subprocess.DEVNULL,
                                 start_new_session=True, **outputs)
 
     def start_nodes(self, without=()):
         for index in range(self.size):
             if index not in without:
-                words = ["node", "site.toml", f"keys-0.{index}.toml", *NODE_ENDS]
-                self.nodes[index] = self.start(*words, stdout=subprocess.DEVNULL)
+                words = ["node", "site.toml", f"keys-0.{index}.toml", *self.hosts, *NODE_ENDS]
+                self.nodes[index] = self.start(index, *words, stdout=subprocess.DEVNULL)
 
     def address(self, index):
-        return "127.0.0.1", self.base_port + index
+        return self.addresses[index] if self.addresses else "127.0.0.1", self.base_port + index
 
     def signal(self, index, number):
         self.nodes[index].send_signal(number)
@@ -111,9 +127,9 @@ class Ledger:
             if place is None or self.stopping.is_set():
                 return False
             call = {"contract": '"token"', "method": '"transfer"', "inputs": [coin_key(place)], "reads": [], "args": [2, 3], "number": 1}
-            (self.folder / f"call-{client}.toml").write_text("".join(f"{field} = {value}\n" for field, value in call.items()))
-            words = ["client", "of-clients.toml", f"keys-c.{client}.toml", f"call-{client}.toml", *CLIENT_ENDS]
-            process = self.start(*words, stdout=subprocess.PIPE)
+            (self.enter(None)[1] / f"call-{client}.toml").write_text("".join(f"{field} = {value}\n" for field, value in call.items()))
+            words = ["client", "of-clients.toml", f"keys-c.{client}.toml", f"call-{client}.toml", *self.hosts, *CLIENT_ENDS]
+            process = self.start(None, *words, stdout=subprocess.PIPE)
             self.clients.add(process)
         line = process.communicate()[0].decode()
         with self.lock:

@@ -14,7 +14,7 @@ fn main(rt: HostRuntime) -> ExitCode {
     let mut input = StandardInput::new(rt.stdin());
     let mut output = StandardOutput::new(rt.stdout());
     let mut store = FileStore::new(&rt, rt.alloc());
-    let mut link = UdpLink::new(&rt);
+    let mut link = UdpLink::new(&rt, rt.alloc());
     let mut children = Children::new(&rt, rt.alloc());
     ExitCode::from(cs_cli::run(
         rt.alloc(),

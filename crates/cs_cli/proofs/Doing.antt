@@ -6,7 +6,7 @@ use Rattle.cs_cli.specs.declared.words.Command.{Command}
 use Rattle.cs_cli.specs.declared.words.Command.TheVariants.{ReadKeys}
 use Rattle.cs_cli.specs.declared.deployments.Deployment.{Deployment}
 use Rattle.cs_cli.specs.declared.deployments.Deployment.TheVariants.{Node, Client, Keys, Cluster}
-use Rattle.cs_cli.specs.Deployed.{word_at}
+use Rattle.cs_cli.specs.Deployed.{word_at, word_if}
 use Rattle.cs_cli.specs.Done.{NodeDoes, ClientDoes, KeysDoes, ClusterDoes, DeploymentDoes, ReadKeysDoes, CommandDoes}
 use Rattle.cs_cli.proofs.Outcomes.{one-command}
 
@@ -25,18 +25,22 @@ module _ (words : List (List ℕ)) (a b : Outside) (status : ℕ) where
   deploys-so : (x deployment : Deployment) → deployment ≡ x → DeploymentDoes x words a b status → DeploymentDoes deployment words a b status
   deploys-so x deployment is = subst (λ (z : Deployment). DeploymentDoes z words a b status) (sym is)
 
-  pub node-does : (site keys : ℕ) (until : Until) (s k : List ℕ) (deployment : Deployment) → deployment ≡ Node site keys until → s ≡ word_at words site → k ≡ word_at words keys → NodeDoes s k until a b status → DeploymentDoes deployment words a b status
-  node-does site keys until s k deployment is first second does =
-      deploys-so (Node site keys until) deployment is
-      (subst (λ (x : List ℕ). NodeDoes x (word_at words keys) until a b status) first
-      (subst (λ (x : List ℕ). NodeDoes s x until a b status) second does))
+  pub node-does : (site keys : ℕ) (hosts : Option ℕ) (until : Until) (s k : List ℕ) (h : Option (List ℕ)) (deployment : Deployment) → deployment ≡ Node site keys hosts until → s ≡ word_at words site → k ≡ word_at words keys → h ≡ word_if words hosts
+      → NodeDoes s k h until a b status → DeploymentDoes deployment words a b status
+  node-does site keys hosts until s k h deployment is first second third does =
+      deploys-so (Node site keys hosts until) deployment is
+      (subst (λ (x : List ℕ). NodeDoes x (word_at words keys) (word_if words hosts) until a b status) first
+      (subst (λ (x : List ℕ). NodeDoes s x (word_if words hosts) until a b status) second
+      (subst (λ (x : Option (List ℕ)). NodeDoes s k x until a b status) third does)))
 
-  pub client-does : (site keys call : ℕ) (until : Until) (s k c : List ℕ) (deployment : Deployment) → deployment ≡ Client site keys call until → s ≡ word_at words site → k ≡ word_at words keys → c ≡ word_at words call → ClientDoes s k c until a b status → DeploymentDoes deployment words a b status
-  client-does site keys call until s k c deployment is first second third does =
-      deploys-so (Client site keys call until) deployment is
-      (subst (λ (x : List ℕ). ClientDoes x (word_at words keys) (word_at words call) until a b status) first
-      (subst (λ (x : List ℕ). ClientDoes s x (word_at words call) until a b status) second
-      (subst (λ (x : List ℕ). ClientDoes s k x until a b status) third does)))
+  pub client-does : (site keys call : ℕ) (hosts : Option ℕ) (until : Until) (s k c : List ℕ) (h : Option (List ℕ)) (deployment : Deployment) → deployment ≡ Client site keys call hosts until → s ≡ word_at words site → k ≡ word_at words keys → c ≡ word_at words call → h ≡ word_if words hosts
+      → ClientDoes s k c h until a b status → DeploymentDoes deployment words a b status
+  client-does site keys call hosts until s k c h deployment is first second third fourth does =
+      deploys-so (Client site keys call hosts until) deployment is
+      (subst (λ (x : List ℕ). ClientDoes x (word_at words keys) (word_at words call) (word_if words hosts) until a b status) first
+      (subst (λ (x : List ℕ). ClientDoes s x (word_at words call) (word_if words hosts) until a b status) second
+      (subst (λ (x : List ℕ). ClientDoes s k x (word_if words hosts) until a b status) third
+      (subst (λ (x : Option (List ℕ)). ClientDoes s k c x until a b status) fourth does))))
 
   pub keys-does : (site : ℕ) (master s : List ℕ) (deployment : Deployment) → deployment ≡ Keys site master → s ≡ word_at words site → KeysDoes s master a b status → DeploymentDoes deployment words a b status
   keys-does site master s deployment is first does =

@@ -5,9 +5,9 @@ pub mod Sources
 pub mod Told
 pub mod Dumps
 pub mod Doing
+pub mod Behind
 pub mod Leaving
 pub mod LimitNumbers
-pub mod Longer
 pub mod Subjects
 pub mod Lines
 pub mod ToldOfText

@@ -15,8 +15,8 @@ abbrev pub OnlyStreams : Outside → Outside → Type 0
 OnlyStreams old new = (new.store ≡ old.store) × NoLinkNoChild old new
 
 abbrev pub DeploymentLeaves : Deployment → Outside → Outside → Type 0
-DeploymentLeaves (Node site keys until) old new = (new.source ≡ old.source) × (new.spawner ≡ old.spawner)
-DeploymentLeaves (Client site keys call until) old new = (new.source ≡ old.source) × (new.spawner ≡ old.spawner)
+DeploymentLeaves (Node site keys hosts until) old new = (new.source ≡ old.source) × (new.spawner ≡ old.spawner)
+DeploymentLeaves (Client site keys call hosts until) old new = (new.source ≡ old.source) × (new.spawner ≡ old.spawner)
 DeploymentLeaves (Keys site master) old new = (new.source ≡ old.source) × NoLinkNoChild old new
 DeploymentLeaves (Cluster plan) old new = (new.source ≡ old.source) × (new.link ≡ old.link)
 

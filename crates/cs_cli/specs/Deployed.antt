@@ -1,5 +1,8 @@
--- The words of the commands of a deployment. Where `--turns N` or `--ticks N` stands among the files is free.
-use Rattle.std.specs.Prelude.{ℕ, Bool, false, not, ◌&&◌, ◌||◌, ◌==◌, List, [], ◌∷◌, codes, slice_index_or, Option, Some, None, option_map, if◌then◌else◌}
+-- The words of the commands of a deployment. Where `--turns N`, `--ticks N` or `--hosts FILE` stands among the files is
+-- free.
+use Rattle.std.specs.Prelude.{ℕ, ◌+◌, ◌-◌, ◌≤◌, Bool, false, not, ◌&&◌, ◌||◌, ◌==◌, nat_le, List, [], ◌∷◌, ◌++◌, take, drop, codes, slice_index_or, Option, Some, None, option_map, String, string_bytes, if◌then◌else◌}
+use Rattle.std.specs.declared.alloc.Global.{Global}
+use Rattle.std.specs.List.{position}
 use Rattle.std.specs.Str.{bytes_eq}
 use Rattle.cs_io.specs.Numbers.{short_number}
 use Rattle.cs_deploy.specs.Master.{master_in}
@@ -11,6 +14,10 @@ use Rattle.cs_cli.specs.declared.deployments.Deployment.TheVariants.{Node, Clien
 -- the word at a place; the command's own is at 0
 abbrev pub word_at : List (List ℕ) → ℕ → List ℕ
 word_at words place = slice_index_or words place []
+
+-- the word at a place, where there is one
+abbrev pub word_if : List (List ℕ) → Option ℕ → Option (List ℕ)
+word_if words place = option_map (word_at words) place
 
 -- a word that is no option
 abbrev pub is_file : List ℕ → Bool
@@ -37,7 +44,7 @@ until_in word number =
 
 -- the places of the site and the keys, and how long it runs
 abbrev pub node_deployment : ℕ → ℕ → List ℕ → List ℕ → Option Deployment
-node_deployment site keys limit number = option_map (Node site keys) (until_in limit number)
+node_deployment site keys limit number = option_map (Node site keys None) (until_in limit number)
 
 abbrev pub node_called : List (List ℕ) → Option Deployment
 node_called (a ∷ b ∷ c ∷ d ∷ []) =
@@ -51,7 +58,7 @@ node_called _ = None
 
 -- the places of the site, the keys and the call, and how long it runs
 abbrev pub client_at : ℕ → ℕ → ℕ → List ℕ → List ℕ → Option Deployment
-client_at site keys call limit number = option_map (Client site keys call) (until_in limit number)
+client_at site keys call limit number = option_map (Client site keys call None) (until_in limit number)
 
 abbrev pub client_called : List (List ℕ) → Option Deployment
 client_called (a ∷ b ∷ c ∷ d ∷ e ∷ []) =
@@ -61,6 +68,58 @@ client_called (a ∷ b ∷ c ∷ d ∷ e ∷ []) =
     else if (is_limit a && are_files c d) && is_file e then client_at 3 4 5 a b
     else None
 client_called _ = None
+
+-- the words behind the command of a node or a client
+abbrev pub run_called : List ℕ → List (List ℕ) → Option Deployment
+run_called word words =
+    if bytes_eq word (codes "node") then node_called words
+    else if bytes_eq word (codes "client") then client_called words
+    else None
+
+-- ---- `--hosts FILE` among them, at most once
+
+abbrev pub is_hosts : List ℕ → Bool
+is_hosts word = bytes_eq word (codes "--hosts")
+
+abbrev pub is_hosts_word : String Global → Bool
+is_hosts_word word = bytes_eq (string_bytes word) (codes "--hosts")
+
+-- the other words: all but two, of which the first stands behind so many
+abbrev pub without_two : ℕ → List (List ℕ) → List (List ℕ)
+without_two before words = take before words ++ drop (before + 2) words
+
+-- where one of them stands among all, the command's own at 0
+abbrev pub place_among : ℕ → ℕ → ℕ
+place_among before place = if nat_le place before then place else place + 2
+
+-- its files stand among the first words
+abbrev pub StandsNear : Deployment → Type 0
+StandsNear (Node site keys hosts until) = (site ≤ 5) × (keys ≤ 5)
+StandsNear (Client site keys call hosts until) = (site ≤ 5) × (keys ≤ 5) × (call ≤ 5)
+StandsNear (Keys site master) = Unit {0}
+StandsNear (Cluster plan) = Unit {0}
+
+-- the deployment that the other words call for, with the hosts file
+abbrev pub with_hosts : ℕ → Deployment → Deployment
+with_hosts before (Node site keys hosts until) =
+    Node (place_among before site) (place_among before keys) (Some (before + 2)) until
+with_hosts before (Client site keys call hosts until) =
+    Client (place_among before site) (place_among before keys) (place_among before call) (Some (before + 2)) until
+with_hosts before (Keys site master) = Keys site master
+with_hosts before (Cluster plan) = Cluster plan
+
+-- behind so many words `--hosts` isn't the value of another option, and its own is a file
+abbrev pub is_hosts_pair : List (List ℕ) → ℕ → Bool
+is_hosts_pair words before = not (is_limit (word_at words (before - 1))) && is_file (word_at words (before + 1))
+
+-- the words of a command, of which so many stand before `--hosts`, if it is there
+abbrev pub hosted_at : (List (List ℕ) → Option Deployment) → List (List ℕ) → Option ℕ → Option Deployment
+hosted_at called words None = called words
+hosted_at called words (Some before) =
+    if is_hosts_pair words before then option_map (with_hosts before) (called (without_two before words)) else None
+
+abbrev pub hosted : (List (List ℕ) → Option Deployment) → List (List ℕ) → Option Deployment
+hosted called words = hosted_at called words (position is_hosts words)
 
 -- ---- `keys FILE HEX`, `keys FILE -`, `cluster FILE`
 
@@ -80,8 +139,6 @@ cluster_called _ = None
 -- the command of a deployment of this word, with the words behind it
 abbrev pub deployment_of_word : List ℕ → List (List ℕ) → Option Deployment
 deployment_of_word word options =
-    if bytes_eq word (codes "node") then node_called options
-    else if bytes_eq word (codes "client") then client_called options
-    else if bytes_eq word (codes "keys") then keys_called options
+    if bytes_eq word (codes "keys") then keys_called options
     else if bytes_eq word (codes "cluster") then cluster_called options
-    else None
+    else hosted (run_called word) options

@@ -12,10 +12,9 @@ use Rattle.cs_replay.specs.Answers.{Replays, Completes}
 use Rattle.cs_replay.specs.declared.schedule.Mode.{Mode}
 use Rattle.cs_cli.specs.Simulated.{simulate_answer}
 use Rattle.cs_cli.specs.SimulatedReports.{AnswersWhole}
-use Rattle.cs_deploy.specs.declared.keys.Role.TheVariants as role
 use Rattle.cs_deploy.specs.Taking.{FilesCome}
-use Rattle.cs_deploy.specs.Files.{setup_taken, site_taken, cluster_taken}
-use Rattle.cs_deploy.specs.Calls.{ClientComes}
+use Rattle.cs_deploy.specs.Files.{site_taken, cluster_taken}
+use Rattle.cs_deploy.specs.Hosts.{NodeFilesCome, ClientFilesCome}
 use Rattle.cs_deploy.specs.Untaken.{IsDecided}
 use Rattle.cs_deploy.specs.Keys.{KeysRuns}
 use Rattle.cs_deploy.specs.ReadKeys.{ReadKeysRuns, EndsAsRead}
@@ -24,7 +23,7 @@ use Rattle.cs_deploy.specs.Node.{NodeRuns}
 use Rattle.cs_deploy.specs.Client.{ClientRuns, IsToldOf}
 use Rattle.cs_cli.specs.Answers.{TellsSource, TellsWhole}
 use Rattle.cs_cli.specs.Examined.{most_in, examined_answer}
-use Rattle.cs_cli.specs.Deployed.{word_at}
+use Rattle.cs_cli.specs.Deployed.{word_at, word_if}
 use Rattle.cs_cli.specs.declared.examining.Subject.{Subject}
 use Rattle.cs_cli.specs.declared.examining.Subject.TheVariants.{Claim, Dump}
 use Rattle.cs_cli.specs.declared.deployments.Deployment.{Deployment}
@@ -34,11 +33,11 @@ use Rattle.cs_cli.specs.declared.words.Command.TheVariants.{Replay, Contract, Ve
 
 -- ---- what decides where no fault came about
 
-abbrev pub NodeDecided : List ℕ → List ℕ → Option Files → ℕ → Type 0
-NodeDecided site keys = IsDecided (FilesCome (setup_taken role.Node site keys)) (λ status. status ≡ 0)
+abbrev pub NodeDecided : List ℕ → List ℕ → Option (List ℕ) → Option Files → ℕ → Type 0
+NodeDecided site keys hosts = IsDecided (NodeFilesCome site keys hosts) (λ status. status ≡ 0)
 
-abbrev pub ClientDecided : List ℕ → List ℕ → List ℕ → Option Files → ℕ → Type 0
-ClientDecided site keys call = IsDecided (ClientComes site keys call) IsToldOf
+abbrev pub ClientDecided : List ℕ → List ℕ → List ℕ → Option (List ℕ) → Option Files → ℕ → Type 0
+ClientDecided site keys call hosts = IsDecided (ClientFilesCome site keys call hosts) IsToldOf
 
 abbrev pub KeysDecided : List ℕ → Option Files → ℕ → Type 0
 KeysDecided site = IsDecided (FilesCome (site_taken site)) (λ status. status ≡ 0)
@@ -82,20 +81,23 @@ pub record SimulateDoes (number size : ℕ) (old new : Outside) (status : ℕ) :
 -- ---- commands of a deployment, by the names of their files
 
 -- `node` runs the node of its files, whose lines are printed
-pub record NodeDoes (site keys : List ℕ) (until : Until) (old new : Outside) (status : ℕ) : Type 0 where
-  pub runs : NodeRuns site keys until (Faulty faults_of old.store new.store) (Faulty faults_of old.link new.link)
+pub record NodeDoes (site keys : List ℕ) (hosts : Option (List ℕ)) (until : Until) (old new : Outside) (status : ℕ)
+    : Type 0 where
+  pub runs : NodeRuns site keys hosts until (Faulty faults_of old.store new.store) (Faulty faults_of old.link new.link)
       old.store.told (beside old.link.told old.sink.told) (beside new.link.told new.sink.told) status
   pub kept : Stays old.store.told new.store.told
   pub whole : Faultless faults_of old.store new.store → Faultless faults_of old.link new.link
-      → Faultless faults_of old.sink new.sink → NodeDecided site keys old.store.told status
+      → Faultless faults_of old.sink new.sink → NodeDecided site keys hosts old.store.told status
 
 -- `client` runs the client of its files, until it knows what has become of its call
-pub record ClientDoes (site keys call : List ℕ) (until : Until) (old new : Outside) (status : ℕ) : Type 0 where
-  pub runs : ClientRuns site keys call until (Faulty faults_of old.store new.store) (Faulty faults_of old.link new.link)
+pub record ClientDoes (site keys call : List ℕ) (hosts : Option (List ℕ)) (until : Until) (old new : Outside)
+    (status : ℕ) : Type 0 where
+  pub runs : ClientRuns site keys call hosts until
+      (Faulty faults_of old.store new.store) (Faulty faults_of old.link new.link)
       old.store.told (beside old.link.told old.sink.told) (beside new.link.told new.sink.told) status
   pub kept : Stays old.store.told new.store.told
   pub whole : Faultless faults_of old.store new.store → Faultless faults_of old.link new.link
-      → Faultless faults_of old.sink new.sink → ClientDecided site keys call old.store.told status
+      → Faultless faults_of old.sink new.sink → ClientDecided site keys call hosts old.store.told status
 
 -- `keys` saves the key files that the master key gives the names of its site
 pub record KeysDoes (site master : List ℕ) (old new : Outside) (status : ℕ) : Type 0 where
@@ -122,9 +124,10 @@ pub record ClusterDoes (plan : List ℕ) (old new : Outside) (status : ℕ) : Ty
 -- ---- all commands
 
 abbrev pub DeploymentDoes : Deployment → List (List ℕ) → Outside → Outside → ℕ → Type 0
-DeploymentDoes (Node site keys until) words = NodeDoes (word_at words site) (word_at words keys) until
-DeploymentDoes (Client site keys call until) words =
-    ClientDoes (word_at words site) (word_at words keys) (word_at words call) until
+DeploymentDoes (Node site keys hosts until) words =
+    NodeDoes (word_at words site) (word_at words keys) (word_if words hosts) until
+DeploymentDoes (Client site keys call hosts until) words =
+    ClientDoes (word_at words site) (word_at words keys) (word_at words call) (word_if words hosts) until
 DeploymentDoes (Keys site master) words = KeysDoes (word_at words site) master
 DeploymentDoes (Cluster plan) words = ClusterDoes (word_at words plan)
 

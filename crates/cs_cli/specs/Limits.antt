@@ -7,6 +7,7 @@ use Rattle.cs_check_rules.specs.declared.kept.TheConstants.{KEPT_SLOTS}
 use Rattle.cs_lang_token.specs.declared.limits.TheConstants.{MOST_TEXT, MOST_COST}
 use Rattle.cs_sched.specs.declared.limits.TheConstants.{MOST_CONTRACTS}
 use Rattle.cs_gen.specs.declared.limits.TheConstants.{MOST_SIZE}
+use Rattle.cs_config.specs.declared.limits.TheConstants.{LEAST_TICK, MOST_TICK}
 use Rattle.cs_serve.specs.declared.receiving.TheConstants.{MOST_MISSED}
 use Rattle.cs_deploy.specs.declared.loading.TheConstants.{MOST_FILE}
 use Rattle.cs_deploy.specs.declared.limits.TheConstants.{MOST_MASTER}
@@ -20,6 +21,8 @@ pub record DeploymentLimitsAre : Type 0 where
   pub readers : MOST_READERS ≡ 64  -- of an object at a time
   pub clients : CLIENTS ≡ 16
   pub datagram : MOST_DATAGRAM ≡ 32768  -- bytes
+  pub least_tick : LEAST_TICK ≡ 20  -- milliseconds between ticks
+  pub most_tick : MOST_TICK ≡ 10000
   pub missed : MOST_MISSED ≡ 64  -- receives that fail in a row
   pub file : MOST_FILE ≡ 16777216  -- bytes
   pub master : MOST_MASTER ≡ 65  -- bytes of a master key that is read

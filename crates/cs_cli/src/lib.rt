@@ -12,6 +12,7 @@ mod numbers;
 mod program;
 mod readings;
 mod report;
+mod runs;
 mod simulated;
 mod simulation;
 mod telling;

@@ -1,6 +1,8 @@
 //! The whole of the program, over the words and the outside that are handed in.
 ghost use Rattle.std.specs.Prelude.{◌≡◌, ◌≢◌, ◌≤◌, ◌↔◌, Bool, ℕ, List, Option, Ok, Some, None};
 ghost use Rattle.std.specs.Io.KnownBytes.{Keeps};
+ghost use Rattle.std.specs.declared.net.ip_addr.IpAddr.{IpAddr};
+ghost use Rattle.std.specs.Net.Grammar.{IsIpText};
 ghost use Rattle.cs_base.specs.Outside.{HasCause};
 ghost use Rattle.cs_base.specs.Answers.{Answers};
 ghost use Rattle.cs_base.specs.Fields.{IsBytes, IsForm};
@@ -39,6 +41,7 @@ ghost use Rattle.cs_node_rules.specs.World.{trail_of};
 ghost use Rattle.cs_wire.specs.declared.keys.Keys.{Keys as FileKeys};
 ghost use Rattle.cs_config.specs.File.{keys_of};
 ghost use Rattle.cs_config.specs.KeyText.{KeysAloneTell};
+ghost use Rattle.cs_config.specs.Hosts.{address_of};
 ghost use Rattle.cs_node.specs.Speaking.{Speaks};
 ghost use Rattle.cs_world_law.specs.Worlds.{net_of_keys};
 ghost use Rattle.cs_serve.specs.Serving.{trail};
@@ -53,7 +56,7 @@ ghost use Rattle.cs_cli.specs.declared.words.Command.TheVariants.{Simulate};
 
 use crate::auditing::audited_dumps_are_sound;
 use crate::claims::shown_claims_are_covered;
-use crate::deployments::{Deployment, word_at};
+use crate::deployments::{Deployment, word_at, word_if};
 use crate::examining::{Subject, examine_source};
 use crate::readings::what_is_read_was_written;
 use crate::simulate;
@@ -167,13 +170,16 @@ pub fn run<S: Source, K: Sink, E: Store, L: Link, P: Spawner>(
 
     // What is read is what was written so. Bytes open as a message exactly where they are its
     // datagram, sealed under the key that is held, and else the first test that fails is told;
-    // entries and objects are read from their encodings; contracts are what the grammar spells.
+    // entries and objects are read from their encodings; contracts and addresses are what their
+    // grammars spell.
     ensures datagrams { (keys : FileKeys) (bytes : List ℕ) (said : Opened) → IsBytes bytes
         → (opened keys bytes ≡ said) ↔ IsOpenedAs keys bytes said }
     ensures entries { IsForm entry_encoding EntryFits entry_at }
     ensures objects { IsForm object_encoding ObjectFits object_at }
     ensures contracts { (text : List ℕ) (contract : ContractTree)
         → (contract_of text ≡ Some contract) ↔ IsContract text contract }
+    ensures addresses { (text : List ℕ) (address : IpAddr)
+        → (address_of text ≡ Some address) ↔ IsIpText text address }
 
     // A fault is answered only where one of that object came about in this call.
     ensures read_fault { HasCause (S.faults input.old) (S.faults input.new) (result ≡ 5) }
@@ -257,21 +263,29 @@ fn deploy<K: Sink, E: Store, L: Link, P: Spawner>(
     ensures write_fault { HasCause (K.faults output.old) (K.faults output.new) (result ≡ 6) }
 {
     match deployment {
-        Deployment::Node { site, keys, until } => {
+        Deployment::Node {
+            site,
+            keys,
+            hosts,
+            until,
+        } => {
             let site = word_at(words, site);
             let keys = word_at(words, keys);
-            run_node(alloc, site, keys, until, store, link, output)
+            let hosts = word_if(words, hosts);
+            run_node(alloc, site, keys, hosts, until, store, link, output)
         }
         Deployment::Client {
             site,
             keys,
             call,
+            hosts,
             until,
         } => {
             let site = word_at(words, site);
             let keys = word_at(words, keys);
             let call = word_at(words, call);
-            run_client(alloc, site, keys, call, until, store, link, output)
+            let hosts = word_if(words, hosts);
+            run_client(alloc, site, keys, call, hosts, until, store, link, output)
         }
         Deployment::Keys { site, master } => {
             run_keys(alloc, word_at(words, site), &master, store, output)

@@ -11,3 +11,4 @@ mod KeyTables
 mod KeyTexts
 mod Filed
 mod Named
+mod Addresses

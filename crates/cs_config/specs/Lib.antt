@@ -9,6 +9,7 @@ pub mod Complete
 pub mod File
 pub mod Named
 pub mod Peer
+pub mod Hosts
 pub mod Printed
 pub mod KeyText
 pub mod FileNames

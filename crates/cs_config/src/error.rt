@@ -26,6 +26,8 @@ pub enum FileField {
     Master,
     Turns,
     Calls,
+    Hosts,
+    Tick,
 }
 
 /// Why a file gave nothing. A field that is missing, of another type or unreadable is told before
@@ -66,6 +68,8 @@ impl FileField {
             FileField::Master => "master",
             FileField::Turns => "turns",
             FileField::Calls => "calls",
+            FileField::Hosts => "hosts",
+            FileField::Tick => "tick",
         }
     }
 }

@@ -19,7 +19,8 @@ pub fn held_under<'a>(table: &'a Table, key: &str) -> Option<&'a Value>
     table.get(key)
 }
 
-fn value_at(table: &Table, field: FileField) -> Option<&Value>
+/// What a table holds of the field.
+pub(crate) fn value_at(table: &Table, field: FileField) -> Option<&Value>
     ensures { option_map (λ v. view v.now) result
         ≡ get_member (field_name field) (table_view table.now) }
 {

@@ -1,4 +1,5 @@
-//! The files of a deployment, in TOML: the site, a client's call and the plan of a cluster; and
+//! The files of a deployment, in TOML: the site, a client's call, the plan of a cluster and where
+//! the hosts are; and
 //! the key files: whose there are, by what name, the keys shared with each peer, and the saving
 //! of all of them.
 #![tactic(auto)]
@@ -10,6 +11,8 @@ mod document;
 mod error;
 mod fields;
 mod hex_values;
+mod host;
+mod hosts;
 mod limits;
 mod listing;
 mod naming;
@@ -26,8 +29,11 @@ pub use call::{CallFile, read_call};
 pub use document::read_table;
 pub use error::{ConfigError, FileField};
 pub use fields::{each_at, held_under, one_at};
+pub use host::addresses_are_read;
+pub use hosts::{Hosts, read_hosts};
 pub use limits::{
-    LAST_NUMBER, LEAST_BASE_PORT, MOST_BASE_PORT, MOST_CALLS, MOST_CONTRACTS, MOST_TURNS,
+    LAST_NUMBER, LEAST_BASE_PORT, LEAST_TICK, MOST_BASE_PORT, MOST_CALLS, MOST_CONTRACTS,
+    MOST_TICK, MOST_TURNS,
 };
 pub use naming::key_file;
 pub use plan::{Plan, read_plan};

@@ -17,3 +17,9 @@ pub const MOST_CALLS: usize = 64;
 
 /// The greatest number of a call, 2^63 - 1: TOML has no greater one.
 pub const LAST_NUMBER: u64 = 9_223_372_036_854_775_807;
+
+/// The least milliseconds between ticks: on one machine a view lasts as long as its journeys.
+pub const LEAST_TICK: u64 = 20;
+
+/// The most milliseconds between ticks: eight of them are more than a minute.
+pub const MOST_TICK: u64 = 10_000;

@@ -28,7 +28,8 @@ fn node_in(value: &Value) -> Option<NodeId>
     }
 }
 
-fn name_at(table: &Table) -> Option<NodeId>
+/// The name of a node or client that a table holds.
+pub(crate) fn name_at(table: &Table) -> Option<NodeId>
     ensures { result ≡ held_at node_in (codes "name") (table_view table.now) }
 {
     match held_under(table, "name") {

@@ -12,10 +12,9 @@ use Rattle.cs_serve.specs.declared.client_ending.Ending.TheVariants as ending
 use Rattle.cs_client.specs.declared.known.Known.{Known}
 use Rattle.cs_client.specs.declared.known.Known.TheVariants as known
 use Rattle.cs_deploy.specs.declared.setups.Setup.{Setup}
-use Rattle.cs_deploy.specs.Taking.{Taken, TakesFiles, FilesCome}
-use Rattle.cs_deploy.specs.declared.keys.Role.TheVariants.{Node}
-use Rattle.cs_deploy.specs.Files.{setup_taken}
-use Rattle.cs_deploy.specs.Calls.{ClientComes}
+use Rattle.cs_config.specs.declared.hosts.Hosts.{Hosts}
+use Rattle.cs_deploy.specs.Taking.{Taken, TakesFiles}
+use Rattle.cs_deploy.specs.Hosts.{NodeFilesCome, ClientFilesCome}
 use Rattle.cs_deploy.specs.Untaken.{IsDecided}
 use Rattle.cs_deploy.proofs.Answered.{answers-other}
 use Rattle.cs_deploy.proofs.DecidedKeys.{untaken-decided, untaken-other}
@@ -40,8 +39,8 @@ module _ {A : Type 0} (Come : Files → Taken A → Type 0) (Goes : A → Beside
 
 -- ---- `node`
 
-module _ (setup : Setup) (until : Until) (Failed : Type 0) (old new : Beside LinkTold) (status : ℕ) where
-  pub node-done : NodeGoes setup until Failed old new status → (Failed → ⊥) → status ≢ 6 → status ≢ 8 → status ≡ 0
+module _ (setup : Setup) (hosts : Option Hosts) (until : Until) (Failed : Type 0) (old new : Beside LinkTold) (status : ℕ) where
+  pub node-done : NodeGoes setup hosts until Failed old new status → (Failed → ⊥) → status ≢ 6 → status ≢ 8 → status ≡ 0
   node-done (inl is) links writes other = absurd (other is.silent.0)
   node-done (inr (inl is)) links writes other = absurd (links is.failed)
   node-done (inr (inr is)) links writes other = by is.end is.failed is.told
@@ -53,7 +52,7 @@ module _ (setup : Setup) (until : Until) (Failed : Type 0) (old new : Beside Lin
       by end.WriteFault failed tells = absurd (writes tells.0)
       by end.Memory failed tells = absurd (other tells.0)
 
-  pub node-other : (n : ℕ) → NodeGoes setup until Failed old new status → 0 ≢ n → 7 ≢ n → 6 ≢ n → 8 ≢ n → status ≢ n
+  pub node-other : (n : ℕ) → NodeGoes setup hosts until Failed old new status → 0 ≢ n → 7 ≢ n → 6 ≢ n → 8 ≢ n → status ≢ n
   node-other n (inl is) zero seven six eight = λ p. eight (sym is.silent.0 ∙ p)
   node-other n (inr (inl is)) zero seven six eight = answers-other link_answer old.written new.written status n is.told seven six eight
   node-other n (inr (inr is)) zero seven six eight = by is.end is.told
@@ -77,8 +76,8 @@ known-other known.Open n zero ten = ten
 known-other (known.Accepted digest) n zero ten = zero
 known-other (known.Aborted digest) n zero ten = zero
 
-module _ (setup : Setup) (call : CallFile) (until : Until) (Failed : Type 0) (old new : Beside LinkTold) (status : ℕ) where
-  pub client-done : ClientGoes setup call until Failed old new status → (Failed → ⊥) → status ≢ 6 → status ≢ 8 → IsToldOf status
+module _ (setup : Setup) (call : CallFile) (hosts : Option Hosts) (until : Until) (Failed : Type 0) (old new : Beside LinkTold) (status : ℕ) where
+  pub client-done : ClientGoes setup call hosts until Failed old new status → (Failed → ⊥) → status ≢ 6 → status ≢ 8 → IsToldOf status
   client-done (inl is) links writes other = absurd (other is.silent.0)
   client-done (inr (inl is)) links writes other = absurd (links is.failed)
   client-done (inr (inr is)) links writes other = by is.ending is.failed is.told
@@ -89,7 +88,7 @@ module _ (setup : Setup) (call : CallFile) (until : Until) (Failed : Type 0) (ol
       by ending.LinkFault failed tells = absurd (links (failed refl))
       by ending.Memory failed tells = absurd (other tells.0)
 
-  pub client-other : (n : ℕ) → ClientGoes setup call until Failed old new status → 0 ≢ n → 10 ≢ n → 3 ≢ n → 7 ≢ n → 6 ≢ n → 8 ≢ n → status ≢ n
+  pub client-other : (n : ℕ) → ClientGoes setup call hosts until Failed old new status → 0 ≢ n → 10 ≢ n → 3 ≢ n → 7 ≢ n → 6 ≢ n → 8 ≢ n → status ≢ n
   client-other n (inl is) zero ten three seven six eight = λ p. eight (sym is.silent.0 ∙ p)
   client-other n (inr (inl is)) zero ten three seven six eight = answers-other link_answer old.written new.written status n is.told seven six eight
   client-other n (inr (inr is)) zero ten three seven six eight = by is.ending is.told
@@ -102,24 +101,24 @@ module _ (setup : Setup) (call : CallFile) (until : Until) (Failed : Type 0) (ol
 
 -- ---- both commands
 
-module _ (site keys : List ℕ) (until : Until) (Failed Linked : Type 0) (files : Option Files) (old new : Beside LinkTold) (status : ℕ) where
-  pub node-runs-decided : NodeRuns site keys until Failed Linked files old new status → (Failed → ⊥) → (Linked → ⊥) → status ≢ 6 → IsDecided (FilesCome (setup_taken Node site keys)) (λ s. s ≡ 0) files status
+module _ (site keys : List ℕ) (hosts : Option (List ℕ)) (until : Until) (Failed Linked : Type 0) (files : Option Files) (old new : Beside LinkTold) (status : ℕ) where
+  pub node-runs-decided : NodeRuns site keys hosts until Failed Linked files old new status → (Failed → ⊥) → (Linked → ⊥) → status ≢ 6 → IsDecided (NodeFilesCome site keys hosts) (λ s. s ≡ 0) files status
   node-runs-decided runs stores links writes =
-      runs-decided (FilesCome (setup_taken Node site keys)) (λ setup. NodeGoes setup until Linked) Failed files old new status (λ s. s ≡ 0) runs stores writes
-      (λ setup goes other. node-done setup until Linked old new status goes links writes other)
+      runs-decided (NodeFilesCome site keys hosts) (λ taken. NodeGoes taken.0 taken.1 until Linked) Failed files old new status (λ s. s ≡ 0) runs stores writes
+      (λ taken goes other. node-done taken.0 taken.1 until Linked old new status goes links writes other)
 
-  pub node-runs-other : (n : ℕ) → NodeRuns site keys until Failed Linked files old new status → 0 ≢ n → 7 ≢ n → 12 ≢ n → 6 ≢ n → 8 ≢ n → status ≢ n
+  pub node-runs-other : (n : ℕ) → NodeRuns site keys hosts until Failed Linked files old new status → 0 ≢ n → 7 ≢ n → 12 ≢ n → 6 ≢ n → 8 ≢ n → status ≢ n
   node-runs-other n runs zero seven twelve six eight =
-      runs-other (FilesCome (setup_taken Node site keys)) (λ setup. NodeGoes setup until Linked) Failed files old new status n runs twelve six eight
-      (λ setup goes. node-other setup until Linked old new status n goes zero seven six eight)
+      runs-other (NodeFilesCome site keys hosts) (λ taken. NodeGoes taken.0 taken.1 until Linked) Failed files old new status n runs twelve six eight
+      (λ taken goes. node-other taken.0 taken.1 until Linked old new status n goes zero seven six eight)
 
-module _ (site keys call : List ℕ) (until : Until) (Failed Linked : Type 0) (files : Option Files) (old new : Beside LinkTold) (status : ℕ) where
-  pub client-runs-decided : ClientRuns site keys call until Failed Linked files old new status → (Failed → ⊥) → (Linked → ⊥) → status ≢ 6 → IsDecided (ClientComes site keys call) IsToldOf files status
+module _ (site keys call : List ℕ) (hosts : Option (List ℕ)) (until : Until) (Failed Linked : Type 0) (files : Option Files) (old new : Beside LinkTold) (status : ℕ) where
+  pub client-runs-decided : ClientRuns site keys call hosts until Failed Linked files old new status → (Failed → ⊥) → (Linked → ⊥) → status ≢ 6 → IsDecided (ClientFilesCome site keys call hosts) IsToldOf files status
   client-runs-decided runs stores links writes =
-      runs-decided (ClientComes site keys call) (λ both. ClientGoes both.0 both.1 until Linked) Failed files old new status IsToldOf runs stores writes
-      (λ both goes other. client-done both.0 both.1 until Linked old new status goes links writes other)
+      runs-decided (ClientFilesCome site keys call hosts) (λ taken. ClientGoes taken.0.0 taken.0.1 taken.1 until Linked) Failed files old new status IsToldOf runs stores writes
+      (λ taken goes other. client-done taken.0.0 taken.0.1 taken.1 until Linked old new status goes links writes other)
 
-  pub client-runs-other : (n : ℕ) → ClientRuns site keys call until Failed Linked files old new status → 0 ≢ n → 10 ≢ n → 3 ≢ n → 7 ≢ n → 12 ≢ n → 6 ≢ n → 8 ≢ n → status ≢ n
+  pub client-runs-other : (n : ℕ) → ClientRuns site keys call hosts until Failed Linked files old new status → 0 ≢ n → 10 ≢ n → 3 ≢ n → 7 ≢ n → 12 ≢ n → 6 ≢ n → 8 ≢ n → status ≢ n
   client-runs-other n runs zero ten three seven twelve six eight =
-      runs-other (ClientComes site keys call) (λ both. ClientGoes both.0 both.1 until Linked) Failed files old new status n runs twelve six eight
-      (λ both goes. client-other both.0 both.1 until Linked old new status n goes zero ten three seven six eight)
+      runs-other (ClientFilesCome site keys call hosts) (λ taken. ClientGoes taken.0.0 taken.0.1 taken.1 until Linked) Failed files old new status n runs twelve six eight
+      (λ taken goes. client-other taken.0.0 taken.0.1 taken.1 until Linked old new status n goes zero ten three seven six eight)

@@ -5,6 +5,7 @@ mod Names
 mod Steps
 mod Texts
 mod Takes
+mod Hosted
 pub mod Answered
 pub mod DecidedKeys
 pub mod Going

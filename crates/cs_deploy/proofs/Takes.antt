@@ -76,7 +76,7 @@ module _ {A : Type 0} (of : List ℕ → Result A ConfigError) (name : List ℕ)
   file-ok bytes x first is =
       then-next (bytes_taken name) (λ files bytes. read_as name (of bytes)) a bytes (Ok x) (stable-bytes name) first (read-ok name (of bytes) a x is)
 
-file-stable : {A : Type 0} (of : List ℕ → Result A ConfigError) (name : List ℕ) → Stable (λ files. bytes_taken name files >>= λ bytes. read_as name (of bytes))
+pub file-stable : {A : Type 0} (of : List ℕ → Result A ConfigError) (name : List ℕ) → Stable (λ files. bytes_taken name files >>= λ bytes. read_as name (of bytes))
 file-stable of name = stable-then (bytes_taken name) (λ files bytes. read_as name (of bytes)) (stable-bytes name) (λ bytes. stable-same (read_as name (of bytes)))
 
 -- ---- a plan, and its site

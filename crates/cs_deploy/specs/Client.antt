@@ -7,6 +7,7 @@ use Rattle.cs_io.specs.Outside.{LinkTold, Beside}
 use Rattle.cs_io.specs.declared.link.Bound.TheVariants as bind
 use Rattle.cs_io.specs.declared.until.Until.{Until}
 use Rattle.cs_config.specs.declared.call.CallFile.{CallFile}
+use Rattle.cs_config.specs.declared.hosts.Hosts.{Hosts}
 use Rattle.cs_proc.specs.declared.error.ProcError.{ProcError}
 use Rattle.cs_proc.specs.declared.error.ProcError.TheVariants as refusal
 use Rattle.cs_client.specs.declared.errand.Errand.{Errand}
@@ -18,9 +19,9 @@ use Rattle.cs_serve.specs.declared.client_ending.Ending.{Ending}
 use Rattle.cs_serve.specs.declared.client_ending.Ending.TheVariants.{Knows, Refused, LinkFault, Memory}
 use Rattle.cs_serve.specs.Attending.{Attends}
 use Rattle.cs_deploy.specs.declared.setups.Setup.{Setup}
-use Rattle.cs_deploy.specs.Calls.{ClientComes}
+use Rattle.cs_deploy.specs.Hosts.{ClientFilesCome}
 use Rattle.cs_deploy.specs.Untaken.{IsSilent}
-use Rattle.cs_deploy.specs.Binding.{IsShort, IsUnbound, Runs, link_answer}
+use Rattle.cs_deploy.specs.Binding.{IsToldHosts, IsShort, IsUnbound, Runs, link_answer}
 
 -- ---- the last line
 
@@ -57,9 +58,11 @@ TellsEnding Memory written written' status = IsSilent written written' status
 abbrev pub errand_of : Setup → CallFile → Errand
 errand_of setup call = errand_for setup.site setup.keys setup.book call
 
--- The link is bound as the client of these keys, and the client is run until it knows what has become of its session.
-pub record IsAttended (errand : Errand) (base_port : ℕ) (until : Until) (LinkFailed : Type 0) (old new : Beside LinkTold)
-    (status : ℕ) : Type 0 where
+-- The link is told where all are and bound as the client of these keys, and the client is run until it knows what has
+-- become of its session.
+pub record IsAttended (errand : Errand) (base_port : ℕ) (hosts : Option Hosts) (until : Until) (LinkFailed : Type 0)
+    (old new : Beside LinkTold) (status : ℕ) : Type 0 where
+  pub placed : IsToldHosts hosts old.told new.told
   pub bound : Binds old.told.bound new.told.bound errand.keys.me base_port bind.Done
   pub ending : Ending
   pub attends : Attends errand until old.told new.told ending
@@ -67,16 +70,19 @@ pub record IsAttended (errand : Errand) (base_port : ℕ) (until : Until) (LinkF
   pub told : TellsEnding ending old.written new.written status
 
 -- what becomes of a client whose files are taken
-abbrev pub ClientGoes : Setup → CallFile → Until → Type 0 → Beside LinkTold → Beside LinkTold → ℕ → Type 0
-ClientGoes setup call until LinkFailed old new status =
+abbrev pub ClientGoes : Setup → CallFile → Option Hosts → Until → Type 0 → Beside LinkTold → Beside LinkTold → ℕ
+    → Type 0
+ClientGoes setup call hosts until LinkFailed old new status =
     IsShort old new status
-    ⊎ (IsUnbound setup.keys.me setup.site.base_port LinkFailed old new status
-    ⊎ IsAttended (errand_of setup call) setup.site.base_port until LinkFailed old new status)
+    ⊎ (IsUnbound setup.keys.me setup.site.base_port hosts LinkFailed old new status
+    ⊎ IsAttended (errand_of setup call) setup.site.base_port hosts until LinkFailed old new status)
 
 -- what the command comes to
-abbrev pub ClientRuns : List ℕ → List ℕ → List ℕ → Until → Type 0 → Type 0 → Option Files → Beside LinkTold → Beside LinkTold → ℕ → Type 0
-ClientRuns site keys call until StoreFailed LinkFailed files old new status =
-    Runs (ClientComes site keys call) (λ both. ClientGoes both.0 both.1 until LinkFailed) StoreFailed files old new status
+abbrev pub ClientRuns : List ℕ → List ℕ → List ℕ → Option (List ℕ) → Until → Type 0 → Type 0 → Option Files
+    → Beside LinkTold → Beside LinkTold → ℕ → Type 0
+ClientRuns site keys call hosts until StoreFailed LinkFailed files old new status =
+    Runs (ClientFilesCome site keys call hosts) (λ taken. ClientGoes taken.0.0 taken.0.1 taken.1 until LinkFailed)
+    StoreFailed files old new status
 
 -- it is known what has become of the session, or it is open, or the method is refused
 abbrev pub IsToldOf : ℕ → Type 0

@@ -4,6 +4,7 @@ pub mod Client
 pub mod Calls
 pub mod Causes
 pub mod Files
+pub mod Hosts
 pub mod Refusing
 pub mod Setups
 pub mod Taking

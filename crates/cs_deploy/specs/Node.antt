@@ -19,12 +19,11 @@ use Rattle.cs_node.specs.Speaking.{Speaks}
 use Rattle.cs_serve.specs.declared.ending.End.{End}
 use Rattle.cs_serve.specs.declared.ending.End.TheVariants.{Done, Ended, LinkFault, WriteFault, Memory}
 use Rattle.cs_serve.specs.Serving.{Serves}
-use Rattle.cs_deploy.specs.declared.keys.Role.TheVariants as role
+use Rattle.cs_config.specs.declared.hosts.Hosts.{Hosts}
 use Rattle.cs_deploy.specs.declared.setups.Setup.{Setup}
-use Rattle.cs_deploy.specs.Taking.{FilesCome}
-use Rattle.cs_deploy.specs.Files.{setup_taken}
+use Rattle.cs_deploy.specs.Hosts.{NodeFilesCome}
 use Rattle.cs_deploy.specs.Untaken.{IsSilent}
-use Rattle.cs_deploy.specs.Binding.{IsShort, IsUnbound, Runs, link_answer}
+use Rattle.cs_deploy.specs.Binding.{IsToldHosts, IsShort, IsUnbound, Runs, link_answer}
 
 -- the site of a setup in a net: nodes in the order among 3f+1 members, which approve by the contracts
 abbrev pub site_of_setup : Setup → Net → Site OrderMessage
@@ -48,8 +47,11 @@ TellsEnd LinkFault written written' status = Answers link_answer written written
 TellsEnd WriteFault written written' status = (status ≡ 6) × Keeps written written'
 TellsEnd Memory written written' status = IsSilent written written' status
 
--- The link is bound as the node of these keys, and the node is served, in whatever net its keys speak.
-pub record IsServed (setup : Setup) (until : Until) (LinkFailed : Type 0) (old new : Beside LinkTold) (status : ℕ) : Type 0 where
+-- The link is told where all are and bound as the node of these keys, and the node is served, in whatever net its keys
+-- speak.
+pub record IsServed (setup : Setup) (hosts : Option Hosts) (until : Until) (LinkFailed : Type 0)
+    (old new : Beside LinkTold) (status : ℕ) : Type 0 where
+  pub placed : IsToldHosts hosts old.told new.told
   pub bound : Binds old.told.bound new.told.bound setup.keys.me setup.site.base_port bind.Done
   pub end : End
   pub written : Option (List ℕ)
@@ -60,13 +62,15 @@ pub record IsServed (setup : Setup) (until : Until) (LinkFailed : Type 0) (old n
   pub told : TellsEnd end written new.written status
 
 -- what becomes of a node whose files are taken
-abbrev pub NodeGoes : Setup → Until → Type 0 → Beside LinkTold → Beside LinkTold → ℕ → Type 0
-NodeGoes setup until LinkFailed old new status =
+abbrev pub NodeGoes : Setup → Option Hosts → Until → Type 0 → Beside LinkTold → Beside LinkTold → ℕ → Type 0
+NodeGoes setup hosts until LinkFailed old new status =
     IsShort old new status
-    ⊎ (IsUnbound setup.keys.me setup.site.base_port LinkFailed old new status
-    ⊎ IsServed setup until LinkFailed old new status)
+    ⊎ (IsUnbound setup.keys.me setup.site.base_port hosts LinkFailed old new status
+    ⊎ IsServed setup hosts until LinkFailed old new status)
 
 -- what the command comes to
-abbrev pub NodeRuns : List ℕ → List ℕ → Until → Type 0 → Type 0 → Option Files → Beside LinkTold → Beside LinkTold → ℕ → Type 0
-NodeRuns site keys until StoreFailed LinkFailed files old new status =
-    Runs (FilesCome (setup_taken role.Node site keys)) (λ setup. NodeGoes setup until LinkFailed) StoreFailed files old new status
+abbrev pub NodeRuns : List ℕ → List ℕ → Option (List ℕ) → Until → Type 0 → Type 0 → Option Files → Beside LinkTold
+    → Beside LinkTold → ℕ → Type 0
+NodeRuns site keys hosts until StoreFailed LinkFailed files old new status =
+    Runs (NodeFilesCome site keys hosts) (λ taken. NodeGoes taken.0 taken.1 until LinkFailed)
+    StoreFailed files old new status

@@ -11,6 +11,7 @@ mod clients;
 mod clusters;
 mod contracts;
 mod genesis;
+mod hosts;
 mod keys;
 mod keys_command;
 mod limits;

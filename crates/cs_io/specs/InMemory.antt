@@ -33,6 +33,7 @@ seen_input Tick = Tick
 abbrev pub link_told : MemLink → LinkTold
 link_told l = record {
   bound = Some l.bound;
+  placed = Some l.placed;
   left = Some (map seen_input (drop l.taken l.inputs.items));
   offered = Some l.offered;
   missed = l.missed;

@@ -1,9 +1,13 @@
--- What the calls of a link do to what it is bound as, to its inputs, and to what it was offered.
+-- What the calls of a link do to what it is bound as, to what it was told of places, to its inputs, and to what it was
+-- offered.
 use Rattle.std.specs.Prelude.{◌≡◌, ℕ, ◌+◌, ◌-◌, ◌^◌, ◌≤◌, min, List, [], ◌∷◌, ◌++◌, length, take, Option, Some, None, IfSome}
+use Rattle.std.specs.declared.net.ip_addr.IpAddr.{IpAddr}
 use Rattle.cs_base.specs.declared.node_id.NodeId.{NodeId}
 use Rattle.cs_io.specs.Told.{Changes, Stays}
 use Rattle.cs_io.specs.declared.link.Bound.{Bound}
 use Rattle.cs_io.specs.declared.link.Bound.TheVariants as bound
+use Rattle.cs_io.specs.declared.link.Placed.{Placed}
+use Rattle.cs_io.specs.declared.link.Placed.TheVariants as placed
 use Rattle.cs_io.specs.declared.link.Arrived.{Arrived}
 use Rattle.cs_io.specs.declared.link.Arrived.TheVariants.{Datagram, Tick, End, Failed}
 use Rattle.cs_io.specs.declared.link.Sent.{Sent}
@@ -19,6 +23,20 @@ LinkPlace = NodeId × ℕ
 abbrev pub Binds : Option (Option LinkPlace) → Option (Option LinkPlace) → NodeId → ℕ → Bound → Type 0
 Binds old new me base_port bound.Done = Changes (λ before now. now ≡ Some (me, base_port)) old new
 Binds old new me base_port bound.Failed = Changes (λ before now. now ≡ None) old new
+
+-- where nodes and clients are, and the milliseconds between ticks
+abbrev pub Hosting : Type 0
+Hosting = List (NodeId × IpAddr) × ℕ
+
+-- the link was told just that, or nothing
+abbrev pub TellsHosts : Option (Option Hosting) → Option (Option Hosting) → Hosting → Placed → Type 0
+TellsHosts old new hosting placed.Done = Changes (λ before now. now ≡ Some hosting) old new
+TellsHosts old new hosting placed.Memory = Stays old new
+
+-- a link that was told is bound as nothing
+abbrev pub Frees : Option (Option LinkPlace) → Option (Option LinkPlace) → Placed → Type 0
+Frees old new placed.Done = Changes (λ before now. now ≡ None) old new
+Frees old new placed.Memory = Stays old new
 
 -- the first input left was given, and is gone
 abbrev pub LinkGives : Option (List MemInput) → Option (List MemInput) → MemInput → Type 0

@@ -2,7 +2,7 @@
 use Rattle.std.specs.Prelude.{ℕ, Bool, List, Option}
 use Rattle.cs_base.specs.Outside.{Rose}
 use Rattle.cs_io.specs.Store.{Files}
-use Rattle.cs_io.specs.Link.{LinkPlace, Offers}
+use Rattle.cs_io.specs.Link.{LinkPlace, Hosting, Offers}
 use Rattle.cs_io.specs.Spawner.{Children}
 use Rattle.cs_io.specs.declared.link.MemInput.{MemInput}
 
@@ -11,6 +11,7 @@ use Rattle.cs_io.specs.declared.link.MemInput.{MemInput}
 -- a link
 pub record LinkTold : Type 0 where
   pub bound : Option (Option LinkPlace)  -- what it is bound as
+  pub placed : Option (Option Hosting)  -- where it was told that nodes and clients are
   pub left : Option (List MemInput)  -- the inputs that are left
   pub offered : Option Offers  -- all that was offered to be sent, with its addressee
   pub missed : ℕ  -- how many receives in a row have failed, up to 2^64 - 1

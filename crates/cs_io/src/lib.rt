@@ -16,7 +16,7 @@ mod text;
 mod until;
 
 pub use ending::closing;
-pub use link::{Arrived, Bound, Link, MemInput, Sent};
+pub use link::{Arrived, Bound, Link, MemInput, Placed, Sent};
 pub use mem_link::MemLink;
 pub use mem_spawner::MemSpawner;
 pub use mem_store::MemStore;

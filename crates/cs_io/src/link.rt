@@ -4,10 +4,11 @@ ghost use Rattle.std.specs.Prelude.{◌≡◌, ◌+◌, ℕ, length};
 ghost use Rattle.cs_base.specs.Outside.{HasCause};
 ghost use Rattle.cs_base.specs.declared.limits.TheConstants.{MOST_DATAGRAM};
 ghost use Rattle.cs_io.specs.Told.{Stays};
-ghost use Rattle.cs_io.specs.Link.{Binds, Receives, LinkSends, missed_after};
+ghost use Rattle.cs_io.specs.Link.{Binds, TellsHosts, Frees, Receives, LinkSends, missed_after};
 ghost use Rattle.cs_io.specs.Outside.{LinkTold};
 
 use cs_base::{NodeId, Sequence};
+use std::net::IpAddr;
 
 /// What came of binding a link.
 #[derive(Clone, Copy, Debug, PartialEq, Eq)]
@@ -16,6 +17,15 @@ pub enum Bound {
     Done,
     /// The link failed, and isn't bound.
     Failed,
+}
+
+/// What came of telling a link where nodes and clients are.
+#[derive(Clone, Copy, Debug, PartialEq, Eq)]
+pub enum Placed {
+    /// The link goes by that from now on, and isn't bound.
+    Done,
+    /// The link is as it was, for want of memory.
+    Memory,
 }
 
 /// What a receive gave.
@@ -51,17 +61,30 @@ pub enum MemInput {
 
 /// What datagrams come in by and go out by.
 pub trait Link {
-    /// What the link has told so far: what it is bound as, the inputs that are left and all that was
-    /// offered to be sent, each where it tells that; and how many receives in a row have failed.
+    /// What the link has told so far: what it is bound as, where it was told that nodes and clients
+    /// are, the inputs that are left and all that was offered to be sent, each where it tells that;
+    /// and how many receives in a row have failed.
     ghost told: { Self → LinkTold };
 
     /// How often the link has failed, up to 2^64 - 1.
     ghost faults: { Self → ℕ };
 
+    /// Tells the link where nodes and clients are, and how many milliseconds lie between its ticks.
+    /// It has to be bound anew. Who isn't named is on this machine, as all are where this is never
+    /// called.
+    fn place(&mut self, hosts: &[(NodeId, IpAddr)], tick: u64) -> Placed
+        ensures place { TellsHosts (told self.old).placed (told self.new).placed (hosts.now, tick) result }
+        ensures bound { Frees (told self.old).bound (told self.new).bound result }
+        ensures left { Stays (told self.old).left (told self.new).left }
+        ensures offered { Stays (told self.old).offered (told self.new).offered }
+        ensures missed { (told self.new).missed ≡ (told self.old).missed }
+        ensures faults { faults self.new ≡ faults self.old };
+
     /// Binds the link as that of a node or client, of a deployment whose ports are counted from the
     /// base port.
     fn bind(&mut self, me: NodeId, base_port: u16) -> Bound
         ensures place { Binds (told self.old).bound (told self.new).bound me base_port result }
+        ensures placed { Stays (told self.old).placed (told self.new).placed }
         ensures left { Stays (told self.old).left (told self.new).left }
         ensures offered { Stays (told self.old).offered (told self.new).offered }
         ensures missed { (told self.new).missed ≡ (told self.old).missed }
@@ -73,6 +96,7 @@ pub trait Link {
         requires { length buf.old ≡ MOST_DATAGRAM + 1 }
         ensures input { Receives (told self.old).left (told self.new).left buf.new result }
         ensures bound { Stays (told self.old).bound (told self.new).bound }
+        ensures placed { Stays (told self.old).placed (told self.new).placed }
         ensures offered { Stays (told self.old).offered (told self.new).offered }
         ensures missed { (told self.new).missed ≡ missed_after (told self.old).missed result }
         ensures cause { HasCause (faults self.old) (faults self.new) (result ≡ Arrived.Failed) };
@@ -81,6 +105,7 @@ pub trait Link {
     fn send(&mut self, to: NodeId, bytes: &[u8]) -> Sent
         ensures datagram { LinkSends (told self.old).offered (told self.new).offered to bytes.now result }
         ensures bound { Stays (told self.old).bound (told self.new).bound }
+        ensures placed { Stays (told self.old).placed (told self.new).placed }
         ensures left { Stays (told self.old).left (told self.new).left }
         ensures missed { (told self.new).missed ≡ (told self.old).missed }
         ensures cause { HasCause (faults self.old) (faults self.new) (result ≡ Sent.Failed) };

@@ -3,11 +3,12 @@ ghost use Rattle.std.specs.Prelude.{◌≡◌, ◌≢◌, ◌+◌, ◌≤◌, �
 ghost use Rattle.cs_base.specs.Outside.{HasCause};
 ghost use Rattle.cs_base.specs.declared.limits.TheConstants.{MOST_DATAGRAM};
 ghost use Rattle.cs_io.specs.Told.{Stays};
-ghost use Rattle.cs_io.specs.Link.{Binds, Receives, LinkSends, missed_after};
+ghost use Rattle.cs_io.specs.Link.{Binds, TellsHosts, Frees, Receives, LinkSends, missed_after};
 
-use crate::link::{Arrived, Bound, Link, MemInput, Sent};
+use crate::link::{Arrived, Bound, Link, MemInput, Placed, Sent};
 use cs_base::{Failures, Memory, NodeId, Sequence};
 use std::alloc::Global;
+use std::net::IpAddr;
 
 /// A link that gives the inputs that it was made of, and keeps what it is offered. The listed calls
 /// fail, and no others, unless memory runs out.
@@ -16,6 +17,7 @@ pub struct MemLink {
     alloc: Global,
     inputs: Vec<MemInput>,
     taken: usize,
+    placed: Option<(Sequence<(NodeId, IpAddr)>, u64)>,
     bound: Option<(NodeId, u16)>,
     offered: Sequence<(NodeId, Sequence<u8>)>,
     missed: u64,
@@ -27,10 +29,11 @@ impl MemLink {
     ghost use Rattle.cs_base.specs.Failures.{uncalled};
     ghost use Rattle.cs_io.specs.InMemory.{seen_input, link_failures};
 
-    /// A link of these inputs, bound as nothing, whose calls of these numbers, counted from 0,
-    /// fail.
+    /// A link of these inputs, bound as nothing and told of no places, whose calls of these numbers,
+    /// counted from 0, fail.
     pub fn new(alloc: Global, inputs: Vec<MemInput>, fails: Vec<u32>) -> Self
         ensures bound { (⟦<MemLink as Link>⟧.told result).bound ≡ Some None }
+        ensures placed { (⟦<MemLink as Link>⟧.told result).placed ≡ Some None }
         ensures left { (⟦<MemLink as Link>⟧.told result).left ≡ Some (map seen_input inputs.items) }
         ensures offered { (⟦<MemLink as Link>⟧.told result).offered ≡ Some [] }
         ensures missed { (⟦<MemLink as Link>⟧.told result).missed ≡ 0 }
@@ -41,6 +44,7 @@ impl MemLink {
             alloc,
             inputs,
             taken: 0,
+            placed: None,
             bound: None,
             offered: Sequence::new(alloc),
             missed: 0,
@@ -53,6 +57,13 @@ impl MemLink {
         ensures { (⟦<MemLink as Link>⟧.told self.now).bound ≡ Some result }
     {
         self.bound
+    }
+
+    /// Where it was told that nodes and clients are, and the milliseconds between ticks.
+    pub fn placed(&self) -> &Option<(Sequence<(NodeId, IpAddr)>, u64)>
+        ensures { (⟦<MemLink as Link>⟧.told self.now).placed ≡ Some result.now }
+    {
+        &self.placed
     }
 
     /// All that was offered to be sent, with its addressee.
@@ -102,8 +113,20 @@ impl Link for MemLink {
 
     ghost faults = { link_faults };
 
+    fn place(&mut self, hosts: &[(NodeId, IpAddr)], tick: u64) -> Placed {
+        match Vec::from_slice(self.alloc, hosts) {
+            Ok(kept) => {
+                self.placed = Some((Sequence::from_vec(kept), tick));
+                self.bound = None;
+                Placed::Done
+            }
+            Err(_) => Placed::Memory,
+        }
+    }
+
     fn bind(&mut self, me: NodeId, base_port: u16) -> Bound
         ensures place { Binds (link_told self.old).bound (link_told self.new).bound me base_port result }
+        ensures placed { Stays (link_told self.old).placed (link_told self.new).placed }
         ensures left { Stays (link_told self.old).left (link_told self.new).left }
         ensures offered { Stays (link_told self.old).offered (link_told self.new).offered }
         ensures missed { (link_told self.new).missed ≡ (link_told self.old).missed }
@@ -126,6 +149,7 @@ impl Link for MemLink {
         requires { length buf.old ≡ MOST_DATAGRAM + 1 }
         ensures input { Receives (link_told self.old).left (link_told self.new).left buf.new result }
         ensures bound { Stays (link_told self.old).bound (link_told self.new).bound }
+        ensures placed { Stays (link_told self.old).placed (link_told self.new).placed }
         ensures offered { Stays (link_told self.old).offered (link_told self.new).offered }
         ensures missed { (link_told self.new).missed ≡ missed_after (link_told self.old).missed result }
         ensures cause { HasCause (link_faults self.old) (link_faults self.new)
@@ -154,6 +178,7 @@ impl Link for MemLink {
         ensures datagram { LinkSends
             (link_told self.old).offered (link_told self.new).offered to bytes.now result }
         ensures bound { Stays (link_told self.old).bound (link_told self.new).bound }
+        ensures placed { Stays (link_told self.old).placed (link_told self.new).placed }
         ensures left { Stays (link_told self.old).left (link_told self.new).left }
         ensures missed { (link_told self.new).missed ≡ (link_told self.old).missed }
         ensures cause { HasCause (link_faults self.old) (link_faults self.new)

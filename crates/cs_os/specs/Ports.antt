@@ -1,10 +1,11 @@
--- The ports of a deployment.
-use Rattle.std.specs.Prelude.{◌≡◌, ℕ, ◌+◌, ◌*◌, ◌^◌, ◌==◌, nat_lt, [], ◌∷◌, Option, Some, None, if◌then◌else◌}
+-- The addresses and ports of a deployment.
+use Rattle.std.specs.Prelude.{◌≡◌, ℕ, ◌+◌, ◌*◌, ◌^◌, ◌==◌, nat_lt, List, [], ◌∷◌, Option, Some, None, if◌then◌else◌}
 use Rattle.std.specs.declared.net.ip_addr.IpAddr.{IpAddr}
 use Rattle.std.specs.declared.net.ip_addr.IpAddr.TheVariants.{V4, V6}
 use Rattle.std.specs.declared.net.socket_addr.SocketAddr.{SocketAddr}
 use Rattle.std.specs.Net.Addr.{ipv4_octets}
 use Rattle.std.specs.Net.Socket.{socket_ip, socket_port}
+use Rattle.cs_base.specs.NodeId.{same_name}
 use Rattle.cs_base.specs.declared.node_id.NodeId.{NodeId}
 use Rattle.cs_base.specs.declared.node_id.TheConstants.{CLIENT_SHARD}
 
@@ -22,7 +23,18 @@ abbrev pub IsLoopback : IpAddr → Type 0
 IsLoopback (V4 ip) = ipv4_octets ip ≡ 127 ∷ 0 ∷ 0 ∷ 1 ∷ []
 IsLoopback (V6 ip) = ⊥
 
+-- the address that a name was told to have, by the first host of that name
+abbrev pub told_address : List (NodeId × IpAddr) → NodeId → Option IpAddr
+told_address [] name = None
+told_address (host ∷ hosts) name = if same_name host.0 name then Some host.1 else told_address hosts name
+
+-- just that; or, where none was told, the loopback
+abbrev pub IsIpOf : Option IpAddr → IpAddr → Type 0
+IsIpOf (Some told) ip = ip ≡ told
+IsIpOf None ip = IsLoopback ip
+
 -- the address of a name of a deployment
-pub record IsAddressOf (base_port : ℕ) (name : NodeId) (address : SocketAddr) : Type 0 where
-  pub ip : IsLoopback (socket_ip address)
+pub record IsAddressOf (hosts : List (NodeId × IpAddr)) (base_port : ℕ) (name : NodeId) (address : SocketAddr)
+    : Type 0 where
+  pub ip : IsIpOf (told_address hosts name) (socket_ip address)
   pub port : port_of base_port name ≡ Some (socket_port address)

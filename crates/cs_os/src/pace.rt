@@ -2,7 +2,7 @@
 ghost use Rattle.std.specs.Prelude.{◌≡◌, ◌+◌, ◌-◌, ◌^◌, min};
 ghost use Rattle.cs_os.specs.Pace.{is_tick_due, rest_until_tick, next_of};
 
-/// A tick comes so many milliseconds after the last one.
+/// A tick comes so many milliseconds after the last one, where nothing else is told.
 pub const TICK: u64 = 20;
 
 /// Where no clock tells the time, a tick comes behind so many datagrams without one.
@@ -18,60 +18,64 @@ pub enum Next {
     Look(u64),
 }
 
-/// How many datagrams came since the last tick.
+/// How many milliseconds lie between ticks, and how many datagrams came since the last one.
 #[derive(Clone, Copy)]
 pub struct Pace {
+    pub tick: u64,
     pub came: u64,
 }
 
-fn is_due(passed: Option<u64>, came: u64) -> bool
-    ensures { result ≡ is_tick_due passed came }
+fn is_due(tick: u64, passed: Option<u64>, came: u64) -> bool
+    ensures { result ≡ is_tick_due tick passed came }
 {
     match passed {
-        Some(passed) => passed >= TICK,
+        Some(passed) => passed >= tick,
         None => came >= TICK_WITHOUT_CLOCK,
     }
 }
 
-fn rest_until_tick(passed: Option<u64>) -> u64
-    ensures { result ≡ rest_until_tick passed }
+fn rest_until_tick(tick: u64, passed: Option<u64>) -> u64
+    ensures { result ≡ rest_until_tick tick passed }
 {
     match passed {
-        Some(passed) => TICK.saturating_sub(passed),
-        None => TICK,
+        Some(passed) => tick.saturating_sub(passed),
+        None => tick,
     }
 }
 
 impl Pace {
-    /// That of a link that was bound just now.
-    pub fn new() -> Self
-        ensures { result.came ≡ 0 }
+    /// That of a link with so many milliseconds between its ticks, which was bound just now.
+    pub fn new(tick: u64) -> Self
+        ensures tick { result.tick ≡ tick }
+        ensures came { result.came ≡ 0 }
     {
-        Pace { came: 0 }
+        Pace { tick, came: 0 }
     }
 
     /// What comes next, so many milliseconds after the last tick, if a clock tells that. Two ticks
     /// follow one another only where no datagram waits.
     pub fn next(&self, passed: Option<u64>) -> Next
-        ensures { result ≡ next_of passed self.now.came }
+        ensures { result ≡ next_of self.now.tick passed self.now.came }
     {
-        if self.came > 0 && is_due(passed, self.came) {
+        if self.came > 0 && is_due(self.tick, passed, self.came) {
             Next::Tick
         } else {
-            Next::Look(rest_until_tick(passed))
+            Next::Look(rest_until_tick(self.tick, passed))
         }
     }
 
     /// A datagram came.
     pub fn count_datagram(&mut self)
-        ensures { self.new.came ≡ min (self.old.came + 1) (2 ^ 64 - 1) }
+        ensures came { self.new.came ≡ min (self.old.came + 1) (2 ^ 64 - 1) }
+        ensures tick { self.new.tick ≡ self.old.tick }
     {
         self.came = self.came.saturating_add(1);
     }
 
     /// A tick is given.
     pub fn begin_again(&mut self)
-        ensures { self.new.came ≡ 0 }
+        ensures came { self.new.came ≡ 0 }
+        ensures tick { self.new.tick ≡ self.old.tick }
     {
         self.came = 0;
     }

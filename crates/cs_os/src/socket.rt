@@ -1,21 +1,25 @@
 //! A UDP socket of this computer.
-ghost use Rattle.std.specs.Prelude.{◌≡◌, ◌≤◌, ◌↔◌, None, IfOk, IfSome, IsErr, length};
-ghost use Rattle.cs_os.specs.Ports.{port_of, IsAddressOf};
+ghost use Rattle.std.specs.Prelude.{◌≡◌, ◌≤◌, None, IfOk, IfSome, length};
 
-use crate::pace::{Next, Pace};
-use crate::ports::port_of;
+use crate::pace::{Next, Pace, TICK};
+use crate::ports::address_of;
 use crate::timed_socket::TimedSocket;
 use cs_base::NodeId;
-use cs_io::{Arrived, Bound, Link, Sent};
+use cs_io::{Arrived, Bound, Link, Placed, Sent};
+use std::alloc::Global;
 use std::io::{self, ErrorKind};
-use std::net::{Ipv4Addr, Net, SocketAddr, SocketAddrV4};
+use std::net::{IpAddr, Net, SocketAddr};
 use std::time::{Clock, Instant};
 
-/// A socket on 127.0.0.1, at the port of a node or client. It gives a tick whenever 20 milliseconds
-/// have passed since the last one, whether or not datagrams wait.
+/// A socket at the address and the port of a node or client. It gives a tick whenever so many
+/// milliseconds have passed since the last one as it was told, or else 20, whether or not datagrams
+/// wait.
 #[derive(Drop)]
 pub struct UdpLink<'a, R: Net + Clock> {
     system: &'a R,
+    alloc: Global,
+    // Where nodes and clients are, but for those on this computer's loopback.
+    hosts: Vec<(NodeId, IpAddr)>,
     socket: Option<TimedSocket>,
     base_port: u16,
     pace: Pace,
@@ -26,32 +30,19 @@ pub struct UdpLink<'a, R: Net + Clock> {
 }
 
 impl<'a, R: Net + Clock> UdpLink<'a, R> {
-    pub fn new(system: &'a R) -> Self {
+    pub fn new(system: &'a R, alloc: Global) -> Self {
         UdpLink {
             system,
+            alloc,
+            hosts: Vec::new(alloc),
             socket: None,
             base_port: 0,
-            pace: Pace::new(),
+            pace: Pace::new(TICK),
             ticked: None,
             missed: 0,
             faults: 0,
         }
     }
-}
-
-// The address of a node or client, which is on this computer's loopback.
-fn address(base_port: u16, name: NodeId) -> io::Result<SocketAddr>
-    ensures own { IfOk result (IsAddressOf base_port name) }
-    ensures none { IsErr result ↔ (port_of base_port name ≡ None) }
-{
-    match port_of(base_port, name) {
-        Some(port) => Ok(SocketAddr::V4(SocketAddrV4::new(Ipv4Addr::LOCALHOST, port))),
-        None => Err(io::Error::from(ErrorKind::InvalidInput)),
-    }
-}
-
-fn open_socket<R: Net>(net: &R, base_port: u16, me: NodeId) -> io::Result<TimedSocket> {
-    TimedSocket::bind(net, address(base_port, me)?)
 }
 
 fn receive_from(
@@ -79,6 +70,11 @@ fn asks_again(error: &io::Error) -> bool {
 }
 
 impl<R: Net + Clock> UdpLink<'_, R> {
+    // A socket at the address of a node or client.
+    fn open(&self, me: NodeId) -> io::Result<TimedSocket> {
+        TimedSocket::bind(self.system, address_of(&self.hosts, self.base_port, me)?)
+    }
+
     // The time now. A clock that failed is a fault, and isn't asked again.
     fn read_clock(&mut self) -> Option<Instant>
         ensures missed { self.new.missed ≡ self.old.missed }
@@ -141,6 +137,7 @@ impl<R: Net + Clock> UdpLink<'_, R> {
 impl<R: Net + Clock> Link for UdpLink<'_, R> {
     ghost told = { λ l. record {
       bound = None;
+      placed = None;
       left = None;
       offered = None;
       missed = l.missed;
@@ -148,11 +145,23 @@ impl<R: Net + Clock> Link for UdpLink<'_, R> {
 
     ghost faults = { λ l. l.faults };
 
+    fn place(&mut self, hosts: &[(NodeId, IpAddr)], tick: u64) -> Placed {
+        match Vec::from_slice(self.alloc, hosts) {
+            Ok(kept) => {
+                self.hosts = kept;
+                self.socket = None;
+                self.pace = Pace::new(tick);
+                Placed::Done
+            }
+            Err(_) => Placed::Memory,
+        }
+    }
+
     fn bind(&mut self, me: NodeId, base_port: u16) -> Bound {
         self.base_port = base_port;
         self.pace.begin_again();
         self.ticked = self.read_clock();
-        match open_socket(self.system, base_port, me) {
+        match self.open(me) {
             Ok(socket) => {
                 self.socket = Some(socket);
                 Bound::Done
@@ -186,7 +195,7 @@ impl<R: Net + Clock> Link for UdpLink<'_, R> {
     }
 
     fn send(&mut self, to: NodeId, bytes: &[u8]) -> Sent {
-        let sent = match address(self.base_port, to) {
+        let sent = match address_of(&self.hosts, self.base_port, to) {
             Ok(to) => send_from(&self.socket, to, bytes),
             Err(error) => Err(error),
         };

@@ -23,6 +23,7 @@ pub fn attend<L: Link>(alloc: Global, client: ClientCore, link: &mut L, until: U
     ensures attends { (e : Errand) → ClientStandsFor e [] client → Attends e until
         (L.told link.old) (L.told link.new) result }
     ensures bound { Stays (L.told link.old).bound (L.told link.new).bound }
+    ensures placed { Stays (L.told link.old).placed (L.told link.new).placed }
     ensures cause { HasCause (L.faults link.old) (L.faults link.new) (result ≡ Ending.LinkFault) }
 {
     let Ok(mut room) = vec![in alloc; 0u8; MOST_DATAGRAM + 1] else {
@@ -57,6 +58,7 @@ fn take_turn<L: Link>(
     ensures goes { (e : Errand) (past : List ClientInput) → ClientStandsFor e past client → ClientTakesTurn e past
         (L.told link.old) (L.told link.new) result }
     ensures bound { Stays (L.told link.old).bound (L.told link.new).bound }
+    ensures placed { Stays (L.told link.old).placed (L.told link.new).placed }
     ensures cause { HasCause (L.faults link.old) (L.faults link.new)
         (IsErrOf result Ending.LinkFault) }
 {
@@ -87,6 +89,7 @@ fn answer<L: Link>(
     ensures only { IsErrOf result Ending.LinkFault → ⊥ }
     ensures left { Stays (L.told link.old).left (L.told link.new).left }
     ensures bound { Stays (L.told link.old).bound (L.told link.new).bound }
+    ensures placed { Stays (L.told link.old).placed (L.told link.new).placed }
     ensures missed { (L.told link.new).missed ≡ (L.told link.old).missed }
     ensures faults { L.faults link.old ≤ L.faults link.new }
 {
@@ -104,6 +107,7 @@ fn say<L: Link>(client: ClientCore, outs: Sequence<Out>, link: &mut L) -> Result
     ensures only { IsErrOf result Ending.LinkFault → ⊥ }
     ensures left { Stays (L.told link.old).left (L.told link.new).left }
     ensures bound { Stays (L.told link.old).bound (L.told link.new).bound }
+    ensures placed { Stays (L.told link.old).placed (L.told link.new).placed }
     ensures missed { (L.told link.new).missed ≡ (L.told link.old).missed }
     ensures faults { L.faults link.old ≤ L.faults link.new }
 {

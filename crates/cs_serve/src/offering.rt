@@ -15,6 +15,7 @@ pub fn offer<L: Link>(link: &mut L, outs: &[Out]) -> Result<(), Memory>
         (AddsFront (offers_in outs.now) (L.told link.old).offered (L.told link.new).offered) }
     ensures left { Stays (L.told link.old).left (L.told link.new).left }
     ensures bound { Stays (L.told link.old).bound (L.told link.new).bound }
+    ensures placed { Stays (L.told link.old).placed (L.told link.new).placed }
     ensures missed { (L.told link.new).missed ≡ (L.told link.old).missed }
     ensures faults { L.faults link.old ≤ L.faults link.new }
 {

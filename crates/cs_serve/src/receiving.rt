@@ -17,6 +17,7 @@ pub fn receive<L: Link>(link: &mut L, buf: &mut [u8]) -> Arrived
     requires { length buf.old ≡ MOST_DATAGRAM + 1 }
     ensures input { Receives (L.told link.old).left (L.told link.new).left buf.new result }
     ensures bound { Stays (L.told link.old).bound (L.told link.new).bound }
+    ensures placed { Stays (L.told link.old).placed (L.told link.new).placed }
     ensures offered { Stays (L.told link.old).offered (L.told link.new).offered }
     ensures missed { (L.told link.new).missed ≡ missed_since (L.told link.old).missed result }
     ensures cause { HasCause (L.faults link.old) (L.faults link.new) (result ≡ Arrived.Failed) }

@@ -44,6 +44,7 @@ pub fn serve<O: Carried, J: Judge + Drop, L: Link, K: Sink>(
         (beside (L.told link.new) (K.written out.new)) result }
     ensures kept { result.0 ≢ End.Memory → IsSome result.1 }
     ensures bound { Stays (L.told link.old).bound (L.told link.new).bound }
+    ensures placed { Stays (L.told link.old).placed (L.told link.new).placed }
     ensures link { HasCause (L.faults link.old) (L.faults link.new) (result.0 ≡ End.LinkFault) }
     ensures sink { HasCause (K.faults out.old) (K.faults out.new) (result.0 ≡ End.WriteFault) }
 {
@@ -86,6 +87,7 @@ fn take_turn<O: Carried, J: Judge + Drop, L: Link, K: Sink>(
     ensures ended { IfErr result (λ ended. ended.0 ≢ End.Done) }
     ensures kept { IfErr result (λ ended. ended.0 ≢ End.Memory → IsSome ended.1) }
     ensures bound { Stays (L.told link.old).bound (L.told link.new).bound }
+    ensures placed { Stays (L.told link.old).placed (L.told link.new).placed }
     ensures link { HasCause (L.faults link.old) (L.faults link.new)
         ((served_turn result).0 ≡ End.LinkFault) }
     ensures sink { HasCause (K.faults out.old) (K.faults out.new)
@@ -126,6 +128,7 @@ fn answer<O: Carried, J: Judge + Drop, L: Link, K: Sink>(
     ensures kept { IfErr result (λ ended. ended.0 ≢ End.Memory → IsSome ended.1) }
     ensures left { Stays (L.told link.old).left (L.told link.new).left }
     ensures bound { Stays (L.told link.old).bound (L.told link.new).bound }
+    ensures placed { Stays (L.told link.old).placed (L.told link.new).placed }
     ensures missed { (L.told link.new).missed ≡ (L.told link.old).missed }
     ensures link { L.faults link.old ≤ L.faults link.new }
     ensures sink { HasCause (K.faults out.old) (K.faults out.new)
@@ -161,6 +164,7 @@ fn give_out<L: Link, K: Sink>(
         (beside (L.told link.new) (K.written out.new))) }
     ensures left { Stays (L.told link.old).left (L.told link.new).left }
     ensures bound { Stays (L.told link.old).bound (L.told link.new).bound }
+    ensures placed { Stays (L.told link.old).placed (L.told link.new).placed }
     ensures missed { (L.told link.new).missed ≡ (L.told link.old).missed }
     ensures link { L.faults link.old ≤ L.faults link.new }
     ensures sink { HasCause (K.faults out.old) (K.faults out.new)

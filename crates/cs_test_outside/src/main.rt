@@ -1,15 +1,17 @@
-//! Tries the real outside: files, a socket at two ports, and a child of this same program. Given a
+//! Tries the real outside: files, a socket at two ports and at two addresses, and a child of this same program. Given a
 //! word it is the child, and ends with the status 7.
 #![tactic(auto)]
 
 ghost use Rattle.std.specs.Prelude.{◌≡◌, ◌+◌, length};
 
 use cs_base::{CLIENT_SHARD, MOST_DATAGRAM, NodeId};
-use cs_io::{Arrived, Link, Spawner, Started, Store};
+use cs_io::{Arrived, Bound, Link, Spawner, Started, Store};
 use cs_os::{Children, FileStore, UdpLink};
 use std::fs::{self, Permissions};
+use std::net::{IpAddr, Ipv4Addr, Ipv6Addr};
 use std::os::unix::fs::{PermissionsExt, symlink};
 use std::process::{self, ExitCode};
+use std::time::Instant;
 use std::{env, io};
 
 const NODE: NodeId = NodeId { shard: 1, index: 2 };
@@ -26,6 +28,7 @@ fn main(rt: HostRuntime) -> io::Result<ExitCode> {
     try_files(&rt)?;
     try_modes(&rt)?;
     try_socket(&rt)?;
+    try_hosts(&rt)?;
     try_child(&rt)?;
     Ok(ExitCode::SUCCESS)
 }
@@ -76,10 +79,15 @@ fn try_modes(rt: &HostRuntime) -> io::Result<()> {
     println!(rt; "its target: {target} {mode:o}")
 }
 
+// A base port that other processes that run this don't have.
+fn own_base_port(rt: &HostRuntime) -> u16 {
+    1_024 + (process::id(rt.process()) % 60_000) as u16
+}
+
 fn try_socket(rt: &HostRuntime) -> io::Result<()> {
-    let base_port = 1_024 + (process::id(rt.process()) % 60_000) as u16;
-    let mut node = UdpLink::new(rt);
-    let mut client = UdpLink::new(rt);
+    let base_port = own_base_port(rt);
+    let mut node = UdpLink::new(rt, rt.alloc());
+    let mut client = UdpLink::new(rt, rt.alloc());
     let mut buf = vec![in rt.alloc(); 0u8; MOST_DATAGRAM + 1]?;
     println!(rt; "unbound: {:?}", client.send(NODE, b"lost"))?;
     println!(rt;
@@ -87,7 +95,10 @@ fn try_socket(rt: &HostRuntime) -> io::Result<()> {
         node.bind(NODE, base_port),
         client.bind(CLIENT, base_port)
     )?;
-    println!(rt; "bound twice: {:?}", UdpLink::new(rt).bind(NODE, base_port))?;
+    println!(rt;
+        "bound twice: {:?}",
+        UdpLink::new(rt, rt.alloc()).bind(NODE, base_port)
+    )?;
     println!(rt; "nothing came: {:?}", node.receive(&mut buf))?;
     println!(rt; "sent: {:?}", client.send(NODE, b"hello"))?;
     println!(rt; "came: {:?}", node.receive(&mut buf))?;
@@ -120,6 +131,68 @@ fn count_ticks<L: Link>(client: &mut L, node: &mut L, buf: &mut [u8]) -> (u8, bo
         }
     }
     (ticks, false)
+}
+
+// Nodes and clients at other addresses of this machine, and ticks that are further apart.
+fn try_hosts(rt: &HostRuntime) -> io::Result<()> {
+    let base_port = own_base_port(rt);
+    let four = [
+        (NODE, IpAddr::V4(Ipv4Addr::new(127, 0, 0, 2))),
+        (CLIENT, IpAddr::V4(Ipv4Addr::new(127, 0, 0, 3))),
+    ];
+    let here = UdpLink::new(rt, rt.alloc()).bind(NODE, base_port);
+    println!(rt; "at 127.0.0.1: {here:?}")?;
+    println!(rt;
+        "at 127.0.0.2 and 127.0.0.3: {:?}",
+        come_between(rt, &four, base_port)?
+    )?;
+    let six = [
+        (NODE, IpAddr::V6(Ipv6Addr::LOCALHOST)),
+        (CLIENT, IpAddr::V6(Ipv6Addr::LOCALHOST)),
+    ];
+    let came = come_between(rt, &six, base_port)?;
+    println!(rt;
+        "at ::1, or there is none: {}",
+        came.is_none() || came == Some(Arrived::Datagram(5))
+    )?;
+    let documents = [(NODE, IpAddr::V4(Ipv4Addr::new(192, 0, 2, 1)))];
+    println!(rt;
+        "at an address of nobody: {:?}",
+        come_between(rt, &documents, base_port)?
+    )?;
+    try_pace(rt, base_port)
+}
+
+// What comes of a datagram from the client to the node, where both are bound at these addresses.
+fn come_between(
+    rt: &HostRuntime,
+    hosts: &[(NodeId, IpAddr)],
+    base_port: u16,
+) -> io::Result<Option<Arrived>> {
+    let mut node = UdpLink::new(rt, rt.alloc());
+    let mut client = UdpLink::new(rt, rt.alloc());
+    let mut buf = vec![in rt.alloc(); 0u8; MOST_DATAGRAM + 1]?;
+    node.place(hosts, 20);
+    client.place(hosts, 20);
+    if node.bind(NODE, base_port) == Bound::Failed
+        || client.bind(CLIENT, base_port) == Bound::Failed
+    {
+        return Ok(None);
+    }
+    client.send(NODE, b"hello");
+    Ok(Some(node.receive(&mut buf)))
+}
+
+// A link that is told of ticks 200 milliseconds apart gives the first one no sooner.
+fn try_pace(rt: &HostRuntime, base_port: u16) -> io::Result<()> {
+    let mut node = UdpLink::new(rt, rt.alloc());
+    let mut buf = vec![in rt.alloc(); 0u8; MOST_DATAGRAM + 1]?;
+    node.place(&[], 200);
+    node.bind(NODE, base_port);
+    let start = Instant::now(rt)?;
+    let came = node.receive(&mut buf);
+    let passed = Instant::now(rt)?.duration_since(start).as_millis();
+    println!(rt; "a slow tick: {came:?} {}", passed >= 190)
 }
 
 fn try_child(rt: &HostRuntime) -> io::Result<()> {

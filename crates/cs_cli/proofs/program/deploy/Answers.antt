@@ -6,12 +6,12 @@ use Rattle.cs_cli.proofs.program.deploy.Goals as goal
 
 pub returns-in-Node-clause-deploys : goal.returns-in-Node-clause-deploys
 returns-in-Node-clause-deploys g c = λ source source'.
-    node-does _ _ _ _ c.in-Node.site c.in-Node.keys c.in-Node.until _ _ c.args.deployment c.in-Node.is c.word_at-site.ensures c.word_at-keys.ensures
+    node-does _ _ _ _ c.in-Node.site c.in-Node.keys c.in-Node.hosts c.in-Node.until _ _ _ c.args.deployment c.in-Node.is c.word_at-site.ensures c.word_at-keys.ensures c.word_if-hosts.ensures
     (record { runs = c.run_node.ensures.runs; kept = c.run_node.ensures.kept; whole = c.run_node.ensures.whole })
 
 pub returns-in-Client-clause-deploys : goal.returns-in-Client-clause-deploys
 returns-in-Client-clause-deploys g c = λ source source'.
-    client-does _ _ _ _ c.in-Client.site c.in-Client.keys c.in-Client.call c.in-Client.until _ _ _ c.args.deployment c.in-Client.is c.word_at-site-in-Client.ensures c.word_at-keys-in-Client.ensures c.word_at-call.ensures
+    client-does _ _ _ _ c.in-Client.site c.in-Client.keys c.in-Client.call c.in-Client.hosts c.in-Client.until _ _ _ _ c.args.deployment c.in-Client.is c.word_at-site-in-Client.ensures c.word_at-keys-in-Client.ensures c.word_at-call.ensures c.word_if-hosts-in-Client.ensures
     (record { runs = c.run_client.ensures.runs; kept = c.run_client.ensures.kept; whole = c.run_client.ensures.whole })
 
 pub returns-in-Keys-clause-deploys : goal.returns-in-Keys-clause-deploys
@@ -24,11 +24,11 @@ returns-in-Cluster-clause-deploys g c = λ source source'.
 
 pub returns-in-Node-clause-alone : goal.returns-in-Node-clause-alone
 returns-in-Node-clause-alone g c = λ source.
-    deployment-leaves _ _ (Node c.in-Node.site c.in-Node.keys c.in-Node.until) c.args.deployment c.in-Node.is (refl, refl)
+    deployment-leaves _ _ (Node c.in-Node.site c.in-Node.keys c.in-Node.hosts c.in-Node.until) c.args.deployment c.in-Node.is (refl, refl)
 
 pub returns-in-Client-clause-alone : goal.returns-in-Client-clause-alone
 returns-in-Client-clause-alone g c = λ source.
-    deployment-leaves _ _ (Client c.in-Client.site c.in-Client.keys c.in-Client.call c.in-Client.until) c.args.deployment c.in-Client.is (refl, refl)
+    deployment-leaves _ _ (Client c.in-Client.site c.in-Client.keys c.in-Client.call c.in-Client.hosts c.in-Client.until) c.args.deployment c.in-Client.is (refl, refl)
 
 pub returns-in-Keys-clause-alone : goal.returns-in-Keys-clause-alone
 returns-in-Keys-clause-alone g c = λ source.

@@ -80,6 +80,12 @@ returns-in-Some-clause-contracts g c = c.what_is_read_was_written.ensures.contra
 pub returns-in-None-clause-contracts : goal.returns-in-None-clause-contracts
 returns-in-None-clause-contracts g c = c.what_is_read_was_written.ensures.contracts
 
+pub returns-in-Some-clause-addresses : goal.returns-in-Some-clause-addresses
+returns-in-Some-clause-addresses g c = c.what_is_read_was_written.ensures.addresses
+
+pub returns-in-None-clause-addresses : goal.returns-in-None-clause-addresses
+returns-in-None-clause-addresses g c = c.what_is_read_was_written.ensures.addresses
+
 pub returns-in-Some-clause-trails : goal.returns-in-Some-clause-trails
 returns-in-Some-clause-trails g c = c.nodes_serve_their_trails.ensures
 

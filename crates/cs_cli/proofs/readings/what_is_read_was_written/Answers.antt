@@ -13,3 +13,6 @@ returns-clause-datagrams c = c.datagrams_open_as_they_are_sealed.ensures
 
 pub returns-clause-contracts : goal.returns-clause-contracts
 returns-clause-contracts c = c.contracts_are_read.ensures
+
+pub returns-clause-addresses : goal.returns-clause-addresses
+returns-clause-addresses c = c.addresses_are_read.ensures

@@ -1,3 +1,4 @@
+use Rattle.std.specs.Prelude.{option_copied}
 use Rattle.std.proofs.Common.{inl, inr, refl}
 use Rattle.cs_io.specs.laws.Told.{stays-same}
 use Rattle.cs_deploy.proofs.Decided.{client-runs-decided, client-runs-other}
@@ -6,17 +7,17 @@ use Rattle.cs_deploy.proofs.clients.run_client.Goals as goal
 -- ---- the files are taken
 
 pub returns-in-Ok-clause-runs : goal.returns-in-Ok-clause-runs
-returns-in-Ok-clause-runs g c = inr ((c.in-Ok.setup, c.in-Ok.call), c.in-Ok.ensures.taken, c.run_call.ensures.goes)
+returns-in-Ok-clause-runs g c = inr ((c.in-Ok.both, c.in-Ok.hosts), c.in-Ok.ensures.taken, c.run_call.ensures.goes)
 
 pub returns-in-Ok-clause-whole : goal.returns-in-Ok-clause-whole
 returns-in-Ok-clause-whole g c = λ stores links writes.
-    client-runs-decided c.args.site_name.now c.args.keys_name.now c.args.call_name.now c.args.until _ _ _ _ _ c.run_call.result (returns-in-Ok-clause-runs g c) stores links
+    client-runs-decided c.args.site_name.now c.args.keys_name.now c.args.call_name.now (option_copied c.args.hosts_name) c.args.until _ _ _ _ _ c.run_call.result (returns-in-Ok-clause-runs g c) stores links
     (λ six. writes (c.run_call.ensures.write_fault.cause six))
 
 pub returns-in-Ok-clause-only : goal.returns-in-Ok-clause-only
 returns-in-Ok-clause-only g c = (
-  client-runs-other c.args.site_name.now c.args.keys_name.now c.args.call_name.now c.args.until _ _ _ _ _ c.run_call.result 2 (returns-in-Ok-clause-runs g c) (λ is. absurd (cc)) (λ is. absurd (cc)) (λ is. absurd (cc)) (λ is. absurd (cc)) (λ is. absurd (cc)) (λ is. absurd (cc)) (λ is. absurd (cc)),
-  client-runs-other c.args.site_name.now c.args.keys_name.now c.args.call_name.now c.args.until _ _ _ _ _ c.run_call.result 5 (returns-in-Ok-clause-runs g c) (λ is. absurd (cc)) (λ is. absurd (cc)) (λ is. absurd (cc)) (λ is. absurd (cc)) (λ is. absurd (cc)) (λ is. absurd (cc)) (λ is. absurd (cc)),
+  client-runs-other c.args.site_name.now c.args.keys_name.now c.args.call_name.now (option_copied c.args.hosts_name) c.args.until _ _ _ _ _ c.run_call.result 2 (returns-in-Ok-clause-runs g c) (λ is. absurd (cc)) (λ is. absurd (cc)) (λ is. absurd (cc)) (λ is. absurd (cc)) (λ is. absurd (cc)) (λ is. absurd (cc)) (λ is. absurd (cc)),
+  client-runs-other c.args.site_name.now c.args.keys_name.now c.args.call_name.now (option_copied c.args.hosts_name) c.args.until _ _ _ _ _ c.run_call.result 5 (returns-in-Ok-clause-runs g c) (λ is. absurd (cc)) (λ is. absurd (cc)) (λ is. absurd (cc)) (λ is. absurd (cc)) (λ is. absurd (cc)) (λ is. absurd (cc)) (λ is. absurd (cc)),
 )
 
 -- ---- one isn't
@@ -25,6 +26,7 @@ pub returns-in-Err-clause-runs : goal.returns-in-Err-clause-runs
 returns-in-Err-clause-runs g c = inl (record {
   untouched = record {
     bound = stays-same (g.L.Link.told c.args.link.now).bound;
+    placed = stays-same (g.L.Link.told c.args.link.now).placed;
     quiet = record {
       left = stays-same (g.L.Link.told c.args.link.now).left;
       offered = stays-same (g.L.Link.told c.args.link.now).offered;
@@ -41,11 +43,11 @@ returns-in-Err-clause-runs g c = inl (record {
 
 pub returns-in-Err-clause-whole : goal.returns-in-Err-clause-whole
 returns-in-Err-clause-whole g c = λ stores links writes.
-    client-runs-decided c.args.site_name.now c.args.keys_name.now c.args.call_name.now c.args.until _ _ _ _ _ c.refuse.result (returns-in-Err-clause-runs g c) stores links
+    client-runs-decided c.args.site_name.now c.args.keys_name.now c.args.call_name.now (option_copied c.args.hosts_name) c.args.until _ _ _ _ _ c.refuse.result (returns-in-Err-clause-runs g c) stores links
     (λ six. writes (c.refuse.ensures.cause.cause six))
 
 pub returns-in-Err-clause-only : goal.returns-in-Err-clause-only
 returns-in-Err-clause-only g c = (
-  client-runs-other c.args.site_name.now c.args.keys_name.now c.args.call_name.now c.args.until _ _ _ _ _ c.refuse.result 2 (returns-in-Err-clause-runs g c) (λ is. absurd (cc)) (λ is. absurd (cc)) (λ is. absurd (cc)) (λ is. absurd (cc)) (λ is. absurd (cc)) (λ is. absurd (cc)) (λ is. absurd (cc)),
-  client-runs-other c.args.site_name.now c.args.keys_name.now c.args.call_name.now c.args.until _ _ _ _ _ c.refuse.result 5 (returns-in-Err-clause-runs g c) (λ is. absurd (cc)) (λ is. absurd (cc)) (λ is. absurd (cc)) (λ is. absurd (cc)) (λ is. absurd (cc)) (λ is. absurd (cc)) (λ is. absurd (cc)),
+  client-runs-other c.args.site_name.now c.args.keys_name.now c.args.call_name.now (option_copied c.args.hosts_name) c.args.until _ _ _ _ _ c.refuse.result 2 (returns-in-Err-clause-runs g c) (λ is. absurd (cc)) (λ is. absurd (cc)) (λ is. absurd (cc)) (λ is. absurd (cc)) (λ is. absurd (cc)) (λ is. absurd (cc)) (λ is. absurd (cc)),
+  client-runs-other c.args.site_name.now c.args.keys_name.now c.args.call_name.now (option_copied c.args.hosts_name) c.args.until _ _ _ _ _ c.refuse.result 5 (returns-in-Err-clause-runs g c) (λ is. absurd (cc)) (λ is. absurd (cc)) (λ is. absurd (cc)) (λ is. absurd (cc)) (λ is. absurd (cc)) (λ is. absurd (cc)) (λ is. absurd (cc)),
 )

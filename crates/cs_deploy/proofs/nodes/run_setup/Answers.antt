@@ -9,7 +9,7 @@ use Rattle.cs_deploy.proofs.Answered.{keeps, rose-later, rose-sooner, cause-late
 use Rattle.cs_io.specs.Outside.{beside}
 use Rattle.cs_io.specs.laws.Told.{stays-same}
 use Rattle.cs_deploy.specs.Node.{site_of_setup}
-use Rattle.cs_deploy.proofs.Bound.{bound-later, unbound-as}
+use Rattle.cs_deploy.proofs.Bound.{bound-later, placed-later, unbound-as}
 use Rattle.cs_deploy.proofs.Later.{serves-later, serves-alone}
 use Rattle.cs_deploy.proofs.nodes.run_setup.Goals as goal
 
@@ -17,6 +17,7 @@ pub returns-in_default-clause-goes : goal.returns-in_default-clause-goes
 returns-in_default-clause-goes g c = inl (record {
   untouched = record {
     bound = stays-same (g.L.Link.told c.args.link.now).bound;
+    placed = stays-same (g.L.Link.told c.args.link.now).placed;
     quiet = record {
       left = stays-same (g.L.Link.told c.args.link.now).left;
       offered = stays-same (g.L.Link.told c.args.link.now).offered;
@@ -26,9 +27,12 @@ returns-in_default-clause-goes g c = inl (record {
   silent = (refl, keeps (g.K.Sink.written c.args.out.now));
 })
 
-pub returns-in-Err-clause-goes : goal.returns-in-Err-clause-goes
-returns-in-Err-clause-goes g c =
-    inr (inl (unbound-as _ _ _ _ _ _ _ c.me-me.ensures c.in-Err.ensures.binds))
+pub returns-clause-goes : goal.returns-clause-goes
+returns-clause-goes g c =
+    elim c.in-Err.ensures.binds [
+      | inl short ↦ inl short
+      | inr unbound ↦ inr (inl (unbound-as _ _ _ _ _ _ _ _ c.me-me.ensures unbound))
+    ]
 
 pub returns-in-Ok-bind_or_tell-clause-goes : goal.returns-in-Ok-bind_or_tell-clause-goes
 returns-in-Ok-bind_or_tell-clause-goes g c =
@@ -36,6 +40,7 @@ returns-in-Ok-bind_or_tell-clause-goes g c =
     let bound = c.in-Ok-bind_or_tell.ensures.binds in
     let new = beside (g.L.Link.told c.serve-end.new.link) (g.K.Sink.written c.serve-end.new.out) in
     inr (inr (record {
+      placed = placed-later c.args.hosts _ _ _ bound.placed c.serve-end.ensures.placed;
       bound = bound-later _ _ _ _ _ setup.site.base_port c.me-me.ensures bound.bound c.serve-end.ensures.bound;
       end = c.serve-end.result.0;
       written = g.K.Sink.written c.serve-end.new.out;
@@ -58,8 +63,8 @@ returns-in-Ok-bind_or_tell-clause-write_fault g c = cause-later _ _ _ c.in-Ok-bi
   ];
 })
 
-pub returns-in-Err-clause-write_fault : goal.returns-in-Err-clause-write_fault
-returns-in-Err-clause-write_fault g c = record {
+pub returns-clause-write_fault : goal.returns-clause-write_fault
+returns-clause-write_fault g c = record {
   later = c.in-Err.ensures.write_fault.later;
   cause = λ six. c.in-Err.ensures.write_fault.cause (ap Err six);
 }

@@ -15,6 +15,7 @@ loop-buf-init g c = record {
       subst (λ (client : Client). SoFar e c.args.until 0 0 a a client) (sym c.client.view_is) (begins e c.args.until a c.args.client stands);
   few = omega arith;
   bound = stays-same (g.L.Link.told c.args.link.now).bound;
+  placed = stays-same (g.L.Link.told c.args.link.now).placed;
   faults = le_same (g.L.Link.faults c.args.link.now);
 }
 
@@ -31,6 +32,7 @@ loop-buf-preserved g c =
           c.loop-buf.client c.in-Ok-take_turn.next c.in-Ok-take_turn.ticked c.from-ticks.result c.from-ticks.ensures (iff_false c.is_over.ensures.over c.loop-buf-test.true) (so_far.goes e stands) (turn.goes e);
       few = few-more c.loop-buf.turns c.loop-buf.ticks c.from-ticks.result c.in-Ok-take_turn.ticked c.from-ticks.ensures so_far.few;
       bound = stays-both (g.L.Link.told c.args.link.now).bound (g.L.Link.told c.loop-buf.link).bound (g.L.Link.told c.take_turn.new.link).bound so_far.bound turn.bound;
+      placed = stays-both (g.L.Link.told c.args.link.now).placed (g.L.Link.told c.loop-buf.link).placed (g.L.Link.told c.take_turn.new.link).placed so_far.placed turn.placed;
       faults = le_more (g.L.Link.faults c.args.link.now) (g.L.Link.faults c.loop-buf.link) (g.L.Link.faults c.take_turn.new.link) so_far.faults turn.cause.later;
     }
 
@@ -56,6 +58,10 @@ pub returns-in-Err-clause-bound : goal.returns-in-Err-clause-bound
 returns-in-Err-clause-bound g c =
     stays-both (g.L.Link.told c.args.link.now).bound (g.L.Link.told c.loop-buf.link).bound (g.L.Link.told c.take_turn.new.link).bound c.loop-buf.invariant.bound c.in-Err.ensures.bound
 
+pub returns-in-Err-clause-placed : goal.returns-in-Err-clause-placed
+returns-in-Err-clause-placed g c =
+    stays-both (g.L.Link.told c.args.link.now).placed (g.L.Link.told c.loop-buf.link).placed (g.L.Link.told c.take_turn.new.link).placed c.loop-buf.invariant.placed c.in-Err.ensures.placed
+
 pub returns-in-Err-clause-cause : goal.returns-in-Err-clause-cause
 returns-in-Err-clause-cause g c =
     cause-later (g.L.Link.faults c.args.link.now) (g.L.Link.faults c.loop-buf.link) (g.L.Link.faults c.take_turn.new.link)
@@ -71,6 +77,9 @@ returns-clause-attends g c = λ e stands.
 
 pub returns-clause-bound : goal.returns-clause-bound
 returns-clause-bound g c = c.loop-buf.invariant.bound
+
+pub returns-clause-placed : goal.returns-clause-placed
+returns-clause-placed g c = c.loop-buf.invariant.placed
 
 pub returns-clause-cause : goal.returns-clause-cause
 returns-clause-cause g c = record { later = c.loop-buf.invariant.faults; cause = λ failed. absurd cc }

@@ -11,6 +11,7 @@ invariant-loop-buf g l = record {
       → SoFar e l.until l.turns l.ticks (g.L.Link.told l.initial.link) (g.L.Link.told l.link) l.client;
   few : l.ticks ≤ l.turns;
   bound : Stays (g.L.Link.told l.initial.link).bound (g.L.Link.told l.link).bound;
+  placed : Stays (g.L.Link.told l.initial.link).placed (g.L.Link.told l.link).placed;
   faults : g.L.Link.faults l.initial.link ≤ g.L.Link.faults l.link;
 }
 

@@ -7,6 +7,7 @@ abbrev pub invariant-loop-missed : goal.invariant-loop-missed
 invariant-loop-missed g l = record {
   left : Stays (g.L.Link.told l.initial.link).left (g.L.Link.told l.link).left;
   bound : Stays (g.L.Link.told l.initial.link).bound (g.L.Link.told l.link).bound;
+  placed : Stays (g.L.Link.told l.initial.link).placed (g.L.Link.told l.link).placed;
   offered : Stays (g.L.Link.told l.initial.link).offered (g.L.Link.told l.link).offered;
   few : l.missed ≤ 64;
   none : l.missed ≡ 0 → (g.L.Link.told l.link).missed ≡ (g.L.Link.told l.initial.link).missed;

@@ -16,6 +16,7 @@ loop-buf-init g c = record {
       begins (CoreStandsFor g.O.Order.stands g.J.Judge.is_approved site) site v c.args.until (beside (g.L.Link.told c.args.link.now) (g.K.Sink.written c.args.out.now)) c.args.core is;
   few = omega arith;
   bound = stays-same (g.L.Link.told c.args.link.now).bound;
+  placed = stays-same (g.L.Link.told c.args.link.now).placed;
   link = le_same (g.L.Link.faults c.args.link.now);
   sink = le_same (g.K.Sink.faults c.args.out.now);
 }
@@ -31,6 +32,7 @@ loop-buf-preserved g c =
           c.loop-buf.core (iff_false c.is_over.ensures.over c.loop-buf-test.true) (so_far.so_far setup net v is) c.in-Ok-take_turn.next c.in-Ok-take_turn.ticked c.from-ticks.result c.from-ticks.ensures (λ w stood. turn.takes setup net w stood);
       few = few-more c.loop-buf.turns c.loop-buf.ticks c.from-ticks.result c.in-Ok-take_turn.ticked c.from-ticks.ensures so_far.few;
       bound = stays-both (g.L.Link.told c.args.link.now).bound (g.L.Link.told c.loop-buf.link).bound (g.L.Link.told c.take_turn.new.link).bound so_far.bound turn.bound;
+      placed = stays-both (g.L.Link.told c.args.link.now).placed (g.L.Link.told c.loop-buf.link).placed (g.L.Link.told c.take_turn.new.link).placed so_far.placed turn.placed;
       link = le_more (g.L.Link.faults c.args.link.now) (g.L.Link.faults c.loop-buf.link) (g.L.Link.faults c.take_turn.new.link) so_far.link turn.link.later;
       sink = le_more (g.K.Sink.faults c.args.out.now) (g.K.Sink.faults c.loop-buf.out) (g.K.Sink.faults c.take_turn.new.out) so_far.sink turn.sink.later;
     }
@@ -60,6 +62,10 @@ pub returns-in-Err-clause-bound : goal.returns-in-Err-clause-bound
 returns-in-Err-clause-bound g c =
     stays-both (g.L.Link.told c.args.link.now).bound (g.L.Link.told c.loop-buf.link).bound (g.L.Link.told c.take_turn.new.link).bound c.loop-buf.invariant.bound c.in-Err.ensures.bound
 
+pub returns-in-Err-clause-placed : goal.returns-in-Err-clause-placed
+returns-in-Err-clause-placed g c =
+    stays-both (g.L.Link.told c.args.link.now).placed (g.L.Link.told c.loop-buf.link).placed (g.L.Link.told c.take_turn.new.link).placed c.loop-buf.invariant.placed c.in-Err.ensures.placed
+
 pub returns-in-Err-clause-link : goal.returns-in-Err-clause-link
 returns-in-Err-clause-link g c =
     cause_later (g.L.Link.faults c.args.link.now) (g.L.Link.faults c.loop-buf.link) (g.L.Link.faults c.take_turn.new.link) c.loop-buf.invariant.link c.in-Err.ensures.link (λ (failed : c.in-Err.ended.0 ≡ LinkFault). failed)
@@ -79,6 +85,9 @@ returns-clause-kept g c = λ other. refl
 
 pub returns-clause-bound : goal.returns-clause-bound
 returns-clause-bound g c = c.loop-buf.invariant.bound
+
+pub returns-clause-placed : goal.returns-clause-placed
+returns-clause-placed g c = c.loop-buf.invariant.placed
 
 pub returns-clause-link : goal.returns-clause-link
 returns-clause-link g c = record { later = c.loop-buf.invariant.link; cause = λ failed. absurd cc }

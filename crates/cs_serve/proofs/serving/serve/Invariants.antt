@@ -19,6 +19,7 @@ invariant-loop-buf g l = record {
       l.core;
   few : l.ticks ≤ l.turns;
   bound : Stays (g.L.Link.told l.initial.link).bound (g.L.Link.told l.link).bound;
+  placed : Stays (g.L.Link.told l.initial.link).placed (g.L.Link.told l.link).placed;
   link : g.L.Link.faults l.initial.link ≤ g.L.Link.faults l.link;
   sink : g.K.Sink.faults l.initial.out ≤ g.K.Sink.faults l.out;
 }
