@@ -1,12 +1,16 @@
 -- Words that stand in two parts, and those of which there are so many.
-use Rattle.std.proofs.Common.{◌≡◌, ◌≢◌, ℕ, ◌+◌, Bool, true, false, List, [], ◌∷◌, ◌++◌, length, map, cond, Option, Some, None, option_map, refl, sym, ap, ◌∙◌, arith}
-use Rattle.std.specs.Prelude.{String, string_bytes, not, nat_lt, if◌then◌else◌}
+use Rattle.std.proofs.Common.{◌≡◌, ◌≢◌, ℕ, ◌+◌, ◌≤◌, Bool, true, false, List, [], ◌∷◌, ◌++◌, length, map, cond, Option, Some, None, option_map, refl, sym, ap, ◌∙◌, arith}
+use Rattle.std.specs.Prelude.{String, string_bytes, not, nat_lt, IfSome, option_and_then, if◌then◌else◌}
 use Rattle.std.specs.List.{position, prefix_len}
 use Rattle.std.specs.declared.alloc.Global.{Global}
 use Rattle.std.proofs.lemmas.List.{length-map, length-append}
+use Rattle.cs_base.specs.declared.key.Key.{Key}
+use Rattle.cs_io.specs.declared.until.Until.{Until}
+use Rattle.cs_show.specs.Keys.{key_in}
 use Rattle.cs_cli.specs.Words.{texts_of}
-use Rattle.cs_cli.specs.Deployed.{word_at, node_called, client_called, is_hosts, is_hosts_word, is_hosts_pair, without_two, with_hosts, hosted_at, hosted}
+use Rattle.cs_cli.specs.Deployed.{word_at, until_in, node_called, client_called, show_at, show_called, StandsNear, is_hosts, is_hosts_word, is_hosts_pair, without_two, with_hosts, hosted_at, hosted}
 use Rattle.cs_cli.specs.declared.deployments.Deployment.{Deployment}
+use Rattle.cs_cli.specs.declared.deployments.Deployment.TheVariants.{Show}
 
 abbrev pub Word : Type 0
 Word = String Global
@@ -62,6 +66,25 @@ not-five (a ∷ b ∷ c ∷ d ∷ []) other = refl
 not-five (a ∷ b ∷ c ∷ d ∷ e ∷ []) other = absurd (other (omega arith))
 not-five (a ∷ b ∷ c ∷ d ∷ e ∷ f ∷ words) other = refl
 
+pub not-five-shown : (words : List (List ℕ)) → length words ≢ 5 → show_called words ≡ None
+not-five-shown [] other = refl
+not-five-shown (a ∷ []) other = refl
+not-five-shown (a ∷ b ∷ []) other = refl
+not-five-shown (a ∷ b ∷ c ∷ []) other = refl
+not-five-shown (a ∷ b ∷ c ∷ d ∷ []) other = refl
+not-five-shown (a ∷ b ∷ c ∷ d ∷ e ∷ []) other = absurd (other (omega arith))
+not-five-shown (a ∷ b ∷ c ∷ d ∷ e ∷ f ∷ words) other = refl
+
+-- ---- where files stand
+
+pub shown-near : (site keys : ℕ) (word limit number : List ℕ) → site ≤ 5 → keys ≤ 5 → IfSome (show_at site keys word limit number) StandsNear
+shown-near site keys word limit number first second = by (key_in word) (until_in limit number)
+  where
+    by : (key : Option Key) (until : Option Until) → IfSome (option_and_then (λ (k : Key). option_map (Show site keys k None) until) key) StandsNear
+    by None until = tt
+    by (Some key) None = tt
+    by (Some key) (Some until) = (first, second)
+
 -- ---- the place of one
 
 prefix-map : {X Y : Type 0} (p : Y → Bool) (f : X → Y) (xs : List X) → prefix_len p (map f xs) ≡ prefix_len (λ x. p (f x)) xs
@@ -81,12 +104,12 @@ module _ (called : List (List ℕ) → Option Deployment) (words : List (List �
 
   module _ (before : ℕ) (at : Some before ≡ position is_hosts words) where
     pub hosted-no : is_hosts_pair words before ≡ false → hosted called words ≡ None
-    hosted-no no =
+    hosted-no not_so =
         ap (hosted_at called words) (sym at)
-        ∙ ap (λ (b : Bool). if b then option_map (with_hosts before) (called (without_two before words)) else None) no
+        ∙ ap (λ (b : Bool). if b then option_map (with_hosts before) (called (without_two before words)) else None) not_so
 
     pub hosted-so : is_hosts_pair words before ≡ true → (read : Option Deployment) → called (without_two before words) ≡ read → hosted called words ≡ option_map (with_hosts before) read
-    hosted-so yes read is =
+    hosted-so so read is =
         ap (hosted_at called words) (sym at)
-        ∙ ap (λ (b : Bool). if b then option_map (with_hosts before) (called (without_two before words)) else None) yes
+        ∙ ap (λ (b : Bool). if b then option_map (with_hosts before) (called (without_two before words)) else None) so
         ∙ ap (option_map (with_hosts before)) is

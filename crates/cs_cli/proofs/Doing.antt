@@ -1,13 +1,14 @@
 -- What a command does, by what its words call for.
 use Rattle.std.proofs.Common.{◌≡◌, ℕ, List, Option, Some, sym, subst}
+use Rattle.cs_base.specs.declared.key.Key.{Key}
 use Rattle.cs_io.specs.Outside.{Outside}
 use Rattle.cs_io.specs.declared.until.Until.{Until}
 use Rattle.cs_cli.specs.declared.words.Command.{Command}
 use Rattle.cs_cli.specs.declared.words.Command.TheVariants.{ReadKeys}
 use Rattle.cs_cli.specs.declared.deployments.Deployment.{Deployment}
-use Rattle.cs_cli.specs.declared.deployments.Deployment.TheVariants.{Node, Client, Keys, Cluster}
+use Rattle.cs_cli.specs.declared.deployments.Deployment.TheVariants.{Node, Client, Show, Keys, Cluster}
 use Rattle.cs_cli.specs.Deployed.{word_at, word_if}
-use Rattle.cs_cli.specs.Done.{NodeDoes, ClientDoes, KeysDoes, ClusterDoes, DeploymentDoes, ReadKeysDoes, CommandDoes}
+use Rattle.cs_cli.specs.Done.{NodeDoes, ClientDoes, ShowDoes, KeysDoes, ClusterDoes, DeploymentDoes, ReadKeysDoes, CommandDoes}
 use Rattle.cs_cli.proofs.Outcomes.{one-command}
 
 module _ (words : List (List ℕ)) (a b : Outside) (status : ℕ) where
@@ -41,6 +42,14 @@ module _ (words : List (List ℕ)) (a b : Outside) (status : ℕ) where
       (subst (λ (x : List ℕ). ClientDoes s x (word_at words call) (word_if words hosts) until a b status) second
       (subst (λ (x : List ℕ). ClientDoes s k x (word_if words hosts) until a b status) third
       (subst (λ (x : Option (List ℕ)). ClientDoes s k c x until a b status) fourth does))))
+
+  pub show-does : (site keys : ℕ) (key : Key) (hosts : Option ℕ) (until : Until) (s k : List ℕ) (h : Option (List ℕ)) (deployment : Deployment) → deployment ≡ Show site keys key hosts until → s ≡ word_at words site → k ≡ word_at words keys → h ≡ word_if words hosts
+      → ShowDoes s k h key until a b status → DeploymentDoes deployment words a b status
+  show-does site keys key hosts until s k h deployment is first second third does =
+      deploys-so (Show site keys key hosts until) deployment is
+      (subst (λ (x : List ℕ). ShowDoes x (word_at words keys) (word_if words hosts) key until a b status) first
+      (subst (λ (x : List ℕ). ShowDoes s x (word_if words hosts) key until a b status) second
+      (subst (λ (x : Option (List ℕ)). ShowDoes s k x key until a b status) third does)))
 
   pub keys-does : (site : ℕ) (master s : List ℕ) (deployment : Deployment) → deployment ≡ Keys site master → s ≡ word_at words site → KeysDoes s master a b status → DeploymentDoes deployment words a b status
   keys-does site master s deployment is first does =

@@ -7,9 +7,9 @@ use Rattle.cs_io.specs.Numbers.{short_number}
 use Rattle.cs_gen.specs.declared.limits.TheConstants.{MOST_SIZE}
 use Rattle.cs_cli.specs.Numbers.{size_in, both_numbers, simulated}
 use Rattle.cs_cli.specs.Deployed.{reads_master, deployment_of_word}
-use Rattle.cs_cli.specs.Words.{plain_mode, mode_from, flagged, plain_command, command_of}
+use Rattle.cs_cli.specs.Words.{plain_mode, mode_from, flagged, plain_command, topic_called, command_of}
 use Rattle.cs_cli.specs.declared.words.Command.{Command}
-use Rattle.cs_cli.specs.declared.words.Command.TheVariants.{Replay, Contract, Verify, Audit, Simulate, ReadKeys, Deploy}
+use Rattle.cs_cli.specs.declared.words.Command.TheVariants.{Replay, Contract, Verify, Audit, Simulate, Help, Version, ReadKeys, Deploy}
 
 -- ---- its size is within the limit
 
@@ -83,5 +83,7 @@ command-small (word ∷ options) number size =
     (either-small number size (bytes_eq word (codes "verify")) _ _ (no-plain Verify options number size (λ q. cc))
     (either-small number size (bytes_eq word (codes "audit")) _ _ (no-plain Audit options number size (λ q. cc))
     (either-small number size (bytes_eq word (codes "simulate")) _ _ (said-small (simulated options) number size (simulated-small options))
+    (either-small number size (bytes_eq word (codes "help")) _ _ (other-small number size Help (λ topic q. cc) (topic_called options))
+    (either-small number size (bytes_eq word (codes "version")) _ _ (no-plain Version options number size (λ q. cc))
     (either-small number size (bytes_eq word (codes "keys") && reads_master options) _ _ (keys-small number size)
-    (other-small number size Deploy (λ deployment q. cc) (deployment_of_word word options)))))))
+    (other-small number size Deploy (λ deployment q. cc) (deployment_of_word word options)))))))))

@@ -1,15 +1,16 @@
 -- The words of the commands of a deployment. Where `--turns N`, `--ticks N` or `--hosts FILE` stands among the files is
 -- free.
-use Rattle.std.specs.Prelude.{ℕ, ◌+◌, ◌-◌, ◌≤◌, Bool, false, not, ◌&&◌, ◌||◌, ◌==◌, nat_le, List, [], ◌∷◌, ◌++◌, take, drop, codes, slice_index_or, Option, Some, None, option_map, String, string_bytes, if◌then◌else◌}
+use Rattle.std.specs.Prelude.{ℕ, ◌+◌, ◌-◌, ◌≤◌, Bool, false, not, ◌&&◌, ◌||◌, ◌==◌, nat_le, List, [], ◌∷◌, ◌++◌, take, drop, codes, slice_index_or, Option, Some, None, option_map, option_and_then, String, string_bytes, if◌then◌else◌}
 use Rattle.std.specs.declared.alloc.Global.{Global}
 use Rattle.std.specs.List.{position}
 use Rattle.std.specs.Str.{bytes_eq}
 use Rattle.cs_io.specs.Numbers.{short_number}
+use Rattle.cs_show.specs.Keys.{key_in}
 use Rattle.cs_deploy.specs.Master.{master_in}
 use Rattle.cs_io.specs.declared.until.Until.{Until}
 use Rattle.cs_io.specs.declared.until.Until.TheVariants.{Turns, Ticks}
 use Rattle.cs_cli.specs.declared.deployments.Deployment.{Deployment}
-use Rattle.cs_cli.specs.declared.deployments.Deployment.TheVariants.{Node, Client, Keys, Cluster}
+use Rattle.cs_cli.specs.declared.deployments.Deployment.TheVariants.{Node, Client, Show, Keys, Cluster}
 
 -- the word at a place; the command's own is at 0
 abbrev pub word_at : List (List ℕ) → ℕ → List ℕ
@@ -69,11 +70,28 @@ client_called (a ∷ b ∷ c ∷ d ∷ e ∷ []) =
     else None
 client_called _ = None
 
--- the words behind the command of a node or a client
+-- ---- `show FILE FILE KEY`, with one of them once
+
+-- the places of the site and the keys, what is looked up, and for how long
+abbrev pub show_at : ℕ → ℕ → List ℕ → List ℕ → List ℕ → Option Deployment
+show_at site keys word limit number =
+    option_and_then (λ key. option_map (Show site keys key None) (until_in limit number)) (key_in word)
+
+abbrev pub show_called : List (List ℕ) → Option Deployment
+show_called (a ∷ b ∷ c ∷ d ∷ e ∷ []) =
+    if is_limit d && are_files a b then show_at 1 2 c d e
+    else if is_limit c && are_files a b then show_at 1 2 e c d
+    else if is_limit b && are_files a d then show_at 1 4 e b c
+    else if is_limit a && are_files c d then show_at 3 4 e a b
+    else None
+show_called _ = None
+
+-- the words behind the command of a node or a client, or of who looks a key up
 abbrev pub run_called : List ℕ → List (List ℕ) → Option Deployment
 run_called word words =
     if bytes_eq word (codes "node") then node_called words
     else if bytes_eq word (codes "client") then client_called words
+    else if bytes_eq word (codes "show") then show_called words
     else None
 
 -- ---- `--hosts FILE` among them, at most once
@@ -96,6 +114,7 @@ place_among before place = if nat_le place before then place else place + 2
 abbrev pub StandsNear : Deployment → Type 0
 StandsNear (Node site keys hosts until) = (site ≤ 5) × (keys ≤ 5)
 StandsNear (Client site keys call hosts until) = (site ≤ 5) × (keys ≤ 5) × (call ≤ 5)
+StandsNear (Show site keys key hosts until) = (site ≤ 5) × (keys ≤ 5)
 StandsNear (Keys site master) = Unit {0}
 StandsNear (Cluster plan) = Unit {0}
 
@@ -105,6 +124,8 @@ with_hosts before (Node site keys hosts until) =
     Node (place_among before site) (place_among before keys) (Some (before + 2)) until
 with_hosts before (Client site keys call hosts until) =
     Client (place_among before site) (place_among before keys) (place_among before call) (Some (before + 2)) until
+with_hosts before (Show site keys key hosts until) =
+    Show (place_among before site) (place_among before keys) key (Some (before + 2)) until
 with_hosts before (Keys site master) = Keys site master
 with_hosts before (Cluster plan) = Cluster plan
 

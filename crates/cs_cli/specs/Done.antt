@@ -2,6 +2,7 @@
 use Rattle.std.specs.Prelude.{◌≡◌, ℕ, Bool, List, Option}
 use Rattle.std.specs.Io.KnownBytes.{Keeps}
 use Rattle.cs_base.specs.Answers.{Answers}
+use Rattle.cs_base.specs.declared.key.Key.{Key}
 use Rattle.cs_base.specs.declared.limits.TheConstants.{MOST_SCHEDULE}
 use Rattle.cs_io.specs.Answers.{SourceGives, GivesWhole}
 use Rattle.cs_io.specs.Told.{Stays}
@@ -10,6 +11,7 @@ use Rattle.cs_io.specs.Outside.{Outside, beside, faults_of, Faulty, Faultless}
 use Rattle.cs_io.specs.declared.until.Until.{Until}
 use Rattle.cs_replay.specs.Answers.{Replays, Completes}
 use Rattle.cs_replay.specs.declared.schedule.Mode.{Mode}
+use Rattle.cs_help.specs.Topics.{help_text, version_text, fixed_answer, TellsWhole as TellsText}
 use Rattle.cs_cli.specs.Simulated.{simulate_answer}
 use Rattle.cs_cli.specs.SimulatedReports.{AnswersWhole}
 use Rattle.cs_deploy.specs.Taking.{FilesCome}
@@ -21,15 +23,16 @@ use Rattle.cs_deploy.specs.ReadKeys.{ReadKeysRuns, EndsAsRead}
 use Rattle.cs_deploy.specs.Cluster.{ClusterRuns}
 use Rattle.cs_deploy.specs.Node.{NodeRuns}
 use Rattle.cs_deploy.specs.Client.{ClientRuns, IsToldOf}
+use Rattle.cs_deploy.specs.Show.{show_taken, ShowRuns}
 use Rattle.cs_cli.specs.Answers.{TellsSource, TellsWhole}
 use Rattle.cs_cli.specs.Examined.{most_in, examined_answer}
 use Rattle.cs_cli.specs.Deployed.{word_at, word_if}
 use Rattle.cs_cli.specs.declared.examining.Subject.{Subject}
 use Rattle.cs_cli.specs.declared.examining.Subject.TheVariants.{Claim, Dump}
 use Rattle.cs_cli.specs.declared.deployments.Deployment.{Deployment}
-use Rattle.cs_cli.specs.declared.deployments.Deployment.TheVariants.{Node, Client, Keys, Cluster}
+use Rattle.cs_cli.specs.declared.deployments.Deployment.TheVariants.{Node, Client, Show, Keys, Cluster}
 use Rattle.cs_cli.specs.declared.words.Command.{Command}
-use Rattle.cs_cli.specs.declared.words.Command.TheVariants.{Replay, Contract, Verify, Audit, Simulate, ReadKeys, Deploy}
+use Rattle.cs_cli.specs.declared.words.Command.TheVariants.{Replay, Contract, Verify, Audit, Simulate, Help, Version, ReadKeys, Deploy}
 
 -- ---- what decides where no fault came about
 
@@ -38,6 +41,9 @@ NodeDecided site keys hosts = IsDecided (NodeFilesCome site keys hosts) (λ stat
 
 abbrev pub ClientDecided : List ℕ → List ℕ → List ℕ → Option (List ℕ) → Option Files → ℕ → Type 0
 ClientDecided site keys call hosts = IsDecided (ClientFilesCome site keys call hosts) IsToldOf
+
+abbrev pub ShowDecided : List ℕ → List ℕ → Option (List ℕ) → Key → Option Files → ℕ → Type 0
+ShowDecided site keys hosts key = IsDecided (FilesCome (show_taken site keys hosts key)) IsToldOf
 
 abbrev pub KeysDecided : List ℕ → Option Files → ℕ → Type 0
 KeysDecided site = IsDecided (FilesCome (site_taken site)) (λ status. status ≡ 0)
@@ -78,6 +84,12 @@ pub record SimulateDoes (number size : ℕ) (old new : Outside) (status : ℕ) :
       → AnswersWhole (simulate_answer number size) old.sink.told new.sink.told status
   pub unread : Keeps old.source.told new.source.told
 
+-- `help` and `version` print a text that is always the same, and nothing is read
+pub record TextDoes (text : List ℕ) (old new : Outside) (status : ℕ) : Type 0 where
+  pub answers : Answers (fixed_answer text) old.sink.told new.sink.told status
+  pub whole : Faultless faults_of old.sink new.sink → TellsText text old.sink.told new.sink.told status
+  pub unread : Keeps old.source.told new.source.told
+
 -- ---- commands of a deployment, by the names of their files
 
 -- `node` runs the node of its files, whose lines are printed
@@ -98,6 +110,16 @@ pub record ClientDoes (site keys call : List ℕ) (hosts : Option (List ℕ)) (u
   pub kept : Stays old.store.told new.store.told
   pub whole : Faultless faults_of old.store new.store → Faultless faults_of old.link new.link
       → Faultless faults_of old.sink new.sink → ClientDecided site keys call hosts old.store.told status
+
+-- `show` looks a key up by its files, until f+1 nodes have told one state of it
+pub record ShowDoes (site keys : List ℕ) (hosts : Option (List ℕ)) (key : Key) (until : Until) (old new : Outside)
+    (status : ℕ) : Type 0 where
+  pub runs : ShowRuns site keys hosts key until
+      (Faulty faults_of old.store new.store) (Faulty faults_of old.link new.link)
+      old.store.told (beside old.link.told old.sink.told) (beside new.link.told new.sink.told) status
+  pub kept : Stays old.store.told new.store.told
+  pub whole : Faultless faults_of old.store new.store → Faultless faults_of old.link new.link
+      → Faultless faults_of old.sink new.sink → ShowDecided site keys hosts key old.store.told status
 
 -- `keys` saves the key files that the master key gives the names of its site
 pub record KeysDoes (site master : List ℕ) (old new : Outside) (status : ℕ) : Type 0 where
@@ -128,6 +150,8 @@ DeploymentDoes (Node site keys hosts until) words =
     NodeDoes (word_at words site) (word_at words keys) (word_if words hosts) until
 DeploymentDoes (Client site keys call hosts until) words =
     ClientDoes (word_at words site) (word_at words keys) (word_at words call) (word_if words hosts) until
+DeploymentDoes (Show site keys key hosts until) words =
+    ShowDoes (word_at words site) (word_at words keys) (word_if words hosts) key until
 DeploymentDoes (Keys site master) words = KeysDoes (word_at words site) master
 DeploymentDoes (Cluster plan) words = ClusterDoes (word_at words plan)
 
@@ -138,5 +162,7 @@ CommandDoes (Contract printing) words = ContractDoes printing
 CommandDoes Verify words = ExamineDoes Claim
 CommandDoes Audit words = ExamineDoes Dump
 CommandDoes (Simulate number size) words = SimulateDoes number size
+CommandDoes (Help topic) words = TextDoes (help_text topic)
+CommandDoes Version words = TextDoes version_text
 CommandDoes (ReadKeys site) words = ReadKeysDoes (word_at words site)
 CommandDoes (Deploy deployment) words = DeploymentDoes deployment words

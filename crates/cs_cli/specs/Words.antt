@@ -3,8 +3,11 @@ use Rattle.std.specs.Prelude.{ℕ, Bool, true, false, not, ◌&&◌, List, [], �
 use Rattle.std.specs.declared.alloc.Global.{Global}
 use Rattle.std.specs.Str.{bytes_eq}
 use Rattle.cs_replay.specs.declared.schedule.Mode.{Mode}
+use Rattle.cs_help.specs.Topics.{topic_of}
+use Rattle.cs_help.specs.declared.topic.Topic.{Topic}
+use Rattle.cs_help.specs.declared.topic.Topic.TheVariants.{Commands}
 use Rattle.cs_cli.specs.declared.words.Command.{Command}
-use Rattle.cs_cli.specs.declared.words.Command.TheVariants.{Replay, Contract, Verify, Audit, Simulate, ReadKeys, Deploy}
+use Rattle.cs_cli.specs.declared.words.Command.TheVariants.{Replay, Contract, Verify, Audit, Simulate, Help, Version, ReadKeys, Deploy}
 use Rattle.cs_cli.specs.Numbers.{simulated}
 use Rattle.cs_cli.specs.Deployed.{reads_master, deployment_of_word}
 
@@ -45,6 +48,12 @@ abbrev pub plain_command : Command → List (List ℕ) → Option Command
 plain_command command [] = Some command
 plain_command command (option ∷ options) = None
 
+-- `help` tells of all commands, or of one
+abbrev pub topic_called : List (List ℕ) → Option Topic
+topic_called [] = Some Commands
+topic_called (word ∷ []) = topic_of word
+topic_called (word ∷ other ∷ options) = None
+
 -- the command of a word and the words behind it
 abbrev pub command_of_word : List ℕ → List (List ℕ) → Option Command
 command_of_word word options =
@@ -53,6 +62,8 @@ command_of_word word options =
     else if bytes_eq word (codes "verify") then plain_command Verify options
     else if bytes_eq word (codes "audit") then plain_command Audit options
     else if bytes_eq word (codes "simulate") then option_map (λ said. Simulate said.0 said.1) (simulated options)
+    else if bytes_eq word (codes "help") then option_map Help (topic_called options)
+    else if bytes_eq word (codes "version") then plain_command Version options
     else if bytes_eq word (codes "keys") && reads_master options then Some (ReadKeys 1)
     else option_map Deploy (deployment_of_word word options)
 

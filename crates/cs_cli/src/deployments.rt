@@ -4,6 +4,7 @@ ghost use Rattle.cs_cli.specs.Words.{texts_of};
 ghost use Rattle.cs_cli.specs.Deployed.{word_at, word_if, is_file, keys_called, reads_master, cluster_called, deployment_of_word};
 
 use crate::runs::read_run;
+use cs_base::Key;
 use cs_deploy::master_in;
 use cs_io::Until;
 use cs_tx_value::Digest;
@@ -25,6 +26,15 @@ pub enum Deployment {
         site: usize,
         keys: usize,
         call: usize,
+        hosts: Option<usize>,
+        until: Until,
+    },
+    /// Looks a key up, by a site file and a key file, for so long at most, where a hosts file says, if
+    /// there is one, and prints what its shard tells of it.
+    Show {
+        site: usize,
+        keys: usize,
+        key: Key,
         hosts: Option<usize>,
         until: Until,
     },

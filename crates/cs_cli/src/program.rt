@@ -65,7 +65,8 @@ use crate::words::{Command, read_words};
 use cs_audit_law::dumps_are_answered_yes;
 use cs_base::{Sink, Source, print};
 use cs_config::key_files_tell_keys_alone;
-use cs_deploy::{run_client, run_cluster, run_keys, run_keys_read, run_node};
+use cs_deploy::{run_client, run_cluster, run_keys, run_keys_read, run_node, run_show};
+use cs_help::{tell_help, tell_version};
 use cs_io::{Link, Spawner, Store, closing};
 use cs_replay::{replay_source, schedules_are_sound};
 use cs_run_law::{keys_of_files_speak, nodes_serve_their_trails, running_nodes_are_sound};
@@ -231,6 +232,8 @@ fn answer<S: Source, K: Sink, E: Store, L: Link, P: Spawner>(
         Command::Verify => examine_source(alloc, Subject::Claim, input, output),
         Command::Audit => examine_source(alloc, Subject::Dump, input, output),
         Command::Simulate { number, size } => simulate(alloc, number, size, output),
+        Command::Help(topic) => tell_help(topic, output),
+        Command::Version => tell_version(output),
         Command::ReadKeys { site } => {
             run_keys_read(alloc, word_at(words, site), input, store, output)
         }
@@ -286,6 +289,18 @@ fn deploy<K: Sink, E: Store, L: Link, P: Spawner>(
             let call = word_at(words, call);
             let hosts = word_if(words, hosts);
             run_client(alloc, site, keys, call, hosts, until, store, link, output)
+        }
+        Deployment::Show {
+            site,
+            keys,
+            key,
+            hosts,
+            until,
+        } => {
+            let site = word_at(words, site);
+            let keys = word_at(words, keys);
+            let hosts = word_if(words, hosts);
+            run_show(alloc, site, keys, hosts, key, until, store, link, output)
         }
         Deployment::Keys { site, master } => {
             run_keys(alloc, word_at(words, site), &master, store, output)

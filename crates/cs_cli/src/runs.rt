@@ -1,11 +1,13 @@
-//! The words of a node or a client: its files, how long it runs, and where its hosts file stands.
+//! The words of a node or a client, or of who looks a key up: the files, how long it runs, and where the
+//! hosts file stands.
 ghost use Rattle.std.specs.Prelude.{◌≡◌, ◌+◌, ◌^◌, ◌<◌, ◌≤◌, ◌∷◌, ◌++◌, [], true, IfSome, length};
 ghost use Rattle.std.specs.List.{position};
 ghost use Rattle.cs_cli.specs.Words.{texts_of};
-ghost use Rattle.cs_cli.specs.Deployed.{word_at, is_file, are_files, is_limit, until_in, node_deployment, node_called, client_at, client_called, run_called, is_hosts_word, is_hosts_pair, without_two, place_among, StandsNear, with_hosts, hosted};
+ghost use Rattle.cs_cli.specs.Deployed.{word_at, is_file, are_files, is_limit, until_in, node_deployment, node_called, client_at, client_called, show_at, show_called, run_called, is_hosts_word, is_hosts_pair, without_two, place_among, StandsNear, with_hosts, hosted};
 
 use crate::deployments::{Deployment, is_file, word_at};
 use cs_io::{Until, read_short_number};
+use cs_show::read_key;
 
 fn are_files(a: &str, b: &str) -> bool
     ensures { result ≡ are_files a.now b.now }
@@ -13,7 +15,7 @@ fn are_files(a: &str, b: &str) -> bool
     is_file(a) && is_file(b)
 }
 
-// Whether a word says, with the number behind it, how long a node or a client runs.
+// Whether a word says, with the number behind it, how long a command runs.
 fn is_limit(word: &str) -> bool
     ensures { result ≡ is_limit word.now }
 {
@@ -140,7 +142,56 @@ fn client_among(a: &str, b: &str, c: &str, d: &str, e: &str) -> Option<Deploymen
     }
 }
 
-// The words of a node or a client, these and those.
+fn show_at(site: usize, keys: usize, word: &str, limit: &str, number: &str) -> Option<Deployment>
+    ensures { result ≡ show_at site keys word.now limit.now number.now }
+{
+    let key = read_key(word.as_bytes())?;
+    let until = until_in(limit, number)?;
+    Some(Deployment::Show {
+        site,
+        keys,
+        key,
+        hosts: None,
+        until,
+    })
+}
+
+// The words of who looks a key up, these and those.
+fn show_of(front: &[String], back: &[String]) -> Option<Deployment>
+    ensures called { result ≡ show_called (texts_of front.now ++ texts_of back.now) }
+    ensures near { IfSome result StandsNear }
+{
+    if front.len() + back.len() != 5 {
+        return None;
+    }
+    show_among(
+        word_in(front, back, 0),
+        word_in(front, back, 1),
+        word_in(front, back, 2),
+        word_in(front, back, 3),
+        word_in(front, back, 4),
+    )
+}
+
+// The same of exactly so many words.
+fn show_among(a: &str, b: &str, c: &str, d: &str, e: &str) -> Option<Deployment>
+    ensures called { result ≡ show_called (a.now ∷ b.now ∷ c.now ∷ d.now ∷ e.now ∷ []) }
+    ensures near { IfSome result StandsNear }
+{
+    if is_limit(d) && are_files(a, b) {
+        show_at(1, 2, c, d, e)
+    } else if is_limit(c) && are_files(a, b) {
+        show_at(1, 2, e, c, d)
+    } else if is_limit(b) && are_files(a, d) {
+        show_at(1, 4, e, b, c)
+    } else if is_limit(a) && are_files(c, d) {
+        show_at(3, 4, e, a, b)
+    } else {
+        None
+    }
+}
+
+// The words of one of these commands, these and those.
 fn run_of(word: &str, front: &[String], back: &[String]) -> Option<Deployment>
     ensures called { result ≡ run_called word.now (texts_of front.now ++ texts_of back.now) }
     ensures near { IfSome result StandsNear }
@@ -148,6 +199,7 @@ fn run_of(word: &str, front: &[String], back: &[String]) -> Option<Deployment>
     match word {
         "node" => node_of(front, back),
         "client" => client_of(front, back),
+        "show" => show_of(front, back),
         _ => None,
     }
 }
@@ -218,11 +270,24 @@ fn with_hosts(before: usize, deployment: Deployment) -> Deployment
             hosts: Some(before + 2),
             until,
         },
+        Deployment::Show {
+            site,
+            keys,
+            key,
+            until,
+            ..
+        } => Deployment::Show {
+            site: place_among(before, site),
+            keys: place_among(before, keys),
+            key,
+            hosts: Some(before + 2),
+            until,
+        },
         other => other,
     }
 }
 
-/// The words behind `node` or `client`, with `--hosts FILE` among them or without.
+/// The words behind `node`, `client` or `show`, with `--hosts FILE` among them or without.
 pub(crate) fn read_run(word: &str, options: &[String]) -> Option<Deployment>
     ensures { result ≡ hosted (run_called word.now) (texts_of options.now) }
 {

@@ -2,11 +2,12 @@
 ghost use Rattle.std.specs.Prelude.{◌≡◌, ◌↔◌, [], IfOk, IsOkAnd};
 ghost use Rattle.std.specs.IoError.{error_kind};
 ghost use Rattle.std.specs.declared.io.ErrorKind.TheVariants.{InvalidData};
-ghost use Rattle.cs_cli.specs.Words.{command_of_word, command_of, flagged, plain_command, plain_mode, mode_from, with_option, texts_of};
+ghost use Rattle.cs_cli.specs.Words.{command_of_word, command_of, flagged, plain_command, plain_mode, topic_called, mode_from, with_option, texts_of};
 ghost use Rattle.cs_cli.specs.declared.words.WordsError.TheVariants.{NotText, Memory};
 
 use crate::deployments::{Deployment, read_deployment, reads_master};
 use crate::numbers::read_simulation;
+use cs_help::{Topic, topic_of};
 use cs_replay::Mode;
 use std::alloc::{AllocFailed, Global};
 use std::io;
@@ -27,6 +28,10 @@ pub enum Command {
     Audit,
     /// Plays the schedule of a number and a size, and prints the numbers of what was played.
     Simulate { number: u64, size: u32 },
+    /// Prints the text of all commands, or of one.
+    Help(Topic),
+    /// Prints the program's version.
+    Version,
     /// Reads a master key from the input, and saves the key files that it gives the nodes and clients
     /// of the site file at this place among the words.
     ReadKeys { site: usize },
@@ -110,6 +115,11 @@ fn read_command(word: &str, options: &[String]) -> Option<Command>
             let (number, size) = read_simulation(options)?;
             Some(Command::Simulate { number, size })
         }
+        "help" => {
+            let topic = read_topic(options)?;
+            Some(Command::Help(topic))
+        }
+        "version" => read_plain(Command::Version, options),
         "keys" if reads_master(options) => Some(Command::ReadKeys { site: 1 }),
         _ => {
             let deployment = read_deployment(word, options)?;
@@ -157,6 +167,22 @@ fn read_plain(command: Command, options: &[String]) -> Option<Command>
         Some(command)
     } else {
         None
+    }
+}
+
+// Of what `help` tells.
+fn read_topic(options: &[String]) -> Option<Topic>
+    ensures { result ≡ topic_called (texts_of options.now) }
+{
+    match options.split_first() {
+        None => Some(Topic::Commands),
+        Some((word, others)) => {
+            if others.is_empty() {
+                topic_of(word.as_str())
+            } else {
+                None
+            }
+        }
     }
 }
 

@@ -22,3 +22,5 @@ pub use cs_wire::{Input, Out};
 pub use errand::Errand;
 pub use error::ClientError;
 pub use known::{Known, known_line};
+pub use nodes::nodes_of;
+pub use offers::say;

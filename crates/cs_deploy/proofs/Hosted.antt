@@ -1,11 +1,9 @@
 -- The hosts file, behind the other files of a node or a client.
-use Rattle.std.proofs.Common.{◌≡◌, ◌⊎◌, inl, inr, ℕ, List, Option, Some, None, Result, Ok, Err, refl, sym, ap, subst, ◌∙◌}
+use Rattle.std.proofs.Common.{◌≡◌, ◌⊎◌, inl, inr, ℕ, List, Option, Some, None, Ok, Err, refl, sym, subst, ◌∙◌}
 use Rattle.cs_base.specs.declared.config.Config.{Config}
 use Rattle.cs_io.specs.Store.{Files}
 use Rattle.cs_config.specs.Hosts.{hosts_of}
-use Rattle.cs_config.specs.declared.call.CallFile.{CallFile}
 use Rattle.cs_config.specs.declared.hosts.Hosts.{Hosts}
-use Rattle.cs_deploy.specs.declared.cause.Cause.{Cause}
 use Rattle.cs_deploy.specs.declared.cause.Cause.TheVariants as cause
 use Rattle.cs_deploy.specs.declared.cause.Untaken.{Untaken}
 use Rattle.cs_deploy.specs.declared.keys.Role.{Role}
@@ -15,7 +13,7 @@ use Rattle.cs_deploy.specs.Taking.{Taken, without_file, TakesFiles, FilesCome, b
 use Rattle.cs_deploy.specs.Files.{setup_taken}
 use Rattle.cs_deploy.specs.Calls.{CallOf, CallComes, ThenCall, ClientComes}
 use Rattle.cs_deploy.specs.Hosts.{hosts_in_file, hosts_taken, ThenHosts}
-use Rattle.cs_deploy.proofs.Steps.{first-not, then-next, takes-ok, refusal-so, Stable, stable-bytes}
+use Rattle.cs_deploy.proofs.Steps.{first-not, then-next, takes-ok, refusal-so, Stable, stable-same, stable-then, stable-bytes}
 use Rattle.cs_deploy.proofs.Takes.{file-stable, stable-setup}
 
 -- ---- the file
@@ -32,6 +30,10 @@ module _ (config : Config) (name : List ℕ) (a : Option Files) where
 -- none is named
 pub hosts-none : (config : Config) (a : Option Files) → TakesFiles (FilesCome (hosts_taken config None)) a (Ok None)
 hosts-none config a = takes-ok (λ (outcome : Taken (Option Hosts)). Ok None ≡ outcome) a None refl
+
+pub stable-hosts : (config : Config) (name : Option (List ℕ)) → Stable (hosts_taken config name)
+stable-hosts config None = stable-same (Ok None)
+stable-hosts config (Some name) = stable-then (hosts_in_file config name) (λ files hosts. Ok (Some hosts)) (file-stable (hosts_of config) name) (λ hosts. stable-same (Ok (Some hosts)))
 
 -- ---- the other files, and then this one
 

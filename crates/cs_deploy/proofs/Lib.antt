@@ -1,6 +1,7 @@
 pub mod Bound
 pub mod Later
 pub mod Decided
+pub mod Shown
 mod Names
 mod Steps
 mod Texts

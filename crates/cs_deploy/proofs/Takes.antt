@@ -104,7 +104,7 @@ module _ (r : Role) (config : Config) (name : List ℕ) where
   abbrev readable : List ℕ → Taken Keys
   readable bytes = read_as name (keys_of config bytes) >>= right_keys r config name
 
-  stable-keys : Stable (keys_taken r config name)
+  pub stable-keys : Stable (keys_taken r config name)
   stable-keys = stable-then (bytes_taken name) (λ files bytes. readable bytes) (stable-bytes name) (λ bytes. stable-same (readable bytes))
 
   module _ (a : Option Files) where

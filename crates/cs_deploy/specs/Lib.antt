@@ -1,6 +1,7 @@
 pub mod Binding
 pub mod Node
 pub mod Client
+pub mod Show
 pub mod Calls
 pub mod Causes
 pub mod Files

@@ -34,8 +34,8 @@ fn take_file<E: Store>(
     }
 }
 
-// The same, where a file is named.
-fn take_hosts<E: Store>(
+/// The same, where a file is named.
+pub(crate) fn take_hosts<E: Store>(
     alloc: Global,
     store: &mut E,
     config: &Config,

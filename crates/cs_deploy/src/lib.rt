@@ -1,5 +1,5 @@
 //! The commands of a deployment: `node` and `client`, which run one by the files that name it,
-//! `keys`, which saves the key files of a site, and `cluster`, which saves these and runs all
+//! `show`, which looks a key up, `keys`, which saves the key files of a site, and `cluster`, which saves these and runs all
 //! nodes and the calls of a plan. Files are taken in their order; of the first that isn't taken
 //! it is told why.
 #![tactic(auto)]
@@ -20,6 +20,7 @@ mod master;
 mod nodes;
 mod refusals;
 mod setups;
+mod shows;
 mod sites;
 mod starting;
 mod telling;
@@ -34,5 +35,6 @@ pub use loading::MOST_FILE;
 pub use master::{master_in, master_of};
 pub use nodes::run_node;
 pub use setups::{Setup, take_node};
+pub use shows::run_show;
 pub use sites::{take_cluster, take_site};
 pub use telling::{refuse, tell};

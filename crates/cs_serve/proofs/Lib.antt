@@ -4,4 +4,4 @@ mod Noted
 mod Answered
 mod Turns
 mod Runs
-mod Told
+pub mod Told

@@ -79,7 +79,7 @@ pub(crate) fn make_case(
     })
 }
 
-fn keys_of(alloc: Global, config: &Config, me: NodeId) -> Result<Keys, Memory> {
+pub(crate) fn keys_of(alloc: Global, config: &Config, me: NodeId) -> Result<Keys, Memory> {
     Keys::from_master(alloc, config, &[7; 32], me)
 }
 

@@ -1,7 +1,9 @@
-//! Tests of a client: its phases.
+//! Tests of a client: its phases, and keys that it looks up.
 #![tactic(auto)]
 
 #[cfg(test)]
 mod cases;
 #[cfg(test)]
 mod client_tests;
+#[cfg(test)]
+mod show_tests;

@@ -1,6 +1,6 @@
 use Rattle.std.proofs.Common.{ℕ, List, Option, refl}
 use Rattle.cs_io.specs.Outside.{Object}
-use Rattle.cs_cli.specs.declared.words.Command.TheVariants.{Replay, Contract, Verify, Audit, Simulate, ReadKeys, Deploy}
+use Rattle.cs_cli.specs.declared.words.Command.TheVariants.{Replay, Contract, Verify, Audit, Simulate, Help, Version, ReadKeys, Deploy}
 use Rattle.cs_cli.proofs.Sources.{kept}
 use Rattle.cs_cli.proofs.Doing.{does-so, read-keys-does}
 use Rattle.cs_cli.proofs.Leaving.{leaves-so}
@@ -28,6 +28,16 @@ returns-in-Simulate-clause-does g c =
     does-so _ _ _ _ (Simulate c.in-Simulate.number c.in-Simulate.size) c.args.command c.in-Simulate.is
     (record { answers = c.simulate.ensures.answers; whole = c.simulate.ensures.whole; unread = kept (g.S.Source.left c.args.input.now) })
 
+pub returns-in-Help-clause-does : goal.returns-in-Help-clause-does
+returns-in-Help-clause-does g c =
+    does-so _ _ _ _ (Help c.in-Help.topic) c.args.command c.in-Help.is
+    (record { answers = c.tell_help.ensures.answers; whole = c.tell_help.ensures.whole; unread = kept (g.S.Source.left c.args.input.now) })
+
+pub returns-in-Version-clause-does : goal.returns-in-Version-clause-does
+returns-in-Version-clause-does g c =
+    does-so _ _ _ _ Version c.args.command c.in-Version.is
+    (record { answers = c.tell_version.ensures.answers; whole = c.tell_version.ensures.whole; unread = kept (g.S.Source.left c.args.input.now) })
+
 pub returns-in-ReadKeys-clause-does : goal.returns-in-ReadKeys-clause-does
 returns-in-ReadKeys-clause-does g c =
     read-keys-does _ _ _ _ c.in-ReadKeys.site _ c.args.command c.in-ReadKeys.is c.word_at.ensures (record { runs = c.run_keys_read.ensures.runs; whole = c.run_keys_read.ensures.whole })
@@ -51,6 +61,12 @@ returns-in-Audit-clause-alone g c = leaves-so _ _ Audit c.args.command c.in-Audi
 
 pub returns-in-Simulate-clause-alone : goal.returns-in-Simulate-clause-alone
 returns-in-Simulate-clause-alone g c = leaves-so _ _ (Simulate c.in-Simulate.number c.in-Simulate.size) c.args.command c.in-Simulate.is (refl, (refl, (refl, refl)))
+
+pub returns-in-Help-clause-alone : goal.returns-in-Help-clause-alone
+returns-in-Help-clause-alone g c = leaves-so _ _ (Help c.in-Help.topic) c.args.command c.in-Help.is (refl, (refl, (refl, refl)))
+
+pub returns-in-Version-clause-alone : goal.returns-in-Version-clause-alone
+returns-in-Version-clause-alone g c = leaves-so _ _ Version c.args.command c.in-Version.is (refl, (refl, (refl, refl)))
 
 pub returns-in-ReadKeys-clause-alone : goal.returns-in-ReadKeys-clause-alone
 returns-in-ReadKeys-clause-alone g c = leaves-so _ _ (ReadKeys c.in-ReadKeys.site) c.args.command c.in-ReadKeys.is (refl, refl)

@@ -1,6 +1,6 @@
-use Rattle.cs_cli.proofs.Doing.{node-does, client-does, keys-does, cluster-does}
+use Rattle.cs_cli.proofs.Doing.{node-does, client-does, show-does, keys-does, cluster-does}
 use Rattle.std.proofs.Common.{refl}
-use Rattle.cs_cli.specs.declared.deployments.Deployment.TheVariants.{Node, Client, Keys, Cluster}
+use Rattle.cs_cli.specs.declared.deployments.Deployment.TheVariants.{Node, Client, Show, Keys, Cluster}
 use Rattle.cs_cli.proofs.Leaving.{deployment-leaves}
 use Rattle.cs_cli.proofs.program.deploy.Goals as goal
 
@@ -13,6 +13,11 @@ pub returns-in-Client-clause-deploys : goal.returns-in-Client-clause-deploys
 returns-in-Client-clause-deploys g c = λ source source'.
     client-does _ _ _ _ c.in-Client.site c.in-Client.keys c.in-Client.call c.in-Client.hosts c.in-Client.until _ _ _ _ c.args.deployment c.in-Client.is c.word_at-site-in-Client.ensures c.word_at-keys-in-Client.ensures c.word_at-call.ensures c.word_if-hosts-in-Client.ensures
     (record { runs = c.run_client.ensures.runs; kept = c.run_client.ensures.kept; whole = c.run_client.ensures.whole })
+
+pub returns-in-Show-clause-deploys : goal.returns-in-Show-clause-deploys
+returns-in-Show-clause-deploys g c = λ source source'.
+    show-does _ _ _ _ c.in-Show.site c.in-Show.keys c.in-Show.key c.in-Show.hosts c.in-Show.until _ _ _ c.args.deployment c.in-Show.is c.word_at-site-in-Show.ensures c.word_at-keys-in-Show.ensures c.word_if-hosts-in-Show.ensures
+    (record { runs = c.run_show.ensures.runs; kept = c.run_show.ensures.kept; whole = c.run_show.ensures.whole })
 
 pub returns-in-Keys-clause-deploys : goal.returns-in-Keys-clause-deploys
 returns-in-Keys-clause-deploys g c = λ source source'.
@@ -29,6 +34,10 @@ returns-in-Node-clause-alone g c = λ source.
 pub returns-in-Client-clause-alone : goal.returns-in-Client-clause-alone
 returns-in-Client-clause-alone g c = λ source.
     deployment-leaves _ _ (Client c.in-Client.site c.in-Client.keys c.in-Client.call c.in-Client.hosts c.in-Client.until) c.args.deployment c.in-Client.is (refl, refl)
+
+pub returns-in-Show-clause-alone : goal.returns-in-Show-clause-alone
+returns-in-Show-clause-alone g c = λ source.
+    deployment-leaves _ _ (Show c.in-Show.site c.in-Show.keys c.in-Show.key c.in-Show.hosts c.in-Show.until) c.args.deployment c.in-Show.is (refl, refl)
 
 pub returns-in-Keys-clause-alone : goal.returns-in-Keys-clause-alone
 returns-in-Keys-clause-alone g c = λ source.

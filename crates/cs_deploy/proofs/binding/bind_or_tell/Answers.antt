@@ -1,4 +1,4 @@
-use Rattle.std.proofs.Common.{◌≡◌, inl, inr, refl, ap, arith, subst, ◌∙◌}
+use Rattle.std.proofs.Common.{◌≡◌, inl, inr, refl, subst}
 use Rattle.cs_base.specs.Outside.{Rose}
 use Rattle.cs_io.specs.declared.link.Bound.TheVariants.{Done, Failed}
 use Rattle.cs_deploy.proofs.Answered.{keeps}

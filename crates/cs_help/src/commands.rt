@@ -1,0 +1,110 @@
+//! The text of each command.
+
+pub const COMMANDS: &str = "usage: chainspace COMMAND ..
+  replay [--trace] [--dumps] < SCHEDULE   plays a schedule
+  contract [--print] < CONTRACT           judges a contract
+  verify < CLAIM                          judges a proof of a log entry
+  audit < DUMP                            judges the logs of a ledger
+  simulate N SIZE                         plays a random schedule, and counts
+  node SITE KEYS --ticks N                runs a node
+  client SITE KEYS CALL --ticks N         makes a call
+  show SITE KEYS KEY --ticks N            tells the state of an object or dummy
+  keys SITE MASTER                        saves all key files of a site
+  cluster PLAN                            runs a whole ledger, for trials
+  help [COMMAND]                          tells of all commands, or of one
+  version                                 tells the version and the logic
+";
+
+pub const REPLAY: &str = "usage: chainspace replay [--trace] [--dumps] < SCHEDULE
+Plays a schedule, and prints what each node executes and the history.
+  --trace   prints each event too, and each datagram that is dropped or sent
+  --dumps   prints behind all that the logs of the shards, for an auditor
+status: 0 done, 3 a line is refused, 4 a line injects a forgery, 13 a limit
+example: chainspace replay --trace < examples/pay.schedule
+";
+
+pub const CONTRACT: &str = "usage: chainspace contract [--print] < CONTRACT
+Prints the id of a contract, and what its methods cost; or its first fault.
+  --print   prints its text instead, as the printer lays it out
+status: 0 accepted, 3 refused, 13 too many bytes
+example: chainspace contract < examples/contracts/pay.contract
+";
+
+pub const VERIFY: &str = "usage: chainspace verify < CLAIM
+Says whether a proof shows an entry of a log to who trusts a head.
+status: 0 shown, 9 not shown, 3 a line is refused, 13 too many bytes
+example: chainspace verify < examples/claims/slot-15.claim
+";
+
+pub const AUDIT: &str = "usage: chainspace audit < DUMP
+Executes the logs of a ledger anew. Prints yes and the history, or the first
+rule that is broken, with its shard and slot.
+status: 0 yes, 9 no, 3 a line is refused, 13 a limit
+example: chainspace replay --dumps < examples/pay.schedule | chainspace audit
+";
+
+pub const SIMULATE: &str = "usage: chainspace simulate N SIZE
+Plays the schedule of a number and a size (1 to 1000 coins), and prints counts.
+The same words print the same.
+status: 0 done, 3 two coins have one key, 13 a limit
+example: chainspace simulate 1 4
+";
+
+pub const NODE: &str = "usage: chainspace node SITE KEYS --ticks N [--hosts FILE]
+Runs the node of a site file and a key file, and prints what it executes.
+  --ticks N      for N ticks, of 20 milliseconds if FILE doesn't say otherwise
+  --turns N      for N inputs, datagrams or ticks
+  --hosts FILE   where all are; without it they are on this machine
+status: 0 done, 7 the socket fails, 12 a file isn't taken
+example: chainspace node site.toml keys-0.0.toml --ticks 180000
+";
+
+pub const CLIENT: &str = "usage: chainspace client SITE KEYS CALL --ticks N [--hosts FILE]
+Makes the call of a call file, and prints what has become of its session.
+  --ticks N      for N ticks at most, of 20 milliseconds if FILE doesn't say
+                 otherwise
+  --turns N      for N inputs at most, datagrams or ticks
+  --hosts FILE   where all are; without it they are on this machine
+status: 0 accepted or aborted, 10 open, 3 the call is refused,
+        7 the socket fails, 12 a file isn't taken
+example: chainspace client site.toml keys-c.0.toml pay.toml --ticks 1500
+";
+
+pub const SHOW: &str = "usage: chainspace show SITE KEYS KEY --ticks N [--hosts FILE]
+Asks all nodes of a key's shard, as a client, for what f+1 of them tell:
+active OBJECT, locked SESSION, inactive SESSION, shared READERS or unknown.
+  KEY            64 hex digits, an object; or S:N, the dummy N of shard S
+  --ticks N      for N ticks at most, of 20 milliseconds if FILE doesn't say
+                 otherwise
+  --turns N      for N inputs at most, datagrams or ticks
+  --hosts FILE   where all are; without it they are on this machine
+status: 0 told, 10 open, 3 there is no such shard, 7 the socket fails,
+        12 a file isn't taken
+example: chainspace show site.toml keys-c.0.toml 1:0 --ticks 100
+";
+
+pub const KEYS: &str = "usage: chainspace keys SITE MASTER
+Saves the key files of all nodes and clients of a site, in this folder.
+  MASTER   64 hex digits, or - where standard input has them
+status: 0 saved, 3 no master key, 12 a file isn't taken or saved
+example: chainspace keys site.toml - < master
+";
+
+pub const CLUSTER: &str = "usage: chainspace cluster PLAN
+Saves the key files of a plan's site, starts all nodes, runs the calls one after
+the other, and prints how each of them ended. For trials on one machine.
+status: 0 done, 11 a child isn't started, 12 a file isn't taken or saved
+example: chainspace cluster plan.toml
+";
+
+pub const HELP: &str = "usage: chainspace help [COMMAND]
+Tells of all commands, or of one.
+status: 0
+example: chainspace help client
+";
+
+pub const VERSION: &str = "usage: chainspace version
+Tells the program's version, and the line of the logic that it was proved in.
+status: 0
+example: chainspace version
+";

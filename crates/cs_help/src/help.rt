@@ -1,0 +1,27 @@
+//! The text of a topic.
+ghost use Rattle.std.specs.Prelude.{◌≡◌};
+ghost use Rattle.cs_help.specs.Topics.{help_text};
+
+use crate::commands;
+use crate::topic::Topic;
+
+/// The text of a topic.
+pub fn help_text(topic: Topic) -> &'static str
+    ensures { result.now ≡ help_text topic }
+{
+    match topic {
+        Topic::Commands => commands::COMMANDS,
+        Topic::Replay => commands::REPLAY,
+        Topic::Contract => commands::CONTRACT,
+        Topic::Verify => commands::VERIFY,
+        Topic::Audit => commands::AUDIT,
+        Topic::Simulate => commands::SIMULATE,
+        Topic::Node => commands::NODE,
+        Topic::Client => commands::CLIENT,
+        Topic::Show => commands::SHOW,
+        Topic::Keys => commands::KEYS,
+        Topic::Cluster => commands::CLUSTER,
+        Topic::Help => commands::HELP,
+        Topic::Version => commands::VERSION,
+    }
+}
