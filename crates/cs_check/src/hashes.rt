@@ -185,7 +185,8 @@ impl Hashes {
         take_touched(alloc, &mut self.waiting, table)
     }
 
-    /// The root over all leaves. It puts those that wait at once, so no node is joined twice.
+    /// The root over all leaves. It puts those that wait at once, so that no node is joined twice: no
+    /// clause counts that.
     pub fn root(&mut self, alloc: Global, table: &Table) -> Result<Digest, Memory>
         requires { HasLeaves self.old (seen table.now) }
         ensures root { IfOk result (λ root. root ≡ root_of table.now.rows) }

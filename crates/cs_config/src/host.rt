@@ -1,5 +1,5 @@
 //! A host in a hosts file: the name of a node or a client, and where it is.
-ghost use Rattle.std.specs.Prelude.{◌≡◌, ◌↔◌, ℕ, List, Some, codes, IfOk};
+ghost use Rattle.std.specs.Prelude.{◌≡◌, ◌↔◌, ℕ, List, Some, codes};
 ghost use Rattle.std.specs.declared.net.ip_addr.IpAddr.{IpAddr};
 ghost use Rattle.std.specs.Net.Grammar.{IsIpText};
 ghost use Rattle.toml.specs.View.{view, table_view};

@@ -3,7 +3,7 @@ ghost use Rattle.std.specs.Prelude.{◌≡◌, ◌≢◌, ◌+◌, ◌≤◌, �
 ghost use Rattle.cs_base.specs.Outside.{HasCause};
 ghost use Rattle.cs_base.specs.declared.limits.TheConstants.{MOST_DATAGRAM};
 ghost use Rattle.cs_io.specs.Told.{Stays};
-ghost use Rattle.cs_io.specs.Link.{Binds, TellsHosts, Frees, Receives, LinkSends, missed_after};
+ghost use Rattle.cs_io.specs.Link.{Binds, Receives, LinkSends, missed_after};
 
 use crate::link::{Arrived, Bound, Link, MemInput, Placed, Sent};
 use cs_base::{Failures, Memory, NodeId, Sequence};

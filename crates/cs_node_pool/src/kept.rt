@@ -123,7 +123,7 @@ impl Kept {
     }
 
     /// The digest of a session that is the next one to be decided or voted on: it is compared with
-    /// these two alone. Nothing is hashed.
+    /// these two alone, so that nothing is hashed: no clause counts that.
     pub fn known(&self, session: &Session) -> Option<Digest>
         requires { Placed self.now }
         ensures known { (config : Config) → AllRight config self.now.seats.entries →

@@ -103,8 +103,8 @@ impl Pool {
         Ok(self.kept.known(session))
     }
 
-    /// Whether exactly this session is there under a digest: then it is well formed, for which
-    /// nothing is hashed.
+    /// Whether exactly this session is there under a digest: then it is well formed, and needn't be
+    /// tested again.
     pub fn holds(&self, digest: &Digest, session: &Session) -> Result<bool, Memory>
         ensures held { IfOk result (λ holds. IsTrue holds ↔
             (session_under digest.now self.now.sessions ≡ Some session.now)) }

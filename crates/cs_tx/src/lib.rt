@@ -16,7 +16,7 @@ pub use cs_tx_types::{
 pub use cs_tx_value::{Digest, Encoded, FormError, Name, Object, Value};
 pub use digests::{entry_digest, genesis_key, output_keys, output_name, session_digest, tx_digest};
 pub use formation::well_formed;
-pub use judge::Judge;
+pub use judge::{Clerk, Judge};
 pub use malformed::Malformed;
 pub use token::{TokenJudge, id_of_token};
 pub use uses::{anchor, concerned};
