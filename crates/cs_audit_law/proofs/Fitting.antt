@@ -14,13 +14,14 @@ use Rattle.cs_ledger.specs.Ledger.{Bytes}
 use Rattle.cs_node_state.specs.Setup.{Setup}
 use Rattle.cs_node_rules.specs.Signs.{Sign, Dropped, Took, Entered, Viewed, Did, Headed, Kept, Sent}
 use Rattle.cs_node_rules.specs.Ready.{Executed}
-use Rattle.cs_node_rules.specs.World.{Execution, slots_of}
+use Rattle.cs_node_rules.specs.World.{Execution, count_executed}
 use Rattle.cs_node_law.specs.Made.{log_in}
 use Rattle.cs_world_law.specs.Steps.{AllComputed, executions_of}
 use Rattle.cs_world_law.specs.Shown.{leaf_by, leaves_of}
 use Rattle.cs_world_law.specs.Chain as Chain
 use Rattle.cs_world_law.proofs.Older.{at_slot, at-more, at-last}
-use Rattle.cs_world_law.proofs.Firsts.{slots-log}
+use Rattle.cs_world_law.proofs.Firsts.{counted-entries}
+use Rattle.cs_world_law.proofs.Counted.{slot-counted}
 use Rattle.cs_audit_rules.specs.Stands.{Stand, start_stand, after_leaf, after_leaves}
 use Rattle.cs_audit_law.specs.Dumped.{dumped_leaves, dumped_stand}
 
@@ -37,7 +38,7 @@ leaves_there setup firsts shard = leaves_after setup shard (start_stand setup sh
 -- ---- what stands in a node's log it executed
 
 more : (sign : Sign) (signs : List Sign) (entry : Entry) → Executed signs entry → Executed (sign ∷ signs) entry
-more sign signs entry e = record { slot = e.slot; effect = e.effect; later = sign ∷ e.later; earlier = e.earlier; split = ap (λ (l : List Sign). sign ∷ l) e.split }
+more sign signs entry e = record { slot = e.slot; place = e.place; effect = e.effect; later = sign ∷ e.later; earlier = e.earlier; split = ap (λ (l : List Sign). sign ∷ l) e.split }
 
 pub executed_at : (signs : List Sign) (slot : ℕ) (entry : Entry) → at_slot (log_in signs) slot ≡ Some entry → Executed signs entry
 executed_at [] slot entry is = absurd cc
@@ -48,13 +49,13 @@ executed_at (Viewed s view ∷ past) slot entry is = more (Viewed s view) past e
 executed_at (Headed number head ∷ past) slot entry is = more (Headed number head) past entry (executed_at past slot entry is)
 executed_at (Kept index checkpoint ∷ past) slot entry is = more (Kept index checkpoint) past entry (executed_at past slot entry is)
 executed_at (Sent to message ∷ past) slot entry is = more (Sent to message) past entry (executed_at past slot entry is)
-executed_at (Did s other effect ∷ past) slot entry is = by (slot == length (log_in past)) (executed_at past slot entry) is
+executed_at (Did s place other effect ∷ past) slot entry is = by (slot == length (log_in past)) (executed_at past slot entry) is
   where
-    by : (b : Bool) → (at_slot (log_in past) slot ≡ Some entry → Executed past entry) → (if b then Some other else at_slot (log_in past) slot) ≡ Some entry → Executed (Did s other effect ∷ past) entry
+    by : (b : Bool) → (at_slot (log_in past) slot ≡ Some entry → Executed past entry) → (if b then Some other else at_slot (log_in past) slot) ≡ Some entry → Executed (Did s place other effect ∷ past) entry
     by true before here =
         let same : other ≡ entry = (let q : Some other ≡ Some entry = here in cc) in
-        record { slot = s; effect = effect; later = []; earlier = past; split = ap (λ (e : Entry). Did s e effect ∷ past) same }
-    by false before here = more (Did s other effect) past entry (before here)
+        record { slot = s; place = place; effect = effect; later = []; earlier = past; split = ap (λ (e : Entry). Did s place e effect ∷ past) same }
+    by false before here = more (Did s place other effect) past entry (before here)
 
 -- ---- they fit
 
@@ -74,8 +75,8 @@ module _ (setup : Setup) (shard : ℕ) where
       by true is before fits small =
           let log = Chain.shard_entries shard earlier in
           let here = eqb-true e.shard shard is in
-          let next : e.slot ≡ slots_of shard earlier = subst (λ n. e.slot ≡ slots_of n earlier) here computed.0.next in
-          let count : slots_of shard earlier ≡ length log = slots-log shard earlier in
+          let next : e.slot ≡ count_executed shard earlier = subst (λ n. e.slot ≡ count_executed n earlier) here (slot-counted setup e earlier computed) in
+          let count : count_executed shard earlier ≡ length log = counted-entries shard earlier in
           let below : e.slot < 2 ^ 64 = omega arith in
           let bound : length log ≤ 2 ^ 64 = omega arith in
           All-push LeafFits (dumped_leaves shard earlier) (leaf_by e) (before (λ slot entry at. fits slot entry (at-more e.entry log slot entry at)) bound)

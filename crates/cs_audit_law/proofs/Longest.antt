@@ -18,7 +18,7 @@ use Rattle.cs_node_state.specs.Bench.{effect_from}
 use Rattle.cs_replay_rules.specs.Dumps.{longest, logs_of, shard_log}
 use Rattle.cs_node_rules.specs.Signs.{Dropped, Took, Entered, Viewed, Did, Headed, Kept, Sent}
 use Rattle.cs_node_rules.specs.Site.{Mark, In, Ordered, Plain, Site, signs_of}
-use Rattle.cs_node_rules.specs.World.{Happening, Execution, trail_of, view_of, slots_of}
+use Rattle.cs_node_rules.specs.World.{Happening, Execution, trail_of, view_of, count_executed}
 use Rattle.cs_node_law.specs.Made.{view_at, log_in}
 use Rattle.cs_node_law.proofs.Views.{me-same}
 use Rattle.cs_world_law.specs.Worlds.{is_honest, signs_at}
@@ -26,12 +26,13 @@ use Rattle.cs_world_law.specs.Steps.{AllComputed, executions_of, effect_after}
 use Rattle.cs_world_law.specs.Shown.{leaf_by, leaves_of}
 use Rattle.cs_world_law.specs.Chain as Chain
 use Rattle.cs_world_law.proofs.Older.{older, IsOlder, older-drop, older-all}
+use Rattle.cs_world_law.proofs.Counted.{slot-counted}
 use Rattle.cs_world_law.proofs.SameHeads.{Core, core_of, core_after, core_by, LogBy}
 use Rattle.cs_audit_rules.specs.Stands.{Stand, start_stand, after_leaf, after_leaves}
 use Rattle.cs_audit_rules.proofs.Parts.{in_filter, of_filter}
 use Rattle.cs_audit_law.specs.Dumped.{dumped_leaves, dumped_stand}
 use Rattle.cs_audit_law.proofs.Behind.{after_one}
-use Rattle.cs_audit_law.proofs.Unbroken.{slots_there, table_there}
+use Rattle.cs_audit_law.proofs.Unbroken.{count_there, table_there}
 
 -- ---- a node's log is a function of its entries
 
@@ -46,7 +47,7 @@ core_is {M} site me (Plain (Viewed slot view) ∷ t) = core_is site me t
 core_is {M} site me (Plain (Headed number head) ∷ t) = core_is site me t
 core_is {M} site me (Plain (Kept index checkpoint) ∷ t) = core_is site me t
 core_is {M} site me (Plain (Sent to message) ∷ t) = core_is site me t
-core_is {M} site me (Plain (Did slot entry effect) ∷ t) =
+core_is {M} site me (Plain (Did slot place entry effect) ∷ t) =
     ap (λ (k : Core). core_after site.setup (view_at site me t).me.shard k entry) (core_is site me t)
     ∙ ap (λ (n : NodeId). core_after site.setup n.shard (core_by site.setup me.shard (log_in (signs_of t))) entry) (me-same site me t)
 
@@ -80,8 +81,8 @@ module _ (setup : Setup) (shard : ℕ) where
       by true is same =
           let stand = dumped_stand setup shard earlier in
           let here = eqb-true e.shard shard is in
-          let next_slot : e.slot ≡ slots_of shard earlier = subst (λ n. e.slot ≡ slots_of n earlier) here computed.0.next in
-          let slot_is : e.slot ≡ length stand.log.leaves = next_slot ∙ sym (slots_there setup shard earlier) in
+          let next_slot : e.slot ≡ count_executed shard earlier = subst (λ n. e.slot ≡ count_executed n earlier) here (slot-counted setup e earlier computed) in
+          let slot_is : e.slot ≡ length stand.log.leaves = next_slot ∙ sym (count_there setup shard earlier) in
           let effect_is : e.effect ≡ effect_after setup earlier shard e.entry = subst (λ n. e.effect ≡ effect_after setup earlier n e.entry) here computed.0.effect in
           let comes : e.effect ≡ (exec setup.rules shard stand.table (entry_of setup e.entry)).effect =
           effect_is ∙ ap (λ (t : Table). (exec setup.rules shard t (entry_of setup e.entry)).effect) (sym (table_there setup shard earlier)) in

@@ -289,7 +289,7 @@ lines-if true text are = are
 lines-if false text are = no-lines
 
 sign-are : (setup : Setup) (traced : Bool) (me : NodeId) (sign : Sign) → AreLines (sign_line setup traced me sign)
-sign-are setup traced me (Did slot entry effect) = slot-lines me slot (digest_of setup (session_in entry)) effect
+sign-are setup traced me (Did slot place entry effect) = slot-lines me slot (digest_of setup (session_in entry)) effect
 sign-are setup traced me (Dropped c) = lines-if traced (drop_line me c) (drop-lines me c)
 sign-are setup traced me (Viewed slot view) = lines-if traced (view_line me slot view) (view-lines me slot view)
 sign-are setup traced me (Headed number head) = head-lines me number head

@@ -16,7 +16,8 @@ use Rattle.cs_table.specs.Effects.{effect_of}
 use Rattle.cs_node_state.specs.Bench.{effect_from}
 use Rattle.cs_node_state.specs.Setup.{Setup, entry_of, is_fit}
 use Rattle.cs_tx_types.specs.Session.{session_in}
-use Rattle.cs_node_rules.specs.World.{Execution, steps_of, slots_of}
+use Rattle.cs_world_law.proofs.Counted.{slot-counted}
+use Rattle.cs_node_rules.specs.World.{Execution, steps_of, count_executed}
 use Rattle.cs_world_law.specs.Steps.{effect_after, executions_of}
 use Rattle.cs_world_law.specs.Shown.{leaf_by, leaves_of}
 use Rattle.cs_world_law.proofs.Logged.{leaf-count}
@@ -59,12 +60,12 @@ earlier_steps setup e earlier are = record {
   apart = no_collision_within setup.rules.genesis (sessions (steps_of setup (e ∷ earlier))) (sessions (steps_of setup earlier)) (λ x within. inr within) are.apart;
 }
 
-slots_count : (shard : ℕ) (firsts : List Execution) → length (executions_of shard firsts) ≡ slots_of shard firsts
-slots_count shard [] = refl
-slots_count shard (e ∷ earlier) = by (e.shard == shard) (slots_count shard earlier)
+counted_executions : (shard : ℕ) (firsts : List Execution) → length (executions_of shard firsts) ≡ count_executed shard firsts
+counted_executions shard [] = refl
+counted_executions shard (e ∷ earlier) = by (e.shard == shard) (counted_executions shard earlier)
   where
-    by : (b : Bool) → length (executions_of shard earlier) ≡ slots_of shard earlier
-        → length (if b then e ∷ executions_of shard earlier else executions_of shard earlier) ≡ (if b then suc (slots_of shard earlier) else slots_of shard earlier)
+    by : (b : Bool) → length (executions_of shard earlier) ≡ count_executed shard earlier
+        → length (if b then e ∷ executions_of shard earlier else executions_of shard earlier) ≡ (if b then suc (count_executed shard earlier) else count_executed shard earlier)
     by true same = ap suc same
     by false same = same
 
@@ -92,11 +93,11 @@ module _ (setup : Setup) (shard : ℕ) where
       by false same = same
 
   -- there is a leaf for each slot
-  pub slots_there : (firsts : List Execution) → length (dumped_stand setup shard firsts).log.leaves ≡ slots_of shard firsts
-  slots_there firsts =
+  pub count_there : (firsts : List Execution) → length (dumped_stand setup shard firsts).log.leaves ≡ count_executed shard firsts
+  count_there firsts =
       let leaves = dumped_leaves shard firsts in
       let counted : length (dumped_stand setup shard firsts).log.leaves ≡ 0 + length leaves = count_stands setup shard start leaves in
-      let leaf_slots : length leaves ≡ slots_of shard firsts = leaf-count (executions_of shard firsts) ∙ slots_count shard firsts in
+      let leaf_slots : length leaves ≡ count_executed shard firsts = leaf-count (executions_of shard firsts) ∙ counted_executions shard firsts in
       omega arith
 
   roots_there : (stand : Stand) (leaves : List Leaf) → HasRoots stand.log → HasRoots (after_leaves setup shard stand leaves).log
@@ -115,8 +116,8 @@ module _ (setup : Setup) (shard : ℕ) where
       let past = steps_of setup earlier in
       let came = are.computed.0 in
       let counted : length stand.log.leaves ≡ 0 + length leaves = count_stands setup shard start leaves in
-      let leaf_slots : length leaves ≡ slots_of shard earlier = leaf-count (executions_of shard earlier) ∙ slots_count shard earlier in
-      let next_slot : e.slot ≡ slots_of shard earlier = subst (λ n. e.slot ≡ slots_of n earlier) here came.next in
+      let leaf_slots : length leaves ≡ count_executed shard earlier = leaf-count (executions_of shard earlier) ∙ counted_executions shard earlier in
+      let next_slot : e.slot ≡ count_executed shard earlier = subst (λ n. e.slot ≡ count_executed n earlier) here (slot-counted setup e earlier are.computed) in
       let effect_is : e.effect ≡ effect_after setup earlier shard e.entry = subst (λ n. e.effect ≡ effect_after setup earlier n e.entry) here came.effect in
       let rooted : HasRoots stand.log = roots_there start leaves refl in
       let one_more_leaf = length-append stand.log.leaves (leaf_encoding (leaf_by e) ∷ []) in
@@ -161,8 +162,8 @@ heads_there setup firsts shard =
     let made = count_heads log (length log.table_roots) in
     omega arith
 
-pub leaves_count : (setup : Setup) (firsts : List Execution) (shard : ℕ) → length (dumped_leaves shard firsts) ≡ slots_of shard firsts
-leaves_count setup firsts shard = leaf-count (executions_of shard firsts) ∙ slots_count shard firsts
+pub leaves_count : (setup : Setup) (firsts : List Execution) (shard : ℕ) → length (dumped_leaves shard firsts) ≡ count_executed shard firsts
+leaves_count setup firsts shard = leaf-count (executions_of shard firsts) ∙ counted_executions shard firsts
 
 -- ---- the logs of all shards
 

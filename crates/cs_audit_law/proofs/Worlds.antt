@@ -12,7 +12,7 @@ use Rattle.cs_world_law.specs.Chain.{moments, trail_at, story_firsts}
 use Rattle.cs_world_law.specs.Chain as Chain
 use Rattle.cs_world_law.proofs.Stories.{trail-same, firsts-same}
 use Rattle.cs_world_law.proofs.Older.{IsOlder, at-some, at-below}
-use Rattle.cs_world_law.proofs.Firsts.{own_log, are-first, slots-log}
+use Rattle.cs_world_law.proofs.Firsts.{own_log, are-first, counted-entries}
 use Rattle.cs_world_law.proofs.SameHeads.{Core}
 use Rattle.cs_world_law.proofs.Whole.{IsPlace, At, Here, sound, story, came, lawful-here}
 use Rattle.cs_tx_types.specs.Log.{LeafFits}
@@ -87,6 +87,6 @@ module _ {M : Type 0} (machine : Machine M) (p : IsPlace machine) (some : 0 < p.
 
   pub dumped_fit : LeavesFit site p.world
   dumped_fit fit shard few =
-      let count : length (dumped_leaves shard (firsts_of p.world)) ≡ length (all_of shard) = leaves_count site.setup (firsts_of p.world) shard ∙ slots-log shard (firsts_of p.world) in
+      let count : length (dumped_leaves shard (firsts_of p.world)) ≡ length (all_of shard) = leaves_count site.setup (firsts_of p.world) shard ∙ counted-entries shard (firsts_of p.world) in
       let small : length (all_of shard) ≤ 2 ^ 64 = omega arith in
       leaves_fit site.setup shard (firsts_of p.world) (came machine p some (lawful-here machine p some apart)) (entry_fits fit shard) small

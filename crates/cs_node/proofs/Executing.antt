@@ -12,14 +12,15 @@ use Rattle.cs_ledger.specs.Table as Chosen
 use Rattle.cs_ledger.specs.Table.{Effect, Voted, Accepted, Aborted, Skipped, Void, Outcome, act}
 use Rattle.cs_node_state.specs.declared.pooled.Pooled.{Pooled}
 use Rattle.cs_wire_message.specs.declared.message.Message.TheVariants as message
-use Rattle.cs_node_state.specs.Setup.{Setup, digest_of, concerned, is_fit, vote_from}
+use Rattle.cs_node_state.specs.Setup.{actions_of, Setup, digest_of, concerned, is_fit, vote_from}
+use Rattle.cs_node_rules.proofs.Actions.{one-signs}
 use Rattle.cs_tx_types.specs.Session.{session_in}
 use Rattle.cs_node_rules.specs.Members.{others}
 use Rattle.cs_node_state.specs.Pool.{Pool, found, is_pooled, pool_changed, with_ballot, as_locked, entering, pushed, entered, entered_locked}
 use Rattle.cs_tx_types.specs.declared.checkpoint.Checkpoint.{Checkpoint}
 use Rattle.cs_check_rules.specs.Chain.{head_of, made_last}
 use Rattle.cs_node_state.specs.Bench.{Bench, Ran, is_locked, pool_after, executed, effect_from, next_leaf, with_leaf, slot_executed, told_by, vote_told, own_pool, bench_executed}
-use Rattle.cs_node_rules.specs.Signs.{Sign, Did, Headed, bench_after, sends, own_signs, vote_signs, entered_signs, ran_signs, headed_signs, execution_signs}
+use Rattle.cs_node_rules.specs.Signs.{Sign, Did, Headed, bench_after, sends, own_signs, vote_signs, entered_signs, ran_signs, headed_signs, actions_signs, execution_signs}
 use Rattle.cs_node.specs.declared.draft.Note.TheVariants.{Executed}
 use Rattle.cs_node.specs.Drafts.{Draft}
 use Rattle.cs_node.specs.Notes.{notes_of, said_of, spoken, TellsSigns}
@@ -137,19 +138,19 @@ bench_closed setup me b entry =
 
 ran-makes : (setup : Setup) (me : NodeId) (b b' : Bench) (slot : ℕ) (entry : Entry) (made mid made' : Draft) → b' ≡ bench_closed setup me b entry
     → TellsSigns (vote_signs setup me (session_in entry) (vote_told setup me.shard (session_in entry) (executed setup me.shard b entry))) made mid
-    → made'.notes ≡ mid.notes ++ Executed slot entry (effect_from (executed setup me.shard b entry).effect) ∷ [] → made'.said ≡ mid.said
-    → Makes setup me (ran_signs setup me b slot entry (session_in entry) (executed setup me.shard b entry)) b b' made made'
+    → made'.notes ≡ mid.notes ++ Executed slot 0 entry (effect_from (executed setup me.shard b entry).effect) ∷ [] → made'.said ≡ mid.said
+    → Makes setup me (ran_signs setup me b slot 0 entry (session_in entry) (executed setup me.shard b entry)) b b' made made'
 ran-makes setup me b b' slot entry made mid made' is tells noted silent =
     let x : Session = session_in entry in
     let ran : Ran = executed setup me.shard b entry in
     let told : Option (Vote × Bool) = vote_told setup me.shard x ran in
     let pooled : Bool = is_pooled (digest_of setup x) b.pool in
-    let did : List Sign = Did slot entry ran.effect ∷ [] in
+    let did : List Sign = Did slot 0 entry ran.effect ∷ [] in
     let own : List Sign = own_signs me x told in
     let vote : List Sign = vote_signs setup me x told in
     let enters : List Sign = entered_signs x pooled told in
     let signs : List Sign = own ++ (vote ++ enters) in
-    let all : List Sign = ran_signs setup me b slot entry x ran in
+    let all : List Sign = ran_signs setup me b slot 0 entry x ran in
     let left : Bench = slot_executed setup me.shard b entry in
     let whole : all ≡ signs ++ did = ap (λ xs. own ++ xs) (sym (append_assoc vote enters did)) ∙ sym (append_assoc own (vote ++ enters) did) in
     let quiet : notes_of vote ≡ [] = voted-notes setup me x told in
@@ -175,18 +176,20 @@ bench-headed setup me (Some c) b =
 
 pub execution-makes : (setup : Setup) (me : NodeId) (b b' : Bench) (slot : ℕ) (entry : Entry) (made mid made' made'' : Draft) → b' ≡ bench_closed setup me b entry
     → TellsSigns (vote_signs setup me (session_in entry) (vote_told setup me.shard (session_in entry) (executed setup me.shard b entry))) made mid
-    → made'.notes ≡ mid.notes ++ Executed slot entry (effect_from (executed setup me.shard b entry).effect) ∷ [] → made'.said ≡ mid.said
+    → made'.notes ≡ mid.notes ++ Executed slot 0 entry (effect_from (executed setup me.shard b entry).effect) ∷ [] → made'.said ≡ mid.said
     → TellsSigns (headed_signs setup me (made_last b'.log)) made' made'' → Makes setup me (execution_signs setup me b slot entry) b b' made made''
 execution-makes setup me b b' slot entry made mid made' made'' is tells noted silent headed =
-    let log_is : made_last b'.log ≡ made_last (slot_executed setup me.shard b entry).log = ap (λ (c : Bench). made_last c.log) is in
-    let heads : List Sign = headed_signs setup me (made_last (slot_executed setup me.shard b entry).log) in
-    let ran : List Sign = ran_signs setup me b slot entry (session_in entry) (executed setup me.shard b entry) in
-    let first = ran-makes setup me b b' slot entry made mid made' is tells noted silent in
+    let ran : List Sign = actions_signs setup me b slot 0 (actions_of entry) in
+    let first : Makes setup me ran b b' made made' =
+    subst (λ (signs : List Sign). Makes setup me signs b b' made made') (sym (one-signs setup me b slot entry)) (ran-makes setup me b b' slot entry made mid made' is tells noted silent) in
+    let last : Option Checkpoint = made_last (bench_after setup me.shard ran b).log in
+    let log_is : made_last b'.log ≡ last = ap (λ (c : Bench). made_last c.log) first.bench_is in
+    let heads : List Sign = headed_signs setup me last in
     let P : Option Checkpoint → Type 0 = λ o. TellsSigns (headed_signs setup me o) made' made'' in
     record {
       tells = tells-more ran heads made made' made'' first.tells (subst P log_is headed);
       bench_is = first.bench_is
-          ∙ sym (bench-append setup me.shard heads ran b ∙ bench-headed setup me (made_last (slot_executed setup me.shard b entry).log) (bench_after setup me.shard ran b));
+          ∙ sym (bench-append setup me.shard heads ran b ∙ bench-headed setup me last (bench_after setup me.shard ran b));
     }
 
 -- ---- a vote is given only on a fit session

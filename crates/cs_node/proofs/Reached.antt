@@ -65,7 +65,7 @@ module _ {M : Type 0} (Peer : NodeId → Type 0) (config : Config) (site : Site 
   goes-alone (Viewed slot view ∷ past) all = goes-alone past all
   goes-alone (Headed number head ∷ past) all = goes-alone past all
   goes-alone (Kept index checkpoint ∷ past) all = goes-alone past all
-  goes-alone (Did slot entry effect ∷ past) all = goes-alone past all
+  goes-alone (Did slot place entry effect ∷ past) all = goes-alone past all
   goes-alone (Sent to message ∷ past) all = (all.0, goes-alone past all.1)
 
   module _ (v : View M) (home : IsHome v.me) where
@@ -251,7 +251,7 @@ reached-of keys (Entered x ∷ past) all = reached-of keys past all
 reached-of keys (Viewed slot view ∷ past) all = reached-of keys past all
 reached-of keys (Headed number head ∷ past) all = reached-of keys past all
 reached-of keys (Kept index checkpoint ∷ past) all = reached-of keys past all
-reached-of keys (Did slot entry effect ∷ past) all = reached-of keys past all
+reached-of keys (Did slot place entry effect ∷ past) all = reached-of keys past all
 reached-of keys (Sent to message ∷ past) all = reached-append keys (said_of past) ((to, message) ∷ []) (reached-of keys past all.1) (all.0, tt)
 
 pub event-reached : {O J M : Type 0} (stands : O → Member M → Type 0) (approves : J → Tx → Bool) (site : Site M) (core : Core O J M) (v : View M) (input : Input) → CoreStandsFor stands approves site core v

@@ -10,15 +10,15 @@ use Rattle.cs_tx_types.specs.declared.vote.Vote.TheVariants.{Commit}
 use Rattle.cs_tx_types.specs.declared.entry.Entry.{Entry}
 use Rattle.cs_wire_message.specs.declared.message.Message.{Message}
 use Rattle.cs_wire_message.specs.declared.message.Message.TheVariants as message
-use Rattle.cs_node_state.specs.Setup.{Setup, digest_of, is_concerned_shard, concerned, concerned_below}
+use Rattle.cs_node_state.specs.Setup.{Action, actions_of, Setup, digest_of, is_concerned_shard, concerned, concerned_below}
 use Rattle.cs_tx_types.specs.Session.{session_in}
 use Rattle.cs_node_rules.specs.Members.{members, except, others}
 use Rattle.cs_node_state.specs.Pool.{Pool, is_pooled}
-use Rattle.cs_node_state.specs.Bench.{Bench, Ran, executed, slot_executed, vote_told}
+use Rattle.cs_node_state.specs.Bench.{Bench, Ran, executed, vote_told}
 use Rattle.cs_node_rules.proofs.Heard.{AllHeard}
 use Rattle.cs_tx_types.specs.declared.checkpoint.Checkpoint.{Checkpoint}
 use Rattle.cs_check_rules.specs.Chain.{head_of, made_last}
-use Rattle.cs_node_rules.specs.Signs.{Sign, Dropped, Took, Entered, Viewed, Did, Headed, Kept, Sent, sends, vote_signs, own_signs, entered_signs, ran_signs, headed_signs, execution_signs, asked_again}
+use Rattle.cs_node_rules.specs.Signs.{Sign, Dropped, Took, Entered, Viewed, Did, Headed, Kept, Sent, sends, vote_signs, own_signs, entered_signs, ran_signs, headed_signs, actions_signs, execution_signs, bench_after, asked_again}
 
 module _ (Peer : NodeId → Type 0) where
   -- all that is sent goes to a peer
@@ -30,7 +30,7 @@ module _ (Peer : NodeId → Type 0) where
   AllTo (Viewed slot view ∷ past) = AllTo past
   AllTo (Headed number head ∷ past) = AllTo past
   AllTo (Kept index checkpoint ∷ past) = AllTo past
-  AllTo (Did slot entry effect ∷ past) = AllTo past
+  AllTo (Did slot place entry effect ∷ past) = AllTo past
   AllTo (Sent to message ∷ past) = Peer to × AllTo past
 
   abbrev pub ArePeers : List NodeId → Type 0
@@ -45,7 +45,7 @@ module _ (Peer : NodeId → Type 0) where
   to-append (Viewed slot view ∷ new) old a b = to-append new old a b
   to-append (Headed number head ∷ new) old a b = to-append new old a b
   to-append (Kept index checkpoint ∷ new) old a b = to-append new old a b
-  to-append (Did slot entry effect ∷ new) old a b = to-append new old a b
+  to-append (Did slot place entry effect ∷ new) old a b = to-append new old a b
   to-append (Sent to message ∷ new) old a b = (a.0, to-append new old a.1 b)
 
   to-sends : (names : List NodeId) (m : Message) → ArePeers names → AllTo (sends names m)
@@ -59,7 +59,7 @@ module _ (Peer : NodeId → Type 0) where
   to-heard sender (Took from vote x ∷ signs) all peer = to-heard sender signs all peer
   to-heard sender (Entered x ∷ signs) all peer = to-heard sender signs all peer
   to-heard sender (Viewed slot view ∷ signs) all peer = absurd all
-  to-heard sender (Did slot entry effect ∷ signs) all peer = absurd all
+  to-heard sender (Did slot place entry effect ∷ signs) all peer = absurd all
   to-heard sender (Headed number head ∷ signs) all peer = absurd all
   to-heard sender (Kept index checkpoint ∷ signs) all peer = to-heard sender signs all peer
   to-heard sender (Sent to said ∷ signs) all peer = (subst Peer (sym all.0) peer, to-heard sender signs all.1 peer)
@@ -133,14 +133,14 @@ module _ (Peer : NodeId → Type 0) where
           to-append (sends (others setup.f me (me.shard ∷ [])) (message.Head c)) (Headed c.number (head_of c) ∷ [])
           (to-all (me.shard ∷ []) (message.Head c) (low, tt)) tt
 
-      to-ran : (b : Bench) (slot : ℕ) (entry : Entry) → AllTo (ran_signs setup me b slot entry (session_in entry) (executed setup me.shard b entry))
-      to-ran b slot entry =
+      to-ran : (b : Bench) (slot place : ℕ) (entry : Entry) → AllTo (ran_signs setup me b slot place entry (session_in entry) (executed setup me.shard b entry))
+      to-ran b slot place entry =
           let x : Session = session_in entry in
           let ran : Ran = executed setup me.shard b entry in
           let told : Option (Vote × Bool) = vote_told setup me.shard x ran in
           let pooled : Bool = is_pooled (digest_of setup x) b.pool in
           to-append (own_signs me x told) _ (by_own x told)
-          (to-append (vote_signs setup me x told) _ (to-voters x told) (to-append (entered_signs x pooled told) (Did slot entry ran.effect ∷ []) (by_entered x pooled told) tt))
+          (to-append (vote_signs setup me x told) _ (to-voters x told) (to-append (entered_signs x pooled told) (Did slot place entry ran.effect ∷ []) (by_entered x pooled told) tt))
         where
           by_own : (x : Session) (told : Option (Vote × Bool)) → AllTo (own_signs me x told)
           by_own x None = tt
@@ -153,11 +153,18 @@ module _ (Peer : NodeId → Type 0) where
           by_entered x true (Some (vote, true)) = tt
           by_entered x false (Some (vote, true)) = tt
 
+      to-actions : (b : Bench) (slot place : ℕ) (actions : List Action) → AllTo (actions_signs setup me b slot place actions)
+      to-actions b slot place [] = tt
+      to-actions b slot place (action ∷ more) =
+          let signs = ran_signs setup me b slot place action (session_in action) (executed setup me.shard b action) in
+          let left = bench_after setup me.shard signs b in
+          to-append (actions_signs setup me left slot (suc place) more) signs (to-actions left slot (suc place) more) (to-ran b slot place action)
+
       pub to-execution : me.shard < config.shards → (b : Bench) (slot : ℕ) (entry : Entry) → AllTo (execution_signs setup me b slot entry)
       to-execution low b slot entry =
-          to-append (headed_signs setup me (made_last (slot_executed setup me.shard b entry).log))
-          (ran_signs setup me b slot entry (session_in entry) (executed setup me.shard b entry))
-          (to-headed low (made_last (slot_executed setup me.shard b entry).log)) (to-ran b slot entry)
+          let signs = actions_signs setup me b slot 0 (actions_of entry) in
+          let made = made_last (bench_after setup me.shard signs b).log in
+          to-append (headed_signs setup me made) signs (to-headed low made) (to-actions b slot 0 (actions_of entry))
 
       pub to-asked : (pool : Pool) → AllTo (asked_again setup me pool)
       to-asked [] = tt

@@ -39,7 +39,7 @@ outs-same net me (Entered x ∷ past) = outs-same net me past
 outs-same net me (Viewed slot view ∷ past) = outs-same net me past
 outs-same net me (Headed number head ∷ past) = outs-same net me past
 outs-same net me (Kept index checkpoint ∷ past) = outs-same net me past
-outs-same net me (Did slot entry effect ∷ past) = outs-same net me past
+outs-same net me (Did slot place entry effect ∷ past) = outs-same net me past
 outs-same net me (Sent to message ∷ past) =
     outs-more net me (said_of past) ((to, message) ∷ [])
     ∙ ap (λ (outs : List Out). outs ++ record { to = to; bytes = sealed_by_net net me to message } ∷ []) (outs-same net me past)

@@ -21,7 +21,7 @@ notes-append (Entered x ∷ new) old = notes-append new old
 notes-append (Viewed slot view ∷ new) old = ap (λ xs. xs ++ note.Viewed slot view ∷ []) (notes-append new old) ∙ append_assoc (notes_of old) (notes_of new) (note.Viewed slot view ∷ [])
 notes-append (Headed number head ∷ new) old = ap (λ xs. xs ++ note.Headed number head ∷ []) (notes-append new old) ∙ append_assoc (notes_of old) (notes_of new) (note.Headed number head ∷ [])
 notes-append (Kept index checkpoint ∷ new) old = notes-append new old
-notes-append (Did slot entry effect ∷ new) old = ap (λ xs. xs ++ note.Executed slot entry (effect_from effect) ∷ []) (notes-append new old) ∙ append_assoc (notes_of old) (notes_of new) (note.Executed slot entry (effect_from effect) ∷ [])
+notes-append (Did slot place entry effect ∷ new) old = ap (λ xs. xs ++ note.Executed slot place entry (effect_from effect) ∷ []) (notes-append new old) ∙ append_assoc (notes_of old) (notes_of new) (note.Executed slot place entry (effect_from effect) ∷ [])
 notes-append (Sent to message ∷ new) old = notes-append new old
 
 pub said-append : (new old : List Sign) → said_of (new ++ old) ≡ said_of old ++ said_of new
@@ -32,7 +32,7 @@ said-append (Entered x ∷ new) old = said-append new old
 said-append (Viewed slot view ∷ new) old = said-append new old
 said-append (Headed number head ∷ new) old = said-append new old
 said-append (Kept index checkpoint ∷ new) old = said-append new old
-said-append (Did slot entry effect ∷ new) old = said-append new old
+said-append (Did slot place entry effect ∷ new) old = said-append new old
 said-append (Sent to message ∷ new) old = ap (λ xs. xs ++ (to, message) ∷ []) (said-append new old) ∙ append_assoc (said_of old) (said_of new) ((to, message) ∷ [])
 
 -- one more is said to some

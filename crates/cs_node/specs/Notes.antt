@@ -22,7 +22,7 @@ notes_of (Dropped cause ∷ past) = notes_of past ++ note.Dropped cause ∷ []
 notes_of (Took sender vote x ∷ past) = notes_of past
 notes_of (Entered x ∷ past) = notes_of past
 notes_of (Viewed slot view ∷ past) = notes_of past ++ note.Viewed slot view ∷ []
-notes_of (Did slot entry effect ∷ past) = notes_of past ++ note.Executed slot entry (effect_from effect) ∷ []
+notes_of (Did slot place entry effect ∷ past) = notes_of past ++ note.Executed slot place entry (effect_from effect) ∷ []
 notes_of (Headed number head ∷ past) = notes_of past ++ note.Headed number head ∷ []
 notes_of (Kept index checkpoint ∷ past) = notes_of past
 notes_of (Sent to message ∷ past) = notes_of past
@@ -34,7 +34,7 @@ outs_of net me (Dropped cause ∷ past) = outs_of net me past
 outs_of net me (Took sender vote x ∷ past) = outs_of net me past
 outs_of net me (Entered x ∷ past) = outs_of net me past
 outs_of net me (Viewed slot view ∷ past) = outs_of net me past
-outs_of net me (Did slot entry effect ∷ past) = outs_of net me past
+outs_of net me (Did slot place entry effect ∷ past) = outs_of net me past
 outs_of net me (Headed number head ∷ past) = outs_of net me past
 outs_of net me (Kept index checkpoint ∷ past) = outs_of net me past
 outs_of net me (Sent to message ∷ past) =
@@ -49,7 +49,7 @@ said_of (Dropped cause ∷ past) = said_of past
 said_of (Took sender vote x ∷ past) = said_of past
 said_of (Entered x ∷ past) = said_of past
 said_of (Viewed slot view ∷ past) = said_of past
-said_of (Did slot entry effect ∷ past) = said_of past
+said_of (Did slot place entry effect ∷ past) = said_of past
 said_of (Headed number head ∷ past) = said_of past
 said_of (Kept index checkpoint ∷ past) = said_of past
 said_of (Sent to message ∷ past) = said_of past ++ (to, message) ∷ []
@@ -84,7 +84,7 @@ pub record TellsSigns (signs : List Sign) (old new : Draft) : Type 0 where
 abbrev pub NoteFits : Note → Type 0
 NoteFits (note.Dropped cause) = Unit {0}
 NoteFits (note.Viewed slot view) = Unit {0}
-NoteFits (note.Executed slot entry effect) = EntryFits entry  -- an executed entry has an encoding
+NoteFits (note.Executed slot place entry effect) = EntryFits entry  -- an executed entry has an encoding
 NoteFits (note.Headed number head) = Unit {0}
 
 abbrev pub NotesFit : List Note → Type 0

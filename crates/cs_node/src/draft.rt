@@ -23,9 +23,10 @@ pub enum Note {
         slot: u64,
         view: u16,
     },
-    /// The entry of a slot was executed.
+    /// An action was executed, in its place of a slot.
     Executed {
         slot: u64,
+        place: u8,
         entry: Entry,
         effect: Effect,
     },
@@ -87,14 +88,21 @@ impl Draft {
     }
 
     /// Notes what an execution came to.
-    pub fn note_execution(&mut self, slot: u64, entry: Entry, effect: Effect) -> Result<(), Memory>
+    pub fn note_execution(
+        &mut self,
+        slot: u64,
+        place: u8,
+        entry: Entry,
+        effect: Effect,
+    ) -> Result<(), Memory>
         requires { EntryFits entry }
-        ensures notes { let note = Note.Executed slot entry effect in
+        ensures notes { let note = Note.Executed slot place entry effect in
             OnOk result (self.new.notes ≡ self.old.notes ++ note ∷ []) }
         ensures said { OnOk result (self.new.said ≡ self.old.said) }
     {
         self.notes.push(Note::Executed {
             slot,
+            place,
             entry,
             effect,
         })?;

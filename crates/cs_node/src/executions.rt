@@ -50,6 +50,6 @@ pub fn execute(
     };
     let made = sbac.close(alloc, &leaf)?;
     sbac.forget_touched();
-    draft.note_execution(slot, leaf.entry, leaf.result)?;
+    draft.note_execution(slot, 0, leaf.entry, leaf.result)?;
     say_made(alloc, sbac, draft, made)
 }

@@ -33,7 +33,7 @@ fn voters(alloc: Global, sbac: &Sbac, session: &Session) -> Result<Sequence<Node
     Ok(names)
 }
 
-// The same of a fit session, for which nothing is hashed.
+// The same of a fit session, which needn't be tested again.
 fn voters_of_fit(alloc: Global, sbac: &Sbac, session: &Session) -> Result<Sequence<NodeId>, Memory>
     requires { IsFit sbac.now session.now }
     ensures { AtEverySetup sbac.now.config (λ setup.

@@ -27,10 +27,12 @@ use Rattle.cs_node_rules.specs.declared.cause.Cause.{Cause}
 use Rattle.cs_node_rules.specs.declared.cause.Cause.TheVariants as cause
 use Rattle.cs_tx_types.specs.Session.{session_in}
 use Rattle.cs_node_rules.proofs.Heard.{heard}
+use Rattle.cs_node_rules.proofs.Actions.{one-signs}
+use Rattle.cs_node_state.specs.Setup.{actions_of}
 use Rattle.cs_node_state.specs.Admission.{due}
 use Rattle.cs_node_state.specs.Bench.{executed, slot_executed, next_leaf}
 use Rattle.cs_node_rules.specs.Members.{is_other_member, others}
-use Rattle.cs_node_rules.specs.Signs.{Sign, Dropped, Viewed, bench_step, sends, ran_signs, headed_signs, execution_signs, asked_again, said_signs}
+use Rattle.cs_node_rules.specs.Signs.{Sign, Dropped, Viewed, bench_step, bench_after, sends, headed_signs, actions_signs, execution_signs, asked_again, said_signs}
 use Rattle.cs_node_rules.specs.Site.{Input, Datagram, Tick, Mark, In, Ordered, Plain, Site, View, start_view, view_after, plain}
 use Rattle.cs_node_rules.specs.Trail.{handed, with_deed, entered_view, moving, cut_marks, admits_proposed, due_marks, candidate_marks, propose_marks, echo_marks, step_marks, turn_marks, continued, settled, taking_marks, member_marks, reply_marks, want_marks, class_marks, message_marks, opened_marks, again_marks, waiting_marks, tick_marks, input_marks, event_marks}
 use Rattle.cs_node_rules.specs.World.{Happening, IsLife, trail_of, view_of}
@@ -170,9 +172,11 @@ module _ {M : Type 0} (site : Site M) where
     log-after =
         let x = session_in entry in
         let ran = executed site.setup v.me.shard v.bench entry in
-        let made = made_last (slot_executed site.setup v.me.shard v.bench entry).log in
-        log-ahead site (headed_signs site.setup v.me made) (ran_signs site.setup v.me v.bench slot entry x ran) first v (keep-headed site.setup v.me made)
-        ∙ ran-log site first v v.me v.bench slot entry x ran
+        let signs = actions_signs site.setup v.me v.bench slot 0 (actions_of entry) in
+        let made = made_last (bench_after site.setup v.me.shard signs v.bench).log in
+        log-ahead site (headed_signs site.setup v.me made) signs first v (keep-headed site.setup v.me made)
+        ∙ ap (λ (one : List Sign). (view_after site (plain one ++ first) v).bench.log) (one-signs site.setup v.me v.bench slot entry)
+        ∙ ran-log site first v v.me v.bench slot 0 entry x ran
 
     abbrev leaf : List ℕ
     leaf = leaf_encoding (next_leaf w.bench entry (executed site.setup w.me.shard w.bench entry).effect)

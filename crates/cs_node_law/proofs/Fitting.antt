@@ -33,12 +33,15 @@ use Rattle.cs_node_rules.specs.Site.{Input, Datagram, Tick, Mark, In, Ordered, P
 use Rattle.cs_node_rules.specs.Collisions.{sessions_in, entries_in, in_opened, given}
 use Rattle.cs_node_rules.specs.Carrying.{IsEntry, Carries}
 use Rattle.cs_node_rules.specs.Deployment.{proposed_of, entry_or_void, site_of}
+use Rattle.cs_node_state.specs.Setup.{Action, actions_of}
 use Rattle.cs_node_state.specs.Deployed.{setup_of}
+use Rattle.cs_node_state.specs.laws.Actions.{each_action}
 use Rattle.cs_node_law.specs.Made.{view_at, HasVotedOn, IsTaken, IsDue, IsCandidate, NodeExecutes, HasDigests, IsHanded, SaidMade, AllMade, ReadsProper, InputFits}
 use Rattle.cs_node_law.specs.Given.{InputIsBytes}
 use Rattle.cs_node_law.proofs.Views.{member-is}
 use Rattle.cs_node_law.proofs.NoIns.{inputs_in}
 use Rattle.cs_node_law.proofs.Pools.{heard-given, pool-sourced}
+use Rattle.cs_node_law.proofs.Actions.{got-in}
 use Rattle.cs_node_law.proofs.Due.{due-from}
 use Rattle.cs_node_law.proofs.Speaking.{opened-fits}
 use Rattle.cs_wire_message.proofs.Spelled.{bytes-want, bytes-body}
@@ -55,15 +58,19 @@ pub entry-fits : (entry : Entry) → SessionFits (session_in entry) → EntryFit
 entry-fits (Prepare x) fits = fits
 entry-fits (Decide vote x) fits = fits
 
+-- the sessions of an entry
+in-actions : (entry : Entry) → EntryFits entry → (actions : List Action) → ((action : Action) → IsIn action actions → IsIn action (actions_of entry)) → (x : Session) → IsIn x (map session_in actions) → SessionFits x
+in-actions entry fits [] within x i = absurd i
+in-actions entry fits (action ∷ more) within x (inl e) = subst SessionFits (sym e) (session-fits action (each_action EntryFits entry fits action (within action (inl refl))))
+in-actions entry fits (action ∷ more) within x (inr i) = in-actions entry fits more (λ a j. within a (inr j)) x i
+
 pub sessions-fit : (said : Message) → MessageFits said → (x : Session) → IsIn x (sessions_in said) → SessionFits x
 sessions-fit (message.Submit y) fits x (inl e) = subst SessionFits (sym e) fits
 sessions-fit (message.Submit y) fits x (inr none) = absurd none
-sessions-fit (message.Propose slot view entry) fits x (inl e) = subst SessionFits (sym e) (session-fits entry fits.1.1)
-sessions-fit (message.Propose slot view entry) fits x (inr none) = absurd none
+sessions-fit (message.Propose slot view entry) fits x i = in-actions entry fits.1.1 (actions_of entry) (λ a j. j) x i
 sessions-fit (message.Voted vote asks y) fits x (inl e) = subst SessionFits (sym e) fits
 sessions-fit (message.Voted vote asks y) fits x (inr none) = absurd none
-sessions-fit (message.Done slot entry) fits x (inl e) = subst SessionFits (sym e) (session-fits entry fits.1)
-sessions-fit (message.Done slot entry) fits x (inr none) = absurd none
+sessions-fit (message.Done slot entry) fits x i = in-actions entry fits.1 (actions_of entry) (λ a j. j) x i
 sessions-fit said fits x i = absurd i
 
 pub entries-fit : (said : Message) → MessageFits said → (entry : Entry) → IsIn entry (entries_in said) → EntryFits entry
@@ -184,9 +191,10 @@ module _ {M : Type 0} (machine : Machine M) (carrier : Carrier M) (config : Conf
         proposed-fits p (inl due) = due-fits p due
         proposed-fits p (inr candidate) = candidate-fits p candidate
 
-        pub done-fits : (slot : ℕ) (entry : Entry) (effect : _) → NodeExecutes At (view_at At me t) (signs_of t) slot entry effect → EntryFits entry
-        done-fits slot entry effect e =
-            subst EntryFits e.reads (given-back e.proposed (fit.held e.proposed (holds.logged config.f me.index (Deeds t) (kept t made) slot e.proposed e.chosen)))
+        pub done-fits : (slot place : ℕ) (action : Action) (effect : _) → NodeExecutes At (view_at At me t) (signs_of t) slot place action effect → EntryFits action
+        done-fits slot place action effect e =
+            each_action EntryFits (At.entry_in e.proposed) (given-back e.proposed (fit.held e.proposed (holds.logged config.f me.index (Deeds t) (kept t made) slot e.proposed e.chosen)))
+            action (got-in (actions_of (At.entry_in e.proposed)) place action e.within)
 
       -- the deeds that hand nothing in
       pub all-fit : (t : List (Mark M)) → AllMade At me t → AllBytes t → AllFit t
@@ -217,12 +225,12 @@ module _ {M : Type 0} (machine : Machine M) (carrier : Carrier M) (config : Conf
       all-fit (Plain (Headed number head) ∷ t) made bytes = let f = all-fit t made.1 bytes in record { held = f.held; voted = f.voted }
       all-fit (Plain (Kept index checkpoint) ∷ t) made bytes = let f = all-fit t made.1 bytes in record { held = f.held; voted = f.voted }
       all-fit (Plain (Sent to said) ∷ t) made bytes = let f = all-fit t made.1 bytes in record { held = f.held; voted = f.voted }
-      all-fit (Plain (Did slot entry effect) ∷ t) made bytes =
+      all-fit (Plain (Did slot place entry effect) ∷ t) made bytes =
           let f = all-fit t made.1 bytes in
           record {
             held = f.held;
             voted = λ x h. elim h [
-              | inl now ↦ subst (λ (e : Entry). SessionFits (session_in e)) now.0 (session-fits entry (done-fits t made.1 bytes f slot entry effect made.0))
+              | inl now ↦ subst (λ (e : Entry). SessionFits (session_in e)) now.0 (session-fits entry (done-fits t made.1 bytes f slot place entry effect made.0))
               | inr old ↦ f.voted x old
             ];
           }

@@ -46,7 +46,7 @@ use Rattle.cs_node_law.proofs.Notes.{notes-given}
 use Rattle.cs_node_law.proofs.Pools.{Place, heard-given, pool-sourced}
 
 given-level : {M : Type 0} (site : Site M) (me : NodeId) (t : List (Mark M)) (input : Input) → IsLevel site me t → IsLevel site me (In input ∷ t)
-given-level {M} site me t input l = record { made = (tt, l.made); slots = l.slots }
+given-level {M} site me t input l = record { made = (tt, l.made); executed = l.executed }
 
 -- ---- what a datagram says
 

@@ -48,7 +48,7 @@ keep-heard sender (Dropped cause ∷ signs) all = (λ setup shard b. refl, keep-
 keep-heard sender (Took from vote x ∷ signs) all = (λ setup shard b. refl, keep-heard sender signs all)
 keep-heard sender (Entered x ∷ signs) all = (λ setup shard b. refl, keep-heard sender signs all)
 keep-heard sender (Viewed slot view ∷ signs) all = absurd all
-keep-heard sender (Did slot entry effect ∷ signs) all = absurd all
+keep-heard sender (Did slot place entry effect ∷ signs) all = absurd all
 keep-heard sender (Headed number head ∷ signs) all = absurd all
 keep-heard sender (Kept index checkpoint ∷ signs) all = (λ setup shard b. refl, keep-heard sender signs all)
 keep-heard sender (Sent to said ∷ signs) all = (λ setup shard b. refl, keep-heard sender signs all.1)
@@ -99,12 +99,12 @@ module _ {M : Type 0} (site : Site M) where
   log-ahead a b past v kept = ap (λ (t : List (Mark M)). (view_after site t v).bench.log) (plain-onto a b past) ∙ log-said a (plain b ++ past) v kept
 
   -- an execution, with the session that it brings into the pool, the votes that are sent and the node's own: one slot more
-  pub ran-log : (past : List (Mark M)) (v : View M) (who : NodeId) (b : Bench) (slot : ℕ) (entry : Entry) (x : Session) (ran : Ran) → let w = view_after site past v in
-      (view_after site (plain (ran_signs site.setup who b slot entry x ran) ++ past) v).bench.log ≡ (slot_executed site.setup w.me.shard w.bench entry).log
-  ran-log past v who b slot entry x ran =
+  pub ran-log : (past : List (Mark M)) (v : View M) (who : NodeId) (b : Bench) (slot place : ℕ) (entry : Entry) (x : Session) (ran : Ran) → let w = view_after site past v in
+      (view_after site (plain (ran_signs site.setup who b slot place entry x ran) ++ past) v).bench.log ≡ (slot_executed site.setup w.me.shard w.bench entry).log
+  ran-log past v who b slot place entry x ran =
       let told = vote_told site.setup who.shard x ran in
       let pooled = is_pooled (digest_of site.setup x) b.pool in
-      let did : List Sign = Did slot entry ran.effect ∷ [] in
+      let did : List Sign = Did slot place entry ran.effect ∷ [] in
       let entering = entered_signs x pooled told in
       let voting = vote_signs site.setup who x told in
       log-ahead (own_signs who x told) (voting ++ (entering ++ did)) past v (keep-own who x told)

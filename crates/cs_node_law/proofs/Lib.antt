@@ -5,6 +5,7 @@ pub mod Notes
 pub mod Silent
 pub mod Keeping
 pub mod Heads
+pub mod Actions
 pub mod Turns
 pub mod Pools
 pub mod Due

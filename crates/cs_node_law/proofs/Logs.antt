@@ -31,13 +31,13 @@ table-is {M} site me (Plain (Viewed slot view) ∷ t) = table-is site me t
 table-is {M} site me (Plain (Headed number head) ∷ t) = table-is site me t
 table-is {M} site me (Plain (Kept index checkpoint) ∷ t) = table-is site me t
 table-is {M} site me (Plain (Sent to message) ∷ t) = table-is site me t
-table-is {M} site me (Plain (Did slot entry effect) ∷ t) =
+table-is {M} site me (Plain (Did slot place entry effect) ∷ t) =
     ap (λ (u : Table). (exec site.setup.rules (view_at site me t).me.shard u (entry_of site.setup entry)).table) (table-is site me t)
 
 -- what an execution on the table of the log came to
-pub effect-is : {M : Type 0} (site : Site M) (me : NodeId) (t : List (Mark M)) (slot : ℕ) (entry : Entry) (effect : Effect) → AllMade site me (Plain (Did slot entry effect) ∷ t)
+pub effect-is : {M : Type 0} (site : Site M) (me : NodeId) (t : List (Mark M)) (slot place : ℕ) (entry : Entry) (effect : Effect) → AllMade site me (Plain (Did slot place entry effect) ∷ t)
     → effect ≡ (exec site.setup.rules (view_at site me t).me.shard (table_of site.setup.rules (view_at site me t).me.shard (seen_log site t)) (entry_of site.setup entry)).effect
-effect-is {M} site me t slot entry effect made =
+effect-is {M} site me t slot place entry effect made =
     made.0.computed ∙ ap (λ (u : Table). (exec site.setup.rules (view_at site me t).me.shard u (entry_of site.setup entry)).effect) (table-is site me t)
 
 pub prepares-seen : (setup : Setup) (d : Bytes) (entry : Entry) → prepares setup d entry ≡ is_prepare_of d (entry_of setup entry)
@@ -56,8 +56,8 @@ given-is {M} site me d vote (Plain (Viewed slot view) ∷ t) made = given-is sit
 given-is {M} site me d vote (Plain (Headed number head) ∷ t) made = given-is site me d vote t made.1
 given-is {M} site me d vote (Plain (Kept index checkpoint) ∷ t) made = given-is site me d vote t made.1
 given-is {M} site me d vote (Plain (Sent to message) ∷ t) made = given-is site me d vote t made.1
-given-is {M} site me d vote (Plain (Did slot entry effect) ∷ t) made =
+given-is {M} site me d vote (Plain (Did slot place entry effect) ∷ t) made =
     let before = given-is site me d vote t made.1 in
     let now = prepares-seen site.setup d entry in
-    let came = effect-is site me t slot entry effect made in
+    let came = effect-is site me t slot place entry effect made in
     λ i. (now i && is_vote vote (came i)) || before i

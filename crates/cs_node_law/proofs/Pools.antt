@@ -101,7 +101,7 @@ ballot-session ballot p = cond_both (has_voted ballot.sender p.ballots) _ _ (λ 
 abbrev pub HasTaken : Setup → Bytes → NodeId → Vote → List Sign → Type 0
 HasTaken setup d who vote [] = ⊥
 HasTaken setup d who vote (Took sender other x ∷ past) = ((d ≡ digest_of setup x) × (sender ≡ who) × (other ≡ vote)) ⊎ HasTaken setup d who vote past
-HasTaken setup d who vote (Did slot entry effect ∷ past) = HasTaken setup d who vote past
+HasTaken setup d who vote (Did slot place entry effect ∷ past) = HasTaken setup d who vote past
 HasTaken setup d who vote (Dropped cause ∷ past) = HasTaken setup d who vote past
 HasTaken setup d who vote (Entered x ∷ past) = HasTaken setup d who vote past
 HasTaken setup d who vote (Viewed slot view ∷ past) = HasTaken setup d who vote past
@@ -127,7 +127,7 @@ taken-more {M} setup d who vote (Plain (Viewed slot view)) t h = h
 taken-more {M} setup d who vote (Plain (Headed number head)) t h = h
 taken-more {M} setup d who vote (Plain (Kept index checkpoint)) t h = h
 taken-more {M} setup d who vote (Plain (Sent to message)) t h = h
-taken-more {M} setup d who vote (Plain (Did slot entry effect)) t h = h
+taken-more {M} setup d who vote (Plain (Did slot place entry effect)) t h = h
 
 sourced-more : {M : Type 0} (site : Site M) (me : NodeId) (mark : Mark M) (t : List (Mark M)) (e : Place) → IsSourced site me t e → IsSourced site me (mark ∷ t) e
 sourced-more {M} site me mark t e s =
@@ -175,8 +175,8 @@ voted-fit {M} site me x (Plain (Viewed slot view) ∷ t) made h = voted-fit site
 voted-fit {M} site me x (Plain (Headed number head) ∷ t) made h = voted-fit site me x t made.1 h
 voted-fit {M} site me x (Plain (Kept index checkpoint) ∷ t) made h = voted-fit site me x t made.1 h
 voted-fit {M} site me x (Plain (Sent to message) ∷ t) made h = voted-fit site me x t made.1 h
-voted-fit {M} site me x (Plain (Did slot entry effect) ∷ t) made (inr h) = voted-fit site me x t made.1 h
-voted-fit {M} site me x (Plain (Did slot entry effect) ∷ t) made (inl now) =
+voted-fit {M} site me x (Plain (Did slot place entry effect) ∷ t) made (inr h) = voted-fit site me x t made.1 h
+voted-fit {M} site me x (Plain (Did slot place entry effect) ∷ t) made (inl now) =
     let v = view_at site me t in
     let came = sym made.0.computed ∙ now.1.1 in
     exec-fit site.setup.rules v.me.shard v.bench.table (Shard.Prepare (site.setup.session_of x)) now.1.0
@@ -268,9 +268,9 @@ pool-sourced {M} site me (Plain (Entered x) ∷ t) made =
       | inl new ↦ sourced-pushed site v.me (mark ∷ t) x false v.bench.pool all new.fit (inl (new.approved, heard-given site sessions_in me t new.sender new.said x new.heard new.about)) (λ h. cc)
       | inr voted ↦ sourced-pushed site v.me (mark ∷ t) x false v.bench.pool all (voted-fit site me x t made.1 voted) (inr voted) (λ h. cc)
     ])
-pool-sourced {M} site me (Plain (Did slot entry effect) ∷ t) made =
+pool-sourced {M} site me (Plain (Did slot place entry effect) ∷ t) made =
     let v = view_at site me t in
-    let mark : Mark M = Plain (Did slot entry effect) in
+    let mark : Mark M = Plain (Did slot place entry effect) in
     let out = Shard.exec site.setup.rules v.me.shard v.bench.table (entry_of site.setup entry) in
     sourced-after site v.me (mark ∷ t) (session_in entry) out.effect (is_locked site.setup v.me.shard out.table (session_in entry)) v.bench.pool
     (λ e i. sourced-more site _ mark t e (pool-sourced site me t made.1 e i))

@@ -8,6 +8,7 @@ use Rattle.cs_base.specs.declared.node_id.NodeId.{NodeId}
 use Rattle.cs_tx_types.specs.declared.session.Session.{Session}
 use Rattle.cs_wire_message.specs.declared.message.Message.{Message}
 use Rattle.cs_wire_message.specs.declared.message.Message.TheVariants as message
+use Rattle.cs_order.specs.declared.proposed.Proposed.{Proposed}
 use Rattle.cs_order.specs.declared.answers.Outgoing.{Outgoing}
 use Rattle.cs_order.specs.Deeds.{Deed, sent_by, chosen_in}
 use Rattle.cs_order.specs.Runs.{IsFor}
@@ -22,7 +23,7 @@ use Rattle.cs_node_rules.specs.Signs.{Sign, Dropped, Took, Entered, Viewed, Did,
 use Rattle.cs_node_rules.specs.Site.{Datagram, Tick, Mark, In, Ordered, Plain, Site, View, plain, signs_of}
 use Rattle.cs_node_rules.specs.Trail.{out_signs, handed, with_deed, entered_view, moving}
 use Rattle.cs_node_rules.specs.Collisions.{sessions_in, in_opened, given}
-use Rattle.cs_node_law.specs.Made.{view_at, log_in, HasVotedOn, has_given, IsKnown, StoodDecided, SaidMade, SignMade, IsMade, AllMade, IsLevel}
+use Rattle.cs_node_law.specs.Made.{view_at, log_in, actions_in, HasVotedOn, has_given, IsKnown, StoodDecided, SaidMade, SignMade, IsMade, AllMade, IsLevel}
 
 -- ---- what was done, given and voted stays so
 
@@ -36,7 +37,7 @@ given-more {M} setup d vote (Plain (Viewed slot view)) t h = h
 given-more {M} setup d vote (Plain (Headed number head)) t h = h
 given-more {M} setup d vote (Plain (Kept index checkpoint)) t h = h
 given-more {M} setup d vote (Plain (Sent to said)) t h = h
-given-more {M} setup d vote (Plain (Did slot entry effect)) t h = or_right _ _ h
+given-more {M} setup d vote (Plain (Did slot place entry effect)) t h = or_right _ _ h
 
 pub voted-more : {M : Type 0} (x : Session) (mark : Mark M) (t : List (Mark M)) → HasVotedOn x (signs_of t) → HasVotedOn x (signs_of (mark ∷ t))
 voted-more {M} x (In input) t h = h
@@ -48,7 +49,7 @@ voted-more {M} x (Plain (Viewed slot view)) t h = h
 voted-more {M} x (Plain (Headed number head)) t h = h
 voted-more {M} x (Plain (Kept index checkpoint)) t h = h
 voted-more {M} x (Plain (Sent to said)) t h = h
-voted-more {M} x (Plain (Did slot entry effect)) t h = inr h
+voted-more {M} x (Plain (Did slot place entry effect)) t h = inr h
 
 pub session-more : {M : Type 0} (site : Site M) (me : NodeId) (x : Session) (mark : Mark M) (t : List (Mark M)) → IsIn x (given site sessions_in me t) → IsIn x (given site sessions_in me (mark ∷ t))
 session-more {M} site me x (In (Datagram bytes)) t i = in_right x (in_opened sessions_in (site.net.opened me bytes)) (given site sessions_in me t) i
@@ -120,7 +121,7 @@ module _ {M : Type 0} (site : Site M) (me : NodeId) where
   AreSaid t (Took sender vote x ∷ signs) = ⊥
   AreSaid t (Entered x ∷ signs) = ⊥
   AreSaid t (Kept index checkpoint ∷ signs) = ⊥
-  AreSaid t (Did slot entry effect ∷ signs) = ⊥
+  AreSaid t (Did slot place entry effect ∷ signs) = ⊥
 
   pub said-append : (t : List (Mark M)) (a b : List Sign) → AreSaid t a → AreSaid t b → AreSaid t (a ++ b)
   said-append t [] b of_a of_b = of_b
@@ -131,7 +132,7 @@ module _ {M : Type 0} (site : Site M) (me : NodeId) where
   said-append t (Took sender vote x ∷ a) b of_a of_b = absurd of_a
   said-append t (Entered x ∷ a) b of_a of_b = absurd of_a
   said-append t (Kept index checkpoint ∷ a) b of_a of_b = absurd of_a
-  said-append t (Did slot entry effect ∷ a) b of_a of_b = absurd of_a
+  said-append t (Did slot place entry effect ∷ a) b of_a of_b = absurd of_a
 
   pub said-sends : (t : List (Mark M)) (names : List NodeId) (said : Message) → ((to : NodeId) → IsIn to names → SignMade site (At t) t (Sent to said)) → AreSaid t (sends names said)
   said-sends t [] said f = tt
@@ -157,13 +158,21 @@ module _ {M : Type 0} (site : Site M) (me : NodeId) where
   said-adds (Took sender vote x ∷ signs) t made h = absurd h
   said-adds (Entered x ∷ signs) t made h = absurd h
   said-adds (Kept index checkpoint ∷ signs) t made h = absurd h
-  said-adds (Did slot entry effect ∷ signs) t made h = absurd h
+  said-adds (Did slot place entry effect ∷ signs) t made h = absurd h
 
   pub adds-level : (t u : List (Mark M)) → IsLevel site me t → Adds t u → IsLevel site me u
-  adds-level t u l a = record { made = a.made; slots = ap (λ (v : View M). length (chosen_in v.member.deeds)) a.view ∙ l.slots ∙ sym (ap length a.log) }
+  adds-level t u l a = record { made = a.made; executed = ap (λ (v : View M). length (actions_in site (chosen_in v.member.deeds))) a.view ∙ l.executed ∙ sym (ap length a.log) }
 
   pub said-level : (signs : List Sign) (t : List (Mark M)) → IsLevel site me t → AreSaid t signs → IsLevel site me (plain signs ++ t)
   said-level signs t l h = adds-level t (plain signs ++ t) l (said-adds signs t l.made h)
+
+  -- marks that are made, by which so many actions were executed
+  pub record IsAfter (n : ℕ) (t : List (Mark M)) : Type 0 where
+    pub made : AllMade site me t
+    pub count : length (log_in (signs_of t)) ≡ n
+
+  pub said-after : (n : ℕ) (signs : List Sign) (t : List (Mark M)) → IsAfter n t → AreSaid t signs → IsAfter n (plain signs ++ t)
+  said-after n signs t l h = let a = said-adds signs t l.made h in record { made = a.made; count = ap length a.log ∙ l.count }
 
 -- ---- the members of a shard
 
@@ -235,7 +244,7 @@ module _ {M : Type 0} (site : Site M) (me : NodeId) (t : List (Mark M)) (deed : 
   module _ (l : IsLevel site me t) (made : IsMade site me t (Ordered deed)) (e : chosen_in (deed ∷ (view_at site me t).member.deeds) ≡ chosen_in (view_at site me t).member.deeds) where
     -- a deed that chooses nothing
     pub done-level : IsLevel site me Done
-    done-level = record { made = (made, l.made); slots = ap length e ∙ l.slots }
+    done-level = record { made = (made, l.made); executed = ap (λ (c : List Proposed). length (actions_in site c)) e ∙ l.executed }
 
     pub deed-level : IsLevel site me (with_deed site (view_at site me t) deed ++ t)
     deed-level = subst (λ z. IsLevel site me z) (sym (append_assoc (plain Handed) (Ordered deed ∷ []) t)) (said-level site me Handed Done done-level all-handed)

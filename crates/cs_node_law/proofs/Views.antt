@@ -1,9 +1,11 @@
 -- A node after its marks: what it is by the marks of each kind.
-use Rattle.std.proofs.Common.{◌≡◌, List, [], ◌∷◌, ◌++◌, refl, ap}
+use Rattle.std.proofs.Common.{◌≡◌, ℕ, List, [], ◌∷◌, ◌++◌, refl, ap}
 use Rattle.cs_base.specs.declared.node_id.NodeId.{NodeId}
 use Rattle.cs_tx_types.specs.declared.session.Session.{Session}
 use Rattle.cs_order.specs.Deeds.{Member}
-use Rattle.cs_node_rules.specs.Signs.{Sign}
+use Rattle.cs_node_state.specs.Setup.{Setup}
+use Rattle.cs_node_state.specs.Bench.{Bench}
+use Rattle.cs_node_rules.specs.Signs.{Sign, bench_step, bench_after}
 use Rattle.cs_node_rules.specs.Site.{Mark, In, Ordered, Plain, Site, View, mark_step, view_after, plain, signs_of}
 use Rattle.cs_node_rules.specs.Collisions.{sessions_in, given}
 use Rattle.cs_node_law.specs.Made.{view_at}
@@ -40,3 +42,13 @@ member-is {M} site me (Plain sign ∷ t) = member-is site me t
 pub member-said : {M : Type 0} (site : Site M) (signs : List Sign) (past : List (Mark M)) (v : View M) → (view_after site (plain signs ++ past) v).member ≡ (view_after site past v).member
 member-said {M} site [] past v = refl
 member-said {M} site (sign ∷ signs) past v = member-said site signs past v
+
+pub bench_after-append : (setup : Setup) (shard : ℕ) (a b : List Sign) (bench : Bench) → bench_after setup shard (a ++ b) bench ≡ bench_after setup shard a (bench_after setup shard b bench)
+bench_after-append setup shard [] b bench = refl
+bench_after-append setup shard (sign ∷ a) b bench = ap (bench_step setup shard sign) (bench_after-append setup shard a b bench)
+
+-- signs change what the node works on, and nothing else
+pub view-said : {M : Type 0} (site : Site M) (signs : List Sign) (past : List (Mark M)) (v : View M) → let u = view_after site past v in
+    view_after site (plain signs ++ past) v ≡ record { me = u.me; bench = bench_after site.setup u.me.shard signs u.bench; member = u.member }
+view-said {M} site [] past v = refl
+view-said {M} site (sign ∷ signs) past v = ap (λ w. mark_step site (Plain sign) w) (view-said site signs past v)

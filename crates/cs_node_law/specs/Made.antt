@@ -1,5 +1,5 @@
 -- Why a mark may stand after the marks of its node that came before it. Marks and signs are newest first.
-use Rattle.std.specs.Prelude.{◌≡◌, ◌⊎◌, ℕ, Bool, true, false, ◌&&◌, ◌||◌, List, [], ◌∷◌, ◌++◌, length, Option, Some, None, Ok, slice_get}
+use Rattle.std.specs.Prelude.{◌≡◌, ◌⊎◌, ℕ, ◌+◌, Bool, true, false, ◌&&◌, ◌||◌, List, [], ◌∷◌, ◌++◌, length, take, Option, Some, None, Ok, slice_get}
 use Rattle.cs_tx.specs.Votes.{vote_of}
 use Rattle.cs_base.specs.declared.node_id.NodeId.{NodeId}
 use Rattle.cs_base.specs.NodeId.{is_client}
@@ -22,7 +22,7 @@ use Rattle.cs_ledger.specs.Ledger.{Bytes}
 use Rattle.cs_ledger.specs.Table.{Vote, Commit, Effect, Voted, exec}
 use Rattle.cs_ledger.specs.ShardWorld.{is_vote}
 use Rattle.cs_node_rules.specs.declared.cause.Cause.{Cause}
-use Rattle.cs_node_state.specs.Setup.{Setup, digest_of, is_concerned_shard, is_fit, is_session_approved, entry_of, prepares}
+use Rattle.cs_node_state.specs.Setup.{Action, actions_of, Setup, digest_of, is_concerned_shard, is_fit, is_session_approved, entry_of, prepares}
 use Rattle.cs_node_state.specs.Admission.{due}
 use Rattle.cs_node_state.specs.Bench.{is_locked, noted, decision_on}
 use Rattle.cs_node_rules.specs.Signs.{Sign, Dropped, Took, Entered, Viewed, Did, Headed, Kept, Sent}
@@ -37,10 +37,10 @@ use Rattle.cs_node_rules.specs.Carrying.{is_ordering}
 abbrev pub view_at : {M : Type 0} → Site M → NodeId → List (Mark M) → View M
 view_at {M} site me t = view_after site t (start_view site me)
 
--- the entries that were executed
-abbrev pub log_in : List Sign → List Entry
+-- the actions that were executed
+abbrev pub log_in : List Sign → List Action
 log_in [] = []
-log_in (Did slot entry effect ∷ past) = entry ∷ log_in past
+log_in (Did slot place action effect ∷ past) = action ∷ log_in past
 log_in (Dropped cause ∷ past) = log_in past
 log_in (Took sender vote x ∷ past) = log_in past
 log_in (Entered x ∷ past) = log_in past
@@ -52,8 +52,8 @@ log_in (Sent to message ∷ past) = log_in past
 -- a Prepare of exactly this session was executed, and gave a vote
 abbrev pub HasVotedOn : Session → List Sign → Type 0
 HasVotedOn x [] = ⊥
-HasVotedOn x (Did slot entry effect ∷ past) =
-    ((entry ≡ Prepare x) × ((vote : Vote) × (effect ≡ Voted vote))) ⊎ HasVotedOn x past
+HasVotedOn x (Did slot place action effect ∷ past) =
+    ((action ≡ Prepare x) × ((vote : Vote) × (effect ≡ Voted vote))) ⊎ HasVotedOn x past
 HasVotedOn x (Dropped cause ∷ past) = HasVotedOn x past
 HasVotedOn x (Took sender vote y ∷ past) = HasVotedOn x past
 HasVotedOn x (Entered y ∷ past) = HasVotedOn x past
@@ -65,8 +65,8 @@ HasVotedOn x (Sent to message ∷ past) = HasVotedOn x past
 -- a Prepare of a session of this digest was executed, with this vote
 abbrev pub has_given : Setup → Bytes → Vote → List Sign → Bool
 has_given setup d vote [] = false
-has_given setup d vote (Did slot entry effect ∷ past) =
-    (prepares setup d entry && is_vote vote effect) || has_given setup d vote past
+has_given setup d vote (Did slot place action effect ∷ past) =
+    (prepares setup d action && is_vote vote effect) || has_given setup d vote past
 has_given setup d vote (Dropped cause ∷ past) = has_given setup d vote past
 has_given setup d vote (Took sender other x ∷ past) = has_given setup d vote past
 has_given setup d vote (Entered x ∷ past) = has_given setup d vote past
@@ -142,14 +142,19 @@ DeedMade {M} site v t (Resent sent) = Unit {0}
 DeedMade {M} site v t (Replied slot to sent) = Unit {0}
 DeedMade {M} site v t (Cut slot) = Unit {0}
 
--- the entry that was chosen for the next slot is executed on the table
+-- the actions of what was chosen, the oldest first
+abbrev pub actions_in : {M : Type 0} → Site M → List Proposed → List Action
+actions_in {M} site [] = []
+actions_in {M} site (proposed ∷ more) = actions_of (site.entry_in proposed) ++ actions_in site more
+
+-- the next action of what was chosen is executed on the table: the entry of its slot has it at this place
 pub record NodeExecutes {M : Type 0} (site : Site M) (v : View M) (signs : List Sign)
-    (slot : ℕ) (entry : Entry) (effect : Effect) : Type 0 where
-  pub next : slot ≡ length (log_in signs)
-  pub computed : effect ≡ (exec site.setup.rules v.me.shard v.bench.table (entry_of site.setup entry)).effect
+    (slot place : ℕ) (action : Action) (effect : Effect) : Type 0 where
+  pub computed : effect ≡ (exec site.setup.rules v.me.shard v.bench.table (entry_of site.setup action)).effect
   pub proposed : Proposed
-  pub reads : site.entry_in proposed ≡ entry
   pub chosen : slice_get (chosen_in v.member.deeds) slot ≡ Some proposed
+  pub within : slice_get (actions_of (site.entry_in proposed)) place ≡ Some action
+  pub next : length (log_in signs) ≡ length (actions_in site (take slot (chosen_in v.member.deeds))) + place
 
 -- one of these deeds handed out a message that is written so, for this member or for all
 abbrev pub IsHanded : {M : Type 0} → Site M → ℕ → Message → List (Deed M) → Type 0
@@ -204,7 +209,7 @@ SignMade {M} site v t (Entered x) = IsOffered site v t x ⊎ HasVotedOn x (signs
 SignMade {M} site v t (Viewed slot view) = Unit {0}
 SignMade {M} site v t (Headed number head) = chain_head v.bench.log number ≡ Some head
 SignMade {M} site v t (Kept index checkpoint) = Unit {0}
-SignMade {M} site v t (Did slot entry effect) = NodeExecutes site v (signs_of t) slot entry effect
+SignMade {M} site v t (Did slot place action effect) = NodeExecutes site v (signs_of t) slot place action effect
 SignMade {M} site v t (Sent to said) =
     ((to.shard ≡ v.me.shard) × IsHanded site to.index said v.member.deeds) ⊎ SaidMade site v t to said
 
@@ -224,7 +229,7 @@ AllMade {M} site me (mark ∷ past) = IsMade site me past mark × AllMade site m
 -- the marks of a node between its events: each is made, and what was chosen was executed
 pub record IsLevel {M : Type 0} (site : Site M) (me : NodeId) (t : List (Mark M)) : Type 0 where
   pub made : AllMade site me t
-  pub slots : length (chosen_in (view_at site me t).member.deeds) ≡ length (log_in (signs_of t))
+  pub executed : length (actions_in site (chosen_in (view_at site me t).member.deeds)) ≡ length (log_in (signs_of t))
 
 -- the order's messages that are read are proper
 abbrev pub ReadsProper : {M : Type 0} → Site M → Type 0

@@ -1,5 +1,5 @@
 -- The strings that are hashed for a world, and that no two of them have one hash.
-use Rattle.std.specs.Prelude.{◌≡◌, ℕ, List, [], ◌∷◌, ◌++◌, Some, Ok, Err, slice_get}
+use Rattle.std.specs.Prelude.{◌≡◌, ℕ, List, [], ◌∷◌, ◌++◌, map, Some, Ok, Err, slice_get}
 use Rattle.std.specs.Int.{w16, w32, to_be_bytes}
 use Rattle.sha2.specs.Sha256.{sha256}
 use Rattle.cs_base.specs.Lists.{IsIn}
@@ -17,15 +17,16 @@ use Rattle.cs_wire_message.specs.declared.message.Message.{Message}
 use Rattle.cs_wire_message.specs.declared.message.Message.TheVariants as message
 use Rattle.cs_wire.specs.Opened.{Opened}
 use Rattle.cs_ledger.specs.Ledger.{Bytes}
+use Rattle.cs_node_state.specs.Setup.{actions_of}
 use Rattle.cs_node_rules.specs.Site.{Datagram, Tick, Mark, In, Ordered, Plain, Site}
 use Rattle.cs_node_rules.specs.World.{Happening}
 
--- the session in a message, if it has one
+-- the sessions in a message
 abbrev pub sessions_in : Message → List Session
 sessions_in (message.Submit x) = x ∷ []
-sessions_in (message.Propose slot view entry) = session_in entry ∷ []
+sessions_in (message.Propose slot view entry) = map session_in (actions_of entry)
 sessions_in (message.Voted vote asks x) = x ∷ []
-sessions_in (message.Done slot entry) = session_in entry ∷ []
+sessions_in (message.Done slot entry) = map session_in (actions_of entry)
 sessions_in m = []
 
 -- the entry in a message, if it has one

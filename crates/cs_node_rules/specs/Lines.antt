@@ -75,7 +75,7 @@ if_traced traced text = if traced then text else []
 
 -- the line of a sign, if it has one; what was sent has its line after these
 abbrev pub sign_line : Setup → Bool → NodeId → Sign → Bytes
-sign_line setup traced me (Did slot entry effect) = slot_line me slot (digest_of setup (session_in entry)) effect
+sign_line setup traced me (Did slot place entry effect) = slot_line me slot (digest_of setup (session_in entry)) effect
 sign_line setup traced me (Dropped cause) = if_traced traced (drop_line me cause)
 sign_line setup traced me (Viewed slot view) = if_traced traced (view_line me slot view)
 sign_line setup traced me (Headed number head) = head_line me number head
@@ -107,6 +107,6 @@ parcels_of net me (Dropped cause ∷ past) = parcels_of net me past
 parcels_of net me (Took sender vote x ∷ past) = parcels_of net me past
 parcels_of net me (Entered x ∷ past) = parcels_of net me past
 parcels_of net me (Viewed slot view ∷ past) = parcels_of net me past
-parcels_of net me (Did slot entry effect ∷ past) = parcels_of net me past
+parcels_of net me (Did slot place entry effect ∷ past) = parcels_of net me past
 parcels_of net me (Headed number head ∷ past) = parcels_of net me past
 parcels_of net me (Kept index checkpoint ∷ past) = parcels_of net me past

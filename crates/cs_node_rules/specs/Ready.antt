@@ -41,10 +41,11 @@ bench_at setup shard signs = bench_after setup shard signs (start_bench setup sh
 -- an execution, with the signs before it; signs are newest first
 pub record Executed (signs : List Sign) (entry : Entry) : Type 0 where
   pub slot : ℕ
+  pub place : ℕ
   pub effect : Shard.Effect
   pub later : List Sign
   pub earlier : List Sign
-  pub split : signs ≡ later ++ Did slot entry effect ∷ earlier
+  pub split : signs ≡ later ++ Did slot place entry effect ∷ earlier
 
 -- the vote commit went to all other nodes of the concerned shards, with the mark that it asks for theirs
 abbrev pub TellsCommit : Setup → NodeId → List Sign → Session → Type 0

@@ -1,6 +1,6 @@
 -- The marks of a node that are no deeds of its order, and what they make of table and pool. Lists of marks are newest
 -- first.
-use Rattle.std.specs.Prelude.{ℕ, Bool, true, false, not, ◌&&◌, ◌==◌, if◌then◌else◌, List, [], ◌∷◌, ◌++◌, Option, Some, None}
+use Rattle.std.specs.Prelude.{ℕ, suc, Bool, true, false, not, ◌&&◌, ◌==◌, if◌then◌else◌, List, [], ◌∷◌, ◌++◌, Option, Some, None}
 use Rattle.cs_base.specs.declared.key.Key.{Key}
 use Rattle.cs_base.specs.declared.node_id.NodeId.{NodeId}
 use Rattle.cs_base.specs.Key.{shard_of_key}
@@ -19,7 +19,7 @@ use Rattle.cs_ledger.specs.Table.{Effect}
 use Rattle.cs_node_rules.specs.declared.cause.Cause.{Cause}
 use Rattle.cs_node_rules.specs.declared.cause.Cause.TheVariants.{Mine, Role, Malformed, Repeat, Unasked, Denied, Full, NoProof}
 use Rattle.cs_node_state.specs.declared.pooled.Pooled.{Pooled}
-use Rattle.cs_node_state.specs.Setup.{Setup, digest_of, is_concerned_shard, concerned, is_fit, is_session_approved}
+use Rattle.cs_node_state.specs.Setup.{Action, actions_of, Setup, digest_of, is_concerned_shard, concerned, is_fit, is_session_approved}
 use Rattle.cs_tx_types.specs.Session.{session_in}
 use Rattle.cs_node_state.specs.Evidence.{has_voted}
 use Rattle.cs_node_rules.specs.Members.{is_other_member, others}
@@ -34,7 +34,7 @@ pub data Sign : Type 0 where
   Took : (sender : NodeId) → (vote : Vote) → (x : Session) → Sign
   Entered : (x : Session) → Sign
   Viewed : (slot view : ℕ) → Sign
-  Did : (slot : ℕ) → (entry : Entry) → (effect : Effect) → Sign
+  Did : (slot place : ℕ) → (action : Action) → (effect : Effect) → Sign
   Headed : (number : ℕ) → (head : Bytes) → Sign
   Kept : (index : ℕ) → (checkpoint : Checkpoint) → Sign
   Sent : (to : NodeId) → (message : Message) → Sign
@@ -46,7 +46,7 @@ bench_step setup shard (Took sender vote x) b =
     record b { pool = pool_changed (digest_of setup x) (with_ballot (record { sender = sender; vote = vote })) b.pool }
 bench_step setup shard (Entered x) b = record b { pool = entered (digest_of setup x) x b.pool }
 bench_step setup shard (Viewed slot view) b = b
-bench_step setup shard (Did slot entry effect) b = slot_executed setup shard b entry
+bench_step setup shard (Did slot place action effect) b = slot_executed setup shard b action
 bench_step setup shard (Headed number head) b = b
 bench_step setup shard (Kept index checkpoint) b = record b { heads = with_head index checkpoint b.heads }
 bench_step setup shard (Sent to message) b = b
@@ -135,12 +135,12 @@ abbrev pub entered_signs : Session → Bool → Option (Vote × Bool) → List S
 entered_signs x pooled None = []
 entered_signs x pooled (Some told) = if told.1 && not pooled then Entered x ∷ [] else []
 
-abbrev pub ran_signs : Setup → NodeId → Bench → ℕ → Entry → Session → Ran → List Sign
-ran_signs setup me b slot entry x ran =
+abbrev pub ran_signs : Setup → NodeId → Bench → ℕ → ℕ → Action → Session → Ran → List Sign
+ran_signs setup me b slot place action x ran =
     own_signs me x (vote_told setup me.shard x ran)
     ++ (vote_signs setup me x (vote_told setup me.shard x ran)
     ++ (entered_signs x (is_pooled (digest_of setup x) b.pool) (vote_told setup me.shard x ran)
-    ++ Did slot entry ran.effect ∷ []))
+    ++ Did slot place action ran.effect ∷ []))
 
 -- a checkpoint was made: its head is told to all other members
 abbrev pub headed_signs : Setup → NodeId → Option Checkpoint → List Sign
@@ -148,11 +148,18 @@ headed_signs setup me None = []
 headed_signs setup me (Some c) =
     sends (others setup.f me (me.shard ∷ [])) (message.Head c) ++ Headed c.number (head_of c) ∷ []
 
+-- the actions of a slot from a place on are executed one after the other, each on what those before it left
+abbrev pub actions_signs : Setup → NodeId → Bench → ℕ → ℕ → List Action → List Sign
+actions_signs setup me b slot place [] = []
+actions_signs setup me b slot place (action ∷ more) =
+    let signs = ran_signs setup me b slot place action (session_in action) (executed setup me.shard b action) in
+    actions_signs setup me (bench_after setup me.shard signs b) slot (suc place) more ++ signs
+
 -- the entry of a slot is executed, and after every 16th slot a checkpoint is made
 abbrev pub execution_signs : Setup → NodeId → Bench → ℕ → Entry → List Sign
 execution_signs setup me b slot entry =
-    headed_signs setup me (made_last (slot_executed setup me.shard b entry).log)
-    ++ ran_signs setup me b slot entry (session_in entry) (executed setup me.shard b entry)
+    let signs = actions_signs setup me b slot 0 (actions_of entry) in
+    headed_signs setup me (made_last (bench_after setup me.shard signs b).log) ++ signs
 
 -- ---- checkpoints
 

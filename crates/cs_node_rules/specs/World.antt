@@ -1,6 +1,6 @@
 -- A world: events at nodes, each with the marks that it made, the newest first. What was executed, the history, and what
 -- nodes decided.
-use Rattle.std.specs.Prelude.{◌≡◌, ℕ, suc, ◌==◌, nat_lt, Bool, true, false, not, ◌&&◌, ◌||◌, if◌then◌else◌, List, [], ◌∷◌, ◌++◌, Ok, Err, bytes_eq}
+use Rattle.std.specs.Prelude.{◌≡◌, ℕ, suc, ◌==◌, nat_lt, Bool, true, false, not, ◌&&◌, ◌||◌, if◌then◌else◌, List, [], ◌∷◌, ◌++◌, Option, Some, None, Ok, Err, bytes_eq}
 use Rattle.std.specs.List.{list_all, list_any}
 use Rattle.cs_base.specs.declared.node_id.NodeId.{NodeId}
 use Rattle.cs_wire.specs.Opened.{Opened}
@@ -78,10 +78,11 @@ AreHonest {M} net (h ∷ past) = (net.is_honest h.node ≡ true) × AreHonest ne
 
 -- ---- what was executed
 
--- an execution of a slot of a shard, and what it came to
+-- an execution in a place of a slot of a shard, and what it came to
 pub record Execution : Type 0 where
   pub shard : ℕ
   pub slot : ℕ
+  pub place : ℕ
   pub entry : Entry
   pub effect : Effect
 
@@ -90,17 +91,28 @@ abbrev pub steps_of : Setup → List Execution → List Step
 steps_of setup [] = []
 steps_of setup (e ∷ earlier) = record { shard = e.shard; entry = entry_of setup e.entry } ∷ steps_of setup earlier
 
--- so many slots of the shard have been executed
-abbrev pub slots_of : ℕ → List Execution → ℕ
-slots_of shard [] = 0
-slots_of shard (e ∷ earlier) = if e.shard == shard then suc (slots_of shard earlier) else slots_of shard earlier
+-- so many actions of the shard have been executed
+abbrev pub count_executed : ℕ → List Execution → ℕ
+count_executed shard [] = 0
+count_executed shard (e ∷ earlier) =
+    if e.shard == shard then suc (count_executed shard earlier) else count_executed shard earlier
 
--- the first execution of each slot by a node of its shard
+-- the newest execution of a shard
+abbrev pub newest_of : ℕ → List Execution → Option Execution
+newest_of shard [] = None
+newest_of shard (e ∷ earlier) = if e.shard == shard then Some e else newest_of shard earlier
+
+-- a place of a slot comes after that of an execution, where there is one
+abbrev pub is_after : ℕ → ℕ → Option Execution → Bool
+is_after slot place None = true
+is_after slot place (Some e) = nat_lt e.slot slot || ((e.slot == slot) && nat_lt e.place place)
+
+-- the first execution in each place of each slot by a node of its shard
 abbrev pub with_first_execution : ℕ → Sign → List Execution → List Execution
-with_first_execution shard (Did slot entry effect) firsts =
-    if nat_lt slot (slots_of shard firsts)
-    then firsts
-    else record { shard = shard; slot = slot; entry = entry; effect = effect } ∷ firsts
+with_first_execution shard (Did slot place entry effect) firsts =
+    if is_after slot place (newest_of shard firsts)
+    then record { shard = shard; slot = slot; place = place; entry = entry; effect = effect } ∷ firsts
+    else firsts
 with_first_execution shard (Dropped cause) firsts = firsts
 with_first_execution shard (Took sender vote x) firsts = firsts
 with_first_execution shard (Entered x) firsts = firsts
@@ -161,10 +173,10 @@ aborts_by setup d entry effect = false
 -- what a node decided
 abbrev pub accepts_in : Setup → Bytes → List Sign → Bool
 accepts_in setup d [] = false
-accepts_in setup d (Did slot entry effect ∷ past) = accepts_by setup d entry effect || accepts_in setup d past
+accepts_in setup d (Did slot place entry effect ∷ past) = accepts_by setup d entry effect || accepts_in setup d past
 accepts_in setup d (sign ∷ past) = accepts_in setup d past
 
 abbrev pub aborts_in : Setup → Bytes → List Sign → Bool
 aborts_in setup d [] = false
-aborts_in setup d (Did slot entry effect ∷ past) = aborts_by setup d entry effect || aborts_in setup d past
+aborts_in setup d (Did slot place entry effect ∷ past) = aborts_by setup d entry effect || aborts_in setup d past
 aborts_in setup d (sign ∷ past) = aborts_in setup d past

@@ -1,12 +1,13 @@
 -- What a node admits, and what is due at it.
 use Rattle.std.specs.Prelude.{ℕ, Bool, false, ◌&&◌, if◌then◌else◌, List, [], ◌∷◌, Option, Some, None}
+use Rattle.std.specs.List.{list_all}
 use Rattle.cs_tx_types.specs.declared.session.Session.{Session}
 use Rattle.cs_tx_types.specs.declared.vote.Vote.{Vote}
 use Rattle.cs_tx_types.specs.declared.entry.Entry.{Entry}
 use Rattle.cs_tx_types.specs.declared.entry.Entry.TheVariants.{Prepare, Decide}
 use Rattle.cs_base.specs.Options.{or_else}
 use Rattle.cs_node_state.specs.declared.pooled.Pooled.{Pooled}
-use Rattle.cs_node_state.specs.Setup.{Setup, digest_of, is_concerned_shard, concerned, is_fit, is_session_approved}
+use Rattle.cs_node_state.specs.Setup.{Action, actions_of, Setup, digest_of, is_concerned_shard, concerned, is_fit, is_session_approved}
 use Rattle.cs_node_state.specs.Evidence.{is_decided, decided_vote}
 use Rattle.cs_node_state.specs.Pool.{Pool, found}
 
@@ -16,10 +17,14 @@ is_decided_in f shards vote None = false
 is_decided_in f shards vote (Some p) = is_decided f shards vote p.ballots
 
 -- a session that may be voted on; a decision that the votes taken on a pooled session support
-abbrev pub admits : Setup → ℕ → Pool → Entry → Bool
-admits setup shard pool (Prepare x) = is_fit setup shard x && is_session_approved setup x
-admits setup shard pool (Decide vote x) =
+abbrev pub admits_action : Setup → ℕ → Pool → Action → Bool
+admits_action setup shard pool (Prepare x) = is_fit setup shard x && is_session_approved setup x
+admits_action setup shard pool (Decide vote x) =
     is_concerned_shard setup x shard && is_decided_in setup.f (concerned setup x) vote (found (digest_of setup x) pool)
+
+-- each action of the entry
+abbrev pub admits : Setup → ℕ → Pool → Entry → Bool
+admits setup shard pool entry = list_all (admits_action setup shard pool) (actions_of entry)
 
 -- what is due for a pooled session: nothing while it waits
 abbrev pub due_vote : ℕ → List ℕ → Pooled → Option Vote

@@ -5,3 +5,4 @@ pub mod Admission
 pub mod Bench
 pub mod Asked
 pub mod Deployed
+pub mod laws

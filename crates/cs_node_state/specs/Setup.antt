@@ -10,6 +10,14 @@ use Rattle.cs_ledger.specs.Session as Seen
 use Rattle.cs_ledger.specs.Table as Shard
 use Rattle.cs_tx.specs.Votes.{vote_of}
 
+-- An action is executed as one: a Prepare of a session, or a Decide of one. It is written as an entry of it alone.
+abbrev pub Action : Type 0
+Action = Entry
+
+-- what is executed of an entry that was chosen, one action after the other
+unfoldable pub actions_of : Entry → List Action
+actions_of entry = entry ∷ []
+
 pub record Setup : Type 0 where
   pub shards : ℕ
   pub f : ℕ  -- a shard has 3f + 1 nodes, of which f may lie

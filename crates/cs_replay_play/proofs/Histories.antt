@@ -1,5 +1,5 @@
 -- What is kept of the executions stands for them still after one more.
-use Rattle.std.proofs.Common.{◌≡◌, ℕ, suc, ◌+◌, ◌<◌, nat_lt, ◌==◌, Bool, true, false, not, ◌&&◌, ◌||◌, cond, List, [], ◌∷◌, ◌++◌, length, slice_index, slice_set, Result, Ok, Err, OnOk, refl, sym, ap, subst, ◌∙◌, arith, rules}
+use Rattle.std.proofs.Common.{◌≡◌, ℕ, suc, ◌+◌, ◌<◌, nat_lt, ◌==◌, Bool, true, false, not, ◌&&◌, ◌||◌, cond, List, [], ◌∷◌, ◌++◌, length, slice_index, slice_set, Option, Some, None, Result, Ok, Err, OnOk, refl, sym, ap, subst, ◌∙◌, arith, rules}
 use Rattle.std.specs.Prelude.{bytes_eq}
 use Rattle.std.specs.List.{list_all, list_any}
 use Rattle.std.proofs.lemmas.List.{map-append, get_or-set_same, get_or-set_other}
@@ -18,9 +18,9 @@ use Rattle.cs_ledger.specs.ShardWorld.{is_vote, is_listed}
 use Rattle.cs_node_state.specs.Setup.{Setup, digest_of}
 use Rattle.cs_replay_rules.specs.Aborts.{with_aborted_digest}
 use Rattle.cs_node_rules.specs.Signs.{Did}
-use Rattle.cs_node_rules.specs.World.{Execution, slots_of, with_first_execution, is_recorded, all_recorded, is_voted, told_transactions}
+use Rattle.cs_node_rules.specs.World.{Execution, newest_of, is_after, with_first_execution, is_recorded, all_recorded, is_voted, told_transactions}
 use Rattle.cs_replay_play.specs.Digests.{digests_of}
-use Rattle.cs_replay_play.specs.Kept.{KeptHistory, KeepsHistory, Deploys, IsBeforeFirst, is_commit, with_commit, all_voted_commit, after_vote, told_next, entered_slot, after_execution, kept_after}
+use Rattle.cs_replay_play.specs.Kept.{KeptHistory, KeepsHistory, Deploys, IsBeforeFirst, is_commit, with_commit, all_voted_commit, after_vote, told_next, slot_after, place_in, is_new, entered_place, after_execution, kept_after}
 
 -- ---- before the first execution
 
@@ -60,20 +60,47 @@ list_all-same : {X : Type 0} (p q : X → Bool) → ((x : X) → p x ≡ q x) �
 list_all-same p q same [] = refl
 list_all-same p q same (x ∷ xs) = ap (λ b. b && list_all p xs) (same x) ∙ ap (λ b. q x && b) (list_all-same p q same xs)
 
--- ---- slots
+-- ---- places
 
-slots-next : (slots : List ℕ) (shard s : ℕ) (n m : ℕ) → shard < length slots → slice_index slots shard ≡ n → slice_index slots s ≡ m
-    → slice_index (slice_set slots shard (slice_index slots shard + 1)) s ≡ cond (shard == s) (suc m) m
-slots-next slots shard s n m within is here = by (shard == s) refl
+-- one that is set, and the others as they were
+set-next : (xs : List ℕ) (shard s x m : ℕ) → shard < length xs → slice_index xs s ≡ m → slice_index (slice_set xs shard x) s ≡ cond (shard == s) x m
+set-next xs shard s x m within here = by (shard == s) refl
   where
-    by : (b : Bool) → (shard == s) ≡ b → slice_index (slice_set slots shard (slice_index slots shard + 1)) s ≡ cond (shard == s) (suc m) m
+    by : (b : Bool) → (shard == s) ≡ b → slice_index (slice_set xs shard x) s ≡ cond (shard == s) x m
     by true e =
         let same : shard ≡ s = grind arith in
-        let P : ℕ → Type 0 = λ k. slice_index (slice_set slots shard (slice_index slots shard + 1)) k ≡ suc m in
-        rw e (subst P same (get_or-set_same slots shard (slice_index slots shard + 1) 0 within ∙ omega (arith, ap (λ k. slice_index slots k) same, here)))
+        let P : ℕ → Type 0 = λ k. slice_index (slice_set xs shard x) k ≡ x in
+        rw e (subst P same (get_or-set_same xs shard x 0 within))
     by false e =
         let other : s ≡ shard → ⊥ = λ q. grind arith in
-        rw e (get_or-set_other slots shard s (slice_index slots shard + 1) 0 other ∙ here)
+        rw e (get_or-set_other xs shard s x 0 other ∙ here)
+
+lt-next : (a b : ℕ) → nat_lt (suc a) (b + 1) ≡ nat_lt a b
+lt-next a b = by (nat_lt (suc a) (b + 1)) (nat_lt a b) refl refl
+  where
+    by : (p q : Bool) → nat_lt (suc a) (b + 1) ≡ p → nat_lt a b ≡ q → nat_lt (suc a) (b + 1) ≡ nat_lt a b
+    by true true x y = x ∙ sym y
+    by false false x y = x ∙ sym y
+    by true false x y = absurd (grind arith)
+    by false true x y = absurd (grind arith)
+
+eq-next : (a b : ℕ) → (suc a == b + 1) ≡ (a == b)
+eq-next a b = by (suc a == b + 1) (a == b) refl refl
+  where
+    by : (p q : Bool) → (suc a == b + 1) ≡ p → (a == b) ≡ q → (suc a == b + 1) ≡ (a == b)
+    by true true x y = x ∙ sym y
+    by false false x y = x ∙ sym y
+    by true false x y = absurd (grind arith)
+    by false true x y = absurd (grind arith)
+
+-- what is kept tells what comes after the newest
+new-is : (slot place : ℕ) (newest : Option Execution)
+    → (nat_lt (slot_after newest) (slot + 1) || ((slot_after newest == slot + 1) && nat_lt (place_in newest) place)) ≡ is_after slot place newest
+new-is slot place None = let less : nat_lt 0 (slot + 1) ≡ true = grind arith in λ i. less i || ((0 == slot + 1) && nat_lt 0 place)
+new-is slot place (Some e) =
+    let less = lt-next e.slot slot in
+    let same = eq-next e.slot slot in
+    λ i. less i || (same i && nat_lt e.place place)
 
 -- ---- commit votes
 
@@ -127,34 +154,56 @@ told-after tx d txs digests true named is = by (is_listed tx txs) refl
 length-set : (xs : List ℕ) (i x : ℕ) → length (slice_set xs i x) ≡ length xs
 length-set xs i x = search rules
 
-module _ (setup : Setup) (kept : KeptHistory) (firsts : List Execution) (shard slot : ℕ) (k : KeepsHistory setup firsts kept) (known : shard < kept.config.shards) where
+module _ (setup : Setup) (kept : KeptHistory) (firsts : List Execution) (shard slot place : ℕ) (k : KeepsHistory setup firsts kept) (known : shard < kept.config.shards) where
   abbrev first : Entry → Shard.Effect → Execution
-  first entry effect = record { shard = shard; slot = slot; entry = entry; effect = effect }
+  first entry effect = record { shard = shard; slot = slot; place = place; entry = entry; effect = effect }
 
   within : shard < length kept.slots
   within = subst (λ n. shard < n) (sym k.each) known
 
-  each : length (entered_slot kept shard).slots ≡ kept.config.shards
-  each = length-set kept.slots shard (slice_index kept.slots shard + 1) ∙ k.each
+  within_places : shard < length kept.places
+  within_places = subst (λ n. shard < n) (sym k.each_place) known
 
-  slots : (entry : Entry) (effect : Shard.Effect) (s : ℕ) → s < kept.config.shards → slice_index (entered_slot kept shard).slots s ≡ slots_of s (first entry effect ∷ firsts)
-  slots entry effect s below = slots-next kept.slots shard s _ _ within (k.slots shard known) (k.slots s below)
+  each : length (entered_place kept shard slot place).slots ≡ kept.config.shards
+  each = length-set kept.slots shard (slot + 1) ∙ k.each
 
-  decided : (vote : Vote) (x : Session) (effect : Shard.Effect) → KeepsHistory setup (first (Decide vote x) effect ∷ firsts) (entered_slot kept shard)
+  each_place : length (entered_place kept shard slot place).places ≡ kept.config.shards
+  each_place = length-set kept.places shard place ∙ k.each_place
+
+  -- the newest execution of each shard
+  newest-next : (entry : Entry) (effect : Shard.Effect) (s : ℕ) (f : Option Execution → ℕ) (x : ℕ) → x ≡ f (Some (first entry effect))
+      → cond (shard == s) x (f (newest_of s firsts)) ≡ f (newest_of s (first entry effect ∷ firsts))
+  newest-next entry effect s f x is = by (shard == s)
+    where
+      by : (b : Bool) → cond b x (f (newest_of s firsts)) ≡ f (cond b (Some (first entry effect)) (newest_of s firsts))
+      by true = is
+      by false = refl
+
+  slots : (entry : Entry) (effect : Shard.Effect) (s : ℕ) → s < kept.config.shards → slice_index (entered_place kept shard slot place).slots s ≡ slot_after (newest_of s (first entry effect ∷ firsts))
+  slots entry effect s below = set-next kept.slots shard s (slot + 1) _ within (k.slots s below) ∙ newest-next entry effect s slot_after (slot + 1) (omega arith)
+
+  places : (entry : Entry) (effect : Shard.Effect) (s : ℕ) → s < kept.config.shards → slice_index (entered_place kept shard slot place).places s ≡ place_in (newest_of s (first entry effect ∷ firsts))
+  places entry effect s below = set-next kept.places shard s place _ within_places (k.places s below) ∙ newest-next entry effect s place_in place refl
+
+  decided : (vote : Vote) (x : Session) (effect : Shard.Effect) → KeepsHistory setup (first (Decide vote x) effect ∷ firsts) (entered_place kept shard slot place)
   decided vote x effect = record {
     deploys = k.deploys;
     each = each;
+    each_place = each_place;
     slots = slots (Decide vote x) effect;
+    places = places (Decide vote x) effect;
     commits = λ d s. k.commits d s ∙ sym (ap (λ b. b || is_recorded setup firsts d Shard.Commit s) (and-false (shard == s)));
     told = k.told;
   }
 
   -- a Prepare that was answered by no vote
-  unvoted : (x : Session) (effect : Shard.Effect) → is_vote Shard.Commit effect ≡ false → is_voted effect ≡ false → KeepsHistory setup (first (Prepare x) effect ∷ firsts) (entered_slot kept shard)
+  unvoted : (x : Session) (effect : Shard.Effect) → is_vote Shard.Commit effect ≡ false → is_voted effect ≡ false → KeepsHistory setup (first (Prepare x) effect ∷ firsts) (entered_place kept shard slot place)
   unvoted x effect other none = record {
     deploys = k.deploys;
     each = each;
+    each_place = each_place;
     slots = slots (Prepare x) effect;
+    places = places (Prepare x) effect;
     commits = λ d s.
         k.commits d s
         ∙ sym (ap (λ b. b || is_recorded setup firsts d Shard.Commit s)
@@ -166,13 +215,13 @@ module _ (setup : Setup) (kept : KeptHistory) (firsts : List Execution) (shard s
     abbrev here : Execution
     here = first (Prepare x) (Shard.Voted vote)
 
-    votes : (d : Bytes) (s : ℕ) → is_commit (after_vote (entered_slot kept shard) shard (digest_of_session x) vote).commits d s ≡ is_recorded setup (here ∷ firsts) d Shard.Commit s
+    votes : (d : Bytes) (s : ℕ) → is_commit (after_vote (entered_place kept shard slot place) shard (digest_of_session x) vote).commits d s ≡ is_recorded setup (here ∷ firsts) d Shard.Commit s
     votes d s =
-        votes-next (entered_slot kept shard) shard (digest_of_session x) d vote s
+        votes-next (entered_place kept shard slot place) shard (digest_of_session x) d vote s
         ∙ ap (λ e. ((shard == s) && (bytes_eq d e && is_vote Shard.Commit (Shard.Voted vote))) || is_commit kept.commits d s) (sym (k.deploys.session x))
         ∙ ap (λ b. ((shard == s) && (bytes_eq d (digest_of setup x) && is_vote Shard.Commit (Shard.Voted vote))) || b) (k.commits d s)
 
-    all_votes : all_voted_commit kept.config (after_vote (entered_slot kept shard) shard (digest_of_session x) vote).commits x ≡ all_recorded setup (here ∷ firsts) x
+    all_votes : all_voted_commit kept.config (after_vote (entered_place kept shard slot place) shard (digest_of_session x) vote).commits x ≡ all_recorded setup (here ∷ firsts) x
     all_votes =
         list_all-same _ (is_recorded setup (here ∷ firsts) (digest_of setup x) Shard.Commit)
         (λ s. votes (digest_of_session x) s ∙ ap (λ d. is_recorded setup (here ∷ firsts) d Shard.Commit s) (sym (k.deploys.session x)))
@@ -180,28 +229,30 @@ module _ (setup : Setup) (kept : KeptHistory) (firsts : List Execution) (shard s
         ∙ ap (λ shards. list_all (is_recorded setup (here ∷ firsts) (digest_of setup x) Shard.Commit) shards) (sym (k.deploys.concerns x))
 
     -- what the vote leaves but for the commits
-    same-rest : (after_vote (entered_slot kept shard) shard (digest_of_session x) vote) ≡ record (entered_slot kept shard) { commits = (after_vote (entered_slot kept shard) shard (digest_of_session x) vote).commits }
+    same-rest : (after_vote (entered_place kept shard slot place) shard (digest_of_session x) vote) ≡ record (entered_place kept shard slot place) { commits = (after_vote (entered_place kept shard slot place) shard (digest_of_session x) vote).commits }
     same-rest = by vote
       where
-        by : (v : Shard.Vote) → (after_vote (entered_slot kept shard) shard (digest_of_session x) v) ≡ record (entered_slot kept shard) { commits = (after_vote (entered_slot kept shard) shard (digest_of_session x) v).commits }
+        by : (v : Shard.Vote) → (after_vote (entered_place kept shard slot place) shard (digest_of_session x) v) ≡ record (entered_place kept shard slot place) { commits = (after_vote (entered_place kept shard slot place) shard (digest_of_session x) v).commits }
         by Shard.Commit = refl
         by Shard.Abort = refl
 
-    voted-on : KeepsHistory setup (here ∷ firsts) (told_next (record (entered_slot kept shard) { commits = (after_vote (entered_slot kept shard) shard (digest_of_session x) vote).commits }) x)
+    voted-on : KeepsHistory setup (here ∷ firsts) (told_next (record (entered_place kept shard slot place) { commits = (after_vote (entered_place kept shard slot place) shard (digest_of_session x) vote).commits }) x)
     voted-on = record {
       deploys = k.deploys;
       each = each;
+      each_place = each_place;
       slots = slots (Prepare x) (Shard.Voted vote);
+      places = places (Prepare x) (Shard.Voted vote);
       commits = votes;
       told =
           ap (λ b. cond b (with_aborted_digest (digest_of_tx x.tx) kept.told) kept.told) all_votes
           ∙ told-after (setup.session_of x).transaction (digest_of_tx x.tx) (told_transactions setup firsts) kept.told (all_recorded setup (here ∷ firsts) x) (k.deploys.transaction x) k.told;
     }
 
-    prepared-on : KeepsHistory setup (here ∷ firsts) (after_execution (entered_slot kept shard) shard (Prepare x) (Shard.Voted vote))
+    prepared-on : KeepsHistory setup (here ∷ firsts) (after_execution (entered_place kept shard slot place) shard (Prepare x) (Shard.Voted vote))
     prepared-on = subst (λ (after : KeptHistory). KeepsHistory setup (here ∷ firsts) (told_next after x)) (sym same-rest) voted-on
 
-  new-slot : (entry : Entry) (effect : Shard.Effect) → KeepsHistory setup (first entry effect ∷ firsts) (after_execution (entered_slot kept shard) shard entry effect)
+  new-slot : (entry : Entry) (effect : Shard.Effect) → KeepsHistory setup (first entry effect ∷ firsts) (after_execution (entered_place kept shard slot place) shard entry effect)
   new-slot (Prepare x) (Shard.Voted vote) = prepared-on x vote
   new-slot (Prepare x) Shard.Accepted = unvoted x Shard.Accepted refl refl
   new-slot (Prepare x) Shard.Aborted = unvoted x Shard.Aborted refl refl
@@ -210,27 +261,30 @@ module _ (setup : Setup) (kept : KeptHistory) (firsts : List Execution) (shard s
   new-slot (Decide vote x) effect = decided vote x effect
 
   -- what is kept after an execution stands for the first executions after it
-  pub keeps-after : (entry : Entry) (effect : Shard.Effect) → KeepsHistory setup (with_first_execution shard (Did slot entry effect) firsts) (kept_after kept shard slot entry effect)
+  pub keeps-after : (entry : Entry) (effect : Shard.Effect) → KeepsHistory setup (with_first_execution shard (Did slot place entry effect) firsts) (kept_after kept shard slot place entry effect)
   keeps-after entry effect =
-      subst (λ n. KeepsHistory setup (with_first_execution shard (Did slot entry effect) firsts) (cond (nat_lt slot n) kept (after_execution (entered_slot kept shard) shard entry effect))) (sym (k.slots shard known))
-      (by (nat_lt slot (slots_of shard firsts)))
+      let newest = newest_of shard firsts in
+      let is : is_new kept shard slot place ≡ is_after slot place newest =
+      (λ i. nat_lt (k.slots shard known i) (slot + 1) || ((k.slots shard known i == slot + 1) && nat_lt (k.places shard known i) place)) ∙ new-is slot place newest in
+      subst (λ (b : Bool). KeepsHistory setup (with_first_execution shard (Did slot place entry effect) firsts) (cond b (after_execution (entered_place kept shard slot place) shard entry effect) kept)) (sym is)
+      (by (is_after slot place newest))
     where
-      by : (b : Bool) → KeepsHistory setup (cond b firsts (first entry effect ∷ firsts)) (cond b kept (after_execution (entered_slot kept shard) shard entry effect))
-      by true = k
-      by false = new-slot entry effect
+      by : (b : Bool) → KeepsHistory setup (cond b (first entry effect ∷ firsts) firsts) (cond b (after_execution (entered_place kept shard slot place) shard entry effect) kept)
+      by true = new-slot entry effect
+      by false = k
 
 -- aborts are nothing to the history
 keeps-aborted : (setup : Setup) (firsts : List Execution) (kept : KeptHistory) (aborted : List Bytes) → KeepsHistory setup firsts kept → KeepsHistory setup firsts (record kept { aborted = aborted })
-keeps-aborted setup firsts kept aborted k = record { deploys = k.deploys; each = k.each; slots = k.slots; commits = k.commits; told = k.told }
+keeps-aborted setup firsts kept aborted k = record { deploys = k.deploys; each = k.each; each_place = k.each_place; slots = k.slots; places = k.places; commits = k.commits; told = k.told }
 
 -- the outcome of a call that leaves what is kept after an execution, and notes aborts
-module _ (setup : Setup) (kept entered left : KeptHistory) (aborted : List Bytes) (firsts : List Execution) (shard slot : ℕ) (entry : Entry) (effect : Shard.Effect) where
+module _ (setup : Setup) (kept entered left : KeptHistory) (aborted : List Bytes) (firsts : List Execution) (shard slot place : ℕ) (entry : Entry) (effect : Shard.Effect) where
   abbrev after : List Execution
-  after = with_first_execution shard (Did slot entry effect) firsts
+  after = with_first_execution shard (Did slot place entry effect) firsts
 
-  pub keeps-on_ok : {T E : Type 0} (r : Result T E) → KeepsHistory setup firsts kept → shard < kept.config.shards → (shard < kept.config.shards → entered ≡ kept_after kept shard slot entry effect)
+  pub keeps-on_ok : {T E : Type 0} (r : Result T E) → KeepsHistory setup firsts kept → shard < kept.config.shards → (shard < kept.config.shards → entered ≡ kept_after kept shard slot place entry effect)
       → OnOk r (left ≡ record entered { aborted = aborted }) → OnOk r (KeepsHistory setup after left)
   keeps-on_ok (Ok x) k known is rest =
-      let kept-there = subst (λ (h : KeptHistory). KeepsHistory setup after h) (sym (is known)) (keeps-after setup kept firsts shard slot k known entry effect) in
+      let kept-there = subst (λ (h : KeptHistory). KeepsHistory setup after h) (sym (is known)) (keeps-after setup kept firsts shard slot place k known entry effect) in
       subst (λ (h : KeptHistory). KeepsHistory setup after h) (sym rest) (keeps-aborted setup after entered aborted kept-there)
   keeps-on_ok (Err e) k known is rest = tt

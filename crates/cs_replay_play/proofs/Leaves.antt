@@ -30,6 +30,7 @@ use Rattle.cs_ledger.specs.Ledger.{Bytes}
 use Rattle.cs_node_rules.specs.declared.cause.Cause.{Cause}
 use Rattle.cs_node_rules.specs.declared.cause.Cause.TheVariants.{Role, Old, Far, Leader, Repeat, Unopened}
 use Rattle.cs_node_state.specs.Setup.{Setup, digest_of, concerned}
+use Rattle.cs_node_rules.proofs.Actions.{one-signs}
 use Rattle.cs_tx_types.specs.Session.{session_in}
 use Rattle.cs_node_state.specs.Admission.{due}
 use Rattle.cs_node_state.specs.Pool.{Pool, is_pooled}
@@ -37,8 +38,8 @@ use Rattle.cs_node_state.specs.Bench.{Bench, Ran, noted, executed, slot_executed
 use Rattle.cs_replay_rules.specs.Dumps.{heads_below}
 use Rattle.cs_node_rules.proofs.Heard.{AllHeard, heard}
 use Rattle.cs_node_rules.specs.Members.{is_other_member, others}
-use Rattle.cs_node_rules.specs.Signs.{Sign, Dropped, Took, Entered, Viewed, Did, Headed, Kept, Sent, bench_step, sends, vote_signs, own_signs, entered_signs, ran_signs, headed_signs, execution_signs, asked_again, said_signs}
-use Rattle.cs_node_rules.specs.Site.{Input, Datagram, Tick, Mark, In, Ordered, Plain, Site, View, view_after, plain, signs_of}
+use Rattle.cs_node_rules.specs.Signs.{Sign, Dropped, Took, Entered, Viewed, Did, Headed, Kept, Sent, bench_step, bench_after, sends, vote_signs, own_signs, entered_signs, ran_signs, headed_signs, execution_signs, asked_again, said_signs}
+use Rattle.cs_node_rules.specs.Site.{Input, Datagram, Tick, Mark, In, Ordered, Plain, Site, View, mark_step, view_after, plain, signs_of}
 use Rattle.cs_node_rules.specs.Trail.{out_signs, handed, with_deed, entered_view, admits_proposed, due_marks, candidate_marks, propose_marks, echo_marks, cut_marks, step_marks, turn_marks, continued, settled, taking_marks, member_marks, reply_marks, want_marks, class_marks, message_marks, opened_marks, again_marks, waiting_marks, input_marks, event_marks}
 use Rattle.cs_replay_play.specs.Logged.{Logged, logged_with_leaf, logged_with_head, logged_of}
 use Rattle.cs_replay_play.proofs.Views.{after-append}
@@ -49,7 +50,7 @@ sign_logged (Dropped cause) kept = kept
 sign_logged (Took sender vote x) kept = kept
 sign_logged (Entered x) kept = kept
 sign_logged (Viewed slot view) kept = kept
-sign_logged (Did slot entry effect) kept =
+sign_logged (Did slot place entry effect) kept =
     logged_with_leaf (leaf_encoding (record { slot = slot; entry = entry; result = effect_from effect })) kept
 sign_logged (Headed number head) kept = logged_with_head head kept
 sign_logged (Kept index checkpoint) kept = kept
@@ -197,7 +198,7 @@ heard-idle sender (Dropped cause ∷ signs) all = (record { tells = λ kept. ref
 heard-idle sender (Took from vote x ∷ signs) all = (record { tells = λ kept. refl; leaves = λ setup shard b. refl }, heard-idle sender signs all)
 heard-idle sender (Entered x ∷ signs) all = (record { tells = λ kept. refl; leaves = λ setup shard b. refl }, heard-idle sender signs all)
 heard-idle sender (Viewed slot view ∷ signs) all = absurd all
-heard-idle sender (Did slot entry effect ∷ signs) all = absurd all
+heard-idle sender (Did slot place entry effect ∷ signs) all = absurd all
 heard-idle sender (Headed number head ∷ signs) all = absurd all
 heard-idle sender (Kept index checkpoint ∷ signs) all = (record { tells = λ kept. refl; leaves = λ setup shard b. refl }, heard-idle sender signs all)
 heard-idle sender (Sent to said ∷ signs) all = (record { tells = λ kept. refl; leaves = λ setup shard b. refl }, heard-idle sender signs all.1)
@@ -227,6 +228,10 @@ module _ {M : Type 0} (site : Site M) where
 
   abbrev told : List Sign → Logged → Logged
   told signs kept = signs_logged (signs_of (plain {M = M} signs)) kept
+
+  at-bench : (signs : List Sign) (v : View M) → At v signs ≡ record { me = v.me; bench = bench_after site.setup v.me.shard signs v.bench; member = v.member }
+  at-bench [] v = refl
+  at-bench (sign ∷ signs) v = ap (λ (w : View M). mark_step site (Plain sign) w) (at-bench signs v)
 
   sent-view : (signs : List Sign) (past : List (Mark M)) (v : View M) → AllSent signs → view_after site (plain signs ++ past) v ≡ view_after site past v
   sent-view [] past v all = refl
@@ -308,7 +313,7 @@ module _ {M : Type 0} (site : Site M) where
     left = slot_executed site.setup w.me.shard w.bench entry
 
     abbrev the_did : List Sign
-    the_did = Did slot entry ran.effect ∷ []
+    the_did = Did slot 0 entry ran.effect ∷ []
 
     abbrev leaf_at : ℕ → Bytes
     leaf_at n = leaf_encoding (record { slot = n; entry = entry; result = effect_from ran.effect })
@@ -340,7 +345,7 @@ module _ {M : Type 0} (site : Site M) where
     voting = telling ++ entering
 
     abbrev all_ran : List Sign
-    all_ran = ran_signs site.setup w.me w.bench slot entry (session_in entry) ran
+    all_ran = ran_signs site.setup w.me w.bench slot 0 entry (session_in entry) ran
 
     entering-same : Same w entering the_did
     entering-same = idle-same w (entered_signs (session_in entry) (is_pooled (digest_of site.setup (session_in entry)) w.bench.pool) own_vote) the_did (entered-idle (session_in entry) _ own_vote)
@@ -373,7 +378,11 @@ module _ {M : Type 0} (site : Site M) where
         subst (λ signs. Fits (At w signs) (told signs kept)) (sym (append_assoc said (Headed c.number (head_of c) ∷ []) all_ran)) after_all
 
     executed-fits : Fits (At w (execution_signs site.setup w.me w.bench slot entry)) (told (execution_signs site.setup w.me w.bench slot entry) kept)
-    executed-fits = headed-fits (made_last left.log) refl
+    executed-fits =
+        let log_is : left.log ≡ (bench_after site.setup w.me.shard all_ran w.bench).log = sym ran-log ∙ ap (λ (v : View M). v.bench.log) (at-bench all_ran w) in
+        subst (λ (signs : List Sign). let all = headed_signs site.setup w.me (made_last (bench_after site.setup w.me.shard signs w.bench).log) ++ signs in Fits (At w all) (told all kept))
+        (sym (one-signs site.setup w.me w.bench slot entry))
+        (headed-fits (made_last (bench_after site.setup w.me.shard all_ran w.bench).log) (ap made_last log_is))
 
   -- what is chosen is executed
   chosen-leads : (v : View M) (p : Proposed) → Leads v (plain (execution_signs site.setup v.me v.bench (length (chosen_in v.member.deeds)) (site.entry_in p)) ++ with_deed site v (Advanced (Chosen p) (site.machine.advancing v.member)))
@@ -547,7 +556,7 @@ module _ {M : Type 0} (site : Site M) where
   after-enough (Plain (Headed number head) ∷ past) v enough = after-enough past v enough
   after-enough (Plain (Kept index checkpoint) ∷ past) v enough = after-enough past v enough
   after-enough (Plain (Sent to message) ∷ past) v enough = after-enough past v enough
-  after-enough (Plain (Did slot entry effect) ∷ past) v enough =
+  after-enough (Plain (Did slot place entry effect) ∷ past) v enough =
       let w = view_after site past v in
       let ran : Ran = executed site.setup w.me.shard w.bench entry in
       slot_enough w.bench.log (leaf_encoding (next_leaf w.bench entry ran.effect)) (root_under ran.bench.keys ran.bench.table) (after-enough past v enough)

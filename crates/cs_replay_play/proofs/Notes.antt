@@ -53,10 +53,10 @@ firsts-noted shard firsts (Sent to message ∷ past) = firsts-noted shard firsts
 firsts-noted shard firsts (Viewed slot view ∷ past) = firsts-push shard (notes_of past) (note.Viewed slot view) firsts ∙ firsts-noted shard firsts past
 firsts-noted shard firsts (Headed number head ∷ past) = firsts-push shard (notes_of past) (note.Headed number head) firsts ∙ firsts-noted shard firsts past
 firsts-noted shard firsts (Kept index checkpoint ∷ past) = firsts-noted shard firsts past
-firsts-noted shard firsts (Did slot entry effect ∷ past) =
-    firsts-push shard (notes_of past) (note.Executed slot entry (effect_from effect)) firsts
-    ∙ ap (λ e. with_first_execution shard (Did slot entry e) (noted_firsts shard (notes_of past) firsts)) (effect-same effect)
-    ∙ ap (λ earlier. with_first_execution shard (Did slot entry effect) earlier) (firsts-noted shard firsts past)
+firsts-noted shard firsts (Did slot place entry effect ∷ past) =
+    firsts-push shard (notes_of past) (note.Executed slot place entry (effect_from effect)) firsts
+    ∙ ap (λ e. with_first_execution shard (Did slot place entry e) (noted_firsts shard (notes_of past) firsts)) (effect-same effect)
+    ∙ ap (λ earlier. with_first_execution shard (Did slot place entry effect) earlier) (firsts-noted shard firsts past)
 
 pub aborted-push : (notes : List Note) (n : Note) (aborted : List Bytes) → noted_aborted (notes ++ n ∷ []) aborted ≡ note_aborted n (noted_aborted notes aborted)
 aborted-push [] n aborted = refl
@@ -95,8 +95,8 @@ module _ (config : Config) (setup : Setup) (deploys : Deploys config setup) wher
   aborted-noted aborted (Viewed slot view ∷ past) = aborted-push (notes_of past) (note.Viewed slot view) aborted ∙ aborted-noted aborted past
   aborted-noted aborted (Headed number head ∷ past) = aborted-push (notes_of past) (note.Headed number head) aborted ∙ aborted-noted aborted past
   aborted-noted aborted (Kept index checkpoint ∷ past) = aborted-noted aborted past
-  aborted-noted aborted (Did slot entry effect ∷ past) =
-      aborted-push (notes_of past) (note.Executed slot entry (effect_from effect)) aborted
+  aborted-noted aborted (Did slot place entry effect ∷ past) =
+      aborted-push (notes_of past) (note.Executed slot place entry (effect_from effect)) aborted
       ∙ ap (λ e. with_abort entry e (noted_aborted (notes_of past) aborted)) (effect-same effect)
       ∙ ap (λ earlier. with_abort entry effect earlier) (aborted-noted aborted past)
       ∙ sym (abort-after entry effect (aborted_by setup past aborted))
@@ -115,9 +115,9 @@ module _ (config : Config) (setup : Setup) (deploys : Deploys config setup) (tra
   text-noted (Took sender vote x ∷ past) = text-noted past ∙ sym (append-nil (sign_lines setup traced me past))
   text-noted (Entered x ∷ past) = text-noted past ∙ sym (append-nil (sign_lines setup traced me past))
   text-noted (Sent to message ∷ past) = text-noted past ∙ sym (append-nil (sign_lines setup traced me past))
-  text-noted (Did slot entry effect ∷ past) =
-      text-push traced me (notes_of past) (note.Executed slot entry (effect_from effect))
-      ∙ ap (λ bytes. bytes ++ note_text traced me (note.Executed slot entry (effect_from effect))) (text-noted past)
+  text-noted (Did slot place entry effect ∷ past) =
+      text-push traced me (notes_of past) (note.Executed slot place entry (effect_from effect))
+      ∙ ap (λ bytes. bytes ++ note_text traced me (note.Executed slot place entry (effect_from effect))) (text-noted past)
       ∙ ap (λ e. sign_lines setup traced me past ++ slot_line me slot (digest_of_session (session_in entry)) e) (effect-same effect)
       ∙ ap (λ d. sign_lines setup traced me past ++ slot_line me slot d effect) (sym (deploys.session (session_in entry)))
 
@@ -130,7 +130,7 @@ parcels-noted net me (Entered x ∷ past) = parcels-noted net me past
 parcels-noted net me (Viewed slot view ∷ past) = parcels-noted net me past
 parcels-noted net me (Headed number head ∷ past) = parcels-noted net me past
 parcels-noted net me (Kept index checkpoint ∷ past) = parcels-noted net me past
-parcels-noted net me (Did slot entry effect ∷ past) = parcels-noted net me past
+parcels-noted net me (Did slot place entry effect ∷ past) = parcels-noted net me past
 parcels-noted net me (Sent to message ∷ past) =
     let out : Out = record { to = to; bytes = sealed_by_net net me to message } in
     map-append (parcel_from me) (outs_of net me past) (out ∷ [])

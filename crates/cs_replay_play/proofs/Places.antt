@@ -34,8 +34,8 @@ logged-noted (Dropped cause ∷ past) kept = logged-push (notes_of past) (note.D
 logged-noted (Took sender vote x ∷ past) kept = logged-noted past kept
 logged-noted (Entered x ∷ past) kept = logged-noted past kept
 logged-noted (Viewed slot view ∷ past) kept = logged-push (notes_of past) (note.Viewed slot view) kept ∙ logged-noted past kept
-logged-noted (Did slot entry effect ∷ past) kept =
-    logged-push (notes_of past) (note.Executed slot entry (effect_from effect)) kept ∙ ap (sign_logged (Did slot entry effect)) (logged-noted past kept)
+logged-noted (Did slot place entry effect ∷ past) kept =
+    logged-push (notes_of past) (note.Executed slot place entry (effect_from effect)) kept ∙ ap (sign_logged (Did slot place entry effect)) (logged-noted past kept)
 logged-noted (Headed number head ∷ past) kept = logged-push (notes_of past) (note.Headed number head) kept ∙ ap (sign_logged (Headed number head)) (logged-noted past kept)
 logged-noted (Kept index checkpoint ∷ past) kept = logged-noted past kept
 logged-noted (Sent to message ∷ past) kept = logged-noted past kept

@@ -1,5 +1,5 @@
 -- What a replay keeps of the executions so far, and what it stands for.
-use Rattle.std.specs.Prelude.{◌≡◌, ℕ, ◌+◌, ◌<◌, nat_lt, ◌==◌, ◌&&◌, Bool, List, [], ◌∷◌, ◌++◌, length, slice_index, slice_set, bytes_eq, if◌then◌else◌}
+use Rattle.std.specs.Prelude.{◌≡◌, ℕ, suc, ◌+◌, ◌<◌, nat_lt, ◌==◌, ◌&&◌, ◌||◌, Bool, List, [], ◌∷◌, ◌++◌, length, slice_index, slice_set, Option, Some, None, bytes_eq, if◌then◌else◌}
 use Rattle.std.specs.List.{list_all, list_any}
 use Rattle.cs_base.specs.declared.config.Config.{Config}
 use Rattle.cs_tx_types.specs.declared.session.Session.{Session}
@@ -10,15 +10,16 @@ use Rattle.cs_ledger.specs.Ledger.{Bytes}
 use Rattle.cs_ledger.specs.Table as Shard
 use Rattle.cs_node_state.specs.Setup.{Setup, digest_of, concerned}
 use Rattle.cs_replay_rules.specs.Aborts.{with_aborted_digest}
-use Rattle.cs_node_rules.specs.World.{Execution, slots_of, is_recorded, told_transactions}
+use Rattle.cs_node_rules.specs.World.{Execution, newest_of, is_recorded, told_transactions}
 use Rattle.cs_replay_play.specs.Digests.{digests_of}
 use Rattle.cs_tx.specs.Uses.{concerned_shards}
 
--- how many slots of each shard were executed, the commit votes by shard and session, the transactions told, and the
--- sessions on which an abort was decided
+-- of each shard the slot after the newest execution and its place, the commit votes by shard and session, the
+-- transactions told, and the sessions on which an abort was decided
 pub record KeptHistory : Type 0 where
   pub config : Config
   pub slots : List ℕ
+  pub places : List ℕ
   pub commits : List (ℕ × Bytes)
   pub told : List Bytes
   pub aborted : List Bytes
@@ -33,11 +34,24 @@ pub record Deploys (config : Config) (setup : Setup) : Type 0 where
 abbrev pub is_commit : List (ℕ × Bytes) → Bytes → ℕ → Bool
 is_commit commits d shard = list_any (λ commit. (shard == commit.0) && bytes_eq d commit.1) commits
 
+-- the slot after that of an execution, and its place
+abbrev pub slot_after : Option Execution → ℕ
+slot_after None = 0
+slot_after (Some e) = suc e.slot
+
+abbrev pub place_in : Option Execution → ℕ
+place_in None = 0
+place_in (Some e) = e.place
+
 -- these first executions are those that were kept
 pub record KeepsHistory (setup : Setup) (firsts : List Execution) (kept : KeptHistory) : Type 0 where
   pub deploys : Deploys kept.config setup
   pub each : length kept.slots ≡ kept.config.shards
-  pub slots : (shard : ℕ) → shard < kept.config.shards → slice_index kept.slots shard ≡ slots_of shard firsts
+  pub each_place : length kept.places ≡ kept.config.shards
+  pub slots : (shard : ℕ) → shard < kept.config.shards →
+      slice_index kept.slots shard ≡ slot_after (newest_of shard firsts)
+  pub places : (shard : ℕ) → shard < kept.config.shards →
+      slice_index kept.places shard ≡ place_in (newest_of shard firsts)
   pub commits : (d : Bytes) (shard : ℕ) → is_commit kept.commits d shard ≡ is_recorded setup firsts d Shard.Commit shard
   pub told : kept.told ≡ digests_of (told_transactions setup firsts)
 
@@ -66,9 +80,16 @@ told_next kept x =
       told = if all_voted_commit kept.config kept.commits x then with_aborted_digest (digest_of_tx x.tx) kept.told else kept.told;
     }
 
--- one more slot of the shard
-abbrev pub entered_slot : KeptHistory → ℕ → KeptHistory
-entered_slot kept shard = record kept { slots = slice_set kept.slots shard (slice_index kept.slots shard + 1) }
+-- the place of a slot comes after that of the newest execution
+abbrev pub is_new : KeptHistory → ℕ → ℕ → ℕ → Bool
+is_new kept shard slot place =
+    nat_lt (slice_index kept.slots shard) (slot + 1)
+    || ((slice_index kept.slots shard == slot + 1) && nat_lt (slice_index kept.places shard) place)
+
+-- one more execution of the shard
+abbrev pub entered_place : KeptHistory → ℕ → ℕ → ℕ → KeptHistory
+entered_place kept shard slot place =
+    record kept { slots = slice_set kept.slots shard (slot + 1); places = slice_set kept.places shard place }
 
 -- a Prepare that was answered by a vote; what is void gives nothing
 abbrev pub after_prepare : KeptHistory → ℕ → Session → Shard.Effect → KeptHistory
@@ -82,10 +103,12 @@ abbrev pub after_execution : KeptHistory → ℕ → Entry → Shard.Effect → 
 after_execution kept shard (Prepare x) effect = after_prepare kept shard x effect
 after_execution kept shard (Decide vote x) effect = kept
 
--- what is kept after an execution, where the slot is new
-abbrev pub kept_after : KeptHistory → ℕ → ℕ → Entry → Shard.Effect → KeptHistory
-kept_after kept shard slot entry effect =
-    if nat_lt slot (slice_index kept.slots shard) then kept else after_execution (entered_slot kept shard) shard entry effect
+-- what is kept after an execution, where its place is new
+abbrev pub kept_after : KeptHistory → ℕ → ℕ → ℕ → Entry → Shard.Effect → KeptHistory
+kept_after kept shard slot place entry effect =
+    if is_new kept shard slot place
+    then after_execution (entered_place kept shard slot place) shard entry effect
+    else kept
 
 -- with the session of an execution that decides abort on it
 abbrev pub with_abort : Entry → Shard.Effect → List Bytes → List Bytes

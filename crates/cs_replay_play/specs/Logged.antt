@@ -31,7 +31,7 @@ abbrev pub note_logged : Note → Logged → Logged
 note_logged (note.Dropped cause) kept = kept
 note_logged (note.Viewed slot view) kept = kept
 note_logged (note.Headed number head) kept = logged_with_head head kept
-note_logged (note.Executed slot entry effect) kept =
+note_logged (note.Executed slot place entry effect) kept =
     logged_with_leaf (leaf_encoding (record { slot = slot; entry = entry; result = effect })) kept
 
 abbrev pub notes_logged : List Note → Logged → Logged

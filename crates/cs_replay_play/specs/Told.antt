@@ -20,7 +20,7 @@ abbrev pub note_text : Bool → NodeId → Note → Bytes
 note_text traced me (note.Dropped cause) = if_traced traced (drop_line me cause)
 note_text traced me (note.Viewed slot view) = if_traced traced (view_line me slot view)
 note_text traced me (note.Headed number head) = head_line me number head
-note_text traced me (note.Executed slot entry effect) =
+note_text traced me (note.Executed slot place entry effect) =
     slot_line me slot (digest_of_session (session_in entry)) (effect_of effect)
 
 abbrev pub notes_text : Bool → NodeId → List Note → Bytes
@@ -30,7 +30,7 @@ abbrev pub note_first : ℕ → Note → List Execution → List Execution
 note_first shard (note.Dropped cause) firsts = firsts
 note_first shard (note.Viewed slot view) firsts = firsts
 note_first shard (note.Headed number head) firsts = firsts
-note_first shard (note.Executed slot entry effect) firsts = with_first_execution shard (Did slot entry (effect_of effect)) firsts
+note_first shard (note.Executed slot place entry effect) firsts = with_first_execution shard (Did slot place entry (effect_of effect)) firsts
 
 -- the first executions, after notes of a node of the shard
 abbrev pub noted_firsts : ℕ → List Note → List Execution → List Execution
@@ -41,7 +41,7 @@ abbrev pub note_aborted : Note → List Bytes → List Bytes
 note_aborted (note.Dropped cause) aborted = aborted
 note_aborted (note.Viewed slot view) aborted = aborted
 note_aborted (note.Headed number head) aborted = aborted
-note_aborted (note.Executed slot entry effect) aborted = with_abort entry (effect_of effect) aborted
+note_aborted (note.Executed slot place entry effect) aborted = with_abort entry (effect_of effect) aborted
 
 -- the sessions on which an abort was decided, after notes of a node
 abbrev pub noted_aborted : List Note → List Bytes → List Bytes

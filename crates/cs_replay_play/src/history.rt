@@ -1,5 +1,5 @@
 //! The history, kept from the executions as they come.
-ghost use Rattle.std.specs.Prelude.{◌≡◌, ◌<◌, ◌==◌, [], IfOk, OnOk, List, replicate};
+ghost use Rattle.std.specs.Prelude.{◌≡◌, ◌<◌, ◌==◌, [], length, IfOk, OnOk, List, replicate};
 ghost use Rattle.cs_tx_types.specs.Session.{SessionFits, EntryFits, session_in};
 ghost use Rattle.cs_node_state.specs.Setup.{Setup};
 ghost use Rattle.cs_replay_rules.specs.Aborts.{with_aborted_digest};
@@ -9,7 +9,7 @@ ghost use Rattle.cs_table.specs.Effects.{effect_of};
 ghost use Rattle.cs_tx.specs.Votes.{vote_of};
 ghost use Rattle.std.specs.List.{list_all};
 ghost use Rattle.cs_tx.specs.Digest.{digest_of_session};
-ghost use Rattle.cs_replay_play.specs.Kept.{KeepsHistory, IsBeforeFirst, is_commit, all_voted_commit, after_vote, told_next, after_execution, kept_after, with_abort};
+ghost use Rattle.cs_replay_play.specs.Kept.{KeepsHistory, IsBeforeFirst, is_commit, all_voted_commit, after_vote, told_next, after_execution, is_new, kept_after, with_abort};
 
 use cs_base::{Config, Memory};
 use cs_node::Effect;
@@ -19,12 +19,14 @@ use std::alloc::Global;
 use std::marker::Model;
 
 /// What was executed so far, as far as the history and the count of aborts need it. For the history
-/// the first execution of a slot counts, for aborts each.
+/// the first execution in a place of a slot counts, for aborts each.
 #[derive(Drop)]
 pub struct History {
     config: Config,
-    // How many slots of each shard were executed. The number of a slot is below 2^64.
+    // The slot after the newest execution of each shard, which is 0 before the first, and its
+    // place. The number of a slot is below 2^64.
     slots: Vec<u128>,
+    places: Vec<u8>,
     // The shards that voted commit, each with the session's digest.
     commits: IndexSet<(u16, Digest)>,
     // The transactions on which every concerned shard has voted commit, in that order.
@@ -42,12 +44,14 @@ impl Model for History {
     ghost view = { λ h. record {
       config = h.config;
       slots = h.slots.items;
+      places = h.places.items;
       commits = h.commits.keys;
       told = h.told.keys;
       aborted = h.aborted.keys;
     } };
 
-    ghost invariant = { λ h. length h.slots.items ≡ h.config.shards };
+    ghost invariant = { λ h. (length h.slots.items ≡ h.config.shards)
+        × (length h.places.items ≡ h.config.shards) };
 }
 
 impl History {
@@ -60,6 +64,7 @@ impl History {
         Ok(History {
             config,
             slots: vec![in alloc; 0; config.shards as usize]?,
+            places: vec![in alloc; 0; config.shards as usize]?,
             commits: IndexSet::new(alloc),
             told: IndexSet::new(alloc),
             aborted: IndexSet::new(alloc),
@@ -88,6 +93,7 @@ impl History {
         alloc: Global,
         shard: u16,
         slot: u64,
+        place: u8,
         entry: &Entry,
         digest: &Digest,
         effect: Effect,
@@ -97,12 +103,12 @@ impl History {
         ensures kept { (setup : Setup) (firsts : List Execution)
             → shard < self.old.config.shards → KeepsHistory setup firsts self.old
             → OnOk result (KeepsHistory setup
-            (with_first_execution shard (Did slot entry.now (effect_of effect)) firsts) self.new) }
+            (with_first_execution shard (Did slot place entry.now (effect_of effect)) firsts) self.new) }
         ensures aborted { OnOk result (self.new.aborted
             ≡ with_abort entry.now (effect_of effect) self.old.aborted) }
         ensures config { OnOk result (self.new.config ≡ self.old.config) }
     {
-        self.enter(alloc, shard, slot, entry, digest, effect)?;
+        self.enter(alloc, shard, slot, place, entry, digest, effect)?;
         self.note_abort(entry, digest, effect)
     }
 
@@ -134,6 +140,7 @@ impl History {
         alloc: Global,
         shard: u16,
         slot: u64,
+        place: u8,
         entry: &Entry,
         digest: &Digest,
         effect: Effect,
@@ -141,20 +148,30 @@ impl History {
         requires fits { EntryFits entry.now }
         requires named { digest.now ≡ digest_of_session (session_in entry.now) }
         ensures kept { shard < self.old.config.shards
-            → OnOk result (self.new ≡ kept_after self.old shard slot entry.now (effect_of effect)) }
+            → OnOk result (self.new ≡ kept_after self.old shard slot place entry.now (effect_of effect)) }
         ensures aborted { OnOk result (self.new.aborted ≡ self.old.aborted) }
         ensures config { OnOk result (self.new.config ≡ self.old.config) }
     {
-        let place = shard as usize;
-        if place >= self.slots.len() {
+        let index = shard as usize;
+        if index >= self.slots.len() {
             return Ok(());
         }
-        let known = self.slots[place];
-        if u128::from(slot) < known {
+        if !self.comes_after(index, slot, place) {
             return Ok(());
         }
-        self.slots[place] = known + 1;
+        self.slots[index] = u128::from(slot) + 1;
+        self.places[index] = place;
         self.note(alloc, shard, entry, digest, effect)
+    }
+
+    // Whether a place of a slot comes after that of the newest execution of a shard.
+    fn comes_after(&self, index: usize, slot: u64, place: u8) -> bool
+        requires { index < length self.now.slots }
+        ensures { result ≡ is_new self.now index slot place }
+    {
+        let next = u128::from(slot) + 1;
+        let newest = self.slots[index];
+        newest < next || (newest == next && self.places[index] < place)
     }
 
     // What a new execution gives: a vote on a session. What is void gives nothing.
@@ -192,10 +209,21 @@ impl History {
         ensures { OnOk result (self.new ≡ told_next
             (after_vote self.old shard (digest_of_session session.now) (vote_of vote)) session.now) }
     {
-        if vote == Vote::Commit {
-            self.commits.insert((shard, digest))?;
-        }
+        self.note_vote(shard, digest, vote)?;
         self.tell(alloc, session, digest)
+    }
+
+    // A shard's vote on a session of this digest: a commit vote is kept.
+    fn note_vote(&mut self, shard: u16, digest: Digest, vote: Vote) -> Result<(), Memory>
+        ensures { OnOk result (self.new ≡ after_vote self.old shard digest (vote_of vote)) }
+    {
+        match vote {
+            Vote::Commit => {
+                self.commits.insert((shard, digest))?;
+                Ok(())
+            }
+            Vote::Abort => Ok(()),
+        }
     }
 
     // Tells the transaction of a session, where every concerned shard has voted commit.

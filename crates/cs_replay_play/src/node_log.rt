@@ -79,6 +79,7 @@ impl NodeLog {
                 slot,
                 entry,
                 effect,
+                ..
             } => self.execute(
                 alloc,
                 &Leaf {

@@ -75,11 +75,12 @@ fn tell_note(
         }
         Note::Executed {
             slot,
+            place,
             entry,
             effect,
         } => {
             let digest = digest_in(alloc, entry)?;
-            history.execute(alloc, me.shard, *slot, entry, &digest, *effect)?;
+            history.execute(alloc, me.shard, *slot, *place, entry, &digest, *effect)?;
             slot_line(alloc, me, *slot, &digest, *effect)
         }
         Note::Headed { number, head } => head_line(alloc, me, *number, head),

@@ -186,7 +186,7 @@ module _ {M : Type 0} (machine : Machine M) (holds : Holds machine) (carrier : C
   sent-fair me (Plain (Viewed slot view) ∷ a) t honest bytes made p i = sent-fair me a t honest bytes made.1 p i
   sent-fair me (Plain (Headed number head) ∷ a) t honest bytes made p i = sent-fair me a t honest bytes made.1 p i
   sent-fair me (Plain (Kept index checkpoint) ∷ a) t honest bytes made p i = sent-fair me a t honest bytes made.1 p i
-  sent-fair me (Plain (Did slot entry effect) ∷ a) t honest bytes made p i = sent-fair me a t honest bytes made.1 p i
+  sent-fair me (Plain (Did slot place entry effect) ∷ a) t honest bytes made p i = sent-fair me a t honest bytes made.1 p i
   sent-fair me (Plain (Sent to said) ∷ a) t honest bytes made p i =
       fair-append net (parcels_of net me (signs_of a)) _ (sent-fair me a t honest bytes made.1) last p i
     where
@@ -213,7 +213,7 @@ module _ {M : Type 0} (machine : Machine M) (holds : Holds machine) (carrier : C
       all other (inr i) = c.bytes other i
 
   pub world-clean : (world : List (Happening M)) → IsLife At world → AreBytes world → (me : NodeId) → IsClean me (trail_of me world)
-  world-clean [] life bytes me = record { level = record { made = tt; slots = refl }; bytes = λ input i. absurd i }
+  world-clean [] life bytes me = record { level = record { made = tt; executed = refl }; bytes = λ input i. absurd i }
   world-clean (h ∷ past) life bytes me =
       cond_both (same_name h.node me) (h.marks ++ trail_of me past) (trail_of me past) (λ t. IsClean me t)
       (λ same.

@@ -23,7 +23,7 @@ aborted_after setup entry effect earlier =
 
 abbrev pub aborted_by : Setup → List Sign → List Bytes → List Bytes
 aborted_by setup [] earlier = earlier
-aborted_by setup (Did slot entry effect ∷ past) earlier =
+aborted_by setup (Did slot place entry effect ∷ past) earlier =
     aborted_after setup entry effect (aborted_by setup past earlier)
 aborted_by setup (sign ∷ past) earlier = aborted_by setup past earlier
 

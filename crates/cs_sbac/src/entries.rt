@@ -3,7 +3,7 @@ ghost use Rattle.std.specs.Prelude.{◌≡◌, ◌↔◌, IsSome, IfOk, IfSome};
 ghost use Rattle.cs_tx_types.specs.declared.entry.Entry.TheVariants.{Prepare, Decide};
 ghost use Rattle.cs_tx_types.specs.Session.{SessionFits, EntryFits, session_in};
 ghost use Rattle.cs_check_rules.specs.Chain.{Log};
-ghost use Rattle.cs_node_state.specs.Admission.{admits};
+ghost use Rattle.cs_node_state.specs.Admission.{admits_action, admits};
 ghost use Rattle.cs_tx.specs.Digest.{digest_of_session};
 ghost use Rattle.cs_node_pool.specs.Deployed.{AtEverySetup, AtAnyGenesis};
 ghost use Rattle.cs_node_pool.specs.Calls.{IsNext};
@@ -70,7 +70,7 @@ impl Sbac {
         requires { SessionFits session.now }
         ensures { AtAnyGenesis self.now.config (J.is_approved judge.now) (λ setup.
             IfOk result (λ admitted.
-            admitted ≡ admits setup self.now.me.shard self.now.pool (Prepare session.now))) }
+            admitted ≡ admits_action setup self.now.me.shard self.now.pool (Prepare session.now))) }
     {
         let known = self.pool.known(session)?;
         let fit = is_fit(alloc, &self.config, self.me.shard, session, known.is_some())?;
@@ -85,7 +85,7 @@ impl Sbac {
         requires { SessionFits session.now }
         ensures { AtEverySetup self.now.config (λ setup.
             IfOk result (λ admitted.
-            admitted ≡ admits setup self.now.me.shard self.now.pool (Decide vote session.now))) }
+            admitted ≡ admits_action setup self.now.me.shard self.now.pool (Decide vote session.now))) }
     {
         let known = self.pool.known(session)?;
         let shards = concerned_shards(alloc, &self.config, session, known.is_some())?;

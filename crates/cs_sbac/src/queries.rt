@@ -91,7 +91,7 @@ impl Sbac {
         concerned_shards(alloc, &self.config, session, false)
     }
 
-    /// The same of a fit session, for which nothing is hashed.
+    /// The same of a fit session, which needn't be tested again.
     pub fn concerned_of_fit(&self, alloc: Global, session: &Session) -> Result<Vec<u16>, Memory>
         requires { IsFit self.now session.now }
         ensures { AtEverySetup self.now.config (λ setup.

@@ -1,5 +1,5 @@
 -- The first executions are allowed steps of the shards together, of known sessions.
-use Rattle.std.proofs.Common.{◌≡◌, inl, inr, ℕ, ◌<◌, ◌==◌, nat_lt, true, List, [], ◌∷◌, ◌++◌, Option, Some, None, map, sym, ◌∙◌, ap, subst, refl}
+use Rattle.std.proofs.Common.{◌≡◌, inl, inr, ℕ, ◌<◌, ◌==◌, true, List, [], ◌∷◌, ◌++◌, Option, Some, None, map, sym, ◌∙◌, ap, subst, refl}
 use Rattle.std.specs.Prelude.{slice_get}
 use Rattle.std.proofs.lemmas.Bool.{cond_both, and_parts, eqb-true}
 use Rattle.cs_base.specs.declared.node_id.NodeId.{NodeId}
@@ -19,33 +19,30 @@ use Rattle.cs_ledger.specs.Table as Shard
 use Rattle.cs_ledger.specs.Table.{Effect}
 use Rattle.cs_ledger.specs.ShardWorld.{Step, shard_votes, IsAllowed, AllAllowed, sessions}
 use Rattle.cs_node_state.specs.declared.pooled.Pooled.{Pooled}
-use Rattle.cs_node_state.specs.Setup.{Setup, digest_of, is_concerned_shard, concerned, is_fit, is_session_approved, entry_of}
+use Rattle.cs_node_state.specs.Setup.{Action, actions_of, Setup, digest_of, is_concerned_shard, concerned, is_fit, is_session_approved, entry_of}
 use Rattle.cs_tx_types.specs.Session.{session_in}
 use Rattle.cs_node_state.specs.Evidence.{has_support, is_decided}
 use Rattle.cs_node_state.specs.Pool.{found}
-use Rattle.cs_node_state.specs.Admission.{admits, is_decided_in}
+use Rattle.cs_node_state.specs.Admission.{admits_action, admits, is_decided_in}
 use Rattle.cs_node_rules.specs.Signs.{Dropped, Took, Entered, Viewed, Did, Headed, Kept, Sent}
 use Rattle.cs_node_rules.specs.Site.{Mark, In, Ordered, Plain, Site, signs_of}
-use Rattle.cs_node_rules.specs.World.{Execution, steps_of, slots_of}
+use Rattle.cs_node_rules.specs.World.{Execution, steps_of, newest_of, is_after}
 use Rattle.cs_node_law.specs.Made.{view_at, HasVotedOn, DeedMade}
 use Rattle.cs_node_law.proofs.Views.{me-same}
 use Rattle.cs_node_law.proofs.Silent.{voted-more}
 use Rattle.cs_node_law.proofs.Pools.{Place, IsSourced, found-in, pool-sourced}
 use Rattle.cs_node_law.proofs.Due.{IsDueFrom, due-from}
+use Rattle.cs_node_state.specs.laws.Actions.{each_action}
+use Rattle.cs_node_law.proofs.Actions.{got-in}
 use Rattle.cs_world_law.specs.Worlds.{is_honest}
 use Rattle.cs_world_law.specs.Chain.{Moment, trail_at, Known, Story, IsSoundSite, acts_at, shard_acts, firsts_at, story_firsts}
 use Rattle.cs_world_law.proofs.Deeds.{member-is}
 use Rattle.cs_world_law.proofs.Trails.{at, trail-both, made-all, within-all, deeds-same}
-use Rattle.cs_world_law.proofs.Local.{did-done, due-read, local}
+use Rattle.cs_world_law.proofs.Local.{map-in, did-done, due-read, local}
 use Rattle.cs_world_law.proofs.Lawful.{AreLawful}
 use Rattle.cs_world_law.proofs.Firsts.{given-voted}
 use Rattle.cs_world_law.proofs.Ballots.{IsGiver, giver-later, giver}
 use Rattle.cs_world_law.proofs.Counting.{any-in, all-in, in-concerned, concerned-in, among-item, item-among, votes-all, votes-one}
-
-pub map-in : {A B : Type 0} (f : A → B) (x : A) (xs : List A) → IsIn x xs → IsIn (f x) (map f xs)
-map-in f x [] i = absurd i
-map-in f x (y ∷ xs) (inl e) = inl (ap f e)
-map-in f x (y ∷ xs) (inr i) = inr (map-in f x xs i)
 
 pub seen-session : (setup : Setup) (entry : Entry) → Shard.session_of (entry_of setup entry) ≡ setup.session_of (session_in entry)
 seen-session setup (Prepare x) = refl
@@ -61,13 +58,17 @@ fine-earlier {M} site known [] earlier f = f
 fine-earlier {M} site known (e ∷ later) earlier f = fine-earlier site known later earlier (record { allowed = f.allowed.1; within = λ x i. f.within x (inr i) })
 
 module _ {M : Type 0} (site : Site M) (sound : IsSoundSite site) (known : Known) where
-  -- what stands behind an entry that an honest node of a shard admitted
-  abbrev pub IsBehind : List (Moment M) → ℕ → Entry → Type 0
+  -- what stands behind an action that an honest node of a shard admitted
+  abbrev pub IsBehind : List (Moment M) → ℕ → Action → Type 0
   IsBehind story shard (Prepare x) = (is_fit site.setup shard x ≡ true) × (is_session_approved site.setup x ≡ true)
   IsBehind story shard (Decide tx.Commit x) =
       (is_concerned_shard site.setup x shard ≡ true) × ((t : ℕ) → t < site.setup.shards → is_concerned_shard site.setup x t ≡ true → IsGiver site sound known story (digest_of site.setup x) Shard.Commit t)
   IsBehind story shard (Decide tx.Abort x) =
       (is_concerned_shard site.setup x shard ≡ true) × ((t : ℕ) × (is_concerned_shard site.setup x t ≡ true) × IsGiver site sound known story (digest_of site.setup x) Shard.Abort t)
+
+  -- so it is of each action of an entry
+  abbrev AllBehind : List (Moment M) → ℕ → Entry → Type 0
+  AllBehind story shard entry = (action : Action) → IsIn action (actions_of entry) → IsBehind story shard action
 
   behind-later : (m : Moment M) (past : List (Moment M)) (shard : ℕ) (entry : Entry) → IsBehind past shard entry → IsBehind (m ∷ past) shard entry
   behind-later m past shard (Prepare x) b = b
@@ -95,9 +96,9 @@ module _ {M : Type 0} (site : Site M) (sound : IsSoundSite site) (known : Known)
       let t = trail_at j story in
       subst (λ (n : NodeId). IsSourced site n t e) (me-same site j t) (pool-sourced site j t (made-all site known j story story_is) e i)
 
-  admits-behind : (story : List (Moment M)) (j : NodeId) (entry : Entry) → Story site known story → admits site.setup j.shard (view_at site j (trail_at j story)).bench.pool entry ≡ true → IsBehind story j.shard entry
-  admits-behind story j (Prepare x) story_is e = and_parts (is_fit site.setup j.shard x) (is_session_approved site.setup x) e
-  admits-behind story j (Decide vote x) story_is e =
+  action-behind : (story : List (Moment M)) (j : NodeId) (action : Action) → Story site known story → admits_action site.setup j.shard (view_at site j (trail_at j story)).bench.pool action ≡ true → IsBehind story j.shard action
+  action-behind story j (Prepare x) story_is e = and_parts (is_fit site.setup j.shard x) (is_session_approved site.setup x) e
+  action-behind story j (Decide vote x) story_is e =
       let pool = (view_at site j (trail_at j story)).bench.pool in
       let d = digest_of site.setup x in
       let a = and_parts (is_concerned_shard site.setup x j.shard) (is_decided_in site.setup.f (concerned site.setup x) vote (found d pool)) e in
@@ -108,6 +109,10 @@ module _ {M : Type 0} (site : Site M) (sound : IsSoundSite site) (known : Known)
       go here (Some p) is h =
           let r = found-in (digest_of site.setup x) (view_at site j (trail_at j story)).bench.pool p is in
           decision-behind story j r.0 vote x story_is (sourced story j r.0 story_is r.1) (sym r.2) here (subst (λ (q : Pooled). is_decided site.setup.f (concerned site.setup x) vote q.ballots ≡ true) (sym r.3) h)
+
+  admits-behind : (story : List (Moment M)) (j : NodeId) (entry : Entry) → Story site known story → admits site.setup j.shard (view_at site j (trail_at j story)).bench.pool entry ≡ true → AllBehind story j.shard entry
+  admits-behind story j entry story_is e action i =
+      action-behind story j action story_is (all-in (admits_action site.setup j.shard (view_at site j (trail_at j story)).bench.pool) (actions_of entry) e action i)
 
   -- what every honest node voted on is approved
   abbrev AllApproved : List (Moment M) → Type 0
@@ -129,7 +134,7 @@ module _ {M : Type 0} (site : Site M) (sound : IsSoundSite site) (known : Known)
 
   -- the deed with which an honest node admitted a proposal
   deed-behind : (node : NodeId) (deed : Deed M) (past : List (Moment M)) (p : Proposed) → Story site known past → AllApproved past → is_honest site node ≡ true
-      → DeedMade site (view_at site node (trail_at node past)) (trail_at node past) deed → Admits site.machine p (view_at site node (trail_at node past)).member deed → IsBehind past node.shard (site.entry_in p)
+      → DeedMade site (view_at site node (trail_at node past)) (trail_at node past) deed → Admits site.machine p (view_at site node (trail_at node past)).member deed → AllBehind past node.shard (site.entry_in p)
   deed-behind node (Took_in from m) past p story approved honest made admitted = absurd admitted
   deed-behind node (Advanced step sent) past p story approved honest made admitted = absurd admitted
   deed-behind node (Ticked due sent) past p story approved honest made admitted = absurd admitted
@@ -145,13 +150,13 @@ module _ {M : Type 0} (site : Site M) (sound : IsSoundSite site) (known : Known)
   deed-behind node (Proposing proposed sent) past p story approved honest made admitted =
       let t = trail_at node past in
       let v = view_at site node t in
-      elim made as (λ z. IsBehind past node.shard (site.entry_in p)) [
+      elim made as (λ z. AllBehind past node.shard (site.entry_in p)) [
         | inl due ↦
             let d = due-from site.setup v.bench.pool due.entry due.due in
             let all = made-all site known node past story in
             let within = within-all site known node past story in
             let read : due.entry ≡ site.entry_in p = sym (due-read site sound known node t due.entry all within (local site sound known node t all within) d) ∙ ap site.entry_in (sym due.is ∙ admitted) in
-            subst (λ z. IsBehind past node.shard z) read (due-behind past node due.entry story approved honest d)
+            each_action (IsBehind past node.shard) (site.entry_in p) (subst (λ z. IsBehind past node.shard z) read (due-behind past node due.entry story approved honest d))
         | inr candidate ↦
             let at_me = subst (λ (n : NodeId). admits site.setup n.shard v.bench.pool (site.entry_in proposed) ≡ true) (me-same site node t) candidate.admitted in
             admits-behind past node (site.entry_in p) story (ap (λ z. admits site.setup node.shard v.bench.pool (site.entry_in z)) (sym admitted) ∙ at_me)
@@ -161,39 +166,40 @@ module _ {M : Type 0} (site : Site M) (sound : IsSoundSite site) (known : Known)
   approved-before m past all i x honest h = all i x honest (trail-both (λ t. HasVotedOn x (signs_of t)) i m past (λ own. voted-more x m.mark (trail_at i past) h) h)
 
   admitted-step : (shard : ℕ) (node : NodeId) (mark : Mark M) (past : List (Moment M)) (p : Proposed) → Story site known (record { node = node; mark = mark } ∷ past) → AllApproved past
-      → (Admitted site.machine site.setup.f p (shard_acts shard past) → IsBehind past shard (site.entry_in p)) → Admitted site.machine site.setup.f p (acts_at shard node mark (shard_acts shard past)) → IsBehind past shard (site.entry_in p)
+      → (Admitted site.machine site.setup.f p (shard_acts shard past) → AllBehind past shard (site.entry_in p)) → Admitted site.machine site.setup.f p (acts_at shard node mark (shard_acts shard past)) → AllBehind past shard (site.entry_in p)
   admitted-step shard node (In input) past p story approved later = later
   admitted-step shard node (Plain sign) past p story approved later = later
   admitted-step shard node (Ordered deed) past p story approved later =
-      cond_both (node.shard == shard) (record { member = node.index; deed = deed } ∷ shard_acts shard past) (shard_acts shard past) (λ l. Admitted site.machine site.setup.f p l → IsBehind past shard (site.entry_in p))
-      (λ e admitted. elim admitted as (λ z. IsBehind past shard (site.entry_in p)) [
+      cond_both (node.shard == shard) (record { member = node.index; deed = deed } ∷ shard_acts shard past) (shard_acts shard past) (λ l. Admitted site.machine site.setup.f p l → AllBehind past shard (site.entry_in p))
+      (λ e admitted. elim admitted as (λ z. AllBehind past shard (site.entry_in p)) [
         | inl now ↦
             let same = eqb-true node.shard shard e in
             let here = subst (λ s. Admits site.machine p (member_of site.setup.f node.index (shard_acts s past)) deed) (sym same) now in
             let own = subst (λ ds. Admits site.machine p (record { f = site.setup.f; me = node.index; deeds = ds }) deed) (deeds-same node.shard node.index past) here in
             let at_view = subst (λ (h : Member M). Admits site.machine p h deed) (sym (member-is site node (trail_at node past))) own in
-            subst (λ s. IsBehind past s (site.entry_in p)) same (deed-behind node deed past p story.1 approved story.0.honest story.0.made.1 at_view)
+            subst (λ s. AllBehind past s (site.entry_in p)) same (deed-behind node deed past p story.1 approved story.0.honest story.0.made.1 at_view)
         | inr before ↦ later before
       ])
       (λ e. later)
 
-  admitted-behind : (shard : ℕ) (story : List (Moment M)) (p : Proposed) → Story site known story → AllApproved story → Admitted site.machine site.setup.f p (shard_acts shard story) → IsBehind story shard (site.entry_in p)
+  admitted-behind : (shard : ℕ) (story : List (Moment M)) (p : Proposed) → Story site known story → AllApproved story → Admitted site.machine site.setup.f p (shard_acts shard story) → AllBehind story shard (site.entry_in p)
   admitted-behind shard [] p story approved admitted = absurd admitted
   admitted-behind shard (m ∷ past) p story approved admitted =
       let before = approved-before m past approved in
-      behind-later m past shard (site.entry_in p) (admitted-step shard m.node m.mark past p story before (admitted-behind shard past p story.1 before) admitted)
+      let all = admitted-step shard m.node m.mark past p story before (admitted-behind shard past p story.1 before) admitted in
+      λ action i. behind-later m past shard action (all action i)
 
   module _ (lawful : AreLawful site known) where
     -- ---- executions
 
-    executed-behind : (node : NodeId) (slot : ℕ) (entry : Entry) (effect : Effect) (past : List (Moment M)) → Story site known (record { node = node; mark = Plain (Did slot entry effect) } ∷ past) → AllApproved past → IsBehind past node.shard entry
-    executed-behind node slot entry effect past story approved =
+    executed-behind : (node : NodeId) (slot place : ℕ) (entry : Entry) (effect : Effect) (past : List (Moment M)) → Story site known (record { node = node; mark = Plain (Did slot place entry effect) } ∷ past) → AllApproved past → IsBehind past node.shard entry
+    executed-behind node slot place entry effect past story approved =
         let made = story.0.made in
         let law = lawful past node.shard (sound.shard node story.0.honest) story.1 in
         let own = subst (λ (h : Member M). slice_get (chosen_in h.deeds) slot ≡ Some made.proposed) (member-is site node (trail_at node past)) made.chosen in
         let chosen = subst (λ ds. slice_get (chosen_in ds) slot ≡ Some made.proposed) (sym (deeds-same node.shard node.index past)) own in
         let admitted = law.admitted node.index slot made.proposed chosen in
-        subst (λ z. IsBehind past node.shard z) made.reads (admitted-behind node.shard past made.proposed story.1 approved admitted)
+        admitted-behind node.shard past made.proposed story.1 approved admitted entry (got-in (actions_of (site.entry_in made.proposed)) place entry made.within)
 
     approved-step : (node : NodeId) (mark : Mark M) (past : List (Moment M)) (i : NodeId) (x : Session) → Story site known (record { node = node; mark = mark } ∷ past) → AllApproved past → is_honest site i ≡ true
         → HasVotedOn x (signs_of (mark ∷ trail_at i past)) → is_session_approved site.setup x ≡ true
@@ -206,9 +212,9 @@ module _ {M : Type 0} (site : Site M) (sound : IsSoundSite site) (known : Known)
     approved-step node (Plain (Headed number head)) past i x story all honest h = all i x honest h
     approved-step node (Plain (Kept index checkpoint)) past i x story all honest h = all i x honest h
     approved-step node (Plain (Sent to said)) past i x story all honest h = all i x honest h
-    approved-step node (Plain (Did slot entry effect)) past i x story all honest (inr before) = all i x honest before
-    approved-step node (Plain (Did slot entry effect)) past i x story all honest (inl now) =
-        let b : IsBehind past node.shard (Prepare x) = subst (λ z. IsBehind past node.shard z) now.0 (executed-behind node slot entry effect past story all) in b.1
+    approved-step node (Plain (Did slot place entry effect)) past i x story all honest (inr before) = all i x honest before
+    approved-step node (Plain (Did slot place entry effect)) past i x story all honest (inl now) =
+        let b : IsBehind past node.shard (Prepare x) = subst (λ z. IsBehind past node.shard z) now.0 (executed-behind node slot place entry effect past story all) in b.1
 
     pub all-approved : (story : List (Moment M)) → Story site known story → AllApproved story
     all-approved [] story i x honest h = absurd h
@@ -245,9 +251,9 @@ module _ {M : Type 0} (site : Site M) (sound : IsSoundSite site) (known : Known)
         )
 
     -- what an honest node executes is allowed
-    pub executed-allowed : (node : NodeId) (slot : ℕ) (entry : Entry) (effect : Effect) (past : List (Moment M)) → Story site known (record { node = node; mark = Plain (Did slot entry effect) } ∷ past)
+    pub executed-allowed : (node : NodeId) (slot place : ℕ) (entry : Entry) (effect : Effect) (past : List (Moment M)) → Story site known (record { node = node; mark = Plain (Did slot place entry effect) } ∷ past)
         → IsAllowed site.setup.rules (Steps past) node.shard (entry_of site.setup entry)
-    executed-allowed node slot entry effect past story = behind-allowed past node.shard entry story.1 (executed-behind node slot entry effect past story (all-approved past story.1))
+    executed-allowed node slot place entry effect past story = behind-allowed past node.shard entry story.1 (executed-behind node slot place entry effect past story (all-approved past story.1))
 
     fine-step : (node : NodeId) (mark : Mark M) (past : List (Moment M)) → Story site known (record { node = node; mark = mark } ∷ past) → AreFine site known (story_firsts past) → AreFine site known (firsts_at node mark (story_firsts past))
     fine-step node (In input) past story f = f
@@ -259,20 +265,20 @@ module _ {M : Type 0} (site : Site M) (sound : IsSoundSite site) (known : Known)
     fine-step node (Plain (Headed number head)) past story f = f
     fine-step node (Plain (Kept index checkpoint)) past story f = f
     fine-step node (Plain (Sent to said)) past story f = f
-    fine-step node (Plain (Did slot entry effect)) past story f =
-        let new : Execution = record { shard = node.shard; slot = slot; entry = entry; effect = effect } in
+    fine-step node (Plain (Did slot place entry effect)) past story f =
+        let new : Execution = record { shard = node.shard; slot = slot; place = place; entry = entry; effect = effect } in
         let t = trail_at node past in
         let made = made-all site known node past story.1 in
-        let d = did-done site sound known node t slot entry effect (story.0.made, made) (local site sound known node t made (within-all site known node past story.1)) in
-        cond_both (nat_lt slot (slots_of node.shard (story_firsts past))) (story_firsts past) (new ∷ story_firsts past) (λ firsts. AreFine site known firsts)
-        (λ e. f)
+        let d = did-done site sound known node t slot place entry effect (story.0.made, made) (local site sound known node t made (within-all site known node past story.1)) in
+        cond_both (is_after slot place (newest_of node.shard (story_firsts past))) (new ∷ story_firsts past) (story_firsts past) (λ firsts. AreFine site known firsts)
         (λ e. record {
-          allowed = (executed-allowed node slot entry effect past story, f.allowed);
+          allowed = (executed-allowed node slot place entry effect past story, f.allowed);
           within = λ x i. elim i as (λ z. IsIn x (map site.setup.session_of known.sessions)) [
             | inl is ↦ subst (λ z. IsIn z (map site.setup.session_of known.sessions)) (sym (is ∙ seen-session site.setup entry)) (map-in site.setup.session_of (session_in entry) known.sessions d.session)
             | inr before ↦ f.within x before
           ];
         })
+        (λ e. f)
 
     pub are-fine : (story : List (Moment M)) → Story site known story → AreFine site known (story_firsts story)
     are-fine [] story = record { allowed = tt; within = λ x i. absurd i }

@@ -67,7 +67,7 @@ module _ {M : Type 0} (site : Site M) (sound : IsSoundSite site) (known : Known)
   mark-given j who d vote (Plain (Viewed slot view)) past story backed here there made later h = later h
   mark-given j who d vote (Plain (Headed number head)) past story backed here there made later h = later h
   mark-given j who d vote (Plain (Kept index checkpoint)) past story backed here there made later h = later h
-  mark-given j who d vote (Plain (Did slot entry effect)) past story backed here there made later h = later h
+  mark-given j who d vote (Plain (Did slot place entry effect)) past story backed here there made later h = later h
   mark-given j who d vote (Plain (Sent to said)) past story backed here there made later h = later h
   mark-given j who d vote (Plain (Took sender other x)) past story backed here there made later (inr before) = later before
   mark-given j who d vote (Plain (Took sender other x)) past story backed here there made later (inl now) =

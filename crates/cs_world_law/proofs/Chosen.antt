@@ -1,39 +1,43 @@
--- Between its events a node has executed what its order chose, slot by slot.
-use Rattle.std.proofs.Common.{◌≡◌, ℕ, suc, ◌+◌, List, [], ◌∷◌, ◌++◌, length, map, Some, refl, sym, ap, ◌∙◌, subst, arith, append_assoc}
-use Rattle.std.specs.Prelude.{slice_get}
+-- Between its events a node has executed what its order chose, slot by slot, each action in its place.
+use Rattle.std.proofs.Common.{◌≡◌, ℕ, zero, suc, ◌+◌, List, [], ◌∷◌, ◌++◌, length, map, Some, refl, sym, ap, ◌∙◌, subst, arith, append_assoc}
+use Rattle.std.specs.Prelude.{slice_get, take}
 use Rattle.std.specs.List.{enumerate_from}
-use Rattle.std.proofs.lemmas.List.{append-nil, length-append, length-map, length_push, map_push}
+use Rattle.std.proofs.lemmas.List.{append-nil, length-append, length_push, map-append, map_push}
 use Rattle.cs_base.specs.declared.node_id.NodeId.{NodeId}
 use Rattle.cs_tx_types.specs.declared.entry.Entry.{Entry}
 use Rattle.cs_order.specs.declared.proposed.Proposed.{Proposed}
+use Rattle.cs_order.specs.laws.Lists.{slice_get-left}
 use Rattle.cs_order.specs.declared.answers.Step.TheVariants.{Chosen, Moved, Quiet}
 use Rattle.cs_order.specs.Deeds.{Deed, Took_in, Advanced, Echoed, Proposing, Ticked, Resent, Replied, Cut, Member, chosen_in}
 use Rattle.cs_node_rules.specs.Signs.{Dropped, Took, Entered, Viewed, Did, Headed, Kept, Sent}
 use Rattle.cs_node_rules.specs.Site.{Mark, In, Ordered, Plain, Site, signs_of}
 use Rattle.cs_node_rules.specs.World.{Execution}
-use Rattle.cs_node_law.specs.Made.{view_at, log_in, AllMade, IsLevel}
-use Rattle.cs_world_law.specs.Steps.{executions_in}
-use Rattle.cs_world_law.specs.Orders.{slots_with_entries}
+use Rattle.cs_ledger.specs.Table.{Effect}
+use Rattle.cs_node_state.specs.Setup.{Action, actions_of}
+use Rattle.cs_node_state.specs.laws.Actions.{one_action}
+use Rattle.cs_node_law.specs.Made.{view_at, log_in, actions_in, NodeExecutes, AllMade, IsLevel}
+use Rattle.cs_world_law.specs.Steps.{executions_in, Run}
+use Rattle.cs_world_law.specs.Orders.{slots_with_entries, runs_done, runs_from, runs_of}
 use Rattle.cs_world_law.specs.Chain.{Known, IsSoundSite}
+use Rattle.cs_world_law.proofs.Agree.{run_at, placed-now}
+use Rattle.cs_world_law.proofs.Logged.{executions-count}
 use Rattle.cs_world_law.proofs.Deeds.{deeds_in, member-is}
 use Rattle.cs_world_law.proofs.Trails.{AllWithin}
 use Rattle.cs_world_law.proofs.Local.{chosen-listed, local}
 
 -- ---- lists
 
-enumerate-push : {X : Type 0} (from : ℕ) (xs : List X) (x : X) → enumerate_from from (xs ++ x ∷ []) ≡ enumerate_from from xs ++ (from + length xs, x) ∷ []
-enumerate-push {X} from [] x =
-    let e : from ≡ from + 0 = omega arith in
-    ap (λ (n : ℕ). let one : List (ℕ × X) = (n, x) ∷ [] in one) e
-enumerate-push {X} from (y ∷ xs) x =
-    let e : (from + 1) + length xs ≡ from + length (y ∷ xs) = omega arith in
-    ap (λ (l : List (ℕ × X)). (from, y) ∷ l) (enumerate-push (from + 1) xs x ∙ ap (λ (n : ℕ). enumerate_from (from + 1) xs ++ (n, x) ∷ []) e)
-
 -- what stands behind a front
 seam : {X : Type 0} (xs ys : List X) (x : X) → slice_get (xs ++ ys) (length xs) ≡ Some x → (more : List X) × (ys ≡ x ∷ more)
 seam {X} [] [] x e = absurd cc
 seam {X} [] (y ∷ ys) x e = (ys, (let same : y ≡ x = cc in ap (λ z. z ∷ ys) same))
 seam {X} (z ∷ xs) ys x e = seam xs ys x e
+
+get-behind : {X : Type 0} (xs ys : List X) (n : ℕ) → slice_get (xs ++ ys) (length xs + n) ≡ slice_get ys n
+get-behind {X} [] ys n = let none : 0 + n ≡ n = omega arith in ap (λ (k : ℕ). slice_get ys k) none
+get-behind {X} (x ∷ xs) ys n =
+    let next : length (x ∷ xs) + n ≡ suc (length xs + n) = omega arith in
+    ap (λ (k : ℕ). slice_get (x ∷ (xs ++ ys)) k) next ∙ get-behind xs ys n
 
 none-left : {X : Type 0} (front rest : List X) → length (front ++ rest) ≡ length front → rest ≡ []
 none-left {X} front [] e = refl
@@ -54,55 +58,124 @@ chosen-more {M} (Resent sent) deeds = ([], sym (append-nil (chosen_in deeds)))
 chosen-more {M} (Replied slot to sent) deeds = ([], sym (append-nil (chosen_in deeds)))
 chosen-more {M} (Cut slot) deeds = ([], sym (append-nil (chosen_in deeds)))
 
+-- ---- in their places
+
+runs-append : (slot : ℕ) (a b : List Entry) → runs_of slot (a ++ b) ≡ runs_of slot a ++ runs_of (slot + length a) b
+runs-append slot [] b = let e : slot ≡ slot + 0 = omega arith in ap (λ (n : ℕ). runs_of n b) e
+runs-append slot (entry ∷ a) b =
+    let e : suc slot + length a ≡ slot + length (entry ∷ a) = omega arith in
+    let first = runs_from slot 0 (actions_of entry) in
+    ap (λ (l : List Run). first ++ l) (runs-append (suc slot) a b ∙ ap (λ (n : ℕ). runs_of (suc slot) a ++ runs_of n b) e)
+    ∙ sym (append_assoc first (runs_of (suc slot) a) (runs_of (slot + length (entry ∷ a)) b))
+
+from-count : (slot place : ℕ) (actions : List Action) → length (runs_from slot place actions) ≡ length actions
+from-count slot place [] = refl
+from-count slot place (action ∷ more) = ap suc (from-count slot (suc place) more)
+
+from-got : (slot start place : ℕ) (actions : List Action) (action : Action) → slice_get actions place ≡ Some action → slice_get (runs_from slot start actions) place ≡ Some (run_at slot (start + place) action)
+from-got slot start place [] action e = absurd cc
+from-got slot start zero (first ∷ more) action e =
+    let same : first ≡ action = cc in
+    let none : start ≡ start + 0 = omega arith in
+    λ i. Some (run_at slot (none i) (same i))
+from-got slot start (suc place) (first ∷ more) action e =
+    let next : suc start + place ≡ start + suc place = omega arith in
+    from-got slot (suc start) place more action e ∙ ap (λ (n : ℕ). Some (run_at slot n action)) next
+
+done-count : (executions : List Execution) → length (runs_done executions) ≡ length executions
+done-count [] = refl
+done-count (e ∷ earlier) = omega (arith, done-count earlier, length_push (runs_done earlier) (run_at e.slot e.place e.entry))
+
+module _ {M : Type 0} (site : Site M) where
+  abbrev placed : ℕ → List Proposed → List Run
+  placed slot chosen = runs_of slot (map site.entry_in chosen)
+
+  placed-count : (slot : ℕ) (chosen : List Proposed) → length (placed slot chosen) ≡ length (actions_in site chosen)
+  placed-count slot [] = refl
+  placed-count slot (p ∷ chosen) =
+      let actions = actions_of (site.entry_in p) in
+      omega (
+        arith,
+        length-append (runs_from slot 0 actions) (placed (suc slot) chosen),
+        from-count slot 0 actions,
+        placed-count (suc slot) chosen,
+        length-append actions (actions_in site chosen),
+      )
+
+  -- an action of what was chosen stands in its place, behind those of the entries before its own
+  placed-got : (from slot place : ℕ) (chosen : List Proposed) (p : Proposed) (action : Action) → slice_get chosen slot ≡ Some p
+      → slice_get (actions_of (site.entry_in p)) place ≡ Some action → slice_get (placed from chosen) (length (actions_in site (take slot chosen)) + place) ≡ Some (run_at (from + slot) place action)
+  placed-got from slot place [] p action there within = absurd cc
+  placed-got from zero place (q ∷ chosen) p action there within =
+      let same : q ≡ p = cc in
+      let none : 0 + place ≡ place = omega arith in
+      let here : from ≡ from + 0 = omega arith in
+      let actions = actions_of (site.entry_in q) in
+      let inside = ap (λ (z : Proposed). slice_get (actions_of (site.entry_in z)) place) same ∙ within in
+      ap (λ (n : ℕ). slice_get (placed from (q ∷ chosen)) n) none
+      ∙ slice_get-left (runs_from from 0 actions) (placed (suc from) chosen) place (run_at from (0 + place) action) (from-got from 0 place actions action inside)
+      ∙ (λ i. Some (run_at (here i) (none i) action))
+  placed-got from (suc slot) place (q ∷ chosen) p action there within =
+      let actions = actions_of (site.entry_in q) in
+      let first = runs_from from 0 actions in
+      let rest = actions_in site (take slot chosen) in
+      let behind : length (actions ++ rest) + place ≡ length first + (length rest + place) = omega (arith, length-append actions rest, from-count from 0 actions) in
+      let slots : suc from + slot ≡ from + suc slot = omega arith in
+      ap (λ (n : ℕ). slice_get (first ++ placed (suc from) chosen) n) behind
+      ∙ get-behind first (placed (suc from) chosen) (length rest + place)
+      ∙ placed-got (suc from) slot place chosen p action there within
+      ∙ ap (λ (n : ℕ). Some (run_at n place action)) slots
+
 -- the front of what was chosen was executed
-record IsFront {M : Type 0} (site : Site M) (chosen : List Proposed) (runs : List Execution) (log : List Entry) : Type 0 where
-  pub front : List Proposed
-  pub rest : List Proposed
-  pub is : chosen ≡ front ++ rest
-  pub count : length front ≡ length log
-  pub done : slots_with_entries runs ≡ enumerate_from 0 (map site.entry_in front)
+record IsFront {M : Type 0} (site : Site M) (chosen : List Proposed) (executions : List Execution) : Type 0 where
+  pub rest : List Run
+  pub is : placed site 0 chosen ≡ runs_done executions ++ rest
 
 module _ {M : Type 0} (site : Site M) (me : NodeId) where
+  abbrev Executions : List (Mark M) → List Execution
+  Executions t = executions_in me.shard (signs_of t)
+
   abbrev FrontAt : List (Mark M) → Type 0
-  FrontAt t = IsFront site (chosen_in (deeds_in t)) (executions_in me.shard (signs_of t)) (log_in (signs_of t))
+  FrontAt t = IsFront site (chosen_in (deeds_in t)) (Executions t)
+
+  count-at : (t : List (Mark M)) → length (runs_done (Executions t)) ≡ length (log_in (signs_of t))
+  count-at t = done-count (Executions t) ∙ executions-count me.shard (signs_of t)
 
   front-deed : (deed : Deed M) (t : List (Mark M)) → FrontAt t → FrontAt (Ordered deed ∷ t)
   front-deed deed t f =
       let more = chosen-more deed (deeds_in t) in
+      let before = map site.entry_in (chosen_in (deeds_in t)) in
+      let after = map site.entry_in more.0 in
+      let new = runs_of (0 + length before) after in
       record {
-        front = f.front;
-        rest = f.rest ++ more.0;
-        is = more.1 ∙ ap (λ (l : List Proposed). l ++ more.0) f.is ∙ append_assoc f.front f.rest more.0;
-        count = f.count;
-        done = f.done;
+        rest = f.rest ++ new;
+        is = ap (λ (l : List Proposed). placed site 0 l) more.1
+            ∙ ap (λ (l : List Entry). runs_of 0 l) (map-append site.entry_in (chosen_in (deeds_in t)) more.0)
+            ∙ runs-append 0 before after
+            ∙ ap (λ (l : List Run). l ++ new) f.is
+            ∙ append_assoc (runs_done (Executions t)) f.rest new;
       }
 
   -- the next of what was chosen was executed
-  module _ (t : List (Mark M)) (slot : ℕ) (entry : Entry) (p : Proposed) (f : FrontAt t) where
-    abbrev entries : List Entry
-    entries = map site.entry_in f.front
-
-    next-slot : slot ≡ length (log_in (signs_of t)) → slot ≡ 0 + length entries
-    next-slot next = omega (arith, next, f.count, length-map f.front site.entry_in)
-
-    front-did : slot ≡ length (log_in (signs_of t)) → site.entry_in p ≡ entry → slice_get (chosen_in (deeds_in t)) slot ≡ Some p
-        → slots_with_entries (executions_in me.shard (signs_of t)) ++ (slot, entry) ∷ [] ≡ enumerate_from 0 (map site.entry_in (f.front ++ p ∷ []))
-    front-did next reads there =
-        ap (λ (l : List (ℕ × Entry)). l ++ (slot, entry) ∷ []) f.done
-        ∙ ap (λ (n : ℕ). enumerate_from 0 entries ++ (n, entry) ∷ []) (next-slot next)
-        ∙ ap (λ (e : Entry). enumerate_from 0 entries ++ (0 + length entries, e) ∷ []) (sym reads)
-        ∙ sym (enumerate-push 0 entries (site.entry_in p))
-        ∙ ap (λ (l : List Entry). enumerate_from 0 l) (sym (map_push site.entry_in f.front p))
-
-    front-behind : slot ≡ length (log_in (signs_of t)) → slice_get (chosen_in (deeds_in t)) slot ≡ Some p → (more : List Proposed) × (f.rest ≡ p ∷ more)
-    front-behind next there =
-        let at : slot ≡ length f.front = next ∙ sym f.count in
-        seam f.front f.rest p
-        (subst (λ (l : List Proposed). slice_get l (length f.front) ≡ Some p) f.is
-        (subst (λ (n : ℕ). slice_get (chosen_in (deeds_in t)) n ≡ Some p) at there))
+  front-did : (t : List (Mark M)) (slot place : ℕ) (action : Action) (effect : Effect) → FrontAt t → NodeExecutes site (view_at site me t) (signs_of t) slot place action effect
+      → FrontAt (Plain (Did slot place action effect) ∷ t)
+  front-did t slot place action effect f e =
+      let done = runs_done (Executions t) in
+      let chosen = chosen_in (deeds_in t) in
+      let now = placed-now site me t slot place action effect e in
+      let here : 0 + slot ≡ slot = omega arith in
+      let there : slice_get (placed site 0 chosen) (length done) ≡ Some (run_at slot place action) =
+      ap (λ (n : ℕ). slice_get (placed site 0 chosen) n) (count-at t ∙ now.number_is)
+      ∙ placed-got site 0 slot place chosen now.proposed action now.there now.within
+      ∙ ap (λ (n : ℕ). Some (run_at n place action)) here in
+      let behind = seam done f.rest (run_at slot place action) (subst (λ (l : List Run). slice_get l (length done) ≡ Some (run_at slot place action)) f.is there) in
+      record {
+        rest = behind.0;
+        is = f.is ∙ ap (λ (l : List Run). done ++ l) behind.1 ∙ sym (append_assoc done (run_at slot place action ∷ []) behind.0);
+      }
 
   front-of : (t : List (Mark M)) → AllMade site me t → FrontAt t
-  front-of [] made = record { front = []; rest = []; is = refl; count = refl; done = refl }
+  front-of [] made = record { rest = []; is = refl }
   front-of (In input ∷ t) made = front-of t made.1
   front-of (Ordered deed ∷ t) made = front-deed deed t (front-of t made.1)
   front-of (Plain (Dropped cause) ∷ t) made = front-of t made.1
@@ -112,31 +185,38 @@ module _ {M : Type 0} (site : Site M) (me : NodeId) where
   front-of (Plain (Headed number head) ∷ t) made = front-of t made.1
   front-of (Plain (Kept index checkpoint) ∷ t) made = front-of t made.1
   front-of (Plain (Sent to said) ∷ t) made = front-of t made.1
-  front-of (Plain (Did slot entry effect) ∷ t) made =
-      let f = front-of t made.1 in
-      let p = made.0.proposed in
-      let there = subst (λ (h : Member M). slice_get (chosen_in h.deeds) slot ≡ Some p) (member-is site me t) made.0.chosen in
-      let behind = front-behind t slot entry p f made.0.next there in
-      record {
-        front = f.front ++ p ∷ [];
-        rest = behind.0;
-        is = f.is ∙ ap (λ (l : List Proposed). f.front ++ l) behind.1 ∙ sym (append_assoc f.front (p ∷ []) behind.0);
-        count = (let c = f.count in omega (arith, c, length_push f.front p));
-        done = front-did t slot entry p f made.0.next made.0.reads there;
-      }
+  front-of (Plain (Did slot place action effect) ∷ t) made = front-did t slot place action effect (front-of t made.1) made.0
 
   -- all of it, between events
-  pub executes-chosen : (t : List (Mark M)) → IsLevel site me t
-      → slots_with_entries (executions_in me.shard (signs_of t)) ≡ enumerate_from 0 (map site.entry_in (chosen_in (view_at site me t).member.deeds))
+  pub executes-chosen : (t : List (Mark M)) → IsLevel site me t → runs_done (Executions t) ≡ placed site 0 (chosen_in (view_at site me t).member.deeds)
   executes-chosen t level =
+      let done = runs_done (Executions t) in
+      let chosen = chosen_in (view_at site me t).member.deeds in
       let f = front-of t level.made in
-      let here : chosen_in (view_at site me t).member.deeds ≡ chosen_in (deeds_in t) = ap (λ (h : Member M). chosen_in h.deeds) (member-is site me t) in
-      let whole = here ∙ f.is in
-      let none = none-left f.front f.rest (sym (ap length whole) ∙ level.slots ∙ sym f.count) in
-      let all : chosen_in (view_at site me t).member.deeds ≡ f.front = whole ∙ ap (λ (l : List Proposed). f.front ++ l) none ∙ append-nil f.front in
-      f.done ∙ ap (λ (l : List Proposed). enumerate_from 0 (map site.entry_in l)) (sym all)
+      let here : chosen ≡ chosen_in (deeds_in t) = ap (λ (h : Member M). chosen_in h.deeds) (member-is site me t) in
+      let whole : placed site 0 chosen ≡ done ++ f.rest = ap (λ (l : List Proposed). placed site 0 l) here ∙ f.is in
+      let none = none-left done f.rest (sym (ap length whole) ∙ placed-count site 0 chosen ∙ level.executed ∙ sym (count-at t)) in
+      sym (whole ∙ ap (λ (l : List Run). done ++ l) none ∙ append-nil done)
 
 -- ---- as it was proposed
+
+abbrev slot_action : Run → ℕ × Entry
+slot_action run = (run.slot, run.action)
+
+slots-done : (executions : List Execution) → slots_with_entries executions ≡ map slot_action (runs_done executions)
+slots-done [] = refl
+slots-done (e ∷ earlier) =
+    ap (λ (l : List (ℕ × Entry)). l ++ (e.slot, e.entry) ∷ []) (slots-done earlier)
+    ∙ sym (map_push slot_action (runs_done earlier) (run_at e.slot e.place e.entry))
+
+-- where each entry has one action, it is the entry of its slot
+one-each : (slot : ℕ) (entries : List Entry) → map slot_action (runs_of slot entries) ≡ enumerate_from slot entries
+one-each slot [] = refl
+one-each slot (entry ∷ more) =
+    let one : runs_of slot (entry ∷ more) ≡ run_at slot 0 entry ∷ runs_of (suc slot) more = ap (λ (actions : List Action). runs_from slot 0 actions ++ runs_of (suc slot) more) (one_action entry) in
+    let next : suc slot ≡ slot + 1 = omega arith in
+    ap (λ (l : List Run). map slot_action l) one
+    ∙ ap (λ (l : List (ℕ × Entry)). (slot, entry) ∷ l) (one-each (suc slot) more ∙ ap (λ (n : ℕ). enumerate_from n more) next)
 
 -- what is read of an entry and proposed again is the entry
 again-map : {M : Type 0} (site : Site M) (from : ℕ) (chosen : List Proposed) → ((slot : ℕ) (p : Proposed) → slice_get chosen slot ≡ Some p → site.proposed_of (site.entry_in p) ≡ p)
@@ -157,4 +237,7 @@ module _ {M : Type 0} (site : Site M) (sound : IsSoundSite site) (known : Known)
       let k = chosen-listed site sound known me t slot p level.made l there in
       let reads : site.entry_in p ≡ k.entry = ap site.entry_in k.is ∙ sound.reads k.entry k.fits in
       ap site.proposed_of reads ∙ sound.proposes k.entry ∙ sym k.is) in
-      ap (map (λ (run : ℕ × Entry). site.proposed_of run.1)) (executes-chosen site me t level) ∙ again-map site 0 (chosen_in (view_at site me t).member.deeds) all
+      let slots = slots-done (executions_in me.shard (signs_of t))
+      ∙ ap (λ (l : List Run). map slot_action l) (executes-chosen site me t level)
+      ∙ one-each 0 (map site.entry_in (chosen_in (view_at site me t).member.deeds)) in
+      ap (map (λ (run : ℕ × Entry). site.proposed_of run.1)) slots ∙ again-map site 0 (chosen_in (view_at site me t).member.deeds) all

@@ -104,7 +104,7 @@ log-front {M} site (Plain (Viewed slot view) ∷ later) earlier = log-front site
 log-front {M} site (Plain (Headed number head) ∷ later) earlier = log-front site later earlier
 log-front {M} site (Plain (Kept index checkpoint) ∷ later) earlier = log-front site later earlier
 log-front {M} site (Plain (Sent other said) ∷ later) earlier = log-front site later earlier
-log-front {M} site (Plain (Did slot entry effect) ∷ later) earlier =
+log-front {M} site (Plain (Did slot place entry effect) ∷ later) earlier =
     let f = log-front site later earlier in
     (entry_of site.setup entry ∷ f.0, ap (λ l. entry_of site.setup entry ∷ l) f.1)
 

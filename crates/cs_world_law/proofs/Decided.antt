@@ -47,10 +47,10 @@ aborted-by setup d (Prepare x) Skipped h = cc
 aborted-by setup d (Prepare x) Void h = cc
 
 -- what an execution on the table of the log came to
-pub came : {M : Type 0} (site : Site M) (me : NodeId) (t : List (Mark M)) (slot : ℕ) (entry : Entry) (effect : Effect) → AllMade site me (Plain (Did slot entry effect) ∷ t)
+pub came : {M : Type 0} (site : Site M) (me : NodeId) (t : List (Mark M)) (slot place : ℕ) (entry : Entry) (effect : Effect) → AllMade site me (Plain (Did slot place entry effect) ∷ t)
     → effect ≡ (exec site.setup.rules me.shard (table_of site.setup.rules me.shard (seen_log site t)) (entry_of site.setup entry)).effect
-came {M} site me t slot entry effect made =
-    effect-is site me t slot entry effect made
+came {M} site me t slot place entry effect made =
+    effect-is site me t slot place entry effect made
     ∙ ap (λ (n : NodeId). (exec site.setup.rules n.shard (table_of site.setup.rules n.shard (seen_log site t)) (entry_of site.setup entry)).effect) (me-same site me t)
 
 module _ {M : Type 0} (site : Site M) (me : NodeId) (d : Bytes) where
@@ -65,9 +65,9 @@ module _ {M : Type 0} (site : Site M) (me : NodeId) (d : Bytes) where
   accepts-log (Plain (Headed number head) ∷ t) made h = accepts-log t made.1 h
   accepts-log (Plain (Kept index checkpoint) ∷ t) made h = accepts-log t made.1 h
   accepts-log (Plain (Sent to message) ∷ t) made h = accepts-log t made.1 h
-  accepts-log (Plain (Did slot entry effect) ∷ t) made h =
+  accepts-log (Plain (Did slot place entry effect) ∷ t) made h =
       elim (or_cases _ _ h) [
-        | inl now ↦ or_left _ _ (subst (λ (e : Effect). (is_decide_of d (entry_of site.setup entry) && is_effect Accepted e) ≡ true) (came site me t slot entry effect made) (accepted-by site.setup d entry effect now))
+        | inl now ↦ or_left _ _ (subst (λ (e : Effect). (is_decide_of d (entry_of site.setup entry) && is_effect Accepted e) ≡ true) (came site me t slot place entry effect made) (accepted-by site.setup d entry effect now))
         | inr before ↦ or_right _ _ (accepts-log t made.1 before)
       ]
 
@@ -83,11 +83,11 @@ module _ {M : Type 0} (site : Site M) (me : NodeId) (d : Bytes) where
   aborts-log (Plain (Headed number head) ∷ t) made h = aborts-log t made.1 h
   aborts-log (Plain (Kept index checkpoint) ∷ t) made h = aborts-log t made.1 h
   aborts-log (Plain (Sent to message) ∷ t) made h = aborts-log t made.1 h
-  aborts-log (Plain (Did slot entry effect) ∷ t) made h =
+  aborts-log (Plain (Did slot place entry effect) ∷ t) made h =
       elim (or_cases _ _ h) [
         | inl now ↦ elim (aborted-by site.setup d entry effect now) [
-          | inl a ↦ inl (or_left _ _ (subst (λ (e : Effect). (is_decide_of d (entry_of site.setup entry) && is_effect Aborted e) ≡ true) (came site me t slot entry effect made) a))
-          | inr v ↦ inr (or_left _ _ (subst (λ (e : Effect). (is_prepare_of d (entry_of site.setup entry) && is_vote Abort e) ≡ true) (came site me t slot entry effect made) v))
+          | inl a ↦ inl (or_left _ _ (subst (λ (e : Effect). (is_decide_of d (entry_of site.setup entry) && is_effect Aborted e) ≡ true) (came site me t slot place entry effect made) a))
+          | inr v ↦ inr (or_left _ _ (subst (λ (e : Effect). (is_prepare_of d (entry_of site.setup entry) && is_vote Abort e) ≡ true) (came site me t slot place entry effect made) v))
         ]
         | inr before ↦ elim (aborts-log t made.1 before) [ inl a ↦ inl (or_right _ _ a) | inr v ↦ inr (or_right _ _ v) ]
       ]

@@ -34,6 +34,7 @@ use Rattle.cs_order_rules.specs.Facts.{Sight, open_slot, echo_said, confirm_said
 use Rattle.cs_order_rules.specs.Rules.{own, seen_now, to_all}
 use Rattle.cs_order_rules.specs.Slot.{votes}
 use Rattle.cs_order_rules.specs.SlotMachine.{slot_machine, sight}
+use Rattle.cs_node_state.specs.Setup.{actions_of}
 use Rattle.cs_node_rules.specs.Deployment.{no_session}
 use Rattle.cs_node_rules.specs.Net.{Net, sealed_by_net}
 use Rattle.cs_node_rules.specs.Members.{others}
@@ -184,7 +185,7 @@ abbrev votes_so : ℕ → List Sign → Marks
 votes_so index entering =
     plain ((Took (member index) Commit (session 16) ∷ [])
     ++ (sends (others 1 (member index) (0 ∷ [])) (message.Voted Commit true (session 16))
-    ++ (entering ++ Did 0 vote (Shard.Voted Shard.Commit) ∷ [])))
+    ++ (entering ++ Did 0 0 vote (Shard.Voted Shard.Commit) ∷ [])))
     ++ Ordered (Advanced (Chosen (proposed vote)) []) ∷ []
 
 -- member 0 leads the first view of slot 0: it proposes what a client submits, and echoes it
@@ -241,51 +242,51 @@ IsRuled [] = Unit {0}
 IsRuled (h ∷ past) = h.marks ≡ event_marks site (view_of site past h.node) h.input
 
 pub rules_submitted : IsRuled submitted
-unfolding event_marks settled count_below any_below first_below last_below last_found upto_at many_at some_at pair_at tested_at within_at kinds_at front_at back_at trace_at tx_at session_at propose_at step_at voted_at flag_at
+unfolding actions_of event_marks settled count_below any_below first_below last_below last_found upto_at many_at some_at pair_at tested_at within_at kinds_at front_at back_at trace_at tx_at session_at propose_at step_at voted_at flag_at
 rules_submitted = refl
 
 pub rules_echoed_1 : IsRuled echoed_1
-unfolding event_marks settled count_below any_below first_below last_below last_found upto_at many_at some_at pair_at tested_at within_at kinds_at front_at back_at trace_at tx_at session_at propose_at step_at voted_at flag_at
+unfolding actions_of event_marks settled count_below any_below first_below last_below last_found upto_at many_at some_at pair_at tested_at within_at kinds_at front_at back_at trace_at tx_at session_at propose_at step_at voted_at flag_at
 rules_echoed_1 = refl
 
 pub rules_echoed_2 : IsRuled echoed_2
-unfolding event_marks settled count_below any_below first_below last_below last_found upto_at many_at some_at pair_at tested_at within_at kinds_at front_at back_at trace_at tx_at session_at propose_at step_at voted_at flag_at
+unfolding actions_of event_marks settled count_below any_below first_below last_below last_found upto_at many_at some_at pair_at tested_at within_at kinds_at front_at back_at trace_at tx_at session_at propose_at step_at voted_at flag_at
 rules_echoed_2 = refl
 
 rules_one_echo : IsRuled one_echo
-unfolding event_marks settled count_below any_below first_below last_below last_found upto_at many_at some_at pair_at tested_at within_at kinds_at front_at back_at trace_at tx_at session_at propose_at step_at voted_at flag_at
+unfolding actions_of event_marks settled count_below any_below first_below last_below last_found upto_at many_at some_at pair_at tested_at within_at kinds_at front_at back_at trace_at tx_at session_at propose_at step_at voted_at flag_at
 rules_one_echo = refl
 
 rules_confirmed_0 : IsRuled confirmed_0
-unfolding event_marks settled count_below any_below first_below last_below last_found upto_at many_at some_at pair_at tested_at within_at kinds_at front_at back_at trace_at tx_at session_at propose_at step_at voted_at flag_at
+unfolding actions_of event_marks settled count_below any_below first_below last_below last_found upto_at many_at some_at pair_at tested_at within_at kinds_at front_at back_at trace_at tx_at session_at propose_at step_at voted_at flag_at
 rules_confirmed_0 = refl
 
 rules_other_echo : IsRuled other_echo
-unfolding event_marks settled count_below any_below first_below last_below last_found upto_at many_at some_at pair_at tested_at within_at kinds_at front_at back_at trace_at tx_at session_at propose_at step_at voted_at flag_at
+unfolding actions_of event_marks settled count_below any_below first_below last_below last_found upto_at many_at some_at pair_at tested_at within_at kinds_at front_at back_at trace_at tx_at session_at propose_at step_at voted_at flag_at
 rules_other_echo = refl
 
 rules_confirmed_1 : IsRuled confirmed_1
-unfolding event_marks settled count_below any_below first_below last_below last_found upto_at many_at some_at pair_at tested_at within_at kinds_at front_at back_at trace_at tx_at session_at propose_at step_at voted_at flag_at
+unfolding actions_of event_marks settled count_below any_below first_below last_below last_found upto_at many_at some_at pair_at tested_at within_at kinds_at front_at back_at trace_at tx_at session_at propose_at step_at voted_at flag_at
 rules_confirmed_1 = refl
 
 rules_one_confirm : IsRuled one_confirm
-unfolding event_marks settled count_below any_below first_below last_below last_found upto_at many_at some_at pair_at tested_at within_at kinds_at front_at back_at trace_at tx_at session_at propose_at step_at voted_at flag_at
+unfolding actions_of event_marks settled count_below any_below first_below last_below last_found upto_at many_at some_at pair_at tested_at within_at kinds_at front_at back_at trace_at tx_at session_at propose_at step_at voted_at flag_at
 rules_one_confirm = refl
 
 rules_voted_0 : IsRuled voted_0
-unfolding event_marks settled count_below any_below first_below last_below last_found upto_at many_at some_at pair_at tested_at within_at kinds_at front_at back_at trace_at tx_at session_at propose_at step_at voted_at flag_at
+unfolding actions_of event_marks settled count_below any_below first_below last_below last_found upto_at many_at some_at pair_at tested_at within_at kinds_at front_at back_at trace_at tx_at session_at propose_at step_at voted_at flag_at
 rules_voted_0 = refl
 
 rules_other_confirm : IsRuled other_confirm
-unfolding event_marks settled count_below any_below first_below last_below last_found upto_at many_at some_at pair_at tested_at within_at kinds_at front_at back_at trace_at tx_at session_at propose_at step_at voted_at flag_at
+unfolding actions_of event_marks settled count_below any_below first_below last_below last_found upto_at many_at some_at pair_at tested_at within_at kinds_at front_at back_at trace_at tx_at session_at propose_at step_at voted_at flag_at
 rules_other_confirm = refl
 
 rules_voted_1 : IsRuled voted_1
-unfolding event_marks settled count_below any_below first_below last_below last_found upto_at many_at some_at pair_at tested_at within_at kinds_at front_at back_at trace_at tx_at session_at propose_at step_at voted_at flag_at
+unfolding actions_of event_marks settled count_below any_below first_below last_below last_found upto_at many_at some_at pair_at tested_at within_at kinds_at front_at back_at trace_at tx_at session_at propose_at step_at voted_at flag_at
 rules_voted_1 = refl
 
 rules_decided : IsRuled decided
-unfolding event_marks settled count_below any_below first_below last_below last_found upto_at many_at some_at pair_at tested_at within_at kinds_at front_at back_at trace_at tx_at session_at propose_at step_at voted_at flag_at
+unfolding actions_of event_marks settled count_below any_below first_below last_below last_found upto_at many_at some_at pair_at tested_at within_at kinds_at front_at back_at trace_at tx_at session_at propose_at step_at voted_at flag_at
 rules_decided = refl
 
 life : IsLife site decided
@@ -300,7 +301,7 @@ abbrev sight_at : ℕ → Happenings → Sight
 sight_at index world = sight (view_at index world).member
 
 may_echo : MayBeEchoed (admits_proposed site (view_at 1 echoed_1)) (sight_at 1 echoed_1) (proposed vote)
-unfolding count_below any_below first_below last_below last_found
+unfolding actions_of count_below any_below first_below last_below last_found
 may_echo = record {
   proposed = refl;
   admitted = refl;
@@ -382,7 +383,7 @@ all_bytes : are_of_bytes decided ≡ true
 all_bytes = refl
 
 all_genuine : are_genuine site.net decided ≡ true
-unfolding event_marks settled count_below any_below first_below last_below last_found upto_at many_at some_at pair_at tested_at within_at kinds_at front_at back_at trace_at tx_at session_at propose_at step_at voted_at flag_at
+unfolding actions_of event_marks settled count_below any_below first_below last_below last_found upto_at many_at some_at pair_at tested_at within_at kinds_at front_at back_at trace_at tx_at session_at propose_at step_at voted_at flag_at
 all_genuine = refl
 
 world : IsWorld site decided

@@ -5,6 +5,7 @@ use Rattle.std.proofs.lemmas.Bool.{and_parts}
 use Rattle.cs_base.specs.declared.node_id.NodeId.{NodeId}
 use Rattle.cs_tx_types.specs.declared.session.Session.{Session}
 use Rattle.cs_tx_types.specs.declared.vote.Vote.TheVariants as tx
+use Rattle.cs_tx_types.specs.declared.entry.Entry.{Entry}
 use Rattle.cs_tx_types.specs.declared.entry.Entry.TheVariants.{Prepare}
 use Rattle.cs_wire_message.specs.declared.message.Message.{Message}
 use Rattle.cs_wire_message.specs.declared.message.Message.TheVariants as message
@@ -15,10 +16,10 @@ use Rattle.cs_order.specs.Runs.{entries_handed_in, held_in}
 use Rattle.cs_ledger.specs.Session as Seen
 use Rattle.cs_ledger.specs.Session.{Key, anchor, used_up, read_only, has_key}
 use Rattle.cs_ledger.specs.Table as Shard
-use Rattle.cs_ledger.specs.Table.{Table, Outcome, State, exec}
+use Rattle.cs_ledger.specs.Table.{Table, Outcome}
 use Rattle.cs_ledger.proofs.Basics.{bytes_refl, first_is, anchor_used, in_left, in_right}
 use Rattle.cs_ledger.proofs.States.{ready_at}
-use Rattle.cs_node_state.specs.Setup.{concerned, is_fit}
+use Rattle.cs_node_state.specs.Setup.{Action, actions_of, concerned, is_fit}
 use Rattle.cs_tx_types.specs.Session.{session_in}
 use Rattle.cs_node_rules.specs.Members.{others}
 use Rattle.cs_node_state.specs.Bench.{is_locked_at, is_locked, executed, told_by, vote_told}
@@ -27,6 +28,8 @@ use Rattle.cs_node_rules.specs.Site.{Mark, In, Ordered, Plain, Site, signs_of}
 use Rattle.cs_node_rules.specs.Ready.{bench_at, Executed, VotesFree}
 use Rattle.cs_node_law.specs.Made.{view_at, AllMade}
 use Rattle.cs_node_law.proofs.Views.{me-same}
+use Rattle.cs_node_law.proofs.Actions.{got-in}
+use Rattle.cs_node_state.specs.laws.Actions.{each_action}
 use Rattle.cs_node_law.proofs.Pools.{IsSourced, pool-sourced}
 use Rattle.cs_node_law.proofs.Due.{due-from}
 use Rattle.cs_world_law.specs.Worlds.{is_honest}
@@ -76,7 +79,7 @@ module _ {M : Type 0} (site : Site M) (known : Known) (me : NodeId) (t : List (M
         effect,
         λ to i.
             let sent = in-sends (others site.setup.f me (concerned site.setup x)) to (message.Voted tx.Commit true x) i in
-            tells e.later e.slot (Prepare x) e.effect e.earlier e.split (Sent to (message.Voted tx.Commit true x))
+            tells e.later e.slot e.place (Prepare x) e.effect e.earlier e.split (Sent to (message.Voted tx.Commit true x))
             (subst (λ o. IsIn (Sent to (message.Voted tx.Commit true x)) (vote_signs site.setup me x o)) (sym told) sent),
       )
 
@@ -86,8 +89,12 @@ module _ {M : Type 0} (site : Site M) (sound : IsSoundSite site) (known : Known)
   only-me : (from f : ℕ) → f ≡ 0 → from ≤ 3 * f → me.index < 3 * f + 1 → from ≡ me.index
   only-me from f none a b = omega arith
 
+  -- each action of an entry is of a session that fits
+  abbrev AllFit : Entry → Type 0
+  AllFit entry = (action : Action) → IsIn action (actions_of entry) → is_fit site.setup me.shard (session_in action) ≡ true
+
   -- what a node holds is its own, and fits
-  own-fit : (t : List (Mark M)) → AllMade site me t → AllWithin site known me t → (p : Proposed) → IsIn p (held_in site.machine (deeds_in t)) → is_fit site.setup me.shard (session_in (site.entry_in p)) ≡ true
+  own-fit : (t : List (Mark M)) → AllMade site me t → AllWithin site known me t → (p : Proposed) → IsIn p (held_in site.machine (deeds_in t)) → AllFit (site.entry_in p)
   own-fit [] made within p i = absurd i
   own-fit (In input ∷ t) made within p i = own-fit t made.1 within.1 p i
   own-fit (Plain sign ∷ t) made within p i = own-fit t made.1 within.1 p i
@@ -98,7 +105,7 @@ module _ {M : Type 0} (site : Site M) (sound : IsSoundSite site) (known : Known)
       ]
     where
       by : (deed : Deed M) → AllMade site me (Ordered deed ∷ t) → AllWithin site known me (Ordered deed ∷ t) → IsIn p (entries_handed_in site.machine deed)
-          → ((q : Proposed) → IsIn q (held_in site.machine (deeds_in t)) → is_fit site.setup me.shard (session_in (site.entry_in q)) ≡ true) → is_fit site.setup me.shard (session_in (site.entry_in p)) ≡ true
+          → ((q : Proposed) → IsIn q (held_in site.machine (deeds_in t)) → AllFit (site.entry_in q)) → AllFit (site.entry_in p)
       by (Took_in from m) made within j held =
           let keeps = (deeds-kept site sound known me (Ordered (Took_in from m) ∷ t) made).0 in
           absurd (keeps.1 (only-me from site.setup.f trusted keeps.0 (sound.index me honest)))
@@ -111,13 +118,14 @@ module _ {M : Type 0} (site : Site M) (sound : IsSoundSite site) (known : Known)
       by (Proposing proposed sent) made within (inr none) held = absurd none
       by (Proposing proposed sent) made within (inl same) held =
           let v = view_at site me t in
-          elim made.0.1 as (λ z. is_fit site.setup me.shard (session_in (site.entry_in p)) ≡ true) [
+          elim made.0.1 as (λ z. AllFit (site.entry_in p)) [
             | inl due ↦
                 let d = due-from site.setup v.bench.pool due.entry due.due in
                 let s : IsSourced site me t d.0 = subst (λ (n : NodeId). IsSourced site n t d.0) (me-same site me t) (pool-sourced site me t made.1 d.0 d.1) in
                 let read : site.entry_in p ≡ due.entry = ap site.entry_in (same ∙ due.is) ∙ due-read site sound known me t due.entry made.1 within.1 (local site sound known me t made.1 within.1) d in
                 let session : session_in due.entry ≡ d.0.1.session = elim d.2 [ inl prepare ↦ ap session_in prepare | inr decision ↦ ap session_in decision.1 ] in
-                ap (λ z. is_fit site.setup me.shard (session_in z)) read ∙ ap (λ z. is_fit site.setup me.shard z) session ∙ s.fit
+                let one : is_fit site.setup me.shard (session_in due.entry) ≡ true = ap (λ z. is_fit site.setup me.shard z) session ∙ s.fit in
+                subst AllFit (sym read) (each_action (λ (e : Entry). is_fit site.setup me.shard (session_in e) ≡ true) due.entry one)
             | inr candidate ↦
                 let may = ap site.machine.may_propose (sym (member-is site me t)) ∙ candidate.may in
                 held p (subst (λ z. IsIn z (held_in site.machine (deeds_in t))) (sym same) (sound.holds.offered site.setup.f me.index (deeds_in t) (deeds-kept site sound known me t made.1) candidate.candidates proposed may candidate.within))
@@ -126,8 +134,8 @@ module _ {M : Type 0} (site : Site M) (sound : IsSoundSite site) (known : Known)
   -- so a Prepare that it executed is of a session that fits
   pub prepare-own : (t : List (Mark M)) → AllMade site me t → AllWithin site known me t → (x : Session) → Executed (signs_of t) (Prepare x) → is_fit site.setup me.shard x ≡ true
   prepare-own t made within x e =
-      let c = part site known me t e.later (Did e.slot (Prepare x) e.effect) e.earlier made within e.split in
+      let c = part site known me t e.later (Did e.slot e.place (Prepare x) e.effect) e.earlier made within e.split in
       let did = c.made.0 in
       let at = subst (λ (h : Member M). slice_get (chosen_in h.deeds) e.slot ≡ Some did.proposed) (member-is site me c.before) did.chosen in
       let held = sound.holds.logged site.setup.f me.index (deeds_in c.before) (deeds-kept site sound known me c.before c.made.1) e.slot did.proposed at in
-      ap (λ z. is_fit site.setup me.shard (session_in z)) (sym did.reads) ∙ own-fit c.before c.made.1 c.within did.proposed held
+      own-fit c.before c.made.1 c.within did.proposed held (Prepare x) (got-in (actions_of (site.entry_in did.proposed)) e.place (Prepare x) did.within)

@@ -13,6 +13,7 @@ pub mod Ballots
 pub mod Allowed
 pub mod Anchors
 pub mod Told
+pub mod Counted
 pub mod Decided
 pub mod Parts
 pub mod Origins

@@ -15,6 +15,7 @@ use Rattle.cs_order.specs.Runs.{KeepsRules, AllKeepRules, entries_handed_in as e
 use Rattle.cs_ledger.specs.Ledger.{Bytes}
 use Rattle.cs_ledger.specs.Table.{Effect}
 use Rattle.cs_ledger.proofs.Basics.{in_either}
+use Rattle.cs_node_state.specs.Setup.{Action, actions_of}
 use Rattle.cs_node_rules.specs.Signs.{Dropped, Took, Entered, Viewed, Did, Headed, Kept, Sent}
 use Rattle.cs_node_rules.specs.Site.{Datagram, Tick, Mark, In, Ordered, Plain, Site, signs_of}
 use Rattle.cs_node_rules.specs.Collisions.{sessions_in, entries_in, in_opened}
@@ -26,6 +27,8 @@ use Rattle.cs_world_law.proofs.Deeds.{deeds_in, member-is}
 use Rattle.cs_world_law.proofs.Trails.{AllWithin}
 use Rattle.cs_node_law.proofs.Pools.{Place, IsSourced, pool-sourced}
 use Rattle.cs_node_law.proofs.Due.{IsDueFrom, due-from}
+use Rattle.cs_node_state.specs.laws.Actions.{each_action}
+use Rattle.cs_node_law.proofs.Actions.{got-in}
 use Rattle.cs_node_law.proofs.Fitting.{session-fits, entry-fits, sessions-fit, entries-fit}
 
 -- ---- messages and entries
@@ -40,20 +43,25 @@ in-map f y [] i = absurd i
 in-map f y (x ∷ xs) (inl e) = (x, inl refl, e)
 in-map f y (x ∷ xs) (inr i) = let r = in-map f y xs i in (r.0, inr r.1, r.2)
 
--- the session of an entry in a message stands there too
-entry-session : (m : Message) (e : Entry) → IsIn e (entries_in m) → IsIn (session_in e) (sessions_in m)
-entry-session (message.Propose slot view entry) e (inl is) = inl (ap session_in is)
-entry-session (message.Propose slot view entry) e (inr none) = absurd none
-entry-session (message.Done slot entry) e (inl is) = inl (ap session_in is)
-entry-session (message.Done slot entry) e (inr none) = absurd none
-entry-session said e i = absurd i
+pub map-in : {A B : Type 0} (f : A → B) (x : A) (xs : List A) → IsIn x xs → IsIn (f x) (map f xs)
+map-in f x [] i = absurd i
+map-in f x (y ∷ xs) (inl e) = inl (ap f e)
+map-in f x (y ∷ xs) (inr i) = inr (map-in f x xs i)
+
+-- the sessions of an entry in a message stand there too
+entry-sessions : (m : Message) (e : Entry) → IsIn e (entries_in m) → (a : Action) → IsIn a (actions_of e) → IsIn (session_in a) (sessions_in m)
+entry-sessions (message.Propose slot view entry) e (inl is) a i = map-in session_in a (actions_of entry) (subst (λ (z : Entry). IsIn a (actions_of z)) is i)
+entry-sessions (message.Propose slot view entry) e (inr none) a i = absurd none
+entry-sessions (message.Done slot entry) e (inl is) a i = map-in session_in a (actions_of entry) (subst (λ (z : Entry). IsIn a (actions_of z)) is i)
+entry-sessions (message.Done slot entry) e (inr none) a i = absurd none
+entry-sessions said e there a i = absurd there
 
 -- a known entry, as it is proposed
 pub record IsListed (known : Known) (p : Proposed) : Type 0 where
   pub entry : Entry
   pub fits : EntryFits entry
   pub is : p ≡ proposed_of entry
-  pub session : IsIn (session_in entry) known.sessions
+  pub sessions : (a : Action) → IsIn a (actions_of entry) → IsIn (session_in a) known.sessions
   pub listed : IsIn entry known.entries
 
 -- a known session
@@ -131,7 +139,7 @@ module _ {M : Type 0} (site : Site M) (sound : IsSoundSite site) (known : Known)
       let k = is.1 in
       let f = fine t (record { shard = (view_at site me t).me.shard; index = from }) k.said within k.heard in
       let r = in-map proposed_of p (entries_in k.said) (subst (λ z. IsIn p z) (sound.carries.entries k.said m k.reads) i) in
-      record { entry = r.0; fits = entries-fit k.said f.fits r.0 r.1; is = r.2; session = f.sessions (session_in r.0) (entry-session k.said r.0 r.1); listed = f.entries r.0 r.1 }
+      record { entry = r.0; fits = entries-fit k.said f.fits r.0 r.1; is = r.2; sessions = λ a j. f.sessions (session_in a) (entry-sessions k.said r.0 r.1 a j); listed = f.entries r.0 r.1 }
   by-deed t (Advanced step sent) made within l is in_known p i = absurd i
   by-deed t (Echoed sent) made within l is in_known p i = absurd i
   by-deed t (Ticked on sent) made within l is in_known p i = absurd i
@@ -149,7 +157,7 @@ module _ {M : Type 0} (site : Site M) (sound : IsSoundSite site) (known : Known)
               entry = due.entry;
               fits = entry-fits due.entry o.0;
               is = same ∙ due.is ∙ sound.proposes due.entry;
-              session = o.1;
+              sessions = each_action (λ (e : Entry). IsIn (session_in e) known.sessions) due.entry o.1;
               listed = subst (λ z. IsIn z known.entries) read (in_known (site.entry_in proposed) (inl refl));
             }
         | inr candidate ↦
@@ -169,11 +177,17 @@ module _ {M : Type 0} (site : Site M) (sound : IsSoundSite site) (known : Known)
     pub session : IsIn (session_in entry) known.sessions
     pub listed : IsIn entry known.entries
 
-  pub did-done : (t : List (Mark M)) (slot : ℕ) (entry : Entry) (effect : Effect) → AllMade site me (Plain (Did slot entry effect) ∷ t) → IsLocal t → IsDone entry
-  did-done t slot entry effect made l =
+  pub did-done : (t : List (Mark M)) (slot place : ℕ) (action : Action) (effect : Effect) → AllMade site me (Plain (Did slot place action effect) ∷ t) → IsLocal t → IsDone action
+  did-done t slot place action effect made l =
       let p = chosen-listed t slot made.0.proposed made.1 l made.0.chosen in
-      let same : p.entry ≡ entry = sym (sound.reads p.entry p.fits) ∙ ap site.entry_in (sym p.is) ∙ made.0.reads in
-      record { fits = subst EntryFits same p.fits; session = subst (λ z. IsIn (session_in z) known.sessions) same p.session; listed = subst (λ z. IsIn z known.entries) same p.listed }
+      let same : site.entry_in made.0.proposed ≡ p.entry = ap site.entry_in p.is ∙ sound.reads p.entry p.fits in
+      let within : IsIn action (actions_of p.entry) =
+      subst (λ (e : Entry). IsIn action (actions_of e)) same (got-in (actions_of (site.entry_in made.0.proposed)) place action made.0.within) in
+      record {
+        fits = each_action EntryFits p.entry p.fits action within;
+        session = p.sessions action within;
+        listed = each_action (λ (e : Entry). IsIn e known.entries) p.entry p.listed action within;
+      }
 
   pub local : (t : List (Mark M)) → AllMade site me t → AllWithin site known me t → IsLocal t
   local [] made within = record { held = λ p i. absurd i; voted = λ x h. absurd h }
@@ -185,9 +199,9 @@ module _ {M : Type 0} (site : Site M) (sound : IsSoundSite site) (known : Known)
   local (Plain (Headed number head) ∷ t) made within = let l = local t made.1 within.1 in record { held = l.held; voted = l.voted }
   local (Plain (Kept index checkpoint) ∷ t) made within = let l = local t made.1 within.1 in record { held = l.held; voted = l.voted }
   local (Plain (Sent to said) ∷ t) made within = let l = local t made.1 within.1 in record { held = l.held; voted = l.voted }
-  local (Plain (Did slot entry effect) ∷ t) made within =
+  local (Plain (Did slot place entry effect) ∷ t) made within =
       let l = local t made.1 within.1 in
-      let d = did-done t slot entry effect made l in
+      let d = did-done t slot place entry effect made l in
       record {
         held = l.held;
         voted = λ x h. elim h [

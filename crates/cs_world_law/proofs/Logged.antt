@@ -18,6 +18,7 @@ use Rattle.cs_node_rules.specs.Site.{Mark, In, Ordered, Plain, Site, signs_of}
 use Rattle.cs_node_rules.specs.World.{Execution}
 use Rattle.cs_node_rules.specs.Ready.{Executed}
 use Rattle.cs_node_law.specs.Made.{view_at, log_in, AllMade}
+use Rattle.cs_node_law.proofs.Actions.{next-slot}
 use Rattle.cs_node_law.proofs.Heads.{root_hashed}
 use Rattle.cs_world_law.specs.Steps.{executions_in}
 use Rattle.cs_world_law.specs.Shown.{leaf_by, leaves_of}
@@ -36,9 +37,9 @@ entries-in shard (Viewed slot view ∷ past) = entries-in shard past
 entries-in shard (Headed number head ∷ past) = entries-in shard past
 entries-in shard (Kept index checkpoint ∷ past) = entries-in shard past
 entries-in shard (Sent to message ∷ past) = entries-in shard past
-entries-in shard (Did slot entry effect ∷ past) = ap (λ (l : List Entry). entry ∷ l) (entries-in shard past)
+entries-in shard (Did slot place entry effect ∷ past) = ap (λ (l : List Entry). entry ∷ l) (entries-in shard past)
 
-executions-count : (shard : ℕ) (signs : List Sign) → length (executions_in shard signs) ≡ length (log_in signs)
+pub executions-count : (shard : ℕ) (signs : List Sign) → length (executions_in shard signs) ≡ length (log_in signs)
 executions-count shard signs = sym (length-map (executions_in shard signs) entry_at) ∙ ap length (entries-in shard signs)
 
 pub leaf-count : (es : List Execution) → length (leaves_of es) ≡ length es
@@ -59,7 +60,7 @@ module _ {M : Type 0} (site : Site M) (me : NodeId) where
   by-sign P more (Headed number head) t h = h
   by-sign P more (Kept index checkpoint) t h = h
   by-sign P more (Sent to message) t h = h
-  by-sign P more (Did slot entry effect) t h =
+  by-sign P more (Did slot place entry effect) t h =
       let v = view_at site me t in
       let ran = executed site.setup v.me.shard v.bench entry in
       more v.bench.log (leaf_encoding (next_leaf v.bench entry ran.effect)) (root_under ran.bench.keys ran.bench.table) (root_hashed _) h
@@ -86,14 +87,14 @@ module _ {M : Type 0} (site : Site M) (me : NodeId) where
   leaves-kept (Plain (Headed number head) ∷ t) made = leaves-kept t made.1
   leaves-kept (Plain (Kept index checkpoint) ∷ t) made = leaves-kept t made.1
   leaves-kept (Plain (Sent to message) ∷ t) made = leaves-kept t made.1
-  leaves-kept (Plain (Did slot entry effect) ∷ t) made =
+  leaves-kept (Plain (Did slot place entry effect) ∷ t) made =
       let v = view_at site me t in
       let ran = executed site.setup v.me.shard v.bench entry in
       let past = leaves_of (DoneAt t) in
-      let now : Execution = record { shard = me.shard; slot = slot; entry = entry; effect = effect } in
+      let now : Execution = record { shard = me.shard; slot = slot; place = place; entry = entry; effect = effect } in
       let before = leaves-kept t made.1 in
       let next : length v.bench.log.leaves ≡ slot =
-      ap length before ∙ length-map past leaf_encoding ∙ leaf-count (DoneAt t) ∙ executions-count me.shard (signs_of t) ∙ sym made.0.next in
+      ap length before ∙ length-map past leaf_encoding ∙ leaf-count (DoneAt t) ∙ executions-count me.shard (signs_of t) ∙ sym (next-slot site v (signs_of t) slot place entry effect made.0) in
       let came : ran.effect ≡ effect = sym made.0.computed in
       let is : next_leaf v.bench entry ran.effect ≡ leaf_by now =
       ap (λ (n : ℕ). let l : Leaf = record { slot = n; entry = entry; result = effect_from ran.effect } in l) next
@@ -109,7 +110,7 @@ module _ {M : Type 0} (site : Site M) (me : NodeId) where
 
   entries-before : (sign : Sign) (past : List Sign) → AreEntries (sign ∷ past) → AreEntries past
   entries-before sign past all entry e =
-      all entry (record { slot = e.slot; effect = e.effect; later = sign ∷ e.later; earlier = e.earlier; split = ap (λ (l : List Sign). sign ∷ l) e.split })
+      all entry (record { slot = e.slot; place = e.place; effect = e.effect; later = sign ∷ e.later; earlier = e.earlier; split = ap (λ (l : List Sign). sign ∷ l) e.split })
 
   pub leaves-fit : (t : List (Mark M)) → AllMade site me t → AreEntries (signs_of t) → length (DoneAt t) ≤ 2 ^ 64 → All LeafFits (leaves_of (DoneAt t))
   leaves-fit [] made all few = λ i d below. absurd (omega (arith, below))
@@ -122,11 +123,11 @@ module _ {M : Type 0} (site : Site M) (me : NodeId) where
   leaves-fit (Plain (Headed number head) ∷ t) made all few = leaves-fit t made.1 (entries-before (Headed number head) (signs_of t) all) few
   leaves-fit (Plain (Kept index checkpoint) ∷ t) made all few = leaves-fit t made.1 (entries-before (Kept index checkpoint) (signs_of t) all) few
   leaves-fit (Plain (Sent to message) ∷ t) made all few = leaves-fit t made.1 (entries-before (Sent to message) (signs_of t) all) few
-  leaves-fit (Plain (Did slot entry effect) ∷ t) made all few =
+  leaves-fit (Plain (Did slot place entry effect) ∷ t) made all few =
       let past = signs_of t in
       let fewer : length (DoneAt t) ≤ 2 ^ 64 = omega (arith, few) in
-      let below : slot < 2 ^ 64 = omega (arith, few, made.0.next, executions-count me.shard past) in
-      let fits = all entry (record { slot = slot; effect = effect; later = []; earlier = past; split = refl }) in
-      All-push LeafFits (leaves_of (DoneAt t)) (leaf_by (record { shard = me.shard; slot = slot; entry = entry; effect = effect }))
-      (leaves-fit t made.1 (entries-before (Did slot entry effect) past all) fewer)
+      let below : slot < 2 ^ 64 = omega (arith, few, next-slot site (view_at site me t) past slot place entry effect made.0, executions-count me.shard past) in
+      let fits = all entry (record { slot = slot; place = place; effect = effect; later = []; earlier = past; split = refl }) in
+      All-push LeafFits (leaves_of (DoneAt t)) (leaf_by (record { shard = me.shard; slot = slot; place = place; entry = entry; effect = effect }))
+      (leaves-fit t made.1 (entries-before (Did slot place entry effect) past all) fewer)
       (record { slot = below; entry = fits })

@@ -15,7 +15,7 @@ use Rattle.cs_ledger.proofs.Strings.{no_collision_within}
 use Rattle.cs_ledger.proofs.Votes.{log_at, all_more}
 use Rattle.cs_node_state.specs.Setup.{Setup, entry_of}
 use Rattle.cs_node_rules.specs.Site.{Site}
-use Rattle.cs_node_rules.specs.World.{Execution, steps_of, slots_of, told_transactions, is_recorded, all_recorded}
+use Rattle.cs_node_rules.specs.World.{Execution, steps_of, count_executed, told_transactions, is_recorded, all_recorded}
 use Rattle.cs_node_law.specs.Made.{view_at}
 use Rattle.cs_node_law.proofs.Views.{me-same}
 use Rattle.cs_node_law.proofs.Logs.{seen, seen_log, table-is}
@@ -24,8 +24,9 @@ use Rattle.cs_world_law.specs.Steps.{AllComputed}
 use Rattle.cs_world_law.specs.Chain.{Moment, trail_at, Known, Story, IsSoundSite, story_firsts, shard_entries}
 use Rattle.cs_world_law.proofs.Lawful.{AreLawful}
 use Rattle.cs_world_law.proofs.Older.{older-all}
-use Rattle.cs_world_law.proofs.Firsts.{own_log, slots-log, log-seen, are-first}
-use Rattle.cs_world_law.proofs.Allowed.{map-in, AreFine}
+use Rattle.cs_world_law.proofs.Firsts.{own_log, counted-entries, log-seen, are-first}
+use Rattle.cs_world_law.proofs.Local.{map-in}
+use Rattle.cs_world_law.proofs.Allowed.{AreFine}
 use Rattle.cs_world_law.proofs.Told.{recorded-is, all-recorded-is, told-is}
 
 -- ---- the theorem on the shards together
@@ -50,14 +51,14 @@ middle {M} site sound known apart firsts fine came = record {
 
 module _ {M : Type 0} (site : Site M) (sound : IsSoundSite site) (known : Known) (lawful : AreLawful site known) where
   -- the log of a node that has executed all of its shard
-  pub whole-log : (story : List (Moment M)) (i : NodeId) → Story site known story → is_honest site i ≡ true → length (own_log i story) ≡ slots_of i.shard (story_firsts story) → own_log i story ≡ shard_entries i.shard (story_firsts story)
+  pub whole-log : (story : List (Moment M)) (i : NodeId) → Story site known story → is_honest site i ≡ true → length (own_log i story) ≡ count_executed i.shard (story_firsts story) → own_log i story ≡ shard_entries i.shard (story_firsts story)
   whole-log story i story_is honest all =
       let own = (are-first site sound known lawful i.shard story story_is).older i honest refl in
-      let size = slots-log i.shard (story_firsts story) in
+      let size = counted-entries i.shard (story_firsts story) in
       own.is ∙ older-all (length (own_log i story)) (shard_entries i.shard (story_firsts story)) (omega arith)
 
   -- and its table
-  pub whole-table : (story : List (Moment M)) (i : NodeId) → Story site known story → is_honest site i ≡ true → length (own_log i story) ≡ slots_of i.shard (story_firsts story)
+  pub whole-table : (story : List (Moment M)) (i : NodeId) → Story site known story → is_honest site i ≡ true → length (own_log i story) ≡ count_executed i.shard (story_firsts story)
       → (view_at site i (trail_at i story)).bench.table ≡ table_of site.setup.rules i.shard (log i.shard (steps_of site.setup (story_firsts story)))
   whole-table story i story_is honest all =
       table-is site i (trail_at i story)

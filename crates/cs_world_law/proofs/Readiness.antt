@@ -73,7 +73,7 @@ table-signs setup shard (Viewed slot view ∷ past) = table-signs setup shard pa
 table-signs setup shard (Headed number head ∷ past) = table-signs setup shard past
 table-signs setup shard (Kept index checkpoint ∷ past) = table-signs setup shard past
 table-signs setup shard (Sent to said ∷ past) = table-signs setup shard past
-table-signs setup shard (Did slot entry effect ∷ past) = ap (λ (u : Table). (exec setup.rules shard u (entry_of setup entry)).table) (table-signs setup shard past)
+table-signs setup shard (Did slot place entry effect ∷ past) = ap (λ (u : Table). (exec setup.rules shard u (entry_of setup entry)).table) (table-signs setup shard past)
 
 log-append : (a b : List Sign) → log_in (a ++ b) ≡ log_in a ++ log_in b
 log-append [] b = refl
@@ -84,7 +84,7 @@ log-append (Viewed slot view ∷ a) b = log-append a b
 log-append (Headed number head ∷ a) b = log-append a b
 log-append (Kept index checkpoint ∷ a) b = log-append a b
 log-append (Sent to said ∷ a) b = log-append a b
-log-append (Did slot entry effect ∷ a) b = ap (λ l. entry ∷ l) (log-append a b)
+log-append (Did slot place entry effect ∷ a) b = ap (λ l. entry ∷ l) (log-append a b)
 
 -- ---- an execution among the first ones
 
@@ -151,7 +151,7 @@ free-commits rules shard t x key well among is ready unvoted room =
 pub came : {M : Type 0} (site : Site M) (known : Known) (me : NodeId) (t : List (Mark M)) → AllMade site me t → AllWithin site known me t → (entry : Entry) (e : Executed (signs_of t) entry)
     → e.effect ≡ (exec site.setup.rules me.shard (bench_at site.setup me.shard e.earlier).table (entry_of site.setup entry)).effect
 came {M} site known me t made within entry e =
-    let c = part site known me t e.later (Did e.slot entry e.effect) e.earlier made within e.split in
+    let c = part site known me t e.later (Did e.slot e.place entry e.effect) e.earlier made within e.split in
     let table : (bench_at site.setup me.shard e.earlier).table ≡ (view_at site me c.before).bench.table = ap (λ s. (bench_at site.setup me.shard s).table) (sym c.signs) ∙ ap (λ (b : Bench). b.table) (bench-is site me c.before) in
     c.made.0.computed
     ∙ ap (λ (n : NodeId). (exec site.setup.rules n.shard (view_at site me c.before).bench.table (entry_of site.setup entry)).effect) (me-same site me c.before)
@@ -162,7 +162,7 @@ module _ {M : Type 0} (site : Site M) (sound : IsSoundSite site) (known : Known)
     pub split : IsSplit i.shard (log_in e.earlier) entry (story_firsts story)
     split =
         let own = (are-first site sound known lawful i.shard story story_is).older i honest refl in
-        let is : log_in (signs_of (trail_at i story)) ≡ log_in e.later ++ entry ∷ log_in e.earlier = ap log_in e.split ∙ log-append e.later (Did e.slot entry e.effect ∷ e.earlier) in
+        let is : log_in (signs_of (trail_at i story)) ≡ log_in e.later ++ entry ∷ log_in e.earlier = ap log_in e.split ∙ log-append e.later (Did e.slot e.place entry e.effect ∷ e.earlier) in
         let next = older-part (log_in e.later) entry (log_in e.earlier) (shard_entries i.shard (story_firsts story)) (subst (λ l. IsOlder l (shard_entries i.shard (story_firsts story))) is own) in
         split-at i.shard (log_in e.earlier) entry (length (log_in e.earlier)) (story_firsts story) next.is next.there
 

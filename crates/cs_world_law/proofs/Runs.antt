@@ -86,7 +86,7 @@ handed-is {M} site sound me to said (deed ∷ past) kept all (inr before) =
 -- ---- what was given stays given
 
 pub given-sign : (setup : Setup) (d : Bytes) (vote : Vote) (sign : Sign) (past : List Sign) → has_given setup d vote past ≡ true → has_given setup d vote (sign ∷ past) ≡ true
-given-sign setup d vote (Did slot entry effect) past h = or_right _ _ h
+given-sign setup d vote (Did slot place entry effect) past h = or_right _ _ h
 given-sign setup d vote (Dropped cause) past h = h
 given-sign setup d vote (Took sender other x) past h = h
 given-sign setup d vote (Entered x) past h = h

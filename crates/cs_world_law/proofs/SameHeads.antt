@@ -55,7 +55,7 @@ core-is {M} site me (Plain (Viewed slot view) ∷ t) = core-is site me t
 core-is {M} site me (Plain (Headed number head) ∷ t) = core-is site me t
 core-is {M} site me (Plain (Kept index checkpoint) ∷ t) = core-is site me t
 core-is {M} site me (Plain (Sent to message) ∷ t) = core-is site me t
-core-is {M} site me (Plain (Did slot entry effect) ∷ t) =
+core-is {M} site me (Plain (Did slot place entry effect) ∷ t) =
     ap (λ (k : Core). core_after site.setup (view_at site me t).me.shard k entry) (core-is site me t)
     ∙ ap (λ (n : NodeId). core_after site.setup n.shard (core_by site.setup me.shard (log_in (signs_of t))) entry) (me-same site me t)
 

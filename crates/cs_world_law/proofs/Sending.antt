@@ -27,19 +27,19 @@ use Rattle.cs_ledger.specs.Table.{Effect}
 use Rattle.cs_ledger.proofs.Basics.{in_left, in_right}
 use Rattle.cs_node_rules.proofs.Heard.{AllHeard, heard}
 use Rattle.cs_check_rules.specs.Chain.{head_of, made_last, kept_slots}
-use Rattle.cs_node_state.specs.Setup.{Setup, digest_of, concerned}
+use Rattle.cs_node_state.specs.Setup.{Action, actions_of, Setup, digest_of, concerned}
 use Rattle.cs_tx_types.specs.Session.{session_in}
 use Rattle.cs_node_state.specs.Admission.{due}
 use Rattle.cs_node_rules.specs.Members.{is_other_member, others}
 use Rattle.cs_node_state.specs.Pool.{Pool, is_pooled}
-use Rattle.cs_node_state.specs.Bench.{Bench, executed, slot_executed, vote_told}
-use Rattle.cs_node_rules.specs.Signs.{Sign, Dropped, Took, Entered, Viewed, Did, Headed, Kept, Sent, sends, vote_signs, own_signs, entered_signs, ran_signs, headed_signs, execution_signs, asked_again, said_signs}
+use Rattle.cs_node_state.specs.Bench.{Bench, start_bench, executed, vote_told}
+use Rattle.cs_node_rules.specs.Signs.{Sign, Dropped, Took, Entered, Viewed, Did, Headed, Kept, Sent, sends, vote_signs, own_signs, entered_signs, ran_signs, headed_signs, actions_signs, execution_signs, bench_after, asked_again, said_signs}
 use Rattle.cs_node_rules.specs.Site.{Input, Datagram, Tick, Mark, In, Ordered, Site, View, view_after, plain, signs_of}
 use Rattle.cs_node_rules.specs.Trail.{out_signs, handed, with_deed, moving, entered_view, admits_proposed, due_marks, candidate_marks, propose_marks, echo_marks, cut_marks, step_marks, turn_marks, continued, settled, taking_marks, member_marks, reply_marks, class_marks, message_marks, opened_marks, again_marks, waiting_marks, input_marks, event_marks}
 use Rattle.cs_node_rules.specs.World.{Happening, trail_of, view_of, IsLife}
 use Rattle.cs_node_rules.specs.Ready.{bench_at}
 use Rattle.cs_node_law.specs.Made.{view_at}
-use Rattle.cs_node_law.proofs.Views.{view_after-append, signs_of-append, me-same}
+use Rattle.cs_node_law.proofs.Views.{view_after-append, bench_after-append, signs_of-append, me-same}
 use Rattle.cs_world_law.proofs.Trails.{same-name}
 use Rattle.cs_world_law.proofs.Readiness.{bench-is}
 
@@ -50,7 +50,7 @@ votes_by setup me b entry = vote_signs setup me (session_in entry) (vote_told se
 -- whatever was executed, its votes were sent afterwards
 abbrev pub IsTelling : Setup → NodeId → List Sign → Type 0
 IsTelling setup me signs =
-    (later : List Sign) (slot : ℕ) (entry : Entry) (effect : Effect) (earlier : List Sign) → signs ≡ later ++ Did slot entry effect ∷ earlier →
+    (later : List Sign) (slot place : ℕ) (entry : Entry) (effect : Effect) (earlier : List Sign) → signs ≡ later ++ Did slot place entry effect ∷ earlier →
     (sign : Sign) → IsIn sign (votes_by setup me (bench_at setup me.shard earlier) entry) → IsIn sign later
 
 -- ---- signs without executions
@@ -63,7 +63,7 @@ NoDid (Entered x ∷ signs) = NoDid signs
 NoDid (Viewed slot view ∷ signs) = NoDid signs
 NoDid (Headed number head ∷ signs) = NoDid signs
 NoDid (Kept index checkpoint ∷ signs) = NoDid signs
-NoDid (Did slot entry effect ∷ signs) = ⊥
+NoDid (Did slot place entry effect ∷ signs) = ⊥
 NoDid (Sent to said ∷ signs) = NoDid signs
 
 no-tail : (sign : Sign) (signs : List Sign) → NoDid (sign ∷ signs) → NoDid signs
@@ -73,7 +73,7 @@ no-tail (Entered x) signs h = h
 no-tail (Viewed slot view) signs h = h
 no-tail (Headed number head) signs h = h
 no-tail (Kept index checkpoint) signs h = h
-no-tail (Did slot entry effect) signs h = absurd h
+no-tail (Did slot place entry effect) signs h = absurd h
 no-tail (Sent to said) signs h = h
 
 no-append : (a b : List Sign) → NoDid a → NoDid b → NoDid (a ++ b)
@@ -84,7 +84,7 @@ no-append (Entered x ∷ a) b p q = no-append a b p q
 no-append (Viewed slot view ∷ a) b p q = no-append a b p q
 no-append (Headed number head ∷ a) b p q = no-append a b p q
 no-append (Kept index checkpoint ∷ a) b p q = no-append a b p q
-no-append (Did slot entry effect ∷ a) b p q = absurd p
+no-append (Did slot place entry effect ∷ a) b p q = absurd p
 no-append (Sent to said ∷ a) b p q = no-append a b p q
 
 no-sends : (names : List NodeId) (said : Message) → NoDid (sends names said)
@@ -125,7 +125,7 @@ no-heard sender (Dropped cause ∷ signs) all = no-heard sender signs all
 no-heard sender (Took from vote x ∷ signs) all = no-heard sender signs all
 no-heard sender (Entered x ∷ signs) all = no-heard sender signs all
 no-heard sender (Viewed slot view ∷ signs) all = absurd all
-no-heard sender (Did slot entry effect ∷ signs) all = absurd all
+no-heard sender (Did slot place entry effect ∷ signs) all = absurd all
 no-heard sender (Headed number head ∷ signs) all = absurd all
 no-heard sender (Kept index checkpoint ∷ signs) all = no-heard sender signs all
 no-heard sender (Sent to said ∷ signs) all = no-heard sender signs all.1
@@ -142,7 +142,7 @@ OnlySends (Entered x ∷ signs) = ⊥
 OnlySends (Viewed slot view ∷ signs) = ⊥
 OnlySends (Headed number head ∷ signs) = ⊥
 OnlySends (Kept index checkpoint ∷ signs) = ⊥
-OnlySends (Did slot entry effect ∷ signs) = ⊥
+OnlySends (Did slot place entry effect ∷ signs) = ⊥
 
 only-append : (a b : List Sign) → OnlySends a → OnlySends b → OnlySends (a ++ b)
 only-append [] b p q = q
@@ -153,7 +153,7 @@ only-append (Entered x ∷ a) b p q = absurd p
 only-append (Viewed slot view ∷ a) b p q = absurd p
 only-append (Headed number head ∷ a) b p q = absurd p
 only-append (Kept index checkpoint ∷ a) b p q = absurd p
-only-append (Did slot entry effect ∷ a) b p q = absurd p
+only-append (Did slot place entry effect ∷ a) b p q = absurd p
 
 only-no : (a : List Sign) → OnlySends a → NoDid a
 only-no [] p = tt
@@ -164,7 +164,7 @@ only-no (Entered x ∷ a) p = absurd p
 only-no (Viewed slot view ∷ a) p = absurd p
 only-no (Headed number head ∷ a) p = absurd p
 only-no (Kept index checkpoint ∷ a) p = absurd p
-only-no (Did slot entry effect ∷ a) p = absurd p
+only-no (Did slot place entry effect ∷ a) p = absurd p
 
 only-sends : (names : List NodeId) (said : Message) → OnlySends (sends names said)
 only-sends [] said = tt
@@ -179,7 +179,7 @@ only-bench setup shard (Entered x ∷ a) past p = absurd p
 only-bench setup shard (Viewed slot view ∷ a) past p = absurd p
 only-bench setup shard (Headed number head ∷ a) past p = absurd p
 only-bench setup shard (Kept index checkpoint ∷ a) past p = absurd p
-only-bench setup shard (Did slot entry effect ∷ a) past p = absurd p
+only-bench setup shard (Did slot place entry effect ∷ a) past p = absurd p
 
 only-out : {M : Type 0} (site : Site M) (me : NodeId) (to : Option ℕ) (m : M) → OnlySends (out_signs site me to m)
 only-out {M} site me None m = only-sends (others site.setup.f me (me.shard ∷ [])) (site.carrier.written m)
@@ -192,46 +192,46 @@ only-handed {M} site me (out ∷ outs) = only-append (handed site me outs) (out_
 -- ---- telling
 
 tell-over : (setup : Setup) (me : NodeId) (a b : List Sign) → NoDid a → IsTelling setup me b → IsTelling setup me (a ++ b)
-tell-over setup me [] b none tells later slot entry effect earlier e s i = tells later slot entry effect earlier e s i
-tell-over setup me (sign ∷ a) b none tells [] slot entry effect earlier e s i =
-    let same : sign ≡ Did slot entry effect = cc in
+tell-over setup me [] b none tells later slot place entry effect earlier e s i = tells later slot place entry effect earlier e s i
+tell-over setup me (sign ∷ a) b none tells [] slot place entry effect earlier e s i =
+    let same : sign ≡ Did slot place entry effect = cc in
     absurd (subst (λ z. NoDid (z ∷ a)) same none)
-tell-over setup me (sign ∷ a) b none tells (other ∷ later) slot entry effect earlier e s i =
-    let rest : a ++ b ≡ later ++ Did slot entry effect ∷ earlier = cc in
-    inr (tell-over setup me a b (no-tail sign a none) tells later slot entry effect earlier rest s i)
+tell-over setup me (sign ∷ a) b none tells (other ∷ later) slot place entry effect earlier e s i =
+    let rest : a ++ b ≡ later ++ Did slot place entry effect ∷ earlier = cc in
+    inr (tell-over setup me a b (no-tail sign a none) tells later slot place entry effect earlier rest s i)
 
 -- an execution after signs that have none is this one, or an earlier one
 abbrev IsThere : List Sign → List Sign → Sign → Entry → List Sign → Sign → Entry → List Sign → Type 0
 IsThere front past this entry later that entry2 earlier =
     ((later ≡ front) × (entry ≡ entry2) × (past ≡ earlier)) ⊎ ((rest : List Sign) × (past ≡ rest ++ that ∷ earlier) × (later ≡ front ++ this ∷ rest))
 
-first-did : (front past : List Sign) (slot : ℕ) (entry : Entry) (effect : Effect) (later : List Sign) (slot2 : ℕ) (entry2 : Entry) (effect2 : Effect) (earlier : List Sign) → NoDid front
-    → front ++ Did slot entry effect ∷ past ≡ later ++ Did slot2 entry2 effect2 ∷ earlier → IsThere front past (Did slot entry effect) entry later (Did slot2 entry2 effect2) entry2 earlier
-first-did [] past slot entry effect [] slot2 entry2 effect2 earlier none e =
+first-did : (front past : List Sign) (slot place : ℕ) (entry : Entry) (effect : Effect) (later : List Sign) (slot2 place2 : ℕ) (entry2 : Entry) (effect2 : Effect) (earlier : List Sign) → NoDid front
+    → front ++ Did slot place entry effect ∷ past ≡ later ++ Did slot2 place2 entry2 effect2 ∷ earlier → IsThere front past (Did slot place entry effect) entry later (Did slot2 place2 entry2 effect2) entry2 earlier
+first-did [] past slot place entry effect [] slot2 place2 entry2 effect2 earlier none e =
     let entries : entry ≡ entry2 = cc in
     let rest : past ≡ earlier = cc in
     inl (refl, entries, rest)
-first-did [] past slot entry effect (other ∷ later) slot2 entry2 effect2 earlier none e =
-    let same : Did slot entry effect ≡ other = cc in
-    let rest : past ≡ later ++ Did slot2 entry2 effect2 ∷ earlier = cc in
+first-did [] past slot place entry effect (other ∷ later) slot2 place2 entry2 effect2 earlier none e =
+    let same : Did slot place entry effect ≡ other = cc in
+    let rest : past ≡ later ++ Did slot2 place2 entry2 effect2 ∷ earlier = cc in
     inr (later, rest, ap (λ z. z ∷ later) (sym same))
-first-did (sign ∷ front) past slot entry effect [] slot2 entry2 effect2 earlier none e =
-    let same : sign ≡ Did slot2 entry2 effect2 = cc in
+first-did (sign ∷ front) past slot place entry effect [] slot2 place2 entry2 effect2 earlier none e =
+    let same : sign ≡ Did slot2 place2 entry2 effect2 = cc in
     absurd (subst (λ z. NoDid (z ∷ front)) same none)
-first-did (sign ∷ front) past slot entry effect (other ∷ later) slot2 entry2 effect2 earlier none e =
+first-did (sign ∷ front) past slot place entry effect (other ∷ later) slot2 place2 entry2 effect2 earlier none e =
     let same : sign ≡ other = cc in
-    let rest : front ++ Did slot entry effect ∷ past ≡ later ++ Did slot2 entry2 effect2 ∷ earlier = cc in
-    elim (first-did front past slot entry effect later slot2 entry2 effect2 earlier (no-tail sign front none) rest) [
+    let rest : front ++ Did slot place entry effect ∷ past ≡ later ++ Did slot2 place2 entry2 effect2 ∷ earlier = cc in
+    elim (first-did front past slot place entry effect later slot2 place2 entry2 effect2 earlier (no-tail sign front none) rest) [
       | inl r ↦ inl (ap (λ l. other ∷ l) r.0 ∙ ap (λ z. z ∷ front) (sym same), r.1, r.2)
-      | inr r ↦ inr (r.0, r.1, ap (λ l. other ∷ l) r.2 ∙ ap (λ z. z ∷ (front ++ Did slot entry effect ∷ r.0)) (sym same))
+      | inr r ↦ inr (r.0, r.1, ap (λ l. other ∷ l) r.2 ∙ ap (λ z. z ∷ (front ++ Did slot place entry effect ∷ r.0)) (sym same))
     ]
 
-tell-front : (setup : Setup) (me : NodeId) (front past : List Sign) (slot : ℕ) (entry : Entry) (effect : Effect) → NoDid front → IsTelling setup me past
-    → ((s : Sign) → IsIn s (votes_by setup me (bench_at setup me.shard past) entry) → IsIn s front) → IsTelling setup me (front ++ Did slot entry effect ∷ past)
-tell-front setup me front past slot entry effect none tells here later slot2 entry2 effect2 earlier e s i =
-    elim (first-did front past slot entry effect later slot2 entry2 effect2 earlier none e) [
+tell-front : (setup : Setup) (me : NodeId) (front past : List Sign) (slot place : ℕ) (entry : Entry) (effect : Effect) → NoDid front → IsTelling setup me past
+    → ((s : Sign) → IsIn s (votes_by setup me (bench_at setup me.shard past) entry) → IsIn s front) → IsTelling setup me (front ++ Did slot place entry effect ∷ past)
+tell-front setup me front past slot place entry effect none tells here later slot2 place2 entry2 effect2 earlier e s i =
+    elim (first-did front past slot place entry effect later slot2 place2 entry2 effect2 earlier none e) [
       | inl r ↦ subst (λ l. IsIn s l) (sym r.0) (here s (subst (λ z. IsIn s (votes_by setup me (bench_at setup me.shard past) z)) (sym r.1) (subst (λ l. IsIn s (votes_by setup me (bench_at setup me.shard l) entry2)) (sym r.2) i)))
-      | inr r ↦ subst (λ l. IsIn s l) (sym r.2) (in_right s front (Did slot entry effect ∷ r.0) (inr (tells r.0 slot2 entry2 effect2 earlier r.1 s i)))
+      | inr r ↦ subst (λ l. IsIn s l) (sym r.2) (in_right s front (Did slot place entry effect ∷ r.0) (inr (tells r.0 slot2 place2 entry2 effect2 earlier r.1 s i)))
     ]
 
 rejoin : (a b c : List Sign) (d : Sign) (past : List Sign) → (a ++ (b ++ (c ++ d ∷ []))) ++ past ≡ (a ++ (b ++ c)) ++ d ∷ past
@@ -240,9 +240,9 @@ rejoin a b c d past =
     ∙ sym (append_assoc a (b ++ c) (d ∷ past) ∙ ap (λ l. a ++ l) (append_assoc b c (d ∷ past)))
 
 -- an execution tells
-tell-ran : (setup : Setup) (me : NodeId) (b : Bench) (slot : ℕ) (entry : Entry) (past : List Sign) → bench_at setup me.shard past ≡ b → IsTelling setup me past
-    → IsTelling setup me (ran_signs setup me b slot entry (session_in entry) (executed setup me.shard b entry) ++ past)
-tell-ran setup me b slot entry past is tells =
+tell-ran : (setup : Setup) (me : NodeId) (b : Bench) (slot place : ℕ) (entry : Entry) (past : List Sign) → bench_at setup me.shard past ≡ b → IsTelling setup me past
+    → IsTelling setup me (ran_signs setup me b slot place entry (session_in entry) (executed setup me.shard b entry) ++ past)
+tell-ran setup me b slot place entry past is tells =
     let x = session_in entry in
     let ran = executed setup me.shard b entry in
     let told = vote_told setup me.shard x ran in
@@ -251,18 +251,28 @@ tell-ran setup me b slot entry past is tells =
     let enters = entered_signs x (is_pooled (digest_of setup x) b.pool) told in
     let front = own ++ (votes ++ enters) in
     let none = no-append own (votes ++ enters) (no-own me x told) (no-append votes enters (no-votes setup me x told) (no-entered x (is_pooled (digest_of setup x) b.pool) told)) in
-    subst (λ l. IsTelling setup me l) (sym (rejoin own votes enters (Did slot entry ran.effect) past))
-    (tell-front setup me front past slot entry ran.effect none tells
+    subst (λ l. IsTelling setup me l) (sym (rejoin own votes enters (Did slot place entry ran.effect) past))
+    (tell-front setup me front past slot place entry ran.effect none tells
     (λ s i. in_right s own (votes ++ enters) (in_left s votes enters (subst (λ z. IsIn s (votes_by setup me z entry)) is i))))
+
+-- so do executions one after the other
+tell-actions : (setup : Setup) (me : NodeId) (b : Bench) (slot place : ℕ) (actions : List Action) (past : List Sign) → bench_at setup me.shard past ≡ b → IsTelling setup me past → IsTelling setup me (actions_signs setup me b slot place actions ++ past)
+tell-actions setup me b slot place [] past is tells = tells
+tell-actions setup me b slot place (action ∷ more) past is tells =
+    let signs = ran_signs setup me b slot place action (session_in action) (executed setup me.shard b action) in
+    let left = bench_after setup me.shard signs b in
+    let here : bench_at setup me.shard (signs ++ past) ≡ left = bench_after-append setup me.shard signs past (start_bench setup me.shard) ∙ ap (bench_after setup me.shard signs) is in
+    subst (λ l. IsTelling setup me l) (sym (append_assoc (actions_signs setup me left slot (suc place) more) signs past))
+    (tell-actions setup me left slot (suc place) more (signs ++ past) here (tell-ran setup me b slot place action past is tells))
 
 -- with the checkpoint that it makes
 tell-execution : (setup : Setup) (me : NodeId) (b : Bench) (slot : ℕ) (entry : Entry) (past : List Sign) → bench_at setup me.shard past ≡ b → IsTelling setup me past → IsTelling setup me (execution_signs setup me b slot entry ++ past)
 tell-execution setup me b slot entry past is tells =
-    let made = made_last (slot_executed setup me.shard b entry).log in
+    let ran = actions_signs setup me b slot 0 (actions_of entry) in
+    let made = made_last (bench_after setup me.shard ran b).log in
     let headed = headed_signs setup me made in
-    let ran = ran_signs setup me b slot entry (session_in entry) (executed setup me.shard b entry) in
     subst (λ l. IsTelling setup me l) (sym (append_assoc headed ran past))
-    (tell-over setup me headed (ran ++ past) (no-headed setup me made) (tell-ran setup me b slot entry past is tells))
+    (tell-over setup me headed (ran ++ past) (no-headed setup me made) (tell-actions setup me b slot 0 (actions_of entry) past is tells))
 
 -- ---- the rules of a node
 
@@ -448,7 +458,7 @@ event-tells {M} site me t input tells =
 
 -- each node tells
 pub world-tells : {M : Type 0} (site : Site M) (world : List (Happening M)) → IsLife site world → (i : NodeId) → Tells site i (trail_of i world)
-world-tells {M} site [] life i = λ later slot entry effect earlier e s j. none later (Did slot entry effect) earlier e
+world-tells {M} site [] life i = λ later slot place entry effect earlier e s j. none later (Did slot place entry effect) earlier e
   where
     none : {A : Type 0} (l : List Sign) (sign : Sign) (earlier : List Sign) → [] ≡ l ++ sign ∷ earlier → A
     none {A} [] sign earlier e = absurd cc

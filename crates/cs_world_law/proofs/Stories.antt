@@ -105,7 +105,7 @@ parcel-sent {M} site from to bytes node signs h = go signs h
     go (Viewed slot view ∷ past) e = more (Viewed slot view) past (go past e)
     go (Headed number head ∷ past) e = more (Headed number head) past (go past e)
     go (Kept index checkpoint ∷ past) e = more (Kept index checkpoint) past (go past e)
-    go (Did slot entry effect ∷ past) e = more (Did slot entry effect) past (go past e)
+    go (Did slot place entry effect ∷ past) e = more (Did slot place entry effect) past (go past e)
 
 any-either : (test : Parcel → Bool) (a b : List Parcel) → list_any test (a ++ b) ≡ true → (list_any test a ≡ true) ⊎ (list_any test b ≡ true)
 any-either test [] b e = inr e
@@ -295,7 +295,7 @@ module _ {M : Type 0} (site : Site M) (known : Known) where
       → ((x : Session) → IsIn x (known_sessions site world) → IsIn x known.sessions) → ((e : Entry) → IsIn e (known_entries site world) → IsIn e known.entries) → IsSane world
   sane [] event proper opens honest life bytes genuine sessions entries = record {
     story = tt;
-    level = λ i. record { made = tt; slots = refl };
+    level = λ i. record { made = tt; executed = refl };
     backed = λ i bytes sender said c reads h. cc;
   }
   sane (h ∷ past) event proper opens honest life bytes genuine sessions entries =

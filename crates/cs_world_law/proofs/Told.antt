@@ -1,5 +1,5 @@
 -- The history by the recorded effects is that of the shards together.
-use Rattle.std.proofs.Common.{◌≡◌, ℕ, ◌<◌, ◌≤◌, ◌==◌, nat_lt, Bool, true, false, not, ◌&&◌, ◌||◌, if◌then◌else◌, List, [], ◌∷◌, ◌++◌, length, sym, ◌∙◌, ap, subst, refl}
+use Rattle.std.proofs.Common.{◌≡◌, ℕ, ◌<◌, ◌≤◌, ◌==◌, Bool, true, false, not, ◌&&◌, ◌||◌, if◌then◌else◌, List, [], ◌∷◌, ◌++◌, length, arith, sym, ◌∙◌, ap, subst, refl}
 use Rattle.std.proofs.lemmas.Bool.{cond_both, eqb-true}
 use Rattle.cs_base.specs.declared.node_id.NodeId.{NodeId}
 use Rattle.cs_tx_types.specs.declared.session.Session.{Session}
@@ -8,22 +8,24 @@ use Rattle.cs_tx_types.specs.declared.entry.Entry.TheVariants.{Prepare, Decide}
 use Rattle.cs_ledger.specs.Ledger.{Bytes}
 use Rattle.cs_ledger.specs.Session.{all_items}
 use Rattle.cs_ledger.specs.Table.{Vote, Commit, exec, table_of}
-use Rattle.cs_ledger.specs.ShardWorld.{Step, log, shard_votes, votes_in, is_vote, is_listed, all_commit, IsAllowed, AllAllowed}
+use Rattle.cs_ledger.specs.ShardWorld.{log, shard_votes, votes_in, is_vote, is_listed, all_commit, IsAllowed, AllAllowed}
 use Rattle.cs_ledger.specs.ShardWorld as World
 use Rattle.cs_ledger.proofs.Votes.{all_at}
 use Rattle.cs_node_state.specs.Setup.{Setup, digest_of, concerned, entry_of, prepares}
 use Rattle.cs_node_rules.specs.Signs.{Dropped, Took, Entered, Viewed, Did, Headed, Kept, Sent}
-use Rattle.cs_node_rules.specs.Site.{Mark, In, Ordered, Plain, Site}
-use Rattle.cs_node_rules.specs.World.{Execution, steps_of, slots_of, is_recorded, all_recorded, is_voted, told_transactions, told_after}
+use Rattle.cs_node_rules.specs.Site.{Mark, In, Ordered, Plain, Site, signs_of}
+use Rattle.cs_node_rules.specs.World.{Execution, steps_of, newest_of, is_after, is_recorded, all_recorded, is_voted, told_transactions, told_after}
 use Rattle.cs_node_law.proofs.Views.{me-same}
+use Rattle.cs_node_rules.proofs.Actions.{some-action}
 use Rattle.cs_node_law.proofs.Logs.{seen, seen_log, effect-is, prepares-seen}
 use Rattle.cs_world_law.proofs.Counting.{all-in, all-from, in-concerned, concerned-in, among-item, item-among, votes-all}
 use Rattle.cs_world_law.specs.Steps.{IsComputed, AllComputed}
 use Rattle.cs_world_law.specs.Chain.{Moment, trail_at, Known, Story, IsSoundSite, firsts_at, story_firsts, shard_entries}
 use Rattle.cs_world_law.proofs.Trails.{made-all}
 use Rattle.cs_world_law.proofs.Lawful.{AreLawful}
-use Rattle.cs_world_law.proofs.Older.{lt-not, older-all}
-use Rattle.cs_world_law.proofs.Firsts.{own_log, slots-log, log-seen, are-first}
+use Rattle.cs_world_law.proofs.Older.{older-all}
+use Rattle.cs_world_law.proofs.Agree.{runs-count}
+use Rattle.cs_world_law.proofs.Firsts.{own_log, counted-entries, counted-runs, log-seen, are-first, are-runs, next-of-shard, follows-newest}
 use Rattle.cs_world_law.proofs.Anchors.{prepare-votes}
 
 pub bools-same : (a b : Bool) → (a ≡ true → b ≡ true) → (b ≡ true → a ≡ true) → a ≡ b
@@ -94,25 +96,28 @@ module _ {M : Type 0} (site : Site M) (sound : IsSoundSite site) (known : Known)
   computed-step node (Plain (Headed number head)) past story c = c
   computed-step node (Plain (Kept index checkpoint)) past story c = c
   computed-step node (Plain (Sent to said)) past story c = c
-  computed-step node (Plain (Did slot entry effect)) past story c =
-      let new : Execution = record { shard = node.shard; slot = slot; entry = entry; effect = effect } in
-      cond_both (nat_lt slot (slots_of node.shard (story_firsts past))) (story_firsts past) (new ∷ story_firsts past) (λ f. AllComputed site.setup f)
-      (λ e. c)
+  computed-step node (Plain (Did slot place entry effect)) past story c =
+      let new : Execution = record { shard = node.shard; slot = slot; place = place; entry = entry; effect = effect } in
+      cond_both (is_after slot place (newest_of node.shard (story_firsts past))) (new ∷ story_firsts past) (story_firsts past) (λ f. AllComputed site.setup f)
       (λ e. (first e, c))
+      (λ e. c)
     where
-      first : nat_lt slot (slots_of node.shard (story_firsts past)) ≡ false → IsComputed site.setup (story_firsts past) (record { shard = node.shard; slot = slot; entry = entry; effect = effect })
-      first more =
+      first : is_after slot place (newest_of node.shard (story_firsts past)) ≡ true → IsComputed site.setup (story_firsts past) (record { shard = node.shard; slot = slot; place = place; entry = entry; effect = effect })
+      first after =
           let t = trail_at node past in
+          let runs = are-runs site sound known lawful node.shard past story.1 in
+          let last = next-of-shard site sound known lawful node slot place entry effect past story runs after in
           let l = shard_entries node.shard (story_firsts past) in
           let own = (are-first site sound known lawful node.shard past story.1).older node story.0.honest refl in
-          let slots = slots-log node.shard (story_firsts past) in
-          let at_least : length l ≤ slot = subst (λ k. k ≤ slot) slots (lt-not slot (slots_of node.shard (story_firsts past)) more) in
-          let size : length l ≤ length (own_log node past) = subst (λ k. length l ≤ k) story.0.made.next at_least in
+          let size : length l ≤ length (own_log node past) =
+          omega (arith, last, runs-count (signs_of t), counted-entries node.shard (story_firsts past), counted-runs node.shard (story_firsts past)) in
           let same : own_log node past ≡ l = own.is ∙ older-all (length (own_log node past)) l size in
           let logs : seen_log site t ≡ log node.shard (steps_of site.setup (story_firsts past)) = ap (λ z. seen site.setup z) same ∙ sym (log-seen site.setup node.shard (story_firsts past)) in
           record {
-            next = story.0.made.next ∙ ap length same ∙ sym slots;
-            effect = effect-is site node t slot entry effect (story.0.made, made-all site known node past story.1)
+            next = follows-newest site sound known lawful node slot place entry effect past story (λ n q there. some-action (site.entry_in q)) runs last;
+            whole = site.entry_in story.0.made.proposed;
+            within = story.0.made.within;
+            effect = effect-is site node t slot place entry effect (story.0.made, made-all site known node past story.1)
                 ∙ ap (λ (n : NodeId). (exec site.setup.rules n.shard (table_of site.setup.rules n.shard (seen_log site t)) (entry_of site.setup entry)).effect) (me-same site node t)
                 ∙ ap (λ z. (exec site.setup.rules node.shard (table_of site.setup.rules node.shard z) (entry_of site.setup entry)).effect) logs;
           }

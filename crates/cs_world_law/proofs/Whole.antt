@@ -124,8 +124,8 @@ module _ {M : Type 0} (machine : Machine M) (p : IsPlace machine) where
     -- what was executed is known
     pub executed : (i : NodeId) (entry : Entry) → Executed (signs_at i p.world) entry → IsDone At sound Here i entry
     executed i entry e =
-        let c = part At Here i (trail_of i p.world) e.later (Did e.slot entry e.effect) e.earlier (made i) (within i) e.split in
-        did-done At sound Here i c.before e.slot entry e.effect c.made (local At sound Here i c.before c.made.1 c.within)
+        let c = part At Here i (trail_of i p.world) e.later (Did e.slot e.place entry e.effect) e.earlier (made i) (within i) e.split in
+        did-done At sound Here i c.before e.slot e.place entry e.effect c.made (local At sound Here i c.before c.made.1 c.within)
 
     -- ---- where the order of each shard keeps its law
 

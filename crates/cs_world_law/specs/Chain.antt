@@ -14,7 +14,7 @@ use Rattle.cs_order.specs.Runs.{Act, FewLiars}
 use Rattle.cs_order.specs.Law.{Law, Holds}
 use Rattle.cs_ledger.specs.Ledger.{Bytes}
 use Rattle.cs_node_rules.specs.Net.{sealed_by_net}
-use Rattle.cs_node_rules.specs.Signs.{Sign, Sent}
+use Rattle.cs_node_rules.specs.Signs.{Sign, Dropped, Took, Entered, Viewed, Did, Headed, Kept, Sent}
 use Rattle.cs_node_rules.specs.Site.{Datagram, Tick, Mark, In, Ordered, Plain, Site, signs_of}
 use Rattle.cs_node_rules.specs.World.{Happening, Execution, with_first_execution}
 use Rattle.cs_node_rules.specs.Collisions.{sessions_in, entries_in, entries_of}
@@ -22,6 +22,7 @@ use Rattle.cs_node_rules.specs.Carrying.{Carries}
 use Rattle.cs_node_rules.specs.Deployment.{proposed_of}
 use Rattle.cs_node_law.specs.Made.{current, HasDigests, IsMade}
 use Rattle.cs_world_law.specs.Worlds.{is_honest}
+use Rattle.cs_world_law.specs.Steps.{Run}
 
 -- a mark of a node
 pub record Moment (M : Type 0) : Type 0 where
@@ -138,7 +139,7 @@ shard_acts {M} shard (m ∷ past) = acts_at shard m.node m.mark (shard_acts shar
 abbrev pub is_honest_in : {M : Type 0} → Site M → ℕ → ℕ → Bool
 is_honest_in {M} site shard index = is_honest site (record { shard = shard; index = index })
 
--- the first execution of each slot of each shard
+-- the first execution in each place of each slot of each shard
 abbrev pub firsts_at : {M : Type 0} → NodeId → Mark M → List Execution → List Execution
 firsts_at {M} node (In input) firsts = firsts
 firsts_at {M} node (Ordered deed) firsts = firsts
@@ -152,3 +153,23 @@ story_firsts {M} (m ∷ past) = firsts_at m.node m.mark (story_firsts past)
 abbrev pub shard_entries : ℕ → List Execution → List Entry
 shard_entries shard [] = []
 shard_entries shard (e ∷ earlier) = if e.shard == shard then e.entry ∷ shard_entries shard earlier else shard_entries shard earlier
+
+-- what a shard executed, each in its place, the newest first
+abbrev pub shard_runs : ℕ → List Execution → List Run
+shard_runs shard [] = []
+shard_runs shard (e ∷ earlier) =
+    if e.shard == shard
+    then record { slot = e.slot; place = e.place; action = e.entry } ∷ shard_runs shard earlier
+    else shard_runs shard earlier
+
+-- what a node executed
+abbrev pub runs_in : List Sign → List Run
+runs_in [] = []
+runs_in (Did slot place action effect ∷ past) = record { slot = slot; place = place; action = action } ∷ runs_in past
+runs_in (Dropped cause ∷ past) = runs_in past
+runs_in (Took sender vote x ∷ past) = runs_in past
+runs_in (Entered x ∷ past) = runs_in past
+runs_in (Viewed slot view ∷ past) = runs_in past
+runs_in (Headed number head ∷ past) = runs_in past
+runs_in (Kept index checkpoint ∷ past) = runs_in past
+runs_in (Sent to message ∷ past) = runs_in past

@@ -1,16 +1,17 @@
 -- What an honest node does of what its order chose and handed out.
-use Rattle.std.specs.Prelude.{◌≡◌, ℕ, true, List, [], ◌∷◌, ◌++◌, map, Option, Some, None}
-use Rattle.std.specs.List.{enumerate_from}
+use Rattle.std.specs.Prelude.{◌≡◌, ℕ, suc, true, List, [], ◌∷◌, ◌++◌, map, Option, Some, None}
 use Rattle.cs_base.specs.declared.node_id.NodeId.{NodeId}
 use Rattle.cs_tx_types.specs.declared.entry.Entry.{Entry}
 use Rattle.cs_order.specs.declared.answers.Outgoing.{Outgoing}
 use Rattle.cs_order.specs.Deeds.{Deed, sent_by, chosen_in}
 use Rattle.cs_base.specs.Lists.{IsIn}
+use Rattle.cs_node_state.specs.Setup.{Action, actions_of}
 use Rattle.cs_node_rules.specs.Members.{others}
 use Rattle.cs_node_rules.specs.Signs.{Sign, Sent}
 use Rattle.cs_node_rules.specs.Site.{Site}
 use Rattle.cs_node_rules.specs.World.{Happening, Execution, view_of}
 use Rattle.cs_world_law.specs.Worlds.{is_honest, signs_at}
+use Rattle.cs_world_law.specs.Steps.{Run}
 use Rattle.cs_world_law.specs.Shown.{executed_by}
 
 -- their slots with the entries, the oldest first
@@ -18,12 +19,28 @@ abbrev pub slots_with_entries : List Execution → List (ℕ × Entry)
 slots_with_entries [] = []
 slots_with_entries (e ∷ earlier) = slots_with_entries earlier ++ (e.slot, e.entry) ∷ []
 
--- Each honest node has executed what its order chose: slot by slot, from slot 0 on, and nothing else.
+-- their actions in their places, the oldest first
+abbrev pub runs_done : List Execution → List Run
+runs_done [] = []
+runs_done (e ∷ earlier) = runs_done earlier ++ record { slot = e.slot; place = e.place; action = e.entry } ∷ []
+
+-- actions in their places of a slot, from a place on
+abbrev pub runs_from : ℕ → ℕ → List Action → List Run
+runs_from slot place [] = []
+runs_from slot place (action ∷ more) =
+    record { slot = slot; place = place; action = action } ∷ runs_from slot (suc place) more
+
+-- the actions of entries in their places, from a slot on
+abbrev pub runs_of : ℕ → List Entry → List Run
+runs_of slot [] = []
+runs_of slot (entry ∷ more) = runs_from slot 0 (actions_of entry) ++ runs_of (suc slot) more
+
+-- Each honest node has executed what its order chose: slot by slot, from slot 0 on, each action in its place, and
+-- nothing else.
 abbrev pub ExecutesChosen : {M : Type 0} → Site M → List (Happening M) → Type 0
 ExecutesChosen {M} site world =
     (i : NodeId) → is_honest site i ≡ true →
-    slots_with_entries (executed_by i world)
-    ≡ enumerate_from 0 (map site.entry_in (chosen_in (view_of site world i).member.deeds))
+    runs_done (executed_by i world) ≡ runs_of 0 (map site.entry_in (chosen_in (view_of site world i).member.deeds))
 
 -- the message has been sent to each other member of the shard
 abbrev pub IsSentToAll : {M : Type 0} → Site M → NodeId → List Sign → M → Type 0

@@ -1,5 +1,5 @@
 -- What is said of the first executions of a world: the steps of the shards' logs, and the history as these come.
-use Rattle.std.specs.Prelude.{◌≡◌, ℕ, ◌==◌, true, if◌then◌else◌, List, [], ◌∷◌, ◌++◌}
+use Rattle.std.specs.Prelude.{◌≡◌, ◌⊎◌, ℕ, suc, ◌==◌, true, if◌then◌else◌, List, [], ◌∷◌, ◌++◌, Option, Some, None, slice_get}
 use Rattle.cs_base.specs.Lists.{IsIn}
 use Rattle.cs_base.specs.declared.node_id.NodeId.{NodeId}
 use Rattle.cs_tx_types.specs.declared.session.Session.{Session}
@@ -7,11 +7,11 @@ use Rattle.cs_tx_types.specs.declared.entry.Entry.{Entry}
 use Rattle.cs_ledger.specs.Ledger.{Bytes}
 use Rattle.cs_ledger.specs.Table.{Vote, Effect, Accepted, table_of, exec}
 use Rattle.cs_ledger.specs.ShardWorld.{log, AllAllowed}
-use Rattle.cs_node_state.specs.Setup.{Setup, digest_of, is_concerned_shard, entry_of}
+use Rattle.cs_node_state.specs.Setup.{Setup, Action, actions_of, digest_of, is_concerned_shard, entry_of}
 use Rattle.cs_tx_types.specs.Session.{session_in}
 use Rattle.cs_node_rules.specs.Signs.{Sign, Dropped, Took, Entered, Viewed, Did, Headed, Kept, Sent}
 use Rattle.cs_node_rules.specs.Site.{Site}
-use Rattle.cs_node_rules.specs.World.{Happening, Execution, firsts_of, steps_of, slots_of, is_recorded, all_recorded, told_transactions, aborts_in}
+use Rattle.cs_node_rules.specs.World.{Happening, Execution, firsts_of, steps_of, newest_of, is_recorded, all_recorded, told_transactions, aborts_in}
 use Rattle.cs_node_rules.specs.Collisions.{known_sessions}
 use Rattle.cs_world_law.specs.Worlds.{is_honest, signs_at}
 
@@ -29,16 +29,24 @@ effect_after setup earlier shard entry =
     let table = table_of setup.rules shard (log shard (steps_of setup earlier)) in
     (exec setup.rules shard table (entry_of setup entry)).effect
 
--- it is of the next slot of its shard, and its result is what its entry comes to there
+-- it is in the next place of the same slot, or in the first place of the next slot
+abbrev pub Follows : ℕ → ℕ → Option Execution → Type 0
+Follows slot place None = (slot ≡ 0) × (place ≡ 0)
+Follows slot place (Some e) =
+    ((slot ≡ e.slot) × (place ≡ suc e.place)) ⊎ ((slot ≡ suc e.slot) × (place ≡ 0))
+
+-- it is the next action of its shard, in its place of an entry, and its result is what it comes to there
 pub record IsComputed (setup : Setup) (earlier : List Execution) (e : Execution) : Type 0 where
-  pub next : e.slot ≡ slots_of e.shard earlier
+  pub next : Follows e.slot e.place (newest_of e.shard earlier)
+  pub whole : Entry
+  pub within : slice_get (actions_of whole) e.place ≡ Some e.entry
   pub effect : e.effect ≡ effect_after setup earlier e.shard e.entry
 
 abbrev pub AllComputed : Setup → List Execution → Type 0
 AllComputed setup [] = Unit {0}
 AllComputed setup (e ∷ earlier) = IsComputed setup earlier e × AllComputed setup earlier
 
--- The first executions of a shard are of its slots in order, each with the computed result.
+-- The first executions of a shard are of the actions of its slots in order, each with the computed result.
 abbrev pub StepsComputed : {M : Type 0} → Site M → List (Happening M) → Type 0
 StepsComputed {M} site world = AllComputed site.setup (firsts_of world)
 
@@ -48,11 +56,17 @@ executions_of shard [] = []
 executions_of shard (e ∷ earlier) =
     if e.shard == shard then e ∷ executions_of shard earlier else executions_of shard earlier
 
+-- an action that was executed, in its place of a slot
+pub record Run : Type 0 where
+  pub slot : ℕ
+  pub place : ℕ
+  pub action : Action
+
 -- what a node of the shard executed
 abbrev pub executions_in : ℕ → List Sign → List Execution
 executions_in shard [] = []
-executions_in shard (Did slot entry effect ∷ past) =
-    record { shard = shard; slot = slot; entry = entry; effect = effect } ∷ executions_in shard past
+executions_in shard (Did slot place entry effect ∷ past) =
+    record { shard = shard; slot = slot; place = place; entry = entry; effect = effect } ∷ executions_in shard past
 executions_in shard (Dropped cause ∷ past) = executions_in shard past
 executions_in shard (Took sender vote x ∷ past) = executions_in shard past
 executions_in shard (Entered x ∷ past) = executions_in shard past

@@ -26,7 +26,7 @@ use Rattle.cs_node_state.specs.Setup.{digest_of, entry_of}
 use Rattle.cs_node_rules.specs.Net.{Net}
 use Rattle.cs_node_rules.specs.Signs.{Sign}
 use Rattle.cs_node_rules.specs.Site.{Carrier, Site, signs_of}
-use Rattle.cs_node_rules.specs.World.{Happening, trail_of, view_of, IsLife, AreHonest, NoForgery, firsts_of, steps_of, slots_of, recorded_history, accepts_in, aborts_in}
+use Rattle.cs_node_rules.specs.World.{Happening, trail_of, view_of, IsLife, AreHonest, NoForgery, firsts_of, steps_of, count_executed, recorded_history, accepts_in, aborts_in}
 use Rattle.cs_node_rules.specs.Ready.{Executed, VotesFree, AcceptsLocked}
 use Rattle.cs_node_rules.specs.Collisions.{known_sessions, known_entries, NoCollision}
 use Rattle.cs_node_rules.specs.Carrying.{Carries}
@@ -94,7 +94,7 @@ TellsAccepted {M} site world =
 
 -- The node has executed every slot that its shard has.
 abbrev pub IsUpToDate : {M : Type 0} → NodeId → List (Happening M) → Type 0
-IsUpToDate {M} i world = length (log_in (signs_at i world)) ≡ slots_of i.shard (firsts_of world)
+IsUpToDate {M} i world = length (log_in (signs_at i world)) ≡ count_executed i.shard (firsts_of world)
 
 -- after the history the object is in the ledger, under its name
 abbrev pub IsHeld : {M : Type 0} → Site M → List (Happening M) → Bytes → Bytes → Type 0

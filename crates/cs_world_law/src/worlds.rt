@@ -31,15 +31,16 @@ pub fn settled_world<O: Order>()
     ensures executed_known { OfWorlds O.rules (λ site world. ExecutesKnown site world) }
     // It has an encoding.
     ensures executed_fit { OfWorlds O.rules (λ site world. ExecutesFit site world) }
-    // What the order of an honest node chose, the node has executed, slot by slot, and nothing else.
+    // What the order of an honest node chose, the node has executed, slot by slot, each action in
+    // its place, and nothing else.
     ensures executes_chosen { OfWorlds O.rules (λ site world. ExecutesChosen site world) }
-    // The first executions of the slots are steps that may be taken: what is prepared is well
+    // The first executions of actions are steps that may be taken: what is prepared is well
     // formed, of that shard and approved, and what is decided has the votes of the shards for it.
     ensures allowed { OfWorldsApart O.rules (λ site world. StepsAllowed site world) }
     // Where no node may lie, this needs no premise on hashes.
     ensures allowed_alone { OfWorldsAlone O.rules (λ site world. StepsAllowed site world) }
-    // They are of the slots of each shard in order, and each result is what the entry comes to on
-    // the table of the shard's log before.
+    // They are of the actions of each shard's slots in order, and each result is what the action
+    // comes to on the table of the shard's log before.
     ensures computed { OfWorldsApart O.rules (λ site world. StepsComputed site world) }
     ensures computed_alone { OfWorldsAlone O.rules (λ site world. StepsComputed site world) }
     // The log of each honest node, with its results, is the older part of its shard's log.

@@ -1,5 +1,5 @@
 -- What is said of the first executions is so after each event.
-use Rattle.std.proofs.Common.{◌≡◌, ℕ, nat_lt, true, List, [], ◌∷◌, ◌++◌, refl, sym, ap, ◌∙◌, append_assoc}
+use Rattle.std.proofs.Common.{◌≡◌, ℕ, true, List, [], ◌∷◌, ◌++◌, refl, sym, ap, ◌∙◌, append_assoc}
 use Rattle.std.proofs.lemmas.Bool.{cond_both}
 use Rattle.cs_base.specs.declared.node_id.NodeId.{NodeId}
 use Rattle.cs_tx_types.specs.declared.session.Session.{Session}
@@ -7,7 +7,7 @@ use Rattle.cs_base.specs.Lists.{IsIn}
 use Rattle.cs_node_state.specs.Setup.{digest_of, is_concerned_shard}
 use Rattle.cs_node_rules.specs.Signs.{Sign, Dropped, Took, Entered, Viewed, Did, Headed, Kept, Sent}
 use Rattle.cs_node_rules.specs.Site.{Site, signs_of}
-use Rattle.cs_node_rules.specs.World.{Happening, Execution, slots_of, with_first_execution, firsts_after, firsts_of, all_recorded, recorded_history, aborts_in}
+use Rattle.cs_node_rules.specs.World.{Happening, Execution, newest_of, is_after, with_first_execution, firsts_after, firsts_of, all_recorded, recorded_history, aborts_in}
 use Rattle.cs_node_rules.specs.Collisions.{known_sessions}
 use Rattle.cs_world_law.specs.Worlds.{is_honest, signs_at}
 use Rattle.cs_world_law.specs.Steps.{IsOlderPart, TellsCommitted}
@@ -22,11 +22,11 @@ first-grows shard (Viewed slot view) firsts = record { newer = []; is = refl }
 first-grows shard (Headed number head) firsts = record { newer = []; is = refl }
 first-grows shard (Kept index checkpoint) firsts = record { newer = []; is = refl }
 first-grows shard (Sent to message) firsts = record { newer = []; is = refl }
-first-grows shard (Did slot entry effect) firsts =
-    let new : Execution = record { shard = shard; slot = slot; entry = entry; effect = effect } in
-    cond_both (nat_lt slot (slots_of shard firsts)) firsts (new ∷ firsts) (λ all. IsOlderPart firsts all)
-    (λ e. record { newer = []; is = refl })
+first-grows shard (Did slot place entry effect) firsts =
+    let new : Execution = record { shard = shard; slot = slot; place = place; entry = entry; effect = effect } in
+    cond_both (is_after slot place (newest_of shard firsts)) (new ∷ firsts) firsts (λ all. IsOlderPart firsts all)
     (λ e. record { newer = new ∷ []; is = refl })
+    (λ e. record { newer = []; is = refl })
 
 part-of-part : {A : Type 0} (a b c : List A) → IsOlderPart a b → IsOlderPart b c → IsOlderPart a c
 part-of-part {A} a b c p q = record {

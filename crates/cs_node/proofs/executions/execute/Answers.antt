@@ -35,7 +35,7 @@ returns c = λ approves genesis log kept_is.
     let me_is = ap (λ (h : Held). h.me) c.forget_touched.ensures ∙ c.in_ok-made.ensures.me ∙ ran.me_stays in
     let S : List Sign → Type 0 = λ signs. TellsSigns signs c.args.draft.now c.say_vote.new.draft in
     let said = subst S (λ i. vote_signs (deployed_setup (ran.config_stays i) genesis approves) (ran.me_stays i) (c.session.ensures.is i) (ran.voted_is i)) (c.in_ok-say_vote.ensures genesis approves) in
-    let noted = c.in_ok-note_execution.ensures.notes ∙ ap (λ effect. c.say_vote.new.draft.notes ++ Executed c.args.slot entry effect ∷ []) result_is in
+    let noted = c.in_ok-note_execution.ensures.notes ∙ ap (λ effect. c.say_vote.new.draft.notes ++ Executed c.args.slot 0 entry effect ∷ []) result_is in
     let H : List Sign → Type 0 = λ signs. TellsSigns signs c.note_execution.new.self c.say_made.new.draft in
     let P : Entry → Type 0 = λ e. Leaves setup held (execution_signs setup me old c.args.slot e) old c.forget_touched.new.self c.args.draft.now c.say_made.new.draft in
     on_ok_weaker _

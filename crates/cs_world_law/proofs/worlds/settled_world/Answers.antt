@@ -20,7 +20,7 @@ use Rattle.cs_node_state.specs.Setup.{Setup, digest_of, is_fit, entry_of}
 use Rattle.cs_tx_types.specs.Session.{session_in}
 use Rattle.cs_node_rules.specs.Signs.{Sent}
 use Rattle.cs_node_rules.specs.Site.{signs_of}
-use Rattle.cs_node_rules.specs.World.{firsts_of, steps_of, slots_of, trail_of}
+use Rattle.cs_node_rules.specs.World.{firsts_of, steps_of, count_executed, trail_of}
 use Rattle.cs_node_rules.specs.Ready.{Executed, AcceptsLocked}
 use Rattle.cs_node_law.specs.Made.{view_at, log_in}
 use Rattle.cs_node_law.proofs.Views.{me-same}
@@ -351,7 +351,7 @@ returns-clause-node_objects g c carrier carries config net genesis approves worl
     let some = by-node rules p i hi in
     let m = whole rules p some apart in
     let steps = steps_of site.setup (firsts_of world) in
-    let done = ap (λ t. length (log_in (signs_of t))) (trail-same i world) ∙ all ∙ ap (λ f. slots_of i.shard f) (firsts-same world) in
+    let done = ap (λ t. length (log_in (signs_of t))) (trail-same i world) ∙ all ∙ ap (λ f. count_executed i.shard f) (firsts-same world) in
     let table = ap (λ t. (view_at site i t).bench.table) (sym (trail-same i world))
     ∙ whole-table site (sound rules p some) (Here rules p) (lawful-here rules p some apart) (moments world) i (story rules p some) hi done
     ∙ ap (λ f. table_of site.setup.rules i.shard (log i.shard (steps_of site.setup f))) (sym (firsts-same world)) in
@@ -368,4 +368,4 @@ returns-clause-alone g c carrier carries config net genesis approves world few s
     let some = by-node rules p i hi in
     ap (λ t. length (log_in (signs_of t))) (sym (trail-same i world))
     ∙ leads-alone site (sound rules p some) (Here rules p) trusted i hi (moments world) (story rules p some)
-    ∙ ap (λ f. slots_of i.shard f) (sym (firsts-same world))
+    ∙ ap (λ f. count_executed i.shard f) (sym (firsts-same world))
