@@ -3,7 +3,8 @@
 # evaluator (crates/cs_test_eval) on the same check, and how it compares with that of a check of half the cost; for
 # the part of a check that takes the least time for its units, comparing bytes, and for the one that takes the most, putting a list
 # of 8,000 bytes into another, which copies it. So the last line says what the dearest check costs a node: its cost is near the most
-# that a check may cost. The time of making and accepting the text is taken off. Proves and builds crates/cs_bench_checks first.
+# that a check may cost. The time of making and accepting the text is taken off. Then it compares what judging a claim takes by the rule
+# `hashlock`, which is written in Rust, and by a contract text that says the same. Proves and builds crates/cs_bench_checks first.
 . "$(dirname "${BASH_SOURCE[0]}")/common.sh"
 (cd "$top/crates/cs_bench_checks" && rt run -- check compare 1 1 >/dev/null 2>&1)
 program=$top/crates/cs_bench_checks/out/cs_bench_checks
@@ -29,3 +30,15 @@ done <<'PARTS'
 compare 474 200
 copy 454 1
 PARTS
+
+# A claim of the rule `hashlock`: a transaction of one trace, judged whole.
+claims=100000
+by_none() { "$program" claim rule 0; }
+by_rule() { "$program" claim rule "$claims"; }
+by_text() { "$program" claim text "$claims"; }
+times=$(least_times by_none by_rule by_text)
+awk -v claims="$claims" "$shared"'{
+  rule = less($2, $1) / claims
+  text = less($3, $1) / claims
+  printf "a claim of hashlock: %.2f us by the rule, %.2f us by a contract that says the same, %.2f times that\n", rule * 1000000, text * 1000000, text / rule
+}' <<<"$times"

@@ -1,3 +1,4 @@
+pub mod Each
 pub mod Making
 pub mod Names
 pub mod Sums

@@ -1,9 +1,11 @@
 //! The judgement of a book on transactions.
 ghost use Rattle.std.specs.Prelude.{◌≡◌, ◌<◌, IfOk};
+ghost use Rattle.cs_tx_types.specs.declared.transaction.Tx.{Tx as AnyTx};
 ghost use Rattle.cs_tx_types.specs.Transaction.{TraceFits};
 ghost use Rattle.cs_tx.specs.Token.{token_id};
 ghost use Rattle.cs_eval_law.specs.Checks.{says};
-ghost use Rattle.cs_approve.specs.Approval.{is_trace_approved, is_approved};
+ghost use Rattle.cs_approve.specs.Books.{Contracts};
+ghost use Rattle.cs_approve.specs.Approval.{is_trace_approved, is_approved, is_said, is_said_of_each};
 ghost use Rattle.cs_approve.specs.Seen.{view_of_trace};
 
 use crate::book::Book;
@@ -12,7 +14,7 @@ use crate::views::lend_view;
 use cs_base::Memory;
 use cs_eval_check::check_lent;
 use cs_eval_values::Steps;
-use cs_tx::{Judge, id_of_token};
+use cs_tx::{Clerk, Judge, id_of_token};
 use cs_tx_types::{Trace, Tx};
 use cs_tx_value::Digest;
 use cs_types::Checked;
@@ -110,3 +112,20 @@ impl Judge for Book {
         Ok(true)
     }
 }
+
+impl Clerk for Book {
+    ghost use Rattle.cs_approve.specs.Approval.{is_said};
+
+    ghost is_said = { λ book tx place. is_said book tx place };
+
+    fn says(&self, alloc: Global, tx: &Tx, trace: usize) -> Result<bool, Memory> {
+        let traces = tx.traces.as_slice();
+        self.approves_trace(alloc, traces, &traces[trace])
+    }
+}
+
+/// What a book approves is that of whose each trace it says yes.
+pub fn books_approve_what_they_say()
+    ensures { (contracts : Contracts) (tx : AnyTx)
+        → is_approved contracts tx ≡ is_said_of_each (is_said contracts) tx }
+{}

@@ -7,3 +7,4 @@ mod token;
 mod views;
 
 pub use book::{Book, BookError};
+pub use judging::books_approve_what_they_say;

@@ -7,7 +7,7 @@ use Rattle.cs_text.specs.Refusals.{refusal_status, refusal_text}
 use Rattle.cs_text.specs.declared.cause.Refusal.{Refusal}
 use Rattle.cs_sched.specs.declared.schedule.Schedule.{Schedule}
 use Rattle.cs_tx_types.specs.declared.transaction.Tx.{Tx}
-use Rattle.cs_approve.specs.Approval.{is_approved_by}
+use Rattle.cs_native.specs.Approval.{is_approved_by}
 use Rattle.cs_ledger.specs.Ledger.{Bytes}
 use Rattle.cs_replay_rules.specs.Dumps.{dump_text}
 use Rattle.cs_replay_rules.specs.Play.{Course, Goes, Stops, Forges, played_by, lines}
@@ -67,7 +67,7 @@ EndsAs {M} course (Err (Forged line)) = course ≡ Forges (played_by course) lin
 EndsAs {M} course (Err WriteFault) = Unit {0}
 EndsAs {M} course (Err Memory) = Unit {0}
 
--- ---- a replay of a source's text, whose judge is the book of the schedule's contracts
+-- ---- a replay of a source's text, whose judge is the book of the schedule's contracts, with the rules
 
 -- the answer to a first bad line
 abbrev pub refusal_answer : Refusal → Answer

@@ -4,13 +4,14 @@ ghost use Rattle.cs_base.specs.Outside.{HasCause, Rose};
 ghost use Rattle.cs_base.specs.Answers.{Answers};
 ghost use Rattle.cs_base.specs.declared.limits.TheConstants.{MOST_SCHEDULE};
 ghost use Rattle.cs_sched.specs.Playable.{IsPlayable};
-ghost use Rattle.cs_approve.specs.Approval.{is_approved, is_approved_by};
+ghost use Rattle.cs_native.specs.Approval.{is_approved_with_rules, is_approved_by};
 ghost use Rattle.cs_replay.specs.Answers.{Replays, Completes, replay_answer, refusal_answer, schedule_answer};
 
 use crate::schedule::{Mode, replay};
 use cs_approve::{Book, BookError};
 use cs_base::{MOST_SCHEDULE, ReadError, Sink, Source, print, read_text};
 use cs_io::closing;
+use cs_native::RuledBook;
 use cs_sched::{Schedule, parse};
 use cs_text::{Refusal, TextError, refusal_line};
 use std::alloc::Global;
@@ -57,7 +58,7 @@ fn answer<K: Sink>(alloc: Global, mode: Mode, text: &[u8], output: &mut K) -> u8
     }
 }
 
-// Plays a schedule at nodes that ask the book of its contracts.
+// Plays a schedule at nodes that ask the rules, and the book of its contracts.
 fn play<K: Sink>(alloc: Global, mode: Mode, schedule: &Schedule, output: &mut K) -> u8
     requires { IsPlayable schedule.now }
     ensures answers { Answers
@@ -67,7 +68,10 @@ fn play<K: Sink>(alloc: Global, mode: Mode, schedule: &Schedule, output: &mut K)
     ensures write_fault { HasCause (K.faults output.old) (K.faults output.new) (result ≡ 6) }
 {
     match Book::new(alloc, schedule.contracts.as_slice()) {
-        Ok(book) => play_by(alloc, mode, schedule, &book, output),
+        Ok(book) => {
+            let ruled = RuledBook::new(book);
+            play_by(alloc, mode, schedule, &ruled, output)
+        }
         Err(BookError::Memory) => 8,
         // The contracts of a schedule are accepted.
         Err(BookError::Refused(..)) => unreachable!(),
@@ -78,11 +82,11 @@ fn play_by<K: Sink>(
     alloc: Global,
     mode: Mode,
     schedule: &Schedule,
-    book: &Book,
+    book: &RuledBook,
     output: &mut K,
 ) -> u8
     requires { IsPlayable schedule.now }
-    ensures answers { Answers (schedule_answer (is_approved book.now) mode schedule.now)
+    ensures answers { Answers (schedule_answer (is_approved_with_rules book.now) mode schedule.now)
         (K.written output.old) (K.written output.new) result }
     ensures only { (result ≢ 2) × (result ≢ 5) }
     ensures write_fault { HasCause (K.faults output.old) (K.faults output.new) (result ≡ 6) }

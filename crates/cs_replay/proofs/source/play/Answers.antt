@@ -1,9 +1,9 @@
 use Rattle.std.proofs.Common.{◌≡◌, ℕ, List, Some, ap, subst, ◌∙◌}
 use Rattle.cs_base.specs.Answers.{Answers}
-use Rattle.cs_approve.specs.Approval.{is_approved}
 use Rattle.cs_approve.specs.Books.{Contracts, contracts_of, first_refused}
 use Rattle.cs_approve.specs.Refusing.{IsFirstRefused}
 use Rattle.cs_approve.specs.declared.book.BookError.{BookError}
+use Rattle.cs_native.specs.Approval.{is_approved_with_rules}
 use Rattle.cs_replay.specs.Answers.{schedule_answer}
 use Rattle.cs_replay.proofs.Books.{never_refused}
 use Rattle.cs_replay.proofs.source.play.Goals as goal
@@ -17,5 +17,5 @@ unreachable-requires g c =
 pub returns-in-Ok-clause-answers : goal.returns-in-Ok-clause-answers
 returns-in-Ok-clause-answers g c =
     subst
-    (λ (contracts : Contracts). Answers (schedule_answer (is_approved contracts) c.args.mode c.args.schedule.now) (g.K.Sink.written c.args.output.now) (g.K.Sink.written c.play_by.new.output) c.play_by.result)
-    (c.in-Ok.ensures.made ∙ ap contracts_of c.as_slice.ensures) c.play_by.ensures.answers
+    (λ (contracts : Contracts). Answers (schedule_answer (is_approved_with_rules contracts) c.args.mode c.args.schedule.now) (g.K.Sink.written c.args.output.now) (g.K.Sink.written c.play_by.new.output) c.play_by.result)
+    (c.new-ruled.ensures ∙ c.in-Ok.ensures.made ∙ ap contracts_of c.as_slice.ensures) c.play_by.ensures.answers
