@@ -1,0 +1,4 @@
+pub mod Joins
+pub mod Shows
+pub mod Signs
+pub mod Calls

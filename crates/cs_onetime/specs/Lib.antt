@@ -1,0 +1,4 @@
+pub mod Lists
+pub mod Halves
+pub mod Signature
+pub mod Wallet

@@ -1,0 +1,9 @@
+pub mod Answered
+pub mod Numbered
+pub mod Entries
+pub mod Tables
+pub mod Back
+pub mod Fits
+pub mod Read
+pub mod Saved
+pub mod Decided

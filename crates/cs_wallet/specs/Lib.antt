@@ -1,0 +1,5 @@
+pub mod File
+pub mod Printed
+pub mod Fitting
+pub mod Refusals
+pub mod Commands
